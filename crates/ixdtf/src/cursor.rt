@@ -1,0 +1,113 @@
+//! A place in a source: the units that are still to be read.
+
+ghost use Rattle.std.specs.Prelude.{◌≡◌, ℕ, ◌+◌, ◌-◌, ◌<◌, ◌≤◌, List, [], map, length, drop, IfOk, IsTrue};
+ghost use Rattle.ixdtf.specs.Classes.{digit};
+ghost use Rattle.ixdtf.specs.Faults.{fault_of, NonAsciiCodePoint};
+ghost use Rattle.ixdtf.specs.Answers.{Gives, Reads, Unread};
+ghost use Rattle.ixdtf.specs.ReadingLooks.{look_at, next_by, digits_by, digit_look, number_of};
+
+use crate::encoding::EncodingType;
+use crate::looks::Looks;
+use crate::{ParseError, ParserResult};
+use std::marker::Model;
+
+/// The units that are still to be read, and a count of looks at them, which takes no byte.
+#[derive(Drop)]
+#[derive_where(Debug)]
+pub struct Cursor<'a, T: EncodingType> {
+    rest: &'a [T::CodeUnit],
+    looks: Looks,
+}
+
+impl<'a, T: EncodingType> Model for Cursor<'a, T> {
+    ghost Value = { Unread };
+
+    ghost view = { λ c. record { rest = map T.number c.rest.now; looks = c.looks.count } };
+}
+
+impl<'a, T: EncodingType> Cursor<'a, T> {
+    /// A cursor at the front of a source.
+    pub fn new(source: &'a [T::CodeUnit]) -> Self
+        ensures rest { result.rest ≡ map T.number source.now }
+        ensures looks { result.looks ≡ 0 }
+    {
+        Cursor {
+            rest: source,
+            looks: Looks::none(),
+        }
+    }
+
+    /// The units that are still to be read.
+    #[inline(always)]
+    pub fn rest(&self) -> &'a [T::CodeUnit]
+        ensures { map T.number result.now ≡ self.now.rest }
+    {
+        self.rest
+    }
+
+    /// Goes back to an earlier rest.
+    #[inline(always)]
+    pub fn go_back(&mut self, rest: &'a [T::CodeUnit])
+        ensures rest { self.new.rest ≡ map T.number rest.now }
+        ensures looks { self.new.looks ≡ self.old.looks }
+    {
+        self.rest = rest;
+    }
+
+    /// Looks at the first letter of the rest: `None` at the end, the error `NonAsciiCodePoint` at a unit that stands for
+    /// no letter. This is the one place that calls `get_ascii`.
+    #[inline(always)]
+    #[tactic(auto, using(crate::proofs::Texts::first_look))]
+    pub fn look(&mut self) -> ParserResult<Option<u8>>
+        ensures letter { Gives (λ found. found) result (look_at NonAsciiCodePoint (map T.letter self.old.rest)) }
+        ensures rest { self.new.rest ≡ self.old.rest }
+        ensures looks { self.new.looks ≡ self.old.looks + 1 }
+    {
+        self.looks.tick();
+        T::get_ascii(self.rest, 0)
+    }
+
+    /// Takes the first unit off, where there is one.
+    #[inline(always)]
+    #[tactic(auto, using(crate::proofs::Texts::texts))]
+    pub fn step(&mut self)
+        ensures rest { self.new.rest ≡ drop 1 self.old.rest }
+        ensures letters { map T.letter self.new.rest ≡ drop 1 (map T.letter self.old.rest) }
+        ensures looks { self.new.looks ≡ self.old.looks }
+    {
+        if let [_, rest @ ..] = self.rest {
+            self.rest = rest;
+        }
+    }
+
+    /// Takes a digit off, with this error at another letter. The digit is an ASCII byte.
+    #[inline(always)]
+    #[tactic(auto, unfolding(crate::specs::ReadingLooks::next_by))]
+    pub fn next_digit(&mut self, other: ParseError) -> ParserResult<u8>
+        ensures digit { Reads (λ byte. byte) (map T.letter self.old.rest) result (map T.letter self.new.rest) (next_by (digit_look (fault_of other))) }
+        ensures small { IfOk result (λ byte. (48 ≤ byte) × (byte ≤ 57)) }
+        ensures looks { self.new.looks ≡ self.old.looks + 1 }
+    {
+        match self.look()? {
+            None => Err(ParseError::AbruptEnd { location: "digit" }),
+            Some(byte) if byte.is_ascii_digit() => {
+                self.step();
+                Ok(byte)
+            }
+            Some(_) => Err(other),
+        }
+    }
+
+    /// Takes two digits off, with this error at another letter, and answers their number.
+    #[inline(always)]
+    #[tactic(auto, unfolding(crate::specs::ReadingLooks::digits_by))]
+    pub fn two_digits(&mut self, other: ParseError) -> ParserResult<u8>
+        ensures number { Reads (λ number. number) (map T.letter self.old.rest) result (map T.letter self.new.rest) (λ text. number_of (digits_by (digit_look (fault_of other)) 2 text)) }
+        ensures small { IfOk result (λ number. number < 100) }
+        ensures looks { self.new.looks ≤ self.old.looks + 2 }
+    {
+        let tens = self.next_digit(other)?;
+        let ones = self.next_digit(other)?;
+        Ok(10 * (tens - b'0') + (ones - b'0'))
+    }
+}

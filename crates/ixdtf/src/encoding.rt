@@ -1,0 +1,90 @@
+//! The encodings that a source may have.
+
+ghost use Rattle.std.specs.Prelude.{◌≡◌, ℕ, ◌<◌, ◌≤◌, ◌↔◌, ◌^◌, List, map, length, All, IsTrue, IsSome, IfSome, slice_range, codes};
+ghost use Rattle.std.specs.Cmp.{unsigned_Decides};
+ghost use Rattle.ixdtf.specs.Letters.{Letter, Plain, byte_letter, byte_letter-faithful};
+ghost use Rattle.ixdtf.specs.Answers.{Gives, ascii_at};
+
+use crate::ParserResult;
+
+mod private {
+    /// Only this crate's encodings are encodings.
+    pub trait Sealed {}
+}
+
+/// An encoding of a source in code units.
+///
+/// A proof sees each unit as a number, and the number as a letter: the number again, or none that a reader takes.
+pub trait EncodingType: private::Sealed {
+    /// The unit of a source.
+    type CodeUnit: PartialEq + std::fmt::Debug + Clone;
+
+    /// The number that a unit is.
+    ghost number: { Self.CodeUnit → ℕ };
+
+    /// The letter that a unit of this number stands for.
+    ghost letter: { ℕ → Letter };
+
+    /// The numbers of units are below this.
+    ghost limit: { ℕ };
+
+    /// The units from `start` up to `end`, or `None` where these are not places in order within the source.
+    fn slice(source: &[Self::CodeUnit], start: usize, end: usize) -> Option<&[Self::CodeUnit]>
+        ensures within { IsSome result ↔ ((start ≤ end) × (end ≤ length source.now)) }
+        ensures units { IfSome result (λ units. units.now ≡ slice_range source.now start end) };
+
+    /// The ASCII byte at a place of the source, or `None` past its end.
+    ///
+    /// The error `NonAsciiCodePoint` comes exactly where the unit there stands for no letter.
+    fn get_ascii(source: &[Self::CodeUnit], index: usize) -> ParserResult<Option<u8>>
+        ensures letter { Gives (λ found. found) result (ascii_at letter index (map number source.now)) }
+        ensures small { All (λ unit. number unit < limit) source.now };
+
+    /// Whether the key is `u-ca`, the key of calendars (RFC 9557 section 4.1).
+    fn check_calendar_key(key: &[Self::CodeUnit]) -> bool
+        ensures { IsTrue result ↔ (map number key.now ≡ codes "u-ca") };
+
+    /// A plain letter is its unit's number.
+    ghost faithful: { (unit letter_number : ℕ) → letter unit ≡ Plain letter_number → letter_number ≡ unit };
+
+    /// Units with one number are one unit.
+    ghost injective: { (a b : Self.CodeUnit) → number a ≡ number b → a ≡ b };
+
+    /// Equal units are those with equal numbers.
+    ghost equal: { (a b : Self.CodeUnit) → IsTrue (Self.CodeUnit.eq a b) ↔ (number a ≡ number b) };
+}
+
+/// Sources in 8-bit units, as UTF-8. Each unit is its own letter.
+#[derive(Clone, Debug, Drop, PartialEq)]
+pub struct Utf8;
+
+impl private::Sealed for Utf8 {}
+
+impl EncodingType for Utf8 {
+    type CodeUnit = u8;
+
+    ghost number = { λ unit. unit };
+
+    ghost letter = { byte_letter };
+
+    ghost limit = { 2 ^ 8 };
+
+    fn slice(source: &[u8], start: usize, end: usize) -> Option<&[u8]> {
+        source.get(start..end)
+    }
+
+    #[inline(always)]
+    fn get_ascii(source: &[u8], index: usize) -> ParserResult<Option<u8>> {
+        Ok(source.get(index).copied())
+    }
+
+    fn check_calendar_key(key: &[u8]) -> bool {
+        key == "u-ca".as_bytes()
+    }
+
+    ghost faithful = { byte_letter-faithful };
+
+    ghost injective = { λ a b same. same };
+
+    ghost equal = { unsigned_Decides };
+}
