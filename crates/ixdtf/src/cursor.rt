@@ -1,10 +1,10 @@
 //! A place in a source: the units that are still to be read.
 
-ghost use Rattle.std.specs.Prelude.{◌≡◌, ℕ, ◌+◌, ◌-◌, ◌<◌, ◌≤◌, List, [], map, length, drop, IfOk, IsTrue};
+ghost use Rattle.std.specs.Prelude.{◌≡◌, ℕ, ◌+◌, ◌-◌, ◌<◌, ◌≤◌, List, [], map, length, drop, None, IfOk, IsTrue};
 ghost use Rattle.ixdtf.specs.Classes.{digit};
 ghost use Rattle.ixdtf.specs.Faults.{fault_of, NonAsciiCodePoint};
-ghost use Rattle.ixdtf.specs.Answers.{Gives, Reads, Unread};
-ghost use Rattle.ixdtf.specs.ReadingLooks.{look_at, next_by, digits_by, digit_look, number_of};
+ghost use Rattle.ixdtf.specs.Answers.{Gives, Reads, Spends, Unread, end_look};
+ghost use Rattle.ixdtf.specs.ReadingLooks.{look_at, next_by, peek_by, digit_look};
 
 use crate::encoding::EncodingType;
 use crate::looks::Looks;
@@ -72,6 +72,7 @@ impl<'a, T: EncodingType> Cursor<'a, T> {
     #[tactic(auto, using(crate::proofs::Texts::texts))]
     pub fn step(&mut self)
         ensures rest { self.new.rest ≡ drop 1 self.old.rest }
+        ensures shorter { length self.new.rest ≤ length self.old.rest }
         ensures letters { map T.letter self.new.rest ≡ drop 1 (map T.letter self.old.rest) }
         ensures looks { self.new.looks ≡ self.old.looks }
     {
@@ -85,8 +86,8 @@ impl<'a, T: EncodingType> Cursor<'a, T> {
     #[tactic(auto, unfolding(crate::specs::ReadingLooks::next_by))]
     pub fn next_digit(&mut self, other: ParseError) -> ParserResult<u8>
         ensures digit { Reads (λ byte. byte) (map T.letter self.old.rest) result (map T.letter self.new.rest) (next_by (digit_look (fault_of other))) }
-        ensures small { IfOk result (λ byte. (48 ≤ byte) × (byte ≤ 57)) }
-        ensures looks { self.new.looks ≡ self.old.looks + 1 }
+        ensures is_digit { IfOk result (λ byte. IsTrue (digit byte)) }
+        ensures looks { Spends 1 self.old self.new }
     {
         match self.look()? {
             None => Err(ParseError::AbruptEnd { location: "digit" }),
@@ -98,16 +99,17 @@ impl<'a, T: EncodingType> Cursor<'a, T> {
         }
     }
 
-    /// Takes two digits off, with this error at another letter, and answers their number.
+    /// Wants the end of the source: `InvalidEnd` at any other letter.
     #[inline(always)]
-    #[tactic(auto, unfolding(crate::specs::ReadingLooks::digits_by))]
-    pub fn two_digits(&mut self, other: ParseError) -> ParserResult<u8>
-        ensures number { Reads (λ number. number) (map T.letter self.old.rest) result (map T.letter self.new.rest) (λ text. number_of (digits_by (digit_look (fault_of other)) 2 text)) }
-        ensures small { IfOk result (λ number. number < 100) }
-        ensures looks { self.new.looks ≤ self.old.looks + 2 }
+    #[tactic(auto, unfolding(crate::specs::ReadingLooks::peek_by))]
+    pub fn close(&mut self) -> ParserResult<()>
+        ensures end { Reads (λ _. None) (map T.letter self.old.rest) result (map T.letter self.new.rest) (peek_by end_look) }
+        ensures rest { self.new.rest ≡ self.old.rest }
+        ensures looks { Spends 1 self.old self.new }
     {
-        let tens = self.next_digit(other)?;
-        let ones = self.next_digit(other)?;
-        Ok(10 * (tens - b'0') + (ones - b'0'))
+        match self.look()? {
+            None => Ok(()),
+            Some(_) => Err(ParseError::InvalidEnd),
+        }
     }
 }

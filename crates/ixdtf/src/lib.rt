@@ -5,6 +5,7 @@ mod cursor;
 pub mod encoding;
 mod error;
 mod looks;
+pub mod parsers;
 pub mod records;
 
 pub use error::ParseError;

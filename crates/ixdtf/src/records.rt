@@ -1,26 +1,131 @@
-//! The records that the readers answer.
+//! The records that the readers answer: dates, times, offsets, time zones and fractions of a second.
+
+ghost use Rattle.std.specs.Prelude.{◌≡◌, ◌+◌, ◌-◌, ◌*◌, ◌<◌, ◌≤◌, ◌^◌, min};
+ghost use Rattle.ixdtf.specs.Fractions.{FractionParts, nanoseconds_of};
 
 use crate::encoding::EncodingType;
 use std::marker::Model;
 
-/// A date.
+/// What a reader found in a text: each part that stood there, and `None` for each part that did not.
+#[derive(Drop)]
+#[derive_where(Debug, Default, PartialEq)]
+pub struct IxdtfParseRecord<'a, T: EncodingType> {
+    /// The calendar date (`full-date` of RFC 3339, section 5.6, or one of its forms in ISO 8601).
+    pub date: Option<DateRecord>,
+    /// The time of day (`partial-time` of RFC 3339, section 5.6, or a shorter form of ISO 8601).
+    pub time: Option<TimeRecord>,
+    /// How far the time is from UTC (`time-offset` of RFC 3339, section 5.6).
+    pub offset: Option<UtcOffsetRecordOrZ>,
+    /// The time zone in brackets (`time-zone` of RFC 9557, section 4.1).
+    pub tz: Option<TimeZoneAnnotation<'a, T>>,
+    /// The units of the value of the first annotation with the key `u-ca` (`suffix-tag` of RFC 9557, section 4.1), which
+    /// names a calendar. They are as they stand in the text, and no list of calendars is asked.
+    pub calendar: Option<&'a [T::CodeUnit]>,
+}
+
+/// A date of the Gregorian calendar, also before that calendar was in use (`full-date` of RFC 3339, section 5.6).
 #[derive(Clone, Copy, Debug, Default, PartialEq)]
 pub struct DateRecord {
+    /// The year: 0 to 9999 from four digits, or -999999 to 999999 from a sign and six digits. Year 0 is the year before
+    /// year 1.
     pub year: i32,
+    /// The month, 1 to 12.
     pub month: u8,
+    /// The day of the month, from 1.
     pub day: u8,
 }
 
-/// A time of day.
+/// A time of day (`partial-time` of RFC 3339, section 5.6). Parts that the text leaves out are zero.
 #[derive(Clone, Copy, Debug, Default, PartialEq)]
 pub struct TimeRecord {
+    /// The hour, 0 to 23.
     pub hour: u8,
+    /// The minute, 0 to 59.
     pub minute: u8,
+    /// The second, 0 to 60. 60 is a leap second, and is kept as it was written.
     pub second: u8,
+    /// The part of a second beyond `second` (`time-secfrac` of RFC 3339, section 5.6), or `None` where no digits follow.
     pub fraction: Option<Fraction>,
 }
 
-/// A fraction of a second.
+/// A time zone in brackets, as `[!Europe/Paris]` (`time-zone` of RFC 9557, section 4.1).
+#[derive(Drop)]
+#[derive_where(Clone, Debug, PartialEq)]
+pub struct TimeZoneAnnotation<'a, T: EncodingType> {
+    /// Whether a `!` stands right after the opening bracket (`critical-flag`): who uses the text must then heed the zone,
+    /// or refuse the text.
+    pub critical: bool,
+    /// The zone between the brackets.
+    pub tz: TimeZoneRecord<'a, T>,
+}
+
+/// A time zone, by name or by offset.
+#[derive(Drop)]
+#[derive_where(Clone, Debug, PartialEq)]
+pub enum TimeZoneRecord<'a, T: EncodingType> {
+    /// The units of a name (`time-zone-name` of RFC 9557, section 4.1), as they stand in the text. That such a zone exists
+    /// is not tested.
+    Name(&'a [T::CodeUnit]),
+    /// A fixed offset (`time-numoffset` of RFC 3339, section 5.6).
+    Offset(MinutePrecisionOffset),
+}
+
+/// Whether a number is counted forwards or backwards.
+#[derive(Clone, Copy, Debug, PartialEq)]
+pub enum Sign {
+    /// From a `-`.
+    Negative = -1,
+    /// From a `+`, or from no sign where none is needed.
+    Positive = 1,
+}
+
+/// An offset from UTC in hours and minutes (`time-numoffset` of RFC 3339, section 5.6): UTC and the offset together are
+/// the local time.
+#[derive(Clone, Copy, Debug, PartialEq)]
+pub struct MinutePrecisionOffset {
+    /// `Positive` where local time is ahead of UTC. `-00:00` stays `Negative`: UTC is known there, and the local offset is
+    /// not.
+    pub sign: Sign,
+    /// The hours, 0 to 23.
+    pub hour: u8,
+    /// The minutes, 0 to 59.
+    pub minute: u8,
+}
+
+/// An offset from UTC down to parts of a second. `time-numoffset` of RFC 3339, section 5.6, has no seconds: this is the
+/// longer form that the readers also take.
+#[derive(Clone, Copy, Debug, PartialEq)]
+pub struct FullPrecisionOffset {
+    /// The sign, the hours and the minutes. The sign is that of the whole offset.
+    pub minute_precision_offset: MinutePrecisionOffset,
+    /// The seconds, 0 to 59.
+    pub second: u8,
+    /// The part of a second beyond `second`, or `None` where no digits follow.
+    pub fraction: Option<Fraction>,
+}
+
+/// An offset from UTC, in the precision that it was written in: `+01:00` and `+01:00:00` are two records.
+#[derive(Clone, Copy, Debug, PartialEq)]
+pub enum UtcOffsetRecord {
+    /// Written without seconds.
+    MinutePrecision(MinutePrecisionOffset),
+    /// Written with seconds.
+    FullPrecisionOffset(FullPrecisionOffset),
+}
+
+/// What may stand behind a time for its offset (`time-offset` of RFC 3339, section 5.6).
+#[derive(Clone, Copy, Debug, PartialEq)]
+pub enum UtcOffsetRecordOrZ {
+    /// An offset in numbers.
+    Offset(UtcOffsetRecord),
+    /// The letter `Z` or `z`: the time is UTC, and nothing is said of a local offset.
+    Z,
+}
+
+/// A fraction of a second (`time-secfrac` of RFC 3339, section 5.6): the digits behind a `.` or a `,`.
+///
+/// It keeps how many digits there were, up to 255, and the number of the first 18 of them, or of all where there are
+/// fewer. So `.1` and `.10` are two fractions, and digits behind the eighteenth are only counted.
 #[derive(Clone, Copy, Debug, PartialEq)]
 pub struct Fraction {
     digits: u8,
@@ -28,9 +133,6 @@ pub struct Fraction {
 }
 
 impl Model for Fraction {
-    ghost use Rattle.std.specs.Prelude.{◌<◌, ◌≤◌, ◌^◌, min};
-    ghost use Rattle.ixdtf.specs.Fractions.{FractionParts};
-
     ghost Value = { FractionParts };
 
     ghost view = { λ f. record { count = f.digits; value = f.value } };
@@ -40,66 +142,144 @@ impl Model for Fraction {
     ghost inverse = { λ p. record { digits = p.count; value = p.value } };
 }
 
-/// A sign.
-#[derive(Clone, Copy, Debug, PartialEq)]
-pub enum Sign {
-    Negative = -1,
-    Positive = 1,
+impl Fraction {
+    /// The fraction of one digit, an ASCII byte.
+    pub(crate) fn start(digit: u8) -> Fraction
+        requires { (48 ≤ digit) × (digit ≤ 57) }
+        ensures { result ≡ record { count = 1; value = digit - 48 } }
+    {
+        Fraction {
+            digits: 1,
+            value: u64::from(digit - b'0'),
+        }
+    }
+
+    /// The fraction with one more digit behind it, an ASCII byte.
+    pub(crate) fn with_digit(self, digit: u8) -> Fraction
+        requires { (48 ≤ digit) × (digit ≤ 57) }
+        ensures count { result.count ≡ min (self.count + 1) 255 }
+        ensures grows { self.count < 18 → result.value ≡ self.value * 10 + (digit - 48) }
+        ensures stays { 18 ≤ self.count → result.value ≡ self.value }
+    {
+        Fraction {
+            digits: self.digits.saturating_add(1),
+            value: if self.digits < 18 {
+                self.value * 10 + u64::from(digit - b'0')
+            } else {
+                self.value
+            },
+        }
+    }
+
+    /// The whole nanoseconds of the fraction: its first nine digits, with zeros behind them where there are fewer. What
+    /// is left of a nanosecond is dropped.
+    pub fn to_truncated_nanoseconds(&self) -> u32
+        ensures value { result ≡ nanoseconds_of self.now }
+        ensures small { result < 10 ^ 9 }
+    {
+        if self.digits <= 9 {
+            (self.value * 1u64.pow(u32::from(9 - self.digits))) as u32
+        } else {
+            (self.value / 10u64.pow(u32::from(self.digits.min(18) - 9))) as u32
+        }
+    }
 }
 
-/// An offset in hours and minutes.
-#[derive(Clone, Copy, Debug, PartialEq)]
-pub struct MinutePrecisionOffset {
-    pub sign: Sign,
-    pub hour: u8,
-    pub minute: u8,
-}
+#[cfg(test)]
+mod tests {
+    use super::*;
+    use crate::encoding::Utf8;
 
-/// An offset down to fractions of a second.
-#[derive(Clone, Copy, Debug, PartialEq)]
-pub struct FullPrecisionOffset {
-    pub minute_precision_offset: MinutePrecisionOffset,
-    pub second: u8,
-    pub fraction: Option<Fraction>,
-}
+    // A fraction of so many digits with this value.
+    fn fraction(digits: u8, value: u64) -> Fraction
+        requires { (1 ≤ digits) × (value < 10 ^ min digits 18) }
+        ensures { result ≡ record { count = digits; value = value } }
+    {
+        Fraction { digits, value }
+    }
 
-/// An offset.
-#[derive(Clone, Copy, Debug, PartialEq)]
-pub enum UtcOffsetRecord {
-    MinutePrecision(MinutePrecisionOffset),
-    FullPrecisionOffset(FullPrecisionOffset),
-}
+    #[test]
+    fn fractions_are_cut_at_nanoseconds(rt: HostRuntime) {
+        let rows = [
+            (fraction(1, 0), 0),
+            (fraction(2, 25), 250_000_000),
+            (fraction(8, 12_345_678), 123_456_780),
+            (fraction(9, 123_456_789), 123_456_789),
+            (fraction(9, 1), 1),
+            (fraction(10, 1_234_567_898), 123_456_789),
+            (fraction(10, 9), 0),
+            (fraction(18, 999_999_999_999_999_999), 999_999_999),
+            (fraction(19, 123_456_789_876_543_210), 123_456_789),
+            (fraction(37, 123_456_789_876_543_210), 123_456_789),
+            (fraction(255, 123_456_789_876_543_210), 123_456_789),
+        ];
+        for (fraction, nanoseconds) in rows {
+            assert_eq!(rt;
+                fraction.to_truncated_nanoseconds(),
+                nanoseconds,
+                "{fraction:?}"
+            );
+        }
+    }
 
-/// An offset, or `Z`.
-#[derive(Clone, Copy, Debug, PartialEq)]
-pub enum UtcOffsetRecordOrZ {
-    Offset(UtcOffsetRecord),
-    Z,
-}
+    #[test]
+    fn digits_make_a_fraction(rt: HostRuntime) {
+        let mut made = Fraction::start(b'0');
+        for digit in b"25" {
+            made = made.with_digit(*digit);
+        }
+        assert_eq!(rt; made, fraction(3, 25));
+        for _ in 0..300 {
+            made = made.with_digit(b'7');
+        }
+        assert_eq!(rt; made, fraction(255, 25_777_777_777_777_777));
+    }
 
-/// A zone bracket.
-#[derive(Drop)]
-#[derive_where(Clone, Debug, PartialEq)]
-pub struct TimeZoneAnnotation<'a, T: EncodingType> {
-    pub critical: bool,
-    pub tz: TimeZoneRecord<'a, T>,
-}
+    #[test]
+    fn fractions_differ_by_their_digits(rt: HostRuntime) {
+        let tenth = fraction(1, 1);
+        assert_ne!(rt; tenth, fraction(2, 10));
+        let copy: Result<_, _> = tenth.clone();
+        assert_eq!(rt; copy, Ok(tenth));
+    }
 
-/// A time zone.
-#[derive(Drop)]
-#[derive_where(Clone, Debug, PartialEq)]
-pub enum TimeZoneRecord<'a, T: EncodingType> {
-    Name(&'a [T::CodeUnit]),
-    Offset(MinutePrecisionOffset),
-}
+    #[test]
+    fn records_have_defaults_and_clones(rt: HostRuntime) {
+        let DateRecord { year, month, day } = DateRecord::default();
+        assert!(rt; year == 0 && month == 0 && day == 0);
+        let TimeRecord {
+            hour,
+            minute,
+            second,
+            fraction,
+        } = TimeRecord::default();
+        assert!(rt; hour == 0 && minute == 0 && second == 0 && fraction == None);
+        let record: IxdtfParseRecord<'_, Utf8> = IxdtfParseRecord::default();
+        assert!(rt; record.date == None && record.time == None && record.offset == None);
+        assert!(rt; record.tz == None && record.calendar == None);
+        let annotation: TimeZoneAnnotation<'_, Utf8> = TimeZoneAnnotation {
+            critical: true,
+            tz: TimeZoneRecord::Name("Europe/Paris".as_bytes()),
+        };
+        let copy: Result<_, _> = annotation.clone();
+        assert_eq!(rt; copy, Ok(annotation));
+    }
 
-/// What `parse` answers.
-#[derive(Drop)]
-#[derive_where(Debug, Default, PartialEq)]
-pub struct IxdtfParseRecord<'a, T: EncodingType> {
-    pub date: Option<DateRecord>,
-    pub time: Option<TimeRecord>,
-    pub offset: Option<UtcOffsetRecordOrZ>,
-    pub tz: Option<TimeZoneAnnotation<'a, T>>,
-    pub calendar: Option<&'a [T::CodeUnit]>,
+    #[test]
+    fn offsets_differ_by_their_precision(rt: HostRuntime) {
+        let minutes = MinutePrecisionOffset {
+            sign: Sign::Negative,
+            hour: 5,
+            minute: 30,
+        };
+        let short = UtcOffsetRecord::MinutePrecision(minutes);
+        let long = UtcOffsetRecord::FullPrecisionOffset(FullPrecisionOffset {
+            minute_precision_offset: minutes,
+            second: 0,
+            fraction: None,
+        });
+        assert_ne!(rt; short, long);
+        assert_ne!(rt; UtcOffsetRecordOrZ::Offset(short), UtcOffsetRecordOrZ::Z);
+        assert!(rt; Sign::Negative as i8 == -1 && Sign::Positive as i8 == 1);
+    }
 }

@@ -1,0 +1,272 @@
+//! Reading dates, and dates with a time.
+
+ghost use Rattle.std.specs.Prelude.{◌≡◌, ◌∷◌, [], ◌&&◌, ◌+◌, ◌*◌, ◌-◌, ◌<◌, ◌≤◌, map, nat_le, length, IsTrue, IfOk};
+ghost use Rattle.ixdtf.specs.Classes.{digit, sign};
+ghost use Rattle.ixdtf.specs.Digits.{decimal};
+ghost use Rattle.ixdtf.specs.Dates.{is_leap, month_length};
+ghost use Rattle.ixdtf.specs.Faults.Fault.{DateExtendedYear, InvalidMonthRange, InvalidDayRange};
+ghost use Rattle.ixdtf.specs.Answers.{Reads, Spends, Checks, parsed_of, timed_at};
+ghost use Rattle.ixdtf.specs.ReadingLooks.{error_of, number_of, digits_by, digit_look};
+ghost use Rattle.ixdtf.specs.ReadingDates.{date_of, year_at, plain_year_at, extended_year_at, date_at, after_year_at, hyphened_date_at, plain_date_at, after_hyphened_month_at, after_plain_month_at};
+ghost use Rattle.ixdtf.specs.Languages.{dated as dated_of};
+ghost use Rattle.ixdtf.specs.Reading.{parse_at};
+
+use crate::cursor::Cursor;
+use crate::encoding::EncodingType;
+use crate::parsers::grammar::{digits_value, is_ascii_sign, is_date_time_separator, is_hyphen};
+use crate::parsers::time::parse_time_record;
+use crate::records::{DateRecord, IxdtfParseRecord, TimeRecord};
+use crate::{ParseError, ParserResult};
+
+/// Reads a date, or a date and a time, and wants the end.
+#[tactic(auto, unfolding(crate::specs::Reading::parse_at, crate::specs::ReadingLooks::peek_by))]
+pub fn parse_date_time<'a, T: EncodingType>(cursor: &mut Cursor<'a, T>) -> ParserResult<IxdtfParseRecord<'a, T>>
+    ensures record { Reads (parsed_of T.number) (map T.letter cursor.old.rest) result (map T.letter cursor.new.rest) (parse_at error_of) }
+    ensures looks { Spends 30 cursor.old cursor.new }
+{
+    let date = parse_date(cursor)?;
+    match cursor.look()? {
+        None => Ok(dated(date, None)),
+        Some(byte) if is_date_time_separator(byte) => {
+            cursor.step();
+            parse_after_separator(cursor, date)
+        }
+        Some(_) => Err(ParseError::InvalidEnd),
+    }
+}
+
+/// Reads the time after the date and a separator, and wants the end.
+fn parse_after_separator<'a, T: EncodingType>(cursor: &mut Cursor<'a, T>, date: DateRecord) -> ParserResult<IxdtfParseRecord<'a, T>>
+    ensures record { Reads (parsed_of T.number) (map T.letter cursor.old.rest) result (map T.letter cursor.new.rest) (timed_at date) }
+    ensures looks { Spends 14 cursor.old cursor.new }
+{
+    match parse_time_record(cursor) {
+        Ok(time) => {
+            cursor.close()?;
+            Ok(dated(date, Some(time)))
+        }
+        Err(error) => Err(error),
+    }
+}
+
+/// The record of a date, and of a time where there is one.
+fn dated<'a, T: EncodingType>(date: DateRecord, time: Option<TimeRecord>) -> IxdtfParseRecord<'a, T>
+    ensures { parsed_of T.number result ≡ dated_of date time }
+{
+    IxdtfParseRecord {
+        date: Some(date),
+        time,
+        offset: None,
+        tz: None,
+        calendar: None,
+    }
+}
+
+/// Reads a date.
+#[tactic(auto, unfolding(crate::specs::ReadingDates::date_at))]
+fn parse_date<'a, T: EncodingType>(cursor: &mut Cursor<'a, T>) -> ParserResult<DateRecord>
+    ensures date { Reads (λ date. date) (map T.letter cursor.old.rest) result (map T.letter cursor.new.rest) (date_at error_of) }
+    ensures looks { Spends 13 cursor.old cursor.new }
+{
+    let year = parse_date_year(cursor)?;
+    parse_after_year(cursor, year)
+}
+
+// ==== Years ====
+
+/// Reads a year: four digits, or a sign and six digits.
+#[tactic(auto, using(crate::proofs::DigitClasses::digit_no_sign), unfolding(crate::specs::ReadingDates::year_at, crate::specs::ReadingLooks::next_by))]
+fn parse_date_year<'a, T: EncodingType>(cursor: &mut Cursor<'a, T>) -> ParserResult<i32>
+    ensures year { Reads (λ year. year) (map T.letter cursor.old.rest) result (map T.letter cursor.new.rest) (year_at error_of) }
+    ensures looks { Spends 7 cursor.old cursor.new }
+{
+    match cursor.look()? {
+        None => Err(ParseError::AbruptEnd { location: "digit" }),
+        Some(byte) if byte.is_ascii_digit() => {
+            cursor.step();
+            parse_plain_year(cursor, byte)
+        }
+        Some(byte) if is_ascii_sign(byte) => {
+            cursor.step();
+            parse_extended_year(cursor, byte)
+        }
+        Some(_) => Err(ParseError::DateYear),
+    }
+}
+
+/// Reads the other three digits of a year of four.
+#[tactic(auto, unfolding(crate::specs::ReadingDates::plain_year_at, crate::specs::ReadingLooks::digits_by))]
+fn parse_plain_year<'a, T: EncodingType>(cursor: &mut Cursor<'a, T>, thousands: u8) -> ParserResult<i32>
+    requires digit { IsTrue (digit thousands) }
+    ensures year { Reads (λ year. year) (map T.letter cursor.old.rest) result (map T.letter cursor.new.rest) (plain_year_at error_of thousands) }
+    ensures looks { Spends 3 cursor.old cursor.new }
+{
+    let hundreds = cursor.next_digit(ParseError::DateYear)?;
+    let tens = cursor.next_digit(ParseError::DateYear)?;
+    let ones = cursor.next_digit(ParseError::DateYear)?;
+    Ok(1000 * i32::from(thousands - b'0')
+        + 100 * i32::from(hundreds - b'0')
+        + 10 * i32::from(tens - b'0')
+        + i32::from(ones - b'0'))
+}
+
+/// Reads the six digits of a year with a sign.
+#[tactic(auto, unfolding(crate::specs::ReadingDates::extended_year_at))]
+fn parse_extended_year<'a, T: EncodingType>(cursor: &mut Cursor<'a, T>, sign: u8) -> ParserResult<i32>
+    ensures year { Reads (λ year. year) (map T.letter cursor.old.rest) result (map T.letter cursor.new.rest) (extended_year_at error_of sign) }
+    ensures looks { Spends 6 cursor.old cursor.new }
+{
+    let value = parse_six_digits(cursor)?;
+    if !is_hyphen(sign) {
+        return Ok(value as i32);
+    }
+    if value == 0 {
+        return Err(ParseError::DateExtendedYear);
+    }
+    Ok(-(value as i32))
+}
+
+/// Reads six digits, and answers their number.
+#[tactic(auto, unfolding(crate::specs::ReadingLooks::digits_by))]
+fn parse_six_digits<'a, T: EncodingType>(cursor: &mut Cursor<'a, T>) -> ParserResult<u32>
+    ensures number { Reads (λ number. number) (map T.letter cursor.old.rest) result (map T.letter cursor.new.rest) (λ text. number_of (digits_by (digit_look DateExtendedYear) 6 text)) }
+    ensures small { IfOk result (λ number. number < 1000000) }
+    ensures looks { Spends 6 cursor.old cursor.new }
+{
+    let first = cursor.next_digit(ParseError::DateExtendedYear)?;
+    let second = cursor.next_digit(ParseError::DateExtendedYear)?;
+    let third = cursor.next_digit(ParseError::DateExtendedYear)?;
+    let fourth = cursor.next_digit(ParseError::DateExtendedYear)?;
+    let fifth = cursor.next_digit(ParseError::DateExtendedYear)?;
+    let sixth = cursor.next_digit(ParseError::DateExtendedYear)?;
+    Ok(100_000 * u32::from(first - b'0')
+        + 10_000 * u32::from(second - b'0')
+        + 1000 * u32::from(third - b'0')
+        + 100 * u32::from(fourth - b'0')
+        + 10 * u32::from(fifth - b'0')
+        + u32::from(sixth - b'0'))
+}
+
+// ==== Months and days ====
+
+/// Reads the month and the day after a year: with hyphens where the first one stands, else without.
+#[tactic(auto, unfolding(crate::specs::ReadingDates::after_year_at, crate::specs::ReadingLooks::next_by))]
+fn parse_after_year<'a, T: EncodingType>(cursor: &mut Cursor<'a, T>, year: i32) -> ParserResult<DateRecord>
+    ensures date { Reads (λ date. date) (map T.letter cursor.old.rest) result (map T.letter cursor.new.rest) (after_year_at error_of year) }
+    ensures looks { Spends 6 cursor.old cursor.new }
+{
+    match cursor.look()? {
+        None => Err(ParseError::AbruptEnd { location: "Date" }),
+        Some(byte) if is_hyphen(byte) => {
+            cursor.step();
+            parse_hyphenated_date(cursor, year)
+        }
+        Some(byte) if byte.is_ascii_digit() => {
+            cursor.step();
+            parse_plain_date(cursor, year, byte)
+        }
+        Some(_) => Err(ParseError::DateMonth),
+    }
+}
+
+/// Reads the month after a hyphen, and the day.
+#[tactic(auto, unfolding(crate::specs::ReadingDates::hyphened_date_at, crate::specs::ReadingDates::month_in_range, crate::specs::ReadingLooks::digits_by))]
+fn parse_hyphenated_date<'a, T: EncodingType>(cursor: &mut Cursor<'a, T>, year: i32) -> ParserResult<DateRecord>
+    ensures date { Reads (λ date. date) (map T.letter cursor.old.rest) result (map T.letter cursor.new.rest) (hyphened_date_at error_of year) }
+    ensures looks { Spends 5 cursor.old cursor.new }
+{
+    let tens = cursor.next_digit(ParseError::DateMonth)?;
+    let ones = cursor.next_digit(ParseError::DateMonth)?;
+    let month = check_month(digits_value(tens, ones))?;
+    parse_hyphenated_day(cursor, year, month)
+}
+
+/// Reads the second hyphen, and the day after it.
+#[tactic(auto, unfolding(crate::specs::ReadingDates::after_hyphened_month_at, crate::specs::ReadingDates::hyphened_day_at, crate::specs::ReadingDates::day_in_range, crate::specs::ReadingLooks::next_by, crate::specs::ReadingLooks::digits_by))]
+fn parse_hyphenated_day<'a, T: EncodingType>(cursor: &mut Cursor<'a, T>, year: i32, month: u8) -> ParserResult<DateRecord>
+    ensures date { Reads (λ date. date) (map T.letter cursor.old.rest) result (map T.letter cursor.new.rest) (after_hyphened_month_at error_of year month) }
+    ensures looks { Spends 3 cursor.old cursor.new }
+{
+    match cursor.look()? {
+        Some(byte) if is_hyphen(byte) => cursor.step(),
+        _ => return Err(ParseError::DateSeparator),
+    }
+    let tens = cursor.next_digit(ParseError::DateDay)?;
+    let ones = cursor.next_digit(ParseError::DateDay)?;
+    check_date(year, month, digits_value(tens, ones))
+}
+
+/// Reads the month's second digit, and the day.
+#[tactic(auto, unfolding(crate::specs::ReadingDates::plain_date_at, crate::specs::ReadingDates::month_in_range, crate::specs::ReadingLooks::digits_by))]
+fn parse_plain_date<'a, T: EncodingType>(cursor: &mut Cursor<'a, T>, year: i32, tens: u8) -> ParserResult<DateRecord>
+    requires digit { IsTrue (digit tens) }
+    ensures date { Reads (λ date. date) (map T.letter cursor.old.rest) result (map T.letter cursor.new.rest) (plain_date_at error_of year tens) }
+    ensures looks { Spends 3 cursor.old cursor.new }
+{
+    let ones = cursor.next_digit(ParseError::DateMonth)?;
+    let month = check_month(digits_value(tens, ones))?;
+    parse_plain_day(cursor, year, month)
+}
+
+/// Reads the day right after a month: a hyphen there is `DateSeparator`.
+#[tactic(auto, unfolding(crate::specs::ReadingDates::after_plain_month_at, crate::specs::ReadingDates::plain_day_at, crate::specs::ReadingDates::day_in_range, crate::specs::ReadingLooks::next_by, crate::specs::ReadingLooks::digits_by))]
+fn parse_plain_day<'a, T: EncodingType>(cursor: &mut Cursor<'a, T>, year: i32, month: u8) -> ParserResult<DateRecord>
+    ensures date { Reads (λ date. date) (map T.letter cursor.old.rest) result (map T.letter cursor.new.rest) (after_plain_month_at error_of year month) }
+    ensures looks { Spends 2 cursor.old cursor.new }
+{
+    match cursor.look()? {
+        None => Err(ParseError::AbruptEnd { location: "digit" }),
+        Some(tens) if tens.is_ascii_digit() => {
+            cursor.step();
+            let ones = cursor.next_digit(ParseError::DateDay)?;
+            check_date(year, month, digits_value(tens, ones))
+        }
+        Some(byte) if is_hyphen(byte) => Err(ParseError::DateSeparator),
+        Some(_) => Err(ParseError::DateDay),
+    }
+}
+
+/// The month, where it is one.
+fn check_month(month: u8) -> ParserResult<u8>
+    ensures { Checks (λ month. month) result month (nat_le 1 month && nat_le month 12) InvalidMonthRange }
+{
+    if month < 1 || month > 12 {
+        return Err(ParseError::InvalidMonthRange);
+    }
+    Ok(month)
+}
+
+/// The date, where its month has the day.
+fn check_date(year: i32, month: u8, day: u8) -> ParserResult<DateRecord>
+    ensures { Checks (λ date. date) result (date_of year month day) (nat_le 1 day && nat_le day (month_length year month)) InvalidDayRange }
+{
+    if day < 1 || day > days_in_month(year, month) {
+        return Err(ParseError::InvalidDayRange);
+    }
+    Ok(DateRecord { year, month, day })
+}
+
+/// The length of a month in the Gregorian calendar.
+fn days_in_month(year: i32, month: u8) -> u8
+    ensures { result ≡ month_length year month }
+{
+    match month {
+        2 => {
+            if is_leap_year(year) {
+                29
+            } else {
+                28
+            }
+        }
+        4 | 6 | 9 | 11 => 30,
+        _ => 31,
+    }
+}
+
+/// Whether the year has 29 days in February.
+fn is_leap_year(year: i32) -> bool
+    ensures { result ≡ is_leap year }
+{
+    let distance = year.unsigned_abs();
+    (distance % 4 == 0 && distance % 100 != 0) || distance % 400 == 0
+}
