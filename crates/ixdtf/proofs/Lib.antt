@@ -6,3 +6,15 @@ pub mod Nanoseconds
 pub mod Numbers
 pub mod FractionRun
 pub mod OpenTimes
+pub mod LookLemmas
+pub mod Years
+pub mod DateTakes
+pub mod DateReads
+pub mod TimeTakes
+pub mod TimeReads
+pub mod WholeTakes
+pub mod WholeReads
+pub mod OneOutcome
+pub mod Examples
+pub mod Clauses
+pub mod NeverComes

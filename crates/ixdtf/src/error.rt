@@ -1,6 +1,6 @@
 //! What a text can be refused for.
 
-ghost use Rattle.std.specs.Prelude.{◌≡◌, codes, IsTrue, ◌↔◌};
+ghost use Rattle.std.specs.Prelude.{◌≡◌};
 ghost use Rattle.ixdtf.specs.Faults.{fault_of};
 ghost use Rattle.ixdtf.specs.ErrorTexts.{text_of};
 ghost use Rattle.ixdtf.specs.ErrorEquality.{place_of, location_of};
@@ -235,22 +235,21 @@ impl ParseError {
 }
 
 impl PartialEq for ParseError {
+    ghost use Rattle.std.specs.Prelude.{◌≡◌, ◌↔◌, IsTrue};
+    ghost use Rattle.ixdtf.specs.Faults.{fault_of};
     ghost use Rattle.ixdtf.specs.ErrorEquality.{same_error, same_error-laws};
 
     ghost eq = { same_error };
 
     ghost laws = { same_error-laws };
 
-    fn eq(&self, other: &ParseError) -> bool {
+    /// Whether the errors are one variant, and their locations have equal bytes.
+    fn eq(&self, other: &ParseError) -> bool
+        ensures computes { result ≡ same_error self.now other.now }
+        ensures equal { IsTrue result ↔ (fault_of self.now ≡ fault_of other.now) }
+    {
         self.place() == other.place() && self.location() == other.location()
     }
-}
-
-/// Whether two errors are equal.
-pub fn are_equal(a: &ParseError, b: &ParseError) -> bool
-    ensures { IsTrue result ↔ (fault_of a.now ≡ fault_of b.now) }
-{
-    a == b
 }
 
 impl fmt::Display for ParseError {

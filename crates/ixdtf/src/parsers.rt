@@ -1,7 +1,7 @@
 //! The readers.
 
-ghost use Rattle.std.specs.Prelude.{◌≡◌, ◌↔◌, ℕ, ◌+◌, ◌≤◌, List, [], map, Ok, OnOk, OnErr, IfErr};
-ghost use Rattle.ixdtf.specs.Faults.{fault_of};
+ghost use Rattle.std.specs.Prelude.{◌≡◌, ◌↔◌, ℕ, ◌+◌, ◌≤◌, List, [], map, Ok, OnOk, OnErr, IfErr, IsFalse};
+ghost use Rattle.ixdtf.specs.Faults.{fault_of, never_comes};
 ghost use Rattle.ixdtf.specs.Readers.Reader.{parse as reader_parse};
 ghost use Rattle.ixdtf.specs.Languages.{Parsed, Derives, HasFault};
 ghost use Rattle.ixdtf.specs.Answers.{Unread, answer_of, parsed_of, most_looks};
@@ -10,6 +10,7 @@ mod datetime;
 mod grammar;
 mod time;
 
+use self::datetime::parse_date_time;
 use crate::ParserResult;
 use crate::cursor::Cursor;
 use crate::encoding::{EncodingType, Utf8};
@@ -65,10 +66,20 @@ impl<'a, T: EncodingType> IxdtfParser<'a, T> {
         // `Err` only where a row of the fault table with this error fits.
         ensures err { IfErr result (λ e. HasFault reader_parse (map T.letter self.old.rest) (fault_of e)) }
 
+        // None of the errors that no reader gives.
+        ensures comes { IfErr result (λ e. IsFalse (never_comes (fault_of e))) }
+
         ensures empty { OnOk result (self.new.rest ≡ []) }
         ensures unchanged { OnErr result (self.new.rest ≡ self.old.rest) }
         ensures looks { self.new.looks ≤ self.old.looks + most_looks self.old.rest }
     {
-        Err(crate::ParseError::InvalidEnd)
+        let start = self.cursor.rest();
+        match parse_date_time(&mut self.cursor) {
+            Ok(record) => Ok(record),
+            Err(error) => {
+                self.cursor.go_back(start);
+                Err(error)
+            }
+        }
     }
 }

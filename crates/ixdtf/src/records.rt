@@ -178,7 +178,7 @@ impl Fraction {
         ensures small { result < 10 ^ 9 }
     {
         if self.digits <= 9 {
-            (self.value * 1u64.pow(u32::from(9 - self.digits))) as u32
+            (self.value * 10u64.pow(u32::from(9 - self.digits))) as u32
         } else {
             (self.value / 10u64.pow(u32::from(self.digits.min(18) - 9))) as u32
         }

@@ -1,0 +1,78 @@
+-- The errors that no line of the fault table has.
+use Rattle.std.proofs.Common.{◌≡◌, ℕ, Bool, true, false, cond, IsFalse, refl, sym, ap, ◌∙◌}
+use Rattle.ixdtf.specs.Letters.{Text}
+use Rattle.ixdtf.specs.Classes.{hyphen, colon, digit}
+use Rattle.ixdtf.specs.Faults.{Fault, never_comes}
+use Rattle.ixdtf.specs.Faults.Fault.{DateSeparator, DateDay, TimeSeparator, InvalidEnd}
+use Rattle.ixdtf.specs.Readers.{Reader, DateLine, TimeLine, LineName}
+use Rattle.ixdtf.specs.Readers.Reader.{parse}
+use Rattle.ixdtf.specs.Readers.DateLine.{year_start, year_digits, extended_year_digits, minus_zero_year, after_year, month_digits, month_range, after_hyphened_month, after_plain_month, day_digits, day_range, after_date}
+use Rattle.ixdtf.specs.Readers.TimeLine.{hour_start, hour_digit, hour_range, after_hour, minute_digits, minute_range, after_plain_minute, after_colon_minute, second_digits, second_range, after_second, fraction_start, after_fraction}
+use Rattle.ixdtf.specs.Readers.LineName.{of_date, of_time}
+use Rattle.ixdtf.specs.FaultTable.{Line, Ending, table}
+use Rattle.ixdtf.specs.FaultTable.Line.{line, whole}
+use Rattle.ixdtf.specs.FaultTable.Ending.{ok, error}
+use Rattle.ixdtf.specs.Rows.{Row, Place, Stops, Fits}
+use Rattle.ixdtf.specs.Rows.Place.{end, other, bad, anywhere}
+use Rattle.ixdtf.specs.Languages.{HasFault}
+
+abbrev EndComes : Ending → Type 0
+EndComes ok = Unit {0}
+EndComes (error fault) = IsFalse (never_comes fault)
+
+-- each error of the line is one that comes
+abbrev LineComes : Line → Type 0
+LineComes (line front goes_on at_end at_other) = EndComes at_end × ((c : ℕ) → IsFalse (never_comes (at_other c)))
+LineComes (whole front fault) = IsFalse (never_comes fault)
+
+either_comes : (b : Bool) (x y : Fault) → IsFalse (never_comes x) → IsFalse (never_comes y) → IsFalse (never_comes (cond b x y))
+either_comes true x y p q = p
+either_comes false x y p q = q
+
+line_comes : (reader : Reader) (name : LineName) → LineComes (table reader name)
+line_comes reader (of_date year_start) = (refl, λ c. refl)
+line_comes reader (of_date year_digits) = (refl, λ c. refl)
+line_comes reader (of_date extended_year_digits) = (refl, λ c. refl)
+line_comes reader (of_date minus_zero_year) = refl
+line_comes reader (of_date after_year) = (refl, λ c. refl)
+line_comes reader (of_date month_digits) = (refl, λ c. refl)
+line_comes reader (of_date month_range) = refl
+line_comes reader (of_date after_hyphened_month) = (refl, λ c. refl)
+line_comes reader (of_date after_plain_month) = (refl, λ c. either_comes (hyphen c) DateSeparator DateDay refl refl)
+line_comes reader (of_date day_digits) = (refl, λ c. refl)
+line_comes reader (of_date day_range) = refl
+line_comes reader (of_date after_date) = (tt, λ c. refl)
+line_comes reader (of_time hour_start) = (refl, λ c. refl)
+line_comes reader (of_time hour_digit) = (refl, λ c. refl)
+line_comes reader (of_time hour_range) = refl
+line_comes reader (of_time after_hour) = (tt, λ c. refl)
+line_comes reader (of_time minute_digits) = (refl, λ c. refl)
+line_comes reader (of_time minute_range) = refl
+line_comes reader (of_time after_plain_minute) = (tt, λ c. either_comes (colon c) TimeSeparator InvalidEnd refl refl)
+line_comes reader (of_time after_colon_minute) = (tt, λ c. either_comes (digit c) TimeSeparator InvalidEnd refl refl)
+line_comes reader (of_time second_digits) = (refl, λ c. refl)
+line_comes reader (of_time second_range) = refl
+line_comes reader (of_time after_second) = (tt, λ c. refl)
+line_comes reader (of_time fraction_start) = (refl, λ c. refl)
+line_comes reader (of_time after_fraction) = (tt, λ c. refl)
+
+end_comes : (at_end : Ending) (fault : Fault) → EndComes at_end → at_end ≡ error fault → IsFalse (never_comes fault)
+end_comes ok fault comes is = absurd cc
+end_comes (error e) fault comes is = let same : e ≡ fault = cc in ap never_comes (sym same) ∙ comes
+
+stop_comes : (l : Line) (place : Place) (fault : Fault) (rest : Text) → LineComes l → Stops l place fault rest → IsFalse (never_comes fault)
+stop_comes (line front goes_on at_end at_other) end fault rest comes h = end_comes at_end fault comes.0 h.1
+stop_comes (line front goes_on at_end at_other) other fault rest comes h = ap never_comes h.4 ∙ comes.1 h.0
+stop_comes (line front goes_on at_end at_other) bad fault rest comes h = ap never_comes h.2
+stop_comes (line front goes_on at_end at_other) anywhere fault rest comes h = absurd h
+stop_comes (whole front e) end fault rest comes h = absurd h
+stop_comes (whole front e) other fault rest comes h = absurd h
+stop_comes (whole front e) bad fault rest comes h = absurd h
+stop_comes (whole front e) anywhere fault rest comes h = ap never_comes h ∙ comes
+
+-- a fault that a text has is one that comes
+pub fault_comes : (reader : Reader) (text : Text) (fault : Fault) → HasFault reader text fault → IsFalse (never_comes fault)
+fault_comes reader text fault h =
+    let row = h.0 in
+    let here = h.1.4 in
+    ap never_comes (sym h.2) ∙ stop_comes (table reader row.name) row.place row.error here.1 (line_comes reader row.name) here.4

@@ -1,0 +1,38 @@
+-- Each text has exactly one outcome.
+use Rattle.std.proofs.Common.{◌≡◌, [], Ok, Err, refl, sym, ap, ◌∙◌, arith}
+use Rattle.ixdtf.specs.Letters.{Text}
+use Rattle.ixdtf.specs.Readers.{Reader}
+use Rattle.ixdtf.specs.Rows.{Row, Fits}
+use Rattle.ixdtf.specs.Languages.{Parsed, Derives, Outcome, Holds, OneOutcome}
+use Rattle.ixdtf.specs.Languages.Outcome.{derived, refused}
+use Rattle.ixdtf.specs.ReadingLooks.{Read}
+use Rattle.ixdtf.specs.Reading.{read_at, outcome_of, outcome}
+use Rattle.ixdtf.proofs.LookLemmas.{OnRead}
+use Rattle.ixdtf.proofs.WholeTakes.{takes, row_answers}
+use Rattle.ixdtf.proofs.WholeReads.{whole_read}
+
+-- the fault of a row is the row itself
+abbrev itself : Row → Row
+itself row = row
+
+-- what holds of a text is what reading answers
+decides : (reader : Reader) (text : Text) (x : Outcome) → Holds reader text x → x ≡ outcome reader text
+decides reader text (derived parsed) h = sym (ap outcome_of (takes itself reader text parsed h))
+decides reader text (refused row) h = sym (ap outcome_of (row_answers itself reader text row h))
+
+-- what reading answers holds
+answer_holds : (reader : Reader) (text : Text) → Holds reader text (outcome reader text)
+answer_holds reader text = go (read_at itself reader text) (whole_read itself reader text)
+  where
+    go : (r : Read Row Parsed) → OnRead itself r (λ parsed more. (more ≡ []) × Derives reader text parsed) (λ row. Fits reader row text) → Holds reader text (outcome_of r)
+    go (Ok x) h = h.1
+    go (Err row) h = rw h.1 h.2
+
+pub one_outcome : OneOutcome
+one_outcome reader text = (outcome reader text, answer_holds reader text, decides reader text)
+
+-- where a row fits, nothing is derived and no other row fits
+pub only_this_row : (reader : Reader) (text : Text) (row : Row) → Fits reader row text → ((parsed : Parsed) → Derives reader text parsed → ⊥) × ((other : Row) → Fits reader other text → other ≡ row)
+only_this_row reader text row f =
+    let at = row_answers itself reader text row f in
+    ((λ parsed d. grind (arith, at, takes itself reader text parsed d)), (λ other g. grind (arith, at, row_answers itself reader text other g)))
