@@ -1,5 +1,5 @@
 -- A date gives its record and the rest, and each row of a date's lines is answered.
-use Rattle.std.proofs.Common.{◌≡◌, ℕ, ◌<◌, ◌≤◌, ◌⊎◌, true, false, IsTrue, IsFalse, [], ◌∷◌, ◌++◌, Ok, Err, refl, sym, ◌∙◌, inl, inr, arith, append-nil, ℤ, nat_le, ◌&&◌}
+use Rattle.std.proofs.Common.{◌≡◌, ℕ, ◌<◌, ◌⊎◌, true, false, IsTrue, IsFalse, [], ◌∷◌, ◌++◌, Ok, Err, refl, sym, ◌∙◌, inl, inr, arith, append-nil, ℤ, nat_le, ◌&&◌}
 use Rattle.std.proofs.lemmas.Bool.{and_parts, and_from, leb-true, le-leb, false_from_ne_true}
 use Rattle.std.proofs.lemmas.Bool.Decides.{nat_tests}
 use Rattle.ixdtf.specs.declared.records.DateRecord.{DateRecord}
@@ -26,6 +26,10 @@ use Rattle.ixdtf.proofs.Years.{year_takes, year_start_row, year_digits_row, exte
 abbrev pub IsInside : DateLine → Type 0
 IsInside after_date = ⊥
 IsInside _ = Unit {0}
+
+-- the row of two digits that are no month
+abbrev pub no_month : Row
+no_month = row_of (of_date month_range) anywhere InvalidMonthRange
 
 digit_no_hyphen : (c : ℕ) → IsTrue (digit c) → IsFalse (hyphen c)
 digit_no_hyphen c h = grind (arith, nat_tests)
@@ -109,15 +113,15 @@ module _ {E : Type 0} (fault : Row → E) where
   unfolding plain_date_at
   plain_month_stops y c rest place e at = record { halts = rw (digits_stop fault (of_date month_digits) (λ c. refl) 1 0 [] rest place e (omega arith) refl at) refl }
 
-  month_refused : (ds rest : Text) → (decimal ds ≡ 0) ⊎ (12 < decimal ds) → month_in_range fault (ds, rest) ≡ Err (fault (row_of (of_date month_range) anywhere InvalidMonthRange))
+  month_refused : (ds rest : Text) → (decimal ds ≡ 0) ⊎ (12 < decimal ds) → month_in_range fault (ds, rest) ≡ Err (fault no_month)
   unfolding month_in_range
   month_refused ds rest h = let test : (nat_le 1 (decimal ds) && nat_le (decimal ds) 12) ≡ false = grind (arith, nat_tests) in rw test refl
 
-  hyphened_month_range : (y : ℤ) (ds rest : Text) → NoMonth ds → Halts (hyphened_date_at fault y) ds rest (fault (row_of (of_date month_range) anywhere InvalidMonthRange))
+  hyphened_month_range : (y : ℤ) (ds rest : Text) → NoMonth ds → Halts (hyphened_date_at fault y) ds rest (fault no_month)
   unfolding hyphened_date_at
   hyphened_month_range y ds rest h = record { halts = rw (digits_go fault (of_date month_digits) (λ c. refl) 2 ds rest h.0, month_refused ds rest h.1) refl }
 
-  plain_month_range : (y : ℤ) (ds rest : Text) → NoMonth ds → Halts (after_year_at fault y) ds rest (fault (row_of (of_date month_range) anywhere InvalidMonthRange))
+  plain_month_range : (y : ℤ) (ds rest : Text) → NoMonth ds → Halts (after_year_at fault y) ds rest (fault no_month)
   unfolding plain_date_at
   plain_month_range y ds rest h =
       let g = h.0 in
@@ -154,7 +158,7 @@ module _ {E : Type 0} (fault : Row → E) where
     month_range_row : Answers fault reader (date_at fault) (of_date month_range)
     month_range_row = answers_whole fault reader (date_at fault) (of_date month_range) tt λ e front rest f at. rw (f.2, f.4.2, at) ((at_place f f.4.3).halts)
       where
-        at_place : {front rest : Text} (f : front_of (table reader (of_date month_range)) front) → ((f.4.0 ≡ []) ⊎ one hyphen f.4.0) → Halts (date_at fault) (f.0 ++ (f.4.0 ++ f.4.1)) rest (fault (row_of (of_date month_range) anywhere InvalidMonthRange))
+        at_place : {front rest : Text} (f : front_of (table reader (of_date month_range)) front) → ((f.4.0 ≡ []) ⊎ one hyphen f.4.0) → Halts (date_at fault) (f.0 ++ (f.4.0 ++ f.4.1)) rest (fault no_month)
         at_place f (inl h) = rw h (over_year _ _ f.3.1 till plain_month_range _ _ _ f.4.4)
         at_place f (inr h) = over_year _ _ f.3.1 till over_hyphen _ _ h till hyphened_month_range _ _ _ f.4.4
 

@@ -9,7 +9,7 @@ use Rattle.ixdtf.specs.Readers.{LineName}
 use Rattle.ixdtf.specs.Readers.Reader.{parse}
 use Rattle.ixdtf.specs.Readers.LineName.{of_date, of_time}
 use Rattle.ixdtf.specs.Readers.DateLine.{year_start, minus_zero_year, after_year, month_digits, month_range, after_hyphened_month, after_plain_month, day_range, after_date}
-use Rattle.ixdtf.specs.Readers.TimeLine.{hour_start, hour_range, after_hour, minute_range, after_plain_minute, after_colon_minute, second_digits, after_second, fraction_start}
+use Rattle.ixdtf.specs.Readers.TimeLine.{hour_start, hour_range, minute_range, after_colon_minute, second_digits, after_second, fraction_start}
 use Rattle.ixdtf.specs.FaultTable.{abrupt_digit, abrupt_date}
 use Rattle.ixdtf.specs.Rows.Place.{end, other, bad, anywhere}
 use Rattle.ixdtf.specs.Rows.{Place}

@@ -1,6 +1,5 @@
 -- One look at a line: a letter that goes on is read further, a row that fits is answered; and back.
 use Rattle.std.proofs.Common.{◌≡◌, ℕ, zero, suc, ◌<◌, ◌⊎◌, Bool, true, false, IsTrue, IsFalse, [], ◌∷◌, ◌++◌, Ok, Err, Option, Some, None, refl, sym, ap, ◌∙◌, subst, inl, inr, arith, append_assoc, if◌then◌else◌}
-use Rattle.std.proofs.lemmas.Bool.{both_ways, false_from_ne_true}
 use Rattle.ixdtf.specs.Letters.{Text}
 use Rattle.ixdtf.specs.Letters.Letter.{Plain, Bad}
 use Rattle.ixdtf.specs.Classes.{Class, digit}
@@ -14,7 +13,7 @@ use Rattle.ixdtf.specs.FaultTable.Line.{line, whole}
 use Rattle.ixdtf.specs.FaultTable.Ending.{ok, error}
 use Rattle.ixdtf.specs.Rows.{Row, Place, Stops, front_of, FitsHere}
 use Rattle.ixdtf.specs.Rows.Place.{end, other, bad, anywhere}
-use Rattle.ixdtf.specs.ReadingLooks.{Read, Look, ◌>>=◌, row_of, look_of, look_at_line, look_at, next_by, letter_at, digits_by, digits_at, peek_by, on_next, digit_run}
+use Rattle.ixdtf.specs.ReadingLooks.{Read, Look, ◌>>=◌, row_of, look_of, look_at, next_by, letter_at, digits_by, digits_at, peek_by, on_next, digit_run}
 
 -- the fault is that of a row of which something is known
 abbrev pub Stopped : {E : Type 0} → (Row → E) → E → (Row → Type 0) → Type 0

@@ -1,11 +1,12 @@
 -- Each text has exactly one outcome.
-use Rattle.std.proofs.Common.{◌≡◌, [], Ok, Err, refl, sym, ap, ◌∙◌, arith}
+use Rattle.std.proofs.Common.{◌≡◌, [], Ok, Err, sym, ap, subst, arith}
 use Rattle.ixdtf.specs.Letters.{Text}
+use Rattle.ixdtf.specs.Faults.{Fault}
 use Rattle.ixdtf.specs.Readers.{Reader}
 use Rattle.ixdtf.specs.Rows.{Row, Fits}
-use Rattle.ixdtf.specs.Languages.{Parsed, Derives, Outcome, Holds, OneOutcome}
+use Rattle.ixdtf.specs.Languages.{Parsed, Derives, HasFault, Outcome, Holds, OneOutcome}
 use Rattle.ixdtf.specs.Languages.Outcome.{derived, refused}
-use Rattle.ixdtf.specs.ReadingLooks.{Read}
+use Rattle.ixdtf.specs.ReadingLooks.{Read, error_of}
 use Rattle.ixdtf.specs.Reading.{read_at, outcome_of, outcome}
 use Rattle.ixdtf.proofs.LookLemmas.{OnRead}
 use Rattle.ixdtf.proofs.WholeTakes.{takes, row_answers}
@@ -36,3 +37,15 @@ pub only_this_row : (reader : Reader) (text : Text) (row : Row) → Fits reader 
 only_this_row reader text row f =
     let at = row_answers itself reader text row f in
     ((λ parsed d. grind (arith, at, takes itself reader text parsed d)), (λ other g. grind (arith, at, row_answers itself reader text other g)))
+
+-- ---- what reading answered, as callers use it
+
+module _ {E : Type 0} (fault : Row → E) where
+  pub derived_where_ok : (reader : Reader) (text : Text) (parsed : Parsed) (rest : Text) → read_at fault reader text ≡ Ok (parsed, rest) → (rest ≡ []) × Derives reader text parsed
+  derived_where_ok reader text parsed rest e = subst (λ r. OnRead fault r (λ parsed more. (more ≡ []) × Derives reader text parsed) (λ row. Fits reader row text)) e (whole_read fault reader text)
+
+  pub row_where_err : (reader : Reader) (text : Text) (e : E) → read_at fault reader text ≡ Err e → (row : Row) × (e ≡ fault row) × Fits reader row text
+  row_where_err reader text e is = subst (λ r. OnRead fault r (λ parsed more. (more ≡ []) × Derives reader text parsed) (λ row. Fits reader row text)) is (whole_read fault reader text)
+
+pub fault_where_err : (reader : Reader) (text : Text) (e : Fault) → read_at error_of reader text ≡ Err e → HasFault reader text e
+fault_where_err reader text e is = let found = row_where_err error_of reader text e is in (found.0, found.2, sym found.1)

@@ -1,15 +1,14 @@
 -- What reading a time answers is a time as far as it goes, or a row that fits.
-use Rattle.std.proofs.Common.{◌≡◌, ℕ, ◌<◌, ◌≤◌, ◌⊎◌, IsTrue, IsFalse, [], ◌∷◌, ◌++◌, Ok, Err, Option, Some, None, refl, ◌∙◌, inl, inr, arith, append_assoc, nat_le}
+use Rattle.std.proofs.Common.{◌≡◌, ℕ, ◌<◌, ◌≤◌, ◌⊎◌, IsTrue, IsFalse, [], ◌∷◌, ◌++◌, Ok, Err, Option, Some, None, refl, ◌∙◌, inl, inr, append_assoc, nat_le}
 use Rattle.std.proofs.lemmas.Bool.{eqb-true, leb-true, leb-false, or_from}
 use Rattle.ixdtf.specs.declared.records.TimeRecord.{TimeRecord}
 use Rattle.ixdtf.specs.Letters.{Text}
 use Rattle.ixdtf.specs.Letters.Letter.{Plain, Bad}
 use Rattle.ixdtf.specs.Classes.{digit, colon, decimal_mark}
-use Rattle.ixdtf.specs.Shapes.{one, digits}
+use Rattle.ixdtf.specs.Shapes.{one}
 use Rattle.ixdtf.specs.Digits.{decimal, UpTo}
 use Rattle.ixdtf.specs.Fractions.{FractionParts, SomeDigits, fraction_of}
-use Rattle.ixdtf.specs.Faults.{Fault}
-use Rattle.ixdtf.specs.Faults.Fault.{NonAsciiCodePoint, InvalidEnd, TimeHour, TimeMinuteSecond, TimeSecond, TimeSeparator}
+use Rattle.ixdtf.specs.Faults.Fault.{NonAsciiCodePoint, InvalidEnd, TimeSeparator}
 use Rattle.ixdtf.specs.Times.{TimeShape, TimeOf, PlainMinuteText, ColonMinuteText, SecondText}
 use Rattle.ixdtf.specs.Times.TimeShape.{hours, plain_minutes, colon_minutes, seconds, fractions}
 use Rattle.ixdtf.specs.Readers.{Reader}
@@ -18,11 +17,11 @@ use Rattle.ixdtf.specs.Readers.LineName.{of_time}
 use Rattle.ixdtf.specs.Readers.TimeLine.{hour_start, hour_digit, hour_range, after_hour, minute_digits, minute_range, after_plain_minute, after_colon_minute, second_digits, second_range, after_second, fraction_start, after_fraction}
 use Rattle.ixdtf.specs.FaultTable.{follow_of, ColonOrDigit}
 use Rattle.ixdtf.specs.Rows.{Row}
-use Rattle.ixdtf.specs.Rows.Place.{other, bad, anywhere}
+use Rattle.ixdtf.specs.Rows.Place.{other, bad}
 use Rattle.ixdtf.specs.ReadingLooks.{Read, ◌>>=◌, row_of, letter_at, digits_at, in_range, digit_run}
 use Rattle.ixdtf.specs.ReadingTimes.{OpenTime, time_of, line_after, bad_after, mixed_after, fraction_at, after_second_at, colon_second_at, plain_second_at, after_colon_minute_at, after_plain_minute_at, colon_minute_at, plain_minute_at, after_hour_at, hour_from, time_at}
-use Rattle.ixdtf.proofs.LookLemmas.{Stopped, OnRead, OnRun, FitsIn, fits_in, fits_whole_in, then_read, read_if, no_digit, none_or_one, read_letter, digits_read, next_read, run_read, further, onto, NotNext}
-use Rattle.ixdtf.proofs.TimeTakes.{Closed, with_fraction, colon_no_digit, digit_no_colon}
+use Rattle.ixdtf.proofs.LookLemmas.{Stopped, OnRead, OnRun, FitsIn, fits_in, then_read, read_if, no_digit, none_or_one, read_letter, digits_read, next_read, run_read, further, onto, NotNext}
+use Rattle.ixdtf.proofs.TimeTakes.{Closed, hour_past, minute_past, second_past, with_fraction, colon_no_digit, digit_no_colon}
 
 -- what reading a time gave
 abbrev pub TimeFront : Text → OpenTime → Text → Type 0
@@ -102,6 +101,10 @@ module _ {E : Type 0} (fault : Row → E) where
       open_other fractions t c more x next out closed =
           (row_of (of_time after_fraction) other InvalidEnd, refl, (after_fraction, refl, (front, rest, is, (t, x), (c, more, next, or_from _ _ closed out, refl))))
 
+    -- what is known of reading a time, or a part of it
+    abbrev Reads : Read E OpenTime → Type 0
+    Reads r = OnRead fault r (TimeFront text) (λ row. FitsIn of_time reader row text)
+
     -- ---- from stage to stage
 
     module _ (h m s c : ℕ) (front : Text) (x : SecondText front (time_of h m s None)) (mark : IsTrue (decimal_mark c)) where
@@ -118,36 +121,36 @@ module _ {E : Type 0} (fault : Row → E) where
           (λ d left g. rw g.0 (more_digits_read d left (is ∙ rw g.0 refl) g.1 (digit_run (bad_after fault fractions) left) (run_read (bad_after fault fractions) left)))
           (λ r g. fits_in of_time reader fraction_start r text (front ++ (Plain c ∷ [])) rest g.0 (further text front _ (Plain c ∷ []) rest is refl) (front, _, refl, (time_of h m s None, (x, refl)), (c, refl, mark)) g.1)
 
-      with_fraction_read : (rest : Text) → text ≡ front ++ (Plain c ∷ rest) → OnRead fault (with_fraction h m s (fraction_at fault rest)) (TimeFront text) (λ row. FitsIn of_time reader row text)
+      with_fraction_read : (rest : Text) → text ≡ front ++ (Plain c ∷ rest) → Reads (with_fraction h m s (fraction_at fault rest))
       with_fraction_read rest is = then_read fault (fraction_at fault rest) _ _ _ _ _ (fraction_read rest is)
           (λ fraction more f. (front ++ (Plain c ∷ f.0), further text front _ (Plain c ∷ f.0) more is (onto c f.1), fraction_shape h m s c front f.0 fraction x mark f.2 f.3, f.4))
           (λ r f. f)
 
-    after_second_read : (h m s : ℕ) (front rest : Text) → text ≡ front ++ rest → SecondText front (time_of h m s None) → OnRead fault (after_second_at fault h m s rest) (TimeFront text) (λ row. FitsIn of_time reader row text)
+    after_second_read : (h m s : ℕ) (front rest : Text) → text ≡ front ++ rest → SecondText front (time_of h m s None) → Reads (after_second_at fault h m s rest)
     unfolding after_second_at
     after_second_read h m s front rest is x = next_read (bad_after fault seconds) decimal_mark _ _ fault rest (TimeFront text) (λ row. FitsIn of_time reader row text)
         (λ more next. open_bad front rest is seconds (time_of h m s None) more (x, refl) next)
         (λ c more next mark. with_fraction_read h m s c front x mark more (is ∙ rw next refl))
         (λ closed. (front, is, (x, refl), closed))
 
-    colon_second_read : (h m : ℕ) (front rest : Text) → text ≡ (front ++ (Plain 58 ∷ [])) ++ rest → ColonMinuteText front (time_of h m 0 None) → OnRead fault (colon_second_at fault h m rest) (TimeFront text) (λ row. FitsIn of_time reader row text)
+    colon_second_read : (h m : ℕ) (front rest : Text) → text ≡ (front ++ (Plain 58 ∷ [])) ++ rest → ColonMinuteText front (time_of h m 0 None) → Reads (colon_second_at fault h m rest)
     unfolding colon_second_at
     colon_second_read h m front rest is x = then_read fault (digits_at fault (of_time second_digits) 2 rest) _ _ _ _ _ (digits_read fault (of_time second_digits) (λ c. refl) 2 rest)
-        (λ ds more g. then_read fault (in_range 60 (fault (row_of (of_time second_range) anywhere TimeSecond)) (ds, more)) _ _ _ _ _ (range_read 60 (row_of (of_time second_range) anywhere TimeSecond) ds more)
+        (λ ds more g. then_read fault (in_range 60 (fault second_past) (ds, more)) _ _ _ _ _ (range_read 60 second_past ds more)
         (λ s left u. after_second_read h m s (x.hs ++ (Plain 58 ∷ (x.ms ++ (Plain 58 ∷ ds)))) left (is ∙ rw (x.is, g.0, u.0) (simp append_assoc)) (inr (record { hs = x.hs; ms = x.ms; ss = ds; is = refl; hour = x.hour; minute = x.minute; second = (g.1, u.1, u.2) })))
         (λ r u. rw u.0 (second_range, refl, (front ++ (Plain 58 ∷ ds), more, is ∙ rw g.0 (simp append_assoc), inr (front, _, refl, (_, x), (Plain 58 ∷ [], ds, refl, (58, refl, refl), (g.1, u.1))), refl))))
         (λ r g. fits_in of_time reader second_digits r text (front ++ (Plain 58 ∷ g.2)) g.3 g.6.0 (is ∙ rw g.4 (simp append_assoc)) (inr (front, _, refl, (_, x), (Plain 58 ∷ [], g.2, refl, (58, refl, refl), (g.0, g.1, g.5)))) g.6.1)
 
-    plain_second_read : (h m c : ℕ) (front rest : Text) → IsTrue (digit c) → text ≡ (front ++ (Plain c ∷ [])) ++ rest → PlainMinuteText front (time_of h m 0 None) → OnRead fault (plain_second_at fault h m c rest) (TimeFront text) (λ row. FitsIn of_time reader row text)
+    plain_second_read : (h m c : ℕ) (front rest : Text) → IsTrue (digit c) → text ≡ (front ++ (Plain c ∷ [])) ++ rest → PlainMinuteText front (time_of h m 0 None) → Reads (plain_second_at fault h m c rest)
     unfolding plain_second_at
     plain_second_read h m c front rest d is x = then_read fault (digits_at fault (of_time second_digits) 1 rest) _ _ _ _ _ (digits_read fault (of_time second_digits) (λ c. refl) 1 rest)
-        (λ ds more g. then_read fault (in_range 60 (fault (row_of (of_time second_range) anywhere TimeSecond)) (Plain c ∷ ds, more)) _ _ _ _ _ (range_read 60 (row_of (of_time second_range) anywhere TimeSecond) (Plain c ∷ ds) more)
+        (λ ds more g. then_read fault (in_range 60 (fault second_past) (Plain c ∷ ds, more)) _ _ _ _ _ (range_read 60 second_past (Plain c ∷ ds) more)
         (λ s left u. after_second_read h m s (x.hs ++ (x.ms ++ (Plain c ∷ ds))) left (is ∙ rw (x.is, g.0, u.0) (simp append_assoc)) (inl (record { hs = x.hs; ms = x.ms; ss = Plain c ∷ ds; is = refl; hour = x.hour; minute = x.minute; second = ((c, ds, refl, d, g.1), u.1, u.2) })))
         (λ r u. rw u.0 (second_range, refl, (front ++ (Plain c ∷ ds), more, is ∙ rw g.0 (simp append_assoc), inl (front, _, refl, (_, x), ((c, ds, refl, d, g.1), u.1)), refl))))
         (λ r g. let at = no_digit (of_time second_digits) rest r g in
         fits_in of_time reader second_digits r text (front ++ (Plain c ∷ [])) rest at.0 is (inl (front, _, refl, (_, x), (c, refl, d))) at.1)
 
-    after_colon_minute_read : (h m : ℕ) (front rest : Text) → text ≡ front ++ rest → ColonMinuteText front (time_of h m 0 None) → OnRead fault (after_colon_minute_at fault h m rest) (TimeFront text) (λ row. FitsIn of_time reader row text)
+    after_colon_minute_read : (h m : ℕ) (front rest : Text) → text ≡ front ++ rest → ColonMinuteText front (time_of h m 0 None) → Reads (after_colon_minute_at fault h m rest)
     unfolding after_colon_minute_at
     after_colon_minute_read h m front rest is x = next_read (bad_after fault colon_minutes) colon _ _ fault rest (TimeFront text) (λ row. FitsIn of_time reader row text)
         (λ more next. open_bad front rest is colon_minutes (time_of h m 0 None) more x next)
@@ -157,7 +160,7 @@ module _ {E : Type 0} (fault : Row → E) where
         (λ c more next d. colon_mixed_read front rest is (time_of h m 0 None) c more x next d)
         (λ closed. (front, is, x, (no_colon, closed))))
 
-    after_plain_minute_read : (h m : ℕ) (front rest : Text) → text ≡ front ++ rest → PlainMinuteText front (time_of h m 0 None) → OnRead fault (after_plain_minute_at fault h m rest) (TimeFront text) (λ row. FitsIn of_time reader row text)
+    after_plain_minute_read : (h m : ℕ) (front rest : Text) → text ≡ front ++ rest → PlainMinuteText front (time_of h m 0 None) → Reads (after_plain_minute_at fault h m rest)
     unfolding after_plain_minute_at
     after_plain_minute_read h m front rest is x = next_read (bad_after fault plain_minutes) digit _ _ fault rest (TimeFront text) (λ row. FitsIn of_time reader row text)
         (λ more next. open_bad front rest is plain_minutes (time_of h m 0 None) more x next)
@@ -167,24 +170,24 @@ module _ {E : Type 0} (fault : Row → E) where
         (λ c more next mark. plain_mixed_read front rest is (time_of h m 0 None) c more x next mark)
         (λ closed. (front, is, x, (no_digit_next, closed))))
 
-    colon_minute_read : (h : ℕ) (front rest : Text) → text ≡ (front ++ (Plain 58 ∷ [])) ++ rest → UpTo 23 front h → OnRead fault (colon_minute_at fault h rest) (TimeFront text) (λ row. FitsIn of_time reader row text)
+    colon_minute_read : (h : ℕ) (front rest : Text) → text ≡ (front ++ (Plain 58 ∷ [])) ++ rest → UpTo 23 front h → Reads (colon_minute_at fault h rest)
     unfolding colon_minute_at
     colon_minute_read h front rest is x = then_read fault (digits_at fault (of_time minute_digits) 2 rest) _ _ _ _ _ (digits_read fault (of_time minute_digits) (λ c. refl) 2 rest)
-        (λ ds more g. then_read fault (in_range 59 (fault (row_of (of_time minute_range) anywhere TimeMinuteSecond)) (ds, more)) _ _ _ _ _ (range_read 59 (row_of (of_time minute_range) anywhere TimeMinuteSecond) ds more)
+        (λ ds more g. then_read fault (in_range 59 (fault minute_past) (ds, more)) _ _ _ _ _ (range_read 59 minute_past ds more)
         (λ m left u. after_colon_minute_read h m (front ++ (Plain 58 ∷ ds)) left (is ∙ rw (g.0, u.0) (simp append_assoc)) (record { hs = front; ms = ds; is = refl; hour = x; minute = (g.1, u.1, u.2); no_second = refl; no_fraction = refl }))
         (λ r u. rw u.0 (minute_range, refl, (front ++ (Plain 58 ∷ ds), more, is ∙ rw g.0 (simp append_assoc), (front, _, refl, (h, x), (Plain 58 ∷ [], ds, refl, inr (58, refl, refl), (g.1, u.1))), refl))))
         (λ r g. fits_in of_time reader minute_digits r text (front ++ (Plain 58 ∷ g.2)) g.3 g.6.0 (is ∙ rw g.4 (simp append_assoc)) (front, _, refl, (h, x), after_colon g.2 (none_or_one g.0 g.2 g.1 g.5)) g.6.1)
 
-    plain_minute_read : (h c : ℕ) (front rest : Text) → IsTrue (digit c) → text ≡ (front ++ (Plain c ∷ [])) ++ rest → UpTo 23 front h → OnRead fault (plain_minute_at fault h c rest) (TimeFront text) (λ row. FitsIn of_time reader row text)
+    plain_minute_read : (h c : ℕ) (front rest : Text) → IsTrue (digit c) → text ≡ (front ++ (Plain c ∷ [])) ++ rest → UpTo 23 front h → Reads (plain_minute_at fault h c rest)
     unfolding plain_minute_at
     plain_minute_read h c front rest d is x = then_read fault (digits_at fault (of_time minute_digits) 1 rest) _ _ _ _ _ (digits_read fault (of_time minute_digits) (λ c. refl) 1 rest)
-        (λ ds more g. then_read fault (in_range 59 (fault (row_of (of_time minute_range) anywhere TimeMinuteSecond)) (Plain c ∷ ds, more)) _ _ _ _ _ (range_read 59 (row_of (of_time minute_range) anywhere TimeMinuteSecond) (Plain c ∷ ds) more)
+        (λ ds more g. then_read fault (in_range 59 (fault minute_past) (Plain c ∷ ds, more)) _ _ _ _ _ (range_read 59 minute_past (Plain c ∷ ds) more)
         (λ m left u. after_plain_minute_read h m (front ++ (Plain c ∷ ds)) left (is ∙ rw (g.0, u.0) (simp append_assoc)) (record { hs = front; ms = Plain c ∷ ds; is = refl; hour = x; minute = ((c, ds, refl, d, g.1), u.1, u.2); no_second = refl; no_fraction = refl }))
         (λ r u. rw u.0 (minute_range, refl, (front ++ (Plain c ∷ ds), more, is ∙ rw g.0 (simp append_assoc), (front, _, refl, (h, x), ([], Plain c ∷ ds, refl, inl refl, ((c, ds, refl, d, g.1), u.1))), refl))))
         (λ r g. let at = no_digit (of_time minute_digits) rest r g in
         fits_in of_time reader minute_digits r text (front ++ (Plain c ∷ [])) rest at.0 is (front, _, refl, (h, x), inr (inr (c, refl, d))) at.1)
 
-    after_hour_read : (h : ℕ) (front rest : Text) → text ≡ front ++ rest → UpTo 23 front h → OnRead fault (after_hour_at fault h rest) (TimeFront text) (λ row. FitsIn of_time reader row text)
+    after_hour_read : (h : ℕ) (front rest : Text) → text ≡ front ++ rest → UpTo 23 front h → Reads (after_hour_at fault h rest)
     unfolding after_hour_at
     after_hour_read h front rest is x =
         let hour : TimeOf hours front (time_of h 0 0 None) = record { hour = x; no_minute = refl; no_second = refl; no_fraction = refl } in
@@ -196,17 +199,17 @@ module _ {E : Type 0} (fault : Row → E) where
         (λ c more next d. plain_minute_read h c front more d (further text front rest (Plain c ∷ []) more is next) x)
         (λ closed. (front, is, hour, (no_colon, closed))))
 
-    pub hour_read : (c : ℕ) (rest : Text) → IsTrue (digit c) → text ≡ Plain c ∷ rest → OnRead fault (hour_from fault c rest) (TimeFront text) (λ row. FitsIn of_time reader row text)
+    pub hour_read : (c : ℕ) (rest : Text) → IsTrue (digit c) → text ≡ Plain c ∷ rest → Reads (hour_from fault c rest)
     unfolding hour_from
     hour_read c rest d is = then_read fault (digits_at fault (of_time hour_digit) 1 rest) _ _ _ _ _ (digits_read fault (of_time hour_digit) (λ c. refl) 1 rest)
-        (λ ds more g. then_read fault (in_range 23 (fault (row_of (of_time hour_range) anywhere TimeHour)) (Plain c ∷ ds, more)) _ _ _ _ _ (range_read 23 (row_of (of_time hour_range) anywhere TimeHour) (Plain c ∷ ds) more)
+        (λ ds more g. then_read fault (in_range 23 (fault hour_past) (Plain c ∷ ds, more)) _ _ _ _ _ (range_read 23 hour_past (Plain c ∷ ds) more)
         (λ h left u. after_hour_read h (Plain c ∷ ds) left (is ∙ rw (g.0, u.0) refl) ((c, ds, refl, d, g.1), u.1, u.2))
         (λ r u. rw u.0 (hour_range, refl, (Plain c ∷ ds, more, is ∙ rw g.0 refl, ((c, ds, refl, d, g.1), u.1), refl))))
         (λ r g. let at = no_digit (of_time hour_digit) rest r g in
         fits_in of_time reader hour_digit r text (Plain c ∷ []) rest at.0 is (c, refl, d) at.1)
 
     -- a time with nothing before it
-    pub time_read : OnRead fault (time_at fault text) (TimeFront text) (λ row. FitsIn of_time reader row text)
+    pub time_read : Reads (time_at fault text)
     unfolding time_at
     time_read = then_read fault (letter_at fault (of_time hour_start) text) _ _ _ _ _ (read_letter fault (of_time hour_start) text tt)
         (λ c rest h. hour_read c rest h.1 h.0)

@@ -5,7 +5,7 @@ use Rattle.std.proofs.lemmas.Bool.Decides.{nat_tests}
 use Rattle.ixdtf.specs.declared.records.TimeRecord.{TimeRecord}
 use Rattle.ixdtf.specs.Letters.{Text}
 use Rattle.ixdtf.specs.Letters.Letter.{Plain, Bad}
-use Rattle.ixdtf.specs.Classes.{Class, ◌or◌, digit, colon, decimal_mark}
+use Rattle.ixdtf.specs.Classes.{Class, digit, colon, decimal_mark}
 use Rattle.ixdtf.specs.Shapes.{Shape, some, digits, one}
 use Rattle.ixdtf.specs.Digits.{decimal, UpTo}
 use Rattle.ixdtf.specs.Fractions.{FractionParts, fraction_of}
@@ -13,10 +13,10 @@ use Rattle.ixdtf.specs.Faults.{Fault}
 use Rattle.ixdtf.specs.Faults.Fault.{InvalidEnd, TimeHour, TimeMinuteSecond, TimeSecond, TimeSeparator}
 use Rattle.ixdtf.specs.Times.{TimeShape, TimeOf, PlainMinuteText, ColonMinuteText, SecondText}
 use Rattle.ixdtf.specs.Times.TimeShape.{hours, plain_minutes, colon_minutes, seconds, fractions}
-use Rattle.ixdtf.specs.Readers.{Reader, TimeLine, LineName}
+use Rattle.ixdtf.specs.Readers.{Reader}
 use Rattle.ixdtf.specs.Readers.LineName.{of_time}
-use Rattle.ixdtf.specs.Readers.TimeLine.{hour_start, hour_digit, hour_range, after_hour, minute_digits, minute_range, after_plain_minute, after_colon_minute, second_digits, second_range, after_second, fraction_start, after_fraction}
-use Rattle.ixdtf.specs.FaultTable.{table, time_line, follow_of, always, Past, ColonOrDigit}
+use Rattle.ixdtf.specs.Readers.TimeLine.{hour_digit, hour_range, minute_digits, minute_range, second_digits, second_range, fraction_start}
+use Rattle.ixdtf.specs.FaultTable.{table, follow_of, Past, ColonOrDigit}
 use Rattle.ixdtf.specs.FaultTable.Line.{line}
 use Rattle.ixdtf.specs.FaultTable.Ending.{ok}
 use Rattle.ixdtf.specs.Rows.{Row, Place, Stops, front_of}
@@ -54,6 +54,16 @@ Closed colon_minutes rest = NotNext colon rest × NotNext digit rest
 Closed seconds rest = NotNext decimal_mark rest
 Closed fractions rest = NotNext digit rest
 
+-- the rows of numbers that are too great
+abbrev pub hour_past : Row
+hour_past = row_of (of_time hour_range) anywhere TimeHour
+
+abbrev pub minute_past : Row
+minute_past = row_of (of_time minute_range) anywhere TimeMinuteSecond
+
+abbrev pub second_past : Row
+second_past = row_of (of_time second_range) anywhere TimeSecond
+
 -- a time with the fraction that was read
 abbrev pub with_fraction : {E : Type 0} → ℕ → ℕ → ℕ → Read E FractionParts → Read E OpenTime
 with_fraction h m s r = r >>= λ fraction. Ok ((fractions, time_of h m s (Some fraction.0)), fraction.1)
@@ -70,7 +80,7 @@ module _ {E : Type 0} (fault : Row → E) (start : Text → Read E OpenTime) (st
       let g = u.0 in
       record {
         over = λ rest. rw g.2 ((starts g.0 g.3).over (g.1 ++ rest)
-            ∙ rw (digits_go fault (of_time hour_digit) (λ c. refl) 1 g.1 rest g.4) (rw (range_fits 23 h (fault (row_of (of_time hour_range) anywhere TimeHour)) (Plain g.0 ∷ g.1) rest (rw g.2 at u)) refl));
+            ∙ rw (digits_go fault (of_time hour_digit) (λ c. refl) 1 g.1 rest g.4) (rw (range_fits 23 h (fault hour_past) (Plain g.0 ∷ g.1) rest (rw g.2 at u)) refl));
       }
 
   over_colon : (h : ℕ) (t : Text) → one colon t → Leads (after_hour_at fault h) t (colon_minute_at fault h)
@@ -83,7 +93,7 @@ module _ {E : Type 0} (fault : Row → E) (start : Text → Read E OpenTime) (st
 
   over_colon_minute : (h : ℕ) (ms : Text) (m : ℕ) → UpTo 59 ms m → Leads (colon_minute_at fault h) ms (after_colon_minute_at fault h m)
   unfolding colon_minute_at
-  over_colon_minute h ms m u = record { over = λ rest. rw (digits_go fault (of_time minute_digits) (λ c. refl) 2 ms rest u.0, range_fits 59 m (fault (row_of (of_time minute_range) anywhere TimeMinuteSecond)) ms rest u) refl }
+  over_colon_minute h ms m u = record { over = λ rest. rw (digits_go fault (of_time minute_digits) (λ c. refl) 2 ms rest u.0, range_fits 59 m (fault minute_past) ms rest u) refl }
 
   over_plain_minute : (h : ℕ) (ms : Text) (m : ℕ) → UpTo 59 ms m → Leads (after_hour_at fault h) ms (after_plain_minute_at fault h m)
   unfolding plain_minute_at
@@ -91,7 +101,7 @@ module _ {E : Type 0} (fault : Row → E) (start : Text → Read E OpenTime) (st
       let g = u.0 in
       record {
         over = λ rest. rw g.2 ((over_minute_digit h g.0 g.3).over (g.1 ++ rest)
-            ∙ rw (digits_go fault (of_time minute_digits) (λ c. refl) 1 g.1 rest g.4) (rw (range_fits 59 m (fault (row_of (of_time minute_range) anywhere TimeMinuteSecond)) (Plain g.0 ∷ g.1) rest (rw g.2 at u)) refl));
+            ∙ rw (digits_go fault (of_time minute_digits) (λ c. refl) 1 g.1 rest g.4) (rw (range_fits 59 m (fault minute_past) (Plain g.0 ∷ g.1) rest (rw g.2 at u)) refl));
       }
 
   over_second_colon : (h m : ℕ) (t : Text) → one colon t → Leads (after_colon_minute_at fault h m) t (colon_second_at fault h m)
@@ -104,7 +114,7 @@ module _ {E : Type 0} (fault : Row → E) (start : Text → Read E OpenTime) (st
 
   over_colon_second : (h m : ℕ) (ss : Text) (s : ℕ) → UpTo 60 ss s → Leads (colon_second_at fault h m) ss (after_second_at fault h m s)
   unfolding colon_second_at
-  over_colon_second h m ss s u = record { over = λ rest. rw (digits_go fault (of_time second_digits) (λ c. refl) 2 ss rest u.0, range_fits 60 s (fault (row_of (of_time second_range) anywhere TimeSecond)) ss rest u) refl }
+  over_colon_second h m ss s u = record { over = λ rest. rw (digits_go fault (of_time second_digits) (λ c. refl) 2 ss rest u.0, range_fits 60 s (fault second_past) ss rest u) refl }
 
   over_plain_second : (h m : ℕ) (ss : Text) (s : ℕ) → UpTo 60 ss s → Leads (after_plain_minute_at fault h m) ss (after_second_at fault h m s)
   unfolding plain_second_at
@@ -112,7 +122,7 @@ module _ {E : Type 0} (fault : Row → E) (start : Text → Read E OpenTime) (st
       let g = u.0 in
       record {
         over = λ rest. rw g.2 ((over_second_digit h m g.0 g.3).over (g.1 ++ rest)
-            ∙ rw (digits_go fault (of_time second_digits) (λ c. refl) 1 g.1 rest g.4) (rw (range_fits 60 s (fault (row_of (of_time second_range) anywhere TimeSecond)) (Plain g.0 ∷ g.1) rest (rw g.2 at u)) refl));
+            ∙ rw (digits_go fault (of_time second_digits) (λ c. refl) 1 g.1 rest g.4) (rw (range_fits 60 s (fault second_past) (Plain g.0 ∷ g.1) rest (rw g.2 at u)) refl));
       }
 
   over_plain_minutes : (text : Text) (t : TimeRecord) → PlainMinuteText text t → Leads start text (after_plain_minute_at fault t.hour t.minute)
@@ -209,23 +219,23 @@ module _ {E : Type 0} (fault : Row → E) (start : Text → Read E OpenTime) (st
         at_place (inr (inl h)) = rw h.2 (over_hour _ _ f.3.1 till over_colon _ _ h.3 till colon_minute_stops _ 1 h.1 rest place e (omega arith) (one_as_digits _ h.4) at)
         at_place (inr (inr h)) = rw h.1 (over_hour _ _ f.3.1 till over_minute_digit _ _ h.2 till plain_minute_stops _ _ rest place e at)
 
-    colon_minute_past : (h : ℕ) (ds rest : Text) → Past 59 ds → Halts (colon_minute_at fault h) ds rest (fault (row_of (of_time minute_range) anywhere TimeMinuteSecond))
+    colon_minute_past : (h : ℕ) (ds rest : Text) → Past 59 ds → Halts (colon_minute_at fault h) ds rest (fault minute_past)
     unfolding colon_minute_at
-    colon_minute_past h ds rest p = record { halts = rw (digits_go fault (of_time minute_digits) (λ c. refl) 2 ds rest p.0, range_refused 59 (fault (row_of (of_time minute_range) anywhere TimeMinuteSecond)) ds rest p.1) refl }
+    colon_minute_past h ds rest p = record { halts = rw (digits_go fault (of_time minute_digits) (λ c. refl) 2 ds rest p.0, range_refused 59 (fault minute_past) ds rest p.1) refl }
 
-    plain_minute_past : (h : ℕ) (ds rest : Text) → Past 59 ds → Halts (after_hour_at fault h) ds rest (fault (row_of (of_time minute_range) anywhere TimeMinuteSecond))
+    plain_minute_past : (h : ℕ) (ds rest : Text) → Past 59 ds → Halts (after_hour_at fault h) ds rest (fault minute_past)
     unfolding plain_minute_at
     plain_minute_past h ds rest p =
         let g = p.0 in
         record {
           halts = rw g.2 ((over_minute_digit h g.0 g.3).over (g.1 ++ rest)
-              ∙ rw (digits_go fault (of_time minute_digits) (λ c. refl) 1 g.1 rest g.4) (rw (range_refused 59 (fault (row_of (of_time minute_range) anywhere TimeMinuteSecond)) (Plain g.0 ∷ g.1) rest (rw g.2 at p.1)) refl));
+              ∙ rw (digits_go fault (of_time minute_digits) (λ c. refl) 1 g.1 rest g.4) (rw (range_refused 59 (fault minute_past) (Plain g.0 ∷ g.1) rest (rw g.2 at p.1)) refl));
         }
 
     pub minute_range_row : Answers fault reader start (of_time minute_range)
     minute_range_row = answers_whole fault reader start (of_time minute_range) tt λ e front rest f at. rw (f.2, f.4.2, at) ((at_place f f.4.3).halts)
       where
-        at_place : {front rest : Text} (f : front_of (table reader (of_time minute_range)) front) → ((f.4.0 ≡ []) ⊎ one colon f.4.0) → Halts start (f.0 ++ (f.4.0 ++ f.4.1)) rest (fault (row_of (of_time minute_range) anywhere TimeMinuteSecond))
+        at_place : {front rest : Text} (f : front_of (table reader (of_time minute_range)) front) → ((f.4.0 ≡ []) ⊎ one colon f.4.0) → Halts start (f.0 ++ (f.4.0 ++ f.4.1)) rest (fault minute_past)
         at_place f (inl h) = rw h (over_hour _ _ f.3.1 till plain_minute_past _ _ _ f.4.4)
         at_place f (inr h) = over_hour _ _ f.3.1 till over_colon _ _ h till colon_minute_past _ _ _ f.4.4
 
@@ -241,23 +251,23 @@ module _ {E : Type 0} (fault : Row → E) (start : Text → Read E OpenTime) (st
     second_digits_row place e front rest (inl f) at = rw (f.2, f.4.1) ((over_plain_minutes _ _ f.3.1 till over_second_digit _ _ _ f.4.2 till plain_second_stops _ _ _ rest place e at).halts)
     second_digits_row place e front rest (inr f) at = rw (f.2, f.4.2) ((over_colon_minutes _ _ f.3.1 till over_second_colon _ _ _ f.4.3 till colon_second_stops _ _ f.4.4.0 _ rest place e f.4.4.1 f.4.4.2 at).halts)
 
-    colon_second_past : (h m : ℕ) (ds rest : Text) → Past 60 ds → Halts (colon_second_at fault h m) ds rest (fault (row_of (of_time second_range) anywhere TimeSecond))
+    colon_second_past : (h m : ℕ) (ds rest : Text) → Past 60 ds → Halts (colon_second_at fault h m) ds rest (fault second_past)
     unfolding colon_second_at
-    colon_second_past h m ds rest p = record { halts = rw (digits_go fault (of_time second_digits) (λ c. refl) 2 ds rest p.0, range_refused 60 (fault (row_of (of_time second_range) anywhere TimeSecond)) ds rest p.1) refl }
+    colon_second_past h m ds rest p = record { halts = rw (digits_go fault (of_time second_digits) (λ c. refl) 2 ds rest p.0, range_refused 60 (fault second_past) ds rest p.1) refl }
 
-    plain_second_past : (h m : ℕ) (ds rest : Text) → Past 60 ds → Halts (after_plain_minute_at fault h m) ds rest (fault (row_of (of_time second_range) anywhere TimeSecond))
+    plain_second_past : (h m : ℕ) (ds rest : Text) → Past 60 ds → Halts (after_plain_minute_at fault h m) ds rest (fault second_past)
     unfolding plain_second_at
     plain_second_past h m ds rest p =
         let g = p.0 in
         record {
           halts = rw g.2 ((over_second_digit h m g.0 g.3).over (g.1 ++ rest)
-              ∙ rw (digits_go fault (of_time second_digits) (λ c. refl) 1 g.1 rest g.4) (rw (range_refused 60 (fault (row_of (of_time second_range) anywhere TimeSecond)) (Plain g.0 ∷ g.1) rest (rw g.2 at p.1)) refl));
+              ∙ rw (digits_go fault (of_time second_digits) (λ c. refl) 1 g.1 rest g.4) (rw (range_refused 60 (fault second_past) (Plain g.0 ∷ g.1) rest (rw g.2 at p.1)) refl));
         }
 
     pub second_range_row : Answers fault reader start (of_time second_range)
     second_range_row = answers_whole fault reader start (of_time second_range) tt λ e front rest f at. rw at ((at_place front rest f).halts)
       where
-        at_place : (front rest : Text) → front_of (table reader (of_time second_range)) front → Halts start front rest (fault (row_of (of_time second_range) anywhere TimeSecond))
+        at_place : (front rest : Text) → front_of (table reader (of_time second_range)) front → Halts start front rest (fault second_past)
         at_place front rest (inl f) = rw f.2 (over_plain_minutes _ _ f.3.1 till plain_second_past _ _ _ _ f.4)
         at_place front rest (inr f) = rw (f.2, f.4.2) (over_colon_minutes _ _ f.3.1 till over_second_colon _ _ _ f.4.3 till colon_second_past _ _ _ _ f.4.4)
 

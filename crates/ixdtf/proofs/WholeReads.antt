@@ -1,5 +1,5 @@
 -- What reading a whole text answers is derived, or is a row that fits.
-use Rattle.std.proofs.Common.{◌≡◌, ℕ, [], ◌∷◌, ◌++◌, Option, Some, None, refl, sym, ◌∙◌, subst, inl, inr, append_assoc, append-nil}
+use Rattle.std.proofs.Common.{◌≡◌, ℕ, [], ◌∷◌, ◌++◌, Option, Some, None, refl, sym, ◌∙◌, subst, inl, inr, append-nil}
 use Rattle.std.proofs.lemmas.Bool.{true≢false}
 use Rattle.ixdtf.specs.declared.records.DateRecord.{DateRecord}
 use Rattle.ixdtf.specs.declared.records.TimeRecord.{TimeRecord}
@@ -19,7 +19,7 @@ use Rattle.ixdtf.specs.Rows.{Row, Fits}
 use Rattle.ixdtf.specs.Languages.{Parsed, dated, Derives}
 use Rattle.ixdtf.specs.ReadingLooks.{look_at_line, peek_by}
 use Rattle.ixdtf.specs.ReadingDates.{date_at}
-use Rattle.ixdtf.specs.ReadingTimes.{OpenTime, time_at}
+use Rattle.ixdtf.specs.ReadingTimes.{time_at}
 use Rattle.ixdtf.specs.Reading.{follow_look, after_time_at, after_date_at, parse_at, read_at}
 use Rattle.ixdtf.proofs.LookLemmas.{OnRead, FitsIn, fits_in, Peeked, peek_read, peek_line_read, then_read, read_weaker, further}
 use Rattle.ixdtf.proofs.DateReads.{DateFront, date_read}
@@ -58,6 +58,7 @@ module _ {E : Type 0} (fault : Row → E) where
     where
       of_dates : (row : Row) → FitsIn of_date parse row text → Fits parse row text
       of_dates row f = lift of_date parse row text [] text refl (λ l. refl) f
+
       at_next : (date : DateRecord) (rest : Text) → DateFront text date rest → (next : Option ℕ) (more : Text) → Peeked date_time_separator rest next more → OnRead fault (after_date_at fault date (next, more)) (λ parsed left. (left ≡ []) × Derives parse text parsed) (λ row. Fits parse row text)
       at_next date rest h None more g = (g.1, inl (date, rw (h.1, g.0, append-nil) h.2, refl))
       at_next date rest h (Some c) more g =

@@ -1,5 +1,5 @@
 -- A derived record is answered, and each row that fits: what holds of a text decides what reading answers.
-use Rattle.std.proofs.Common.{◌≡◌, ℕ, IsTrue, IsFalse, [], ◌∷◌, ◌++◌, Ok, Err, Some, None, refl, ap, ◌∙◌, inl, inr, append_assoc, append-nil}
+use Rattle.std.proofs.Common.{◌≡◌, ℕ, IsTrue, IsFalse, [], ◌∷◌, ◌++◌, Ok, Err, Some, refl, ap, ◌∙◌, inl, inr, append_assoc, append-nil}
 use Rattle.ixdtf.specs.declared.records.DateRecord.{DateRecord}
 use Rattle.ixdtf.specs.declared.records.TimeRecord.{TimeRecord}
 use Rattle.ixdtf.specs.Letters.{Text}
@@ -20,8 +20,7 @@ use Rattle.ixdtf.specs.FaultTable.{table, follow_of, always, Before}
 use Rattle.ixdtf.specs.Rows.{Row, Place, Stops, Fits, front_of}
 use Rattle.ixdtf.specs.Rows.Place.{other}
 use Rattle.ixdtf.specs.Languages.{Parsed, dated, Derives}
-use Rattle.ixdtf.specs.ReadingLooks.{Read, ◌>>=◌, row_of, look_at_line, peek_by}
-use Rattle.ixdtf.specs.ReadingDates.{date_at}
+use Rattle.ixdtf.specs.ReadingLooks.{Read, ◌>>=◌, row_of, look_at_line}
 use Rattle.ixdtf.specs.ReadingTimes.{OpenTime, line_after, hour_from, time_at}
 use Rattle.ixdtf.specs.Reading.{follow_look, after_time_at, parse_at, read_at}
 use Rattle.ixdtf.proofs.LookLemmas.{Leads, Answers, goes, stops, peek_end, peek_goes, peek_other, peek_stops}

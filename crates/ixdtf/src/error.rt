@@ -270,4 +270,3 @@ impl fmt::Display for ParseError {
         }
     }
 }
-

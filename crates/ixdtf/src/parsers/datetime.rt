@@ -20,7 +20,9 @@ use crate::{ParseError, ParserResult};
 
 /// Reads a date, or a date and a time, and wants the end.
 #[tactic(auto, unfolding(crate::specs::Reading::parse_at, crate::specs::ReadingLooks::peek_by))]
-pub fn parse_date_time<'a, T: EncodingType>(cursor: &mut Cursor<'a, T>) -> ParserResult<IxdtfParseRecord<'a, T>>
+pub fn parse_date_time<'a, T: EncodingType>(
+    cursor: &mut Cursor<'a, T>,
+) -> ParserResult<IxdtfParseRecord<'a, T>>
     ensures record { Reads (parsed_of T.number) (map T.letter cursor.old.rest) result (map T.letter cursor.new.rest) (parse_at error_of) }
     ensures looks { Spends 30 cursor.old cursor.new }
 {
@@ -36,7 +38,10 @@ pub fn parse_date_time<'a, T: EncodingType>(cursor: &mut Cursor<'a, T>) -> Parse
 }
 
 /// Reads the time after the date and a separator, and wants the end.
-fn parse_after_separator<'a, T: EncodingType>(cursor: &mut Cursor<'a, T>, date: DateRecord) -> ParserResult<IxdtfParseRecord<'a, T>>
+fn parse_after_separator<'a, T: EncodingType>(
+    cursor: &mut Cursor<'a, T>,
+    date: DateRecord,
+) -> ParserResult<IxdtfParseRecord<'a, T>>
     ensures record { Reads (parsed_of T.number) (map T.letter cursor.old.rest) result (map T.letter cursor.new.rest) (timed_at date) }
     ensures looks { Spends 14 cursor.old cursor.new }
 {
@@ -96,7 +101,10 @@ fn parse_date_year<'a, T: EncodingType>(cursor: &mut Cursor<'a, T>) -> ParserRes
 
 /// Reads the other three digits of a year of four.
 #[tactic(auto, unfolding(crate::specs::ReadingDates::plain_year_at, crate::specs::ReadingLooks::digits_by))]
-fn parse_plain_year<'a, T: EncodingType>(cursor: &mut Cursor<'a, T>, thousands: u8) -> ParserResult<i32>
+fn parse_plain_year<'a, T: EncodingType>(
+    cursor: &mut Cursor<'a, T>,
+    thousands: u8,
+) -> ParserResult<i32>
     requires digit { IsTrue (digit thousands) }
     ensures year { Reads (λ year. year) (map T.letter cursor.old.rest) result (map T.letter cursor.new.rest) (plain_year_at error_of thousands) }
     ensures looks { Spends 3 cursor.old cursor.new }
@@ -104,15 +112,20 @@ fn parse_plain_year<'a, T: EncodingType>(cursor: &mut Cursor<'a, T>, thousands: 
     let hundreds = cursor.next_digit(ParseError::DateYear)?;
     let tens = cursor.next_digit(ParseError::DateYear)?;
     let ones = cursor.next_digit(ParseError::DateYear)?;
-    Ok(1000 * i32::from(thousands - b'0')
-        + 100 * i32::from(hundreds - b'0')
-        + 10 * i32::from(tens - b'0')
-        + i32::from(ones - b'0'))
+    Ok(
+        1000 * i32::from(thousands - b'0')
+            + 100 * i32::from(hundreds - b'0')
+            + 10 * i32::from(tens - b'0')
+            + i32::from(ones - b'0'),
+    )
 }
 
 /// Reads the six digits of a year with a sign.
 #[tactic(auto, unfolding(crate::specs::ReadingDates::extended_year_at))]
-fn parse_extended_year<'a, T: EncodingType>(cursor: &mut Cursor<'a, T>, sign: u8) -> ParserResult<i32>
+fn parse_extended_year<'a, T: EncodingType>(
+    cursor: &mut Cursor<'a, T>,
+    sign: u8,
+) -> ParserResult<i32>
     ensures year { Reads (λ year. year) (map T.letter cursor.old.rest) result (map T.letter cursor.new.rest) (extended_year_at error_of sign) }
     ensures looks { Spends 6 cursor.old cursor.new }
 {
@@ -139,19 +152,24 @@ fn parse_six_digits<'a, T: EncodingType>(cursor: &mut Cursor<'a, T>) -> ParserRe
     let fourth = cursor.next_digit(ParseError::DateExtendedYear)?;
     let fifth = cursor.next_digit(ParseError::DateExtendedYear)?;
     let sixth = cursor.next_digit(ParseError::DateExtendedYear)?;
-    Ok(100_000 * u32::from(first - b'0')
-        + 10_000 * u32::from(second - b'0')
-        + 1000 * u32::from(third - b'0')
-        + 100 * u32::from(fourth - b'0')
-        + 10 * u32::from(fifth - b'0')
-        + u32::from(sixth - b'0'))
+    Ok(
+        100_000 * u32::from(first - b'0')
+            + 10_000 * u32::from(second - b'0')
+            + 1000 * u32::from(third - b'0')
+            + 100 * u32::from(fourth - b'0')
+            + 10 * u32::from(fifth - b'0')
+            + u32::from(sixth - b'0'),
+    )
 }
 
 // ==== Months and days ====
 
 /// Reads the month and the day after a year: with hyphens where the first one stands, else without.
 #[tactic(auto, unfolding(crate::specs::ReadingDates::after_year_at, crate::specs::ReadingLooks::next_by))]
-fn parse_after_year<'a, T: EncodingType>(cursor: &mut Cursor<'a, T>, year: i32) -> ParserResult<DateRecord>
+fn parse_after_year<'a, T: EncodingType>(
+    cursor: &mut Cursor<'a, T>,
+    year: i32,
+) -> ParserResult<DateRecord>
     ensures date { Reads (λ date. date) (map T.letter cursor.old.rest) result (map T.letter cursor.new.rest) (after_year_at error_of year) }
     ensures looks { Spends 6 cursor.old cursor.new }
 {
@@ -171,7 +189,10 @@ fn parse_after_year<'a, T: EncodingType>(cursor: &mut Cursor<'a, T>, year: i32) 
 
 /// Reads the month after a hyphen, and the day.
 #[tactic(auto, unfolding(crate::specs::ReadingDates::hyphened_date_at, crate::specs::ReadingDates::month_in_range, crate::specs::ReadingLooks::digits_by))]
-fn parse_hyphenated_date<'a, T: EncodingType>(cursor: &mut Cursor<'a, T>, year: i32) -> ParserResult<DateRecord>
+fn parse_hyphenated_date<'a, T: EncodingType>(
+    cursor: &mut Cursor<'a, T>,
+    year: i32,
+) -> ParserResult<DateRecord>
     ensures date { Reads (λ date. date) (map T.letter cursor.old.rest) result (map T.letter cursor.new.rest) (hyphened_date_at error_of year) }
     ensures looks { Spends 5 cursor.old cursor.new }
 {
@@ -183,7 +204,11 @@ fn parse_hyphenated_date<'a, T: EncodingType>(cursor: &mut Cursor<'a, T>, year: 
 
 /// Reads the second hyphen, and the day after it.
 #[tactic(auto, unfolding(crate::specs::ReadingDates::after_hyphened_month_at, crate::specs::ReadingDates::hyphened_day_at, crate::specs::ReadingDates::day_in_range, crate::specs::ReadingLooks::next_by, crate::specs::ReadingLooks::digits_by))]
-fn parse_hyphenated_day<'a, T: EncodingType>(cursor: &mut Cursor<'a, T>, year: i32, month: u8) -> ParserResult<DateRecord>
+fn parse_hyphenated_day<'a, T: EncodingType>(
+    cursor: &mut Cursor<'a, T>,
+    year: i32,
+    month: u8,
+) -> ParserResult<DateRecord>
     ensures date { Reads (λ date. date) (map T.letter cursor.old.rest) result (map T.letter cursor.new.rest) (after_hyphened_month_at error_of year month) }
     ensures looks { Spends 3 cursor.old cursor.new }
 {
@@ -198,7 +223,11 @@ fn parse_hyphenated_day<'a, T: EncodingType>(cursor: &mut Cursor<'a, T>, year: i
 
 /// Reads the month's second digit, and the day.
 #[tactic(auto, unfolding(crate::specs::ReadingDates::plain_date_at, crate::specs::ReadingDates::month_in_range, crate::specs::ReadingLooks::digits_by))]
-fn parse_plain_date<'a, T: EncodingType>(cursor: &mut Cursor<'a, T>, year: i32, tens: u8) -> ParserResult<DateRecord>
+fn parse_plain_date<'a, T: EncodingType>(
+    cursor: &mut Cursor<'a, T>,
+    year: i32,
+    tens: u8,
+) -> ParserResult<DateRecord>
     requires digit { IsTrue (digit tens) }
     ensures date { Reads (λ date. date) (map T.letter cursor.old.rest) result (map T.letter cursor.new.rest) (plain_date_at error_of year tens) }
     ensures looks { Spends 3 cursor.old cursor.new }
@@ -210,7 +239,11 @@ fn parse_plain_date<'a, T: EncodingType>(cursor: &mut Cursor<'a, T>, year: i32, 
 
 /// Reads the day right after a month: a hyphen there is `DateSeparator`.
 #[tactic(auto, unfolding(crate::specs::ReadingDates::after_plain_month_at, crate::specs::ReadingDates::plain_day_at, crate::specs::ReadingDates::day_in_range, crate::specs::ReadingLooks::next_by, crate::specs::ReadingLooks::digits_by))]
-fn parse_plain_day<'a, T: EncodingType>(cursor: &mut Cursor<'a, T>, year: i32, month: u8) -> ParserResult<DateRecord>
+fn parse_plain_day<'a, T: EncodingType>(
+    cursor: &mut Cursor<'a, T>,
+    year: i32,
+    month: u8,
+) -> ParserResult<DateRecord>
     ensures date { Reads (λ date. date) (map T.letter cursor.old.rest) result (map T.letter cursor.new.rest) (after_plain_month_at error_of year month) }
     ensures looks { Spends 2 cursor.old cursor.new }
 {
@@ -251,13 +284,7 @@ fn days_in_month(year: i32, month: u8) -> u8
     ensures { result ≡ month_length year month }
 {
     match month {
-        2 => {
-            if is_leap_year(year) {
-                29
-            } else {
-                28
-            }
-        }
+        2 => { if is_leap_year(year) { 29 } else { 28 } }
         4 | 6 | 9 | 11 => 30,
         _ => 31,
     }

@@ -15,7 +15,9 @@ use crate::{ParseError, ParserResult};
 
 /// Reads a time, as far as it goes.
 #[tactic(auto, unfolding(crate::specs::ReadingTimes::time_at, crate::specs::ReadingTimes::hour_from, crate::specs::ReadingLooks::in_range, crate::specs::ReadingLooks::digits_by))]
-pub fn parse_time_record<'a, T: EncodingType>(cursor: &mut Cursor<'a, T>) -> ParserResult<TimeRecord>
+pub fn parse_time_record<'a, T: EncodingType>(
+    cursor: &mut Cursor<'a, T>,
+) -> ParserResult<TimeRecord>
     ensures time { Reads (λ time. time) (map T.letter cursor.old.rest) result (map T.letter cursor.new.rest) (λ text. shapeless (time_at error_of text)) }
     ensures looks { Spends 13 cursor.old cursor.new }
 {
@@ -38,7 +40,10 @@ fn check_most(number: u8, greatest: u8, error: ParseError) -> ParserResult<u8>
 
 /// Reads what of a time stands after its hour.
 #[tactic(auto, unfolding(crate::specs::ReadingTimes::after_hour_at))]
-fn parse_after_hour<'a, T: EncodingType>(cursor: &mut Cursor<'a, T>, hour: u8) -> ParserResult<TimeRecord>
+fn parse_after_hour<'a, T: EncodingType>(
+    cursor: &mut Cursor<'a, T>,
+    hour: u8,
+) -> ParserResult<TimeRecord>
     ensures time { Reads (λ time. time) (map T.letter cursor.old.rest) result (map T.letter cursor.new.rest) (λ text. shapeless (after_hour_at error_of hour text)) }
     ensures looks { Spends 11 cursor.old cursor.new }
 {
@@ -62,7 +67,10 @@ fn parse_after_hour<'a, T: EncodingType>(cursor: &mut Cursor<'a, T>, hour: u8) -
 
 /// Reads the minute after a colon, and what of the time stands after it.
 #[tactic(auto, unfolding(crate::specs::ReadingTimes::colon_minute_at, crate::specs::ReadingLooks::in_range, crate::specs::ReadingLooks::digits_by))]
-fn parse_colon_minute<'a, T: EncodingType>(cursor: &mut Cursor<'a, T>, hour: u8) -> ParserResult<TimeRecord>
+fn parse_colon_minute<'a, T: EncodingType>(
+    cursor: &mut Cursor<'a, T>,
+    hour: u8,
+) -> ParserResult<TimeRecord>
     ensures time { Reads (λ time. time) (map T.letter cursor.old.rest) result (map T.letter cursor.new.rest) (λ text. shapeless (colon_minute_at error_of hour text)) }
     ensures looks { Spends 10 cursor.old cursor.new }
 {
@@ -74,7 +82,11 @@ fn parse_colon_minute<'a, T: EncodingType>(cursor: &mut Cursor<'a, T>, hour: u8)
 
 /// Reads the minute's second digit, and what of the time stands after it.
 #[tactic(auto, unfolding(crate::specs::ReadingTimes::plain_minute_at, crate::specs::ReadingLooks::in_range, crate::specs::ReadingLooks::digits_by))]
-fn parse_plain_minute<'a, T: EncodingType>(cursor: &mut Cursor<'a, T>, hour: u8, tens: u8) -> ParserResult<TimeRecord>
+fn parse_plain_minute<'a, T: EncodingType>(
+    cursor: &mut Cursor<'a, T>,
+    hour: u8,
+    tens: u8,
+) -> ParserResult<TimeRecord>
     requires digit { IsTrue (digit tens) }
     ensures time { Reads (λ time. time) (map T.letter cursor.old.rest) result (map T.letter cursor.new.rest) (λ text. shapeless (plain_minute_at error_of hour tens text)) }
     ensures looks { Spends 9 cursor.old cursor.new }
@@ -86,7 +98,11 @@ fn parse_plain_minute<'a, T: EncodingType>(cursor: &mut Cursor<'a, T>, hour: u8,
 
 /// Reads what of a time stands after `Hour : Min`: a digit there is `TimeSeparator`.
 #[tactic(auto, unfolding(crate::specs::ReadingTimes::after_colon_minute_at))]
-fn parse_after_colon_minute<'a, T: EncodingType>(cursor: &mut Cursor<'a, T>, hour: u8, minute: u8) -> ParserResult<TimeRecord>
+fn parse_after_colon_minute<'a, T: EncodingType>(
+    cursor: &mut Cursor<'a, T>,
+    hour: u8,
+    minute: u8,
+) -> ParserResult<TimeRecord>
     ensures time { Reads (λ time. time) (map T.letter cursor.old.rest) result (map T.letter cursor.new.rest) (λ text. shapeless (after_colon_minute_at error_of hour minute text)) }
     ensures looks { Spends 8 cursor.old cursor.new }
 {
@@ -107,7 +123,11 @@ fn parse_after_colon_minute<'a, T: EncodingType>(cursor: &mut Cursor<'a, T>, hou
 
 /// Reads what of a time stands after `Hour Min`: a colon there is `TimeSeparator`.
 #[tactic(auto, unfolding(crate::specs::ReadingTimes::after_plain_minute_at))]
-fn parse_after_plain_minute<'a, T: EncodingType>(cursor: &mut Cursor<'a, T>, hour: u8, minute: u8) -> ParserResult<TimeRecord>
+fn parse_after_plain_minute<'a, T: EncodingType>(
+    cursor: &mut Cursor<'a, T>,
+    hour: u8,
+    minute: u8,
+) -> ParserResult<TimeRecord>
     ensures time { Reads (λ time. time) (map T.letter cursor.old.rest) result (map T.letter cursor.new.rest) (λ text. shapeless (after_plain_minute_at error_of hour minute text)) }
     ensures looks { Spends 8 cursor.old cursor.new }
 {
@@ -128,7 +148,11 @@ fn parse_after_plain_minute<'a, T: EncodingType>(cursor: &mut Cursor<'a, T>, hou
 
 /// Reads the second after a colon, and a fraction where there is one.
 #[tactic(auto, unfolding(crate::specs::ReadingTimes::colon_second_at, crate::specs::ReadingLooks::in_range, crate::specs::ReadingLooks::digits_by))]
-fn parse_colon_second<'a, T: EncodingType>(cursor: &mut Cursor<'a, T>, hour: u8, minute: u8) -> ParserResult<TimeRecord>
+fn parse_colon_second<'a, T: EncodingType>(
+    cursor: &mut Cursor<'a, T>,
+    hour: u8,
+    minute: u8,
+) -> ParserResult<TimeRecord>
     ensures time { Reads (λ time. time) (map T.letter cursor.old.rest) result (map T.letter cursor.new.rest) (λ text. shapeless (colon_second_at error_of hour minute text)) }
     ensures looks { Spends 7 cursor.old cursor.new }
 {
@@ -140,7 +164,12 @@ fn parse_colon_second<'a, T: EncodingType>(cursor: &mut Cursor<'a, T>, hour: u8,
 
 /// Reads the second's second digit, and a fraction where there is one.
 #[tactic(auto, unfolding(crate::specs::ReadingTimes::plain_second_at, crate::specs::ReadingLooks::in_range, crate::specs::ReadingLooks::digits_by))]
-fn parse_plain_second<'a, T: EncodingType>(cursor: &mut Cursor<'a, T>, hour: u8, minute: u8, tens: u8) -> ParserResult<TimeRecord>
+fn parse_plain_second<'a, T: EncodingType>(
+    cursor: &mut Cursor<'a, T>,
+    hour: u8,
+    minute: u8,
+    tens: u8,
+) -> ParserResult<TimeRecord>
     requires digit { IsTrue (digit tens) }
     ensures time { Reads (λ time. time) (map T.letter cursor.old.rest) result (map T.letter cursor.new.rest) (λ text. shapeless (plain_second_at error_of hour minute tens text)) }
     ensures looks { Spends 6 cursor.old cursor.new }
@@ -152,7 +181,12 @@ fn parse_plain_second<'a, T: EncodingType>(cursor: &mut Cursor<'a, T>, hour: u8,
 
 /// Reads a fraction after a second, where there is one.
 #[tactic(auto, unfolding(crate::specs::ReadingTimes::after_second_at))]
-fn parse_after_second<'a, T: EncodingType>(cursor: &mut Cursor<'a, T>, hour: u8, minute: u8, second: u8) -> ParserResult<TimeRecord>
+fn parse_after_second<'a, T: EncodingType>(
+    cursor: &mut Cursor<'a, T>,
+    hour: u8,
+    minute: u8,
+    second: u8,
+) -> ParserResult<TimeRecord>
     ensures time { Reads (λ time. time) (map T.letter cursor.old.rest) result (map T.letter cursor.new.rest) (λ text. shapeless (after_second_at error_of hour minute second text)) }
     ensures looks { Spends 5 cursor.old cursor.new }
 {
@@ -194,7 +228,10 @@ pub fn parse_fraction<'a, T: EncodingType>(cursor: &mut Cursor<'a, T>) -> Parser
 }
 
 /// Reads the other digits of a fraction.
-fn parse_more_digits<'a, T: EncodingType>(cursor: &mut Cursor<'a, T>, first: u8) -> ParserResult<Fraction>
+fn parse_more_digits<'a, T: EncodingType>(
+    cursor: &mut Cursor<'a, T>,
+    first: u8,
+) -> ParserResult<Fraction>
     requires digit { IsTrue (digit first) }
     ensures fraction { Reads (λ fraction. fraction) (map T.letter cursor.old.rest) result (map T.letter cursor.new.rest) (more_digits_at first) }
     ensures looks { Spends 2 cursor.old cursor.new }
