@@ -1,0 +1,51 @@
+-- The answer to a line, by its length and its first space.
+use Rattle.std.proofs.Common.{◌≡◌, ℕ, ◌+◌, ◌-◌, ◌<◌, ◌≤◌, Bool, List, length, take, drop, Option, Some, None, MatchOption, position, inl, inr, refl, sym, subst, arith}
+use Rattle.std.proofs.lemmas.Bool.{lt-ltb, le-ltb}
+use Rattle.std.proofs.lemmas.List.{take_all, length-drop}
+use Rattle.std.specs.Bool.{MatchBool}
+use Rattle.ixdtf.specs.Faults.{Fault}
+use Rattle.ixdtf.specs.Languages.{Parsed, Derives, HasFault}
+use Rattle.ixdtf.specs.Readers.Reader.{parse}
+use Rattle.ixdtf_lines.specs.Answer.{line_limit, too_long, unknown_reader, is_space, letters, ok_answer_of, error_answer_of, IsAnswer, IsAnswerOf, IsReaderAnswer, IsParseAnswer}
+use Rattle.ixdtf_lines.specs.Word.{word_named}
+use Rattle.ixdtf_lines.specs.declared.word.Word.{Word}
+use Rattle.ixdtf_lines.specs.declared.word.Word.TheVariants.{Parse}
+
+-- the answer, with the two tests as variables
+abbrev IsAnswerBy : List ℕ → List ℕ → Bool → Option ℕ → Type 0
+IsAnswerBy line answer test at = MatchBool test (answer ≡ too_long)
+    (MatchOption at (answer ≡ unknown_reader) (λ place. IsReaderAnswer (take place line) (drop (place + 1) line) answer))
+
+pub IsAnswer-long : (line : List ℕ) → line_limit < length line → IsAnswer line too_long
+IsAnswer-long line long =
+    subst (λ test. IsAnswerBy line too_long test (position is_space line)) (sym (lt-ltb line_limit (length line) long)) refl
+
+pub IsAnswer-spaceless : (line : List ℕ) → length line ≤ line_limit → None ≡ position is_space line → IsAnswer line unknown_reader
+IsAnswer-spaceless line short none =
+    subst (λ test. IsAnswerBy line unknown_reader test (position is_space line)) (sym (le-ltb line_limit (length line) short))
+    (subst (λ at. MatchOption at (unknown_reader ≡ unknown_reader) (λ place. IsReaderAnswer (take place line) (drop (place + 1) line) unknown_reader)) none refl)
+
+pub IsAnswer-word : (line answer : List ℕ) (place : ℕ) → length line ≤ line_limit → Some place ≡ position is_space line
+    → IsReaderAnswer (take place line) (take (length line - (place + 1)) (drop (place + 1) line)) answer → IsAnswer line answer
+IsAnswer-word line answer place short at is =
+    let text = drop (place + 1) line in
+    let all : take (length line - (place + 1)) text ≡ text = take_all _ text (omega (arith, length-drop (place + 1) line)) in
+    subst (λ test. IsAnswerBy line answer test (position is_space line)) (sym (le-ltb line_limit (length line) short))
+    (subst (λ o. MatchOption o (answer ≡ unknown_reader) (λ p. IsReaderAnswer (take p line) (drop (p + 1) line) answer)) at
+    (subst (λ t. IsReaderAnswer (take place line) t answer) all is))
+
+pub IsReaderAnswer-unknown : (name text : List ℕ) → None ≡ word_named name → IsReaderAnswer name text unknown_reader
+IsReaderAnswer-unknown name text none =
+    subst (λ o. MatchOption o (unknown_reader ≡ unknown_reader) (λ word. IsAnswerOf word text unknown_reader)) none refl
+
+-- the reader derives the value from what it has to read, which is the text
+pub IsParseAnswer-ok : (text rest : List ℕ) (parsed : Parsed) → rest ≡ text → Derives parse (letters rest) parsed → IsParseAnswer text (ok_answer_of parsed)
+IsParseAnswer-ok text rest parsed same derives = inl (parsed, subst (λ (t : List ℕ). Derives parse (letters t) parsed) same derives, refl)
+
+-- it finds the fault in it
+pub IsParseAnswer-error : (text rest : List ℕ) (fault : Fault) → rest ≡ text → HasFault parse (letters rest) fault → IsParseAnswer text (error_answer_of fault)
+IsParseAnswer-error text rest fault same has = inr (fault, subst (λ (t : List ℕ). HasFault parse (letters t) fault) same has, refl)
+
+-- there is one word, which reads by `parse`
+pub IsAnswerOf-parse : (word : Word) (text answer : List ℕ) → IsParseAnswer text answer → IsAnswerOf word text answer
+IsAnswerOf-parse Parse text answer is = is

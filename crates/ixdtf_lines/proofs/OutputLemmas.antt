@@ -1,0 +1,112 @@
+-- What calls, one after the other, do to what is written and to what waits.
+use Rattle.std.proofs.Common.{◌≡◌, ℕ, suc, ◌+◌, ◌-◌, ◌<◌, List, [], ◌∷◌, ◌++◌, length, take, drop, get_or, Option, Result, Ok, Err, IsErrAnd, Bor, sym, ap, subst, ◌∙◌, arith, append_assoc}
+use Rattle.std.proofs.Math.Seq.{drop-cons}
+use Rattle.std.proofs.lemmas.Grind.{flat_map-append}
+use Rattle.std.proofs.KnownBytes.{Appends-trans, Appends-nil}
+use Rattle.std.proofs.lemmas.List.{append-nil, take_all, take_more, length-drop, take-append-drop}
+use Rattle.std.specs.Io.KnownBytes.{Appends}
+use Rattle.ixdtf_lines.specs.declared.error.RunError.{RunError}
+use Rattle.ixdtf_lines.specs.Output.{AppendsFront, Writes, Sent, Puts, joined}
+
+-- a write took n bytes of the rest
+pub wrote_more : (a b c : Option (List ℕ)) (bytes rest : List ℕ) (n : ℕ)
+    → (front : List ℕ) × (bytes ≡ front ++ rest) × Appends a b front → Appends b c (take n rest)
+    → (front : List ℕ) × (bytes ≡ front ++ take (length rest - n) (drop n rest)) × Appends a c front
+wrote_more a b c bytes rest n (front, whole, appended) more =
+    let all : take (length rest - n) (drop n rest) ≡ drop n rest = take_all _ (drop n rest) (omega (arith, length-drop n rest)) in (
+      front ++ take n rest,
+      whole ∙ ap (λ (t : List ℕ). front ++ t) (sym (take-append-drop n rest) ∙ ap (λ (t : List ℕ). take n rest ++ t) (sym all)) ∙ sym (append_assoc front _ _),
+      Appends-trans a b c front _ appended more,
+    )
+
+-- bytes were sent, and then what waited of them and further bytes
+pub Sent-trans : {a b c : Option (List ℕ)} {u v taken : List ℕ} (bytes : List ℕ) → Sent a b u taken → Sent b c v (u ++ bytes) → Sent a c v (taken ++ bytes)
+Sent-trans {a = a} {b = b} {c = c} {u = u} {v = v} {taken = taken} bytes p q = record {
+  front = p.front ++ q.front;
+  whole = ap (λ (t : List ℕ). t ++ bytes) p.whole ∙ append_assoc p.front u bytes ∙ ap (λ (t : List ℕ). p.front ++ t) q.whole ∙ sym (append_assoc p.front q.front v);
+  appended = Appends-trans a b c p.front q.front p.appended q.appended;
+}
+
+-- bytes were sent, and then a front of what waited of them and of further bytes
+pub Sent-front : {a b c : Option (List ℕ)} {u taken : List ℕ} (bytes : List ℕ) → Sent a b u taken → AppendsFront b c (u ++ bytes) → AppendsFront a c (taken ++ bytes)
+Sent-front {a = a} {b = b} {c = c} {u = u} bytes p q = record {
+  front = p.front ++ q.front;
+  rest = q.rest;
+  whole = ap (λ (t : List ℕ). t ++ bytes) p.whole ∙ append_assoc p.front u bytes ∙ ap (λ (t : List ℕ). p.front ++ t) q.whole ∙ sym (append_assoc p.front q.front q.rest);
+  appended = Appends-trans a b c p.front q.front p.appended q.appended;
+}
+
+-- nothing waits any more
+pub Sent-all : {a b : Option (List ℕ)} {waiting taken : List ℕ} → Sent a b waiting taken → waiting ≡ [] → Appends a b taken
+Sent-all {a = a} {b = b} p none = subst (Appends a b) (sym (p.whole ∙ ap (λ (t : List ℕ). p.front ++ t) none ∙ append-nil p.front)) p.appended
+
+-- nothing waits, and all was written
+pub Sent-written : {a b : Option (List ℕ)} {taken : List ℕ} → Appends a b taken → Sent a b [] taken
+Sent-written {taken = taken} appended = record { front = taken; whole = sym (append-nil taken); appended = appended }
+
+-- a front of the first bytes is a front of them all
+pub AppendsFront-more : {a b : Option (List ℕ)} {xs : List ℕ} (ys : List ℕ) → AppendsFront a b xs → AppendsFront a b (xs ++ ys)
+AppendsFront-more ys p = record {
+  front = p.front;
+  rest = p.rest ++ ys;
+  whole = ap (λ (t : List ℕ). t ++ ys) p.whole ∙ append_assoc p.front p.rest ys;
+  appended = p.appended;
+}
+
+-- the bytes fit behind those that wait
+pub Puts-kept : (a : Option (List ℕ)) {u v xs : List ℕ} {t : Unit {0}} → v ≡ u ++ xs → Puts a a u v (Ok t) xs
+Puts-kept a is = record { ok = record { front = []; whole = sym is; appended = Appends-nil a }; err = tt }
+
+-- what waited was written, or a front of it
+pub Puts-written : {a b : Option (List ℕ)} {u : List ℕ} {r : Result (Unit {0}) RunError} → Writes a b r u → Puts a b u [] r []
+Puts-written {a = a} {b = b} {u = u} {r = Ok t} p = record { ok = Sent-written (subst (Appends a b) (sym (append-nil u)) p.ok); err = tt }
+Puts-written {r = Err e} p = record { ok = tt; err = (p.err.0, AppendsFront-more [] p.err.1) }
+
+Puts-past : {a b : Option (List ℕ)} {xs : List ℕ} {r : Result (Unit {0}) RunError} → Writes a b r xs → Puts a b [] [] r xs
+Puts-past {r = Ok t} p = record { ok = Sent-written p.ok; err = tt }
+Puts-past {r = Err e} p = record { ok = tt; err = p.err }
+
+-- nothing waits, and the bytes are written past the array
+pub Puts-through : {a b : Option (List ℕ)} {u xs : List ℕ} {r : Result (Unit {0}) RunError} → u ≡ [] → Writes a b r xs → Puts a b u u r xs
+Puts-through {a = a} {b = b} {u = u} {xs = xs} {r = r} none p =
+    subst (λ (t : List ℕ). Puts a b t t r xs) (sym none) (Puts-past p)
+
+-- the first bytes were put, and then the others
+pub Puts-after : {a b c : Option (List ℕ)} {u v w : List ℕ} {t : Unit {0}} {r : Result (Unit {0}) RunError} {xs ys : List ℕ}
+    → Puts a b u v (Ok t) xs → Puts b c v w r ys → Puts a c u w r (xs ++ ys)
+Puts-after {a = a} {c = c} {u = u} {w = w} {r = Ok s} {xs = xs} {ys = ys} p q =
+    record { ok = subst (Sent a c w) (append_assoc u xs ys) (Sent-trans ys p.ok q.ok); err = tt }
+Puts-after {a = a} {c = c} {u = u} {r = Err e} {xs = xs} {ys = ys} p q =
+    record { ok = tt; err = (q.err.0, subst (AppendsFront a c) (append_assoc u xs ys) (Sent-front ys p.ok q.err.1)) }
+
+-- the exit of a `?`: putting the first bytes failed
+pub Puts-exit : {a b : Option (List ℕ)} {u v w : List ℕ} {r : Result (Unit {0}) RunError} {e : RunError} {xs : List ℕ} (ys : List ℕ)
+    → IsErrAnd r (λ y. y ≡ e) → Puts a b u v (Err e) xs → Puts a b u w r (xs ++ ys)
+Puts-exit {r = Ok t} ys same failed = absurd same
+Puts-exit {a = a} {b = b} {u = u} {r = Err y} {xs = xs} ys same failed =
+    record { ok = tt; err = (same ∙ failed.err.0, subst (AppendsFront a b) (append_assoc u xs ys) (AppendsFront-more ys failed.err.1)) }
+
+joined-at : (pieces : List (Bor (List ℕ))) (i : ℕ) (d : Bor (List ℕ)) → i < length pieces
+    → joined pieces ≡ (joined (take i pieces) ++ (get_or pieces i d).now) ++ joined (drop (suc i) pieces)
+joined-at pieces i d inside =
+    ap joined (sym (take-append-drop i pieces)) ∙ ap (λ t. joined (take i pieces ++ t)) (drop-cons pieces i d inside)
+    ∙ flat_map-append _ (take i pieces) (get_or pieces i d ∷ drop (suc i) pieces) ∙ sym (append_assoc (joined (take i pieces)) _ _)
+
+joined-next : (pieces : List (Bor (List ℕ))) (i : ℕ) (d : Bor (List ℕ)) → i < length pieces
+    → joined (take i pieces) ++ (get_or pieces i d).now ≡ joined (take (i + 1) pieces)
+joined-next pieces i d inside = sym (ap joined (take_more pieces i d inside)
+    ∙ flat_map-append _ (take i pieces) (get_or pieces i d ∷ []) ∙ ap (λ (t : List ℕ). joined (take i pieces) ++ t) (append-nil (get_or pieces i d).now))
+
+-- one more piece was put
+pub Puts-next : {a b c : Option (List ℕ)} {u v w : List ℕ} {t : Unit {0}} {r : Result (Unit {0}) RunError} (pieces : List (Bor (List ℕ))) (i : ℕ) (d : Bor (List ℕ))
+    → i < length pieces → Puts a b u v (Ok t) (joined (take i pieces)) → Puts b c v w r (get_or pieces i d).now
+    → Puts a c u w r (joined (take (i + 1) pieces))
+Puts-next {a = a} {c = c} {u = u} {w = w} {r = r} pieces i d inside before next =
+    subst (Puts a c u w r) (joined-next pieces i d inside) (Puts-after before next)
+
+-- the exit of a `?` at a piece of a list, after the pieces before it
+pub Puts-piece : {a b c : Option (List ℕ)} {u v w z : List ℕ} {t : Unit {0}} {r : Result (Unit {0}) RunError} {e : RunError} (pieces : List (Bor (List ℕ))) (i : ℕ) (d : Bor (List ℕ))
+    → i < length pieces → Puts a b u v (Ok t) (joined (take i pieces)) → IsErrAnd r (λ y. y ≡ e)
+    → Puts b c v w (Err e) (get_or pieces i d).now → Puts a c u z r (joined pieces)
+Puts-piece {a = a} {c = c} {u = u} {z = z} {r = r} pieces i d inside before same failed =
+    subst (Puts a c u z r) (sym (joined-at pieces i d inside)) (Puts-exit (joined (drop (suc i) pieces)) same (Puts-after before failed))

@@ -1,0 +1,59 @@
+-- The answer to one line, without its newline.
+use Rattle.std.specs.Prelude.{◌≡◌, ℕ, ◌+◌, Bool, ◌==◌, ◌⊎◌, List, ◌++◌, map, length, take, drop, nat_lt, MatchOption, position, codes}
+use Rattle.std.specs.Bool.{MatchBool}
+use Rattle.ixdtf.specs.ErrorTexts.{message_of}
+use Rattle.ixdtf.specs.Faults.{Fault}
+use Rattle.ixdtf.specs.Languages.{Parsed, Derives, HasFault}
+use Rattle.ixdtf.specs.Letters.{Text, byte_letter}
+use Rattle.ixdtf.specs.Readers.Reader.{parse}
+use Rattle.ixdtf_lines.specs.declared.word.Word.{Word}
+use Rattle.ixdtf_lines.specs.declared.word.Word.TheVariants.{Parse}
+use Rattle.ixdtf_lines.specs.Fields.{fields_of}
+use Rattle.ixdtf_lines.specs.Word.{word_named}
+
+-- the longest line that is read
+abbrev pub line_limit : ℕ
+line_limit = 4096
+
+abbrev pub too_long : List ℕ
+too_long = codes "error line too long"
+
+abbrev pub unknown_reader : List ℕ
+unknown_reader = codes "error unknown reader"
+
+abbrev pub is_space : ℕ → Bool
+is_space byte = byte == 32
+
+-- the letters that the bytes stand for
+abbrev pub letters : List ℕ → Text
+letters bytes = map byte_letter bytes
+
+-- the answer to a text that is read
+abbrev pub ok_answer_of : Parsed → List ℕ
+ok_answer_of parsed = codes "ok" ++ fields_of parsed
+
+-- the answer to a text that is refused
+abbrev pub error_answer_of : Fault → List ℕ
+error_answer_of fault = codes "error " ++ message_of fault
+
+-- the answer of a reader that derives a value from the text, or finds a fault in it
+abbrev pub IsParseAnswer : List ℕ → List ℕ → Type 0
+IsParseAnswer text answer =
+    ((parsed : Parsed) × Derives parse (letters text) parsed × (answer ≡ ok_answer_of parsed))
+    ⊎ ((fault : Fault) × HasFault parse (letters text) fault × (answer ≡ error_answer_of fault))
+
+-- the answer of a reader
+abbrev pub IsAnswerOf : Word → List ℕ → List ℕ → Type 0
+IsAnswerOf Parse text answer = IsParseAnswer text answer
+
+-- the answer of the reader that the name names
+abbrev pub IsReaderAnswer : List ℕ → List ℕ → List ℕ → Type 0
+IsReaderAnswer name text answer = MatchOption (word_named name) (answer ≡ unknown_reader) (λ word. IsAnswerOf word text answer)
+
+-- the answer to a line
+abbrev pub IsAnswer : List ℕ → List ℕ → Type 0
+IsAnswer line answer = MatchBool (nat_lt line_limit (length line))
+    (answer ≡ too_long)
+    (MatchOption (position is_space line)
+    (answer ≡ unknown_reader)
+    (λ place. IsReaderAnswer (take place line) (drop (place + 1) line) answer))

@@ -1,0 +1,10 @@
+pub mod Answer
+pub mod Digits
+pub mod Fields
+pub mod Line
+pub mod Lines
+pub mod Number
+pub mod Output
+pub mod Progress
+pub mod Run
+pub mod Word

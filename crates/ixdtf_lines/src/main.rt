@@ -1,0 +1,46 @@
+//! Answers each line of standard input by a line on standard output.
+#![tactic(auto)]
+
+mod answer;
+mod arguments;
+mod error;
+mod fields;
+mod line;
+mod number;
+mod output;
+mod runner;
+#[cfg(test)]
+mod tests;
+mod waiting;
+mod word;
+
+use arguments::arguments_allowed;
+use error::RunError;
+use runner::run;
+use std::env;
+use std::io::Eprint;
+use std::process::ExitCode;
+
+fn main(rt: HostRuntime) -> ExitCode {
+    let Ok(words) = env::args(&rt) else {
+        return refuse(&rt);
+    };
+    if !arguments_allowed(words.skip(1).count()) {
+        return refuse(&rt);
+    }
+    match run(&mut rt.stdin(), &mut rt.stdout()) {
+        Ok(()) => ExitCode::SUCCESS,
+        Err(RunError::Read) => failed(&rt, "read"),
+        Err(RunError::Write) => failed(&rt, "write"),
+    }
+}
+
+fn refuse(rt: &impl Eprint) -> ExitCode {
+    let _ = eprintln!(rt; "ixdtf_lines: takes no arguments");
+    ExitCode::from(2)
+}
+
+fn failed(rt: &impl Eprint, what: &str) -> ExitCode {
+    let _ = eprintln!(rt; "ixdtf_lines: {what} failed");
+    ExitCode::from(1)
+}

@@ -1,0 +1,339 @@
+//! What no clause says: worked lines, failing readers and writers, and the numbers of the statuses.
+ghost use Rattle.std.specs.Prelude.{◌≤◌};
+
+use crate::arguments::arguments_allowed;
+use crate::error::RunError;
+use crate::number::{Decimal, nine_digits, sign_of};
+use crate::runner::run;
+use std::alloc::Global;
+use std::io;
+use std::io::{ErrorKind, Read, Write};
+use std::process::Abort;
+use std::test::Fail;
+
+/// A reader that gives few bytes at a time, and fails at one of its reads.
+#[derive(Drop)]
+struct FaultyReader<'a> {
+    rest: &'a [u8],
+    /// The most bytes that one read gives.
+    most: usize,
+    /// How many reads succeed.
+    good_reads: usize,
+}
+
+impl Read for FaultyReader<'_> {
+    fn read(&mut self, buf: &mut [u8]) -> io::Result<usize> {
+        if self.good_reads == 0 {
+            return Err(io::Error::from(ErrorKind::Other));
+        }
+        self.good_reads -= 1;
+        let count = self.rest.len().min(self.most).min(buf.len());
+        let (front, rest) = self.rest.split_at(count);
+        buf[..count].copy_from_slice(front);
+        self.rest = rest;
+        Ok(count)
+    }
+}
+
+/// A writer that takes few bytes at a time, and fails once it is full.
+#[derive(Drop)]
+struct FaultyWriter {
+    bytes: [u8; 512],
+    length: usize,
+    /// The most bytes that one write takes.
+    most: usize,
+    /// How many bytes it takes before it fails.
+    room: usize,
+    takes_none_when_full: bool,
+    flush_fails: bool,
+    ghost within: { length ≤ 512 },
+}
+
+impl FaultyWriter {
+    fn new() -> FaultyWriter {
+        FaultyWriter {
+            bytes: [0; 512],
+            length: 0,
+            most: 512,
+            room: 512,
+            takes_none_when_full: false,
+            flush_fails: false,
+        }
+    }
+
+    fn written(&self) -> &[u8] {
+        &self.bytes[..self.length]
+    }
+}
+
+impl Write for FaultyWriter {
+    fn write(&mut self, buf: &[u8]) -> io::Result<usize> {
+        let count = buf
+            .len()
+            .min(self.most)
+            .min(self.room)
+            .min(512 - self.length);
+        if count == 0 && !self.takes_none_when_full {
+            return Err(io::Error::from(ErrorKind::Other));
+        }
+        let length = self.length;
+        self.bytes[length..length + count].copy_from_slice(&buf[..count]);
+        self.length = length + count;
+        self.room -= count;
+        Ok(count)
+    }
+
+    fn flush(&mut self) -> io::Result<()> {
+        if self.flush_fails {
+            Err(io::Error::from(ErrorKind::Other))
+        } else {
+            Ok(())
+        }
+    }
+}
+
+const LINES: &[u8] = b"parse 20201108\nhello\nparse 2021-02-29\nparse 2020\n\nparse -000400-02-29";
+
+const ANSWERS: &[u8] =
+    b"ok date=2020,11,8\nerror unknown reader\nerror Parsed day value not in a valid range.\nerror Parsing ended abruptly while parsing Date\nerror unknown reader\nok date=-400,2,29\n";
+
+const TWO_LINES: &[u8] = b"parse 2020-01-01\nparse 2020-01-02\n";
+
+const TWO_ANSWERS: &[u8] = b"ok date=2020,1,1\nok date=2020,1,2\n";
+
+const FIRST_ANSWER: &[u8] = b"ok date=2020,1,1\n";
+
+/// A run on the input writes the bytes.
+fn check_run(rt: &impl Abort, alloc: Global, input: &[u8], bytes: &[u8]) -> Result<(), Fail> {
+    let mut reader = input;
+    let mut written = Vec::new(alloc);
+    run(&mut reader, &mut written)?;
+    assert_eq!(rt; written.as_slice(), bytes);
+    Ok(())
+}
+
+#[test]
+fn answers_dates_and_times(rt: HostRuntime) -> Result<(), Fail> {
+    check_run(
+        &rt,
+        rt.alloc(),
+        b"parse 2024-03-02T08:48:00.25\nparse 20201108\nparse 2021-02-29\n",
+        b"ok date=2024,3,2 time=8,48,0.250000000\nok date=2020,11,8\nerror Parsed day value not in a valid range.\n",
+    )?;
+    check_run(
+        &rt,
+        rt.alloc(),
+        b"parse 2020-01-01T23:59:60\nparse +010000-11-08t05.000000001\nparse +010000-11-08t050607,0000000019\n",
+        b"ok date=2020,1,1 time=23,59,60\nerror Unexpected character found after parsing was completed.\nok date=10000,11,8 time=5,6,7.000000001\n",
+    )
+}
+
+#[test]
+fn answers_each_line(rt: HostRuntime) -> Result<(), Fail> {
+    check_run(&rt, rt.alloc(), LINES, ANSWERS)
+}
+
+#[test]
+fn answers_nothing_for_nothing(rt: HostRuntime) -> Result<(), Fail> {
+    check_run(&rt, rt.alloc(), b"", b"")?;
+    check_run(&rt, rt.alloc(), b"\n", b"error unknown reader\n")
+}
+
+#[test]
+fn answers_unknown_words(rt: HostRuntime) -> Result<(), Fail> {
+    let unknown = b"error unknown reader\n".as_slice();
+    check_run(&rt, rt.alloc(), b"hello", unknown)?;
+    check_run(&rt, rt.alloc(), b"parse", unknown)?;
+    check_run(&rt, rt.alloc(), b" parse 20201108", unknown)?;
+    check_run(&rt, rt.alloc(), b"Parse 20201108", unknown)?;
+    check_run(&rt, rt.alloc(), b"parse2 20201108", unknown)?;
+    check_run(&rt, rt.alloc(), b"parse\t20201108", unknown)
+}
+
+#[test]
+fn takes_all_after_the_first_space_as_text(rt: HostRuntime) -> Result<(), Fail> {
+    check_run(
+        &rt,
+        rt.alloc(),
+        b"parse ",
+        b"error Parsing ended abruptly while parsing digit\n",
+    )?;
+    check_run(
+        &rt,
+        rt.alloc(),
+        b"parse 2020-01-01 05",
+        b"ok date=2020,1,1 time=5,0,0\n",
+    )?;
+    check_run(
+        &rt,
+        rt.alloc(),
+        b"parse 20201108\r\n",
+        b"error Unexpected character found after parsing was completed.\n",
+    )
+}
+
+#[test]
+fn bounds_the_line(rt: HostRuntime) -> Result<(), Fail> {
+    let mut line = Vec::new(rt.alloc());
+    line.extend_from_slice(b"parse ")?;
+    for _ in 0..4090 {
+        line.push(b'2')?;
+    }
+    check_run(
+        &rt,
+        rt.alloc(),
+        line.as_slice(),
+        b"error Parsed month value not in a valid range.\n",
+    )?;
+    line.extend_from_slice(b"2\nparse 20201108")?;
+    check_run(
+        &rt,
+        rt.alloc(),
+        line.as_slice(),
+        b"error line too long\nok date=2020,11,8\n",
+    )
+}
+
+#[test]
+fn answers_more_than_the_array_holds(rt: HostRuntime) -> Result<(), Fail> {
+    let mut lines = Vec::new(rt.alloc());
+    let mut answers = Vec::new(rt.alloc());
+    for _ in 0..1000 {
+        lines.extend_from_slice(b"x\n")?;
+        answers.extend_from_slice(b"error unknown reader\n")?;
+    }
+    check_run(&rt, rt.alloc(), lines.as_slice(), answers.as_slice())
+}
+
+/// What a run on the two lines has written where the reader fails after so many reads.
+fn check_reader(rt: &impl Abort, most: usize, good_reads: usize, bytes: &[u8]) {
+    let mut reader = FaultyReader {
+        rest: TWO_LINES,
+        most,
+        good_reads,
+    };
+    let mut writer = FaultyWriter::new();
+    let outcome = run(&mut reader, &mut writer);
+    assert_eq!(rt; outcome, Err(RunError::Read));
+    assert_eq!(rt; writer.written(), bytes);
+}
+
+#[test]
+fn stops_at_a_read_that_fails(rt: HostRuntime) {
+    check_reader(&rt, 17, 1, FIRST_ANSWER);
+    check_reader(&rt, 20, 1, FIRST_ANSWER);
+    check_reader(&rt, 1, 16, b"");
+    check_reader(&rt, 512, 1, TWO_ANSWERS);
+}
+
+#[test]
+fn answers_the_lines_before_each_fault(rt: HostRuntime) {
+    for good_reads in 0..LINES.len() + 1 {
+        check_fault(&rt, good_reads);
+    }
+}
+
+/// With one byte a read, a run that stops after so many reads has the answers to the lines that ended.
+fn check_fault(rt: &impl Abort, good_reads: usize) {
+    let mut reader = FaultyReader {
+        rest: LINES,
+        most: 1,
+        good_reads,
+    };
+    let mut writer = FaultyWriter::new();
+    let outcome = run(&mut reader, &mut writer);
+    assert_eq!(rt; outcome, Err(RunError::Read));
+    let ended = LINES
+        .iter()
+        .take(good_reads)
+        .filter(|byte| **byte == b'\n')
+        .count();
+    let answered = writer
+        .written()
+        .iter()
+        .filter(|byte| **byte == b'\n')
+        .count();
+    assert_eq!(rt; answered, ended);
+    assert!(rt; ANSWERS.starts_with(writer.written()));
+}
+
+#[test]
+fn reads_to_the_end_byte_by_byte(rt: HostRuntime) {
+    let mut reader = FaultyReader {
+        rest: LINES,
+        most: 1,
+        good_reads: LINES.len() + 1,
+    };
+    let mut writer = FaultyWriter::new();
+    let outcome = run(&mut reader, &mut writer);
+    assert_eq!(rt; outcome, Ok(()));
+    assert_eq!(rt; writer.written(), ANSWERS);
+}
+
+/// What a run on the two lines leaves in the writer.
+fn check_writer(
+    rt: &impl Abort,
+    mut writer: FaultyWriter,
+    wanted: Result<(), RunError>,
+    bytes: &[u8],
+) {
+    let mut reader = TWO_LINES;
+    let outcome = run(&mut reader, &mut writer);
+    assert_eq!(rt; outcome, wanted);
+    assert_eq!(rt; writer.written(), bytes);
+}
+
+#[test]
+fn writes_byte_by_byte(rt: HostRuntime) {
+    let mut writer = FaultyWriter::new();
+    writer.most = 1;
+    check_writer(&rt, writer, Ok(()), TWO_ANSWERS);
+}
+
+#[test]
+fn stops_at_a_write_that_fails(rt: HostRuntime) {
+    let mut writer = FaultyWriter::new();
+    writer.room = 5;
+    check_writer(&rt, writer, Err(RunError::Write), b"ok da");
+}
+
+#[test]
+fn stops_at_a_write_that_takes_no_byte(rt: HostRuntime) {
+    let mut writer = FaultyWriter::new();
+    writer.room = 0;
+    writer.takes_none_when_full = true;
+    check_writer(&rt, writer, Err(RunError::Write), b"");
+}
+
+#[test]
+fn tells_that_the_flush_failed(rt: HostRuntime) {
+    let mut writer = FaultyWriter::new();
+    writer.flush_fails = true;
+    check_writer(&rt, writer, Err(RunError::Write), TWO_ANSWERS);
+}
+
+#[test]
+fn takes_no_arguments(rt: HostRuntime) {
+    assert!(rt; arguments_allowed(0));
+    assert!(rt; !arguments_allowed(1));
+}
+
+#[test]
+fn numbers_the_errors(rt: HostRuntime) {
+    assert_eq!(rt; RunError::Read as u8, 1);
+    assert_eq!(rt; RunError::Write as u8, 2);
+}
+
+#[test]
+fn shows_numbers(rt: HostRuntime) {
+    let most = Decimal::new(u64::MAX);
+    assert_eq!(rt; most.as_slice(), b"18446744073709551615".as_slice());
+    let zero = Decimal::new(0);
+    assert_eq!(rt; zero.as_slice(), b"0".as_slice());
+    assert_eq!(rt; sign_of(-1), b"-".as_slice());
+    assert_eq!(rt; sign_of(0), b"".as_slice());
+    let quarter = nine_digits(250_000_000);
+    assert_eq!(rt; quarter.as_slice(), b"250000000".as_slice());
+    let short = nine_digits(7);
+    assert_eq!(rt; short.as_slice(), b"000000007".as_slice());
+}
