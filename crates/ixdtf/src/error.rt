@@ -270,3 +270,6 @@ impl fmt::Display for ParseError {
         }
     }
 }
+
+#[cfg(test)]
+mod tests;

@@ -83,3 +83,6 @@ impl<'a, T: EncodingType> IxdtfParser<'a, T> {
         }
     }
 }
+
+#[cfg(test)]
+mod tests;
