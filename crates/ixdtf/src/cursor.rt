@@ -1,4 +1,7 @@
 //! A place in a source: the units that are still to be read.
+//!
+//! There is no index: a cursor keeps the end of the source that is still to be read, as one slice. So a place past the end
+//! cannot be, and a reader that refuses puts back the slice that it began with.
 
 ghost use Rattle.std.specs.Prelude.{◌≡◌, ℕ, ◌+◌, ◌-◌, ◌<◌, ◌≤◌, List, [], map, length, drop, None, IfOk, IsTrue};
 ghost use Rattle.ixdtf.specs.Classes.{digit};
@@ -37,7 +40,7 @@ impl<'a, T: EncodingType> Cursor<'a, T> {
         }
     }
 
-    /// The units that are still to be read.
+    /// The units that are still to be read. They are a part of the source, and outlive the cursor.
     #[inline(always)]
     pub fn rest(&self) -> &'a [T::CodeUnit]
         ensures { map T.number result.now ≡ self.now.rest }
@@ -45,7 +48,7 @@ impl<'a, T: EncodingType> Cursor<'a, T> {
         self.rest
     }
 
-    /// Goes back to an earlier rest.
+    /// Goes back to an earlier rest. The looks that were made stay counted.
     #[inline(always)]
     pub fn go_back(&mut self, rest: &'a [T::CodeUnit])
         ensures rest { self.new.rest ≡ map T.number rest.now }
@@ -81,7 +84,8 @@ impl<'a, T: EncodingType> Cursor<'a, T> {
         }
     }
 
-    /// Takes a digit off, with this error at another letter. The digit is an ASCII byte.
+    /// Takes a digit off and answers it, as an ASCII byte. The end is `AbruptEnd` at `digit`, and another letter this
+    /// error; both stay.
     #[inline(always)]
     #[tactic(auto, unfolding(crate::specs::ReadingLooks::next_by))]
     pub fn next_digit(&mut self, other: ParseError) -> ParserResult<u8>
@@ -99,7 +103,7 @@ impl<'a, T: EncodingType> Cursor<'a, T> {
         }
     }
 
-    /// Wants the end of the source: `InvalidEnd` at any other letter.
+    /// Wants the end of the source: `InvalidEnd` at any letter.
     #[inline(always)]
     #[tactic(auto, unfolding(crate::specs::ReadingLooks::peek_by))]
     pub fn close(&mut self) -> ParserResult<()>

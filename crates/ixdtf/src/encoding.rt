@@ -1,4 +1,7 @@
 //! The encodings that a source may have.
+//!
+//! The readers are written once for all encodings. They see a unit by the ASCII byte that it stands for, and an encoding
+//! says which byte that is, or that it stands for none.
 
 ghost use Rattle.std.specs.Prelude.{◌≡◌, ℕ, ◌<◌, ◌≤◌, ◌↔◌, ◌^◌, List, map, length, All, IsTrue, IsSome, IfSome, slice_range, codes};
 ghost use Rattle.std.specs.Cmp.{unsigned_Decides};
@@ -14,7 +17,8 @@ mod private {
 
 /// An encoding of a source in code units.
 ///
-/// A proof sees each unit as a number, and the number as a letter: the number again, or none that a reader takes.
+/// A proof sees each unit as a number, and the number as a letter: the number again, or none that a reader takes. No crate
+/// but this one can write an encoding.
 pub trait EncodingType: private::Sealed {
     /// The unit of a source.
     type CodeUnit: PartialEq + std::fmt::Debug + Clone;
@@ -33,7 +37,8 @@ pub trait EncodingType: private::Sealed {
         ensures within { IsSome result ↔ ((start ≤ end) × (end ≤ length source.now)) }
         ensures units { IfSome result (λ units. units.now ≡ slice_range source.now start end) };
 
-    /// The ASCII byte at a place of the source, or `None` past its end.
+    /// The letter at a place of the source, as a byte, or `None` past its end. The readers take ASCII letters alone, so a
+    /// byte from 128 up is a letter that none of them goes on with.
     ///
     /// The error `NonAsciiCodePoint` comes exactly where the unit there stands for no letter.
     fn get_ascii(source: &[Self::CodeUnit], index: usize) -> ParserResult<Option<u8>>
@@ -54,7 +59,8 @@ pub trait EncodingType: private::Sealed {
     ghost equal: { (a b : Self.CodeUnit) → IsTrue (Self.CodeUnit.eq a b) ↔ (number a ≡ number b) };
 }
 
-/// Sources in 8-bit units, as UTF-8. Each unit is its own letter.
+/// Sources in 8-bit units, as UTF-8. Each unit is its own letter, also 0 and those from 128 up, and `get_ascii` answers no
+/// error. That the units are UTF-8 is not tested.
 #[derive(Clone, Debug, Drop, PartialEq)]
 pub struct Utf8;
 
@@ -87,4 +93,54 @@ impl EncodingType for Utf8 {
     ghost injective = { λ a b same. same };
 
     ghost equal = { unsigned_Decides };
+}
+
+#[cfg(test)]
+mod tests {
+    use super::*;
+
+    #[test]
+    fn bytes_are_letters(rt: HostRuntime) {
+        let units: [u8; 3] = [0, 65, 255];
+        let rows = [(0, Some(0)), (1, Some(65)), (2, Some(255)), (3, None)];
+        for (index, letter) in rows {
+            assert_eq!(rt; Utf8::get_ascii(&units, index), Ok(letter), "at {index}");
+        }
+    }
+
+    #[test]
+    fn slices_lie_within(rt: HostRuntime) {
+        let units = "abc".as_bytes();
+        let rows = [
+            (0, 2, Some("ab".as_bytes())),
+            (3, 3, Some("".as_bytes())),
+            (2, 1, None),
+            (0, 4, None),
+        ];
+        for (start, end, part) in rows {
+            assert_eq!(rt;
+                Utf8::slice(units, start, end),
+                part,
+                "from {start} to {end}"
+            );
+        }
+    }
+
+    #[test]
+    fn one_key_is_of_calendars(rt: HostRuntime) {
+        let rows = [
+            ("u-ca", true),
+            ("u-cA", false),
+            ("u-c", false),
+            ("u-ca-", false),
+            ("", false),
+        ];
+        for (key, answer) in rows {
+            assert_eq!(rt;
+                Utf8::check_calendar_key(key.as_bytes()),
+                answer,
+                "at {key}"
+            );
+        }
+    }
 }

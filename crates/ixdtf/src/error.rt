@@ -1,4 +1,4 @@
-//! What a text can be refused for.
+//! What a text can be refused for, and what is written of it.
 
 ghost use Rattle.std.specs.Prelude.{◌≡◌};
 ghost use Rattle.ixdtf.specs.Faults.{fault_of};
@@ -7,105 +7,112 @@ ghost use Rattle.ixdtf.specs.ErrorEquality.{place_of, location_of};
 
 use std::fmt;
 
-/// The error of a reader.
+/// Why a reader refused a text.
+///
+/// Each error that `parse` answers has a row in the fault table (`docs/FAULTS.md`), which says at which place of a text it
+/// comes. The names and the texts are those of the Rust crate, as they are spelled there.
 #[derive(Clone, Copy, Debug)]
 pub enum ParseError {
-    /// Implementation error: this error must not throw.
+    /// A mistake of the reader itself. No reader answers it.
     ImplAssert,
-    /// Code point was not ASCII
+    /// The next unit stands for no letter. Each 8-bit unit stands for one, so a `Utf8` source never has this error.
     NonAsciiCodePoint,
-    /// Invalid float while parsing fraction part.
+    /// No reader answers it.
     ParseFloat,
-    /// Parsing ended abruptly.
+    /// The text ends where more has to follow. The location is `digit` where a digit has to follow, and `Date` right after a
+    /// year.
     AbruptEnd { location: &'static str },
-    /// Unexpected character found after parsing was completed.
+    /// A letter stands after all that was read: one that is no separator after a date, or one with which the time does not
+    /// go on.
     InvalidEnd,
-    /// Parsed month value not in a valid range.
+    /// The two digits of a month are not 01 to 12.
     InvalidMonthRange,
-    /// Parsed day value not in a valid range.
+    /// The day of a date is 00, or past the last day of that month in that year.
     InvalidDayRange,
-    /// Invalid chracter while parsing year value.
+    /// The text begins with neither a digit nor a sign, or another letter stands among the four digits of a year.
     DateYear,
-    /// Invalid character while parsing extended year value.
+    /// Another letter stands among the six digits of a year with a sign, or the year is `-000000`.
     DateExtendedYear,
-    /// Invalid character while parsing month value.
+    /// Neither a hyphen nor a digit stands after a year, or another letter stands in the place of a month's digit.
     DateMonth,
-    /// Invalid character while parsing day value.
+    /// Another letter stands in the place of a day's digit.
     DateDay,
-    /// Unexpected end while parsing a date value.
+    /// No reader answers it.
     DateUnexpectedEnd,
-    /// Time is required.
+    /// No reader answers it.
     TimeRequired,
-    /// Invalid character while parsing hour value.
+    /// Another letter stands in the place of an hour's digit, or the hour is past 23.
     TimeHour,
-    /// Invalid character while parsing minute/second value in (0, 59] range.
+    /// Another letter stands in the place of a minute's digit, or the minute is past 59.
     TimeMinuteSecond,
-    /// Invalid character while parsing second value in (0, 60] range.
+    /// Another letter stands in the place of a second's digit, or the second is past 60.
     TimeSecond,
-    /// Invalid character while parsing fraction part value.
+    /// No digit stands after the `.` or `,` of a fraction. The end of the text there has this error too.
     FractionPart,
-    /// Invalid character while parsing date separator.
+    /// A date has one of its two hyphens: after `2020-01` no hyphen follows, or after `202001` one does. The end of the text
+    /// after `2020-01` has this error too.
     DateSeparator,
-    /// Invalid character while parsing time separator.
+    /// A time has one of its two colons: after `12:00` a digit follows, or after `1200` a colon does.
     TimeSeparator,
-    /// Invalid character while parsing decimal separator.
+    /// No reader answers it.
     DecimalSeparator,
-    /// Invalid annotation.
+    /// No reader answers it.
     InvalidAnnotation,
-    /// Invalid annotation open character.
+    /// No reader answers it.
     AnnotationOpen,
-    /// Invalid annotation close character.
+    /// A bracket is not closed. For annotations, which no reader takes yet.
     AnnotationClose,
-    /// Invalid annotation character.
+    /// No reader answers it.
     AnnotationChar,
-    /// Invalid annotation key-value separator character.
+    /// The text ends within the key of an annotation. For annotations, which no reader takes yet.
     AnnotationKeyValueSeparator,
-    /// Invalid annotation key leading character.
+    /// A letter stands where a key begins, and no key begins so. For annotations, which no reader takes yet.
     AnnotationKeyLeadingChar,
-    /// Invalid annotation key character.
+    /// A letter stands in a key that no key has. For annotations, which no reader takes yet.
     AnnotationKeyChar,
-    /// Expected annotation value character must exist after hyphen.
+    /// No letter of a value follows a hyphen in a value. For annotations, which no reader takes yet.
     AnnotationValueCharPostHyphen,
-    /// Invalid annotation value character.
+    /// A letter stands in a value that no value has, or the value is empty. For annotations, which no reader takes yet.
     AnnotationValueChar,
-    /// Offset must be minute precision
+    /// An offset has seconds where it may have only hours and minutes. For time zones, which no reader takes yet.
     InvalidMinutePrecisionOffset,
-    /// Duplicate calendars cannot be provided when one is critical.
+    /// A second calendar differs from the first one, and one of the two is critical. For annotations, which no reader takes
+    /// yet.
     CriticalDuplicateCalendar,
-    /// Unrecognized annoation is marked as critical.
+    /// An annotation is critical and names no calendar. For annotations, which no reader takes yet.
     UnrecognizedCritical,
-    /// Invalid time zone leading character.
+    /// A letter stands where the name of a time zone begins, and none begins so. For time zones, which no reader takes yet.
     TzLeadingChar,
-    /// Expected time zone character after '/'.
+    /// No letter of a name follows a `/` in the name of a time zone. For time zones, which no reader takes yet.
     IanaCharPostSeparator,
-    /// Invalid IANA time zone character after '/'.
+    /// A letter stands in the name of a time zone that no name has. For time zones, which no reader takes yet.
     IanaChar,
-    /// Invalid time zone character after '/'.
+    /// An offset has one of its two colons. For offsets, which no reader takes yet.
     UtcTimeSeparator,
-    /// UTC offset needs a sign
+    /// An offset does not begin with a sign. For offsets, which no reader takes yet.
     OffsetNeedsSign,
-    /// MonthDay must begin with a month or '--'
+    /// One hyphen stands before a month and a day, where there may be two or none. For month-days, which no reader takes yet.
     MonthDayHyphen,
-    /// Invalid duration designator.
+    /// No `P` begins a duration. For durations, which no reader takes yet.
     DurationDisgnator,
-    /// Provided Duration field value exceeds supported range.
+    /// A number of a duration is too large. For durations, which no reader takes yet.
     DurationValueExceededRange,
-    /// Invalid date duration part order.
+    /// The years, months, weeks and days of a duration are not in this order. For durations, which no reader takes yet.
     DateDurationPartOrder,
-    /// Invalid time duration part order.
+    /// The hours, minutes and seconds of a duration are not in this order. For durations, which no reader takes yet.
     TimeDurationPartOrder,
-    /// Invalid time duration designator.
+    /// No digit follows the `T` of a duration. For durations, which no reader takes yet.
     TimeDurationDesignator,
-    /// Time is ambiguous with MonthDay
+    /// A time without a date begins as a month and a day do. For times without a date, which no reader takes yet.
     AmbiguousTimeMonthDay,
-    /// Time is ambiguous with YearMonth
+    /// A time without a date begins as a year and a month do. For times without a date, which no reader takes yet.
     AmbiguousTimeYearMonth,
-    /// MonthDay was not valid.
+    /// The day of a month-day is past the last day of its month. For month-days, which no reader takes yet.
     InvalidMonthDay,
 }
 
 impl ParseError {
-    /// The text of the error.
+    /// The text of the error, the same for each `AbruptEnd`. Display also writes the location of an `AbruptEnd`.
     pub fn to_static_string(&self) -> &'static str
         ensures { result.now ≡ text_of (fault_of self.now) }
     {
@@ -252,6 +259,8 @@ impl PartialEq for ParseError {
     }
 }
 
+// Display writes the text of the error, and for `AbruptEnd` `Parsing ended abruptly while parsing ` and the location. It
+// heeds no width and no fill.
 impl fmt::Display for ParseError {
     ghost use Rattle.std.specs.Prelude.{Some};
     ghost use Rattle.ixdtf.specs.Faults.{fault_of};
@@ -270,3 +279,6 @@ impl fmt::Display for ParseError {
         }
     }
 }
+
+#[cfg(test)]
+mod tests;
