@@ -1,5 +1,5 @@
 -- The digits of a fraction, taken off one by one.
-use Rattle.std.proofs.Common.{◌≡◌, ℕ, ◌+◌, ◌-◌, ◌*◌, ◌≤◌, ◌<◌, true, false, List, [], ◌∷◌, ◌++◌, length, map, drop, Some, None, Result, Ok, Err, refl, sym, ap, ◌∙◌, arith, append_assoc, append-nil, IsTrue}
+use Rattle.std.proofs.Common.{◌≡◌, ℕ, ◌+◌, true, false, List, [], ◌∷◌, ◌++◌, length, map, drop, Some, None, Ok, Err, refl, sym, ap, ◌∙◌, arith, append_assoc, append-nil}
 use Rattle.ixdtf.specs.Letters.{Letter, Text}
 use Rattle.ixdtf.specs.Letters.Letter.{Plain, Bad}
 use Rattle.ixdtf.specs.Classes.{digit}
@@ -7,7 +7,7 @@ use Rattle.ixdtf.specs.Faults.{Fault}
 use Rattle.ixdtf.specs.Faults.Fault.{NonAsciiCodePoint}
 use Rattle.ixdtf.specs.Fractions.{FractionParts, fraction_of}
 use Rattle.ixdtf.specs.ReadingLooks.{Read, ◌>>=◌, look_at, digit_run}
-use Rattle.ixdtf.specs.Answers.{more_digits_at}
+use Rattle.ixdtf.specs.CodeReadings.{more_digits_at}
 use Rattle.ixdtf.proofs.Numbers.{Grown, fraction_grows}
 
 -- digits that were read, with more in front of them

@@ -8,10 +8,10 @@ use Rattle.ixdtf.specs.Faults.{Fault}
 use Rattle.ixdtf.specs.Faults.Fault.{NonAsciiCodePoint}
 use Rattle.ixdtf.specs.Readers.{Reader, LineName}
 use Rattle.ixdtf.specs.Readers.Reader.{parse}
-use Rattle.ixdtf.specs.FaultTable.{Line, table}
+use Rattle.ixdtf.specs.FaultTable.{Line, table, Before}
 use Rattle.ixdtf.specs.FaultTable.Line.{line, whole}
 use Rattle.ixdtf.specs.FaultTable.Ending.{ok, error}
-use Rattle.ixdtf.specs.Rows.{Row, Place, Stops, front_of, FitsHere}
+use Rattle.ixdtf.specs.Rows.{Row, Place, Stops, front_of, FitsHere, Fits}
 use Rattle.ixdtf.specs.Rows.Place.{end, other, bad, anywhere}
 use Rattle.ixdtf.specs.ReadingLooks.{Read, Look, ◌>>=◌, row_of, look_of, look_at, next_by, letter_at, digits_by, digits_at, peek_by, on_next, digit_run}
 
@@ -25,6 +25,11 @@ OnRead fault (Ok x) found stopped = found x.0 x.1
 OnRead fault (Err e) found stopped = (row : Row) × (e ≡ fault row) × stopped row
 
 -- ---- from reading to reading
+
+-- a reading after a reading after a reading
+pub in_turn : {E A B C : Type 0} (r : Read E A) (f : A × Text → Read E B) (g : B × Text → Read E C) → ((r >>= f) >>= g) ≡ (r >>= λ x. f x >>= g)
+in_turn (Ok x) f g = refl
+in_turn (Err e) f g = refl
 
 -- from a reading to the reading after it
 pub then_read : {E A B : Type 0} (fault : Row → E) (r : Read E A) (f : A × Text → Read E B) (found : A → Text → Type 0) (stopped : Row → Type 0) (found' : B → Text → Type 0) (stopped' : Row → Type 0) → OnRead fault r found stopped → ((x : A) (rest : Text) → found x rest → OnRead fault (f (x, rest)) found' stopped') → ((row : Row) → stopped row → stopped' row) → OnRead fault (r >>= f) found' stopped'
@@ -94,6 +99,10 @@ FitsIn {L} part reader row text = (l : L) × (row.name ≡ part l) × FitsHere r
 pub fits_in : {L : Type 0} (part : L → LineName) (reader : Reader) (l : L) (row : Row) (text front rest : Text) → row.name ≡ part l → text ≡ front ++ rest → front_of (table reader (part l)) front → Stops (table reader (part l)) row.place row.error rest → FitsIn part reader row text
 fits_in part reader l row text front rest is split shape stops =
     (l, is, subst (λ (n : LineName). (f x : Text) × (text ≡ f ++ x) × front_of (table reader n) f × Stops (table reader n) row.place row.error x) (sym is) (front, rest, split, shape, stops))
+
+-- the row fits the text, where it fits what stands after the parts before it
+pub lift : {L : Type 0} (part : L → LineName) (reader : Reader) (row : Row) (text prior body : Text) → text ≡ prior ++ body → ((l : L) → Before reader (part l) prior body) → FitsIn part reader row body → Fits reader row text
+lift part reader row text prior body is at h = (prior, body, is, subst (λ n. Before reader n prior body) (sym h.1) (at h.0), h.2)
 
 -- the row of a whole line
 pub fits_whole_in : {E L : Type 0} (fault : Row → E) (part : L → LineName) (reader : Reader) (l : L) (e : Fault) (text front rest : Text) → text ≡ front ++ rest → front_of (table reader (part l)) front → Stops (table reader (part l)) anywhere e rest → Stopped fault (fault (row_of (part l) anywhere e)) (λ row. FitsIn part reader row text)

@@ -1,18 +1,23 @@
 -- The errors that no line of the fault table has.
-use Rattle.std.proofs.Common.{◌≡◌, ℕ, Bool, true, false, cond, IsFalse, refl, sym, ap, ◌∙◌}
+use Rattle.std.proofs.Common.{◌≡◌, ℕ, Bool, true, false, ◌||◌, cond, IsFalse, refl, sym, ap, ◌∙◌}
 use Rattle.ixdtf.specs.Letters.{Text}
-use Rattle.ixdtf.specs.Classes.{hyphen, colon, digit}
+use Rattle.ixdtf.specs.Classes.{hyphen, colon, digit, closing}
+use Rattle.ixdtf.specs.declared.parsers.time.Clock.{Clock}
+use Rattle.ixdtf.specs.declared.parsers.time.Clock.TheVariants as clocks
 use Rattle.ixdtf.specs.Faults.{Fault, never_comes}
-use Rattle.ixdtf.specs.Faults.Fault.{DateSeparator, DateDay, TimeSeparator, InvalidEnd}
-use Rattle.ixdtf.specs.Readers.{Reader, DateLine, TimeLine, LineName}
-use Rattle.ixdtf.specs.Readers.Reader.{parse}
+use Rattle.ixdtf.specs.Faults.Fault.{DateSeparator, DateDay, InvalidEnd, IanaChar}
+use Rattle.ixdtf.specs.Readers.{Reader, LineName}
+use Rattle.ixdtf.specs.Readers.Reader.{parse, parse_offset, parse_identifier, parse_iana_identifier}
 use Rattle.ixdtf.specs.Readers.DateLine.{year_start, year_digits, extended_year_digits, minus_zero_year, after_year, month_digits, month_range, after_hyphened_month, after_plain_month, day_digits, day_range, after_date}
-use Rattle.ixdtf.specs.Readers.TimeLine.{hour_start, hour_digit, hour_range, after_hour, minute_digits, minute_range, after_plain_minute, after_colon_minute, second_digits, second_range, after_second, fraction_start, after_fraction}
-use Rattle.ixdtf.specs.Readers.LineName.{of_date, of_time}
-use Rattle.ixdtf.specs.FaultTable.{Line, Ending, table}
+use Rattle.ixdtf.specs.Readers.ClockLine.{hour_start, hour_digit, hour_range, after_hour, minute_digits, minute_range, after_plain_minute, after_colon_minute, second_digits, second_range, after_second, fraction_start, after_fraction}
+use Rattle.ixdtf.specs.Readers.OffsetLine.{offset_start, after_zulu}
+use Rattle.ixdtf.specs.Readers.ZoneLine.{identifier_start, zone_name_start, in_zone_name, after_zone_slash}
+use Rattle.ixdtf.specs.Readers.BracketLine.{first_bracket_start, first_critical_start, first_bracket_scan, first_bracket_pair, after_bracket}
+use Rattle.ixdtf.specs.Readers.LineName.{of_date, of_clock, of_offset, of_zone, of_bracket}
+use Rattle.ixdtf.specs.FaultTable.{Line, Ending, Follow, follow_of, mixed, second_fault, zone_line, table}
 use Rattle.ixdtf.specs.FaultTable.Line.{line, whole}
 use Rattle.ixdtf.specs.FaultTable.Ending.{ok, error}
-use Rattle.ixdtf.specs.Rows.{Row, Place, Stops, Fits}
+use Rattle.ixdtf.specs.Rows.{Place, Stops}
 use Rattle.ixdtf.specs.Rows.Place.{end, other, bad, anywhere}
 use Rattle.ixdtf.specs.Languages.{HasFault}
 
@@ -29,6 +34,34 @@ either_comes : (b : Bool) (x y : Fault) → IsFalse (never_comes x) → IsFalse 
 either_comes true x y p q = p
 either_comes false x y p q = q
 
+-- each error of what may follow is one that comes
+abbrev FollowComes : Follow → Type 0
+FollowComes follow = EndComes follow.at_end × IsFalse (never_comes follow.at_other)
+
+follow_comes : (reader : Reader) (clock : Clock) → FollowComes (follow_of reader clock)
+follow_comes parse clocks.Time = (tt, refl)
+follow_comes parse clocks.Offset = (tt, refl)
+follow_comes parse clocks.MinuteOffset = (refl, refl)
+follow_comes parse_offset clock = (tt, refl)
+follow_comes parse_identifier clock = (tt, refl)
+follow_comes parse_iana_identifier clock = (tt, refl)
+
+mixed_comes : (clock : Clock) → IsFalse (never_comes (mixed clock))
+mixed_comes clocks.Time = refl
+mixed_comes clocks.Offset = refl
+mixed_comes clocks.MinuteOffset = refl
+
+second_comes : (clock : Clock) → IsFalse (never_comes (second_fault clock))
+second_comes clocks.Time = refl
+second_comes clocks.Offset = refl
+second_comes clocks.MinuteOffset = refl
+
+zone_comes : (reader : Reader) → LineComes (zone_line reader in_zone_name)
+zone_comes parse = (refl, λ c. refl)
+zone_comes parse_offset = (tt, λ c. either_comes (closing c) InvalidEnd IanaChar refl refl)
+zone_comes parse_identifier = (tt, λ c. either_comes (closing c) InvalidEnd IanaChar refl refl)
+zone_comes parse_iana_identifier = (tt, λ c. either_comes (closing c) InvalidEnd IanaChar refl refl)
+
 line_comes : (reader : Reader) (name : LineName) → LineComes (table reader name)
 line_comes reader (of_date year_start) = (refl, λ c. refl)
 line_comes reader (of_date year_digits) = (refl, λ c. refl)
@@ -42,19 +75,30 @@ line_comes reader (of_date after_plain_month) = (refl, λ c. either_comes (hyphe
 line_comes reader (of_date day_digits) = (refl, λ c. refl)
 line_comes reader (of_date day_range) = refl
 line_comes reader (of_date after_date) = (tt, λ c. refl)
-line_comes reader (of_time hour_start) = (refl, λ c. refl)
-line_comes reader (of_time hour_digit) = (refl, λ c. refl)
-line_comes reader (of_time hour_range) = refl
-line_comes reader (of_time after_hour) = (tt, λ c. refl)
-line_comes reader (of_time minute_digits) = (refl, λ c. refl)
-line_comes reader (of_time minute_range) = refl
-line_comes reader (of_time after_plain_minute) = (tt, λ c. either_comes (colon c) TimeSeparator InvalidEnd refl refl)
-line_comes reader (of_time after_colon_minute) = (tt, λ c. either_comes (digit c) TimeSeparator InvalidEnd refl refl)
-line_comes reader (of_time second_digits) = (refl, λ c. refl)
-line_comes reader (of_time second_range) = refl
-line_comes reader (of_time after_second) = (tt, λ c. refl)
-line_comes reader (of_time fraction_start) = (refl, λ c. refl)
-line_comes reader (of_time after_fraction) = (tt, λ c. refl)
+line_comes reader (of_clock clock hour_start) = (refl, λ c. refl)
+line_comes reader (of_clock clock hour_digit) = (refl, λ c. refl)
+line_comes reader (of_clock clock hour_range) = refl
+line_comes reader (of_clock clock after_hour) = let f = follow_comes reader clock in (f.0, λ c. f.1)
+line_comes reader (of_clock clock minute_digits) = (refl, λ c. refl)
+line_comes reader (of_clock clock minute_range) = refl
+line_comes reader (of_clock clock after_plain_minute) = let f = follow_comes reader clock in (f.0, λ c. either_comes (colon c || digit c) (mixed clock) (follow_of reader clock).at_other (mixed_comes clock) f.1)
+line_comes reader (of_clock clock after_colon_minute) = let f = follow_comes reader clock in (f.0, λ c. either_comes (colon c || digit c) (mixed clock) (follow_of reader clock).at_other (mixed_comes clock) f.1)
+line_comes reader (of_clock clock second_digits) = (refl, λ c. second_comes clock)
+line_comes reader (of_clock clock second_range) = second_comes clock
+line_comes reader (of_clock clock after_second) = let f = follow_comes reader clock in (f.0, λ c. f.1)
+line_comes reader (of_clock clock fraction_start) = (refl, λ c. refl)
+line_comes reader (of_clock clock after_fraction) = let f = follow_comes reader clock in (f.0, λ c. f.1)
+line_comes reader (of_offset offset_start) = (refl, λ c. refl)
+line_comes reader (of_offset after_zulu) = (tt, λ c. refl)
+line_comes reader (of_zone identifier_start) = (refl, λ c. refl)
+line_comes reader (of_zone zone_name_start) = (refl, λ c. refl)
+line_comes reader (of_zone in_zone_name) = zone_comes reader
+line_comes reader (of_zone after_zone_slash) = (refl, λ c. refl)
+line_comes reader (of_bracket first_bracket_start) = (refl, λ c. refl)
+line_comes reader (of_bracket first_critical_start) = (refl, λ c. refl)
+line_comes reader (of_bracket first_bracket_scan) = (refl, λ c. refl)
+line_comes reader (of_bracket first_bracket_pair) = refl
+line_comes reader (of_bracket after_bracket) = (tt, λ c. refl)
 
 end_comes : (at_end : Ending) (fault : Fault) → EndComes at_end → at_end ≡ error fault → IsFalse (never_comes fault)
 end_comes ok fault comes is = absurd cc

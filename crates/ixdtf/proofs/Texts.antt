@@ -1,9 +1,8 @@
 -- The letters of a text and the units of a text.
-use Rattle.std.proofs.Common.{◌≡◌, ℕ, List, [], ◌∷◌, map, Option, Some, Result, refl, sym, ap, ◌∙◌, slice_get}
+use Rattle.std.proofs.Common.{◌≡◌, ℕ, List, [], ◌∷◌, map, Some, refl}
 use Rattle.std.proofs.lemmas.Option.{slice_get-map}
 use Rattle.ixdtf.specs.Letters.{Letter}
 use Rattle.ixdtf.specs.Letters.Letter.{Plain, Bad}
-use Rattle.ixdtf.specs.Faults.{Fault}
 use Rattle.ixdtf.specs.Faults.Fault.{NonAsciiCodePoint}
 use Rattle.ixdtf.specs.Answers.{ascii_at, looked}
 use Rattle.ixdtf.specs.ReadingLooks.{look_at}

@@ -1,75 +1,96 @@
 -- What reading a whole text answers is derived, or is a row that fits.
-use Rattle.std.proofs.Common.{◌≡◌, ℕ, [], ◌∷◌, ◌++◌, Option, Some, None, refl, sym, ◌∙◌, subst, inl, inr, append-nil}
-use Rattle.std.proofs.lemmas.Bool.{true≢false}
-use Rattle.ixdtf.specs.declared.records.DateRecord.{DateRecord}
-use Rattle.ixdtf.specs.declared.records.TimeRecord.{TimeRecord}
+use Rattle.std.proofs.Common.{◌≡◌, ℕ, [], ◌∷◌, ◌++◌, Ok, Err, Option, Some, None, refl, ◌∙◌, sym, append_assoc, append-nil}
+use Rattle.std.proofs.lemmas.Bool.{eqb-true, true≢false}
+use Rattle.ixdtf.specs.declared.parsers.time.Clock.TheVariants as clocks
 use Rattle.ixdtf.specs.Letters.{Text}
 use Rattle.ixdtf.specs.Letters.Letter.{Plain}
-use Rattle.ixdtf.specs.Classes.{date_time_separator}
+use Rattle.ixdtf.specs.Classes.{none, opening}
 use Rattle.ixdtf.specs.Shapes.{some}
 use Rattle.ixdtf.specs.Faults.Fault.{InvalidEnd}
-use Rattle.ixdtf.specs.Dates.{IsDate}
-use Rattle.ixdtf.specs.Times.{TimeShape, IsTime}
+use Rattle.ixdtf.specs.Brackets.{ZoneNote, IsZoneBracket}
+use Rattle.ixdtf.specs.Cores.{Core, IsDateTimeCore}
 use Rattle.ixdtf.specs.Readers.{Reader, LineName}
-use Rattle.ixdtf.specs.Readers.Reader.{parse}
-use Rattle.ixdtf.specs.Readers.LineName.{of_date, of_time}
-use Rattle.ixdtf.specs.Readers.DateLine.{after_date}
-use Rattle.ixdtf.specs.FaultTable.{follow_of, always, Before, DateAndSeparator}
+use Rattle.ixdtf.specs.Readers.Reader.{parse, parse_offset, parse_identifier, parse_iana_identifier}
+use Rattle.ixdtf.specs.Readers.LineName.{of_date, of_clock, of_offset, of_zone, of_bracket}
+use Rattle.ixdtf.specs.Readers.ZoneLine.{identifier_start, zone_name_start, in_zone_name, after_zone_slash}
+use Rattle.ixdtf.specs.Readers.BracketLine.{first_bracket_start, first_critical_start, first_bracket_scan, first_bracket_pair, after_bracket}
+use Rattle.ixdtf.specs.FaultTable.{always, Before}
 use Rattle.ixdtf.specs.Rows.{Row, Fits}
-use Rattle.ixdtf.specs.Languages.{Parsed, dated, Derives}
-use Rattle.ixdtf.specs.ReadingLooks.{look_at_line, peek_by}
-use Rattle.ixdtf.specs.ReadingDates.{date_at}
-use Rattle.ixdtf.specs.ReadingTimes.{time_at}
-use Rattle.ixdtf.specs.Reading.{follow_look, after_time_at, after_date_at, parse_at, read_at}
-use Rattle.ixdtf.proofs.LookLemmas.{OnRead, FitsIn, fits_in, Peeked, peek_read, peek_line_read, then_read, read_weaker, further}
-use Rattle.ixdtf.proofs.DateReads.{DateFront, date_read}
-use Rattle.ixdtf.proofs.TimeReads.{TimeFront, open_bad, open_other, time_read}
+use Rattle.ixdtf.specs.Languages.{Parsed, parsed_with, IsDateTime, Found, Derives}
+use Rattle.ixdtf.specs.Languages.Found.{parsed, shifted, identified, named}
+use Rattle.ixdtf.specs.ReadingLooks.{Read, look_at_line, peek_by}
+use Rattle.ixdtf.specs.ReadingZones.{offset_at, identifier_at, iana_identifier_at}
+use Rattle.ixdtf.specs.ReadingBrackets.{bracket_at}
+use Rattle.ixdtf.specs.Reading.{core_look, core_at, zoned_at, after_core_at, parse_at, finding, read_at}
+use Rattle.ixdtf.proofs.LookLemmas.{OnRead, Peeked, peek_read, peek_line_read, then_read}
+use Rattle.ixdtf.proofs.CoreReads.{core_read}
+use Rattle.ixdtf.proofs.BracketReads.{InBracket, FitsAfterCore, bracket_read}
+use Rattle.ixdtf.proofs.ZoneReaders.{offset_read, identifier_read, iana_identifier_read}
 
--- the row fits the text, where it fits what stands after the parts before it
-pub lift : {L : Type 0} (part : L → LineName) (reader : Reader) (row : Row) (text prior body : Text) → text ≡ prior ++ body → ((l : L) → Before reader (part l) prior) → FitsIn part reader row body → Fits reader row text
-lift part reader row text prior body is at h = (prior, body, is, subst (λ n. Before reader n prior) (sym h.1) (at h.0), h.2)
+-- what stands before a bracket's line, where a core stands before it
+in_parse : (name : LineName) (cores prior rest : Text) → some IsDateTimeCore cores → InBracket name prior rest → Before parse name (cores ++ prior) rest
+in_parse (of_date name) cores prior rest core b = absurd b
+in_parse (of_clock clocks.Time name) cores prior rest core b = absurd b
+in_parse (of_clock clocks.Offset name) cores prior rest core b = absurd b
+in_parse (of_clock clocks.MinuteOffset name) cores prior rest core b = (cores ++ b.0, b.1, rw b.2 (simp append_assoc), (cores, b.0, refl, core, b.3), b.4)
+in_parse (of_offset name) cores prior rest core b = absurd b
+in_parse (of_zone identifier_start) cores prior rest core b = absurd b
+in_parse (of_zone zone_name_start) cores prior rest core b = absurd b
+in_parse (of_zone in_zone_name) cores prior rest core b = ((cores, prior, refl, core, b.0), b.1)
+in_parse (of_zone after_zone_slash) cores prior rest core b = ((cores, prior, refl, core, b.0), b.1)
+in_parse (of_bracket first_bracket_start) cores prior rest core b = rw (b, append-nil) core
+in_parse (of_bracket first_critical_start) cores prior rest core b = rw (b, append-nil) core
+in_parse (of_bracket first_bracket_scan) cores prior rest core b = (cores, prior, refl, core, b)
+in_parse (of_bracket first_bracket_pair) cores prior rest core b = (cores, prior, refl, core, b)
+in_parse (of_bracket after_bracket) cores prior rest core b = rw (b, append-nil) core
 
--- the text was a time to its end, and the record has it
-abbrev Ended : DateRecord → TimeRecord → Text → Parsed → Text → Type 0
-Ended date time body parsed rest = (rest ≡ []) × IsTime body time × (parsed ≡ dated date (Some time))
+-- the row fits the text, where it fits what stands after the core
+after_core : (row : Row) (text cores body : Text) → text ≡ cores ++ body → some IsDateTimeCore cores → FitsAfterCore row body → Fits parse row text
+after_core row text cores body is core f = (cores ++ f.0, f.1, is ∙ rw f.2 (simp append_assoc), in_parse row.name cores f.0 f.1 core f.3, f.4)
 
 module _ {E : Type 0} (fault : Row → E) where
-  after_time_read : (date : DateRecord) (body : Text) (shape : TimeShape) (time : TimeRecord) (rest : Text) → TimeFront body (shape, time) rest → OnRead fault (after_time_at fault date ((shape, time), rest)) (Ended date time body) (λ row. FitsIn of_time parse row body)
-  unfolding after_time_at
-  after_time_read date body shape time rest h = then_read fault (peek_by (follow_look fault parse shape) rest) _ _ _ _ _
-      (peek_read (follow_look fault parse shape) fault rest (λ row. FitsIn of_time parse row body)
-      (λ c more next out. open_other fault parse body h.0 rest h.1 shape time c more h.2 next out (rw next at h.3))
-      (λ more next. open_bad fault parse body h.0 rest h.1 shape time more h.2 next))
-      (λ next left g. at_next next left g)
-      (λ r f. f)
-    where
-      at_next : (next : Option ℕ) (left : Text) → Peeked (follow_of parse) rest next left → Ended date time body (dated date (Some time)) left
-      at_next None left g = (g.1, (shape, rw (h.1, g.0, append-nil) h.2), refl)
-      at_next (Some c) left g = absurd (true≢false (sym g.1))
+  abbrev ReadsParse : Text → Read E Parsed → Type 0
+  ReadsParse text r = OnRead fault r (λ found rest. (rest ≡ []) × IsDateTime text found) (λ row. Fits parse row text)
 
-  parse_read : (text : Text) → OnRead fault (parse_at fault text) (λ parsed rest. (rest ≡ []) × Derives parse text parsed) (λ row. Fits parse row text)
+  -- after a core and `[`
+  zoned_read : (text cores inner : Text) (core : Core) → text ≡ cores ++ (Plain 91 ∷ inner) → IsDateTimeCore cores core → ReadsParse text (zoned_at fault core inner)
+  unfolding zoned_at
+  zoned_read text cores inner core is is_core = then_read fault (bracket_at fault inner) _ _ _ _ _ (bracket_read fault (Plain 91 ∷ inner) inner refl)
+      (λ note rest h. then_read fault (peek_by (look_at_line fault (of_bracket after_bracket)) rest) _ _ _ _ _
+      (peek_line_read fault (of_bracket after_bracket) (some IsZoneBracket) none (always InvalidEnd) rest)
+      (λ next left g. at_next note rest h next left g)
+      (λ row g. after_core row text cores (Plain 91 ∷ inner) is (core, is_core) ([], Plain 91 ∷ inner, refl, rw g.0 refl, (h.0, rest, h.1, rw g.0 (note, h.2), rw g.0 g.1))))
+      (λ row f. after_core row text cores (Plain 91 ∷ inner) is (core, is_core) f)
+    where
+      at_next : (note : ZoneNote) (rest : Text) (h : (front : Text) × (Plain 91 ∷ inner ≡ front ++ rest) × IsZoneBracket front note) (next : Option ℕ) (left : Text) → Peeked none rest next left → (left ≡ []) × IsDateTime text (parsed_with core (Some note))
+      at_next note rest h None left g = (g.1, record { cores = cores; brackets = h.0; core = core; zone = Some note; is = is ∙ rw (h.1, g.0, append-nil) refl; is_core = is_core; is_zone = h.2; has = refl })
+      at_next note rest h (Some c) left g = absurd (true≢false (sym g.1))
+
+  parse_read : (text : Text) → ReadsParse text (parse_at fault text)
   unfolding parse_at
-  parse_read text = then_read fault (date_at fault text) _ _ _ _ _ (date_read fault parse text)
-      (λ date rest h. then_read fault (peek_by (look_at_line fault (of_date after_date)) rest) _ _ _ _ _
-      (peek_line_read fault (of_date after_date) (some IsDate) date_time_separator (always InvalidEnd) rest)
-      (λ next more g. at_next date rest h next more g)
-      (λ r g. of_dates r (fits_in of_date parse after_date r text h.0 rest g.0 h.1 (date, h.2) g.1)))
-      (λ r h. of_dates r h)
+  parse_read text = then_read fault (core_at fault text) _ _ _ _ _ (core_read fault text)
+      (λ x rest h. then_read fault (peek_by (core_look fault x.0) rest) _ _ _ _ _
+      (peek_read (core_look fault x.0) fault rest (λ row. Fits parse row text)
+      (λ c more next out. (_, refl, h.3.at_other c more next out))
+      (λ more next. (_, refl, h.3.at_bad more next)))
+      (λ next left g. at_next x.1 h.0 rest h.1 h.2 next left g)
+      (λ row f. f))
+      (λ row f. f)
     where
-      of_dates : (row : Row) → FitsIn of_date parse row text → Fits parse row text
-      of_dates row f = lift of_date parse row text [] text refl (λ l. refl) f
+      at_next : (core : Core) (cores rest : Text) → text ≡ cores ++ rest → IsDateTimeCore cores core → (next : Option ℕ) (left : Text) → Peeked opening rest next left → ReadsParse text (after_core_at fault core (next, left))
+      at_next core cores rest is is_core None left g = (g.1, record { cores = cores; brackets = []; core = core; zone = None; is = is ∙ rw g.0 refl; is_core = is_core; is_zone = refl; has = refl })
+      at_next core cores rest is is_core (Some c) left g = zoned_read text cores left core (is ∙ rw (g.0, eqb-true c 91 g.1) refl) is_core
 
-      at_next : (date : DateRecord) (rest : Text) → DateFront text date rest → (next : Option ℕ) (more : Text) → Peeked date_time_separator rest next more → OnRead fault (after_date_at fault date (next, more)) (λ parsed left. (left ≡ []) × Derives parse text parsed) (λ row. Fits parse row text)
-      at_next date rest h None more g = (g.1, inl (date, rw (h.1, g.0, append-nil) h.2, refl))
-      at_next date rest h (Some c) more g =
-          let is : text ≡ (h.0 ++ (Plain c ∷ [])) ++ more = further text h.0 rest (Plain c ∷ []) more h.1 g.0 in
-          let stands : DateAndSeparator (h.0 ++ (Plain c ∷ [])) = (h.0, Plain c ∷ [], refl, (date, h.2), (c, refl, g.1)) in
-          then_read fault (time_at fault more) _ _ _ _ _ (time_read fault parse more)
-          (λ x left f. read_weaker fault (after_time_at fault date (x, left)) _ _ _ _ (after_time_read date more x.0 x.1 left f)
-          (λ parsed last e. (e.0, inr (record { dates = h.0; separator = Plain c ∷ []; times = more; date = date; time = x.1; is = h.1 ∙ rw g.0 refl; is_date = h.2; separates = (c, refl, g.1); is_time = e.1; has = e.2 })))
-          (λ r f. lift of_time parse r text (h.0 ++ (Plain c ∷ [])) more is (λ l. stands) f))
-          (λ r f. lift of_time parse r text (h.0 ++ (Plain c ∷ [])) more is (λ l. stands) f)
+  abbrev ReadsWhole : Reader → Text → Read E Found → Type 0
+  ReadsWhole reader text r = OnRead fault r (λ found rest. (rest ≡ []) × Derives reader text found) (λ row. Fits reader row text)
+
+  found_read : {A : Type 0} (reader : Reader) (text : Text) (found : A → Found) (r : Read E A) (language : A → Type 0) → OnRead fault r (λ x rest. (rest ≡ []) × language x) (λ row. Fits reader row text) → ((x : A) → language x → Derives reader text (found x)) → ReadsWhole reader text (finding found r)
+  found_read reader text found (Ok x) language h derives = (h.0, derives x.0 h.1)
+  found_read reader text found (Err e) language h derives = h
 
   -- What reading answers is derived and nothing is left, or is the fault of a row that fits.
-  pub whole_read : (reader : Reader) (text : Text) → OnRead fault (read_at fault reader text) (λ parsed more. (more ≡ []) × Derives reader text parsed) (λ row. Fits reader row text)
-  whole_read parse text = parse_read text
+  pub whole_read : (reader : Reader) (text : Text) → ReadsWhole reader text (read_at fault reader text)
+  whole_read parse text = found_read parse text parsed (parse_at fault text) _ (parse_read text) (λ x d. d)
+  whole_read parse_offset text = found_read parse_offset text shifted (offset_at fault text) _ (offset_read fault text) (λ x d. d)
+  whole_read parse_identifier text = found_read parse_identifier text identified (identifier_at fault text) _ (identifier_read fault text) (λ x d. d)
+  whole_read parse_iana_identifier text = found_read parse_iana_identifier text named (iana_identifier_at fault text) _ (iana_identifier_read fault text) (λ x d. d)

@@ -1,24 +1,18 @@
 -- What the code answers, beside the definitions.
-use Rattle.std.specs.Prelude.{◌≡◌, ℕ, Bool, IsTrue, IsFalse, ◌+◌, ◌*◌, ◌≤◌, List, ◌∷◌, map, length, Option, Some, None, option_map, slice_get, Result, Ok, Err}
+use Rattle.std.specs.Prelude.{◌≡◌, ℕ, Bool, IsTrue, IsFalse, ◌+◌, ◌*◌, ◌≤◌, List, map, length, Option, Some, None, option_map, slice_get, Result, Ok, Err}
 use Rattle.ixdtf.specs.declared.error.ParseError.{ParseError}
 use Rattle.ixdtf.specs.declared.records.TimeZoneRecord.{TimeZoneRecord}
 use Rattle.ixdtf.specs.declared.records.TimeZoneRecord.TheVariants as zones
 use Rattle.ixdtf.specs.declared.records.TimeZoneAnnotation.{TimeZoneAnnotation}
 use Rattle.ixdtf.specs.declared.records.IxdtfParseRecord.{IxdtfParseRecord}
-use Rattle.ixdtf.specs.declared.records.DateRecord.{DateRecord}
-use Rattle.ixdtf.specs.declared.records.TimeRecord.{TimeRecord}
 use Rattle.ixdtf.specs.Letters.{Letter, Text}
 use Rattle.ixdtf.specs.Letters.Letter.{Plain, Bad}
 use Rattle.ixdtf.specs.Faults.{Fault, fault_of}
-use Rattle.ixdtf.specs.Classes.{none}
-use Rattle.ixdtf.specs.Faults.Fault.{NonAsciiCodePoint, InvalidEnd}
-use Rattle.ixdtf.specs.FaultTable.{always}
-use Rattle.ixdtf.specs.Languages.{Zone, ZoneNote, Parsed}
-use Rattle.ixdtf.specs.Languages.Zone.{Name, Offset}
-use Rattle.ixdtf.specs.Fractions.{FractionParts, fraction_of}
-use Rattle.ixdtf.specs.ReadingLooks.{Read, Look, ◌>>=◌, digit_run, error_of}
-use Rattle.ixdtf.specs.ReadingTimes.{OpenTime, time_at}
-use Rattle.ixdtf.specs.Reading.{after_time_at}
+use Rattle.ixdtf.specs.Faults.Fault.{NonAsciiCodePoint}
+use Rattle.ixdtf.specs.ZoneNames.{Zone}
+use Rattle.ixdtf.specs.Brackets.{ZoneNote}
+use Rattle.ixdtf.specs.Languages.{Parsed}
+use Rattle.ixdtf.specs.ZoneNames.Zone.{Name, Offset}
 
 -- what a parser is to its callers: the numbers of the units still to be read, and how many looks were made
 pub record Unread : Type 0 where
@@ -76,24 +70,7 @@ most_looks rest = 4 * length rest + 64
 abbrev pub Spends : ℕ → Unread → Unread → Type 0
 Spends more old new = new.looks + length new.rest ≤ old.looks + length old.rest + more
 
--- the time that was read, without its shape
-abbrev pub shapeless : {E : Type 0} → Read E OpenTime → Read E TimeRecord
-shapeless (Ok x) = Ok (x.0.1, x.1)
-shapeless (Err e) = Err e
-
--- the other digits of a fraction, and the fraction
-abbrev pub more_digits_at : ℕ → Text → Read Fault FractionParts
-more_digits_at first text = digit_run NonAsciiCodePoint text >>= λ more. Ok (fraction_of (Plain first ∷ more.0), more.1)
-
--- the look for the end of the text
-abbrev pub end_look : Look Fault
-end_look = record { goes_on = none; at_end = None; at_other = always InvalidEnd; at_bad = NonAsciiCodePoint }
-
 -- a test held of a number that was handed back, or else the error came
 abbrev pub Checks : {X Y : Type 0} → (X → Y) → Result X ParseError → Y → Bool → Fault → Type 0
 Checks view (Ok x) wanted test fault = (view x ≡ wanted) × IsTrue test
 Checks view (Err e) wanted test fault = (fault_of e ≡ fault) × IsFalse test
-
--- the time after a date and a separator, and the end
-abbrev pub timed_at : DateRecord → Text → Read Fault Parsed
-timed_at date text = time_at error_of text >>= after_time_at error_of date

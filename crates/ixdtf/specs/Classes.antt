@@ -1,5 +1,5 @@
 -- Classes of letters (RFC 3339 section 5.6, ISO 8601). A class holds of the number of a letter, so Bad is in none.
-use Rattle.std.specs.Prelude.{ℕ, Bool, false, nat_eq, nat_le, ◌&&◌, ◌||◌}
+use Rattle.std.specs.Prelude.{ℕ, Bool, true, false, nat_eq, nat_le, ◌&&◌, ◌||◌}
 
 abbrev pub Class : Type 0
 Class = ℕ → Bool
@@ -11,6 +11,10 @@ abbrev pub ◌or◌ : Class → Class → Class
 -- no letter
 abbrev pub none : Class
 none c = false
+
+-- any letter
+abbrev pub any : Class
+any c = true
 
 -- `0` to `9`
 abbrev pub digit : Class
@@ -39,3 +43,51 @@ decimal_mark c = nat_eq c 46 || nat_eq c 44
 -- `T`, `t` or a space
 abbrev pub date_time_separator : Class
 date_time_separator c = nat_eq c 84 || nat_eq c 116 || nat_eq c 32
+
+-- `Z` or `z`
+abbrev pub zulu : Class
+zulu c = nat_eq c 90 || nat_eq c 122
+
+-- `[`
+abbrev pub opening : Class
+opening c = nat_eq c 91
+
+-- `]`
+abbrev pub closing : Class
+closing c = nat_eq c 93
+
+-- `!`
+abbrev pub exclamation : Class
+exclamation c = nat_eq c 33
+
+-- `=`
+abbrev pub equals : Class
+equals c = nat_eq c 61
+
+-- `/`
+abbrev pub slash : Class
+slash c = nat_eq c 47
+
+-- `A` to `Z`
+abbrev pub upper : Class
+upper c = nat_le 65 c && nat_le c 90
+
+-- `a` to `z`
+abbrev pub lower : Class
+lower c = nat_le 97 c && nat_le c 122
+
+-- `_`
+abbrev pub underscore : Class
+underscore c = nat_eq c 95
+
+-- what a zone name begins with (`time-zone-initial` of RFC 9557 section 4.1)
+abbrev pub zone_lead : Class
+zone_lead c = upper c || lower c || underscore c || nat_eq c 46
+
+-- what goes on in a zone name (`time-zone-char`)
+abbrev pub zone_char : Class
+zone_char = zone_lead or digit or sign
+
+-- what a key begins with (`key-initial`)
+abbrev pub key_lead : Class
+key_lead = lower or underscore

@@ -1,20 +1,28 @@
 -- The fault table, line by line.
-use Rattle.std.specs.Prelude.{◌≡◌, ◌⊎◌, ℕ, ◌<◌, List, codes, if◌then◌else◌}
+use Rattle.std.specs.Prelude.{◌≡◌, ◌⊎◌, IsTrue, ℕ, ◌<◌, ◌&&◌, ◌||◌, codes, if◌then◌else◌}
+use Rattle.ixdtf.specs.declared.parsers.time.Clock.{Clock}
+use Rattle.ixdtf.specs.declared.parsers.time.Clock.TheVariants.{Time, Offset, MinuteOffset}
 use Rattle.ixdtf.specs.declared.records.DateRecord.{DateRecord}
 use Rattle.ixdtf.specs.Letters.{Text}
-use Rattle.ixdtf.specs.Classes.{Class, ◌or◌, none, digit, sign, hyphen, colon, decimal_mark, date_time_separator}
-use Rattle.ixdtf.specs.Shapes.{Shape, nothing, one, ◌then◌, ◌either◌, digits, fewer_digits_than, some}
+use Rattle.ixdtf.specs.Classes.{Class, ◌or◌, none, any, digit, sign, hyphen, colon, decimal_mark, date_time_separator, zulu, opening, closing, exclamation, equals, slash, zone_lead, zone_char, key_lead}
+use Rattle.ixdtf.specs.Shapes.{Shape, nothing, one, ◌then◌, ◌either◌, digits, fewer_digits_than, some, many}
 use Rattle.ixdtf.specs.Digits.{decimal, UpTo}
 use Rattle.ixdtf.specs.Faults.{Fault}
-use Rattle.ixdtf.specs.Faults.Fault.{AbruptEnd, InvalidEnd, InvalidMonthRange, InvalidDayRange, DateYear, DateExtendedYear, DateMonth, DateDay, DateSeparator, TimeHour, TimeMinuteSecond, TimeSecond, TimeSeparator, FractionPart}
+use Rattle.ixdtf.specs.Faults.Fault.{AbruptEnd, InvalidEnd, InvalidMonthRange, InvalidDayRange, DateYear, DateExtendedYear, DateMonth, DateDay, DateSeparator, TimeHour, TimeMinuteSecond, TimeSecond, TimeSeparator, FractionPart, UtcTimeSeparator, InvalidMinutePrecisionOffset, OffsetNeedsSign, TzLeadingChar, IanaChar, IanaCharPostSeparator, AnnotationClose}
 use Rattle.ixdtf.specs.Dates.{Year, Month, DateShape, IsDayOfMonth, IsDate}
-use Rattle.ixdtf.specs.Times.{TimeOf, PlainMinuteText, ColonMinuteText}
+use Rattle.ixdtf.specs.Times.{ClockOf, PlainMinuteText, ColonMinuteText, IsTime, greatest_second, has_seconds}
 use Rattle.ixdtf.specs.Times.TimeShape.{hours, plain_minutes, colon_minutes, seconds, fractions}
-use Rattle.ixdtf.specs.Readers.{Reader, DateLine, TimeLine, LineName}
-use Rattle.ixdtf.specs.Readers.Reader.{parse}
+use Rattle.ixdtf.specs.ZoneNames.{ZoneName}
+use Rattle.ixdtf.specs.Cores.{IsDateTimeCore}
+use Rattle.ixdtf.specs.Brackets.{Opens, IsZoneBracket, passed, ReadsAsName}
+use Rattle.ixdtf.specs.Readers.{Reader, DateLine, ClockLine, OffsetLine, ZoneLine, BracketLine, LineName}
+use Rattle.ixdtf.specs.Readers.Reader.{parse, parse_offset, parse_identifier, parse_iana_identifier}
 use Rattle.ixdtf.specs.Readers.DateLine.{year_start, year_digits, extended_year_digits, minus_zero_year, after_year, month_digits, month_range, after_hyphened_month, after_plain_month, day_digits, day_range, after_date}
-use Rattle.ixdtf.specs.Readers.TimeLine.{hour_start, hour_digit, hour_range, after_hour, minute_digits, minute_range, after_plain_minute, after_colon_minute, second_digits, second_range, after_second, fraction_start, after_fraction}
-use Rattle.ixdtf.specs.Readers.LineName.{of_date, of_time}
+use Rattle.ixdtf.specs.Readers.ClockLine.{hour_start, hour_digit, hour_range, after_hour, minute_digits, minute_range, after_plain_minute, after_colon_minute, second_digits, second_range, after_second, fraction_start, after_fraction}
+use Rattle.ixdtf.specs.Readers.OffsetLine.{offset_start, after_zulu}
+use Rattle.ixdtf.specs.Readers.ZoneLine.{identifier_start, zone_name_start, in_zone_name, after_zone_slash}
+use Rattle.ixdtf.specs.Readers.BracketLine.{first_bracket_start, first_critical_start, first_bracket_scan, first_bracket_pair, after_bracket}
+use Rattle.ixdtf.specs.Readers.LineName.{of_date, of_clock, of_offset, of_zone, of_bracket}
 
 -- what the end of the text is after a front: no fault, or an error
 pub data Ending : Type 0 where
@@ -36,6 +44,15 @@ abrupt_digit = AbruptEnd (codes "digit")
 
 abbrev pub abrupt_date : Fault
 abrupt_date = AbruptEnd (codes "Date")
+
+abbrev pub abrupt_offset : Fault
+abrupt_offset = AbruptEnd (codes "time-numoffset")
+
+abbrev pub abrupt_zone : Fault
+abrupt_zone = AbruptEnd (codes "TimeZoneAnnotation")
+
+abbrev pub abrupt_bracket : Fault
+abrupt_bracket = AbruptEnd (codes "AmbiguousAnnotation")
 
 -- ---- shapes of fronts
 
@@ -72,11 +89,13 @@ Hour = UpTo 23
 abbrev pub ColonOrDigit : Shape
 ColonOrDigit = one colon either (one colon then one digit) either one digit
 
-abbrev pub SecondDigits : Shape
-SecondDigits = (some PlainMinuteText then one digit) either (some ColonMinuteText then one colon then fewer_digits_than 2)
+-- a minute, and fewer than two digits of a second, where seconds may be written
+abbrev pub SecondDigits : Clock → Shape
+SecondDigits clock text = IsTrue (has_seconds clock) × ((some PlainMinuteText then one digit) either (some ColonMinuteText then one colon then fewer_digits_than 2)) text
 
-abbrev pub SecondPast : Shape
-SecondPast = (some PlainMinuteText then Past 60) either (some ColonMinuteText then one colon then Past 60)
+abbrev pub SecondPast : Clock → Shape
+SecondPast clock text = IsTrue (has_seconds clock)
+    × ((some PlainMinuteText then Past (greatest_second clock)) either (some ColonMinuteText then one colon then Past (greatest_second clock))) text
 
 -- ---- dates
 
@@ -104,52 +123,185 @@ date_line day_digits = line (PlainDay either HyphenedDay) digit (error abrupt_di
 -- a date's shape, with a day that the month does not have
 date_line day_range = whole (some NoDayOfMonth) InvalidDayRange
 -- a date
-date_line after_date = line (some IsDate) date_time_separator ok (always InvalidEnd)
+date_line after_date = line (some IsDate) (date_time_separator or opening) ok (always InvalidEnd)
 
--- ---- times, where the letters of a class may follow
+-- ---- times, and offsets after their sign
 
-abbrev pub time_line : Class → TimeLine → Line
+-- what may follow a part: the letters, what the end is, and the error at another letter
+pub record Follow : Type 0 where
+  pub letters : Class
+  pub at_end : Ending
+  pub at_other : Fault
+
+-- letters of the class where seconds may be written, else none
+abbrev pub seconds_after : Clock → Class → Class
+seconds_after clock class c = has_seconds clock && class c
+
+-- the error at a colon or a digit that does not go on after a minute
+abbrev pub mixed : Clock → Fault
+mixed Time = TimeSeparator
+mixed Offset = UtcTimeSeparator
+mixed MinuteOffset = InvalidMinutePrecisionOffset
+
+-- the error at a second
+abbrev pub second_fault : Clock → Fault
+second_fault Time = TimeSecond
+second_fault Offset = TimeMinuteSecond
+second_fault MinuteOffset = TimeMinuteSecond
+
+-- the error at another letter after a minute
+abbrev pub after_minute : Follow → Clock → ℕ → Fault
+after_minute follow clock c = if colon c || digit c then mixed clock else follow.at_other
+
+abbrev pub clock_line : Follow → Clock → ClockLine → Line
 -- no digit of an hour yet
-time_line follow hour_start = line nothing digit (error abrupt_digit) (always TimeHour)
+clock_line follow clock hour_start = line nothing digit (error abrupt_digit) (always TimeHour)
 -- one digit of an hour
-time_line follow hour_digit = line (one digit) digit (error abrupt_digit) (always TimeHour)
+clock_line follow clock hour_digit = line (one digit) digit (error abrupt_digit) (always TimeHour)
 -- two digits that are no hour
-time_line follow hour_range = whole (Past 23) TimeHour
+clock_line follow clock hour_range = whole (Past 23) TimeHour
 -- an hour
-time_line follow after_hour = line (some (TimeOf hours)) (colon or digit or follow) ok (always InvalidEnd)
+clock_line follow clock after_hour = line (some (ClockOf clock hours)) (colon or digit or follow.letters) follow.at_end (always follow.at_other)
 -- an hour, and the beginning of a minute
-time_line follow minute_digits = line (some Hour then ColonOrDigit) digit (error abrupt_digit) (always TimeMinuteSecond)
+clock_line follow clock minute_digits = line (some Hour then ColonOrDigit) digit (error abrupt_digit) (always TimeMinuteSecond)
 -- two digits that are no minute
-time_line follow minute_range = whole (some Hour then (nothing either one colon) then Past 59) TimeMinuteSecond
+clock_line follow clock minute_range = whole (some Hour then (nothing either one colon) then Past 59) TimeMinuteSecond
 -- an hour and a minute
-time_line follow after_plain_minute = line (some (TimeOf plain_minutes)) (digit or follow) ok (λ c. if colon c then TimeSeparator else InvalidEnd)
+clock_line follow clock after_plain_minute = line (some (ClockOf clock plain_minutes)) (seconds_after clock digit or follow.letters) follow.at_end (after_minute follow clock)
 -- an hour, a colon and a minute
-time_line follow after_colon_minute = line (some (TimeOf colon_minutes)) (colon or follow) ok (λ c. if digit c then TimeSeparator else InvalidEnd)
+clock_line follow clock after_colon_minute = line (some (ClockOf clock colon_minutes)) (seconds_after clock colon or follow.letters) follow.at_end (after_minute follow clock)
 -- what stands before a second, and fewer than two digits of it
-time_line follow second_digits = line SecondDigits digit (error abrupt_digit) (always TimeSecond)
+clock_line follow clock second_digits = line (SecondDigits clock) digit (error abrupt_digit) (always (second_fault clock))
 -- two digits that are no second
-time_line follow second_range = whole SecondPast TimeSecond
--- a time with seconds
-time_line follow after_second = line (some (TimeOf seconds)) (decimal_mark or follow) ok (always InvalidEnd)
--- a time with seconds, and a decimal mark
-time_line follow fraction_start = line (some (TimeOf seconds) then one decimal_mark) digit (error FractionPart) (always FractionPart)
--- a time with a fraction
-time_line follow after_fraction = line (some (TimeOf fractions)) (digit or follow) ok (always InvalidEnd)
+clock_line follow clock second_range = whole (SecondPast clock) (second_fault clock)
+-- seconds, and no fraction
+clock_line follow clock after_second = line (some (ClockOf clock seconds)) (decimal_mark or follow.letters) follow.at_end (always follow.at_other)
+-- seconds, and a decimal mark
+clock_line follow clock fraction_start = line (some (ClockOf clock seconds) then one decimal_mark) digit (error FractionPart) (always FractionPart)
+-- a fraction
+clock_line follow clock after_fraction = line (some (ClockOf clock fractions)) (digit or follow.letters) follow.at_end (always follow.at_other)
+
+-- ---- the other lines of offsets
+
+abbrev pub offset_line : OffsetLine → Line
+-- no sign yet
+offset_line offset_start = line nothing sign (error abrupt_offset) (always OffsetNeedsSign)
+-- `Z` or `z`
+offset_line after_zulu = line (one zulu) opening ok (always InvalidEnd)
+
+-- ---- zone names
+
+-- what may follow a zone name in a bracket, and elsewhere
+abbrev pub zone_end : Reader → Ending
+zone_end parse = error AnnotationClose
+zone_end reader = ok
+
+abbrev pub zone_letters : Reader → Class
+zone_letters parse = zone_char or slash or closing
+zone_letters reader = zone_char or slash
+
+abbrev pub zone_other : Reader → ℕ → Fault
+zone_other parse c = IanaChar
+zone_other reader c = if closing c then InvalidEnd else IanaChar
+
+abbrev pub zone_line : Reader → ZoneLine → Line
+-- no letter of a name or an offset yet
+zone_line reader identifier_start = line nothing (zone_lead or sign) (error abrupt_zone) (always TzLeadingChar)
+-- no letter of a name yet
+zone_line reader zone_name_start = line nothing zone_lead (error TzLeadingChar) (always TzLeadingChar)
+-- a name
+zone_line reader in_zone_name = line ZoneName (zone_letters reader) (zone_end reader) (zone_other reader)
+-- a name and a slash
+zone_line reader after_zone_slash = line (ZoneName then one slash) zone_char (error IanaCharPostSeparator) (always IanaCharPostSeparator)
+
+-- ---- brackets
+
+-- a letter that a key may begin with, and letters that are neither `=` nor `]`
+abbrev pub Scanned : Shape
+Scanned = one key_lead then many (one passed)
+
+abbrev pub bracket_line : BracketLine → Line
+-- `[`
+bracket_line first_bracket_start = line (one opening) (zone_lead or sign or exclamation) (error abrupt_bracket) (always TzLeadingChar)
+-- `[` and `!`
+bracket_line first_critical_start = line (one opening then one exclamation) (zone_lead or sign) (error abrupt_bracket) (always TzLeadingChar)
+-- neither `=` nor `]` yet: the text ends, or Bad stands next
+bracket_line first_bracket_scan = line Scanned any (error abrupt_bracket) (always TzLeadingChar)
+-- an `=` before any `]`: no pair of a key and a value is read
+bracket_line first_bracket_pair = whole (Scanned then one equals) InvalidEnd
+-- a zone bracket: no other bracket is read
+bracket_line after_bracket = line (some IsZoneBracket) none ok (always InvalidEnd)
 
 -- ---- the table of a reader
 
--- the letters that may follow a time
-abbrev pub follow_of : Reader → Class
-follow_of parse = none
+-- nothing but the end
+abbrev pub end_alone : Follow
+end_alone = record { letters = none; at_end = ok; at_other = InvalidEnd }
+
+-- what may follow a time or an offset
+abbrev pub follow_of : Reader → Clock → Follow
+follow_of parse Time = record { letters = sign or zulu or opening; at_end = ok; at_other = InvalidEnd }
+follow_of parse Offset = record { letters = opening; at_end = ok; at_other = InvalidEnd }
+follow_of parse MinuteOffset = record { letters = closing; at_end = error AnnotationClose; at_other = AnnotationClose }
+follow_of reader clock = end_alone
 
 abbrev pub table : Reader → LineName → Line
 table reader (of_date name) = date_line name
-table reader (of_time name) = time_line (follow_of reader) name
+table reader (of_clock clock name) = clock_line (follow_of reader clock) clock name
+table reader (of_offset name) = offset_line name
+table reader (of_zone name) = zone_line reader name
+table reader (of_bracket name) = bracket_line name
+
+-- ---- what stands before the front of a line, and what the text has from the front on
 
 abbrev pub DateAndSeparator : Shape
 DateAndSeparator = some IsDate then one date_time_separator
 
--- what stands before the front of a line
-abbrev pub Before : Reader → LineName → Shape
-Before parse (of_date name) = nothing
-Before parse (of_time name) = DateAndSeparator
+abbrev pub DateTime : Shape
+DateTime = DateAndSeparator then some IsTime
+
+-- a whole core, `[`, and `!` where there is one
+abbrev pub Opened : Shape
+Opened = some IsDateTimeCore then some Opens
+
+abbrev pub InParse : LineName → Text → Text → Type 0
+InParse (of_date name) before rest = nothing before
+InParse (of_clock Time name) before rest = DateAndSeparator before
+InParse (of_clock Offset name) before rest = (DateTime then one sign) before
+InParse (of_clock MinuteOffset name) before rest = (Opened then one sign) before
+InParse (of_offset offset_start) before rest = ⊥
+InParse (of_offset after_zulu) before rest = DateTime before
+InParse (of_zone identifier_start) before rest = ⊥
+InParse (of_zone zone_name_start) before rest = ⊥
+InParse (of_zone in_zone_name) before rest = Opened before × ReadsAsName rest
+InParse (of_zone after_zone_slash) before rest = Opened before × ReadsAsName rest
+InParse (of_bracket first_bracket_start) before rest = some IsDateTimeCore before
+InParse (of_bracket first_critical_start) before rest = some IsDateTimeCore before
+InParse (of_bracket first_bracket_scan) before rest = Opened before
+InParse (of_bracket first_bracket_pair) before rest = Opened before
+InParse (of_bracket after_bracket) before rest = some IsDateTimeCore before
+
+abbrev pub InOffset : LineName → Text → Text → Type 0
+InOffset (of_offset offset_start) before rest = nothing before
+InOffset (of_clock Offset name) before rest = one sign before
+InOffset name before rest = ⊥
+
+abbrev pub InIdentifier : LineName → Text → Text → Type 0
+InIdentifier (of_zone identifier_start) before rest = nothing before
+InIdentifier (of_zone in_zone_name) before rest = nothing before
+InIdentifier (of_zone after_zone_slash) before rest = nothing before
+InIdentifier (of_clock MinuteOffset name) before rest = one sign before
+InIdentifier name before rest = ⊥
+
+abbrev pub InIanaIdentifier : LineName → Text → Text → Type 0
+InIanaIdentifier (of_zone zone_name_start) before rest = nothing before
+InIanaIdentifier (of_zone in_zone_name) before rest = nothing before
+InIanaIdentifier (of_zone after_zone_slash) before rest = nothing before
+InIanaIdentifier name before rest = ⊥
+
+-- A line is looked at in the reader where this stands before its front and from its front on.
+abbrev pub Before : Reader → LineName → Text → Text → Type 0
+Before parse = InParse
+Before parse_offset = InOffset
+Before parse_identifier = InIdentifier
+Before parse_iana_identifier = InIanaIdentifier

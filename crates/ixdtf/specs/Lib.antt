@@ -3,11 +3,16 @@ pub mod Classes
 pub mod Shapes
 pub mod Digits
 pub mod Fractions
+pub mod OffsetRecords
 pub mod Faults
 pub mod ErrorTexts
 pub mod ErrorEquality
 pub mod Dates
 pub mod Times
+pub mod Offsets
+pub mod ZoneNames
+pub mod Brackets
+pub mod Cores
 pub mod Readers
 pub mod FaultTable
 pub mod Rows
@@ -15,5 +20,8 @@ pub mod Languages
 pub mod ReadingLooks
 pub mod ReadingDates
 pub mod ReadingTimes
+pub mod ReadingZones
+pub mod ReadingBrackets
 pub mod Reading
+pub mod CodeReadings
 pub mod Answers

@@ -1,8 +1,9 @@
 -- The readers, and the names of the lines of the fault table.
+use Rattle.ixdtf.specs.declared.parsers.time.Clock.{Clock}
 
 -- the readers
 pub data Reader : Type 0 where
-  parse : Reader
+  parse parse_offset parse_identifier parse_iana_identifier : Reader
 
 -- the lines of dates
 pub data DateLine : Type 0 where
@@ -10,13 +11,28 @@ pub data DateLine : Type 0 where
   after_year month_digits month_range : DateLine
   after_hyphened_month after_plain_month day_digits day_range after_date : DateLine
 
--- the lines of times
-pub data TimeLine : Type 0 where
-  hour_start hour_digit hour_range after_hour : TimeLine
-  minute_digits minute_range after_plain_minute after_colon_minute : TimeLine
-  second_digits second_range after_second fraction_start after_fraction : TimeLine
+-- the lines of times, and of offsets after their sign
+pub data ClockLine : Type 0 where
+  hour_start hour_digit hour_range after_hour : ClockLine
+  minute_digits minute_range after_plain_minute after_colon_minute : ClockLine
+  second_digits second_range after_second fraction_start after_fraction : ClockLine
+
+-- the other lines of offsets
+pub data OffsetLine : Type 0 where
+  offset_start after_zulu : OffsetLine
+
+-- the lines of zone names
+pub data ZoneLine : Type 0 where
+  identifier_start zone_name_start in_zone_name after_zone_slash : ZoneLine
+
+-- the lines of brackets
+pub data BracketLine : Type 0 where
+  first_bracket_start first_critical_start first_bracket_scan first_bracket_pair after_bracket : BracketLine
 
 -- the lines, by the part that they speak of
 pub data LineName : Type 0 where
   of_date : DateLine → LineName
-  of_time : TimeLine → LineName
+  of_clock : Clock → ClockLine → LineName
+  of_offset : OffsetLine → LineName
+  of_zone : ZoneLine → LineName
+  of_bracket : BracketLine → LineName

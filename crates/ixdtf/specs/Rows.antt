@@ -39,4 +39,4 @@ FitsHere reader row text = (front rest : Text) × (text ≡ front ++ rest) × fr
 
 -- The row fits the text: what stands before the line in the reader, then a front of the line, then what its row asks for.
 abbrev pub Fits : Reader → Row → Text → Type 0
-Fits reader row text = (before rest : Text) × (text ≡ before ++ rest) × Before reader row.name before × FitsHere reader row rest
+Fits reader row text = (before rest : Text) × (text ≡ before ++ rest) × Before reader row.name before rest × FitsHere reader row rest

@@ -6,7 +6,8 @@
 ghost use Rattle.std.specs.Prelude.{◌≡◌, ℕ, ◌+◌, ◌-◌, ◌<◌, ◌≤◌, List, [], map, length, drop, None, IfOk, IsTrue};
 ghost use Rattle.ixdtf.specs.Classes.{digit};
 ghost use Rattle.ixdtf.specs.Faults.{fault_of, NonAsciiCodePoint};
-ghost use Rattle.ixdtf.specs.Answers.{Gives, Reads, Spends, Unread, end_look};
+ghost use Rattle.ixdtf.specs.Answers.{Gives, Reads, Spends, Unread};
+ghost use Rattle.ixdtf.specs.CodeReadings.{end_look};
 ghost use Rattle.ixdtf.specs.ReadingLooks.{look_at, next_by, peek_by, digit_look};
 
 use crate::encoding::EncodingType;

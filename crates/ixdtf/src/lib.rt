@@ -1,16 +1,19 @@
 //! A reader of the Internet Extended Date/Time Format (RFC 9557), proved.
 //!
-//! At this stage [`parsers::IxdtfParser::parse`] reads a date, or a date and a time, of 8-bit units: the part of an RFC 3339
-//! date and time before its offset, and the shorter forms that ISO 8601 has. It answers a record exactly where the grammar
-//! has the source, and else an error that the fault table gives. It takes no memory, and returns on every input.
+//! At this stage [`parsers::IxdtfParser::parse`] reads a date, or a date and a time with its offset, and one time zone in
+//! brackets after it, of 8-bit units: the forms of RFC 3339, the shorter ones that ISO 8601 has, and `time-zone` of RFC 9557,
+//! section 4.1. [`parsers::TimeZoneParser`] reads a text that is an offset, a time zone or the name of one alone.
 //!
-//! - [`parsers`]: the reader.
-//! - [`records`]: what it answers.
-//! - [`ParseError`]: why it refused.
+//! Each reader answers `Ok` exactly where the grammar has the source, and else an error that the fault table gives. It takes
+//! no memory, and returns on every input.
+//!
+//! - [`parsers`]: the readers.
+//! - [`records`]: what they answer.
+//! - [`ParseError`]: why they refused.
 //! - [`encoding`]: the units of a source.
 //!
-//! The definitions that the contracts cite are in `specs/`: the grammar in `Dates`, `Times`, `Fractions` and `Languages`,
-//! the fault table in `FaultTable` and `Rows`. `docs/` tells them in words.
+//! The definitions that the contracts cite are in `specs/`: the grammar in `Dates`, `Times`, `Fractions`, `Offsets`,
+//! `ZoneNames`, `Brackets`, `Cores` and `Languages`, the fault table in `FaultTable` and `Rows`. `docs/` tells them in words.
 #![tactic(auto)]
 
 mod cursor;

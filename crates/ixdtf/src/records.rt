@@ -79,6 +79,21 @@ pub enum Sign {
     Positive = 1,
 }
 
+impl From<bool> for Sign {
+    ghost use Rattle.ixdtf.specs.OffsetRecords.{sign_for};
+
+    ghost from_gives = { λ forwards sign. sign ≡ sign_for forwards };
+
+    /// `Positive` for `true`, and `Negative` for `false`: the two signs of `time-numoffset` (RFC 3339, section 5.6).
+    fn from(value: bool) -> Sign {
+        if value {
+            Sign::Positive
+        } else {
+            Sign::Negative
+        }
+    }
+}
+
 /// An offset from UTC in hours and minutes (`time-numoffset` of RFC 3339, section 5.6): UTC and the offset together are
 /// the local time.
 #[derive(Clone, Copy, Debug, PartialEq)]
@@ -90,6 +105,21 @@ pub struct MinutePrecisionOffset {
     pub hour: u8,
     /// The minutes, 0 to 59.
     pub minute: u8,
+}
+
+impl MinutePrecisionOffset {
+    ghost use Rattle.ixdtf.specs.OffsetRecords.{zero_offset};
+
+    /// `+00:00`: local time is UTC (RFC 3339, section 5.6).
+    pub const fn zero() -> MinutePrecisionOffset
+        ensures { result ≡ zero_offset }
+    {
+        MinutePrecisionOffset {
+            sign: Sign::Positive,
+            hour: 0,
+            minute: 0,
+        }
+    }
 }
 
 /// An offset from UTC down to parts of a second. `time-numoffset` of RFC 3339, section 5.6, has no seconds: this is the
@@ -113,6 +143,77 @@ pub enum UtcOffsetRecord {
     FullPrecisionOffset(FullPrecisionOffset),
 }
 
+impl UtcOffsetRecord {
+    ghost use Rattle.ixdtf.specs.declared.records.UtcOffsetRecord.TheVariants.{MinutePrecision};
+    ghost use Rattle.ixdtf.specs.OffsetRecords.{is_minute_precision, zero_offset, minute_part_of, second_of, fraction_of_offset};
+
+    /// Whether the offset was written without seconds (as `time-numoffset` of RFC 3339, section 5.6).
+    pub fn is_minute_precision(&self) -> bool
+        ensures { result ≡ is_minute_precision self.now }
+    {
+        matches!(self, UtcOffsetRecord::MinutePrecision(_))
+    }
+
+    /// `+00:00`, written without seconds: local time is UTC (RFC 3339, section 5.6).
+    pub fn zero() -> UtcOffsetRecord
+        ensures { result ≡ MinutePrecision zero_offset }
+    {
+        UtcOffsetRecord::MinutePrecision(MinutePrecisionOffset::zero())
+    }
+
+    /// The sign of the whole offset (of `time-numoffset` of RFC 3339, section 5.6).
+    pub fn sign(&self) -> Sign
+        ensures { result ≡ (minute_part_of self.now).sign }
+    {
+        match self {
+            UtcOffsetRecord::MinutePrecision(offset) => offset.sign,
+            UtcOffsetRecord::FullPrecisionOffset(offset) => offset.minute_precision_offset.sign,
+        }
+    }
+
+    /// The hours (`time-hour` of RFC 3339, section 5.6).
+    pub fn hour(&self) -> u8
+        ensures { result ≡ (minute_part_of self.now).hour }
+    {
+        match self {
+            UtcOffsetRecord::MinutePrecision(offset) => offset.hour,
+            UtcOffsetRecord::FullPrecisionOffset(offset) => offset.minute_precision_offset.hour,
+        }
+    }
+
+    /// The minutes (`time-minute` of RFC 3339, section 5.6).
+    pub fn minute(&self) -> u8
+        ensures { result ≡ (minute_part_of self.now).minute }
+    {
+        match self {
+            UtcOffsetRecord::MinutePrecision(offset) => offset.minute,
+            UtcOffsetRecord::FullPrecisionOffset(offset) => offset.minute_precision_offset.minute,
+        }
+    }
+
+    /// The seconds, or `None` where the offset was written without them. `time-numoffset` of RFC 3339, section 5.6, has
+    /// none: they are of the longer form.
+    pub fn second(&self) -> Option<u8>
+        ensures { result ≡ second_of self.now }
+    {
+        match self {
+            UtcOffsetRecord::MinutePrecision(_) => None,
+            UtcOffsetRecord::FullPrecisionOffset(offset) => Some(offset.second),
+        }
+    }
+
+    /// The part of a second beyond the seconds (`time-secfrac` of RFC 3339, section 5.6), or `None` where the offset was
+    /// written without seconds, or no digits follow them.
+    pub fn fraction(&self) -> Option<Fraction>
+        ensures { result ≡ fraction_of_offset self.now }
+    {
+        match self {
+            UtcOffsetRecord::MinutePrecision(_) => None,
+            UtcOffsetRecord::FullPrecisionOffset(offset) => offset.fraction,
+        }
+    }
+}
+
 /// What may stand behind a time for its offset (`time-offset` of RFC 3339, section 5.6).
 #[derive(Clone, Copy, Debug, PartialEq)]
 pub enum UtcOffsetRecordOrZ {
@@ -120,6 +221,27 @@ pub enum UtcOffsetRecordOrZ {
     Offset(UtcOffsetRecord),
     /// The letter `Z` or `z`: the time is UTC, and nothing is said of a local offset.
     Z,
+}
+
+impl UtcOffsetRecordOrZ {
+    ghost use Rattle.ixdtf.specs.OffsetRecords.{resolved_offset};
+
+    /// The offset in numbers, and `-00:00` for `Z`: both say that UTC is known and the local offset is not (RFC 9557,
+    /// section 2).
+    pub fn resolve_rfc_9557(self) -> UtcOffsetRecord
+        ensures { result ≡ resolved_offset self }
+    {
+        match self {
+            UtcOffsetRecordOrZ::Offset(offset) => offset,
+            UtcOffsetRecordOrZ::Z => {
+                let unknown = MinutePrecisionOffset {
+                    sign: Sign::Negative,
+                    ..MinutePrecisionOffset::zero()
+                };
+                UtcOffsetRecord::MinutePrecision(unknown)
+            }
+        }
+    }
 }
 
 /// A fraction of a second (`time-secfrac` of RFC 3339, section 5.6): the digits behind a `.` or a `,`.
@@ -198,6 +320,26 @@ mod tests {
         Fraction { digits, value }
     }
 
+    fn offset_of(sign: Sign, hour: u8, minute: u8) -> MinutePrecisionOffset
+        ensures { result ≡ record { sign = sign; hour = hour; minute = minute } }
+    {
+        MinutePrecisionOffset { sign, hour, minute }
+    }
+
+    // The offset -05:30.
+    fn short_offset() -> UtcOffsetRecord {
+        UtcOffsetRecord::MinutePrecision(offset_of(Sign::Negative, 5, 30))
+    }
+
+    // The offset -05:30:15.25.
+    fn long_offset() -> UtcOffsetRecord {
+        UtcOffsetRecord::FullPrecisionOffset(FullPrecisionOffset {
+            minute_precision_offset: offset_of(Sign::Negative, 5, 30),
+            second: 15,
+            fraction: Some(fraction(2, 25)),
+        })
+    }
+
     #[test]
     fn fractions_are_cut_at_nanoseconds(rt: HostRuntime) {
         let rows = [
@@ -267,11 +409,7 @@ mod tests {
 
     #[test]
     fn offsets_differ_by_their_precision(rt: HostRuntime) {
-        let minutes = MinutePrecisionOffset {
-            sign: Sign::Negative,
-            hour: 5,
-            minute: 30,
-        };
+        let minutes = offset_of(Sign::Negative, 5, 30);
         let short = UtcOffsetRecord::MinutePrecision(minutes);
         let long = UtcOffsetRecord::FullPrecisionOffset(FullPrecisionOffset {
             minute_precision_offset: minutes,
@@ -281,5 +419,75 @@ mod tests {
         assert_ne!(rt; short, long);
         assert_ne!(rt; UtcOffsetRecordOrZ::Offset(short), UtcOffsetRecordOrZ::Z);
         assert!(rt; Sign::Negative as i8 == -1 && Sign::Positive as i8 == 1);
+    }
+
+    #[test]
+    fn signs_come_from_bools(rt: HostRuntime) {
+        assert_eq!(rt; Sign::from(true), Sign::Positive);
+        assert_eq!(rt; Sign::from(false), Sign::Negative);
+    }
+
+    #[test]
+    fn zero_has_a_plus(rt: HostRuntime) {
+        assert_eq!(rt;
+            MinutePrecisionOffset::zero(),
+            offset_of(Sign::Positive, 0, 0)
+        );
+    }
+
+    #[test]
+    fn zero_has_no_seconds(rt: HostRuntime) {
+        let zero = offset_of(Sign::Positive, 0, 0);
+        assert_eq!(rt;
+            UtcOffsetRecord::zero(),
+            UtcOffsetRecord::MinutePrecision(zero)
+        );
+    }
+
+    #[test]
+    fn seconds_end_minute_precision(rt: HostRuntime) {
+        assert!(rt; short_offset().is_minute_precision());
+        assert!(rt; !long_offset().is_minute_precision());
+    }
+
+    #[test]
+    fn offsets_have_a_sign(rt: HostRuntime) {
+        assert_eq!(rt; short_offset().sign(), Sign::Negative);
+        assert_eq!(rt; long_offset().sign(), Sign::Negative);
+    }
+
+    #[test]
+    fn offsets_have_an_hour(rt: HostRuntime) {
+        assert_eq!(rt; short_offset().hour(), 5);
+        assert_eq!(rt; long_offset().hour(), 5);
+    }
+
+    #[test]
+    fn offsets_have_a_minute(rt: HostRuntime) {
+        assert_eq!(rt; short_offset().minute(), 30);
+        assert_eq!(rt; long_offset().minute(), 30);
+    }
+
+    #[test]
+    fn long_offsets_have_a_second(rt: HostRuntime) {
+        assert_eq!(rt; short_offset().second(), None);
+        assert_eq!(rt; long_offset().second(), Some(15));
+    }
+
+    #[test]
+    fn long_offsets_have_a_fraction(rt: HostRuntime) {
+        assert_eq!(rt; short_offset().fraction(), None);
+        assert_eq!(rt; long_offset().fraction(), Some(fraction(2, 25)));
+    }
+
+    #[test]
+    fn z_is_minus_zero(rt: HostRuntime) {
+        let offset = UtcOffsetRecordOrZ::Offset(long_offset());
+        assert_eq!(rt; offset.resolve_rfc_9557(), long_offset());
+        let unknown = offset_of(Sign::Negative, 0, 0);
+        assert_eq!(rt;
+            UtcOffsetRecordOrZ::Z.resolve_rfc_9557(),
+            UtcOffsetRecord::MinutePrecision(unknown)
+        );
     }
 }

@@ -1,69 +1,162 @@
-//! Reading dates, and dates with a time.
+//! Reading dates, and dates with a time, an offset and a zone.
 
-ghost use Rattle.std.specs.Prelude.{◌≡◌, ◌∷◌, [], ◌&&◌, ◌+◌, ◌*◌, ◌-◌, ◌<◌, ◌≤◌, map, nat_le, length, IsTrue, IfOk};
+ghost use Rattle.std.specs.Prelude.{◌≡◌, ◌∷◌, [], ◌&&◌, ◌+◌, ◌*◌, ◌-◌, ◌<◌, ◌≤◌, map, nat_le, length, IsTrue, IfOk, option_map};
 ghost use Rattle.ixdtf.specs.Classes.{digit, sign};
 ghost use Rattle.ixdtf.specs.Digits.{decimal};
 ghost use Rattle.ixdtf.specs.Dates.{is_leap, month_length};
+ghost use Rattle.ixdtf.specs.Cores.{core_of};
 ghost use Rattle.ixdtf.specs.Faults.Fault.{DateExtendedYear, InvalidMonthRange, InvalidDayRange};
-ghost use Rattle.ixdtf.specs.Answers.{Reads, Spends, Checks, parsed_of, timed_at};
+ghost use Rattle.ixdtf.specs.Languages.{parsed_with};
+ghost use Rattle.ixdtf.specs.Answers.{Reads, Spends, Checks, parsed_of, note_of};
+ghost use Rattle.ixdtf.specs.CodeReadings.{parse_by, core_by, time_core_by, after_time_by};
 ghost use Rattle.ixdtf.specs.ReadingLooks.{error_of, number_of, digits_by, digit_look};
 ghost use Rattle.ixdtf.specs.ReadingDates.{date_of, year_at, plain_year_at, extended_year_at, date_at, after_year_at, hyphened_date_at, plain_date_at, after_hyphened_month_at, after_plain_month_at};
-ghost use Rattle.ixdtf.specs.Languages.{dated as dated_of};
-ghost use Rattle.ixdtf.specs.Reading.{parse_at};
+ghost use Rattle.ixdtf.specs.Reading.{zoned_at};
 
 use crate::cursor::Cursor;
 use crate::encoding::EncodingType;
-use crate::parsers::grammar::{digits_value, is_ascii_sign, is_date_time_separator, is_hyphen};
-use crate::parsers::time::parse_time_record;
-use crate::records::{DateRecord, IxdtfParseRecord, TimeRecord};
+use crate::parsers::grammar::{
+    digits_value, is_annotation_open, is_ascii_sign, is_date_time_separator, is_hyphen,
+    is_utc_designator,
+};
+use crate::parsers::time::{Clock, parse_clock};
+use crate::parsers::timezone::{parse_utc_offset, parse_zone_bracket};
+use crate::records::{
+    DateRecord, IxdtfParseRecord, TimeRecord, TimeZoneAnnotation, UtcOffsetRecordOrZ,
+};
 use crate::{ParseError, ParserResult};
 
-/// Reads a date, or a date and a time, and wants the end.
-#[tactic(auto, unfolding(crate::specs::Reading::parse_at, crate::specs::ReadingLooks::peek_by))]
-pub fn parse_date_time<'a, T: EncodingType>(
-    cursor: &mut Cursor<'a, T>,
-) -> ParserResult<IxdtfParseRecord<'a, T>>
-    ensures record { Reads (parsed_of T.number) (map T.letter cursor.old.rest) result (map T.letter cursor.new.rest) (parse_at error_of) }
-    ensures looks { Spends 30 cursor.old cursor.new }
-{
-    let date = parse_date(cursor)?;
-    match cursor.look()? {
-        None => Ok(dated(date, None)),
-        Some(byte) if is_date_time_separator(byte) => {
-            cursor.step();
-            parse_after_separator(cursor, date)
+/// What stands before the brackets.
+#[derive(Drop)]
+struct Core {
+    date: DateRecord,
+    time: Option<TimeRecord>,
+    offset: Option<UtcOffsetRecordOrZ>,
+}
+
+impl Core {
+    /// The record of it, with a zone where there is one.
+    fn with_zone<'a, T: EncodingType>(
+        self,
+        tz: Option<TimeZoneAnnotation<'a, T>>,
+    ) -> IxdtfParseRecord<'a, T>
+        ensures { parsed_of T.number result ≡ parsed_with (core_of self.date self.time self.offset) (option_map (note_of T.number) tz.entry) }
+    {
+        IxdtfParseRecord {
+            date: Some(self.date),
+            time: self.time,
+            offset: self.offset,
+            tz,
+            calendar: None,
         }
-        Some(_) => Err(ParseError::InvalidEnd),
     }
 }
 
-/// Reads the time after the date and a separator, and wants the end.
-fn parse_after_separator<'a, T: EncodingType>(
+/// Reads a date, a time and an offset where there are, and a zone bracket where there is one, and wants the end.
+#[tactic(auto, unfolding(crate::specs::CodeReadings::parse_by, crate::specs::ReadingLooks::peek_by))]
+pub fn parse_date_time<'a, T: EncodingType>(
     cursor: &mut Cursor<'a, T>,
-    date: DateRecord,
 ) -> ParserResult<IxdtfParseRecord<'a, T>>
-    ensures record { Reads (parsed_of T.number) (map T.letter cursor.old.rest) result (map T.letter cursor.new.rest) (timed_at date) }
-    ensures looks { Spends 14 cursor.old cursor.new }
+    ensures record { Reads (parsed_of T.number) (map T.letter cursor.old.rest) result (map T.letter cursor.new.rest) parse_by }
+    ensures looks { Spends (length cursor.old.rest + 62) cursor.old cursor.new }
 {
-    match parse_time_record(cursor) {
-        Ok(time) => {
-            cursor.close()?;
-            Ok(dated(date, Some(time)))
-        }
+    match parse_core(cursor) {
+        Ok(core) => match cursor.look()? {
+            None => Ok(core.with_zone(None)),
+            Some(byte) if is_annotation_open(byte) => {
+                cursor.step();
+                parse_zoned(cursor, core)
+            }
+            Some(_) => Err(ParseError::InvalidEnd),
+        },
         Err(error) => Err(error),
     }
 }
 
-/// The record of a date, and of a time where there is one.
-fn dated<'a, T: EncodingType>(date: DateRecord, time: Option<TimeRecord>) -> IxdtfParseRecord<'a, T>
-    ensures { parsed_of T.number result ≡ dated_of date time }
+/// Reads the zone bracket after a core and `[`, and wants the end.
+#[tactic(auto, unfolding(crate::specs::Reading::zoned_at, crate::specs::ReadingLooks::peek_by))]
+fn parse_zoned<'a, T: EncodingType>(
+    cursor: &mut Cursor<'a, T>,
+    core: Core,
+) -> ParserResult<IxdtfParseRecord<'a, T>>
+    ensures record { Reads (parsed_of T.number) (map T.letter cursor.old.rest) result (map T.letter cursor.new.rest) (zoned_at error_of (core_of core.date core.time core.offset)) }
+    ensures looks { Spends (length cursor.old.rest + 17) cursor.old cursor.new }
 {
-    IxdtfParseRecord {
-        date: Some(date),
-        time,
-        offset: None,
-        tz: None,
-        calendar: None,
+    let annotation = parse_zone_bracket(cursor)?;
+    cursor.close()?;
+    Ok(core.with_zone(Some(annotation)))
+}
+
+/// Reads a date, and a time and an offset where there are.
+#[tactic(auto, unfolding(crate::specs::CodeReadings::core_by))]
+fn parse_core<'a, T: EncodingType>(cursor: &mut Cursor<'a, T>) -> ParserResult<Core>
+    ensures core { Reads (λ c. core_of c.date c.time c.offset) (map T.letter cursor.old.rest) result (map T.letter cursor.new.rest) core_by }
+    ensures looks { Spends 43 cursor.old cursor.new }
+{
+    let date = parse_date(cursor)?;
+    match cursor.look()? {
+        Some(byte) if is_date_time_separator(byte) => {
+            cursor.step();
+            parse_time_core(cursor, date)
+        }
+        _ => Ok(Core {
+            date,
+            time: None,
+            offset: None,
+        }),
+    }
+}
+
+/// Reads the time after a date and a separator, and an offset where there is one.
+#[tactic(auto, unfolding(crate::specs::CodeReadings::time_core_by))]
+fn parse_time_core<'a, T: EncodingType>(
+    cursor: &mut Cursor<'a, T>,
+    date: DateRecord,
+) -> ParserResult<Core>
+    ensures core { Reads (λ c. core_of c.date c.time c.offset) (map T.letter cursor.old.rest) result (map T.letter cursor.new.rest) (time_core_by date) }
+    ensures looks { Spends 28 cursor.old cursor.new }
+{
+    match parse_clock(cursor, Clock::Time) {
+        Ok(clocked) => parse_after_time(cursor, date, clocked.time),
+        Err(error) => Err(error),
+    }
+}
+
+/// Reads an offset or `Z` after a date and a time, where there is one.
+#[tactic(auto, unfolding(crate::specs::CodeReadings::after_time_by))]
+fn parse_after_time<'a, T: EncodingType>(
+    cursor: &mut Cursor<'a, T>,
+    date: DateRecord,
+    time: TimeRecord,
+) -> ParserResult<Core>
+    ensures core { Reads (λ c. core_of c.date c.time c.offset) (map T.letter cursor.old.rest) result (map T.letter cursor.new.rest) (after_time_by date time) }
+    ensures looks { Spends 14 cursor.old cursor.new }
+{
+    match cursor.look()? {
+        Some(byte) if is_ascii_sign(byte) => {
+            cursor.step();
+            match parse_utc_offset(cursor, byte) {
+                Ok(offset) => Ok(Core {
+                    date,
+                    time: Some(time),
+                    offset: Some(UtcOffsetRecordOrZ::Offset(offset)),
+                }),
+                Err(error) => Err(error),
+            }
+        }
+        Some(byte) if is_utc_designator(byte) => {
+            cursor.step();
+            Ok(Core {
+                date,
+                time: Some(time),
+                offset: Some(UtcOffsetRecordOrZ::Z),
+            })
+        }
+        _ => Ok(Core {
+            date,
+            time: Some(time),
+            offset: None,
+        }),
     }
 }
 

@@ -1,7 +1,7 @@
 //! The classes of letters that the readers tell apart.
 
 ghost use Rattle.std.specs.Prelude.{◌≡◌, ◌<◌, ◌∷◌, [], IsTrue};
-ghost use Rattle.ixdtf.specs.Classes.{digit, sign, hyphen, colon, decimal_mark, date_time_separator};
+ghost use Rattle.ixdtf.specs.Classes.{digit, sign, hyphen, colon, decimal_mark, date_time_separator, zulu, opening, closing, exclamation, equals, slash, zone_lead, zone_char, key_lead};
 ghost use Rattle.ixdtf.specs.Letters.Letter.{Plain};
 ghost use Rattle.ixdtf.specs.Digits.{decimal};
 
@@ -43,6 +43,78 @@ pub fn is_date_time_separator(byte: u8) -> bool
     ensures { result ≡ date_time_separator byte }
 {
     byte == b'T' || byte == b't' || byte == b' '
+}
+
+/// `Z` or `z`.
+#[inline(always)]
+pub fn is_utc_designator(byte: u8) -> bool
+    ensures { result ≡ zulu byte }
+{
+    byte == b'Z' || byte == b'z'
+}
+
+/// `[`.
+#[inline(always)]
+pub fn is_annotation_open(byte: u8) -> bool
+    ensures { result ≡ opening byte }
+{
+    byte == b'['
+}
+
+/// `]`.
+#[inline(always)]
+pub fn is_annotation_close(byte: u8) -> bool
+    ensures { result ≡ closing byte }
+{
+    byte == b']'
+}
+
+/// `!`.
+#[inline(always)]
+pub fn is_critical_flag(byte: u8) -> bool
+    ensures { result ≡ exclamation byte }
+{
+    byte == b'!'
+}
+
+/// `=`.
+#[inline(always)]
+pub fn is_annotation_key_value_separator(byte: u8) -> bool
+    ensures { result ≡ equals byte }
+{
+    byte == b'='
+}
+
+/// `/`.
+#[inline(always)]
+pub fn is_tz_name_separator(byte: u8) -> bool
+    ensures { result ≡ slash byte }
+{
+    byte == b'/'
+}
+
+/// What a zone name begins with: an ASCII letter, `_` or `.`.
+#[inline(always)]
+pub fn is_tz_leading_char(byte: u8) -> bool
+    ensures { result ≡ zone_lead byte }
+{
+    byte.is_ascii_alphabetic() || byte == b'_' || byte == b'.'
+}
+
+/// What goes on in a zone name: what begins one, a digit, `+` or `-`.
+#[inline(always)]
+pub fn is_tz_char(byte: u8) -> bool
+    ensures { result ≡ zone_char byte }
+{
+    is_tz_leading_char(byte) || byte.is_ascii_digit() || is_ascii_sign(byte)
+}
+
+/// What a key begins with: a small ASCII letter or `_`.
+#[inline(always)]
+pub fn is_a_key_leading_char(byte: u8) -> bool
+    ensures { result ≡ key_lead byte }
+{
+    byte.is_ascii_lowercase() || byte == b'_'
 }
 
 /// The number of two digits.

@@ -1,0 +1,13 @@
+use Rattle.std.proofs.Common.{◌≡◌, ◌+◌, ◌≤◌, length, map}
+use Rattle.ixdtf.proofs.NameRun.{IsSoFar}
+use Rattle.ixdtf.proofs.parsers.timezone.parse_tz_name.Given as goal
+
+abbrev pub invariant-loop-byte : goal.invariant-loop-byte
+invariant-loop-byte g l = record {
+  start : map g.T.EncodingType.number l.start ≡ l.initial.cursor.rest;
+  far : IsSoFar g.T.EncodingType.letter l.initial.cursor.rest l.cursor.rest l.may_end;
+  looks : l.cursor.looks + length l.cursor.rest ≤ l.initial.cursor.looks + length l.initial.cursor.rest;
+}
+
+abbrev pub decreases-loop-byte : goal.decreases-loop-byte
+decreases-loop-byte g l = length l.cursor.rest

@@ -1,0 +1,403 @@
+//! Reading offsets, zone names and zone brackets.
+
+ghost use Rattle.std.specs.Prelude.{◌≡◌, ◌+◌, ◌≤◌, map, length, true, ◌||◌, IsTrue, OnOk};
+ghost use Rattle.ixdtf.specs.Classes.{sign, equals, closing};
+ghost use Rattle.ixdtf.specs.Faults.{fault_of};
+ghost use Rattle.ixdtf.specs.Offsets.{sign_of, minutes_of, offset_of};
+ghost use Rattle.ixdtf.specs.Answers.{Gives, Reads, Spends, zone_of, note_of};
+ghost use Rattle.ixdtf.specs.CodeReadings.{offset_by, offset_alone_by, minute_offset_by, minute_offset_alone_by, offset_reader_by, identifier_by, offset_in_bracket_by, closing_look};
+ghost use Rattle.ixdtf.specs.ReadingLooks.{error_of, next_by};
+ghost use Rattle.ixdtf.specs.ReadingZones.{name_run, name_step, name_alone_at, iana_identifier_at};
+ghost use Rattle.ixdtf.specs.ReadingBrackets.{sight_at, name_in_bracket_at, name_or_pair_at, zone_in_bracket_at, critical_bracket_at, bracket_at};
+
+use crate::cursor::Cursor;
+use crate::encoding::EncodingType;
+use crate::parsers::grammar::{
+    is_a_key_leading_char, is_annotation_close, is_annotation_key_value_separator, is_ascii_sign,
+    is_critical_flag, is_hyphen, is_tz_char, is_tz_leading_char, is_tz_name_separator,
+};
+use crate::parsers::time::{Clock, parse_clock};
+use crate::records::{
+    FullPrecisionOffset, MinutePrecisionOffset, Sign, TimeRecord, TimeZoneAnnotation,
+    TimeZoneRecord, UtcOffsetRecord,
+};
+use crate::{ParseError, ParserResult};
+
+// ==== Offsets ====
+
+/// The sign of a `+` or a `-`.
+#[inline(always)]
+fn sign_from(byte: u8) -> Sign
+    ensures { result ≡ sign_of byte }
+{
+    if is_hyphen(byte) {
+        Sign::Negative
+    } else {
+        Sign::Positive
+    }
+}
+
+/// The sign, hour and minute of an offset.
+fn minute_offset(sign: u8, time: TimeRecord) -> MinutePrecisionOffset
+    ensures { result ≡ minutes_of sign time }
+{
+    MinutePrecisionOffset {
+        sign: sign_from(sign),
+        hour: time.hour,
+        minute: time.minute,
+    }
+}
+
+/// The record of an offset: in full where it has seconds.
+fn offset_from(sign: u8, time: TimeRecord, has_seconds: bool) -> UtcOffsetRecord
+    ensures { result ≡ offset_of sign has_seconds time }
+{
+    let second = time.second;
+    let fraction = time.fraction;
+    let minute_precision_offset = minute_offset(sign, time);
+    if has_seconds {
+        UtcOffsetRecord::FullPrecisionOffset(FullPrecisionOffset {
+            minute_precision_offset,
+            second,
+            fraction,
+        })
+    } else {
+        UtcOffsetRecord::MinutePrecision(minute_precision_offset)
+    }
+}
+
+/// Reads an offset after its sign.
+#[tactic(auto, unfolding(crate::specs::CodeReadings::offset_by))]
+pub fn parse_utc_offset<'a, T: EncodingType>(
+    cursor: &mut Cursor<'a, T>,
+    sign: u8,
+) -> ParserResult<UtcOffsetRecord>
+    ensures offset { Reads (λ offset. offset) (map T.letter cursor.old.rest) result (map T.letter cursor.new.rest) (offset_by sign) }
+    ensures looks { Spends 13 cursor.old cursor.new }
+{
+    match parse_clock(cursor, Clock::Offset) {
+        Ok(clocked) => Ok(offset_from(sign, clocked.time, clocked.has_seconds)),
+        Err(error) => Err(error),
+    }
+}
+
+/// Reads an offset without seconds after its sign.
+#[tactic(auto, unfolding(crate::specs::CodeReadings::minute_offset_by))]
+fn parse_minute_offset<'a, T: EncodingType>(
+    cursor: &mut Cursor<'a, T>,
+    sign: u8,
+) -> ParserResult<MinutePrecisionOffset>
+    ensures offset { Reads (λ offset. offset) (map T.letter cursor.old.rest) result (map T.letter cursor.new.rest) (minute_offset_by sign) }
+    ensures looks { Spends 13 cursor.old cursor.new }
+{
+    match parse_clock(cursor, Clock::MinuteOffset) {
+        Ok(clocked) => Ok(minute_offset(sign, clocked.time)),
+        Err(error) => Err(error),
+    }
+}
+
+/// Reads an offset after its sign, and wants the end.
+#[tactic(auto, unfolding(crate::specs::CodeReadings::offset_alone_by))]
+fn parse_offset_alone<'a, T: EncodingType>(
+    cursor: &mut Cursor<'a, T>,
+    sign: u8,
+) -> ParserResult<UtcOffsetRecord>
+    ensures offset { Reads (λ offset. offset) (map T.letter cursor.old.rest) result (map T.letter cursor.new.rest) (offset_alone_by sign) }
+    ensures looks { Spends 14 cursor.old cursor.new }
+{
+    match parse_utc_offset(cursor, sign) {
+        Ok(offset) => {
+            cursor.close()?;
+            Ok(offset)
+        }
+        Err(error) => Err(error),
+    }
+}
+
+/// Reads an offset without seconds after its sign, and wants the end.
+#[tactic(auto, unfolding(crate::specs::CodeReadings::minute_offset_alone_by))]
+fn parse_minute_offset_alone<'a, T: EncodingType>(
+    cursor: &mut Cursor<'a, T>,
+    sign: u8,
+) -> ParserResult<TimeZoneRecord<'a, T>>
+    ensures offset { Reads (zone_of T.number) (map T.letter cursor.old.rest) result (map T.letter cursor.new.rest) (minute_offset_alone_by sign) }
+    ensures looks { Spends 14 cursor.old cursor.new }
+{
+    let offset = parse_minute_offset(cursor, sign)?;
+    cursor.close()?;
+    Ok(TimeZoneRecord::Offset(offset))
+}
+
+/// Reads an offset, and wants the end.
+#[tactic(auto, unfolding(crate::specs::CodeReadings::offset_reader_by, crate::specs::ReadingLooks::next_by))]
+pub fn parse_offset_text<'a, T: EncodingType>(
+    cursor: &mut Cursor<'a, T>,
+) -> ParserResult<UtcOffsetRecord>
+    ensures offset { Reads (λ offset. offset) (map T.letter cursor.old.rest) result (map T.letter cursor.new.rest) offset_reader_by }
+    ensures looks { Spends 15 cursor.old cursor.new }
+{
+    match cursor.look()? {
+        None => Err(ParseError::AbruptEnd {
+            location: "time-numoffset",
+        }),
+        Some(byte) if is_ascii_sign(byte) => {
+            cursor.step();
+            parse_offset_alone(cursor, byte)
+        }
+        Some(_) => Err(ParseError::OffsetNeedsSign),
+    }
+}
+
+// ==== Names ====
+
+/// Whether a name may end after the letter, or `None` where the letter does not go on in it: after a `/` it may not end,
+/// and no other `/` goes on.
+#[inline(always)]
+fn name_goes_on(byte: u8, may_end: bool) -> Option<bool>
+    ensures { result ≡ name_step byte may_end }
+{
+    if is_tz_char(byte) {
+        Some(true)
+    } else if is_tz_name_separator(byte) && may_end {
+        Some(false)
+    } else {
+        None
+    }
+}
+
+/// Reads a name as far as it goes, from its first letter on, and answers its units.
+pub fn parse_tz_name<'a, T: EncodingType>(
+    cursor: &mut Cursor<'a, T>,
+) -> ParserResult<&'a [T::CodeUnit]>
+    ensures name { Reads (λ units. map T.number units.now) (map T.letter cursor.old.rest) result (map T.letter cursor.new.rest) (name_run error_of true) }
+    ensures looks { Spends 1 cursor.old cursor.new }
+{
+    let start = cursor.rest();
+    let mut may_end = true;
+    while let Some(byte) = cursor.look()? {
+        match name_goes_on(byte, may_end) {
+            Some(next) => {
+                cursor.step();
+                may_end = next;
+            }
+            None => break,
+        }
+    }
+    if !may_end {
+        return Err(ParseError::IanaCharPostSeparator);
+    }
+    let count = start.len() - cursor.rest().len();
+    Ok(&start[..count])
+}
+
+/// Reads a name, and wants the end.
+#[tactic(auto, unfolding(crate::specs::ReadingZones::name_alone_at, crate::specs::ReadingLooks::peek_by))]
+fn parse_name_alone<'a, T: EncodingType>(
+    cursor: &mut Cursor<'a, T>,
+) -> ParserResult<&'a [T::CodeUnit]>
+    ensures name { Reads (λ units. map T.number units.now) (map T.letter cursor.old.rest) result (map T.letter cursor.new.rest) (name_alone_at error_of) }
+    ensures looks { Spends 2 cursor.old cursor.new }
+{
+    let name = parse_tz_name(cursor)?;
+    match cursor.look()? {
+        None => Ok(name),
+        Some(byte) if is_annotation_close(byte) => Err(ParseError::InvalidEnd),
+        Some(_) => Err(ParseError::IanaChar),
+    }
+}
+
+/// Reads a name from its first letter on, and wants the end.
+#[tactic(auto, unfolding(crate::specs::ReadingZones::iana_identifier_at, crate::specs::ReadingLooks::next_by))]
+pub fn parse_iana_identifier_text<'a, T: EncodingType>(
+    cursor: &mut Cursor<'a, T>,
+) -> ParserResult<&'a [T::CodeUnit]>
+    ensures name { Reads (λ units. map T.number units.now) (map T.letter cursor.old.rest) result (map T.letter cursor.new.rest) (iana_identifier_at error_of) }
+    ensures looks { Spends 3 cursor.old cursor.new }
+{
+    match cursor.look()? {
+        Some(byte) if is_tz_leading_char(byte) => parse_name_alone(cursor),
+        _ => Err(ParseError::TzLeadingChar),
+    }
+}
+
+/// Reads a name, or an offset without seconds, and wants the end.
+#[tactic(auto, unfolding(crate::specs::CodeReadings::identifier_by, crate::specs::ReadingLooks::next_by))]
+pub fn parse_identifier_text<'a, T: EncodingType>(
+    cursor: &mut Cursor<'a, T>,
+) -> ParserResult<TimeZoneRecord<'a, T>>
+    ensures zone { Reads (zone_of T.number) (map T.letter cursor.old.rest) result (map T.letter cursor.new.rest) identifier_by }
+    ensures looks { Spends 15 cursor.old cursor.new }
+{
+    match cursor.look()? {
+        None => Err(ParseError::AbruptEnd {
+            location: "TimeZoneAnnotation",
+        }),
+        Some(byte) if is_ascii_sign(byte) => {
+            cursor.step();
+            parse_minute_offset_alone(cursor, byte)
+        }
+        Some(byte) if is_tz_leading_char(byte) => {
+            let name = parse_name_alone(cursor)?;
+            Ok(TimeZoneRecord::Name(name))
+        }
+        Some(_) => Err(ParseError::TzLeadingChar),
+    }
+}
+
+// ==== Brackets ====
+
+/// Wants `]`: the end is `AnnotationClose`, and another letter this error.
+#[inline(always)]
+#[tactic(auto, unfolding(crate::specs::ReadingLooks::next_by))]
+fn close_bracket<'a, T: EncodingType>(
+    cursor: &mut Cursor<'a, T>,
+    other: ParseError,
+) -> ParserResult<u8>
+    ensures end { Reads (λ byte. byte) (map T.letter cursor.old.rest) result (map T.letter cursor.new.rest) (next_by (closing_look (fault_of other))) }
+    ensures looks { Spends 1 cursor.old cursor.new }
+{
+    match cursor.look()? {
+        None => Err(ParseError::AnnotationClose),
+        Some(byte) if is_annotation_close(byte) => {
+            cursor.step();
+            Ok(byte)
+        }
+        Some(_) => Err(other),
+    }
+}
+
+/// Reads a zone bracket after its `[`.
+#[tactic(auto, unfolding(crate::specs::ReadingBrackets::bracket_at, crate::specs::ReadingLooks::next_by))]
+pub fn parse_zone_bracket<'a, T: EncodingType>(
+    cursor: &mut Cursor<'a, T>,
+) -> ParserResult<TimeZoneAnnotation<'a, T>>
+    ensures bracket { Reads (note_of T.number) (map T.letter cursor.old.rest) result (map T.letter cursor.new.rest) (bracket_at error_of) }
+    ensures looks { Spends (length cursor.old.rest + 16) cursor.old cursor.new }
+{
+    match cursor.look()? {
+        None => Err(ParseError::AbruptEnd {
+            location: "AmbiguousAnnotation",
+        }),
+        Some(byte) if is_critical_flag(byte) => {
+            cursor.step();
+            parse_critical_bracket(cursor)
+        }
+        Some(byte) if is_ascii_sign(byte) || is_tz_leading_char(byte) => {
+            let tz = parse_zone_in_bracket(cursor, byte)?;
+            Ok(TimeZoneAnnotation {
+                critical: false,
+                tz,
+            })
+        }
+        Some(_) => Err(ParseError::TzLeadingChar),
+    }
+}
+
+/// Reads a zone bracket after its `[` and `!`.
+#[tactic(auto, unfolding(crate::specs::ReadingBrackets::critical_bracket_at, crate::specs::ReadingLooks::next_by))]
+fn parse_critical_bracket<'a, T: EncodingType>(
+    cursor: &mut Cursor<'a, T>,
+) -> ParserResult<TimeZoneAnnotation<'a, T>>
+    ensures bracket { Reads (note_of T.number) (map T.letter cursor.old.rest) result (map T.letter cursor.new.rest) (critical_bracket_at error_of) }
+    ensures looks { Spends (length cursor.old.rest + 15) cursor.old cursor.new }
+{
+    match cursor.look()? {
+        None => Err(ParseError::AbruptEnd {
+            location: "AmbiguousAnnotation",
+        }),
+        Some(byte) if is_ascii_sign(byte) || is_tz_leading_char(byte) => {
+            let tz = parse_zone_in_bracket(cursor, byte)?;
+            Ok(TimeZoneAnnotation { critical: true, tz })
+        }
+        Some(_) => Err(ParseError::TzLeadingChar),
+    }
+}
+
+/// Reads the zone of a bracket from its first letter on, and its `]`.
+#[tactic(auto, using(crate::proofs::CodeLemmas::offset_in_bracket_is), unfolding(crate::specs::ReadingBrackets::zone_in_bracket_at))]
+fn parse_zone_in_bracket<'a, T: EncodingType>(
+    cursor: &mut Cursor<'a, T>,
+    lead: u8,
+) -> ParserResult<TimeZoneRecord<'a, T>>
+    ensures zone { Reads (zone_of T.number) (map T.letter cursor.old.rest) result (map T.letter cursor.new.rest) (zone_in_bracket_at error_of lead) }
+    ensures looks { Spends (length cursor.old.rest + 14) cursor.old cursor.new }
+{
+    if is_ascii_sign(lead) {
+        cursor.step();
+        return parse_offset_in_bracket(cursor, lead);
+    }
+    let name = if is_a_key_leading_char(lead) {
+        parse_name_or_pair(cursor)?
+    } else {
+        parse_name_in_bracket(cursor)?
+    };
+    Ok(TimeZoneRecord::Name(name))
+}
+
+/// Reads an offset after its sign, and its bracket's `]`.
+#[tactic(auto, unfolding(crate::specs::CodeReadings::offset_in_bracket_by))]
+fn parse_offset_in_bracket<'a, T: EncodingType>(
+    cursor: &mut Cursor<'a, T>,
+    sign: u8,
+) -> ParserResult<TimeZoneRecord<'a, T>>
+    ensures offset { Reads (zone_of T.number) (map T.letter cursor.old.rest) result (map T.letter cursor.new.rest) (offset_in_bracket_by sign) }
+    ensures looks { Spends 14 cursor.old cursor.new }
+{
+    let offset = parse_minute_offset(cursor, sign)?;
+    close_bracket(cursor, ParseError::AnnotationClose)?;
+    Ok(TimeZoneRecord::Offset(offset))
+}
+
+/// Reads a name and its bracket's `]`, where the bracket is no pair of a key and a value: no pair is read.
+#[tactic(auto, unfolding(crate::specs::ReadingBrackets::name_or_pair_at))]
+fn parse_name_or_pair<'a, T: EncodingType>(
+    cursor: &mut Cursor<'a, T>,
+) -> ParserResult<&'a [T::CodeUnit]>
+    ensures name { Reads (λ units. map T.number units.now) (map T.letter cursor.old.rest) result (map T.letter cursor.new.rest) (name_or_pair_at error_of) }
+    ensures looks { Spends (length cursor.old.rest + 3) cursor.old cursor.new }
+{
+    if is_pair_ahead(cursor)? {
+        return Err(ParseError::InvalidEnd);
+    }
+    parse_name_in_bracket(cursor)
+}
+
+/// Reads a name and its bracket's `]`.
+#[tactic(auto, unfolding(crate::specs::ReadingBrackets::name_in_bracket_at))]
+fn parse_name_in_bracket<'a, T: EncodingType>(
+    cursor: &mut Cursor<'a, T>,
+) -> ParserResult<&'a [T::CodeUnit]>
+    ensures name { Reads (λ units. map T.number units.now) (map T.letter cursor.old.rest) result (map T.letter cursor.new.rest) (name_in_bracket_at error_of) }
+    ensures looks { Spends 2 cursor.old cursor.new }
+{
+    let name = parse_tz_name(cursor)?;
+    close_bracket(cursor, ParseError::IanaChar)?;
+    Ok(name)
+}
+
+/// `=` or `]`.
+#[inline(always)]
+fn ends_key(byte: u8) -> bool
+    ensures { result ≡ equals byte || closing byte }
+{
+    is_annotation_key_value_separator(byte) || is_annotation_close(byte)
+}
+
+/// Looks ahead whether an `=` comes before any `]`. Where neither comes it is `AbruptEnd`. Nothing is taken off.
+fn is_pair_ahead<'a, T: EncodingType>(cursor: &mut Cursor<'a, T>) -> ParserResult<bool>
+    ensures sight { Gives (λ pair. pair) result (sight_at error_of (map T.letter cursor.old.rest)) }
+    ensures rest { OnOk result (cursor.new.rest ≡ cursor.old.rest) }
+    ensures looks { Spends (length cursor.old.rest + 1) cursor.old cursor.new }
+{
+    let start = cursor.rest();
+    while let Some(byte) = cursor.look()? {
+        if ends_key(byte) {
+            cursor.go_back(start);
+            return Ok(is_annotation_key_value_separator(byte));
+        }
+        cursor.step();
+    }
+    Err(ParseError::AbruptEnd {
+        location: "AmbiguousAnnotation",
+    })
+}
