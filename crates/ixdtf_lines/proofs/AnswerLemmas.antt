@@ -4,12 +4,10 @@ use Rattle.std.proofs.lemmas.Bool.{lt-ltb, le-ltb}
 use Rattle.std.proofs.lemmas.List.{take_all, length-drop}
 use Rattle.std.specs.Bool.{MatchBool}
 use Rattle.ixdtf.specs.Faults.{Fault}
-use Rattle.ixdtf.specs.Languages.{Parsed, Derives, HasFault}
-use Rattle.ixdtf.specs.Readers.Reader.{parse}
-use Rattle.ixdtf_lines.specs.Answer.{line_limit, too_long, unknown_reader, is_space, letters, ok_answer_of, error_answer_of, IsAnswer, IsAnswerOf, IsReaderAnswer, IsParseAnswer}
-use Rattle.ixdtf_lines.specs.Word.{word_named}
-use Rattle.ixdtf_lines.specs.declared.word.Word.{Word}
-use Rattle.ixdtf_lines.specs.declared.word.Word.TheVariants.{Parse}
+use Rattle.ixdtf.specs.Languages.{Found, Derives, HasFault}
+use Rattle.ixdtf.specs.Readers.{Reader}
+use Rattle.ixdtf_lines.specs.Answer.{line_limit, too_long, unknown_reader, is_space, letters, ok_answer_of, error_answer_of, IsAnswer, IsReaderAnswer, IsOutcome}
+use Rattle.ixdtf_lines.specs.Word.{word_named, reader_of}
 
 -- the answer, with the two tests as variables
 abbrev IsAnswerBy : List ℕ → List ℕ → Bool → Option ℕ → Type 0
@@ -36,16 +34,18 @@ IsAnswer-word line answer place short at is =
 
 pub IsReaderAnswer-unknown : (name text : List ℕ) → None ≡ word_named name → IsReaderAnswer name text unknown_reader
 IsReaderAnswer-unknown name text none =
-    subst (λ o. MatchOption o (unknown_reader ≡ unknown_reader) (λ word. IsAnswerOf word text unknown_reader)) none refl
+    subst (λ o. MatchOption o (unknown_reader ≡ unknown_reader) (λ word. IsOutcome (reader_of word) text unknown_reader)) none refl
 
--- the reader derives the value from what it has to read, which is the text
-pub IsParseAnswer-ok : (text rest : List ℕ) (parsed : Parsed) → rest ≡ text → Derives parse (letters rest) parsed → IsParseAnswer text (ok_answer_of parsed)
-IsParseAnswer-ok text rest parsed same derives = inl (parsed, subst (λ (t : List ℕ). Derives parse (letters t) parsed) same derives, refl)
+-- a reader derives the value from what it has to read, which is the text
+pub Derives-text : (reader : Reader) (text rest : List ℕ) (found : Found) → rest ≡ text → Derives reader (letters rest) found → Derives reader (letters text) found
+Derives-text reader text rest found same derives = subst (λ (t : List ℕ). Derives reader (letters t) found) same derives
 
 -- it finds the fault in it
-pub IsParseAnswer-error : (text rest : List ℕ) (fault : Fault) → rest ≡ text → HasFault parse (letters rest) fault → IsParseAnswer text (error_answer_of fault)
-IsParseAnswer-error text rest fault same has = inr (fault, subst (λ (t : List ℕ). HasFault parse (letters t) fault) same has, refl)
+pub HasFault-text : (reader : Reader) (text rest : List ℕ) (fault : Fault) → rest ≡ text → HasFault reader (letters rest) fault → HasFault reader (letters text) fault
+HasFault-text reader text rest fault same has = subst (λ (t : List ℕ). HasFault reader (letters t) fault) same has
 
--- there is one word, which reads by `parse`
-pub IsAnswerOf-parse : (word : Word) (text answer : List ℕ) → IsParseAnswer text answer → IsAnswerOf word text answer
-IsAnswerOf-parse Parse text answer is = is
+pub IsOutcome-ok : (reader : Reader) (text : List ℕ) (found : Found) → Derives reader (letters text) found → IsOutcome reader text (ok_answer_of found)
+IsOutcome-ok reader text found derives = inl (found, derives, refl)
+
+pub IsOutcome-error : (reader : Reader) (text : List ℕ) (fault : Fault) → HasFault reader (letters text) fault → IsOutcome reader text (error_answer_of fault)
+IsOutcome-error reader text fault has = inr (fault, has, refl)

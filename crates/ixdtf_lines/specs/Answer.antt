@@ -3,13 +3,11 @@ use Rattle.std.specs.Prelude.{◌≡◌, ℕ, ◌+◌, Bool, ◌==◌, ◌⊎◌
 use Rattle.std.specs.Bool.{MatchBool}
 use Rattle.ixdtf.specs.ErrorTexts.{message_of}
 use Rattle.ixdtf.specs.Faults.{Fault}
-use Rattle.ixdtf.specs.Languages.{Parsed, Derives, HasFault}
+use Rattle.ixdtf.specs.Languages.{Found, Derives, HasFault}
 use Rattle.ixdtf.specs.Letters.{Text, byte_letter}
-use Rattle.ixdtf.specs.Readers.Reader.{parse}
-use Rattle.ixdtf_lines.specs.declared.word.Word.{Word}
-use Rattle.ixdtf_lines.specs.declared.word.Word.TheVariants.{Parse}
+use Rattle.ixdtf.specs.Readers.{Reader}
 use Rattle.ixdtf_lines.specs.Fields.{fields_of}
-use Rattle.ixdtf_lines.specs.Word.{word_named}
+use Rattle.ixdtf_lines.specs.Word.{word_named, reader_of}
 
 -- the longest line that is read
 abbrev pub line_limit : ℕ
@@ -29,26 +27,22 @@ abbrev pub letters : List ℕ → Text
 letters bytes = map byte_letter bytes
 
 -- the answer to a text that is read
-abbrev pub ok_answer_of : Parsed → List ℕ
-ok_answer_of parsed = codes "ok" ++ fields_of parsed
+abbrev pub ok_answer_of : Found → List ℕ
+ok_answer_of found = codes "ok" ++ fields_of found
 
 -- the answer to a text that is refused
 abbrev pub error_answer_of : Fault → List ℕ
 error_answer_of fault = codes "error " ++ message_of fault
 
--- the answer of a reader that derives a value from the text, or finds a fault in it
-abbrev pub IsParseAnswer : List ℕ → List ℕ → Type 0
-IsParseAnswer text answer =
-    ((parsed : Parsed) × Derives parse (letters text) parsed × (answer ≡ ok_answer_of parsed))
-    ⊎ ((fault : Fault) × HasFault parse (letters text) fault × (answer ≡ error_answer_of fault))
-
--- the answer of a reader
-abbrev pub IsAnswerOf : Word → List ℕ → List ℕ → Type 0
-IsAnswerOf Parse text answer = IsParseAnswer text answer
+-- the answer of a reader, which derives a value from the text or finds a fault in it
+abbrev pub IsOutcome : Reader → List ℕ → List ℕ → Type 0
+IsOutcome reader text answer =
+    ((found : Found) × Derives reader (letters text) found × (answer ≡ ok_answer_of found))
+    ⊎ ((fault : Fault) × HasFault reader (letters text) fault × (answer ≡ error_answer_of fault))
 
 -- the answer of the reader that the name names
 abbrev pub IsReaderAnswer : List ℕ → List ℕ → List ℕ → Type 0
-IsReaderAnswer name text answer = MatchOption (word_named name) (answer ≡ unknown_reader) (λ word. IsAnswerOf word text answer)
+IsReaderAnswer name text answer = MatchOption (word_named name) (answer ≡ unknown_reader) (λ word. IsOutcome (reader_of word) text answer)
 
 -- the answer to a line
 abbrev pub IsAnswer : List ℕ → List ℕ → Type 0

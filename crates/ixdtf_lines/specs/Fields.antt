@@ -1,10 +1,22 @@
 -- The fields of what a reader derives, each after a space.
-use Rattle.std.specs.Prelude.{ℕ, List, [], ◌∷◌, ◌++◌, Option, Some, None, codes}
+use Rattle.std.specs.Prelude.{ℕ, Bool, true, false, List, [], ◌∷◌, ◌++◌, Option, Some, None, codes}
 use Rattle.std.specs.Fmt.{decimal, signed_decimal}
 use Rattle.ixdtf.specs.declared.records.DateRecord.{DateRecord}
+use Rattle.ixdtf.specs.declared.records.FullPrecisionOffset.{FullPrecisionOffset}
+use Rattle.ixdtf.specs.declared.records.MinutePrecisionOffset.{MinutePrecisionOffset}
+use Rattle.ixdtf.specs.declared.records.Sign.{Sign}
+use Rattle.ixdtf.specs.declared.records.Sign.TheVariants.{Negative, Positive}
 use Rattle.ixdtf.specs.declared.records.TimeRecord.{TimeRecord}
+use Rattle.ixdtf.specs.declared.records.UtcOffsetRecord.{UtcOffsetRecord}
+use Rattle.ixdtf.specs.declared.records.UtcOffsetRecord.TheVariants as offsets
+use Rattle.ixdtf.specs.declared.records.UtcOffsetRecordOrZ.{UtcOffsetRecordOrZ}
+use Rattle.ixdtf.specs.declared.records.UtcOffsetRecordOrZ.TheVariants as shifts
 use Rattle.ixdtf.specs.Fractions.{FractionParts, nanoseconds_of}
-use Rattle.ixdtf.specs.Languages.{Parsed}
+use Rattle.ixdtf.specs.Brackets.{ZoneNote}
+use Rattle.ixdtf.specs.Languages.{Parsed, Found}
+use Rattle.ixdtf.specs.Languages.Found.{parsed, shifted, identified, named}
+use Rattle.ixdtf.specs.ZoneNames.{Zone}
+use Rattle.ixdtf.specs.ZoneNames.Zone.{Name, Offset}
 use Rattle.ixdtf_lines.specs.Digits.{nine_digits_of}
 
 -- `,`
@@ -40,6 +52,63 @@ abbrev pub time_field_of : Option TimeRecord → List ℕ
 time_field_of None = []
 time_field_of (Some time) = time_text_of time
 
--- the fields in their order
-abbrev pub fields_of : Parsed → List ℕ
-fields_of parsed = date_field_of parsed.date ++ time_field_of parsed.time
+-- `-` or `+`
+abbrev pub sign_text_of : Sign → List ℕ
+sign_text_of Negative = codes "-"
+sign_text_of Positive = codes "+"
+
+-- sign, hours and minutes
+abbrev pub minute_offset_text_of : MinutePrecisionOffset → List ℕ
+minute_offset_text_of offset = sign_text_of offset.sign ++ (decimal offset.hour ++ comma ∷ decimal offset.minute)
+
+-- the seconds after the minutes, with their fraction
+abbrev pub full_offset_text_of : FullPrecisionOffset → List ℕ
+full_offset_text_of offset =
+    minute_offset_text_of offset.minute_precision_offset ++ (comma ∷ decimal offset.second ++ fraction_text_of offset.fraction)
+
+-- the numbers of an offset, with seconds where it has them
+abbrev pub offset_numbers_of : UtcOffsetRecord → List ℕ
+offset_numbers_of (offsets.MinutePrecision offset) = minute_offset_text_of offset
+offset_numbers_of (offsets.FullPrecisionOffset offset) = full_offset_text_of offset
+
+-- an offset in numbers
+abbrev pub offset_text_of : UtcOffsetRecord → List ℕ
+offset_text_of offset = codes " offset=" ++ offset_numbers_of offset
+
+-- an offset in numbers, or `Z`
+abbrev pub offset_or_z_text_of : UtcOffsetRecordOrZ → List ℕ
+offset_or_z_text_of (shifts.Offset offset) = offset_text_of offset
+offset_or_z_text_of shifts.Z = codes " offset=Z"
+
+abbrev pub offset_field_of : Option UtcOffsetRecordOrZ → List ℕ
+offset_field_of None = []
+offset_field_of (Some offset) = offset_or_z_text_of offset
+
+-- the bytes of a name, or an offset in numbers
+abbrev pub name_or_offset_of : Zone → List ℕ
+name_or_offset_of (Name name) = name
+name_or_offset_of (Offset offset) = minute_offset_text_of offset
+
+-- `!` where the zone is critical
+abbrev pub critical_text_of : Bool → List ℕ
+critical_text_of true = codes "!"
+critical_text_of false = []
+
+-- a zone, and whether it is critical
+abbrev pub zone_text_of : Bool → Zone → List ℕ
+zone_text_of critical zone = codes " tz=" ++ (critical_text_of critical ++ name_or_offset_of zone)
+
+abbrev pub zone_field_of : Option ZoneNote → List ℕ
+zone_field_of None = []
+zone_field_of (Some note) = zone_text_of note.critical note.zone
+
+-- the fields of a record, in their order
+abbrev pub record_fields_of : Parsed → List ℕ
+record_fields_of found = date_field_of found.date ++ (time_field_of found.time ++ (offset_field_of found.offset ++ zone_field_of found.zone))
+
+-- the fields of what a reader derives
+abbrev pub fields_of : Found → List ℕ
+fields_of (parsed found) = record_fields_of found
+fields_of (shifted offset) = offset_text_of offset
+fields_of (identified zone) = zone_text_of false zone
+fields_of (named name) = zone_text_of false (Name name)

@@ -1,6 +1,7 @@
 pub mod Answer
 pub mod Digits
 pub mod Fields
+pub mod Found
 pub mod Line
 pub mod Lines
 pub mod Number

@@ -1,22 +1,21 @@
 //! The answer to a line.
 ghost use Rattle.std.specs.Prelude.{◌≡◌, ℕ, List, [], ◌∷◌, ◌++◌, ◌≤◌, length, position, codes};
-ghost use Rattle.ixdtf.specs.Answers.{parsed_of};
 ghost use Rattle.ixdtf.specs.ErrorTexts.{message_of};
 ghost use Rattle.ixdtf.specs.Faults.{fault_of};
-ghost use Rattle.ixdtf_lines.specs.Answer.{IsAnswer, IsReaderAnswer, IsAnswerOf, IsParseAnswer, is_space, ok_answer_of, error_answer_of};
+ghost use Rattle.ixdtf_lines.specs.Answer.{IsAnswer, IsReaderAnswer, IsOutcome, is_space, ok_answer_of, error_answer_of};
+ghost use Rattle.ixdtf_lines.specs.Found.{found_of};
 ghost use Rattle.ixdtf_lines.specs.Line.{Holds};
 ghost use Rattle.ixdtf_lines.specs.Lines.{newline};
 ghost use Rattle.ixdtf_lines.specs.Output.{Puts, PutsLine};
+ghost use Rattle.ixdtf_lines.specs.Word.{reader_of};
 
 use crate::error::RunError;
 use crate::fields::put_fields;
+use crate::found::{Found, read};
 use crate::line::Line;
 use crate::waiting::Waiting;
 use crate::word::Word;
 use ixdtf::ParseError;
-use ixdtf::encoding::Utf8;
-use ixdtf::parsers::IxdtfParser;
-use ixdtf::records::IxdtfParseRecord;
 use std::io::Write;
 
 /// Puts the answer to the line, and a newline.
@@ -71,46 +70,32 @@ fn put_reader_answer<W: Write>(
     }
 }
 
-/// Puts the answer of the reader.
+/// Puts the answer of the reader that the word names.
 fn put_answer_of<W: Write>(
     waiting: &mut Waiting,
     writer: &mut W,
     word: Word,
     text: &[u8],
 ) -> Result<(), RunError>
-    ensures { PutsLine (W.contents writer.old) (W.contents writer.new) waiting.old waiting.new result (IsAnswerOf word text.now) }
+    ensures { PutsLine (W.contents writer.old) (W.contents writer.new) waiting.old waiting.new result (IsOutcome (reader_of word) text.now) }
 {
-    match word {
-        Word::Parse => put_parse_answer(waiting, writer, text),
-    }
-}
-
-/// Puts the answer of `parse`.
-fn put_parse_answer<W: Write>(
-    waiting: &mut Waiting,
-    writer: &mut W,
-    text: &[u8],
-) -> Result<(), RunError>
-    ensures { PutsLine (W.contents writer.old) (W.contents writer.new) waiting.old waiting.new result (IsParseAnswer text.now) }
-{
-    let mut parser = IxdtfParser::from_utf8(text);
-    match parser.parse() {
-        Ok(parsed) => put_record(waiting, writer, &parsed),
+    match read(word, text) {
+        Ok(found) => put_found(waiting, writer, &found),
         Err(error) => put_error(waiting, writer, error),
     }
 }
 
 /// Puts the answer to a text that is read.
-fn put_record<W: Write>(
+fn put_found<W: Write>(
     waiting: &mut Waiting,
     writer: &mut W,
-    parsed: &IxdtfParseRecord<'_, Utf8>,
+    found: &Found<'_>,
 ) -> Result<(), RunError>
     ensures { Puts (W.contents writer.old) (W.contents writer.new) waiting.old waiting.new result
-        (ok_answer_of (parsed_of (λ byte. byte) parsed.now) ++ newline ∷ []) }
+        (ok_answer_of (found_of found.now) ++ newline ∷ []) }
 {
     waiting.put(writer, b"ok")?;
-    put_fields(waiting, writer, parsed)?;
+    put_fields(waiting, writer, found)?;
     waiting.put(writer, b"\n")
 }
 

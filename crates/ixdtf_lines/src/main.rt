@@ -5,6 +5,7 @@ mod answer;
 mod arguments;
 mod error;
 mod fields;
+mod found;
 mod line;
 mod number;
 mod output;

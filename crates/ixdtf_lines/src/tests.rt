@@ -92,10 +92,11 @@ impl Write for FaultyWriter {
     }
 }
 
-const LINES: &[u8] = b"parse 20201108\nhello\nparse 2021-02-29\nparse 2020\n\nparse -000400-02-29";
+const LINES: &[u8] =
+    b"parse 20201108\nhello\noffset -05:00:30.5\nparse 2021-02-29\niana Europe/Berlin\nparse 2020\n\nparse -000400-02-29";
 
 const ANSWERS: &[u8] =
-    b"ok date=2020,11,8\nerror unknown reader\nerror Parsed day value not in a valid range.\nerror Parsing ended abruptly while parsing Date\nerror unknown reader\nok date=-400,2,29\n";
+    b"ok date=2020,11,8\nerror unknown reader\nok offset=-5,0,30.500000000\nerror Parsed day value not in a valid range.\nok tz=Europe/Berlin\nerror Parsing ended abruptly while parsing Date\nerror unknown reader\nok date=-400,2,29\n";
 
 const TWO_LINES: &[u8] = b"parse 2020-01-01\nparse 2020-01-02\n";
 
@@ -129,6 +130,54 @@ fn answers_dates_and_times(rt: HostRuntime) -> Result<(), Fail> {
 }
 
 #[test]
+fn answers_offsets(rt: HostRuntime) -> Result<(), Fail> {
+    check_run(
+        &rt,
+        rt.alloc(),
+        b"offset -05:00:30.5\noffset +0530\noffset -00\noffset +010203\n",
+        b"ok offset=-5,0,30.500000000\nok offset=+5,30\nok offset=-0,0\nok offset=+1,2,3\n",
+    )?;
+    check_run(
+        &rt,
+        rt.alloc(),
+        b"offset 05:00\noffset Z\noffset \noffset -5:00\noffset +05:0060\noffset +05:00[u]\n",
+        b"error UTC offset needs a sign\nerror UTC offset needs a sign\nerror Parsing ended abruptly while parsing time-numoffset\nerror Invalid character while parsing hour value.\nerror Invalid time zone character after '/'.\nerror Unexpected character found after parsing was completed.\n",
+    )
+}
+
+#[test]
+fn answers_zones(rt: HostRuntime) -> Result<(), Fail> {
+    check_run(
+        &rt,
+        rt.alloc(),
+        b"zone Europe/Berlin\nzone +05:30\nzone -00\niana Europe/Berlin\niana .Etc/GMT+1\n",
+        b"ok tz=Europe/Berlin\nok tz=+5,30\nok tz=-0,0\nok tz=Europe/Berlin\nok tz=.Etc/GMT+1\n",
+    )?;
+    check_run(
+        &rt,
+        rt.alloc(),
+        b"zone +04:30:15\nzone \niana +05:30\niana \niana UTC!\niana UTC]\n",
+        b"error Offset must be minute precision\nerror Parsing ended abruptly while parsing TimeZoneAnnotation\nerror Invalid time zone leading character.\nerror Invalid time zone leading character.\nerror Invalid IANA time zone character after '/'.\nerror Unexpected character found after parsing was completed.\n",
+    )
+}
+
+#[test]
+fn answers_dates_with_offsets_and_zones(rt: HostRuntime) -> Result<(), Fail> {
+    check_run(
+        &rt,
+        rt.alloc(),
+        b"parse 2020-01-01T00:00z\nparse 2020-01-01T00:00+23:59\nparse 2020-01-01T00:00:00-05:00:30.5\n",
+        b"ok date=2020,1,1 time=0,0,0 offset=Z\nok date=2020,1,1 time=0,0,0 offset=+23,59\nok date=2020,1,1 time=0,0,0 offset=-5,0,30.500000000\n",
+    )?;
+    check_run(
+        &rt,
+        rt.alloc(),
+        b"parse 2020-04-08[!America/Chicago]\nparse 2020-04-08[America/Chicago]\nparse 2020-04-08T12:30Z[!-0500]\nparse 2020-04-08[Amer\n",
+        b"ok date=2020,4,8 tz=!America/Chicago\nok date=2020,4,8 tz=America/Chicago\nok date=2020,4,8 time=12,30,0 offset=Z tz=!-5,0\nerror Invalid annotation close character.\n",
+    )
+}
+
+#[test]
 fn answers_each_line(rt: HostRuntime) -> Result<(), Fail> {
     check_run(&rt, rt.alloc(), LINES, ANSWERS)
 }
@@ -147,7 +196,11 @@ fn answers_unknown_words(rt: HostRuntime) -> Result<(), Fail> {
     check_run(&rt, rt.alloc(), b" parse 20201108", unknown)?;
     check_run(&rt, rt.alloc(), b"Parse 20201108", unknown)?;
     check_run(&rt, rt.alloc(), b"parse2 20201108", unknown)?;
-    check_run(&rt, rt.alloc(), b"parse\t20201108", unknown)
+    check_run(&rt, rt.alloc(), b"parse\t20201108", unknown)?;
+    check_run(&rt, rt.alloc(), b"iana", unknown)?;
+    check_run(&rt, rt.alloc(), b"Zone UTC", unknown)?;
+    check_run(&rt, rt.alloc(), b"offsets +05:00", unknown)?;
+    check_run(&rt, rt.alloc(), b"of +05:00", unknown)
 }
 
 #[test]

@@ -4,8 +4,14 @@ ghost use Rattle.std.specs.Prelude.{◌≡◌};
 /// A reader.
 #[derive(Clone, Copy, Debug, PartialEq)]
 pub enum Word {
-    /// `parse`: a date, or a date and a time.
+    /// `parse`: a date, or a date and a time, with an offset and a zone.
     Parse,
+    /// `offset`: an offset from UTC.
+    Offset,
+    /// `zone`: a time zone, by name or by offset.
+    Zone,
+    /// `iana`: a time zone by name.
+    Iana,
 }
 
 impl Word {
@@ -17,6 +23,12 @@ impl Word {
     {
         if name == b"parse".as_slice() {
             Some(Word::Parse)
+        } else if name == b"offset".as_slice() {
+            Some(Word::Offset)
+        } else if name == b"zone".as_slice() {
+            Some(Word::Zone)
+        } else if name == b"iana".as_slice() {
+            Some(Word::Iana)
         } else {
             None
         }

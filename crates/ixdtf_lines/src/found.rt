@@ -1,0 +1,88 @@
+//! What the readers find.
+ghost use Rattle.std.specs.Prelude.{IfOk, IfErr};
+ghost use Rattle.ixdtf.specs.Faults.{fault_of};
+ghost use Rattle.ixdtf.specs.Languages.{Derives, HasFault};
+ghost use Rattle.ixdtf.specs.Readers.Reader.{parse as parse_reader, parse_offset as offset_reader, parse_identifier as zone_reader, parse_iana_identifier as iana_reader};
+ghost use Rattle.ixdtf_lines.specs.Answer.{letters};
+ghost use Rattle.ixdtf_lines.specs.Found.{found_of};
+ghost use Rattle.ixdtf_lines.specs.Word.{reader_of};
+
+use crate::word::Word;
+use ixdtf::ParserResult;
+use ixdtf::encoding::Utf8;
+use ixdtf::parsers::{IxdtfParser, TimeZoneParser};
+use ixdtf::records::{IxdtfParseRecord, TimeZoneRecord, UtcOffsetRecord};
+
+/// What a reader found in a text.
+#[derive(Drop)]
+pub enum Found<'a> {
+    /// The parts of a date and a time.
+    Record(IxdtfParseRecord<'a, Utf8>),
+    /// An offset from UTC.
+    Offset(UtcOffsetRecord),
+    /// A time zone, by name or by offset.
+    Zone(TimeZoneRecord<'a, Utf8>),
+    /// The bytes of a time zone's name.
+    Name(&'a [u8]),
+}
+
+/// What the reader of the word finds in the text.
+pub fn read(word: Word, text: &[u8]) -> ParserResult<Found<'_>>
+    ensures ok { IfOk result (λ found. Derives (reader_of word) (letters text.now) (found_of found)) }
+    ensures err { IfErr result (λ error. HasFault (reader_of word) (letters text.now) (fault_of error)) }
+{
+    match word {
+        Word::Parse => read_record(text),
+        Word::Offset => read_offset(text),
+        Word::Zone => read_zone(text),
+        Word::Iana => read_name(text),
+    }
+}
+
+/// What `parse` finds.
+fn read_record(text: &[u8]) -> ParserResult<Found<'_>>
+    ensures ok { IfOk result (λ found. Derives parse_reader (letters text.now) (found_of found)) }
+    ensures err { IfErr result (λ error. HasFault parse_reader (letters text.now) (fault_of error)) }
+{
+    let mut parser = IxdtfParser::from_utf8(text);
+    match parser.parse() {
+        Ok(parts) => Ok(Found::Record(parts)),
+        Err(error) => Err(error),
+    }
+}
+
+/// What `offset` finds.
+fn read_offset(text: &[u8]) -> ParserResult<Found<'_>>
+    ensures ok { IfOk result (λ found. Derives offset_reader (letters text.now) (found_of found)) }
+    ensures err { IfErr result (λ error. HasFault offset_reader (letters text.now) (fault_of error)) }
+{
+    let mut parser = TimeZoneParser::from_utf8(text);
+    match parser.parse_offset() {
+        Ok(offset) => Ok(Found::Offset(offset)),
+        Err(error) => Err(error),
+    }
+}
+
+/// What `zone` finds.
+fn read_zone(text: &[u8]) -> ParserResult<Found<'_>>
+    ensures ok { IfOk result (λ found. Derives zone_reader (letters text.now) (found_of found)) }
+    ensures err { IfErr result (λ error. HasFault zone_reader (letters text.now) (fault_of error)) }
+{
+    let mut parser = TimeZoneParser::from_utf8(text);
+    match parser.parse_identifier() {
+        Ok(zone) => Ok(Found::Zone(zone)),
+        Err(error) => Err(error),
+    }
+}
+
+/// What `iana` finds.
+fn read_name(text: &[u8]) -> ParserResult<Found<'_>>
+    ensures ok { IfOk result (λ found. Derives iana_reader (letters text.now) (found_of found)) }
+    ensures err { IfErr result (λ error. HasFault iana_reader (letters text.now) (fault_of error)) }
+{
+    let mut parser = TimeZoneParser::from_utf8(text);
+    match parser.parse_iana_identifier() {
+        Ok(name) => Ok(Found::Name(name)),
+        Err(error) => Err(error),
+    }
+}
