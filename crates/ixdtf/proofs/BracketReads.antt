@@ -1,4 +1,4 @@
--- What reading a first bracket answers is a zone bracket, or a row that fits.
+-- What reading a first bracket answers is a zone bracket or a pair, or a row that fits.
 use Rattle.std.proofs.Common.{◌≡◌, ℕ, Bool, true, false, IsTrue, IsFalse, List, Result, Ok, Err, [], ◌∷◌, ◌++◌, drop, refl, sym, ap, ◌∙◌, subst, inl, inr, arith, append_assoc, if◌then◌else◌}
 use Rattle.std.proofs.lemmas.Bool.{eqb-true}
 use Rattle.std.proofs.lemmas.Bool.Decides.{nat_tests}
@@ -8,15 +8,17 @@ use Rattle.ixdtf.specs.Letters.Letter.{Plain, Bad}
 use Rattle.ixdtf.specs.Classes.{Class, ◌or◌, sign, opening, closing, exclamation, slash, zone_lead, zone_char, key_lead}
 use Rattle.ixdtf.specs.Shapes.{nothing, one, ◌then◌, some}
 use Rattle.ixdtf.specs.Faults.{Fault}
-use Rattle.ixdtf.specs.Faults.Fault.{InvalidEnd, TzLeadingChar, AnnotationClose, IanaChar}
+use Rattle.ixdtf.specs.Faults.Fault.{TzLeadingChar, AnnotationClose, IanaChar}
 use Rattle.ixdtf.specs.Offsets.{minutes_of}
 use Rattle.ixdtf.specs.ZoneNames.{Zone, IsZone, IsZoneName}
-use Rattle.ixdtf.specs.Brackets.{ZoneNote, Opens, IsZoneBracket, ReadsAsName}
-use Rattle.ixdtf.specs.Readers.{ZoneLine, BracketLine, LineName}
+use Rattle.ixdtf.specs.Brackets.{Opens, IsZoneBracket, ReadsAsName}
+use Rattle.ixdtf.specs.Pairs.{Pair, IsPair, ReadsAsPair}
+use Rattle.ixdtf.specs.Readers.{ZoneLine, BracketLine, PairLine, LineName}
 use Rattle.ixdtf.specs.Readers.Reader.{parse}
-use Rattle.ixdtf.specs.Readers.LineName.{of_clock, of_zone, of_bracket}
+use Rattle.ixdtf.specs.Readers.LineName.{of_clock, of_zone, of_bracket, of_pair}
 use Rattle.ixdtf.specs.Readers.ZoneLine.{identifier_start, zone_name_start, in_zone_name, after_zone_slash}
-use Rattle.ixdtf.specs.Readers.BracketLine.{first_bracket_start, first_critical_start, first_bracket_scan, first_bracket_pair, after_bracket}
+use Rattle.ixdtf.specs.Readers.BracketLine.{first_bracket_start, first_critical_start, first_bracket_scan}
+use Rattle.ixdtf.specs.Readers.PairLine.{key_start, critical_key_start, in_key, value_start, in_value, after_value_hyphen}
 use Rattle.ixdtf.specs.FaultTable.{Ending, table, always, abrupt_zone, zone_letters, zone_line}
 use Rattle.ixdtf.specs.FaultTable.Line.{line}
 use Rattle.ixdtf.specs.FaultTable.Ending.{error}
@@ -24,14 +26,17 @@ use Rattle.ixdtf.specs.Rows.{Row, Place, Stops, FitsHere, front_of}
 use Rattle.ixdtf.specs.Rows.Place.{end, other, bad, anywhere}
 use Rattle.ixdtf.specs.ReadingLooks.{Read, ◌>>=◌, row_of, letter_at, look_at, next_by}
 use Rattle.ixdtf.specs.ReadingTimes.{clock_at}
+use Rattle.ixdtf.specs.ReadingPairs.{pair_at}
 use Rattle.ixdtf.specs.ReadingZones.{follow_look, name_look, name_run, as_zone}
-use Rattle.ixdtf.specs.ReadingBrackets.{sight_at, name_in_bracket_at, name_or_pair_at, offset_in_bracket_at, zone_in_bracket_at, noted, critical_bracket_at, bracket_at}
+use Rattle.ixdtf.specs.ReadingBrackets.{Bracket, zoned, paired, sight_at, name_in_bracket_at, name_or_pair_at, offset_in_bracket_at, noted, as_pair, inside_at, critical_bracket_at, bracket_at}
 use Rattle.ixdtf.proofs.LookLemmas.{OnRead, FitsIn, then_read, read_if, read_letter}
 use Rattle.ixdtf.proofs.TimeReads.{clock_read, clock_next_read}
 use Rattle.ixdtf.proofs.NameReads.{NameFront, name_read, name_stops_here}
+use Rattle.ixdtf.proofs.PairTakes.{InPair}
+use Rattle.ixdtf.proofs.PairReads.{PairFront, FitsInPair, pair_read, opened_pair}
 use Rattle.ixdtf.proofs.Sight.{OnSight, over_letter, sight_read, key_lead_passed}
 
--- what stands between a core and the front of a bracket's line, and what the text has from the front on
+-- what stands between a core and the front of a line of a first bracket, and what the text has from the front on
 abbrev pub InBracket : LineName → Text → Text → Type 0
 InBracket (of_clock MinuteOffset name) before rest = (some Opens then one sign) before
 InBracket (of_zone in_zone_name) before rest = some Opens before × ReadsAsName rest
@@ -39,13 +44,20 @@ InBracket (of_zone after_zone_slash) before rest = some Opens before × ReadsAsN
 InBracket (of_bracket first_bracket_start) before rest = before ≡ []
 InBracket (of_bracket first_critical_start) before rest = before ≡ []
 InBracket (of_bracket first_bracket_scan) before rest = some Opens before
-InBracket (of_bracket first_bracket_pair) before rest = some Opens before
-InBracket (of_bracket after_bracket) before rest = before ≡ []
+InBracket (of_pair in_key) before rest = some Opens before × ReadsAsPair rest
+InBracket (of_pair value_start) before rest = some Opens before × ReadsAsPair rest
+InBracket (of_pair in_value) before rest = some Opens before × ReadsAsPair rest
+InBracket (of_pair after_value_hyphen) before rest = some Opens before × ReadsAsPair rest
 InBracket name before rest = ⊥
 
 -- the row fits what stands after a core
 abbrev pub FitsAfterCore : Row → Text → Type 0
 FitsAfterCore row body = (before rest : Text) × (body ≡ before ++ rest) × InBracket row.name before rest × FitsHere parse row rest
+
+-- a first bracket of either kind
+abbrev pub IsBracket : Text → Bracket → Type 0
+IsBracket text (zoned note) = IsZoneBracket text note
+IsBracket text (paired pair) = IsPair text pair
 
 -- the row fits a zone's text, wherever the zone's bracket opens
 abbrev FitsInside : Text → Row → Type 0
@@ -90,6 +102,18 @@ of_minutes : (row : Row) (c : ℕ) (text more : Text) → text ≡ Plain c ∷ m
 of_minutes row c text more is signs h start opens =
     (start ++ (Plain c ∷ []), more, rw is (simp append_assoc), subst (λ (n : LineName). InBracket n (start ++ (Plain c ∷ [])) more) (sym h.1) (start, Plain c ∷ [], refl, opens, (c, refl, signs)), h.2)
 
+-- a row of a pair fits in a bracket
+of_pairs : (row : Row) (text : Text) → ReadsAsPair text → FitsInPair text row → FitsInside text row
+of_pairs row text reads h start opens = (start, text, refl, subst (λ (n : LineName). InBracket n start text) (sym h.2) (by_line h.0 h.1), h.3)
+  where
+    by_line : (l : PairLine) → InPair l → InBracket (of_pair l) start text
+    by_line key_start within = absurd within
+    by_line critical_key_start within = absurd within
+    by_line in_key within = (opens, reads)
+    by_line value_start within = (opens, reads)
+    by_line in_value within = (opens, reads)
+    by_line after_value_hyphen within = (opens, reads)
+
 module _ {E : Type 0} (fault : Row → E) where
   -- ---- names
 
@@ -118,37 +142,6 @@ module _ {E : Type 0} (fault : Row → E) where
   as_zone_read text (Ok x) h = (h.0, h.1, inl (x.0, h.2, refl))
   as_zone_read text (Err e) h = h
 
-  -- what the sight saw decides
-  sighted : (c : ℕ) (text more : Text) → text ≡ Plain c ∷ more → IsTrue (zone_lead c) → IsTrue (key_lead c) → (s : Result Bool E) → OnSight fault more s → OnRead fault (s >>= λ pair. if pair then Err (fault (row_of (of_bracket first_bracket_pair) anywhere InvalidEnd)) else name_in_bracket_at fault text) (NameClosed text) (FitsInside text)
-  sighted c text more is lead key (Ok true) h = (
-    row_of (of_bracket first_bracket_pair) anywhere InvalidEnd,
-    refl,
-    λ start opens. (
-      start,
-      text,
-      refl,
-      opens,
-      ((Plain c ∷ h.0) ++ (Plain h.2 ∷ []), h.1, is ∙ rw h.3 (simp append_assoc), (Plain c ∷ h.0, Plain h.2 ∷ [], refl, (Plain c ∷ [], h.0, refl, (c, refl, key), h.4), (h.2, refl, h.5)), refl),
-    ),
-  )
-  sighted c text more is lead key (Ok false) h = name_in_bracket_read c text more is lead (inr (Plain c ∷ [], more, is, (c, refl, key), h))
-  sighted c text more is lead key (Err e) h = (
-    row_of (of_bracket first_bracket_scan) h.4 h.5,
-    h.6,
-    λ start opens. (
-      start,
-      text,
-      refl,
-      opens,
-      (Plain c ∷ h.0, h.1, is ∙ ap (λ t. Plain c ∷ t) h.2, (Plain c ∷ [], h.0, refl, (c, refl, key), h.3), h.7),
-    ),
-  )
-
-  -- where a key may begin
-  key_read : (c : ℕ) (text more : Text) → text ≡ Plain c ∷ more → IsTrue (zone_lead c) → IsTrue (key_lead c) → OnRead fault (name_or_pair_at fault text) (NameClosed text) (FitsInside text)
-  unfolding name_or_pair_at
-  key_read c text more is lead key = sighted c text more is lead key (sight_at fault text) (subst (OnSight fault more) (sym (ap (sight_at fault) is ∙ over_letter fault c more (key_lead_passed c key))) (sight_read fault more))
-
   -- ---- offsets
 
   -- an offset and `]`, after its sign
@@ -164,31 +157,50 @@ module _ {E : Type 0} (fault : Row → E) where
       (λ r f. of_minutes r c text more is signs f))
       (λ r f. of_minutes r c text more is signs f)
 
-  -- ---- zones
-
-  -- from its first letter on
-  zone_read : (c : ℕ) (text more : Text) → text ≡ Plain c ∷ more → IsTrue ((zone_lead or sign) c) → OnRead fault (zone_in_bracket_at fault c text) (ZoneFront text) (FitsInside text)
-  unfolding zone_in_bracket_at
-  zone_read c text more is may = read_if fault (sign c) _ _ _ _
-      (λ signs. rw (ap (drop 1) is) (minutes_read c text more is signs))
-      (λ plain.
-      let lead : IsTrue (zone_lead c) = grind (arith, may, plain, nat_tests) in
-      read_if fault (key_lead c) _ _ _ _
-      (λ key. as_zone_read text _ (key_read c text more is lead key))
-      (λ no_key. as_zone_read text _ (name_in_bracket_read c text more is lead (inl (Plain c ∷ [], more, is, (c, refl, rw (lead, no_key) refl), tt)))))
-
   -- ---- brackets
 
-  -- a zone's text, after what opens its bracket
-  noted_read : (start text : Text) (critical : Bool) → Opens start critical → (r : Read E Zone) → OnRead fault r (ZoneFront text) (FitsInside text)
-      → OnRead fault (noted critical r) (λ note rest. (front : Text) × (start ++ text ≡ front ++ rest) × IsZoneBracket front note) (λ row. FitsAfterCore row (start ++ text))
-  noted_read start text critical opens (Ok x) h =
-      (start ++ (h.0 ++ (Plain 93 ∷ [])), rw h.1 (simp append_assoc), record { start = start; inside = h.0; is = refl; opens = opens; zone = h.2 })
-  noted_read start text critical opens (Err e) h = (h.0, h.1, h.2 start (critical, opens))
-
   -- what reading a bracket answers, from `[` on
-  abbrev BracketRead : Text → Read E ZoneNote → Type 0
-  BracketRead body r = OnRead fault r (λ note rest. (front : Text) × (body ≡ front ++ rest) × IsZoneBracket front note) (λ row. FitsAfterCore row body)
+  abbrev BracketRead : Text → Read E Bracket → Type 0
+  BracketRead body r = OnRead fault r (λ bracket rest. (front : Text) × (body ≡ front ++ rest) × IsBracket front bracket) (λ row. FitsAfterCore row body)
+
+  -- after what opens the bracket
+  module _ (start : Text) (critical : Bool) (opens : Opens start critical) where
+    -- a zone
+    noted_read : (text : Text) (r : Read E Zone) → OnRead fault r (ZoneFront text) (FitsInside text) → BracketRead (start ++ text) (noted critical r)
+    noted_read text (Ok x) h =
+        (start ++ (h.0 ++ (Plain 93 ∷ [])), rw h.1 (simp append_assoc), record { start = start; inside = h.0; is = refl; opens = opens; zone = h.2 })
+    noted_read text (Err e) h = (h.0, h.1, h.2 start (critical, opens))
+
+    -- a pair, where it reads as a pair
+    paired_read : (text : Text) → ReadsAsPair text → (r : Read E Pair) → OnRead fault r (PairFront critical text) (FitsInPair text) → BracketRead (start ++ text) (as_pair r)
+    paired_read text reads (Ok x) h = (start ++ h.0, rw h.1 (simp append_assoc), opened_pair start h.0 critical x.0 opens h.2 h.3)
+    paired_read text reads (Err e) h = (h.0, h.1, of_pairs h.0 text reads h.2 start (critical, opens))
+
+    -- what the sight saw decides
+    sighted : (c : ℕ) (text more : Text) → text ≡ Plain c ∷ more → IsTrue (zone_lead c) → IsTrue (key_lead c) → (s : Result Bool E) → OnSight fault more s → BracketRead (start ++ text) (s >>= λ pair. if pair then as_pair (pair_at fault critical text) else noted critical (as_zone (name_in_bracket_at fault text)))
+    sighted c text more is lead key (Ok true) h = paired_read text (Plain c ∷ [], more, is, (c, refl, key), h) _ (pair_read fault critical c text more is key)
+    sighted c text more is lead key (Ok false) h = noted_read text _ (as_zone_read text _ (name_in_bracket_read c text more is lead (inr (Plain c ∷ [], more, is, (c, refl, key), h))))
+    sighted c text more is lead key (Err e) h = (
+      row_of (of_bracket first_bracket_scan) h.4 h.5,
+      h.6,
+      (start, text, refl, (critical, opens), (Plain c ∷ h.0, h.1, is ∙ ap (λ t. Plain c ∷ t) h.2, (Plain c ∷ [], h.0, refl, (c, refl, key), h.3), h.7)),
+    )
+
+    -- where a key may begin
+    key_read : (c : ℕ) (text more : Text) → text ≡ Plain c ∷ more → IsTrue (zone_lead c) → IsTrue (key_lead c) → BracketRead (start ++ text) (name_or_pair_at fault critical text)
+    unfolding name_or_pair_at
+    key_read c text more is lead key = sighted c text more is lead key (sight_at fault text) (subst (OnSight fault more) (sym (ap (sight_at fault) is ∙ over_letter fault c more (key_lead_passed c key))) (sight_read fault more))
+
+    -- from the first letter on
+    inside_read : (c : ℕ) (text more : Text) → text ≡ Plain c ∷ more → IsTrue ((zone_lead or sign) c) → BracketRead (start ++ text) (inside_at fault critical c text)
+    unfolding inside_at
+    inside_read c text more is may = read_if fault (sign c) _ _ _ _
+        (λ signs. noted_read text (offset_in_bracket_at fault c (drop 1 text)) (rw (ap (drop 1) is) (minutes_read c text more is signs)))
+        (λ plain.
+        let lead : IsTrue (zone_lead c) = grind (arith, may, plain, nat_tests) in
+        read_if fault (key_lead c) _ _ _ _
+        (λ key. key_read c text more is lead key)
+        (λ no_key. noted_read text _ (as_zone_read text _ (name_in_bracket_read c text more is lead (inl (Plain c ∷ [], more, is, (c, refl, rw (lead, no_key) refl), tt))))))
 
   -- a row of a line with nothing before it
   at_start : (l : BracketLine) (row : Row) (body front rest : Text) → row.name ≡ of_bracket l → InBracket (of_bracket l) [] body → body ≡ front ++ rest → front_of (table parse (of_bracket l)) front → Stops (table parse (of_bracket l)) row.place row.error rest → FitsAfterCore row body
@@ -200,7 +212,7 @@ module _ {E : Type 0} (fault : Row → E) where
   critical_read : (text : Text) → BracketRead (Plain 91 ∷ (Plain 33 ∷ text)) (critical_bracket_at fault text)
   unfolding critical_bracket_at
   critical_read text = then_read fault (letter_at fault (of_bracket first_critical_start) text) _ _ _ _ _ (read_letter fault (of_bracket first_critical_start) text tt)
-      (λ c rest h. noted_read (Plain 91 ∷ (Plain 33 ∷ [])) text true starts _ (zone_read c text rest h.0 h.1))
+      (λ c rest h. inside_read (Plain 91 ∷ (Plain 33 ∷ [])) true starts c text rest h.0 h.1)
       (λ r h. at_start first_critical_start r (Plain 91 ∷ (Plain 33 ∷ text)) (Plain 91 ∷ (Plain 33 ∷ [])) text h.0 refl refl starts h.1)
     where
       starts : (one opening then one exclamation) (Plain 91 ∷ (Plain 33 ∷ []))
@@ -211,9 +223,9 @@ module _ {E : Type 0} (fault : Row → E) where
   from_opening text = then_read fault (letter_at fault (of_bracket first_bracket_start) text) _ _ _ _ _ (read_letter fault (of_bracket first_bracket_start) text tt)
       (λ c rest h. read_if fault (exclamation c) _ _ _ _
       (λ critical. subst (λ (t : Text). BracketRead (Plain 91 ∷ t) (critical_bracket_at fault rest)) (sym (h.0 ∙ ap (λ n. Plain n ∷ rest) (eqb-true c 33 critical))) (critical_read rest))
-      (λ plain. noted_read (Plain 91 ∷ []) text false (91, refl, refl) _ (zone_read c text rest h.0 (grind (arith, h.1, plain, nat_tests)))))
+      (λ plain. inside_read (Plain 91 ∷ []) false (91, refl, refl) c text rest h.0 (grind (arith, h.1, plain, nat_tests))))
       (λ r h. at_start first_bracket_start r (Plain 91 ∷ text) (Plain 91 ∷ []) text h.0 refl refl (91, refl, refl) h.1)
 
   -- after `[`
-  pub bracket_read : (body text : Text) → body ≡ Plain 91 ∷ text → OnRead fault (bracket_at fault text) (λ note rest. (front : Text) × (body ≡ front ++ rest) × IsZoneBracket front note) (λ row. FitsAfterCore row body)
+  pub bracket_read : (body text : Text) → body ≡ Plain 91 ∷ text → OnRead fault (bracket_at fault text) (λ bracket rest. (front : Text) × (body ≡ front ++ rest) × IsBracket front bracket) (λ row. FitsAfterCore row body)
   bracket_read body text is = rw is (from_opening text)

@@ -1,4 +1,4 @@
--- A zone bracket is read, and each row of a first bracket's lines is answered.
+-- A first bracket is read, and each row of a first bracket's lines is answered.
 use Rattle.std.proofs.Common.{◌≡◌, ℕ, Bool, true, false, IsTrue, IsFalse, ◌⊎◌, List, [], ◌∷◌, ◌++◌, Ok, Err, refl, ap, ◌∙◌, inl, inr, arith, append_assoc}
 use Rattle.std.proofs.lemmas.Bool.{eqb-true}
 use Rattle.std.proofs.lemmas.Bool.Decides.{nat_tests}
@@ -6,34 +6,37 @@ use Rattle.ixdtf.specs.declared.parsers.time.Clock.TheVariants as clocks
 use Rattle.ixdtf.specs.declared.records.TimeRecord.{TimeRecord}
 use Rattle.ixdtf.specs.Letters.{Text}
 use Rattle.ixdtf.specs.Letters.Letter.{Plain}
-use Rattle.ixdtf.specs.Classes.{◌or◌, sign, opening, closing, exclamation, equals, zone_lead, key_lead}
+use Rattle.ixdtf.specs.Classes.{◌or◌, sign, opening, closing, exclamation, zone_lead, key_lead}
 use Rattle.ixdtf.specs.Shapes.{one, ◌then◌, some}
 use Rattle.ixdtf.specs.Faults.{Fault}
-use Rattle.ixdtf.specs.Faults.Fault.{InvalidEnd}
 use Rattle.ixdtf.specs.Offsets.{minutes_of}
 use Rattle.ixdtf.specs.Times.{TimeShape}
 use Rattle.ixdtf.specs.Times.TimeShape.{hours, plain_minutes, colon_minutes, seconds, fractions}
 use Rattle.ixdtf.specs.ZoneNames.{Zone, IsZone, ZoneName}
 use Rattle.ixdtf.specs.ZoneNames.Zone.{Offset}
-use Rattle.ixdtf.specs.Brackets.{ZoneNote, Opens, IsZoneBracket, zone_only_lead, ReadsAsName}
-use Rattle.ixdtf.specs.Readers.{ClockLine, LineName}
+use Rattle.ixdtf.specs.Brackets.{Opens, zone_only_lead, ReadsAsName}
+use Rattle.ixdtf.specs.Pairs.{ReadsAsPair}
+use Rattle.ixdtf.specs.Readers.{ClockLine, PairLine, LineName}
 use Rattle.ixdtf.specs.Readers.Reader.{parse}
-use Rattle.ixdtf.specs.Readers.LineName.{of_date, of_clock, of_offset, of_zone, of_bracket}
+use Rattle.ixdtf.specs.Readers.LineName.{of_date, of_clock, of_offset, of_zone, of_bracket, of_pair}
 use Rattle.ixdtf.specs.Readers.ZoneLine.{identifier_start, zone_name_start, in_zone_name, after_zone_slash}
-use Rattle.ixdtf.specs.Readers.BracketLine.{first_bracket_start, first_critical_start, first_bracket_scan, first_bracket_pair, after_bracket}
+use Rattle.ixdtf.specs.Readers.BracketLine.{first_bracket_start, first_critical_start, first_bracket_scan, after_bracket}
+use Rattle.ixdtf.specs.Readers.PairLine.{key_start, critical_key_start, in_key, value_start, in_value, after_value_hyphen}
 use Rattle.ixdtf.specs.FaultTable.{table, zone_letters, bracket_line, Scanned}
 use Rattle.ixdtf.specs.Rows.{Row, Place, Stops, front_of}
 use Rattle.ixdtf.specs.Rows.Place.{end, other, bad, anywhere}
 use Rattle.ixdtf.specs.ReadingLooks.{Read, ◌>>=◌, row_of, look_at, next_by}
 use Rattle.ixdtf.specs.ReadingTimes.{OpenTime, clock_at}
+use Rattle.ixdtf.specs.ReadingPairs.{pair_at}
 use Rattle.ixdtf.specs.ReadingZones.{follow_look, name_look, name_run, as_zone}
-use Rattle.ixdtf.specs.ReadingBrackets.{sight_at, name_in_bracket_at, name_or_pair_at, offset_in_bracket_at, zone_in_bracket_at, noted, critical_bracket_at, bracket_at}
+use Rattle.ixdtf.specs.ReadingBrackets.{Bracket, zoned, paired, sight_at, name_in_bracket_at, name_or_pair_at, offset_in_bracket_at, noted, as_pair, inside_at, critical_bracket_at, bracket_at}
 use Rattle.ixdtf.proofs.LookLemmas.{goes, stops}
 use Rattle.ixdtf.proofs.TimeTakes.{Closed}
 use Rattle.ixdtf.proofs.ClockRows.{over_clock, clock_rows, next_stops_after}
 use Rattle.ixdtf.proofs.NameTakes.{StopsName, name_takes, name_row, slash_row}
-use Rattle.ixdtf.proofs.Sight.{over_scanned, sight_stops, sight_pair, sight_name, name_reads}
-use Rattle.ixdtf.proofs.BracketReads.{InBracket}
+use Rattle.ixdtf.proofs.PairTakes.{InPair, pair_takes, pair_rows}
+use Rattle.ixdtf.proofs.Sight.{over_scanned, sight_stops, sight_pair, sight_name, name_reads, key_reads}
+use Rattle.ixdtf.proofs.BracketReads.{InBracket, IsBracket}
 
 -- ---- letters
 
@@ -74,11 +77,11 @@ closing_closes seconds rest = refl
 closing_closes fractions rest = refl
 
 module _ {E : Type 0} (fault : Row → E) where
-  -- ---- what stands before a zone
+  -- ---- what stands before what a bracket has inside
 
-  -- the text after `[`, and the reading of a zone that follows
+  -- the text after `[`, and the reading of what follows
   abbrev Starts : Text → Bool → Type 0
-  Starts start critical = (inner : Text) × (start ≡ Plain 91 ∷ inner) × ((c : ℕ) (more : Text) → IsTrue ((zone_lead or sign) c) → bracket_at fault (inner ++ (Plain c ∷ more)) ≡ noted critical (zone_in_bracket_at fault c (Plain c ∷ more)))
+  Starts start critical = (inner : Text) × (start ≡ Plain 91 ∷ inner) × ((c : ℕ) (more : Text) → IsTrue ((zone_lead or sign) c) → bracket_at fault (inner ++ (Plain c ∷ more)) ≡ inside_at fault critical c (Plain c ∷ more))
 
   starts : (start : Text) (critical : Bool) → Opens start critical → Starts start critical
   unfolding bracket_at critical_bracket_at
@@ -87,13 +90,22 @@ module _ {E : Type 0} (fault : Row → E) where
 
   -- ---- names
 
+  -- what the first letter leads to
+  abbrev LeadsTo : Bool → Text → Read E Bracket → Type 0
+  LeadsTo critical text answer = (c : ℕ) × (more : Text) × (text ≡ Plain c ∷ more) × IsTrue ((zone_lead or sign) c) × (inside_at fault critical c text ≡ answer)
+
   -- what reads as a name is read so
-  as_name : (text : Text) → ReadsAsName text → (c : ℕ) × (more : Text) × (text ≡ Plain c ∷ more) × IsTrue ((zone_lead or sign) c) × (zone_in_bracket_at fault c text ≡ as_zone (name_in_bracket_at fault text))
-  unfolding zone_in_bracket_at name_or_pair_at
-  as_name text (inl h) =
+  as_name : (critical : Bool) (text : Text) → ReadsAsName text → LeadsTo critical text (noted critical (as_zone (name_in_bracket_at fault text)))
+  unfolding inside_at name_or_pair_at
+  as_name critical text (inl h) =
       let lead = only_lead h.3.0 h.3.2 in
       (h.3.0, h.1, h.2 ∙ rw h.3.1 refl, name_starts h.3.0 lead.0, rw (name_no_sign h.3.0 lead.0, lead.1) refl)
-  as_name text (inr h) = (h.3.0, h.1, h.2 ∙ rw h.3.1 refl, key_starts h.3.0 h.3.2, rw (key_no_sign h.3.0 h.3.2, h.3.2, sight_name fault text h) refl)
+  as_name critical text (inr h) = (h.3.0, h.1, h.2 ∙ rw h.3.1 refl, key_starts h.3.0 h.3.2, rw (key_no_sign h.3.0 h.3.2, h.3.2, sight_name fault text h) refl)
+
+  -- what reads as a pair is read so
+  as_key : (critical : Bool) (text : Text) → ReadsAsPair text → LeadsTo critical text (as_pair (pair_at fault critical text))
+  unfolding inside_at name_or_pair_at
+  as_key critical text h = (h.3.0, h.1, h.2 ∙ rw h.3.1 refl, key_starts h.3.0 h.3.2, rw (key_no_sign h.3.0 h.3.2, h.3.2, sight_pair fault text h) refl)
 
   -- a name, and then `]`
   name_closed : (name : List ℕ) (text rest : Text) → name_run fault true text ≡ Ok (name, Plain 93 ∷ rest) → name_in_bracket_at fault text ≡ Ok (name, rest)
@@ -151,38 +163,51 @@ module _ {E : Type 0} (fault : Row → E) where
       (λ shape t place e rest closed after. rw (next_stops_after fault parse clocks.MinuteOffset (shape, t) place e rest after) refl) l place e front rest f at
 
   -- a sign leads to an offset
-  at_sign : (c : ℕ) (more : Text) → IsTrue (sign c) → zone_in_bracket_at fault c (Plain c ∷ more) ≡ offset_in_bracket_at fault c more
-  unfolding zone_in_bracket_at
-  at_sign c more h = rw h refl
+  at_sign : (critical : Bool) (c : ℕ) (more : Text) → IsTrue (sign c) → inside_at fault critical c (Plain c ∷ more) ≡ noted critical (offset_in_bracket_at fault c more)
+  unfolding inside_at
+  at_sign critical c more h = rw h refl
 
   -- ---- zones
 
   -- a zone and `]`, from the zone's first letter on
-  abbrev ZoneRead : Text → Zone → Text → Type 0
-  ZoneRead inside zone rest = (c : ℕ) × (more : Text) × (inside ++ (Plain 93 ∷ rest) ≡ Plain c ∷ more) × IsTrue ((zone_lead or sign) c) × (zone_in_bracket_at fault c (inside ++ (Plain 93 ∷ rest)) ≡ Ok (zone, rest))
-
-  zone_takes : (inside : Text) (zone : Zone) (rest : Text) → IsZone inside zone → ZoneRead inside zone rest
-  zone_takes inside zone rest (inl h) =
-      let n = as_name (inside ++ (Plain 93 ∷ rest)) (name_reads inside rest h.1.0) in
+  zone_takes : (critical : Bool) (inside : Text) (zone : Zone) (rest : Text) → IsZone inside zone → LeadsTo critical (inside ++ (Plain 93 ∷ rest)) (Ok (zoned (record { critical = critical; zone = zone }), rest))
+  zone_takes critical inside zone rest (inl h) =
+      let n = as_name critical (inside ++ (Plain 93 ∷ rest)) (name_reads inside rest h.1.0) in
       (n.0, n.1, n.2, n.3, n.4 ∙ rw (name_closed h.0 (inside ++ (Plain 93 ∷ rest)) rest (name_takes fault inside h.0 (Plain 93 ∷ rest) h.1.0 h.1.1 (refl, refl)), h.2) refl)
-  zone_takes inside zone rest (inr h) =
+  zone_takes critical inside zone rest (inr h) =
       let o = h.1 in (
         o.c,
         o.body ++ (Plain 93 ∷ rest),
         rw o.is refl,
         sign_starts o.c o.sign,
-        rw (o.is, h.2, o.value) (at_sign o.c (o.body ++ (Plain 93 ∷ rest)) o.sign
-            ∙ over_clock fault parse clocks.MinuteOffset (offset_in_bracket_at fault o.c) (after_offset o.c) [] (offset_lead o.c) o.shape o.body o.time (Plain 93 ∷ rest) o.clock (closing_closes o.shape rest)
-            ∙ offset_closed o.c o.shape o.time rest),
+        rw (o.is, h.2, o.value) (at_sign critical o.c (o.body ++ (Plain 93 ∷ rest)) o.sign
+            ∙ ap (noted critical) (over_clock fault parse clocks.MinuteOffset (offset_in_bracket_at fault o.c) (after_offset o.c) [] (offset_lead o.c) o.shape o.body o.time (Plain 93 ∷ rest) o.clock (closing_closes o.shape rest)
+            ∙ offset_closed o.c o.shape o.time rest)),
       )
 
+  -- ---- whole brackets
+
+  -- what stands in a bracket is read, and so is the bracket, after its `[`
+  opened_takes : (start inside rest : Text) (critical : Bool) (answer : Read E Bracket) → Opens start critical → LeadsTo critical (inside ++ rest) answer → (inner : Text) × (start ++ inside ≡ Plain 91 ∷ inner) × (bracket_at fault (inner ++ rest) ≡ answer)
+  opened_takes start inside rest critical answer opens z =
+      let o = starts start critical opens in
+      let is : (o.0 ++ inside) ++ rest ≡ o.0 ++ (Plain z.0 ∷ z.1) = simp append_assoc (ap (λ t. o.0 ++ t) z.2) in
+      (o.0 ++ inside, ap (λ t. t ++ inside) o.1, ap (bracket_at fault) is ∙ o.2 z.0 z.1 z.3 ∙ rw z.2 at z.4)
+
   -- a whole bracket is read, after its `[`
-  pub bracket_takes : (front rest : Text) (note : ZoneNote) → IsZoneBracket front note → (inner : Text) × (front ≡ Plain 91 ∷ inner) × (bracket_at fault (inner ++ rest) ≡ Ok (note, rest))
-  bracket_takes front rest note h =
-      let o = starts h.start note.critical h.opens in
-      let z = zone_takes h.inside note.zone rest h.zone in
-      let is : (o.0 ++ (h.inside ++ (Plain 93 ∷ []))) ++ rest ≡ o.0 ++ (Plain z.0 ∷ z.1) = simp append_assoc (ap (λ t. o.0 ++ t) z.2) in
-      (o.0 ++ (h.inside ++ (Plain 93 ∷ [])), h.is ∙ ap (λ t. t ++ (h.inside ++ (Plain 93 ∷ []))) o.1, ap (bracket_at fault) is ∙ o.2 z.0 z.1 z.3 ∙ ap (noted note.critical) (rw z.2 at z.4))
+  pub bracket_takes : (front rest : Text) (bracket : Bracket) → IsBracket front bracket → (inner : Text) × (front ≡ Plain 91 ∷ inner) × (bracket_at fault (inner ++ rest) ≡ Ok (bracket, rest))
+  bracket_takes front rest (zoned note) h =
+      rw h.is (opened_takes h.start (h.inside ++ (Plain 93 ∷ [])) rest note.critical _ h.opens (rw append_assoc (zone_takes note.critical h.inside note.zone rest h.zone)))
+  bracket_takes front rest (paired pair) h =
+      rw h.is (opened_takes h.start (h.keys ++ (Plain 61 ∷ (h.values ++ (Plain 93 ∷ [])))) rest pair.critical _ h.opens pair_leads)
+    where
+      body : Text
+      body = h.keys ++ (Plain 61 ∷ (h.values ++ (Plain 93 ∷ [])))
+
+      pair_leads : LeadsTo pair.critical (body ++ rest) (Ok (paired pair, rest))
+      pair_leads =
+          let n = as_key pair.critical (body ++ rest) (rw append_assoc (key_reads h.keys ((h.values ++ (Plain 93 ∷ [])) ++ rest) h.is_key)) in
+          (n.0, n.1, n.2, n.3, n.4 ∙ ap as_pair (pair_takes fault body rest pair (record { keys = h.keys; values = h.values; is = refl; is_key = h.is_key; is_value = h.is_value; key = h.key; value = h.value })))
 
   -- ---- each row is answered
 
@@ -190,17 +215,23 @@ module _ {E : Type 0} (fault : Row → E) where
   abbrev Answered : Text → E → Type 0
   Answered text e = (inner : Text) × (text ≡ Plain 91 ∷ inner) × (bracket_at fault inner ≡ Err e)
 
-  -- a fault of a zone is a fault of the bracket
-  zone_stops : (start text : Text) (critical : Bool) (c : ℕ) (more : Text) (e : E) → Opens start critical → text ≡ Plain c ∷ more → IsTrue ((zone_lead or sign) c) → zone_in_bracket_at fault c text ≡ Err e → Answered (start ++ text) e
-  zone_stops start text critical c more e opens is lead h =
+  -- a fault inside is a fault of the bracket
+  inside_stops : (start text : Text) (critical : Bool) (e : E) → Opens start critical → LeadsTo critical text (Err e) → Answered (start ++ text) e
+  inside_stops start text critical e opens z =
       let o = starts start critical opens in
-      (o.0 ++ text, ap (λ t. t ++ text) o.1, rw is (o.2 c more lead ∙ ap (noted critical) (rw is at h)))
+      (o.0 ++ text, ap (λ t. t ++ text) o.1, ap (λ t. bracket_at fault (o.0 ++ t)) z.2 ∙ o.2 z.0 z.1 z.3 ∙ rw z.2 at z.4)
 
   -- so is the fault of a name, where it reads as a name
   stops_as_name : (start text : Text) (critical : Bool) (e : E) → Opens start critical → ReadsAsName text → name_in_bracket_at fault text ≡ Err e → Answered (start ++ text) e
   stops_as_name start text critical e opens reads h =
-      let n = as_name text reads in
-      zone_stops start text critical n.0 n.1 e opens n.2 n.3 (n.4 ∙ rw h refl)
+      let n = as_name critical text reads in
+      inside_stops start text critical e opens (n.0, n.1, n.2, n.3, n.4 ∙ rw h refl)
+
+  -- and that of a pair, where it reads as a pair
+  stops_as_pair : (start text : Text) (critical : Bool) (e : E) → Opens start critical → ReadsAsPair text → pair_at fault critical text ≡ Err e → Answered (start ++ text) e
+  stops_as_pair start text critical e opens reads h =
+      let n = as_key critical text reads in
+      inside_stops start text critical e opens (n.0, n.1, n.2, n.3, n.4 ∙ ap as_pair h)
 
   start_row : (place : Place) (e : Fault) (front rest : Text) → one opening front → Stops (bracket_line first_bracket_start) place e rest → Answered (front ++ rest) (fault (row_of (of_bracket first_bracket_start) place e))
   unfolding bracket_at
@@ -215,51 +246,52 @@ module _ {E : Type 0} (fault : Row → E) where
   )
 
   -- what the sight answers where a key may begin
-  at_key : (c : ℕ) (text : Text) → IsTrue (key_lead c) → zone_in_bracket_at fault c text ≡ as_zone (name_or_pair_at fault text)
-  unfolding zone_in_bracket_at
-  at_key c text h = rw (key_no_sign c h, h) refl
+  at_key : (critical : Bool) (c : ℕ) (text : Text) → IsTrue (key_lead c) → inside_at fault critical c text ≡ name_or_pair_at fault critical text
+  unfolding inside_at
+  at_key critical c text h = rw (key_no_sign c h, h) refl
 
-  scan_stops : (text : Text) (e : E) → sight_at fault text ≡ Err e → name_or_pair_at fault text ≡ Err e
+  scan_stops : (critical : Bool) (text : Text) (e : E) → sight_at fault text ≡ Err e → name_or_pair_at fault critical text ≡ Err e
   unfolding name_or_pair_at
-  scan_stops text e h = rw h refl
-
-  pair_stops : (text : Text) → sight_at fault text ≡ Ok true → name_or_pair_at fault text ≡ Err (fault (row_of (of_bracket first_bracket_pair) anywhere InvalidEnd))
-  unfolding name_or_pair_at
-  pair_stops text h = rw h refl
+  scan_stops critical text e h = rw h refl
 
   scan_row : (start : Text) (critical : Bool) (place : Place) (e : Fault) (front rest : Text) → Opens start critical → Scanned front → Stops (bracket_line first_bracket_scan) place e rest → Answered (start ++ (front ++ rest)) (fault (row_of (of_bracket first_bracket_scan) place e))
   scan_row start critical place e front rest opens f at =
-      zone_stops start (front ++ rest) critical f.3.0 (f.1 ++ rest) _ opens (rw (f.2, f.3.1) refl) (key_starts f.3.0 f.3.2)
-      (at_key f.3.0 (front ++ rest) f.3.2 ∙ rw (scan_stops (front ++ rest) _ (over_scanned fault front rest f ∙ sight_stops fault place e rest at)) refl)
-
-  pair_row : (start : Text) (critical : Bool) (place : Place) (e : Fault) (front rest : Text) → Opens start critical → (Scanned then one equals) front → Stops (bracket_line first_bracket_pair) place e rest → Answered (start ++ (front ++ rest)) (fault (row_of (of_bracket first_bracket_pair) place e))
-  pair_row start critical end e front rest opens f at = absurd at
-  pair_row start critical other e front rest opens f at = absurd at
-  pair_row start critical bad e front rest opens f at = absurd at
-  pair_row start critical anywhere e front rest opens f at =
-      let k = f.3.3 in
-      zone_stops start (front ++ rest) critical k.0 (f.3.1 ++ (f.1 ++ rest)) _ opens (rw (f.2, f.3.2, k.1) (simp append_assoc)) (key_starts k.0 k.2)
-      (at_key k.0 (front ++ rest) k.2 ∙ rw (pair_stops (front ++ rest) (sight_pair fault front rest f), at) refl)
+      inside_stops start (front ++ rest) critical _ opens (
+        f.3.0,
+        f.1 ++ rest,
+        rw (f.2, f.3.1) refl,
+        key_starts f.3.0 f.3.2,
+        at_key critical f.3.0 (front ++ rest) f.3.2
+            ∙ scan_stops critical (front ++ rest) _ (over_scanned fault front rest f ∙ sight_stops fault place e rest at),
+      )
 
   clock_row : (l : ClockLine) (place : Place) (e : Fault) (start front rest : Text) → (some Opens then one sign) start → front_of (table parse (of_clock clocks.MinuteOffset l)) front → Stops (table parse (of_clock clocks.MinuteOffset l)) place e rest → Answered (start ++ (front ++ rest)) (fault (row_of (of_clock clocks.MinuteOffset l) place e))
   clock_row l place e start front rest b f at =
       let c = b.4.0 in
-      rw (b.2, b.4.1, append_assoc) (zone_stops b.0 (Plain c ∷ (front ++ rest)) b.3.0 c (front ++ rest) _ b.3.1 refl (sign_starts c b.4.2) (at_sign c (front ++ rest) b.4.2 ∙ offset_row c l place e front rest f at))
+      rw (b.2, b.4.1, append_assoc) (inside_stops b.0 (Plain c ∷ (front ++ rest)) b.3.0 _ b.3.1 (c, front ++ rest, refl, sign_starts c b.4.2, at_sign b.3.0 c (front ++ rest) b.4.2 ∙ ap (noted b.3.0) (offset_row c l place e front rest f at)))
 
-  -- each row inside a bracket is answered, after its `[`
-  pub bracket_rows : (name : LineName) (place : Place) (e : Fault) (before front rest : Text) → (name ≡ of_bracket after_bracket → ⊥) → InBracket name before (front ++ rest) → front_of (table parse name) front → Stops (table parse name) place e rest
+  pair_row : (l : PairLine) (place : Place) (e : Fault) (start front rest : Text) → InPair l → some Opens start × ReadsAsPair (front ++ rest) → front_of (table parse (of_pair l)) front → Stops (table parse (of_pair l)) place e rest → Answered (start ++ (front ++ rest)) (fault (row_of (of_pair l) place e))
+  pair_row l place e start front rest within b f at = stops_as_pair start (front ++ rest) b.0.0 _ b.0.1 b.1 (pair_rows fault b.0.0 l place e front rest within f at)
+
+  -- each row inside a first bracket is answered, after its `[`
+  pub bracket_rows : (name : LineName) (place : Place) (e : Fault) (before front rest : Text) → InBracket name before (front ++ rest) → front_of (table parse name) front → Stops (table parse name) place e rest
       → (inner : Text) × (before ++ (front ++ rest) ≡ Plain 91 ∷ inner) × (bracket_at fault inner ≡ Err (fault (row_of name place e)))
-  bracket_rows (of_date l) place e start front rest inside b f at = absurd b
-  bracket_rows (of_clock clocks.Time l) place e start front rest inside b f at = absurd b
-  bracket_rows (of_clock clocks.Offset l) place e start front rest inside b f at = absurd b
-  bracket_rows (of_clock clocks.MinuteOffset l) place e start front rest inside b f at = clock_row l place e start front rest b f at
-  bracket_rows (of_offset l) place e start front rest inside b f at = absurd b
-  bracket_rows (of_zone identifier_start) place e start front rest inside b f at = absurd b
-  bracket_rows (of_zone zone_name_start) place e start front rest inside b f at = absurd b
-  bracket_rows (of_zone in_zone_name) place e start front rest inside b f at = stops_as_name start (front ++ rest) b.0.0 _ b.0.1 b.1 (in_name_row place e front rest f at)
-  bracket_rows (of_zone after_zone_slash) place e start front rest inside b f at = stops_as_name start (front ++ rest) b.0.0 _ b.0.1 b.1 (name_halts (front ++ rest) _ (slash_row fault parse place e front rest f at))
-  bracket_rows (of_bracket first_bracket_start) place e start front rest inside b f at = rw b (start_row place e front rest f at)
-  bracket_rows (of_bracket first_critical_start) place e start front rest inside b f at = rw b (critical_row place e front rest f at)
-  bracket_rows (of_bracket first_bracket_scan) place e start front rest inside b f at = scan_row start b.0 place e front rest b.1 f at
-  bracket_rows (of_bracket first_bracket_pair) place e start front rest inside b f at = pair_row start b.0 place e front rest b.1 f at
-  bracket_rows (of_bracket after_bracket) place e start front rest inside b f at = absurd (inside refl)
+  bracket_rows (of_date l) place e start front rest b f at = absurd b
+  bracket_rows (of_clock clocks.Time l) place e start front rest b f at = absurd b
+  bracket_rows (of_clock clocks.Offset l) place e start front rest b f at = absurd b
+  bracket_rows (of_clock clocks.MinuteOffset l) place e start front rest b f at = clock_row l place e start front rest b f at
+  bracket_rows (of_offset l) place e start front rest b f at = absurd b
+  bracket_rows (of_zone identifier_start) place e start front rest b f at = absurd b
+  bracket_rows (of_zone zone_name_start) place e start front rest b f at = absurd b
+  bracket_rows (of_zone in_zone_name) place e start front rest b f at = stops_as_name start (front ++ rest) b.0.0 _ b.0.1 b.1 (in_name_row place e front rest f at)
+  bracket_rows (of_zone after_zone_slash) place e start front rest b f at = stops_as_name start (front ++ rest) b.0.0 _ b.0.1 b.1 (name_halts (front ++ rest) _ (slash_row fault parse place e front rest f at))
+  bracket_rows (of_bracket first_bracket_start) place e start front rest b f at = rw b (start_row place e front rest f at)
+  bracket_rows (of_bracket first_critical_start) place e start front rest b f at = rw b (critical_row place e front rest f at)
+  bracket_rows (of_bracket first_bracket_scan) place e start front rest b f at = scan_row start b.0 place e front rest b.1 f at
+  bracket_rows (of_bracket after_bracket) place e start front rest b f at = absurd b
+  bracket_rows (of_pair key_start) place e start front rest b f at = absurd b
+  bracket_rows (of_pair critical_key_start) place e start front rest b f at = absurd b
+  bracket_rows (of_pair in_key) place e start front rest b f at = pair_row in_key place e start front rest tt b f at
+  bracket_rows (of_pair value_start) place e start front rest b f at = pair_row value_start place e start front rest tt b f at
+  bracket_rows (of_pair in_value) place e start front rest b f at = pair_row in_value place e start front rest tt b f at
+  bracket_rows (of_pair after_value_hyphen) place e start front rest b f at = pair_row after_value_hyphen place e start front rest tt b f at

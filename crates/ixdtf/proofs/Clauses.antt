@@ -1,14 +1,17 @@
--- The clauses of a reader, from what its reading answers.
-use Rattle.std.proofs.Common.{◌≡◌, [], Result, Ok, Err, sym, ap, ◌∙◌, subst}
+-- The clauses of a reader that reads no pairs, from what its reading answers.
+use Rattle.std.proofs.Common.{refl, ◌≡◌, List, [], Result, Ok, Err, sym, ap, ◌∙◌, subst, IfErr}
 use Rattle.ixdtf.specs.Letters.{Text}
-use Rattle.ixdtf.specs.Faults.{Fault}
+use Rattle.ixdtf.specs.Faults.{Fault, fault_of}
+use Rattle.ixdtf.specs.declared.error.ParseError.{ParseError}
+use Rattle.ixdtf.specs.Answers.{answer_of}
+use Rattle.ixdtf.specs.Pairs.{Pair}
 use Rattle.ixdtf.specs.Readers.{Reader}
-use Rattle.ixdtf.specs.Rows.{Fits}
+use Rattle.ixdtf.specs.Readers.Reader.{parse, parse_offset, parse_identifier, parse_iana_identifier}
+use Rattle.ixdtf.specs.Rows.{Row, Fits}
 use Rattle.ixdtf.specs.Languages.{Found, Derives, HasFault}
-use Rattle.ixdtf.specs.ReadingLooks.{Read, error_of}
+use Rattle.ixdtf.specs.ReadingLooks.{Read}
 use Rattle.ixdtf.specs.Reading.{finding, read_at}
-use Rattle.ixdtf.proofs.LookLemmas.{OnRead}
-use Rattle.ixdtf.proofs.WholeReads.{whole_read}
+use Rattle.ixdtf.proofs.WholeReads.{OnWhole, whole_read}
 use Rattle.ixdtf.proofs.WholeTakes.{takes}
 
 abbrev done : {A : Type 0} → A → Result A Fault
@@ -23,32 +26,53 @@ done_is x y e = cc
 failed_is : {A : Type 0} (x : A) (fault : Fault) → failed fault ≡ done x → ⊥
 failed_is x fault e = cc
 
+-- the fault is a row's error, whatever pairs stand before it
+abbrev pub error_after : List Pair → Row → Fault
+error_after pairs row = row.error
+
+-- the reader reads no pairs
+abbrev pub ReadsNoPairs : Reader → Type 0
+ReadsNoPairs parse = ⊥
+ReadsNoPairs reader = Unit {0}
+
+-- no pairs stand before its rows
+no_pairs : (reader : Reader) (row : Row) (pairs : List Pair) (text : Text) → ReadsNoPairs reader → Fits reader row pairs text → Fits reader row [] text
+no_pairs parse row pairs text none f = absurd none
+no_pairs parse_offset row pairs text none f = rw f.3.1 at f
+no_pairs parse_identifier row pairs text none f = rw f.3.1 at f
+no_pairs parse_iana_identifier row pairs text none f = rw f.3.1 at f
+
 -- What a reader answered at a text: a kind of what readers find, told apart from each other of the kind.
-module _ {A : Type 0} (reader : Reader) (found : A → Found) (same : (x y : A) → found x ≡ found y → x ≡ y) (text : Text) (reading : Read Fault A) (reads : read_at error_of reader text ≡ finding found reading) where
-  abbrev Answered : Read Fault Found → Type 0
-  Answered read = OnRead error_of read (λ x more. (more ≡ []) × Derives reader text x) (λ row. Fits reader row text)
+module _ {A : Type 0} (reader : Reader) (found : A → Found) (same : (x y : A) → found x ≡ found y → x ≡ y) (text : Text) (reading : Read Fault A) (reads : read_at error_after reader text ≡ finding found reading) where
+  abbrev Answered : Read Fault (Found × List Pair) → Type 0
+  Answered read = OnWhole error_after reader text read
 
   answered : (read : Read Fault A) → reading ≡ read → Answered (finding found read)
-  answered read is = subst Answered (reads ∙ ap (finding found) is) (whole_read error_of reader text)
+  answered read is = subst Answered (reads ∙ ap (finding found) is) (whole_read error_after reader text)
 
   -- all of the text was read
   pub nothing_left : (x : A) (rest : Text) → reading ≡ Ok (x, rest) → rest ≡ []
   nothing_left x rest is = (answered (Ok (x, rest)) is).0
 
   -- `Ok` exactly where it is derived
-  pub ok_where_derived : (x : A) (rest : Text) → reading ≡ Ok (x, rest) → (y : A) → (done x ≡ done y → Derives reader text (found y)) × (Derives reader text (found y) → done x ≡ done y)
+  pub ok_where_derived : (x : A) (rest : Text) → reading ≡ Ok (x, rest) → (y : A) → (done x ≡ done y → Derives reader text (found y) []) × (Derives reader text (found y) [] → done x ≡ done y)
   ok_where_derived x rest is y = (
-    λ e. subst (λ z. Derives reader text (found z)) (done_is x y e) (answered (Ok (x, rest)) is).1,
-    λ d. ap done (same x y (ap (λ (p : Found × Text). p.0) (done_is (found x, rest) (found y, []) (sym (reads ∙ ap (finding found) is) ∙ takes error_of reader text (found y) d)))),
+    λ e. subst (λ z. Derives reader text (found z) []) (done_is x y e) (answered (Ok (x, rest)) is).1,
+    λ d. ap done (same x y (ap (λ (p : (Found × List Pair) × Text). p.0.0) (done_is ((found x, []), rest) ((found y, []), []) (sym (reads ∙ ap (finding found) is) ∙ takes error_after reader text (found y) [] d)))),
   )
 
   -- nothing is derived where reading answered a fault
-  pub err_where_refused : (fault : Fault) → reading ≡ Err fault → (y : A) → (failed fault ≡ done y → Derives reader text (found y)) × (Derives reader text (found y) → failed fault ≡ done y)
+  pub err_where_refused : (fault : Fault) → reading ≡ Err fault → (y : A) → (failed fault ≡ done y → Derives reader text (found y) []) × (Derives reader text (found y) [] → failed fault ≡ done y)
   err_where_refused fault is y = (
     λ e. absurd (failed_is y fault e),
-    λ d. absurd (failed_is (found y, []) fault (sym (reads ∙ ap (finding found) is) ∙ takes error_of reader text (found y) d)),
+    λ d. absurd (failed_is ((found y, []), []) fault (sym (reads ∙ ap (finding found) is) ∙ takes error_after reader text (found y) [] d)),
   )
 
   -- a fault is the error of a row that fits
-  pub err_where_fits : (fault : Fault) → reading ≡ Err fault → HasFault reader text fault
-  err_where_fits fault is = let row = answered (Err fault) is in (row.0, row.2, sym row.1)
+  pub err_where_fits : (fault : Fault) → reading ≡ Err fault → ReadsNoPairs reader → HasFault reader text [] fault
+  err_where_fits fault is none = let row = answered (Err fault) is in (row.1, no_pairs reader row.1 row.0 text none row.3, sym row.2)
+
+-- what holds of each fault that was answered
+pub each_err : {X Y : Type 0} (view : X → Y) (holds : Fault → Type 0) (r : Result X ParseError) → ((fault : Fault) → answer_of view r ≡ Err fault → holds fault) → IfErr r (λ e. holds (fault_of e))
+each_err view holds (Ok x) h = tt
+each_err view holds (Err e) h = h (fault_of e) refl

@@ -1,5 +1,5 @@
 -- What the code reads is what reading answers, without the line at which it may stop.
-use Rattle.std.proofs.Common.{◌≡◌, ℕ, ◌≤◌, Bool, true, false, List, [], ◌∷◌, length, map, Ok, Err, Some, None, refl, sym, ap, ◌∙◌, arith, if◌then◌else◌}
+use Rattle.std.proofs.Common.{◌≡◌, ℕ, ◌≤◌, Bool, true, false, List, [], ◌∷◌, length, map, Ok, Err, Some, None, refl, sym, ap, subst, ◌∙◌, arith, if◌then◌else◌}
 use Rattle.std.proofs.lemmas.List.{length-map, length-append}
 use Rattle.ixdtf.specs.declared.parsers.time.Clock.TheVariants as clocks
 use Rattle.ixdtf.specs.declared.records.DateRecord.{DateRecord}
@@ -15,19 +15,21 @@ use Rattle.ixdtf.specs.Times.{TimeShape, writes_seconds}
 use Rattle.ixdtf.specs.Offsets.{offset_of}
 use Rattle.ixdtf.specs.Cores.{Core, core_of}
 use Rattle.ixdtf.specs.ZoneNames.{Zone}
+use Rattle.ixdtf.specs.Readers.{LineName}
 use Rattle.ixdtf.specs.Readers.Reader.{parse}
 use Rattle.ixdtf.specs.Readers.LineName.{of_date, of_offset, of_zone}
 use Rattle.ixdtf.specs.Readers.DateLine.{after_date}
 use Rattle.ixdtf.specs.Readers.OffsetLine.{offset_start, after_zulu}
 use Rattle.ixdtf.specs.Readers.ZoneLine.{identifier_start}
 use Rattle.ixdtf.specs.Rows.{Fits}
-use Rattle.ixdtf.specs.ReadingLooks.{Read, ◌>>=◌, error_of, look_at, letter_at, peek_by, on_next}
+use Rattle.ixdtf.specs.Languages.{HasFault}
+use Rattle.ixdtf.specs.ReadingLooks.{Read, ◌>>=◌, error_of, look_at, letter_at, on_next}
 use Rattle.ixdtf.specs.ReadingDates.{date_at}
 use Rattle.ixdtf.specs.ReadingTimes.{OpenTime, line_after, clock_at}
 use Rattle.ixdtf.specs.ReadingZones.{as_zone, name_alone_at, offset_alone_at, minute_offset_alone_at, offset_at, identifier_at}
 use Rattle.ixdtf.specs.ReadingBrackets.{offset_in_bracket_at}
-use Rattle.ixdtf.specs.Reading.{OpenCore, core_look, offset_core_at, after_time_at, time_core_at, core_at, after_core_at, parse_at}
-use Rattle.ixdtf.specs.CodeReadings.{precise, tail_look, offset_by, minute_offset_by, offset_alone_by, minute_offset_alone_by, offset_in_bracket_by, offset_reader_by, identifier_by, after_time_by, time_core_by, core_by, parse_by}
+use Rattle.ixdtf.specs.Reading.{OpenCore, offset_core_at, after_time_at, time_core_at, core_at}
+use Rattle.ixdtf.specs.CodeReadings.{precise, offset_by, minute_offset_by, offset_alone_by, minute_offset_alone_by, offset_in_bracket_by, offset_reader_by, identifier_by, after_time_by, time_core_by, core_by}
 use Rattle.ixdtf.proofs.LookLemmas.{in_turn, OnRead}
 use Rattle.ixdtf.proofs.CoreReads.{CoreFront, core_read}
 
@@ -118,14 +120,6 @@ core_is text = go (date_at error_of text)
     go (Ok x) = next_alike date_time_separator _ _ _ _ x.1 (λ c rest. time_core_is x.0 rest) (λ rest. refl)
     go (Err e) = refl
 
-pub parse_is : (text : Text) → parse_at error_of text ≡ parse_by text
-unfolding parse_at parse_by
-parse_is text = go (core_at error_of text) ∙ ap (λ (r : Read Fault Core). r >>= λ core. (peek_by tail_look core.1 >>= after_core_at error_of core.0)) (core_is text)
-  where
-    go : (r : Read Fault OpenCore) → (r >>= λ core. (peek_by (core_look error_of core.0.0) core.1 >>= after_core_at error_of core.0.1)) ≡ (lineless r >>= λ core. (peek_by tail_look core.1 >>= after_core_at error_of core.0))
-    go (Ok x) = refl
-    go (Err e) = refl
-
 -- ---- what is left
 
 abbrev done : Core × Text → Read Fault Core
@@ -141,8 +135,28 @@ core_shortens letter units left core is =
     let shorter = go text (core_at error_of text) (core_read error_of text) (core_is text ∙ is) in
     omega (arith, shorter, length-map units letter, length-map left letter)
   where
-    go : (text : Text) (r : Read Fault OpenCore) → OnRead error_of r (CoreFront text) (λ row. Fits parse row text) → lineless r ≡ done (core, map letter left) → length (map letter left) ≤ length text
+    go : (text : Text) (r : Read Fault OpenCore) → OnRead error_of r (CoreFront text) (λ row. Fits parse row [] text) → lineless r ≡ done (core, map letter left) → length (map letter left) ≤ length text
     go text (Ok x) h same =
         let rest : x.1 ≡ map letter left = ap (λ (p : Core × Text). p.1) (done_is (x.0.1, x.1) (core, map letter left) same) in
         omega (arith, ap (λ (t : Text). length t) h.1, length-append h.0 x.1, ap (λ (t : Text). length t) rest)
     go text (Err e) h same = absurd cc
+
+-- ---- what the code read, as what the text is
+
+-- what a core's reading gave of the text
+pub core_front : (text rest : Text) (core : Core) → core_by text ≡ Ok (core, rest) → (name : LineName) × CoreFront text (name, core) rest
+core_front text rest core is = go (core_at error_of text) (core_read error_of text) (core_is text ∙ is)
+  where
+    go : (r : Read Fault OpenCore) → OnRead error_of r (CoreFront text) (λ row. Fits parse row [] text) → lineless r ≡ done (core, rest) → (name : LineName) × CoreFront text (name, core) rest
+    go (Ok x) h same =
+        let both = done_is (x.0.1, x.1) (core, rest) same in
+        (x.0.0, subst (λ (p : Core × Text). CoreFront text (x.0.0, p.0) p.1) both h)
+    go (Err e) h same = absurd cc
+
+-- the fault of a core is that of a row
+pub core_fault : (text : Text) (fault : Fault) → core_by text ≡ Err fault → HasFault parse text [] fault
+core_fault text fault is = go (core_at error_of text) (core_read error_of text) (core_is text ∙ is)
+  where
+    go : (r : Read Fault OpenCore) → OnRead error_of r (CoreFront text) (λ row. Fits parse row [] text) → lineless r ≡ Err fault → HasFault parse text [] fault
+    go (Ok x) h same = absurd cc
+    go (Err e) h same = (h.0, h.2, sym h.1 ∙ (let e_is : e ≡ fault = cc in e_is))

@@ -49,8 +49,8 @@ not_next class rest c more closed is = rw is at closed
 
 -- the rows that fit where neither the end nor a bracket stands after the core
 pub record CoreStops (text : Text) (name : LineName) (rest : Text) : Type 0 where
-  pub at_other : (c : ℕ) (more : Text) → rest ≡ Plain c ∷ more → IsFalse (opening c) → Fits parse (row_of name other InvalidEnd) text
-  pub at_bad : (more : Text) → rest ≡ Bad ∷ more → Fits parse (row_of name bad NonAsciiCodePoint) text
+  pub at_other : (c : ℕ) (more : Text) → rest ≡ Plain c ∷ more → IsFalse (opening c) → Fits parse (row_of name other InvalidEnd) [] text
+  pub at_bad : (more : Text) → rest ≡ Bad ∷ more → Fits parse (row_of name bad NonAsciiCodePoint) [] text
 
 -- what reading a core gave
 abbrev pub CoreFront : Text → OpenCore → Text → Type 0
@@ -58,7 +58,7 @@ CoreFront text x rest = (front : Text) × (text ≡ front ++ rest) × IsDateTime
 
 module _ {E : Type 0} (fault : Row → E) (text : Text) where
   abbrev ReadsCore : Read E OpenCore → Type 0
-  ReadsCore r = OnRead fault r (CoreFront text) (λ row. Fits parse row text)
+  ReadsCore r = OnRead fault r (CoreFront text) (λ row. Fits parse row [] text)
 
   -- a date and a separator were read
   module _ (ds separator body : Text) (date : DateRecord) (is : text ≡ (ds ++ separator) ++ body) (is_date : IsDate ds date) (separates : one date_time_separator separator) where
@@ -90,7 +90,7 @@ module _ {E : Type 0} (fault : Row → E) (text : Text) where
       offset_read s more next signs =
           let prior : Text = ((ds ++ separator) ++ h.0) ++ (Plain s ∷ []) in
           let split : text ≡ prior ++ more = time_text ∙ rw next (simp append_assoc) in
-          let lifted : (row : Row) → FitsIn (of_clock clocks.Offset) parse row more → Fits parse row text = λ row f. lift (of_clock clocks.Offset) parse row text prior more split (λ l. ((ds ++ separator) ++ h.0, Plain s ∷ [], refl, timed, (s, refl, signs))) f in
+          let lifted : (row : Row) → FitsIn (of_clock clocks.Offset) parse row more → Fits parse row [] text = λ row f. lift (of_clock clocks.Offset) parse row text prior more split (λ l. (((ds ++ separator) ++ h.0, Plain s ∷ [], refl, timed, (s, refl, signs)), refl)) f in
           then_read fault (clock_at fault clocks.Offset more) _ _ _ _ _ (clock_read fault parse clocks.Offset more)
           (λ o left g. (
             core_text (Plain s ∷ g.0),
@@ -106,7 +106,7 @@ module _ {E : Type 0} (fault : Row → E) (text : Text) where
       -- `Z` or `z`
       zulu_read : (z : ℕ) (more : Text) → rest ≡ Plain z ∷ more → IsTrue (zulu z) → CoreFront text (of_offset after_zulu, core_of date (Some x.1) (Some Z)) more
       zulu_read z more next is_zulu =
-          let here : (row : Row) → FitsHere parse row (Plain z ∷ more) → row.name ≡ of_offset after_zulu → Fits parse row text = λ row f same. ((ds ++ separator) ++ h.0, Plain z ∷ more, time_text ∙ rw next refl, subst (λ (n : LineName). Before parse n ((ds ++ separator) ++ h.0) (Plain z ∷ more)) (sym same) timed, f) in (
+          let here : (row : Row) → FitsHere parse row (Plain z ∷ more) → row.name ≡ of_offset after_zulu → Fits parse row [] text = λ row f same. ((ds ++ separator) ++ h.0, Plain z ∷ more, time_text ∙ rw next refl, subst (λ (n : LineName). Before parse n [] ((ds ++ separator) ++ h.0) (Plain z ∷ more)) (sym same) (timed, refl), f) in (
             core_text (Plain z ∷ []),
             is_text (Plain z ∷ []) more next,
             is_core (Plain z ∷ []) (Some Z) (inr ((z, refl, is_zulu), refl)),
@@ -123,7 +123,7 @@ module _ {E : Type 0} (fault : Row → E) (text : Text) where
         is_text [] rest refl,
         is_core [] None refl,
         record {
-          at_other = λ c after ends out. lift (of_clock clocks.Time) parse _ text (ds ++ separator) body is (λ l. stands)
+          at_other = λ c after ends out. lift (of_clock clocks.Time) parse _ text (ds ++ separator) body is (λ l. (stands, refl))
               (clock_stops fault parse clocks.Time body x other InvalidEnd rest h (c, after, ends, or_from _ _ (or_from _ _ (not_next sign rest c after no_sign ends) (not_next zulu rest c after no_zulu ends)) out, refl));
           at_bad = λ after ends. absurd (not_bad sign rest after no_sign ends);
         },
@@ -131,10 +131,10 @@ module _ {E : Type 0} (fault : Row → E) (text : Text) where
 
       after_time_read : ReadsCore (after_time_at fault date x rest)
       unfolding after_time_at
-      after_time_read = next_read (bad_after fault clocks.Time x.0) sign _ _ fault rest (CoreFront text) (λ row. Fits parse row text)
+      after_time_read = next_read (bad_after fault clocks.Time x.0) sign _ _ fault rest (CoreFront text) (λ row. Fits parse row [] text)
           (λ more next. absurd (closed_not_bad clocks.Time x.0 rest more h.3 next))
           (λ s more next signs. offset_read s more next signs)
-          (λ no_sign. next_read (bad_after fault clocks.Time x.0) zulu (λ z more. Ok ((of_offset after_zulu, core_of date (Some x.1) (Some Z)), more)) _ fault rest (CoreFront text) (λ row. Fits parse row text)
+          (λ no_sign. next_read (bad_after fault clocks.Time x.0) zulu (λ z more. Ok ((of_offset after_zulu, core_of date (Some x.1) (Some Z)), more)) _ fault rest (CoreFront text) (λ row. Fits parse row [] text)
           (λ more next. absurd (closed_not_bad clocks.Time x.0 rest more h.3 next))
           (λ z more next is_zulu. zulu_read z more next is_zulu)
           (λ no_zulu. no_offset_read no_sign no_zulu))
@@ -143,7 +143,7 @@ module _ {E : Type 0} (fault : Row → E) (text : Text) where
     unfolding time_core_at
     time_core_read = then_read fault (clock_at fault clocks.Time body) _ _ _ _ _ (clock_read fault parse clocks.Time body)
         (λ x rest h. after_time_read x rest h)
-        (λ row f. lift (of_clock clocks.Time) parse row text (ds ++ separator) body is (λ l. stands) f)
+        (λ row f. lift (of_clock clocks.Time) parse row text (ds ++ separator) body is (λ l. (stands, refl)) f)
 
   -- a date and no separator
   date_core_read : (date : DateRecord) (rest : Text) → DateFront text date rest → NotNext date_time_separator rest → CoreFront text (of_date after_date, core_of date None None) rest
@@ -152,7 +152,7 @@ module _ {E : Type 0} (fault : Row → E) (text : Text) where
     h.1,
     inl (date, h.2, refl),
     record {
-      at_other = λ c more next out. ([], text, refl, refl, (h.0, rest, h.1, (date, h.2), (c, more, next, or_from _ _ (not_next date_time_separator rest c more closed next) out, refl)));
+      at_other = λ c more next out. ([], text, refl, (refl, refl), (h.0, rest, h.1, (date, h.2), (c, more, next, or_from _ _ (not_next date_time_separator rest c more closed next) out, refl)));
       at_bad = λ more next. absurd (not_bad date_time_separator rest more closed next);
     },
   )
@@ -160,8 +160,8 @@ module _ {E : Type 0} (fault : Row → E) (text : Text) where
   pub core_read : ReadsCore (core_at fault text)
   unfolding core_at
   core_read = then_read fault (date_at fault text) _ _ _ _ _ (date_read fault parse text)
-      (λ date rest h. next_read (fault (row_of (of_date after_date) bad NonAsciiCodePoint)) date_time_separator _ _ fault rest (CoreFront text) (λ row. Fits parse row text)
-      (λ more next. (row_of (of_date after_date) bad NonAsciiCodePoint, refl, ([], text, refl, refl, (h.0, rest, h.1, (date, h.2), (more, next, refl)))))
+      (λ date rest h. next_read (fault (row_of (of_date after_date) bad NonAsciiCodePoint)) date_time_separator _ _ fault rest (CoreFront text) (λ row. Fits parse row [] text)
+      (λ more next. (row_of (of_date after_date) bad NonAsciiCodePoint, refl, ([], text, refl, (refl, refl), (h.0, rest, h.1, (date, h.2), (more, next, refl)))))
       (λ c more next separates. time_core_read h.0 (Plain c ∷ []) more date (further text h.0 rest (Plain c ∷ []) more h.1 next) h.2 (c, refl, separates))
       (λ closed. date_core_read date rest h closed))
-      (λ row f. lift of_date parse row text [] text refl (λ l. refl) f)
+      (λ row f. lift of_date parse row text [] text refl (λ l. (refl, refl)) f)

@@ -11,18 +11,20 @@ use Rattle.ixdtf.specs.Letters.{Text}
 use Rattle.ixdtf.specs.Letters.Letter.{Plain, Bad}
 use Rattle.ixdtf.specs.Fractions.{FractionParts}
 use Rattle.ixdtf.specs.Faults.{Fault}
-use Rattle.ixdtf.specs.Faults.Fault.{NonAsciiCodePoint, InvalidEnd, InvalidMonthRange, InvalidDayRange, DateExtendedYear, DateMonth, DateSeparator, TimeHour, TimeMinuteSecond, TimeSecond, TimeSeparator, FractionPart, UtcTimeSeparator, InvalidMinutePrecisionOffset, OffsetNeedsSign, TzLeadingChar, IanaChar, IanaCharPostSeparator, AnnotationClose}
+use Rattle.ixdtf.specs.Faults.Fault.{NonAsciiCodePoint, InvalidEnd, InvalidMonthRange, InvalidDayRange, DateExtendedYear, DateMonth, DateSeparator, TimeHour, TimeMinuteSecond, TimeSecond, TimeSeparator, FractionPart, UtcTimeSeparator, InvalidMinutePrecisionOffset, OffsetNeedsSign, TzLeadingChar, IanaChar, IanaCharPostSeparator, AnnotationClose, AnnotationKeyLeadingChar, AnnotationKeyChar, AnnotationKeyValueSeparator, AnnotationValueChar, AnnotationValueCharPostHyphen}
 use Rattle.ixdtf.specs.ZoneNames.Zone.{Name, Offset as zone_offset}
 use Rattle.ixdtf.specs.Brackets.{ZoneNote}
 use Rattle.ixdtf.specs.Cores.{core_of}
+use Rattle.ixdtf.specs.Pairs.{Pair}
 use Rattle.ixdtf.specs.Readers.{LineName}
 use Rattle.ixdtf.specs.Readers.Reader.{parse, parse_offset, parse_identifier, parse_iana_identifier}
-use Rattle.ixdtf.specs.Readers.LineName.{of_date, of_clock, of_offset, of_zone, of_bracket}
+use Rattle.ixdtf.specs.Readers.LineName.{of_date, of_clock, of_offset, of_zone, of_bracket, of_pair}
 use Rattle.ixdtf.specs.Readers.DateLine.{year_start, minus_zero_year, after_year, month_digits, month_range, after_hyphened_month, after_plain_month, day_range, after_date}
 use Rattle.ixdtf.specs.Readers.ClockLine.{hour_start, hour_digit, hour_range, after_hour, minute_digits, minute_range, after_plain_minute, after_colon_minute, second_digits, second_range, after_second, fraction_start, after_fraction}
 use Rattle.ixdtf.specs.Readers.OffsetLine.{offset_start, after_zulu}
 use Rattle.ixdtf.specs.Readers.ZoneLine.{identifier_start, zone_name_start, in_zone_name, after_zone_slash}
-use Rattle.ixdtf.specs.Readers.BracketLine.{first_bracket_start, first_critical_start, first_bracket_scan, first_bracket_pair, after_bracket}
+use Rattle.ixdtf.specs.Readers.PairLine.{key_start, critical_key_start, in_key, value_start, in_value, after_value_hyphen}
+use Rattle.ixdtf.specs.Readers.BracketLine.{first_bracket_start, first_critical_start, first_bracket_scan, after_bracket}
 use Rattle.ixdtf.specs.FaultTable.{abrupt_digit, abrupt_date, abrupt_offset, abrupt_zone, abrupt_bracket}
 use Rattle.ixdtf.specs.Rows.Place.{end, other, bad, anywhere}
 use Rattle.ixdtf.specs.Rows.{Place}
@@ -33,8 +35,9 @@ use Rattle.ixdtf.specs.ReadingLooks.{row_of, look_at, next_by, digits_by, peek_b
 use Rattle.ixdtf.specs.ReadingDates.{date_of, extended_year_at, plain_year_at, year_at, month_in_range, day_in_range, hyphened_day_at, after_hyphened_month_at, hyphened_date_at, plain_day_at, after_plain_month_at, plain_date_at, after_year_at, date_at}
 use Rattle.ixdtf.specs.ReadingTimes.{time_of, fraction_at, after_second_at, colon_second_at, plain_second_at, after_colon_minute_at, after_plain_minute_at, colon_minute_at, plain_minute_at, after_hour_at, hour_from, clock_at}
 use Rattle.ixdtf.specs.ReadingZones.{name_run, name_alone_at, iana_identifier_at, offset_alone_at, offset_at, minute_offset_alone_at, identifier_at}
-use Rattle.ixdtf.specs.ReadingBrackets.{sight_at, name_in_bracket_at, name_or_pair_at, offset_in_bracket_at, zone_in_bracket_at, critical_bracket_at, bracket_at}
-use Rattle.ixdtf.specs.Reading.{offset_core_at, after_time_at, time_core_at, core_at, zoned_at, parse_at, outcome}
+use Rattle.ixdtf.specs.ReadingPairs.{key_run, value_run, pair_at, critical_pair_at, later_pair_at, pairs_at}
+use Rattle.ixdtf.specs.ReadingBrackets.{sight_at, name_in_bracket_at, name_or_pair_at, offset_in_bracket_at, inside_at, critical_bracket_at, bracket_at}
+use Rattle.ixdtf.specs.Reading.{offset_core_at, after_time_at, time_core_at, core_at, bracketed_at, annotated_at, parse_at, outcome}
 
 -- the letters of a text of plain letters
 abbrev text_of : List ℕ → Text
@@ -43,7 +46,7 @@ text_of (c ∷ rest) = Plain c ∷ text_of rest
 
 -- unfolding this unfolds every reading
 all_readings : ℕ
-unfolding look_at next_by digits_by peek_by in_range digit_run extended_year_at plain_year_at year_at month_in_range day_in_range hyphened_day_at after_hyphened_month_at hyphened_date_at plain_day_at after_plain_month_at plain_date_at after_year_at date_at fraction_at after_second_at colon_second_at plain_second_at after_colon_minute_at after_plain_minute_at colon_minute_at plain_minute_at after_hour_at hour_from clock_at name_run name_alone_at iana_identifier_at offset_alone_at offset_at minute_offset_alone_at identifier_at sight_at name_in_bracket_at name_or_pair_at offset_in_bracket_at zone_in_bracket_at critical_bracket_at bracket_at offset_core_at after_time_at time_core_at core_at zoned_at parse_at
+unfolding look_at next_by digits_by peek_by in_range digit_run extended_year_at plain_year_at year_at month_in_range day_in_range hyphened_day_at after_hyphened_month_at hyphened_date_at plain_day_at after_plain_month_at plain_date_at after_year_at date_at fraction_at after_second_at colon_second_at plain_second_at after_colon_minute_at after_plain_minute_at colon_minute_at plain_minute_at after_hour_at hour_from clock_at name_run name_alone_at iana_identifier_at offset_alone_at offset_at minute_offset_alone_at identifier_at sight_at name_in_bracket_at name_or_pair_at key_run value_run pair_at critical_pair_at later_pair_at pairs_at offset_in_bracket_at inside_at critical_bracket_at bracket_at offset_core_at after_time_at time_core_at core_at bracketed_at annotated_at parse_at
 all_readings = 0
 
 abbrev parsing : List ℕ → Outcome
@@ -51,7 +54,7 @@ parsing text = outcome parse (text_of text)
 
 -- what stands before the brackets, and a zone where there is one
 abbrev with : DateRecord → Option TimeRecord → Option UtcOffsetRecordOrZ → Option ZoneNote → Outcome
-with day time offset zone = derived (parsed (parsed_with (core_of day time offset) zone))
+with day time offset zone = derived (parsed (parsed_with (core_of day time offset) zone)) []
 
 abbrev date : ℤ → ℕ → ℕ → Outcome
 date year month day = with (date_of year month day) None None None
@@ -71,7 +74,7 @@ abbrev bracketed : Bool → List ℕ → Option ZoneNote
 bracketed critical name = Some (record { critical = critical; zone = Name name })
 
 abbrev stops : LineName → Place → Fault → Outcome
-stops name place fault = refused (row_of name place fault)
+stops name place fault = refused (row_of name place fault) []
 
 a_year_alone : parsing (codes "2020") ≡ stops (of_date after_year) end abrupt_date
 unfolding all_readings
@@ -179,11 +182,11 @@ nothing_at_all = refl
 
 -- ---- offsets
 
-a_long_offset : outcome parse_offset (text_of (codes "-05:00:30.5")) ≡ derived (shifted (FullPrecisionOffset (record { minute_precision_offset = record { sign = Negative; hour = 5; minute = 0 }; second = 30; fraction = Some (record { count = 1; value = 5 }) })))
+a_long_offset : outcome parse_offset (text_of (codes "-05:00:30.5")) ≡ derived (shifted (FullPrecisionOffset (record { minute_precision_offset = record { sign = Negative; hour = 5; minute = 0 }; second = 30; fraction = Some (record { count = 1; value = 5 }) }))) []
 unfolding all_readings
 a_long_offset = refl
 
-an_offset_without_seconds : outcome parse_offset (text_of (codes "+0530")) ≡ derived (shifted (MinutePrecision (record { sign = Positive; hour = 5; minute = 30 })))
+an_offset_without_seconds : outcome parse_offset (text_of (codes "+0530")) ≡ derived (shifted (MinutePrecision (record { sign = Positive; hour = 5; minute = 30 }))) []
 unfolding all_readings
 an_offset_without_seconds = refl
 
@@ -265,7 +268,7 @@ one_digit_of_an_hour = refl
 
 -- ---- zones
 
-a_name : outcome parse_iana_identifier (text_of (codes "Europe/Berlin")) ≡ derived (named (codes "Europe/Berlin"))
+a_name : outcome parse_iana_identifier (text_of (codes "Europe/Berlin")) ≡ derived (named (codes "Europe/Berlin")) []
 unfolding all_readings
 a_name = refl
 
@@ -285,11 +288,11 @@ a_slash_alone : outcome parse_iana_identifier (text_of (codes "America/")) ≡ s
 unfolding all_readings
 a_slash_alone = refl
 
-a_zone_by_its_name : outcome parse_identifier (text_of (codes "u")) ≡ derived (identified (Name (codes "u")))
+a_zone_by_its_name : outcome parse_identifier (text_of (codes "u")) ≡ derived (identified (Name (codes "u"))) []
 unfolding all_readings
 a_zone_by_its_name = refl
 
-a_zone_by_its_offset : outcome parse_identifier (text_of (codes "+05:30")) ≡ derived (identified (zone_offset (record { sign = Positive; hour = 5; minute = 30 })))
+a_zone_by_its_offset : outcome parse_identifier (text_of (codes "+05:30")) ≡ derived (identified (zone_offset (record { sign = Positive; hour = 5; minute = 30 }))) []
 unfolding all_readings
 a_zone_by_its_offset = refl
 
@@ -371,7 +374,7 @@ a_name_or_a_key : parsing (codes "2020-01-01[cet") ≡ stops (of_bracket first_b
 unfolding all_readings
 a_name_or_a_key = refl
 
-a_key : parsing (codes "2020-01-01[a=") ≡ stops (of_bracket first_bracket_pair) anywhere InvalidEnd
+a_key : parsing (codes "2020-01-01[a=") ≡ stops (of_pair value_start) end AnnotationValueChar
 unfolding all_readings
 a_key = refl
 
@@ -423,6 +426,92 @@ letters_after_a_bracket : parsing (codes "2020-01-01T00:00:00+00:00[UTC]junk") �
 unfolding all_readings
 letters_after_a_bracket = refl
 
-two_brackets : parsing (codes "2020-01-01[UTC][") ≡ stops (of_bracket after_bracket) other InvalidEnd
+-- ---- pairs
+
+-- the pair, by its key and its value
+abbrev tagged : Bool → List ℕ → List ℕ → Pair
+tagged critical key value = record { critical = critical; key = key; value = value }
+
+-- 1 January 2020 with these pairs
+abbrev annotated : Option ZoneNote → List Pair → Outcome
+annotated zone pairs = derived (parsed (parsed_with (core_of new_years_day None None) zone)) pairs
+
+-- the row, with these whole pairs before it
+abbrev stops_after : List Pair → LineName → Place → Fault → Outcome
+stops_after pairs name place fault = refused (row_of name place fault) pairs
+
+two_pairs : parsing (codes "2020-01-01[a=b][!u-ca=a-1]") ≡ annotated None (tagged false (codes "a") (codes "b") ∷ (tagged true (codes "u-ca") (codes "a-1") ∷ []))
+unfolding all_readings
+two_pairs = refl
+
+a_critical_pair_alone : parsing (codes "2020-01-01[!_=Z]") ≡ annotated None (tagged true (codes "_") (codes "Z") ∷ [])
+unfolding all_readings
+a_critical_pair_alone = refl
+
+a_zone_and_a_pair : parsing (codes "2020-01-01[u][u=u]") ≡ annotated (bracketed false (codes "u")) (tagged false (codes "u") (codes "u") ∷ [])
+unfolding all_readings
+a_zone_and_a_pair = refl
+
+two_brackets : parsing (codes "2020-01-01[UTC][") ≡ stops (of_pair key_start) end AnnotationKeyLeadingChar
 unfolding all_readings
 two_brackets = refl
+
+a_second_zone : parsing (codes "2020-01-01[u][Europe/London]") ≡ stops (of_pair key_start) other AnnotationKeyLeadingChar
+unfolding all_readings
+a_second_zone = refl
+
+two_flags_of_a_pair : parsing (codes "2020-01-01[a=b][!!") ≡ stops_after (tagged false (codes "a") (codes "b") ∷ []) (of_pair critical_key_start) other AnnotationKeyLeadingChar
+unfolding all_readings
+two_flags_of_a_pair = refl
+
+a_flag_and_no_pair : parsing (codes "2020-01-01[a=b][!") ≡ stops_after (tagged false (codes "a") (codes "b") ∷ []) (of_pair critical_key_start) end AnnotationKeyLeadingChar
+unfolding all_readings
+a_flag_and_no_pair = refl
+
+a_key_and_no_value : parsing (codes "2020-01-01[a=b][u]") ≡ stops_after (tagged false (codes "a") (codes "b") ∷ []) (of_pair in_key) other AnnotationKeyChar
+unfolding all_readings
+a_key_and_no_value = refl
+
+a_key_and_no_end : parsing (codes "2020-01-01[u][a") ≡ stops (of_pair in_key) end AnnotationKeyValueSeparator
+unfolding all_readings
+a_key_and_no_end = refl
+
+an_uppercase_letter_in_a_key : parsing (codes "2020-01-01[u-cA=b]") ≡ stops (of_pair in_key) other AnnotationKeyChar
+unfolding all_readings
+an_uppercase_letter_in_a_key = refl
+
+an_empty_value : parsing (codes "2020-01-01[a=]") ≡ stops (of_pair value_start) other AnnotationValueChar
+unfolding all_readings
+an_empty_value = refl
+
+a_value_and_no_end : parsing (codes "2020-01-01[a=b") ≡ stops (of_pair in_value) end AnnotationClose
+unfolding all_readings
+a_value_and_no_end = refl
+
+a_parenthesis_after_a_value : parsing (codes "2020-01-01[a=b)") ≡ stops (of_pair in_value) other AnnotationValueChar
+unfolding all_readings
+a_parenthesis_after_a_value = refl
+
+a_hyphen_at_the_end_of_a_value : parsing (codes "2020-01-01[a=b-]") ≡ stops (of_pair after_value_hyphen) other AnnotationValueCharPostHyphen
+unfolding all_readings
+a_hyphen_at_the_end_of_a_value = refl
+
+a_hyphen_and_no_end : parsing (codes "2020-01-01[a=b-") ≡ stops (of_pair after_value_hyphen) end AnnotationValueCharPostHyphen
+unfolding all_readings
+a_hyphen_and_no_end = refl
+
+letters_after_a_pair : parsing (codes "2020-01-01[a=b]junk") ≡ stops_after (tagged false (codes "a") (codes "b") ∷ []) (of_bracket after_bracket) other InvalidEnd
+unfolding all_readings
+letters_after_a_pair = refl
+
+a_mark_before_bad_in_a_value : outcome parse (text_of (codes "2020-01-01[a=!") ++ (Bad ∷ [])) ≡ stops (of_pair value_start) other AnnotationValueChar
+unfolding all_readings
+a_mark_before_bad_in_a_value = refl
+
+bad_in_a_value : outcome parse (text_of (codes "2020-01-01[a=b") ++ (Bad ∷ [])) ≡ stops (of_pair in_value) bad NonAsciiCodePoint
+unfolding all_readings
+bad_in_a_value = refl
+
+bad_after_a_pair : outcome parse (text_of (codes "2020-01-01[a=b]") ++ (Bad ∷ [])) ≡ stops_after (tagged false (codes "a") (codes "b") ∷ []) (of_bracket after_bracket) bad NonAsciiCodePoint
+unfolding all_readings
+bad_after_a_pair = refl

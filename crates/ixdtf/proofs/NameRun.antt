@@ -1,6 +1,5 @@
 -- The letters of a zone name, taken off one by one, and the look ahead in a bracket.
-use Rattle.std.proofs.Common.{◌≡◌, ℕ, ◌-◌, ◌||◌, ◌&&◌, Bool, true, false, List, [], ◌∷◌, ◌++◌, length, map, drop, take, Some, None, Result, Ok, Err, refl, sym, ap, ◌∙◌, arith, append_assoc, append-nil, if◌then◌else◌}
-use Rattle.std.proofs.lemmas.List.{take-map, length-map, length-append, take_all, take-append-le}
+use Rattle.std.proofs.Common.{◌≡◌, ℕ, ◌||◌, ◌&&◌, Bool, true, false, List, [], ◌∷◌, map, drop, Some, None, Result, Ok, Err, refl, append-nil, if◌then◌else◌}
 use Rattle.ixdtf.specs.Letters.{Letter, Text}
 use Rattle.ixdtf.specs.Letters.Letter.{Plain, Bad}
 use Rattle.ixdtf.specs.Classes.{zone_char, slash, equals, closing}
@@ -10,21 +9,9 @@ use Rattle.ixdtf.specs.FaultTable.{abrupt_bracket}
 use Rattle.ixdtf.specs.ReadingLooks.{Read, look_at, error_of}
 use Rattle.ixdtf.specs.ReadingZones.{with_letter, name_step, name_stops, name_run}
 use Rattle.ixdtf.specs.ReadingBrackets.{sight_at}
+use Rattle.ixdtf.proofs.RunLoop.{with_letters, IsSoFar, at_letter, answers_here}
 
 -- ---- names
-
--- letters that were read, with more in front of them
-abbrev pub with_letters : List ℕ → Read Fault (List ℕ) → Read Fault (List ℕ)
-with_letters front (Ok x) = Ok (front ++ x.0, x.1)
-with_letters front (Err e) = Err e
-
-with_none : (read : Read Fault (List ℕ)) → with_letters [] read ≡ read
-with_none (Ok x) = refl
-with_none (Err e) = refl
-
-with_one_more : (front : List ℕ) (c : ℕ) (read : Read Fault (List ℕ)) → with_letters front (with_letter c read) ≡ with_letters (front ++ (c ∷ [])) read
-with_one_more front c (Ok x) = ap (λ (t : List ℕ). Ok (t, x.1)) (sym (append_assoc front (c ∷ []) x.0))
-with_one_more front c (Err e) = refl
 
 abbrev pub run_of : Bool → Text → Read Fault (List ℕ)
 run_of may_end text = name_run error_of may_end text
@@ -33,7 +20,7 @@ abbrev pub stops : Bool → Text → Read Fault (List ℕ)
 stops may_end text = name_stops IanaCharPostSeparator may_end text
 
 -- the letter goes on
-run_more : (c : ℕ) (may_end next : Bool) (rest : Text) → name_step c may_end ≡ Some next → run_of may_end (Plain c ∷ rest) ≡ with_letter c (run_of next rest)
+pub run_more : (c : ℕ) (may_end next : Bool) (rest : Text) → name_step c may_end ≡ Some next → run_of may_end (Plain c ∷ rest) ≡ with_letter c (run_of next rest)
 unfolding name_run
 run_more c may_end next rest is = go (zone_char c) refl (slash c && may_end) refl is
   where
@@ -52,57 +39,23 @@ run_other c may_end rest is = go (zone_char c) refl (slash c && may_end) refl is
     go false p true q e = absurd cc
     go false p false q e = rw (p, q) refl
 
--- So far these letters were taken off, and the others are still to be read.
-pub record IsSoFar (letter : ℕ → Letter) (whole rest : List ℕ) (may_end : Bool) : Type 0 where
-  pub taken : List ℕ
-  pub units : whole ≡ taken ++ rest
-  pub read : run_of true (map letter whole) ≡ with_letters taken (run_of may_end (map letter rest))
-
-pub begins : (letter : ℕ → Letter) (whole : List ℕ) → IsSoFar letter whole whole true
-begins letter whole = record { taken = []; units = refl; read = sym (with_none _) }
-
 module _ (letter : ℕ → Letter) (faithful : (unit n : ℕ) → letter unit ≡ Plain n → n ≡ unit) where
-  -- a look found this letter first
-  first_is : (units : List ℕ) (c : ℕ) → look_at NonAsciiCodePoint (map letter units) ≡ Ok (Some c) → (more : List ℕ) × (units ≡ c ∷ more) × (map letter units ≡ Plain c ∷ map letter more)
-  unfolding look_at
-  first_is [] c e = absurd cc
-  first_is (u ∷ more) c e = go (letter u) refl e
-    where
-      go : (l : Letter) → letter u ≡ l → look_at NonAsciiCodePoint (l ∷ map letter more) ≡ Ok (Some c) → (rest : List ℕ) × (u ∷ more ≡ c ∷ rest) × (letter u ∷ map letter more ≡ Plain c ∷ map letter rest)
-      go (Plain n) is e =
-          let same : n ≡ c = cc in
-          (more, ap (λ (m : ℕ). m ∷ more) (sym (faithful u c (is ∙ ap (λ (m : ℕ). Plain m) same))), ap (λ (l : Letter). l ∷ map letter more) (is ∙ ap (λ (m : ℕ). Plain m) same))
-      go Bad is e = absurd cc
-
-  pub goes_on : (whole rest after : List ℕ) (may_end next : Bool) (c : ℕ) → IsSoFar letter whole rest may_end → look_at NonAsciiCodePoint (map letter rest) ≡ Ok (Some c) → name_step c may_end ≡ Some next → after ≡ drop 1 rest → IsSoFar letter whole after next
-  goes_on whole rest after may_end next c far e is moved =
-      let here = first_is rest c e in
-      let left : after ≡ here.0 = moved ∙ ap (λ (t : List ℕ). drop 1 t) here.1 in
-      record {
-        taken = far.taken ++ (c ∷ []);
-        units = far.units ∙ rw (here.1, left) (sym (append_assoc far.taken (c ∷ []) here.0));
-        read = far.read ∙ ap (λ (t : Text). with_letters far.taken (run_of may_end t)) here.2 ∙ ap (with_letters far.taken) (run_more c may_end next (map letter here.0) is)
-            ∙ with_one_more far.taken c (run_of next (map letter here.0)) ∙ ap (λ (t : List ℕ). with_letters (far.taken ++ (c ∷ [])) (run_of next (map letter t))) (sym left);
-      }
-
   -- the name goes no further
-  pub ends_at_other : (whole rest : List ℕ) (may_end : Bool) (c : ℕ) → (far : IsSoFar letter whole rest may_end) → look_at NonAsciiCodePoint (map letter rest) ≡ Ok (Some c) → name_step c may_end ≡ None → run_of true (map letter whole) ≡ with_letters far.taken (stops may_end (map letter rest))
-  ends_at_other whole rest may_end c far e is =
-      let here = first_is rest c e in
-      far.read ∙ ap (with_letters far.taken) (rw here.2 (run_other c may_end (map letter here.0) is))
+  pub ends_at_other : (whole rest : List ℕ) (may_end : Bool) (c : ℕ) → (far : IsSoFar run_of true letter whole rest may_end) → look_at NonAsciiCodePoint (map letter rest) ≡ Ok (Some c) → name_step c may_end ≡ None → run_of true (map letter whole) ≡ with_letters far.taken (stops may_end (map letter rest))
+  ends_at_other whole rest may_end c far e is = at_letter letter faithful run_of true whole rest may_end c far e (stops may_end) (λ more. run_other c may_end more is)
 
-pub ends_at_end : (letter : ℕ → Letter) (whole rest : List ℕ) (may_end : Bool) → (far : IsSoFar letter whole rest may_end) → look_at NonAsciiCodePoint (map letter rest) ≡ Ok None → run_of true (map letter whole) ≡ with_letters far.taken (stops may_end (map letter rest))
+pub ends_at_end : (letter : ℕ → Letter) (whole rest : List ℕ) (may_end : Bool) → (far : IsSoFar run_of true letter whole rest may_end) → look_at NonAsciiCodePoint (map letter rest) ≡ Ok None → run_of true (map letter whole) ≡ with_letters far.taken (stops may_end (map letter rest))
 unfolding look_at name_run
-ends_at_end letter whole rest may_end far e = far.read ∙ ap (with_letters far.taken) (go (map letter rest) e)
+ends_at_end letter whole rest may_end far e = answers_here run_of true letter whole rest may_end far (stops may_end (map letter rest)) (go (map letter rest) e)
   where
     go : (text : Text) → look_at NonAsciiCodePoint text ≡ Ok None → run_of may_end text ≡ stops may_end text
     go [] e = refl
     go (Plain n ∷ more) e = absurd cc
     go (Bad ∷ more) e = absurd cc
 
-pub fails : (letter : ℕ → Letter) (whole rest : List ℕ) (may_end : Bool) (fault : Fault) → IsSoFar letter whole rest may_end → look_at NonAsciiCodePoint (map letter rest) ≡ Err fault → run_of true (map letter whole) ≡ Err fault
+pub fails : (letter : ℕ → Letter) (whole rest : List ℕ) (may_end : Bool) (fault : Fault) → IsSoFar run_of true letter whole rest may_end → look_at NonAsciiCodePoint (map letter rest) ≡ Err fault → run_of true (map letter whole) ≡ Err fault
 unfolding look_at name_run
-fails letter whole rest may_end fault far e = far.read ∙ ap (with_letters far.taken) (go (map letter rest) e)
+fails letter whole rest may_end fault far e = answers_here run_of true letter whole rest may_end far (Err fault) (go (map letter rest) e)
   where
     go : (text : Text) → look_at NonAsciiCodePoint text ≡ Err fault → run_of may_end text ≡ Err fault
     go [] e = absurd cc
@@ -115,12 +68,6 @@ refused taken may_end text is = rw is refl
 
 pub ended : (taken : List ℕ) (may_end : Bool) (text : Text) → may_end ≡ true → with_letters taken (stops may_end text) ≡ Ok (taken, text)
 ended taken may_end text is = rw (is, append-nil taken) refl
-
--- the units that were taken off are the front of those before
-pub front_is : {U : Type 0} (number : U → ℕ) (start after : List U) (taken rest whole : List ℕ) → map number start ≡ whole → whole ≡ taken ++ rest → map number after ≡ rest → map number (take (length start - length after) start) ≡ taken
-front_is number start after taken rest whole all split left =
-    let count : length start - length after ≡ length taken = omega (arith, sym (length-map start number), sym (length-map after number), ap (λ (t : List ℕ). length t) all, ap (λ (t : List ℕ). length t) split, ap (λ (t : List ℕ). length t) left, length-append taken rest) in
-    rw count (sym (take-map number (length taken) start) ∙ rw (all, split) (take-append-le (length taken) taken rest (omega arith) ∙ take_all (length taken) taken (omega arith)))
 
 -- ---- the look ahead
 

@@ -45,22 +45,22 @@ no_letter parse_offset c h = or_parts _ _ h
 no_letter parse_identifier c h = or_parts _ _ h
 no_letter parse_iana_identifier c h = or_parts _ _ h
 
-plain_faithful : (xs ys : List ℕ) → map Plain xs ≡ map Plain ys → xs ≡ ys
+pub plain_faithful : (xs ys : List ℕ) → map Plain xs ≡ map Plain ys → xs ≡ ys
 plain_faithful [] [] h = refl
 plain_faithful [] (y ∷ ys) h = absurd cc
 plain_faithful (x ∷ xs) [] h = absurd cc
 plain_faithful (x ∷ xs) (y ∷ ys) h = let e : xs ≡ ys = plain_faithful xs ys cc in cc
 
 -- letters in front of the others
-abbrev with_letters : {E : Type 0} → List ℕ → Read E (List ℕ) → Read E (List ℕ)
+abbrev pub with_letters : {E : Type 0} → List ℕ → Read E (List ℕ) → Read E (List ℕ)
 with_letters [] r = r
 with_letters (c ∷ cs) r = with_letter c (with_letters cs r)
 
-letters_err : {E : Type 0} (cs : List ℕ) (e : E) → with_letters cs (Err e) ≡ Err e
+pub letters_err : {E : Type 0} (cs : List ℕ) (e : E) → with_letters cs (Err e) ≡ Err e
 letters_err [] e = refl
 letters_err (c ∷ cs) e = rw (letters_err cs e) refl
 
-letters_ok : {E : Type 0} (cs : List ℕ) (rest : Text) → with_letters {E = E} cs (Ok ([], rest)) ≡ Ok (cs, rest)
+pub letters_ok : {E : Type 0} (cs : List ℕ) (rest : Text) → with_letters {E = E} cs (Ok ([], rest)) ≡ Ok (cs, rest)
 letters_ok [] rest = refl
 letters_ok {E} (c ∷ cs) rest = rw (letters_ok {E = E} cs rest) refl
 

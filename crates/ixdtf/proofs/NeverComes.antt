@@ -1,19 +1,21 @@
 -- The errors that no line of the fault table has.
-use Rattle.std.proofs.Common.{◌≡◌, ℕ, Bool, true, false, ◌||◌, cond, IsFalse, refl, sym, ap, ◌∙◌}
+use Rattle.std.proofs.Common.{◌≡◌, ℕ, Bool, true, false, ◌||◌, cond, IsFalse, List, refl, sym, ap, ◌∙◌}
 use Rattle.ixdtf.specs.Letters.{Text}
 use Rattle.ixdtf.specs.Classes.{hyphen, colon, digit, closing}
 use Rattle.ixdtf.specs.declared.parsers.time.Clock.{Clock}
 use Rattle.ixdtf.specs.declared.parsers.time.Clock.TheVariants as clocks
 use Rattle.ixdtf.specs.Faults.{Fault, never_comes}
 use Rattle.ixdtf.specs.Faults.Fault.{DateSeparator, DateDay, InvalidEnd, IanaChar}
+use Rattle.ixdtf.specs.Pairs.{Pair}
 use Rattle.ixdtf.specs.Readers.{Reader, LineName}
 use Rattle.ixdtf.specs.Readers.Reader.{parse, parse_offset, parse_identifier, parse_iana_identifier}
 use Rattle.ixdtf.specs.Readers.DateLine.{year_start, year_digits, extended_year_digits, minus_zero_year, after_year, month_digits, month_range, after_hyphened_month, after_plain_month, day_digits, day_range, after_date}
 use Rattle.ixdtf.specs.Readers.ClockLine.{hour_start, hour_digit, hour_range, after_hour, minute_digits, minute_range, after_plain_minute, after_colon_minute, second_digits, second_range, after_second, fraction_start, after_fraction}
 use Rattle.ixdtf.specs.Readers.OffsetLine.{offset_start, after_zulu}
 use Rattle.ixdtf.specs.Readers.ZoneLine.{identifier_start, zone_name_start, in_zone_name, after_zone_slash}
-use Rattle.ixdtf.specs.Readers.BracketLine.{first_bracket_start, first_critical_start, first_bracket_scan, first_bracket_pair, after_bracket}
-use Rattle.ixdtf.specs.Readers.LineName.{of_date, of_clock, of_offset, of_zone, of_bracket}
+use Rattle.ixdtf.specs.Readers.BracketLine.{first_bracket_start, first_critical_start, first_bracket_scan, after_bracket}
+use Rattle.ixdtf.specs.Readers.PairLine.{key_start, critical_key_start, in_key, value_start, in_value, after_value_hyphen}
+use Rattle.ixdtf.specs.Readers.LineName.{of_date, of_clock, of_offset, of_zone, of_bracket, of_pair}
 use Rattle.ixdtf.specs.FaultTable.{Line, Ending, Follow, follow_of, mixed, second_fault, zone_line, table}
 use Rattle.ixdtf.specs.FaultTable.Line.{line, whole}
 use Rattle.ixdtf.specs.FaultTable.Ending.{ok, error}
@@ -97,8 +99,13 @@ line_comes reader (of_zone after_zone_slash) = (refl, λ c. refl)
 line_comes reader (of_bracket first_bracket_start) = (refl, λ c. refl)
 line_comes reader (of_bracket first_critical_start) = (refl, λ c. refl)
 line_comes reader (of_bracket first_bracket_scan) = (refl, λ c. refl)
-line_comes reader (of_bracket first_bracket_pair) = refl
 line_comes reader (of_bracket after_bracket) = (tt, λ c. refl)
+line_comes reader (of_pair key_start) = (refl, λ c. refl)
+line_comes reader (of_pair critical_key_start) = (refl, λ c. refl)
+line_comes reader (of_pair in_key) = (refl, λ c. refl)
+line_comes reader (of_pair value_start) = (refl, λ c. refl)
+line_comes reader (of_pair in_value) = (refl, λ c. refl)
+line_comes reader (of_pair after_value_hyphen) = (refl, λ c. refl)
 
 end_comes : (at_end : Ending) (fault : Fault) → EndComes at_end → at_end ≡ error fault → IsFalse (never_comes fault)
 end_comes ok fault comes is = absurd cc
@@ -115,8 +122,8 @@ stop_comes (whole front e) bad fault rest comes h = absurd h
 stop_comes (whole front e) anywhere fault rest comes h = ap never_comes h ∙ comes
 
 -- a fault that a text has is one that comes
-pub fault_comes : (reader : Reader) (text : Text) (fault : Fault) → HasFault reader text fault → IsFalse (never_comes fault)
-fault_comes reader text fault h =
+pub fault_comes : (reader : Reader) (text : Text) (pairs : List Pair) (fault : Fault) → HasFault reader text pairs fault → IsFalse (never_comes fault)
+fault_comes reader text pairs fault h =
     let row = h.0 in
     let here = h.1.4 in
     ap never_comes (sym h.2) ∙ stop_comes (table reader row.name) row.place row.error here.1 (line_comes reader row.name) here.4

@@ -3,12 +3,13 @@ use Rattle.std.proofs.Common.{◌≡◌, ℕ, Bool, true, false, IsTrue, IsFalse
 use Rattle.std.proofs.lemmas.Bool.Decides.{nat_tests}
 use Rattle.ixdtf.specs.Letters.{Text}
 use Rattle.ixdtf.specs.Letters.Letter.{Plain, Bad}
-use Rattle.ixdtf.specs.Classes.{equals, closing, slash, zone_char, key_lead}
+use Rattle.ixdtf.specs.Classes.{equals, closing, slash, zone_char, key_lead, key_char}
 use Rattle.ixdtf.specs.Shapes.{one, ◌then◌, Joined, many}
 use Rattle.ixdtf.specs.Faults.{Fault}
 use Rattle.ixdtf.specs.Faults.Fault.{NonAsciiCodePoint}
 use Rattle.ixdtf.specs.ZoneNames.{NameItem, ZoneName}
 use Rattle.ixdtf.specs.Brackets.{passed, FirstIs, ReadsAsName}
+use Rattle.ixdtf.specs.Pairs.{Key, ReadsAsPair}
 use Rattle.ixdtf.specs.Readers.LineName.{of_bracket}
 use Rattle.ixdtf.specs.Readers.BracketLine.{first_bracket_scan}
 use Rattle.ixdtf.specs.FaultTable.{bracket_line, abrupt_bracket, Scanned}
@@ -33,6 +34,9 @@ zone_char_passed c h = grind (arith, nat_tests)
 
 slash_passed : (c : ℕ) → IsTrue (slash c) → IsTrue (passed c)
 slash_passed c h = grind (arith, nat_tests)
+
+key_char_passed : (c : ℕ) → IsTrue (key_char c) → IsTrue (passed c)
+key_char_passed c h = grind (arith, nat_tests)
 
 pub key_lead_passed : (c : ℕ) → IsTrue (key_lead c) → IsTrue (passed c)
 key_lead_passed c h = grind (arith, nat_tests)
@@ -72,8 +76,11 @@ module _ {E : Type 0} (fault : Row → E) where
       closing_no_equals c h = grind (arith, nat_tests)
 
   -- an `=` comes first
-  pub sight_pair : (text rest : Text) → (Scanned then one equals) text → sight_at fault (text ++ rest) ≡ Ok true
-  sight_pair text rest h = rw (h.2, h.4.1, append_assoc) (over_scanned h.0 (Plain h.4.0 ∷ rest) h.3 ∙ sight_equals h.4.0 rest h.4.2)
+  pub sight_pair : (text : Text) → ReadsAsPair text → sight_at fault text ≡ Ok true
+  sight_pair text h =
+      let f = h.4 in
+      let g = f.4 in
+      rw (h.2, h.3.1, f.2, g.2, g.3.1) (over_letter h.3.0 _ (key_lead_passed h.3.0 h.3.2) ∙ over_joined f.3.0 f.0 _ f.3.1 ∙ sight_equals g.3.0 _ g.3.2)
 
   -- a `]` comes first
   pub sight_name : (text : Text) → (one key_lead then FirstIs closing) text → sight_at fault text ≡ Ok false
@@ -86,7 +93,7 @@ module _ {E : Type 0} (fault : Row → E) where
 
 -- what is known of what the sight answered, and of the line where it stopped
 abbrev pub OnSight : {E : Type 0} → (Row → E) → Text → Result Bool E → Type 0
-OnSight fault text (Ok true) = (seen more : Text) × (c : ℕ) × (text ≡ seen ++ (Plain c ∷ more)) × many (one passed) seen × IsTrue (equals c)
+OnSight fault text (Ok true) = FirstIs equals text
 OnSight fault text (Ok false) = FirstIs closing text
 OnSight fault text (Err e) =
     (seen rest : Text) × (text ≡ seen ++ rest) × many (one passed) seen × (place : Place) × (d : Fault) × (e ≡ fault (row_of (of_bracket first_bracket_scan) place d)) × Stops (bracket_line first_bracket_scan) place d rest
@@ -96,7 +103,7 @@ one_more c text h m = ((Plain c ∷ []) ∷ m.0, (text, refl, (c, refl, h), m.1)
 
 module _ {E : Type 0} (fault : Row → E) where
   seen_more : (c : ℕ) (text : Text) → IsTrue (passed c) → (r : Result Bool E) → OnSight fault text r → OnSight fault (Plain c ∷ text) r
-  seen_more c text h (Ok true) s = (Plain c ∷ s.0, s.1, s.2, ap (λ t. Plain c ∷ t) s.3, one_more c s.0 h s.4, s.5)
+  seen_more c text h (Ok true) s = (Plain c ∷ s.0, s.1, ap (λ t. Plain c ∷ t) s.2, one_more c s.0 h s.3, s.4)
   seen_more c text h (Ok false) s = (Plain c ∷ s.0, s.1, ap (λ t. Plain c ∷ t) s.2, one_more c s.0 h s.3, s.4)
   seen_more c text h (Err e) s = (Plain c ∷ s.0, s.1, ap (λ t. Plain c ∷ t) s.2, one_more c s.0 h s.3, s.4, s.5, s.6, s.7)
 
@@ -107,7 +114,7 @@ module _ {E : Type 0} (fault : Row → E) where
   sight_read (Plain c ∷ rest) = at_letter (equals c) (closing c) refl refl (sight_read rest)
     where
       at_letter : (b d : Bool) → equals c ≡ b → closing c ≡ d → OnSight fault rest (sight_at fault rest) → OnSight fault (Plain c ∷ rest) (if b then Ok true else (if d then Ok false else sight_at fault rest))
-      at_letter true d is_equals is_closing more = ([], rest, c, refl, ([], refl), is_equals)
+      at_letter true d is_equals is_closing more = ([], Plain c ∷ rest, refl, ([], refl), (Plain c ∷ [], rest, refl, (c, refl, is_equals), tt))
       at_letter false true no_equals is_closing more = ([], Plain c ∷ rest, refl, ([], refl), (Plain c ∷ [], rest, refl, (c, refl, is_closing), tt))
       at_letter false false no_equals no_closing more = seen_more c rest (neither_passed c no_equals no_closing) (sight_at fault rest) more
 
@@ -129,3 +136,14 @@ name_reads text rest h = rw (h.2, h.3.1) (by_lead (key_lead h.3.0) refl)
     by_lead : (b : Bool) → key_lead h.3.0 ≡ b → ReadsAsName (Plain h.3.0 ∷ (h.1 ++ (Plain 93 ∷ rest)))
     by_lead true is = inr (Plain h.3.0 ∷ [], h.1 ++ (Plain 93 ∷ rest), refl, (h.3.0, refl, is), (h.1, Plain 93 ∷ rest, refl, items_passed h.4.0 h.1 h.4.1, (Plain 93 ∷ [], rest, refl, (93, refl, refl), tt)))
     by_lead false is = inl (Plain h.3.0 ∷ [], h.1 ++ (Plain 93 ∷ rest), refl, (h.3.0, refl, rw (h.3.2, is) refl), tt)
+
+-- ---- keys read as keys
+
+keys_passed : (parts : List Text) (text : Text) → Joined (one key_char) parts text → many (one passed) text
+keys_passed [] text h = ([], h)
+keys_passed (part ∷ parts) text h = rw (h.1, h.2.1) (one_more h.2.0 h.0 (key_char_passed h.2.0 h.2.2) (keys_passed parts h.0 h.3))
+
+-- a whole key, and `=`
+pub key_reads : (text rest : Text) → Key text → ReadsAsPair (text ++ (Plain 61 ∷ rest))
+key_reads text rest h =
+    (h.0, h.1 ++ (Plain 61 ∷ rest), rw h.2 (simp append_assoc), h.3, (h.1, Plain 61 ∷ rest, refl, keys_passed h.4.0 h.1 h.4.1, (Plain 61 ∷ [], rest, refl, (61, refl, refl), tt)))

@@ -13,9 +13,10 @@ use Rattle.ixdtf.specs.Offsets.{IsOffset, offset_of, minutes_of}
 use Rattle.ixdtf.specs.Times.{TimeShape, writes_seconds}
 use Rattle.ixdtf.specs.ZoneNames.{Zone, ZoneName, IsZone, IsZoneName}
 use Rattle.ixdtf.specs.ZoneNames.Zone.{Offset}
+use Rattle.ixdtf.specs.Pairs.{Pair}
 use Rattle.ixdtf.specs.Readers.{Reader, LineName}
 use Rattle.ixdtf.specs.Readers.Reader.{parse_offset, parse_identifier, parse_iana_identifier}
-use Rattle.ixdtf.specs.Readers.LineName.{of_date, of_clock, of_offset, of_zone, of_bracket}
+use Rattle.ixdtf.specs.Readers.LineName.{of_date, of_clock, of_offset, of_zone, of_bracket, of_pair}
 use Rattle.ixdtf.specs.Readers.OffsetLine.{offset_start, after_zulu}
 use Rattle.ixdtf.specs.Readers.ZoneLine.{identifier_start, zone_name_start, in_zone_name, after_zone_slash}
 use Rattle.ixdtf.specs.FaultTable.{table, follow_of, zone_letters, zone_end, zone_other, Before}
@@ -49,15 +50,15 @@ first_letter : (text : Text) → ZoneName text → (c : ℕ) × (more : Text) ×
 first_letter text h = (h.3.0, h.1, rw (h.2, h.3.1) refl, h.3.2)
 
 -- the same for the row where a name stops
-lift_name : (reader : Reader) (row : Row) (c : ℕ) (text more : Text) → text ≡ Plain c ∷ more → IsTrue (zone_lead c) → Before reader (of_zone in_zone_name) [] text → Before reader (of_zone after_zone_slash) [] text → FitsIn of_zone reader row text → Fits reader row text
+lift_name : (reader : Reader) (row : Row) (c : ℕ) (text more : Text) → text ≡ Plain c ∷ more → IsTrue (zone_lead c) → Before reader (of_zone in_zone_name) [] [] text → Before reader (of_zone after_zone_slash) [] [] text → FitsIn of_zone reader row text → Fits reader row [] text
 lift_name reader row c text more is lead inside slashed f = ([], text, refl, at (name_lines reader row c text more is lead f), f.2)
   where
-    at : (row.name ≡ of_zone in_zone_name) ⊎ (row.name ≡ of_zone after_zone_slash) → Before reader row.name [] text
+    at : (row.name ≡ of_zone in_zone_name) ⊎ (row.name ≡ of_zone after_zone_slash) → Before reader row.name [] [] text
     at (inl h) = rw h inside
     at (inr h) = rw h slashed
 
 -- the row at which the first letter is looked for
-lift_start : (reader : Reader) (name : LineName) (row : Row) (text : Text) → row.name ≡ name → Before reader name [] text → front_of (table reader name) [] → Stops (table reader name) row.place row.error text → Fits reader row text
+lift_start : (reader : Reader) (name : LineName) (row : Row) (text : Text) → row.name ≡ name → Before reader name [] [] text → front_of (table reader name) [] → Stops (table reader name) row.place row.error text → Fits reader row [] text
 lift_start reader name row text is stands shape at = ([], text, refl, rw is stands, ([], text, refl, rw is shape, rw is at))
 
 -- a reader of a name and nothing after it
@@ -75,7 +76,7 @@ identifier_alone = record { ends = refl; letters = λ c. refl; others = λ c. re
 module _ {E : Type 0} (fault : Row → E) where
   -- each row of the reader's lines is answered
   abbrev AnswersAll : {A : Type 0} → Reader → (Text → Read E A) → Type 0
-  AnswersAll reader read = (name : LineName) (place : Place) (e : Fault) (prior front rest : Text) → Before reader name prior (front ++ rest) → front_of (table reader name) front → Stops (table reader name) place e rest → read (prior ++ (front ++ rest)) ≡ Err (fault (row_of name place e))
+  AnswersAll reader read = (name : LineName) (pairs : List Pair) (place : Place) (e : Fault) (prior front rest : Text) → Before reader name pairs prior (front ++ rest) → front_of (table reader name) front → Stops (table reader name) place e rest → read (prior ++ (front ++ rest)) ≡ Err (fault (row_of name place e))
 
   -- ---- offsets
 
@@ -103,14 +104,15 @@ module _ {E : Type 0} (fault : Row → E) where
   offset_start_row place e rest at = rw (stops fault (of_offset offset_start) place e rest tt at) refl
 
   pub offset_rows : AnswersAll parse_offset (offset_at fault)
-  offset_rows (of_offset offset_start) place e prior front rest b f at = rw (b, f) (offset_start_row place e rest at)
-  offset_rows (of_offset after_zulu) place e prior front rest b f at = absurd b
-  offset_rows (of_clock clocks.Offset l) place e prior front rest b f at = rw b.1 (clock_rows fault parse_offset clocks.Offset (offset_at fault) (offset_after b.0) (Plain b.0 ∷ []) (offset_lead b.0 b.2) (offset_refuses b.0) l place e front rest f at)
-  offset_rows (of_clock clocks.Time l) place e prior front rest b f at = absurd b
-  offset_rows (of_clock clocks.MinuteOffset l) place e prior front rest b f at = absurd b
-  offset_rows (of_date l) place e prior front rest b f at = absurd b
-  offset_rows (of_zone l) place e prior front rest b f at = absurd b
-  offset_rows (of_bracket l) place e prior front rest b f at = absurd b
+  offset_rows (of_offset offset_start) pairs place e prior front rest b f at = rw (b.0, f) (offset_start_row place e rest at)
+  offset_rows (of_offset after_zulu) pairs place e prior front rest b f at = absurd b.0
+  offset_rows (of_clock clocks.Offset l) pairs place e prior front rest b f at = rw b.0.1 (clock_rows fault parse_offset clocks.Offset (offset_at fault) (offset_after b.0.0) (Plain b.0.0 ∷ []) (offset_lead b.0.0 b.0.2) (offset_refuses b.0.0) l place e front rest f at)
+  offset_rows (of_clock clocks.Time l) pairs place e prior front rest b f at = absurd b.0
+  offset_rows (of_clock clocks.MinuteOffset l) pairs place e prior front rest b f at = absurd b.0
+  offset_rows (of_date l) pairs place e prior front rest b f at = absurd b.0
+  offset_rows (of_zone l) pairs place e prior front rest b f at = absurd b.0
+  offset_rows (of_bracket l) pairs place e prior front rest b f at = absurd b.0
+  offset_rows (of_pair l) pairs place e prior front rest b f at = absurd b.0
 
   offset_alone_read : (c : ℕ) (body : Text) → IsTrue (sign c) → OnRead fault (offset_alone_at fault c body) (λ offset rest. (rest ≡ []) × IsOffset (Plain c ∷ body) offset) (λ row. FitsIn (of_clock clocks.Offset) parse_offset row body)
   unfolding offset_alone_at
@@ -124,13 +126,13 @@ module _ {E : Type 0} (fault : Row → E) where
       at_next x left g None last k = (k.1, record { c = c; body = body; shape = x.0; time = x.1; is = refl; sign = signed; clock = rw (g.1, k.0, append-nil) g.2; value = refl })
       at_next x left g (Some d) last k = absurd (true≢false (sym k.1))
 
-  pub offset_read : (text : Text) → OnRead fault (offset_at fault text) (λ offset rest. (rest ≡ []) × IsOffset text offset) (λ row. Fits parse_offset row text)
+  pub offset_read : (text : Text) → OnRead fault (offset_at fault text) (λ offset rest. (rest ≡ []) × IsOffset text offset) (λ row. Fits parse_offset row [] text)
   unfolding offset_at
   offset_read text = then_read fault (letter_at fault (of_offset offset_start) text) _ _ _ _ _ (read_letter fault (of_offset offset_start) text tt)
       (λ c body h. rw h.0 (read_weaker fault (offset_alone_at fault c body) _ _ _ _ (offset_alone_read c body h.1)
       (λ offset rest g. g)
-      (λ r g. lift (of_clock clocks.Offset) parse_offset r (Plain c ∷ body) (Plain c ∷ []) body refl (λ l. (c, refl, h.1)) g)))
-      (λ r h. lift_start parse_offset (of_offset offset_start) r text h.0 refl refl h.1)
+      (λ r g. lift (of_clock clocks.Offset) parse_offset r (Plain c ∷ body) (Plain c ∷ []) body refl (λ l. ((c, refl, h.1), refl)) g)))
+      (λ r h. lift_start parse_offset (of_offset offset_start) r text h.0 (refl, refl) refl h.1)
 
   -- ---- names
 
@@ -192,24 +194,25 @@ module _ {E : Type 0} (fault : Row → E) where
   iana_start_row place e rest at = rw (stops fault (of_zone zone_name_start) place e rest tt at) refl
 
   pub iana_identifier_rows : AnswersAll parse_iana_identifier (iana_identifier_at fault)
-  iana_identifier_rows (of_zone zone_name_start) place e prior front rest b f at = rw (b, f) (iana_start_row place e rest at)
-  iana_identifier_rows (of_zone in_zone_name) place e prior front rest b f at = rw b (iana_lead front rest f ∙ alone_row parse_iana_identifier iana_alone place e front rest f at)
-  iana_identifier_rows (of_zone after_zone_slash) place e prior front rest b f at =
+  iana_identifier_rows (of_zone zone_name_start) pairs place e prior front rest b f at = rw (b.0, f) (iana_start_row place e rest at)
+  iana_identifier_rows (of_zone in_zone_name) pairs place e prior front rest b f at = rw b.0 (iana_lead front rest f ∙ alone_row parse_iana_identifier iana_alone place e front rest f at)
+  iana_identifier_rows (of_zone after_zone_slash) pairs place e prior front rest b f at =
       let name : iana_identifier_at fault (front ++ rest) ≡ name_alone_at fault (front ++ rest) = rw (f.2, append_assoc) (iana_lead f.0 (f.1 ++ rest) f.3) in
-      rw b (name ∙ alone_slash_row parse_iana_identifier iana_alone place e front rest f at)
-  iana_identifier_rows (of_zone identifier_start) place e prior front rest b f at = absurd b
-  iana_identifier_rows (of_offset l) place e prior front rest b f at = absurd b
-  iana_identifier_rows (of_clock clock l) place e prior front rest b f at = absurd b
-  iana_identifier_rows (of_date l) place e prior front rest b f at = absurd b
-  iana_identifier_rows (of_bracket l) place e prior front rest b f at = absurd b
+      rw b.0 (name ∙ alone_slash_row parse_iana_identifier iana_alone place e front rest f at)
+  iana_identifier_rows (of_zone identifier_start) pairs place e prior front rest b f at = absurd b.0
+  iana_identifier_rows (of_offset l) pairs place e prior front rest b f at = absurd b.0
+  iana_identifier_rows (of_clock clock l) pairs place e prior front rest b f at = absurd b.0
+  iana_identifier_rows (of_date l) pairs place e prior front rest b f at = absurd b.0
+  iana_identifier_rows (of_bracket l) pairs place e prior front rest b f at = absurd b.0
+  iana_identifier_rows (of_pair l) pairs place e prior front rest b f at = absurd b.0
 
-  pub iana_identifier_read : (text : Text) → OnRead fault (iana_identifier_at fault text) (λ name rest. (rest ≡ []) × IsZoneName text name) (λ row. Fits parse_iana_identifier row text)
+  pub iana_identifier_read : (text : Text) → OnRead fault (iana_identifier_at fault text) (λ name rest. (rest ≡ []) × IsZoneName text name) (λ row. Fits parse_iana_identifier row [] text)
   unfolding iana_identifier_at
   iana_identifier_read text = then_read fault (letter_at fault (of_zone zone_name_start) text) _ _ _ _ _ (read_letter fault (of_zone zone_name_start) text tt)
       (λ c more h. read_weaker fault (name_alone_at fault text) _ _ _ _ (alone_read parse_iana_identifier iana_alone c text more h.0 h.1)
       (λ name rest g. g)
-      (λ r g. lift_name parse_iana_identifier r c text more h.0 h.1 refl refl g))
-      (λ r h. lift_start parse_iana_identifier (of_zone zone_name_start) r text h.0 refl refl h.1)
+      (λ r g. lift_name parse_iana_identifier r c text more h.0 h.1 (refl, refl) (refl, refl) g))
+      (λ r h. lift_start parse_iana_identifier (of_zone zone_name_start) r text h.0 (refl, refl) refl h.1)
 
   -- ---- zones
 
@@ -242,18 +245,19 @@ module _ {E : Type 0} (fault : Row → E) where
   zone_start_row place e rest at = rw (stops fault (of_zone identifier_start) place e rest tt at) refl
 
   pub identifier_rows : AnswersAll parse_identifier (identifier_at fault)
-  identifier_rows (of_zone identifier_start) place e prior front rest b f at = rw (b, f) (zone_start_row place e rest at)
-  identifier_rows (of_zone in_zone_name) place e prior front rest b f at = rw b (zone_name_lead front rest f ∙ rw (alone_row parse_identifier identifier_alone place e front rest f at) refl)
-  identifier_rows (of_zone after_zone_slash) place e prior front rest b f at =
+  identifier_rows (of_zone identifier_start) pairs place e prior front rest b f at = rw (b.0, f) (zone_start_row place e rest at)
+  identifier_rows (of_zone in_zone_name) pairs place e prior front rest b f at = rw b.0 (zone_name_lead front rest f ∙ rw (alone_row parse_identifier identifier_alone place e front rest f at) refl)
+  identifier_rows (of_zone after_zone_slash) pairs place e prior front rest b f at =
       let name : identifier_at fault (front ++ rest) ≡ as_zone (name_alone_at fault (front ++ rest)) = rw (f.2, append_assoc) (zone_name_lead f.0 (f.1 ++ rest) f.3) in
-      rw b (name ∙ rw (alone_slash_row parse_identifier identifier_alone place e front rest f at) refl)
-  identifier_rows (of_zone zone_name_start) place e prior front rest b f at = absurd b
-  identifier_rows (of_clock clocks.MinuteOffset l) place e prior front rest b f at = rw b.1 (clock_rows fault parse_identifier clocks.MinuteOffset (identifier_at fault) (zone_after b.0) (Plain b.0 ∷ []) (zone_sign_lead b.0 b.2) (zone_refuses b.0) l place e front rest f at)
-  identifier_rows (of_clock clocks.Time l) place e prior front rest b f at = absurd b
-  identifier_rows (of_clock clocks.Offset l) place e prior front rest b f at = absurd b
-  identifier_rows (of_offset l) place e prior front rest b f at = absurd b
-  identifier_rows (of_date l) place e prior front rest b f at = absurd b
-  identifier_rows (of_bracket l) place e prior front rest b f at = absurd b
+      rw b.0 (name ∙ rw (alone_slash_row parse_identifier identifier_alone place e front rest f at) refl)
+  identifier_rows (of_zone zone_name_start) pairs place e prior front rest b f at = absurd b.0
+  identifier_rows (of_clock clocks.MinuteOffset l) pairs place e prior front rest b f at = rw b.0.1 (clock_rows fault parse_identifier clocks.MinuteOffset (identifier_at fault) (zone_after b.0.0) (Plain b.0.0 ∷ []) (zone_sign_lead b.0.0 b.0.2) (zone_refuses b.0.0) l place e front rest f at)
+  identifier_rows (of_clock clocks.Time l) pairs place e prior front rest b f at = absurd b.0
+  identifier_rows (of_clock clocks.Offset l) pairs place e prior front rest b f at = absurd b.0
+  identifier_rows (of_offset l) pairs place e prior front rest b f at = absurd b.0
+  identifier_rows (of_date l) pairs place e prior front rest b f at = absurd b.0
+  identifier_rows (of_bracket l) pairs place e prior front rest b f at = absurd b.0
+  identifier_rows (of_pair l) pairs place e prior front rest b f at = absurd b.0
 
   minute_alone_read : (c : ℕ) (body : Text) → IsTrue (sign c) → OnRead fault (minute_offset_alone_at fault c body) (λ zone rest. (rest ≡ []) × IsZone (Plain c ∷ body) zone) (λ row. FitsIn (of_clock clocks.MinuteOffset) parse_identifier row body)
   unfolding minute_offset_alone_at
@@ -272,15 +276,15 @@ module _ {E : Type 0} (fault : Row → E) where
   zone_of_name text stopped (Ok x) h = (h.0, inl (x.0, h.1, refl))
   zone_of_name text stopped (Err e) h = h
 
-  pub identifier_read : (text : Text) → OnRead fault (identifier_at fault text) (λ zone rest. (rest ≡ []) × IsZone text zone) (λ row. Fits parse_identifier row text)
+  pub identifier_read : (text : Text) → OnRead fault (identifier_at fault text) (λ zone rest. (rest ≡ []) × IsZone text zone) (λ row. Fits parse_identifier row [] text)
   unfolding identifier_at
   identifier_read text = then_read fault (letter_at fault (of_zone identifier_start) text) _ _ _ _ _ (read_letter fault (of_zone identifier_start) text tt)
       (λ c more h. read_if fault (sign c) _ _ _ _
       (λ signed. rw h.0 (read_weaker fault (minute_offset_alone_at fault c more) _ _ _ _ (minute_alone_read c more signed)
       (λ zone rest g. g)
-      (λ r g. lift (of_clock clocks.MinuteOffset) parse_identifier r (Plain c ∷ more) (Plain c ∷ []) more refl (λ l. (c, refl, signed)) g)))
+      (λ r g. lift (of_clock clocks.MinuteOffset) parse_identifier r (Plain c ∷ more) (Plain c ∷ []) more refl (λ l. ((c, refl, signed), refl)) g)))
       (λ plain. let lead : IsTrue (zone_lead c) = no_sign_lead c h.1 plain in
       zone_of_name text _ (name_alone_at fault text) (read_weaker fault (name_alone_at fault text) _ _ _ _ (alone_read parse_identifier identifier_alone c text more h.0 lead)
       (λ name rest g. g)
-      (λ r g. lift_name parse_identifier r c text more h.0 lead refl refl g))))
-      (λ r h. lift_start parse_identifier (of_zone identifier_start) r text h.0 refl refl h.1)
+      (λ r g. lift_name parse_identifier r c text more h.0 lead (refl, refl) (refl, refl) g))))
+      (λ r h. lift_start parse_identifier (of_zone identifier_start) r text h.0 (refl, refl) refl h.1)

@@ -91,3 +91,11 @@ zone_char = zone_lead or digit or sign
 -- what a key begins with (`key-initial`)
 abbrev pub key_lead : Class
 key_lead = lower or underscore
+
+-- what goes on in a key (`key-char`)
+abbrev pub key_char : Class
+key_char = key_lead or digit or hyphen
+
+-- what stands in a value (`value-char`)
+abbrev pub value_char : Class
+value_char = upper or lower or digit

@@ -1,5 +1,5 @@
 -- The readings as the code does them: it answers errors, and does not tell at which line it may stop.
-use Rattle.std.specs.Prelude.{ℕ, Bool, ◌∷◌, Some, None, Ok, Err, if◌then◌else◌}
+use Rattle.std.specs.Prelude.{ℕ, Bool, ◌∷◌, Some, None, Ok, Err, if◌then◌else◌, Option}
 use Rattle.ixdtf.specs.declared.parsers.time.Clock.TheVariants as clocks
 use Rattle.ixdtf.specs.declared.records.DateRecord.{DateRecord}
 use Rattle.ixdtf.specs.declared.records.TimeRecord.{TimeRecord}
@@ -17,16 +17,18 @@ use Rattle.ixdtf.specs.Offsets.{offset_of, minutes_of}
 use Rattle.ixdtf.specs.ZoneNames.{Zone}
 use Rattle.ixdtf.specs.ZoneNames.Zone.{Offset as zone_offset}
 use Rattle.ixdtf.specs.Cores.{Core, core_of}
-use Rattle.ixdtf.specs.Readers.LineName.{of_offset, of_zone}
+use Rattle.ixdtf.specs.Pairs.{Pair}
+use Rattle.ixdtf.specs.Readers.LineName.{of_offset, of_zone, of_bracket}
+use Rattle.ixdtf.specs.Readers.BracketLine.{after_bracket}
 use Rattle.ixdtf.specs.Readers.OffsetLine.{offset_start}
 use Rattle.ixdtf.specs.Readers.ZoneLine.{identifier_start}
 use Rattle.ixdtf.specs.FaultTable.{always}
-use Rattle.ixdtf.specs.Languages.{Parsed}
-use Rattle.ixdtf.specs.ReadingLooks.{Read, Look, ◌>>=◌, error_of, letter_at, next_by, peek_by, on_next, digit_run}
+use Rattle.ixdtf.specs.ReadingLooks.{Read, Look, ◌>>=◌, error_of, look_at_line, letter_at, next_by, peek_by, on_next, digit_run}
+use Rattle.ixdtf.specs.Rows.{Row}
 use Rattle.ixdtf.specs.ReadingDates.{date_at}
 use Rattle.ixdtf.specs.ReadingTimes.{OpenTime, clock_at}
+use Rattle.ixdtf.specs.ReadingPairs.{later_pair_at}
 use Rattle.ixdtf.specs.ReadingZones.{name_alone_at, as_zone}
-use Rattle.ixdtf.specs.Reading.{after_core_at}
 
 -- the other digits of a fraction, and the fraction
 abbrev pub more_digits_at : ℕ → Text → Read Fault FractionParts
@@ -109,5 +111,11 @@ core_by text = do
       (λ c rest. time_core_by date.0 rest)
       (λ rest. Ok (core_of date.0 None None, rest)) date.1
 
-unfoldable pub parse_by : Text → Read Fault Parsed
-parse_by text = core_by text >>= λ core. peek_by tail_look core.1 >>= after_core_at error_of core.0
+-- the next pair after whole brackets, or none at the end
+unfoldable pub next_pair_at : {E : Type 0} → (Row → E) → Text → Read E (Option Pair)
+next_pair_at fault text =
+    peek_by (look_at_line fault (of_bracket after_bracket)) text >>= λ next.
+    elim next.0 [
+      | None ↦ Ok (None, next.1)
+      | Some c ↦ later_pair_at fault next.1 >>= λ pair. Ok (Some pair.0, pair.1)
+    ]

@@ -1,28 +1,30 @@
 -- The fault table, line by line.
-use Rattle.std.specs.Prelude.{◌≡◌, ◌⊎◌, IsTrue, ℕ, ◌<◌, ◌&&◌, ◌||◌, codes, if◌then◌else◌}
+use Rattle.std.specs.Prelude.{◌≡◌, ◌≢◌, ◌⊎◌, IsTrue, ℕ, ◌<◌, ◌&&◌, ◌||◌, codes, if◌then◌else◌, List, [], ◌++◌, Option}
 use Rattle.ixdtf.specs.declared.parsers.time.Clock.{Clock}
 use Rattle.ixdtf.specs.declared.parsers.time.Clock.TheVariants.{Time, Offset, MinuteOffset}
 use Rattle.ixdtf.specs.declared.records.DateRecord.{DateRecord}
 use Rattle.ixdtf.specs.Letters.{Text}
-use Rattle.ixdtf.specs.Classes.{Class, ◌or◌, none, any, digit, sign, hyphen, colon, decimal_mark, date_time_separator, zulu, opening, closing, exclamation, equals, slash, zone_lead, zone_char, key_lead}
+use Rattle.ixdtf.specs.Classes.{Class, ◌or◌, none, any, digit, sign, hyphen, colon, decimal_mark, date_time_separator, zulu, opening, closing, exclamation, equals, slash, zone_lead, zone_char, key_lead, key_char, value_char}
 use Rattle.ixdtf.specs.Shapes.{Shape, nothing, one, ◌then◌, ◌either◌, digits, fewer_digits_than, some, many}
 use Rattle.ixdtf.specs.Digits.{decimal, UpTo}
 use Rattle.ixdtf.specs.Faults.{Fault}
-use Rattle.ixdtf.specs.Faults.Fault.{AbruptEnd, InvalidEnd, InvalidMonthRange, InvalidDayRange, DateYear, DateExtendedYear, DateMonth, DateDay, DateSeparator, TimeHour, TimeMinuteSecond, TimeSecond, TimeSeparator, FractionPart, UtcTimeSeparator, InvalidMinutePrecisionOffset, OffsetNeedsSign, TzLeadingChar, IanaChar, IanaCharPostSeparator, AnnotationClose}
+use Rattle.ixdtf.specs.Faults.Fault.{AbruptEnd, InvalidEnd, InvalidMonthRange, InvalidDayRange, DateYear, DateExtendedYear, DateMonth, DateDay, DateSeparator, TimeHour, TimeMinuteSecond, TimeSecond, TimeSeparator, FractionPart, UtcTimeSeparator, InvalidMinutePrecisionOffset, OffsetNeedsSign, TzLeadingChar, IanaChar, IanaCharPostSeparator, AnnotationClose, AnnotationKeyLeadingChar, AnnotationKeyChar, AnnotationKeyValueSeparator, AnnotationValueChar, AnnotationValueCharPostHyphen}
 use Rattle.ixdtf.specs.Dates.{Year, Month, DateShape, IsDayOfMonth, IsDate}
 use Rattle.ixdtf.specs.Times.{ClockOf, PlainMinuteText, ColonMinuteText, IsTime, greatest_second, has_seconds}
 use Rattle.ixdtf.specs.Times.TimeShape.{hours, plain_minutes, colon_minutes, seconds, fractions}
 use Rattle.ixdtf.specs.ZoneNames.{ZoneName}
 use Rattle.ixdtf.specs.Cores.{IsDateTimeCore}
-use Rattle.ixdtf.specs.Brackets.{Opens, IsZoneBracket, passed, ReadsAsName}
-use Rattle.ixdtf.specs.Readers.{Reader, DateLine, ClockLine, OffsetLine, ZoneLine, BracketLine, LineName}
+use Rattle.ixdtf.specs.Brackets.{ZoneNote, Opens, passed, ReadsAsName}
+use Rattle.ixdtf.specs.Pairs.{Pair, Key, Value, IsTail, ReadsAsPair}
+use Rattle.ixdtf.specs.Readers.{Reader, DateLine, ClockLine, OffsetLine, ZoneLine, BracketLine, PairLine, LineName}
 use Rattle.ixdtf.specs.Readers.Reader.{parse, parse_offset, parse_identifier, parse_iana_identifier}
 use Rattle.ixdtf.specs.Readers.DateLine.{year_start, year_digits, extended_year_digits, minus_zero_year, after_year, month_digits, month_range, after_hyphened_month, after_plain_month, day_digits, day_range, after_date}
 use Rattle.ixdtf.specs.Readers.ClockLine.{hour_start, hour_digit, hour_range, after_hour, minute_digits, minute_range, after_plain_minute, after_colon_minute, second_digits, second_range, after_second, fraction_start, after_fraction}
 use Rattle.ixdtf.specs.Readers.OffsetLine.{offset_start, after_zulu}
 use Rattle.ixdtf.specs.Readers.ZoneLine.{identifier_start, zone_name_start, in_zone_name, after_zone_slash}
-use Rattle.ixdtf.specs.Readers.BracketLine.{first_bracket_start, first_critical_start, first_bracket_scan, first_bracket_pair, after_bracket}
-use Rattle.ixdtf.specs.Readers.LineName.{of_date, of_clock, of_offset, of_zone, of_bracket}
+use Rattle.ixdtf.specs.Readers.BracketLine.{first_bracket_start, first_critical_start, first_bracket_scan, after_bracket}
+use Rattle.ixdtf.specs.Readers.PairLine.{key_start, critical_key_start, in_key, value_start, in_value, after_value_hyphen}
+use Rattle.ixdtf.specs.Readers.LineName.{of_date, of_clock, of_offset, of_zone, of_bracket, of_pair}
 
 -- what the end of the text is after a front: no fault, or an error
 pub data Ending : Type 0 where
@@ -227,10 +229,24 @@ bracket_line first_bracket_start = line (one opening) (zone_lead or sign or excl
 bracket_line first_critical_start = line (one opening then one exclamation) (zone_lead or sign) (error abrupt_bracket) (always TzLeadingChar)
 -- neither `=` nor `]` yet: the text ends, or Bad stands next
 bracket_line first_bracket_scan = line Scanned any (error abrupt_bracket) (always TzLeadingChar)
--- an `=` before any `]`: no pair of a key and a value is read
-bracket_line first_bracket_pair = whole (Scanned then one equals) InvalidEnd
--- a zone bracket: no other bracket is read
-bracket_line after_bracket = line (some IsZoneBracket) none ok (always InvalidEnd)
+-- whole brackets
+bracket_line after_bracket = line nothing opening ok (always InvalidEnd)
+
+-- ---- pairs
+
+abbrev pub pair_line : PairLine → Line
+-- the `[` of a bracket after others
+pair_line key_start = line (one opening) (key_lead or exclamation) (error AnnotationKeyLeadingChar) (always AnnotationKeyLeadingChar)
+-- the `[` of a bracket after others, and `!`
+pair_line critical_key_start = line (one opening then one exclamation) key_lead (error AnnotationKeyLeadingChar) (always AnnotationKeyLeadingChar)
+-- a key
+pair_line in_key = line Key (key_char or equals) (error AnnotationKeyValueSeparator) (always AnnotationKeyChar)
+-- a key and `=`
+pair_line value_start = line (Key then one equals) value_char (error AnnotationValueChar) (always AnnotationValueChar)
+-- a key, `=` and a value
+pair_line in_value = line (Key then one equals then Value) (value_char or hyphen or closing) (error AnnotationClose) (always AnnotationValueChar)
+-- a key, `=`, a value and a hyphen
+pair_line after_value_hyphen = line (Key then one equals then Value then one hyphen) value_char (error AnnotationValueCharPostHyphen) (always AnnotationValueCharPostHyphen)
 
 -- ---- the table of a reader
 
@@ -251,6 +267,7 @@ table reader (of_clock clock name) = clock_line (follow_of reader clock) clock n
 table reader (of_offset name) = offset_line name
 table reader (of_zone name) = zone_line reader name
 table reader (of_bracket name) = bracket_line name
+table reader (of_pair name) = pair_line name
 
 -- ---- what stands before the front of a line, and what the text has from the front on
 
@@ -278,8 +295,8 @@ InParse (of_zone after_zone_slash) before rest = Opened before × ReadsAsName re
 InParse (of_bracket first_bracket_start) before rest = some IsDateTimeCore before
 InParse (of_bracket first_critical_start) before rest = some IsDateTimeCore before
 InParse (of_bracket first_bracket_scan) before rest = Opened before
-InParse (of_bracket first_bracket_pair) before rest = Opened before
-InParse (of_bracket after_bracket) before rest = some IsDateTimeCore before
+InParse (of_bracket after_bracket) before rest = ⊥
+InParse (of_pair name) before rest = ⊥
 
 abbrev pub InOffset : LineName → Text → Text → Type 0
 InOffset (of_offset offset_start) before rest = nothing before
@@ -299,9 +316,25 @@ InIanaIdentifier (of_zone in_zone_name) before rest = nothing before
 InIanaIdentifier (of_zone after_zone_slash) before rest = nothing before
 InIanaIdentifier name before rest = ⊥
 
--- A line is looked at in the reader where this stands before its front and from its front on.
-abbrev pub Before : Reader → LineName → Text → Text → Type 0
-Before parse = InParse
-Before parse_offset = InOffset
-Before parse_identifier = InIdentifier
-Before parse_iana_identifier = InIanaIdentifier
+-- a core, and one bracket or more with these pairs
+abbrev pub Bracketed : List Pair → Text → Type 0
+Bracketed pairs before = (cores brackets : Text) × (before ≡ cores ++ brackets) × some IsDateTimeCore cores × (zone : Option ZoneNote) × IsTail brackets zone pairs × (brackets ≢ [])
+
+-- what stands before a key: a first bracket's opening, where what begins is a key, or that of another bracket
+abbrev pub BeforeKey : List Pair → Text → Text → Type 0
+BeforeKey pairs before rest = (Opened before × ReadsAsPair rest × (pairs ≡ [])) ⊎ (Bracketed pairs then some Opens) before
+
+-- the same in `parse`, where these pairs stand whole before the front
+abbrev pub InAnnotated : LineName → List Pair → Text → Text → Type 0
+InAnnotated (of_bracket after_bracket) pairs before rest = Bracketed pairs before
+InAnnotated (of_pair key_start) pairs before rest = Bracketed pairs before
+InAnnotated (of_pair critical_key_start) pairs before rest = Bracketed pairs before
+InAnnotated (of_pair name) pairs before rest = BeforeKey pairs before rest
+InAnnotated name pairs before rest = InParse name before rest × (pairs ≡ [])
+
+-- A line is looked at in the reader where this stands before its front and from its front on, with these whole pairs.
+abbrev pub Before : Reader → LineName → List Pair → Text → Text → Type 0
+Before parse name pairs before rest = InAnnotated name pairs before rest
+Before parse_offset name pairs before rest = InOffset name before rest × (pairs ≡ [])
+Before parse_identifier name pairs before rest = InIdentifier name before rest × (pairs ≡ [])
+Before parse_iana_identifier name pairs before rest = InIanaIdentifier name before rest × (pairs ≡ [])

@@ -1,5 +1,5 @@
 -- The languages of the readers, and the outcomes of a text.
-use Rattle.std.specs.Prelude.{◌≡◌, ℕ, List, ◌++◌, Option, Some, None}
+use Rattle.std.specs.Prelude.{◌≡◌, ℕ, List, [], ◌++◌, Option, Some, None}
 use Rattle.ixdtf.specs.declared.records.DateRecord.{DateRecord}
 use Rattle.ixdtf.specs.declared.records.TimeRecord.{TimeRecord}
 use Rattle.ixdtf.specs.declared.records.UtcOffsetRecord.{UtcOffsetRecord}
@@ -8,7 +8,8 @@ use Rattle.ixdtf.specs.Letters.{Text}
 use Rattle.ixdtf.specs.Faults.{Fault}
 use Rattle.ixdtf.specs.Offsets.{IsOffset}
 use Rattle.ixdtf.specs.ZoneNames.{Zone, IsZoneName, IsZone}
-use Rattle.ixdtf.specs.Brackets.{ZoneNote, OptionalBracket}
+use Rattle.ixdtf.specs.Brackets.{ZoneNote}
+use Rattle.ixdtf.specs.Pairs.{Pair, IsTail}
 use Rattle.ixdtf.specs.Cores.{Core, IsDateTimeCore}
 use Rattle.ixdtf.specs.Readers.{Reader}
 use Rattle.ixdtf.specs.Readers.Reader.{parse, parse_offset, parse_identifier, parse_iana_identifier}
@@ -22,19 +23,19 @@ pub record Parsed : Type 0 where
   pub zone : Option ZoneNote
   pub calendar : Option (List ℕ)
 
--- a core, and a zone where there is one
+-- a core, and a zone where there is one; a calendar comes from the answers to the pairs
 abbrev pub parsed_with : Core → Option ZoneNote → Parsed
 parsed_with core zone = record { date = Some core.date; time = core.time; offset = core.offset; zone = zone; calendar = None }
 
--- a core, and a zone bracket where there is one
-pub record IsDateTime (text : Text) (parsed : Parsed) : Type 0 where
+-- a core, and a zone bracket and pairs where there are
+pub record IsDateTime (text : Text) (parsed : Parsed) (pairs : List Pair) : Type 0 where
   pub cores : Text
   pub brackets : Text
   pub core : Core
   pub zone : Option ZoneNote
   pub is : text ≡ cores ++ brackets
   pub is_core : IsDateTimeCore cores core
-  pub is_zone : OptionalBracket brackets zone
+  pub is_tail : IsTail brackets zone pairs
   pub has : parsed ≡ parsed_with core zone
 
 -- what the readers derive
@@ -44,30 +45,30 @@ pub data Found : Type 0 where
   identified : Zone → Found
   named : List ℕ → Found
 
--- the language of a reader: which texts stand for what
-abbrev pub Derives : Reader → Text → Found → Type 0
-Derives parse text (parsed found) = IsDateTime text found
-Derives parse text _ = ⊥
-Derives parse_offset text (shifted offset) = IsOffset text offset
-Derives parse_offset text _ = ⊥
-Derives parse_identifier text (identified zone) = IsZone text zone
-Derives parse_identifier text _ = ⊥
-Derives parse_iana_identifier text (named name) = IsZoneName text name
-Derives parse_iana_identifier text _ = ⊥
+-- the language of a reader: which texts stand for what, with which pairs
+abbrev pub Derives : Reader → Text → Found → List Pair → Type 0
+Derives parse text (parsed found) pairs = IsDateTime text found pairs
+Derives parse text _ pairs = ⊥
+Derives parse_offset text (shifted offset) pairs = IsOffset text offset × (pairs ≡ [])
+Derives parse_offset text _ pairs = ⊥
+Derives parse_identifier text (identified zone) pairs = IsZone text zone × (pairs ≡ [])
+Derives parse_identifier text _ pairs = ⊥
+Derives parse_iana_identifier text (named name) pairs = IsZoneName text name × (pairs ≡ [])
+Derives parse_iana_identifier text _ pairs = ⊥
 
--- a row with the error fits
-abbrev pub HasFault : Reader → Text → Fault → Type 0
-HasFault reader text fault = (row : Row) × Fits reader row text × (row.error ≡ fault)
+-- a row with the error fits, with these whole pairs before it
+abbrev pub HasFault : Reader → Text → List Pair → Fault → Type 0
+HasFault reader text pairs fault = (row : Row) × Fits reader row pairs text × (row.error ≡ fault)
 
--- an outcome: what is derived, or a row of the fault table
+-- an outcome: what is derived, or a row of the fault table, with the pairs of the text or of the row's front
 pub data Outcome : Type 0 where
-  derived : Found → Outcome
-  refused : Row → Outcome
+  derived : Found → List Pair → Outcome
+  refused : Row → List Pair → Outcome
 
 -- the reader derives the record from the text, or the row fits the text
 abbrev pub Holds : Reader → Text → Outcome → Type 0
-Holds reader text (derived found) = Derives reader text found
-Holds reader text (refused row) = Fits reader row text
+Holds reader text (derived found pairs) = Derives reader text found pairs
+Holds reader text (refused row pairs) = Fits reader row pairs text
 
 abbrev pub ExactlyOne : {A : Type 0} → (A → Type 0) → Type 0
 ExactlyOne {A} p = (x : A) × p x × ((y : A) → p y → y ≡ x)

@@ -27,7 +27,11 @@ pub data ZoneLine : Type 0 where
 
 -- the lines of brackets
 pub data BracketLine : Type 0 where
-  first_bracket_start first_critical_start first_bracket_scan first_bracket_pair after_bracket : BracketLine
+  first_bracket_start first_critical_start first_bracket_scan after_bracket : BracketLine
+
+-- the lines of pairs
+pub data PairLine : Type 0 where
+  key_start critical_key_start in_key value_start in_value after_value_hyphen : PairLine
 
 -- the lines, by the part that they speak of
 pub data LineName : Type 0 where
@@ -36,3 +40,4 @@ pub data LineName : Type 0 where
   of_offset : OffsetLine → LineName
   of_zone : ZoneLine → LineName
   of_bracket : BracketLine → LineName
+  of_pair : PairLine → LineName

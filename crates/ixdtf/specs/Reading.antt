@@ -1,5 +1,5 @@
 -- Reading a whole text.
-use Rattle.std.specs.Prelude.{ℕ, Option, Some, None, Ok, Err}
+use Rattle.std.specs.Prelude.{ℕ, Option, Some, None, Ok, Err, List, [], suc, length}
 use Rattle.ixdtf.specs.declared.parsers.time.Clock.TheVariants as clocks
 use Rattle.ixdtf.specs.declared.records.DateRecord.{DateRecord}
 use Rattle.ixdtf.specs.declared.records.TimeRecord.{TimeRecord}
@@ -10,22 +10,23 @@ use Rattle.ixdtf.specs.Faults.Fault.{NonAsciiCodePoint, InvalidEnd}
 use Rattle.ixdtf.specs.Times.{writes_seconds}
 use Rattle.ixdtf.specs.Offsets.{offset_of}
 use Rattle.ixdtf.specs.Cores.{Core, core_of}
+use Rattle.ixdtf.specs.Pairs.{Pair}
 use Rattle.ixdtf.specs.Readers.{Reader, LineName}
 use Rattle.ixdtf.specs.Readers.Reader.{parse, parse_offset, parse_identifier, parse_iana_identifier}
-use Rattle.ixdtf.specs.Readers.LineName.{of_date, of_offset, of_bracket}
+use Rattle.ixdtf.specs.Readers.LineName.{of_date, of_offset}
 use Rattle.ixdtf.specs.Readers.DateLine.{after_date}
 use Rattle.ixdtf.specs.Readers.OffsetLine.{after_zulu}
-use Rattle.ixdtf.specs.Readers.BracketLine.{after_bracket}
 use Rattle.ixdtf.specs.Rows.{Row}
 use Rattle.ixdtf.specs.Rows.Place.{other, bad}
 use Rattle.ixdtf.specs.Languages.{Parsed, parsed_with, Found, Outcome}
 use Rattle.ixdtf.specs.Languages.Found.{parsed, shifted, identified, named}
 use Rattle.ixdtf.specs.Languages.Outcome.{derived, refused}
-use Rattle.ixdtf.specs.ReadingLooks.{Read, Look, ◌>>=◌, row_of, look_at_line, peek_by, on_next}
+use Rattle.ixdtf.specs.ReadingLooks.{Read, Look, ◌>>=◌, row_of, peek_by, on_next}
 use Rattle.ixdtf.specs.ReadingDates.{date_at}
 use Rattle.ixdtf.specs.ReadingTimes.{OpenTime, line_after, bad_after, clock_at}
 use Rattle.ixdtf.specs.ReadingZones.{offset_at, identifier_at, iana_identifier_at}
-use Rattle.ixdtf.specs.ReadingBrackets.{bracket_at}
+use Rattle.ixdtf.specs.ReadingPairs.{pairs_at}
+use Rattle.ixdtf.specs.ReadingBrackets.{Bracket, zone_in, pairs_in, bracket_at}
 
 -- a core that may yet go on, and the line at which it may stop
 abbrev pub OpenCore : Type 0
@@ -68,39 +69,56 @@ core_at fault text = do
       (λ c rest. time_core_at fault date.0 rest)
       (λ rest. Ok ((of_date after_date, core_of date.0 None None), rest)) date.1
 
--- after a core and `[`
-unfoldable pub zoned_at : {E : Type 0} → (Row → E) → Core → Text → Read E Parsed
-zoned_at fault core text = do
-  note ← bracket_at fault text
-  last ← peek_by (look_at_line fault (of_bracket after_bracket)) note.1
-  Ok (parsed_with core (Some note.0), last.1)
+-- after a core and a first bracket
+unfoldable pub bracketed_at : {E : Type 0} → (List Pair → Row → E) → Core → Bracket → Text → Read E (Parsed × List Pair)
+bracketed_at fault core bracket text = do
+  pairs ← pairs_at fault (suc (length text)) (pairs_in bracket) text
+  Ok ((parsed_with core (zone_in bracket), pairs.0), pairs.1)
 
-abbrev pub after_core_at : {E : Type 0} → (Row → E) → Core → Option ℕ × Text → Read E Parsed
+-- after a core and `[`
+unfoldable pub annotated_at : {E : Type 0} → (List Pair → Row → E) → Core → Text → Read E (Parsed × List Pair)
+annotated_at fault core text = do
+  bracket ← bracket_at (fault []) text
+  bracketed_at fault core bracket.0 bracket.1
+
+abbrev pub after_core_at : {E : Type 0} → (List Pair → Row → E) → Core → Option ℕ × Text → Read E (Parsed × List Pair)
 after_core_at fault core next =
     elim next.0 [
-      | None ↦ Ok (parsed_with core None, next.1)
-      | Some c ↦ zoned_at fault core next.1
+      | None ↦ Ok ((parsed_with core None, []), next.1)
+      | Some c ↦ annotated_at fault core next.1
     ]
 
--- a core, a zone bracket where there is one, and the end
-unfoldable pub parse_at : {E : Type 0} → (Row → E) → Text → Read E Parsed
-parse_at fault text = core_at fault text >>= λ core. peek_by (core_look fault core.0.0) core.1 >>= after_core_at fault core.0.1
+-- a core, a zone bracket and pairs where there are, and the end
+unfoldable pub parse_at : {E : Type 0} → (List Pair → Row → E) → Text → Read E (Parsed × List Pair)
+parse_at fault text = core_at (fault []) text >>= λ core. peek_by (core_look (fault []) core.0.0) core.1 >>= after_core_at fault core.0.1
 
--- what was read, as what a reader finds
-abbrev pub finding : {E A : Type 0} → (A → Found) → Read E A → Read E Found
-finding found (Ok x) = Ok (found x.0, x.1)
+-- what was read, as what a reader finds, with the pairs
+abbrev pub with_pairs : {E : Type 0} → Read E (Parsed × List Pair) → Read E (Found × List Pair)
+with_pairs (Ok x) = Ok ((parsed x.0.0, x.0.1), x.1)
+with_pairs (Err e) = Err e
+
+-- what was read, as what a reader finds that reads no pairs
+abbrev pub finding : {E A : Type 0} → (A → Found) → Read E A → Read E (Found × List Pair)
+finding found (Ok x) = Ok ((found x.0, []), x.1)
 finding found (Err e) = Err e
 
-abbrev pub read_at : {E : Type 0} → (Row → E) → Reader → Text → Read E Found
-read_at fault parse text = finding parsed (parse_at fault text)
-read_at fault parse_offset text = finding shifted (offset_at fault text)
-read_at fault parse_identifier text = finding identified (identifier_at fault text)
-read_at fault parse_iana_identifier text = finding named (iana_identifier_at fault text)
+abbrev pub read_at : {E : Type 0} → (List Pair → Row → E) → Reader → Text → Read E (Found × List Pair)
+read_at fault parse text = with_pairs (parse_at fault text)
+read_at fault parse_offset text = finding shifted (offset_at (fault []) text)
+read_at fault parse_identifier text = finding identified (identifier_at (fault []) text)
+read_at fault parse_iana_identifier text = finding named (iana_identifier_at (fault []) text)
+
+-- a row, with the pairs before it
+abbrev pub Stop : Type 0
+Stop = List Pair × Row
+
+abbrev pub stop_at : List Pair → Row → Stop
+stop_at pairs row = (pairs, row)
 
 -- the outcome that reading answers
-abbrev pub outcome_of : Read Row Found → Outcome
-outcome_of (Ok found) = derived found.0
-outcome_of (Err row) = refused row
+abbrev pub outcome_of : Read Stop (Found × List Pair) → Outcome
+outcome_of (Ok x) = derived x.0.0 x.0.1
+outcome_of (Err stop) = refused stop.1 stop.0
 
 abbrev pub outcome : Reader → Text → Outcome
-outcome reader text = outcome_of (read_at (λ row. row) reader text)
+outcome reader text = outcome_of (read_at stop_at reader text)

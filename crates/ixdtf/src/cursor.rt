@@ -90,7 +90,7 @@ impl<'a, T: EncodingType> Cursor<'a, T> {
     #[inline(always)]
     #[tactic(auto, unfolding(crate::specs::ReadingLooks::next_by))]
     pub fn next_digit(&mut self, other: ParseError) -> ParserResult<u8>
-        ensures digit { Reads (λ byte. byte) (map T.letter self.old.rest) result (map T.letter self.new.rest) (next_by (digit_look (fault_of other))) }
+        ensures digit { Reads (λ byte. byte) (map T.letter self.old.rest) result (map T.letter self.new.rest) (next_by (digit_look (fault_of other.entry))) }
         ensures is_digit { IfOk result (λ byte. IsTrue (digit byte)) }
         ensures looks { Spends 1 self.old self.new }
     {

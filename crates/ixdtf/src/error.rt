@@ -1,4 +1,4 @@
-//! What a text can be refused for, and what is written of it.
+//! What a text, or an answer to an annotation, can be refused for, and what is written of it.
 
 ghost use Rattle.std.specs.Prelude.{◌≡◌};
 ghost use Rattle.ixdtf.specs.Faults.{fault_of};
@@ -7,23 +7,28 @@ ghost use Rattle.ixdtf.specs.ErrorEquality.{place_of, location_of};
 
 use std::fmt;
 
-/// Why a reader refused a text.
+/// Why a reader refused a text, or an answer to an annotation.
 ///
-/// Each error that `parse` answers has a row in the fault table (`docs/FAULTS.md`), which says at which place of a text it
-/// comes. The names and the texts are those of the Rust crate, as they are spelled there.
+/// Each error that a reader answers for a text has a row in the fault table (`docs/FAULTS.md`), which says at which place of
+/// the text it comes. `CriticalDuplicateCalendar` and `UnrecognizedCritical` come for answers. The names and the texts are
+/// those of the Rust crate, as they are spelled there.
+///
+/// The lifetime is that of a location. At the root of the crate `ParseError` is this type at `'static`.
 #[derive(Clone, Copy, Debug)]
-pub enum ParseError {
+pub enum ParseError<'s> {
     /// A mistake of the reader itself. No reader answers it.
     ImplAssert,
     /// The next unit stands for no letter. Each 8-bit unit stands for one, so a `Utf8` source never has this error.
     NonAsciiCodePoint,
     /// No reader answers it.
     ParseFloat,
-    /// The text ends where more has to follow. The location is `digit` where a digit has to follow, and `Date` right after a
-    /// year.
-    AbruptEnd { location: &'static str },
-    /// A letter stands after all that was read: one that is no separator after a date, or one with which the time does not
-    /// go on.
+    /// The text ends where more has to follow. The location is `digit` where a digit has to follow, `Date` right after a
+    /// year, and `AmbiguousAnnotation` after the `[` or `[!` of a first bracket, or in a first bracket that begins with a
+    /// small letter or `_` and has no `=` and no `]`. Where there is nothing at all it is `time-numoffset` from `parse_offset`
+    /// and `TimeZoneAnnotation` from `parse_identifier`.
+    AbruptEnd { location: &'s str },
+    /// A letter stands after a whole date, time, offset or bracket, and the text does not go on with it. In a text that is a
+    /// name alone, a `]` after the name has this error.
     InvalidEnd,
     /// The two digits of a month are not 01 to 12.
     InvalidMonthRange,
@@ -41,11 +46,12 @@ pub enum ParseError {
     DateUnexpectedEnd,
     /// No reader answers it.
     TimeRequired,
-    /// Another letter stands in the place of an hour's digit, or the hour is past 23.
+    /// Another letter stands in the place of an hour's digit, or the hour is past 23, in a time or in an offset.
     TimeHour,
-    /// Another letter stands in the place of a minute's digit, or the minute is past 59.
+    /// Another letter stands in the place of a minute's digit, or the minute is past 59, in a time or in an offset. The same
+    /// for an offset's second.
     TimeMinuteSecond,
-    /// Another letter stands in the place of a second's digit, or the second is past 60.
+    /// Another letter stands in the place of a digit of a time's second, or the second is past 60.
     TimeSecond,
     /// No digit stands after the `.` or `,` of a fraction. The end of the text there has this error too.
     FractionPart,
@@ -60,36 +66,41 @@ pub enum ParseError {
     InvalidAnnotation,
     /// No reader answers it.
     AnnotationOpen,
-    /// A bracket is not closed. For annotations, which no reader takes yet.
+    /// A bracket is not closed: the text ends after the zone name or the annotation's value in it, or after the offset in it
+    /// the text ends or another letter stands.
     AnnotationClose,
     /// No reader answers it.
     AnnotationChar,
-    /// The text ends within the key of an annotation. For annotations, which no reader takes yet.
+    /// The text ends in the key of an annotation, before its `=`.
     AnnotationKeyValueSeparator,
-    /// A letter stands where a key begins, and no key begins so. For annotations, which no reader takes yet.
+    /// A letter stands where the key of an annotation begins, in a bracket after others, and no key begins so. The end of the
+    /// text there has this error too.
     AnnotationKeyLeadingChar,
-    /// A letter stands in a key that no key has. For annotations, which no reader takes yet.
+    /// A letter stands in the key of an annotation that no key has, and that is not the `=` after it.
     AnnotationKeyChar,
-    /// No letter of a value follows a hyphen in a value. For annotations, which no reader takes yet.
+    /// No ASCII letter or digit follows a hyphen in the value of an annotation. The end of the text there has this error too.
     AnnotationValueCharPostHyphen,
-    /// A letter stands in a value that no value has, or the value is empty. For annotations, which no reader takes yet.
+    /// A letter stands in the value of an annotation that no value has, and that does not close the bracket; or no ASCII
+    /// letter or digit follows the `=`, where the end of the text has this error too.
     AnnotationValueChar,
-    /// An offset has seconds where it may have only hours and minutes. For time zones, which no reader takes yet.
+    /// A colon or a digit follows the minute of an offset that may have no seconds: one in brackets, or one that
+    /// `parse_identifier` reads.
     InvalidMinutePrecisionOffset,
-    /// A second calendar differs from the first one, and one of the two is critical. For annotations, which no reader takes
-    /// yet.
+    /// An answer to an annotation has the key `u-ca` and another value than the first answer with this key, and one of the
+    /// two is critical. Without a handler each annotation is its own answer.
     CriticalDuplicateCalendar,
-    /// An annotation is critical and names no calendar. For annotations, which no reader takes yet.
+    /// An answer to an annotation is critical, and its key is not `u-ca`. Without a handler each annotation is its own answer.
     UnrecognizedCritical,
-    /// A letter stands where the name of a time zone begins, and none begins so. For time zones, which no reader takes yet.
+    /// A letter stands where a time zone begins, and none begins so. From `parse_iana_identifier` the empty text has this
+    /// error too.
     TzLeadingChar,
-    /// No letter of a name follows a `/` in the name of a time zone. For time zones, which no reader takes yet.
+    /// No letter of a name follows a `/` in the name of a time zone. The end of the text there has this error too.
     IanaCharPostSeparator,
-    /// A letter stands in the name of a time zone that no name has. For time zones, which no reader takes yet.
+    /// A letter stands in the name of a time zone that no name has, and that does not close a bracket.
     IanaChar,
-    /// An offset has one of its two colons. For offsets, which no reader takes yet.
+    /// An offset has one of its two colons: after `+05:00` a digit follows, or after `+0500` a colon does.
     UtcTimeSeparator,
-    /// An offset does not begin with a sign. For offsets, which no reader takes yet.
+    /// A text that is an offset alone begins with another letter than a sign.
     OffsetNeedsSign,
     /// One hyphen stands before a month and a day, where there may be two or none. For month-days, which no reader takes yet.
     MonthDayHyphen,
@@ -111,7 +122,7 @@ pub enum ParseError {
     InvalidMonthDay,
 }
 
-impl ParseError {
+impl<'s> ParseError<'s> {
     /// The text of the error, the same for each `AbruptEnd`. Display also writes the location of an `AbruptEnd`.
     pub fn to_static_string(&self) -> &'static str
         ensures { result.now ≡ text_of (fault_of self.now) }
@@ -173,7 +184,7 @@ impl ParseError {
     }
 }
 
-impl ParseError {
+impl<'s> ParseError<'s> {
     /// The place of the variant in the list of variants.
     fn place(&self) -> u8
         ensures { result ≡ place_of (fault_of self.now) }
@@ -229,9 +240,9 @@ impl ParseError {
     }
 }
 
-impl ParseError {
+impl<'s> ParseError<'s> {
     /// Where the text ended, and nothing for every other error.
-    fn location(&self) -> &'static str
+    fn location(&self) -> &'s str
         ensures { result.now ≡ location_of (fault_of self.now) }
     {
         match *self {
@@ -241,7 +252,7 @@ impl ParseError {
     }
 }
 
-impl PartialEq for ParseError {
+impl<'s> PartialEq for ParseError<'s> {
     ghost use Rattle.std.specs.Prelude.{◌≡◌, ◌↔◌, IsTrue};
     ghost use Rattle.ixdtf.specs.Faults.{fault_of};
     ghost use Rattle.ixdtf.specs.ErrorEquality.{same_error, same_error-laws};
@@ -251,7 +262,7 @@ impl PartialEq for ParseError {
     ghost laws = { same_error-laws };
 
     /// Whether the errors are one variant, and their locations have equal bytes.
-    fn eq(&self, other: &ParseError) -> bool
+    fn eq(&self, other: &ParseError<'s>) -> bool
         ensures computes { result ≡ same_error self.now other.now }
         ensures equal { IsTrue result ↔ (fault_of self.now ≡ fault_of other.now) }
     {
@@ -261,7 +272,7 @@ impl PartialEq for ParseError {
 
 // Display writes the text of the error, and for `AbruptEnd` `Parsing ended abruptly while parsing ` and the location. It
 // heeds no width and no fill.
-impl fmt::Display for ParseError {
+impl<'s> fmt::Display for ParseError<'s> {
     ghost use Rattle.std.specs.Prelude.{Some};
     ghost use Rattle.ixdtf.specs.Faults.{fault_of};
     ghost use Rattle.ixdtf.specs.ErrorTexts.{message_of};

@@ -1,16 +1,19 @@
 //! The readers: [`IxdtfParser`] of dates and times, and [`TimeZoneParser`] of offsets and zones alone.
 //!
 //! A reader takes the whole of its source or refuses it: `Ok` comes exactly where the grammar (`docs/GRAMMAR.md`) has the
-//! source, and an error only where a row of the fault table (`docs/FAULTS.md`) with this error fits it.
+//! source and no answer to an annotation is refused, and an error only where a row of the fault table (`docs/FAULTS.md`) with
+//! this error fits the source, or an answer is refused with it.
 
 ghost use Rattle.std.specs.Prelude.{◌≡◌, ◌↔◌, ℕ, ◌+◌, ◌≤◌, List, [], map, Ok, OnOk, OnErr, IfErr, IsFalse};
 ghost use Rattle.ixdtf.specs.Faults.{fault_of, never_comes};
 ghost use Rattle.ixdtf.specs.declared.records.UtcOffsetRecord.{UtcOffsetRecord};
 ghost use Rattle.ixdtf.specs.Readers.Reader.{parse as reader_parse, parse_offset as reader_parse_offset, parse_identifier as reader_parse_identifier, parse_iana_identifier as reader_parse_iana_identifier};
 ghost use Rattle.ixdtf.specs.ZoneNames.{Zone};
-ghost use Rattle.ixdtf.specs.Languages.{Parsed, parsed, shifted, identified, named, Derives, HasFault};
+ghost use Rattle.ixdtf.specs.Languages.{Parsed, shifted, identified, named, Derives, HasFault};
+ghost use Rattle.ixdtf.specs.Handlers.{Handled, PlainRecord, PlainFault};
 ghost use Rattle.ixdtf.specs.Answers.{Unread, answer_of, parsed_of, zone_of, most_looks};
 
+mod annotations;
 mod datetime;
 mod grammar;
 mod time;
@@ -18,13 +21,13 @@ mod timezone;
 
 use self::datetime::parse_date_time;
 use self::timezone::{parse_iana_identifier_text, parse_identifier_text, parse_offset_text};
-use crate::ParserResult;
 use crate::cursor::Cursor;
 use crate::encoding::{EncodingType, Utf8};
-use crate::records::{IxdtfParseRecord, TimeZoneRecord, UtcOffsetRecord};
+use crate::records::{Annotation, IxdtfParseRecord, TimeZoneRecord, UtcOffsetRecord};
+use crate::{ParserResult, error};
 use std::marker::Model;
 
-/// A reader of dates and times, with an offset and a time zone.
+/// A reader of dates and times, with an offset, a time zone and annotations.
 ///
 /// It borrows its source, and is as large as the slice of units that are still to be read. A contract sees it as these
 /// units, by their numbers, and the count of looks that were made at them.
@@ -70,23 +73,33 @@ impl<'a, T: EncodingType> IxdtfParser<'a, T> {
     }
 
     /// Reads all that is still to be read, as a date, or as a date and a time with an offset (RFC 3339, section 5.6, and ISO
-    /// 8601's forms of it), and one time zone in brackets where there is one (`time-zone` of RFC 9557, section 4.1).
+    /// 8601's forms of it), and then, in brackets, one time zone where there is one and annotations of a key and a value
+    /// (`suffix` of RFC 9557, section 4.1).
     ///
     /// A date is `2020-11-08` or `20201108`, where the year is four digits or a sign and six digits. After it may stand
     /// `T`, `t` or a space, and a time: `12`, `12:30`, `1230`, `12:30:45` or `123045`, the last two with a fraction, as
     /// `.25` or `,25`. After a time may stand `Z`, `z` or an offset, as in [`TimeZoneParser::parse_offset`]. After all of it
-    /// may stand `[`, an optional `!`, a zone as in [`TimeZoneParser::parse_identifier`], and `]`. The record has `date`,
-    /// and `time`, `offset` and `tz` where they stand; `calendar` is `None`, since no annotation of a key and a value is
-    /// read yet.
+    /// may stand `[`, an optional `!`, a zone as in [`TimeZoneParser::parse_identifier`], and `]`; and then any number of
+    /// annotations, each of them `[`, an optional `!`, a key, `=`, a value and `]`. A key begins with a small ASCII letter or
+    /// `_`, and goes on with these, digits and `-`. A value is ASCII letters and digits, with a single `-` between two of
+    /// them where one stands.
+    ///
+    /// The record has `date`, and `time`, `offset` and `tz` where they stand. `calendar` is the value of the first annotation
+    /// with the key `u-ca`, and `None` without one. Other annotations are passed over, but a critical one, which has the `!`,
+    /// is refused, as is a calendar that differs from the first one where one of the two is critical.
+    /// [`parse_with_annotation_handler`](Self::parse_with_annotation_handler) lets the caller say what counts.
     ///
     /// ```text
     /// 2024-03-02T08:48:00.25    Ok: 2 March 2024, 8:48:00 and a fraction of two digits, 25
     /// 2024-03-02T08:48:00-05:00[America/New_York]
     ///                           Ok: 2 March 2024, 8:48:00, minus 5 hours, the zone America/New_York
+    /// 2024-03-02[UTC][u-ca=hebrew][a=b]
+    ///                           Ok: 2 March 2024, the zone UTC, the calendar hebrew
     /// +002024-03-02             Ok: 2 March 2024
     /// 2021-02-29                Err(InvalidDayRange)
     /// 2024-03-02T08:4800        Err(TimeSeparator)
     /// 2024-03-02[+01:00:00]     Err(InvalidMinutePrecisionOffset)
+    /// 2024-03-02[!a=b]          Err(UnrecognizedCritical)
     /// ```
     ///
     /// After `Ok` nothing is left to be read. After an error all that was still to be read still is, so a second call gives
@@ -97,9 +110,9 @@ impl<'a, T: EncodingType> IxdtfParser<'a, T> {
     /// The first part that is wrong decides. A month, day, hour, minute or second that is out of its range is refused
     /// before the next letter is looked at.
     ///
-    /// - `AbruptEnd` where the source ends after a year (at `Date`), where a digit has to follow (at `digit`), and after
-    ///   `[` or `[!`, or in a bracket that begins with a small letter or `_` and has no `=` and no `]` (at
-    ///   `AmbiguousAnnotation`);
+    /// - `AbruptEnd` where the source ends after a year (at `Date`), where a digit has to follow (at `digit`), and after the
+    ///   `[` or `[!` of a first bracket, or in a first bracket that begins with a small letter or `_` and has no `=` and no
+    ///   `]` (at `AmbiguousAnnotation`);
     /// - `DateYear`, `DateExtendedYear`, `DateMonth`, `DateDay`, `TimeHour`, `TimeMinuteSecond` and `TimeSecond` where
     ///   another letter stands in the place of a digit of the year, the year with a sign, the month, the day, the hour, the
     ///   minute and the second; an offset's second is `TimeMinuteSecond`;
@@ -109,17 +122,67 @@ impl<'a, T: EncodingType> IxdtfParser<'a, T> {
     ///   one of two colons;
     /// - `InvalidMinutePrecisionOffset` at a colon or a digit after the minute of an offset in brackets;
     /// - `FractionPart` where no digit follows a decimal mark;
-    /// - `TzLeadingChar`, `IanaChar` and `IanaCharPostSeparator` in a bracket where no zone can begin so, where a name does
-    ///   not go on, and where it does not go on after a `/`;
+    /// - `TzLeadingChar`, `IanaChar` and `IanaCharPostSeparator` in a first bracket where no zone and no key can begin so,
+    ///   where a name does not go on, and where it does not go on after a `/`;
+    /// - `AnnotationKeyLeadingChar` in a bracket after others where no key begins, `AnnotationKeyChar` where a key does not go
+    ///   on, and `AnnotationKeyValueSeparator` where the source ends in a key;
+    /// - `AnnotationValueChar` where no value begins, or where it does not go on, and `AnnotationValueCharPostHyphen` where it
+    ///   does not go on after a `-`;
     /// - `AnnotationClose` where a bracket ends without its `]`;
-    /// - `InvalidEnd` at any other letter after a date, a time, an offset or a bracket, and for a bracket that begins with a
-    ///   small letter or `_` and has an `=` before any `]`;
+    /// - `UnrecognizedCritical` for an annotation that is critical and has another key than `u-ca`, and
+    ///   `CriticalDuplicateCalendar` for one with the key `u-ca` and another value than the first such one, where one of the
+    ///   two is critical; nothing after this annotation counts then;
+    /// - `InvalidEnd` at any other letter after a date, a time, an offset or a bracket;
     /// - `NonAsciiCodePoint` at a unit that stands for no letter, which no 8-bit unit does.
     pub fn parse(&mut self) -> ParserResult<IxdtfParseRecord<'a, T>>
-        // `Ok` exactly where the language derives the record.
-        ensures ok { (p : Parsed) → (answer_of (parsed_of T.number) result ≡ Ok p) ↔ Derives reader_parse (map T.letter self.old.rest) (parsed p) }
-        // `Err` only where a row of the fault table with this error fits.
-        ensures err { IfErr result (λ e. HasFault reader_parse (map T.letter self.old.rest) (fault_of e)) }
+        // `Ok` exactly with the record that the text gives, where each pair answers for itself.
+        ensures ok { (p : Parsed) → (answer_of (parsed_of T.number) result ≡ Ok p) ↔ PlainRecord reader_parse (map T.letter self.old.rest) p }
+        // `Err` only with a fault that it gives so.
+        ensures err { IfErr result (λ e. PlainFault reader_parse (map T.letter self.old.rest) (fault_of e)) }
+
+        // None of the errors that no reader gives.
+        ensures comes { IfErr result (λ e. IsFalse (never_comes (fault_of e))) }
+
+        ensures empty { OnOk result (self.new.rest ≡ []) }
+        ensures unchanged { OnErr result (self.new.rest ≡ self.old.rest) }
+        ensures looks { self.new.looks ≤ self.old.looks + most_looks self.old.rest }
+    {
+        self.parse_with_annotation_handler(|annotation| Some(annotation))
+    }
+
+    /// Reads as [`parse`](Self::parse) does, and asks the handler about each annotation of a key and a value.
+    ///
+    /// The handler is called once on each annotation whose bracket was read whole, in order, up to the first answer that is
+    /// refused or the first fault of the text. What it answers stands in the annotation's place, and may be another
+    /// annotation; `None` is passed over. The record's `calendar` is the value of the first answer whose key is `u-ca`, a
+    /// slice of that answer, which need not be of the source. `|annotation| Some(annotation)` gives [`parse`](Self::parse).
+    ///
+    /// ```text
+    /// 2020-01-01[a=b][!c=d][e=f]    |annotation| Some(annotation)    two calls, then Err(UnrecognizedCritical)
+    ///                               |_| None                         three calls, then Ok, without a calendar
+    /// 2020-01-01[a=b][c=d]junk      |_| None                         two calls, then Err(InvalidEnd)
+    /// ```
+    ///
+    /// The handler has to be one that may be called at any time, in any state that it reached, on any annotation.
+    ///
+    /// After `Ok` nothing is left to be read. After an error what was still to be read still is. Calls that were made stay
+    /// made. The answer is a [`ParserResult`]: the lifetime of its error may be any, and so also `'static`.
+    ///
+    /// # Errors
+    ///
+    /// Those of [`parse`](Self::parse), where `CriticalDuplicateCalendar` and `UnrecognizedCritical` come for the answers
+    /// alone: the first answer that is refused ends the call, and nothing after its bracket counts.
+    pub fn parse_with_annotation_handler<'s, F>(
+        &mut self,
+        mut handler: F,
+    ) -> Result<IxdtfParseRecord<'a, T>, error::ParseError<'s>>
+    where
+        F: FnMut(Annotation<'a, T>) -> Option<Annotation<'a, T>>,
+        // The handler may be called at any time, in any state that it reached, on any annotation.
+        requires callable { F.IsAlwaysCallable handler }
+        // For the one chain of its calls: `Ok` exactly with the record, and `Err` only with a fault, that the text and the
+        // answers give.
+        ensures handled { Handled T.number F.step handler reader_parse (map T.letter self.old.rest) (answer_of (parsed_of T.number) result) }
 
         // None of the errors that no reader gives.
         ensures comes { IfErr result (λ e. IsFalse (never_comes (fault_of e))) }
@@ -129,7 +192,7 @@ impl<'a, T: EncodingType> IxdtfParser<'a, T> {
         ensures looks { self.new.looks ≤ self.old.looks + most_looks self.old.rest }
     {
         let start = self.cursor.rest();
-        match parse_date_time(&mut self.cursor) {
+        match parse_date_time::<T, F>(&mut self.cursor, &mut handler) {
             Ok(record) => Ok(record),
             Err(error) => {
                 self.cursor.go_back(start);
@@ -210,9 +273,9 @@ impl<'a, T: EncodingType> TimeZoneParser<'a, T> {
     /// - `NonAsciiCodePoint` at a unit that stands for no letter, which no 8-bit unit does.
     pub fn parse_identifier(&mut self) -> ParserResult<TimeZoneRecord<'a, T>>
         // `Ok` exactly where the language derives the zone.
-        ensures ok { (zone : Zone) → (answer_of (zone_of T.number) result ≡ Ok zone) ↔ Derives reader_parse_identifier (map T.letter self.old.rest) (identified zone) }
+        ensures ok { (zone : Zone) → (answer_of (zone_of T.number) result ≡ Ok zone) ↔ Derives reader_parse_identifier (map T.letter self.old.rest) (identified zone) [] }
         // `Err` only where a row of the fault table with this error fits.
-        ensures err { IfErr result (λ e. HasFault reader_parse_identifier (map T.letter self.old.rest) (fault_of e)) }
+        ensures err { IfErr result (λ e. HasFault reader_parse_identifier (map T.letter self.old.rest) [] (fault_of e)) }
 
         // None of the errors that no reader gives.
         ensures comes { IfErr result (λ e. IsFalse (never_comes (fault_of e))) }
@@ -259,9 +322,9 @@ impl<'a, T: EncodingType> TimeZoneParser<'a, T> {
     /// - `NonAsciiCodePoint` at a unit that stands for no letter, which no 8-bit unit does.
     pub fn parse_offset(&mut self) -> ParserResult<UtcOffsetRecord>
         // `Ok` exactly where the language derives the offset.
-        ensures ok { (offset : UtcOffsetRecord) → (answer_of (λ offset. offset) result ≡ Ok offset) ↔ Derives reader_parse_offset (map T.letter self.old.rest) (shifted offset) }
+        ensures ok { (offset : UtcOffsetRecord) → (answer_of (λ offset. offset) result ≡ Ok offset) ↔ Derives reader_parse_offset (map T.letter self.old.rest) (shifted offset) [] }
         // `Err` only where a row of the fault table with this error fits.
-        ensures err { IfErr result (λ e. HasFault reader_parse_offset (map T.letter self.old.rest) (fault_of e)) }
+        ensures err { IfErr result (λ e. HasFault reader_parse_offset (map T.letter self.old.rest) [] (fault_of e)) }
 
         // None of the errors that no reader gives.
         ensures comes { IfErr result (λ e. IsFalse (never_comes (fault_of e))) }
@@ -300,9 +363,9 @@ impl<'a, T: EncodingType> TimeZoneParser<'a, T> {
     /// - `NonAsciiCodePoint` at a unit that stands for no letter, which no 8-bit unit does.
     pub fn parse_iana_identifier(&mut self) -> ParserResult<&'a [T::CodeUnit]>
         // `Ok` exactly where the language derives the name.
-        ensures ok { (name : List ℕ) → (answer_of (λ units. map T.number units.now) result ≡ Ok name) ↔ Derives reader_parse_iana_identifier (map T.letter self.old.rest) (named name) }
+        ensures ok { (name : List ℕ) → (answer_of (λ units. map T.number units.now) result ≡ Ok name) ↔ Derives reader_parse_iana_identifier (map T.letter self.old.rest) (named name) [] }
         // `Err` only where a row of the fault table with this error fits.
-        ensures err { IfErr result (λ e. HasFault reader_parse_iana_identifier (map T.letter self.old.rest) (fault_of e)) }
+        ensures err { IfErr result (λ e. HasFault reader_parse_iana_identifier (map T.letter self.old.rest) [] (fault_of e)) }
 
         // None of the errors that no reader gives.
         ensures comes { IfErr result (λ e. IsFalse (never_comes (fault_of e))) }

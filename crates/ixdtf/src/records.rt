@@ -19,7 +19,7 @@ pub struct IxdtfParseRecord<'a, T: EncodingType> {
     /// The time zone in brackets (`time-zone` of RFC 9557, section 4.1).
     pub tz: Option<TimeZoneAnnotation<'a, T>>,
     /// The units of the value of the first annotation with the key `u-ca` (`suffix-tag` of RFC 9557, section 4.1), which
-    /// names a calendar. They are as they stand in the text, and no list of calendars is asked.
+    /// names a calendar; where a handler was asked, those of the first such answer. No list of calendars is asked.
     pub calendar: Option<&'a [T::CodeUnit]>,
 }
 
@@ -57,6 +57,19 @@ pub struct TimeZoneAnnotation<'a, T: EncodingType> {
     pub critical: bool,
     /// The zone between the brackets.
     pub tz: TimeZoneRecord<'a, T>,
+}
+
+/// An annotation in brackets, as `[!u-ca=hebrew]` (`suffix-tag` of RFC 9557, section 4.1).
+#[derive(Drop)]
+#[derive_where(Clone, Debug, PartialEq)]
+pub struct Annotation<'a, T: EncodingType> {
+    /// Whether a `!` stands right after the opening bracket (`critical-flag`): who uses the text must then heed the
+    /// annotation, or refuse the text.
+    pub critical: bool,
+    /// The units of the key (`suffix-key`), as they stand in the text.
+    pub key: &'a [T::CodeUnit],
+    /// The units of the value (`suffix-values`), as they stand in the text.
+    pub value: &'a [T::CodeUnit],
 }
 
 /// A time zone, by name or by offset.

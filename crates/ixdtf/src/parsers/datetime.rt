@@ -1,30 +1,32 @@
 //! Reading dates, and dates with a time, an offset and a zone.
 
-ghost use Rattle.std.specs.Prelude.{◌≡◌, ◌∷◌, [], ◌&&◌, ◌+◌, ◌*◌, ◌-◌, ◌<◌, ◌≤◌, map, nat_le, length, IsTrue, IfOk, option_map};
+ghost use Rattle.std.specs.Prelude.{◌≡◌, ◌∷◌, [], ◌&&◌, ◌+◌, ◌*◌, ◌-◌, ◌<◌, ◌≤◌, map, nat_le, length, IsTrue, IfOk, OnOk, option_map};
 ghost use Rattle.ixdtf.specs.Classes.{digit, sign};
 ghost use Rattle.ixdtf.specs.Digits.{decimal};
 ghost use Rattle.ixdtf.specs.Dates.{is_leap, month_length};
 ghost use Rattle.ixdtf.specs.Cores.{core_of};
 ghost use Rattle.ixdtf.specs.Faults.Fault.{DateExtendedYear, InvalidMonthRange, InvalidDayRange};
 ghost use Rattle.ixdtf.specs.Languages.{parsed_with};
-ghost use Rattle.ixdtf.specs.Answers.{Reads, Spends, Checks, parsed_of, note_of};
-ghost use Rattle.ixdtf.specs.CodeReadings.{parse_by, core_by, time_core_by, after_time_by};
+ghost use Rattle.ixdtf.specs.Handlers.{with_calendar, calendar_value, pair_of};
+ghost use Rattle.ixdtf.specs.Chains.{AnsweredText, AnsweredAfter};
+ghost use Rattle.ixdtf.specs.Answers.{Reads, Spends, Checks, answer_of, parsed_of, note_of, most_looks};
+ghost use Rattle.ixdtf.specs.CodeReadings.{core_by, time_core_by, after_time_by};
 ghost use Rattle.ixdtf.specs.ReadingLooks.{error_of, number_of, digits_by, digit_look};
 ghost use Rattle.ixdtf.specs.ReadingDates.{date_of, year_at, plain_year_at, extended_year_at, date_at, after_year_at, hyphened_date_at, plain_date_at, after_hyphened_month_at, after_plain_month_at};
-ghost use Rattle.ixdtf.specs.Reading.{zoned_at};
 
 use crate::cursor::Cursor;
 use crate::encoding::EncodingType;
+use crate::parsers::annotations::{Bracket, parse_annotations, parse_first_bracket};
 use crate::parsers::grammar::{
     digits_value, is_annotation_open, is_ascii_sign, is_date_time_separator, is_hyphen,
     is_utc_designator,
 };
 use crate::parsers::time::{Clock, parse_clock};
-use crate::parsers::timezone::{parse_utc_offset, parse_zone_bracket};
+use crate::parsers::timezone::parse_utc_offset;
 use crate::records::{
-    DateRecord, IxdtfParseRecord, TimeRecord, TimeZoneAnnotation, UtcOffsetRecordOrZ,
+    Annotation, DateRecord, IxdtfParseRecord, TimeRecord, TimeZoneAnnotation, UtcOffsetRecordOrZ,
 };
-use crate::{ParseError, ParserResult};
+use crate::{ParseError, ParserResult, error};
 
 /// What stands before the brackets.
 #[derive(Drop)]
@@ -35,37 +37,43 @@ struct Core {
 }
 
 impl Core {
-    /// The record of it, with a zone where there is one.
-    fn with_zone<'a, T: EncodingType>(
+    /// The record of it, with a zone and a calendar where there are.
+    fn with_brackets<'a, T: EncodingType>(
         self,
         tz: Option<TimeZoneAnnotation<'a, T>>,
+        calendar: Option<Annotation<'a, T>>,
     ) -> IxdtfParseRecord<'a, T>
-        ensures { parsed_of T.number result ≡ parsed_with (core_of self.date self.time self.offset) (option_map (note_of T.number) tz.entry) }
+        ensures { parsed_of T.number result ≡ with_calendar (parsed_with (core_of self.date self.time self.offset) (option_map (note_of T.number) tz.entry)) (calendar_value (option_map (pair_of T.number) calendar.entry)) }
     {
         IxdtfParseRecord {
             date: Some(self.date),
             time: self.time,
             offset: self.offset,
             tz,
-            calendar: None,
+            calendar: calendar.map(|kept| kept.value),
         }
     }
 }
 
-/// Reads a date, a time and an offset where there are, and a zone bracket where there is one, and wants the end.
-#[tactic(auto, unfolding(crate::specs::CodeReadings::parse_by, crate::specs::ReadingLooks::peek_by))]
-pub fn parse_date_time<'a, T: EncodingType>(
+/// Reads a date, a time and an offset where there are, and the brackets after them to the end. The handler is asked about
+/// each annotation of a key and a value.
+pub fn parse_date_time<'a, 's, T: EncodingType, F>(
     cursor: &mut Cursor<'a, T>,
-) -> ParserResult<IxdtfParseRecord<'a, T>>
-    ensures record { Reads (parsed_of T.number) (map T.letter cursor.old.rest) result (map T.letter cursor.new.rest) parse_by }
-    ensures looks { Spends (length cursor.old.rest + 62) cursor.old cursor.new }
+    handler: &mut F,
+) -> Result<IxdtfParseRecord<'a, T>, error::ParseError<'s>>
+where
+    F: FnMut(Annotation<'a, T>) -> Option<Annotation<'a, T>>,
+    requires callable { F.IsAlwaysCallable handler.old }
+    ensures answered { AnsweredText T.number F.step handler.old handler.new (map T.letter cursor.old.rest) (answer_of (parsed_of T.number) result) }
+    ensures empty { OnOk result (cursor.new.rest ≡ []) }
+    ensures looks { cursor.new.looks ≤ cursor.old.looks + most_looks cursor.old.rest }
 {
     match parse_core(cursor) {
         Ok(core) => match cursor.look()? {
-            None => Ok(core.with_zone(None)),
+            None => Ok(core.with_brackets(None, None)),
             Some(byte) if is_annotation_open(byte) => {
                 cursor.step();
-                parse_zoned(cursor, core)
+                parse_brackets(cursor, core, handler)
             }
             Some(_) => Err(ParseError::InvalidEnd),
         },
@@ -73,25 +81,36 @@ pub fn parse_date_time<'a, T: EncodingType>(
     }
 }
 
-/// Reads the zone bracket after a core and `[`, and wants the end.
-#[tactic(auto, unfolding(crate::specs::Reading::zoned_at, crate::specs::ReadingLooks::peek_by))]
-fn parse_zoned<'a, T: EncodingType>(
+/// Reads the brackets after a core and the first `[`, to the end.
+fn parse_brackets<'a, 's, T: EncodingType, F>(
     cursor: &mut Cursor<'a, T>,
     core: Core,
-) -> ParserResult<IxdtfParseRecord<'a, T>>
-    ensures record { Reads (parsed_of T.number) (map T.letter cursor.old.rest) result (map T.letter cursor.new.rest) (zoned_at error_of (core_of core.date core.time core.offset)) }
-    ensures looks { Spends (length cursor.old.rest + 17) cursor.old cursor.new }
+    handler: &mut F,
+) -> Result<IxdtfParseRecord<'a, T>, error::ParseError<'s>>
+where
+    F: FnMut(Annotation<'a, T>) -> Option<Annotation<'a, T>>,
+    requires callable { F.IsAlwaysCallable handler.old }
+    ensures answered { AnsweredAfter T.number F.step handler.old handler.new (core_of core.date core.time core.offset) (map T.letter cursor.old.rest) (answer_of (parsed_of T.number) result) }
+    ensures empty { OnOk result (cursor.new.rest ≡ []) }
+    ensures looks { cursor.new.looks ≤ cursor.old.looks + 3 * length cursor.old.rest + 24 }
 {
-    let annotation = parse_zone_bracket(cursor)?;
-    cursor.close()?;
-    Ok(core.with_zone(Some(annotation)))
+    match parse_first_bracket(cursor)? {
+        Bracket::Zone(tz) => {
+            let calendar = parse_annotations::<T, F>(cursor, None, handler)?;
+            Ok(core.with_brackets(Some(tz), calendar))
+        }
+        Bracket::Pair(annotation) => {
+            let calendar = parse_annotations::<T, F>(cursor, Some(annotation), handler)?;
+            Ok(core.with_brackets(None, calendar))
+        }
+    }
 }
 
 /// Reads a date, and a time and an offset where there are.
 #[tactic(auto, unfolding(crate::specs::CodeReadings::core_by))]
 fn parse_core<'a, T: EncodingType>(cursor: &mut Cursor<'a, T>) -> ParserResult<Core>
     ensures core { Reads (λ c. core_of c.date c.time c.offset) (map T.letter cursor.old.rest) result (map T.letter cursor.new.rest) core_by }
-    ensures looks { Spends 43 cursor.old cursor.new }
+    ensures looks { Spends 41 cursor.old cursor.new }
 {
     let date = parse_date(cursor)?;
     match cursor.look()? {
@@ -114,7 +133,7 @@ fn parse_time_core<'a, T: EncodingType>(
     date: DateRecord,
 ) -> ParserResult<Core>
     ensures core { Reads (λ c. core_of c.date c.time c.offset) (map T.letter cursor.old.rest) result (map T.letter cursor.new.rest) (time_core_by date) }
-    ensures looks { Spends 28 cursor.old cursor.new }
+    ensures looks { Spends 27 cursor.old cursor.new }
 {
     match parse_clock(cursor, Clock::Time) {
         Ok(clocked) => parse_after_time(cursor, date, clocked.time),

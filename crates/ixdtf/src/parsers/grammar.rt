@@ -1,7 +1,7 @@
 //! The classes of letters that the readers tell apart.
 
 ghost use Rattle.std.specs.Prelude.{◌≡◌, ◌<◌, ◌∷◌, [], IsTrue};
-ghost use Rattle.ixdtf.specs.Classes.{digit, sign, hyphen, colon, decimal_mark, date_time_separator, zulu, opening, closing, exclamation, equals, slash, zone_lead, zone_char, key_lead};
+ghost use Rattle.ixdtf.specs.Classes.{digit, sign, hyphen, colon, decimal_mark, date_time_separator, zulu, opening, closing, exclamation, equals, slash, zone_lead, zone_char, key_lead, key_char, value_char};
 ghost use Rattle.ixdtf.specs.Letters.Letter.{Plain};
 ghost use Rattle.ixdtf.specs.Digits.{decimal};
 
@@ -115,6 +115,22 @@ pub fn is_a_key_leading_char(byte: u8) -> bool
     ensures { result ≡ key_lead byte }
 {
     byte.is_ascii_lowercase() || byte == b'_'
+}
+
+/// What goes on in a key: what begins one, a digit or `-`.
+#[inline(always)]
+pub fn is_a_key_char(byte: u8) -> bool
+    ensures { result ≡ key_char byte }
+{
+    is_a_key_leading_char(byte) || byte.is_ascii_digit() || is_hyphen(byte)
+}
+
+/// What stands in a value: an ASCII letter or a digit.
+#[inline(always)]
+pub fn is_annotation_value_component(byte: u8) -> bool
+    ensures { result ≡ value_char byte }
+{
+    byte.is_ascii_alphanumeric()
 }
 
 /// The number of two digits.

@@ -1,5 +1,6 @@
 use super::*;
 use crate::ParseError;
+use crate::laws::parse_unanswered;
 use crate::records::{
     DateRecord, Fraction, FullPrecisionOffset, MinutePrecisionOffset, Sign, TimeRecord,
     TimeZoneAnnotation, UtcOffsetRecordOrZ,
@@ -512,19 +513,591 @@ fn refuses_brackets(rt: HostRuntime) {
     }
 }
 
+// ==== Pairs ====
+
+// A date, and a time where there is one, with a calendar.
+fn with_calendar(
+    year: i32,
+    month: u8,
+    day: u8,
+    time: Option<TimeRecord>,
+    calendar: &'static str,
+) -> Record {
+    let mut record = dated(year, month, day, time);
+    record.calendar = Some(calendar.as_bytes());
+    record
+}
+
 #[test]
-fn reads_no_pair_and_no_second_bracket(rt: HostRuntime) {
+fn reads_calendars(rt: HostRuntime) {
     let rows = [
-        "2020-01-01[u-ca=iso8601]",
-        "2020-01-01[!u-ca=iso8601]",
-        "2020-01-01[a=",
-        "2020-01-01[_!=]",
-        "2020-01-01[UTC][",
-        "2020-01-01[UTC][u-ca=iso8601]",
+        ("2020-11-08[u-ca=iso8601]", "iso8601"),
+        ("2020-11-08[!u-ca=iso8601]", "iso8601"),
+        ("2020-11-08[u-ca=a-bc-d]", "a-bc-d"),
+        ("+0020201108[!u-ca=iso8601][f-1a2b=a0sa-2l4s]", "iso8601"),
+        ("2020-11-08[u-ca=a][u-ca=b][!u-ca=a]", "a"),
+        ("2020-11-08[_=x][u-ca=b][u-ca=c]", "b"),
+    ];
+    for (text, calendar) in rows {
+        let found = IxdtfParser::from_str(text).parse();
+        let record = with_calendar(2020, 11, 8, None, calendar);
+        assert_eq!(rt; found, Ok(record), "at {text}");
+    }
+}
+
+#[test]
+fn reads_pairs_of_other_keys(rt: HostRuntime) {
+    let rows = [
+        "2020-11-08[a=b]",
+        "2020-11-08[a=b][a=c]",
+        "2020-11-08[_-9=Z-1]",
     ];
     for text in rows {
         let found = IxdtfParser::from_str(text).parse();
-        assert_eq!(rt; found, Err(ParseError::InvalidEnd), "at {text}");
+        assert_eq!(rt; found, Ok(dated(2020, 11, 8, None)), "at {text}");
+    }
+}
+
+#[test]
+fn reads_a_zone_and_a_calendar(rt: HostRuntime) {
+    let text = "2021-01-29 02:12:48+01:00:00[u][u-ca=iso8601]";
+    let offset = long(minutes(Sign::Positive, 1, 0), 0, None);
+    let mut record = with_calendar(2021, 1, 29, timed(2, 12, 48, None), "iso8601");
+    record.offset = Some(UtcOffsetRecordOrZ::Offset(offset));
+    record.tz = Some(TimeZoneAnnotation {
+        critical: false,
+        tz: TimeZoneRecord::Name("u".as_bytes()),
+    });
+    let found = IxdtfParser::from_str(text).parse();
+    assert_eq!(rt; found, Ok(record));
+    assert_eq!(rt; offset.second(), Some(0));
+}
+
+#[test]
+fn reads_an_offset_and_calendars(rt: HostRuntime) {
+    let rows = [
+        "2024-03-02T08:48:00-05:00[u-ca=iso8601]",
+        "2024-03-02T08:48:00-05:00[u-ca=iso8601][u-ca=japanese]",
+        "2024-03-02T08:48:00-05:00[u-ca=iso8601][!u-ca=iso8601]",
+    ];
+    for text in rows {
+        let found = IxdtfParser::from_str(text).parse();
+        let offset = UtcOffsetRecordOrZ::Offset(short(Sign::Negative, 5, 0));
+        let mut record = morning(Some(offset));
+        record.calendar = Some(b"iso8601");
+        assert_eq!(rt; found, Ok(record), "at {text}");
+    }
+}
+
+#[test]
+fn reads_one_date_in_four_forms(rt: HostRuntime) {
+    let rows = ["2024-03-02", "+002024-03-02", "20240302", "+0020240302"];
+    for text in rows {
+        let found = IxdtfParser::from_str(text).parse();
+        assert_eq!(rt; found, Ok(dated(2024, 3, 2, None)), "at {text}");
+    }
+}
+
+#[test]
+fn reads_the_offset_that_z_resolves_to(rt: HostRuntime) {
+    let found = IxdtfParser::from_str("2024-03-02T08:48:00-00:00").parse();
+    let zulu = UtcOffsetRecordOrZ::Z.resolve_rfc_9557();
+    let record = morning(Some(UtcOffsetRecordOrZ::Offset(zulu)));
+    assert_eq!(rt; found, Ok(record));
+}
+
+#[test]
+fn reads_an_offset_and_a_zone(rt: HostRuntime) {
+    let east = UtcOffsetRecordOrZ::Offset(short(Sign::Positive, 1, 0));
+    let mut named = morning(Some(east));
+    named.tz = Some(TimeZoneAnnotation {
+        critical: true,
+        tz: TimeZoneRecord::Name("America/New_York".as_bytes()),
+    });
+    let first = IxdtfParser::from_str("2024-03-02T08:48:00+01:00[!America/New_York]").parse();
+    assert_eq!(rt; first, Ok(named));
+    let west = UtcOffsetRecordOrZ::Offset(short(Sign::Negative, 5, 0));
+    let mut shifted = morning(Some(west));
+    shifted.tz = Some(TimeZoneAnnotation {
+        critical: false,
+        tz: TimeZoneRecord::Offset(minutes(Sign::Negative, 5, 0)),
+    });
+    let second = IxdtfParser::from_str("2024-03-02T08:48:00-05:00[-05:00]").parse();
+    assert_eq!(rt; second, Ok(shifted));
+}
+
+#[test]
+fn refuses_pairs(rt: HostRuntime) {
+    let rows = [
+        ("2020-01-01[a=b]junk", ParseError::InvalidEnd),
+        ("2020-01-01[u-cA=iso8601]", ParseError::AnnotationKeyChar),
+        ("2020-01-01[_!=]", ParseError::AnnotationKeyChar),
+        ("2020-01-01[a=b][u]", ParseError::AnnotationKeyChar),
+        ("2020-01-01[u][a", ParseError::AnnotationKeyValueSeparator),
+        ("2020-01-01[u][", ParseError::AnnotationKeyLeadingChar),
+        ("2020-01-01[UTC][!", ParseError::AnnotationKeyLeadingChar),
+        (
+            "2020-01-01[a=b][!!c=d]",
+            ParseError::AnnotationKeyLeadingChar,
+        ),
+        (
+            "2020-01-01[u-ca=a][Europe/London]",
+            ParseError::AnnotationKeyLeadingChar,
+        ),
+        ("2020-01-01[a=", ParseError::AnnotationValueChar),
+        ("2020-01-01[a=]", ParseError::AnnotationValueChar),
+        ("2020-01-01[u-ca=-iso]", ParseError::AnnotationValueChar),
+        ("2020-01-01[u-ca=iso8601)", ParseError::AnnotationValueChar),
+        ("2020-01-01[a=b", ParseError::AnnotationClose),
+        (
+            "2020-01-01[u-ca=iso-]",
+            ParseError::AnnotationValueCharPostHyphen,
+        ),
+        (
+            "2020-01-01[u-ca=iso--8601]",
+            ParseError::AnnotationValueCharPostHyphen,
+        ),
+    ];
+    for (text, error) in rows {
+        let found = IxdtfParser::from_str(text).parse();
+        assert_eq!(rt; found, Err(error), "at {text}");
+    }
+}
+
+#[test]
+fn refuses_critical_pairs(rt: HostRuntime) {
+    let unknown = ParseError::UnrecognizedCritical;
+    let duplicate = ParseError::CriticalDuplicateCalendar;
+    let rows = [
+        ("2020-01-01[!a=b]", unknown),
+        ("2020-01-01[!a=b]junk", unknown),
+        ("2020-01-01[cet][!u-cb=iso8601]", unknown),
+        ("2020-01-01[u-ca=a][!u-ca=b]", duplicate),
+        ("2020-01-01[!u-ca=a][u-ca=b]", duplicate),
+        ("2020-01-01[!u-ca=a][u-ca=a][u-ca=b][", duplicate),
+        ("2020-01-01[u-ca=a][u-ca=b][!u-ca=b]", duplicate),
+    ];
+    for (text, error) in rows {
+        let found = IxdtfParser::from_str(text).parse();
+        assert_eq!(rt; found, Err(error), "at {text}");
+    }
+}
+
+// ==== Handlers ====
+
+#[test]
+fn asks_as_far_as_the_first_refusal(rt: HostRuntime) {
+    let mut parser = IxdtfParser::from_str("2020-01-01[a=b][!c=d][e=f]");
+    let mut calls = 0u32;
+    let refused = parser.parse_with_annotation_handler(|annotation| {
+        calls = calls.saturating_add(1);
+        Some(annotation)
+    });
+    assert_eq!(rt; refused, Err(ParseError::UnrecognizedCritical));
+    assert_eq!(rt; calls, 2);
+    let mut more = 0u32;
+    let found = parser.parse_with_annotation_handler(|_annotation| {
+        more = more.saturating_add(1);
+        None
+    });
+    assert_eq!(rt; found, Ok(dated(2020, 1, 1, None)));
+    assert_eq!(rt; more, 3);
+}
+
+#[test]
+fn asks_before_a_fault(rt: HostRuntime) {
+    let rows = [
+        ("2020-01-01[a=b]junk", 1u32, ParseError::InvalidEnd),
+        ("2020-01-01[a=b][c=d]junk", 2, ParseError::InvalidEnd),
+        ("2020-01-01[a=b][c=d", 1, ParseError::AnnotationClose),
+        ("2020-13-01[a=b]", 0, ParseError::InvalidMonthRange),
+    ];
+    for (text, wanted, error) in rows {
+        let mut calls = 0u32;
+        let mut parser = IxdtfParser::from_str(text);
+        let refused = parser.parse_with_annotation_handler(|annotation| {
+            calls = calls.saturating_add(1);
+            Some(annotation)
+        });
+        assert_eq!(rt; refused, Err(error), "at {text}");
+        assert_eq!(rt; calls, wanted, "at {text}");
+    }
+}
+
+#[test]
+fn judges_the_answer(rt: HostRuntime) {
+    let mut parser = IxdtfParser::from_str("2020-01-01[x=y]");
+    let refused = parser.parse_with_annotation_handler(|annotation| {
+        Some(Annotation {
+            critical: true,
+            key: annotation.key,
+            value: annotation.value,
+        })
+    });
+    assert_eq!(rt; refused, Err(ParseError::UnrecognizedCritical));
+}
+
+#[test]
+fn takes_a_calendar_that_is_not_of_the_source(rt: HostRuntime) {
+    let mut parser = IxdtfParser::from_str("2020-01-01[x=y][u-ca=iso8601]");
+    let found = parser.parse_with_annotation_handler(|annotation| {
+        if annotation.key == b"x".as_slice() {
+            Some(Annotation {
+                critical: false,
+                key: b"u-ca",
+                value: b"\xff\x00 foreign",
+            })
+        } else {
+            Some(annotation)
+        }
+    });
+    let mut record = dated(2020, 1, 1, None);
+    record.calendar = Some(b"\xff\x00 foreign".as_slice());
+    assert_eq!(rt; found, Ok(record));
+}
+
+#[test]
+fn passes_over_the_answer_to_the_universe(rt: HostRuntime) {
+    let text = "2024-03-02T08:48:00-05:00[u-ca=iso8601][!answer-to-universe=fortytwo]";
+    let mut calls = 0u32;
+    let mut second_is_known = false;
+    let found = IxdtfParser::from_str(text).parse_with_annotation_handler(|annotation| {
+        calls = calls.saturating_add(1);
+        if annotation.key == "answer-to-universe".as_bytes() {
+            second_is_known = calls == 2
+                && annotation.critical
+                && annotation.value == "fortytwo".as_bytes();
+            None
+        } else {
+            Some(annotation)
+        }
+    });
+    let offset = UtcOffsetRecordOrZ::Offset(short(Sign::Negative, 5, 0));
+    let mut record = morning(Some(offset));
+    record.calendar = Some(b"iso8601");
+    assert_eq!(rt; found, Ok(record));
+    assert!(rt; second_is_known && calls == 2);
+}
+
+#[test]
+fn leaves_no_calendar_unanswered(rt: HostRuntime) {
+    let mut parser = IxdtfParser::from_str("2020-01-01[u-ca=a][!u-ca=b][!c=d]");
+    let found = parse_unanswered(&mut parser, |_annotation| None);
+    assert_eq!(rt; found, Ok(dated(2020, 1, 1, None)));
+    let mut faulty = IxdtfParser::from_str("2020-01-01[!c=d]junk");
+    let refused = parse_unanswered(&mut faulty, |_annotation| None);
+    assert_eq!(rt; refused, Err(ParseError::InvalidEnd));
+}
+
+/// What a handler was handed: the flag, the key and the value.
+type Call<'c> = (bool, &'c str, &'c str);
+
+/// What a handler answers.
+#[derive(Clone, Copy)]
+enum Kind {
+    /// The annotation.
+    HandsBack,
+    /// None.
+    AnswersNone,
+    /// The annotation made critical.
+    MakesCritical,
+    /// The annotation with its flag turned.
+    TurnsCritical,
+    /// First the calendar `a`, then the calendar `b` with the annotation's flag, then none, and later the annotation.
+    AnswersAnother,
+}
+
+// What the handler answers at a call, where so many were made before it.
+fn answer<'a>(
+    kind: Kind,
+    before: usize,
+    annotation: Annotation<'a, Utf8>,
+) -> Option<Annotation<'a, Utf8>> {
+    match kind {
+        Kind::HandsBack => Some(annotation),
+        Kind::AnswersNone => None,
+        Kind::MakesCritical => Some(Annotation {
+            critical: true,
+            key: annotation.key,
+            value: annotation.value,
+        }),
+        Kind::TurnsCritical => Some(Annotation {
+            critical: !annotation.critical,
+            key: annotation.key,
+            value: annotation.value,
+        }),
+        Kind::AnswersAnother => match before {
+            0 => Some(Annotation {
+                critical: false,
+                key: b"u-ca",
+                value: b"a",
+            }),
+            1 => Some(Annotation {
+                critical: annotation.critical,
+                key: b"u-ca",
+                value: b"b",
+            }),
+            2 => None,
+            _ => Some(annotation),
+        },
+    }
+}
+
+// Whether an annotation is the one that is listed.
+fn is_listed<'a, 'c>(annotation: &Annotation<'a, Utf8>, listed: Option<&Call<'c>>) -> bool {
+    match listed {
+        Some((critical, key, value)) => {
+            annotation.critical == *critical
+                && annotation.key == key.as_bytes()
+                && annotation.value == value.as_bytes()
+        }
+        None => false,
+    }
+}
+
+// The answer of a text with a handler, and whether these calls of it were made, in this order, and no more.
+fn handled<'a, 's, 'c>(
+    text: &'a str,
+    kind: Kind,
+    calls: &[Call<'c>],
+) -> (
+    Result<IxdtfParseRecord<'a, Utf8>, error::ParseError<'s>>,
+    bool,
+) {
+    let mut count = 0usize;
+    let mut as_listed = true;
+    let mut parser = IxdtfParser::from_str(text);
+    let found = parser.parse_with_annotation_handler(|annotation| {
+        as_listed = as_listed && is_listed(&annotation, calls.get(count));
+        let before = count;
+        count = count.saturating_add(1);
+        answer(kind, before, annotation)
+    });
+    (found, as_listed && count == calls.len())
+}
+
+#[test]
+fn heeds_handlers(rt: HostRuntime) {
+    let half = Fraction::start(b'5');
+    let rows: [(
+        &'static str,
+        Kind,
+        &'static [Call<'static>],
+        Option<TimeRecord>,
+        Option<UtcOffsetRecordOrZ>,
+        Option<&'static str>,
+    ); 9] = [
+        (
+            "2020-01-01[u-ca=a0sa-2l4s][u-ca=a0sa-2l4s][answer-to-universe=hebrew][a=gregory][u-ca=45W-E0h61U-kXpZ]",
+            Kind::HandsBack,
+            &[
+                (false, "u-ca", "a0sa-2l4s"),
+                (false, "u-ca", "a0sa-2l4s"),
+                (false, "answer-to-universe", "hebrew"),
+                (false, "a", "gregory"),
+                (false, "u-ca", "45W-E0h61U-kXpZ"),
+            ],
+            None,
+            None,
+            Some("a0sa-2l4s"),
+        ),
+        (
+            "20200101T12[u-ca=A][qe7idr62=O-QXB-Ir]",
+            Kind::HandsBack,
+            &[(false, "u-ca", "A"), (false, "qe7idr62", "O-QXB-Ir")],
+            timed(12, 0, 0, None),
+            None,
+            Some("A"),
+        ),
+        (
+            "2020-01-01[a=a1]",
+            Kind::HandsBack,
+            &[(false, "a", "a1")],
+            None,
+            None,
+            None,
+        ),
+        (
+            "2020-01-01[u-ca=gregory][!u-ca=1][!u-ca=a0sa-2l4s][u-ca=k-H0EGv]",
+            Kind::AnswersNone,
+            &[
+                (false, "u-ca", "gregory"),
+                (true, "u-ca", "1"),
+                (true, "u-ca", "a0sa-2l4s"),
+                (false, "u-ca", "k-H0EGv"),
+            ],
+            None,
+            None,
+            None,
+        ),
+        (
+            "2020-01-01 00:00:00.5Z[!u-ca=A]",
+            Kind::AnswersNone,
+            &[(true, "u-ca", "A")],
+            timed(0, 0, 0, Some(half)),
+            Some(UtcOffsetRecordOrZ::Z),
+            None,
+        ),
+        (
+            "2020-01-01[u-ca=japanese][!u-ca=FE-4-s-y]",
+            Kind::AnswersNone,
+            &[(false, "u-ca", "japanese"), (true, "u-ca", "FE-4-s-y")],
+            None,
+            None,
+            None,
+        ),
+        (
+            "2020-01-01 00:00:00.5Z[!u-ca=n-dzMM2]",
+            Kind::MakesCritical,
+            &[(true, "u-ca", "n-dzMM2")],
+            timed(0, 0, 0, Some(half)),
+            Some(UtcOffsetRecordOrZ::Z),
+            Some("n-dzMM2"),
+        ),
+        (
+            "2020-01-01 00:00:00.5Z[u-ca=mr-nUk-EDkNu]",
+            Kind::TurnsCritical,
+            &[(false, "u-ca", "mr-nUk-EDkNu")],
+            timed(0, 0, 0, Some(half)),
+            Some(UtcOffsetRecordOrZ::Z),
+            Some("mr-nUk-EDkNu"),
+        ),
+        (
+            "2020-01-01 00:00:00.5Z[answer-to-universe=OSR]",
+            Kind::AnswersAnother,
+            &[(false, "answer-to-universe", "OSR")],
+            timed(0, 0, 0, Some(half)),
+            Some(UtcOffsetRecordOrZ::Z),
+            Some("a"),
+        ),
+    ];
+    for (text, kind, calls, time, offset, calendar) in rows {
+        let mut record = dated(2020, 1, 1, time);
+        record.offset = offset;
+        record.calendar = calendar.map(|name| name.as_bytes());
+        let (found, as_listed) = handled(text, kind, calls);
+        assert_eq!(rt; found, Ok(record), "at {text}");
+        assert!(rt; as_listed, "at {text}");
+    }
+}
+
+#[test]
+fn heeds_handlers_and_refuses(rt: HostRuntime) {
+    let rows: [(&'static str, Kind, &'static [Call<'static>], ParseError); 16] = [
+        (
+            "2020-01-01[xy=a0sa-2l4s][!u-ca=iso8601][!u-ca=A][u-ca=a][u-ca=a]",
+            Kind::HandsBack,
+            &[
+                (false, "xy", "a0sa-2l4s"),
+                (true, "u-ca", "iso8601"),
+                (true, "u-ca", "A"),
+            ],
+            ParseError::CriticalDuplicateCalendar,
+        ),
+        (
+            "2020-01-01[u-ca=Nl8-jswAuQ-H][",
+            Kind::HandsBack,
+            &[(false, "u-ca", "Nl8-jswAuQ-H")],
+            ParseError::AnnotationKeyLeadingChar,
+        ),
+        (
+            "2020-01-01[u-ca=4-aYg][!u_ca=dbto-3eyv22-fA-rtts]",
+            Kind::HandsBack,
+            &[
+                (false, "u-ca", "4-aYg"),
+                (true, "u_ca", "dbto-3eyv22-fA-rtts"),
+            ],
+            ParseError::UnrecognizedCritical,
+        ),
+        (
+            "20200101T12[yh=Vx-Qi-v0Zpe7-Nx1][foo=B1aoE-XS-yGk-7][u-cb=iWnJ0a][!u-cb=l][u-ca=uz5HNg-NV3x]",
+            Kind::HandsBack,
+            &[
+                (false, "yh", "Vx-Qi-v0Zpe7-Nx1"),
+                (false, "foo", "B1aoE-XS-yGk-7"),
+                (false, "u-cb", "iWnJ0a"),
+                (true, "u-cb", "l"),
+            ],
+            ParseError::UnrecognizedCritical,
+        ),
+        ("2020-01-0", Kind::AnswersNone, &[], AT_DIGIT),
+        (
+            "2020-01-01 00:00:00.5Z[bsgaqql7=4FH][!nk_8nl=",
+            Kind::AnswersNone,
+            &[(false, "bsgaqql7", "4FH")],
+            ParseError::AnnotationValueChar,
+        ),
+        (
+            "20200101T12[u-ca=a][s=iE-Dn-NXDPL]",
+            Kind::MakesCritical,
+            &[(false, "u-ca", "a"), (false, "s", "iE-Dn-NXDPL")],
+            ParseError::UnrecognizedCritical,
+        ),
+        (
+            "2020-01-01[u-ca=Cwup_-X]",
+            Kind::TurnsCritical,
+            &[],
+            ParseError::AnnotationValueChar,
+        ),
+        (
+            "20200101T12[u-ca=R2-uY40-cvb-w][x-y=WXTo]",
+            Kind::TurnsCritical,
+            &[(false, "u-ca", "R2-uY40-cvb-w"), (false, "x-y", "WXTo")],
+            ParseError::UnrecognizedCritical,
+        ),
+        ("2020-0", Kind::TurnsCritical, &[], AT_DIGIT),
+        (
+            "202-01-01[u-ca=iso8601][fgq=Czb32s-v-zayknf]",
+            Kind::TurnsCritical,
+            &[],
+            ParseError::DateYear,
+        ),
+        (
+            "2020-01-01[!u-ca=a-b][!u-ca=a3Z-DL-Irpq-2U]",
+            Kind::AnswersAnother,
+            &[(true, "u-ca", "a-b"), (true, "u-ca", "a3Z-DL-Irpq-2U")],
+            ParseError::CriticalDuplicateCalendar,
+        ),
+        (
+            "2020-01-01 00:00:00.5Z[!u-ca=b][u-ca=AdUhu-LRdEB][!u-ca",
+            Kind::AnswersAnother,
+            &[(true, "u-ca", "b"), (false, "u-ca", "AdUhu-LRdEB")],
+            ParseError::AnnotationKeyValueSeparator,
+        ),
+        (
+            "2020-01-01[!u-ca=1][u-ca=xjQk-E][u-ca=b][!u-ca=UAq-KMwlE][u-ca =okKb7P]",
+            Kind::AnswersAnother,
+            &[
+                (true, "u-ca", "1"),
+                (false, "u-ca", "xjQk-E"),
+                (false, "u-ca", "b"),
+                (true, "u-ca", "UAq-KMwlE"),
+            ],
+            ParseError::CriticalDuplicateCalendar,
+        ),
+        (
+            "20200101WT12[!u--=1]",
+            Kind::AnswersAnother,
+            &[],
+            ParseError::InvalidEnd,
+        ),
+        (
+            "20200101T12[answer-to-universe=xRozE-IPf-E3][u-ca=a0sa-2l4s][answer-to-universe=OMr-WGJ2kC-6pOrnn][u-ca=iso8601][u-ca=a][!",
+            Kind::AnswersAnother,
+            &[
+                (false, "answer-to-universe", "xRozE-IPf-E3"),
+                (false, "u-ca", "a0sa-2l4s"),
+                (false, "answer-to-universe", "OMr-WGJ2kC-6pOrnn"),
+                (false, "u-ca", "iso8601"),
+                (false, "u-ca", "a"),
+            ],
+            ParseError::AnnotationKeyLeadingChar,
+        ),
+    ];
+    for (text, kind, calls, error) in rows {
+        let (found, as_listed) = handled(text, kind, calls);
+        assert_eq!(rt; found, Err(error), "at {text}");
+        assert!(rt; as_listed, "at {text}");
     }
 }
 
@@ -537,6 +1110,19 @@ fn keeps_a_bracket_that_it_refused(rt: HostRuntime) {
     assert_eq!(rt; first, Err(AT_BRACKET));
     let second = parser.parse();
     assert_eq!(rt; second, Err(AT_BRACKET));
+}
+
+#[test]
+fn keeps_pairs_that_it_refused(rt: HostRuntime) {
+    let mut parser = IxdtfParser::from_str("2020-01-01[u-ca=a][x=y][!c=d]");
+    let first = parser.parse();
+    assert_eq!(rt; first, Err(ParseError::UnrecognizedCritical));
+    let second = parser.parse();
+    assert_eq!(rt; second, Err(ParseError::UnrecognizedCritical));
+    let third = parser.parse_with_annotation_handler(|_annotation| None);
+    assert_eq!(rt; third, Ok(dated(2020, 1, 1, None)));
+    let fourth = parser.parse();
+    assert_eq!(rt; fourth, Err(AT_DIGIT));
 }
 
 #[test]

@@ -77,7 +77,7 @@ pub fn parse_clock<'a, T: EncodingType>(
 /// The number, where it is at most the greatest of its place, else the error.
 #[inline(always)]
 fn check_most(number: u8, greatest: u8, error: ParseError) -> ParserResult<u8>
-    ensures { Checks (λ number. number) result number (nat_le number greatest) (fault_of error) }
+    ensures { Checks (λ number. number) result number (nat_le number greatest) (fault_of error.entry) }
 {
     if number > greatest {
         return Err(error);

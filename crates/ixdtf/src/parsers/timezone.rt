@@ -1,25 +1,23 @@
-//! Reading offsets, zone names and zone brackets.
+//! Reading offsets and zone names.
 
-ghost use Rattle.std.specs.Prelude.{◌≡◌, ◌+◌, ◌≤◌, map, length, true, ◌||◌, IsTrue, OnOk};
-ghost use Rattle.ixdtf.specs.Classes.{sign, equals, closing};
+ghost use Rattle.std.specs.Prelude.{◌≡◌, ◌+◌, ◌≤◌, map, length, true};
 ghost use Rattle.ixdtf.specs.Faults.{fault_of};
 ghost use Rattle.ixdtf.specs.Offsets.{sign_of, minutes_of, offset_of};
-ghost use Rattle.ixdtf.specs.Answers.{Gives, Reads, Spends, zone_of, note_of};
+ghost use Rattle.ixdtf.specs.Answers.{Reads, Spends, zone_of};
 ghost use Rattle.ixdtf.specs.CodeReadings.{offset_by, offset_alone_by, minute_offset_by, minute_offset_alone_by, offset_reader_by, identifier_by, offset_in_bracket_by, closing_look};
 ghost use Rattle.ixdtf.specs.ReadingLooks.{error_of, next_by};
 ghost use Rattle.ixdtf.specs.ReadingZones.{name_run, name_step, name_alone_at, iana_identifier_at};
-ghost use Rattle.ixdtf.specs.ReadingBrackets.{sight_at, name_in_bracket_at, name_or_pair_at, zone_in_bracket_at, critical_bracket_at, bracket_at};
+ghost use Rattle.ixdtf.specs.ReadingBrackets.{name_in_bracket_at};
 
 use crate::cursor::Cursor;
 use crate::encoding::EncodingType;
 use crate::parsers::grammar::{
-    is_a_key_leading_char, is_annotation_close, is_annotation_key_value_separator, is_ascii_sign,
-    is_critical_flag, is_hyphen, is_tz_char, is_tz_leading_char, is_tz_name_separator,
+    is_annotation_close, is_ascii_sign, is_hyphen, is_tz_char, is_tz_leading_char,
+    is_tz_name_separator,
 };
 use crate::parsers::time::{Clock, parse_clock};
 use crate::records::{
-    FullPrecisionOffset, MinutePrecisionOffset, Sign, TimeRecord, TimeZoneAnnotation,
-    TimeZoneRecord, UtcOffsetRecord,
+    FullPrecisionOffset, MinutePrecisionOffset, Sign, TimeRecord, TimeZoneRecord, UtcOffsetRecord,
 };
 use crate::{ParseError, ParserResult};
 
@@ -166,6 +164,7 @@ fn name_goes_on(byte: u8, may_end: bool) -> Option<bool>
 }
 
 /// Reads a name as far as it goes, from its first letter on, and answers its units.
+#[inline(always)]
 pub fn parse_tz_name<'a, T: EncodingType>(
     cursor: &mut Cursor<'a, T>,
 ) -> ParserResult<&'a [T::CodeUnit]>
@@ -253,7 +252,7 @@ fn close_bracket<'a, T: EncodingType>(
     cursor: &mut Cursor<'a, T>,
     other: ParseError,
 ) -> ParserResult<u8>
-    ensures end { Reads (λ byte. byte) (map T.letter cursor.old.rest) result (map T.letter cursor.new.rest) (next_by (closing_look (fault_of other))) }
+    ensures end { Reads (λ byte. byte) (map T.letter cursor.old.rest) result (map T.letter cursor.new.rest) (next_by (closing_look (fault_of other.entry))) }
     ensures looks { Spends 1 cursor.old cursor.new }
 {
     match cursor.look()? {
@@ -266,77 +265,9 @@ fn close_bracket<'a, T: EncodingType>(
     }
 }
 
-/// Reads a zone bracket after its `[`.
-#[tactic(auto, unfolding(crate::specs::ReadingBrackets::bracket_at, crate::specs::ReadingLooks::next_by))]
-pub fn parse_zone_bracket<'a, T: EncodingType>(
-    cursor: &mut Cursor<'a, T>,
-) -> ParserResult<TimeZoneAnnotation<'a, T>>
-    ensures bracket { Reads (note_of T.number) (map T.letter cursor.old.rest) result (map T.letter cursor.new.rest) (bracket_at error_of) }
-    ensures looks { Spends (length cursor.old.rest + 16) cursor.old cursor.new }
-{
-    match cursor.look()? {
-        None => Err(ParseError::AbruptEnd {
-            location: "AmbiguousAnnotation",
-        }),
-        Some(byte) if is_critical_flag(byte) => {
-            cursor.step();
-            parse_critical_bracket(cursor)
-        }
-        Some(byte) if is_ascii_sign(byte) || is_tz_leading_char(byte) => {
-            let tz = parse_zone_in_bracket(cursor, byte)?;
-            Ok(TimeZoneAnnotation {
-                critical: false,
-                tz,
-            })
-        }
-        Some(_) => Err(ParseError::TzLeadingChar),
-    }
-}
-
-/// Reads a zone bracket after its `[` and `!`.
-#[tactic(auto, unfolding(crate::specs::ReadingBrackets::critical_bracket_at, crate::specs::ReadingLooks::next_by))]
-fn parse_critical_bracket<'a, T: EncodingType>(
-    cursor: &mut Cursor<'a, T>,
-) -> ParserResult<TimeZoneAnnotation<'a, T>>
-    ensures bracket { Reads (note_of T.number) (map T.letter cursor.old.rest) result (map T.letter cursor.new.rest) (critical_bracket_at error_of) }
-    ensures looks { Spends (length cursor.old.rest + 15) cursor.old cursor.new }
-{
-    match cursor.look()? {
-        None => Err(ParseError::AbruptEnd {
-            location: "AmbiguousAnnotation",
-        }),
-        Some(byte) if is_ascii_sign(byte) || is_tz_leading_char(byte) => {
-            let tz = parse_zone_in_bracket(cursor, byte)?;
-            Ok(TimeZoneAnnotation { critical: true, tz })
-        }
-        Some(_) => Err(ParseError::TzLeadingChar),
-    }
-}
-
-/// Reads the zone of a bracket from its first letter on, and its `]`.
-#[tactic(auto, using(crate::proofs::CodeLemmas::offset_in_bracket_is), unfolding(crate::specs::ReadingBrackets::zone_in_bracket_at))]
-fn parse_zone_in_bracket<'a, T: EncodingType>(
-    cursor: &mut Cursor<'a, T>,
-    lead: u8,
-) -> ParserResult<TimeZoneRecord<'a, T>>
-    ensures zone { Reads (zone_of T.number) (map T.letter cursor.old.rest) result (map T.letter cursor.new.rest) (zone_in_bracket_at error_of lead) }
-    ensures looks { Spends (length cursor.old.rest + 14) cursor.old cursor.new }
-{
-    if is_ascii_sign(lead) {
-        cursor.step();
-        return parse_offset_in_bracket(cursor, lead);
-    }
-    let name = if is_a_key_leading_char(lead) {
-        parse_name_or_pair(cursor)?
-    } else {
-        parse_name_in_bracket(cursor)?
-    };
-    Ok(TimeZoneRecord::Name(name))
-}
-
 /// Reads an offset after its sign, and its bracket's `]`.
 #[tactic(auto, unfolding(crate::specs::CodeReadings::offset_in_bracket_by))]
-fn parse_offset_in_bracket<'a, T: EncodingType>(
+pub fn parse_offset_in_bracket<'a, T: EncodingType>(
     cursor: &mut Cursor<'a, T>,
     sign: u8,
 ) -> ParserResult<TimeZoneRecord<'a, T>>
@@ -348,23 +279,10 @@ fn parse_offset_in_bracket<'a, T: EncodingType>(
     Ok(TimeZoneRecord::Offset(offset))
 }
 
-/// Reads a name and its bracket's `]`, where the bracket is no pair of a key and a value: no pair is read.
-#[tactic(auto, unfolding(crate::specs::ReadingBrackets::name_or_pair_at))]
-fn parse_name_or_pair<'a, T: EncodingType>(
-    cursor: &mut Cursor<'a, T>,
-) -> ParserResult<&'a [T::CodeUnit]>
-    ensures name { Reads (λ units. map T.number units.now) (map T.letter cursor.old.rest) result (map T.letter cursor.new.rest) (name_or_pair_at error_of) }
-    ensures looks { Spends (length cursor.old.rest + 3) cursor.old cursor.new }
-{
-    if is_pair_ahead(cursor)? {
-        return Err(ParseError::InvalidEnd);
-    }
-    parse_name_in_bracket(cursor)
-}
-
 /// Reads a name and its bracket's `]`.
+#[inline(always)]
 #[tactic(auto, unfolding(crate::specs::ReadingBrackets::name_in_bracket_at))]
-fn parse_name_in_bracket<'a, T: EncodingType>(
+pub fn parse_name_in_bracket<'a, T: EncodingType>(
     cursor: &mut Cursor<'a, T>,
 ) -> ParserResult<&'a [T::CodeUnit]>
     ensures name { Reads (λ units. map T.number units.now) (map T.letter cursor.old.rest) result (map T.letter cursor.new.rest) (name_in_bracket_at error_of) }
@@ -373,31 +291,4 @@ fn parse_name_in_bracket<'a, T: EncodingType>(
     let name = parse_tz_name(cursor)?;
     close_bracket(cursor, ParseError::IanaChar)?;
     Ok(name)
-}
-
-/// `=` or `]`.
-#[inline(always)]
-fn ends_key(byte: u8) -> bool
-    ensures { result ≡ equals byte || closing byte }
-{
-    is_annotation_key_value_separator(byte) || is_annotation_close(byte)
-}
-
-/// Looks ahead whether an `=` comes before any `]`. Where neither comes it is `AbruptEnd`. Nothing is taken off.
-fn is_pair_ahead<'a, T: EncodingType>(cursor: &mut Cursor<'a, T>) -> ParserResult<bool>
-    ensures sight { Gives (λ pair. pair) result (sight_at error_of (map T.letter cursor.old.rest)) }
-    ensures rest { OnOk result (cursor.new.rest ≡ cursor.old.rest) }
-    ensures looks { Spends (length cursor.old.rest + 1) cursor.old cursor.new }
-{
-    let start = cursor.rest();
-    while let Some(byte) = cursor.look()? {
-        if ends_key(byte) {
-            cursor.go_back(start);
-            return Ok(is_annotation_key_value_separator(byte));
-        }
-        cursor.step();
-    }
-    Err(ParseError::AbruptEnd {
-        location: "AmbiguousAnnotation",
-    })
 }

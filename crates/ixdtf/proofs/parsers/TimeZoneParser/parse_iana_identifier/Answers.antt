@@ -16,7 +16,7 @@ pub returns-in-Err-clause-ok : goal.returns-in-Err-clause-ok
 returns-in-Err-clause-ok g c = rw (← c.self.view_is) (err_where_refused parse_iana_identifier named (λ x y e. cc) _ _ refl _ c.in-Err.ensures.name)
 
 pub returns-in-Err-clause-err : goal.returns-in-Err-clause-err
-returns-in-Err-clause-err g c = rw (← c.self.view_is) (err_where_fits parse_iana_identifier named (λ x y e. cc) _ _ refl _ c.in-Err.ensures.name)
+returns-in-Err-clause-err g c = rw (← c.self.view_is) (err_where_fits parse_iana_identifier named (λ x y e. cc) _ _ refl _ c.in-Err.ensures.name tt)
 
 pub returns-in-Err-clause-comes : goal.returns-in-Err-clause-comes
-returns-in-Err-clause-comes g c = fault_comes parse_iana_identifier _ _ (err_where_fits parse_iana_identifier named (λ x y e. cc) _ _ refl _ c.in-Err.ensures.name)
+returns-in-Err-clause-comes g c = fault_comes parse_iana_identifier _ _ _ (err_where_fits parse_iana_identifier named (λ x y e. cc) _ _ refl _ c.in-Err.ensures.name tt)

@@ -18,7 +18,7 @@ pub returns-in-Err-clause-ok : goal.returns-in-Err-clause-ok
 returns-in-Err-clause-ok g c = rw (← c.self.view_is) (err_where_refused parse_identifier identified (λ x y e. cc) _ _ (ap (finding identified) (identifier_is _)) _ c.in-Err.ensures.zone)
 
 pub returns-in-Err-clause-err : goal.returns-in-Err-clause-err
-returns-in-Err-clause-err g c = rw (← c.self.view_is) (err_where_fits parse_identifier identified (λ x y e. cc) _ _ (ap (finding identified) (identifier_is _)) _ c.in-Err.ensures.zone)
+returns-in-Err-clause-err g c = rw (← c.self.view_is) (err_where_fits parse_identifier identified (λ x y e. cc) _ _ (ap (finding identified) (identifier_is _)) _ c.in-Err.ensures.zone tt)
 
 pub returns-in-Err-clause-comes : goal.returns-in-Err-clause-comes
-returns-in-Err-clause-comes g c = fault_comes parse_identifier _ _ (err_where_fits parse_identifier identified (λ x y e. cc) _ _ (ap (finding identified) (identifier_is _)) _ c.in-Err.ensures.zone)
+returns-in-Err-clause-comes g c = fault_comes parse_identifier _ _ _ (err_where_fits parse_identifier identified (λ x y e. cc) _ _ (ap (finding identified) (identifier_is _)) _ c.in-Err.ensures.zone tt)

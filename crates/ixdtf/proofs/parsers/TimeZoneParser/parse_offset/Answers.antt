@@ -18,7 +18,7 @@ pub returns-in-Err-clause-ok : goal.returns-in-Err-clause-ok
 returns-in-Err-clause-ok g c = rw (← c.self.view_is) (err_where_refused parse_offset shifted (λ x y e. cc) _ _ (ap (finding shifted) (offset_reader_is _)) _ c.in-Err.ensures.offset)
 
 pub returns-in-Err-clause-err : goal.returns-in-Err-clause-err
-returns-in-Err-clause-err g c = rw (← c.self.view_is) (err_where_fits parse_offset shifted (λ x y e. cc) _ _ (ap (finding shifted) (offset_reader_is _)) _ c.in-Err.ensures.offset)
+returns-in-Err-clause-err g c = rw (← c.self.view_is) (err_where_fits parse_offset shifted (λ x y e. cc) _ _ (ap (finding shifted) (offset_reader_is _)) _ c.in-Err.ensures.offset tt)
 
 pub returns-in-Err-clause-comes : goal.returns-in-Err-clause-comes
-returns-in-Err-clause-comes g c = fault_comes parse_offset _ _ (err_where_fits parse_offset shifted (λ x y e. cc) _ _ (ap (finding shifted) (offset_reader_is _)) _ c.in-Err.ensures.offset)
+returns-in-Err-clause-comes g c = fault_comes parse_offset _ _ _ (err_where_fits parse_offset shifted (λ x y e. cc) _ _ (ap (finding shifted) (offset_reader_is _)) _ c.in-Err.ensures.offset tt)

@@ -3,12 +3,13 @@ use Rattle.ixdtf.specs.Faults.Fault.{NonAsciiCodePoint}
 use Rattle.ixdtf.specs.ReadingLooks.{look_at}
 use Rattle.ixdtf.specs.ReadingZones.{name_step}
 use Rattle.ixdtf.proofs.FractionRun.{shrinks}
-use Rattle.ixdtf.proofs.NameRun.{begins, goes_on, ends_at_other, ends_at_end, refused, ended, fails, front_is}
+use Rattle.ixdtf.proofs.RunLoop.{begins, goes_on, front_is}
+use Rattle.ixdtf.proofs.NameRun.{run_of, run_more, ends_at_other, ends_at_end, refused, ended, fails}
 use Rattle.ixdtf.proofs.parsers.timezone.parse_tz_name.Goals as goal
 use Rattle.ixdtf.proofs.parsers.timezone.parse_tz_name.Goals.{in-Some+in-None, in_default}
 
 pub loop-byte-init : goal.loop-byte-init
-loop-byte-init g c = record { start = c.rest-start.ensures; far = begins _ _; looks = omega arith }
+loop-byte-init g c = record { start = c.rest-start.ensures; far = begins run_of true _ _; looks = omega arith }
 
 pub returns-in_err-byte-clause-name : goal.returns-in_err-byte-clause-name
 returns-in_err-byte-clause-name g c =
@@ -28,7 +29,7 @@ loop-byte-preserved g c =
     let moved : c.step.new.self.rest ≡ drop 1 c.loop-byte.cursor.rest = c.step.ensures.rest ∙ ap (λ (t : List ℕ). drop 1 t) c.in_ok-byte.ensures.rest in
     record {
       start = c.loop-byte.invariant.start;
-      far = goes_on g.T.EncodingType.letter g.met.T.EncodingType.faithful _ _ _ _ _ _ c.loop-byte.invariant.far found next moved;
+      far = goes_on g.T.EncodingType.letter g.met.T.EncodingType.faithful run_of true _ _ _ _ _ c.loop-byte.invariant.far found moved _ (λ more. run_more _ _ _ more next);
       looks = omega (arith, shrinks g.T.EncodingType.letter _ _ _ found moved, c.loop-byte.invariant.looks);
     }
 

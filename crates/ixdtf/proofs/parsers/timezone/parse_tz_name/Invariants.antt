@@ -1,11 +1,12 @@
-use Rattle.std.proofs.Common.{◌≡◌, ◌+◌, ◌≤◌, length, map}
-use Rattle.ixdtf.proofs.NameRun.{IsSoFar}
+use Rattle.std.proofs.Common.{true, ◌≡◌, ◌+◌, ◌≤◌, length, map}
+use Rattle.ixdtf.proofs.RunLoop.{IsSoFar}
+use Rattle.ixdtf.proofs.NameRun.{run_of}
 use Rattle.ixdtf.proofs.parsers.timezone.parse_tz_name.Given as goal
 
 abbrev pub invariant-loop-byte : goal.invariant-loop-byte
 invariant-loop-byte g l = record {
   start : map g.T.EncodingType.number l.start ≡ l.initial.cursor.rest;
-  far : IsSoFar g.T.EncodingType.letter l.initial.cursor.rest l.cursor.rest l.may_end;
+  far : IsSoFar run_of true g.T.EncodingType.letter l.initial.cursor.rest l.cursor.rest l.may_end;
   looks : l.cursor.looks + length l.cursor.rest ≤ l.initial.cursor.looks + length l.initial.cursor.rest;
 }
 

@@ -1,12 +1,14 @@
 use Rattle.std.proofs.Common.{◌≡◌, ◌+◌, ◌≤◌, length, map}
-use Rattle.ixdtf.specs.ReadingLooks.{error_of}
-use Rattle.ixdtf.specs.ReadingBrackets.{sight_at}
-use Rattle.ixdtf.proofs.parsers.timezone.is_pair_ahead.Given as goal
+use Rattle.ixdtf.specs.ReadingPairs.{at_start}
+use Rattle.ixdtf.specs.CodeViews.{state_of}
+use Rattle.ixdtf.proofs.RunLoop.{IsSoFar}
+use Rattle.ixdtf.proofs.PairRun.{values_of}
+use Rattle.ixdtf.proofs.parsers.annotations.parse_annotation_value.Given as goal
 
 abbrev pub invariant-loop-byte : goal.invariant-loop-byte
 invariant-loop-byte g l = record {
   start : map g.T.EncodingType.number l.start ≡ l.initial.cursor.rest;
-  same : sight_at error_of (map g.T.EncodingType.letter l.initial.cursor.rest) ≡ sight_at error_of (map g.T.EncodingType.letter l.cursor.rest);
+  far : IsSoFar values_of at_start g.T.EncodingType.letter l.initial.cursor.rest l.cursor.rest (state_of l.state);
   looks : l.cursor.looks + length l.cursor.rest ≤ l.initial.cursor.looks + length l.initial.cursor.rest;
   shorter : length l.cursor.rest ≤ length l.initial.cursor.rest;
 }

@@ -1,0 +1,26 @@
+//! What follows for some handlers.
+
+ghost use Rattle.std.specs.Prelude.{◌≡◌, ◌≢◌, IfOk, IfErr, None};
+ghost use Rattle.ixdtf.specs.Faults.{fault_of};
+ghost use Rattle.ixdtf.specs.Faults.Fault.{CriticalDuplicateCalendar, UnrecognizedCritical};
+
+use crate::encoding::EncodingType;
+use crate::error;
+use crate::parsers::IxdtfParser;
+use crate::records::{Annotation, IxdtfParseRecord};
+
+/// Reads with a handler that answers `None` to each annotation: the record has no calendar, and no answer is refused.
+pub(crate) fn parse_unanswered<'a, 's, T: EncodingType, F>(
+    parser: &mut IxdtfParser<'a, T>,
+    handler: F,
+) -> Result<IxdtfParseRecord<'a, T>, error::ParseError<'s>>
+where
+    F: FnMut(Annotation<'a, T>) -> Option<Annotation<'a, T>>,
+    requires callable { F.IsAlwaysCallable handler }
+    requires unanswered { (state : F) (annotation : _) (answer : _) (next : F) → F.step state annotation answer next → answer ≡ None }
+    ensures calendar { IfOk result (λ found. found.calendar ≡ None) }
+    ensures unrecognized { IfErr result (λ e. fault_of e ≢ UnrecognizedCritical) }
+    ensures duplicate { IfErr result (λ e. fault_of e ≢ CriticalDuplicateCalendar) }
+{
+    parser.parse_with_annotation_handler(handler)
+}
