@@ -4,9 +4,9 @@ use Rattle.std.proofs.lemmas.Bool.{lt-ltb, le-ltb}
 use Rattle.std.proofs.lemmas.List.{take_all, length-drop}
 use Rattle.std.specs.Bool.{MatchBool}
 use Rattle.ixdtf.specs.Faults.{Fault}
-use Rattle.ixdtf.specs.Languages.{Found, Derives, HasFault}
+use Rattle.ixdtf.specs.Languages.{Found}
 use Rattle.ixdtf.specs.Readers.{Reader}
-use Rattle.ixdtf_lines.specs.Answer.{line_limit, too_long, unknown_reader, is_space, letters, ok_answer_of, error_answer_of, IsAnswer, IsReaderAnswer, IsOutcome}
+use Rattle.ixdtf_lines.specs.Answer.{line_limit, too_long, unknown_reader, is_space, letters, ok_answer_of, error_answer_of, Gives, Refuses, IsAnswer, IsReaderAnswer, IsOutcome}
 use Rattle.ixdtf_lines.specs.Word.{word_named, reader_of}
 
 -- the answer, with the two tests as variables
@@ -36,16 +36,16 @@ pub IsReaderAnswer-unknown : (name text : List ℕ) → None ≡ word_named name
 IsReaderAnswer-unknown name text none =
     subst (λ o. MatchOption o (unknown_reader ≡ unknown_reader) (λ word. IsOutcome (reader_of word) text unknown_reader)) none refl
 
--- a reader derives the value from what it has to read, which is the text
-pub Derives-text : (reader : Reader) (text rest : List ℕ) (found : Found) → rest ≡ text → Derives reader (letters rest) found → Derives reader (letters text) found
-Derives-text reader text rest found same derives = subst (λ (t : List ℕ). Derives reader (letters t) found) same derives
+-- what a reader has to read, which is the text, gives it the value
+pub Gives-text : (reader : Reader) (text rest : List ℕ) (found : Found) → rest ≡ text → Gives reader (letters rest) found → Gives reader (letters text) found
+Gives-text reader text rest found same gives = subst (λ (t : List ℕ). Gives reader (letters t) found) same gives
 
--- it finds the fault in it
-pub HasFault-text : (reader : Reader) (text rest : List ℕ) (fault : Fault) → rest ≡ text → HasFault reader (letters rest) fault → HasFault reader (letters text) fault
-HasFault-text reader text rest fault same has = subst (λ (t : List ℕ). HasFault reader (letters t) fault) same has
+-- it is refused with the fault
+pub Refuses-text : (reader : Reader) (text rest : List ℕ) (fault : Fault) → rest ≡ text → Refuses reader (letters rest) fault → Refuses reader (letters text) fault
+Refuses-text reader text rest fault same has = subst (λ (t : List ℕ). Refuses reader (letters t) fault) same has
 
-pub IsOutcome-ok : (reader : Reader) (text : List ℕ) (found : Found) → Derives reader (letters text) found → IsOutcome reader text (ok_answer_of found)
-IsOutcome-ok reader text found derives = inl (found, derives, refl)
+pub IsOutcome-ok : (reader : Reader) (text : List ℕ) (found : Found) → Gives reader (letters text) found → IsOutcome reader text (ok_answer_of found)
+IsOutcome-ok reader text found gives = inl (found, gives, refl)
 
-pub IsOutcome-error : (reader : Reader) (text : List ℕ) (fault : Fault) → HasFault reader (letters text) fault → IsOutcome reader text (error_answer_of fault)
+pub IsOutcome-error : (reader : Reader) (text : List ℕ) (fault : Fault) → Refuses reader (letters text) fault → IsOutcome reader text (error_answer_of fault)
 IsOutcome-error reader text fault has = inr (fault, has, refl)

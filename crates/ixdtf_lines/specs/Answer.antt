@@ -1,11 +1,14 @@
 -- The answer to one line, without its newline.
-use Rattle.std.specs.Prelude.{◌≡◌, ℕ, ◌+◌, Bool, ◌==◌, ◌⊎◌, List, ◌++◌, map, length, take, drop, nat_lt, MatchOption, position, codes}
+use Rattle.std.specs.Prelude.{◌≡◌, ℕ, ◌+◌, Bool, ◌==◌, ◌⊎◌, List, [], ◌++◌, map, length, take, drop, nat_lt, MatchOption, position, codes}
 use Rattle.std.specs.Bool.{MatchBool}
 use Rattle.ixdtf.specs.ErrorTexts.{message_of}
 use Rattle.ixdtf.specs.Faults.{Fault}
+use Rattle.ixdtf.specs.Handlers.{PlainRecord, PlainFault}
 use Rattle.ixdtf.specs.Languages.{Found, Derives, HasFault}
+use Rattle.ixdtf.specs.Languages.Found.{parsed}
 use Rattle.ixdtf.specs.Letters.{Text, byte_letter}
 use Rattle.ixdtf.specs.Readers.{Reader}
+use Rattle.ixdtf.specs.Readers.Reader.{parse}
 use Rattle.ixdtf_lines.specs.Fields.{fields_of}
 use Rattle.ixdtf_lines.specs.Word.{word_named, reader_of}
 
@@ -34,11 +37,24 @@ ok_answer_of found = codes "ok" ++ fields_of found
 abbrev pub error_answer_of : Fault → List ℕ
 error_answer_of fault = codes "error " ++ message_of fault
 
--- the answer of a reader, which derives a value from the text or finds a fault in it
+-- the text gives the reader the value: to `parse` a record, where each pair answers for itself, and to each other reader
+-- what it derives, with no pairs
+abbrev pub Gives : Reader → Text → Found → Type 0
+Gives parse text (parsed found) = PlainRecord parse text found
+Gives parse text _ = ⊥
+Gives reader text found = Derives reader text found []
+
+-- the reader refuses the text with the fault: `parse` with one that the text gives, where each pair answers for itself, and
+-- each other reader with one that the text has, with no pairs
+abbrev pub Refuses : Reader → Text → Fault → Type 0
+Refuses parse text fault = PlainFault parse text fault
+Refuses reader text fault = HasFault reader text [] fault
+
+-- the answer of a reader, to which the text gives a value, or which refuses the text
 abbrev pub IsOutcome : Reader → List ℕ → List ℕ → Type 0
 IsOutcome reader text answer =
-    ((found : Found) × Derives reader (letters text) found × (answer ≡ ok_answer_of found))
-    ⊎ ((fault : Fault) × HasFault reader (letters text) fault × (answer ≡ error_answer_of fault))
+    ((found : Found) × Gives reader (letters text) found × (answer ≡ ok_answer_of found))
+    ⊎ ((fault : Fault) × Refuses reader (letters text) fault × (answer ≡ error_answer_of fault))
 
 -- the answer of the reader that the name names
 abbrev pub IsReaderAnswer : List ℕ → List ℕ → List ℕ → Type 0

@@ -102,9 +102,18 @@ abbrev pub zone_field_of : Option ZoneNote → List ℕ
 zone_field_of None = []
 zone_field_of (Some note) = zone_text_of note.critical note.zone
 
+-- the bytes of a calendar
+abbrev pub calendar_text_of : List ℕ → List ℕ
+calendar_text_of calendar = codes " calendar=" ++ calendar
+
+abbrev pub calendar_field_of : Option (List ℕ) → List ℕ
+calendar_field_of None = []
+calendar_field_of (Some calendar) = calendar_text_of calendar
+
 -- the fields of a record, in their order
 abbrev pub record_fields_of : Parsed → List ℕ
-record_fields_of found = date_field_of found.date ++ (time_field_of found.time ++ (offset_field_of found.offset ++ zone_field_of found.zone))
+record_fields_of found =
+    date_field_of found.date ++ (time_field_of found.time ++ (offset_field_of found.offset ++ (zone_field_of found.zone ++ calendar_field_of found.calendar)))
 
 -- the fields of what a reader derives
 abbrev pub fields_of : Found → List ℕ

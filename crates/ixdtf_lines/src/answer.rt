@@ -106,7 +106,7 @@ fn put_error<W: Write>(
     error: ParseError,
 ) -> Result<(), RunError>
     ensures { Puts (W.contents writer.old) (W.contents writer.new) waiting.old waiting.new result
-        (error_answer_of (fault_of error) ++ newline ∷ []) }
+        (error_answer_of (fault_of error.entry) ++ newline ∷ []) }
 {
     let (text, location) = error_parts(error);
     let pieces = [
@@ -120,7 +120,7 @@ fn put_error<W: Write>(
 
 /// The two parts of what Display writes.
 fn error_parts(error: ParseError) -> (&'static str, &'static str)
-    ensures { message_of (fault_of error) ≡ result.0.now ++ result.1.now }
+    ensures { message_of (fault_of error.entry) ≡ result.0.now ++ result.1.now }
 {
     match error {
         ParseError::AbruptEnd { location } => ("Parsing ended abruptly while parsing ", location),

@@ -1,10 +1,10 @@
 //! The fields of what a reader found.
-ghost use Rattle.std.specs.Prelude.{◌≡◌, ◌++◌, ◌∷◌, codes, option_map};
+ghost use Rattle.std.specs.Prelude.{◌≡◌, ◌++◌, ◌∷◌, codes, map, option_map};
 ghost use Rattle.std.specs.Fmt.{decimal};
 ghost use Rattle.ixdtf.specs.Answers.{parsed_of, note_of, zone_of};
 ghost use Rattle.ixdtf_lines.specs.Fields.{comma, fields_of, record_fields_of, date_field_of, date_text_of, time_field_of, time_text_of, clock_text_of, fraction_text_of};
 ghost use Rattle.ixdtf_lines.specs.Fields.{sign_text_of, minute_offset_text_of, full_offset_text_of, offset_numbers_of, offset_text_of, offset_or_z_text_of, offset_field_of};
-ghost use Rattle.ixdtf_lines.specs.Fields.{name_or_offset_of, critical_text_of, zone_text_of, zone_field_of};
+ghost use Rattle.ixdtf_lines.specs.Fields.{name_or_offset_of, critical_text_of, zone_text_of, zone_field_of, calendar_field_of};
 ghost use Rattle.ixdtf_lines.specs.Found.{found_of};
 ghost use Rattle.ixdtf_lines.specs.Output.{Puts};
 
@@ -47,7 +47,8 @@ fn put_record_fields<W: Write>(
     put_date_field(waiting, writer, parts.date)?;
     put_time_field(waiting, writer, parts.time)?;
     put_offset_field(waiting, writer, parts.offset)?;
-    put_zone_field(waiting, writer, &parts.tz)
+    put_zone_field(waiting, writer, &parts.tz)?;
+    put_calendar_field(waiting, writer, parts.calendar)
 }
 
 /// Puts the field of the date, where there is one.
@@ -319,5 +320,20 @@ fn put_name_or_offset<W: Write>(
     match zone {
         TimeZoneRecord::Name(name) => waiting.put(writer, name),
         TimeZoneRecord::Offset(offset) => put_minute_offset(waiting, writer, *offset),
+    }
+}
+
+/// Puts the field of the calendar, where there is one.
+fn put_calendar_field<W: Write>(
+    waiting: &mut Waiting,
+    writer: &mut W,
+    calendar: Option<&[u8]>,
+) -> Result<(), RunError>
+    ensures { Puts (W.contents writer.old) (W.contents writer.new) waiting.old waiting.new result
+        (calendar_field_of (option_map (λ bytes. map (λ byte. byte) bytes.now) calendar.entry)) }
+{
+    match calendar {
+        None => Ok(()),
+        Some(bytes) => waiting.put_all(writer, &[b" calendar=".as_slice(), bytes]),
     }
 }

@@ -1,9 +1,8 @@
 //! What the readers find.
 ghost use Rattle.std.specs.Prelude.{IfOk, IfErr};
 ghost use Rattle.ixdtf.specs.Faults.{fault_of};
-ghost use Rattle.ixdtf.specs.Languages.{Derives, HasFault};
 ghost use Rattle.ixdtf.specs.Readers.Reader.{parse as parse_reader, parse_offset as offset_reader, parse_identifier as zone_reader, parse_iana_identifier as iana_reader};
-ghost use Rattle.ixdtf_lines.specs.Answer.{letters};
+ghost use Rattle.ixdtf_lines.specs.Answer.{letters, Gives, Refuses};
 ghost use Rattle.ixdtf_lines.specs.Found.{found_of};
 ghost use Rattle.ixdtf_lines.specs.Word.{reader_of};
 
@@ -28,8 +27,8 @@ pub enum Found<'a> {
 
 /// What the reader of the word finds in the text.
 pub fn read(word: Word, text: &[u8]) -> ParserResult<Found<'_>>
-    ensures ok { IfOk result (λ found. Derives (reader_of word) (letters text.now) (found_of found)) }
-    ensures err { IfErr result (λ error. HasFault (reader_of word) (letters text.now) (fault_of error)) }
+    ensures ok { IfOk result (λ found. Gives (reader_of word) (letters text.now) (found_of found)) }
+    ensures err { IfErr result (λ error. Refuses (reader_of word) (letters text.now) (fault_of error)) }
 {
     match word {
         Word::Parse => read_record(text),
@@ -41,8 +40,8 @@ pub fn read(word: Word, text: &[u8]) -> ParserResult<Found<'_>>
 
 /// What `parse` finds.
 fn read_record(text: &[u8]) -> ParserResult<Found<'_>>
-    ensures ok { IfOk result (λ found. Derives parse_reader (letters text.now) (found_of found)) }
-    ensures err { IfErr result (λ error. HasFault parse_reader (letters text.now) (fault_of error)) }
+    ensures ok { IfOk result (λ found. Gives parse_reader (letters text.now) (found_of found)) }
+    ensures err { IfErr result (λ error. Refuses parse_reader (letters text.now) (fault_of error)) }
 {
     let mut parser = IxdtfParser::from_utf8(text);
     match parser.parse() {
@@ -53,8 +52,8 @@ fn read_record(text: &[u8]) -> ParserResult<Found<'_>>
 
 /// What `offset` finds.
 fn read_offset(text: &[u8]) -> ParserResult<Found<'_>>
-    ensures ok { IfOk result (λ found. Derives offset_reader (letters text.now) (found_of found)) }
-    ensures err { IfErr result (λ error. HasFault offset_reader (letters text.now) (fault_of error)) }
+    ensures ok { IfOk result (λ found. Gives offset_reader (letters text.now) (found_of found)) }
+    ensures err { IfErr result (λ error. Refuses offset_reader (letters text.now) (fault_of error)) }
 {
     let mut parser = TimeZoneParser::from_utf8(text);
     match parser.parse_offset() {
@@ -65,8 +64,8 @@ fn read_offset(text: &[u8]) -> ParserResult<Found<'_>>
 
 /// What `zone` finds.
 fn read_zone(text: &[u8]) -> ParserResult<Found<'_>>
-    ensures ok { IfOk result (λ found. Derives zone_reader (letters text.now) (found_of found)) }
-    ensures err { IfErr result (λ error. HasFault zone_reader (letters text.now) (fault_of error)) }
+    ensures ok { IfOk result (λ found. Gives zone_reader (letters text.now) (found_of found)) }
+    ensures err { IfErr result (λ error. Refuses zone_reader (letters text.now) (fault_of error)) }
 {
     let mut parser = TimeZoneParser::from_utf8(text);
     match parser.parse_identifier() {
@@ -77,8 +76,8 @@ fn read_zone(text: &[u8]) -> ParserResult<Found<'_>>
 
 /// What `iana` finds.
 fn read_name(text: &[u8]) -> ParserResult<Found<'_>>
-    ensures ok { IfOk result (λ found. Derives iana_reader (letters text.now) (found_of found)) }
-    ensures err { IfErr result (λ error. HasFault iana_reader (letters text.now) (fault_of error)) }
+    ensures ok { IfOk result (λ found. Gives iana_reader (letters text.now) (found_of found)) }
+    ensures err { IfErr result (λ error. Refuses iana_reader (letters text.now) (fault_of error)) }
 {
     let mut parser = TimeZoneParser::from_utf8(text);
     match parser.parse_iana_identifier() {

@@ -178,6 +178,22 @@ fn answers_dates_with_offsets_and_zones(rt: HostRuntime) -> Result<(), Fail> {
 }
 
 #[test]
+fn answers_calendars(rt: HostRuntime) -> Result<(), Fail> {
+    check_run(
+        &rt,
+        rt.alloc(),
+        b"parse 2020-01-01[u-ca=a][u-ca=b][!u-ca=a]\nparse 11170129t19z[+2258][u-ca=Y2D01d-Bj-TtHL]\nparse -999999-12-07[-23][juab9k=FMRH][u-ca=gregory][u-ca=iso8601]\nparse -000400-01-31[LR][x-y=7Lu-WLdKXO]\n",
+        b"ok date=2020,1,1 calendar=a\nok date=1117,1,29 time=19,0,0 offset=Z tz=+22,58 calendar=Y2D01d-Bj-TtHL\nok date=-999999,12,7 tz=-23,0 calendar=gregory\nok date=-400,1,31 tz=LR\n",
+    )?;
+    check_run(
+        &rt,
+        rt.alloc(),
+        b"parse 2020-01-01[u-ca=a-M\nparse +002020-02-29[-22:01][!u_ca=Cn31]\nparse 2020-01-01[u-ca=a][!u-ca=b]\n",
+        b"error Invalid annotation close character.\nerror Unrecognized annoation is marked as critical.\nerror Duplicate calendars cannot be provided when one is critical.\n",
+    )
+}
+
+#[test]
 fn answers_each_line(rt: HostRuntime) -> Result<(), Fail> {
     check_run(&rt, rt.alloc(), LINES, ANSWERS)
 }

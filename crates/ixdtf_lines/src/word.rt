@@ -4,7 +4,7 @@ ghost use Rattle.std.specs.Prelude.{◌≡◌};
 /// A reader.
 #[derive(Clone, Copy, Debug, PartialEq)]
 pub enum Word {
-    /// `parse`: a date, or a date and a time, with an offset and a zone.
+    /// `parse`: a date, or a date and a time, with an offset, a zone and a calendar.
     Parse,
     /// `offset`: an offset from UTC.
     Offset,

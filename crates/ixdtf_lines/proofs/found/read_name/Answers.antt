@@ -1,15 +1,15 @@
--- What was derived, and what was refused.
+-- What was given, and what was refused.
 use Rattle.std.proofs.Common.{refl, map}
 use Rattle.ixdtf.specs.Faults.{fault_of}
 use Rattle.ixdtf.specs.Languages.Found.{named}
 use Rattle.ixdtf.specs.Readers.Reader.{parse_iana_identifier}
-use Rattle.ixdtf_lines.proofs.AnswerLemmas.{Derives-text, HasFault-text}
+use Rattle.ixdtf_lines.proofs.AnswerLemmas.{Gives-text, Refuses-text}
 use Rattle.ixdtf_lines.proofs.found.read_name.Goals as goal
 
 pub returns-in-Ok-clause-ok : goal.returns-in-Ok-clause-ok
 returns-in-Ok-clause-ok c =
     let found = map (λ byte. byte) c.in-Ok.name.now in
-    Derives-text parse_iana_identifier c.args.text.now _ (named found) c.from_utf8-parser.ensures.rest ((c.in-Ok.ensures.ok found).0 refl)
+    Gives-text parse_iana_identifier c.args.text.now _ (named found) c.from_utf8-parser.ensures.rest ((c.in-Ok.ensures.ok found).0 refl)
 
 pub returns-in-Err-clause-err : goal.returns-in-Err-clause-err
-returns-in-Err-clause-err c = HasFault-text parse_iana_identifier c.args.text.now _ (fault_of c.in-Err.error) c.from_utf8-parser.ensures.rest c.in-Err.ensures.err
+returns-in-Err-clause-err c = Refuses-text parse_iana_identifier c.args.text.now _ (fault_of c.in-Err.error) c.from_utf8-parser.ensures.rest c.in-Err.ensures.err

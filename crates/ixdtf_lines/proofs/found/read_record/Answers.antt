@@ -1,16 +1,16 @@
--- What was derived, and what was refused.
+-- What was given, and what was refused.
 use Rattle.std.proofs.Common.{refl}
 use Rattle.ixdtf.specs.Answers.{parsed_of}
 use Rattle.ixdtf.specs.Faults.{fault_of}
 use Rattle.ixdtf.specs.Languages.Found.{parsed}
 use Rattle.ixdtf.specs.Readers.Reader.{parse}
-use Rattle.ixdtf_lines.proofs.AnswerLemmas.{Derives-text, HasFault-text}
+use Rattle.ixdtf_lines.proofs.AnswerLemmas.{Gives-text, Refuses-text}
 use Rattle.ixdtf_lines.proofs.found.read_record.Goals as goal
 
 pub returns-in-Ok-clause-ok : goal.returns-in-Ok-clause-ok
 returns-in-Ok-clause-ok c =
     let found = parsed_of (λ byte. byte) c.in-Ok.parts in
-    Derives-text parse c.args.text.now _ (parsed found) c.from_utf8-parser.ensures.rest ((c.in-Ok.ensures.ok found).0 refl)
+    Gives-text parse c.args.text.now _ (parsed found) c.from_utf8-parser.ensures.rest ((c.in-Ok.ensures.ok found).0 refl)
 
 pub returns-in-Err-clause-err : goal.returns-in-Err-clause-err
-returns-in-Err-clause-err c = HasFault-text parse c.args.text.now _ (fault_of c.in-Err.error) c.from_utf8-parser.ensures.rest c.in-Err.ensures.err
+returns-in-Err-clause-err c = Refuses-text parse c.args.text.now _ (fault_of c.in-Err.error) c.from_utf8-parser.ensures.rest c.in-Err.ensures.err
