@@ -1,55 +1,56 @@
--- Handlers: what the answers to the pairs of a text make of it.
+-- Handlers: what the replies to the pairs of a text make of it.
 use Rattle.std.specs.Prelude.{◌≡◌, ◌≢◌, ◌↔◌, ◌⊎◌, ℕ, Bool, IsTrue, nat_eq, List, [], ◌∷◌, ◌++◌, map, find, filter_map, codes, Option, Some, None, option_map, Result, Ok, Err}
 use Rattle.std.specs.Cmp.Lexicographic.{pointwise}
 use Rattle.std.specs.List.{FoldsTo}
 use Rattle.ixdtf.specs.declared.records.Annotation.{Annotation}
-use Rattle.ixdtf.specs.Letters.{Text}
-use Rattle.ixdtf.specs.Faults.{Fault}
-use Rattle.ixdtf.specs.Faults.Fault.{UnrecognizedCritical, CriticalDuplicateCalendar}
-use Rattle.ixdtf.specs.Pairs.{Pair}
-use Rattle.ixdtf.specs.Readers.{Reader}
-use Rattle.ixdtf.specs.Languages.{Parsed, Derives, HasFault}
-use Rattle.ixdtf.specs.Languages.Found.{parsed}
+use Rattle.ixdtf.specs.language.Letters.{Text}
+use Rattle.ixdtf.specs.table.Faults.{Fault}
+use Rattle.ixdtf.specs.table.Faults.Fault.{UnrecognizedCritical, CriticalDuplicateCalendar}
+use Rattle.ixdtf.specs.language.Brackets.{Pair}
+use Rattle.ixdtf.specs.language.Readers.{Reader}
+use Rattle.ixdtf.specs.language.Languages.{Parsed, Derives}
+use Rattle.ixdtf.specs.table.Outcomes.{HasFault}
+use Rattle.ixdtf.specs.language.Languages.Found.{parsed}
 
--- ---- answers
+-- ---- replies
 
--- an answer: an annotation, or none
-abbrev pub Answer : Type 0
-Answer = Option Pair
+-- an reply: an annotation, or none
+abbrev pub Reply : Type 0
+Reply = Option Pair
 
 -- the key of calendars, `u-ca`
 abbrev pub is_calendar : Pair → Bool
 is_calendar pair = pointwise nat_eq pair.key (codes "u-ca")
 
--- the first calendar among the answers
-abbrev pub first_calendar : List Answer → Option Pair
-first_calendar answers = find is_calendar (filter_map (λ answer. answer) answers)
+-- the first calendar among the replies
+abbrev pub first_calendar : List Reply → Option Pair
+first_calendar replies = find is_calendar (filter_map (λ reply. reply) replies)
 
--- an answer is refused with the fault, where this is the first calendar among the answers before it
-abbrev pub RefusedBeside : Option Pair → Answer → Fault → Type 0
+-- an reply is refused with the fault, where this is the first calendar among the replies before it
+abbrev pub RefusedBeside : Option Pair → Reply → Fault → Type 0
 RefusedBeside first None fault = ⊥
 RefusedBeside first (Some pair) UnrecognizedCritical = IsTrue pair.critical × (pair.key ≢ codes "u-ca")
 RefusedBeside None (Some pair) CriticalDuplicateCalendar = ⊥
 RefusedBeside (Some first) (Some pair) CriticalDuplicateCalendar = (pair.key ≡ codes "u-ca") × (pair.value ≢ first.value) × (IsTrue first.critical ⊎ IsTrue pair.critical)
 RefusedBeside first (Some pair) fault = ⊥
 
--- after these answers, an answer is refused with the fault
-abbrev pub IsRefused : List Answer → Answer → Fault → Type 0
-IsRefused earlier answer fault = RefusedBeside (first_calendar earlier) answer fault
+-- after these replies, an reply is refused with the fault
+abbrev pub IsRefused : List Reply → Reply → Fault → Type 0
+IsRefused earlier reply fault = RefusedBeside (first_calendar earlier) reply fault
 
--- no answer is refused
-pub record NoneRefused (answers : List Answer) : Type 0 where
-  pub none : (earlier later : List Answer) (answer : Answer) (fault : Fault) → answers ≡ earlier ++ (answer ∷ later) → ¬ (IsRefused earlier answer fault)
+-- no reply is refused
+pub record NoneRefused (replies : List Reply) : Type 0 where
+  pub none : (earlier later : List Reply) (reply : Reply) (fault : Fault) → replies ≡ earlier ++ (reply ∷ later) → ¬ (IsRefused earlier reply fault)
 
--- the last answer is refused with the fault, and none before it
-pub record LastRefused (answers : List Answer) (fault : Fault) : Type 0 where
-  pub earlier : List Answer
-  pub answer : Answer
-  pub split : answers ≡ earlier ++ (answer ∷ [])
+-- the last reply is refused with the fault, and none before it
+pub record LastRefused (replies : List Reply) (fault : Fault) : Type 0 where
+  pub earlier : List Reply
+  pub reply : Reply
+  pub split : replies ≡ earlier ++ (reply ∷ [])
   pub none : NoneRefused earlier
-  pub refused : IsRefused earlier answer fault
+  pub refused : IsRefused earlier reply fault
 
--- ---- what a text and answers give
+-- ---- what a text and replies give
 
 -- the value of a calendar where there is one
 abbrev pub calendar_value : Option Pair → Option (List ℕ)
@@ -58,22 +59,22 @@ calendar_value calendar = option_map (λ pair. pair.value) calendar
 abbrev pub with_calendar : Parsed → Option (List ℕ) → Parsed
 with_calendar read calendar = record { date = read.date; time = read.time; offset = read.offset; zone = read.zone; calendar = calendar }
 
--- The text with these pairs and these answers gives the record: it is derived, no answer is refused, and the calendar is
--- that of the first calendar among the answers.
-pub record GivesRecord (reader : Reader) (text : Text) (pairs : List Pair) (answers : List Answer) (found : Parsed) : Type 0 where
+-- The text with these pairs and these replies gives the record: it is derived, no reply is refused, and the calendar is
+-- that of the first calendar among the replies.
+pub record GivesRecord (reader : Reader) (text : Text) (pairs : List Pair) (replies : List Reply) (found : Parsed) : Type 0 where
   pub read : Parsed
   pub whole : Derives reader text (parsed read) pairs
-  pub accepted : NoneRefused answers
-  pub has : found ≡ with_calendar read (calendar_value (first_calendar answers))
+  pub accepted : NoneRefused replies
+  pub has : found ≡ with_calendar read (calendar_value (first_calendar replies))
 
 -- a front of the text is derived with these pairs
 abbrev pub HasFront : Reader → Text → List Pair → Type 0
 HasFront reader text pairs = (front rest : Text) × (text ≡ front ++ rest) × (read : Parsed) × Derives reader front (parsed read) pairs
 
--- The text with these pairs and these answers gives the fault: the last answer is refused with it, behind a front that is
--- derived; or the text has it, and no answer is refused.
-abbrev pub GivesFault : Reader → Text → List Pair → List Answer → Fault → Type 0
-GivesFault reader text pairs answers fault = (HasFront reader text pairs × LastRefused answers fault) ⊎ (HasFault reader text pairs fault × NoneRefused answers)
+-- The text with these pairs and these replies gives the fault: the last reply is refused with it, behind a front that is
+-- derived; or the text has it, and no reply is refused.
+abbrev pub GivesFault : Reader → Text → List Pair → List Reply → Fault → Type 0
+GivesFault reader text pairs replies fault = (HasFront reader text pairs × LastRefused replies fault) ⊎ (HasFault reader text pairs fault × NoneRefused replies)
 
 -- ---- a handler
 
@@ -81,7 +82,7 @@ GivesFault reader text pairs answers fault = (HasFront reader text pairs × Last
 abbrev pub pair_of : {T U : Type 0} → (U → ℕ) → Annotation T U → Pair
 pair_of number annotation = record { critical = annotation.critical; key = map number annotation.key.now; value = map number annotation.value.now }
 
--- the calls of a handler: each annotation that it was handed, and its answer
+-- the calls of a handler: each annotation that it was handed, and its reply
 abbrev pub Calls : Type 0 → Type 0 → Type 0
 Calls T U = List (Annotation T U × Option (Annotation T U))
 
@@ -89,33 +90,33 @@ Calls T U = List (Annotation T U × Option (Annotation T U))
 abbrev pub handed : {T U : Type 0} → (U → ℕ) → Calls T U → List Pair
 handed number calls = map (λ call. pair_of number call.0) calls
 
--- the answers that it gave
-abbrev pub answered : {T U : Type 0} → (U → ℕ) → Calls T U → List Answer
-answered number calls = map (λ call. option_map (pair_of number) call.1) calls
+-- the replies that it gave
+abbrev pub replies_of : {T U : Type 0} → (U → ℕ) → Calls T U → List Reply
+replies_of number calls = map (λ call. option_map (pair_of number) call.1) calls
 
 -- the calls were made in turn, the first in the state `handler`, and left the state `last`
 abbrev pub IsChain : {T U F : Type 0} → (F → Annotation T U → Option (Annotation T U) → F → Type 0) → F → Calls T U → F → Type 0
 IsChain step handler calls last = FoldsTo (λ f call g. step f call.0 call.1 g) handler calls last
 
--- For one chain of calls: `Ok` exactly with the record that the text and the answers give, `Err` only with a fault that
+-- For one chain of calls: `Ok` exactly with the record that the text and the replies give, `Err` only with a fault that
 -- they give.
 pub record Handled {T U F : Type 0} (number : U → ℕ) (step : F → Annotation T U → Option (Annotation T U) → F → Type 0) (handler : F) (reader : Reader) (text : Text) (result : Result Parsed Fault) : Type 0 where
   pub calls : Calls T U
   pub last : F
   pub chain : IsChain step handler calls last
-  pub ok : (found : Parsed) → (result ≡ Ok found) ↔ GivesRecord reader text (handed number calls) (answered number calls) found
-  pub err : (fault : Fault) → result ≡ Err fault → GivesFault reader text (handed number calls) (answered number calls) fault
+  pub ok : (found : Parsed) → (result ≡ Ok found) ↔ GivesRecord reader text (handed number calls) (replies_of number calls) found
+  pub err : (fault : Fault) → result ≡ Err fault → GivesFault reader text (handed number calls) (replies_of number calls) fault
 
 -- ---- without a handler
 
--- each pair is its own answer
-abbrev pub own_answers : List Pair → List Answer
-own_answers pairs = map (λ pair. Some pair) pairs
+-- each pair is its own reply
+abbrev pub own_replies : List Pair → List Reply
+own_replies pairs = map (λ pair. Some pair) pairs
 
--- the text, whose pairs answer for themselves, gives the record
+-- the text, whose pairs reply for themselves, gives the record
 abbrev pub PlainRecord : Reader → Text → Parsed → Type 0
-PlainRecord reader text found = (pairs : List Pair) × GivesRecord reader text pairs (own_answers pairs) found
+PlainRecord reader text found = (pairs : List Pair) × GivesRecord reader text pairs (own_replies pairs) found
 
--- the text, whose pairs answer for themselves, gives the fault
+-- the text, whose pairs reply for themselves, gives the fault
 abbrev pub PlainFault : Reader → Text → Fault → Type 0
-PlainFault reader text fault = (pairs : List Pair) × GivesFault reader text pairs (own_answers pairs) fault
+PlainFault reader text fault = (pairs : List Pair) × GivesFault reader text pairs (own_replies pairs) fault

@@ -4,11 +4,12 @@
 //! cannot be, and a reader that refuses puts back the slice that it began with.
 
 ghost use Rattle.std.specs.Prelude.{◌≡◌, ℕ, ◌+◌, ◌-◌, ◌<◌, ◌≤◌, List, [], map, length, drop, None, IfOk, IsTrue};
-ghost use Rattle.ixdtf.specs.Classes.{digit};
-ghost use Rattle.ixdtf.specs.Faults.{fault_of, NonAsciiCodePoint};
-ghost use Rattle.ixdtf.specs.Answers.{Gives, Reads, Spends, Unread};
-ghost use Rattle.ixdtf.specs.CodeReadings.{end_look};
-ghost use Rattle.ixdtf.specs.ReadingLooks.{look_at, next_by, peek_by, digit_look};
+ghost use Rattle.ixdtf.specs.language.Letters.{digit};
+ghost use Rattle.ixdtf.specs.table.Faults.{fault_of, NonAsciiCodePoint};
+ghost use Rattle.ixdtf.specs.Views.{Returns, Unread};
+ghost use Rattle.ixdtf.specs.reading.Clauses.{Reads, Spends};
+ghost use Rattle.ixdtf.specs.reading.CodeReadings.{end_look};
+ghost use Rattle.ixdtf.specs.reading.Looks.{look_at, next_by, peek_by, digit_look};
 
 use crate::encoding::EncodingType;
 use crate::looks::Looks;
@@ -61,9 +62,9 @@ impl<'a, T: EncodingType> Cursor<'a, T> {
     /// Looks at the first letter of the rest: `None` at the end, the error `NonAsciiCodePoint` at a unit that stands for
     /// no letter. This is the one place that calls `get_ascii`.
     #[inline(always)]
-    #[tactic(auto, using(crate::proofs::Texts::first_look))]
+    #[tactic(auto, using(crate::proofs::code::Units::first_look))]
     pub fn look(&mut self) -> ParserResult<Option<u8>>
-        ensures letter { Gives (λ found. found) result (look_at NonAsciiCodePoint (map T.letter self.old.rest)) }
+        ensures letter { Returns (λ found. found) result (look_at NonAsciiCodePoint (map T.letter self.old.rest)) }
         ensures rest { self.new.rest ≡ self.old.rest }
         ensures looks { self.new.looks ≡ self.old.looks + 1 }
     {
@@ -73,7 +74,7 @@ impl<'a, T: EncodingType> Cursor<'a, T> {
 
     /// Takes the first unit off, where there is one.
     #[inline(always)]
-    #[tactic(auto, using(crate::proofs::Texts::texts))]
+    #[tactic(auto, using(crate::proofs::code::Units::texts))]
     pub fn step(&mut self)
         ensures rest { self.new.rest ≡ drop 1 self.old.rest }
         ensures shorter { length self.new.rest ≤ length self.old.rest }
@@ -88,7 +89,7 @@ impl<'a, T: EncodingType> Cursor<'a, T> {
     /// Takes a digit off and answers it, as an ASCII byte. The end is `AbruptEnd` at `digit`, and another letter this
     /// error; both stay.
     #[inline(always)]
-    #[tactic(auto, unfolding(crate::specs::ReadingLooks::next_by))]
+    #[tactic(auto, unfolding(crate::specs::reading::Looks::next_by))]
     pub fn next_digit(&mut self, other: ParseError) -> ParserResult<u8>
         ensures digit { Reads (λ byte. byte) (map T.letter self.old.rest) result (map T.letter self.new.rest) (next_by (digit_look (fault_of other.entry))) }
         ensures is_digit { IfOk result (λ byte. IsTrue (digit byte)) }
@@ -106,7 +107,7 @@ impl<'a, T: EncodingType> Cursor<'a, T> {
 
     /// Wants the end of the source: `InvalidEnd` at any letter.
     #[inline(always)]
-    #[tactic(auto, unfolding(crate::specs::ReadingLooks::peek_by))]
+    #[tactic(auto, unfolding(crate::specs::reading::Looks::peek_by))]
     pub fn close(&mut self) -> ParserResult<()>
         ensures end { Reads (λ _. None) (map T.letter self.old.rest) result (map T.letter self.new.rest) (peek_by end_look) }
         ensures rest { self.new.rest ≡ self.old.rest }

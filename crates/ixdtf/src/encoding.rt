@@ -5,8 +5,8 @@
 
 ghost use Rattle.std.specs.Prelude.{◌≡◌, ℕ, ◌<◌, ◌≤◌, ◌↔◌, ◌^◌, List, map, length, All, IsTrue, IsSome, IfSome, slice_range, codes};
 ghost use Rattle.std.specs.Cmp.{unsigned_Decides};
-ghost use Rattle.ixdtf.specs.Letters.{Letter, Plain, byte_letter, byte_letter-faithful};
-ghost use Rattle.ixdtf.specs.Answers.{Gives, ascii_at};
+ghost use Rattle.ixdtf.specs.language.Letters.{Letter, Plain, byte_letter, byte_letter-faithful};
+ghost use Rattle.ixdtf.specs.Views.{Returns, ascii_at};
 
 use crate::ParserResult;
 
@@ -42,7 +42,7 @@ pub trait EncodingType: private::Sealed {
     ///
     /// The error `NonAsciiCodePoint` comes exactly where the unit there stands for no letter.
     fn get_ascii(source: &[Self::CodeUnit], index: usize) -> ParserResult<Option<u8>>
-        ensures letter { Gives (λ found. found) result (ascii_at letter index (map number source.now)) }
+        ensures letter { Returns (λ found. found) result (ascii_at letter index (map number source.now)) }
         ensures small { All (λ unit. number unit < limit) source.now };
 
     /// Whether the key is `u-ca`, the key of calendars (RFC 9557 section 4.1).

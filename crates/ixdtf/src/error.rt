@@ -1,9 +1,9 @@
 //! What a text, or an answer to an annotation, can be refused for, and what is written of it.
 
 ghost use Rattle.std.specs.Prelude.{◌≡◌};
-ghost use Rattle.ixdtf.specs.Faults.{fault_of};
-ghost use Rattle.ixdtf.specs.ErrorTexts.{text_of};
-ghost use Rattle.ixdtf.specs.ErrorEquality.{place_of, location_of};
+ghost use Rattle.ixdtf.specs.table.Faults.{fault_of};
+ghost use Rattle.ixdtf.specs.table.ErrorTexts.{text_of};
+ghost use Rattle.ixdtf.specs.table.ErrorEquality.{place_of, location_of};
 
 use std::fmt;
 
@@ -254,8 +254,8 @@ impl<'s> ParseError<'s> {
 
 impl<'s> PartialEq for ParseError<'s> {
     ghost use Rattle.std.specs.Prelude.{◌≡◌, ◌↔◌, IsTrue};
-    ghost use Rattle.ixdtf.specs.Faults.{fault_of};
-    ghost use Rattle.ixdtf.specs.ErrorEquality.{same_error, same_error-laws};
+    ghost use Rattle.ixdtf.specs.table.Faults.{fault_of};
+    ghost use Rattle.ixdtf.specs.table.ErrorEquality.{same_error, same_error-laws};
 
     ghost eq = { same_error };
 
@@ -274,8 +274,8 @@ impl<'s> PartialEq for ParseError<'s> {
 // heeds no width and no fill.
 impl<'s> fmt::Display for ParseError<'s> {
     ghost use Rattle.std.specs.Prelude.{Some};
-    ghost use Rattle.ixdtf.specs.Faults.{fault_of};
-    ghost use Rattle.ixdtf.specs.ErrorTexts.{message_of};
+    ghost use Rattle.ixdtf.specs.table.Faults.{fault_of};
+    ghost use Rattle.ixdtf.specs.table.ErrorTexts.{message_of};
 
     ghost output = { λ e. Some (message_of (fault_of e)) };
 

@@ -1,8 +1,8 @@
 //! What follows for some handlers.
 
 ghost use Rattle.std.specs.Prelude.{◌≡◌, ◌≢◌, IfOk, IfErr, None};
-ghost use Rattle.ixdtf.specs.Faults.{fault_of};
-ghost use Rattle.ixdtf.specs.Faults.Fault.{CriticalDuplicateCalendar, UnrecognizedCritical};
+ghost use Rattle.ixdtf.specs.table.Faults.{fault_of};
+ghost use Rattle.ixdtf.specs.table.Faults.Fault.{CriticalDuplicateCalendar, UnrecognizedCritical};
 
 use crate::encoding::EncodingType;
 use crate::error;

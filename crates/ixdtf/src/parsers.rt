@@ -5,13 +5,14 @@
 //! this error fits the source, or an answer is refused with it.
 
 ghost use Rattle.std.specs.Prelude.{◌≡◌, ◌↔◌, ℕ, ◌+◌, ◌≤◌, List, [], map, Ok, OnOk, OnErr, IfErr, IsFalse};
-ghost use Rattle.ixdtf.specs.Faults.{fault_of, never_comes};
+ghost use Rattle.ixdtf.specs.table.Faults.{fault_of, never_comes};
 ghost use Rattle.ixdtf.specs.declared.records.UtcOffsetRecord.{UtcOffsetRecord};
-ghost use Rattle.ixdtf.specs.Readers.Reader.{parse as reader_parse, parse_offset as reader_parse_offset, parse_identifier as reader_parse_identifier, parse_iana_identifier as reader_parse_iana_identifier};
-ghost use Rattle.ixdtf.specs.ZoneNames.{Zone};
-ghost use Rattle.ixdtf.specs.Languages.{Parsed, shifted, identified, named, Derives, HasFault};
+ghost use Rattle.ixdtf.specs.language.Readers.Reader.{parse as reader_parse, parse_offset as reader_parse_offset, parse_identifier as reader_parse_identifier, parse_iana_identifier as reader_parse_iana_identifier};
+ghost use Rattle.ixdtf.specs.language.ZoneNames.{Zone};
+ghost use Rattle.ixdtf.specs.language.Languages.{Parsed, shifted, identified, named, Derives};
+ghost use Rattle.ixdtf.specs.table.Outcomes.{HasFault};
 ghost use Rattle.ixdtf.specs.Handlers.{Handled, PlainRecord, PlainFault};
-ghost use Rattle.ixdtf.specs.Answers.{Unread, answer_of, parsed_of, zone_of, most_looks};
+ghost use Rattle.ixdtf.specs.Views.{Unread, returned, parsed_of, zone_of, most_looks};
 
 mod annotations;
 mod datetime;
@@ -136,7 +137,7 @@ impl<'a, T: EncodingType> IxdtfParser<'a, T> {
     /// - `NonAsciiCodePoint` at a unit that stands for no letter, which no 8-bit unit does.
     pub fn parse(&mut self) -> ParserResult<IxdtfParseRecord<'a, T>>
         // `Ok` exactly with the record that the text gives, where each pair answers for itself.
-        ensures ok { (p : Parsed) → (answer_of (parsed_of T.number) result ≡ Ok p) ↔ PlainRecord reader_parse (map T.letter self.old.rest) p }
+        ensures ok { (p : Parsed) → (returned (parsed_of T.number) result ≡ Ok p) ↔ PlainRecord reader_parse (map T.letter self.old.rest) p }
         // `Err` only with a fault that it gives so.
         ensures err { IfErr result (λ e. PlainFault reader_parse (map T.letter self.old.rest) (fault_of e)) }
 
@@ -182,7 +183,7 @@ impl<'a, T: EncodingType> IxdtfParser<'a, T> {
         requires callable { F.IsAlwaysCallable handler }
         // For the one chain of its calls: `Ok` exactly with the record, and `Err` only with a fault, that the text and the
         // answers give.
-        ensures handled { Handled T.number F.step handler reader_parse (map T.letter self.old.rest) (answer_of (parsed_of T.number) result) }
+        ensures handled { Handled T.number F.step handler reader_parse (map T.letter self.old.rest) (returned (parsed_of T.number) result) }
 
         // None of the errors that no reader gives.
         ensures comes { IfErr result (λ e. IsFalse (never_comes (fault_of e))) }
@@ -273,7 +274,7 @@ impl<'a, T: EncodingType> TimeZoneParser<'a, T> {
     /// - `NonAsciiCodePoint` at a unit that stands for no letter, which no 8-bit unit does.
     pub fn parse_identifier(&mut self) -> ParserResult<TimeZoneRecord<'a, T>>
         // `Ok` exactly where the language derives the zone.
-        ensures ok { (zone : Zone) → (answer_of (zone_of T.number) result ≡ Ok zone) ↔ Derives reader_parse_identifier (map T.letter self.old.rest) (identified zone) [] }
+        ensures ok { (zone : Zone) → (returned (zone_of T.number) result ≡ Ok zone) ↔ Derives reader_parse_identifier (map T.letter self.old.rest) (identified zone) [] }
         // `Err` only where a row of the fault table with this error fits.
         ensures err { IfErr result (λ e. HasFault reader_parse_identifier (map T.letter self.old.rest) [] (fault_of e)) }
 
@@ -322,7 +323,7 @@ impl<'a, T: EncodingType> TimeZoneParser<'a, T> {
     /// - `NonAsciiCodePoint` at a unit that stands for no letter, which no 8-bit unit does.
     pub fn parse_offset(&mut self) -> ParserResult<UtcOffsetRecord>
         // `Ok` exactly where the language derives the offset.
-        ensures ok { (offset : UtcOffsetRecord) → (answer_of (λ offset. offset) result ≡ Ok offset) ↔ Derives reader_parse_offset (map T.letter self.old.rest) (shifted offset) [] }
+        ensures ok { (offset : UtcOffsetRecord) → (returned (λ offset. offset) result ≡ Ok offset) ↔ Derives reader_parse_offset (map T.letter self.old.rest) (shifted offset) [] }
         // `Err` only where a row of the fault table with this error fits.
         ensures err { IfErr result (λ e. HasFault reader_parse_offset (map T.letter self.old.rest) [] (fault_of e)) }
 
@@ -363,7 +364,7 @@ impl<'a, T: EncodingType> TimeZoneParser<'a, T> {
     /// - `NonAsciiCodePoint` at a unit that stands for no letter, which no 8-bit unit does.
     pub fn parse_iana_identifier(&mut self) -> ParserResult<&'a [T::CodeUnit]>
         // `Ok` exactly where the language derives the name.
-        ensures ok { (name : List ℕ) → (answer_of (λ units. map T.number units.now) result ≡ Ok name) ↔ Derives reader_parse_iana_identifier (map T.letter self.old.rest) (named name) [] }
+        ensures ok { (name : List ℕ) → (returned (λ units. map T.number units.now) result ≡ Ok name) ↔ Derives reader_parse_iana_identifier (map T.letter self.old.rest) (named name) [] }
         // `Err` only where a row of the fault table with this error fits.
         ensures err { IfErr result (λ e. HasFault reader_parse_iana_identifier (map T.letter self.old.rest) [] (fault_of e)) }
 

@@ -1,7 +1,7 @@
 //! The records that the readers answer: dates, times, offsets, time zones and fractions of a second.
 
 ghost use Rattle.std.specs.Prelude.{◌≡◌, ◌+◌, ◌-◌, ◌*◌, ◌<◌, ◌≤◌, ◌^◌, min};
-ghost use Rattle.ixdtf.specs.Fractions.{FractionParts, nanoseconds_of};
+ghost use Rattle.ixdtf.specs.language.Fractions.{FractionParts, nanoseconds_of};
 
 use crate::encoding::EncodingType;
 use std::marker::Model;
@@ -93,7 +93,7 @@ pub enum Sign {
 }
 
 impl From<bool> for Sign {
-    ghost use Rattle.ixdtf.specs.OffsetRecords.{sign_for};
+    ghost use Rattle.ixdtf.specs.language.OffsetRecords.{sign_for};
 
     ghost from_gives = { λ forwards sign. sign ≡ sign_for forwards };
 
@@ -121,7 +121,7 @@ pub struct MinutePrecisionOffset {
 }
 
 impl MinutePrecisionOffset {
-    ghost use Rattle.ixdtf.specs.OffsetRecords.{zero_offset};
+    ghost use Rattle.ixdtf.specs.language.OffsetRecords.{zero_offset};
 
     /// `+00:00`: local time is UTC (RFC 3339, section 5.6).
     pub const fn zero() -> MinutePrecisionOffset
@@ -158,7 +158,7 @@ pub enum UtcOffsetRecord {
 
 impl UtcOffsetRecord {
     ghost use Rattle.ixdtf.specs.declared.records.UtcOffsetRecord.TheVariants.{MinutePrecision};
-    ghost use Rattle.ixdtf.specs.OffsetRecords.{is_minute_precision, zero_offset, minute_part_of, second_of, fraction_of_offset};
+    ghost use Rattle.ixdtf.specs.language.OffsetRecords.{is_minute_precision, zero_offset, minute_part_of, second_of, fraction_of_offset};
 
     /// Whether the offset was written without seconds (as `time-numoffset` of RFC 3339, section 5.6).
     pub fn is_minute_precision(&self) -> bool
@@ -237,7 +237,7 @@ pub enum UtcOffsetRecordOrZ {
 }
 
 impl UtcOffsetRecordOrZ {
-    ghost use Rattle.ixdtf.specs.OffsetRecords.{resolved_offset};
+    ghost use Rattle.ixdtf.specs.language.OffsetRecords.{resolved_offset};
 
     /// The offset in numbers, and `-00:00` for `Z`: both say that UTC is known and the local offset is not (RFC 9557,
     /// section 2).

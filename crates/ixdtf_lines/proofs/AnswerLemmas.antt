@@ -3,9 +3,9 @@ use Rattle.std.proofs.Common.{◌≡◌, ℕ, ◌+◌, ◌-◌, ◌<◌, ◌≤�
 use Rattle.std.proofs.lemmas.Bool.{lt-ltb, le-ltb}
 use Rattle.std.proofs.lemmas.List.{take_all, length-drop}
 use Rattle.std.specs.Bool.{MatchBool}
-use Rattle.ixdtf.specs.Faults.{Fault}
-use Rattle.ixdtf.specs.Languages.{Found}
-use Rattle.ixdtf.specs.Readers.{Reader}
+use Rattle.ixdtf.specs.table.Faults.{Fault}
+use Rattle.ixdtf.specs.language.Languages.{Found}
+use Rattle.ixdtf.specs.language.Readers.{Reader}
 use Rattle.ixdtf_lines.specs.Answer.{line_limit, too_long, unknown_reader, is_space, letters, ok_answer_of, error_answer_of, Gives, Refuses, IsAnswer, IsReaderAnswer, IsOutcome}
 use Rattle.ixdtf_lines.specs.Word.{word_named, reader_of}
 

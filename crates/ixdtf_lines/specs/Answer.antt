@@ -1,14 +1,15 @@
 -- The answer to one line, without its newline.
 use Rattle.std.specs.Prelude.{◌≡◌, ℕ, ◌+◌, Bool, ◌==◌, ◌⊎◌, List, [], ◌++◌, map, length, take, drop, nat_lt, MatchOption, position, codes}
 use Rattle.std.specs.Bool.{MatchBool}
-use Rattle.ixdtf.specs.ErrorTexts.{message_of}
-use Rattle.ixdtf.specs.Faults.{Fault}
+use Rattle.ixdtf.specs.table.ErrorTexts.{message_of}
+use Rattle.ixdtf.specs.table.Faults.{Fault}
 use Rattle.ixdtf.specs.Handlers.{PlainRecord, PlainFault}
-use Rattle.ixdtf.specs.Languages.{Found, Derives, HasFault}
-use Rattle.ixdtf.specs.Languages.Found.{parsed}
-use Rattle.ixdtf.specs.Letters.{Text, byte_letter}
-use Rattle.ixdtf.specs.Readers.{Reader}
-use Rattle.ixdtf.specs.Readers.Reader.{parse}
+use Rattle.ixdtf.specs.language.Languages.{Found, Derives}
+use Rattle.ixdtf.specs.table.Outcomes.{HasFault}
+use Rattle.ixdtf.specs.language.Languages.Found.{parsed}
+use Rattle.ixdtf.specs.language.Letters.{Text, byte_letter}
+use Rattle.ixdtf.specs.language.Readers.{Reader}
+use Rattle.ixdtf.specs.language.Readers.Reader.{parse}
 use Rattle.ixdtf_lines.specs.Fields.{fields_of}
 use Rattle.ixdtf_lines.specs.Word.{word_named, reader_of}
 

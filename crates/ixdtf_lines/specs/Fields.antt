@@ -11,12 +11,12 @@ use Rattle.ixdtf.specs.declared.records.UtcOffsetRecord.{UtcOffsetRecord}
 use Rattle.ixdtf.specs.declared.records.UtcOffsetRecord.TheVariants as offsets
 use Rattle.ixdtf.specs.declared.records.UtcOffsetRecordOrZ.{UtcOffsetRecordOrZ}
 use Rattle.ixdtf.specs.declared.records.UtcOffsetRecordOrZ.TheVariants as shifts
-use Rattle.ixdtf.specs.Fractions.{FractionParts, nanoseconds_of}
-use Rattle.ixdtf.specs.Brackets.{ZoneNote}
-use Rattle.ixdtf.specs.Languages.{Parsed, Found}
-use Rattle.ixdtf.specs.Languages.Found.{parsed, shifted, identified, named}
-use Rattle.ixdtf.specs.ZoneNames.{Zone}
-use Rattle.ixdtf.specs.ZoneNames.Zone.{Name, Offset}
+use Rattle.ixdtf.specs.language.Fractions.{FractionParts, nanoseconds_of}
+use Rattle.ixdtf.specs.language.Brackets.{ZoneNote}
+use Rattle.ixdtf.specs.language.Languages.{Parsed, Found}
+use Rattle.ixdtf.specs.language.Languages.Found.{parsed, shifted, identified, named}
+use Rattle.ixdtf.specs.language.ZoneNames.{Zone}
+use Rattle.ixdtf.specs.language.ZoneNames.Zone.{Name, Offset}
 use Rattle.ixdtf_lines.specs.Digits.{nine_digits_of}
 
 -- `,`

@@ -1,8 +1,8 @@
 -- What the readers find, as the grammar says it.
 use Rattle.std.specs.Prelude.{map}
-use Rattle.ixdtf.specs.Answers.{parsed_of, zone_of}
-use Rattle.ixdtf.specs.Languages.{Found}
-use Rattle.ixdtf.specs.Languages.Found.{parsed, shifted, identified, named}
+use Rattle.ixdtf.specs.Views.{parsed_of, zone_of}
+use Rattle.ixdtf.specs.language.Languages.{Found}
+use Rattle.ixdtf.specs.language.Languages.Found.{parsed, shifted, identified, named}
 use Rattle.ixdtf_lines.specs.declared.found.Found.{Found as FoundInCode}
 use Rattle.ixdtf_lines.specs.declared.found.Found.TheVariants.{Record, Offset, Zone, Name}
 

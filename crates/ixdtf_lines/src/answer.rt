@@ -1,7 +1,7 @@
 //! The answer to a line.
 ghost use Rattle.std.specs.Prelude.{◌≡◌, ℕ, List, [], ◌∷◌, ◌++◌, ◌≤◌, length, position, codes};
-ghost use Rattle.ixdtf.specs.ErrorTexts.{message_of};
-ghost use Rattle.ixdtf.specs.Faults.{fault_of};
+ghost use Rattle.ixdtf.specs.table.ErrorTexts.{message_of};
+ghost use Rattle.ixdtf.specs.table.Faults.{fault_of};
 ghost use Rattle.ixdtf_lines.specs.Answer.{IsAnswer, IsReaderAnswer, IsOutcome, is_space, ok_answer_of, error_answer_of};
 ghost use Rattle.ixdtf_lines.specs.Found.{found_of};
 ghost use Rattle.ixdtf_lines.specs.Line.{Holds};

@@ -1,7 +1,7 @@
 //! The fields of what a reader found.
 ghost use Rattle.std.specs.Prelude.{◌≡◌, ◌++◌, ◌∷◌, codes, map, option_map};
 ghost use Rattle.std.specs.Fmt.{decimal};
-ghost use Rattle.ixdtf.specs.Answers.{parsed_of, note_of, zone_of};
+ghost use Rattle.ixdtf.specs.Views.{parsed_of, note_of, zone_of};
 ghost use Rattle.ixdtf_lines.specs.Fields.{comma, fields_of, record_fields_of, date_field_of, date_text_of, time_field_of, time_text_of, clock_text_of, fraction_text_of};
 ghost use Rattle.ixdtf_lines.specs.Fields.{sign_text_of, minute_offset_text_of, full_offset_text_of, offset_numbers_of, offset_text_of, offset_or_z_text_of, offset_field_of};
 ghost use Rattle.ixdtf_lines.specs.Fields.{name_or_offset_of, critical_text_of, zone_text_of, zone_field_of, calendar_field_of};

@@ -1,7 +1,7 @@
 //! What the readers find.
 ghost use Rattle.std.specs.Prelude.{IfOk, IfErr};
-ghost use Rattle.ixdtf.specs.Faults.{fault_of};
-ghost use Rattle.ixdtf.specs.Readers.Reader.{parse as parse_reader, parse_offset as offset_reader, parse_identifier as zone_reader, parse_iana_identifier as iana_reader};
+ghost use Rattle.ixdtf.specs.table.Faults.{fault_of};
+ghost use Rattle.ixdtf.specs.language.Readers.Reader.{parse as parse_reader, parse_offset as offset_reader, parse_identifier as zone_reader, parse_iana_identifier as iana_reader};
 ghost use Rattle.ixdtf_lines.specs.Answer.{letters, Gives, Refuses};
 ghost use Rattle.ixdtf_lines.specs.Found.{found_of};
 ghost use Rattle.ixdtf_lines.specs.Word.{reader_of};

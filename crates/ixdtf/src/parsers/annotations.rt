@@ -2,16 +2,17 @@
 
 ghost use Rattle.std.specs.Prelude.{◌≡◌, ◌+◌, ◌≤◌, ◌<◌, ◌*◌, ◌||◌, ◌↔◌, [], ◌∷◌, map, length, option_map, Some, None, IsTrue, OnOk, IfOk, IfErr, IsSome};
 ghost use Rattle.std.specs.Option.{option_or};
-ghost use Rattle.ixdtf.specs.Classes.{equals, closing, key_char};
-ghost use Rattle.ixdtf.specs.Faults.{fault_of, Fault};
-ghost use Rattle.ixdtf.specs.Answers.{Gives, Reads, Spends, answer_of};
-ghost use Rattle.ixdtf.specs.CodeReadings.{next_pair_at};
-ghost use Rattle.ixdtf.specs.ReadingLooks.{error_of};
-ghost use Rattle.ixdtf.specs.ReadingPairs.{key_run, value_run, value_step, value_end, value_other, pair_at, critical_pair_at, later_pair_at, at_start};
-ghost use Rattle.ixdtf.specs.ReadingBrackets.{sight_at, name_or_pair_at, inside_at, critical_bracket_at, bracket_at};
+ghost use Rattle.ixdtf.specs.language.Letters.{equals, closing, key_char};
+ghost use Rattle.ixdtf.specs.table.Faults.{fault_of, Fault};
+ghost use Rattle.ixdtf.specs.Views.{Returns, returned};
+ghost use Rattle.ixdtf.specs.reading.Clauses.{Reads, Spends};
+ghost use Rattle.ixdtf.specs.reading.CodeReadings.{next_pair_at};
+ghost use Rattle.ixdtf.specs.reading.Looks.{error_of};
+ghost use Rattle.ixdtf.specs.reading.Pairs.{key_run, value_run, value_step, value_end, value_other, pair_at, critical_pair_at, later_pair_at, at_start};
+ghost use Rattle.ixdtf.specs.reading.Brackets.{sight_at, name_or_pair_at, inside_at, critical_bracket_at, bracket_at};
 ghost use Rattle.ixdtf.specs.Handlers.{RefusedBeside, first_calendar, pair_of};
-ghost use Rattle.ixdtf.specs.Chains.{AnsweredPairs, first_pairs};
-ghost use Rattle.ixdtf.specs.CodeViews.{bracket_of, state_of, step_of};
+ghost use Rattle.ixdtf.specs.reading.Chains.{PairsRead, first_pairs};
+ghost use Rattle.ixdtf.specs.reading.CodeViews.{bracket_of, state_of, step_of};
 
 use crate::cursor::Cursor;
 use crate::encoding::EncodingType;
@@ -142,7 +143,7 @@ pub fn parse_annotation_value<'a, T: EncodingType>(
 
 /// Reads a key, `=`, a value and `]`.
 #[inline(always)]
-#[tactic(auto, unfolding(crate::specs::ReadingPairs::pair_at))]
+#[tactic(auto, unfolding(crate::specs::reading::Pairs::pair_at))]
 fn parse_pair<'a, T: EncodingType>(
     cursor: &mut Cursor<'a, T>,
     critical: bool,
@@ -163,7 +164,7 @@ fn parse_pair<'a, T: EncodingType>(
 
 /// Reads a pair after the `[` of a bracket after others.
 #[inline(always)]
-#[tactic(auto, unfolding(crate::specs::ReadingPairs::later_pair_at, crate::specs::ReadingLooks::next_by))]
+#[tactic(auto, unfolding(crate::specs::reading::Pairs::later_pair_at, crate::specs::reading::Looks::next_by))]
 fn parse_later_pair<'a, T: EncodingType>(
     cursor: &mut Cursor<'a, T>,
 ) -> ParserResult<Annotation<'a, T>>
@@ -184,7 +185,7 @@ fn parse_later_pair<'a, T: EncodingType>(
 
 /// Reads a pair after the `[` and the `!` of a bracket after others.
 #[inline(always)]
-#[tactic(auto, unfolding(crate::specs::ReadingPairs::critical_pair_at, crate::specs::ReadingLooks::next_by))]
+#[tactic(auto, unfolding(crate::specs::reading::Pairs::critical_pair_at, crate::specs::reading::Looks::next_by))]
 fn parse_critical_pair<'a, T: EncodingType>(
     cursor: &mut Cursor<'a, T>,
 ) -> ParserResult<Annotation<'a, T>>
@@ -201,7 +202,7 @@ fn parse_critical_pair<'a, T: EncodingType>(
 
 /// Reads the next pair after whole brackets, or `None` at the end.
 #[inline(always)]
-#[tactic(auto, unfolding(crate::specs::CodeReadings::next_pair_at, crate::specs::ReadingLooks::peek_by))]
+#[tactic(auto, unfolding(crate::specs::reading::CodeReadings::next_pair_at, crate::specs::reading::Looks::peek_by))]
 fn next_annotation<'a, T: EncodingType>(
     cursor: &mut Cursor<'a, T>,
 ) -> ParserResult<Option<Annotation<'a, T>>>
@@ -285,7 +286,7 @@ pub fn parse_annotations<'a, 's, T: EncodingType, F>(
 where
     F: FnMut(Annotation<'a, T>) -> Option<Annotation<'a, T>>,
     requires callable { F.IsAlwaysCallable handler.old }
-    ensures pairs { AnsweredPairs T.number F.step handler.old handler.new (first_pairs (option_map (pair_of T.number) first.entry)) (map T.letter cursor.old.rest) (answer_of (option_map (pair_of T.number)) result) }
+    ensures pairs { PairsRead T.number F.step handler.old handler.new (first_pairs (option_map (pair_of T.number) first.entry)) (map T.letter cursor.old.rest) (returned (option_map (pair_of T.number)) result) }
     ensures empty { OnOk result (cursor.new.rest ≡ []) }
     ensures looks { cursor.new.looks + length cursor.new.rest ≤ cursor.old.looks + 2 * length cursor.old.rest + 7 }
 {
@@ -311,7 +312,7 @@ pub enum Bracket<'a, T: EncodingType> {
 }
 
 /// Reads a first bracket after its `[`.
-#[tactic(auto, unfolding(crate::specs::ReadingBrackets::bracket_at, crate::specs::ReadingLooks::next_by))]
+#[tactic(auto, unfolding(crate::specs::reading::Brackets::bracket_at, crate::specs::reading::Looks::next_by))]
 pub fn parse_first_bracket<'a, T: EncodingType>(
     cursor: &mut Cursor<'a, T>,
 ) -> ParserResult<Bracket<'a, T>>
@@ -335,7 +336,7 @@ pub fn parse_first_bracket<'a, T: EncodingType>(
 
 /// Reads a first bracket after its `[` and `!`.
 #[inline(always)]
-#[tactic(auto, unfolding(crate::specs::ReadingBrackets::critical_bracket_at, crate::specs::ReadingLooks::next_by))]
+#[tactic(auto, unfolding(crate::specs::reading::Brackets::critical_bracket_at, crate::specs::reading::Looks::next_by))]
 fn parse_critical_bracket<'a, T: EncodingType>(
     cursor: &mut Cursor<'a, T>,
 ) -> ParserResult<Bracket<'a, T>>
@@ -355,7 +356,7 @@ fn parse_critical_bracket<'a, T: EncodingType>(
 
 /// Reads what stands in a first bracket from its first letter on, and its `]`.
 #[inline(always)]
-#[tactic(auto, using(crate::proofs::CodeLemmas::offset_in_bracket_is), unfolding(crate::specs::ReadingBrackets::inside_at))]
+#[tactic(auto, using(crate::proofs::code::CodeLemmas::offset_in_bracket_is), unfolding(crate::specs::reading::Brackets::inside_at))]
 fn parse_inside<'a, T: EncodingType>(
     cursor: &mut Cursor<'a, T>,
     critical: bool,
@@ -378,7 +379,7 @@ fn parse_inside<'a, T: EncodingType>(
 
 /// Reads a pair where an `=` comes before any `]`, else a name, and the bracket's `]`.
 #[inline(always)]
-#[tactic(auto, unfolding(crate::specs::ReadingBrackets::name_or_pair_at))]
+#[tactic(auto, unfolding(crate::specs::reading::Brackets::name_or_pair_at))]
 fn parse_name_or_pair<'a, T: EncodingType>(
     cursor: &mut Cursor<'a, T>,
     critical: bool,
@@ -407,7 +408,7 @@ fn ends_key(byte: u8) -> bool
 
 /// Looks ahead whether an `=` comes before any `]`. Where neither comes it is `AbruptEnd`. Nothing is taken off.
 fn is_pair_ahead<'a, T: EncodingType>(cursor: &mut Cursor<'a, T>) -> ParserResult<bool>
-    ensures sight { Gives (λ pair. pair) result (sight_at error_of (map T.letter cursor.old.rest)) }
+    ensures sight { Returns (λ pair. pair) result (sight_at error_of (map T.letter cursor.old.rest)) }
     ensures rest { OnOk result (cursor.new.rest ≡ cursor.old.rest) }
     ensures looks { Spends (length cursor.old.rest + 1) cursor.old cursor.new }
 {

@@ -1,18 +1,19 @@
 //! Reading dates, and dates with a time, an offset and a zone.
 
 ghost use Rattle.std.specs.Prelude.{◌≡◌, ◌∷◌, [], ◌&&◌, ◌+◌, ◌*◌, ◌-◌, ◌<◌, ◌≤◌, map, nat_le, length, IsTrue, IfOk, OnOk, option_map};
-ghost use Rattle.ixdtf.specs.Classes.{digit, sign};
-ghost use Rattle.ixdtf.specs.Digits.{decimal};
-ghost use Rattle.ixdtf.specs.Dates.{is_leap, month_length};
-ghost use Rattle.ixdtf.specs.Cores.{core_of};
-ghost use Rattle.ixdtf.specs.Faults.Fault.{DateExtendedYear, InvalidMonthRange, InvalidDayRange};
-ghost use Rattle.ixdtf.specs.Languages.{parsed_with};
+ghost use Rattle.ixdtf.specs.language.Letters.{digit, sign};
+ghost use Rattle.ixdtf.specs.language.Digits.{decimal};
+ghost use Rattle.ixdtf.specs.language.Dates.{is_leap, month_length};
+ghost use Rattle.ixdtf.specs.language.Cores.{core_of};
+ghost use Rattle.ixdtf.specs.table.Faults.Fault.{DateExtendedYear, InvalidMonthRange, InvalidDayRange};
+ghost use Rattle.ixdtf.specs.language.Languages.{parsed_with};
 ghost use Rattle.ixdtf.specs.Handlers.{with_calendar, calendar_value, pair_of};
-ghost use Rattle.ixdtf.specs.Chains.{AnsweredText, AnsweredAfter};
-ghost use Rattle.ixdtf.specs.Answers.{Reads, Spends, Checks, answer_of, parsed_of, note_of, most_looks};
-ghost use Rattle.ixdtf.specs.CodeReadings.{core_by, time_core_by, after_time_by};
-ghost use Rattle.ixdtf.specs.ReadingLooks.{error_of, number_of, digits_by, digit_look};
-ghost use Rattle.ixdtf.specs.ReadingDates.{date_of, year_at, plain_year_at, extended_year_at, date_at, after_year_at, hyphened_date_at, plain_date_at, after_hyphened_month_at, after_plain_month_at};
+ghost use Rattle.ixdtf.specs.reading.Chains.{TextRead, TextReadAfter};
+ghost use Rattle.ixdtf.specs.reading.Clauses.{Reads, Spends, Checks};
+ghost use Rattle.ixdtf.specs.Views.{returned, parsed_of, note_of, most_looks};
+ghost use Rattle.ixdtf.specs.reading.CodeReadings.{core_by, time_core_by, after_time_by};
+ghost use Rattle.ixdtf.specs.reading.Looks.{error_of, number_of, digits_by, digit_look};
+ghost use Rattle.ixdtf.specs.reading.Dates.{date_of, year_at, plain_year_at, extended_year_at, date_at, after_year_at, hyphened_date_at, plain_date_at, after_hyphened_month_at, after_plain_month_at};
 
 use crate::cursor::Cursor;
 use crate::encoding::EncodingType;
@@ -64,7 +65,7 @@ pub fn parse_date_time<'a, 's, T: EncodingType, F>(
 where
     F: FnMut(Annotation<'a, T>) -> Option<Annotation<'a, T>>,
     requires callable { F.IsAlwaysCallable handler.old }
-    ensures answered { AnsweredText T.number F.step handler.old handler.new (map T.letter cursor.old.rest) (answer_of (parsed_of T.number) result) }
+    ensures answered { TextRead T.number F.step handler.old handler.new (map T.letter cursor.old.rest) (returned (parsed_of T.number) result) }
     ensures empty { OnOk result (cursor.new.rest ≡ []) }
     ensures looks { cursor.new.looks ≤ cursor.old.looks + most_looks cursor.old.rest }
 {
@@ -90,7 +91,7 @@ fn parse_brackets<'a, 's, T: EncodingType, F>(
 where
     F: FnMut(Annotation<'a, T>) -> Option<Annotation<'a, T>>,
     requires callable { F.IsAlwaysCallable handler.old }
-    ensures answered { AnsweredAfter T.number F.step handler.old handler.new (core_of core.date core.time core.offset) (map T.letter cursor.old.rest) (answer_of (parsed_of T.number) result) }
+    ensures answered { TextReadAfter T.number F.step handler.old handler.new (core_of core.date core.time core.offset) (map T.letter cursor.old.rest) (returned (parsed_of T.number) result) }
     ensures empty { OnOk result (cursor.new.rest ≡ []) }
     ensures looks { cursor.new.looks ≤ cursor.old.looks + 3 * length cursor.old.rest + 24 }
 {
@@ -107,7 +108,7 @@ where
 }
 
 /// Reads a date, and a time and an offset where there are.
-#[tactic(auto, unfolding(crate::specs::CodeReadings::core_by))]
+#[tactic(auto, unfolding(crate::specs::reading::CodeReadings::core_by))]
 fn parse_core<'a, T: EncodingType>(cursor: &mut Cursor<'a, T>) -> ParserResult<Core>
     ensures core { Reads (λ c. core_of c.date c.time c.offset) (map T.letter cursor.old.rest) result (map T.letter cursor.new.rest) core_by }
     ensures looks { Spends 41 cursor.old cursor.new }
@@ -127,7 +128,7 @@ fn parse_core<'a, T: EncodingType>(cursor: &mut Cursor<'a, T>) -> ParserResult<C
 }
 
 /// Reads the time after a date and a separator, and an offset where there is one.
-#[tactic(auto, unfolding(crate::specs::CodeReadings::time_core_by))]
+#[tactic(auto, unfolding(crate::specs::reading::CodeReadings::time_core_by))]
 fn parse_time_core<'a, T: EncodingType>(
     cursor: &mut Cursor<'a, T>,
     date: DateRecord,
@@ -142,7 +143,7 @@ fn parse_time_core<'a, T: EncodingType>(
 }
 
 /// Reads an offset or `Z` after a date and a time, where there is one.
-#[tactic(auto, unfolding(crate::specs::CodeReadings::after_time_by))]
+#[tactic(auto, unfolding(crate::specs::reading::CodeReadings::after_time_by))]
 fn parse_after_time<'a, T: EncodingType>(
     cursor: &mut Cursor<'a, T>,
     date: DateRecord,
@@ -180,7 +181,7 @@ fn parse_after_time<'a, T: EncodingType>(
 }
 
 /// Reads a date.
-#[tactic(auto, unfolding(crate::specs::ReadingDates::date_at))]
+#[tactic(auto, unfolding(crate::specs::reading::Dates::date_at))]
 fn parse_date<'a, T: EncodingType>(cursor: &mut Cursor<'a, T>) -> ParserResult<DateRecord>
     ensures date { Reads (λ date. date) (map T.letter cursor.old.rest) result (map T.letter cursor.new.rest) (date_at error_of) }
     ensures looks { Spends 13 cursor.old cursor.new }
@@ -192,7 +193,7 @@ fn parse_date<'a, T: EncodingType>(cursor: &mut Cursor<'a, T>) -> ParserResult<D
 // ==== Years ====
 
 /// Reads a year: four digits, or a sign and six digits.
-#[tactic(auto, using(crate::proofs::DigitClasses::digit_no_sign), unfolding(crate::specs::ReadingDates::year_at, crate::specs::ReadingLooks::next_by))]
+#[tactic(auto, using(crate::proofs::code::DigitClasses::digit_no_sign), unfolding(crate::specs::reading::Dates::year_at, crate::specs::reading::Looks::next_by))]
 fn parse_date_year<'a, T: EncodingType>(cursor: &mut Cursor<'a, T>) -> ParserResult<i32>
     ensures year { Reads (λ year. year) (map T.letter cursor.old.rest) result (map T.letter cursor.new.rest) (year_at error_of) }
     ensures looks { Spends 7 cursor.old cursor.new }
@@ -212,7 +213,7 @@ fn parse_date_year<'a, T: EncodingType>(cursor: &mut Cursor<'a, T>) -> ParserRes
 }
 
 /// Reads the other three digits of a year of four.
-#[tactic(auto, unfolding(crate::specs::ReadingDates::plain_year_at, crate::specs::ReadingLooks::digits_by))]
+#[tactic(auto, unfolding(crate::specs::reading::Dates::plain_year_at, crate::specs::reading::Looks::digits_by))]
 fn parse_plain_year<'a, T: EncodingType>(
     cursor: &mut Cursor<'a, T>,
     thousands: u8,
@@ -233,7 +234,7 @@ fn parse_plain_year<'a, T: EncodingType>(
 }
 
 /// Reads the six digits of a year with a sign.
-#[tactic(auto, unfolding(crate::specs::ReadingDates::extended_year_at))]
+#[tactic(auto, unfolding(crate::specs::reading::Dates::extended_year_at))]
 fn parse_extended_year<'a, T: EncodingType>(
     cursor: &mut Cursor<'a, T>,
     sign: u8,
@@ -252,7 +253,7 @@ fn parse_extended_year<'a, T: EncodingType>(
 }
 
 /// Reads six digits, and answers their number.
-#[tactic(auto, unfolding(crate::specs::ReadingLooks::digits_by))]
+#[tactic(auto, unfolding(crate::specs::reading::Looks::digits_by))]
 fn parse_six_digits<'a, T: EncodingType>(cursor: &mut Cursor<'a, T>) -> ParserResult<u32>
     ensures number { Reads (λ number. number) (map T.letter cursor.old.rest) result (map T.letter cursor.new.rest) (λ text. number_of (digits_by (digit_look DateExtendedYear) 6 text)) }
     ensures small { IfOk result (λ number. number < 1000000) }
@@ -277,7 +278,7 @@ fn parse_six_digits<'a, T: EncodingType>(cursor: &mut Cursor<'a, T>) -> ParserRe
 // ==== Months and days ====
 
 /// Reads the month and the day after a year: with hyphens where the first one stands, else without.
-#[tactic(auto, unfolding(crate::specs::ReadingDates::after_year_at, crate::specs::ReadingLooks::next_by))]
+#[tactic(auto, unfolding(crate::specs::reading::Dates::after_year_at, crate::specs::reading::Looks::next_by))]
 fn parse_after_year<'a, T: EncodingType>(
     cursor: &mut Cursor<'a, T>,
     year: i32,
@@ -300,7 +301,7 @@ fn parse_after_year<'a, T: EncodingType>(
 }
 
 /// Reads the month after a hyphen, and the day.
-#[tactic(auto, unfolding(crate::specs::ReadingDates::hyphened_date_at, crate::specs::ReadingDates::month_in_range, crate::specs::ReadingLooks::digits_by))]
+#[tactic(auto, unfolding(crate::specs::reading::Dates::hyphened_date_at, crate::specs::reading::Dates::month_in_range, crate::specs::reading::Looks::digits_by))]
 fn parse_hyphenated_date<'a, T: EncodingType>(
     cursor: &mut Cursor<'a, T>,
     year: i32,
@@ -315,7 +316,7 @@ fn parse_hyphenated_date<'a, T: EncodingType>(
 }
 
 /// Reads the second hyphen, and the day after it.
-#[tactic(auto, unfolding(crate::specs::ReadingDates::after_hyphened_month_at, crate::specs::ReadingDates::hyphened_day_at, crate::specs::ReadingDates::day_in_range, crate::specs::ReadingLooks::next_by, crate::specs::ReadingLooks::digits_by))]
+#[tactic(auto, unfolding(crate::specs::reading::Dates::after_hyphened_month_at, crate::specs::reading::Dates::hyphened_day_at, crate::specs::reading::Dates::day_in_range, crate::specs::reading::Looks::next_by, crate::specs::reading::Looks::digits_by))]
 fn parse_hyphenated_day<'a, T: EncodingType>(
     cursor: &mut Cursor<'a, T>,
     year: i32,
@@ -334,7 +335,7 @@ fn parse_hyphenated_day<'a, T: EncodingType>(
 }
 
 /// Reads the month's second digit, and the day.
-#[tactic(auto, unfolding(crate::specs::ReadingDates::plain_date_at, crate::specs::ReadingDates::month_in_range, crate::specs::ReadingLooks::digits_by))]
+#[tactic(auto, unfolding(crate::specs::reading::Dates::plain_date_at, crate::specs::reading::Dates::month_in_range, crate::specs::reading::Looks::digits_by))]
 fn parse_plain_date<'a, T: EncodingType>(
     cursor: &mut Cursor<'a, T>,
     year: i32,
@@ -350,7 +351,7 @@ fn parse_plain_date<'a, T: EncodingType>(
 }
 
 /// Reads the day right after a month: a hyphen there is `DateSeparator`.
-#[tactic(auto, unfolding(crate::specs::ReadingDates::after_plain_month_at, crate::specs::ReadingDates::plain_day_at, crate::specs::ReadingDates::day_in_range, crate::specs::ReadingLooks::next_by, crate::specs::ReadingLooks::digits_by))]
+#[tactic(auto, unfolding(crate::specs::reading::Dates::after_plain_month_at, crate::specs::reading::Dates::plain_day_at, crate::specs::reading::Dates::day_in_range, crate::specs::reading::Looks::next_by, crate::specs::reading::Looks::digits_by))]
 fn parse_plain_day<'a, T: EncodingType>(
     cursor: &mut Cursor<'a, T>,
     year: i32,

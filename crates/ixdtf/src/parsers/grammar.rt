@@ -1,9 +1,9 @@
 //! The classes of letters that the readers tell apart.
 
 ghost use Rattle.std.specs.Prelude.{◌≡◌, ◌<◌, ◌∷◌, [], IsTrue};
-ghost use Rattle.ixdtf.specs.Classes.{digit, sign, hyphen, colon, decimal_mark, date_time_separator, zulu, opening, closing, exclamation, equals, slash, zone_lead, zone_char, key_lead, key_char, value_char};
-ghost use Rattle.ixdtf.specs.Letters.Letter.{Plain};
-ghost use Rattle.ixdtf.specs.Digits.{decimal};
+ghost use Rattle.ixdtf.specs.language.Letters.{digit, sign, hyphen, colon, decimal_mark, date_time_separator, zulu, opening, closing, exclamation, equals, slash, zone_lead, zone_char, key_lead, key_char, value_char};
+ghost use Rattle.ixdtf.specs.language.Letters.Letter.{Plain};
+ghost use Rattle.ixdtf.specs.language.Digits.{decimal};
 
 /// `+` or `-`.
 #[inline(always)]

@@ -1,14 +1,14 @@
 //! Reading times of day, and offsets after their sign, which are written as times are.
 
 ghost use Rattle.std.specs.Prelude.{◌≡◌, ◌+◌, ◌≤◌, map, nat_le, length, IsTrue, IfOk};
-ghost use Rattle.ixdtf.specs.Classes.{digit};
-ghost use Rattle.ixdtf.specs.Faults.{fault_of};
-ghost use Rattle.ixdtf.specs.FaultTable.{mixed, second_fault};
-ghost use Rattle.ixdtf.specs.Times.{greatest_second, has_seconds};
-ghost use Rattle.ixdtf.specs.Answers.{Reads, Spends, Checks};
-ghost use Rattle.ixdtf.specs.CodeReadings.{more_digits_at, precise};
-ghost use Rattle.ixdtf.specs.ReadingLooks.{error_of, next_by, digit_look};
-ghost use Rattle.ixdtf.specs.ReadingTimes.{clock_at, after_hour_at, colon_minute_at, plain_minute_at, after_colon_minute_at, after_plain_minute_at, colon_second_at, plain_second_at, after_second_at, fraction_at};
+ghost use Rattle.ixdtf.specs.language.Letters.{digit};
+ghost use Rattle.ixdtf.specs.table.Faults.{fault_of};
+ghost use Rattle.ixdtf.specs.table.Lines.{mixed, second_fault};
+ghost use Rattle.ixdtf.specs.language.Times.{greatest_second, has_seconds};
+ghost use Rattle.ixdtf.specs.reading.Clauses.{Reads, Spends, Checks};
+ghost use Rattle.ixdtf.specs.reading.CodeReadings.{more_digits_at, precise};
+ghost use Rattle.ixdtf.specs.reading.Looks.{error_of, next_by, digit_look};
+ghost use Rattle.ixdtf.specs.reading.Times.{clock_at, after_hour_at, colon_minute_at, plain_minute_at, after_colon_minute_at, after_plain_minute_at, colon_second_at, plain_second_at, after_second_at, fraction_at};
 
 use crate::cursor::Cursor;
 use crate::encoding::EncodingType;
@@ -60,7 +60,7 @@ pub struct Clocked {
 }
 
 /// Reads a time, as far as it goes.
-#[tactic(auto, unfolding(crate::specs::ReadingTimes::clock_at, crate::specs::ReadingTimes::hour_from, crate::specs::ReadingLooks::in_range, crate::specs::ReadingLooks::digits_by))]
+#[tactic(auto, unfolding(crate::specs::reading::Times::clock_at, crate::specs::reading::Times::hour_from, crate::specs::reading::Looks::in_range, crate::specs::reading::Looks::digits_by))]
 pub fn parse_clock<'a, T: EncodingType>(
     cursor: &mut Cursor<'a, T>,
     clock: Clock,
@@ -86,7 +86,7 @@ fn check_most(number: u8, greatest: u8, error: ParseError) -> ParserResult<u8>
 }
 
 /// Reads what of a time stands after its hour.
-#[tactic(auto, unfolding(crate::specs::ReadingTimes::after_hour_at))]
+#[tactic(auto, unfolding(crate::specs::reading::Times::after_hour_at))]
 fn parse_after_hour<'a, T: EncodingType>(
     cursor: &mut Cursor<'a, T>,
     clock: Clock,
@@ -117,7 +117,7 @@ fn parse_after_hour<'a, T: EncodingType>(
 }
 
 /// Reads the minute after a colon, and what of the time stands after it.
-#[tactic(auto, unfolding(crate::specs::ReadingTimes::colon_minute_at, crate::specs::ReadingLooks::in_range, crate::specs::ReadingLooks::digits_by))]
+#[tactic(auto, unfolding(crate::specs::reading::Times::colon_minute_at, crate::specs::reading::Looks::in_range, crate::specs::reading::Looks::digits_by))]
 fn parse_colon_minute<'a, T: EncodingType>(
     cursor: &mut Cursor<'a, T>,
     clock: Clock,
@@ -133,7 +133,7 @@ fn parse_colon_minute<'a, T: EncodingType>(
 }
 
 /// Reads the minute's second digit, and what of the time stands after it.
-#[tactic(auto, unfolding(crate::specs::ReadingTimes::plain_minute_at, crate::specs::ReadingLooks::in_range, crate::specs::ReadingLooks::digits_by))]
+#[tactic(auto, unfolding(crate::specs::reading::Times::plain_minute_at, crate::specs::reading::Looks::in_range, crate::specs::reading::Looks::digits_by))]
 fn parse_plain_minute<'a, T: EncodingType>(
     cursor: &mut Cursor<'a, T>,
     clock: Clock,
@@ -151,7 +151,7 @@ fn parse_plain_minute<'a, T: EncodingType>(
 
 /// Reads what of a time stands after `Hour : Min`: a digit there is an error, and a colon where no
 /// seconds may be.
-#[tactic(auto, unfolding(crate::specs::ReadingTimes::after_colon_minute_at))]
+#[tactic(auto, unfolding(crate::specs::reading::Times::after_colon_minute_at))]
 fn parse_after_colon_minute<'a, T: EncodingType>(
     cursor: &mut Cursor<'a, T>,
     clock: Clock,
@@ -181,7 +181,7 @@ fn parse_after_colon_minute<'a, T: EncodingType>(
 
 /// Reads what of a time stands after `Hour Min`: a colon there is an error, and a digit where no
 /// seconds may be.
-#[tactic(auto, unfolding(crate::specs::ReadingTimes::after_plain_minute_at))]
+#[tactic(auto, unfolding(crate::specs::reading::Times::after_plain_minute_at))]
 fn parse_after_plain_minute<'a, T: EncodingType>(
     cursor: &mut Cursor<'a, T>,
     clock: Clock,
@@ -237,7 +237,7 @@ fn check_second(second: u8, clock: Clock) -> ParserResult<u8>
 }
 
 /// Reads the second after a colon, and a fraction where there is one.
-#[tactic(auto, unfolding(crate::specs::ReadingTimes::colon_second_at, crate::specs::ReadingLooks::in_range, crate::specs::ReadingLooks::digits_by))]
+#[tactic(auto, unfolding(crate::specs::reading::Times::colon_second_at, crate::specs::reading::Looks::in_range, crate::specs::reading::Looks::digits_by))]
 fn parse_colon_second<'a, T: EncodingType>(
     cursor: &mut Cursor<'a, T>,
     clock: Clock,
@@ -254,7 +254,7 @@ fn parse_colon_second<'a, T: EncodingType>(
 }
 
 /// Reads the second's second digit, and a fraction where there is one.
-#[tactic(auto, unfolding(crate::specs::ReadingTimes::plain_second_at, crate::specs::ReadingLooks::in_range, crate::specs::ReadingLooks::digits_by))]
+#[tactic(auto, unfolding(crate::specs::reading::Times::plain_second_at, crate::specs::reading::Looks::in_range, crate::specs::reading::Looks::digits_by))]
 fn parse_plain_second<'a, T: EncodingType>(
     cursor: &mut Cursor<'a, T>,
     clock: Clock,
@@ -272,7 +272,7 @@ fn parse_plain_second<'a, T: EncodingType>(
 }
 
 /// Reads a fraction after a second, where there is one.
-#[tactic(auto, unfolding(crate::specs::ReadingTimes::after_second_at))]
+#[tactic(auto, unfolding(crate::specs::reading::Times::after_second_at))]
 fn parse_after_second<'a, T: EncodingType>(
     cursor: &mut Cursor<'a, T>,
     clock: Clock,
@@ -312,7 +312,7 @@ fn parse_after_second<'a, T: EncodingType>(
 }
 
 /// Reads the digits of a fraction after its decimal mark: `FractionPart` where there is none.
-#[tactic(auto, unfolding(crate::specs::ReadingTimes::fraction_at, crate::specs::ReadingLooks::next_by))]
+#[tactic(auto, unfolding(crate::specs::reading::Times::fraction_at, crate::specs::reading::Looks::next_by))]
 fn parse_fraction<'a, T: EncodingType>(
     cursor: &mut Cursor<'a, T>,
     clock: Clock,

@@ -1,13 +1,14 @@
 //! Reading offsets and zone names.
 
 ghost use Rattle.std.specs.Prelude.{◌≡◌, ◌+◌, ◌≤◌, map, length, true};
-ghost use Rattle.ixdtf.specs.Faults.{fault_of};
-ghost use Rattle.ixdtf.specs.Offsets.{sign_of, minutes_of, offset_of};
-ghost use Rattle.ixdtf.specs.Answers.{Reads, Spends, zone_of};
-ghost use Rattle.ixdtf.specs.CodeReadings.{offset_by, offset_alone_by, minute_offset_by, minute_offset_alone_by, offset_reader_by, identifier_by, offset_in_bracket_by, closing_look};
-ghost use Rattle.ixdtf.specs.ReadingLooks.{error_of, next_by};
-ghost use Rattle.ixdtf.specs.ReadingZones.{name_run, name_step, name_alone_at, iana_identifier_at};
-ghost use Rattle.ixdtf.specs.ReadingBrackets.{name_in_bracket_at};
+ghost use Rattle.ixdtf.specs.table.Faults.{fault_of};
+ghost use Rattle.ixdtf.specs.language.Offsets.{sign_of, minutes_of, offset_of};
+ghost use Rattle.ixdtf.specs.reading.Clauses.{Reads, Spends};
+ghost use Rattle.ixdtf.specs.Views.{zone_of};
+ghost use Rattle.ixdtf.specs.reading.CodeReadings.{offset_by, offset_alone_by, minute_offset_by, minute_offset_alone_by, offset_reader_by, identifier_by, offset_in_bracket_by, closing_look};
+ghost use Rattle.ixdtf.specs.reading.Looks.{error_of, next_by};
+ghost use Rattle.ixdtf.specs.reading.Zones.{name_run, name_step, name_alone_at, iana_identifier_at};
+ghost use Rattle.ixdtf.specs.reading.Brackets.{name_in_bracket_at};
 
 use crate::cursor::Cursor;
 use crate::encoding::EncodingType;
@@ -65,7 +66,7 @@ fn offset_from(sign: u8, time: TimeRecord, has_seconds: bool) -> UtcOffsetRecord
 }
 
 /// Reads an offset after its sign.
-#[tactic(auto, unfolding(crate::specs::CodeReadings::offset_by))]
+#[tactic(auto, unfolding(crate::specs::reading::CodeReadings::offset_by))]
 pub fn parse_utc_offset<'a, T: EncodingType>(
     cursor: &mut Cursor<'a, T>,
     sign: u8,
@@ -80,7 +81,7 @@ pub fn parse_utc_offset<'a, T: EncodingType>(
 }
 
 /// Reads an offset without seconds after its sign.
-#[tactic(auto, unfolding(crate::specs::CodeReadings::minute_offset_by))]
+#[tactic(auto, unfolding(crate::specs::reading::CodeReadings::minute_offset_by))]
 fn parse_minute_offset<'a, T: EncodingType>(
     cursor: &mut Cursor<'a, T>,
     sign: u8,
@@ -95,7 +96,7 @@ fn parse_minute_offset<'a, T: EncodingType>(
 }
 
 /// Reads an offset after its sign, and wants the end.
-#[tactic(auto, unfolding(crate::specs::CodeReadings::offset_alone_by))]
+#[tactic(auto, unfolding(crate::specs::reading::CodeReadings::offset_alone_by))]
 fn parse_offset_alone<'a, T: EncodingType>(
     cursor: &mut Cursor<'a, T>,
     sign: u8,
@@ -113,7 +114,7 @@ fn parse_offset_alone<'a, T: EncodingType>(
 }
 
 /// Reads an offset without seconds after its sign, and wants the end.
-#[tactic(auto, unfolding(crate::specs::CodeReadings::minute_offset_alone_by))]
+#[tactic(auto, unfolding(crate::specs::reading::CodeReadings::minute_offset_alone_by))]
 fn parse_minute_offset_alone<'a, T: EncodingType>(
     cursor: &mut Cursor<'a, T>,
     sign: u8,
@@ -127,7 +128,7 @@ fn parse_minute_offset_alone<'a, T: EncodingType>(
 }
 
 /// Reads an offset, and wants the end.
-#[tactic(auto, unfolding(crate::specs::CodeReadings::offset_reader_by, crate::specs::ReadingLooks::next_by))]
+#[tactic(auto, unfolding(crate::specs::reading::CodeReadings::offset_reader_by, crate::specs::reading::Looks::next_by))]
 pub fn parse_offset_text<'a, T: EncodingType>(
     cursor: &mut Cursor<'a, T>,
 ) -> ParserResult<UtcOffsetRecord>
@@ -190,7 +191,7 @@ pub fn parse_tz_name<'a, T: EncodingType>(
 }
 
 /// Reads a name, and wants the end.
-#[tactic(auto, unfolding(crate::specs::ReadingZones::name_alone_at, crate::specs::ReadingLooks::peek_by))]
+#[tactic(auto, unfolding(crate::specs::reading::Zones::name_alone_at, crate::specs::reading::Looks::peek_by))]
 fn parse_name_alone<'a, T: EncodingType>(
     cursor: &mut Cursor<'a, T>,
 ) -> ParserResult<&'a [T::CodeUnit]>
@@ -206,7 +207,7 @@ fn parse_name_alone<'a, T: EncodingType>(
 }
 
 /// Reads a name from its first letter on, and wants the end.
-#[tactic(auto, unfolding(crate::specs::ReadingZones::iana_identifier_at, crate::specs::ReadingLooks::next_by))]
+#[tactic(auto, unfolding(crate::specs::reading::Zones::iana_identifier_at, crate::specs::reading::Looks::next_by))]
 pub fn parse_iana_identifier_text<'a, T: EncodingType>(
     cursor: &mut Cursor<'a, T>,
 ) -> ParserResult<&'a [T::CodeUnit]>
@@ -220,7 +221,7 @@ pub fn parse_iana_identifier_text<'a, T: EncodingType>(
 }
 
 /// Reads a name, or an offset without seconds, and wants the end.
-#[tactic(auto, unfolding(crate::specs::CodeReadings::identifier_by, crate::specs::ReadingLooks::next_by))]
+#[tactic(auto, unfolding(crate::specs::reading::CodeReadings::identifier_by, crate::specs::reading::Looks::next_by))]
 pub fn parse_identifier_text<'a, T: EncodingType>(
     cursor: &mut Cursor<'a, T>,
 ) -> ParserResult<TimeZoneRecord<'a, T>>
@@ -247,7 +248,7 @@ pub fn parse_identifier_text<'a, T: EncodingType>(
 
 /// Wants `]`: the end is `AnnotationClose`, and another letter this error.
 #[inline(always)]
-#[tactic(auto, unfolding(crate::specs::ReadingLooks::next_by))]
+#[tactic(auto, unfolding(crate::specs::reading::Looks::next_by))]
 fn close_bracket<'a, T: EncodingType>(
     cursor: &mut Cursor<'a, T>,
     other: ParseError,
@@ -266,7 +267,7 @@ fn close_bracket<'a, T: EncodingType>(
 }
 
 /// Reads an offset after its sign, and its bracket's `]`.
-#[tactic(auto, unfolding(crate::specs::CodeReadings::offset_in_bracket_by))]
+#[tactic(auto, unfolding(crate::specs::reading::CodeReadings::offset_in_bracket_by))]
 pub fn parse_offset_in_bracket<'a, T: EncodingType>(
     cursor: &mut Cursor<'a, T>,
     sign: u8,
@@ -281,7 +282,7 @@ pub fn parse_offset_in_bracket<'a, T: EncodingType>(
 
 /// Reads a name and its bracket's `]`.
 #[inline(always)]
-#[tactic(auto, unfolding(crate::specs::ReadingBrackets::name_in_bracket_at))]
+#[tactic(auto, unfolding(crate::specs::reading::Brackets::name_in_bracket_at))]
 pub fn parse_name_in_bracket<'a, T: EncodingType>(
     cursor: &mut Cursor<'a, T>,
 ) -> ParserResult<&'a [T::CodeUnit]>

@@ -1,7 +1,7 @@
-use Rattle.ixdtf.specs.Answers.{parsed_of}
-use Rattle.ixdtf.proofs.Clauses.{each_err}
-use Rattle.ixdtf.proofs.HandledLemmas.{ignored_err}
-use Rattle.ixdtf.proofs.UnansweredLemmas.{no_calendar}
+use Rattle.ixdtf.specs.Views.{parsed_of}
+use Rattle.ixdtf.proofs.code.ReadersWithoutPairs.{each_err}
+use Rattle.ixdtf.proofs.theorems.Handled.{ignored_err}
+use Rattle.ixdtf.proofs.theorems.Unanswered.{no_calendar}
 use Rattle.ixdtf.proofs.laws.parse_unanswered.Goals as goal
 
 pub returns-clause-calendar : goal.returns-clause-calendar

@@ -1,5 +1,5 @@
 -- A text that is read, and one that is refused.
-use Rattle.ixdtf.specs.Faults.{fault_of}
+use Rattle.ixdtf.specs.table.Faults.{fault_of}
 use Rattle.ixdtf_lines.specs.Answer.{ok_answer_of, error_answer_of}
 use Rattle.ixdtf_lines.specs.Found.{found_of}
 use Rattle.ixdtf_lines.specs.Word.{reader_of}

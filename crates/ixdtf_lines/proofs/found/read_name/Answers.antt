@@ -1,8 +1,8 @@
 -- What was given, and what was refused.
 use Rattle.std.proofs.Common.{refl, map}
-use Rattle.ixdtf.specs.Faults.{fault_of}
-use Rattle.ixdtf.specs.Languages.Found.{named}
-use Rattle.ixdtf.specs.Readers.Reader.{parse_iana_identifier}
+use Rattle.ixdtf.specs.table.Faults.{fault_of}
+use Rattle.ixdtf.specs.language.Languages.Found.{named}
+use Rattle.ixdtf.specs.language.Readers.Reader.{parse_iana_identifier}
 use Rattle.ixdtf_lines.proofs.AnswerLemmas.{Gives-text, Refuses-text}
 use Rattle.ixdtf_lines.proofs.found.read_name.Goals as goal
 

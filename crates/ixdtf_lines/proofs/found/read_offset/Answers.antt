@@ -1,8 +1,8 @@
 -- What was given, and what was refused.
 use Rattle.std.proofs.Common.{refl}
-use Rattle.ixdtf.specs.Faults.{fault_of}
-use Rattle.ixdtf.specs.Languages.Found.{shifted}
-use Rattle.ixdtf.specs.Readers.Reader.{parse_offset}
+use Rattle.ixdtf.specs.table.Faults.{fault_of}
+use Rattle.ixdtf.specs.language.Languages.Found.{shifted}
+use Rattle.ixdtf.specs.language.Readers.Reader.{parse_offset}
 use Rattle.ixdtf_lines.proofs.AnswerLemmas.{Gives-text, Refuses-text}
 use Rattle.ixdtf_lines.proofs.found.read_offset.Goals as goal
 

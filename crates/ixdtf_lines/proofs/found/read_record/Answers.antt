@@ -1,9 +1,9 @@
 -- What was given, and what was refused.
 use Rattle.std.proofs.Common.{refl}
-use Rattle.ixdtf.specs.Answers.{parsed_of}
-use Rattle.ixdtf.specs.Faults.{fault_of}
-use Rattle.ixdtf.specs.Languages.Found.{parsed}
-use Rattle.ixdtf.specs.Readers.Reader.{parse}
+use Rattle.ixdtf.specs.Views.{parsed_of}
+use Rattle.ixdtf.specs.table.Faults.{fault_of}
+use Rattle.ixdtf.specs.language.Languages.Found.{parsed}
+use Rattle.ixdtf.specs.language.Readers.Reader.{parse}
 use Rattle.ixdtf_lines.proofs.AnswerLemmas.{Gives-text, Refuses-text}
 use Rattle.ixdtf_lines.proofs.found.read_record.Goals as goal
 

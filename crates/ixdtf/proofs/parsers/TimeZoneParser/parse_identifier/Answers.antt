@@ -1,11 +1,11 @@
 use Rattle.std.proofs.Common.{ap}
-use Rattle.ixdtf.specs.Readers.Reader.{parse_identifier}
-use Rattle.ixdtf.specs.Languages.Found.{identified}
-use Rattle.ixdtf.specs.Reading.{finding}
-use Rattle.ixdtf.proofs.Texts.{no_units}
-use Rattle.ixdtf.proofs.CodeLemmas.{identifier_is}
-use Rattle.ixdtf.proofs.Clauses.{nothing_left, ok_where_derived, err_where_refused, err_where_fits}
-use Rattle.ixdtf.proofs.NeverComes.{fault_comes}
+use Rattle.ixdtf.specs.language.Readers.Reader.{parse_identifier}
+use Rattle.ixdtf.specs.language.Languages.Found.{identified}
+use Rattle.ixdtf.specs.reading.Wholes.{finding}
+use Rattle.ixdtf.proofs.code.Units.{no_units}
+use Rattle.ixdtf.proofs.code.CodeLemmas.{identifier_is}
+use Rattle.ixdtf.proofs.code.ReadersWithoutPairs.{nothing_left, ok_where_derived, err_where_refused, err_where_fits}
+use Rattle.ixdtf.proofs.theorems.NeverComes.{fault_comes}
 use Rattle.ixdtf.proofs.parsers.TimeZoneParser.parse_identifier.Goals as goal
 
 pub returns-in-Ok-clause-ok : goal.returns-in-Ok-clause-ok

@@ -1,4 +1,4 @@
-use Rattle.ixdtf.proofs.Keys.{equal_lists}
+use Rattle.ixdtf.proofs.code.EqualUnits.{equal_lists}
 use Rattle.ixdtf.proofs.parsers.annotations.has_same_units.Goals as goal
 
 pub returns : goal.returns

@@ -1,9 +1,9 @@
 use Rattle.std.proofs.Common.{◌≡◌, ℕ, ◌||◌, true, false, List, map, drop, Some, None, Ok, ap, ◌∙◌, arith, rules}
-use Rattle.ixdtf.specs.Classes.{equals, closing}
-use Rattle.ixdtf.specs.Faults.Fault.{NonAsciiCodePoint}
-use Rattle.ixdtf.specs.ReadingLooks.{look_at}
-use Rattle.ixdtf.proofs.FractionRun.{shrinks}
-use Rattle.ixdtf.proofs.NameRun.{sight_passes, sight_found, sight_ends, sight_fails}
+use Rattle.ixdtf.specs.language.Letters.{equals, closing}
+use Rattle.ixdtf.specs.table.Faults.Fault.{NonAsciiCodePoint}
+use Rattle.ixdtf.specs.reading.Looks.{look_at}
+use Rattle.ixdtf.proofs.code.FractionLoop.{shrinks}
+use Rattle.ixdtf.proofs.code.NameLoop.{sight_passes, sight_found, sight_ends, sight_fails}
 use Rattle.ixdtf.proofs.parsers.annotations.is_pair_ahead.Goals as goal
 
 pub returns-in_err-byte-clause-sight : goal.returns-in_err-byte-clause-sight

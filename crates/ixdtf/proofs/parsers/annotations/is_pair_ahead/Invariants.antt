@@ -1,6 +1,6 @@
 use Rattle.std.proofs.Common.{◌≡◌, ◌+◌, ◌≤◌, length, map}
-use Rattle.ixdtf.specs.ReadingLooks.{error_of}
-use Rattle.ixdtf.specs.ReadingBrackets.{sight_at}
+use Rattle.ixdtf.specs.reading.Looks.{error_of}
+use Rattle.ixdtf.specs.reading.Brackets.{sight_at}
 use Rattle.ixdtf.proofs.parsers.annotations.is_pair_ahead.Given as goal
 
 abbrev pub invariant-loop-byte : goal.invariant-loop-byte

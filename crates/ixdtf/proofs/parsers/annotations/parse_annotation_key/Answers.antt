@@ -1,10 +1,10 @@
 use Rattle.std.proofs.Common.{◌≡◌, ℕ, true, false, List, map, drop, Some, None, Ok, Err, ap, ◌∙◌, arith, rules}
-use Rattle.ixdtf.specs.Classes.{equals, key_char}
-use Rattle.ixdtf.specs.Faults.Fault.{NonAsciiCodePoint, AnnotationKeyChar}
-use Rattle.ixdtf.specs.ReadingLooks.{look_at}
-use Rattle.ixdtf.proofs.FractionRun.{shrinks}
-use Rattle.ixdtf.proofs.RunLoop.{begins, goes_on, ends_after, at_letter, answers_here, front_is}
-use Rattle.ixdtf.proofs.PairRun.{keys_of, key_more, key_ends, key_refused, key_at_end, key_fails}
+use Rattle.ixdtf.specs.language.Letters.{equals, key_char}
+use Rattle.ixdtf.specs.table.Faults.Fault.{NonAsciiCodePoint, AnnotationKeyChar}
+use Rattle.ixdtf.specs.reading.Looks.{look_at}
+use Rattle.ixdtf.proofs.code.FractionLoop.{shrinks}
+use Rattle.ixdtf.proofs.code.LetterLoops.{begins, goes_on, ends_after, at_letter, reads_here, front_is}
+use Rattle.ixdtf.proofs.code.PairLoops.{keys_of, key_more, key_ends, key_refused, key_at_end, key_fails}
 use Rattle.ixdtf.proofs.parsers.annotations.parse_annotation_key.Goals as goal
 
 pub loop-byte-init : goal.loop-byte-init
@@ -12,7 +12,7 @@ loop-byte-init g c = record { start = c.rest-start.ensures; far = begins keys_of
 
 pub returns-in_err-byte-clause-key : goal.returns-in_err-byte-clause-key
 returns-in_err-byte-clause-key g c =
-    let failed = answers_here keys_of tt g.T.EncodingType.letter _ _ tt c.loop-byte.invariant.far _ (key_fails _ _ c.in_err-byte.ensures.letter) in
+    let failed = reads_here keys_of tt g.T.EncodingType.letter _ _ tt c.loop-byte.invariant.far _ (key_fails _ _ c.in_err-byte.ensures.letter) in
     search rules
 
 -- a letter that goes on in no key
@@ -67,4 +67,4 @@ loop-byte-preserved g c =
 pub returns-clause-key : goal.returns-clause-key
 returns-clause-key g c =
     let over : look_at NonAsciiCodePoint (map g.T.EncodingType.letter c.loop-byte.cursor.rest) ≡ Ok None = cc (c.in_ok-byte.ensures.letter, c.in_default.is) in
-    answers_here keys_of tt g.T.EncodingType.letter _ _ tt c.loop-byte.invariant.far _ (key_at_end _ over)
+    reads_here keys_of tt g.T.EncodingType.letter _ _ tt c.loop-byte.invariant.far _ (key_at_end _ over)

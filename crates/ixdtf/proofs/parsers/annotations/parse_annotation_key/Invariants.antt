@@ -1,6 +1,6 @@
 use Rattle.std.proofs.Common.{◌≡◌, ◌+◌, ◌≤◌, length, map}
-use Rattle.ixdtf.proofs.RunLoop.{IsSoFar}
-use Rattle.ixdtf.proofs.PairRun.{keys_of}
+use Rattle.ixdtf.proofs.code.LetterLoops.{IsSoFar}
+use Rattle.ixdtf.proofs.code.PairLoops.{keys_of}
 use Rattle.ixdtf.proofs.parsers.annotations.parse_annotation_key.Given as goal
 
 abbrev pub invariant-loop-byte : goal.invariant-loop-byte

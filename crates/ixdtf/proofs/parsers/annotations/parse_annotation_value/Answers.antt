@@ -1,12 +1,12 @@
 use Rattle.std.proofs.Common.{◌≡◌, ℕ, List, map, drop, Some, None, Ok, Err, ap, ◌∙◌, arith, rules}
-use Rattle.ixdtf.specs.Faults.Fault.{NonAsciiCodePoint}
-use Rattle.ixdtf.specs.ReadingLooks.{look_at}
-use Rattle.ixdtf.specs.ReadingPairs.{at_start, value_step, value_other}
-use Rattle.ixdtf.specs.ReadingPairs.ValueStep.{goes_on as goes, ends, stops}
-use Rattle.ixdtf.specs.CodeViews.{state_of}
-use Rattle.ixdtf.proofs.FractionRun.{shrinks}
-use Rattle.ixdtf.proofs.RunLoop.{begins, goes_on, ends_after, at_letter, answers_here, front_is}
-use Rattle.ixdtf.proofs.PairRun.{values_of, value_more, value_ends, value_refused, value_at_end, value_fails}
+use Rattle.ixdtf.specs.table.Faults.Fault.{NonAsciiCodePoint}
+use Rattle.ixdtf.specs.reading.Looks.{look_at}
+use Rattle.ixdtf.specs.reading.Pairs.{at_start, value_step, value_other}
+use Rattle.ixdtf.specs.reading.Pairs.ValueStep.{goes_on as goes, ends, stops}
+use Rattle.ixdtf.specs.reading.CodeViews.{state_of}
+use Rattle.ixdtf.proofs.code.FractionLoop.{shrinks}
+use Rattle.ixdtf.proofs.code.LetterLoops.{begins, goes_on, ends_after, at_letter, reads_here, front_is}
+use Rattle.ixdtf.proofs.code.PairLoops.{values_of, value_more, value_ends, value_refused, value_at_end, value_fails}
 use Rattle.ixdtf.proofs.parsers.annotations.parse_annotation_value.Goals as goal
 
 pub loop-byte-init : goal.loop-byte-init
@@ -14,7 +14,7 @@ loop-byte-init g c = record { start = c.rest-start.ensures; far = begins values_
 
 pub returns-in_err-byte-clause-value : goal.returns-in_err-byte-clause-value
 returns-in_err-byte-clause-value g c =
-    let failed = answers_here values_of at_start g.T.EncodingType.letter _ _ _ c.loop-byte.invariant.far _ (value_fails (state_of c.loop-byte.state) _ _ c.in_err-byte.ensures.letter) in
+    let failed = reads_here values_of at_start g.T.EncodingType.letter _ _ _ c.loop-byte.invariant.far _ (value_fails (state_of c.loop-byte.state) _ _ c.in_err-byte.ensures.letter) in
     search rules
 
 pub loop-byte-smaller : goal.loop-byte-smaller
@@ -67,4 +67,4 @@ returns-in-Stops-clause-value g c =
 pub returns-clause-value : goal.returns-clause-value
 returns-clause-value g c =
     let over : look_at NonAsciiCodePoint (map g.T.EncodingType.letter c.loop-byte.cursor.rest) ≡ Ok None = cc (c.in_ok-byte.ensures.letter, c.in_default.is) in
-    rw c.end_error.ensures (answers_here values_of at_start g.T.EncodingType.letter _ _ _ c.loop-byte.invariant.far _ (value_at_end _ _ over))
+    rw c.end_error.ensures (reads_here values_of at_start g.T.EncodingType.letter _ _ _ c.loop-byte.invariant.far _ (value_at_end _ _ over))

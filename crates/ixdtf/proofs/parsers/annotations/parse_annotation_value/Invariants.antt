@@ -1,8 +1,8 @@
 use Rattle.std.proofs.Common.{◌≡◌, ◌+◌, ◌≤◌, length, map}
-use Rattle.ixdtf.specs.ReadingPairs.{at_start}
-use Rattle.ixdtf.specs.CodeViews.{state_of}
-use Rattle.ixdtf.proofs.RunLoop.{IsSoFar}
-use Rattle.ixdtf.proofs.PairRun.{values_of}
+use Rattle.ixdtf.specs.reading.Pairs.{at_start}
+use Rattle.ixdtf.specs.reading.CodeViews.{state_of}
+use Rattle.ixdtf.proofs.code.LetterLoops.{IsSoFar}
+use Rattle.ixdtf.proofs.code.PairLoops.{values_of}
 use Rattle.ixdtf.proofs.parsers.annotations.parse_annotation_value.Given as goal
 
 abbrev pub invariant-loop-byte : goal.invariant-loop-byte

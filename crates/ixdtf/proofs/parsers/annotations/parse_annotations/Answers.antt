@@ -1,21 +1,21 @@
 use Rattle.std.proofs.Common.{◌≡◌, [], ◌∷◌, map, Some, None, Ok, option_map, IsSome, refl, sym, subst, arith, rules, of_calls}
 use Rattle.std.proofs.lemmas.Result.{err_from_is_err_and}
-use Rattle.ixdtf.specs.ReadingLooks.{error_of}
-use Rattle.ixdtf.specs.CodeReadings.{next_pair_at}
+use Rattle.ixdtf.specs.reading.Looks.{error_of}
+use Rattle.ixdtf.specs.reading.CodeReadings.{next_pair_at}
 use Rattle.ixdtf.specs.Handlers.{pair_of}
-use Rattle.ixdtf.specs.Chains.{first_pairs}
-use Rattle.ixdtf.proofs.Texts.{no_units}
-use Rattle.ixdtf.proofs.NextPair.{NextPair, next_is, next_fault}
-use Rattle.ixdtf.proofs.ChainLemmas.{so_far_start, so_far_first, so_far_more, answered_first_refused, answered_refused, answered_whole, answered_fault}
+use Rattle.ixdtf.specs.reading.Chains.{first_pairs}
+use Rattle.ixdtf.proofs.code.Units.{no_units}
+use Rattle.ixdtf.proofs.code.NextPair.{NextPair, next_is, next_fault}
+use Rattle.ixdtf.proofs.code.Chains.{so_far_start, so_far_first, so_far_more, read_first_refused, read_refused, read_whole, read_fault}
 use Rattle.ixdtf.proofs.parsers.annotations.parse_annotations.Goals as goal
 use Rattle.ixdtf.proofs.parsers.annotations.parse_annotations.Goals.{in-Some+in_ok-calendar, in_default}
 
--- the answer to the first pair is refused
+-- the reply to the first pair is refused
 pub returns-in_err-calendar-clause-pairs : goal.returns-in_err-calendar-clause-pairs
 returns-in_err-calendar-clause-pairs g c =
     let p = err_from_is_err_and c.from_residual.result c.from_residual.ensures.1 in
     let alone : first_pairs (option_map (pair_of g.T.EncodingType.number) c.args.first) ≡ pair_of g.T.EncodingType.number c.in-Some.annotation ∷ [] = search rules in
-    rw (p.1, p.2) (answered_first_refused _ _ _ _ _ _ _ _ _ alone refl c.ask-answer.ensures.step _ c.in_err-calendar.ensures.err)
+    rw (p.1, p.2) (read_first_refused _ _ _ _ _ _ _ _ _ alone refl c.ask-answer.ensures.step _ c.in_err-calendar.ensures.err)
 
 -- the loop begins with no call, or with the first pair's
 pub loop-annotation-init : goal.loop-annotation-init
@@ -37,15 +37,15 @@ pub returns-in_err-annotation-clause-pairs : goal.returns-in_err-annotation-clau
 returns-in_err-annotation-clause-pairs g c =
     let p = err_from_is_err_and c.from_residual-in_err-annotation.result c.from_residual-in_err-annotation.ensures.1 in
     let row = next_fault _ _ c.in_err-annotation.ensures.pair in
-    rw (p.1, p.2) (answered_fault _ _ _ _ _ _ _ _ c.loop-annotation.invariant.so_far row.0 _ row.1 row.2)
+    rw (p.1, p.2) (read_fault _ _ _ _ _ _ _ _ c.loop-annotation.invariant.so_far row.0 _ row.1 row.2)
 
--- an answer is refused
+-- an reply is refused
 pub returns-in_err-calendar-2-clause-pairs : goal.returns-in_err-calendar-2-clause-pairs
 returns-in_err-calendar-2-clause-pairs g c =
     let p = err_from_is_err_and c.from_residual-in_err-calendar-2.result c.from_residual-in_err-calendar-2.ensures.1 in
     let read : next_pair_at error_of (map g.T.EncodingType.letter c.loop-annotation.cursor.rest) ≡ Ok (Some (pair_of g.T.EncodingType.number c.in-Some-2.annotation), map g.T.EncodingType.letter c.next_annotation.new.cursor.rest) = search rules in
     let next : NextPair (map g.T.EncodingType.letter c.loop-annotation.cursor.rest) (Some (pair_of g.T.EncodingType.number c.in-Some-2.annotation)) (map g.T.EncodingType.letter c.next_annotation.new.cursor.rest) = next_is _ _ _ read in
-    rw (p.1, p.2) (answered_refused _ _ _ _ _ _ _ _ _ _ _ _ _ c.loop-annotation.invariant.so_far next.2 next.1 c.ask-answer-in-Some-2.ensures.step _ c.in_err-calendar-2.ensures.err)
+    rw (p.1, p.2) (read_refused _ _ _ _ _ _ _ _ _ _ _ _ _ c.loop-annotation.invariant.so_far next.2 next.1 c.ask-answer-in-Some-2.ensures.step _ c.in_err-calendar-2.ensures.err)
 
 pub loop-annotation-preserved : goal.loop-annotation-preserved
 loop-annotation-preserved g c =
@@ -63,7 +63,7 @@ pub returns-clause-pairs : goal.returns-clause-pairs
 returns-clause-pairs g c =
     let read : next_pair_at error_of (map g.T.EncodingType.letter c.loop-annotation.cursor.rest) ≡ Ok (None, map g.T.EncodingType.letter c.next_annotation.new.cursor.rest) = search rules in
     let next : NextPair (map g.T.EncodingType.letter c.loop-annotation.cursor.rest) None (map g.T.EncodingType.letter c.next_annotation.new.cursor.rest) = next_is _ _ _ read in
-    answered_whole _ _ _ _ _ _ _ _ c.loop-annotation.invariant.so_far next.0
+    read_whole _ _ _ _ _ _ _ _ c.loop-annotation.invariant.so_far next.0
 
 pub returns-clause-empty : goal.returns-clause-empty
 returns-clause-empty g c =

@@ -1,7 +1,7 @@
 use Rattle.std.proofs.Common.{◌+◌, ◌*◌, ◌≤◌, length, map, option_map}
 use Rattle.ixdtf.specs.Handlers.{pair_of}
-use Rattle.ixdtf.specs.Chains.{first_pairs}
-use Rattle.ixdtf.proofs.ChainLemmas.{SoFar}
+use Rattle.ixdtf.specs.reading.Chains.{first_pairs}
+use Rattle.ixdtf.proofs.code.Chains.{SoFar}
 use Rattle.ixdtf.proofs.parsers.annotations.parse_annotations.Given as goal
 
 abbrev pub invariant-loop-annotation : goal.invariant-loop-annotation

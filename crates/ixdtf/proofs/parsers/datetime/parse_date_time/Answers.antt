@@ -1,13 +1,13 @@
 use Rattle.std.proofs.Common.{◌≡◌, ℕ, ◌≤◌, true, false, List, map, length, drop, Some, None, Ok, ap, ◌∙◌, arith, rules}
 use Rattle.std.proofs.lemmas.Result.{err_from_is_err_and}
-use Rattle.ixdtf.specs.Classes.{opening}
-use Rattle.ixdtf.specs.Faults.Fault.{NonAsciiCodePoint}
-use Rattle.ixdtf.specs.ReadingLooks.{look_at}
-use Rattle.ixdtf.proofs.Texts.{no_units}
-use Rattle.ixdtf.proofs.FractionRun.{shrinks}
-use Rattle.ixdtf.proofs.CodeLemmas.{core_shortens, core_fault}
-use Rattle.ixdtf.proofs.WholeCode.{at_the_end, core_alone, core_other, core_bad, core_opens}
-use Rattle.ixdtf.proofs.ChainLemmas.{text_fault, text_derived}
+use Rattle.ixdtf.specs.language.Letters.{opening}
+use Rattle.ixdtf.specs.table.Faults.Fault.{NonAsciiCodePoint}
+use Rattle.ixdtf.specs.reading.Looks.{look_at}
+use Rattle.ixdtf.proofs.code.Units.{no_units}
+use Rattle.ixdtf.proofs.code.FractionLoop.{shrinks}
+use Rattle.ixdtf.proofs.code.CodeLemmas.{core_shortens, core_fault}
+use Rattle.ixdtf.proofs.code.Tail.{at_the_end, core_alone, core_other, core_bad, core_opens}
+use Rattle.ixdtf.proofs.code.Chains.{text_fault, text_derived}
 use Rattle.ixdtf.proofs.parsers.datetime.parse_date_time.Goals as goal
 
 -- a unit that stands for no letter, after a core
@@ -34,7 +34,7 @@ returns-in-Some-clause-answered g c =
     let is : opening c.in-Some.byte ≡ true = search rules in
     let front = core_opens _ _ _ c.in-Ok.ensures.core _ found is in
     let left : map g.T.EncodingType.letter c.step.new.self.rest ≡ drop 1 (map g.T.EncodingType.letter c.parse_core.new.cursor.rest) = c.step.ensures.letters ∙ ap (λ (t : List ℕ). drop 1 (map g.T.EncodingType.letter t)) c.in_ok-look-in-Ok.ensures.rest in
-    c.parse_brackets.ensures.answered _ front.0 (rw left front.1) front.2
+    c.parse_brackets.ensures.returned_here _ front.0 (rw left front.1) front.2
 
 -- the first bracket is looked through once more than it is read
 pub returns-in-Some-clause-looks : goal.returns-in-Some-clause-looks

@@ -1,8 +1,8 @@
 use Rattle.std.proofs.Common.{◌≡◌, ℕ, List, map, drop, Some, None, Ok, true, false, ap, ◌∙◌, arith, rules}
-use Rattle.ixdtf.specs.Classes.{digit}
-use Rattle.ixdtf.specs.Faults.Fault.{NonAsciiCodePoint}
-use Rattle.ixdtf.specs.ReadingLooks.{look_at}
-use Rattle.ixdtf.proofs.FractionRun.{goes_on, ends_at_other, ends_at_end, fails, shrinks}
+use Rattle.ixdtf.specs.language.Letters.{digit}
+use Rattle.ixdtf.specs.table.Faults.Fault.{NonAsciiCodePoint}
+use Rattle.ixdtf.specs.reading.Looks.{look_at}
+use Rattle.ixdtf.proofs.code.FractionLoop.{goes_on, ends_at_other, ends_at_end, fails, shrinks}
 use Rattle.ixdtf.proofs.parsers.time.parse_more_digits.Goals as goal
 use Rattle.ixdtf.proofs.parsers.time.parse_more_digits.Goals.{in-Some+then-not-is_ascii_digit, in_default}
 

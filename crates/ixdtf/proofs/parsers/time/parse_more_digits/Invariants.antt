@@ -1,5 +1,5 @@
 use Rattle.std.proofs.Common.{◌+◌, ◌≤◌, length, map}
-use Rattle.ixdtf.proofs.FractionRun.{IsSoFar}
+use Rattle.ixdtf.proofs.code.FractionLoop.{IsSoFar}
 use Rattle.ixdtf.proofs.parsers.time.parse_more_digits.Given as goal
 
 abbrev pub invariant-loop-byte : goal.invariant-loop-byte

@@ -1,10 +1,10 @@
 use Rattle.std.proofs.Common.{◌≡◌, ℕ, true, false, List, map, drop, Some, None, Ok, ap, ◌∙◌, arith, rules}
-use Rattle.ixdtf.specs.Faults.Fault.{NonAsciiCodePoint}
-use Rattle.ixdtf.specs.ReadingLooks.{look_at}
-use Rattle.ixdtf.specs.ReadingZones.{name_step}
-use Rattle.ixdtf.proofs.FractionRun.{shrinks}
-use Rattle.ixdtf.proofs.RunLoop.{begins, goes_on, front_is}
-use Rattle.ixdtf.proofs.NameRun.{run_of, run_more, ends_at_other, ends_at_end, refused, ended, fails}
+use Rattle.ixdtf.specs.table.Faults.Fault.{NonAsciiCodePoint}
+use Rattle.ixdtf.specs.reading.Looks.{look_at}
+use Rattle.ixdtf.specs.reading.Zones.{name_step}
+use Rattle.ixdtf.proofs.code.FractionLoop.{shrinks}
+use Rattle.ixdtf.proofs.code.LetterLoops.{begins, goes_on, front_is}
+use Rattle.ixdtf.proofs.code.NameLoop.{run_of, run_more, ends_at_other, ends_at_end, refused, ended, fails}
 use Rattle.ixdtf.proofs.parsers.timezone.parse_tz_name.Goals as goal
 use Rattle.ixdtf.proofs.parsers.timezone.parse_tz_name.Goals.{in-Some+in-None, in_default}
 

@@ -1,6 +1,6 @@
 use Rattle.std.proofs.Common.{true, ◌≡◌, ◌+◌, ◌≤◌, length, map}
-use Rattle.ixdtf.proofs.RunLoop.{IsSoFar}
-use Rattle.ixdtf.proofs.NameRun.{run_of}
+use Rattle.ixdtf.proofs.code.LetterLoops.{IsSoFar}
+use Rattle.ixdtf.proofs.code.NameLoop.{run_of}
 use Rattle.ixdtf.proofs.parsers.timezone.parse_tz_name.Given as goal
 
 abbrev pub invariant-loop-byte : goal.invariant-loop-byte

@@ -1,7 +1,7 @@
 -- Both branches give the number of the first nine digits.
 use Rattle.std.proofs.Common.{◌^◌, ◌-◌, ap, ◌∙◌, arith}
-use Rattle.ixdtf.specs.Fractions.{nanoseconds_of}
-use Rattle.ixdtf.proofs.Nanoseconds.{ten_pos, nanoseconds-few, nanoseconds-many}
+use Rattle.ixdtf.specs.language.Fractions.{nanoseconds_of}
+use Rattle.ixdtf.proofs.code.Nanoseconds.{ten_pos, nanoseconds-few, nanoseconds-many}
 use Rattle.ixdtf.proofs.records.Fraction.to_truncated_nanoseconds.Goals as goal
 
 pub overflow_cast-result : goal.overflow_cast-result

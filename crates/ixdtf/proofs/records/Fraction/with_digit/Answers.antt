@@ -1,6 +1,6 @@
 -- One more digit makes less than 10 ^ 18 of a value of fewer than 18 digits.
 use Rattle.std.proofs.Common.{◌+◌, arith}
-use Rattle.ixdtf.proofs.Nanoseconds.{one_more, eighteen}
+use Rattle.ixdtf.proofs.code.Nanoseconds.{one_more, eighteen}
 use Rattle.ixdtf.proofs.records.Fraction.with_digit.Goals as goal
 
 pub overflow_mul-result : goal.overflow_mul-result

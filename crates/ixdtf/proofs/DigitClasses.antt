@@ -1,8 +1,0 @@
--- Which classes exclude each other.
-use Rattle.std.proofs.Common.{◌≡◌, ℕ, IsTrue, false, arith}
-use Rattle.std.proofs.lemmas.Bool.Decides.{nat_tests}
-use Rattle.ixdtf.specs.Classes.{digit, sign}
-
--- a digit is no sign
-pub digit_no_sign : (c : ℕ) → IsTrue (digit c) → sign c ≡ false
-digit_no_sign c is = grind (arith, nat_tests)

@@ -1,0 +1,17 @@
+-- What the functions of the code use.
+pub mod Chains
+pub mod CodeLemmas
+pub mod DigitClasses
+pub mod EqualUnits
+pub mod FractionLoop
+pub mod GrowingDigits
+pub mod LetterLoops
+pub mod NameLoop
+pub mod Nanoseconds
+pub mod NextPair
+pub mod OneMoreReply
+pub mod PairLoops
+pub mod ReadersWithoutPairs
+pub mod Tail
+pub mod Units
+pub mod WalkNames

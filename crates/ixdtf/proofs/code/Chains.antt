@@ -1,0 +1,316 @@
+-- What the loop over the pairs keeps, and what follows at its ends.
+use Rattle.std.proofs.Common.{◌≡◌, ◌≢◌, ℕ, List, [], ◌∷◌, ◌++◌, Option, None, Result, Ok, Err, refl, sym, ◌∙◌, ap, subst, inl, inr, append_assoc, option_map}
+use Rattle.std.proofs.lemmas.List.{map-append, append-nil}
+use Rattle.std.proofs.SliceLists.{chained_more}
+use Rattle.std.specs.Option.{option_or}
+use Rattle.ixdtf.specs.declared.records.Annotation.{Annotation}
+use Rattle.ixdtf.specs.language.Letters.{Text}
+use Rattle.ixdtf.specs.table.Faults.{Fault}
+use Rattle.ixdtf.specs.language.Brackets.{Pair, IsPair, ArePairs, IsTail}
+use Rattle.ixdtf.specs.language.Cores.{Core, IsDateTimeCore}
+use Rattle.ixdtf.specs.table.LineNames.{LineName}
+use Rattle.ixdtf.specs.language.Readers.Reader.{parse}
+use Rattle.ixdtf.specs.table.LineNames.LineName.{of_date, of_clock, of_offset, of_zone, of_bracket, of_pair}
+use Rattle.ixdtf.specs.table.LineNames.BracketLine.{first_bracket_start, first_critical_start, first_bracket_scan, after_bracket}
+use Rattle.ixdtf.specs.table.LineNames.PairLine.{key_start, critical_key_start, in_key, value_start, in_value, after_value_hyphen}
+use Rattle.ixdtf.specs.table.Lines.{Bracketed, InAnnotated}
+use Rattle.ixdtf.specs.table.Rows.{Row, Fits}
+use Rattle.ixdtf.specs.language.Languages.{Parsed, parsed_with, IsDateTime}
+use Rattle.ixdtf.specs.table.Outcomes.{HasFault}
+use Rattle.ixdtf.specs.reading.Brackets.{Bracket, zoned, paired, zone_in, pairs_in}
+use Rattle.ixdtf.specs.Handlers.{first_calendar, RefusedBeside, NoneRefused, LastRefused, calendar_value, with_calendar, GivesFault, pair_of, Calls, handed, replies_of, IsChain}
+use Rattle.ixdtf.specs.reading.Chains.{AfterBrackets, FitsAfterBrackets, PairsUpTo, PairsRead, TextRead}
+use Rattle.ixdtf.proofs.code.OneMoreReply.{first_calendar-more, NoneRefused-more, NoneRefused-nothing}
+use Rattle.ixdtf.proofs.to_grammar.FirstBracket.{IsBracket}
+
+-- ---- texts of pairs
+
+-- one more pair behind others
+pub pairs_more : (front : Text) (pairs : List Pair) (bracket : Text) (pair : Pair) → ArePairs front pairs → IsPair bracket pair → ArePairs (front ++ bracket) (pairs ++ pair ∷ [])
+pairs_more front [] bracket pair is last = (bracket, [], ap (λ f. f ++ bracket) is ∙ sym (append-nil bracket), last, refl)
+pairs_more front (p ∷ pairs) bracket pair h last =
+    (h.0, h.1 ++ bracket, ap (λ f. f ++ bracket) h.2 ∙ append_assoc h.0 h.1 bracket, h.3, pairs_more h.1 pairs bracket pair h.4 last)
+
+-- the same of a text as far as the rest
+upto_more : (text : Text) (pairs : List Pair) (rest bracket after : Text) (pair : Pair) → PairsUpTo text pairs rest → rest ≡ bracket ++ after → IsPair bracket pair → PairsUpTo text (pairs ++ pair ∷ []) after
+upto_more text pairs rest bracket after pair h is last =
+    (h.0 ++ bracket, h.1 ∙ ap (λ r. h.0 ++ r) is ∙ sym (append_assoc h.0 bracket after), pairs_more h.0 pairs bracket pair h.2 last)
+
+-- ---- the loop over the pairs
+
+module _ {T U F : Type 0} (number : U → ℕ) (step : F → Annotation T U → Option (Annotation T U) → F → Type 0) (handler : F) (first : List Pair) (text : Text) where
+  -- the calls so far left this state, this rest of the text, and this calendar
+  pub record SoFar (state : F) (rest : Text) (calendar : Option Pair) : Type 0 where
+    pub calls : Calls T U
+    pub chain : IsChain step handler calls state
+    pub more : List Pair
+    pub all : handed number calls ≡ first ++ more
+    pub upto : PairsUpTo text more rest
+    pub accepted : NoneRefused (replies_of number calls)
+    pub kept : calendar ≡ first_calendar (replies_of number calls)
+
+  -- no call was made yet
+  pub so_far_start : first ≡ [] → SoFar handler text None
+  so_far_start none = record {
+    calls = [];
+    chain = refl;
+    more = [];
+    all = ap (λ pairs. pairs ++ []) (sym none);
+    upto = ([], refl, refl);
+    accepted = NoneRefused-nothing;
+    kept = refl;
+  }
+
+  -- a call on the first pair
+  module _ (annotation : Annotation T U) (reply : Option (Annotation T U)) (next : F) (pair : Pair)
+      (alone : first ≡ pair ∷ []) (same : pair_of number annotation ≡ pair) (called : step handler annotation reply next) where
+    one_call : Calls T U
+    one_call = (annotation, reply) ∷ []
+
+    one_chain : IsChain step handler one_call next
+    unfolding one_call
+    one_chain = (next, called, refl)
+
+    one_handed : handed number one_call ≡ first ++ []
+    unfolding one_call
+    one_handed = ap (λ p. p ∷ []) same ∙ sym (append-nil (pair ∷ [])) ∙ ap (λ pairs. pairs ++ []) (sym alone)
+
+    one_reply : replies_of number one_call ≡ option_map (pair_of number) reply ∷ []
+    unfolding one_call
+    one_reply = refl
+
+    pub so_far_first : (kept : Option Pair) → ((fault : Fault) → ¬ (RefusedBeside None (option_map (pair_of number) reply) fault))
+        → kept ≡ option_or None (first_calendar (option_map (pair_of number) reply ∷ [])) → SoFar next text kept
+    so_far_first kept accepted is = record {
+      calls = one_call;
+      chain = one_chain;
+      more = [];
+      all = one_handed;
+      upto = ([], refl, refl);
+      accepted = subst NoneRefused (sym one_reply) (NoneRefused-more [] (option_map (pair_of number) reply) NoneRefused-nothing accepted);
+      kept = is ∙ sym (first_calendar-more [] (option_map (pair_of number) reply)) ∙ ap first_calendar (sym one_reply);
+    }
+
+    pub read_first_refused : (fault : Fault) → RefusedBeside None (option_map (pair_of number) reply) fault → PairsRead number step handler next first text (Err fault)
+    read_first_refused fault refused =
+        let last : LastRefused (replies_of number one_call) fault = record {
+          earlier = [];
+          reply = option_map (pair_of number) reply;
+          split = one_reply;
+          none = NoneRefused-nothing;
+          refused = refused;
+        } in
+        record { calls = one_call; chain = one_chain; more = []; all = one_handed; gives = (text, ([], refl, refl), inl last) }
+
+  -- a call on one more pair
+  module _ (state : F) (rest : Text) (calendar : Option Pair) (annotation : Annotation T U) (bracket after : Text) (reply : Option (Annotation T U)) (next : F)
+      (so_far : SoFar state rest calendar) (is_pair : IsPair bracket (pair_of number annotation)) (read : rest ≡ bracket ++ after)
+      (called : step state annotation reply next) where
+    more_calls : Calls T U
+    more_calls = so_far.calls ++ (annotation, reply) ∷ []
+
+    more_chain : IsChain step handler more_calls next
+    unfolding more_calls
+    more_chain = chained_more (λ f call g. step f call.0 call.1 g) handler so_far.calls state (annotation, reply) next so_far.chain called
+
+    more_handed : handed number more_calls ≡ first ++ (so_far.more ++ pair_of number annotation ∷ [])
+    unfolding more_calls
+    more_handed = map-append (λ call. pair_of number call.0) so_far.calls ((annotation, reply) ∷ [])
+        ∙ ap (λ pairs. pairs ++ pair_of number annotation ∷ []) so_far.all
+        ∙ append_assoc first so_far.more (pair_of number annotation ∷ [])
+
+    more_replies : replies_of number more_calls ≡ replies_of number so_far.calls ++ option_map (pair_of number) reply ∷ []
+    unfolding more_calls
+    more_replies = map-append (λ call. option_map (pair_of number) call.1) so_far.calls ((annotation, reply) ∷ [])
+
+    more_upto : PairsUpTo text (so_far.more ++ pair_of number annotation ∷ []) after
+    more_upto = upto_more text so_far.more rest bracket after (pair_of number annotation) so_far.upto read is_pair
+
+    -- its reply is not refused
+    pub so_far_more : (kept : Option Pair) → ((fault : Fault) → ¬ (RefusedBeside calendar (option_map (pair_of number) reply) fault))
+        → kept ≡ option_or calendar (first_calendar (option_map (pair_of number) reply ∷ [])) → SoFar next after kept
+    so_far_more kept accepted is = record {
+      calls = more_calls;
+      chain = more_chain;
+      more = so_far.more ++ pair_of number annotation ∷ [];
+      all = more_handed;
+      upto = more_upto;
+      accepted = subst NoneRefused (sym more_replies)
+          (NoneRefused-more (replies_of number so_far.calls) (option_map (pair_of number) reply) so_far.accepted
+          (λ fault. subst (λ c. ¬ (RefusedBeside c (option_map (pair_of number) reply) fault)) so_far.kept (accepted fault)));
+      kept = is ∙ ap (λ c. option_or c (first_calendar (option_map (pair_of number) reply ∷ []))) so_far.kept
+          ∙ sym (first_calendar-more (replies_of number so_far.calls) (option_map (pair_of number) reply)) ∙ ap first_calendar (sym more_replies);
+    }
+
+    -- its reply is refused
+    pub read_refused : (fault : Fault) → RefusedBeside calendar (option_map (pair_of number) reply) fault → PairsRead number step handler next first text (Err fault)
+    read_refused fault refused =
+        let last : LastRefused (replies_of number more_calls) fault = record {
+          earlier = replies_of number so_far.calls;
+          reply = option_map (pair_of number) reply;
+          split = more_replies;
+          none = so_far.accepted;
+          refused = subst (λ c. RefusedBeside c (option_map (pair_of number) reply) fault) so_far.kept refused;
+        } in
+        record { calls = more_calls; chain = more_chain; more = so_far.more ++ pair_of number annotation ∷ []; all = more_handed; gives = (after, more_upto, inl last) }
+
+  -- nothing is left of the text
+  pub read_whole : (state : F) (rest : Text) (calendar : Option Pair) → SoFar state rest calendar → rest ≡ [] → PairsRead number step handler state first text (Ok calendar)
+  read_whole state rest calendar so_far none =
+      let front = so_far.upto in
+      let whole : front.0 ≡ text = sym (front.1 ∙ ap (λ r. front.0 ++ r) none ∙ append-nil front.0) in
+      record {
+        calls = so_far.calls;
+        chain = so_far.chain;
+        more = so_far.more;
+        all = so_far.all;
+        gives = (subst (λ t. ArePairs t so_far.more) whole front.2, so_far.accepted, so_far.kept);
+      }
+
+  -- a row fits what is left
+  pub read_fault : (state : F) (rest : Text) (calendar : Option Pair) → SoFar state rest calendar → (row : Row) (fault : Fault) → FitsAfterBrackets row rest → row.error ≡ fault
+      → PairsRead number step handler state first text (Err fault)
+  read_fault state rest calendar so_far row fault fits is = record {
+    calls = so_far.calls;
+    chain = so_far.chain;
+    more = so_far.more;
+    all = so_far.all;
+    gives = (rest, so_far.upto, inr ((row, fits, is), so_far.accepted));
+  }
+
+-- ---- the whole text
+
+nothing_left : (xs ys : Text) → xs ++ ys ≡ [] → xs ≡ []
+nothing_left [] ys e = refl
+nothing_left (x ∷ xs) ys e = absurd cc
+
+nothing_right : (xs ys : Text) → xs ++ ys ≡ [] → ys ≡ []
+nothing_right [] ys e = e
+nothing_right (x ∷ xs) ys e = absurd cc
+
+-- a bracket has letters
+bracket_stands : (bracket : Text) (b : Bracket) → IsBracket bracket b → bracket ≢ []
+bracket_stands bracket (zoned note) h none =
+    let e = nothing_right h.inside _ (nothing_right h.start _ (sym h.is ∙ none)) in cc
+bracket_stands bracket (paired pair) h none =
+    let e = nothing_right h.keys _ (nothing_right h.start _ (sym h.is ∙ none)) in cc
+
+-- a first bracket, and pairs
+tail_of : (bracket rest : Text) (b : Bracket) (more : List Pair) → IsBracket bracket b → ArePairs rest more → IsTail (bracket ++ rest) (zone_in b) (pairs_in b ++ more)
+tail_of bracket rest (zoned note) more is pairs = (bracket, rest, refl, is, pairs)
+tail_of bracket rest (paired pair) more is pairs = ([], bracket ++ rest, refl, refl, (bracket, rest, refl, is, pairs))
+
+-- what stands before a line of pairs, behind whole brackets
+after_whole : (name : LineName) (pairs : List Pair) (whole prior rest : Text) → Bracketed pairs whole → AfterBrackets name prior → InAnnotated name pairs (whole ++ prior) rest
+after_whole (of_date name) pairs whole prior rest b h = absurd h
+after_whole (of_clock clock name) pairs whole prior rest b h = absurd h
+after_whole (of_offset name) pairs whole prior rest b h = absurd h
+after_whole (of_zone name) pairs whole prior rest b h = absurd h
+after_whole (of_bracket first_bracket_start) pairs whole prior rest b h = absurd h
+after_whole (of_bracket first_critical_start) pairs whole prior rest b h = absurd h
+after_whole (of_bracket first_bracket_scan) pairs whole prior rest b h = absurd h
+after_whole (of_bracket after_bracket) pairs whole prior rest b h = subst (Bracketed pairs) (sym (append-nil whole) ∙ ap (λ p. whole ++ p) (sym h)) b
+after_whole (of_pair key_start) pairs whole prior rest b h = subst (Bracketed pairs) (sym (append-nil whole) ∙ ap (λ p. whole ++ p) (sym h)) b
+after_whole (of_pair critical_key_start) pairs whole prior rest b h = subst (Bracketed pairs) (sym (append-nil whole) ∙ ap (λ p. whole ++ p) (sym h)) b
+after_whole (of_pair in_key) pairs whole prior rest b h = inr (whole, prior, refl, b, h)
+after_whole (of_pair value_start) pairs whole prior rest b h = inr (whole, prior, refl, b, h)
+after_whole (of_pair in_value) pairs whole prior rest b h = inr (whole, prior, refl, b, h)
+after_whole (of_pair after_value_hyphen) pairs whole prior rest b h = inr (whole, prior, refl, b, h)
+
+-- what the code replies of the whole text, for what it replies of the pairs
+abbrev pub text_result : Core → Bracket → Result (Option Pair) Fault → Result Parsed Fault
+text_result core b (Ok calendar) = Ok (with_calendar (parsed_with core (zone_in b)) (calendar_value calendar))
+text_result core b (Err fault) = Err fault
+
+module _ (text cores bracket rest : Text) (core : Core) (b : Bracket) (is : text ≡ cores ++ (bracket ++ rest)) (is_core : IsDateTimeCore cores core) (is_bracket : IsBracket bracket b) where
+  -- a core, a first bracket and more pairs
+  date_time_of : (front : Text) (more : List Pair) → ArePairs front more → IsDateTime (cores ++ (bracket ++ front)) (parsed_with core (zone_in b)) (pairs_in b ++ more)
+  date_time_of front more pairs = record {
+    cores = cores;
+    brackets = bracket ++ front;
+    core = core;
+    zone = zone_in b;
+    is = refl;
+    is_core = is_core;
+    is_tail = tail_of bracket front b more is_bracket pairs;
+    has = refl;
+  }
+
+  bracketed_of : (front : Text) (more : List Pair) → ArePairs front more → Bracketed (pairs_in b ++ more) (cores ++ (bracket ++ front))
+  bracketed_of front more pairs = (
+    cores,
+    bracket ++ front,
+    refl,
+    (core, is_core),
+    zone_in b,
+    tail_of bracket front b more is_bracket pairs,
+    λ none. bracket_stands bracket b is_bracket (nothing_left bracket front none),
+  )
+
+  split_of : (front left : Text) → rest ≡ front ++ left → text ≡ (cores ++ (bracket ++ front)) ++ left
+  split_of front left e = is ∙ ap (λ r. cores ++ (bracket ++ r)) e ∙ ap (λ r. cores ++ r) (sym (append_assoc bracket front left)) ∙ sym (append_assoc cores (bracket ++ front) left)
+
+  -- a row that fits behind whole brackets fits the text
+  fits_text : (more : List Pair) (left : Text) (row : Row) → PairsUpTo rest more left → FitsAfterBrackets row left → Fits parse row (pairs_in b ++ more) text
+  fits_text more left row upto_left fits =
+      let front = upto_left.0 in
+      let whole = cores ++ (bracket ++ front) in (
+        whole ++ fits.0,
+        fits.1,
+        split_of front left upto_left.1 ∙ ap (λ r. whole ++ r) fits.2 ∙ sym (append_assoc whole fits.0 fits.1),
+        after_whole row.name (pairs_in b ++ more) whole fits.0 fits.1 (bracketed_of front more upto_left.2) fits.3,
+        fits.4,
+      )
+
+  module _ {T U F : Type 0} (number : U → ℕ) (step : F → Annotation T U → Option (Annotation T U) → F → Type 0) (handler last : F) where
+    -- what the code replies of the pairs, for the whole text
+    pub text_read : (result : Result (Option Pair) Fault) → PairsRead number step handler last (pairs_in b) rest result → TextRead number step handler last text (text_result core b result)
+    text_read (Ok calendar) h = record {
+      calls = h.calls;
+      chain = h.chain;
+      gives = record {
+        read = parsed_with core (zone_in b);
+        whole = subst (IsDateTime text (parsed_with core (zone_in b))) (sym h.all)
+            (subst (λ t. IsDateTime t (parsed_with core (zone_in b)) (pairs_in b ++ h.more)) (sym is) (date_time_of rest h.more h.gives.0));
+        accepted = h.gives.1;
+        has = ap (λ c. with_calendar (parsed_with core (zone_in b)) (calendar_value c)) h.gives.2;
+      };
+    }
+    text_read (Err fault) h =
+        let left = h.gives.0 in
+        let front = h.gives.1 in
+        let gives : GivesFault parse text (pairs_in b ++ h.more) (replies_of number h.calls) fault =
+        elim h.gives.2 [
+          | inl last_refused ↦ inl ((cores ++ (bracket ++ front.0), left, split_of front.0 left front.1, parsed_with core (zone_in b), date_time_of front.0 h.more front.2), last_refused)
+          | inr p ↦ inr ((p.0.0, fits_text h.more left p.0.0 front p.0.1, p.0.2), p.1)
+        ] in
+        record { calls = h.calls; chain = h.chain; gives = subst (λ pairs. GivesFault parse text pairs (replies_of number h.calls) fault) (sym h.all) gives }
+
+-- ---- a text without a call
+
+module _ {T U F : Type 0} (number : U → ℕ) (step : F → Annotation T U → Option (Annotation T U) → F → Type 0) (handler : F) (text : Text) where
+  -- a text with a fault before any pair
+  pub text_fault : (fault : Fault) → HasFault parse text [] fault → TextRead number step handler handler text (Err fault)
+  text_fault fault h = record { calls = []; chain = refl; gives = inr (h, NoneRefused-nothing) }
+
+  -- a core alone
+  pub text_derived : (core : Core) → IsDateTimeCore text core → TextRead number step handler handler text (Ok (with_calendar (parsed_with core None) None))
+  text_derived core is_core = record {
+    calls = [];
+    chain = refl;
+    gives = record {
+      read = parsed_with core None;
+      whole = record {
+        cores = text;
+        brackets = [];
+        core = core;
+        zone = None;
+        is = sym (append-nil text);
+        is_core = is_core;
+        is_tail = ([], [], refl, refl, refl);
+        has = refl;
+      };
+      accepted = NoneRefused-nothing;
+      has = refl;
+    };
+  }

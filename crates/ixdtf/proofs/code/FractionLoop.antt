@@ -1,0 +1,90 @@
+-- The digits of a fraction, taken off one by one.
+use Rattle.std.proofs.Common.{◌≡◌, ℕ, ◌+◌, true, false, List, [], ◌∷◌, ◌++◌, length, map, drop, Some, None, Ok, Err, refl, sym, ap, ◌∙◌, arith, append_assoc, append-nil}
+use Rattle.ixdtf.specs.language.Letters.{Letter, Text}
+use Rattle.ixdtf.specs.language.Letters.Letter.{Plain, Bad}
+use Rattle.ixdtf.specs.language.Letters.{digit}
+use Rattle.ixdtf.specs.table.Faults.{Fault}
+use Rattle.ixdtf.specs.table.Faults.Fault.{NonAsciiCodePoint}
+use Rattle.ixdtf.specs.language.Fractions.{FractionParts, fraction_of}
+use Rattle.ixdtf.specs.reading.Looks.{Read, ◌>>=◌, look_at, digit_run}
+use Rattle.ixdtf.specs.reading.CodeReadings.{more_digits_at}
+use Rattle.ixdtf.proofs.code.GrowingDigits.{Grown, fraction_grows}
+
+-- digits that were read, with more in front of them
+abbrev with_front : Text → Read Fault Text → Read Fault Text
+with_front front read = read >>= λ more. Ok (front ++ more.0, more.1)
+
+with_nothing : (read : Read Fault Text) → with_front [] read ≡ read
+with_nothing (Ok more) = refl
+with_nothing (Err e) = refl
+
+with_both : (a b : Text) (read : Read Fault Text) → with_front a (with_front b read) ≡ with_front (a ++ b) read
+with_both a b (Ok more) = ap (λ (t : Text). Ok (t, more.1)) (sym (append_assoc a b more.0))
+with_both a b (Err e) = refl
+
+abbrev run_of : Text → Read Fault Text
+run_of text = digit_run NonAsciiCodePoint text
+
+run_more : (c : ℕ) (rest : Text) → digit c ≡ true → run_of (Plain c ∷ rest) ≡ with_front (Plain c ∷ []) (run_of rest)
+unfolding digit_run
+run_more c rest is = rw is refl
+
+run_other : (c : ℕ) (rest : Text) → digit c ≡ false → run_of (Plain c ∷ rest) ≡ Ok ([], Plain c ∷ rest)
+unfolding digit_run
+run_other c rest is = rw is refl
+
+-- a look found this letter first
+first_is : (text : Text) (c : ℕ) → look_at NonAsciiCodePoint text ≡ Ok (Some c) → (more : Text) × (text ≡ Plain c ∷ more)
+unfolding look_at
+first_is [] c e = absurd cc
+first_is (Plain n ∷ more) c e = (more, ap (λ (m : ℕ). Plain m ∷ more) cc)
+first_is (Bad ∷ more) c e = absurd cc
+
+-- So far digits were taken off: the fraction is theirs, and the rest is still to be read.
+pub record IsSoFar (first : ℕ) (whole rest : Text) (fraction : FractionParts) : Type 0 where
+  pub ds : Text
+  pub read : run_of whole ≡ with_front ds (run_of rest)
+  pub value : fraction ≡ fraction_of (Plain first ∷ ds)
+
+pub begins : (first : ℕ) (whole : Text) (fraction : FractionParts) → fraction ≡ fraction_of (Plain first ∷ []) → IsSoFar first whole whole fraction
+begins first whole fraction is = record { ds = []; read = sym (with_nothing (run_of whole)); value = is }
+
+pub goes_on : (first : ℕ) (whole rest next : Text) (before after : FractionParts) (c : ℕ) → IsSoFar first whole rest before → look_at NonAsciiCodePoint rest ≡ Ok (Some c) → digit c ≡ true → next ≡ drop 1 rest → Grown before after c → IsSoFar first whole next after
+goes_on first whole rest next before after c far e is moved grown =
+    let here = first_is rest c e in
+    let left : next ≡ here.0 = moved ∙ ap (λ (t : Text). drop 1 t) here.1 in
+    record {
+      ds = far.ds ++ (Plain c ∷ []);
+      read = far.read ∙ ap (λ (t : Text). with_front far.ds (run_of t)) here.1 ∙ ap (with_front far.ds) (run_more c here.0 is)
+          ∙ with_both far.ds (Plain c ∷ []) (run_of here.0) ∙ ap (λ (t : Text). with_front (far.ds ++ (Plain c ∷ [])) (run_of t)) (sym left);
+      value = fraction_grows (Plain first ∷ far.ds) before after c far.value grown;
+    }
+
+ends : (first : ℕ) (whole rest : Text) (fraction : FractionParts) → IsSoFar first whole rest fraction → run_of rest ≡ Ok ([], rest) → more_digits_at first whole ≡ Ok (fraction, rest)
+ends first whole rest fraction far over = rw (far.read, over, append-nil far.ds, far.value) refl
+
+pub ends_at_other : (first : ℕ) (whole rest : Text) (fraction : FractionParts) (c : ℕ) → IsSoFar first whole rest fraction → look_at NonAsciiCodePoint rest ≡ Ok (Some c) → digit c ≡ false → more_digits_at first whole ≡ Ok (fraction, rest)
+ends_at_other first whole rest fraction c far e is =
+    let here = first_is rest c e in
+    ends first whole rest fraction far (rw here.1 (run_other c here.0 is))
+
+pub ends_at_end : (first : ℕ) (whole rest : Text) (fraction : FractionParts) → IsSoFar first whole rest fraction → look_at NonAsciiCodePoint rest ≡ Ok None → more_digits_at first whole ≡ Ok (fraction, rest)
+unfolding look_at digit_run
+ends_at_end first whole [] fraction far e = ends first whole [] fraction far refl
+ends_at_end first whole (Plain n ∷ rest) fraction far e = absurd cc
+ends_at_end first whole (Bad ∷ rest) fraction far e = absurd cc
+
+pub fails : (first : ℕ) (whole rest : Text) (fraction : FractionParts) (fault : Fault) → IsSoFar first whole rest fraction → look_at NonAsciiCodePoint rest ≡ Err fault → more_digits_at first whole ≡ Err fault
+unfolding look_at digit_run
+fails first whole [] fraction fault far e = absurd cc
+fails first whole (Plain n ∷ rest) fraction fault far e = absurd cc
+fails first whole (Bad ∷ rest) fraction fault far e = let same : NonAsciiCodePoint ≡ fault = cc in rw far.read (ap (λ (f : Fault). fault_is f) same)
+  where
+    fault_is : Fault → Read Fault FractionParts
+    fault_is f = Err f
+
+-- a step shortens the units where a look found a letter
+pub shrinks : (letter : ℕ → Letter) (rest next : List ℕ) (c : ℕ) → look_at NonAsciiCodePoint (map letter rest) ≡ Ok (Some c) → next ≡ drop 1 rest → length next + 1 ≡ length rest
+unfolding look_at
+shrinks letter [] next c e moved = absurd cc
+shrinks letter (u ∷ us) next c e moved = omega (arith, ap (λ (t : List ℕ). length t) moved)

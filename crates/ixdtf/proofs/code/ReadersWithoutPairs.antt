@@ -1,0 +1,79 @@
+-- The clauses of a reader that reads no pairs, from what its reading returns.
+use Rattle.std.proofs.Common.{refl, ◌≡◌, List, [], Result, Ok, Err, sym, ap, ◌∙◌, subst, IfErr}
+use Rattle.ixdtf.specs.language.Letters.{Text}
+use Rattle.ixdtf.specs.table.Faults.{Fault, fault_of}
+use Rattle.ixdtf.specs.declared.error.ParseError.{ParseError}
+use Rattle.ixdtf.specs.Views.{returned}
+use Rattle.ixdtf.specs.language.Brackets.{Pair}
+use Rattle.ixdtf.specs.language.Readers.{Reader}
+use Rattle.ixdtf.specs.language.Readers.Reader.{parse, parse_offset, parse_identifier, parse_iana_identifier}
+use Rattle.ixdtf.specs.table.Rows.{Row, Fits}
+use Rattle.ixdtf.specs.language.Languages.{Found, Derives}
+use Rattle.ixdtf.specs.table.Outcomes.{HasFault}
+use Rattle.ixdtf.specs.reading.Looks.{Read}
+use Rattle.ixdtf.specs.reading.Wholes.{finding, read_at}
+use Rattle.ixdtf.proofs.to_grammar.Wholes.{OnWhole, whole_read}
+use Rattle.ixdtf.proofs.to_reading.Wholes.{takes}
+
+abbrev done : {A : Type 0} → A → Result A Fault
+done x = Ok x
+
+abbrev failed : {A : Type 0} → Fault → Result A Fault
+failed fault = Err fault
+
+done_is : {A : Type 0} (x y : A) → done x ≡ done y → x ≡ y
+done_is x y e = cc
+
+failed_is : {A : Type 0} (x : A) (fault : Fault) → failed fault ≡ done x → ⊥
+failed_is x fault e = cc
+
+-- the fault is a row's error, whatever pairs stand before it
+abbrev pub error_after : List Pair → Row → Fault
+error_after pairs row = row.error
+
+-- the reader reads no pairs
+abbrev pub ReadsNoPairs : Reader → Type 0
+ReadsNoPairs parse = ⊥
+ReadsNoPairs reader = Unit {0}
+
+-- no pairs stand before its rows
+no_pairs : (reader : Reader) (row : Row) (pairs : List Pair) (text : Text) → ReadsNoPairs reader → Fits reader row pairs text → Fits reader row [] text
+no_pairs parse row pairs text none f = absurd none
+no_pairs parse_offset row pairs text none f = rw f.3.1 at f
+no_pairs parse_identifier row pairs text none f = rw f.3.1 at f
+no_pairs parse_iana_identifier row pairs text none f = rw f.3.1 at f
+
+-- What a reader returned at a text: a kind of what readers find, told apart from each other of the kind.
+module _ {A : Type 0} (reader : Reader) (found : A → Found) (same : (x y : A) → found x ≡ found y → x ≡ y) (text : Text) (reading : Read Fault A) (reads : read_at error_after reader text ≡ finding found reading) where
+  abbrev Returned : Read Fault (Found × List Pair) → Type 0
+  Returned read = OnWhole error_after reader text read
+
+  returned_here : (read : Read Fault A) → reading ≡ read → Returned (finding found read)
+  returned_here read is = subst Returned (reads ∙ ap (finding found) is) (whole_read error_after reader text)
+
+  -- all of the text was read
+  pub nothing_left : (x : A) (rest : Text) → reading ≡ Ok (x, rest) → rest ≡ []
+  nothing_left x rest is = (returned_here (Ok (x, rest)) is).0
+
+  -- `Ok` exactly where it is derived
+  pub ok_where_derived : (x : A) (rest : Text) → reading ≡ Ok (x, rest) → (y : A) → (done x ≡ done y → Derives reader text (found y) []) × (Derives reader text (found y) [] → done x ≡ done y)
+  ok_where_derived x rest is y = (
+    λ e. subst (λ z. Derives reader text (found z) []) (done_is x y e) (returned_here (Ok (x, rest)) is).1,
+    λ d. ap done (same x y (ap (λ (p : (Found × List Pair) × Text). p.0.0) (done_is ((found x, []), rest) ((found y, []), []) (sym (reads ∙ ap (finding found) is) ∙ takes error_after reader text (found y) [] d)))),
+  )
+
+  -- nothing is derived where reading returned a fault
+  pub err_where_refused : (fault : Fault) → reading ≡ Err fault → (y : A) → (failed fault ≡ done y → Derives reader text (found y) []) × (Derives reader text (found y) [] → failed fault ≡ done y)
+  err_where_refused fault is y = (
+    λ e. absurd (failed_is y fault e),
+    λ d. absurd (failed_is ((found y, []), []) fault (sym (reads ∙ ap (finding found) is) ∙ takes error_after reader text (found y) [] d)),
+  )
+
+  -- a fault is the error of a row that fits
+  pub err_where_fits : (fault : Fault) → reading ≡ Err fault → ReadsNoPairs reader → HasFault reader text [] fault
+  err_where_fits fault is none = let row = returned_here (Err fault) is in (row.1, no_pairs reader row.1 row.0 text none row.3, sym row.2)
+
+-- what holds of each fault that was returned
+pub each_err : {X Y : Type 0} (view : X → Y) (holds : Fault → Type 0) (r : Result X ParseError) → ((fault : Fault) → returned view r ≡ Err fault → holds fault) → IfErr r (λ e. holds (fault_of e))
+each_err view holds (Ok x) h = tt
+each_err view holds (Err e) h = h (fault_of e) refl

@@ -1,0 +1,2 @@
+-- Texts and their outcomes, computed.
+pub mod Examples

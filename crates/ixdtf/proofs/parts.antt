@@ -1,0 +1,5 @@
+-- What readings are made of.
+pub mod LookAhead
+pub mod Looks
+pub mod Years
+pub mod ZonesAlone

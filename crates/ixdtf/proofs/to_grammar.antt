@@ -1,0 +1,9 @@
+-- From reading to the grammar and the table: what is read is derived, and each fault is that of a row that fits.
+pub mod Cores
+pub mod Dates
+pub mod FirstBracket
+pub mod MorePairs
+pub mod Pair
+pub mod Times
+pub mod Wholes
+pub mod ZoneNames

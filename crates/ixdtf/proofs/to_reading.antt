@@ -1,0 +1,10 @@
+-- From the grammar and the table to reading: what is derived is read, and each row that fits is found.
+pub mod ClockRows
+pub mod Cores
+pub mod Dates
+pub mod FirstBracket
+pub mod MorePairs
+pub mod Pair
+pub mod Times
+pub mod Wholes
+pub mod ZoneNames

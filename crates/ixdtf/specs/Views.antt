@@ -1,0 +1,62 @@
+-- What public clauses see: a parser, a result, and the records that the code returns.
+use Rattle.std.specs.Prelude.{◌≡◌, ℕ, Bool, IsTrue, IsFalse, ◌+◌, ◌*◌, ◌≤◌, List, map, length, Option, Some, None, option_map, slice_get, Result, Ok, Err}
+use Rattle.ixdtf.specs.declared.error.ParseError.{ParseError}
+use Rattle.ixdtf.specs.declared.records.TimeZoneRecord.{TimeZoneRecord}
+use Rattle.ixdtf.specs.declared.records.TimeZoneRecord.TheVariants as zones
+use Rattle.ixdtf.specs.declared.records.TimeZoneAnnotation.{TimeZoneAnnotation}
+use Rattle.ixdtf.specs.declared.records.IxdtfParseRecord.{IxdtfParseRecord}
+use Rattle.ixdtf.specs.language.Letters.{Letter, Text}
+use Rattle.ixdtf.specs.language.Letters.Letter.{Plain, Bad}
+use Rattle.ixdtf.specs.table.Faults.{Fault, fault_of}
+use Rattle.ixdtf.specs.table.Faults.Fault.{NonAsciiCodePoint}
+use Rattle.ixdtf.specs.language.ZoneNames.{Zone}
+use Rattle.ixdtf.specs.language.Brackets.{ZoneNote}
+use Rattle.ixdtf.specs.language.Languages.{Parsed}
+use Rattle.ixdtf.specs.language.ZoneNames.Zone.{Name, Offset}
+
+-- what a parser is to its callers: the numbers of the units still to be read, and how many looks were made
+pub record Unread : Type 0 where
+  pub rest : List ℕ
+  pub looks : ℕ
+
+-- what a look finds: a letter's number, or nothing past the end
+abbrev pub looked : Option Letter → Result (Option ℕ) Fault
+looked None = Ok None
+looked (Some (Plain n)) = Ok (Some n)
+looked (Some Bad) = Err NonAsciiCodePoint
+
+-- what a look at a place of a source finds, where a unit's number has that letter
+abbrev pub ascii_at : (ℕ → Letter) → ℕ → List ℕ → Result (Option ℕ) Fault
+ascii_at letter place units = looked (option_map letter (slice_get units place))
+
+-- what a function returned, with its value seen by a view, and its error by its fault
+abbrev pub returned : {X Y : Type 0} → (X → Y) → Result X ParseError → Result Y Fault
+returned view (Ok x) = Ok (view x)
+returned view (Err e) = Err (fault_of e)
+
+-- what a function returned, seen so, is what is wanted
+abbrev pub Returns : {X Y : Type 0} → (X → Y) → Result X ParseError → Result Y Fault → Type 0
+Returns view (Ok x) wanted = wanted ≡ Ok (view x)
+Returns view (Err e) wanted = wanted ≡ Err (fault_of e)
+
+-- a zone, with its name by the numbers of its units
+abbrev pub zone_of : {T U : Type 0} → (U → ℕ) → TimeZoneRecord T U → Zone
+zone_of number (zones.Name units) = Name (map number units.now)
+zone_of number (zones.Offset offset) = Offset offset
+
+abbrev pub note_of : {T U : Type 0} → (U → ℕ) → TimeZoneAnnotation T U → ZoneNote
+note_of number annotation = record { critical = annotation.critical; zone = zone_of number annotation.tz }
+
+-- a record, with its names by the numbers of their units
+abbrev pub parsed_of : {T U : Type 0} → (U → ℕ) → IxdtfParseRecord T U → Parsed
+parsed_of number r = record {
+  date = r.date;
+  time = r.time;
+  offset = r.offset;
+  zone = option_map (note_of number) r.tz;
+  calendar = option_map (λ units. map number units.now) r.calendar;
+}
+
+-- the most looks that a reader makes at a text
+abbrev pub most_looks : List ℕ → ℕ
+most_looks rest = 4 * length rest + 64

@@ -1,0 +1,119 @@
+-- Letters, which are what the units of a text stand for, as the readers see them, and classes of them (RFC 3339 section 5.6, ISO 8601).
+use Rattle.std.specs.Prelude.{◌≡◌, ℕ, List, Bool, true, false, nat_eq, nat_le, ◌&&◌, ◌||◌}
+
+-- The letter of a unit is the unit's number, or Bad for a unit that no reader takes.
+pub data Letter : Type 0 where
+  Plain : ℕ → Letter
+  Bad : Letter
+
+-- a text is a list of letters
+abbrev pub Text : Type 0
+Text = List Letter
+
+-- each 8-bit unit is its own letter
+abbrev pub byte_letter : ℕ → Letter
+byte_letter n = Plain n
+
+-- a plain letter is the number of its unit
+pub byte_letter-faithful : (unit n : ℕ) → byte_letter unit ≡ Plain n → n ≡ unit
+byte_letter-faithful unit n is = cc
+
+
+abbrev pub Class : Type 0
+Class = ℕ → Bool
+
+infixl 20 ◌or◌
+abbrev pub ◌or◌ : Class → Class → Class
+(a or b) c = a c || b c
+
+-- no letter
+abbrev pub none : Class
+none c = false
+
+-- any letter
+abbrev pub any : Class
+any c = true
+
+-- `0` to `9`
+abbrev pub digit : Class
+digit c = nat_le 48 c && nat_le c 57
+
+-- `+`
+abbrev pub plus : Class
+plus c = nat_eq c 43
+
+-- `-`
+abbrev pub hyphen : Class
+hyphen c = nat_eq c 45
+
+-- `+` or `-`
+abbrev pub sign : Class
+sign = plus or hyphen
+
+-- `:`
+abbrev pub colon : Class
+colon c = nat_eq c 58
+
+-- `.` or `,`
+abbrev pub decimal_mark : Class
+decimal_mark c = nat_eq c 46 || nat_eq c 44
+
+-- `T`, `t` or a space
+abbrev pub date_time_separator : Class
+date_time_separator c = nat_eq c 84 || nat_eq c 116 || nat_eq c 32
+
+-- `Z` or `z`
+abbrev pub zulu : Class
+zulu c = nat_eq c 90 || nat_eq c 122
+
+-- `[`
+abbrev pub opening : Class
+opening c = nat_eq c 91
+
+-- `]`
+abbrev pub closing : Class
+closing c = nat_eq c 93
+
+-- `!`
+abbrev pub exclamation : Class
+exclamation c = nat_eq c 33
+
+-- `=`
+abbrev pub equals : Class
+equals c = nat_eq c 61
+
+-- `/`
+abbrev pub slash : Class
+slash c = nat_eq c 47
+
+-- `A` to `Z`
+abbrev pub upper : Class
+upper c = nat_le 65 c && nat_le c 90
+
+-- `a` to `z`
+abbrev pub lower : Class
+lower c = nat_le 97 c && nat_le c 122
+
+-- `_`
+abbrev pub underscore : Class
+underscore c = nat_eq c 95
+
+-- what a zone name begins with (`time-zone-initial` of RFC 9557 section 4.1)
+abbrev pub zone_lead : Class
+zone_lead c = upper c || lower c || underscore c || nat_eq c 46
+
+-- what goes on in a zone name (`time-zone-char`)
+abbrev pub zone_char : Class
+zone_char = zone_lead or digit or sign
+
+-- what a key begins with (`key-initial`)
+abbrev pub key_lead : Class
+key_lead = lower or underscore
+
+-- what goes on in a key (`key-char`)
+abbrev pub key_char : Class
+key_char = key_lead or digit or hyphen
+
+-- what stands in a value (`value-char`)
+abbrev pub value_char : Class
+value_char = upper or lower or digit

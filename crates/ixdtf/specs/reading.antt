@@ -1,0 +1,12 @@
+-- Reading: plain functions on texts in the shape of the code, which private clauses cite. No public clause cites one.
+pub mod Brackets
+pub mod Chains
+pub mod Clauses
+pub mod CodeReadings
+pub mod CodeViews
+pub mod Dates
+pub mod Looks
+pub mod Pairs
+pub mod Times
+pub mod Wholes
+pub mod Zones

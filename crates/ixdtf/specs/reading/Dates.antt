@@ -1,0 +1,91 @@
+-- Reading a date.
+use Rattle.std.specs.Prelude.{ℕ, ◌∷◌, Ok, Err, ℤ, pos, nat_eq, nat_le, ◌&&◌, if◌then◌else◌}
+use Rattle.ixdtf.specs.declared.records.DateRecord.{DateRecord}
+use Rattle.ixdtf.specs.language.Letters.{Text}
+use Rattle.ixdtf.specs.language.Letters.Letter.{Plain}
+use Rattle.ixdtf.specs.language.Letters.{sign, hyphen}
+use Rattle.ixdtf.specs.language.Digits.{decimal}
+use Rattle.ixdtf.specs.table.Faults.Fault.{DateExtendedYear, InvalidMonthRange, InvalidDayRange}
+use Rattle.ixdtf.specs.language.Dates.{signed, month_length}
+use Rattle.ixdtf.specs.table.LineNames.LineName.{of_date}
+use Rattle.ixdtf.specs.table.LineNames.DateLine.{year_start, year_digits, extended_year_digits, minus_zero_year, after_year, month_digits, month_range, after_hyphened_month, after_plain_month, day_digits, day_range}
+use Rattle.ixdtf.specs.table.Rows.{Row}
+use Rattle.ixdtf.specs.table.Rows.Place.{anywhere}
+use Rattle.ixdtf.specs.reading.Looks.{Read, ◌>>=◌, row_of, letter_at, digits_at}
+
+-- after a sign
+unfoldable pub extended_year_at : {E : Type 0} → (Row → E) → ℕ → Text → Read E ℤ
+extended_year_at fault c text = do
+  ds ← digits_at fault (of_date extended_year_digits) 6 text
+  if hyphen c && nat_eq (decimal ds.0) 0 then Err (fault (row_of (of_date minus_zero_year) anywhere DateExtendedYear))
+      else Ok (signed c (decimal ds.0), ds.1)
+
+-- after the first digit
+unfoldable pub plain_year_at : {E : Type 0} → (Row → E) → ℕ → Text → Read E ℤ
+plain_year_at fault c text = do
+  ds ← digits_at fault (of_date year_digits) 3 text
+  Ok (pos (decimal (Plain c ∷ ds.0)), ds.1)
+
+unfoldable pub year_at : {E : Type 0} → (Row → E) → Text → Read E ℤ
+year_at fault text = do
+  first ← letter_at fault (of_date year_start) text
+  if sign first.0 then extended_year_at fault first.0 first.1 else plain_year_at fault first.0 first.1
+
+-- the month of the two digits that were read
+unfoldable pub month_in_range : {E : Type 0} → (Row → E) → Text × Text → Read E ℕ
+month_in_range fault ds =
+    if nat_le 1 (decimal ds.0) && nat_le (decimal ds.0) 12 then Ok (decimal ds.0, ds.1)
+    else Err (fault (row_of (of_date month_range) anywhere InvalidMonthRange))
+
+-- the date, where the day is in the month
+unfoldable pub day_in_range : {E : Type 0} → (Row → E) → DateRecord → Text → Read E DateRecord
+day_in_range fault date rest =
+    if nat_le 1 date.day && nat_le date.day (month_length date.year date.month) then Ok (date, rest)
+    else Err (fault (row_of (of_date day_range) anywhere InvalidDayRange))
+
+abbrev pub date_of : ℤ → ℕ → ℕ → DateRecord
+date_of year month day = record { year = year; month = month; day = day }
+
+unfoldable pub hyphened_day_at : {E : Type 0} → (Row → E) → ℤ → ℕ → Text → Read E DateRecord
+hyphened_day_at fault year month text = do
+  ds ← digits_at fault (of_date day_digits) 2 text
+  day_in_range fault (date_of year month (decimal ds.0)) ds.1
+
+unfoldable pub after_hyphened_month_at : {E : Type 0} → (Row → E) → ℤ → ℕ → Text → Read E DateRecord
+after_hyphened_month_at fault year month text = do
+  separator ← letter_at fault (of_date after_hyphened_month) text
+  hyphened_day_at fault year month separator.1
+
+unfoldable pub hyphened_date_at : {E : Type 0} → (Row → E) → ℤ → Text → Read E DateRecord
+hyphened_date_at fault year text = do
+  ds ← digits_at fault (of_date month_digits) 2 text
+  month ← month_in_range fault ds
+  after_hyphened_month_at fault year month.0 month.1
+
+-- after the day's first digit
+unfoldable pub plain_day_at : {E : Type 0} → (Row → E) → ℤ → ℕ → ℕ → Text → Read E DateRecord
+plain_day_at fault year month tens text = do
+  ones ← digits_at fault (of_date day_digits) 1 text
+  day_in_range fault (date_of year month (decimal (Plain tens ∷ ones.0))) ones.1
+
+unfoldable pub after_plain_month_at : {E : Type 0} → (Row → E) → ℤ → ℕ → Text → Read E DateRecord
+after_plain_month_at fault year month text = do
+  tens ← letter_at fault (of_date after_plain_month) text
+  plain_day_at fault year month tens.0 tens.1
+
+-- after the month's first digit
+unfoldable pub plain_date_at : {E : Type 0} → (Row → E) → ℤ → ℕ → Text → Read E DateRecord
+plain_date_at fault year tens text = do
+  ones ← digits_at fault (of_date month_digits) 1 text
+  month ← month_in_range fault (Plain tens ∷ ones.0, ones.1)
+  after_plain_month_at fault year month.0 month.1
+
+unfoldable pub after_year_at : {E : Type 0} → (Row → E) → ℤ → Text → Read E DateRecord
+after_year_at fault year text = do
+  next ← letter_at fault (of_date after_year) text
+  if hyphen next.0 then hyphened_date_at fault year next.1 else plain_date_at fault year next.0 next.1
+
+unfoldable pub date_at : {E : Type 0} → (Row → E) → Text → Read E DateRecord
+date_at fault text = do
+  year ← year_at fault text
+  after_year_at fault year.0 year.1

@@ -1,0 +1,8 @@
+-- The fault table: the errors, and where each fits.
+pub mod ErrorEquality
+pub mod ErrorTexts
+pub mod Faults
+pub mod LineNames
+pub mod Lines
+pub mod Outcomes
+pub mod Rows

@@ -1,0 +1,39 @@
+-- The names of the lines of the fault table.
+use Rattle.ixdtf.specs.declared.parsers.time.Clock.{Clock}
+
+-- the lines of dates
+pub data DateLine : Type 0 where
+  year_start year_digits extended_year_digits minus_zero_year : DateLine
+  after_year month_digits month_range : DateLine
+  after_hyphened_month after_plain_month day_digits day_range after_date : DateLine
+
+-- the lines of times, and of offsets after their sign
+pub data ClockLine : Type 0 where
+  hour_start hour_digit hour_range after_hour : ClockLine
+  minute_digits minute_range after_plain_minute after_colon_minute : ClockLine
+  second_digits second_range after_second fraction_start after_fraction : ClockLine
+
+-- the other lines of offsets
+pub data OffsetLine : Type 0 where
+  offset_start after_zulu : OffsetLine
+
+-- the lines of zone names
+pub data ZoneLine : Type 0 where
+  identifier_start zone_name_start in_zone_name after_zone_slash : ZoneLine
+
+-- the lines of brackets
+pub data BracketLine : Type 0 where
+  first_bracket_start first_critical_start first_bracket_scan after_bracket : BracketLine
+
+-- the lines of pairs
+pub data PairLine : Type 0 where
+  key_start critical_key_start in_key value_start in_value after_value_hyphen : PairLine
+
+-- the lines, by the part that they speak of
+pub data LineName : Type 0 where
+  of_date : DateLine → LineName
+  of_clock : Clock → ClockLine → LineName
+  of_offset : OffsetLine → LineName
+  of_zone : ZoneLine → LineName
+  of_bracket : BracketLine → LineName
+  of_pair : PairLine → LineName

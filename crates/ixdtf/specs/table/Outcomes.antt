@@ -1,0 +1,38 @@
+-- The outcomes of a text: what is derived, or the row that fits.
+use Rattle.std.specs.Prelude.{◌≡◌, ℕ, List, [], ◌++◌, Option, Some, None}
+use Rattle.ixdtf.specs.declared.records.DateRecord.{DateRecord}
+use Rattle.ixdtf.specs.declared.records.TimeRecord.{TimeRecord}
+use Rattle.ixdtf.specs.declared.records.UtcOffsetRecord.{UtcOffsetRecord}
+use Rattle.ixdtf.specs.declared.records.UtcOffsetRecordOrZ.{UtcOffsetRecordOrZ}
+use Rattle.ixdtf.specs.language.Letters.{Text}
+use Rattle.ixdtf.specs.table.Faults.{Fault}
+use Rattle.ixdtf.specs.language.Offsets.{IsOffset}
+use Rattle.ixdtf.specs.language.ZoneNames.{Zone, IsZoneName, IsZone}
+use Rattle.ixdtf.specs.language.Brackets.{ZoneNote}
+use Rattle.ixdtf.specs.language.Brackets.{Pair, IsTail}
+use Rattle.ixdtf.specs.language.Cores.{Core, IsDateTimeCore}
+use Rattle.ixdtf.specs.language.Readers.{Reader}
+use Rattle.ixdtf.specs.language.Readers.Reader.{parse, parse_offset, parse_identifier, parse_iana_identifier}
+use Rattle.ixdtf.specs.table.Rows.{Row, Fits}
+use Rattle.ixdtf.specs.language.Languages.{Found, Derives}
+
+-- a row with the error fits, with these whole pairs before it
+abbrev pub HasFault : Reader → Text → List Pair → Fault → Type 0
+HasFault reader text pairs fault = (row : Row) × Fits reader row pairs text × (row.error ≡ fault)
+
+-- an outcome: what is derived, or a row of the fault table, with the pairs of the text or of the row's front
+pub data Outcome : Type 0 where
+  derived : Found → List Pair → Outcome
+  refused : Row → List Pair → Outcome
+
+-- the reader derives the record from the text, or the row fits the text
+abbrev pub Holds : Reader → Text → Outcome → Type 0
+Holds reader text (derived found pairs) = Derives reader text found pairs
+Holds reader text (refused row pairs) = Fits reader row pairs text
+
+abbrev pub ExactlyOne : {A : Type 0} → (A → Type 0) → Type 0
+ExactlyOne {A} p = (x : A) × p x × ((y : A) → p y → y ≡ x)
+
+-- each text has exactly one outcome in each reader
+abbrev pub OneOutcome : Type 0
+OneOutcome = (reader : Reader) (text : Text) → ExactlyOne (Holds reader text)
