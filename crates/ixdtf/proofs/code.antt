@@ -1,6 +1,5 @@
 -- What the functions of the code use.
 pub mod Chains
-pub mod CodeLemmas
 pub mod DigitClasses
 pub mod EqualUnits
 pub mod FractionLoop

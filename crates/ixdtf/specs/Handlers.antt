@@ -18,9 +18,12 @@ use Rattle.ixdtf.specs.language.Languages.Found.{parsed}
 abbrev pub Reply : Type 0
 Reply = Option Pair
 
--- the key of calendars, `u-ca`
+-- the key of calendars
+abbrev pub calendar_key : List ℕ
+calendar_key = codes "u-ca"
+
 abbrev pub is_calendar : Pair → Bool
-is_calendar pair = pointwise nat_eq pair.key (codes "u-ca")
+is_calendar pair = pointwise nat_eq pair.key calendar_key
 
 -- the first calendar among the replies
 abbrev pub first_calendar : List Reply → Option Pair
@@ -29,9 +32,10 @@ first_calendar replies = find is_calendar (filter_map (λ reply. reply) replies)
 -- an reply is refused with the fault, where this is the first calendar among the replies before it
 abbrev pub RefusedBeside : Option Pair → Reply → Fault → Type 0
 RefusedBeside first None fault = ⊥
-RefusedBeside first (Some pair) UnrecognizedCritical = IsTrue pair.critical × (pair.key ≢ codes "u-ca")
+RefusedBeside first (Some pair) UnrecognizedCritical = IsTrue pair.critical × (pair.key ≢ calendar_key)
 RefusedBeside None (Some pair) CriticalDuplicateCalendar = ⊥
-RefusedBeside (Some first) (Some pair) CriticalDuplicateCalendar = (pair.key ≡ codes "u-ca") × (pair.value ≢ first.value) × (IsTrue first.critical ⊎ IsTrue pair.critical)
+RefusedBeside (Some first) (Some pair) CriticalDuplicateCalendar =
+    (pair.key ≡ calendar_key) × (pair.value ≢ first.value) × (IsTrue first.critical ⊎ IsTrue pair.critical)
 RefusedBeside first (Some pair) fault = ⊥
 
 -- after these replies, an reply is refused with the fault
@@ -74,7 +78,8 @@ HasFront reader text pairs = (front rest : Text) × (text ≡ front ++ rest) × 
 -- The text with these pairs and these replies gives the fault: the last reply is refused with it, behind a front that is
 -- derived; or the text has it, and no reply is refused.
 abbrev pub GivesFault : Reader → Text → List Pair → List Reply → Fault → Type 0
-GivesFault reader text pairs replies fault = (HasFront reader text pairs × LastRefused replies fault) ⊎ (HasFault reader text pairs fault × NoneRefused replies)
+GivesFault reader text pairs replies fault =
+    (HasFront reader text pairs × LastRefused replies fault) ⊎ (HasFault reader text pairs fault × NoneRefused replies)
 
 -- ---- a handler
 
@@ -100,7 +105,8 @@ IsChain step handler calls last = FoldsTo (λ f call g. step f call.0 call.1 g) 
 
 -- For one chain of calls: `Ok` exactly with the record that the text and the replies give, `Err` only with a fault that
 -- they give.
-pub record Handled {T U F : Type 0} (number : U → ℕ) (step : F → Annotation T U → Option (Annotation T U) → F → Type 0) (handler : F) (reader : Reader) (text : Text) (result : Result Parsed Fault) : Type 0 where
+pub record Handled {T U F : Type 0} (number : U → ℕ)
+(step : F → Annotation T U → Option (Annotation T U) → F → Type 0) (handler : F) (reader : Reader) (text : Text) (result : Result Parsed Fault) : Type 0 where
   pub calls : Calls T U
   pub last : F
   pub chain : IsChain step handler calls last

@@ -2,8 +2,7 @@
 pub mod Brackets
 pub mod Chains
 pub mod Clauses
-pub mod CodeReadings
-pub mod CodeViews
+pub mod Cores
 pub mod Dates
 pub mod Looks
 pub mod Pairs

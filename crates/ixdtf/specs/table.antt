@@ -1,4 +1,5 @@
 -- The fault table: the errors, and where each fits.
+pub mod Before
 pub mod ErrorEquality
 pub mod ErrorTexts
 pub mod Faults

@@ -1,6 +1,21 @@
 -- The readers.
-use Rattle.ixdtf.specs.declared.parsers.time.Clock.{Clock}
+use Rattle.std.specs.Prelude.{Bool, true, false}
 
--- the readers
+-- what stands before the brackets of a text: a date, or a date and a time
+pub data CoreKind : Type 0 where
+  date_time : CoreKind
+
+-- the readers: of a core and the brackets after it, of an offset, of a time zone, and of the name of one
 pub data Reader : Type 0 where
-  parse parse_offset parse_identifier parse_iana_identifier : Reader
+  bracketed : CoreKind → Reader
+  parse_offset parse_identifier parse_iana_identifier : Reader
+
+abbrev pub parse : Reader
+parse = bracketed date_time
+
+-- whether brackets may follow what the reader reads; what may follow a part of it depends on this
+abbrev pub has_brackets : Reader → Bool
+has_brackets (bracketed kind) = true
+has_brackets parse_offset = false
+has_brackets parse_identifier = false
+has_brackets parse_iana_identifier = false

@@ -1,13 +1,15 @@
 -- Times: which texts stand for which times (RFC 3339 section 5.6, ISO 8601, Temporal grammar). Second 60 is kept. An
 -- offset is written as a time is, after its sign.
 use Rattle.std.specs.Prelude.{◌≡◌, ℕ, Bool, true, false, IsTrue, ◌⊎◌, ◌∷◌, ◌++◌, Some, None}
-use Rattle.ixdtf.specs.declared.parsers.time.Clock.{Clock}
-use Rattle.ixdtf.specs.declared.parsers.time.Clock.TheVariants.{Time, Offset, MinuteOffset}
 use Rattle.ixdtf.specs.declared.records.TimeRecord.{TimeRecord}
 use Rattle.ixdtf.specs.language.Letters.{Text}
 use Rattle.ixdtf.specs.language.Letters.Letter.{Plain}
 use Rattle.ixdtf.specs.language.Digits.{UpTo}
 use Rattle.ixdtf.specs.language.Fractions.{FractionParts, IsFraction}
+
+-- what is written as a time is: a time of day, an offset after its sign, and an offset without seconds after its sign
+pub data Clock : Type 0 where
+  Time Offset MinuteOffset : Clock
 
 -- the greatest second: a time of day has leap seconds
 abbrev pub greatest_second : Clock → ℕ

@@ -1,6 +1,6 @@
 -- Reading a first bracket.
 use Rattle.std.specs.Prelude.{ℕ, Bool, true, false, List, [], ◌∷◌, drop, Result, Ok, Err, if◌then◌else◌, Option, Some, None}
-use Rattle.ixdtf.specs.declared.parsers.time.Clock.TheVariants as clocks
+use Rattle.ixdtf.specs.language.Times.Clock as clocks
 use Rattle.ixdtf.specs.language.Letters.{Text}
 use Rattle.ixdtf.specs.language.Letters.Letter.{Plain, Bad}
 use Rattle.ixdtf.specs.language.Letters.{sign, equals, closing, exclamation, key_lead}
@@ -10,7 +10,6 @@ use Rattle.ixdtf.specs.language.ZoneNames.{Zone}
 use Rattle.ixdtf.specs.language.ZoneNames.Zone.{Offset}
 use Rattle.ixdtf.specs.language.Brackets.{ZoneNote}
 use Rattle.ixdtf.specs.language.Brackets.{Pair}
-use Rattle.ixdtf.specs.language.Readers.Reader.{parse}
 use Rattle.ixdtf.specs.table.LineNames.LineName.{of_bracket}
 use Rattle.ixdtf.specs.table.LineNames.BracketLine.{first_bracket_start, first_critical_start, first_bracket_scan}
 use Rattle.ixdtf.specs.table.Lines.{abrupt_bracket}
@@ -31,7 +30,7 @@ sight_at fault (Plain c ∷ rest) = if equals c then Ok true else (if closing c 
 unfoldable pub name_in_bracket_at : {E : Type 0} → (Row → E) → Text → Read E (List ℕ)
 name_in_bracket_at fault text = do
   name ← name_run fault true text
-  next ← next_by (name_look fault parse closing) name.1
+  next ← next_by (name_look fault true closing) name.1
   Ok (name.0, next.1)
 
 -- a first bracket: a zone or a pair
@@ -58,7 +57,7 @@ name_or_pair_at fault critical text = do
 unfoldable pub offset_in_bracket_at : {E : Type 0} → (Row → E) → ℕ → Text → Read E Zone
 offset_in_bracket_at fault c text = do
   time ← clock_at fault clocks.MinuteOffset text
-  next ← next_by (follow_look fault parse clocks.MinuteOffset time.0) time.1
+  next ← next_by (follow_look fault true clocks.MinuteOffset time.0) time.1
   Ok (Offset (minutes_of c time.0.1), next.1)
 
 -- what stands in a first bracket and its `]`, by its first letter

@@ -1,33 +1,48 @@
--- What the code replies of the pairs after whole brackets, for the calls that it made. No public clause cites this.
-use Rattle.std.specs.Prelude.{◌≡◌, ◌⊎◌, ℕ, List, ◌++◌, Option, Result, Ok, Err, [], Some, None, ◌∷◌}
+-- What the code returns for the pairs after whole brackets, and for a whole text, for the calls of the handler that it made.
+-- No public clause cites this.
+use Rattle.std.specs.Prelude.{◌≡◌, ◌⊎◌, true, ℕ, Bool, List, ◌++◌, Option, Result, Ok, Err, [], Some, None, ◌∷◌}
 use Rattle.ixdtf.specs.declared.records.Annotation.{Annotation}
 use Rattle.ixdtf.specs.language.Letters.{Text}
-use Rattle.ixdtf.specs.language.Letters.Letter.{Plain}
-use Rattle.ixdtf.specs.language.Cores.{Core, IsDateTimeCore}
-use Rattle.ixdtf.specs.table.Faults.{Fault}
-use Rattle.ixdtf.specs.language.Brackets.{Pair, ArePairs}
-use Rattle.ixdtf.specs.table.LineNames.{LineName}
-use Rattle.ixdtf.specs.language.Readers.Reader.{parse}
-use Rattle.ixdtf.specs.table.LineNames.LineName.{of_bracket, of_pair}
-use Rattle.ixdtf.specs.table.LineNames.BracketLine.{after_bracket}
-use Rattle.ixdtf.specs.table.LineNames.PairLine.{key_start, critical_key_start}
-use Rattle.ixdtf.specs.language.Brackets.{Opens}
 use Rattle.ixdtf.specs.language.Shapes.{some}
+use Rattle.ixdtf.specs.language.Brackets.{Pair, ArePairs, Opens}
+use Rattle.ixdtf.specs.language.Cores.{Core}
+use Rattle.ixdtf.specs.language.Languages.{Parsed}
+use Rattle.ixdtf.specs.language.Readers.{Reader, CoreKind}
+use Rattle.ixdtf.specs.language.Readers.Reader.{bracketed}
+use Rattle.ixdtf.specs.table.Faults.{Fault}
+use Rattle.ixdtf.specs.table.LineNames.{LineName, PairLine}
+use Rattle.ixdtf.specs.table.LineNames.LineName.{of_date, of_clock, of_offset, of_zone, of_bracket, of_pair}
+use Rattle.ixdtf.specs.table.LineNames.BracketLine.{first_bracket_start, first_critical_start, first_bracket_scan, after_bracket}
+use Rattle.ixdtf.specs.table.LineNames.PairLine.{key_start, critical_key_start, in_key, value_start, in_value, after_value_hyphen}
 use Rattle.ixdtf.specs.table.Rows.{Row, FitsHere}
 use Rattle.ixdtf.specs.Handlers.{Reply, first_calendar, NoneRefused, LastRefused, GivesRecord, GivesFault, Calls, handed, replies_of, IsChain}
-use Rattle.ixdtf.specs.language.Languages.{Parsed}
+use Rattle.ixdtf.specs.reading.Looks.{error_of}
+use Rattle.ixdtf.specs.reading.Cores.{core_at}
 
 -- what stands between whole brackets and the front of a line of pairs
+abbrev pub BeforePair : PairLine → Text → Type 0
+BeforePair key_start before = before ≡ []
+BeforePair critical_key_start before = before ≡ []
+BeforePair in_key before = some Opens before
+BeforePair value_start before = some Opens before
+BeforePair in_value before = some Opens before
+BeforePair after_value_hyphen before = some Opens before
+
+-- the same for a line of what follows whole brackets
 abbrev pub AfterBrackets : LineName → Text → Type 0
+AfterBrackets (of_pair line) before = BeforePair line before
 AfterBrackets (of_bracket after_bracket) before = before ≡ []
-AfterBrackets (of_pair key_start) before = before ≡ []
-AfterBrackets (of_pair critical_key_start) before = before ≡ []
-AfterBrackets (of_pair name) before = some Opens before
-AfterBrackets name before = ⊥
+AfterBrackets (of_bracket first_bracket_start) before = ⊥
+AfterBrackets (of_bracket first_critical_start) before = ⊥
+AfterBrackets (of_bracket first_bracket_scan) before = ⊥
+AfterBrackets (of_date line) before = ⊥
+AfterBrackets (of_clock clock line) before = ⊥
+AfterBrackets (of_offset line) before = ⊥
+AfterBrackets (of_zone line) before = ⊥
 
 -- the row fits what stands after whole brackets
 abbrev pub FitsAfterBrackets : Row → Text → Type 0
-FitsAfterBrackets row text = (before rest : Text) × (text ≡ before ++ rest) × AfterBrackets row.name before × FitsHere parse row rest
+FitsAfterBrackets row text = (before rest : Text) × (text ≡ before ++ rest) × AfterBrackets row.name before × FitsHere true row rest
 
 -- the text after whole brackets is these pairs, as far as the rest
 abbrev pub PairsUpTo : Text → List Pair → Text → Type 0
@@ -39,31 +54,36 @@ PairsGive text more replies (Ok calendar) = ArePairs text more × NoneRefused re
 PairsGive text more replies (Err fault) = (rest : Text) × PairsUpTo text more rest
     × (LastRefused replies fault ⊎ (((row : Row) × FitsAfterBrackets row rest × (row.error ≡ fault)) × NoneRefused replies))
 
--- For a chain of calls on these first pairs and more of the text.
-pub record PairsRead {T U F : Type 0} (number : U → ℕ) (step : F → Annotation T U → Option (Annotation T U) → F → Type 0) (handler last : F) (first : List Pair) (text : Text) (result : Result (Option Pair) Fault) : Type 0 where
-  pub calls : Calls T U
-  pub chain : IsChain step handler calls last
-  pub more : List Pair
-  pub all : handed number calls ≡ first ++ more
-  pub gives : PairsGive text more (replies_of number calls) result
-
 -- a first pair where there is one
 abbrev pub first_pairs : Option Pair → List Pair
 first_pairs None = []
 first_pairs (Some pair) = pair ∷ []
 
 -- What the pairs and the replies give of the whole text.
-abbrev pub TextGives : Text → List Pair → List Reply → Result Parsed Fault → Type 0
-TextGives text pairs replies (Ok found) = GivesRecord parse text pairs replies found
-TextGives text pairs replies (Err fault) = GivesFault parse text pairs replies fault
+abbrev pub TextGives : Reader → Text → List Pair → List Reply → Result Parsed Fault → Type 0
+TextGives reader text pairs replies (Ok found) = GivesRecord reader text pairs replies found
+TextGives reader text pairs replies (Err fault) = GivesFault reader text pairs replies fault
 
--- For a chain of calls on pairs of the text.
-pub record TextRead {T U F : Type 0} (number : U → ℕ) (step : F → Annotation T U → Option (Annotation T U) → F → Type 0) (handler last : F) (text : Text) (result : Result Parsed Fault) : Type 0 where
-  pub calls : Calls T U
-  pub chain : IsChain step handler calls last
-  pub gives : TextGives text (handed number calls) (replies_of number calls) result
+-- what a call of a handler may reply to an annotation, and in which state it leaves the handler
+abbrev Step : Type 0 → Type 0 → Type 0 → Type 1
+Step T U F = F → Annotation T U → Option (Annotation T U) → F → Type 0
 
--- What a core and `[` stand before is replied so, whatever the core's text is.
-abbrev pub TextReadAfter : {T U F : Type 0} → (U → ℕ) → (F → Annotation T U → Option (Annotation T U) → F → Type 0) → F → F → Core → Text → Result Parsed Fault → Type 0
-TextReadAfter number step handler last core inner result =
-    (text cores : Text) → text ≡ cores ++ (Plain 91 ∷ inner) → IsDateTimeCore cores core → TextRead number step handler last text result
+module _ {T U F : Type 0} (number : U → ℕ) (step : Step T U F) (handler last : F) where
+  -- For a chain of calls on these first pairs and more of the text.
+  pub record PairsRead (first : List Pair) (text : Text) (result : Result (Option Pair) Fault) : Type 0 where
+    pub calls : Calls T U
+    pub chain : IsChain step handler calls last
+    pub more : List Pair
+    pub all : handed number calls ≡ first ++ more
+    pub gives : PairsGive text more (replies_of number calls) result
+
+  -- For a chain of calls on pairs of the text.
+  pub record TextRead (reader : Reader) (text : Text) (result : Result Parsed Fault) : Type 0 where
+    pub calls : Calls T U
+    pub chain : IsChain step handler calls last
+    pub gives : TextGives reader text (handed number calls) (replies_of number calls) result
+
+  -- For any text of which this core was read, with a bracket after it or none, and this rest is left.
+  abbrev pub TextReadAfter : Core → Bool → Text → Result Parsed Fault → Type 0
+  TextReadAfter core has_bracket rest result =
+      (kind : CoreKind) (text : Text) → core_at error_of kind text ≡ Ok ((core, has_bracket), rest) → TextRead (bracketed kind) text result

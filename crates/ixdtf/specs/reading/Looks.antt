@@ -1,17 +1,16 @@
 -- What every reading is made of. A reading is a plain function on texts, in the shape of the code; no public clause
 -- cites one. It returns a value and the text after it, or a fault. What a fault is comes from outside, by what is made
 -- of a row: the row itself, or its error.
-use Rattle.std.specs.Prelude.{ℕ, zero, suc, [], ◌∷◌, drop, Option, Some, None, Result, Ok, Err, nat_le, if◌then◌else◌}
+use Rattle.std.specs.Prelude.{ℕ, true, zero, suc, [], ◌∷◌, drop, Option, Some, None, Result, Ok, Err, nat_le, if◌then◌else◌}
 use Rattle.ixdtf.specs.language.Letters.{Text}
 use Rattle.ixdtf.specs.language.Letters.Letter.{Plain, Bad}
-use Rattle.ixdtf.specs.language.Letters.{Class, digit, none}
+use Rattle.ixdtf.specs.language.Letters.{Class, digit, none, any}
 use Rattle.ixdtf.specs.language.Digits.{decimal}
 use Rattle.ixdtf.specs.table.Faults.{Fault}
 use Rattle.ixdtf.specs.table.Faults.Fault.{NonAsciiCodePoint}
 use Rattle.ixdtf.specs.table.LineNames.{LineName}
-use Rattle.ixdtf.specs.language.Readers.Reader.{parse}
-use Rattle.ixdtf.specs.table.Lines.{Line, Ending, table, always, abrupt_digit}
-use Rattle.ixdtf.specs.table.Lines.Line.{line, whole}
+use Rattle.ixdtf.specs.table.Lines.{Line, Ending, line_of, always, abrupt_digit}
+use Rattle.ixdtf.specs.table.Lines.Line.{line, scanned, whole}
 use Rattle.ixdtf.specs.table.Lines.Ending.{ok, error}
 use Rattle.ixdtf.specs.table.Rows.{Row, Place}
 use Rattle.ixdtf.specs.table.Rows.Place.{end, other, bad, anywhere}
@@ -50,6 +49,12 @@ look_of fault name (line front goes_on at_end at_other) = record {
   at_other = λ c. fault (row_of name other (at_other c));
   at_bad = fault (row_of name bad NonAsciiCodePoint);
 }
+look_of fault name (scanned front e) = record {
+  goes_on = any;
+  at_end = Some (fault (row_of name end e));
+  at_other = λ c. fault (row_of name other e);
+  at_bad = fault (row_of name bad NonAsciiCodePoint);
+}
 look_of fault name (whole front e) = record {
   goes_on = none;
   at_end = Some (fault (row_of name anywhere e));
@@ -57,9 +62,9 @@ look_of fault name (whole front e) = record {
   at_bad = fault (row_of name anywhere e);
 }
 
--- the look that a line asks for; the lines inside a part are the same in each reader
+-- the look that a line inside a part asks for: it is the same in each reader
 abbrev pub look_at_line : {E : Type 0} → (Row → E) → LineName → Look E
-look_at_line fault name = look_of fault name (table parse name)
+look_at_line fault name = look_of fault name (line_of true name)
 
 -- the look for a digit, with the error at another letter
 abbrev pub digit_look : Fault → Look Fault

@@ -1,5 +1,9 @@
 -- Reading pairs.
-use Rattle.std.specs.Prelude.{ℕ, zero, suc, Bool, true, false, List, [], ◌∷◌, ◌++◌, Some, None, Ok, Err, if◌then◌else◌}
+use Rattle.std.specs.Prelude.{ℕ, zero, suc, Bool, true, false, List, [], ◌∷◌, ◌++◌, Option, Some, None, Ok, Err, if◌then◌else◌}
+use Rattle.ixdtf.specs.declared.parsers.annotations.ValueState.{ValueState}
+use Rattle.ixdtf.specs.declared.parsers.annotations.ValueState.TheVariants.{AtStart, Inside, AfterHyphen}
+use Rattle.ixdtf.specs.declared.parsers.annotations.ValueStep.{ValueStep}
+use Rattle.ixdtf.specs.declared.parsers.annotations.ValueStep.TheVariants.{GoesOn, Ends, Stops}
 use Rattle.ixdtf.specs.language.Letters.{Text}
 use Rattle.ixdtf.specs.language.Letters.Letter.{Plain, Bad}
 use Rattle.ixdtf.specs.language.Letters.{hyphen, equals, closing, exclamation, key_char, value_char}
@@ -23,38 +27,31 @@ key_run fault (Plain c ∷ rest) =
     if key_char c then with_letter c (key_run fault rest)
     else (if equals c then Ok ([], rest) else Err (fault (row_of (of_pair in_key) other AnnotationKeyChar)))
 
--- where reading of a value is: at its start, in it, or after a hyphen
-pub data ValueState : Type 0 where
-  at_start inside after_hyphen : ValueState
-
+-- the line of a value, by how far reading of it is
 abbrev pub value_line : ValueState → PairLine
-value_line at_start = value_start
-value_line inside = in_value
-value_line after_hyphen = after_value_hyphen
+value_line AtStart = value_start
+value_line Inside = in_value
+value_line AfterHyphen = after_value_hyphen
 
 -- the error at the end of the text, and at another letter
 abbrev pub value_end : ValueState → Fault
-value_end at_start = AnnotationValueChar
-value_end inside = AnnotationClose
-value_end after_hyphen = AnnotationValueCharPostHyphen
+value_end AtStart = AnnotationValueChar
+value_end Inside = AnnotationClose
+value_end AfterHyphen = AnnotationValueCharPostHyphen
 
 abbrev pub value_other : ValueState → Fault
-value_other at_start = AnnotationValueChar
-value_other inside = AnnotationValueChar
-value_other after_hyphen = AnnotationValueCharPostHyphen
-
--- what a letter of a value leads to
-pub data ValueStep : Type 0 where
-  goes_on : ValueState → ValueStep
-  ends stops : ValueStep
+value_other AtStart = AnnotationValueChar
+value_other Inside = AnnotationValueChar
+value_other AfterHyphen = AnnotationValueCharPostHyphen
 
 -- a letter that is no letter of a value
 abbrev pub value_mark : ValueState → ℕ → ValueStep
-value_mark inside c = if hyphen c then goes_on after_hyphen else (if closing c then ends else stops)
-value_mark state c = stops
+value_mark Inside c = if hyphen c then GoesOn AfterHyphen else (if closing c then Ends else Stops)
+value_mark AtStart c = Stops
+value_mark AfterHyphen c = Stops
 
 abbrev pub value_step : ValueState → ℕ → ValueStep
-value_step state c = if value_char c then goes_on inside else value_mark state c
+value_step state c = if value_char c then GoesOn Inside else value_mark state c
 
 -- The letters of a value and the `]` after them.
 unfoldable pub value_run : {E : Type 0} → (Row → E) → ValueState → Text → Read E (List ℕ)
@@ -62,16 +59,16 @@ value_run fault state [] = Err (fault (row_of (of_pair (value_line state)) end (
 value_run fault state (Bad ∷ rest) = Err (fault (row_of (of_pair (value_line state)) bad NonAsciiCodePoint))
 value_run fault state (Plain c ∷ rest) =
     elim (value_step state c) [
-      | goes_on next ↦ with_letter c (value_run fault next rest)
-      | ends ↦ Ok ([], rest)
-      | stops ↦ Err (fault (row_of (of_pair (value_line state)) other (value_other state)))
+      | GoesOn next ↦ with_letter c (value_run fault next rest)
+      | Ends ↦ Ok ([], rest)
+      | Stops ↦ Err (fault (row_of (of_pair (value_line state)) other (value_other state)))
     ]
 
 -- a key, `=`, a value and `]`, as a pair with the flag
 unfoldable pub pair_at : {E : Type 0} → (Row → E) → Bool → Text → Read E Pair
 pair_at fault critical text = do
   key ← key_run fault text
-  value ← value_run fault at_start key.1
+  value ← value_run fault AtStart key.1
   Ok (record { critical = critical; key = key.0; value = value.0 }, value.1)
 
 -- after `[` and `!`
@@ -86,12 +83,21 @@ later_pair_at fault text = do
   lead ← letter_at fault (of_pair key_start) text
   if exclamation lead.0 then critical_pair_at fault lead.1 else pair_at fault false text
 
+-- the next pair after whole brackets, or none at the end
+unfoldable pub next_pair_at : {E : Type 0} → (Row → E) → Text → Read E (Option Pair)
+next_pair_at fault text =
+    peek_by (look_at_line fault (of_bracket after_bracket)) text >>= λ next.
+    elim next.0 [
+      | None ↦ Ok (None, next.1)
+      | Some c ↦ later_pair_at fault next.1 >>= λ pair. Ok (Some pair.0, pair.1)
+    ]
+
 -- The other pairs, after whole brackets with the pairs before them, and the end: at most so many.
 unfoldable pub pairs_at : {E : Type 0} → (List Pair → Row → E) → ℕ → List Pair → Text → Read E (List Pair)
 pairs_at fault zero pairs text = Ok (pairs, text)
 pairs_at fault (suc n) pairs text =
-    peek_by (look_at_line (fault pairs) (of_bracket after_bracket)) text >>= λ next.
+    next_pair_at (fault pairs) text >>= λ next.
     elim next.0 [
       | None ↦ Ok (pairs, next.1)
-      | Some c ↦ later_pair_at (fault pairs) next.1 >>= λ pair. pairs_at fault n (pairs ++ (pair.0 ∷ [])) pair.1
+      | Some pair ↦ pairs_at fault n (pairs ++ (pair ∷ [])) next.1
     ]

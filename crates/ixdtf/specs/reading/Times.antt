@@ -1,13 +1,12 @@
 -- Reading a time, or an offset after its sign, as far as it goes.
 use Rattle.std.specs.Prelude.{ℕ, ◌∷◌, Option, Some, None, Ok, Err}
-use Rattle.ixdtf.specs.declared.parsers.time.Clock.{Clock}
 use Rattle.ixdtf.specs.declared.records.TimeRecord.{TimeRecord}
 use Rattle.ixdtf.specs.language.Letters.{Text}
 use Rattle.ixdtf.specs.language.Letters.Letter.{Plain}
 use Rattle.ixdtf.specs.language.Letters.{◌or◌, digit, colon, decimal_mark}
 use Rattle.ixdtf.specs.table.Faults.Fault.{NonAsciiCodePoint, TimeHour, TimeMinuteSecond}
 use Rattle.ixdtf.specs.language.Fractions.{FractionParts, fraction_of}
-use Rattle.ixdtf.specs.language.Times.{TimeShape, greatest_second}
+use Rattle.ixdtf.specs.language.Times.{Clock, TimeShape, greatest_second}
 use Rattle.ixdtf.specs.language.Times.TimeShape.{hours, plain_minutes, colon_minutes, seconds, fractions}
 use Rattle.ixdtf.specs.table.LineNames.{LineName}
 use Rattle.ixdtf.specs.table.LineNames.LineName.{of_clock}
@@ -68,12 +67,16 @@ mixed_after fault clock shape = fault (row_of (line_after clock shape) other (mi
 unfoldable pub after_colon_minute_at : {E : Type 0} → (Row → E) → Clock → ℕ → ℕ → Text → Read E OpenTime
 after_colon_minute_at fault clock hour minute text = on_next (bad_after fault clock colon_minutes) (seconds_after clock colon)
     (λ c rest. colon_second_at fault clock hour minute rest)
-    (on_next (bad_after fault clock colon_minutes) (colon or digit) (λ c rest. Err (mixed_after fault clock colon_minutes)) (λ rest. Ok ((colon_minutes, time_of hour minute 0 None), rest))) text
+    (on_next (bad_after fault clock colon_minutes) (colon or digit)
+    (λ c rest. Err (mixed_after fault clock colon_minutes))
+    (λ rest. Ok ((colon_minutes, time_of hour minute 0 None), rest))) text
 
 unfoldable pub after_plain_minute_at : {E : Type 0} → (Row → E) → Clock → ℕ → ℕ → Text → Read E OpenTime
 after_plain_minute_at fault clock hour minute text = on_next (bad_after fault clock plain_minutes) (seconds_after clock digit)
     (λ c rest. plain_second_at fault clock hour minute c rest)
-    (on_next (bad_after fault clock plain_minutes) (colon or digit) (λ c rest. Err (mixed_after fault clock plain_minutes)) (λ rest. Ok ((plain_minutes, time_of hour minute 0 None), rest))) text
+    (on_next (bad_after fault clock plain_minutes) (colon or digit)
+    (λ c rest. Err (mixed_after fault clock plain_minutes))
+    (λ rest. Ok ((plain_minutes, time_of hour minute 0 None), rest))) text
 
 unfoldable pub colon_minute_at : {E : Type 0} → (Row → E) → Clock → ℕ → Text → Read E OpenTime
 colon_minute_at fault clock hour text = do

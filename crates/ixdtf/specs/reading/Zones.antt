@@ -1,19 +1,16 @@
 -- Reading zone names and offsets.
 use Rattle.std.specs.Prelude.{ℕ, Bool, true, false, List, [], ◌∷◌, Option, Some, None, Ok, Err, ◌&&◌, if◌then◌else◌}
-use Rattle.ixdtf.specs.declared.parsers.time.Clock.{Clock}
-use Rattle.ixdtf.specs.declared.parsers.time.Clock.TheVariants as clocks
+use Rattle.ixdtf.specs.language.Times.Clock as clocks
 use Rattle.ixdtf.specs.declared.records.UtcOffsetRecord.{UtcOffsetRecord}
 use Rattle.ixdtf.specs.language.Letters.{Text}
 use Rattle.ixdtf.specs.language.Letters.Letter.{Plain, Bad}
 use Rattle.ixdtf.specs.language.Letters.{Class, none, sign, slash, zone_char}
 use Rattle.ixdtf.specs.table.Faults.Fault.{NonAsciiCodePoint, IanaCharPostSeparator}
 use Rattle.ixdtf.specs.language.Offsets.{offset_of, minutes_of}
-use Rattle.ixdtf.specs.language.Times.{writes_seconds}
+use Rattle.ixdtf.specs.language.Times.{Clock, writes_seconds}
 use Rattle.ixdtf.specs.language.ZoneNames.{Zone}
 use Rattle.ixdtf.specs.language.ZoneNames.Zone.{Name, Offset}
-use Rattle.ixdtf.specs.language.Readers.{Reader}
 use Rattle.ixdtf.specs.table.LineNames.{LineName}
-use Rattle.ixdtf.specs.language.Readers.Reader.{parse_offset, parse_identifier, parse_iana_identifier}
 use Rattle.ixdtf.specs.table.LineNames.LineName.{of_offset, of_zone}
 use Rattle.ixdtf.specs.table.LineNames.OffsetLine.{offset_start}
 use Rattle.ixdtf.specs.table.LineNames.ZoneLine.{identifier_start, zone_name_start, in_zone_name, after_zone_slash}
@@ -23,12 +20,12 @@ use Rattle.ixdtf.specs.table.Rows.Place.{end, other, bad}
 use Rattle.ixdtf.specs.reading.Looks.{Read, Look, ◌>>=◌, row_of, end_of, letter_at, peek_by}
 use Rattle.ixdtf.specs.reading.Times.{OpenTime, line_after, bad_after, clock_at}
 
--- the look at what follows a time or an offset that does not go on as its shape does
-abbrev pub follow_look : {E : Type 0} → (Row → E) → Reader → Clock → OpenTime → Look E
-follow_look fault reader clock time = record {
-  goes_on = (follow_of reader clock).letters;
-  at_end = end_of fault (line_after clock time.0) (follow_of reader clock).at_end;
-  at_other = λ c. fault (row_of (line_after clock time.0) other (follow_of reader clock).at_other);
+-- the look at what follows a time or an offset that does not go on as its shape does, where brackets may follow or not
+abbrev pub follow_look : {E : Type 0} → (Row → E) → Bool → Clock → OpenTime → Look E
+follow_look fault brackets clock time = record {
+  goes_on = (follow_of brackets clock).letters;
+  at_end = end_of fault (line_after clock time.0) (follow_of brackets clock).at_end;
+  at_other = λ c. fault (row_of (line_after clock time.0) other (follow_of brackets clock).at_other);
   at_bad = bad_after fault clock time.0;
 }
 
@@ -62,12 +59,12 @@ name_run fault may_end (Plain c ∷ rest) =
     else (if slash c && may_end then with_letter c (name_run fault false rest)
     else name_stops (fault (row_of (of_zone after_zone_slash) other IanaCharPostSeparator)) may_end (Plain c ∷ rest))
 
--- the look at what follows a name, where the letters of the class go on
-abbrev pub name_look : {E : Type 0} → (Row → E) → Reader → Class → Look E
-name_look fault reader class = record {
+-- the look at what follows a name, in a bracket or where it stands alone, where the letters of the class go on
+abbrev pub name_look : {E : Type 0} → (Row → E) → Bool → Class → Look E
+name_look fault in_bracket class = record {
   goes_on = class;
-  at_end = end_of fault (of_zone in_zone_name) (zone_end reader);
-  at_other = λ c. fault (row_of (of_zone in_zone_name) other (zone_other reader c));
+  at_end = end_of fault (of_zone in_zone_name) (zone_end in_bracket);
+  at_other = λ c. fault (row_of (of_zone in_zone_name) other (zone_other in_bracket c));
   at_bad = fault (row_of (of_zone in_zone_name) bad NonAsciiCodePoint);
 }
 
@@ -77,7 +74,7 @@ name_look fault reader class = record {
 unfoldable pub name_alone_at : {E : Type 0} → (Row → E) → Text → Read E (List ℕ)
 name_alone_at fault text = do
   name ← name_run fault true text
-  next ← peek_by (name_look fault parse_iana_identifier none) name.1
+  next ← peek_by (name_look fault false none) name.1
   Ok (name.0, next.1)
 
 -- a name that begins with a letter of the line, and the end
@@ -90,7 +87,7 @@ iana_identifier_at fault text = do
 unfoldable pub offset_alone_at : {E : Type 0} → (Row → E) → ℕ → Text → Read E UtcOffsetRecord
 offset_alone_at fault c text = do
   time ← clock_at fault clocks.Offset text
-  next ← peek_by (follow_look fault parse_offset clocks.Offset time.0) time.1
+  next ← peek_by (follow_look fault false clocks.Offset time.0) time.1
   Ok (offset_of c (writes_seconds time.0.0) time.0.1, next.1)
 
 unfoldable pub offset_at : {E : Type 0} → (Row → E) → Text → Read E UtcOffsetRecord
@@ -102,7 +99,7 @@ offset_at fault text = do
 unfoldable pub minute_offset_alone_at : {E : Type 0} → (Row → E) → ℕ → Text → Read E Zone
 minute_offset_alone_at fault c text = do
   time ← clock_at fault clocks.MinuteOffset text
-  next ← peek_by (follow_look fault parse_identifier clocks.MinuteOffset time.0) time.1
+  next ← peek_by (follow_look fault false clocks.MinuteOffset time.0) time.1
   Ok (Offset (minutes_of c time.0.1), next.1)
 
 -- a zone that is a name

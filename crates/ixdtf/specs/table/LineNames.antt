@@ -1,5 +1,5 @@
 -- The names of the lines of the fault table.
-use Rattle.ixdtf.specs.declared.parsers.time.Clock.{Clock}
+use Rattle.ixdtf.specs.language.Times.{Clock}
 
 -- the lines of dates
 pub data DateLine : Type 0 where

@@ -1,24 +1,19 @@
 -- The fault table, line by line.
-use Rattle.std.specs.Prelude.{◌≡◌, ◌≢◌, ◌⊎◌, IsTrue, ℕ, ◌<◌, ◌&&◌, ◌||◌, codes, if◌then◌else◌, List, [], ◌++◌, Option}
-use Rattle.ixdtf.specs.declared.parsers.time.Clock.{Clock}
-use Rattle.ixdtf.specs.declared.parsers.time.Clock.TheVariants.{Time, Offset, MinuteOffset}
+use Rattle.std.specs.Prelude.{◌≡◌, ◌≢◌, ◌⊎◌, IsTrue, ℕ, ◌<◌, ◌&&◌, ◌||◌, Bool, codes, if◌then◌else◌}
 use Rattle.ixdtf.specs.declared.records.DateRecord.{DateRecord}
-use Rattle.ixdtf.specs.language.Letters.{Text}
-use Rattle.ixdtf.specs.language.Letters.{Class, ◌or◌, none, any, digit, sign, hyphen, colon, decimal_mark, date_time_separator, zulu, opening, closing, exclamation, equals, slash, zone_lead, zone_char, key_lead, key_char, value_char}
+use Rattle.ixdtf.specs.language.Letters.{Text, Class, ◌or◌, none, digit, sign, hyphen, colon, decimal_mark, date_time_separator, zulu, opening, closing, exclamation, equals, slash, zone_lead, zone_char, key_lead, key_char, value_char}
 use Rattle.ixdtf.specs.language.Shapes.{Shape, nothing, one, ◌then◌, ◌either◌, digits, fewer_digits_than, some, many}
 use Rattle.ixdtf.specs.language.Digits.{decimal, UpTo}
 use Rattle.ixdtf.specs.table.Faults.{Fault}
 use Rattle.ixdtf.specs.table.Faults.Fault.{AbruptEnd, InvalidEnd, InvalidMonthRange, InvalidDayRange, DateYear, DateExtendedYear, DateMonth, DateDay, DateSeparator, TimeHour, TimeMinuteSecond, TimeSecond, TimeSeparator, FractionPart, UtcTimeSeparator, InvalidMinutePrecisionOffset, OffsetNeedsSign, TzLeadingChar, IanaChar, IanaCharPostSeparator, AnnotationClose, AnnotationKeyLeadingChar, AnnotationKeyChar, AnnotationKeyValueSeparator, AnnotationValueChar, AnnotationValueCharPostHyphen}
 use Rattle.ixdtf.specs.language.Dates.{Year, Month, DateShape, IsDayOfMonth, IsDate}
-use Rattle.ixdtf.specs.language.Times.{ClockOf, PlainMinuteText, ColonMinuteText, IsTime, greatest_second, has_seconds}
+use Rattle.ixdtf.specs.language.Times.{Clock, ClockOf, PlainMinuteText, ColonMinuteText, IsTime, greatest_second, has_seconds}
+use Rattle.ixdtf.specs.language.Times.Clock.{Time, Offset, MinuteOffset}
 use Rattle.ixdtf.specs.language.Times.TimeShape.{hours, plain_minutes, colon_minutes, seconds, fractions}
 use Rattle.ixdtf.specs.language.ZoneNames.{ZoneName}
-use Rattle.ixdtf.specs.language.Cores.{IsDateTimeCore}
-use Rattle.ixdtf.specs.language.Brackets.{ZoneNote, Opens, passed, ReadsAsName}
-use Rattle.ixdtf.specs.language.Brackets.{Pair, Key, Value, IsTail, ReadsAsPair}
-use Rattle.ixdtf.specs.language.Readers.{Reader}
+use Rattle.ixdtf.specs.language.Brackets.{passed, Key, Value}
+use Rattle.ixdtf.specs.language.Readers.{Reader, has_brackets}
 use Rattle.ixdtf.specs.table.LineNames.{DateLine, ClockLine, OffsetLine, ZoneLine, BracketLine, PairLine, LineName}
-use Rattle.ixdtf.specs.language.Readers.Reader.{parse, parse_offset, parse_identifier, parse_iana_identifier}
 use Rattle.ixdtf.specs.table.LineNames.DateLine.{year_start, year_digits, extended_year_digits, minus_zero_year, after_year, month_digits, month_range, after_hyphened_month, after_plain_month, day_digits, day_range, after_date}
 use Rattle.ixdtf.specs.table.LineNames.ClockLine.{hour_start, hour_digit, hour_range, after_hour, minute_digits, minute_range, after_plain_minute, after_colon_minute, second_digits, second_range, after_second, fraction_start, after_fraction}
 use Rattle.ixdtf.specs.table.LineNames.OffsetLine.{offset_start, after_zulu}
@@ -33,9 +28,11 @@ pub data Ending : Type 0 where
   error : Fault → Ending
 
 -- A line has a front, the letters that go on, what the end is, and the error at each other letter.
+-- A scanned line goes on with any letter, and the end is its error.
 -- A whole line has a front, and its error stands whatever follows.
 pub data Line : Type 1 where
   line : Shape → Class → Ending → (ℕ → Fault) → Line
+  scanned : Shape → Fault → Line
   whole : Shape → Fault → Line
 
 -- one error at every other letter
@@ -94,7 +91,8 @@ ColonOrDigit = one colon either (one colon then one digit) either one digit
 
 -- a minute, and fewer than two digits of a second, where seconds may be written
 abbrev pub SecondDigits : Clock → Shape
-SecondDigits clock text = IsTrue (has_seconds clock) × ((some PlainMinuteText then one digit) either (some ColonMinuteText then one colon then fewer_digits_than 2)) text
+SecondDigits clock text = IsTrue (has_seconds clock)
+    × ((some PlainMinuteText then one digit) either (some ColonMinuteText then one colon then fewer_digits_than 2)) text
 
 abbrev pub SecondPast : Clock → Shape
 SecondPast clock text = IsTrue (has_seconds clock)
@@ -170,9 +168,11 @@ clock_line follow clock minute_digits = line (some Hour then ColonOrDigit) digit
 -- two digits that are no minute
 clock_line follow clock minute_range = whole (some Hour then (nothing either one colon) then Past 59) TimeMinuteSecond
 -- an hour and a minute
-clock_line follow clock after_plain_minute = line (some (ClockOf clock plain_minutes)) (seconds_after clock digit or follow.letters) follow.at_end (after_minute follow clock)
+clock_line follow clock after_plain_minute =
+    line (some (ClockOf clock plain_minutes)) (seconds_after clock digit or follow.letters) follow.at_end (after_minute follow clock)
 -- an hour, a colon and a minute
-clock_line follow clock after_colon_minute = line (some (ClockOf clock colon_minutes)) (seconds_after clock colon or follow.letters) follow.at_end (after_minute follow clock)
+clock_line follow clock after_colon_minute =
+    line (some (ClockOf clock colon_minutes)) (seconds_after clock colon or follow.letters) follow.at_end (after_minute follow clock)
 -- what stands before a second, and fewer than two digits of it
 clock_line follow clock second_digits = line (SecondDigits clock) digit (error abrupt_digit) (always (second_fault clock))
 -- two digits that are no second
@@ -194,42 +194,39 @@ offset_line after_zulu = line (one zulu) opening ok (always InvalidEnd)
 
 -- ---- zone names
 
--- what may follow a zone name in a bracket, and elsewhere
-abbrev pub zone_end : Reader → Ending
-zone_end parse = error AnnotationClose
-zone_end reader = ok
+-- what may follow a zone name, in a bracket or where the name stands alone
+abbrev pub zone_end : Bool → Ending
+zone_end in_bracket = if in_bracket then error AnnotationClose else ok
 
-abbrev pub zone_letters : Reader → Class
-zone_letters parse = zone_char or slash or closing
-zone_letters reader = zone_char or slash
+abbrev pub zone_letters : Bool → Class
+zone_letters in_bracket = if in_bracket then zone_char or slash or closing else zone_char or slash
 
-abbrev pub zone_other : Reader → ℕ → Fault
-zone_other parse c = IanaChar
-zone_other reader c = if closing c then InvalidEnd else IanaChar
+abbrev pub zone_other : Bool → ℕ → Fault
+zone_other in_bracket c = if in_bracket then IanaChar else (if closing c then InvalidEnd else IanaChar)
 
-abbrev pub zone_line : Reader → ZoneLine → Line
+abbrev pub zone_line : Bool → ZoneLine → Line
 -- no letter of a name or an offset yet
-zone_line reader identifier_start = line nothing (zone_lead or sign) (error abrupt_zone) (always TzLeadingChar)
+zone_line in_bracket identifier_start = line nothing (zone_lead or sign) (error abrupt_zone) (always TzLeadingChar)
 -- no letter of a name yet
-zone_line reader zone_name_start = line nothing zone_lead (error TzLeadingChar) (always TzLeadingChar)
+zone_line in_bracket zone_name_start = line nothing zone_lead (error TzLeadingChar) (always TzLeadingChar)
 -- a name
-zone_line reader in_zone_name = line ZoneName (zone_letters reader) (zone_end reader) (zone_other reader)
+zone_line in_bracket in_zone_name = line ZoneName (zone_letters in_bracket) (zone_end in_bracket) (zone_other in_bracket)
 -- a name and a slash
-zone_line reader after_zone_slash = line (ZoneName then one slash) zone_char (error IanaCharPostSeparator) (always IanaCharPostSeparator)
+zone_line in_bracket after_zone_slash = line (ZoneName then one slash) zone_char (error IanaCharPostSeparator) (always IanaCharPostSeparator)
 
 -- ---- brackets
 
 -- a letter that a key may begin with, and letters that are neither `=` nor `]`
-abbrev pub Scanned : Shape
-Scanned = one key_lead then many (one passed)
+abbrev pub LetterOfKey : Shape
+LetterOfKey = one key_lead then many (one passed)
 
 abbrev pub bracket_line : BracketLine → Line
 -- `[`
 bracket_line first_bracket_start = line (one opening) (zone_lead or sign or exclamation) (error abrupt_bracket) (always TzLeadingChar)
 -- `[` and `!`
 bracket_line first_critical_start = line (one opening then one exclamation) (zone_lead or sign) (error abrupt_bracket) (always TzLeadingChar)
--- neither `=` nor `]` yet: the text ends, or Bad stands next
-bracket_line first_bracket_scan = line Scanned any (error abrupt_bracket) (always TzLeadingChar)
+-- neither `=` nor `]` yet
+bracket_line first_bracket_scan = scanned LetterOfKey abrupt_bracket
 -- whole brackets
 bracket_line after_bracket = line nothing opening ok (always InvalidEnd)
 
@@ -247,95 +244,32 @@ pair_line value_start = line (Key then one equals) value_char (error AnnotationV
 -- a key, `=` and a value
 pair_line in_value = line (Key then one equals then Value) (value_char or hyphen or closing) (error AnnotationClose) (always AnnotationValueChar)
 -- a key, `=`, a value and a hyphen
-pair_line after_value_hyphen = line (Key then one equals then Value then one hyphen) value_char (error AnnotationValueCharPostHyphen) (always AnnotationValueCharPostHyphen)
+pair_line after_value_hyphen =
+    line (Key then one equals then Value then one hyphen) value_char (error AnnotationValueCharPostHyphen) (always AnnotationValueCharPostHyphen)
 
 -- ---- the table of a reader
+
+-- what may follow a time or an offset where brackets may follow what the reader reads
+abbrev pub follow_before_brackets : Clock → Follow
+follow_before_brackets Time = record { letters = sign or zulu or opening; at_end = ok; at_other = InvalidEnd }
+follow_before_brackets Offset = record { letters = opening; at_end = ok; at_other = InvalidEnd }
+follow_before_brackets MinuteOffset = record { letters = closing; at_end = error AnnotationClose; at_other = AnnotationClose }
 
 -- nothing but the end
 abbrev pub end_alone : Follow
 end_alone = record { letters = none; at_end = ok; at_other = InvalidEnd }
 
--- what may follow a time or an offset
-abbrev pub follow_of : Reader → Clock → Follow
-follow_of parse Time = record { letters = sign or zulu or opening; at_end = ok; at_other = InvalidEnd }
-follow_of parse Offset = record { letters = opening; at_end = ok; at_other = InvalidEnd }
-follow_of parse MinuteOffset = record { letters = closing; at_end = error AnnotationClose; at_other = AnnotationClose }
-follow_of reader clock = end_alone
+abbrev pub follow_of : Bool → Clock → Follow
+follow_of brackets clock = if brackets then follow_before_brackets clock else end_alone
+
+-- the lines, for a reader that has brackets or has none
+abbrev pub line_of : Bool → LineName → Line
+line_of brackets (of_date name) = date_line name
+line_of brackets (of_clock clock name) = clock_line (follow_of brackets clock) clock name
+line_of brackets (of_offset name) = offset_line name
+line_of brackets (of_zone name) = zone_line brackets name
+line_of brackets (of_bracket name) = bracket_line name
+line_of brackets (of_pair name) = pair_line name
 
 abbrev pub table : Reader → LineName → Line
-table reader (of_date name) = date_line name
-table reader (of_clock clock name) = clock_line (follow_of reader clock) clock name
-table reader (of_offset name) = offset_line name
-table reader (of_zone name) = zone_line reader name
-table reader (of_bracket name) = bracket_line name
-table reader (of_pair name) = pair_line name
-
--- ---- what stands before the front of a line, and what the text has from the front on
-
-abbrev pub DateAndSeparator : Shape
-DateAndSeparator = some IsDate then one date_time_separator
-
-abbrev pub DateTime : Shape
-DateTime = DateAndSeparator then some IsTime
-
--- a whole core, `[`, and `!` where there is one
-abbrev pub Opened : Shape
-Opened = some IsDateTimeCore then some Opens
-
-abbrev pub InParse : LineName → Text → Text → Type 0
-InParse (of_date name) before rest = nothing before
-InParse (of_clock Time name) before rest = DateAndSeparator before
-InParse (of_clock Offset name) before rest = (DateTime then one sign) before
-InParse (of_clock MinuteOffset name) before rest = (Opened then one sign) before
-InParse (of_offset offset_start) before rest = ⊥
-InParse (of_offset after_zulu) before rest = DateTime before
-InParse (of_zone identifier_start) before rest = ⊥
-InParse (of_zone zone_name_start) before rest = ⊥
-InParse (of_zone in_zone_name) before rest = Opened before × ReadsAsName rest
-InParse (of_zone after_zone_slash) before rest = Opened before × ReadsAsName rest
-InParse (of_bracket first_bracket_start) before rest = some IsDateTimeCore before
-InParse (of_bracket first_critical_start) before rest = some IsDateTimeCore before
-InParse (of_bracket first_bracket_scan) before rest = Opened before
-InParse (of_bracket after_bracket) before rest = ⊥
-InParse (of_pair name) before rest = ⊥
-
-abbrev pub InOffset : LineName → Text → Text → Type 0
-InOffset (of_offset offset_start) before rest = nothing before
-InOffset (of_clock Offset name) before rest = one sign before
-InOffset name before rest = ⊥
-
-abbrev pub InIdentifier : LineName → Text → Text → Type 0
-InIdentifier (of_zone identifier_start) before rest = nothing before
-InIdentifier (of_zone in_zone_name) before rest = nothing before
-InIdentifier (of_zone after_zone_slash) before rest = nothing before
-InIdentifier (of_clock MinuteOffset name) before rest = one sign before
-InIdentifier name before rest = ⊥
-
-abbrev pub InIanaIdentifier : LineName → Text → Text → Type 0
-InIanaIdentifier (of_zone zone_name_start) before rest = nothing before
-InIanaIdentifier (of_zone in_zone_name) before rest = nothing before
-InIanaIdentifier (of_zone after_zone_slash) before rest = nothing before
-InIanaIdentifier name before rest = ⊥
-
--- a core, and one bracket or more with these pairs
-abbrev pub Bracketed : List Pair → Text → Type 0
-Bracketed pairs before = (cores brackets : Text) × (before ≡ cores ++ brackets) × some IsDateTimeCore cores × (zone : Option ZoneNote) × IsTail brackets zone pairs × (brackets ≢ [])
-
--- what stands before a key: a first bracket's opening, where what begins is a key, or that of another bracket
-abbrev pub BeforeKey : List Pair → Text → Text → Type 0
-BeforeKey pairs before rest = (Opened before × ReadsAsPair rest × (pairs ≡ [])) ⊎ (Bracketed pairs then some Opens) before
-
--- the same in `parse`, where these pairs stand whole before the front
-abbrev pub InAnnotated : LineName → List Pair → Text → Text → Type 0
-InAnnotated (of_bracket after_bracket) pairs before rest = Bracketed pairs before
-InAnnotated (of_pair key_start) pairs before rest = Bracketed pairs before
-InAnnotated (of_pair critical_key_start) pairs before rest = Bracketed pairs before
-InAnnotated (of_pair name) pairs before rest = BeforeKey pairs before rest
-InAnnotated name pairs before rest = InParse name before rest × (pairs ≡ [])
-
--- A line is looked at in the reader where this stands before its front and from its front on, with these whole pairs.
-abbrev pub Before : Reader → LineName → List Pair → Text → Text → Type 0
-Before parse name pairs before rest = InAnnotated name pairs before rest
-Before parse_offset name pairs before rest = InOffset name before rest × (pairs ≡ [])
-Before parse_identifier name pairs before rest = InIdentifier name before rest × (pairs ≡ [])
-Before parse_iana_identifier name pairs before rest = InIanaIdentifier name before rest × (pairs ≡ [])
+table reader name = line_of (has_brackets reader) name

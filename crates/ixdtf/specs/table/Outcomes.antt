@@ -1,20 +1,11 @@
 -- The outcomes of a text: what is derived, or the row that fits.
-use Rattle.std.specs.Prelude.{◌≡◌, ℕ, List, [], ◌++◌, Option, Some, None}
-use Rattle.ixdtf.specs.declared.records.DateRecord.{DateRecord}
-use Rattle.ixdtf.specs.declared.records.TimeRecord.{TimeRecord}
-use Rattle.ixdtf.specs.declared.records.UtcOffsetRecord.{UtcOffsetRecord}
-use Rattle.ixdtf.specs.declared.records.UtcOffsetRecordOrZ.{UtcOffsetRecordOrZ}
+use Rattle.std.specs.Prelude.{◌≡◌, List}
 use Rattle.ixdtf.specs.language.Letters.{Text}
-use Rattle.ixdtf.specs.table.Faults.{Fault}
-use Rattle.ixdtf.specs.language.Offsets.{IsOffset}
-use Rattle.ixdtf.specs.language.ZoneNames.{Zone, IsZoneName, IsZone}
-use Rattle.ixdtf.specs.language.Brackets.{ZoneNote}
-use Rattle.ixdtf.specs.language.Brackets.{Pair, IsTail}
-use Rattle.ixdtf.specs.language.Cores.{Core, IsDateTimeCore}
+use Rattle.ixdtf.specs.language.Brackets.{Pair}
 use Rattle.ixdtf.specs.language.Readers.{Reader}
-use Rattle.ixdtf.specs.language.Readers.Reader.{parse, parse_offset, parse_identifier, parse_iana_identifier}
-use Rattle.ixdtf.specs.table.Rows.{Row, Fits}
 use Rattle.ixdtf.specs.language.Languages.{Found, Derives}
+use Rattle.ixdtf.specs.table.Faults.{Fault}
+use Rattle.ixdtf.specs.table.Rows.{Row, Fits}
 
 -- a row with the error fits, with these whole pairs before it
 abbrev pub HasFault : Reader → Text → List Pair → Fault → Type 0

@@ -1,0 +1,138 @@
+-- Where a line is looked at: what stands before its front in a reader, and what the text has from the front on.
+use Rattle.std.specs.Prelude.{◌≡◌, ◌≢◌, ◌⊎◌, List, [], ◌++◌, Option}
+use Rattle.ixdtf.specs.language.Letters.{Text, sign, date_time_separator}
+use Rattle.ixdtf.specs.language.Shapes.{Shape, nothing, one, ◌then◌, some}
+use Rattle.ixdtf.specs.language.Dates.{IsDate}
+use Rattle.ixdtf.specs.language.Times.{IsTime}
+use Rattle.ixdtf.specs.language.Times.Clock.{Time, Offset, MinuteOffset}
+use Rattle.ixdtf.specs.language.Brackets.{ZoneNote, Opens, ReadsAsName, ReadsAsPair, Pair, IsTail}
+use Rattle.ixdtf.specs.language.Cores.{IsCore}
+use Rattle.ixdtf.specs.language.Readers.{Reader, CoreKind}
+use Rattle.ixdtf.specs.language.Readers.CoreKind.{date_time}
+use Rattle.ixdtf.specs.language.Readers.Reader.{bracketed, parse_offset, parse_identifier, parse_iana_identifier}
+use Rattle.ixdtf.specs.table.LineNames.{DateLine, OffsetLine, LineName}
+use Rattle.ixdtf.specs.table.LineNames.DateLine.{year_start, year_digits, extended_year_digits, minus_zero_year, after_year, month_digits, month_range, after_hyphened_month, after_plain_month, day_digits, day_range, after_date}
+use Rattle.ixdtf.specs.table.LineNames.OffsetLine.{offset_start, after_zulu}
+use Rattle.ixdtf.specs.table.LineNames.ZoneLine.{identifier_start, zone_name_start, in_zone_name, after_zone_slash}
+use Rattle.ixdtf.specs.table.LineNames.BracketLine.{first_bracket_start, first_critical_start, first_bracket_scan, after_bracket}
+use Rattle.ixdtf.specs.table.LineNames.PairLine.{key_start, critical_key_start, in_key, value_start, in_value, after_value_hyphen}
+use Rattle.ixdtf.specs.table.LineNames.LineName.{of_date, of_clock, of_offset, of_zone, of_bracket, of_pair}
+
+-- ---- lines of cores
+
+abbrev pub DateAndSeparator : Shape
+DateAndSeparator = some IsDate then one date_time_separator
+
+abbrev pub DateTime : Shape
+DateTime = DateAndSeparator then some IsTime
+
+-- what stands before a line of dates, in a core of the kind
+abbrev pub BeforeDate : CoreKind → DateLine → Shape
+BeforeDate date_time year_start before = nothing before
+BeforeDate date_time year_digits before = nothing before
+BeforeDate date_time extended_year_digits before = nothing before
+BeforeDate date_time minus_zero_year before = nothing before
+BeforeDate date_time after_year before = nothing before
+BeforeDate date_time month_digits before = nothing before
+BeforeDate date_time month_range before = nothing before
+BeforeDate date_time after_hyphened_month before = nothing before
+BeforeDate date_time after_plain_month before = nothing before
+BeforeDate date_time day_digits before = nothing before
+BeforeDate date_time day_range before = nothing before
+BeforeDate date_time after_date before = nothing before
+
+-- what stands before a line of times
+abbrev pub BeforeTime : CoreKind → Shape
+BeforeTime date_time before = DateAndSeparator before
+
+-- what stands before the sign of an offset, and before `Z`
+abbrev pub BeforeOffset : CoreKind → Shape
+BeforeOffset date_time before = DateTime before
+
+abbrev pub BeforeOffsetLine : CoreKind → OffsetLine → Shape
+BeforeOffsetLine kind offset_start before = ⊥
+BeforeOffsetLine kind after_zulu before = BeforeOffset kind before
+
+-- ---- lines of brackets
+
+-- a whole core, `[`, and `!` where there is one
+abbrev pub Opened : CoreKind → Shape
+Opened kind = some (IsCore kind) then some Opens
+
+-- a core, and one bracket or more with these pairs
+abbrev pub Bracketed : CoreKind → List Pair → Text → Type 0
+Bracketed kind pairs before =
+    (cores brackets : Text) × (before ≡ cores ++ brackets) × some (IsCore kind) cores
+    × (zone : Option ZoneNote) × IsTail brackets zone pairs × (brackets ≢ [])
+
+-- what stands before a key: a first bracket's opening, where what begins is a key, or that of another bracket
+abbrev pub BeforeKey : CoreKind → List Pair → Text → Text → Type 0
+BeforeKey kind pairs before rest = (Opened kind before × ReadsAsPair rest × (pairs ≡ [])) ⊎ (Bracketed kind pairs then some Opens) before
+
+-- what stands before a line in a reader of a core of the kind and brackets: these pairs stand whole before the front
+abbrev pub BeforeBracketed : CoreKind → LineName → List Pair → Text → Text → Type 0
+BeforeBracketed kind (of_date line) pairs before rest = BeforeDate kind line before × (pairs ≡ [])
+BeforeBracketed kind (of_clock Time line) pairs before rest = BeforeTime kind before × (pairs ≡ [])
+BeforeBracketed kind (of_clock Offset line) pairs before rest = (BeforeOffset kind then one sign) before × (pairs ≡ [])
+BeforeBracketed kind (of_clock MinuteOffset line) pairs before rest = (Opened kind then one sign) before × (pairs ≡ [])
+BeforeBracketed kind (of_offset line) pairs before rest = BeforeOffsetLine kind line before × (pairs ≡ [])
+BeforeBracketed kind (of_zone identifier_start) pairs before rest = ⊥
+BeforeBracketed kind (of_zone zone_name_start) pairs before rest = ⊥
+BeforeBracketed kind (of_zone in_zone_name) pairs before rest = (Opened kind before × ReadsAsName rest) × (pairs ≡ [])
+BeforeBracketed kind (of_zone after_zone_slash) pairs before rest = (Opened kind before × ReadsAsName rest) × (pairs ≡ [])
+BeforeBracketed kind (of_bracket first_bracket_start) pairs before rest = some (IsCore kind) before × (pairs ≡ [])
+BeforeBracketed kind (of_bracket first_critical_start) pairs before rest = some (IsCore kind) before × (pairs ≡ [])
+BeforeBracketed kind (of_bracket first_bracket_scan) pairs before rest = Opened kind before × (pairs ≡ [])
+BeforeBracketed kind (of_bracket after_bracket) pairs before rest = Bracketed kind pairs before
+BeforeBracketed kind (of_pair key_start) pairs before rest = Bracketed kind pairs before
+BeforeBracketed kind (of_pair critical_key_start) pairs before rest = Bracketed kind pairs before
+BeforeBracketed kind (of_pair in_key) pairs before rest = BeforeKey kind pairs before rest
+BeforeBracketed kind (of_pair value_start) pairs before rest = BeforeKey kind pairs before rest
+BeforeBracketed kind (of_pair in_value) pairs before rest = BeforeKey kind pairs before rest
+BeforeBracketed kind (of_pair after_value_hyphen) pairs before rest = BeforeKey kind pairs before rest
+
+-- ---- lines of readers without brackets
+
+abbrev pub InOffset : LineName → Shape
+InOffset (of_offset offset_start) before = nothing before
+InOffset (of_offset after_zulu) before = ⊥
+InOffset (of_clock Offset line) before = one sign before
+InOffset (of_clock Time line) before = ⊥
+InOffset (of_clock MinuteOffset line) before = ⊥
+InOffset (of_date line) before = ⊥
+InOffset (of_zone line) before = ⊥
+InOffset (of_bracket line) before = ⊥
+InOffset (of_pair line) before = ⊥
+
+abbrev pub InIdentifier : LineName → Shape
+InIdentifier (of_zone identifier_start) before = nothing before
+InIdentifier (of_zone zone_name_start) before = ⊥
+InIdentifier (of_zone in_zone_name) before = nothing before
+InIdentifier (of_zone after_zone_slash) before = nothing before
+InIdentifier (of_clock MinuteOffset line) before = one sign before
+InIdentifier (of_clock Time line) before = ⊥
+InIdentifier (of_clock Offset line) before = ⊥
+InIdentifier (of_date line) before = ⊥
+InIdentifier (of_offset line) before = ⊥
+InIdentifier (of_bracket line) before = ⊥
+InIdentifier (of_pair line) before = ⊥
+
+abbrev pub InIanaIdentifier : LineName → Shape
+InIanaIdentifier (of_zone zone_name_start) before = nothing before
+InIanaIdentifier (of_zone identifier_start) before = ⊥
+InIanaIdentifier (of_zone in_zone_name) before = nothing before
+InIanaIdentifier (of_zone after_zone_slash) before = nothing before
+InIanaIdentifier (of_date line) before = ⊥
+InIanaIdentifier (of_clock clock line) before = ⊥
+InIanaIdentifier (of_offset line) before = ⊥
+InIanaIdentifier (of_bracket line) before = ⊥
+InIanaIdentifier (of_pair line) before = ⊥
+
+-- ---- lines of any reader
+
+-- A line is looked at in the reader where this stands before its front and from its front on, with these whole pairs.
+abbrev pub Before : Reader → LineName → List Pair → Text → Text → Type 0
+Before (bracketed kind) line pairs before rest = BeforeBracketed kind line pairs before rest
+Before parse_offset line pairs before rest = InOffset line before × (pairs ≡ [])
+Before parse_identifier line pairs before rest = InIdentifier line before × (pairs ≡ [])
+Before parse_iana_identifier line pairs before rest = InIanaIdentifier line before × (pairs ≡ [])
