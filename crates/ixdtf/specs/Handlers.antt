@@ -99,14 +99,18 @@ handed number calls = map (λ call. pair_of number call.0) calls
 abbrev pub replies_of : {T U : Type 0} → (U → ℕ) → Calls T U → List Reply
 replies_of number calls = map (λ call. option_map (pair_of number) call.1) calls
 
+-- which reply a handler may give to an annotation, and which state that leaves it in
+abbrev pub Step : Type 0 → Type 0 → Type 0 → Type 1
+Step T U F = F → Annotation T U → Option (Annotation T U) → F → Type 0
+
 -- the calls were made in turn, the first in the state `handler`, and left the state `last`
-abbrev pub IsChain : {T U F : Type 0} → (F → Annotation T U → Option (Annotation T U) → F → Type 0) → F → Calls T U → F → Type 0
+abbrev pub IsChain : {T U F : Type 0} → Step T U F → F → Calls T U → F → Type 0
 IsChain step handler calls last = FoldsTo (λ f call g. step f call.0 call.1 g) handler calls last
 
 -- For one chain of calls: `Ok` exactly with the record that the text and the replies give, `Err` only with a fault that
 -- they give.
-pub record Handled {T U F : Type 0} (number : U → ℕ)
-(step : F → Annotation T U → Option (Annotation T U) → F → Type 0) (handler : F) (reader : Reader) (text : Text) (result : Result Parsed Fault) : Type 0 where
+pub record Handled {T U F : Type 0} (number : U → ℕ) (step : Step T U F)
+    (handler : F) (reader : Reader) (text : Text) (result : Result Parsed Fault) : Type 0 where
   pub calls : Calls T U
   pub last : F
   pub chain : IsChain step handler calls last

@@ -1,6 +1,6 @@
 -- Offsets from UTC: which texts stand for which offsets (RFC 3339 section 5.6, Temporal grammar).
 use Rattle.std.specs.Prelude.{◌≡◌, ℕ, Bool, IsTrue, ◌⊎◌, ◌∷◌, if◌then◌else◌}
-use Rattle.ixdtf.specs.language.Times.Clock as clocks
+use Rattle.ixdtf.specs.language.Times.{Clock as clocks}
 use Rattle.ixdtf.specs.declared.records.Sign.{Sign}
 use Rattle.ixdtf.specs.declared.records.Sign.TheVariants.{Positive, Negative}
 use Rattle.ixdtf.specs.declared.records.TimeRecord.{TimeRecord}

@@ -1,6 +1,6 @@
 -- Reading a first bracket.
 use Rattle.std.specs.Prelude.{ℕ, Bool, true, false, List, [], ◌∷◌, drop, Result, Ok, Err, if◌then◌else◌, Option, Some, None}
-use Rattle.ixdtf.specs.language.Times.Clock as clocks
+use Rattle.ixdtf.specs.language.Times.{Clock as clocks}
 use Rattle.ixdtf.specs.language.Letters.{Text}
 use Rattle.ixdtf.specs.language.Letters.Letter.{Plain, Bad}
 use Rattle.ixdtf.specs.language.Letters.{sign, equals, closing, exclamation, key_lead}

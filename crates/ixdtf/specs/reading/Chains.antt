@@ -1,7 +1,6 @@
 -- What the code returns for the pairs after whole brackets, and for a whole text, for the calls of the handler that it made.
 -- No public clause cites this.
 use Rattle.std.specs.Prelude.{◌≡◌, ◌⊎◌, true, ℕ, Bool, List, ◌++◌, Option, Result, Ok, Err, [], Some, None, ◌∷◌}
-use Rattle.ixdtf.specs.declared.records.Annotation.{Annotation}
 use Rattle.ixdtf.specs.language.Letters.{Text}
 use Rattle.ixdtf.specs.language.Shapes.{some}
 use Rattle.ixdtf.specs.language.Brackets.{Pair, ArePairs, Opens}
@@ -15,7 +14,7 @@ use Rattle.ixdtf.specs.table.LineNames.LineName.{of_date, of_clock, of_offset, o
 use Rattle.ixdtf.specs.table.LineNames.BracketLine.{first_bracket_start, first_critical_start, first_bracket_scan, after_bracket}
 use Rattle.ixdtf.specs.table.LineNames.PairLine.{key_start, critical_key_start, in_key, value_start, in_value, after_value_hyphen}
 use Rattle.ixdtf.specs.table.Rows.{Row, FitsHere}
-use Rattle.ixdtf.specs.Handlers.{Reply, first_calendar, NoneRefused, LastRefused, GivesRecord, GivesFault, Calls, handed, replies_of, IsChain}
+use Rattle.ixdtf.specs.Handlers.{Reply, first_calendar, NoneRefused, LastRefused, GivesRecord, GivesFault, Calls, handed, replies_of, Step, IsChain}
 use Rattle.ixdtf.specs.reading.Looks.{error_of}
 use Rattle.ixdtf.specs.reading.Cores.{core_at}
 
@@ -63,10 +62,6 @@ first_pairs (Some pair) = pair ∷ []
 abbrev pub TextGives : Reader → Text → List Pair → List Reply → Result Parsed Fault → Type 0
 TextGives reader text pairs replies (Ok found) = GivesRecord reader text pairs replies found
 TextGives reader text pairs replies (Err fault) = GivesFault reader text pairs replies fault
-
--- what a call of a handler may reply to an annotation, and in which state it leaves the handler
-abbrev Step : Type 0 → Type 0 → Type 0 → Type 1
-Step T U F = F → Annotation T U → Option (Annotation T U) → F → Type 0
 
 module _ {T U F : Type 0} (number : U → ℕ) (step : Step T U F) (handler last : F) where
   -- For a chain of calls on these first pairs and more of the text.

@@ -7,7 +7,7 @@ use Rattle.ixdtf.specs.declared.parsers.annotations.Bracket.{Bracket as CodeBrac
 use Rattle.ixdtf.specs.declared.parsers.annotations.Bracket.TheVariants as brackets
 use Rattle.ixdtf.specs.language.Letters.{Letter, Text, none, closing}
 use Rattle.ixdtf.specs.language.Times.{Clock}
-use Rattle.ixdtf.specs.language.Times.Clock as clocks
+use Rattle.ixdtf.specs.language.Times.{Clock as clocks}
 use Rattle.ixdtf.specs.table.Faults.{Fault, fault_of}
 use Rattle.ixdtf.specs.table.Faults.Fault.{NonAsciiCodePoint, InvalidEnd, AnnotationClose}
 use Rattle.ixdtf.specs.table.Lines.{always}

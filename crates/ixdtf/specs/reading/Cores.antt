@@ -5,7 +5,7 @@ use Rattle.ixdtf.specs.declared.records.TimeRecord.{TimeRecord}
 use Rattle.ixdtf.specs.declared.records.UtcOffsetRecord.{UtcOffsetRecord}
 use Rattle.ixdtf.specs.declared.records.UtcOffsetRecordOrZ.TheVariants.{Offset, Z}
 use Rattle.ixdtf.specs.language.Letters.{Text, sign, zulu, opening, date_time_separator}
-use Rattle.ixdtf.specs.language.Times.Clock as clocks
+use Rattle.ixdtf.specs.language.Times.{Clock as clocks}
 use Rattle.ixdtf.specs.language.Times.{writes_seconds}
 use Rattle.ixdtf.specs.language.Offsets.{offset_of}
 use Rattle.ixdtf.specs.language.Cores.{Core, core_of}
