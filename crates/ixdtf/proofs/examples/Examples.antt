@@ -19,7 +19,8 @@ use Rattle.ixdtf.specs.language.Brackets.{Pair}
 use Rattle.ixdtf.specs.table.LineNames.{LineName}
 use Rattle.ixdtf.specs.language.Readers.{parse}
 use Rattle.ixdtf.specs.language.Readers.Reader.{parse_offset, parse_identifier, parse_iana_identifier}
-use Rattle.ixdtf.specs.table.LineNames.LineName.{of_date, of_clock, of_offset, of_zone, of_bracket, of_pair}
+use Rattle.ixdtf.specs.table.LineNames.{of_date}
+use Rattle.ixdtf.specs.table.LineNames.LineName.{of_clock, of_offset, of_zone, of_bracket, of_pair}
 use Rattle.ixdtf.specs.table.LineNames.DateLine.{year_start, minus_zero_year, after_year, month_digits, month_range, after_hyphened_month, after_plain_month, day_range, after_date}
 use Rattle.ixdtf.specs.table.LineNames.ClockLine.{hour_start, hour_digit, hour_range, after_hour, minute_digits, minute_range, after_plain_minute, after_colon_minute, second_digits, second_range, after_second, fraction_start, after_fraction}
 use Rattle.ixdtf.specs.table.LineNames.OffsetLine.{offset_start, after_zulu}
