@@ -11,6 +11,7 @@ pub mod NextPair
 pub mod OneMoreReply
 pub mod PairLoops
 pub mod ReadersWithoutPairs
+pub mod Tables
 pub mod Tail
 pub mod Units
 pub mod WalkNames
