@@ -15,10 +15,10 @@ use Rattle.ixdtf.specs.language.Letters.Letter.{Plain}
 use Rattle.ixdtf.specs.language.Fractions.{FractionParts, fraction_of}
 use Rattle.ixdtf.specs.language.Times.{Clock, TimeShape}
 use Rattle.ixdtf.specs.language.Times.{Clock as clocks}
-use Rattle.ixdtf.specs.language.Times.TimeShape as shapes
+use Rattle.ixdtf.specs.language.Times.{TimeShape as shapes}
 use Rattle.ixdtf.specs.language.Cores.{core_of}
 use Rattle.ixdtf.specs.table.Faults.{Fault}
-use Rattle.ixdtf.specs.table.Faults.Fault as faults
+use Rattle.ixdtf.specs.table.Faults.{Fault as faults}
 use Rattle.ixdtf.specs.table.Lines.{always, abrupt_digit, abrupt_date, abrupt_bracket, abrupt_offset, abrupt_zone}
 use Rattle.ixdtf.specs.Views.{Unread, note_of}
 use Rattle.ixdtf.specs.Handlers.{pair_of}

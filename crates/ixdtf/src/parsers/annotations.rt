@@ -300,7 +300,11 @@ where
     requires callable { F.IsAlwaysCallable handler.old }
     ensures pairs { PairsRead T.number F.step handler.old handler.new (first_pairs (option_map (pair_of T.number) first.entry)) (map T.letter cursor.old.rest) (yielded (option_map (pair_of T.number)) result) }
     ensures empty { OnOk result (cursor.new.rest ≡ []) }
-    ensures looks { cursor.new.looks + length cursor.new.rest ≤ cursor.old.looks + 2 * length cursor.old.rest + 7 }
+    ensures looks {
+        cursor.new.looks + length cursor.new.rest ≤
+            cursor.old.looks + 2 * length cursor.old.rest + 7
+    }
+    ensures counted { cursor.old.looks ≤ cursor.new.looks }
 {
     let mut calendar = None;
     if let Some(annotation) = first {

@@ -227,7 +227,7 @@ fn close_core<'a, T: EncodingType>(
 ) -> Result<Core, Stop>
     ensures core {
         (name : LineName) → Reads T.letter closed_core_of cursor.old result cursor.new
-            (core_end_at error_of name (core_of date.entry time.entry offset.entry))
+            (core_end_at error_of name (core_of date time offset))
     }
     ensures looks { Spends 1 cursor.old cursor.new }
 {

@@ -43,14 +43,18 @@ pub fn minute_offset(sign: u8, time: TimeRecord) -> MinutePrecisionOffset
 pub fn offset_from(sign: u8, clocked: Clocked) -> UtcOffsetRecord
     ensures { result ≡ offset_of sign (writes_seconds (shape_of clocked.shape)) clocked.time }
 {
-    let minute_precision_offset = minute_offset(sign, clocked.time);
-    if !clocked.shape.writes_seconds() {
+    let shape = clocked.shape;
+    let time = clocked.time;
+    let second = time.second;
+    let fraction = time.fraction;
+    let minute_precision_offset = minute_offset(sign, time);
+    if !shape.writes_seconds() {
         return UtcOffsetRecord::MinutePrecision(minute_precision_offset);
     }
     UtcOffsetRecord::FullPrecisionOffset(FullPrecisionOffset {
         minute_precision_offset,
-        second: clocked.time.second,
-        fraction: clocked.time.fraction,
+        second,
+        fraction,
     })
 }
 

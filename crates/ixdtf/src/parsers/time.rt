@@ -1,11 +1,12 @@
 //! Reading times of day, and offsets after their sign, which are written as times are.
 
-ghost use Rattle.std.specs.Prelude.{◌≡◌, ◌+◌, ◌≤◌, map, nat_le, length, IsTrue, IfOk};
+ghost use Rattle.std.specs.Prelude.{◌≡◌, ◌+◌, ◌≤◌, ◌∷◌, [], map, nat_le, length, IsTrue, IfOk};
 ghost use Rattle.ixdtf.specs.language.Letters.{digit};
+ghost use Rattle.ixdtf.specs.language.Letters.Letter.{Plain};
 ghost use Rattle.ixdtf.specs.language.Times.{greatest_second, has_seconds, writes_seconds};
 ghost use Rattle.ixdtf.specs.table.Lines.{mixed, second_fault};
 ghost use Rattle.ixdtf.specs.reading.Clauses.{Reads, Spends, Checks, more_digits_at, fault_of_stop, clock_of, shape_of, open_time_of};
-ghost use Rattle.ixdtf.specs.reading.Looks.{error_of};
+ghost use Rattle.ixdtf.specs.reading.Looks.{error_of, next_by, digit_look, digits_by};
 ghost use Rattle.ixdtf.specs.reading.Times.{time_of, clock_at, after_hour_at, colon_minute_at, plain_minute_at, after_colon_minute_at, after_plain_minute_at, colon_second_at, plain_second_at, after_second_at, fraction_at};
 
 use crate::cursor::Cursor;
@@ -46,28 +47,6 @@ impl Clock {
             Clock::Time => Stop::TimeSeparator,
             Clock::Offset => Stop::UtcTimeSeparator,
             Clock::MinuteOffset => Stop::InvalidMinutePrecisionOffset,
-        }
-    }
-
-    /// Why reading stops in a second, and at one that is out of its range.
-    #[inline(always)]
-    fn second_stop(self) -> Stop
-        ensures { fault_of_stop result ≡ second_fault (clock_of self) }
-    {
-        match self {
-            Clock::Time => Stop::TimeSecond,
-            Clock::Offset | Clock::MinuteOffset => Stop::TimeMinuteSecond,
-        }
-    }
-
-    /// The greatest second.
-    #[inline(always)]
-    fn greatest_second(self) -> u8
-        ensures { result ≡ greatest_second (clock_of self) }
-    {
-        match self {
-            Clock::Time => 60,
-            Clock::Offset | Clock::MinuteOffset => 59,
         }
     }
 }
@@ -116,7 +95,7 @@ fn timed(
     second: u8,
     fraction: Option<Fraction>,
 ) -> Clocked
-    ensures { open_time_of result ≡ (shape_of shape, time_of hour minute second fraction.entry) }
+    ensures { open_time_of result ≡ (shape_of shape, time_of hour minute second fraction) }
 {
     Clocked {
         shape,
@@ -292,6 +271,58 @@ fn parse_after_plain_minute<'a, T: EncodingType>(
     }
 }
 
+/// Takes a digit of a second off.
+#[inline(always)]
+fn next_second_digit<'a, T: EncodingType>(
+    cursor: &mut Cursor<'a, T>,
+    clock: Clock,
+) -> Result<u8, Stop>
+    ensures digit {
+        Reads T.letter (λ byte. byte) cursor.old result cursor.new
+            (next_by (digit_look (second_fault (clock_of clock))))
+    }
+    ensures is_digit { IfOk result (λ byte. IsTrue (digit byte)) }
+    ensures looks { Spends 1 cursor.old cursor.new }
+{
+    match clock {
+        Clock::Time => cursor.next_digit(Stop::TimeSecond),
+        Clock::Offset | Clock::MinuteOffset => cursor.next_digit(Stop::TimeMinuteSecond),
+    }
+}
+
+/// Takes the two digits of a second off.
+#[inline(always)]
+fn second_digits<'a, T: EncodingType>(
+    cursor: &mut Cursor<'a, T>,
+    clock: Clock,
+) -> Result<(u8, u8), Stop>
+    ensures digits {
+        Reads T.letter (λ ds. Plain ds.0 ∷ Plain ds.1 ∷ []) cursor.old result cursor.new
+            (digits_by (digit_look (second_fault (clock_of clock))) 2)
+    }
+    ensures are_digits { IfOk result (λ ds. IsTrue (digit ds.0) × IsTrue (digit ds.1)) }
+    ensures looks { Spends 2 cursor.old cursor.new }
+{
+    match clock {
+        Clock::Time => cursor.two_digits(Stop::TimeSecond),
+        Clock::Offset | Clock::MinuteOffset => cursor.two_digits(Stop::TimeMinuteSecond),
+    }
+}
+
+/// The second, where it is at most the greatest one, else the stop.
+#[inline(always)]
+fn check_second(second: u8, clock: Clock) -> Result<u8, Stop>
+    ensures {
+        Checks (λ number. number) result second
+            (nat_le second (greatest_second (clock_of clock))) (second_fault (clock_of clock))
+    }
+{
+    match clock {
+        Clock::Time => check_most(second, 60, Stop::TimeSecond),
+        Clock::Offset | Clock::MinuteOffset => check_most(second, 59, Stop::TimeMinuteSecond),
+    }
+}
+
 /// Reads the second after a colon, and a fraction where there is one.
 #[inline(always)]
 #[tactic(auto, unfolding(
@@ -310,9 +341,8 @@ fn parse_colon_second<'a, T: EncodingType>(
     }
     ensures looks { Spends 7 cursor.old cursor.new }
 {
-    let stop = clock.second_stop();
-    let (tens, ones) = cursor.two_digits(stop)?;
-    let second = check_most(digits_value(tens, ones), clock.greatest_second(), stop)?;
+    let (tens, ones) = second_digits(cursor, clock)?;
+    let second = check_second(digits_value(tens, ones), clock)?;
     parse_after_second(cursor, clock, hour, minute, second)
 }
 
@@ -337,9 +367,8 @@ fn parse_plain_second<'a, T: EncodingType>(
     }
     ensures looks { Spends 6 cursor.old cursor.new }
 {
-    let stop = clock.second_stop();
-    let ones = cursor.next_digit(stop)?;
-    let second = check_most(digits_value(tens, ones), clock.greatest_second(), stop)?;
+    let ones = next_second_digit(cursor, clock)?;
+    let second = check_second(digits_value(tens, ones), clock)?;
     parse_after_second(cursor, clock, hour, minute, second)
 }
 

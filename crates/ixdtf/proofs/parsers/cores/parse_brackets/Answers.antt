@@ -5,7 +5,7 @@ use Rattle.ixdtf.specs.Handlers.{pair_of}
 use Rattle.ixdtf.specs.reading.Looks.{error_of}
 use Rattle.ixdtf.specs.reading.Brackets.{zoned, paired, bracket_at}
 use Rattle.ixdtf.proofs.code.Tail.{bracket_shortens, first_refused, first_read}
-use Rattle.ixdtf.proofs.parsers.datetime.parse_brackets.Goals as goal
+use Rattle.ixdtf.proofs.parsers.cores.parse_brackets.Goals as goal
 
 pub returns-in_err-tz-clause-answered : goal.returns-in_err-tz-clause-answered
 returns-in_err-tz-clause-answered g c =

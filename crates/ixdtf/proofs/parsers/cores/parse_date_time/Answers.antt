@@ -8,7 +8,7 @@ use Rattle.ixdtf.proofs.code.FractionLoop.{shrinks}
 use Rattle.ixdtf.proofs.code.CodeLemmas.{core_shortens, core_fault}
 use Rattle.ixdtf.proofs.code.Tail.{at_the_end, core_alone, core_other, core_bad, core_opens}
 use Rattle.ixdtf.proofs.code.Chains.{text_fault, text_derived}
-use Rattle.ixdtf.proofs.parsers.datetime.parse_date_time.Goals as goal
+use Rattle.ixdtf.proofs.parsers.cores.parse_date_time.Goals as goal
 
 -- a unit that stands for no letter, after a core
 pub returns-in_err-look-in-Ok-clause-answered : goal.returns-in_err-look-in-Ok-clause-answered
