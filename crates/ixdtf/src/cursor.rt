@@ -3,7 +3,7 @@
 //! There is no index: a cursor keeps the end of the source that is still to be read, as one slice. So a place past the end
 //! cannot be, and a reader that refuses puts back the slice that it began with.
 
-ghost use Rattle.std.specs.Prelude.{◌≡◌, ℕ, ◌+◌, ◌-◌, ◌<◌, ◌≤◌, ◌∷◌, List, [], map, length, drop, None, IfOk, IsTrue};
+ghost use Rattle.std.specs.Prelude.{◌≡◌, ℕ, ◌+◌, ◌-◌, ◌<◌, ◌≤◌, ◌∷◌, List, [], map, length, drop, None, IfOk, OnOk, IsTrue};
 ghost use Rattle.ixdtf.specs.language.Letters.{digit};
 ghost use Rattle.ixdtf.specs.language.Letters.Letter.{Plain};
 ghost use Rattle.ixdtf.specs.table.Faults.{NonAsciiCodePoint};
@@ -72,6 +72,15 @@ impl<'a, T: EncodingType> Cursor<'a, T> {
         }
     }
 
+    /// Stays where it is, and counts the looks of a cursor that went on from here.
+    #[inline(always)]
+    pub fn count(&mut self, here: Self)
+        ensures rest { self.new.rest ≡ self.old.rest }
+        ensures looks { self.new.looks ≡ here.looks }
+    {
+        self.looks = here.looks;
+    }
+
     /// Looks at a place of the rest: `None` past its end, and `NonAsciiCodePoint` at a unit that stands for no letter.
     /// This is the one place that calls `get_ascii`.
     #[inline(always)]
@@ -128,6 +137,7 @@ impl<'a, T: EncodingType> Cursor<'a, T> {
         }
         ensures is_digit { IfOk result (λ byte. IsTrue (digit byte)) }
         ensures looks { Spends 1 self.old self.new }
+        ensures paid { OnOk result (Spends 0 self.old self.new) }
     {
         match self.look()? {
             None => Err(Stop::AbruptDigit),
@@ -148,7 +158,7 @@ impl<'a, T: EncodingType> Cursor<'a, T> {
                 (digits_by (digit_look (fault_of_stop other)) 2)
         }
         ensures are_digits { IfOk result (λ ds. IsTrue (digit ds.0) × IsTrue (digit ds.1)) }
-        ensures looks { Spends 2 self.old self.new }
+        ensures looks { Spends 1 self.old self.new }
     {
         let tens = self.next_digit(other)?;
         let ones = self.next_digit(other)?;

@@ -197,7 +197,6 @@ impl<'a, T: EncodingType> IxdtfParser<'a, T> {
         ensures looks { self.new.looks ≤ self.old.looks + most_looks self.old.rest }
         ensures counted { self.old.looks ≤ self.new.looks }
     {
-        let start = self.cursor.rest();
         let mut found: IxdtfParseRecord<'a, T> = IxdtfParseRecord {
             date: None,
             time: None,
@@ -205,10 +204,14 @@ impl<'a, T: EncodingType> IxdtfParser<'a, T> {
             tz: None,
             calendar: None,
         };
-        match parse_text::<T, F>(&mut self.cursor, &mut handler, &mut found) {
-            Ok(()) => Ok(found),
+        let mut here = self.cursor.take();
+        match parse_text::<T, F>(&mut here, &mut handler, &mut found) {
+            Ok(()) => {
+                self.cursor = here;
+                Ok(found)
+            }
             Err(stop) => {
-                self.cursor.go_back(start);
+                self.cursor.count(here);
                 Err(stop.error())
             }
         }

@@ -32,7 +32,7 @@ pub fn parse_core<'a, T: EncodingType>(
             (date_time_core_at error_of)
     }
     ensures kept { KeepsBrackets found.old found.new }
-    ensures looks { Spends 42 cursor.old cursor.new }
+    ensures looks { Spends 40 cursor.old cursor.new }
 {
     let date = parse_date(cursor)?;
     parse_after_date(cursor, date, found)

@@ -21,7 +21,7 @@ pub fn parse_date<'a, T: EncodingType>(cursor: &mut Cursor<'a, T>) -> Result<Dat
         Reads T.letter (λ date. date) cursor.old result cursor.new
             (date_at error_of)
     }
-    ensures looks { Spends 13 cursor.old cursor.new }
+    ensures looks { Spends 11 cursor.old cursor.new }
 {
     let year = parse_date_year(cursor)?;
     parse_after_year(cursor, year)
@@ -136,7 +136,7 @@ fn parse_after_year<'a, T: EncodingType>(
         Reads T.letter (λ date. date) cursor.old result cursor.new
             (after_year_at error_of year)
     }
-    ensures looks { Spends 6 cursor.old cursor.new }
+    ensures looks { Spends 4 cursor.old cursor.new }
 {
     match cursor.look()? {
         None => Err(Stop::AbruptDate),
@@ -162,7 +162,7 @@ fn parse_hyphenated_date<'a, T: EncodingType>(
         Reads T.letter (λ date. date) cursor.old result cursor.new
             (hyphened_date_at error_of year)
     }
-    ensures looks { Spends 5 cursor.old cursor.new }
+    ensures looks { Spends 3 cursor.old cursor.new }
 {
     let (tens, ones) = cursor.two_digits(Stop::DateMonth)?;
     let month = check_month(digits_value(tens, ones))?;
@@ -180,7 +180,7 @@ fn parse_hyphenated_day<'a, T: EncodingType>(
         Reads T.letter (λ date. date) cursor.old result cursor.new
             (after_hyphened_month_at error_of year month)
     }
-    ensures looks { Spends 3 cursor.old cursor.new }
+    ensures looks { Spends 2 cursor.old cursor.new }
 {
     match cursor.look()? {
         Some(byte) if is_hyphen(byte) => cursor.step(),

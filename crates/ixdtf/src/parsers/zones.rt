@@ -100,14 +100,14 @@ impl<'a, T: EncodingType> TimeZoneParser<'a, T> {
         ensures looks { self.new.looks ≤ self.old.looks + most_looks self.old.rest }
         ensures counted { self.old.looks ≤ self.new.looks }
     {
-        let start = self.cursor.rest();
-        let mut cursor = self.cursor.take();
-        let read = parse_identifier_text(&mut cursor);
-        self.cursor = cursor;
-        match read {
-            Ok(zone) => Ok(zone),
+        let mut here = self.cursor.take();
+        match parse_identifier_text(&mut here) {
+            Ok(zone) => {
+                self.cursor = here;
+                Ok(zone)
+            }
             Err(stop) => {
-                self.cursor.go_back(start);
+                self.cursor.count(here);
                 Err(stop.error())
             }
         }
@@ -153,14 +153,14 @@ impl<'a, T: EncodingType> TimeZoneParser<'a, T> {
         ensures looks { self.new.looks ≤ self.old.looks + most_looks self.old.rest }
         ensures counted { self.old.looks ≤ self.new.looks }
     {
-        let start = self.cursor.rest();
-        let mut cursor = self.cursor.take();
-        let read = parse_offset_text(&mut cursor);
-        self.cursor = cursor;
-        match read {
-            Ok(offset) => Ok(offset),
+        let mut here = self.cursor.take();
+        match parse_offset_text(&mut here) {
+            Ok(offset) => {
+                self.cursor = here;
+                Ok(offset)
+            }
             Err(stop) => {
-                self.cursor.go_back(start);
+                self.cursor.count(here);
                 Err(stop.error())
             }
         }
@@ -198,14 +198,14 @@ impl<'a, T: EncodingType> TimeZoneParser<'a, T> {
         ensures looks { self.new.looks ≤ self.old.looks + most_looks self.old.rest }
         ensures counted { self.old.looks ≤ self.new.looks }
     {
-        let start = self.cursor.rest();
-        let mut cursor = self.cursor.take();
-        let read = parse_iana_identifier_text(&mut cursor);
-        self.cursor = cursor;
-        match read {
-            Ok(name) => Ok(name),
+        let mut here = self.cursor.take();
+        match parse_iana_identifier_text(&mut here) {
+            Ok(name) => {
+                self.cursor = here;
+                Ok(name)
+            }
             Err(stop) => {
-                self.cursor.go_back(start);
+                self.cursor.count(here);
                 Err(stop.error())
             }
         }
