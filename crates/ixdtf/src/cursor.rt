@@ -76,7 +76,7 @@ impl<'a, T: EncodingType> Cursor<'a, T> {
     #[inline(always)]
     pub fn count(&mut self, here: Self)
         ensures rest { self.new.rest ≡ self.old.rest }
-        ensures looks { self.new.looks ≡ here.looks }
+        ensures looks { self.new.looks ≡ here.entry.looks }
     {
         self.looks = here.looks;
     }
