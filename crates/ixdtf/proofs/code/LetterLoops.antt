@@ -1,12 +1,13 @@
 -- Letters that a loop takes off one by one.
-use Rattle.std.proofs.Common.{◌≡◌, ℕ, ◌+◌, ◌-◌, List, [], ◌∷◌, ◌++◌, length, map, drop, take, Option, Some, None, Ok, Err, refl, sym, ap, ◌∙◌, arith, append_assoc, append-nil}
+use Rattle.std.proofs.Common.{◌≡◌, ℕ, ◌+◌, ◌-◌, List, [], ◌∷◌, ◌++◌, length, map, drop, take, Option, Some, None, Result, Ok, Err, refl, sym, ap, ◌∙◌, arith, append_assoc, append-nil}
 use Rattle.std.proofs.lemmas.List.{take-map, length-map, length-append, take_all, take-append-le}
 use Rattle.ixdtf.specs.language.Letters.{Letter, Text}
 use Rattle.ixdtf.specs.language.Letters.Letter.{Plain, Bad}
 use Rattle.ixdtf.specs.table.Faults.{Fault}
 use Rattle.ixdtf.specs.table.Faults.Fault.{NonAsciiCodePoint}
-use Rattle.ixdtf.specs.reading.Looks.{Read, look_at}
-use Rattle.ixdtf.specs.reading.Runs.{Taken, one_more, letters_by}
+use Rattle.ixdtf.specs.reading.Looks.{Read, ◌>>=◌, look_at}
+use Rattle.ixdtf.specs.reading.Zones.{with_letter}
+use Rattle.ixdtf.specs.reading.Runs.{Taken, one_more, nothing_taken, on_letter, letters_by}
 
 -- letters that were taken off, with more in front of them
 abbrev pub with_letters : {S : Type 0} → List ℕ → Read Fault (Taken S) → Read Fault (Taken S)
@@ -106,3 +107,47 @@ pub front_is : {U : Type 0} (number : U → ℕ) (start after : List U) (taken r
 front_is number start after taken rest whole all split left =
     let count : length start - length after ≡ length taken = omega (arith, sym (length-map start number), sym (length-map after number), ap (λ (t : List ℕ). length t) all, ap (λ (t : List ℕ). length t) split, ap (λ (t : List ℕ). length t) left, length-append taken rest) in
     rw count (sym (take-map number (length taken) start) ∙ rw (all, split) (take-append-le (length taken) taken rest (omega arith) ∙ take_all (length taken) taken (omega arith)))
+
+-- ---- readings that begin with letters
+
+-- the letters, and the text after them
+abbrev pub closed : List ℕ → Result Text Fault → Read Fault (List ℕ)
+closed letters (Ok rest) = Ok (letters, rest)
+closed letters (Err e) = Err e
+
+module _ {S : Type 0} (after : S → ℕ → Option S) (close : S → Option ℕ → Text → Result Text Fault) where
+  -- the letters as far as they go, and what closes them
+  abbrev pub closed_run : S → Text → Read Fault (List ℕ)
+  closed_run state text = letters_by after state text >>= λ x. closed x.0.letters (close x.0.state x.0.next x.1)
+
+  -- A reading that takes each letter that goes on, and closes at the first that does not, or at the end.
+  pub record IsRun (reading : S → Text → Read Fault (List ℕ)) : Type 0 where
+    pub at_end : (state : S) → reading state [] ≡ closed [] (close state None [])
+    pub at_bad : (state : S) (rest : Text) → reading state (Bad ∷ rest) ≡ Err NonAsciiCodePoint
+    pub at_other : (state : S) (c : ℕ) (rest : Text) → after state c ≡ None → reading state (Plain c ∷ rest) ≡ closed [] (close state (Some c) (Plain c ∷ rest))
+    pub at_letter : (state next : S) (c : ℕ) (rest : Text) → after state c ≡ Some next → reading state (Plain c ∷ rest) ≡ with_letter c (reading next rest)
+
+  closed_more : (c : ℕ) (read : Read Fault (Taken S)) → with_letter c (read >>= λ x. closed x.0.letters (close x.0.state x.0.next x.1)) ≡ (one_more c read >>= λ x. closed x.0.letters (close x.0.state x.0.next x.1))
+  closed_more c (Err e) = refl
+  closed_more c (Ok x) = go (close x.0.state x.0.next x.1)
+    where
+      go : (end : Result Text Fault) → with_letter c (closed x.0.letters end) ≡ closed (c ∷ x.0.letters) end
+      go (Ok rest) = refl
+      go (Err e) = refl
+
+  closed_on : (state : S) (c : ℕ) (rest : Text) (reading : S → Text → Read Fault (List ℕ)) → IsRun reading → ((next : S) → reading next rest ≡ closed_run next rest) → (next : Option S) → after state c ≡ next
+      → reading state (Plain c ∷ rest) ≡ (on_letter next (λ n. one_more c (letters_by after n rest)) (Ok (nothing_taken state (Some c), Plain c ∷ rest)) >>= λ x. closed x.0.letters (close x.0.state x.0.next x.1))
+  closed_on state c rest reading is same None e = is.at_other state c rest e
+  closed_on state c rest reading is same (Some next) e = is.at_letter state next c rest e ∙ ap (λ (read : Read Fault (List ℕ)). with_letter c read) (same next) ∙ closed_more c (letters_by after next rest)
+
+  run_is : (reading : S → Text → Read Fault (List ℕ)) → IsRun reading → (state : S) (text : Text) → reading state text ≡ closed_run state text
+  unfolding letters_by
+  run_is reading is state [] = is.at_end state
+  run_is reading is state (Bad ∷ rest) = is.at_bad state rest
+  run_is reading is state (Plain c ∷ rest) = closed_on state c rest reading is (λ next. run_is reading is next rest) (after state c) refl
+
+  pub run_failed : (reading : S → Text → Read Fault (List ℕ)) → IsRun reading → (state : S) (text : Text) (fault : Fault) → letters_by after state text ≡ Err fault → reading state text ≡ Err fault
+  run_failed reading is state text fault e = run_is reading is state text ∙ rw e refl
+
+  pub run_closes : (reading : S → Text → Read Fault (List ℕ)) → IsRun reading → (state : S) (text rest : Text) (taken : Taken S) → letters_by after state text ≡ Ok (taken, rest) → reading state text ≡ closed taken.letters (close taken.state taken.next rest)
+  run_closes reading is state text rest taken e = run_is reading is state text ∙ rw e refl

@@ -1,11 +1,13 @@
 -- Letters that are taken off one by one, by where reading of them is.
-use Rattle.std.specs.Prelude.{ℕ, List, [], ◌∷◌, map, Option, Some, None, Ok, Err}
+use Rattle.std.specs.Prelude.{ℕ, List, [], ◌∷◌, map, Option, Some, None, option_map, Ok, Err}
+use Rattle.ixdtf.specs.declared.parsers.timezone.NameLetters.{NameLetters}
 use Rattle.ixdtf.specs.declared.parsers.letters.Taken.{Taken as CodeTaken}
 use Rattle.ixdtf.specs.language.Letters.{Text}
 use Rattle.ixdtf.specs.language.Letters.Letter.{Plain, Bad}
 use Rattle.ixdtf.specs.table.Faults.{Fault}
 use Rattle.ixdtf.specs.table.Faults.Fault.{NonAsciiCodePoint}
 use Rattle.ixdtf.specs.reading.Looks.{Read}
+use Rattle.ixdtf.specs.reading.Zones.{name_step}
 
 -- the letters that were taken off, where reading is after them, and the letter that does not go on
 pub record Taken (S : Type 0) : Type 0 where
@@ -35,3 +37,7 @@ letters_by after state (Plain c ∷ rest) =
 
 abbrev pub taken_of : {T S U : Type 0} → (U → ℕ) → CodeTaken T S U → Taken S
 taken_of number taken = record { letters = map number taken.units.now; state = taken.state; next = taken.next }
+
+-- where reading of a name is after a letter
+abbrev pub name_after : NameLetters → ℕ → Option NameLetters
+name_after letters c = option_map (λ may_end. record { may_end = may_end }) (name_step c letters.may_end)

@@ -1,12 +1,13 @@
 //! Reading annotations of a key and a value, and what is kept of the replies to them.
 
-ghost use Rattle.std.specs.Prelude.{◌≡◌, ◌+◌, ◌≤◌, ◌<◌, ◌*◌, ◌↔◌, [], ◌∷◌, map, length, option_map, Some, None, IsTrue, OnOk, IfOk, IfErr, IsSome};
+ghost use Rattle.std.specs.Prelude.{◌≡◌, ◌+◌, ◌≤◌, ◌<◌, ◌*◌, ◌↔◌, [], ◌∷◌, map, length, option_map, Some, None, IsTrue, OnOk, IfOk, IfErr, IsSome, if◌then◌else◌};
 ghost use Rattle.std.specs.Option.{option_or};
 ghost use Rattle.ixdtf.specs.declared.parsers.annotations.ValueState.TheVariants.{AtStart};
+ghost use Rattle.ixdtf.specs.language.Letters.{key_char};
 ghost use Rattle.ixdtf.specs.table.Faults.{Fault};
 ghost use Rattle.ixdtf.specs.reading.Clauses.{Reads, Spends, fault_of_stop, yielded};
 ghost use Rattle.ixdtf.specs.reading.Looks.{error_of};
-ghost use Rattle.ixdtf.specs.reading.Pairs.{key_run, value_run, value_step, value_end, value_other, pair_at, critical_pair_at, later_pair_at, next_pair_at};
+ghost use Rattle.ixdtf.specs.reading.Pairs.{key_run, value_run, value_step, value_goes_on, value_end, value_other, pair_at, critical_pair_at, later_pair_at, next_pair_at};
 ghost use Rattle.ixdtf.specs.Handlers.{RefusedBeside, first_calendar, pair_of};
 ghost use Rattle.ixdtf.specs.reading.Chains.{PairsRead, first_pairs};
 
@@ -16,12 +17,27 @@ use crate::parsers::grammar::{
     is_a_key_char, is_a_key_leading_char, is_annotation_close, is_annotation_key_value_separator,
     is_annotation_open, is_annotation_value_component, is_critical_flag, is_hyphen,
 };
+use crate::parsers::letters::{Letters, take_letters};
 use crate::records::Annotation;
 use crate::stop::Stop;
 
 // ==== Keys and values ====
 
+/// The letters of a key.
+#[derive(Clone, Copy)]
+pub struct KeyLetters;
+
+impl Letters for KeyLetters {
+    ghost after = { λ letters c. if key_char c then Some letters else None };
+
+    #[inline(always)]
+    fn go_on(self, byte: u8) -> Option<Self> {
+        if is_a_key_char(byte) { Some(self) } else { None }
+    }
+}
+
 /// Reads a key from its first letter on, and the `=` after it, and returns the key's units.
+#[tactic(auto, using(crate::proofs::code::PairLoops::pairs))]
 pub fn parse_annotation_key<'a, T: EncodingType>(
     cursor: &mut Cursor<'a, T>,
 ) -> Result<&'a [T::CodeUnit], Stop>
@@ -33,19 +49,15 @@ pub fn parse_annotation_key<'a, T: EncodingType>(
     ensures paid { OnOk result (Spends 0 cursor.old cursor.new) }
     ensures shorter { OnOk result (length cursor.new.rest < length cursor.old.rest) }
 {
-    let start = cursor.rest();
-    while let Some(byte) = cursor.look()? {
-        if !is_a_key_char(byte) {
-            if !is_annotation_key_value_separator(byte) {
-                return Err(Stop::AnnotationKeyChar);
-            }
-            let count = start.len() - cursor.rest().len();
+    let key = take_letters(cursor, KeyLetters)?;
+    match key.next {
+        None => Err(Stop::AnnotationKeyValueSeparator),
+        Some(byte) if is_annotation_key_value_separator(byte) => {
             cursor.step();
-            return Ok(&start[..count]);
+            Ok(key.units)
         }
-        cursor.step();
+        Some(_) => Err(Stop::AnnotationKeyChar),
     }
-    Err(Stop::AnnotationKeyValueSeparator)
 }
 
 /// Where reading of a value is.
@@ -108,7 +120,20 @@ impl ValueState {
     }
 }
 
+impl Letters for ValueState {
+    ghost after = { λ state c. value_goes_on (value_step state c) };
+
+    #[inline(always)]
+    fn go_on(self, byte: u8) -> Option<Self> {
+        match self.step(byte) {
+            ValueStep::GoesOn(next) => Some(next),
+            ValueStep::Ends | ValueStep::Stops => None,
+        }
+    }
+}
+
 /// Reads a value and the `]` after it, and returns the value's units.
+#[tactic(auto, using(crate::proofs::code::PairLoops::pairs))]
 pub fn parse_annotation_value<'a, T: EncodingType>(
     cursor: &mut Cursor<'a, T>,
 ) -> Result<&'a [T::CodeUnit], Stop>
@@ -120,23 +145,17 @@ pub fn parse_annotation_value<'a, T: EncodingType>(
     ensures paid { OnOk result (Spends 0 cursor.old cursor.new) }
     ensures shorter { OnOk result (length cursor.new.rest < length cursor.old.rest) }
 {
-    let start = cursor.rest();
-    let mut state = ValueState::AtStart;
-    while let Some(byte) = cursor.look()? {
-        match state.step(byte) {
-            ValueStep::GoesOn(next) => {
-                cursor.step();
-                state = next;
-            }
-            ValueStep::Ends => {
-                let count = start.len() - cursor.rest().len();
-                cursor.step();
-                return Ok(&start[..count]);
-            }
-            ValueStep::Stops => return Err(state.other_stop()),
+    let value = take_letters(cursor, ValueState::AtStart)?;
+    let Some(byte) = value.next else {
+        return Err(value.state.end_stop());
+    };
+    match value.state.step(byte) {
+        ValueStep::Ends => {
+            cursor.step();
+            Ok(value.units)
         }
+        ValueStep::GoesOn(_) | ValueStep::Stops => Err(value.state.other_stop()),
     }
-    Err(state.end_stop())
 }
 
 // ==== Pairs ====

@@ -1,4 +1,4 @@
-use Rattle.std.proofs.Common.{◌≡◌, ℕ, List, map, drop, Option, Some, None, Ok, Err, ap, ◌∙◌, arith, rules}
+use Rattle.std.proofs.Common.{◌≡◌, ℕ, List, map, drop, Option, Some, None, Ok, Err, IsSome, refl, ap, ◌∙◌, arith, rules}
 use Rattle.std.proofs.lemmas.Result.{err_from_is_err_and}
 use Rattle.ixdtf.specs.table.Faults.Fault.{NonAsciiCodePoint}
 use Rattle.ixdtf.specs.reading.Looks.{look_at}
@@ -58,3 +58,17 @@ returns-clause-letters g c =
           let next : c.in_ok-next.next ≡ Some w.in-Ok-Some.byte = search rules in
           rw next (stays _ g.T.EncodingType.letter g.met.T.EncodingType.faithful _ _ _ _ far _ found none)
     ]
+
+-- a letter that stays is taken off by a step
+pub returns-clause-stays : goal.returns-clause-stays
+returns-clause-stays g c some = elim c.match-look.branch [
+  | in-Err w ↦ absurd (search rules)
+  | in-Ok-None w ↦ absurd (nothing_next _ (search rules) some)
+  | in-Ok-Some+in-None w ↦
+      let found : look_at NonAsciiCodePoint (map g.T.EncodingType.letter c.loop-stop.here.rest) ≡ Ok (Some w.in-Ok-Some.byte) = search rules in
+      rw c.look.ensures.rest (shrinks g.T.EncodingType.letter _ _ _ found refl)
+]
+  where
+    nothing_next : (next : Option ℕ) → next ≡ None → IsSome next → ⊥
+    nothing_next None is some = cc
+    nothing_next (Some c) is some = cc
