@@ -56,6 +56,9 @@ key_closed letters text rest taken c e is test = run_closes key_after key_close 
 pub key_refused : (letters : KeyLetters) (text rest : Text) (taken : Taken KeyLetters) (c : ℕ) → letters_by key_after letters text ≡ Ok (taken, rest) → taken.next ≡ Some c → equals c ≡ false → key_run error_of text ≡ Err AnnotationKeyChar
 key_refused letters text rest taken c e is test = run_closes key_after key_close (λ l t. key_run error_of t) key_is_run letters text rest taken e ∙ rw (is, test) refl
 
+-- the keys that the code takes off
+pub ruleset keys = (key_failed, key_ended, key_closed, key_refused)
+
 -- ---- values
 
 abbrev pub value_after : ValueState → ℕ → Option ValueState
@@ -94,8 +97,15 @@ value_failed state text fault e = run_failed value_after value_close (λ s t. va
 pub value_ended : (state : ValueState) (text rest : Text) (taken : Taken ValueState) → letters_by value_after state text ≡ Ok (taken, rest) → taken.next ≡ None → value_run error_of state text ≡ Err (value_end taken.state)
 value_ended state text rest taken e is = run_closes value_after value_close (λ s t. value_run error_of s t) value_is_run state text rest taken e ∙ rw is refl
 
-pub value_stepped : (state : ValueState) (text rest : Text) (taken : Taken ValueState) (c : ℕ) (step : ValueStep) → letters_by value_after state text ≡ Ok (taken, rest) → taken.next ≡ Some c → value_step taken.state c ≡ step → value_run error_of state text ≡ closed taken.letters (step_closes taken.state step rest)
+value_stepped : (state : ValueState) (text rest : Text) (taken : Taken ValueState) (c : ℕ) (step : ValueStep) → letters_by value_after state text ≡ Ok (taken, rest) → taken.next ≡ Some c → value_step taken.state c ≡ step → value_run error_of state text ≡ closed taken.letters (step_closes taken.state step rest)
 value_stepped state text rest taken c step e is test = run_closes value_after value_close (λ s t. value_run error_of s t) value_is_run state text rest taken e ∙ rw (is, test) refl
 
--- the keys and the values that the code takes off
-pub ruleset pairs = (key_failed, key_ended, key_closed, key_refused, value_failed, value_ended, value_stepped)
+pub value_closed : (state : ValueState) (text rest : Text) (taken : Taken ValueState) (c : ℕ) → letters_by value_after state text ≡ Ok (taken, rest) → taken.next ≡ Some c → value_step taken.state c ≡ Ends → value_run error_of state text ≡ Ok (taken.letters, drop 1 rest)
+value_closed state text rest taken c e is test = value_stepped state text rest taken c Ends e is test
+
+pub value_refused : (state : ValueState) (text rest : Text) (taken : Taken ValueState) (c : ℕ) → letters_by value_after state text ≡ Ok (taken, rest) → taken.next ≡ Some c → value_step taken.state c ≡ Stops → value_run error_of state text ≡ Err (value_other taken.state)
+value_refused state text rest taken c e is test = value_stepped state text rest taken c Stops e is test
+
+pub value_refused_on : (state next : ValueState) (text rest : Text) (taken : Taken ValueState) (c : ℕ) → letters_by value_after state text ≡ Ok (taken, rest) → taken.next ≡ Some c → value_step taken.state c ≡ GoesOn next → value_run error_of state text ≡ Err (value_other taken.state)
+value_refused_on state next text rest taken c e is test = value_stepped state text rest taken c (GoesOn next) e is test
+

@@ -37,7 +37,7 @@ impl Letters for KeyLetters {
 }
 
 /// Reads a key from its first letter on, and the `=` after it, and returns the key's units.
-#[tactic(auto, using(crate::proofs::code::PairLoops::pairs))]
+#[tactic(auto, using(crate::proofs::code::PairLoops::keys))]
 pub fn parse_annotation_key<'a, T: EncodingType>(
     cursor: &mut Cursor<'a, T>,
 ) -> Result<&'a [T::CodeUnit], Stop>
@@ -133,7 +133,7 @@ impl Letters for ValueState {
 }
 
 /// Reads a value and the `]` after it, and returns the value's units.
-#[tactic(auto, using(crate::proofs::code::PairLoops::pairs))]
+#[tactic(auto, using(crate::proofs::code::PairLoops::value_failed))]
 pub fn parse_annotation_value<'a, T: EncodingType>(
     cursor: &mut Cursor<'a, T>,
 ) -> Result<&'a [T::CodeUnit], Stop>
@@ -146,15 +146,15 @@ pub fn parse_annotation_value<'a, T: EncodingType>(
     ensures shorter { OnOk result (length cursor.new.rest < length cursor.old.rest) }
 {
     let value = take_letters(cursor, ValueState::AtStart)?;
-    let Some(byte) = value.next else {
-        return Err(value.state.end_stop());
-    };
-    match value.state.step(byte) {
-        ValueStep::Ends => {
-            cursor.step();
-            Ok(value.units)
-        }
-        ValueStep::GoesOn(_) | ValueStep::Stops => Err(value.state.other_stop()),
+    match value.next {
+        None => Err(value.state.end_stop()),
+        Some(byte) => match value.state.step(byte) {
+            ValueStep::Ends => {
+                cursor.step();
+                Ok(value.units)
+            }
+            ValueStep::GoesOn(_) | ValueStep::Stops => Err(value.state.other_stop()),
+        },
     }
 }
 
