@@ -7,7 +7,6 @@ pub mod GrowingDigits
 pub mod LetterLoops
 pub mod NameLoop
 pub mod Nanoseconds
-pub mod NextPair
 pub mod OneMoreReply
 pub mod PairLoops
 pub mod ReadersWithoutPairs

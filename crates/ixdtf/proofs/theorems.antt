@@ -1,7 +1,5 @@
 -- What follows for every text.
 pub mod Handled
-pub mod NeverComes
-pub mod NotRefusals
+pub mod NoRow
 pub mod OneOutcome
 pub mod Rfc3339
-pub mod Unanswered

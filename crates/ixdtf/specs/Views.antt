@@ -1,11 +1,11 @@
 -- What public clauses see: a parser, a result, and the records that the code returns.
-use Rattle.std.specs.Prelude.{◌≡◌, ℕ, Bool, IsTrue, IsFalse, ◌+◌, ◌*◌, ◌≤◌, List, map, length, Option, Some, None, option_map, slice_get, Result, Ok, Err}
+use Rattle.std.specs.Prelude.{◌≡◌, ℕ, ◌+◌, ◌*◌, List, map, length, Option, Some, None, option_map, slice_get, Result, Ok, Err}
 use Rattle.ixdtf.specs.declared.error.ParseError.{ParseError}
 use Rattle.ixdtf.specs.declared.records.TimeZoneRecord.{TimeZoneRecord}
 use Rattle.ixdtf.specs.declared.records.TimeZoneRecord.TheVariants as zones
 use Rattle.ixdtf.specs.declared.records.TimeZoneAnnotation.{TimeZoneAnnotation}
 use Rattle.ixdtf.specs.declared.records.IxdtfParseRecord.{IxdtfParseRecord}
-use Rattle.ixdtf.specs.language.Letters.{Letter, Text}
+use Rattle.ixdtf.specs.language.Letters.{Letter}
 use Rattle.ixdtf.specs.language.Letters.Letter.{Plain, Bad}
 use Rattle.ixdtf.specs.table.Faults.{Fault, fault_of}
 use Rattle.ixdtf.specs.table.Faults.Fault.{NonAsciiCodePoint}

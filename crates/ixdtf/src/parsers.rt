@@ -18,13 +18,14 @@ mod dates;
 mod grammar;
 mod letters;
 mod offsets;
+mod texts;
 mod time;
 mod timezone;
 mod zones;
 
 pub use self::zones::TimeZoneParser;
 
-use self::cores::parse_date_time;
+use self::texts::parse_text;
 use crate::cursor::Cursor;
 use crate::encoding::{EncodingType, Utf8};
 use crate::records::{Annotation, IxdtfParseRecord};
@@ -198,11 +199,15 @@ impl<'a, T: EncodingType> IxdtfParser<'a, T> {
         ensures counted { self.old.looks ≤ self.new.looks }
     {
         let start = self.cursor.rest();
-        let mut cursor = self.cursor.take();
-        let read = parse_date_time::<T, F>(&mut cursor, &mut handler);
-        self.cursor = cursor;
-        match read {
-            Ok(record) => Ok(record),
+        let mut found: IxdtfParseRecord<'a, T> = IxdtfParseRecord {
+            date: None,
+            time: None,
+            offset: None,
+            tz: None,
+            calendar: None,
+        };
+        match parse_text::<T, F>(&mut self.cursor, &mut handler, &mut found) {
+            Ok(()) => Ok(found),
             Err(stop) => {
                 self.cursor.go_back(start);
                 Err(stop.error())

@@ -6,22 +6,19 @@ use Rattle.std.specs.Option.{option_or}
 use Rattle.ixdtf.specs.declared.records.Annotation.{Annotation}
 use Rattle.ixdtf.specs.language.Letters.{Text}
 use Rattle.ixdtf.specs.table.Faults.{Fault}
-use Rattle.ixdtf.specs.language.Brackets.{Pair, IsPair, ArePairs, IsTail}
-use Rattle.ixdtf.specs.language.Cores.{Core, IsDateTimeCore}
-use Rattle.ixdtf.specs.table.LineNames.{LineName}
-use Rattle.ixdtf.specs.language.Readers.Reader.{parse}
-use Rattle.ixdtf.specs.table.LineNames.LineName.{of_date, of_clock, of_offset, of_zone, of_bracket, of_pair}
-use Rattle.ixdtf.specs.table.LineNames.BracketLine.{first_bracket_start, first_critical_start, first_bracket_scan, after_bracket}
-use Rattle.ixdtf.specs.table.LineNames.PairLine.{key_start, critical_key_start, in_key, value_start, in_value, after_value_hyphen}
-use Rattle.ixdtf.specs.table.Lines.{Bracketed, InAnnotated}
+use Rattle.ixdtf.specs.language.Brackets.{Pair, IsPair, ArePairs}
+use Rattle.ixdtf.specs.language.Cores.{Core, IsCore}
+use Rattle.ixdtf.specs.language.Readers.{Reader, CoreKind}
+use Rattle.ixdtf.specs.language.Readers.Reader.{bracketed}
 use Rattle.ixdtf.specs.table.Rows.{Row, Fits}
-use Rattle.ixdtf.specs.language.Languages.{Parsed, parsed_with, IsDateTime}
+use Rattle.ixdtf.specs.language.Languages.{Parsed, parsed_with, IsBracketed}
 use Rattle.ixdtf.specs.table.Outcomes.{HasFault}
-use Rattle.ixdtf.specs.reading.Brackets.{Bracket, zoned, paired, zone_in, pairs_in}
-use Rattle.ixdtf.specs.Handlers.{first_calendar, RefusedBeside, NoneRefused, LastRefused, calendar_value, with_calendar, GivesFault, pair_of, Calls, handed, replies_of, IsChain}
-use Rattle.ixdtf.specs.reading.Chains.{AfterBrackets, FitsAfterBrackets, PairsUpTo, PairsRead, TextRead}
+use Rattle.ixdtf.specs.reading.Brackets.{Bracket, zone_in, pairs_in}
+use Rattle.ixdtf.specs.Handlers.{first_calendar, RefusedBeside, NoneRefused, LastRefused, calendar_value, with_calendar, GivesFault, pair_of, Calls, handed, replies_of, Step, IsChain}
+use Rattle.ixdtf.specs.reading.Chains.{FitsAfterBrackets, PairsUpTo, PairsRead, TextRead}
 use Rattle.ixdtf.proofs.code.OneMoreReply.{first_calendar-more, NoneRefused-more, NoneRefused-nothing}
 use Rattle.ixdtf.proofs.to_grammar.FirstBracket.{IsBracket}
+use Rattle.ixdtf.proofs.to_grammar.Wholes.{after_brackets, tail_of, bracket_stands}
 
 -- ---- texts of pairs
 
@@ -38,7 +35,7 @@ upto_more text pairs rest bracket after pair h is last =
 
 -- ---- the loop over the pairs
 
-module _ {T U F : Type 0} (number : U → ℕ) (step : F → Annotation T U → Option (Annotation T U) → F → Type 0) (handler : F) (first : List Pair) (text : Text) where
+module _ {T U F : Type 0} (number : U → ℕ) (step : Step T U F) (handler : F) (first : List Pair) (text : Text) where
   -- the calls so far left this state, this rest of the text, and this calendar
   pub record SoFar (state : F) (rest : Text) (calendar : Option Pair) : Type 0 where
     pub calls : Calls T U
@@ -180,98 +177,45 @@ module _ {T U F : Type 0} (number : U → ℕ) (step : F → Annotation T U → 
 
 -- ---- the whole text
 
-nothing_left : (xs ys : Text) → xs ++ ys ≡ [] → xs ≡ []
-nothing_left [] ys e = refl
-nothing_left (x ∷ xs) ys e = absurd cc
-
-nothing_right : (xs ys : Text) → xs ++ ys ≡ [] → ys ≡ []
-nothing_right [] ys e = e
-nothing_right (x ∷ xs) ys e = absurd cc
-
--- a bracket has letters
-bracket_stands : (bracket : Text) (b : Bracket) → IsBracket bracket b → bracket ≢ []
-bracket_stands bracket (zoned note) h none =
-    let e = nothing_right h.inside _ (nothing_right h.start _ (sym h.is ∙ none)) in cc
-bracket_stands bracket (paired pair) h none =
-    let e = nothing_right h.keys _ (nothing_right h.start _ (sym h.is ∙ none)) in cc
-
--- a first bracket, and pairs
-tail_of : (bracket rest : Text) (b : Bracket) (more : List Pair) → IsBracket bracket b → ArePairs rest more → IsTail (bracket ++ rest) (zone_in b) (pairs_in b ++ more)
-tail_of bracket rest (zoned note) more is pairs = (bracket, rest, refl, is, pairs)
-tail_of bracket rest (paired pair) more is pairs = ([], bracket ++ rest, refl, refl, (bracket, rest, refl, is, pairs))
-
--- what stands before a line of pairs, behind whole brackets
-after_whole : (name : LineName) (pairs : List Pair) (whole prior rest : Text) → Bracketed pairs whole → AfterBrackets name prior → InAnnotated name pairs (whole ++ prior) rest
-after_whole (of_date name) pairs whole prior rest b h = absurd h
-after_whole (of_clock clock name) pairs whole prior rest b h = absurd h
-after_whole (of_offset name) pairs whole prior rest b h = absurd h
-after_whole (of_zone name) pairs whole prior rest b h = absurd h
-after_whole (of_bracket first_bracket_start) pairs whole prior rest b h = absurd h
-after_whole (of_bracket first_critical_start) pairs whole prior rest b h = absurd h
-after_whole (of_bracket first_bracket_scan) pairs whole prior rest b h = absurd h
-after_whole (of_bracket after_bracket) pairs whole prior rest b h = subst (Bracketed pairs) (sym (append-nil whole) ∙ ap (λ p. whole ++ p) (sym h)) b
-after_whole (of_pair key_start) pairs whole prior rest b h = subst (Bracketed pairs) (sym (append-nil whole) ∙ ap (λ p. whole ++ p) (sym h)) b
-after_whole (of_pair critical_key_start) pairs whole prior rest b h = subst (Bracketed pairs) (sym (append-nil whole) ∙ ap (λ p. whole ++ p) (sym h)) b
-after_whole (of_pair in_key) pairs whole prior rest b h = inr (whole, prior, refl, b, h)
-after_whole (of_pair value_start) pairs whole prior rest b h = inr (whole, prior, refl, b, h)
-after_whole (of_pair in_value) pairs whole prior rest b h = inr (whole, prior, refl, b, h)
-after_whole (of_pair after_value_hyphen) pairs whole prior rest b h = inr (whole, prior, refl, b, h)
-
--- what the code replies of the whole text, for what it replies of the pairs
+-- what the code returns for the whole text, for what it returns for the pairs
 abbrev pub text_result : Core → Bracket → Result (Option Pair) Fault → Result Parsed Fault
 text_result core b (Ok calendar) = Ok (with_calendar (parsed_with core (zone_in b)) (calendar_value calendar))
 text_result core b (Err fault) = Err fault
 
-module _ (text cores bracket rest : Text) (core : Core) (b : Bracket) (is : text ≡ cores ++ (bracket ++ rest)) (is_core : IsDateTimeCore cores core) (is_bracket : IsBracket bracket b) where
+module _ (kind : CoreKind) (text cores bracket rest : Text) (core : Core) (b : Bracket) (is : text ≡ cores ++ (bracket ++ rest)) (is_core : IsCore kind cores core) (is_bracket : IsBracket bracket b) where
   -- a core, a first bracket and more pairs
-  date_time_of : (front : Text) (more : List Pair) → ArePairs front more → IsDateTime (cores ++ (bracket ++ front)) (parsed_with core (zone_in b)) (pairs_in b ++ more)
-  date_time_of front more pairs = record {
+  whole_of : (front : Text) (more : List Pair) → ArePairs front more → IsBracketed kind (cores ++ (bracket ++ front)) (parsed_with core (zone_in b)) (pairs_in b ++ more)
+  whole_of front more pairs = record {
     cores = cores;
     brackets = bracket ++ front;
     core = core;
     zone = zone_in b;
     is = refl;
     is_core = is_core;
-    is_tail = tail_of bracket front b more is_bracket pairs;
+    is_tail = tail_of b bracket front more is_bracket pairs;
     has = refl;
   }
 
-  bracketed_of : (front : Text) (more : List Pair) → ArePairs front more → Bracketed (pairs_in b ++ more) (cores ++ (bracket ++ front))
-  bracketed_of front more pairs = (
-    cores,
-    bracket ++ front,
-    refl,
-    (core, is_core),
-    zone_in b,
-    tail_of bracket front b more is_bracket pairs,
-    λ none. bracket_stands bracket b is_bracket (nothing_left bracket front none),
-  )
-
   split_of : (front left : Text) → rest ≡ front ++ left → text ≡ (cores ++ (bracket ++ front)) ++ left
-  split_of front left e = is ∙ ap (λ r. cores ++ (bracket ++ r)) e ∙ ap (λ r. cores ++ r) (sym (append_assoc bracket front left)) ∙ sym (append_assoc cores (bracket ++ front) left)
+  split_of front left e = is ∙ rw e (simp append_assoc)
 
   -- a row that fits behind whole brackets fits the text
-  fits_text : (more : List Pair) (left : Text) (row : Row) → PairsUpTo rest more left → FitsAfterBrackets row left → Fits parse row (pairs_in b ++ more) text
+  fits_text : (more : List Pair) (left : Text) (row : Row) → PairsUpTo rest more left → FitsAfterBrackets row left → Fits (bracketed kind) row (pairs_in b ++ more) text
   fits_text more left row upto_left fits =
       let front = upto_left.0 in
-      let whole = cores ++ (bracket ++ front) in (
-        whole ++ fits.0,
-        fits.1,
-        split_of front left upto_left.1 ∙ ap (λ r. whole ++ r) fits.2 ∙ sym (append_assoc whole fits.0 fits.1),
-        after_whole row.name (pairs_in b ++ more) whole fits.0 fits.1 (bracketed_of front more upto_left.2) fits.3,
-        fits.4,
-      )
+      after_brackets kind row (pairs_in b ++ more) text (cores ++ (bracket ++ front)) left (split_of front left upto_left.1)
+      (cores, bracket ++ front, refl, (core, is_core), zone_in b, tail_of b bracket front more is_bracket upto_left.2, bracket_stands bracket front b is_bracket) fits
 
-  module _ {T U F : Type 0} (number : U → ℕ) (step : F → Annotation T U → Option (Annotation T U) → F → Type 0) (handler last : F) where
-    -- what the code replies of the pairs, for the whole text
-    pub text_read : (result : Result (Option Pair) Fault) → PairsRead number step handler last (pairs_in b) rest result → TextRead number step handler last text (text_result core b result)
+  module _ {T U F : Type 0} (number : U → ℕ) (step : Step T U F) (handler last : F) where
+    -- what the code returns for the pairs, for the whole text
+    pub text_read : (result : Result (Option Pair) Fault) → PairsRead number step handler last (pairs_in b) rest result → TextRead number step handler last (bracketed kind) text (text_result core b result)
     text_read (Ok calendar) h = record {
       calls = h.calls;
       chain = h.chain;
       gives = record {
         read = parsed_with core (zone_in b);
-        whole = subst (IsDateTime text (parsed_with core (zone_in b))) (sym h.all)
-            (subst (λ t. IsDateTime t (parsed_with core (zone_in b)) (pairs_in b ++ h.more)) (sym is) (date_time_of rest h.more h.gives.0));
+        whole = subst (IsBracketed kind text (parsed_with core (zone_in b))) (sym h.all)
+            (subst (λ t. IsBracketed kind t (parsed_with core (zone_in b)) (pairs_in b ++ h.more)) (sym is) (whole_of rest h.more h.gives.0));
         accepted = h.gives.1;
         has = ap (λ c. with_calendar (parsed_with core (zone_in b)) (calendar_value c)) h.gives.2;
       };
@@ -279,23 +223,23 @@ module _ (text cores bracket rest : Text) (core : Core) (b : Bracket) (is : text
     text_read (Err fault) h =
         let left = h.gives.0 in
         let front = h.gives.1 in
-        let gives : GivesFault parse text (pairs_in b ++ h.more) (replies_of number h.calls) fault =
+        let gives : GivesFault (bracketed kind) text (pairs_in b ++ h.more) (replies_of number h.calls) fault =
         elim h.gives.2 [
-          | inl last_refused ↦ inl ((cores ++ (bracket ++ front.0), left, split_of front.0 left front.1, parsed_with core (zone_in b), date_time_of front.0 h.more front.2), last_refused)
+          | inl last_refused ↦ inl ((cores ++ (bracket ++ front.0), left, split_of front.0 left front.1, parsed_with core (zone_in b), whole_of front.0 h.more front.2), last_refused)
           | inr p ↦ inr ((p.0.0, fits_text h.more left p.0.0 front p.0.1, p.0.2), p.1)
         ] in
-        record { calls = h.calls; chain = h.chain; gives = subst (λ pairs. GivesFault parse text pairs (replies_of number h.calls) fault) (sym h.all) gives }
+        record { calls = h.calls; chain = h.chain; gives = subst (λ pairs. GivesFault (bracketed kind) text pairs (replies_of number h.calls) fault) (sym h.all) gives }
 
 -- ---- a text without a call
 
-module _ {T U F : Type 0} (number : U → ℕ) (step : F → Annotation T U → Option (Annotation T U) → F → Type 0) (handler : F) (text : Text) where
+module _ {T U F : Type 0} (number : U → ℕ) (step : Step T U F) (handler : F) (text : Text) where
   -- a text with a fault before any pair
-  pub text_fault : (fault : Fault) → HasFault parse text [] fault → TextRead number step handler handler text (Err fault)
-  text_fault fault h = record { calls = []; chain = refl; gives = inr (h, NoneRefused-nothing) }
+  pub text_fault : (reader : Reader) (fault : Fault) → HasFault reader text [] fault → TextRead number step handler handler reader text (Err fault)
+  text_fault reader fault h = record { calls = []; chain = refl; gives = inr (h, NoneRefused-nothing) }
 
   -- a core alone
-  pub text_derived : (core : Core) → IsDateTimeCore text core → TextRead number step handler handler text (Ok (with_calendar (parsed_with core None) None))
-  text_derived core is_core = record {
+  pub text_derived : (kind : CoreKind) (core : Core) → IsCore kind text core → TextRead number step handler handler (bracketed kind) text (Ok (with_calendar (parsed_with core None) None))
+  text_derived kind core is_core = record {
     calls = [];
     chain = refl;
     gives = record {

@@ -6,7 +6,7 @@ use Rattle.ixdtf.specs.declared.error.ParseError.{ParseError}
 use Rattle.ixdtf.specs.Views.{returned}
 use Rattle.ixdtf.specs.language.Brackets.{Pair}
 use Rattle.ixdtf.specs.language.Readers.{Reader}
-use Rattle.ixdtf.specs.language.Readers.Reader.{parse, parse_offset, parse_identifier, parse_iana_identifier}
+use Rattle.ixdtf.specs.language.Readers.Reader.{bracketed, parse_offset, parse_identifier, parse_iana_identifier}
 use Rattle.ixdtf.specs.table.Rows.{Row, Fits}
 use Rattle.ixdtf.specs.language.Languages.{Found, Derives}
 use Rattle.ixdtf.specs.table.Outcomes.{HasFault}
@@ -33,12 +33,14 @@ error_after pairs row = row.error
 
 -- the reader reads no pairs
 abbrev pub ReadsNoPairs : Reader → Type 0
-ReadsNoPairs parse = ⊥
-ReadsNoPairs reader = Unit {0}
+ReadsNoPairs (bracketed kind) = ⊥
+ReadsNoPairs parse_offset = Unit {0}
+ReadsNoPairs parse_identifier = Unit {0}
+ReadsNoPairs parse_iana_identifier = Unit {0}
 
 -- no pairs stand before its rows
 no_pairs : (reader : Reader) (row : Row) (pairs : List Pair) (text : Text) → ReadsNoPairs reader → Fits reader row pairs text → Fits reader row [] text
-no_pairs parse row pairs text none f = absurd none
+no_pairs (bracketed kind) row pairs text none f = absurd none
 no_pairs parse_offset row pairs text none f = rw f.3.1 at f
 no_pairs parse_identifier row pairs text none f = rw f.3.1 at f
 no_pairs parse_iana_identifier row pairs text none f = rw f.3.1 at f

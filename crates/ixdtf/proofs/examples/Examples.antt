@@ -1,6 +1,6 @@
 -- Texts and their outcomes, computed.
 use Rattle.std.proofs.Common.{◌≡◌, ℕ, Bool, true, false, List, [], ◌∷◌, ◌++◌, codes, Option, Some, None, ℤ, pos, neg_ℤ, refl}
-use Rattle.ixdtf.specs.declared.parsers.time.Clock.TheVariants.{Time, Offset as OffsetClock, MinuteOffset}
+use Rattle.ixdtf.specs.language.Times.Clock.{Time, Offset as OffsetClock, MinuteOffset}
 use Rattle.ixdtf.specs.declared.records.DateRecord.{DateRecord}
 use Rattle.ixdtf.specs.declared.records.TimeRecord.{TimeRecord}
 use Rattle.ixdtf.specs.declared.records.Sign.TheVariants.{Positive, Negative}
@@ -17,8 +17,10 @@ use Rattle.ixdtf.specs.language.Brackets.{ZoneNote}
 use Rattle.ixdtf.specs.language.Cores.{core_of}
 use Rattle.ixdtf.specs.language.Brackets.{Pair}
 use Rattle.ixdtf.specs.table.LineNames.{LineName}
-use Rattle.ixdtf.specs.language.Readers.Reader.{parse, parse_offset, parse_identifier, parse_iana_identifier}
-use Rattle.ixdtf.specs.table.LineNames.LineName.{of_date, of_clock, of_offset, of_zone, of_bracket, of_pair}
+use Rattle.ixdtf.specs.language.Readers.{parse}
+use Rattle.ixdtf.specs.language.Readers.Reader.{parse_offset, parse_identifier, parse_iana_identifier}
+use Rattle.ixdtf.specs.table.LineNames.{of_date}
+use Rattle.ixdtf.specs.table.LineNames.LineName.{of_clock, of_offset, of_zone, of_bracket, of_pair}
 use Rattle.ixdtf.specs.table.LineNames.DateLine.{year_start, minus_zero_year, after_year, month_digits, month_range, after_hyphened_month, after_plain_month, day_range, after_date}
 use Rattle.ixdtf.specs.table.LineNames.ClockLine.{hour_start, hour_digit, hour_range, after_hour, minute_digits, minute_range, after_plain_minute, after_colon_minute, second_digits, second_range, after_second, fraction_start, after_fraction}
 use Rattle.ixdtf.specs.table.LineNames.OffsetLine.{offset_start, after_zulu}
@@ -36,9 +38,10 @@ use Rattle.ixdtf.specs.reading.Looks.{row_of, look_at, next_by, digits_by, peek_
 use Rattle.ixdtf.specs.reading.Dates.{date_of, extended_year_at, plain_year_at, year_at, month_in_range, day_in_range, hyphened_day_at, after_hyphened_month_at, hyphened_date_at, plain_day_at, after_plain_month_at, plain_date_at, after_year_at, date_at}
 use Rattle.ixdtf.specs.reading.Times.{time_of, fraction_at, after_second_at, colon_second_at, plain_second_at, after_colon_minute_at, after_plain_minute_at, colon_minute_at, plain_minute_at, after_hour_at, hour_from, clock_at}
 use Rattle.ixdtf.specs.reading.Zones.{name_run, name_alone_at, iana_identifier_at, offset_alone_at, offset_at, minute_offset_alone_at, identifier_at}
-use Rattle.ixdtf.specs.reading.Pairs.{key_run, value_run, pair_at, critical_pair_at, later_pair_at, pairs_at}
+use Rattle.ixdtf.specs.reading.Pairs.{key_run, value_run, pair_at, critical_pair_at, later_pair_at, next_pair_at, pairs_at}
 use Rattle.ixdtf.specs.reading.Brackets.{sight_at, name_in_bracket_at, name_or_pair_at, offset_in_bracket_at, inside_at, critical_bracket_at, bracket_at}
-use Rattle.ixdtf.specs.reading.Wholes.{offset_core_at, after_time_at, time_core_at, core_at, bracketed_at, annotated_at, parse_at, outcome}
+use Rattle.ixdtf.specs.reading.Cores.{core_end_at, offset_core_at, after_time_at, time_core_at, after_date_at, date_time_core_at}
+use Rattle.ixdtf.specs.reading.Wholes.{bracketed_at, annotated_at, bracketed_text_at, outcome}
 
 -- the letters of a text of plain letters
 abbrev text_of : List ℕ → Text
@@ -47,7 +50,7 @@ text_of (c ∷ rest) = Plain c ∷ text_of rest
 
 -- unfolding this unfolds every reading
 all_readings : ℕ
-unfolding look_at next_by digits_by peek_by in_range digit_run extended_year_at plain_year_at year_at month_in_range day_in_range hyphened_day_at after_hyphened_month_at hyphened_date_at plain_day_at after_plain_month_at plain_date_at after_year_at date_at fraction_at after_second_at colon_second_at plain_second_at after_colon_minute_at after_plain_minute_at colon_minute_at plain_minute_at after_hour_at hour_from clock_at name_run name_alone_at iana_identifier_at offset_alone_at offset_at minute_offset_alone_at identifier_at sight_at name_in_bracket_at name_or_pair_at key_run value_run pair_at critical_pair_at later_pair_at pairs_at offset_in_bracket_at inside_at critical_bracket_at bracket_at offset_core_at after_time_at time_core_at core_at bracketed_at annotated_at parse_at
+unfolding look_at next_by digits_by peek_by in_range digit_run extended_year_at plain_year_at year_at month_in_range day_in_range hyphened_day_at after_hyphened_month_at hyphened_date_at plain_day_at after_plain_month_at plain_date_at after_year_at date_at fraction_at after_second_at colon_second_at plain_second_at after_colon_minute_at after_plain_minute_at colon_minute_at plain_minute_at after_hour_at hour_from clock_at name_run name_alone_at iana_identifier_at offset_alone_at offset_at minute_offset_alone_at identifier_at sight_at name_in_bracket_at name_or_pair_at key_run value_run pair_at critical_pair_at later_pair_at next_pair_at pairs_at offset_in_bracket_at inside_at critical_bracket_at bracket_at core_end_at offset_core_at after_time_at time_core_at after_date_at date_time_core_at bracketed_at annotated_at bracketed_text_at
 all_readings = 0
 
 abbrev parsing : List ℕ → Outcome
@@ -55,7 +58,7 @@ parsing text = outcome parse (text_of text)
 
 -- what stands before the brackets, and a zone where there is one
 abbrev with : DateRecord → Option TimeRecord → Option UtcOffsetRecordOrZ → Option ZoneNote → Outcome
-with day time offset zone = derived (parsed (parsed_with (core_of day time offset) zone)) []
+with day time offset zone = derived (parsed (parsed_with (core_of (Some day) time offset) zone)) []
 
 abbrev date : ℤ → ℕ → ℕ → Outcome
 date year month day = with (date_of year month day) None None None
@@ -71,8 +74,8 @@ new_year hour minute second fraction = with new_years_day (Some (time_of hour mi
 abbrev morning : Option UtcOffsetRecordOrZ → Option ZoneNote → Outcome
 morning offset zone = with (date_of (pos 2024) 3 2) (Some (time_of 8 48 0 None)) offset zone
 
-abbrev bracketed : Bool → List ℕ → Option ZoneNote
-bracketed critical name = Some (record { critical = critical; zone = Name name })
+abbrev zone_named : Bool → List ℕ → Option ZoneNote
+zone_named critical name = Some (record { critical = critical; zone = Name name })
 
 abbrev stops : LineName → Place → Fault → Outcome
 stops name place fault = refused (row_of name place fault) []
@@ -339,15 +342,15 @@ bad_in_a_name = refl
 
 -- ---- brackets
 
-a_bracket : parsing (codes "2020-01-01[cet]") ≡ with new_years_day None None (bracketed false (codes "cet"))
+a_bracket : parsing (codes "2020-01-01[cet]") ≡ with new_years_day None None (zone_named false (codes "cet"))
 unfolding all_readings
 a_bracket = refl
 
-a_time_an_offset_and_a_bracket : parsing (codes "2024-03-02T08:48:00-05:00[America/New_York]") ≡ morning (Some (Offset (MinutePrecision (record { sign = Negative; hour = 5; minute = 0 })))) (bracketed false (codes "America/New_York"))
+a_time_an_offset_and_a_bracket : parsing (codes "2024-03-02T08:48:00-05:00[America/New_York]") ≡ morning (Some (Offset (MinutePrecision (record { sign = Negative; hour = 5; minute = 0 })))) (zone_named false (codes "America/New_York"))
 unfolding all_readings
 a_time_an_offset_and_a_bracket = refl
 
-utc_and_a_critical_bracket : parsing (codes "2024-03-02T08:48:00Z[!America/New_York]") ≡ morning (Some Z) (bracketed true (codes "America/New_York"))
+utc_and_a_critical_bracket : parsing (codes "2024-03-02T08:48:00Z[!America/New_York]") ≡ morning (Some Z) (zone_named true (codes "America/New_York"))
 unfolding all_readings
 utc_and_a_critical_bracket = refl
 
@@ -435,7 +438,7 @@ tagged critical key value = record { critical = critical; key = key; value = val
 
 -- 1 January 2020 with these pairs
 abbrev annotated : Option ZoneNote → List Pair → Outcome
-annotated zone pairs = derived (parsed (parsed_with (core_of new_years_day None None) zone)) pairs
+annotated zone pairs = derived (parsed (parsed_with (core_of (Some new_years_day) None None) zone)) pairs
 
 -- the row, with these whole pairs before it
 abbrev stops_after : List Pair → LineName → Place → Fault → Outcome
@@ -449,7 +452,7 @@ a_critical_pair_alone : parsing (codes "2020-01-01[!_=Z]") ≡ annotated None (t
 unfolding all_readings
 a_critical_pair_alone = refl
 
-a_zone_and_a_pair : parsing (codes "2020-01-01[u][u=u]") ≡ annotated (bracketed false (codes "u")) (tagged false (codes "u") (codes "u") ∷ [])
+a_zone_and_a_pair : parsing (codes "2020-01-01[u][u=u]") ≡ annotated (zone_named false (codes "u")) (tagged false (codes "u") (codes "u") ∷ [])
 unfolding all_readings
 a_zone_and_a_pair = refl
 

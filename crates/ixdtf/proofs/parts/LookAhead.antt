@@ -12,7 +12,7 @@ use Rattle.ixdtf.specs.language.Brackets.{passed, FirstIs, ReadsAsName}
 use Rattle.ixdtf.specs.language.Brackets.{Key, ReadsAsPair}
 use Rattle.ixdtf.specs.table.LineNames.LineName.{of_bracket}
 use Rattle.ixdtf.specs.table.LineNames.BracketLine.{first_bracket_scan}
-use Rattle.ixdtf.specs.table.Lines.{bracket_line, abrupt_bracket, Scanned}
+use Rattle.ixdtf.specs.table.Lines.{bracket_line, abrupt_bracket, LetterOfKey}
 use Rattle.ixdtf.specs.table.Rows.{Row, Place, Stops}
 use Rattle.ixdtf.specs.table.Rows.Place.{end, other, bad, anywhere}
 use Rattle.ixdtf.specs.reading.Looks.{row_of}
@@ -53,14 +53,14 @@ module _ {E : Type 0} (fault : Row → E) where
   over_joined (part ∷ parts) text rest h = rw (h.1, h.2.1) (over_letter h.2.0 (h.0 ++ rest) h.2.2 ∙ over_joined parts h.0 rest h.3)
 
   -- the letters of the line of the sight
-  pub over_scanned : (text rest : Text) → Scanned text → sight_at fault (text ++ rest) ≡ sight_at fault rest
+  pub over_scanned : (text rest : Text) → LetterOfKey text → sight_at fault (text ++ rest) ≡ sight_at fault rest
   over_scanned text rest h =
       rw (h.2, h.3.1) (over_letter h.3.0 (h.1 ++ rest) (key_lead_passed h.3.0 h.3.2) ∙ over_joined h.4.0 h.1 rest h.4.1)
 
   pub sight_stops : (place : Place) (e : Fault) (rest : Text) → Stops (bracket_line first_bracket_scan) place e rest → sight_at fault rest ≡ Err (fault (row_of (of_bracket first_bracket_scan) place e))
   unfolding sight_at
-  sight_stops end e rest h = rw h.0 (grind (arith, h.1))
-  sight_stops other e rest h = absurd (grind (arith, h.3))
+  sight_stops end e rest h = rw (h.0, h.1) refl
+  sight_stops other e rest h = absurd h
   sight_stops bad e rest h = rw (h.1, h.2) refl
   sight_stops anywhere e rest h = absurd h
 

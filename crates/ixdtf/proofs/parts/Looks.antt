@@ -1,17 +1,16 @@
 -- One look at a line: a letter that goes on is read further, a row that fits is returned; and back.
 use Rattle.std.proofs.Common.{◌≡◌, ℕ, zero, suc, ◌<◌, ◌⊎◌, Bool, true, false, IsTrue, IsFalse, [], ◌∷◌, ◌++◌, Ok, Err, Option, Some, None, refl, sym, ap, ◌∙◌, subst, inl, inr, arith, append_assoc, if◌then◌else◌}
-use Rattle.ixdtf.specs.language.Letters.{Text}
+use Rattle.ixdtf.specs.language.Letters.{Text, Class, digit}
 use Rattle.ixdtf.specs.language.Letters.Letter.{Plain, Bad}
-use Rattle.ixdtf.specs.language.Letters.{Class, digit}
 use Rattle.ixdtf.specs.language.Shapes.{Shape, one, digits}
 use Rattle.ixdtf.specs.table.Faults.{Fault}
 use Rattle.ixdtf.specs.table.Faults.Fault.{NonAsciiCodePoint}
-use Rattle.ixdtf.specs.language.Readers.{Reader}
+use Rattle.ixdtf.specs.language.Readers.{Reader, has_brackets}
 use Rattle.ixdtf.specs.table.LineNames.{LineName}
-use Rattle.ixdtf.specs.language.Readers.Reader.{parse}
-use Rattle.ixdtf.specs.table.Lines.{Line, table, Before}
-use Rattle.ixdtf.specs.table.Lines.Line.{line, whole}
+use Rattle.ixdtf.specs.table.Lines.{Line, line_of}
+use Rattle.ixdtf.specs.table.Lines.Line.{line, scanned, whole}
 use Rattle.ixdtf.specs.table.Lines.Ending.{ok, error}
+use Rattle.ixdtf.specs.table.Before.{Before}
 use Rattle.ixdtf.specs.table.Rows.{Row, Place, Stops, front_of, FitsHere, Fits}
 use Rattle.ixdtf.specs.table.Rows.Place.{end, other, bad, anywhere}
 use Rattle.ixdtf.specs.reading.Looks.{Read, Look, ◌>>=◌, row_of, look_of, look_at, next_by, letter_at, digits_by, digits_at, peek_by, on_next, digit_run}
@@ -73,61 +72,66 @@ pub ◌till◌ : {E A : Type 0} {start middle : Text → Read E A} {first second
 -- ---- rows
 
 -- where a row of the line fits, reading returns it
-abbrev pub RowsRead : {E A : Type 0} → (Row → E) → Reader → (Text → Read E A) → LineName → Type 0
-RowsRead fault reader read name = (place : Place) (e : Fault) (front rest : Text) → front_of (table reader name) front → Stops (table reader name) place e rest → read (front ++ rest) ≡ Err (fault (row_of name place e))
+abbrev pub RowsRead : {E A : Type 0} → (Row → E) → Bool → (Text → Read E A) → LineName → Type 0
+RowsRead fault brackets read name = (place : Place) (e : Fault) (front rest : Text) → front_of (line_of brackets name) front → Stops (line_of brackets name) place e rest → read (front ++ rest) ≡ Err (fault (row_of name place e))
 
 abbrev pub IsWhole : Line → Type 0
 IsWhole (line front goes_on at_end at_other) = ⊥
+IsWhole (scanned front e) = ⊥
 IsWhole (whole front e) = Unit {0}
 
 -- a whole line has one row
-pub whole_row : {E A : Type 0} (fault : Row → E) (reader : Reader) (read : Text → Read E A) (name : LineName) → IsWhole (table reader name) → ((e : Fault) (front rest : Text) → front_of (table reader name) front → Stops (table reader name) anywhere e rest → read (front ++ rest) ≡ Err (fault (row_of name anywhere e))) → RowsRead fault reader read name
-whole_row fault reader read name is h place e front rest f at =
-    subst (λ p. read (front ++ rest) ≡ Err (fault (row_of name p e))) (sym (one_row (table reader name) is place at))
-    (h e front rest f (subst (λ p. Stops (table reader name) p e rest) (one_row (table reader name) is place at) at))
+pub whole_row : {E A : Type 0} (fault : Row → E) (brackets : Bool) (read : Text → Read E A) (name : LineName) → IsWhole (line_of brackets name) → ((e : Fault) (front rest : Text) → front_of (line_of brackets name) front → Stops (line_of brackets name) anywhere e rest → read (front ++ rest) ≡ Err (fault (row_of name anywhere e))) → RowsRead fault brackets read name
+whole_row fault brackets read name is h place e front rest f at =
+    subst (λ p. read (front ++ rest) ≡ Err (fault (row_of name p e))) (sym (one_row (line_of brackets name) is place at))
+    (h e front rest f (subst (λ p. Stops (line_of brackets name) p e rest) (one_row (line_of brackets name) is place at) at))
   where
     one_row : (l : Line) → IsWhole l → (p : Place) → Stops l p e rest → p ≡ anywhere
     one_row (line f g n o) is p at = absurd is
+    one_row (scanned f d) is p at = absurd is
     one_row (whole f d) is end at = absurd at
     one_row (whole f d) is other at = absurd at
     one_row (whole f d) is bad at = absurd at
     one_row (whole f d) is anywhere at = refl
 
 -- the row is of a line of a part, and fits here
-abbrev pub FitsIn : {L : Type 0} → (L → LineName) → Reader → Row → Text → Type 0
-FitsIn {L} part reader row text = (l : L) × (row.name ≡ part l) × FitsHere reader row text
+abbrev pub FitsIn : {L : Type 0} → (L → LineName) → Bool → Row → Text → Type 0
+FitsIn {L} part brackets row text = (l : L) × (row.name ≡ part l) × FitsHere brackets row text
 
-pub fits_in : {L : Type 0} (part : L → LineName) (reader : Reader) (l : L) (row : Row) (text front rest : Text) → row.name ≡ part l → text ≡ front ++ rest → front_of (table reader (part l)) front → Stops (table reader (part l)) row.place row.error rest → FitsIn part reader row text
-fits_in part reader l row text front rest is split shape stops =
-    (l, is, subst (λ (n : LineName). (f x : Text) × (text ≡ f ++ x) × front_of (table reader n) f × Stops (table reader n) row.place row.error x) (sym is) (front, rest, split, shape, stops))
+pub fits_in : {L : Type 0} (part : L → LineName) (brackets : Bool) (l : L) (row : Row) (text front rest : Text) → row.name ≡ part l → text ≡ front ++ rest → front_of (line_of brackets (part l)) front → Stops (line_of brackets (part l)) row.place row.error rest → FitsIn part brackets row text
+fits_in part brackets l row text front rest is split shape stops =
+    (l, is, subst (λ (n : LineName). (f x : Text) × (text ≡ f ++ x) × front_of (line_of brackets n) f × Stops (line_of brackets n) row.place row.error x) (sym is) (front, rest, split, shape, stops))
 
 -- the row fits the text, where it fits what stands after the parts before it
-pub lift : {L : Type 0} (part : L → LineName) (reader : Reader) (row : Row) (text prior body : Text) → text ≡ prior ++ body → ((l : L) → Before reader (part l) [] prior body) → FitsIn part reader row body → Fits reader row [] text
+pub lift : {L : Type 0} (part : L → LineName) (reader : Reader) (row : Row) (text prior body : Text) → text ≡ prior ++ body → ((l : L) → Before reader (part l) [] prior body) → FitsIn part (has_brackets reader) row body → Fits reader row [] text
 lift part reader row text prior body is at h = (prior, body, is, subst (λ n. Before reader n [] prior body) (sym h.1) (at h.0), h.2)
 
 -- the row of a whole line
-pub fits_whole_in : {E L : Type 0} (fault : Row → E) (part : L → LineName) (reader : Reader) (l : L) (e : Fault) (text front rest : Text) → text ≡ front ++ rest → front_of (table reader (part l)) front → Stops (table reader (part l)) anywhere e rest → Stopped fault (fault (row_of (part l) anywhere e)) (λ row. FitsIn part reader row text)
-fits_whole_in fault part reader l e text front rest split shape at = (row_of (part l) anywhere e, refl, (l, refl, (front, rest, split, shape, at)))
+pub fits_whole_in : {E L : Type 0} (fault : Row → E) (part : L → LineName) (brackets : Bool) (l : L) (e : Fault) (text front rest : Text) → text ≡ front ++ rest → front_of (line_of brackets (part l)) front → Stops (line_of brackets (part l)) anywhere e rest → Stopped fault (fault (row_of (part l) anywhere e)) (λ row. FitsIn part brackets row text)
+fits_whole_in fault part brackets l e text front rest split shape at = (row_of (part l) anywhere e, refl, (l, refl, (front, rest, split, shape, at)))
 
 -- ---- a line at which the text may not end
 
 abbrev pub Looks : Line → Type 0
 Looks (line front goes_on (error e) at_other) = Unit {0}
 Looks (line front goes_on ok at_other) = ⊥
+Looks (scanned front e) = ⊥
 Looks (whole front e) = ⊥
 
 abbrev pub Goes : Line → ℕ → Type 0
 Goes (line front goes_on at_end at_other) c = IsTrue (goes_on c)
+Goes (scanned front e) c = ⊥
 Goes (whole front e) c = ⊥
 
 abbrev pub LooksForDigit : Line → Type 0
 LooksForDigit (line front goes_on (error e) at_other) = (c : ℕ) → goes_on c ≡ digit c
 LooksForDigit (line front goes_on ok at_other) = ⊥
+LooksForDigit (scanned front e) = ⊥
 LooksForDigit (whole front e) = ⊥
 
 -- the row is the line's, and fits at this rest
 abbrev pub StopsHere : LineName → Text → Row → Type 0
-StopsHere name rest row = (row.name ≡ name) × Stops (table parse name) row.place row.error rest
+StopsHere name rest row = (row.name ≡ name) × Stops (line_of true name) row.place row.error rest
 
 -- fewer digits than wanted, and the line's row after them
 abbrev pub DigitsStop : LineName → ℕ → Text → Row → Type 0
@@ -155,63 +159,69 @@ module _ {E : Type 0} (fault : Row → E) (name : LineName) (front : Shape) (goe
   letter_read (Plain c ∷ rest) = read_if fault (goes_on c) _ _ _ _ (λ h. (refl, h)) (λ h. (row_of name other (at_other c), refl, (refl, (c, rest, refl, h, refl))))
 
 module _ {E : Type 0} (fault : Row → E) (name : LineName) where
-  pub goes : (c : ℕ) (rest : Text) → Looks (table parse name) → Goes (table parse name) c → letter_at fault name (Plain c ∷ rest) ≡ Ok (c, rest)
-  goes c rest looks h = go (table parse name) looks h
+  pub goes : (c : ℕ) (rest : Text) → Looks (line_of true name) → Goes (line_of true name) c → letter_at fault name (Plain c ∷ rest) ≡ Ok (c, rest)
+  goes c rest looks h = go (line_of true name) looks h
     where
       go : (l : Line) → Looks l → Goes l c → next_by (look_of fault name l) (Plain c ∷ rest) ≡ Ok (c, rest)
       go (line front goes_on (error e) at_other) looks h = letter_goes fault name front goes_on e at_other c rest h
       go (line front goes_on ok at_other) looks h = absurd looks
+      go (scanned front e) looks h = absurd looks
       go (whole front e) looks h = absurd looks
 
-  pub stops : (place : Place) (e : Fault) (rest : Text) → Looks (table parse name) → Stops (table parse name) place e rest → letter_at fault name rest ≡ Err (fault (row_of name place e))
-  stops place d rest looks h = go (table parse name) looks h
+  pub stops : (place : Place) (e : Fault) (rest : Text) → Looks (line_of true name) → Stops (line_of true name) place e rest → letter_at fault name rest ≡ Err (fault (row_of name place e))
+  stops place d rest looks h = go (line_of true name) looks h
     where
       go : (l : Line) → Looks l → Stops l place d rest → next_by (look_of fault name l) rest ≡ Err (fault (row_of name place d))
       go (line front goes_on (error e) at_other) looks h = letter_stops fault name front goes_on e at_other place d rest h
       go (line front goes_on ok at_other) looks h = absurd looks
+      go (scanned front e) looks h = absurd looks
       go (whole front e) looks h = absurd looks
 
-  pub read_letter : (text : Text) → Looks (table parse name) → OnRead fault (letter_at fault name text) (λ c rest. (text ≡ Plain c ∷ rest) × Goes (table parse name) c) (StopsHere name text)
-  read_letter text looks = go (table parse name) looks
+  pub read_letter : (text : Text) → Looks (line_of true name) → OnRead fault (letter_at fault name text) (λ c rest. (text ≡ Plain c ∷ rest) × Goes (line_of true name) c) (StopsHere name text)
+  read_letter text looks = go (line_of true name) looks
     where
       go : (l : Line) → Looks l → OnRead fault (next_by (look_of fault name l) text) (λ c rest. (text ≡ Plain c ∷ rest) × Goes l c) (λ row. (row.name ≡ name) × Stops l row.place row.error text)
       go (line front goes_on (error e) at_other) looks = letter_read fault name front goes_on e at_other text
       go (line front goes_on ok at_other) looks = absurd looks
+      go (scanned front e) looks = absurd looks
       go (whole front e) looks = absurd looks
 
   digit_goes : (l : Line) (c : ℕ) → LooksForDigit l → IsTrue (digit c) → Goes l c
   digit_goes (line front goes_on (error e) at_other) c same h = same c ∙ h
   digit_goes (line front goes_on ok at_other) c same h = absurd same
+  digit_goes (scanned front e) c same h = absurd same
   digit_goes (whole front e) c same h = absurd same
 
   goes_digit : (l : Line) (c : ℕ) → LooksForDigit l → Goes l c → IsTrue (digit c)
   goes_digit (line front goes_on (error e) at_other) c same h = sym (same c) ∙ h
   goes_digit (line front goes_on ok at_other) c same h = absurd same
+  goes_digit (scanned front e) c same h = absurd same
   goes_digit (whole front e) c same h = absurd same
 
   digit_looks : (l : Line) → LooksForDigit l → Looks l
   digit_looks (line front goes_on (error e) at_other) same = tt
   digit_looks (line front goes_on ok at_other) same = absurd same
+  digit_looks (scanned front e) same = absurd same
   digit_looks (whole front e) same = absurd same
 
-  module _ (asks : LooksForDigit (table parse name)) where
-    looks : Looks (table parse name)
-    looks = digit_looks (table parse name) asks
+  module _ (asks : LooksForDigit (line_of true name)) where
+    looks : Looks (line_of true name)
+    looks = digit_looks (line_of true name) asks
 
     pub digits_go : (n : ℕ) (ds rest : Text) → digits n ds → digits_at fault name n (ds ++ rest) ≡ Ok (ds, rest)
     unfolding digits_by
     digits_go zero ds rest h = rw h refl
     digits_go (suc n) ds rest h =
         rw h.2
-        (rw (goes h.0 (h.1 ++ rest) looks (digit_goes (table parse name) h.0 asks h.3), digits_go n h.1 rest h.4) refl)
+        (rw (goes h.0 (h.1 ++ rest) looks (digit_goes (line_of true name) h.0 asks h.3), digits_go n h.1 rest h.4) refl)
 
-    pub digits_stop : (n k : ℕ) (ds rest : Text) (place : Place) (e : Fault) → k < n → digits k ds → Stops (table parse name) place e rest → digits_at fault name n (ds ++ rest) ≡ Err (fault (row_of name place e))
+    pub digits_stop : (n k : ℕ) (ds rest : Text) (place : Place) (e : Fault) → k < n → digits k ds → Stops (line_of true name) place e rest → digits_at fault name n (ds ++ rest) ≡ Err (fault (row_of name place e))
     unfolding digits_by
     digits_stop zero k ds rest place e less h at = absurd (omega arith)
     digits_stop (suc n) zero ds rest place e less h at = rw (h, stops place e rest looks at) refl
     digits_stop (suc n) (suc k) ds rest place e less h at =
         rw h.2
-        (rw (goes h.0 (h.1 ++ rest) looks (digit_goes (table parse name) h.0 asks h.3), digits_stop n k h.1 rest place e (omega arith) h.4 at) refl)
+        (rw (goes h.0 (h.1 ++ rest) looks (digit_goes (line_of true name) h.0 asks h.3), digits_stop n k h.1 rest place e (omega arith) h.4 at) refl)
 
     pub digits_read : (n : ℕ) (text : Text) → OnRead fault (digits_at fault name n text) (λ ds rest. (text ≡ ds ++ rest) × digits n ds) (DigitsStop name n text)
     unfolding digits_by
@@ -219,8 +229,8 @@ module _ {E : Type 0} (fault : Row → E) (name : LineName) where
     digits_read (suc n) text =
         then_read fault (letter_at fault name text) _ _ _ _ _ (read_letter text looks)
         (λ c rest h. then_read fault (digits_at fault name n rest) _ _ _ _ _ (digits_read n rest)
-        (λ ds more g. (h.0 ∙ ap (λ t. Plain c ∷ t) g.0, (c, ds, refl, goes_digit (table parse name) c asks h.1, g.1)))
-        (λ r g. (suc g.0, omega (arith, g.1), Plain c ∷ g.2, g.3, h.0 ∙ ap (λ t. Plain c ∷ t) g.4, (c, g.2, refl, goes_digit (table parse name) c asks h.1, g.5), g.6)))
+        (λ ds more g. (h.0 ∙ ap (λ t. Plain c ∷ t) g.0, (c, ds, refl, goes_digit (line_of true name) c asks h.1, g.1)))
+        (λ r g. (suc g.0, omega (arith, g.1), Plain c ∷ g.2, g.3, h.0 ∙ ap (λ t. Plain c ∷ t) g.4, (c, g.2, refl, goes_digit (line_of true name) c asks h.1, g.5), g.6)))
         (λ r h. (zero, omega arith, [], text, refl, refl, h))
 
 -- where one digit is wanted, the row fits at once

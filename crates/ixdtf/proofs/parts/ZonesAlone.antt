@@ -1,8 +1,8 @@
 -- The readers of an offset, of a zone and of a zone's name: what holds of a text decides what they value, and back.
-use Rattle.std.proofs.Common.{◌≡◌, ℕ, true, IsTrue, IsFalse, ◌⊎◌, List, [], ◌∷◌, ◌++◌, Option, Some, None, Ok, Err, refl, sym, ap, ◌∙◌, inl, inr, arith, append_assoc, append-nil}
+use Rattle.std.proofs.Common.{◌≡◌, ℕ, true, IsTrue, IsFalse, ◌⊎◌, List, [], ◌∷◌, ◌++◌, Option, Some, None, Ok, Err, refl, sym, ap, ◌∙◌, inl, inr, arith, append_assoc, append-nil, false}
 use Rattle.std.proofs.lemmas.Bool.{or_from, or_cases, or_left, or_right, both_ways, true≢false}
 use Rattle.std.proofs.lemmas.Bool.Decides.{nat_tests}
-use Rattle.ixdtf.specs.declared.parsers.time.Clock.TheVariants as clocks
+use Rattle.ixdtf.specs.language.Times.{Clock as clocks}
 use Rattle.ixdtf.specs.declared.records.TimeRecord.{TimeRecord}
 use Rattle.ixdtf.specs.declared.records.UtcOffsetRecord.{UtcOffsetRecord}
 use Rattle.ixdtf.specs.language.Letters.{Text}
@@ -14,14 +14,15 @@ use Rattle.ixdtf.specs.language.Times.{TimeShape, writes_seconds}
 use Rattle.ixdtf.specs.language.ZoneNames.{Zone, ZoneName, IsZone, IsZoneName}
 use Rattle.ixdtf.specs.language.ZoneNames.Zone.{Offset}
 use Rattle.ixdtf.specs.language.Brackets.{Pair}
-use Rattle.ixdtf.specs.language.Readers.{Reader}
+use Rattle.ixdtf.specs.language.Readers.{Reader, has_brackets}
 use Rattle.ixdtf.specs.table.LineNames.{LineName}
 use Rattle.ixdtf.specs.language.Readers.Reader.{parse_offset, parse_identifier, parse_iana_identifier}
-use Rattle.ixdtf.specs.table.LineNames.LineName.{of_date, of_clock, of_offset, of_zone, of_bracket, of_pair}
+use Rattle.ixdtf.specs.table.LineNames.LineName.{of_core, of_clock, of_offset, of_zone, of_bracket, of_pair}
 use Rattle.ixdtf.specs.table.LineNames.OffsetLine.{offset_start, after_zulu}
 use Rattle.ixdtf.specs.table.LineNames.ZoneLine.{identifier_start, zone_name_start, in_zone_name, after_zone_slash}
-use Rattle.ixdtf.specs.table.Lines.{table, follow_of, zone_letters, zone_end, zone_other, Before}
+use Rattle.ixdtf.specs.table.Lines.{table, line_of, follow_of, zone_letters, zone_other}
 use Rattle.ixdtf.specs.table.Lines.Ending.{ok}
+use Rattle.ixdtf.specs.table.Before.{Before}
 use Rattle.ixdtf.specs.table.Rows.{Row, Place, Stops, Fits, front_of}
 use Rattle.ixdtf.specs.table.Rows.Place.{end, other, bad, anywhere}
 use Rattle.ixdtf.specs.reading.Looks.{Read, ◌>>=◌, row_of, letter_at, peek_by}
@@ -51,8 +52,8 @@ first_letter : (text : Text) → ZoneName text → (c : ℕ) × (more : Text) ×
 first_letter text h = (h.3.0, h.1, rw (h.2, h.3.1) refl, h.3.2)
 
 -- the same for the row where a name stops
-lift_name : (reader : Reader) (row : Row) (c : ℕ) (text more : Text) → text ≡ Plain c ∷ more → IsTrue (zone_lead c) → Before reader (of_zone in_zone_name) [] [] text → Before reader (of_zone after_zone_slash) [] [] text → FitsIn of_zone reader row text → Fits reader row [] text
-lift_name reader row c text more is lead inside slashed f = ([], text, refl, at (name_lines reader row c text more is lead f), f.2)
+lift_name : (reader : Reader) (row : Row) (c : ℕ) (text more : Text) → text ≡ Plain c ∷ more → IsTrue (zone_lead c) → Before reader (of_zone in_zone_name) [] [] text → Before reader (of_zone after_zone_slash) [] [] text → FitsIn of_zone (has_brackets reader) row text → Fits reader row [] text
+lift_name reader row c text more is lead inside slashed f = ([], text, refl, at (name_lines (has_brackets reader) row c text more is lead f), f.2)
   where
     at : (row.name ≡ of_zone in_zone_name) ⊎ (row.name ≡ of_zone after_zone_slash) → Before reader row.name [] [] text
     at (inl h) = rw h inside
@@ -61,18 +62,6 @@ lift_name reader row c text more is lead inside slashed f = ([], text, refl, at 
 -- the row at which the first letter is looked for
 lift_start : (reader : Reader) (name : LineName) (row : Row) (text : Text) → row.name ≡ name → Before reader name [] [] text → front_of (table reader name) [] → Stops (table reader name) row.place row.error text → Fits reader row [] text
 lift_start reader name row text is stands shape at = ([], text, refl, rw is stands, ([], text, refl, rw is shape, rw is at))
-
--- a reader of a name and nothing after it
-record IsAlone (reader : Reader) : Type 0 where
-  ends : zone_end reader ≡ ok
-  letters : (c : ℕ) → zone_letters reader c ≡ (zone_char or slash) c
-  others : (c : ℕ) → zone_other reader c ≡ zone_other parse_iana_identifier c
-
-iana_alone : IsAlone parse_iana_identifier
-iana_alone = record { ends = refl; letters = λ c. refl; others = λ c. refl }
-
-identifier_alone : IsAlone parse_identifier
-identifier_alone = record { ends = refl; letters = λ c. refl; others = λ c. refl }
 
 module _ {E : Type 0} (fault : Row → E) where
   -- each row of the reader's lines is returned
@@ -83,7 +72,7 @@ module _ {E : Type 0} (fault : Row → E) where
 
   -- what is read after the time of an offset
   abbrev offset_after : ℕ → OpenTime × Text → Read E UtcOffsetRecord
-  offset_after c time = peek_by (follow_look fault parse_offset clocks.Offset time.0) time.1 >>= λ next. Ok (offset_of c (writes_seconds time.0.0) time.0.1, next.1)
+  offset_after c time = peek_by (follow_look fault false clocks.Offset time.0) time.1 >>= λ next. Ok (offset_of c (writes_seconds time.0.0) time.0.1, next.1)
 
   -- a sign leads to a time
   offset_lead : (c : ℕ) → IsTrue (sign c) → (body : Text) → offset_at fault (Plain c ∷ body) ≡ (clock_at fault clocks.Offset body >>= offset_after c)
@@ -93,12 +82,12 @@ module _ {E : Type 0} (fault : Row → E) where
   pub offset_takes : (text : Text) (offset : UtcOffsetRecord) → IsOffset text offset → offset_at fault text ≡ Ok (offset, [])
   offset_takes text offset h =
       rw (h.is, h.value) (ap (λ t. offset_at fault (Plain h.c ∷ t)) (sym (append-nil h.body))
-      ∙ over_clock fault parse_offset clocks.Offset (offset_at fault) (offset_after h.c) (Plain h.c ∷ []) (offset_lead h.c h.sign) h.shape h.body h.time [] h.clock (closed_at_end clocks.Offset h.shape)
-      ∙ rw (peek_end (follow_look fault parse_offset clocks.Offset (h.shape, h.time))) refl)
+      ∙ over_clock fault false clocks.Offset (offset_at fault) (offset_after h.c) (Plain h.c ∷ []) (offset_lead h.c h.sign) h.shape h.body h.time [] h.clock (closed_at_end clocks.Offset h.shape)
+      ∙ rw (peek_end (follow_look fault false clocks.Offset (h.shape, h.time))) refl)
 
   -- the row after a whole time
-  offset_refuses : (c : ℕ) (shape : TimeShape) (t : TimeRecord) (place : Place) (e : Fault) (rest : Text) → Closed clocks.Offset shape rest → StopsAfter (follow_of parse_offset clocks.Offset) place e rest → offset_after c ((shape, t), rest) ≡ Err (fault (row_of (line_after clocks.Offset shape) place e))
-  offset_refuses c shape t place e rest closed at = rw (peek_stops_after fault parse_offset clocks.Offset (shape, t) place e rest refl at) refl
+  offset_refuses : (c : ℕ) (shape : TimeShape) (t : TimeRecord) (place : Place) (e : Fault) (rest : Text) → Closed clocks.Offset shape rest → StopsAfter (follow_of false clocks.Offset) place e rest → offset_after c ((shape, t), rest) ≡ Err (fault (row_of (line_after clocks.Offset shape) place e))
+  offset_refuses c shape t place e rest closed at = rw (peek_stops_after fault false clocks.Offset (shape, t) place e rest refl at) refl
 
   offset_start_row : (place : Place) (e : Fault) (rest : Text) → Stops (table parse_offset (of_offset offset_start)) place e rest → offset_at fault rest ≡ Err (fault (row_of (of_offset offset_start) place e))
   unfolding offset_at
@@ -107,18 +96,18 @@ module _ {E : Type 0} (fault : Row → E) where
   pub offset_rows : ReadsAllRows parse_offset (offset_at fault)
   offset_rows (of_offset offset_start) pairs place e prior front rest b f at = rw (b.0, f) (offset_start_row place e rest at)
   offset_rows (of_offset after_zulu) pairs place e prior front rest b f at = absurd b.0
-  offset_rows (of_clock clocks.Offset l) pairs place e prior front rest b f at = rw b.0.1 (clock_rows fault parse_offset clocks.Offset (offset_at fault) (offset_after b.0.0) (Plain b.0.0 ∷ []) (offset_lead b.0.0 b.0.2) (offset_refuses b.0.0) l place e front rest f at)
+  offset_rows (of_clock clocks.Offset l) pairs place e prior front rest b f at = rw b.0.1 (clock_rows fault false clocks.Offset (offset_at fault) (offset_after b.0.0) (Plain b.0.0 ∷ []) (offset_lead b.0.0 b.0.2) (offset_refuses b.0.0) l place e front rest f at)
   offset_rows (of_clock clocks.Time l) pairs place e prior front rest b f at = absurd b.0
   offset_rows (of_clock clocks.MinuteOffset l) pairs place e prior front rest b f at = absurd b.0
-  offset_rows (of_date l) pairs place e prior front rest b f at = absurd b.0
+  offset_rows (of_core l) pairs place e prior front rest b f at = absurd b.0
   offset_rows (of_zone l) pairs place e prior front rest b f at = absurd b.0
   offset_rows (of_bracket l) pairs place e prior front rest b f at = absurd b.0
   offset_rows (of_pair l) pairs place e prior front rest b f at = absurd b.0
 
-  offset_alone_read : (c : ℕ) (body : Text) → IsTrue (sign c) → OnRead fault (offset_alone_at fault c body) (λ offset rest. (rest ≡ []) × IsOffset (Plain c ∷ body) offset) (λ row. FitsIn (of_clock clocks.Offset) parse_offset row body)
+  offset_alone_read : (c : ℕ) (body : Text) → IsTrue (sign c) → OnRead fault (offset_alone_at fault c body) (λ offset rest. (rest ≡ []) × IsOffset (Plain c ∷ body) offset) (λ row. FitsIn (of_clock clocks.Offset) false row body)
   unfolding offset_alone_at
-  offset_alone_read c body signed = then_read fault (clock_at fault clocks.Offset body) _ _ _ _ _ (clock_read fault parse_offset clocks.Offset body)
-      (λ x left g. then_read fault (peek_by (follow_look fault parse_offset clocks.Offset x) left) _ _ _ _ _ (clock_peek_read fault parse_offset clocks.Offset body x left g refl)
+  offset_alone_read c body signed = then_read fault (clock_at fault clocks.Offset body) _ _ _ _ _ (clock_read fault false clocks.Offset body)
+      (λ x left g. then_read fault (peek_by (follow_look fault false clocks.Offset x) left) _ _ _ _ _ (clock_peek_read fault false clocks.Offset body x left g refl)
       (λ next last k. at_next x left g next last k)
       (λ r k. k))
       (λ r g. g)
@@ -143,44 +132,43 @@ module _ {E : Type 0} (fault : Row → E) where
 
   alone_takes : (text : Text) (name : List ℕ) → IsZoneName text name → name_alone_at fault text ≡ Ok (name, [])
   unfolding name_alone_at
-  alone_takes text name h = rw (← append-nil text, name_takes fault text name [] h.0 h.1 (tt, tt), peek_end (name_look fault parse_iana_identifier none)) refl
+  alone_takes text name h = rw (← append-nil text, name_takes fault text name [] h.0 h.1 (tt, tt), peek_end (name_look fault false none)) refl
 
-  module _ (reader : Reader) (alone : IsAlone reader) where
-    -- the row after a name, and the row after its slash
-    alone_row : (place : Place) (e : Fault) (front rest : Text) → ZoneName front → Stops (table reader (of_zone in_zone_name)) place e rest → name_alone_at fault (front ++ rest) ≡ Err (fault (row_of (of_zone in_zone_name) place e))
-    unfolding name_alone_at
-    alone_row place e front rest f at = by_row (name_row fault reader place e front rest f at)
-      where
-        after : (place : Place) (name : List ℕ) → StopsName reader place e rest → (peek_by (name_look fault parse_iana_identifier none) rest >>= name_after name) ≡ Err (fault (row_of (of_zone in_zone_name) place e))
-        after end name g = absurd (grind (arith, g.1, alone.ends))
-        after other name g = rw (g.2, g.4, alone.others g.0, peek_other (name_look fault parse_iana_identifier none) g.0 g.1 refl) refl
-        after bad name g = absurd g
-        after anywhere name g = absurd g
+  -- the row after a name, and the row after its slash
+  alone_row : (place : Place) (e : Fault) (front rest : Text) → ZoneName front → Stops (line_of false (of_zone in_zone_name)) place e rest → name_alone_at fault (front ++ rest) ≡ Err (fault (row_of (of_zone in_zone_name) place e))
+  unfolding name_alone_at
+  alone_row place e front rest f at = by_row (name_row fault false place e front rest f at)
+    where
+      after : (place : Place) (name : List ℕ) → StopsName false place e rest → (peek_by (name_look fault false none) rest >>= name_after name) ≡ Err (fault (row_of (of_zone in_zone_name) place e))
+      after end name g = absurd (grind (arith, g.1))
+      after other name g = rw (g.2, g.4, peek_other (name_look fault false none) g.0 g.1 refl) refl
+      after bad name g = absurd g
+      after anywhere name g = absurd g
 
-        by_row : (name_run fault true (front ++ rest) ≡ Err (fault (row_of (of_zone in_zone_name) place e))) ⊎ ((name : List ℕ) × (name_run fault true (front ++ rest) ≡ Ok (name, rest)) × StopsName reader place e rest) → name_alone_at fault (front ++ rest) ≡ Err (fault (row_of (of_zone in_zone_name) place e))
-        by_row (inl h) = rw h refl
-        by_row (inr h) = rw h.1 (after place h.0 h.2)
+      by_row : (name_run fault true (front ++ rest) ≡ Err (fault (row_of (of_zone in_zone_name) place e))) ⊎ ((name : List ℕ) × (name_run fault true (front ++ rest) ≡ Ok (name, rest)) × StopsName false place e rest) → name_alone_at fault (front ++ rest) ≡ Err (fault (row_of (of_zone in_zone_name) place e))
+      by_row (inl h) = rw h refl
+      by_row (inr h) = rw h.1 (after place h.0 h.2)
 
-    alone_slash_row : (place : Place) (e : Fault) (front rest : Text) → front_of (table reader (of_zone after_zone_slash)) front → Stops (table reader (of_zone after_zone_slash)) place e rest → name_alone_at fault (front ++ rest) ≡ Err (fault (row_of (of_zone after_zone_slash) place e))
-    unfolding name_alone_at
-    alone_slash_row place e front rest f at = rw (slash_row fault reader place e front rest f at) refl
+  alone_slash_row : (place : Place) (e : Fault) (front rest : Text) → front_of (line_of false (of_zone after_zone_slash)) front → Stops (line_of false (of_zone after_zone_slash)) place e rest → name_alone_at fault (front ++ rest) ≡ Err (fault (row_of (of_zone after_zone_slash) place e))
+  unfolding name_alone_at
+  alone_slash_row place e front rest f at = rw (slash_row fault false place e front rest f at) refl
 
-    -- from its first letter on
-    alone_read : (c : ℕ) (text more : Text) → text ≡ Plain c ∷ more → IsTrue (zone_lead c) → OnRead fault (name_alone_at fault text) (λ name rest. (rest ≡ []) × IsZoneName text name) (λ row. FitsIn of_zone reader row text)
-    unfolding name_alone_at
-    alone_read c text more is lead = then_read fault (name_run fault true text) _ _ _ _ _ (name_read fault reader c text more is lead)
-        (λ name rest h. then_read fault (peek_by (name_look fault parse_iana_identifier none) rest) _ _ _ _ _
-        (peek_read (name_look fault parse_iana_identifier none) fault rest (λ row. FitsIn of_zone reader row text)
-        (λ d left next out. let apart : NotNext zone_char (Plain d ∷ left) × NotNext slash (Plain d ∷ left) = rw next at h.4 in
-        (row_of (of_zone in_zone_name) other (zone_other parse_iana_identifier d), refl, name_stops_here fault reader other (zone_other parse_iana_identifier d) text h.0 rest h.1 h.2 (d, left, next, alone.letters d ∙ or_from _ _ apart.0 apart.1, sym (alone.others d))))
-        (λ left next. absurd ((rw next at h.4).0)))
-        (λ next left g. at_next name rest h next left g)
-        (λ r g. g))
-        (λ r h. h)
-      where
-        at_next : (name : List ℕ) (rest : Text) → NameFront text name rest → (next : Option ℕ) (left : Text) → Peeked none rest next left → (left ≡ []) × IsZoneName text name
-        at_next name rest h None left g = let whole : text ≡ h.0 = h.1 ∙ rw g.0 (append-nil h.0) in (g.1, rw whole (h.2, h.3))
-        at_next name rest h (Some d) left g = absurd (true≢false (sym g.1))
+  -- from its first letter on
+  alone_read : (c : ℕ) (text more : Text) → text ≡ Plain c ∷ more → IsTrue (zone_lead c) → OnRead fault (name_alone_at fault text) (λ name rest. (rest ≡ []) × IsZoneName text name) (λ row. FitsIn of_zone false row text)
+  unfolding name_alone_at
+  alone_read c text more is lead = then_read fault (name_run fault true text) _ _ _ _ _ (name_read fault false c text more is lead)
+      (λ name rest h. then_read fault (peek_by (name_look fault false none) rest) _ _ _ _ _
+      (peek_read (name_look fault false none) fault rest (λ row. FitsIn of_zone false row text)
+      (λ d left next out. let apart : NotNext zone_char (Plain d ∷ left) × NotNext slash (Plain d ∷ left) = rw next at h.4 in
+      (row_of (of_zone in_zone_name) other (zone_other false d), refl, name_stops_here fault false other (zone_other false d) text h.0 rest h.1 h.2 (d, left, next, or_from _ _ apart.0 apart.1, refl)))
+      (λ left next. absurd ((rw next at h.4).0)))
+      (λ next left g. at_next name rest h next left g)
+      (λ r g. g))
+      (λ r h. h)
+    where
+      at_next : (name : List ℕ) (rest : Text) → NameFront text name rest → (next : Option ℕ) (left : Text) → Peeked none rest next left → (left ≡ []) × IsZoneName text name
+      at_next name rest h None left g = let whole : text ≡ h.0 = h.1 ∙ rw g.0 (append-nil h.0) in (g.1, rw whole (h.2, h.3))
+      at_next name rest h (Some d) left g = absurd (true≢false (sym g.1))
 
   -- a name is read from its first letter on
   iana_lead : (text rest : Text) → ZoneName text → iana_identifier_at fault (text ++ rest) ≡ name_alone_at fault (text ++ rest)
@@ -196,21 +184,21 @@ module _ {E : Type 0} (fault : Row → E) where
 
   pub iana_identifier_rows : ReadsAllRows parse_iana_identifier (iana_identifier_at fault)
   iana_identifier_rows (of_zone zone_name_start) pairs place e prior front rest b f at = rw (b.0, f) (iana_start_row place e rest at)
-  iana_identifier_rows (of_zone in_zone_name) pairs place e prior front rest b f at = rw b.0 (iana_lead front rest f ∙ alone_row parse_iana_identifier iana_alone place e front rest f at)
+  iana_identifier_rows (of_zone in_zone_name) pairs place e prior front rest b f at = rw b.0 (iana_lead front rest f ∙ alone_row place e front rest f at)
   iana_identifier_rows (of_zone after_zone_slash) pairs place e prior front rest b f at =
       let name : iana_identifier_at fault (front ++ rest) ≡ name_alone_at fault (front ++ rest) = rw (f.2, append_assoc) (iana_lead f.0 (f.1 ++ rest) f.3) in
-      rw b.0 (name ∙ alone_slash_row parse_iana_identifier iana_alone place e front rest f at)
+      rw b.0 (name ∙ alone_slash_row place e front rest f at)
   iana_identifier_rows (of_zone identifier_start) pairs place e prior front rest b f at = absurd b.0
   iana_identifier_rows (of_offset l) pairs place e prior front rest b f at = absurd b.0
   iana_identifier_rows (of_clock clock l) pairs place e prior front rest b f at = absurd b.0
-  iana_identifier_rows (of_date l) pairs place e prior front rest b f at = absurd b.0
+  iana_identifier_rows (of_core l) pairs place e prior front rest b f at = absurd b.0
   iana_identifier_rows (of_bracket l) pairs place e prior front rest b f at = absurd b.0
   iana_identifier_rows (of_pair l) pairs place e prior front rest b f at = absurd b.0
 
   pub iana_identifier_read : (text : Text) → OnRead fault (iana_identifier_at fault text) (λ name rest. (rest ≡ []) × IsZoneName text name) (λ row. Fits parse_iana_identifier row [] text)
   unfolding iana_identifier_at
   iana_identifier_read text = then_read fault (letter_at fault (of_zone zone_name_start) text) _ _ _ _ _ (read_letter fault (of_zone zone_name_start) text tt)
-      (λ c more h. read_weaker fault (name_alone_at fault text) _ _ _ _ (alone_read parse_iana_identifier iana_alone c text more h.0 h.1)
+      (λ c more h. read_weaker fault (name_alone_at fault text) _ _ _ _ (alone_read c text more h.0 h.1)
       (λ name rest g. g)
       (λ r g. lift_name parse_iana_identifier r c text more h.0 h.1 (refl, refl) (refl, refl) g))
       (λ r h. lift_start parse_iana_identifier (of_zone zone_name_start) r text h.0 (refl, refl) refl h.1)
@@ -219,7 +207,7 @@ module _ {E : Type 0} (fault : Row → E) where
 
   -- what is read after the time of an offset without seconds
   abbrev zone_after : ℕ → OpenTime × Text → Read E Zone
-  zone_after c time = peek_by (follow_look fault parse_identifier clocks.MinuteOffset time.0) time.1 >>= λ next. Ok (Offset (minutes_of c time.0.1), next.1)
+  zone_after c time = peek_by (follow_look fault false clocks.MinuteOffset time.0) time.1 >>= λ next. Ok (Offset (minutes_of c time.0.1), next.1)
 
   -- a sign leads to a time, and the first letter of a name to a name
   zone_sign_lead : (c : ℕ) → IsTrue (sign c) → (body : Text) → identifier_at fault (Plain c ∷ body) ≡ (clock_at fault clocks.MinuteOffset body >>= zone_after c)
@@ -234,12 +222,12 @@ module _ {E : Type 0} (fault : Row → E) where
   identifier_takes text zone (inl h) = rw h.2 (ap (identifier_at fault) (sym (append-nil text)) ∙ zone_name_lead text [] h.1.0 ∙ ap (λ t. as_zone (name_alone_at fault t)) (append-nil text) ∙ rw (alone_takes text h.0 h.1) refl)
   identifier_takes text zone (inr (offset, h, is)) =
       rw (is, h.is, h.value) (ap (λ t. identifier_at fault (Plain h.c ∷ t)) (sym (append-nil h.body))
-      ∙ over_clock fault parse_identifier clocks.MinuteOffset (identifier_at fault) (zone_after h.c) (Plain h.c ∷ []) (zone_sign_lead h.c h.sign) h.shape h.body h.time [] h.clock (closed_at_end clocks.MinuteOffset h.shape)
-      ∙ rw (peek_end (follow_look fault parse_identifier clocks.MinuteOffset (h.shape, h.time))) refl)
+      ∙ over_clock fault false clocks.MinuteOffset (identifier_at fault) (zone_after h.c) (Plain h.c ∷ []) (zone_sign_lead h.c h.sign) h.shape h.body h.time [] h.clock (closed_at_end clocks.MinuteOffset h.shape)
+      ∙ rw (peek_end (follow_look fault false clocks.MinuteOffset (h.shape, h.time))) refl)
 
   -- the row after a whole time
-  zone_refuses : (c : ℕ) (shape : TimeShape) (t : TimeRecord) (place : Place) (e : Fault) (rest : Text) → Closed clocks.MinuteOffset shape rest → StopsAfter (follow_of parse_identifier clocks.MinuteOffset) place e rest → zone_after c ((shape, t), rest) ≡ Err (fault (row_of (line_after clocks.MinuteOffset shape) place e))
-  zone_refuses c shape t place e rest closed at = rw (peek_stops_after fault parse_identifier clocks.MinuteOffset (shape, t) place e rest refl at) refl
+  zone_refuses : (c : ℕ) (shape : TimeShape) (t : TimeRecord) (place : Place) (e : Fault) (rest : Text) → Closed clocks.MinuteOffset shape rest → StopsAfter (follow_of false clocks.MinuteOffset) place e rest → zone_after c ((shape, t), rest) ≡ Err (fault (row_of (line_after clocks.MinuteOffset shape) place e))
+  zone_refuses c shape t place e rest closed at = rw (peek_stops_after fault false clocks.MinuteOffset (shape, t) place e rest refl at) refl
 
   zone_start_row : (place : Place) (e : Fault) (rest : Text) → Stops (table parse_identifier (of_zone identifier_start)) place e rest → identifier_at fault rest ≡ Err (fault (row_of (of_zone identifier_start) place e))
   unfolding identifier_at
@@ -247,23 +235,23 @@ module _ {E : Type 0} (fault : Row → E) where
 
   pub identifier_rows : ReadsAllRows parse_identifier (identifier_at fault)
   identifier_rows (of_zone identifier_start) pairs place e prior front rest b f at = rw (b.0, f) (zone_start_row place e rest at)
-  identifier_rows (of_zone in_zone_name) pairs place e prior front rest b f at = rw b.0 (zone_name_lead front rest f ∙ rw (alone_row parse_identifier identifier_alone place e front rest f at) refl)
+  identifier_rows (of_zone in_zone_name) pairs place e prior front rest b f at = rw b.0 (zone_name_lead front rest f ∙ rw (alone_row place e front rest f at) refl)
   identifier_rows (of_zone after_zone_slash) pairs place e prior front rest b f at =
       let name : identifier_at fault (front ++ rest) ≡ as_zone (name_alone_at fault (front ++ rest)) = rw (f.2, append_assoc) (zone_name_lead f.0 (f.1 ++ rest) f.3) in
-      rw b.0 (name ∙ rw (alone_slash_row parse_identifier identifier_alone place e front rest f at) refl)
+      rw b.0 (name ∙ rw (alone_slash_row place e front rest f at) refl)
   identifier_rows (of_zone zone_name_start) pairs place e prior front rest b f at = absurd b.0
-  identifier_rows (of_clock clocks.MinuteOffset l) pairs place e prior front rest b f at = rw b.0.1 (clock_rows fault parse_identifier clocks.MinuteOffset (identifier_at fault) (zone_after b.0.0) (Plain b.0.0 ∷ []) (zone_sign_lead b.0.0 b.0.2) (zone_refuses b.0.0) l place e front rest f at)
+  identifier_rows (of_clock clocks.MinuteOffset l) pairs place e prior front rest b f at = rw b.0.1 (clock_rows fault false clocks.MinuteOffset (identifier_at fault) (zone_after b.0.0) (Plain b.0.0 ∷ []) (zone_sign_lead b.0.0 b.0.2) (zone_refuses b.0.0) l place e front rest f at)
   identifier_rows (of_clock clocks.Time l) pairs place e prior front rest b f at = absurd b.0
   identifier_rows (of_clock clocks.Offset l) pairs place e prior front rest b f at = absurd b.0
   identifier_rows (of_offset l) pairs place e prior front rest b f at = absurd b.0
-  identifier_rows (of_date l) pairs place e prior front rest b f at = absurd b.0
+  identifier_rows (of_core l) pairs place e prior front rest b f at = absurd b.0
   identifier_rows (of_bracket l) pairs place e prior front rest b f at = absurd b.0
   identifier_rows (of_pair l) pairs place e prior front rest b f at = absurd b.0
 
-  minute_alone_read : (c : ℕ) (body : Text) → IsTrue (sign c) → OnRead fault (minute_offset_alone_at fault c body) (λ zone rest. (rest ≡ []) × IsZone (Plain c ∷ body) zone) (λ row. FitsIn (of_clock clocks.MinuteOffset) parse_identifier row body)
+  minute_alone_read : (c : ℕ) (body : Text) → IsTrue (sign c) → OnRead fault (minute_offset_alone_at fault c body) (λ zone rest. (rest ≡ []) × IsZone (Plain c ∷ body) zone) (λ row. FitsIn (of_clock clocks.MinuteOffset) false row body)
   unfolding minute_offset_alone_at
-  minute_alone_read c body signed = then_read fault (clock_at fault clocks.MinuteOffset body) _ _ _ _ _ (clock_read fault parse_identifier clocks.MinuteOffset body)
-      (λ x left g. then_read fault (peek_by (follow_look fault parse_identifier clocks.MinuteOffset x) left) _ _ _ _ _ (clock_peek_read fault parse_identifier clocks.MinuteOffset body x left g refl)
+  minute_alone_read c body signed = then_read fault (clock_at fault clocks.MinuteOffset body) _ _ _ _ _ (clock_read fault false clocks.MinuteOffset body)
+      (λ x left g. then_read fault (peek_by (follow_look fault false clocks.MinuteOffset x) left) _ _ _ _ _ (clock_peek_read fault false clocks.MinuteOffset body x left g refl)
       (λ next last k. at_next x left g next last k)
       (λ r k. k))
       (λ r g. g)
@@ -285,7 +273,7 @@ module _ {E : Type 0} (fault : Row → E) where
       (λ zone rest g. g)
       (λ r g. lift (of_clock clocks.MinuteOffset) parse_identifier r (Plain c ∷ more) (Plain c ∷ []) more refl (λ l. ((c, refl, signed), refl)) g)))
       (λ plain. let lead : IsTrue (zone_lead c) = no_sign_lead c h.1 plain in
-      zone_of_name text _ (name_alone_at fault text) (read_weaker fault (name_alone_at fault text) _ _ _ _ (alone_read parse_identifier identifier_alone c text more h.0 lead)
+      zone_of_name text _ (name_alone_at fault text) (read_weaker fault (name_alone_at fault text) _ _ _ _ (alone_read c text more h.0 lead)
       (λ name rest g. g)
       (λ r g. lift_name parse_identifier r c text more h.0 lead (refl, refl) (refl, refl) g))))
       (λ r h. lift_start parse_identifier (of_zone identifier_start) r text h.0 (refl, refl) refl h.1)

@@ -1,45 +1,48 @@
 -- From what the code replied for a chain of calls to what a handler's clauses say.
-use Rattle.std.proofs.Common.{◌≡◌, ◌≢◌, ◌↔◌, ℕ, IsFalse, List, [], ◌∷◌, ◌++◌, Option, Some, None, Result, Ok, Err, refl, sym, ◌∙◌, ap, subst, inl, inr, map, option_map}
+use Rattle.std.proofs.Common.{◌≡◌, ◌≢◌, ◌↔◌, ℕ, IsFalse, List, [], ◌∷◌, ◌++◌, Option, Some, None, Result, Ok, Err, refl, sym, ◌∙◌, ap, subst, inl, inr, map, option_map, IfOk}
 use Rattle.std.proofs.lemmas.List.{map-append, append-nil}
+use Rattle.ixdtf.specs.declared.error.ParseError.{ParseError}
 use Rattle.ixdtf.specs.declared.records.Annotation.{Annotation}
+use Rattle.ixdtf.specs.declared.records.IxdtfParseRecord.{IxdtfParseRecord}
+use Rattle.ixdtf.specs.Views.{returned, parsed_of}
 use Rattle.ixdtf.specs.language.Letters.{Text}
 use Rattle.ixdtf.specs.table.Faults.{Fault, never_comes}
 use Rattle.ixdtf.specs.table.Faults.Fault.{UnrecognizedCritical, CriticalDuplicateCalendar}
 use Rattle.ixdtf.specs.language.Brackets.{Pair}
-use Rattle.ixdtf.specs.language.Readers.Reader.{parse}
+use Rattle.ixdtf.specs.language.Readers.{Reader}
 use Rattle.ixdtf.specs.table.Rows.{Row, Fits}
-use Rattle.ixdtf.specs.language.Languages.{Parsed, Derives, derived, refused}
+use Rattle.ixdtf.specs.language.Languages.{Parsed, Derives}
 use Rattle.ixdtf.specs.language.Languages.Found.{parsed}
-use Rattle.ixdtf.specs.Handlers.{Reply, first_calendar, RefusedBeside, NoneRefused, calendar_value, with_calendar, GivesRecord, GivesFault, pair_of, Calls, handed, replies_of, IsChain, own_replies, Handled, PlainRecord, PlainFault}
+use Rattle.ixdtf.specs.table.Outcomes.Outcome.{derived, refused}
+use Rattle.ixdtf.specs.Handlers.{Reply, first_calendar, RefusedBeside, NoneRefused, calendar_value, with_calendar, GivesRecord, GivesFault, pair_of, Calls, handed, replies_of, Step, IsChain, own_replies, Handled, PlainRecord, PlainFault}
 use Rattle.ixdtf.specs.reading.Chains.{TextGives, TextRead}
 use Rattle.ixdtf.proofs.theorems.OneOutcome.{same_outcome, derived_begins}
 use Rattle.ixdtf.proofs.code.OneMoreReply.{refused_last, refused_split}
-use Rattle.ixdtf.proofs.theorems.NeverComes.{fault_comes}
-use Rattle.ixdtf.proofs.theorems.NotRefusals.{row_is_no_refusal}
+use Rattle.ixdtf.proofs.theorems.NoRow.{fault_comes, row_is_no_refusal}
 
 -- a text is derived in one way
-derived_once : (text : Text) (x y : Parsed) (xs ys : List Pair) → Derives parse text (parsed x) xs → Derives parse text (parsed y) ys → (x ≡ y) × (xs ≡ ys)
-derived_once text x y xs ys dx dy =
-    let same : derived (parsed x) xs ≡ derived (parsed y) ys = same_outcome parse text (derived (parsed x) xs) (derived (parsed y) ys) dx dy in
+derived_once : (reader : Reader) (text : Text) (x y : Parsed) (xs ys : List Pair) → Derives reader text (parsed x) xs → Derives reader text (parsed y) ys → (x ≡ y) × (xs ≡ ys)
+derived_once reader text x y xs ys dx dy =
+    let same : derived (parsed x) xs ≡ derived (parsed y) ys = same_outcome reader text (derived (parsed x) xs) (derived (parsed y) ys) dx dy in
     let found : parsed x ≡ parsed y = cc in
     (cc, cc)
 
 -- a text that is derived has no row
-derived_no_row : (text : Text) (x : Parsed) (xs ys : List Pair) (row : Row) → Derives parse text (parsed x) xs → Fits parse row ys text → ⊥
-derived_no_row text x xs ys row dx fits =
-    let same : derived (parsed x) xs ≡ refused row ys = same_outcome parse text (derived (parsed x) xs) (refused row ys) dx fits in
+derived_no_row : (reader : Reader) (text : Text) (x : Parsed) (xs ys : List Pair) (row : Row) → Derives reader text (parsed x) xs → Fits reader row ys text → ⊥
+derived_no_row reader text x xs ys row dx fits =
+    let same : derived (parsed x) xs ≡ refused row ys = same_outcome reader text (derived (parsed x) xs) (refused row ys) dx fits in
     cc
 
 -- one record for the same replies
-record_once : (text : Text) (xs ys : List Pair) (replies : List Reply) (x y : Parsed) → GivesRecord parse text xs replies x → GivesRecord parse text ys replies y → x ≡ y
-record_once text xs ys replies x y gx gy =
-    gx.has ∙ ap (λ read. with_calendar read (calendar_value (first_calendar replies))) (derived_once text gx.read gy.read xs ys gx.whole gy.whole).0 ∙ sym gy.has
+record_once : (reader : Reader) (text : Text) (xs ys : List Pair) (replies : List Reply) (x y : Parsed) → GivesRecord reader text xs replies x → GivesRecord reader text ys replies y → x ≡ y
+record_once reader text xs ys replies x y gx gy =
+    gx.has ∙ ap (λ read. with_calendar read (calendar_value (first_calendar replies))) (derived_once reader text gx.read gy.read xs ys gx.whole gy.whole).0 ∙ sym gy.has
 
 -- no record and fault for the same replies
-no_record_and_fault : (text : Text) (pairs : List Pair) (replies : List Reply) (found : Parsed) (fault : Fault) → GivesRecord parse text pairs replies found → ¬ (GivesFault parse text pairs replies fault)
-no_record_and_fault text pairs replies found fault gives other = elim other [
+no_record_and_fault : (reader : Reader) (text : Text) (pairs : List Pair) (replies : List Reply) (found : Parsed) (fault : Fault) → GivesRecord reader text pairs replies found → ¬ (GivesFault reader text pairs replies fault)
+no_record_and_fault reader text pairs replies found fault gives other = elim other [
   | inl p ↦ refused_last replies [] fault p.1 (subst NoneRefused (sym (append-nil replies)) gives.accepted)
-  | inr p ↦ derived_no_row text gives.read pairs pairs p.0.0 gives.whole p.0.1
+  | inr p ↦ derived_no_row reader text gives.read pairs pairs p.0.0 gives.whole p.0.1
 ]
 
 -- as many replies as calls, each of them none
@@ -56,23 +59,31 @@ each_is_none [] (b ∷ earlier) later reply e = cc
 each_is_none (call ∷ calls) [] later reply e = cc
 each_is_none (call ∷ calls) (b ∷ earlier) later reply e = let tail : nones calls ≡ earlier ++ reply ∷ later = cc in each_is_none calls earlier later reply tail
 
-module _ {T U F : Type 0} (number : U → ℕ) (step : F → Annotation T U → Option (Annotation T U) → F → Type 0) (handler : F) (text : Text) (result : Result Parsed Fault) where
-  only_ok : (reply : Result Parsed Fault) (pairs : List Pair) (replies : List Reply) → TextGives text pairs replies reply → (found : Parsed) → (reply ≡ Ok found) ↔ GivesRecord parse text pairs replies found
+-- each reply is the annotation itself
+abbrev pub OwnReplies : {T U F : Type 0} → Step T U F → Type 0
+OwnReplies {T} {U} {F} step = (state : F) (annotation : Annotation T U) (reply : Option (Annotation T U)) (next : F) → step state annotation reply next → reply ≡ Some annotation
+
+-- each reply is none
+abbrev pub NoReplies : {T U F : Type 0} → Step T U F → Type 0
+NoReplies {T} {U} {F} step = (state : F) (annotation : Annotation T U) (reply : Option (Annotation T U)) (next : F) → step state annotation reply next → reply ≡ None
+
+module _ {T U F : Type 0} (number : U → ℕ) (step : Step T U F) (handler : F) (reader : Reader) (text : Text) (result : Result Parsed Fault) where
+  only_ok : (reply : Result Parsed Fault) (pairs : List Pair) (replies : List Reply) → TextGives reader text pairs replies reply → (found : Parsed) → (reply ≡ Ok found) ↔ GivesRecord reader text pairs replies found
   only_ok (Ok read) pairs replies gives found = (
-    (λ is. let same : read ≡ found = cc in subst (GivesRecord parse text pairs replies) same gives),
-    λ other. ap Ok (record_once text pairs pairs replies read found gives other),
+    (λ is. let same : read ≡ found = cc in subst (GivesRecord reader text pairs replies) same gives),
+    λ other. ap Ok (record_once reader text pairs pairs replies read found gives other),
   )
   only_ok (Err fault) pairs replies gives found = (
     (λ is. absurd cc),
-    λ other. absurd (no_record_and_fault text pairs replies found fault other gives),
+    λ other. absurd (no_record_and_fault reader text pairs replies found fault other gives),
   )
 
-  only_err : (reply : Result Parsed Fault) (pairs : List Pair) (replies : List Reply) → TextGives text pairs replies reply → (fault : Fault) → reply ≡ Err fault → GivesFault parse text pairs replies fault
+  only_err : (reply : Result Parsed Fault) (pairs : List Pair) (replies : List Reply) → TextGives reader text pairs replies reply → (fault : Fault) → reply ≡ Err fault → GivesFault reader text pairs replies fault
   only_err (Ok read) pairs replies gives fault is = absurd cc
-  only_err (Err e) pairs replies gives fault is = let same : e ≡ fault = cc in subst (GivesFault parse text pairs replies) same gives
+  only_err (Err e) pairs replies gives fault is = let same : e ≡ fault = cc in subst (GivesFault reader text pairs replies) same gives
 
   -- what a handler's form promises
-  pub handled : (last : F) → TextRead number step handler last text result → Handled number step handler parse text result
+  pub handled : (last : F) → TextRead number step handler last reader text result → Handled number step handler reader text result
   handled last text_read = record {
     calls = text_read.calls;
     last = last;
@@ -81,64 +92,56 @@ module _ {T U F : Type 0} (number : U → ℕ) (step : F → Annotation T U → 
     err = only_err result (handed number text_read.calls) (replies_of number text_read.calls) text_read.gives;
   }
 
-  -- each call replied with its own annotation
-  abbrev pub OwnReplies : Type 0
-  OwnReplies = (state : F) (annotation : Annotation T U) (reply : Option (Annotation T U)) (next : F) → step state annotation reply next → reply ≡ Some annotation
-
   -- each call's reply is the pair that it was handed
-  pub replies_own : OwnReplies → (calls : Calls T U) (state last : F) → IsChain step state calls last → replies_of number calls ≡ own_replies (handed number calls)
+  pub replies_own : OwnReplies step → (calls : Calls T U) (state last : F) → IsChain step state calls last → replies_of number calls ≡ own_replies (handed number calls)
   replies_own own [] state last chain = refl
   replies_own own (call ∷ calls) state last (next, stepped, chain) =
       let head = own state call.0 call.1 next stepped in
       let tail = replies_own own calls next last chain in λ i. option_map (pair_of number) (head i) ∷ tail i
 
   -- what the pairs by themselves give is what the calls give
-  only_plain : OwnReplies → (reply : Result Parsed Fault) → (h : Handled number step handler parse text reply) → (found : Parsed) → PlainRecord parse text found → reply ≡ Ok found
+  only_plain : OwnReplies step → (reply : Result Parsed Fault) → (h : Handled number step handler reader text reply) → (found : Parsed) → PlainRecord reader text found → reply ≡ Ok found
   only_plain own (Ok read) h found (pairs, gives) =
       let mine = (h.ok read).0 refl in
-      let same = (derived_once text gives.read mine.read pairs (handed number h.calls) gives.whole mine.whole).1 in
-      (h.ok found).1 (subst (λ replies. GivesRecord parse text (handed number h.calls) replies found) (sym (replies_own own h.calls handler h.last h.chain))
-      (subst (λ ps. GivesRecord parse text ps (own_replies ps) found) same gives))
+      let same = (derived_once reader text gives.read mine.read pairs (handed number h.calls) gives.whole mine.whole).1 in
+      (h.ok found).1 (subst (λ replies. GivesRecord reader text (handed number h.calls) replies found) (sym (replies_own own h.calls handler h.last h.chain))
+      (subst (λ ps. GivesRecord reader text ps (own_replies ps) found) same gives))
   only_plain own (Err fault) h found (pairs, gives) = elim (h.err fault refl) [
     | inl p ↦
         let front = p.0 in
-        let others = derived_begins parse front.0 front.1 front.3 gives.read (handed number h.calls) pairs front.4 (subst (λ t. Derives parse t (parsed gives.read) pairs) front.2 gives.whole) in
+        let others = derived_begins reader front.0 front.1 front.3 gives.read (handed number h.calls) pairs front.4 (subst (λ t. Derives reader t (parsed gives.read) pairs) front.2 gives.whole) in
         let all : own_replies pairs ≡ replies_of number h.calls ++ own_replies others.0 =
         ap own_replies others.1 ∙ map-append (λ pair. Some pair) (handed number h.calls) others.0
         ∙ ap (λ replies. replies ++ own_replies others.0) (sym (replies_own own h.calls handler h.last h.chain)) in
         absurd (refused_last (replies_of number h.calls) (own_replies others.0) fault p.1 (subst NoneRefused all gives.accepted))
-    | inr p ↦ absurd (derived_no_row text gives.read pairs (handed number h.calls) p.0.0 gives.whole p.0.1)
+    | inr p ↦ absurd (derived_no_row reader text gives.read pairs (handed number h.calls) p.0.0 gives.whole p.0.1)
   ]
 
   -- what the plain form promises
-  pub plain_ok : OwnReplies → Handled number step handler parse text result → (found : Parsed) → (result ≡ Ok found) ↔ PlainRecord parse text found
+  pub plain_ok : OwnReplies step → Handled number step handler reader text result → (found : Parsed) → (result ≡ Ok found) ↔ PlainRecord reader text found
   plain_ok own h found = (
     (λ is. (
       handed number h.calls,
-      subst (λ replies. GivesRecord parse text (handed number h.calls) replies found) (replies_own own h.calls handler h.last h.chain) ((h.ok found).0 is),
+      subst (λ replies. GivesRecord reader text (handed number h.calls) replies found) (replies_own own h.calls handler h.last h.chain) ((h.ok found).0 is),
     )),
     only_plain own result h found,
   )
 
-  pub plain_err : OwnReplies → Handled number step handler parse text result → (fault : Fault) → result ≡ Err fault → PlainFault parse text fault
+  pub plain_err : OwnReplies step → Handled number step handler reader text result → (fault : Fault) → result ≡ Err fault → PlainFault reader text fault
   plain_err own h fault is = (
     handed number h.calls,
-    subst (λ replies. GivesFault parse text (handed number h.calls) replies fault) (replies_own own h.calls handler h.last h.chain) (h.err fault is),
+    subst (λ replies. GivesFault reader text (handed number h.calls) replies fault) (replies_own own h.calls handler h.last h.chain) (h.err fault is),
   )
 
-  -- each call replied with none
-  abbrev pub NoReplies : Type 0
-  NoReplies = (state : F) (annotation : Annotation T U) (reply : Option (Annotation T U)) (next : F) → step state annotation reply next → reply ≡ None
-
   -- each call's reply is none
-  replies_none : NoReplies → (calls : Calls T U) (state last : F) → IsChain step state calls last → replies_of number calls ≡ nones calls
+  replies_none : NoReplies step → (calls : Calls T U) (state last : F) → IsChain step state calls last → replies_of number calls ≡ nones calls
   replies_none none [] state last chain = refl
   replies_none none (call ∷ calls) state last (next, stepped, chain) =
       let head = none state call.0 call.1 next stepped in
       let tail = replies_none none calls next last chain in λ i. option_map (pair_of number) (head i) ∷ tail i
 
   -- without an reply there is no calendar
-  pub ignored : NoReplies → Handled number step handler parse text result → (found : Parsed) → result ≡ Ok found → found.calendar ≡ None
+  pub ignored : NoReplies step → Handled number step handler reader text result → (found : Parsed) → result ≡ Ok found → found.calendar ≡ None
   ignored none h found is =
       let gives = (h.ok found).0 is in
       ap (λ read. read.calendar) gives.has
@@ -146,21 +149,34 @@ module _ {T U F : Type 0} (number : U → ℕ) (step : F → Annotation T U → 
       ∙ ap calendar_value (first_calendar-nones h.calls)
 
   -- without an reply none is refused
-  pub ignored_err : NoReplies → Handled number step handler parse text result → (fault : Fault) → result ≡ Err fault → (fault ≢ UnrecognizedCritical) × (fault ≢ CriticalDuplicateCalendar)
+  pub ignored_err : NoReplies step → Handled number step handler reader text result → (fault : Fault) → result ≡ Err fault → (fault ≢ UnrecognizedCritical) × (fault ≢ CriticalDuplicateCalendar)
   ignored_err none h fault is = elim (h.err fault is) [
     | inl p ↦
         let last = p.1 in
         let absent = each_is_none h.calls last.earlier [] last.reply (sym (replies_none none h.calls handler h.last h.chain) ∙ last.split) in
         absurd (subst (λ reply. RefusedBeside (first_calendar last.earlier) reply fault) absent last.refused)
-    | inr p ↦ row_is_no_refusal parse text (handed number h.calls) fault p.0
+    | inr p ↦ row_is_no_refusal reader text (handed number h.calls) fault p.0
   ]
 
   -- the error of a handler's form is one that comes
-  pub handled_comes : Handled number step handler parse text result → (fault : Fault) → result ≡ Err fault → IsFalse (never_comes fault)
+  pub handled_comes : Handled number step handler reader text result → (fault : Fault) → result ≡ Err fault → IsFalse (never_comes fault)
   handled_comes h fault is = elim (h.err fault is) [
     | inl p ↦ elim (refused_split _ _ fault p.1.refused) [
       | inl same ↦ ap never_comes same.0
       | inr same ↦ ap never_comes same.0
     ]
-    | inr p ↦ fault_comes parse text (handed number h.calls) fault p.0
+    | inr p ↦ fault_comes reader text (handed number h.calls) fault p.0
   ]
+
+-- ---- a handler that replies none
+
+none_seen : {X Y : Type 0} (view : X → Y) (x : Option X) → option_map view x ≡ None → x ≡ None
+none_seen view None e = refl
+none_seen view (Some x) e = absurd cc
+
+-- its record has no calendar
+pub no_calendar : {T U F : Type 0} (number : U → ℕ) (step : Step T U F) (handler : F) (reader : Reader) (text : Text) (result : Result (IxdtfParseRecord T U) ParseError)
+    → NoReplies step → Handled number step handler reader text (returned (parsed_of number) result) → IfOk result (λ found. found.calendar ≡ None)
+no_calendar number step handler reader text (Ok found) none h =
+    none_seen (λ units. map number units.now) found.calendar (ignored number step handler reader text (returned (parsed_of number) (Ok found)) none h (parsed_of number found) refl)
+no_calendar number step handler reader text (Err e) none h = tt

@@ -6,28 +6,28 @@ use Rattle.ixdtf.specs.language.Brackets.{ZoneNote}
 use Rattle.ixdtf.specs.language.Brackets.{Pair}
 use Rattle.ixdtf.specs.language.Cores.{Core}
 use Rattle.ixdtf.specs.language.Readers.{Reader}
-use Rattle.ixdtf.specs.language.Readers.Reader.{parse, parse_offset, parse_identifier, parse_iana_identifier}
+use Rattle.ixdtf.specs.language.Readers.Reader.{bracketed, parse_offset, parse_identifier, parse_iana_identifier}
 use Rattle.ixdtf.specs.language.Languages.{Parsed, parsed_with, Found, Derives}
 use Rattle.ixdtf.specs.table.Outcomes.{HasFault, Outcome, Holds, OneOutcome}
 use Rattle.ixdtf.specs.language.Languages.Found.{parsed}
 use Rattle.ixdtf.specs.table.Outcomes.Outcome.{derived, refused}
 use Rattle.ixdtf.specs.reading.Looks.{Read, ◌>>=◌}
 use Rattle.ixdtf.specs.reading.Pairs.{pairs_at}
-use Rattle.ixdtf.specs.reading.Wholes.{parse_at, with_pairs, read_at, Stop, stop_at, outcome_of, outcome}
+use Rattle.ixdtf.specs.reading.Wholes.{bracketed_text_at, with_pairs, read_at, RowBehind, row_behind, outcome_of, outcome}
 use Rattle.ixdtf.proofs.to_grammar.MorePairs.{OnPairs, pairs_read}
 use Rattle.ixdtf.proofs.to_reading.Wholes.{NoBrackets, Brackets, brackets_of, over_brackets, takes, row_read}
 use Rattle.ixdtf.proofs.to_grammar.Wholes.{OnWhole, whole_read}
 
 -- what holds of a text is what reading returns
 decides : (reader : Reader) (text : Text) (x : Outcome) → Holds reader text x → x ≡ outcome reader text
-decides reader text (derived found pairs) h = sym (ap outcome_of (takes stop_at reader text found pairs h))
-decides reader text (refused row pairs) h = sym (ap outcome_of (row_read stop_at reader text row pairs h))
+decides reader text (derived found pairs) h = sym (ap outcome_of (takes row_behind reader text found pairs h))
+decides reader text (refused row pairs) h = sym (ap outcome_of (row_read row_behind reader text row pairs h))
 
 -- what reading returns holds
 outcome_holds : (reader : Reader) (text : Text) → Holds reader text (outcome reader text)
-outcome_holds reader text = go (read_at stop_at reader text) (whole_read stop_at reader text)
+outcome_holds reader text = go (read_at row_behind reader text) (whole_read row_behind reader text)
   where
-    go : (r : Read Stop (Found × List Pair)) → OnWhole stop_at reader text r → Holds reader text (outcome_of r)
+    go : (r : Read RowBehind (Found × List Pair)) → OnWhole row_behind reader text r → Holds reader text (outcome_of r)
     go (Ok x) h = h.1
     go (Err stop) h = rw h.2 h.3
 
@@ -42,35 +42,35 @@ abbrev pub Begins : List Pair → List Pair → Type 0
 Begins pairs all = (more : List Pair) × (all ≡ pairs ++ more)
 
 -- the pairs of the front begin those that reading returned
-abbrev OnBegins : List Pair → Read Stop (Found × List Pair) → Type 0
+abbrev OnBegins : List Pair → Read RowBehind (Found × List Pair) → Type 0
 OnBegins pairs (Ok x) = Begins pairs x.0.1
 OnBegins pairs (Err stop) = Begins pairs stop.0
 
-none_begins : (r : Read Stop (Found × List Pair)) → OnBegins [] r
+none_begins : (r : Read RowBehind (Found × List Pair)) → OnBegins [] r
 none_begins (Ok x) = (x.0.1, refl)
 none_begins (Err stop) = (stop.0, refl)
 
-more_begins : (core : Core) (first_zone : Option ZoneNote) (pairs : List Pair) (rest : Text) (r : Read Stop (List Pair)) → OnPairs stop_at pairs rest r → OnBegins pairs (with_pairs (r >>= λ all. Ok ((parsed_with core first_zone, all.0), all.1)))
+more_begins : (core : Core) (first_zone : Option ZoneNote) (pairs : List Pair) (rest : Text) (r : Read RowBehind (List Pair)) → OnPairs row_behind pairs rest r → OnBegins pairs (with_pairs (r >>= λ all. Ok ((parsed_with core first_zone, all.0), all.1)))
 more_begins core first_zone pairs rest (Ok x) h = (h.1, h.2)
-more_begins core first_zone pairs rest (Err stop) h = (h.0, ap (λ (s : Stop). s.0) h.4)
+more_begins core first_zone pairs rest (Err stop) h = (h.0, ap (λ (s : RowBehind). s.0) h.4)
 
 -- reading goes over the front to the pairs after it
-front_begins : (reader : Reader) (front rest : Text) (read : Parsed) (pairs : List Pair) → Derives reader front (parsed read) pairs → OnBegins pairs (read_at stop_at reader (front ++ rest))
-front_begins parse front rest read pairs d = go (brackets_of d.brackets d.zone pairs d.is_tail)
+front_begins : (reader : Reader) (front rest : Text) (read : Parsed) (pairs : List Pair) → Derives reader front (parsed read) pairs → OnBegins pairs (read_at row_behind reader (front ++ rest))
+front_begins (bracketed kind) front rest read pairs d = go (brackets_of d.brackets d.zone pairs d.is_tail)
   where
-    go : NoBrackets d.brackets d.zone pairs ⊎ Brackets d.brackets d.zone pairs → OnBegins pairs (with_pairs (parse_at stop_at (front ++ rest)))
-    go (inl h) = rw h.pairs_are (none_begins (with_pairs (parse_at stop_at (front ++ rest))))
+    go : NoBrackets d.brackets d.zone pairs ⊎ Brackets d.brackets d.zone pairs → OnBegins pairs (with_pairs (bracketed_text_at row_behind kind (front ++ rest)))
+    go (inl h) = rw h.pairs_are (none_begins (with_pairs (bracketed_text_at row_behind kind (front ++ rest))))
     go (inr h) =
-        let over = over_brackets stop_at d.cores d.brackets rest d.core d.zone pairs d.is_core h in
-        let is : parse_at stop_at (front ++ rest) ≡ (pairs_at stop_at over.0 pairs rest >>= λ all. Ok ((parsed_with d.core d.zone, all.0), all.1)) = ap (parse_at stop_at) (rw d.is (simp append_assoc)) ∙ over.2 in
-        subst (λ (r : Read Stop (Parsed × List Pair)). OnBegins pairs (with_pairs r)) (sym is) (more_begins d.core d.zone pairs rest (pairs_at stop_at over.0 pairs rest) (pairs_read stop_at over.0 pairs rest over.1))
+        let over = over_brackets row_behind kind d.cores d.brackets rest d.core d.zone pairs d.is_core h in
+        let is : bracketed_text_at row_behind kind (front ++ rest) ≡ (pairs_at row_behind over.0 pairs rest >>= λ all. Ok ((parsed_with d.core d.zone, all.0), all.1)) = ap (bracketed_text_at row_behind kind) (rw d.is (simp append_assoc)) ∙ over.2 in
+        subst (λ (r : Read RowBehind (Parsed × List Pair)). OnBegins pairs (with_pairs r)) (sym is) (more_begins d.core d.zone pairs rest (pairs_at row_behind over.0 pairs rest) (pairs_read row_behind over.0 pairs rest over.1))
 front_begins parse_offset front rest read pairs d = absurd d
 front_begins parse_identifier front rest read pairs d = absurd d
 front_begins parse_iana_identifier front rest read pairs d = absurd d
 
 -- the pairs of a front that is derived begin those of the text, whether it is derived or has a fault
 pub derived_begins : (reader : Reader) (front rest : Text) (read whole : Parsed) (pairs all : List Pair) → Derives reader front (parsed read) pairs → Derives reader (front ++ rest) (parsed whole) all → Begins pairs all
-derived_begins reader front rest read whole pairs all d h = subst (OnBegins pairs) (takes stop_at reader (front ++ rest) (parsed whole) all h) (front_begins reader front rest read pairs d)
+derived_begins reader front rest read whole pairs all d h = subst (OnBegins pairs) (takes row_behind reader (front ++ rest) (parsed whole) all h) (front_begins reader front rest read pairs d)
 
 pub fault_begins : (reader : Reader) (front rest : Text) (read : Parsed) (pairs all : List Pair) (fault : Fault) → Derives reader front (parsed read) pairs → HasFault reader (front ++ rest) all fault → Begins pairs all
-fault_begins reader front rest read pairs all fault d h = subst (OnBegins pairs) (row_read stop_at reader (front ++ rest) h.0 all h.1) (front_begins reader front rest read pairs d)
+fault_begins reader front rest read pairs all fault d h = subst (OnBegins pairs) (row_read row_behind reader (front ++ rest) h.0 all h.1) (front_begins reader front rest read pairs d)

@@ -1,7 +1,8 @@
 -- `parse` derives a record from every date-time of RFC 3339 section 5.6.
+use Rattle.ixdtf.specs.language.Readers.{parse}
 use Rattle.std.proofs.Common.{ℕ, IsTrue, [], ◌++◌, Option, Some, None, pos, refl, sym, ◌∙◌, false, inl, inr, arith, append_assoc, append-nil}
 use Rattle.std.proofs.lemmas.Bool.Decides.{nat_tests}
-use Rattle.ixdtf.specs.declared.parsers.time.Clock.TheVariants as clocks
+use Rattle.ixdtf.specs.language.Times.{Clock as clocks}
 use Rattle.ixdtf.specs.declared.records.DateRecord.{DateRecord}
 use Rattle.ixdtf.specs.declared.records.TimeRecord.{TimeRecord}
 use Rattle.ixdtf.specs.declared.records.UtcOffsetRecordOrZ.{UtcOffsetRecordOrZ}
@@ -16,7 +17,7 @@ use Rattle.ixdtf.specs.language.Times.{IsTime, SecondText}
 use Rattle.ixdtf.specs.language.Times.TimeShape.{colon_minutes, seconds, fractions}
 use Rattle.ixdtf.specs.language.Offsets.{offset_of, IsOffsetOrZ}
 use Rattle.ixdtf.specs.language.Cores.{core_of}
-use Rattle.ixdtf.specs.language.Readers.Reader.{parse}
+use Rattle.ixdtf.specs.language.Readers.Reader.{bracketed}
 use Rattle.ixdtf.specs.language.Languages.{Parsed, parsed_with, Derives}
 use Rattle.ixdtf.specs.language.Languages.Found.{parsed}
 use Rattle.ixdtf.specs.reading.Dates.{date_of}
@@ -83,7 +84,7 @@ rfc_3339_derives text d =
     let after = d.4.4 in
     let time = is_time after.0 after.4.0 after.3 after.4.3 in
     let offset = is_offset after.4.1 after.4.4 in
-    let core = core_of date.0 (Some time.0) (Some offset.0) in (
+    let core = core_of (Some date.0) (Some time.0) (Some offset.0) in (
       parsed_with core None,
       record {
         cores = text;

@@ -2,7 +2,7 @@
 use Rattle.std.proofs.Common.{◌≡◌, ℕ, Bool, true, false, IsTrue, IsFalse, List, Result, Ok, Err, [], ◌∷◌, ◌++◌, drop, refl, sym, ap, ◌∙◌, subst, inl, inr, arith, append_assoc, if◌then◌else◌}
 use Rattle.std.proofs.lemmas.Bool.{eqb-true}
 use Rattle.std.proofs.lemmas.Bool.Decides.{nat_tests}
-use Rattle.ixdtf.specs.declared.parsers.time.Clock.TheVariants.{MinuteOffset}
+use Rattle.ixdtf.specs.language.Times.Clock.{MinuteOffset}
 use Rattle.ixdtf.specs.language.Letters.{Text}
 use Rattle.ixdtf.specs.language.Letters.Letter.{Plain, Bad}
 use Rattle.ixdtf.specs.language.Letters.{Class, ◌or◌, sign, opening, closing, exclamation, slash, zone_lead, zone_char, key_lead}
@@ -14,12 +14,12 @@ use Rattle.ixdtf.specs.language.ZoneNames.{Zone, IsZone, IsZoneName}
 use Rattle.ixdtf.specs.language.Brackets.{Opens, IsZoneBracket, ReadsAsName}
 use Rattle.ixdtf.specs.language.Brackets.{Pair, IsPair, ReadsAsPair}
 use Rattle.ixdtf.specs.table.LineNames.{ZoneLine, BracketLine, PairLine, LineName}
-use Rattle.ixdtf.specs.language.Readers.Reader.{parse}
+use Rattle.ixdtf.specs.language.Readers.Reader.{bracketed}
 use Rattle.ixdtf.specs.table.LineNames.LineName.{of_clock, of_zone, of_bracket, of_pair}
 use Rattle.ixdtf.specs.table.LineNames.ZoneLine.{identifier_start, zone_name_start, in_zone_name, after_zone_slash}
 use Rattle.ixdtf.specs.table.LineNames.BracketLine.{first_bracket_start, first_critical_start, first_bracket_scan}
 use Rattle.ixdtf.specs.table.LineNames.PairLine.{key_start, critical_key_start, in_key, value_start, in_value, after_value_hyphen}
-use Rattle.ixdtf.specs.table.Lines.{Ending, table, always, abrupt_zone, zone_letters, zone_line}
+use Rattle.ixdtf.specs.table.Lines.{Ending, line_of, always, abrupt_zone, zone_letters, zone_line}
 use Rattle.ixdtf.specs.table.Lines.Line.{line}
 use Rattle.ixdtf.specs.table.Lines.Ending.{error}
 use Rattle.ixdtf.specs.table.Rows.{Row, Place, Stops, FitsHere, front_of}
@@ -52,7 +52,7 @@ InBracket name before rest = ⊥
 
 -- the row fits what stands after a core
 abbrev pub FitsAfterCore : Row → Text → Type 0
-FitsAfterCore row body = (before rest : Text) × (body ≡ before ++ rest) × InBracket row.name before rest × FitsHere parse row rest
+FitsAfterCore row body = (before rest : Text) × (body ≡ before ++ rest) × InBracket row.name before rest × FitsHere true row rest
 
 -- a first bracket of either kind
 abbrev pub IsBracket : Text → Bracket → Type 0
@@ -81,24 +81,24 @@ goes_here goes_on at_end at_other c more goes bad e at = absurd (grind (arith, a
 goes_here goes_on at_end at_other c more goes anywhere e at = at
 
 -- where a name begins, no row of the lines before it fits
-inside_name : (l : ZoneLine) (place : Place) (e : Fault) (c : ℕ) (more front rest : Text) → IsTrue (zone_lead c) → Plain c ∷ more ≡ front ++ rest → front_of (table parse (of_zone l)) front → Stops (table parse (of_zone l)) place e rest → (start text : Text) → some Opens start → ReadsAsName text → InBracket (of_zone l) start text
+inside_name : (l : ZoneLine) (place : Place) (e : Fault) (c : ℕ) (more front rest : Text) → IsTrue (zone_lead c) → Plain c ∷ more ≡ front ++ rest → front_of (line_of true (of_zone l)) front → Stops (line_of true (of_zone l)) place e rest → (start text : Text) → some Opens start → ReadsAsName text → InBracket (of_zone l) start text
 inside_name in_zone_name place e c more front rest lead is f at start text opens reads = (opens, reads)
 inside_name after_zone_slash place e c more front rest lead is f at start text opens reads = (opens, reads)
 inside_name identifier_start place e c more front rest lead is f at start text opens reads =
-    absurd (goes_here (zone_lead or sign) (error abrupt_zone) (always TzLeadingChar) c more (grind (arith, lead, nat_tests)) place e (subst (Stops (zone_line parse identifier_start) place e) (sym (is ∙ ap (λ t. t ++ rest) f)) at))
+    absurd (goes_here (zone_lead or sign) (error abrupt_zone) (always TzLeadingChar) c more (grind (arith, lead, nat_tests)) place e (subst (Stops (zone_line true identifier_start) place e) (sym (is ∙ ap (λ t. t ++ rest) f)) at))
 inside_name zone_name_start place e c more front rest lead is f at start text opens reads =
-    absurd (goes_here zone_lead (error TzLeadingChar) (always TzLeadingChar) c more lead place e (subst (Stops (zone_line parse zone_name_start) place e) (sym (is ∙ ap (λ t. t ++ rest) f)) at))
+    absurd (goes_here zone_lead (error TzLeadingChar) (always TzLeadingChar) c more lead place e (subst (Stops (zone_line true zone_name_start) place e) (sym (is ∙ ap (λ t. t ++ rest) f)) at))
 
 -- a row of a name fits in a bracket
-of_name : (row : Row) (c : ℕ) (text more : Text) → text ≡ Plain c ∷ more → IsTrue (zone_lead c) → ReadsAsName text → FitsIn of_zone parse row text → FitsInside text row
+of_name : (row : Row) (c : ℕ) (text more : Text) → text ≡ Plain c ∷ more → IsTrue (zone_lead c) → ReadsAsName text → FitsIn of_zone true row text → FitsInside text row
 of_name row c text more is lead reads h start opens =
     (start, text, refl, subst (λ (n : LineName). InBracket n start text) (sym h.1) (at_line (rw h.1 at h.2)), h.2)
   where
-    at_line : ((front rest : Text) × (text ≡ front ++ rest) × front_of (table parse (of_zone h.0)) front × Stops (table parse (of_zone h.0)) row.place row.error rest) → InBracket (of_zone h.0) start text
+    at_line : ((front rest : Text) × (text ≡ front ++ rest) × front_of (line_of true (of_zone h.0)) front × Stops (line_of true (of_zone h.0)) row.place row.error rest) → InBracket (of_zone h.0) start text
     at_line g = inside_name h.0 row.place row.error c more g.0 g.1 lead (sym is ∙ g.2) g.3 g.4 start text opens reads
 
 -- a row of an offset fits in a bracket
-of_minutes : (row : Row) (c : ℕ) (text more : Text) → text ≡ Plain c ∷ more → IsTrue (sign c) → FitsIn (of_clock MinuteOffset) parse row more → FitsInside text row
+of_minutes : (row : Row) (c : ℕ) (text more : Text) → text ≡ Plain c ∷ more → IsTrue (sign c) → FitsIn (of_clock MinuteOffset) true row more → FitsInside text row
 of_minutes row c text more is signs h start opens =
     (start ++ (Plain c ∷ []), more, rw is (simp append_assoc), subst (λ (n : LineName). InBracket n (start ++ (Plain c ∷ [])) more) (sym h.1) (start, Plain c ∷ [], refl, opens, (c, refl, signs)), h.2)
 
@@ -118,22 +118,22 @@ module _ {E : Type 0} (fault : Row → E) where
   -- ---- names
 
   -- a name's letters were read
-  after_name_read : (text : Text) (name : List ℕ) (rest : Text) → NameFront text name rest → OnRead fault (next_by (name_look fault parse closing) rest) (λ d left. rest ≡ Plain 93 ∷ left) (λ row. FitsIn of_zone parse row text)
+  after_name_read : (text : Text) (name : List ℕ) (rest : Text) → NameFront text name rest → OnRead fault (next_by (name_look fault true closing) rest) (λ d left. rest ≡ Plain 93 ∷ left) (λ row. FitsIn of_zone true row text)
   unfolding next_by look_at
-  after_name_read text name [] h = (row_of (of_zone in_zone_name) end AnnotationClose, refl, name_stops_here fault parse end AnnotationClose text h.0 [] h.1 h.2 (refl, refl))
+  after_name_read text name [] h = (row_of (of_zone in_zone_name) end AnnotationClose, refl, name_stops_here fault true end AnnotationClose text h.0 [] h.1 h.2 (refl, refl))
   after_name_read text name (Bad ∷ rest) h = absurd h.4.0
   after_name_read text name (Plain d ∷ rest) h = read_if fault (closing d) _ _ _ _
       (λ closes. ap (λ n. Plain n ∷ rest) (eqb-true d 93 closes))
-      (λ out. (row_of (of_zone in_zone_name) other IanaChar, refl, name_stops_here fault parse other IanaChar text h.0 (Plain d ∷ rest) h.1 h.2 (d, rest, refl, neither d h.4.0 h.4.1 out, refl)))
+      (λ out. (row_of (of_zone in_zone_name) other IanaChar, refl, name_stops_here fault true other IanaChar text h.0 (Plain d ∷ rest) h.1 h.2 (d, rest, refl, neither d h.4.0 h.4.1 out, refl)))
     where
-      neither : (d : ℕ) → IsFalse (zone_char d) → IsFalse (slash d) → IsFalse (closing d) → IsFalse (zone_letters parse d)
+      neither : (d : ℕ) → IsFalse (zone_char d) → IsFalse (slash d) → IsFalse (closing d) → IsFalse (zone_letters true d)
       neither d no_char no_slash no_closing = grind (arith, nat_tests)
 
   -- a name and `]`, where it reads as a name
   name_in_bracket_read : (c : ℕ) (text more : Text) → text ≡ Plain c ∷ more → IsTrue (zone_lead c) → ReadsAsName text → OnRead fault (name_in_bracket_at fault text) (NameClosed text) (FitsInside text)
   unfolding name_in_bracket_at
-  name_in_bracket_read c text more is lead reads = then_read fault (name_run fault true text) _ _ _ _ _ (name_read fault parse c text more is lead)
-      (λ name rest h. then_read fault (next_by (name_look fault parse closing) rest) _ _ _ _ _ (after_name_read text name rest h)
+  name_in_bracket_read c text more is lead reads = then_read fault (name_run fault true text) _ _ _ _ _ (name_read fault true c text more is lead)
+      (λ name rest h. then_read fault (next_by (name_look fault true closing) rest) _ _ _ _ _ (after_name_read text name rest h)
       (λ d left g. (h.0, h.1 ∙ ap (λ t. h.0 ++ t) g, (h.2, h.3)))
       (λ r f. of_name r c text more is lead reads f))
       (λ r f. of_name r c text more is lead reads f)
@@ -147,8 +147,8 @@ module _ {E : Type 0} (fault : Row → E) where
   -- an offset and `]`, after its sign
   minutes_read : (c : ℕ) (text more : Text) → text ≡ Plain c ∷ more → IsTrue (sign c) → OnRead fault (offset_in_bracket_at fault c more) (ZoneFront text) (FitsInside text)
   unfolding offset_in_bracket_at
-  minutes_read c text more is signs = then_read fault (clock_at fault MinuteOffset more) _ _ _ _ _ (clock_read fault parse MinuteOffset more)
-      (λ x rest h. then_read fault (next_by (follow_look fault parse MinuteOffset x) rest) _ _ _ _ _ (clock_next_read fault parse MinuteOffset more x rest AnnotationClose h refl)
+  minutes_read c text more is signs = then_read fault (clock_at fault MinuteOffset more) _ _ _ _ _ (clock_read fault true MinuteOffset more)
+      (λ x rest h. then_read fault (next_by (follow_look fault true MinuteOffset x) rest) _ _ _ _ _ (clock_next_read fault true MinuteOffset more x rest AnnotationClose h refl)
       (λ d left g. (
         Plain c ∷ h.0,
         is ∙ ap (λ t. Plain c ∷ t) (h.1 ∙ ap (λ t. h.0 ++ t) (g.0 ∙ ap (λ n. Plain n ∷ left) (eqb-true d 93 g.1))),
@@ -203,9 +203,9 @@ module _ {E : Type 0} (fault : Row → E) where
         (λ no_key. noted_read text _ (as_zone_read text _ (name_in_bracket_read c text more is lead (inl (Plain c ∷ [], more, is, (c, refl, rw (lead, no_key) refl), tt))))))
 
   -- a row of a line with nothing before it
-  at_start : (l : BracketLine) (row : Row) (body front rest : Text) → row.name ≡ of_bracket l → InBracket (of_bracket l) [] body → body ≡ front ++ rest → front_of (table parse (of_bracket l)) front → Stops (table parse (of_bracket l)) row.place row.error rest → FitsAfterCore row body
+  at_start : (l : BracketLine) (row : Row) (body front rest : Text) → row.name ≡ of_bracket l → InBracket (of_bracket l) [] body → body ≡ front ++ rest → front_of (line_of true (of_bracket l)) front → Stops (line_of true (of_bracket l)) row.place row.error rest → FitsAfterCore row body
   at_start l row body front rest name inside is shape at =
-      subst (λ (n : LineName). (prior last : Text) × (body ≡ prior ++ last) × InBracket n prior last × ((f x : Text) × (last ≡ f ++ x) × front_of (table parse n) f × Stops (table parse n) row.place row.error x)) (sym name)
+      subst (λ (n : LineName). (prior last : Text) × (body ≡ prior ++ last) × InBracket n prior last × ((f x : Text) × (last ≡ f ++ x) × front_of (line_of true n) f × Stops (line_of true n) row.place row.error x)) (sym name)
       ([], body, refl, inside, (front, rest, is, shape, at))
 
   -- after `[` and `!`

@@ -11,16 +11,21 @@ use Rattle.ixdtf.specs.language.Brackets.{Opens}
 use Rattle.ixdtf.specs.language.Brackets.{Pair, Key, ValueRun, Value, IsPair}
 use Rattle.ixdtf.specs.table.LineNames.{PairLine, LineName}
 use Rattle.ixdtf.specs.table.LineNames.PairLine.{key_start, critical_key_start, in_key, value_start, in_value, after_value_hyphen}
-use Rattle.ixdtf.specs.language.Readers.Reader.{parse}
+use Rattle.ixdtf.specs.language.Readers.Reader.{bracketed}
 use Rattle.ixdtf.specs.table.LineNames.LineName.{of_pair}
-use Rattle.ixdtf.specs.table.Lines.{table, pair_line}
+use Rattle.ixdtf.specs.table.Lines.{line_of, pair_line}
 use Rattle.ixdtf.specs.table.Rows.{Row, Stops, FitsHere, front_of}
 use Rattle.ixdtf.specs.table.Rows.Place.{end, other, bad}
 use Rattle.ixdtf.specs.reading.Looks.{Read, row_of, letter_at}
 use Rattle.ixdtf.specs.reading.Zones.{with_letter}
-use Rattle.ixdtf.specs.reading.Pairs.{ValueState, at_start, inside, after_hyphen, value_line, value_end, value_other, ValueStep, goes_on, ends, stops, value_step, key_run, value_run, pair_at, critical_pair_at, later_pair_at}
+use Rattle.ixdtf.specs.declared.parsers.annotations.ValueState.{ValueState}
+use Rattle.ixdtf.specs.declared.parsers.annotations.ValueState.TheVariants.{AtStart, Inside, AfterHyphen}
+use Rattle.ixdtf.specs.declared.parsers.annotations.ValueStep.{ValueStep}
+use Rattle.ixdtf.specs.declared.parsers.annotations.ValueStep.TheVariants.{GoesOn, Ends}
+use Rattle.ixdtf.specs.declared.parsers.annotations.ValueStep.TheVariants as steps
+use Rattle.ixdtf.specs.reading.Pairs.{value_line, value_end, value_other, value_step, key_run, value_run, pair_at, critical_pair_at, later_pair_at}
 use Rattle.ixdtf.specs.reading.Chains.{AfterBrackets, FitsAfterBrackets}
-use Rattle.ixdtf.proofs.parts.Looks.{OnRead, then_read, read_if, read_letter, onto}
+use Rattle.ixdtf.proofs.parts.Looks.{OnRead, then_read, read_if, read_letter, onto, stops}
 use Rattle.ixdtf.proofs.to_reading.Pair.{InPair, PairText, stepped, by_step}
 
 -- what reading a pair gave, from its key on
@@ -29,7 +34,7 @@ PairFront critical text pair rest = (front : Text) × (text ≡ front ++ rest) �
 
 -- the row is of a line from the key on, and fits here
 abbrev pub FitsInPair : Text → Row → Type 0
-FitsInPair text row = (l : PairLine) × InPair l × (row.name ≡ of_pair l) × FitsHere parse row text
+FitsInPair text row = (l : PairLine) × InPair l × (row.name ≡ of_pair l) × FitsHere true row text
 
 -- ---- shapes that grow in front
 
@@ -60,45 +65,45 @@ grow_then a b last c grow text h = (Plain c ∷ h.0, h.1, onto c h.2, grow h.0 h
 
 -- the texts that lead from a state to a state
 abbrev Reach : ValueState → ValueState → Shape
-Reach at_start at_start = nothing
-Reach at_start inside = Value
-Reach at_start after_hyphen = Value then one hyphen
-Reach inside at_start = λ text. ⊥
-Reach inside inside = Tail
-Reach inside after_hyphen = Tail then one hyphen
-Reach after_hyphen at_start = λ text. ⊥
-Reach after_hyphen inside = Value
-Reach after_hyphen after_hyphen = nothing either (Value then one hyphen)
+Reach AtStart AtStart = nothing
+Reach AtStart Inside = Value
+Reach AtStart AfterHyphen = Value then one hyphen
+Reach Inside AtStart = λ text. ⊥
+Reach Inside Inside = Tail
+Reach Inside AfterHyphen = Tail then one hyphen
+Reach AfterHyphen AtStart = λ text. ⊥
+Reach AfterHyphen Inside = Value
+Reach AfterHyphen AfterHyphen = nothing either (Value then one hyphen)
 
 stays : (state : ValueState) → Reach state state []
-stays at_start = refl
-stays inside = no_tail
-stays after_hyphen = inl refl
+stays AtStart = refl
+stays Inside = no_tail
+stays AfterHyphen = inl refl
 
 -- a letter leads so from a state to the next
 abbrev Grows : ℕ → ValueState → ValueState → Type 0
 Grows c state next = (last : ValueState) (text : Text) → Reach next last text → Reach state last (Plain c ∷ text)
 
-grows_start : (c : ℕ) → IsTrue (value_char c) → Grows c at_start inside
-grows_start c h at_start text r = absurd r
-grows_start c h inside text r = char_value c text h r
-grows_start c h after_hyphen text r = grow_then Tail Value (one hyphen) c (λ t. char_value c t h) text r
+grows_start : (c : ℕ) → IsTrue (value_char c) → Grows c AtStart Inside
+grows_start c h AtStart text r = absurd r
+grows_start c h Inside text r = char_value c text h r
+grows_start c h AfterHyphen text r = grow_then Tail Value (one hyphen) c (λ t. char_value c t h) text r
 
-grows_inside : (c : ℕ) → IsTrue (value_char c) → Grows c inside inside
-grows_inside c h at_start text r = absurd r
-grows_inside c h inside text r = char_tail c text h r
-grows_inside c h after_hyphen text r = grow_then Tail Tail (one hyphen) c (λ t. char_tail c t h) text r
+grows_inside : (c : ℕ) → IsTrue (value_char c) → Grows c Inside Inside
+grows_inside c h AtStart text r = absurd r
+grows_inside c h Inside text r = char_tail c text h r
+grows_inside c h AfterHyphen text r = grow_then Tail Tail (one hyphen) c (λ t. char_tail c t h) text r
 
-grows_hyphen : (c : ℕ) → IsTrue (hyphen c) → Grows c inside after_hyphen
-grows_hyphen c h at_start text r = absurd r
-grows_hyphen c h inside text r = hyphen_tail c text h r
-grows_hyphen c h after_hyphen text (inl r) = ([], Plain c ∷ text, refl, no_tail, (c, rw r refl, h))
-grows_hyphen c h after_hyphen text (inr r) = grow_then Value Tail (one hyphen) c (λ t. hyphen_tail c t h) text r
+grows_hyphen : (c : ℕ) → IsTrue (hyphen c) → Grows c Inside AfterHyphen
+grows_hyphen c h AtStart text r = absurd r
+grows_hyphen c h Inside text r = hyphen_tail c text h r
+grows_hyphen c h AfterHyphen text (inl r) = ([], Plain c ∷ text, refl, no_tail, (c, rw r refl, h))
+grows_hyphen c h AfterHyphen text (inr r) = grow_then Value Tail (one hyphen) c (λ t. hyphen_tail c t h) text r
 
-grows_again : (c : ℕ) → IsTrue (value_char c) → Grows c after_hyphen inside
-grows_again c h at_start text r = absurd r
-grows_again c h inside text r = char_value c text h r
-grows_again c h after_hyphen text r = inr (grow_then Tail Value (one hyphen) c (λ t. char_value c t h) text r)
+grows_again : (c : ℕ) → IsTrue (value_char c) → Grows c AfterHyphen Inside
+grows_again c h AtStart text r = absurd r
+grows_again c h Inside text r = char_value c text h r
+grows_again c h AfterHyphen text r = inr (grow_then Tail Value (one hyphen) c (λ t. char_value c t h) text r)
 
 -- ---- letters
 
@@ -114,9 +119,9 @@ starts_key c h g = grind (arith, nat_tests)
 abbrev At : PairLine → Shape → Text → Row → Type 0
 At l shape text row = (part rest : Text) × (text ≡ part ++ rest) × shape part × (row.name ≡ of_pair l) × Stops (pair_line l) row.place row.error rest
 
-fits_here : (l : PairLine) (row : Row) (text : Text) → At l (front_of (pair_line l)) text row → FitsHere parse row text
+fits_here : (l : PairLine) (row : Row) (text : Text) → At l (front_of (pair_line l)) text row → FitsHere true row text
 fits_here l row text h =
-    subst (λ (n : LineName). (f x : Text) × (text ≡ f ++ x) × front_of (table parse n) f × Stops (table parse n) row.place row.error x) (sym h.4) (h.0, h.1, h.2, h.3, h.5)
+    subst (λ (n : LineName). (f x : Text) × (text ≡ f ++ x) × front_of (line_of true n) f × Stops (line_of true n) row.place row.error x) (sym h.4) (h.0, h.1, h.2, h.3, h.5)
 
 -- what reading the rest of a key gave
 abbrev KeyFront : Text → List ℕ → Text → Type 0
@@ -124,7 +129,7 @@ KeyFront text key rest = (part : Text) × (text ≡ part ++ (Plain 61 ∷ rest))
 
 -- what reading a value gave from a state on, and where it stopped
 abbrev ValueFront : ValueState → Text → List ℕ → Text → Type 0
-ValueFront state text value rest = (part : Text) × (text ≡ part ++ (Plain 93 ∷ rest)) × Reach state inside part × (part ≡ map Plain value)
+ValueFront state text value rest = (part : Text) × (text ≡ part ++ (Plain 93 ∷ rest)) × Reach state Inside part × (part ≡ map Plain value)
 
 abbrev ValueHalts : ValueState → Text → Row → Type 0
 ValueHalts state text row = (last : ValueState) × At (value_line last) (Reach state last) text row
@@ -169,12 +174,12 @@ module _ {E : Type 0} (fault : Row → E) where
   ReadsValue state text r = OnRead fault r (ValueFront state text) (ValueHalts state text)
 
   value_more : (state next : ValueState) (c : ℕ) (rest : Text) → Grows c state next → (r : Read E (List ℕ)) → ReadsValue next rest r → ReadsValue state (Plain c ∷ rest) (with_letter c r)
-  value_more state next c rest grows (Ok x) h = (Plain c ∷ h.0, onto c h.1, grows inside h.0 h.2, onto c h.3)
+  value_more state next c rest grows (Ok x) h = (Plain c ∷ h.0, onto c h.1, grows Inside h.0 h.2, onto c h.3)
   value_more state next c rest grows (Err e) h =
       (h.0, h.1, (h.2.0, (Plain c ∷ h.2.1.0, h.2.1.1, onto c h.2.1.2, grows h.2.0 h.2.1.0 h.2.1.3, h.2.1.4, h.2.1.5)))
 
   -- another letter
-  value_out : (state : ValueState) (c : ℕ) (rest : Text) → Stops (pair_line (value_line state)) other (value_other state) (Plain c ∷ rest) → ReadsValue state (Plain c ∷ rest) (stepped fault state c rest stops)
+  value_out : (state : ValueState) (c : ℕ) (rest : Text) → Stops (pair_line (value_line state)) other (value_other state) (Plain c ∷ rest) → ReadsValue state (Plain c ∷ rest) (stepped fault state c rest steps.Stops)
   value_out state c rest at = (row_of (of_pair (value_line state)) other (value_other state), refl, (state, ([], Plain c ∷ rest, refl, stays state, refl, at)))
 
   -- the rest of a value is read from each of its states
@@ -185,34 +190,34 @@ module _ {E : Type 0} (fault : Row → E) where
   at_letter : (state : ValueState) (c : ℕ) (rest : Text) (step : ValueStep) → value_step state c ≡ step → ReadsValue state (Plain c ∷ rest) (stepped fault state c rest step) → ReadsValue state (Plain c ∷ rest) (value_run fault state (Plain c ∷ rest))
   at_letter state c rest step is h = subst (ReadsValue state (Plain c ∷ rest)) (sym (by_step fault state c rest step is)) h
 
-  start_letter : (c : ℕ) (rest : Text) → ReadsRest rest → (b : Bool) → value_char c ≡ b → ReadsValue at_start (Plain c ∷ rest) (value_run fault at_start (Plain c ∷ rest))
-  start_letter c rest more true is = at_letter at_start c rest (goes_on inside) (rw is refl) (value_more at_start inside c rest (grows_start c is) (value_run fault inside rest) (more inside))
-  start_letter c rest more false is = at_letter at_start c rest stops (rw is refl) (value_out at_start c rest (c, rest, refl, is, refl))
+  start_letter : (c : ℕ) (rest : Text) → ReadsRest rest → (b : Bool) → value_char c ≡ b → ReadsValue AtStart (Plain c ∷ rest) (value_run fault AtStart (Plain c ∷ rest))
+  start_letter c rest more true is = at_letter AtStart c rest (GoesOn Inside) (rw is refl) (value_more AtStart Inside c rest (grows_start c is) (value_run fault Inside rest) (more Inside))
+  start_letter c rest more false is = at_letter AtStart c rest steps.Stops (rw is refl) (value_out AtStart c rest (c, rest, refl, is, refl))
 
-  again_letter : (c : ℕ) (rest : Text) → ReadsRest rest → (b : Bool) → value_char c ≡ b → ReadsValue after_hyphen (Plain c ∷ rest) (value_run fault after_hyphen (Plain c ∷ rest))
-  again_letter c rest more true is = at_letter after_hyphen c rest (goes_on inside) (rw is refl) (value_more after_hyphen inside c rest (grows_again c is) (value_run fault inside rest) (more inside))
-  again_letter c rest more false is = at_letter after_hyphen c rest stops (rw is refl) (value_out after_hyphen c rest (c, rest, refl, is, refl))
+  again_letter : (c : ℕ) (rest : Text) → ReadsRest rest → (b : Bool) → value_char c ≡ b → ReadsValue AfterHyphen (Plain c ∷ rest) (value_run fault AfterHyphen (Plain c ∷ rest))
+  again_letter c rest more true is = at_letter AfterHyphen c rest (GoesOn Inside) (rw is refl) (value_more AfterHyphen Inside c rest (grows_again c is) (value_run fault Inside rest) (more Inside))
+  again_letter c rest more false is = at_letter AfterHyphen c rest steps.Stops (rw is refl) (value_out AfterHyphen c rest (c, rest, refl, is, refl))
 
-  inside_letter : (c : ℕ) (rest : Text) → ReadsRest rest → (b d f : Bool) → value_char c ≡ b → hyphen c ≡ d → closing c ≡ f → ReadsValue inside (Plain c ∷ rest) (value_run fault inside (Plain c ∷ rest))
-  inside_letter c rest more true d f is dash shut = at_letter inside c rest (goes_on inside) (rw is refl) (value_more inside inside c rest (grows_inside c is) (value_run fault inside rest) (more inside))
-  inside_letter c rest more false true f is dash shut = at_letter inside c rest (goes_on after_hyphen) (rw (is, dash) refl) (value_more inside after_hyphen c rest (grows_hyphen c dash) (value_run fault after_hyphen rest) (more after_hyphen))
-  inside_letter c rest more false false true is dash shut = at_letter inside c rest ends (rw (is, dash, shut) refl) ([], ap (λ n. Plain n ∷ rest) (eqb-true c 93 shut), no_tail, refl)
-  inside_letter c rest more false false false is dash shut = at_letter inside c rest stops (rw (is, dash, shut) refl) (value_out inside c rest (c, rest, refl, rw (is, dash, shut) refl, refl))
+  inside_letter : (c : ℕ) (rest : Text) → ReadsRest rest → (b d f : Bool) → value_char c ≡ b → hyphen c ≡ d → closing c ≡ f → ReadsValue Inside (Plain c ∷ rest) (value_run fault Inside (Plain c ∷ rest))
+  inside_letter c rest more true d f is dash shut = at_letter Inside c rest (GoesOn Inside) (rw is refl) (value_more Inside Inside c rest (grows_inside c is) (value_run fault Inside rest) (more Inside))
+  inside_letter c rest more false true f is dash shut = at_letter Inside c rest (GoesOn AfterHyphen) (rw (is, dash) refl) (value_more Inside AfterHyphen c rest (grows_hyphen c dash) (value_run fault AfterHyphen rest) (more AfterHyphen))
+  inside_letter c rest more false false true is dash shut = at_letter Inside c rest Ends (rw (is, dash, shut) refl) ([], ap (λ n. Plain n ∷ rest) (eqb-true c 93 shut), no_tail, refl)
+  inside_letter c rest more false false false is dash shut = at_letter Inside c rest steps.Stops (rw (is, dash, shut) refl) (value_out Inside c rest (c, rest, refl, rw (is, dash, shut) refl, refl))
 
   any_letter : (c : ℕ) (rest : Text) → ReadsRest rest → ReadsRest (Plain c ∷ rest)
-  any_letter c rest more at_start = start_letter c rest more (value_char c) refl
-  any_letter c rest more inside = inside_letter c rest more (value_char c) (hyphen c) (closing c) refl refl refl
-  any_letter c rest more after_hyphen = again_letter c rest more (value_char c) refl
+  any_letter c rest more AtStart = start_letter c rest more (value_char c) refl
+  any_letter c rest more Inside = inside_letter c rest more (value_char c) (hyphen c) (closing c) refl refl refl
+  any_letter c rest more AfterHyphen = again_letter c rest more (value_char c) refl
 
   at_end : (state : ValueState) → Stops (pair_line (value_line state)) end (value_end state) []
-  at_end at_start = (refl, refl)
-  at_end inside = (refl, refl)
-  at_end after_hyphen = (refl, refl)
+  at_end AtStart = (refl, refl)
+  at_end Inside = (refl, refl)
+  at_end AfterHyphen = (refl, refl)
 
   at_bad : (state : ValueState) (rest : Text) → Stops (pair_line (value_line state)) bad NonAsciiCodePoint (Bad ∷ rest)
-  at_bad at_start rest = (rest, refl, refl)
-  at_bad inside rest = (rest, refl, refl)
-  at_bad after_hyphen rest = (rest, refl, refl)
+  at_bad AtStart rest = (rest, refl, refl)
+  at_bad Inside rest = (rest, refl, refl)
+  at_bad AfterHyphen rest = (rest, refl, refl)
 
   value_read : (text : Text) → ReadsRest text
   unfolding value_run
@@ -223,21 +228,21 @@ module _ {E : Type 0} (fault : Row → E) where
   -- ---- pairs from the key on
 
   -- a row after a key and `=`
-  after_key : (text middle : Text) (row : Row) (keys : Text) → text ≡ keys ++ (Plain 61 ∷ middle) → Key keys → ValueHalts at_start middle row → FitsInPair text row
+  after_key : (text middle : Text) (row : Row) (keys : Text) → text ≡ keys ++ (Plain 61 ∷ middle) → Key keys → ValueHalts AtStart middle row → FitsInPair text row
   after_key text middle row keys is key h = by_state h.0 h.1
     where
       mark : one equals (Plain 61 ∷ [])
       mark = (61, refl, refl)
 
-      by_state : (last : ValueState) → At (value_line last) (Reach at_start last) middle row → FitsInPair text row
-      by_state at_start g = (value_start, tt, g.4, fits_here value_start row text (keys ++ (Plain 61 ∷ []), g.1, is ∙ rw (g.2, g.3) (simp append_assoc), (keys, Plain 61 ∷ [], refl, key, mark), g.4, g.5))
-      by_state inside g = (in_value, tt, g.4, fits_here in_value row text (keys ++ (Plain 61 ∷ g.0), g.1, is ∙ rw g.2 (simp append_assoc), (keys, Plain 61 ∷ g.0, refl, key, (Plain 61 ∷ [], g.0, refl, mark, g.3)), g.4, g.5))
-      by_state after_hyphen g = (after_value_hyphen, tt, g.4, fits_here after_value_hyphen row text (keys ++ (Plain 61 ∷ g.0), g.1, is ∙ rw g.2 (simp append_assoc), (keys, Plain 61 ∷ g.0, refl, key, (Plain 61 ∷ [], g.0, refl, mark, g.3)), g.4, g.5))
+      by_state : (last : ValueState) → At (value_line last) (Reach AtStart last) middle row → FitsInPair text row
+      by_state AtStart g = (value_start, tt, g.4, fits_here value_start row text (keys ++ (Plain 61 ∷ []), g.1, is ∙ rw (g.2, g.3) (simp append_assoc), (keys, Plain 61 ∷ [], refl, key, mark), g.4, g.5))
+      by_state Inside g = (in_value, tt, g.4, fits_here in_value row text (keys ++ (Plain 61 ∷ g.0), g.1, is ∙ rw g.2 (simp append_assoc), (keys, Plain 61 ∷ g.0, refl, key, (Plain 61 ∷ [], g.0, refl, mark, g.3)), g.4, g.5))
+      by_state AfterHyphen g = (after_value_hyphen, tt, g.4, fits_here after_value_hyphen row text (keys ++ (Plain 61 ∷ g.0), g.1, is ∙ rw g.2 (simp append_assoc), (keys, Plain 61 ∷ g.0, refl, key, (Plain 61 ∷ [], g.0, refl, mark, g.3)), g.4, g.5))
 
   pub pair_read : (critical : Bool) (c : ℕ) (text more : Text) → text ≡ Plain c ∷ more → IsTrue (key_lead c) → OnRead fault (pair_at fault critical text) (PairFront critical text) (FitsInPair text)
   unfolding pair_at
   pair_read critical c text more is lead = then_read fault (key_run fault text) _ _ _ _ _ (whole_key_read c text more is lead)
-      (λ key middle h. then_read fault (value_run fault at_start middle) _ _ _ _ _ (value_read middle at_start)
+      (λ key middle h. then_read fault (value_run fault AtStart middle) _ _ _ _ _ (value_read middle AtStart)
       (λ value rest g. (
         h.0 ++ (Plain 61 ∷ (g.0 ++ (Plain 93 ∷ []))),
         h.1 ∙ rw g.1 (simp append_assoc),

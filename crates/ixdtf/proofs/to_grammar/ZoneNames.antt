@@ -8,11 +8,10 @@ use Rattle.ixdtf.specs.language.Shapes.{Shape, nothing, one, ◌then◌, Joined,
 use Rattle.ixdtf.specs.table.Faults.{Fault}
 use Rattle.ixdtf.specs.table.Faults.Fault.{NonAsciiCodePoint, IanaCharPostSeparator}
 use Rattle.ixdtf.specs.language.ZoneNames.{NameItem, ZoneName}
-use Rattle.ixdtf.specs.language.Readers.{Reader}
 use Rattle.ixdtf.specs.table.LineNames.{ZoneLine, LineName}
 use Rattle.ixdtf.specs.table.LineNames.LineName.{of_zone}
 use Rattle.ixdtf.specs.table.LineNames.ZoneLine.{identifier_start, zone_name_start, in_zone_name, after_zone_slash}
-use Rattle.ixdtf.specs.table.Lines.{table}
+use Rattle.ixdtf.specs.table.Lines.{line_of}
 use Rattle.ixdtf.specs.table.Lines.Line.{line}
 use Rattle.ixdtf.specs.table.Lines.Ending.{error}
 use Rattle.ixdtf.specs.table.Rows.{Row, Place, Stops, front_of}
@@ -58,9 +57,9 @@ module _ {E : Type 0} (fault : Row → E) where
   letter_read c (Ok x) front text stopped h = (Plain c ∷ h.0, onto c h.1, rw append_assoc at h.2, onto c h.3, h.4)
   letter_read c (Err e) front text stopped h = h
 
-  module _ (reader : Reader) where
+  module _ (brackets : Bool) where
     -- the row where a name stops
-    pub name_stops_here : (place : Place) (e : Fault) (text front rest : Text) → text ≡ front ++ rest → ZoneName front → StopsName reader place e rest → FitsIn of_zone reader (row_of (of_zone in_zone_name) place e) text
+    pub name_stops_here : (place : Place) (e : Fault) (text front rest : Text) → text ≡ front ++ rest → ZoneName front → StopsName brackets place e rest → FitsIn of_zone brackets (row_of (of_zone in_zone_name) place e) text
     name_stops_here end e text front rest is name at = (in_zone_name, refl, (front, rest, is, name, at))
     name_stops_here other e text front rest is name at = (in_zone_name, refl, (front, rest, is, name, at))
     name_stops_here bad e text front rest is name at = absurd at
@@ -68,7 +67,7 @@ module _ {E : Type 0} (fault : Row → E) where
 
     -- what is known of reading the rest of a name, after a front
     abbrev ReadsMore : Text → Text → Text → Read E (List ℕ) → Type 0
-    ReadsMore whole front text r = OnRead fault r (More front text) (λ row. FitsIn of_zone reader row whole)
+    ReadsMore whole front text r = OnRead fault r (More front text) (λ row. FitsIn of_zone brackets row whole)
 
     end_read : (may_end : Bool) (whole front : Text) → whole ≡ front ++ [] → Begun may_end front → ReadsMore whole front [] (name_run fault may_end [])
     unfolding name_run
@@ -102,11 +101,11 @@ module _ {E : Type 0} (fault : Row → E) where
         (λ no_slash. out_read may_end c whole front rest is h no_char no_slash))
 
     -- from its first letter on
-    pub name_read : (c : ℕ) (text more : Text) → text ≡ Plain c ∷ more → IsTrue (zone_lead c) → OnRead fault (name_run fault true text) (NameFront text) (λ row. FitsIn of_zone reader row text)
+    pub name_read : (c : ℕ) (text more : Text) → text ≡ Plain c ∷ more → IsTrue (zone_lead c) → OnRead fault (name_run fault true text) (NameFront text) (λ row. FitsIn of_zone brackets row text)
     unfolding name_run
     name_read c text more is h = rw is (rw (lead_char c h) (letter_done (name_run fault true more) (run_read more true (Plain c ∷ more) (Plain c ∷ []) refl (Plain c ∷ [], [], refl, (c, refl, h), ([], refl)))))
       where
-        letter_done : (r : Read E (List ℕ)) → ReadsMore (Plain c ∷ more) (Plain c ∷ []) more r → OnRead fault (with_letter c r) (NameFront (Plain c ∷ more)) (λ row. FitsIn of_zone reader row (Plain c ∷ more))
+        letter_done : (r : Read E (List ℕ)) → ReadsMore (Plain c ∷ more) (Plain c ∷ []) more r → OnRead fault (with_letter c r) (NameFront (Plain c ∷ more)) (λ row. FitsIn of_zone brackets row (Plain c ∷ more))
         letter_done (Ok x) g = (Plain c ∷ g.0, onto c g.1, g.2, onto c g.3, g.4)
         letter_done (Err e) g = g
 
@@ -118,11 +117,11 @@ not_at_start class e others c text more front rest bad d is goes split empty at 
 not_at_start class e others c text more front rest anywhere d is goes split empty at = absurd at
 
 -- the lines at which the reading of a name may stop
-pub name_lines : (reader : Reader) (row : Row) (c : ℕ) (text more : Text) → text ≡ Plain c ∷ more → IsTrue (zone_lead c) → FitsIn of_zone reader row text → (row.name ≡ of_zone in_zone_name) ⊎ (row.name ≡ of_zone after_zone_slash)
-name_lines reader row c text more is lead f = by_line f.0 f.1
+pub name_lines : (brackets : Bool) (row : Row) (c : ℕ) (text more : Text) → text ≡ Plain c ∷ more → IsTrue (zone_lead c) → FitsIn of_zone brackets row text → (row.name ≡ of_zone in_zone_name) ⊎ (row.name ≡ of_zone after_zone_slash)
+name_lines brackets row c text more is lead f = by_line f.0 f.1
   where
-    here : (l : ZoneLine) → row.name ≡ of_zone l → (front rest : Text) × (text ≡ front ++ rest) × front_of (table reader (of_zone l)) front × Stops (table reader (of_zone l)) row.place row.error rest
-    here l name = subst (λ (n : LineName). (front rest : Text) × (text ≡ front ++ rest) × front_of (table reader n) front × Stops (table reader n) row.place row.error rest) name f.2
+    here : (l : ZoneLine) → row.name ≡ of_zone l → (front rest : Text) × (text ≡ front ++ rest) × front_of (line_of brackets (of_zone l)) front × Stops (line_of brackets (of_zone l)) row.place row.error rest
+    here l name = subst (λ (n : LineName). (front rest : Text) × (text ≡ front ++ rest) × front_of (line_of brackets n) front × Stops (line_of brackets n) row.place row.error rest) name f.2
 
     by_line : (l : ZoneLine) → row.name ≡ of_zone l → (row.name ≡ of_zone in_zone_name) ⊎ (row.name ≡ of_zone after_zone_slash)
     by_line identifier_start name = let h = here identifier_start name in absurd (not_at_start (zone_lead or sign) _ _ c text more h.0 h.1 row.place row.error is (or_left _ _ lead) h.2 h.3 h.4)

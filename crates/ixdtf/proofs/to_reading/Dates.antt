@@ -1,5 +1,5 @@
 -- A date gives its record and the rest, and each row of a date's lines is returned.
-use Rattle.std.proofs.Common.{◌≡◌, ℕ, ◌<◌, ◌⊎◌, true, false, IsTrue, IsFalse, [], ◌∷◌, ◌++◌, Ok, Err, refl, sym, ◌∙◌, inl, inr, arith, append-nil, ℤ, nat_le, ◌&&◌}
+use Rattle.std.proofs.Common.{◌≡◌, ℕ, ◌<◌, ◌⊎◌, true, false, IsTrue, IsFalse, [], ◌∷◌, ◌++◌, Ok, Err, refl, sym, ◌∙◌, inl, inr, arith, append-nil, ℤ, nat_le, ◌&&◌, Bool}
 use Rattle.std.proofs.lemmas.Bool.{and_parts, and_from, leb-true, le-leb, false_from_ne_true}
 use Rattle.std.proofs.lemmas.Bool.Decides.{nat_tests}
 use Rattle.ixdtf.specs.declared.records.DateRecord.{DateRecord}
@@ -11,11 +11,10 @@ use Rattle.ixdtf.specs.language.Digits.{decimal, TwoDigits}
 use Rattle.ixdtf.specs.table.Faults.{Fault}
 use Rattle.ixdtf.specs.table.Faults.Fault.{InvalidMonthRange, InvalidDayRange}
 use Rattle.ixdtf.specs.language.Dates.{Year, Month, DateShape, IsDayOfMonth, IsDate, month_length}
-use Rattle.ixdtf.specs.language.Readers.{Reader}
 use Rattle.ixdtf.specs.table.LineNames.{DateLine, LineName}
-use Rattle.ixdtf.specs.table.LineNames.LineName.{of_date}
+use Rattle.ixdtf.specs.table.LineNames.{of_date}
 use Rattle.ixdtf.specs.table.LineNames.DateLine.{year_start, year_digits, extended_year_digits, minus_zero_year, after_year, month_digits, month_range, after_hyphened_month, after_plain_month, day_digits, day_range, after_date}
-use Rattle.ixdtf.specs.table.Lines.{table, date_line, HyphenOrDigit, NoMonth}
+use Rattle.ixdtf.specs.table.Lines.{line_of, date_line, HyphenOrDigit, NoMonth}
 use Rattle.ixdtf.specs.table.Rows.{Row, Place, Stops, front_of}
 use Rattle.ixdtf.specs.table.Rows.Place.{anywhere}
 use Rattle.ixdtf.specs.reading.Looks.{Read, row_of}
@@ -139,16 +138,16 @@ module _ {E : Type 0} (fault : Row → E) where
   unfolding day_in_range
   day_refused date rest h = rw (false_from_ne_true _ (λ test. h (let both : IsTrue (nat_le 1 date.day) × IsTrue (nat_le date.day (month_length date.year date.month)) = and_parts _ _ test in (leb-true _ _ both.0, leb-true _ _ both.1)))) refl
 
-  module _ (reader : Reader) where
-    year_rows : (name : LineName) → RowsRead fault reader (year_at fault) name → RowsRead fault reader (date_at fault) name
+  module _ (brackets : Bool) where
+    year_rows : (name : LineName) → RowsRead fault brackets (year_at fault) name → RowsRead fault brackets (date_at fault) name
     unfolding date_at
     year_rows name h place e front rest f at = rw (h place e front rest f at) refl
 
-    after_year_row : RowsRead fault reader (date_at fault) (of_date after_year)
+    after_year_row : RowsRead fault brackets (date_at fault) (of_date after_year)
     unfolding after_year_at
     after_year_row place e front rest f at = reaches (over_year _ _ f.1) rest _ (rw (stops fault (of_date after_year) place e rest tt at) refl)
 
-    month_digits_row : RowsRead fault reader (date_at fault) (of_date month_digits)
+    month_digits_row : RowsRead fault brackets (date_at fault) (of_date month_digits)
     month_digits_row place e front rest f at = rw f.2 ((at_place f.4).halts)
       where
         at_place : HyphenOrDigit f.1 → Halts (date_at fault) (f.0 ++ f.1) rest (fault (row_of (of_date month_digits) place e))
@@ -156,24 +155,24 @@ module _ {E : Type 0} (fault : Row → E) where
         at_place (inr (inl h)) = rw h.2 (over_year _ _ f.3.1 till over_hyphen _ _ h.3 till hyphened_month_stops _ 1 h.1 rest place e (omega arith) (one_as_digits _ h.4) at)
         at_place (inr (inr h)) = rw h.1 (over_year _ _ f.3.1 till over_digit _ _ h.2 till plain_month_stops _ _ rest place e at)
 
-    month_range_row : RowsRead fault reader (date_at fault) (of_date month_range)
-    month_range_row = whole_row fault reader (date_at fault) (of_date month_range) tt λ e front rest f at. rw (f.2, f.4.2, at) ((at_place f f.4.3).halts)
+    month_range_row : RowsRead fault brackets (date_at fault) (of_date month_range)
+    month_range_row = whole_row fault brackets (date_at fault) (of_date month_range) tt λ e front rest f at. rw (f.2, f.4.2, at) ((at_place f f.4.3).halts)
       where
-        at_place : {front rest : Text} (f : front_of (table reader (of_date month_range)) front) → ((f.4.0 ≡ []) ⊎ one hyphen f.4.0) → Halts (date_at fault) (f.0 ++ (f.4.0 ++ f.4.1)) rest (fault no_month)
+        at_place : {front rest : Text} (f : front_of (line_of brackets (of_date month_range)) front) → ((f.4.0 ≡ []) ⊎ one hyphen f.4.0) → Halts (date_at fault) (f.0 ++ (f.4.0 ++ f.4.1)) rest (fault no_month)
         at_place f (inl h) = rw h (over_year _ _ f.3.1 till plain_month_range _ _ _ f.4.4)
         at_place f (inr h) = over_year _ _ f.3.1 till over_hyphen _ _ h till hyphened_month_range _ _ _ f.4.4
 
-    after_hyphened_month_row : RowsRead fault reader (date_at fault) (of_date after_hyphened_month)
+    after_hyphened_month_row : RowsRead fault brackets (date_at fault) (of_date after_hyphened_month)
     unfolding after_hyphened_month_at
     after_hyphened_month_row place e front rest f at =
         rw (f.2, f.4.2) (reaches (over_year _ _ f.3.1 before over_hyphen _ _ f.4.3 before over_hyphened_month _ _ _ f.4.4.1) rest _ (rw (stops fault (of_date after_hyphened_month) place e rest tt at) refl))
 
-    after_plain_month_row : RowsRead fault reader (date_at fault) (of_date after_plain_month)
+    after_plain_month_row : RowsRead fault brackets (date_at fault) (of_date after_plain_month)
     unfolding after_plain_month_at
     after_plain_month_row place e front rest f at =
         rw f.2 (reaches (over_year _ _ f.3.1 before over_plain_month _ _ _ f.4.1) rest _ (rw (stops fault (of_date after_plain_month) place e rest tt at) refl))
 
-    day_digits_row : RowsRead fault reader (date_at fault) (of_date day_digits)
+    day_digits_row : RowsRead fault brackets (date_at fault) (of_date day_digits)
     unfolding plain_day_at
     day_digits_row place e front rest (inl f) at =
         rw (f.2, f.4.2, f.4.4.1) (reaches (over_year _ _ f.3.1 before over_plain_month _ _ _ f.4.3.1 before over_day_digit _ _ _ f.4.4.2) rest _
@@ -182,15 +181,15 @@ module _ {E : Type 0} (fault : Row → E) where
         rw (f.2, f.4.2, f.4.4.2, f.4.4.4.2) ((over_year _ _ f.3.1 till over_hyphen _ _ f.4.3 till over_hyphened_month _ _ _ f.4.4.3.1 till over_separator _ _ _ f.4.4.4.3
         till hyphened_day_stops _ _ f.4.4.4.4.0 _ rest place e f.4.4.4.4.1 f.4.4.4.4.2 at).halts)
 
-    day_range_row : RowsRead fault reader (date_at fault) (of_date day_range)
-    day_range_row = whole_row fault reader (date_at fault) (of_date day_range) tt λ e front rest f at. rw at (reaches (over_date front f.0 f.1.0) rest _ (day_refused f.0 rest f.1.1))
+    day_range_row : RowsRead fault brackets (date_at fault) (of_date day_range)
+    day_range_row = whole_row fault brackets (date_at fault) (of_date day_range) tt λ e front rest f at. rw at (reaches (over_date front f.0 f.1.0) rest _ (day_refused f.0 rest f.1.1))
 
     -- every row of a date but those after it
-    pub date_row_read : (l : DateLine) → IsInside l → RowsRead fault reader (date_at fault) (of_date l)
-    date_row_read year_start h = year_rows (of_date year_start) (year_start_row fault reader)
-    date_row_read year_digits h = year_rows (of_date year_digits) (year_digits_row fault reader)
-    date_row_read extended_year_digits h = year_rows (of_date extended_year_digits) (extended_year_digits_row fault reader)
-    date_row_read minus_zero_year h = year_rows (of_date minus_zero_year) (minus_zero_year_row fault reader)
+    pub date_row_read : (l : DateLine) → IsInside l → RowsRead fault brackets (date_at fault) (of_date l)
+    date_row_read year_start h = year_rows (of_date year_start) (year_start_row fault brackets)
+    date_row_read year_digits h = year_rows (of_date year_digits) (year_digits_row fault brackets)
+    date_row_read extended_year_digits h = year_rows (of_date extended_year_digits) (extended_year_digits_row fault brackets)
+    date_row_read minus_zero_year h = year_rows (of_date minus_zero_year) (minus_zero_year_row fault brackets)
     date_row_read after_year h = after_year_row
     date_row_read month_digits h = month_digits_row
     date_row_read month_range h = month_range_row

@@ -2,7 +2,7 @@
 use Rattle.std.proofs.Common.{◌≡◌, ℕ, Bool, true, false, IsTrue, IsFalse, ◌⊎◌, List, [], ◌∷◌, ◌++◌, Ok, Err, refl, ap, ◌∙◌, inl, inr, arith, append_assoc}
 use Rattle.std.proofs.lemmas.Bool.{eqb-true}
 use Rattle.std.proofs.lemmas.Bool.Decides.{nat_tests}
-use Rattle.ixdtf.specs.declared.parsers.time.Clock.TheVariants as clocks
+use Rattle.ixdtf.specs.language.Times.{Clock as clocks}
 use Rattle.ixdtf.specs.declared.records.TimeRecord.{TimeRecord}
 use Rattle.ixdtf.specs.language.Letters.{Text}
 use Rattle.ixdtf.specs.language.Letters.Letter.{Plain}
@@ -17,12 +17,12 @@ use Rattle.ixdtf.specs.language.ZoneNames.Zone.{Offset}
 use Rattle.ixdtf.specs.language.Brackets.{Opens, zone_only_lead, ReadsAsName}
 use Rattle.ixdtf.specs.language.Brackets.{ReadsAsPair}
 use Rattle.ixdtf.specs.table.LineNames.{ClockLine, PairLine, LineName}
-use Rattle.ixdtf.specs.language.Readers.Reader.{parse}
-use Rattle.ixdtf.specs.table.LineNames.LineName.{of_date, of_clock, of_offset, of_zone, of_bracket, of_pair}
+use Rattle.ixdtf.specs.language.Readers.Reader.{bracketed}
+use Rattle.ixdtf.specs.table.LineNames.LineName.{of_core, of_clock, of_offset, of_zone, of_bracket, of_pair}
 use Rattle.ixdtf.specs.table.LineNames.ZoneLine.{identifier_start, zone_name_start, in_zone_name, after_zone_slash}
 use Rattle.ixdtf.specs.table.LineNames.BracketLine.{first_bracket_start, first_critical_start, first_bracket_scan, after_bracket}
 use Rattle.ixdtf.specs.table.LineNames.PairLine.{key_start, critical_key_start, in_key, value_start, in_value, after_value_hyphen}
-use Rattle.ixdtf.specs.table.Lines.{table, zone_letters, bracket_line, Scanned}
+use Rattle.ixdtf.specs.table.Lines.{line_of, zone_letters, bracket_line, LetterOfKey}
 use Rattle.ixdtf.specs.table.Rows.{Row, Place, Stops, front_of}
 use Rattle.ixdtf.specs.table.Rows.Place.{end, other, bad, anywhere}
 use Rattle.ixdtf.specs.reading.Looks.{Read, ◌>>=◌, row_of, look_at, next_by}
@@ -118,26 +118,26 @@ module _ {E : Type 0} (fault : Row → E) where
   name_halts text e h = rw h refl
 
   -- the row after a whole name
-  look_stops : (place : Place) (e : Fault) (rest : Text) → StopsName parse place e rest → next_by (name_look fault parse closing) rest ≡ Err (fault (row_of (of_zone in_zone_name) place e))
+  look_stops : (place : Place) (e : Fault) (rest : Text) → StopsName true place e rest → next_by (name_look fault true closing) rest ≡ Err (fault (row_of (of_zone in_zone_name) place e))
   unfolding next_by look_at
   look_stops end e rest h = rw h.0 (grind (arith, h.1))
   look_stops other e rest h = rw (h.2, no_closing h.0 h.3, h.4) refl
     where
-      no_closing : (c : ℕ) → IsFalse (zone_letters parse c) → IsFalse (closing c)
+      no_closing : (c : ℕ) → IsFalse (zone_letters true c) → IsFalse (closing c)
       no_closing c h = grind (arith, nat_tests)
   look_stops bad e rest h = absurd h
   look_stops anywhere e rest h = absurd h
 
   -- a fault after a name
-  after_name : (name : List ℕ) (text rest : Text) (e : E) → name_run fault true text ≡ Ok (name, rest) → next_by (name_look fault parse closing) rest ≡ Err e → name_in_bracket_at fault text ≡ Err e
+  after_name : (name : List ℕ) (text rest : Text) (e : E) → name_run fault true text ≡ Ok (name, rest) → next_by (name_look fault true closing) rest ≡ Err e → name_in_bracket_at fault text ≡ Err e
   unfolding name_in_bracket_at
   after_name name text rest e h g = rw (h, g) refl
 
   -- the row of a name's own line
-  in_name_row : (place : Place) (e : Fault) (front rest : Text) → ZoneName front → Stops (table parse (of_zone in_zone_name)) place e rest → name_in_bracket_at fault (front ++ rest) ≡ Err (fault (row_of (of_zone in_zone_name) place e))
-  in_name_row place e front rest f at = by_row (name_row fault parse place e front rest f at)
+  in_name_row : (place : Place) (e : Fault) (front rest : Text) → ZoneName front → Stops (line_of true (of_zone in_zone_name)) place e rest → name_in_bracket_at fault (front ++ rest) ≡ Err (fault (row_of (of_zone in_zone_name) place e))
+  in_name_row place e front rest f at = by_row (name_row fault true place e front rest f at)
     where
-      by_row : ((name_run fault true (front ++ rest) ≡ Err (fault (row_of (of_zone in_zone_name) place e))) ⊎ ((name : List ℕ) × (name_run fault true (front ++ rest) ≡ Ok (name, rest)) × StopsName parse place e rest)) → name_in_bracket_at fault (front ++ rest) ≡ Err (fault (row_of (of_zone in_zone_name) place e))
+      by_row : ((name_run fault true (front ++ rest) ≡ Err (fault (row_of (of_zone in_zone_name) place e))) ⊎ ((name : List ℕ) × (name_run fault true (front ++ rest) ≡ Ok (name, rest)) × StopsName true place e rest)) → name_in_bracket_at fault (front ++ rest) ≡ Err (fault (row_of (of_zone in_zone_name) place e))
       by_row (inl h) = name_halts (front ++ rest) _ h
       by_row (inr h) = after_name h.0 (front ++ rest) rest _ h.1 (look_stops place e rest h.2)
 
@@ -145,7 +145,7 @@ module _ {E : Type 0} (fault : Row → E) where
 
   -- after a time
   abbrev after_offset : ℕ → OpenTime × Text → Read E Zone
-  after_offset c time = next_by (follow_look fault parse clocks.MinuteOffset time.0) time.1 >>= λ next. Ok (Offset (minutes_of c time.0.1), next.1)
+  after_offset c time = next_by (follow_look fault true clocks.MinuteOffset time.0) time.1 >>= λ next. Ok (Offset (minutes_of c time.0.1), next.1)
 
   -- the offset is read as a time is
   offset_lead : (c : ℕ) (body : Text) → offset_in_bracket_at fault c ([] ++ body) ≡ (clock_at fault clocks.MinuteOffset body >>= after_offset c)
@@ -157,10 +157,10 @@ module _ {E : Type 0} (fault : Row → E) where
   offset_closed c shape time rest = refl
 
   -- every row of an offset, after its sign
-  offset_row : (c : ℕ) (l : ClockLine) (place : Place) (e : Fault) (front rest : Text) → front_of (table parse (of_clock clocks.MinuteOffset l)) front → Stops (table parse (of_clock clocks.MinuteOffset l)) place e rest → offset_in_bracket_at fault c (front ++ rest) ≡ Err (fault (row_of (of_clock clocks.MinuteOffset l) place e))
+  offset_row : (c : ℕ) (l : ClockLine) (place : Place) (e : Fault) (front rest : Text) → front_of (line_of true (of_clock clocks.MinuteOffset l)) front → Stops (line_of true (of_clock clocks.MinuteOffset l)) place e rest → offset_in_bracket_at fault c (front ++ rest) ≡ Err (fault (row_of (of_clock clocks.MinuteOffset l) place e))
   offset_row c l place e front rest f at =
-      clock_rows fault parse clocks.MinuteOffset (offset_in_bracket_at fault c) (after_offset c) [] (offset_lead c)
-      (λ shape t place e rest closed after. rw (next_stops_after fault parse clocks.MinuteOffset (shape, t) place e rest after) refl) l place e front rest f at
+      clock_rows fault true clocks.MinuteOffset (offset_in_bracket_at fault c) (after_offset c) [] (offset_lead c)
+      (λ shape t place e rest closed after. rw (next_stops_after fault true clocks.MinuteOffset (shape, t) place e rest after) refl) l place e front rest f at
 
   -- a sign leads to an offset
   at_sign : (critical : Bool) (c : ℕ) (more : Text) → IsTrue (sign c) → inside_at fault critical c (Plain c ∷ more) ≡ noted critical (offset_in_bracket_at fault c more)
@@ -181,7 +181,7 @@ module _ {E : Type 0} (fault : Row → E) where
         rw o.is refl,
         sign_starts o.c o.sign,
         rw (o.is, h.2, o.value) (at_sign critical o.c (o.body ++ (Plain 93 ∷ rest)) o.sign
-            ∙ ap (noted critical) (over_clock fault parse clocks.MinuteOffset (offset_in_bracket_at fault o.c) (after_offset o.c) [] (offset_lead o.c) o.shape o.body o.time (Plain 93 ∷ rest) o.clock (closing_closes o.shape rest)
+            ∙ ap (noted critical) (over_clock fault true clocks.MinuteOffset (offset_in_bracket_at fault o.c) (after_offset o.c) [] (offset_lead o.c) o.shape o.body o.time (Plain 93 ∷ rest) o.clock (closing_closes o.shape rest)
             ∙ offset_closed o.c o.shape o.time rest)),
       )
 
@@ -254,7 +254,7 @@ module _ {E : Type 0} (fault : Row → E) where
   unfolding name_or_pair_at
   scan_stops critical text e h = rw h refl
 
-  scan_row : (start : Text) (critical : Bool) (place : Place) (e : Fault) (front rest : Text) → Opens start critical → Scanned front → Stops (bracket_line first_bracket_scan) place e rest → Returned (start ++ (front ++ rest)) (fault (row_of (of_bracket first_bracket_scan) place e))
+  scan_row : (start : Text) (critical : Bool) (place : Place) (e : Fault) (front rest : Text) → Opens start critical → LetterOfKey front → Stops (bracket_line first_bracket_scan) place e rest → Returned (start ++ (front ++ rest)) (fault (row_of (of_bracket first_bracket_scan) place e))
   scan_row start critical place e front rest opens f at =
       inside_stops start (front ++ rest) critical _ opens (
         f.3.0,
@@ -265,18 +265,18 @@ module _ {E : Type 0} (fault : Row → E) where
             ∙ scan_stops critical (front ++ rest) _ (over_scanned fault front rest f ∙ sight_stops fault place e rest at),
       )
 
-  clock_row : (l : ClockLine) (place : Place) (e : Fault) (start front rest : Text) → (some Opens then one sign) start → front_of (table parse (of_clock clocks.MinuteOffset l)) front → Stops (table parse (of_clock clocks.MinuteOffset l)) place e rest → Returned (start ++ (front ++ rest)) (fault (row_of (of_clock clocks.MinuteOffset l) place e))
+  clock_row : (l : ClockLine) (place : Place) (e : Fault) (start front rest : Text) → (some Opens then one sign) start → front_of (line_of true (of_clock clocks.MinuteOffset l)) front → Stops (line_of true (of_clock clocks.MinuteOffset l)) place e rest → Returned (start ++ (front ++ rest)) (fault (row_of (of_clock clocks.MinuteOffset l) place e))
   clock_row l place e start front rest b f at =
       let c = b.4.0 in
       rw (b.2, b.4.1, append_assoc) (inside_stops b.0 (Plain c ∷ (front ++ rest)) b.3.0 _ b.3.1 (c, front ++ rest, refl, sign_starts c b.4.2, at_sign b.3.0 c (front ++ rest) b.4.2 ∙ ap (noted b.3.0) (offset_row c l place e front rest f at)))
 
-  pair_row : (l : PairLine) (place : Place) (e : Fault) (start front rest : Text) → InPair l → some Opens start × ReadsAsPair (front ++ rest) → front_of (table parse (of_pair l)) front → Stops (table parse (of_pair l)) place e rest → Returned (start ++ (front ++ rest)) (fault (row_of (of_pair l) place e))
+  pair_row : (l : PairLine) (place : Place) (e : Fault) (start front rest : Text) → InPair l → some Opens start × ReadsAsPair (front ++ rest) → front_of (line_of true (of_pair l)) front → Stops (line_of true (of_pair l)) place e rest → Returned (start ++ (front ++ rest)) (fault (row_of (of_pair l) place e))
   pair_row l place e start front rest within b f at = stops_as_pair start (front ++ rest) b.0.0 _ b.0.1 b.1 (pair_rows fault b.0.0 l place e front rest within f at)
 
   -- each row inside a first bracket is returned, after its `[`
-  pub bracket_rows : (name : LineName) (place : Place) (e : Fault) (before front rest : Text) → InBracket name before (front ++ rest) → front_of (table parse name) front → Stops (table parse name) place e rest
+  pub bracket_rows : (name : LineName) (place : Place) (e : Fault) (before front rest : Text) → InBracket name before (front ++ rest) → front_of (line_of true name) front → Stops (line_of true name) place e rest
       → (inner : Text) × (before ++ (front ++ rest) ≡ Plain 91 ∷ inner) × (bracket_at fault inner ≡ Err (fault (row_of name place e)))
-  bracket_rows (of_date l) place e start front rest b f at = absurd b
+  bracket_rows (of_core l) place e start front rest b f at = absurd b
   bracket_rows (of_clock clocks.Time l) place e start front rest b f at = absurd b
   bracket_rows (of_clock clocks.Offset l) place e start front rest b f at = absurd b
   bracket_rows (of_clock clocks.MinuteOffset l) place e start front rest b f at = clock_row l place e start front rest b f at
@@ -284,7 +284,7 @@ module _ {E : Type 0} (fault : Row → E) where
   bracket_rows (of_zone identifier_start) place e start front rest b f at = absurd b
   bracket_rows (of_zone zone_name_start) place e start front rest b f at = absurd b
   bracket_rows (of_zone in_zone_name) place e start front rest b f at = stops_as_name start (front ++ rest) b.0.0 _ b.0.1 b.1 (in_name_row place e front rest f at)
-  bracket_rows (of_zone after_zone_slash) place e start front rest b f at = stops_as_name start (front ++ rest) b.0.0 _ b.0.1 b.1 (name_halts (front ++ rest) _ (slash_row fault parse place e front rest f at))
+  bracket_rows (of_zone after_zone_slash) place e start front rest b f at = stops_as_name start (front ++ rest) b.0.0 _ b.0.1 b.1 (name_halts (front ++ rest) _ (slash_row fault true place e front rest f at))
   bracket_rows (of_bracket first_bracket_start) place e start front rest b f at = rw b (start_row place e front rest f at)
   bracket_rows (of_bracket first_critical_start) place e start front rest b f at = rw b (critical_row place e front rest f at)
   bracket_rows (of_bracket first_bracket_scan) place e start front rest b f at = scan_row start b.0 place e front rest b.1 f at

@@ -1,5 +1,5 @@
 -- The pairs after whole brackets are read, and each row of their lines is returned with the pairs before it.
-use Rattle.std.proofs.Common.{◌≡◌, ℕ, zero, suc, ◌<◌, ◌+◌, List, [], ◌∷◌, ◌++◌, length, Ok, Err, refl, sym, ap, ◌∙◌, subst, arith, append_assoc, append-nil}
+use Rattle.std.proofs.Common.{◌≡◌, ℕ, zero, suc, ◌<◌, ◌+◌, List, [], ◌∷◌, ◌++◌, length, Ok, Err, refl, sym, ap, ◌∙◌, subst, arith, append_assoc, append-nil, Some, None, true}
 use Rattle.std.proofs.lemmas.List.{length-append}
 use Rattle.ixdtf.specs.language.Letters.{Text}
 use Rattle.ixdtf.specs.language.Letters.Letter.{Plain}
@@ -9,13 +9,12 @@ use Rattle.ixdtf.specs.table.Faults.{Fault}
 use Rattle.ixdtf.specs.table.Faults.Fault.{InvalidEnd}
 use Rattle.ixdtf.specs.language.Brackets.{Pair, ArePairs}
 use Rattle.ixdtf.specs.table.LineNames.{LineName}
-use Rattle.ixdtf.specs.language.Readers.Reader.{parse}
-use Rattle.ixdtf.specs.table.LineNames.LineName.{of_date, of_clock, of_offset, of_zone, of_bracket, of_pair}
+use Rattle.ixdtf.specs.table.LineNames.LineName.{of_core, of_clock, of_offset, of_zone, of_bracket, of_pair}
 use Rattle.ixdtf.specs.table.LineNames.BracketLine.{first_bracket_start, first_critical_start, first_bracket_scan, after_bracket}
-use Rattle.ixdtf.specs.table.Lines.{table, always}
+use Rattle.ixdtf.specs.table.Lines.{line_of, always}
 use Rattle.ixdtf.specs.table.Rows.{Row, Place, Stops, front_of}
 use Rattle.ixdtf.specs.reading.Looks.{row_of, look_at_line}
-use Rattle.ixdtf.specs.reading.Pairs.{later_pair_at, pairs_at}
+use Rattle.ixdtf.specs.reading.Pairs.{later_pair_at, next_pair_at, pairs_at}
 use Rattle.ixdtf.specs.reading.Chains.{AfterBrackets}
 use Rattle.ixdtf.proofs.parts.Looks.{peek_end, peek_goes, peek_stops}
 use Rattle.ixdtf.proofs.to_reading.Pair.{later_pair_takes, later_pair_rows}
@@ -27,11 +26,39 @@ shorter whole front inner rest c n starts is less =
     let first : length front ≡ suc (length inner) = ap (λ (t : Text). length t) starts in
     omega (arith, all, first, less)
 
+module _ {E : Type 0} (fault : Row → E) where
+  next_goes : (inner rest : Text) (pair : Pair) → later_pair_at fault inner ≡ Ok (pair, rest) → next_pair_at fault (Plain 91 ∷ inner) ≡ Ok (Some pair, rest)
+  unfolding next_pair_at
+  next_goes inner rest pair read = rw (peek_goes (look_at_line fault (of_bracket after_bracket)) 91 inner refl, read) refl
+
+  next_halts : (inner : Text) (e : E) → later_pair_at fault inner ≡ Err e → next_pair_at fault (Plain 91 ∷ inner) ≡ Err e
+  unfolding next_pair_at
+  next_halts inner e read = rw (peek_goes (look_at_line fault (of_bracket after_bracket)) 91 inner refl, read) refl
+
+  next_ends : next_pair_at fault [] ≡ Ok (None, [])
+  unfolding next_pair_at
+  next_ends = rw (peek_end (look_at_line fault (of_bracket after_bracket))) refl
+
+  -- each row of the line after whole brackets, and of the lines of a pair
+  next_row : (name : LineName) (place : Place) (e : Fault) (prior front rest : Text) → AfterBrackets name prior → front_of (line_of true name) front → Stops (line_of true name) place e rest → next_pair_at fault (prior ++ (front ++ rest)) ≡ Err (fault (row_of name place e))
+  unfolding next_pair_at
+  next_row (of_bracket after_bracket) place e prior front rest b f at = rw (b, f, peek_stops fault (of_bracket after_bracket) nothing opening (always InvalidEnd) place e rest at) refl
+  next_row (of_pair l) place e prior front rest b f at =
+      let row = later_pair_rows fault l place e prior front rest b f at in
+      ap (next_pair_at fault) row.1 ∙ next_halts row.0 _ row.2
+  next_row (of_core l) place e prior front rest b f at = absurd b
+  next_row (of_clock clock l) place e prior front rest b f at = absurd b
+  next_row (of_offset l) place e prior front rest b f at = absurd b
+  next_row (of_zone l) place e prior front rest b f at = absurd b
+  next_row (of_bracket first_bracket_start) place e prior front rest b f at = absurd b
+  next_row (of_bracket first_critical_start) place e prior front rest b f at = absurd b
+  next_row (of_bracket first_bracket_scan) place e prior front rest b f at = absurd b
+
 module _ {E : Type 0} (fault : List Pair → Row → E) where
   -- one more pair
   one_pair : (pair : Pair) (inner rest : Text) (pairs : List Pair) (n : ℕ) → later_pair_at (fault pairs) (inner ++ rest) ≡ Ok (pair, rest) → pairs_at fault (suc n) pairs (Plain 91 ∷ (inner ++ rest)) ≡ pairs_at fault n (pairs ++ (pair ∷ [])) rest
   unfolding pairs_at
-  one_pair pair inner rest pairs n read = rw (peek_goes (look_at_line (fault pairs) (of_bracket after_bracket)) 91 (inner ++ rest) refl, read) refl
+  one_pair pair inner rest pairs n read = rw (next_goes (fault pairs) (inner ++ rest) rest pair read) refl
 
   -- reading goes over pairs, with fuel left for the rest
   pub over_pairs : (more : List Pair) (front rest : Text) (pairs : List Pair) (n : ℕ) → ArePairs front more → length (front ++ rest) < n → (m : ℕ) × (length rest < m) × (pairs_at fault n pairs (front ++ rest) ≡ pairs_at fault m (pairs ++ more) rest)
@@ -52,33 +79,10 @@ module _ {E : Type 0} (fault : List Pair → Row → E) where
   pub pairs_end : (n : ℕ) (pairs : List Pair) → 0 < n → pairs_at fault n pairs [] ≡ Ok (pairs, [])
   unfolding pairs_at
   pairs_end zero pairs less = absurd (omega (arith, less))
-  pairs_end (suc n) pairs less = rw (peek_end (look_at_line (fault pairs) (of_bracket after_bracket))) refl
-
-  -- pairs are read
-  pub pairs_takes : (more : List Pair) (front : Text) (pairs : List Pair) (n : ℕ) → ArePairs front more → length front < n → pairs_at fault n pairs front ≡ Ok (pairs ++ more, [])
-  pairs_takes more front pairs n h less =
-      let whole : front ++ [] ≡ front = append-nil front in
-      let over = over_pairs more front [] pairs n h (subst (λ (t : Text). length t < n) (sym whole) less) in
-      ap (pairs_at fault n pairs) (sym whole) ∙ over.2 ∙ pairs_end over.0 (pairs ++ more) over.1
+  pairs_end (suc n) pairs less = rw (next_ends (fault pairs)) refl
 
   -- each row of the lines of pairs is returned
-  pub pairs_row : (name : LineName) (place : Place) (e : Fault) (prior front rest : Text) (pairs : List Pair) (n : ℕ) → AfterBrackets name prior → front_of (table parse name) front → Stops (table parse name) place e rest → length (prior ++ (front ++ rest)) < n → pairs_at fault n pairs (prior ++ (front ++ rest)) ≡ Err (fault pairs (row_of name place e))
+  pub pairs_row : (name : LineName) (place : Place) (e : Fault) (prior front rest : Text) (pairs : List Pair) (n : ℕ) → AfterBrackets name prior → front_of (line_of true name) front → Stops (line_of true name) place e rest → length (prior ++ (front ++ rest)) < n → pairs_at fault n pairs (prior ++ (front ++ rest)) ≡ Err (fault pairs (row_of name place e))
   unfolding pairs_at
   pairs_row name place e prior front rest pairs zero b f at less = absurd (omega (arith, less))
-  pairs_row (of_bracket after_bracket) place e prior front rest pairs (suc n) b f at less = rw (b, f, peek_stops (fault pairs) (of_bracket after_bracket) nothing opening (always InvalidEnd) place e rest at) refl
-  pairs_row (of_pair l) place e prior front rest pairs (suc n) b f at less =
-      let row = later_pair_rows (fault pairs) l place e prior front rest b f at in
-      ap (pairs_at fault (suc n) pairs) row.1 ∙ rw (peek_goes (look_at_line (fault pairs) (of_bracket after_bracket)) 91 row.0 refl, row.2) refl
-  pairs_row (of_date l) place e prior front rest pairs (suc n) b f at less = absurd b
-  pairs_row (of_clock clock l) place e prior front rest pairs (suc n) b f at less = absurd b
-  pairs_row (of_offset l) place e prior front rest pairs (suc n) b f at less = absurd b
-  pairs_row (of_zone l) place e prior front rest pairs (suc n) b f at less = absurd b
-  pairs_row (of_bracket first_bracket_start) place e prior front rest pairs (suc n) b f at less = absurd b
-  pairs_row (of_bracket first_critical_start) place e prior front rest pairs (suc n) b f at less = absurd b
-  pairs_row (of_bracket first_bracket_scan) place e prior front rest pairs (suc n) b f at less = absurd b
-
-  -- the same behind whole pairs
-  pub pairs_rows : (name : LineName) (place : Place) (e : Fault) (more : List Pair) (brackets prior front rest : Text) (pairs : List Pair) (n : ℕ) → ArePairs brackets more → AfterBrackets name prior → front_of (table parse name) front → Stops (table parse name) place e rest → length (brackets ++ (prior ++ (front ++ rest))) < n → pairs_at fault n pairs (brackets ++ (prior ++ (front ++ rest))) ≡ Err (fault (pairs ++ more) (row_of name place e))
-  pairs_rows name place e more brackets prior front rest pairs n h b f at less =
-      let over = over_pairs more brackets (prior ++ (front ++ rest)) pairs n h less in
-      over.2 ∙ pairs_row name place e prior front rest (pairs ++ more) over.0 b f at over.1
+  pairs_row name place e prior front rest pairs (suc n) b f at less = rw (next_row (fault pairs) name place e prior front rest b f at) refl

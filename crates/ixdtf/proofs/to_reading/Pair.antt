@@ -11,15 +11,20 @@ use Rattle.ixdtf.specs.table.Faults.{Fault}
 use Rattle.ixdtf.specs.language.Brackets.{Pair, Key, ValueRun, Value, IsPair}
 use Rattle.ixdtf.specs.language.Brackets.{Opens}
 use Rattle.ixdtf.specs.table.LineNames.{PairLine}
-use Rattle.ixdtf.specs.language.Readers.Reader.{parse}
+use Rattle.ixdtf.specs.language.Readers.Reader.{bracketed}
 use Rattle.ixdtf.specs.table.LineNames.LineName.{of_pair}
 use Rattle.ixdtf.specs.table.LineNames.PairLine.{key_start, critical_key_start, in_key, value_start, in_value, after_value_hyphen}
-use Rattle.ixdtf.specs.table.Lines.{table, pair_line}
+use Rattle.ixdtf.specs.table.Lines.{line_of, pair_line}
 use Rattle.ixdtf.specs.table.Rows.{Row, Place, Stops, front_of}
 use Rattle.ixdtf.specs.table.Rows.Place.{end, other, bad, anywhere}
 use Rattle.ixdtf.specs.reading.Looks.{Read, row_of}
 use Rattle.ixdtf.specs.reading.Zones.{with_letter}
-use Rattle.ixdtf.specs.reading.Pairs.{ValueState, at_start, inside, after_hyphen, value_line, value_other, ValueStep, goes_on, ends, value_step, key_run, value_run, pair_at, critical_pair_at, later_pair_at}
+use Rattle.ixdtf.specs.declared.parsers.annotations.ValueState.{ValueState}
+use Rattle.ixdtf.specs.declared.parsers.annotations.ValueState.TheVariants.{AtStart, Inside, AfterHyphen}
+use Rattle.ixdtf.specs.declared.parsers.annotations.ValueStep.{ValueStep}
+use Rattle.ixdtf.specs.declared.parsers.annotations.ValueStep.TheVariants.{GoesOn, Ends}
+use Rattle.ixdtf.specs.declared.parsers.annotations.ValueStep.TheVariants as steps
+use Rattle.ixdtf.specs.reading.Pairs.{value_line, value_other, value_step, key_run, value_run, pair_at, critical_pair_at, later_pair_at}
 use Rattle.ixdtf.specs.reading.Chains.{AfterBrackets}
 use Rattle.ixdtf.proofs.parts.Looks.{goes, stops}
 use Rattle.ixdtf.proofs.to_reading.ZoneNames.{with_letters, letters_err, letters_ok, plain_faithful}
@@ -127,9 +132,9 @@ module _ {E : Type 0} (fault : Row → E) where
   abbrev pub stepped : ValueState → ℕ → Text → ValueStep → Read E (List ℕ)
   stepped state c rest step =
       elim step [
-        | goes_on next ↦ with_letter c (value_run fault next rest)
-        | ends ↦ Ok ([], rest)
-        | ValueStep.stops ↦ Err (fault (row_of (of_pair (value_line state)) other (value_other state)))
+        | GoesOn next ↦ with_letter c (value_run fault next rest)
+        | Ends ↦ Ok ([], rest)
+        | steps.Stops ↦ Err (fault (row_of (of_pair (value_line state)) other (value_other state)))
       ]
 
   pub by_step : (state : ValueState) (c : ℕ) (rest : Text) (step : ValueStep) → value_step state c ≡ step → value_run fault state (Plain c ∷ rest) ≡ stepped state c rest step
@@ -137,54 +142,54 @@ module _ {E : Type 0} (fault : Row → E) where
   by_step state c rest step h = ap (stepped state c rest) h
 
   -- a letter leads into a value from each of its states
-  value_letter : (state : ValueState) (c : ℕ) → IsTrue (value_char c) → IsOver (value_run fault state) (value_run fault inside) (Plain c ∷ [])
-  value_letter state c h = over_one (value_run fault state) (value_run fault inside) c (λ rest. by_step state c rest (goes_on inside) (rw h refl))
+  value_letter : (state : ValueState) (c : ℕ) → IsTrue (value_char c) → IsOver (value_run fault state) (value_run fault Inside) (Plain c ∷ [])
+  value_letter state c h = over_one (value_run fault state) (value_run fault Inside) c (λ rest. by_step state c rest (GoesOn Inside) (rw h refl))
 
-  value_hyphen : (c : ℕ) → IsTrue (hyphen c) → IsOver (value_run fault inside) (value_run fault after_hyphen) (Plain c ∷ [])
-  value_hyphen c h = over_one (value_run fault inside) (value_run fault after_hyphen) c (λ rest. by_step inside c rest (goes_on after_hyphen) (rw (hyphen_no_value c h, h) refl))
+  value_hyphen : (c : ℕ) → IsTrue (hyphen c) → IsOver (value_run fault Inside) (value_run fault AfterHyphen) (Plain c ∷ [])
+  value_hyphen c h = over_one (value_run fault Inside) (value_run fault AfterHyphen) c (λ rest. by_step Inside c rest (GoesOn AfterHyphen) (rw (hyphen_no_value c h, h) refl))
 
-  over_run : (state : ValueState) (text : Text) → ValueRun text → IsOver (value_run fault state) (value_run fault inside) text
+  over_run : (state : ValueState) (text : Text) → ValueRun text → IsOver (value_run fault state) (value_run fault Inside) text
   over_run state text h =
       rw h.2
-      (over_both (value_run fault state) (value_run fault inside) (value_run fault inside) h.0 h.1 (rw h.3.1 (value_letter state h.3.0 h.3.2))
-      (over_many (value_run fault inside) (one value_char) (λ t g. rw g.1 (value_letter inside g.0 g.2)) h.4.0 h.1 h.4.1))
+      (over_both (value_run fault state) (value_run fault Inside) (value_run fault Inside) h.0 h.1 (rw h.3.1 (value_letter state h.3.0 h.3.2))
+      (over_many (value_run fault Inside) (one value_char) (λ t g. rw g.1 (value_letter Inside g.0 g.2)) h.4.0 h.1 h.4.1))
 
-  over_hyphened : (text : Text) → (one hyphen then ValueRun) text → IsOver (value_run fault inside) (value_run fault inside) text
+  over_hyphened : (text : Text) → (one hyphen then ValueRun) text → IsOver (value_run fault Inside) (value_run fault Inside) text
   over_hyphened text h =
       rw h.2
-      (over_both (value_run fault inside) (value_run fault after_hyphen) (value_run fault inside) h.0 h.1 (rw h.3.1 (value_hyphen h.3.0 h.3.2))
-      (over_run after_hyphen h.1 h.4))
+      (over_both (value_run fault Inside) (value_run fault AfterHyphen) (value_run fault Inside) h.0 h.1 (rw h.3.1 (value_hyphen h.3.0 h.3.2))
+      (over_run AfterHyphen h.1 h.4))
 
-  over_value : (text : Text) → Value text → IsOver (value_run fault at_start) (value_run fault inside) text
+  over_value : (text : Text) → Value text → IsOver (value_run fault AtStart) (value_run fault Inside) text
   over_value text h =
       rw h.2
-      (over_both (value_run fault at_start) (value_run fault inside) (value_run fault inside) h.0 h.1 (over_run at_start h.0 h.3)
-      (over_many (value_run fault inside) (one hyphen then ValueRun) over_hyphened h.4.0 h.1 h.4.1))
+      (over_both (value_run fault AtStart) (value_run fault Inside) (value_run fault Inside) h.0 h.1 (over_run AtStart h.0 h.3)
+      (over_many (value_run fault Inside) (one hyphen then ValueRun) over_hyphened h.4.0 h.1 h.4.1))
 
-  value_closed : (rest : Text) → value_run fault inside (Plain 93 ∷ rest) ≡ Ok ([], rest)
+  value_closed : (rest : Text) → value_run fault Inside (Plain 93 ∷ rest) ≡ Ok ([], rest)
   unfolding value_run
   value_closed rest = refl
 
   value_stops : (state : ValueState) (place : Place) (e : Fault) (rest : Text) → Stops (pair_line (value_line state)) place e rest → value_run fault state rest ≡ Err (fault (row_of (of_pair (value_line state)) place e))
   unfolding value_run
-  value_stops at_start end e rest at = rw at.0 (grind (arith, at.1))
-  value_stops at_start other e rest at = rw (at.2, at.4) (by_step at_start at.0 at.1 ValueStep.stops (rw at.3 refl))
-  value_stops at_start bad e rest at = rw (at.1, at.2) refl
-  value_stops at_start anywhere e rest at = absurd at
-  value_stops inside end e rest at = rw at.0 (grind (arith, at.1))
-  value_stops inside other e rest at =
+  value_stops AtStart end e rest at = rw at.0 (grind (arith, at.1))
+  value_stops AtStart other e rest at = rw (at.2, at.4) (by_step AtStart at.0 at.1 steps.Stops (rw at.3 refl))
+  value_stops AtStart bad e rest at = rw (at.1, at.2) refl
+  value_stops AtStart anywhere e rest at = absurd at
+  value_stops Inside end e rest at = rw at.0 (grind (arith, at.1))
+  value_stops Inside other e rest at =
       let out : IsFalse (value_char at.0) × IsFalse (hyphen at.0) × IsFalse (closing at.0) = no_value at.0 at.3 in
-      rw (at.2, at.4) (by_step inside at.0 at.1 ValueStep.stops (rw (out.0, out.1, out.2) refl))
-  value_stops inside bad e rest at = rw (at.1, at.2) refl
-  value_stops inside anywhere e rest at = absurd at
-  value_stops after_hyphen end e rest at = rw at.0 (grind (arith, at.1))
-  value_stops after_hyphen other e rest at = rw (at.2, at.4) (by_step after_hyphen at.0 at.1 ValueStep.stops (rw at.3 refl))
-  value_stops after_hyphen bad e rest at = rw (at.1, at.2) refl
-  value_stops after_hyphen anywhere e rest at = absurd at
+      rw (at.2, at.4) (by_step Inside at.0 at.1 steps.Stops (rw (out.0, out.1, out.2) refl))
+  value_stops Inside bad e rest at = rw (at.1, at.2) refl
+  value_stops Inside anywhere e rest at = absurd at
+  value_stops AfterHyphen end e rest at = rw at.0 (grind (arith, at.1))
+  value_stops AfterHyphen other e rest at = rw (at.2, at.4) (by_step AfterHyphen at.0 at.1 steps.Stops (rw at.3 refl))
+  value_stops AfterHyphen bad e rest at = rw (at.1, at.2) refl
+  value_stops AfterHyphen anywhere e rest at = absurd at
 
   -- ---- pairs from the key on
 
-  both_read : (critical : Bool) (text middle rest : Text) (key value : List ℕ) → key_run fault text ≡ Ok (key, middle) → value_run fault at_start middle ≡ Ok (value, rest) → pair_at fault critical text ≡ Ok (record { critical = critical; key = key; value = value }, rest)
+  both_read : (critical : Bool) (text middle rest : Text) (key value : List ℕ) → key_run fault text ≡ Ok (key, middle) → value_run fault AtStart middle ≡ Ok (value, rest) → pair_at fault critical text ≡ Ok (record { critical = critical; key = key; value = value }, rest)
   unfolding pair_at
   both_read critical text middle rest key value h g = rw (h, g) refl
 
@@ -192,7 +197,7 @@ module _ {E : Type 0} (fault : Row → E) where
   unfolding pair_at
   key_halts critical text e h = rw h refl
 
-  value_halts : (critical : Bool) (text middle : Text) (key : List ℕ) (e : E) → key_run fault text ≡ Ok (key, middle) → value_run fault at_start middle ≡ Err e → pair_at fault critical text ≡ Err e
+  value_halts : (critical : Bool) (text middle : Text) (key : List ℕ) (e : E) → key_run fault text ≡ Ok (key, middle) → value_run fault AtStart middle ≡ Err e → pair_at fault critical text ≡ Err e
   unfolding pair_at
   value_halts critical text middle key e h g = rw (h, g) refl
 
@@ -202,30 +207,30 @@ module _ {E : Type 0} (fault : Row → E) where
       rw (h.is, append_assoc)
       (both_read pair.critical (h.keys ++ (Plain 61 ∷ ((h.values ++ (Plain 93 ∷ [])) ++ rest))) ((h.values ++ (Plain 93 ∷ [])) ++ rest) rest pair.key pair.value
       (over_ok (key_run fault) (key_run fault) h.keys pair.key (Plain 61 ∷ ((h.values ++ (Plain 93 ∷ [])) ++ rest)) _ (over_key h.keys h.is_key) h.key (key_ends 61 _ refl))
-      (rw append_assoc (over_ok (value_run fault at_start) (value_run fault inside) h.values pair.value (Plain 93 ∷ rest) rest (over_value h.values h.is_value) h.value (value_closed rest))))
+      (rw append_assoc (over_ok (value_run fault AtStart) (value_run fault Inside) h.values pair.value (Plain 93 ∷ rest) rest (over_value h.values h.is_value) h.value (value_closed rest))))
 
   -- a fault after a key and `=`
-  after_key : (critical : Bool) (keys marks rest : Text) (e : E) → Key keys → one equals marks → value_run fault at_start rest ≡ Err e → pair_at fault critical (keys ++ (marks ++ rest)) ≡ Err e
+  after_key : (critical : Bool) (keys marks rest : Text) (e : E) → Key keys → one equals marks → value_run fault AtStart rest ≡ Err e → pair_at fault critical (keys ++ (marks ++ rest)) ≡ Err e
   after_key critical keys marks rest e key mark h =
       let o = over_key keys key in
       value_halts critical (keys ++ (marks ++ rest)) rest o.0 e
       (over_ok (key_run fault) (key_run fault) keys o.0 (marks ++ rest) rest o o.1 (rw mark.1 (key_ends mark.0 rest mark.2))) h
 
-  pub pair_rows : (critical : Bool) (l : PairLine) (place : Place) (e : Fault) (front rest : Text) → InPair l → front_of (table parse (of_pair l)) front → Stops (table parse (of_pair l)) place e rest → pair_at fault critical (front ++ rest) ≡ Err (fault (row_of (of_pair l) place e))
+  pub pair_rows : (critical : Bool) (l : PairLine) (place : Place) (e : Fault) (front rest : Text) → InPair l → front_of (line_of true (of_pair l)) front → Stops (line_of true (of_pair l)) place e rest → pair_at fault critical (front ++ rest) ≡ Err (fault (row_of (of_pair l) place e))
   pair_rows critical key_start place e front rest within f at = absurd within
   pair_rows critical critical_key_start place e front rest within f at = absurd within
   pair_rows critical in_key place e front rest within f at = key_halts critical (front ++ rest) _ (over_err (key_run fault) (key_run fault) front rest _ (over_key front f) (key_stops place e rest at))
-  pair_rows critical value_start place e front rest within f at = rw (f.2, append_assoc) (after_key critical f.0 f.1 rest _ f.3 f.4 (value_stops at_start place e rest at))
+  pair_rows critical value_start place e front rest within f at = rw (f.2, append_assoc) (after_key critical f.0 f.1 rest _ f.3 f.4 (value_stops AtStart place e rest at))
   pair_rows critical in_value place e front rest within f at =
       let g = f.4 in
       rw (f.2, g.2) (simp append_assoc (after_key critical f.0 g.0 (g.1 ++ rest) _ f.3 g.3
-      (over_err (value_run fault at_start) (value_run fault inside) g.1 rest _ (over_value g.1 g.4) (value_stops inside place e rest at))))
+      (over_err (value_run fault AtStart) (value_run fault Inside) g.1 rest _ (over_value g.1 g.4) (value_stops Inside place e rest at))))
   pair_rows critical after_value_hyphen place e front rest within f at =
       let g = f.4 in
       let v = g.4 in
       rw (f.2, g.2, v.2) (simp append_assoc (after_key critical f.0 g.0 (v.0 ++ (v.1 ++ rest)) _ f.3 g.3
-      (over_err (value_run fault at_start) (value_run fault inside) v.0 (v.1 ++ rest) _ (over_value v.0 v.3)
-      (over_err (value_run fault inside) (value_run fault after_hyphen) v.1 rest _ (rw v.4.1 (value_hyphen v.4.0 v.4.2)) (value_stops after_hyphen place e rest at)))))
+      (over_err (value_run fault AtStart) (value_run fault Inside) v.0 (v.1 ++ rest) _ (over_value v.0 v.3)
+      (over_err (value_run fault Inside) (value_run fault AfterHyphen) v.1 rest _ (rw v.4.1 (value_hyphen v.4.0 v.4.2)) (value_stops AfterHyphen place e rest at)))))
 
   -- ---- pairs after their `[`
 
@@ -271,7 +276,7 @@ module _ {E : Type 0} (fault : Row → E) where
     rw (f.4.1, goes fault (of_pair key_start) f.4.0 rest tt (exclamation_starts f.4.0 f.4.2), f.4.2, stops fault (of_pair critical_key_start) place e rest tt at) refl,
   )
 
-  pub later_pair_rows : (l : PairLine) (place : Place) (e : Fault) (before_front front rest : Text) → AfterBrackets (of_pair l) before_front → front_of (table parse (of_pair l)) front → Stops (table parse (of_pair l)) place e rest
+  pub later_pair_rows : (l : PairLine) (place : Place) (e : Fault) (before_front front rest : Text) → AfterBrackets (of_pair l) before_front → front_of (line_of true (of_pair l)) front → Stops (line_of true (of_pair l)) place e rest
       → (inner : Text) × (before_front ++ (front ++ rest) ≡ Plain 91 ∷ inner) × (later_pair_at fault inner ≡ Err (fault (row_of (of_pair l) place e)))
   later_pair_rows key_start place e start front rest b f at = rw b (start_row place e front rest f at)
   later_pair_rows critical_key_start place e start front rest b f at = rw b (critical_row place e front rest f at)

@@ -2,7 +2,7 @@
 use Rattle.std.proofs.Common.{◌≡◌, ℕ, ◌<◌, ◌⊎◌, Bool, true, false, IsTrue, IsFalse, [], ◌∷◌, ◌++◌, Ok, Err, Option, Some, None, refl, sym, ap, ◌∙◌, inl, inr, arith, append-nil, nat_le}
 use Rattle.std.proofs.lemmas.Bool.{le-leb, lt-leb, or_parts}
 use Rattle.std.proofs.lemmas.Bool.Decides.{nat_tests}
-use Rattle.ixdtf.specs.declared.parsers.time.Clock.{Clock}
+use Rattle.ixdtf.specs.language.Times.{Clock}
 use Rattle.ixdtf.specs.declared.records.TimeRecord.{TimeRecord}
 use Rattle.ixdtf.specs.language.Letters.{Text}
 use Rattle.ixdtf.specs.language.Letters.Letter.{Plain, Bad}
@@ -14,10 +14,9 @@ use Rattle.ixdtf.specs.table.Faults.{Fault}
 use Rattle.ixdtf.specs.table.Faults.Fault.{TimeHour, TimeMinuteSecond}
 use Rattle.ixdtf.specs.language.Times.{TimeShape, ClockOf, PlainMinuteText, ColonMinuteText, SecondText, greatest_second, has_seconds}
 use Rattle.ixdtf.specs.language.Times.TimeShape.{hours, plain_minutes, colon_minutes, seconds, fractions}
-use Rattle.ixdtf.specs.language.Readers.{Reader}
 use Rattle.ixdtf.specs.table.LineNames.LineName.{of_clock}
 use Rattle.ixdtf.specs.table.LineNames.ClockLine.{hour_digit, hour_range, minute_digits, minute_range, second_digits, second_range, fraction_start}
-use Rattle.ixdtf.specs.table.Lines.{Follow, table, follow_of, seconds_after, second_fault, after_minute, Past, ColonOrDigit}
+use Rattle.ixdtf.specs.table.Lines.{Follow, line_of, follow_of, seconds_after, second_fault, after_minute, Past, ColonOrDigit}
 use Rattle.ixdtf.specs.table.Lines.Line.{line}
 use Rattle.ixdtf.specs.table.Lines.Ending.{error}
 use Rattle.ixdtf.specs.table.Rows.{Row, Place, Stops, front_of}
@@ -201,26 +200,26 @@ module _ {E : Type 0} (fault : Row → E) (clock : Clock) (start : Text → Read
       ∙ ap (λ u. Ok ((fractions, u), rest)) (same_time t _ _ _ _ refl refl refl (some_same part.ds (Plain ds.0 ∷ ds.1) x.fraction t.fraction part.value ds.2 x.value)))
 
   -- ---- the rows inside a time
-  module _ (reader : Reader) where
-    pub hour_digit_row : RowsRead fault reader start (of_clock clock hour_digit)
+  module _ (brackets : Bool) where
+    pub hour_digit_row : RowsRead fault brackets start (of_clock clock hour_digit)
     unfolding hour_from
     hour_digit_row place e front rest f at = rw f.1 ((starts f.0 f.2).over rest ∙ rw (digits_stop fault (of_clock clock hour_digit) (λ c. refl) 1 0 [] rest place e (omega arith) refl at) refl)
 
-    pub hour_range_row : RowsRead fault reader start (of_clock clock hour_range)
+    pub hour_range_row : RowsRead fault brackets start (of_clock clock hour_range)
     unfolding hour_from
-    hour_range_row = whole_row fault reader start (of_clock clock hour_range) tt λ e front rest f at.
+    hour_range_row = whole_row fault brackets start (of_clock clock hour_range) tt λ e front rest f at.
         let g = f.0 in
         rw (g.2, at) ((starts g.0 g.3).over (g.1 ++ rest) ∙ rw (digits_go fault (of_clock clock hour_digit) (λ c. refl) 1 g.1 rest g.4) (rw (range_refused 23 _ (Plain g.0 ∷ g.1) rest (rw g.2 at f.1)) refl))
 
-    colon_minute_stops : (h k : ℕ) (ds rest : Text) (place : Place) (e : Fault) → k < 2 → digits k ds → Stops (table reader (of_clock clock minute_digits)) place e rest → Halts (colon_minute_at fault clock h) ds rest (fault (row_of (of_clock clock minute_digits) place e))
+    colon_minute_stops : (h k : ℕ) (ds rest : Text) (place : Place) (e : Fault) → k < 2 → digits k ds → Stops (line_of brackets (of_clock clock minute_digits)) place e rest → Halts (colon_minute_at fault clock h) ds rest (fault (row_of (of_clock clock minute_digits) place e))
     unfolding colon_minute_at
     colon_minute_stops h k ds rest place e less d at = record { halts = rw (digits_stop fault (of_clock clock minute_digits) (λ c. refl) 2 k ds rest place e less d at) refl }
 
-    plain_minute_stops : (h c : ℕ) (rest : Text) (place : Place) (e : Fault) → Stops (table reader (of_clock clock minute_digits)) place e rest → Halts (plain_minute_at fault clock h c) [] rest (fault (row_of (of_clock clock minute_digits) place e))
+    plain_minute_stops : (h c : ℕ) (rest : Text) (place : Place) (e : Fault) → Stops (line_of brackets (of_clock clock minute_digits)) place e rest → Halts (plain_minute_at fault clock h c) [] rest (fault (row_of (of_clock clock minute_digits) place e))
     unfolding plain_minute_at
     plain_minute_stops h c rest place e at = record { halts = rw (digits_stop fault (of_clock clock minute_digits) (λ c. refl) 1 0 [] rest place e (omega arith) refl at) refl }
 
-    pub minute_digits_row : RowsRead fault reader start (of_clock clock minute_digits)
+    pub minute_digits_row : RowsRead fault brackets start (of_clock clock minute_digits)
     minute_digits_row place e front rest f at = rw f.2 ((at_place f.4).halts)
       where
         at_place : ColonOrDigit f.1 → Halts start (f.0 ++ f.1) rest (fault (row_of (of_clock clock minute_digits) place e))
@@ -241,22 +240,22 @@ module _ {E : Type 0} (fault : Row → E) (clock : Clock) (start : Text → Read
               ∙ rw (digits_go fault (of_clock clock minute_digits) (λ c. refl) 1 g.1 rest g.4) (rw (range_refused 59 (fault (minute_past clock)) (Plain g.0 ∷ g.1) rest (rw g.2 at p.1)) refl));
         }
 
-    pub minute_range_row : RowsRead fault reader start (of_clock clock minute_range)
-    minute_range_row = whole_row fault reader start (of_clock clock minute_range) tt λ e front rest f at. rw (f.2, f.4.2, at) ((at_place f f.4.3).halts)
+    pub minute_range_row : RowsRead fault brackets start (of_clock clock minute_range)
+    minute_range_row = whole_row fault brackets start (of_clock clock minute_range) tt λ e front rest f at. rw (f.2, f.4.2, at) ((at_place f f.4.3).halts)
       where
-        at_place : {front rest : Text} (f : front_of (table reader (of_clock clock minute_range)) front) → ((f.4.0 ≡ []) ⊎ one colon f.4.0) → Halts start (f.0 ++ (f.4.0 ++ f.4.1)) rest (fault (minute_past clock))
+        at_place : {front rest : Text} (f : front_of (line_of brackets (of_clock clock minute_range)) front) → ((f.4.0 ≡ []) ⊎ one colon f.4.0) → Halts start (f.0 ++ (f.4.0 ++ f.4.1)) rest (fault (minute_past clock))
         at_place f (inl h) = rw h (over_hour _ _ f.3.1 till plain_minute_past _ _ _ f.4.4)
         at_place f (inr h) = over_hour _ _ f.3.1 till over_colon _ _ h till colon_minute_past _ _ _ f.4.4
 
-    colon_second_stops : (h m k : ℕ) (ds rest : Text) (place : Place) (e : Fault) → k < 2 → digits k ds → Stops (table reader (of_clock clock second_digits)) place e rest → Halts (colon_second_at fault clock h m) ds rest (fault (row_of (of_clock clock second_digits) place e))
+    colon_second_stops : (h m k : ℕ) (ds rest : Text) (place : Place) (e : Fault) → k < 2 → digits k ds → Stops (line_of brackets (of_clock clock second_digits)) place e rest → Halts (colon_second_at fault clock h m) ds rest (fault (row_of (of_clock clock second_digits) place e))
     unfolding colon_second_at
     colon_second_stops h m k ds rest place e less d at = record { halts = rw (digits_stop fault (of_clock clock second_digits) (λ c. refl) 2 k ds rest place e less d at) refl }
 
-    plain_second_stops : (h m c : ℕ) (rest : Text) (place : Place) (e : Fault) → Stops (table reader (of_clock clock second_digits)) place e rest → Halts (plain_second_at fault clock h m c) [] rest (fault (row_of (of_clock clock second_digits) place e))
+    plain_second_stops : (h m c : ℕ) (rest : Text) (place : Place) (e : Fault) → Stops (line_of brackets (of_clock clock second_digits)) place e rest → Halts (plain_second_at fault clock h m c) [] rest (fault (row_of (of_clock clock second_digits) place e))
     unfolding plain_second_at
     plain_second_stops h m c rest place e at = record { halts = rw (digits_stop fault (of_clock clock second_digits) (λ c. refl) 1 0 [] rest place e (omega arith) refl at) refl }
 
-    pub second_digits_row : RowsRead fault reader start (of_clock clock second_digits)
+    pub second_digits_row : RowsRead fault brackets start (of_clock clock second_digits)
     second_digits_row place e front rest (may, inl f) at = rw (f.2, f.4.1) ((over_plain_minutes _ _ f.3.1 till over_second_digit _ _ _ may f.4.2 till plain_second_stops _ _ _ rest place e at).halts)
     second_digits_row place e front rest (may, inr f) at = rw (f.2, f.4.2) ((over_colon_minutes _ _ f.3.1 till over_second_colon _ _ _ may f.4.3 till colon_second_stops _ _ f.4.4.0 _ rest place e f.4.4.1 f.4.4.2 at).halts)
 
@@ -273,14 +272,14 @@ module _ {E : Type 0} (fault : Row → E) (clock : Clock) (start : Text → Read
               ∙ rw (digits_go fault (of_clock clock second_digits) (λ c. refl) 1 g.1 rest g.4) (rw (range_refused (greatest_second clock) (fault (second_past clock)) (Plain g.0 ∷ g.1) rest (rw g.2 at p.1)) refl));
         }
 
-    pub second_range_row : RowsRead fault reader start (of_clock clock second_range)
-    second_range_row = whole_row fault reader start (of_clock clock second_range) tt λ e front rest f at. rw at ((at_place front rest f).halts)
+    pub second_range_row : RowsRead fault brackets start (of_clock clock second_range)
+    second_range_row = whole_row fault brackets start (of_clock clock second_range) tt λ e front rest f at. rw at ((at_place front rest f).halts)
       where
-        at_place : (front rest : Text) → front_of (table reader (of_clock clock second_range)) front → Halts start front rest (fault (second_past clock))
+        at_place : (front rest : Text) → front_of (line_of brackets (of_clock clock second_range)) front → Halts start front rest (fault (second_past clock))
         at_place front rest (may, inl f) = rw f.2 (over_plain_minutes _ _ f.3.1 till plain_second_past _ _ _ _ may f.4)
         at_place front rest (may, inr f) = rw (f.2, f.4.2) (over_colon_minutes _ _ f.3.1 till over_second_colon _ _ _ may f.4.3 till colon_second_past _ _ _ _ f.4.4)
 
-    pub fraction_start_row : RowsRead fault reader start (of_clock clock fraction_start)
+    pub fraction_start_row : RowsRead fault brackets start (of_clock clock fraction_start)
     unfolding fraction_at fraction_stage
     fraction_start_row place e front rest f at =
         rw f.2 ((over_seconds f.0 f.3.0 f.3.1.0 before over_mark _ _ _ f.1 f.4).over rest ∙ rw (stops fault (of_clock clock fraction_start) place e rest tt at) refl)
@@ -313,13 +312,13 @@ module _ {E : Type 0} (fault : Row → E) (clock : Clock) (start : Text → Read
   unfolding after_colon_minute_at look_at
   colon_mixed text t c rest x out is = (over_colon_minutes text t x).over (Plain c ∷ rest) ∙ rw (out, is) refl
 
-  module _ (reader : Reader) where
+  module _ (brackets : Bool) where
     abbrev follow : Follow
-    follow = follow_of reader clock
+    follow = follow_of brackets clock
 
     -- the row is returned inside the time, or what comes next is looked at after it
     abbrev pub OpenRow : TimeShape → Place → Fault → Text → Text → Type 0
-    OpenRow shape place e front rest = (start (front ++ rest) ≡ Err (fault (row_of (line_after clock shape) place e))) ⊎ (Closed clock shape rest × StopsAfter (follow_of reader clock) place e rest)
+    OpenRow shape place e front rest = (start (front ++ rest) ≡ Err (fault (row_of (line_after clock shape) place e))) ⊎ (Closed clock shape rest × StopsAfter (follow_of brackets clock) place e rest)
 
     at_places : (shape : TimeShape) (shown : Shape) (goes_on : Class) (at_other : ℕ → Fault) (place : Place) (e : Fault) (front rest : Text) (t : TimeRecord) → ClockOf clock shape front t → Stops (line shown goes_on follow.at_end at_other) place e rest → ((c : ℕ) (more : Text) → rest ≡ Plain c ∷ more → IsFalse (goes_on c) → e ≡ at_other c → OpenRow shape other e front rest) → OpenRow shape place e front rest
     at_places shape shown goes_on at_other end e front rest t x at at_letter = inr (rw at.0 (closed_at_end clock shape), at)
@@ -327,7 +326,7 @@ module _ {E : Type 0} (fault : Row → E) (clock : Clock) (start : Text → Read
     at_places shape shown goes_on at_other bad e front rest t x at at_letter = inl (rw (at.1, at.2) (time_bad shape front t at.0 x))
     at_places shape shown goes_on at_other anywhere e front rest t x at at_letter = absurd at
 
-    pub open_row : (shape : TimeShape) (place : Place) (e : Fault) (front rest : Text) (t : TimeRecord) → ClockOf clock shape front t → Stops (table reader (line_after clock shape)) place e rest → OpenRow shape place e front rest
+    pub open_row : (shape : TimeShape) (place : Place) (e : Fault) (front rest : Text) (t : TimeRecord) → ClockOf clock shape front t → Stops (line_of brackets (line_after clock shape)) place e rest → OpenRow shape place e front rest
     open_row hours place e front rest t x at = at_places hours (some (ClockOf clock hours)) _ _ place e front rest t x at λ c more is out same.
         let parts = or_parts _ _ out in
         let first = or_parts _ _ parts.0 in

@@ -1,32 +1,33 @@
 -- What is derived is returned, and each row that fits: what holds of a text decides what reading returns.
-use Rattle.std.proofs.Common.{◌≡◌, ℕ, suc, ◌<◌, ◌⊎◌, List, [], ◌∷◌, ◌++◌, length, Ok, Err, Option, Some, None, refl, sym, ap, ◌∙◌, inl, inr, arith, append_assoc, append-nil}
-use Rattle.ixdtf.specs.declared.parsers.time.Clock.TheVariants as clocks
+use Rattle.std.proofs.Common.{◌≡◌, ℕ, suc, ◌<◌, ◌⊎◌, List, [], ◌∷◌, ◌++◌, length, Ok, Err, Option, Some, None, refl, sym, ap, ◌∙◌, inl, inr, arith, append_assoc, append-nil, true}
+use Rattle.ixdtf.specs.language.Times.{Clock as clocks}
 use Rattle.ixdtf.specs.language.Letters.{Text}
 use Rattle.ixdtf.specs.language.Letters.Letter.{Plain}
 use Rattle.ixdtf.specs.language.Shapes.{some}
 use Rattle.ixdtf.specs.table.Faults.{Fault}
 use Rattle.ixdtf.specs.language.Brackets.{ZoneNote, Opens}
 use Rattle.ixdtf.specs.language.Brackets.{Pair, ArePairs, IsTail, ReadsAsPair}
-use Rattle.ixdtf.specs.language.Cores.{Core, IsDateTimeCore}
-use Rattle.ixdtf.specs.language.Readers.{Reader}
+use Rattle.ixdtf.specs.language.Cores.{Core, IsCore}
+use Rattle.ixdtf.specs.language.Readers.{Reader, CoreKind}
 use Rattle.ixdtf.specs.table.LineNames.{LineName}
-use Rattle.ixdtf.specs.language.Readers.Reader.{parse, parse_offset, parse_identifier, parse_iana_identifier}
-use Rattle.ixdtf.specs.table.LineNames.LineName.{of_date, of_clock, of_offset, of_zone, of_bracket, of_pair}
+use Rattle.ixdtf.specs.language.Readers.Reader.{bracketed, parse_offset, parse_identifier, parse_iana_identifier}
+use Rattle.ixdtf.specs.table.LineNames.LineName.{of_core, of_clock, of_offset, of_zone, of_bracket, of_pair}
 use Rattle.ixdtf.specs.table.LineNames.OffsetLine.{offset_start, after_zulu}
 use Rattle.ixdtf.specs.table.LineNames.ZoneLine.{identifier_start, zone_name_start, in_zone_name, after_zone_slash}
 use Rattle.ixdtf.specs.table.LineNames.BracketLine.{first_bracket_start, first_critical_start, first_bracket_scan, after_bracket}
 use Rattle.ixdtf.specs.table.LineNames.PairLine.{key_start, critical_key_start, in_key, value_start, in_value, after_value_hyphen}
-use Rattle.ixdtf.specs.table.Lines.{table, Before, Bracketed, BeforeKey}
+use Rattle.ixdtf.specs.table.Lines.{line_of}
+use Rattle.ixdtf.specs.table.Before.{BeforeBracketed, Bracketed, BeforeKey}
 use Rattle.ixdtf.specs.table.Rows.{Row, Place, Stops, Fits, front_of}
-use Rattle.ixdtf.specs.language.Languages.{Parsed, parsed_with, IsDateTime, Found, Derives}
+use Rattle.ixdtf.specs.language.Languages.{Parsed, parsed_with, IsBracketed, Found, Derives}
 use Rattle.ixdtf.specs.language.Languages.Found.{parsed, shifted, identified, named}
 use Rattle.ixdtf.specs.reading.Looks.{Read, ◌>>=◌, row_of}
 use Rattle.ixdtf.specs.reading.Pairs.{pairs_at}
 use Rattle.ixdtf.specs.reading.Brackets.{Bracket, zoned, paired, zone_in, pairs_in, bracket_at}
-use Rattle.ixdtf.specs.reading.Wholes.{core_look, bracketed_at, annotated_at, parse_at, read_at}
+use Rattle.ixdtf.specs.reading.Cores.{core_at}
+use Rattle.ixdtf.specs.reading.Wholes.{bracketed_at, annotated_at, bracketed_text_at, read_at}
 use Rattle.ixdtf.specs.reading.Chains.{AfterBrackets}
-use Rattle.ixdtf.proofs.parts.Looks.{peek_end, peek_goes}
-use Rattle.ixdtf.proofs.to_reading.Cores.{core_takes, date_rows, time_rows, offset_rows, zulu_row}
+use Rattle.ixdtf.proofs.to_reading.Cores.{core_takes, core_line_rows, core_time_rows, core_offset_rows, core_zulu_row}
 use Rattle.ixdtf.proofs.to_grammar.FirstBracket.{InBracket, IsBracket}
 use Rattle.ixdtf.proofs.to_reading.FirstBracket.{bracket_takes, bracket_rows}
 use Rattle.ixdtf.proofs.to_reading.MorePairs.{over_pairs, pairs_end, pairs_row}
@@ -55,23 +56,22 @@ brackets_of text None [] h = inl (record { is = h.2 ∙ rw (h.3, h.4) refl; zone
 brackets_of text None (pair ∷ pairs) h = inr (record { bracket = paired pair; first = h.4.0; rest = h.4.1; more = pairs; is = h.2 ∙ rw h.3 h.4.2; is_bracket = h.4.3; zone_is = refl; are_pairs = h.4.4; pairs_are = refl })
 brackets_of text (Some note) pairs h = inr (record { bracket = zoned note; first = h.0; rest = h.1; more = pairs; is = h.2; is_bracket = h.3; zone_is = refl; are_pairs = h.4; pairs_are = refl })
 
-module _ {E : Type 0} (fault : List Pair → Row → E) where
+module _ {E : Type 0} (fault : List Pair → Row → E) (kind : CoreKind) where
   -- ---- a core and what stands after it
 
-  core_alone : (cores : Text) (core : Core) → IsDateTimeCore cores core → parse_at fault cores ≡ Ok ((parsed_with core None, []), [])
-  unfolding parse_at
-  core_alone cores core d =
-      let read = core_takes fault cores core [] d (inl refl) in
-      rw (← append-nil cores, read.1, peek_end (core_look (fault []) read.0)) refl
+  abbrev whole_at : Text → Read E (Parsed × List Pair)
+  whole_at text = bracketed_text_at fault kind text
 
-  bracket_lead : (cores : Text) (core : Core) (inner : Text) → IsDateTimeCore cores core → parse_at fault (cores ++ (Plain 91 ∷ inner)) ≡ annotated_at fault core inner
-  unfolding parse_at
-  bracket_lead cores core inner d =
-      let read = core_takes fault cores core (Plain 91 ∷ inner) d (inr (inner, refl)) in
-      rw (read.1, peek_goes (core_look (fault []) read.0) 91 inner refl) refl
+  core_alone : (cores : Text) (core : Core) → IsCore kind cores core → whole_at cores ≡ Ok ((parsed_with core None, []), [])
+  unfolding bracketed_text_at
+  core_alone cores core d = rw (← append-nil cores, (core_takes (fault []) kind cores core [] d (inl refl)).0 refl) refl
 
-  bracketed : (cores : Text) (core : Core) (body inner : Text) → body ≡ Plain 91 ∷ inner → IsDateTimeCore cores core → parse_at fault (cores ++ body) ≡ annotated_at fault core inner
-  bracketed cores core body inner is d = ap (λ (t : Text). parse_at fault (cores ++ t)) is ∙ bracket_lead cores core inner d
+  bracket_lead : (cores : Text) (core : Core) (inner : Text) → IsCore kind cores core → whole_at (cores ++ (Plain 91 ∷ inner)) ≡ annotated_at fault core inner
+  unfolding bracketed_text_at
+  bracket_lead cores core inner d = rw ((core_takes (fault []) kind cores core (Plain 91 ∷ inner) d (inr (inner, refl))).1 inner refl) refl
+
+  after_opening : (cores : Text) (core : Core) (body inner : Text) → body ≡ Plain 91 ∷ inner → IsCore kind cores core → whole_at (cores ++ body) ≡ annotated_at fault core inner
+  after_opening cores core body inner is d = ap (λ (t : Text). whole_at (cores ++ t)) is ∙ bracket_lead cores core inner d
 
   -- what is returned where these pairs were read after a core and a zone
   abbrev with_core : Core → Option ZoneNote → List Pair × Text → Read E (Parsed × List Pair)
@@ -82,14 +82,14 @@ module _ {E : Type 0} (fault : List Pair → Row → E) where
   after_first core bracket inner rest read = rw read refl
 
   -- reading goes over whole brackets to the pairs after them, with fuel left for the rest
-  pub over_brackets : (cores brackets rest : Text) (core : Core) (zone : Option ZoneNote) (pairs : List Pair) → IsDateTimeCore cores core → Brackets brackets zone pairs → (m : ℕ) × (length rest < m) × (parse_at fault (cores ++ (brackets ++ rest)) ≡ (pairs_at fault m pairs rest >>= with_core core zone))
+  pub over_brackets : (cores brackets rest : Text) (core : Core) (zone : Option ZoneNote) (pairs : List Pair) → IsCore kind cores core → Brackets brackets zone pairs → (m : ℕ) × (length rest < m) × (whole_at (cores ++ (brackets ++ rest)) ≡ (pairs_at fault m pairs rest >>= with_core core zone))
   over_brackets cores brackets rest core zone pairs d h =
       let read = bracket_takes (fault []) h.first (h.rest ++ rest) h.bracket h.is_bracket in
       let over = over_pairs fault h.more h.rest rest (pairs_in h.bracket) (suc (length (h.rest ++ rest))) h.are_pairs (omega arith) in
       let whole : brackets ++ rest ≡ Plain 91 ∷ (read.0 ++ (h.rest ++ rest)) = ap (λ (t : Text). t ++ rest) h.is ∙ append_assoc h.first h.rest rest ∙ ap (λ (t : Text). t ++ (h.rest ++ rest)) read.1 in (
         over.0,
         over.1,
-        bracketed cores core (brackets ++ rest) (read.0 ++ (h.rest ++ rest)) whole d
+        after_opening cores core (brackets ++ rest) (read.0 ++ (h.rest ++ rest)) whole d
             ∙ after_first core h.bracket (read.0 ++ (h.rest ++ rest)) (h.rest ++ rest) read.2
             ∙ ap (λ (r : Read E (List Pair)). r >>= with_core core (zone_in h.bracket)) over.2
             ∙ ap (λ (z : Option ZoneNote). pairs_at fault over.0 (pairs_in h.bracket ++ h.more) rest >>= with_core core z) (sym h.zone_is)
@@ -98,85 +98,95 @@ module _ {E : Type 0} (fault : List Pair → Row → E) where
 
   -- ---- what is derived
 
-  brackets_takes : (cores brackets : Text) (core : Core) (first_zone : Option ZoneNote) (pairs : List Pair) → IsDateTimeCore cores core → NoBrackets brackets first_zone pairs ⊎ Brackets brackets first_zone pairs → parse_at fault (cores ++ brackets) ≡ Ok ((parsed_with core first_zone, pairs), [])
+  brackets_takes : (cores brackets : Text) (core : Core) (first_zone : Option ZoneNote) (pairs : List Pair) → IsCore kind cores core → NoBrackets brackets first_zone pairs ⊎ Brackets brackets first_zone pairs → whole_at (cores ++ brackets) ≡ Ok ((parsed_with core first_zone, pairs), [])
   brackets_takes cores brackets core first_zone pairs d (inl h) = rw (h.is, h.zone_is, h.pairs_are, append-nil cores) (core_alone cores core d)
   brackets_takes cores brackets core first_zone pairs d (inr h) =
       let over = over_brackets cores brackets [] core first_zone pairs d h in
-      ap (λ (t : Text). parse_at fault (cores ++ t)) (sym (append-nil brackets)) ∙ over.2 ∙ rw (pairs_end fault over.0 pairs over.1) refl
+      ap (λ (t : Text). whole_at (cores ++ t)) (sym (append-nil brackets)) ∙ over.2 ∙ rw (pairs_end fault over.0 pairs over.1) refl
 
-  parse_takes : (text : Text) (found : Parsed) (pairs : List Pair) → IsDateTime text found pairs → parse_at fault text ≡ Ok ((found, pairs), [])
-  parse_takes text found pairs d = rw (d.is, d.has) (brackets_takes d.cores d.brackets d.core d.zone pairs d.is_core (brackets_of d.brackets d.zone pairs d.is_tail))
+  pub whole_takes : (text : Text) (found : Parsed) (pairs : List Pair) → IsBracketed kind text found pairs → whole_at text ≡ Ok ((found, pairs), [])
+  whole_takes text found pairs d = rw (d.is, d.has) (brackets_takes d.cores d.brackets d.core d.zone pairs d.is_core (brackets_of d.brackets d.zone pairs d.is_tail))
 
-  -- ---- each row of `parse`
+  -- ---- each row
 
-  inner_row : (cores : Text) (core : Core) → IsDateTimeCore cores core → (name : LineName) (place : Place) (e : Fault) (prior front rest : Text) → InBracket name prior (front ++ rest) → front_of (table parse name) front → Stops (table parse name) place e rest → parse_at fault (cores ++ (prior ++ (front ++ rest))) ≡ Err (fault [] (row_of name place e))
+  inner_row : (cores : Text) (core : Core) → IsCore kind cores core → (name : LineName) (place : Place) (e : Fault) (prior front rest : Text) → InBracket name prior (front ++ rest) → front_of (line_of true name) front → Stops (line_of true name) place e rest → whole_at (cores ++ (prior ++ (front ++ rest))) ≡ Err (fault [] (row_of name place e))
   unfolding annotated_at
   inner_row cores core d name place e prior front rest b f at =
       let row = bracket_rows (fault []) name place e prior front rest b f at in
-      bracketed cores core (prior ++ (front ++ rest)) row.0 row.1 d ∙ rw row.2 refl
+      after_opening cores core (prior ++ (front ++ rest)) row.0 row.1 d ∙ rw row.2 refl
 
   -- a row after `[` or `[!`, and what stands before the two
-  opened_row : (name : LineName) (place : Place) (e : Fault) (pairs : List Pair) (cores prior front rest before_all : Text) → pairs ≡ [] → before_all ≡ cores ++ prior → some IsDateTimeCore cores → InBracket name prior (front ++ rest) → front_of (table parse name) front → Stops (table parse name) place e rest → parse_at fault (before_all ++ (front ++ rest)) ≡ Err (fault pairs (row_of name place e))
+  opened_row : (name : LineName) (place : Place) (e : Fault) (pairs : List Pair) (cores prior front rest before_all : Text) → pairs ≡ [] → before_all ≡ cores ++ prior → some (IsCore kind) cores → InBracket name prior (front ++ rest) → front_of (line_of true name) front → Stops (line_of true name) place e rest → whole_at (before_all ++ (front ++ rest)) ≡ Err (fault pairs (row_of name place e))
   opened_row name place e pairs cores prior front rest before_all none is core b f at =
-      rw (is, none) (ap (parse_at fault) (simp append_assoc) ∙ inner_row cores core.0 core.1 name place e prior front rest b f at)
+      rw (is, none) (ap (whole_at) (simp append_assoc) ∙ inner_row cores core.0 core.1 name place e prior front rest b f at)
 
   -- a row after whole brackets
-  pairs_in_row : (name : LineName) (place : Place) (e : Fault) (cores brackets prior front rest : Text) (core : Core) (zone : Option ZoneNote) (pairs : List Pair) → IsDateTimeCore cores core → Brackets brackets zone pairs → AfterBrackets name prior → front_of (table parse name) front → Stops (table parse name) place e rest → parse_at fault (cores ++ (brackets ++ (prior ++ (front ++ rest)))) ≡ Err (fault pairs (row_of name place e))
+  pairs_in_row : (name : LineName) (place : Place) (e : Fault) (cores brackets prior front rest : Text) (core : Core) (zone : Option ZoneNote) (pairs : List Pair) → IsCore kind cores core → Brackets brackets zone pairs → AfterBrackets name prior → front_of (line_of true name) front → Stops (line_of true name) place e rest → whole_at (cores ++ (brackets ++ (prior ++ (front ++ rest)))) ≡ Err (fault pairs (row_of name place e))
   pairs_in_row name place e cores brackets prior front rest core zone pairs d h b f at =
       let over = over_brackets cores brackets (prior ++ (front ++ rest)) core zone pairs d h in
       over.2 ∙ rw (pairs_row fault name place e prior front rest pairs over.0 b f at over.1) refl
 
-  bracketed_row : (name : LineName) (place : Place) (e : Fault) (pairs : List Pair) (prior opens front rest : Text) → Bracketed pairs prior → AfterBrackets name opens → front_of (table parse name) front → Stops (table parse name) place e rest → parse_at fault (prior ++ (opens ++ (front ++ rest))) ≡ Err (fault pairs (row_of name place e))
+  bracketed_row : (name : LineName) (place : Place) (e : Fault) (pairs : List Pair) (prior opens front rest : Text) → Bracketed kind pairs prior → AfterBrackets name opens → front_of (line_of true name) front → Stops (line_of true name) place e rest → whole_at (prior ++ (opens ++ (front ++ rest))) ≡ Err (fault pairs (row_of name place e))
   bracketed_row name place e pairs prior opens front rest b a f at = go (brackets_of b.1 b.4 pairs b.5)
     where
-      go : NoBrackets b.1 b.4 pairs ⊎ Brackets b.1 b.4 pairs → parse_at fault (prior ++ (opens ++ (front ++ rest))) ≡ Err (fault pairs (row_of name place e))
+      go : NoBrackets b.1 b.4 pairs ⊎ Brackets b.1 b.4 pairs → whole_at (prior ++ (opens ++ (front ++ rest))) ≡ Err (fault pairs (row_of name place e))
       go (inl h) = absurd (b.6 h.is)
-      go (inr h) = ap (parse_at fault) (ap (λ (t : Text). t ++ (opens ++ (front ++ rest))) b.2 ∙ append_assoc b.0 b.1 (opens ++ (front ++ rest))) ∙ pairs_in_row name place e b.0 b.1 opens front rest b.3.0 b.4 pairs b.3.1 h a f at
+      go (inr h) = ap (whole_at) (ap (λ (t : Text). t ++ (opens ++ (front ++ rest))) b.2 ∙ append_assoc b.0 b.1 (opens ++ (front ++ rest))) ∙ pairs_in_row name place e b.0 b.1 opens front rest b.3.0 b.4 pairs b.3.1 h a f at
 
   -- a row behind the opening of a bracket with a key
-  key_row : (name : LineName) (place : Place) (e : Fault) (pairs : List Pair) (prior front rest : Text) → ((opens : Text) → some Opens opens → AfterBrackets name opens) → ((opens left : Text) → some Opens opens → ReadsAsPair left → InBracket name opens left) → BeforeKey pairs prior (front ++ rest) → front_of (table parse name) front → Stops (table parse name) place e rest → parse_at fault (prior ++ (front ++ rest)) ≡ Err (fault pairs (row_of name place e))
+  key_row : (name : LineName) (place : Place) (e : Fault) (pairs : List Pair) (prior front rest : Text) → ((opens : Text) → some Opens opens → AfterBrackets name opens) → ((opens left : Text) → some Opens opens → ReadsAsPair left → InBracket name opens left) → BeforeKey kind pairs prior (front ++ rest) → front_of (line_of true name) front → Stops (line_of true name) place e rest → whole_at (prior ++ (front ++ rest)) ≡ Err (fault pairs (row_of name place e))
   key_row name place e pairs prior front rest later first (inl b) f at = opened_row name place e pairs b.0.0 b.0.1 front rest prior b.2 b.0.2 b.0.3 (first b.0.1 (front ++ rest) b.0.4 b.1) f at
   key_row name place e pairs prior front rest later first (inr b) f at =
-      ap (parse_at fault) (ap (λ (t : Text). t ++ (front ++ rest)) b.2 ∙ append_assoc b.0 b.1 (front ++ rest)) ∙ bracketed_row name place e pairs b.0 b.1 front rest b.3 (later b.1 b.4) f at
+      ap (whole_at) (ap (λ (t : Text). t ++ (front ++ rest)) b.2 ∙ append_assoc b.0 b.1 (front ++ rest)) ∙ bracketed_row name place e pairs b.0 b.1 front rest b.3 (later b.1 b.4) f at
 
   -- a row before which no pairs stand
-  no_pairs : (text : Text) (row : Row) (pairs : List Pair) → pairs ≡ [] → parse_at fault text ≡ Err (fault [] row) → parse_at fault text ≡ Err (fault pairs row)
+  no_pairs : (text : Text) (row : Row) (pairs : List Pair) → pairs ≡ [] → whole_at text ≡ Err (fault [] row) → whole_at text ≡ Err (fault pairs row)
   no_pairs text row pairs none is = rw none is
 
-  parse_row : (name : LineName) (pairs : List Pair) (place : Place) (e : Fault) (prior front rest : Text) → Before parse name pairs prior (front ++ rest) → front_of (table parse name) front → Stops (table parse name) place e rest → parse_at fault (prior ++ (front ++ rest)) ≡ Err (fault pairs (row_of name place e))
-  parse_row (of_date l) pairs place e prior front rest b f at = rw (b.0, b.1) (date_rows fault l place e front rest f at)
-  parse_row (of_clock clocks.Time l) pairs place e prior front rest b f at = no_pairs _ _ pairs b.1 (time_rows fault l place e prior front rest b.0 f at)
-  parse_row (of_clock clocks.Offset l) pairs place e prior front rest b f at = no_pairs _ _ pairs b.1 (offset_rows fault l place e prior front rest b.0 f at)
-  parse_row (of_clock clocks.MinuteOffset l) pairs place e prior front rest (b, none) f at =
-      opened_row (of_clock clocks.MinuteOffset l) place e pairs b.3.0 (b.3.1 ++ b.1) front rest prior none (b.2 ∙ rw b.3.2 (simp append_assoc)) b.3.3 (b.3.1, b.1, refl, b.3.4, b.4) f at
-  parse_row (of_offset offset_start) pairs place e prior front rest b f at = absurd b.0
-  parse_row (of_offset after_zulu) pairs place e prior front rest b f at = no_pairs _ _ pairs b.1 (zulu_row fault place e prior front rest b.0 f at)
-  parse_row (of_zone identifier_start) pairs place e prior front rest b f at = absurd b.0
-  parse_row (of_zone zone_name_start) pairs place e prior front rest b f at = absurd b.0
-  parse_row (of_zone in_zone_name) pairs place e prior front rest (b, none) f at =
-      opened_row (of_zone in_zone_name) place e pairs b.0.0 b.0.1 front rest prior none b.0.2 b.0.3 (b.0.4, b.1) f at
-  parse_row (of_zone after_zone_slash) pairs place e prior front rest (b, none) f at =
-      opened_row (of_zone after_zone_slash) place e pairs b.0.0 b.0.1 front rest prior none b.0.2 b.0.3 (b.0.4, b.1) f at
-  parse_row (of_bracket first_bracket_start) pairs place e prior front rest (b, none) f at = no_pairs _ _ pairs none (inner_row prior b.0 b.1 (of_bracket first_bracket_start) place e [] front rest refl f at)
-  parse_row (of_bracket first_critical_start) pairs place e prior front rest (b, none) f at = no_pairs _ _ pairs none (inner_row prior b.0 b.1 (of_bracket first_critical_start) place e [] front rest refl f at)
-  parse_row (of_bracket first_bracket_scan) pairs place e prior front rest (b, none) f at =
-      opened_row (of_bracket first_bracket_scan) place e pairs b.0 b.1 front rest prior none b.2 b.3 b.4 f at
-  parse_row (of_bracket after_bracket) pairs place e prior front rest b f at = bracketed_row (of_bracket after_bracket) place e pairs prior [] front rest b refl f at
-  parse_row (of_pair key_start) pairs place e prior front rest b f at = bracketed_row (of_pair key_start) place e pairs prior [] front rest b refl f at
-  parse_row (of_pair critical_key_start) pairs place e prior front rest b f at = bracketed_row (of_pair critical_key_start) place e pairs prior [] front rest b refl f at
-  parse_row (of_pair in_key) pairs place e prior front rest b f at = key_row (of_pair in_key) place e pairs prior front rest (λ t o. o) (λ t left o r. (o, r)) b f at
-  parse_row (of_pair value_start) pairs place e prior front rest b f at = key_row (of_pair value_start) place e pairs prior front rest (λ t o. o) (λ t left o r. (o, r)) b f at
-  parse_row (of_pair in_value) pairs place e prior front rest b f at = key_row (of_pair in_value) place e pairs prior front rest (λ t o. o) (λ t left o r. (o, r)) b f at
-  parse_row (of_pair after_value_hyphen) pairs place e prior front rest b f at = key_row (of_pair after_value_hyphen) place e pairs prior front rest (λ t o. o) (λ t left o r. (o, r)) b f at
+  -- a row of a core's lines
+  core_row : (text : Text) (e : E) → core_at (fault []) kind text ≡ Err e → whole_at text ≡ Err e
+  unfolding bracketed_text_at
+  core_row text e h = rw h refl
 
+  -- the same, before which no pairs stand
+  in_core : (text : Text) (row : Row) (pairs : List Pair) → pairs ≡ [] → core_at (fault []) kind text ≡ Err (fault [] row) → whole_at text ≡ Err (fault pairs row)
+  in_core text row pairs none h = no_pairs text row pairs none (core_row text (fault [] row) h)
+
+  pub whole_row : (name : LineName) (pairs : List Pair) (place : Place) (e : Fault) (prior front rest : Text) → BeforeBracketed kind name pairs prior (front ++ rest) → front_of (line_of true name) front → Stops (line_of true name) place e rest → whole_at (prior ++ (front ++ rest)) ≡ Err (fault pairs (row_of name place e))
+  whole_row (of_core l) pairs place e prior front rest b f at = in_core _ _ pairs b.1 (core_line_rows (fault []) kind l place e prior front rest b.0 f at)
+  whole_row (of_clock clocks.Time l) pairs place e prior front rest b f at = in_core _ _ pairs b.1 (core_time_rows (fault []) kind l place e prior front rest b.0 f at)
+  whole_row (of_clock clocks.Offset l) pairs place e prior front rest b f at = in_core _ _ pairs b.1 (core_offset_rows (fault []) kind l place e prior front rest b.0 f at)
+  whole_row (of_clock clocks.MinuteOffset l) pairs place e prior front rest (b, none) f at =
+      opened_row (of_clock clocks.MinuteOffset l) place e pairs b.3.0 (b.3.1 ++ b.1) front rest prior none (b.2 ∙ rw b.3.2 (simp append_assoc)) b.3.3 (b.3.1, b.1, refl, b.3.4, b.4) f at
+  whole_row (of_offset offset_start) pairs place e prior front rest b f at = absurd b.0
+  whole_row (of_offset after_zulu) pairs place e prior front rest b f at = in_core _ _ pairs b.1 (core_zulu_row (fault []) kind place e prior front rest b.0 f at)
+  whole_row (of_zone identifier_start) pairs place e prior front rest b f at = absurd b
+  whole_row (of_zone zone_name_start) pairs place e prior front rest b f at = absurd b
+  whole_row (of_zone in_zone_name) pairs place e prior front rest (b, none) f at =
+      opened_row (of_zone in_zone_name) place e pairs b.0.0 b.0.1 front rest prior none b.0.2 b.0.3 (b.0.4, b.1) f at
+  whole_row (of_zone after_zone_slash) pairs place e prior front rest (b, none) f at =
+      opened_row (of_zone after_zone_slash) place e pairs b.0.0 b.0.1 front rest prior none b.0.2 b.0.3 (b.0.4, b.1) f at
+  whole_row (of_bracket first_bracket_start) pairs place e prior front rest (b, none) f at = no_pairs _ _ pairs none (inner_row prior b.0 b.1 (of_bracket first_bracket_start) place e [] front rest refl f at)
+  whole_row (of_bracket first_critical_start) pairs place e prior front rest (b, none) f at = no_pairs _ _ pairs none (inner_row prior b.0 b.1 (of_bracket first_critical_start) place e [] front rest refl f at)
+  whole_row (of_bracket first_bracket_scan) pairs place e prior front rest (b, none) f at =
+      opened_row (of_bracket first_bracket_scan) place e pairs b.0 b.1 front rest prior none b.2 b.3 b.4 f at
+  whole_row (of_bracket after_bracket) pairs place e prior front rest b f at = bracketed_row (of_bracket after_bracket) place e pairs prior [] front rest b refl f at
+  whole_row (of_pair key_start) pairs place e prior front rest b f at = bracketed_row (of_pair key_start) place e pairs prior [] front rest b refl f at
+  whole_row (of_pair critical_key_start) pairs place e prior front rest b f at = bracketed_row (of_pair critical_key_start) place e pairs prior [] front rest b refl f at
+  whole_row (of_pair in_key) pairs place e prior front rest b f at = key_row (of_pair in_key) place e pairs prior front rest (λ t o. o) (λ t left o r. (o, r)) b f at
+  whole_row (of_pair value_start) pairs place e prior front rest b f at = key_row (of_pair value_start) place e pairs prior front rest (λ t o. o) (λ t left o r. (o, r)) b f at
+  whole_row (of_pair in_value) pairs place e prior front rest b f at = key_row (of_pair in_value) place e pairs prior front rest (λ t o. o) (λ t left o r. (o, r)) b f at
+  whole_row (of_pair after_value_hyphen) pairs place e prior front rest b f at = key_row (of_pair after_value_hyphen) place e pairs prior front rest (λ t o. o) (λ t left o r. (o, r)) b f at
+
+module _ {E : Type 0} (fault : List Pair → Row → E) where
   -- ---- each reader
 
   -- what is derived is returned, and nothing is left
   pub takes : (reader : Reader) (text : Text) (found : Found) (pairs : List Pair) → Derives reader text found pairs → read_at fault reader text ≡ Ok ((found, pairs), [])
-  takes parse text (parsed found) pairs d = rw (parse_takes text found pairs d) refl
-  takes parse text (shifted offset) pairs d = absurd d
-  takes parse text (identified zone) pairs d = absurd d
-  takes parse text (named name) pairs d = absurd d
+  takes (bracketed kind) text (parsed found) pairs d = rw (whole_takes fault kind text found pairs d) refl
+  takes (bracketed kind) text (shifted offset) pairs d = absurd d
+  takes (bracketed kind) text (identified zone) pairs d = absurd d
+  takes (bracketed kind) text (named name) pairs d = absurd d
   takes parse_offset text (shifted offset) pairs d = rw (offset_takes (fault []) text offset d.0, d.1) refl
   takes parse_offset text (parsed found) pairs d = absurd d
   takes parse_offset text (identified zone) pairs d = absurd d
@@ -192,7 +202,7 @@ module _ {E : Type 0} (fault : List Pair → Row → E) where
 
   -- a row that fits is returned
   pub row_read : (reader : Reader) (text : Text) (row : Row) (pairs : List Pair) → Fits reader row pairs text → read_at fault reader text ≡ Err (fault pairs row)
-  row_read parse text row pairs f = rw (f.2, f.4.2, parse_row row.name pairs row.place row.error f.0 f.4.0 f.4.1 (rw f.4.2 at f.3) f.4.3 f.4.4) refl
-  row_read parse_offset text row pairs f = rw (f.3.1, f.2, f.4.2, offset_reader_rows (fault []) row.name pairs row.place row.error f.0 f.4.0 f.4.1 (rw f.4.2 at f.3) f.4.3 f.4.4) refl
-  row_read parse_identifier text row pairs f = rw (f.3.1, f.2, f.4.2, identifier_rows (fault []) row.name pairs row.place row.error f.0 f.4.0 f.4.1 (rw f.4.2 at f.3) f.4.3 f.4.4) refl
-  row_read parse_iana_identifier text row pairs f = rw (f.3.1, f.2, f.4.2, iana_identifier_rows (fault []) row.name pairs row.place row.error f.0 f.4.0 f.4.1 (rw f.4.2 at f.3) f.4.3 f.4.4) refl
+  row_read (bracketed kind) text row pairs f = rw (f.2, f.4.2, whole_row fault kind row.name pairs row.place row.error f.0 f.4.0 f.4.1 (rw f.4.2 at f.3) f.4.3 f.4.4) refl
+  row_read parse_offset text row pairs f = rw (f.3.1, f.2, f.4.2, offset_reader_rows (fault []) row.name pairs row.place row.error f.0 f.4.0 f.4.1 f.3 f.4.3 f.4.4) refl
+  row_read parse_identifier text row pairs f = rw (f.3.1, f.2, f.4.2, identifier_rows (fault []) row.name pairs row.place row.error f.0 f.4.0 f.4.1 f.3 f.4.3 f.4.4) refl
+  row_read parse_iana_identifier text row pairs f = rw (f.3.1, f.2, f.4.2, iana_identifier_rows (fault []) row.name pairs row.place row.error f.0 f.4.0 f.4.1 f.3 f.4.3 f.4.4) refl

@@ -1,5 +1,5 @@
 -- A zone name is read as far as it goes, and each row of a name's lines is returned.
-use Rattle.std.proofs.Common.{◌≡◌, ℕ, true, false, IsTrue, IsFalse, ◌⊎◌, List, [], ◌∷◌, ◌++◌, map, Ok, Err, refl, sym, ap, ◌∙◌, inl, inr, arith, append_assoc}
+use Rattle.std.proofs.Common.{◌≡◌, ℕ, true, false, IsTrue, IsFalse, ◌⊎◌, List, [], ◌∷◌, ◌++◌, map, Ok, Err, refl, sym, ap, ◌∙◌, inl, inr, arith, append_assoc, Bool}
 use Rattle.std.proofs.lemmas.Bool.{or_parts, and_right, eqb-true}
 use Rattle.ixdtf.specs.language.Letters.{Text}
 use Rattle.ixdtf.specs.language.Letters.Letter.{Plain, Bad}
@@ -8,11 +8,9 @@ use Rattle.ixdtf.specs.language.Shapes.{Joined}
 use Rattle.ixdtf.specs.table.Faults.{Fault}
 use Rattle.ixdtf.specs.table.Faults.Fault.{NonAsciiCodePoint}
 use Rattle.ixdtf.specs.language.ZoneNames.{NameItem, ZoneName}
-use Rattle.ixdtf.specs.language.Readers.{Reader}
-use Rattle.ixdtf.specs.language.Readers.Reader.{parse, parse_offset, parse_identifier, parse_iana_identifier}
 use Rattle.ixdtf.specs.table.LineNames.LineName.{of_zone}
 use Rattle.ixdtf.specs.table.LineNames.ZoneLine.{in_zone_name, after_zone_slash}
-use Rattle.ixdtf.specs.table.Lines.{table, zone_letters, zone_end, zone_other}
+use Rattle.ixdtf.specs.table.Lines.{line_of, zone_letters, zone_end, zone_other}
 use Rattle.ixdtf.specs.table.Lines.Ending.{error}
 use Rattle.ixdtf.specs.table.Rows.{Row, Place, Stops}
 use Rattle.ixdtf.specs.table.Rows.Place.{end, other, bad, anywhere}
@@ -25,11 +23,11 @@ abbrev pub NameEnds : Text → Type 0
 NameEnds rest = NotNext zone_char rest × NotNext slash rest
 
 -- what stands after a whole name where the row of its line fits, but at Bad
-abbrev pub StopsName : Reader → Place → Fault → Text → Type 0
-StopsName reader end e rest = (rest ≡ []) × (zone_end reader ≡ error e)
-StopsName reader other e rest = (c : ℕ) × (more : Text) × (rest ≡ Plain c ∷ more) × IsFalse (zone_letters reader c) × (e ≡ zone_other reader c)
-StopsName reader bad e rest = ⊥
-StopsName reader anywhere e rest = ⊥
+abbrev pub StopsName : Bool → Place → Fault → Text → Type 0
+StopsName brackets end e rest = (rest ≡ []) × (zone_end brackets ≡ error e)
+StopsName brackets other e rest = (c : ℕ) × (more : Text) × (rest ≡ Plain c ∷ more) × IsFalse (zone_letters brackets c) × (e ≡ zone_other brackets c)
+StopsName brackets bad e rest = ⊥
+StopsName brackets anywhere e rest = ⊥
 
 -- a slash does not go on as a letter of a name, and what a name begins with does
 slash_no_char : (c : ℕ) → IsTrue (slash c) → IsFalse (zone_char c)
@@ -38,12 +36,10 @@ slash_no_char c h = rw (eqb-true c 47 h) refl
 pub lead_char : (c : ℕ) → IsTrue (zone_lead c) → IsTrue (zone_char c)
 lead_char c h = rw h refl
 
--- what stops a name in some reader is no letter of it
-no_letter : (reader : Reader) (c : ℕ) → IsFalse (zone_letters reader c) → IsFalse (zone_char c) × IsFalse (slash c)
-no_letter parse c h = let both = or_parts _ _ h in or_parts _ _ both.0
-no_letter parse_offset c h = or_parts _ _ h
-no_letter parse_identifier c h = or_parts _ _ h
-no_letter parse_iana_identifier c h = or_parts _ _ h
+-- what stops a name in some brackets is no letter of it
+no_letter : (brackets : Bool) (c : ℕ) → IsFalse (zone_letters brackets c) → IsFalse (zone_char c) × IsFalse (slash c)
+no_letter true c h = let both = or_parts _ _ h in or_parts _ _ both.0
+no_letter false c h = or_parts _ _ h
 
 pub plain_faithful : (xs ys : List ℕ) → map Plain xs ≡ map Plain ys → xs ≡ ys
 plain_faithful [] [] h = refl
@@ -108,17 +104,17 @@ module _ {E : Type 0} (fault : Row → E) where
   unfolding name_run
   bad_here rest = refl
 
-  module _ (reader : Reader) where
+  module _ (brackets : Bool) where
     -- the row after a name is returned inside it, or what comes next is looked at after it
-    pub name_row : (place : Place) (e : Fault) (front rest : Text) → ZoneName front → Stops (table reader (of_zone in_zone_name)) place e rest
+    pub name_row : (place : Place) (e : Fault) (front rest : Text) → ZoneName front → Stops (line_of brackets (of_zone in_zone_name)) place e rest
         → (name_run fault true (front ++ rest) ≡ Err (fault (row_of (of_zone in_zone_name) place e)))
-        ⊎ ((name : List ℕ) × (name_run fault true (front ++ rest) ≡ Ok (name, rest)) × StopsName reader place e rest)
+        ⊎ ((name : List ℕ) × (name_run fault true (front ++ rest) ≡ Ok (name, rest)) × StopsName brackets place e rest)
     name_row end e front rest h at = let o = over_name front h in inr (o.0, name_takes front o.0 rest h o.1 (rw at.0 (tt, tt)), at)
-    name_row other e front rest h at = let o = over_name front h in inr (o.0, name_takes front o.0 rest h o.1 (rw at.2 (no_letter reader at.0 at.3)), at)
+    name_row other e front rest h at = let o = over_name front h in inr (o.0, name_takes front o.0 rest h o.1 (rw at.2 (no_letter brackets at.0 at.3)), at)
     name_row bad e front rest h at = inl (rw (at.1, at.2) (after_name front (Bad ∷ at.0) _ h (bad_here at.0)))
     name_row anywhere e front rest h at = absurd at
 
-    after_slash : (place : Place) (e : Fault) (rest : Text) → Stops (table reader (of_zone after_zone_slash)) place e rest → name_run fault false rest ≡ Err (fault (row_of (of_zone after_zone_slash) place e))
+    after_slash : (place : Place) (e : Fault) (rest : Text) → Stops (line_of brackets (of_zone after_zone_slash)) place e rest → name_run fault false rest ≡ Err (fault (row_of (of_zone after_zone_slash) place e))
     unfolding name_run
     after_slash end e rest at = rw at.0 (grind (arith, at.1))
     after_slash other e rest at = rw (at.2, at.4) (rw (at.3, and_right (slash at.0) false refl) refl)
@@ -129,5 +125,5 @@ module _ {E : Type 0} (fault : Row → E) where
     unfolding name_run
     over_end c rest e h is = rw (slash_no_char c h, h) (rw is refl)
 
-    pub slash_row : RowsRead fault reader (name_run fault true) (of_zone after_zone_slash)
+    pub slash_row : RowsRead fault brackets (name_run fault true) (of_zone after_zone_slash)
     slash_row place e front rest f at = rw (f.2, f.4.1, append_assoc) (after_name f.0 (Plain f.4.0 ∷ rest) _ f.3 (over_end f.4.0 rest _ f.4.2 (after_slash place e rest at)))

@@ -1,5 +1,6 @@
 -- Forms of the clauses of private functions, and what the code's own types stand for. No public clause cites one.
 use Rattle.std.specs.Prelude.{◌≡◌, ℕ, Bool, IsTrue, IsFalse, ◌+◌, ◌≤◌, map, length, Option, Some, None, Result, Ok, Err, ◌∷◌}
+use Rattle.ixdtf.specs.declared.records.IxdtfParseRecord.{IxdtfParseRecord}
 use Rattle.ixdtf.specs.declared.stop.Stop.{Stop}
 use Rattle.ixdtf.specs.declared.stop.Stop.TheVariants as stops
 use Rattle.ixdtf.specs.declared.parsers.time.Clock.{Clock as CodeClock}
@@ -7,7 +8,6 @@ use Rattle.ixdtf.specs.declared.parsers.time.Clock.TheVariants as code_clocks
 use Rattle.ixdtf.specs.declared.parsers.time.Shape.{Shape as CodeShape}
 use Rattle.ixdtf.specs.declared.parsers.time.Shape.TheVariants as code_shapes
 use Rattle.ixdtf.specs.declared.parsers.time.Clocked.{Clocked}
-use Rattle.ixdtf.specs.declared.parsers.cores.Core.{Core as CodeCore}
 use Rattle.ixdtf.specs.declared.parsers.brackets.Bracket.{Bracket as CodeBracket}
 use Rattle.ixdtf.specs.declared.parsers.brackets.Bracket.TheVariants as brackets
 use Rattle.ixdtf.specs.language.Letters.{Letter, Text, none, closing}
@@ -16,7 +16,7 @@ use Rattle.ixdtf.specs.language.Fractions.{FractionParts, fraction_of}
 use Rattle.ixdtf.specs.language.Times.{Clock, TimeShape}
 use Rattle.ixdtf.specs.language.Times.{Clock as clocks}
 use Rattle.ixdtf.specs.language.Times.{TimeShape as shapes}
-use Rattle.ixdtf.specs.language.Cores.{core_of}
+use Rattle.ixdtf.specs.language.Cores.{Core, core_of}
 use Rattle.ixdtf.specs.table.Faults.{Fault}
 use Rattle.ixdtf.specs.table.Faults.{Fault as faults}
 use Rattle.ixdtf.specs.table.Lines.{always, abrupt_digit, abrupt_date, abrupt_bracket, abrupt_offset, abrupt_zone}
@@ -24,7 +24,6 @@ use Rattle.ixdtf.specs.Views.{Unread, note_of}
 use Rattle.ixdtf.specs.Handlers.{pair_of}
 use Rattle.ixdtf.specs.reading.Looks.{Read, Look, ◌>>=◌, digit_run}
 use Rattle.ixdtf.specs.reading.Times.{OpenTime}
-use Rattle.ixdtf.specs.reading.Cores.{ClosedCore}
 use Rattle.ixdtf.specs.reading.Brackets.{Bracket, zoned, paired}
 
 -- the fault of the error that a stop is
@@ -118,8 +117,13 @@ shape_of code_shapes.Fractions = shapes.fractions
 abbrev pub open_time_of : Clocked → OpenTime
 open_time_of clocked = (shape_of clocked.shape, clocked.time)
 
-abbrev pub closed_core_of : CodeCore → ClosedCore
-closed_core_of core = (core_of core.date core.time core.offset, core.has_bracket)
+-- the core that stands in a record
+abbrev pub core_in : {T U : Type 0} → IxdtfParseRecord T U → Core
+core_in found = core_of found.date found.time found.offset
+
+-- what brackets write in a record is as before
+abbrev pub KeepsBrackets : {T U : Type 0} → IxdtfParseRecord T U → IxdtfParseRecord T U → Type 0
+KeepsBrackets old new = (new.tz ≡ old.tz) × (new.calendar ≡ old.calendar)
 
 abbrev pub bracket_of : {T U : Type 0} → (U → ℕ) → CodeBracket T U → Bracket
 bracket_of number (brackets.Zone annotation) = zoned (note_of number annotation)

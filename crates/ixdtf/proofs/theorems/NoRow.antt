@@ -1,0 +1,152 @@
+-- The errors that no row of the fault table has: those that never come, and those of refused replies.
+use Rattle.std.proofs.Common.{◌≡◌, ℕ, Bool, true, false, ◌||◌, cond, IsFalse, List, refl, sym, ap, ◌∙◌, ◌≢◌}
+use Rattle.ixdtf.specs.language.Letters.{Text}
+use Rattle.ixdtf.specs.language.Letters.{hyphen, colon, digit, closing}
+use Rattle.ixdtf.specs.language.Times.{Clock}
+use Rattle.ixdtf.specs.language.Times.{Clock as clocks}
+use Rattle.ixdtf.specs.table.Faults.{Fault, never_comes}
+use Rattle.ixdtf.specs.table.Faults.Fault.{UnrecognizedCritical, CriticalDuplicateCalendar, DateSeparator, DateDay, InvalidEnd, IanaChar}
+use Rattle.ixdtf.specs.language.Brackets.{Pair}
+use Rattle.ixdtf.specs.language.Readers.{Reader, has_brackets}
+use Rattle.ixdtf.specs.table.LineNames.{LineName}
+use Rattle.ixdtf.specs.table.LineNames.DateLine.{year_start, year_digits, extended_year_digits, minus_zero_year, after_year, month_digits, month_range, after_hyphened_month, after_plain_month, day_digits, day_range, after_date}
+use Rattle.ixdtf.specs.table.LineNames.ClockLine.{hour_start, hour_digit, hour_range, after_hour, minute_digits, minute_range, after_plain_minute, after_colon_minute, second_digits, second_range, after_second, fraction_start, after_fraction}
+use Rattle.ixdtf.specs.table.LineNames.OffsetLine.{offset_start, after_zulu}
+use Rattle.ixdtf.specs.table.LineNames.ZoneLine.{identifier_start, zone_name_start, in_zone_name, after_zone_slash}
+use Rattle.ixdtf.specs.table.LineNames.BracketLine.{first_bracket_start, first_critical_start, first_bracket_scan, after_bracket}
+use Rattle.ixdtf.specs.table.LineNames.PairLine.{key_start, critical_key_start, in_key, value_start, in_value, after_value_hyphen}
+use Rattle.ixdtf.specs.table.LineNames.{of_date}
+use Rattle.ixdtf.specs.table.LineNames.LineName.{of_clock, of_offset, of_zone, of_bracket, of_pair}
+use Rattle.ixdtf.specs.table.Lines.{Line, Ending, Follow, follow_of, mixed, second_fault, zone_line, line_of, table}
+use Rattle.ixdtf.specs.table.Lines.Line.{line, scanned, whole}
+use Rattle.ixdtf.specs.table.Lines.Ending.{ok, error}
+use Rattle.ixdtf.specs.table.Rows.{Place, Stops}
+use Rattle.ixdtf.specs.table.Rows.Place.{end, other, bad, anywhere}
+use Rattle.ixdtf.specs.table.Outcomes.{HasFault}
+use Rattle.std.proofs.lemmas.Bool.{or_parts}
+
+-- the errors of refused replies
+abbrev refuses : Fault → Bool
+refuses UnrecognizedCritical = true
+refuses CriticalDuplicateCalendar = true
+refuses fault = false
+
+abbrev no_row : Fault → Bool
+no_row fault = never_comes fault || refuses fault
+
+abbrev EndHas : Ending → Type 0
+EndHas ok = Unit {0}
+EndHas (error fault) = IsFalse (no_row fault)
+
+-- each error of the line is one that a row may have
+abbrev LineHas : Line → Type 0
+LineHas (line front goes_on at_end at_other) = EndHas at_end × ((c : ℕ) → IsFalse (no_row (at_other c)))
+LineHas (scanned front fault) = IsFalse (no_row fault)
+LineHas (whole front fault) = IsFalse (no_row fault)
+
+either_has : (b : Bool) (x y : Fault) → IsFalse (no_row x) → IsFalse (no_row y) → IsFalse (no_row (cond b x y))
+either_has true x y p q = p
+either_has false x y p q = q
+
+-- each error of what may follow is one that a row may have
+abbrev FollowHas : Follow → Type 0
+FollowHas follow = EndHas follow.at_end × IsFalse (no_row follow.at_other)
+
+follow_has : (brackets : Bool) (clock : Clock) → FollowHas (follow_of brackets clock)
+follow_has true clocks.Time = (tt, refl)
+follow_has true clocks.Offset = (tt, refl)
+follow_has true clocks.MinuteOffset = (refl, refl)
+follow_has false clock = (tt, refl)
+
+mixed_has : (clock : Clock) → IsFalse (no_row (mixed clock))
+mixed_has clocks.Time = refl
+mixed_has clocks.Offset = refl
+mixed_has clocks.MinuteOffset = refl
+
+second_has : (clock : Clock) → IsFalse (no_row (second_fault clock))
+second_has clocks.Time = refl
+second_has clocks.Offset = refl
+second_has clocks.MinuteOffset = refl
+
+zone_has : (brackets : Bool) → LineHas (zone_line brackets in_zone_name)
+zone_has true = (refl, λ c. refl)
+zone_has false = (tt, λ c. either_has (closing c) InvalidEnd IanaChar refl refl)
+
+line_has : (brackets : Bool) (name : LineName) → LineHas (line_of brackets name)
+line_has brackets (of_date year_start) = (refl, λ c. refl)
+line_has brackets (of_date year_digits) = (refl, λ c. refl)
+line_has brackets (of_date extended_year_digits) = (refl, λ c. refl)
+line_has brackets (of_date minus_zero_year) = refl
+line_has brackets (of_date after_year) = (refl, λ c. refl)
+line_has brackets (of_date month_digits) = (refl, λ c. refl)
+line_has brackets (of_date month_range) = refl
+line_has brackets (of_date after_hyphened_month) = (refl, λ c. refl)
+line_has brackets (of_date after_plain_month) = (refl, λ c. either_has (hyphen c) DateSeparator DateDay refl refl)
+line_has brackets (of_date day_digits) = (refl, λ c. refl)
+line_has brackets (of_date day_range) = refl
+line_has brackets (of_date after_date) = (tt, λ c. refl)
+line_has brackets (of_clock clock hour_start) = (refl, λ c. refl)
+line_has brackets (of_clock clock hour_digit) = (refl, λ c. refl)
+line_has brackets (of_clock clock hour_range) = refl
+line_has brackets (of_clock clock after_hour) = let f = follow_has brackets clock in (f.0, λ c. f.1)
+line_has brackets (of_clock clock minute_digits) = (refl, λ c. refl)
+line_has brackets (of_clock clock minute_range) = refl
+line_has brackets (of_clock clock after_plain_minute) = let f = follow_has brackets clock in (f.0, λ c. either_has (colon c || digit c) (mixed clock) (follow_of brackets clock).at_other (mixed_has clock) f.1)
+line_has brackets (of_clock clock after_colon_minute) = let f = follow_has brackets clock in (f.0, λ c. either_has (colon c || digit c) (mixed clock) (follow_of brackets clock).at_other (mixed_has clock) f.1)
+line_has brackets (of_clock clock second_digits) = (refl, λ c. second_has clock)
+line_has brackets (of_clock clock second_range) = second_has clock
+line_has brackets (of_clock clock after_second) = let f = follow_has brackets clock in (f.0, λ c. f.1)
+line_has brackets (of_clock clock fraction_start) = (refl, λ c. refl)
+line_has brackets (of_clock clock after_fraction) = let f = follow_has brackets clock in (f.0, λ c. f.1)
+line_has brackets (of_offset offset_start) = (refl, λ c. refl)
+line_has brackets (of_offset after_zulu) = (tt, λ c. refl)
+line_has brackets (of_zone identifier_start) = (refl, λ c. refl)
+line_has brackets (of_zone zone_name_start) = (refl, λ c. refl)
+line_has brackets (of_zone in_zone_name) = zone_has brackets
+line_has brackets (of_zone after_zone_slash) = (refl, λ c. refl)
+line_has brackets (of_bracket first_bracket_start) = (refl, λ c. refl)
+line_has brackets (of_bracket first_critical_start) = (refl, λ c. refl)
+line_has brackets (of_bracket first_bracket_scan) = refl
+line_has brackets (of_bracket after_bracket) = (tt, λ c. refl)
+line_has brackets (of_pair key_start) = (refl, λ c. refl)
+line_has brackets (of_pair critical_key_start) = (refl, λ c. refl)
+line_has brackets (of_pair in_key) = (refl, λ c. refl)
+line_has brackets (of_pair value_start) = (refl, λ c. refl)
+line_has brackets (of_pair in_value) = (refl, λ c. refl)
+line_has brackets (of_pair after_value_hyphen) = (refl, λ c. refl)
+
+end_has : (at_end : Ending) (fault : Fault) → EndHas at_end → at_end ≡ error fault → IsFalse (no_row fault)
+end_has ok fault has is = absurd cc
+end_has (error e) fault has is = let same : e ≡ fault = cc in ap no_row (sym same) ∙ has
+
+stop_has : (l : Line) (place : Place) (fault : Fault) (rest : Text) → LineHas l → Stops l place fault rest → IsFalse (no_row fault)
+stop_has (line front goes_on at_end at_other) end fault rest has h = end_has at_end fault has.0 h.1
+stop_has (line front goes_on at_end at_other) other fault rest has h = ap no_row h.4 ∙ has.1 h.0
+stop_has (line front goes_on at_end at_other) bad fault rest has h = ap no_row h.2
+stop_has (line front goes_on at_end at_other) anywhere fault rest has h = absurd h
+stop_has (scanned front e) end fault rest has h = ap no_row h.1 ∙ has
+stop_has (scanned front e) other fault rest has h = absurd h
+stop_has (scanned front e) bad fault rest has h = ap no_row h.2
+stop_has (scanned front e) anywhere fault rest has h = absurd h
+stop_has (whole front e) end fault rest has h = absurd h
+stop_has (whole front e) other fault rest has h = absurd h
+stop_has (whole front e) bad fault rest has h = absurd h
+stop_has (whole front e) anywhere fault rest has h = ap no_row h ∙ has
+
+row_has : (reader : Reader) (text : Text) (pairs : List Pair) (fault : Fault) → HasFault reader text pairs fault → IsFalse (no_row fault)
+row_has reader text pairs fault h =
+    let row = h.0 in
+    let here = h.1.4 in
+    ap no_row (sym h.2) ∙ stop_has (table reader row.name) row.place row.error here.1 (line_has (has_brackets reader) row.name) here.4
+
+-- a fault that a text has is one that comes
+pub fault_comes : (reader : Reader) (text : Text) (pairs : List Pair) (fault : Fault) → HasFault reader text pairs fault → IsFalse (never_comes fault)
+fault_comes reader text pairs fault h = (or_parts _ _ (row_has reader text pairs fault h)).0
+
+-- a fault that a text has is no refusal of a reply
+pub row_is_no_refusal : (reader : Reader) (text : Text) (pairs : List Pair) (fault : Fault) → HasFault reader text pairs fault → (fault ≢ UnrecognizedCritical) × (fault ≢ CriticalDuplicateCalendar)
+row_is_no_refusal reader text pairs fault h =
+    let known = (or_parts _ _ (row_has reader text pairs fault h)).1 in (
+      (λ is. let wrong : true ≡ false = sym (ap refuses is) ∙ known in absurd cc),
+      λ is. let wrong : true ≡ false = sym (ap refuses is) ∙ known in absurd cc,
+    )
