@@ -85,7 +85,7 @@ impl EncodingType for Utf8 {
     }
 
     fn check_calendar_key(key: &[u8]) -> bool {
-        key == "u-ca".as_bytes()
+        matches!(key, [b'u', b'-', b'c', b'a'])
     }
 
     ghost faithful = { byte_letter-faithful };

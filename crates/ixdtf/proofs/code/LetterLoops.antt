@@ -34,12 +34,6 @@ first_is letter faithful (u ∷ more) c e = go (letter u) refl e
         (more, ap (λ (m : ℕ). m ∷ more) (sym (faithful u c (is ∙ ap (λ (m : ℕ). Plain m) same))), ap (λ (l : Letter). l ∷ map letter more) (is ∙ ap (λ (m : ℕ). Plain m) same))
     go Bad is e = absurd cc
 
--- a step shortens the units where a look found a letter
-pub shrinks : (letter : ℕ → Letter) (rest next : List ℕ) (c : ℕ) → look_at NonAsciiCodePoint (map letter rest) ≡ Ok (Some c) → next ≡ drop 1 rest → length next + 1 ≡ length rest
-unfolding look_at
-shrinks letter [] next c e moved = absurd cc
-shrinks letter (u ∷ us) next c e moved = omega (arith, ap (λ (t : List ℕ). length t) moved)
-
 module _ {S : Type 0} (after : S → ℕ → Option S) where
   abbrev run : S → Text → Read Fault (Taken S)
   run state text = letters_by after state text

@@ -277,19 +277,19 @@ fn has_same_units<T: EncodingType>(left: &[T::CodeUnit], right: &[T::CodeUnit]) 
     left == right
 }
 
-/// The calendar that is kept after an answer: the first one. An answer that is critical and no calendar is
+/// The calendar that is kept after a reply: the first one. A reply that is critical and no calendar is
 /// `UnrecognizedCritical`, and a calendar with another value than the first is `CriticalDuplicateCalendar` where one of
 /// the two is critical.
 #[inline(always)]
 fn keep_first_calendar<'a, T: EncodingType>(
     calendar: Option<Annotation<'a, T>>,
-    answer: Option<Annotation<'a, T>>,
+    reply: Option<Annotation<'a, T>>,
 ) -> Result<Option<Annotation<'a, T>>, Stop>
-    ensures accepted { IfOk result (λ next. (fault : Fault) → ¬ (RefusedBeside (option_map (pair_of T.number) calendar.entry) (option_map (pair_of T.number) answer.entry) fault)) }
-    ensures kept { IfOk result (λ next. option_map (pair_of T.number) next ≡ option_or (option_map (pair_of T.number) calendar.entry) (first_calendar (option_map (pair_of T.number) answer.entry ∷ []))) }
-    ensures err { IfErr result (λ e. RefusedBeside (option_map (pair_of T.number) calendar.entry) (option_map (pair_of T.number) answer.entry) (fault_of_stop e)) }
+    ensures accepted { IfOk result (λ next. (fault : Fault) → ¬ (RefusedBeside (option_map (pair_of T.number) calendar.entry) (option_map (pair_of T.number) reply.entry) fault)) }
+    ensures kept { IfOk result (λ next. option_map (pair_of T.number) next ≡ option_or (option_map (pair_of T.number) calendar.entry) (first_calendar (option_map (pair_of T.number) reply.entry ∷ []))) }
+    ensures err { IfErr result (λ e. RefusedBeside (option_map (pair_of T.number) calendar.entry) (option_map (pair_of T.number) reply.entry) (fault_of_stop e)) }
 {
-    let Some(found) = answer else {
+    let Some(found) = reply else {
         return Ok(calendar);
     };
     if !T::check_calendar_key(found.key) {
@@ -327,12 +327,12 @@ where
 {
     let mut calendar = None;
     if let Some(annotation) = first {
-        let answer = ask::<T, F>(handler, annotation);
-        calendar = keep_first_calendar::<T>(None, answer)?;
+        let reply = ask::<T, F>(handler, annotation);
+        calendar = keep_first_calendar::<T>(None, reply)?;
     }
     while let Some(annotation) = next_annotation(cursor)? {
-        let answer = ask::<T, F>(handler, annotation);
-        calendar = keep_first_calendar::<T>(calendar, answer)?;
+        let reply = ask::<T, F>(handler, annotation);
+        calendar = keep_first_calendar::<T>(calendar, reply)?;
     }
     Ok(calendar)
 }

@@ -2,7 +2,8 @@ use Rattle.std.proofs.Common.{◌≡◌, ℕ, List, map, drop, Option, Some, Non
 use Rattle.std.proofs.lemmas.Result.{err_from_is_err_and}
 use Rattle.ixdtf.specs.table.Faults.Fault.{NonAsciiCodePoint}
 use Rattle.ixdtf.specs.reading.Looks.{look_at}
-use Rattle.ixdtf.proofs.code.LetterLoops.{begins, goes_on, stays, ends, fails, shrinks, front_is}
+use Rattle.ixdtf.proofs.code.FractionLoop.{shrinks}
+use Rattle.ixdtf.proofs.code.LetterLoops.{begins, goes_on, stays, ends, fails, front_is}
 use Rattle.ixdtf.proofs.parsers.letters.take_letters.Goals as goal
 use Rattle.ixdtf.proofs.parsers.letters.take_letters.Goals.{in-Err, in-Ok-None, in-Ok-Some+in-None}
 
