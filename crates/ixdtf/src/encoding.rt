@@ -136,10 +136,10 @@ mod tests {
             ("u-ca-", false),
             ("", false),
         ];
-        for (key, answer) in rows {
+        for (key, is_calendar) in rows {
             assert_eq!(rt;
                 Utf8::check_calendar_key(key.as_bytes()),
-                answer,
+                is_calendar,
                 "at {key}"
             );
         }

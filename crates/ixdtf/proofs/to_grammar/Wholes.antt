@@ -106,14 +106,13 @@ module _ {E : Type 0} (fault : List Pair → Row → E) (kind : CoreKind) where
     where
       go : (r : Read E (List Pair)) → OnPairs fault (pairs_in bracket) rest r → OnBracketed text (r >>= λ pairs. Ok ((parsed_with core (zone_in bracket), pairs.0), pairs.1))
       go (Ok x) h = (h.0, record { cores = cores; brackets = first ++ rest; core = core; zone = zone_in bracket; is = is; is_core = is_core; is_tail = rw h.2 (tail_of bracket first rest h.1 b h.3); has = refl })
-      go (Err e) h =
-          (
-            pairs_in bracket ++ h.0,
-            h.3,
-            h.4,
-            after_brackets kind h.3 (pairs_in bracket ++ h.0) text (cores ++ (first ++ h.2.0)) h.1 (is ∙ rw h.2.1 (simp append_assoc))
-                (cores, first ++ h.2.0, refl, (core, is_core), zone_in bracket, tail_of bracket first h.2.0 h.0 b h.2.2, bracket_stands first h.2.0 bracket b) h.5,
-          )
+      go (Err e) h = (
+        pairs_in bracket ++ h.0,
+        h.3,
+        h.4,
+        after_brackets kind h.3 (pairs_in bracket ++ h.0) text (cores ++ (first ++ h.2.0)) h.1 (is ∙ rw h.2.1 (simp append_assoc))
+            (cores, first ++ h.2.0, refl, (core, is_core), zone_in bracket, tail_of bracket first h.2.0 h.0 b h.2.2, bracket_stands first h.2.0 bracket b) h.5,
+      )
 
   -- after a core and `[`
   annotated_read : (text cores inner : Text) (core : Core) → text ≡ cores ++ (Plain 91 ∷ inner) → IsCore kind cores core → OnBracketed text (annotated_at fault core inner)

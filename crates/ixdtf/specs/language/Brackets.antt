@@ -46,7 +46,6 @@ FirstIs class = many (one passed) then one class then anything
 abbrev pub ReadsAsName : Shape
 ReadsAsName = (one zone_only_lead then anything) either (one key_lead then FirstIs closing)
 
-
 -- an annotation, with its key and its value by the numbers of their units
 pub record Pair : Type 0 where
   pub critical : Bool

@@ -18,7 +18,6 @@ byte_letter n = Plain n
 pub byte_letter-faithful : (unit n : ℕ) → byte_letter unit ≡ Plain n → n ≡ unit
 byte_letter-faithful unit n is = cc
 
-
 abbrev pub Class : Type 0
 Class = ℕ → Bool
 

@@ -88,9 +88,11 @@ impl<'a, T: EncodingType> TimeZoneParser<'a, T> {
     /// - `NonAsciiCodePoint` at a unit that stands for no letter, which no 8-bit unit does.
     pub fn parse_identifier(&mut self) -> ParserResult<TimeZoneRecord<'a, T>>
         // `Ok` exactly where the language derives the zone.
-        ensures ok { (zone : Zone) → (returned (zone_of T.number) result ≡ Ok zone) ↔ Derives parse_identifier (map T.letter self.old.rest) (identified zone) [] }
+        ensures ok { (zone : Zone) → (returned (zone_of T.number) result ≡ Ok zone) ↔
+            Derives parse_identifier (map T.letter self.old.rest) (identified zone) [] }
         // `Err` only where a row of the fault table with this error fits.
-        ensures err { IfErr result (λ e. HasFault parse_identifier (map T.letter self.old.rest) [] (fault_of e)) }
+        ensures err { IfErr result
+            (λ e. HasFault parse_identifier (map T.letter self.old.rest) [] (fault_of e)) }
 
         // None of the errors that no reader gives.
         ensures comes { IfErr result (λ e. IsFalse (never_comes (fault_of e))) }
@@ -141,9 +143,11 @@ impl<'a, T: EncodingType> TimeZoneParser<'a, T> {
     /// - `NonAsciiCodePoint` at a unit that stands for no letter, which no 8-bit unit does.
     pub fn parse_offset(&mut self) -> ParserResult<UtcOffsetRecord>
         // `Ok` exactly where the language derives the offset.
-        ensures ok { (offset : UtcOffsetRecord) → (returned (λ offset. offset) result ≡ Ok offset) ↔ Derives parse_offset (map T.letter self.old.rest) (shifted offset) [] }
+        ensures ok { (offset : UtcOffsetRecord) → (returned (λ offset. offset) result ≡ Ok offset) ↔
+            Derives parse_offset (map T.letter self.old.rest) (shifted offset) [] }
         // `Err` only where a row of the fault table with this error fits.
-        ensures err { IfErr result (λ e. HasFault parse_offset (map T.letter self.old.rest) [] (fault_of e)) }
+        ensures err { IfErr result
+            (λ e. HasFault parse_offset (map T.letter self.old.rest) [] (fault_of e)) }
 
         // None of the errors that no reader gives.
         ensures comes { IfErr result (λ e. IsFalse (never_comes (fault_of e))) }
@@ -186,9 +190,11 @@ impl<'a, T: EncodingType> TimeZoneParser<'a, T> {
     /// - `NonAsciiCodePoint` at a unit that stands for no letter, which no 8-bit unit does.
     pub fn parse_iana_identifier(&mut self) -> ParserResult<&'a [T::CodeUnit]>
         // `Ok` exactly where the language derives the name.
-        ensures ok { (name : List ℕ) → (returned (λ units. map T.number units.now) result ≡ Ok name) ↔ Derives parse_iana_identifier (map T.letter self.old.rest) (named name) [] }
+        ensures ok { (name : List ℕ) → (returned (λ units. map T.number units.now) result ≡ Ok name) ↔
+            Derives parse_iana_identifier (map T.letter self.old.rest) (named name) [] }
         // `Err` only where a row of the fault table with this error fits.
-        ensures err { IfErr result (λ e. HasFault parse_iana_identifier (map T.letter self.old.rest) [] (fault_of e)) }
+        ensures err { IfErr result
+            (λ e. HasFault parse_iana_identifier (map T.letter self.old.rest) [] (fault_of e)) }
 
         // None of the errors that no reader gives.
         ensures comes { IfErr result (λ e. IsFalse (never_comes (fault_of e))) }
