@@ -1,6 +1,6 @@
 -- Pieces in turn.
 use Rattle.ixdtf_lines.proofs.OutputLemmas.{Puts-next, Puts-piece}
-use Rattle.ixdtf_lines.proofs.waiting.Waiting.put_all.Goals as goal
+use Rattle.ixdtf_lines.proofs.output.Output.put_all.Goals as goal
 
 pub returns-in_err-put : goal.returns-in_err-put
 returns-in_err-put g c =
