@@ -7,7 +7,8 @@ use Rattle.ixdtf.specs.table.Faults.{Fault}
 use Rattle.ixdtf.specs.language.Languages.{Found}
 use Rattle.ixdtf.specs.language.Readers.{Reader}
 use Rattle.ixdtf_lines.specs.Answer.{line_limit, too_long, unknown_reader, is_space, letters, ok_answer_of, error_answer_of, Gives, Refuses, IsAnswer, IsReaderAnswer, IsOutcome}
-use Rattle.ixdtf_lines.specs.Word.{word_named, reader_of}
+use Rattle.ixdtf_lines.specs.Word.{name_of, reader_of, IsNoWord}
+use Rattle.ixdtf_lines.specs.declared.word.Word.{Word}
 
 -- the answer, with the two tests as variables
 abbrev IsAnswerBy : List ℕ → List ℕ → Bool → Option ℕ → Type 0
@@ -32,9 +33,11 @@ IsAnswer-word line answer place short at is =
     (subst (λ o. MatchOption o (answer ≡ unknown_reader) (λ p. IsReaderAnswer (take p line) (drop (p + 1) line) answer)) at
     (subst (λ t. IsReaderAnswer (take place line) t answer) all is))
 
-pub IsReaderAnswer-unknown : (name text : List ℕ) → None ≡ word_named name → IsReaderAnswer name text unknown_reader
-IsReaderAnswer-unknown name text none =
-    subst (λ o. MatchOption o (unknown_reader ≡ unknown_reader) (λ word. IsOutcome (reader_of word) text unknown_reader)) none refl
+pub IsReaderAnswer-unknown : (name text : List ℕ) → IsNoWord name → IsReaderAnswer name text unknown_reader
+IsReaderAnswer-unknown name text none = inr (none, refl)
+
+pub IsReaderAnswer-word : (name text answer : List ℕ) (word : Word) → name ≡ name_of word → IsOutcome (reader_of word) text answer → IsReaderAnswer name text answer
+IsReaderAnswer-word name text answer word is outcome = inl (word, is, outcome)
 
 -- what a reader has to read, which is the text, gives it the value
 pub Gives-text : (reader : Reader) (text rest : List ℕ) (found : Found) → rest ≡ text → Gives reader (letters rest) found → Gives reader (letters text) found

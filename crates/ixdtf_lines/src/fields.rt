@@ -72,8 +72,9 @@ impl<W: Write> Output<'_, W> {
         let Some(time) = time else {
             return Ok(());
         };
+        let fraction = time.fraction;
         self.put_clock(time)?;
-        self.put_fraction(time.fraction)
+        self.put_fraction(fraction)
     }
 
     /// Puts the hour, minute and second.
@@ -151,9 +152,11 @@ impl<W: Write> Output<'_, W> {
     fn put_full_offset(&mut self, offset: FullPrecisionOffset) -> Result<(), RunError>
         ensures { Puts W.contents self.old self.new result (full_offset_text_of offset) }
     {
+        let second = offset.second;
+        let fraction = offset.fraction;
         self.put_minute_offset(offset.minute_precision_offset)?;
-        self.put_second(offset.second)?;
-        self.put_fraction(offset.fraction)
+        self.put_second(second)?;
+        self.put_fraction(fraction)
     }
 
     /// Puts the seconds of an offset.
@@ -187,8 +190,19 @@ impl<W: Write> Output<'_, W> {
         ensures { Puts W.contents self.old self.new result
             (zone_text_of critical (zone_of (λ byte. byte) zone.now)) }
     {
-        self.put(zone_label(critical))?;
+        self.put_zone_label(critical)?;
         self.put_name_or_offset(zone)
+    }
+
+    /// Puts what stands before a zone.
+    fn put_zone_label(&mut self, critical: bool) -> Result<(), RunError>
+        ensures { Puts W.contents self.old self.new result (zone_label_of critical) }
+    {
+        if critical {
+            self.put(b" tz=!")
+        } else {
+            self.put(b" tz=")
+        }
     }
 
     /// Puts the bytes of a name, or the numbers of an offset.
@@ -221,16 +235,5 @@ fn mark_of(sign: Sign) -> &'static [u8]
     match sign {
         Sign::Negative => b"-".as_slice(),
         Sign::Positive => b"+".as_slice(),
-    }
-}
-
-/// What stands before a zone.
-fn zone_label(critical: bool) -> &'static [u8]
-    ensures { result.now ≡ zone_label_of critical }
-{
-    if critical {
-        b" tz=!".as_slice()
-    } else {
-        b" tz=".as_slice()
     }
 }

@@ -3,11 +3,11 @@ use Rattle.std.proofs.lemmas.Result.{err_from_is_err_and}
 use Rattle.ixdtf_lines.proofs.Progress.{Stands-rests, Rests-handed}
 use Rattle.ixdtf_lines.proofs.runner.answer_bytes.Goals as goal
 
-pub returns-in_err-take_bytes : goal.returns-in_err-take_bytes
-returns-in_err-take_bytes g c = λ start read rests.
+pub returns-in_err-take_bytes-clause-answers : goal.returns-in_err-take_bytes-clause-answers
+returns-in_err-take_bytes-clause-answers g c = λ start read rests.
     let p = err_from_is_err_and c.from_residual.result c.from_residual.ensures.1 in
-    rw (p.1, p.2) (c.in_err-take_bytes.ensures start read (Stands-rests rests))
+    rw (p.1, p.2) (c.in_err-take_bytes.ensures.answers start read (Stands-rests rests))
 
-pub returns : goal.returns
-returns g c = λ start read rests.
-    Rests-handed (c.in_ok-take_bytes.ensures start read (Stands-rests rests)) c.hand_on.ensures.empty c.hand_on.ensures.written
+pub returns-clause-answers : goal.returns-clause-answers
+returns-clause-answers g c = λ start read rests.
+    Rests-handed (c.in_ok-take_bytes.ensures.answers start read (Stands-rests rests)) c.hand_on.ensures.empty c.hand_on.ensures.puts
