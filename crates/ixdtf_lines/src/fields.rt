@@ -182,11 +182,7 @@ impl<W: Write> Output<'_, W> {
     }
 
     /// Puts the field of a zone, which may be critical.
-    fn put_zone(
-        &mut self,
-        critical: bool,
-        zone: &TimeZoneRecord<'_, Utf8>,
-    ) -> Result<(), RunError>
+    fn put_zone(&mut self, critical: bool, zone: &TimeZoneRecord<'_, Utf8>) -> Result<(), RunError>
         ensures { Puts W.contents self.old self.new result
             (zone_text_of critical (zone_of (λ byte. byte) zone.now)) }
     {

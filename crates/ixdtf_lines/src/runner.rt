@@ -36,10 +36,7 @@ pub fn run<R: Read, W: Write>(reader: &mut R, writer: &mut W) -> Result<(), RunE
 }
 
 /// Answers each line of the reader on an output where no byte waits.
-fn answer_all<R: Read, W: Write>(
-    reader: &mut R,
-    output: &mut Output<'_, W>,
-) -> Result<(), RunError>
+fn answer_all<R: Read, W: Write>(reader: &mut R, output: &mut Output<'_, W>) -> Result<(), RunError>
     requires { output.old.waiting ≡ [] }
     ensures same { output.new.writer.ghost_name ≡ output.old.writer.ghost_name }
     ensures runs { Runs (R.remaining reader.old) (R.remaining reader.new)
