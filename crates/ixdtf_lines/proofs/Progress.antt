@@ -13,21 +13,15 @@ use Rattle.ixdtf_lines.specs.Lines.{newline, ended_lines_of, unended_of, last_li
 use Rattle.ixdtf_lines.specs.Output.{AppendsFront, Sent, written, Puts}
 use Rattle.ixdtf_lines.specs.Progress.{TakesAnswers, Stands, Rests, Fails}
 use Rattle.ixdtf_lines.specs.Run.{AreAnswers, WritesAnswers, WritesFront}
+use Rattle.ixdtf_lines.proofs.EachLine.{all_answers, AreAnswers-append}
 use Rattle.ixdtf_lines.proofs.LinesLemmas.{split_of-newline, split_of-byte, ended_lines_of-append}
 use Rattle.ixdtf_lines.proofs.OutputLemmas.{Sent-trans, Sent-front, Sent-all, Sent-written}
 
 -- one more line, and its answer
 AreAnswers-more : (lines : List (List ℕ)) (written line answer : List ℕ) → AreAnswers lines written → IsAnswer line answer
     → AreAnswers (lines ++ line ∷ []) (written ++ (answer ++ newline ∷ []))
-AreAnswers-more [] written line answer none is =
-    (answer, [], is, ap (λ (t : List ℕ). t ++ (answer ++ newline ∷ [])) none, refl)
-AreAnswers-more (first ∷ lines) written line answer (a, others, first_is, whole, rest) is = (
-  a,
-  others ++ (answer ++ newline ∷ []),
-  first_is,
-  ap (λ (t : List ℕ). t ++ (answer ++ newline ∷ [])) whole ∙ append_assoc a (newline ∷ others) _,
-  AreAnswers-more lines others line answer rest is,
-)
+AreAnswers-more lines written line answer are is =
+    AreAnswers-append lines (line ∷ []) written (answer ++ newline ∷ []) are (answer, [], is, refl, refl)
 
 -- the answer to one more line was taken
 TakesAnswers-more : {start old new : Option (List ℕ)} {before after : List ℕ} {lines : List (List ℕ)} (line answer : List ℕ)
@@ -43,9 +37,6 @@ TakesAnswers-more {lines = lines} line answer p is sent = record {
 WritesFront-of : {start now : Option (List ℕ)} {lines : List (List ℕ)} {taken : List ℕ} → AreAnswers lines taken → AppendsFront start now taken
     → WritesFront start now lines
 WritesFront-of {lines = lines} are p = record {
-  first = lines;
-  others = [];
-  whole = sym (append-nil lines);
   written = p.front;
   rest = p.rest;
   answers = subst (AreAnswers lines) p.whole are;
@@ -61,15 +52,14 @@ WritesFront-more {lines = lines} line answer p is front =
 
 -- a front of the answers to the first lines is a front of the answers to them all
 pub WritesFront-append : (start now : Option (List ℕ)) (lines others : List (List ℕ)) → WritesFront start now lines → WritesFront start now (lines ++ others)
-WritesFront-append start now lines others p = record {
-  first = p.first;
-  others = p.others ++ others;
-  written = p.written;
-  rest = p.rest;
-  answers = p.answers;
-  appended = p.appended;
-  whole = ap (λ (t : List (List ℕ)). t ++ others) p.whole ∙ append_assoc p.first p.others others;
-}
+WritesFront-append start now lines others p =
+    let (bytes, answers) = all_answers others in
+    record {
+      written = p.written;
+      rest = p.rest ++ bytes;
+      answers = subst (AreAnswers (lines ++ others)) (append_assoc p.written p.rest bytes) (AreAnswers-append lines others (p.written ++ p.rest) bytes p.answers answers);
+      appended = p.appended;
+    }
 
 -- the same for the lines that ended in what was read
 pub WritesFront-read : (start now : Option (List ℕ)) (read more : List ℕ) → WritesFront start now (ended_lines_of read)
