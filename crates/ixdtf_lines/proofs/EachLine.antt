@@ -1,13 +1,13 @@
 -- Each line has an answer.
-use Rattle.std.proofs.Common.{◌≡◌, ◌≢◌, ◌⊎◌, ℕ, ◌+◌, Bool, true, false, List, [], ◌∷◌, ◌++◌, map, length, take, drop, Option, Some, None, MatchOption, IsTrue, codes, position, refl, sym, ap, subst, ◌∙◌, inl, inr, append_assoc, nat_lt, true≢false}
+use Rattle.std.proofs.Common.{◌≡◌, ◌≢◌, ◌⊎◌, ℕ, ◌+◌, Bool, true, false, List, [], ◌∷◌, ◌++◌, length, take, drop, Option, Some, None, MatchOption, IsTrue, codes, position, refl, sym, ap, subst, ◌∙◌, inl, inr, append_assoc, nat_lt, true≢false}
 use Rattle.std.proofs.lemmas.List.{append-nil, map-append}
 use Rattle.std.proofs.lemmas.Slice.Eq.{bytes_eq-Decides}
 use Rattle.std.specs.Bool.{MatchBool}
 use Rattle.std.specs.Str.{bytes_eq}
-use Rattle.ixdtf.specs.Handlers.{Reply, first_calendar, calendar_value, with_calendar, own_replies, RefusedBeside, IsRefused, NoneRefused, LastRefused, HasFront, PlainRecord, PlainFault}
+use Rattle.ixdtf.specs.Handlers.{first_calendar, calendar_value, with_calendar, own_replies, RefusedBeside, NoneRefused, LastRefused, HasFront}
 use Rattle.ixdtf.specs.language.Brackets.{Pair, ZoneNote, ArePairs, IsTail}
 use Rattle.ixdtf.specs.language.Cores.{Core, IsDateTimeCore}
-use Rattle.ixdtf.specs.language.Languages.{Parsed, parsed_with, Found, Derives}
+use Rattle.ixdtf.specs.language.Languages.{parsed_with, Found}
 use Rattle.ixdtf.specs.language.Languages.Found.{parsed, shifted, identified, named}
 use Rattle.ixdtf.specs.language.Letters.{Text}
 use Rattle.ixdtf.specs.language.Readers.{Reader}
@@ -19,7 +19,7 @@ use Rattle.ixdtf.specs.table.LineNames.BracketLine.{first_bracket_start, first_c
 use Rattle.ixdtf.specs.table.LineNames.LineName.{of_date, of_clock, of_offset, of_zone, of_bracket, of_pair}
 use Rattle.ixdtf.specs.table.LineNames.PairLine.{key_start, critical_key_start, in_key, value_start, in_value, after_value_hyphen}
 use Rattle.ixdtf.specs.table.Lines.{Bracketed, BeforeKey, InAnnotated}
-use Rattle.ixdtf.specs.table.Outcomes.{HasFault, Outcome, Holds}
+use Rattle.ixdtf.specs.table.Outcomes.{Outcome, Holds}
 use Rattle.ixdtf.specs.table.Outcomes.Outcome.{derived, refused}
 use Rattle.ixdtf.specs.table.Rows.{Row, Fits}
 use Rattle.ixdtf.proofs.code.OneMoreReply.{nothing_split, NoneRefused-nothing, NoneRefused-more, neither_refused}
@@ -60,7 +60,7 @@ at_calendar (Some first) pair is = elim (same_bytes pair.value first.value) [
     | inl is_so ↦ inl (CriticalDuplicateCalendar, (is, other, inl is_so))
     | inr not_so ↦ elim (holds_or_not pair.critical) [
       | inl is_so ↦ inl (CriticalDuplicateCalendar, (is, other, inr is_so))
-      | inr never ↦ inr (neither_refused (Some first) (Some pair) (λ h. h.1 is) (λ h. elim h.2 [ | inl x ↦ not_so x | inr y ↦ never y ]))
+      | inr never ↦ inr (neither_refused (Some first) (Some pair) (λ h. h.1 is) (λ h. elim h.2 [ inl x ↦ not_so x | inr y ↦ never y ]))
     ]
   ]
 ]
@@ -87,10 +87,15 @@ one_more taken pair = sym (map-append (λ p. Some p) taken (pair ∷ []))
 all_or_stopped : (taken pairs : List Pair) → NoneRefused (own_replies taken) → AllOrStopped (taken ++ pairs)
 all_or_stopped taken [] none = inl (subst (λ t. NoneRefused (own_replies t)) (sym (append-nil taken)) none)
 all_or_stopped taken (pair ∷ pairs) none = elim (decided (first_calendar (own_replies taken)) pair) [
-  | inl p ↦ inr (taken ++ pair ∷ [], pairs, sym (append_assoc taken (pair ∷ []) pairs), p.0,
-    record { earlier = own_replies taken; reply = Some pair; split = sym (one_more taken pair); none = none; refused = p.1 })
+  | inl p ↦ inr (
+    taken ++ pair ∷ [],
+    pairs,
+    sym (append_assoc taken (pair ∷ []) pairs),
+    p.0,
+    record { earlier = own_replies taken; reply = Some pair; split = sym (one_more taken pair); none = none; refused = p.1 },
+  )
   | inr never ↦ subst AllOrStopped (append_assoc taken (pair ∷ []) pairs)
-    (all_or_stopped (taken ++ pair ∷ []) pairs (subst NoneRefused (one_more taken pair) (NoneRefused-more (own_replies taken) (Some pair) none never)))
+      (all_or_stopped (taken ++ pair ∷ []) pairs (subst NoneRefused (one_more taken pair) (NoneRefused-more (own_replies taken) (Some pair) none never)))
 ]
 
 -- ---- fronts of a text, with fewer pairs
@@ -154,9 +159,9 @@ row_front : (row : Row) (pairs xs ys : List Pair) (text : Text) (fault : Fault) 
 row_front row pairs xs ys text fault fits is last = elim (before_row row.name pairs fits.0 fits.1 fits.3) [
   | inl none ↦ absurd (some_pair xs ys fault last (sym is ∙ none))
   | inr p ↦
-    let (front, more, split, (cores, brackets, whole, (core, is_core), zone, tail, some)) = p in
-    subst (λ (t : Text). HasFront parse t xs) (sym (fits.2 ∙ ap (λ (t : Text). t ++ fits.1) (split ∙ ap (λ (t : Text). t ++ more) whole) ∙ append_assoc (cores ++ brackets) more fits.1))
-    (date_time_front cores brackets (more ++ fits.1) core zone xs ys is_core (subst (IsTail brackets zone) is tail))
+      let (front, more, split, (cores, brackets, whole, (core, is_core), zone, tail, some)) = p in
+      subst (λ (t : Text). HasFront parse t xs) (sym (fits.2 ∙ ap (λ (t : Text). t ++ fits.1) (split ∙ ap (λ (t : Text). t ++ more) whole) ∙ append_assoc (cores ++ brackets) more fits.1))
+      (date_time_front cores brackets (more ++ fits.1) core zone xs ys is_core (subst (IsTail brackets zone) is tail))
 ]
 
 -- ---- each text has an outcome
@@ -168,9 +173,9 @@ plain_outcome : (text : Text) (x : Outcome) → Holds parse text x → HasOutcom
 plain_outcome text (derived (parsed read) pairs) d = elim (all_or_stopped [] pairs NoneRefused-nothing) [
   | inl none ↦ inl (parsed (with_calendar read (calendar_value (first_calendar (own_replies pairs)))), (pairs, record { read = read; whole = d; accepted = none; has = refl }))
   | inr p ↦
-    let (front, back, is, fault, last) = p in
-    let has : HasFront parse ((d.cores ++ d.brackets) ++ []) front = date_time_front d.cores d.brackets [] d.core d.zone front back d.is_core (subst (IsTail d.brackets d.zone) is d.is_tail) in
-    inr (fault, (front, inl (subst (λ (t : Text). HasFront parse t front) (append-nil _ ∙ sym d.is) has, last)))
+      let (front, back, is, fault, last) = p in
+      let has : HasFront parse ((d.cores ++ d.brackets) ++ []) front = date_time_front d.cores d.brackets [] d.core d.zone front back d.is_core (subst (IsTail d.brackets d.zone) is d.is_tail) in
+      inr (fault, (front, inl (subst (λ (t : Text). HasFront parse t front) (append-nil _ ∙ sym d.is) has, last)))
 ]
 plain_outcome text (derived (shifted offset) pairs) d = absurd d
 plain_outcome text (derived (identified zone) pairs) d = absurd d
@@ -178,8 +183,8 @@ plain_outcome text (derived (named name) pairs) d = absurd d
 plain_outcome text (refused row pairs) fits = elim (all_or_stopped [] pairs NoneRefused-nothing) [
   | inl none ↦ inr (row.error, (pairs, inr ((row, fits, refl), none)))
   | inr p ↦
-    let (front, back, is, fault, last) = p in
-    inr (fault, (front, inl (row_front row pairs front back text fault fits is last, last)))
+      let (front, back, is, fault, last) = p in
+      inr (fault, (front, inl (row_front row pairs front back text fault fits is last, last)))
 ]
 
 offset_outcome : (text : Text) (x : Outcome) → Holds parse_offset text x → HasOutcome parse_offset text
@@ -226,7 +231,7 @@ word_or_none name = elim (same_bytes name (name_of Parse)) [
       | inl is ↦ inl (Zone, is)
       | inr c ↦ elim (same_bytes name (name_of Iana)) [
         | inl is ↦ inl (Iana, is)
-        | inr d ↦ inr (elim [ | Parse ↦ a | Offset ↦ b | Zone ↦ c | Iana ↦ d ])
+        | inr d ↦ inr (elim [ Parse ↦ a | Offset ↦ b | Zone ↦ c | Iana ↦ d ])
       ]
     ]
   ]

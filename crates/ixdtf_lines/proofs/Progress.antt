@@ -1,12 +1,10 @@
 -- The steps of a run.
 use Rattle.std.proofs.Common.{◌≡◌, ◌≢◌, ℕ, ◌+◌, ◌<◌, false, ◌==◌, List, [], ◌∷◌, ◌++◌, length, take, drop, get_or, Option, Result, Ok, Err, OnOk, MatchResult, refl, sym, ap, subst, ◌∙◌, append_assoc}
 use Rattle.std.proofs.lemmas.List.{append-nil, take_more, take-append-drop}
-use Rattle.std.proofs.KnownBytes.{Appends-trans}
 use Rattle.std.specs.Io.KnownBytes.{Appends}
 use Rattle.ixdtf_lines.specs.declared.line.Line.{Line}
 use Rattle.ixdtf_lines.specs.declared.output.Output.{Output}
 use Rattle.ixdtf_lines.specs.declared.error.RunError.{RunError}
-use Rattle.ixdtf_lines.specs.declared.error.RunError.TheVariants.{Write}
 use Rattle.ixdtf_lines.specs.Answer.{IsAnswer}
 use Rattle.ixdtf_lines.specs.Line.{Holds}
 use Rattle.ixdtf_lines.specs.Lines.{newline, ended_lines_of, unended_of, last_line_of, lines_of}

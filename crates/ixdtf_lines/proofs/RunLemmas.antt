@@ -1,10 +1,10 @@
 -- The start and the ends of a run.
-use Rattle.std.proofs.Common.{◌≡◌, ◌≢◌, ℕ, List, [], take, Option, Result, Ok, Err, MatchResult, OnOk, IfSome, IsErrAnd, refl, subst}
+use Rattle.std.proofs.Common.{◌≡◌, ℕ, List, [], take, Option, Result, Ok, Err, MatchResult, IsErrAnd, refl, subst}
 use Rattle.std.proofs.lemmas.List.{append-nil}
 use Rattle.std.proofs.KnownBytes.{Appends-nil, Consumes-trans, Consumes-whole}
 use Rattle.std.specs.Io.KnownBytes.{Consumes, IsAtEnd}
 use Rattle.ixdtf_lines.specs.declared.error.RunError.{RunError}
-use Rattle.ixdtf_lines.specs.declared.error.RunError.TheVariants.{Read, Write}
+use Rattle.ixdtf_lines.specs.declared.error.RunError.TheVariants.{Read}
 use Rattle.ixdtf_lines.specs.declared.line.Line.{Line}
 use Rattle.ixdtf_lines.specs.Line.{Holds}
 use Rattle.ixdtf_lines.specs.Lines.{split_of, ended_lines_of, lines_of, last_line_of, unended_of}

@@ -3,8 +3,8 @@ ghost use Rattle.std.specs.Prelude.{◌≡◌, ◌++◌, codes, map, option_map}
 ghost use Rattle.ixdtf.specs.Views.{parsed_of, note_of, zone_of};
 ghost use Rattle.ixdtf_lines.specs.Fields.{fields_of, record_fields_of, date_field_of, time_field_of, clock_text_of};
 ghost use Rattle.ixdtf_lines.specs.Fields.{fraction_text_of, sign_text_of, minute_offset_text_of, second_text_of};
-ghost use Rattle.ixdtf_lines.specs.Fields.{full_offset_text_of, offset_numbers_of, offset_text_of, offset_field_of};
-ghost use Rattle.ixdtf_lines.specs.Fields.{name_or_offset_of, zone_label_of, zone_text_of, zone_field_of, calendar_field_of};
+ghost use Rattle.ixdtf_lines.specs.Fields.{full_offset_text_of, offset_text_of, offset_field_of};
+ghost use Rattle.ixdtf_lines.specs.Fields.{zone_label_of, zone_text_of, zone_field_of, calendar_field_of};
 ghost use Rattle.ixdtf_lines.specs.Found.{found_of};
 ghost use Rattle.ixdtf_lines.specs.Output.{Puts};
 
@@ -121,13 +121,6 @@ impl<W: Write> Output<'_, W> {
         ensures { Puts W.contents self.old self.new result (offset_text_of offset) }
     {
         self.put(b" offset=")?;
-        self.put_offset_numbers(offset)
-    }
-
-    /// Puts the numbers of the offset, with the seconds where it has them.
-    fn put_offset_numbers(&mut self, offset: UtcOffsetRecord) -> Result<(), RunError>
-        ensures { Puts W.contents self.old self.new result (offset_numbers_of offset) }
-    {
         match offset {
             UtcOffsetRecord::MinutePrecision(offset) => self.put_minute_offset(offset),
             UtcOffsetRecord::FullPrecisionOffset(offset) => self.put_full_offset(offset),
@@ -187,7 +180,10 @@ impl<W: Write> Output<'_, W> {
             (zone_text_of critical (zone_of (λ byte. byte) zone.now)) }
     {
         self.put_zone_label(critical)?;
-        self.put_name_or_offset(zone)
+        match zone {
+            TimeZoneRecord::Name(name) => self.put(name),
+            TimeZoneRecord::Offset(offset) => self.put_minute_offset(*offset),
+        }
     }
 
     /// Puts what stands before a zone.
@@ -201,21 +197,10 @@ impl<W: Write> Output<'_, W> {
         }
     }
 
-    /// Puts the bytes of a name, or the numbers of an offset.
-    fn put_name_or_offset(&mut self, zone: &TimeZoneRecord<'_, Utf8>) -> Result<(), RunError>
-        ensures { Puts W.contents self.old self.new result
-            (name_or_offset_of (zone_of (λ byte. byte) zone.now)) }
-    {
-        match zone {
-            TimeZoneRecord::Name(name) => self.put(name),
-            TimeZoneRecord::Offset(offset) => self.put_minute_offset(*offset),
-        }
-    }
-
     /// Puts the calendar, where there is one.
     fn put_calendar_field(&mut self, calendar: Option<&[u8]>) -> Result<(), RunError>
-        ensures { Puts W.contents self.old self.new result
-            (calendar_field_of (option_map (λ bytes. map (λ byte. byte) bytes.now) calendar.entry)) }
+        ensures { Puts W.contents self.old self.new result (calendar_field_of
+            (option_map (λ bytes. map (λ byte. byte) bytes.now) calendar.entry)) }
     {
         match calendar {
             None => Ok(()),

@@ -71,7 +71,7 @@ fn read_some<R: Read>(reader: &mut R, input: &mut [u8]) -> Result<usize, RunErro
     }
 }
 
-/// Takes the bytes of a read, and hands the answers to the writer.
+/// Takes the bytes of a read, answers each line that ends in them, and hands the answers on.
 fn answer_bytes<W: Write>(
     output: &mut Output<'_, W>,
     line: &mut Line,
@@ -83,26 +83,10 @@ fn answer_bytes<W: Write>(
         → MatchResult result (λ _. Rests W.contents start output.new line.new (read ++ bytes.now))
         (Fails start (written W.contents output.new) (ended_lines_of (read ++ bytes.now))) }
 {
-    take_bytes(output, line, bytes)?;
-    output.hand_on()
-}
-
-/// Takes the bytes onto the line, and answers each line that ends in them.
-fn take_bytes<W: Write>(
-    output: &mut Output<'_, W>,
-    line: &mut Line,
-    bytes: &[u8],
-) -> Result<(), RunError>
-    ensures same { output.new.writer.ghost_name ≡ output.old.writer.ghost_name }
-    ensures answers { (start : Option (List ℕ)) (read : List ℕ)
-        → Stands W.contents start output.old line.old read
-        → MatchResult result (λ _. Stands W.contents start output.new line.new (read ++ bytes.now))
-        (Fails start (written W.contents output.new) (ended_lines_of (read ++ bytes.now))) }
-{
     for byte in bytes {
         take_byte(output, line, *byte)?;
     }
-    Ok(())
+    output.hand_on()
 }
 
 /// Takes a byte onto the line, or answers the line where the byte ends it.
@@ -131,7 +115,8 @@ fn finish<W: Write>(output: &mut Output<'_, W>, line: &Line) -> Result<(), RunEr
     ensures same { output.new.writer.ghost_name ≡ output.old.writer.ghost_name }
     ensures answers { (start : Option (List ℕ)) (read : List ℕ)
         → Rests W.contents start output.old line.now read
-        → MatchResult result (λ _. WritesAnswers start (written W.contents output.new) (lines_of read))
+        → MatchResult result
+        (λ _. WritesAnswers start (written W.contents output.new) (lines_of read))
         (Fails start (written W.contents output.new) (lines_of read)) }
 {
     if line.is_empty() {
