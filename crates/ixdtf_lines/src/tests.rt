@@ -314,7 +314,7 @@ fn reads_no_more_after_a_read_that_fails(rt: HostRuntime) {
     assert_eq!(rt; outcome, Err(RunError::Read));
     assert_eq!(rt; reader.reads, 1);
     assert_eq!(rt; reader.rest, TWO_LINES);
-    assert_eq!(rt; writer.written(), b"");
+    assert_eq!(rt; writer.written(), b"".as_slice());
 }
 
 #[test]
