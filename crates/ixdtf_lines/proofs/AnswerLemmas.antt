@@ -1,4 +1,4 @@
--- The answer to a line, by its length and its first space.
+-- The answer to a line with a space, and what a reader makes of its text.
 use Rattle.std.proofs.Common.{◌≡◌, ℕ, ◌+◌, ◌-◌, ◌<◌, ◌≤◌, Bool, List, length, take, drop, Option, Some, None, MatchOption, position, inl, inr, refl, sym, subst, arith}
 use Rattle.std.proofs.lemmas.Bool.{lt-ltb, le-ltb}
 use Rattle.std.proofs.lemmas.List.{take_all, length-drop}
@@ -15,15 +15,6 @@ abbrev IsAnswerBy : List ℕ → List ℕ → Bool → Option ℕ → Type 0
 IsAnswerBy line answer test at = MatchBool test (answer ≡ too_long)
     (MatchOption at (answer ≡ unknown_reader) (λ place. IsReaderAnswer (take place line) (drop (place + 1) line) answer))
 
-pub IsAnswer-long : (line : List ℕ) → line_limit < length line → IsAnswer line too_long
-IsAnswer-long line long =
-    subst (λ test. IsAnswerBy line too_long test (position is_space line)) (sym (lt-ltb line_limit (length line) long)) refl
-
-pub IsAnswer-spaceless : (line : List ℕ) → length line ≤ line_limit → None ≡ position is_space line → IsAnswer line unknown_reader
-IsAnswer-spaceless line short none =
-    subst (λ test. IsAnswerBy line unknown_reader test (position is_space line)) (sym (le-ltb line_limit (length line) short))
-    (subst (λ at. MatchOption at (unknown_reader ≡ unknown_reader) (λ place. IsReaderAnswer (take place line) (drop (place + 1) line) unknown_reader)) none refl)
-
 pub IsAnswer-word : (line answer : List ℕ) (place : ℕ) → length line ≤ line_limit → Some place ≡ position is_space line
     → IsReaderAnswer (take place line) (take (length line - (place + 1)) (drop (place + 1) line)) answer → IsAnswer line answer
 IsAnswer-word line answer place short at is =
@@ -32,9 +23,6 @@ IsAnswer-word line answer place short at is =
     subst (λ test. IsAnswerBy line answer test (position is_space line)) (sym (le-ltb line_limit (length line) short))
     (subst (λ o. MatchOption o (answer ≡ unknown_reader) (λ p. IsReaderAnswer (take p line) (drop (p + 1) line) answer)) at
     (subst (λ t. IsReaderAnswer (take place line) t answer) all is))
-
-pub IsReaderAnswer-unknown : (name text : List ℕ) → IsNoWord name → IsReaderAnswer name text unknown_reader
-IsReaderAnswer-unknown name text none = inr (none, refl)
 
 pub IsReaderAnswer-word : (name text answer : List ℕ) (word : Word) → name ≡ name_of word → IsOutcome (reader_of word) text answer → IsReaderAnswer name text answer
 IsReaderAnswer-word name text answer word is outcome = inl (word, is, outcome)
@@ -46,9 +34,6 @@ Gives-text reader text rest found same gives = subst (λ (t : List ℕ). Gives r
 -- it is refused with the fault
 pub Refuses-text : (reader : Reader) (text rest : List ℕ) (fault : Fault) → rest ≡ text → Refuses reader (letters rest) fault → Refuses reader (letters text) fault
 Refuses-text reader text rest fault same has = subst (λ (t : List ℕ). Refuses reader (letters t) fault) same has
-
-pub IsOutcome-ok : (reader : Reader) (text : List ℕ) (found : Found) → Gives reader (letters text) found → IsOutcome reader text (ok_answer_of found)
-IsOutcome-ok reader text found gives = inl (found, gives, refl)
 
 pub IsOutcome-error : (reader : Reader) (text : List ℕ) (fault : Fault) → Refuses reader (letters text) fault → IsOutcome reader text (error_answer_of fault)
 IsOutcome-error reader text fault has = inr (fault, has, refl)

@@ -26,7 +26,7 @@ pub fn run<R: Read, W: Write>(reader: &mut R, writer: &mut W) -> Result<(), RunE
         × Consumes (R.remaining reader.old) (R.remaining reader.new) bytes
         × WritesAnswers (W.contents writer.old) (W.contents writer.new) (ended_lines_of bytes) }
 
-    // A beginning of the answers to what was read was written.
+    // A beginning of the answers to all lines of what was read was written.
     ensures write { result ≡ Err RunError.Write → (bytes : List ℕ)
         × Consumes (R.remaining reader.old) (R.remaining reader.new) bytes
         × WritesFront (W.contents writer.old) (W.contents writer.new) (lines_of bytes) }
