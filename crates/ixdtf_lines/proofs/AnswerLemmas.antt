@@ -1,4 +1,4 @@
--- The answer to a line, by its length and its first space.
+-- The answer to a line with a space, and what a reader makes of its text.
 use Rattle.std.proofs.Common.{◌≡◌, ℕ, ◌+◌, ◌-◌, ◌<◌, ◌≤◌, Bool, List, length, take, drop, Option, Some, None, MatchOption, position, inl, inr, refl, sym, subst, arith}
 use Rattle.std.proofs.lemmas.Bool.{lt-ltb, le-ltb}
 use Rattle.std.proofs.lemmas.List.{take_all, length-drop}
@@ -7,21 +7,13 @@ use Rattle.ixdtf.specs.table.Faults.{Fault}
 use Rattle.ixdtf.specs.language.Languages.{Found}
 use Rattle.ixdtf.specs.language.Readers.{Reader}
 use Rattle.ixdtf_lines.specs.Answer.{line_limit, too_long, unknown_reader, is_space, letters, ok_answer_of, error_answer_of, Gives, Refuses, IsAnswer, IsReaderAnswer, IsOutcome}
-use Rattle.ixdtf_lines.specs.Word.{word_named, reader_of}
+use Rattle.ixdtf_lines.specs.Word.{name_of, reader_of, IsNoWord}
+use Rattle.ixdtf_lines.specs.declared.word.Word.{Word}
 
 -- the answer, with the two tests as variables
 abbrev IsAnswerBy : List ℕ → List ℕ → Bool → Option ℕ → Type 0
 IsAnswerBy line answer test at = MatchBool test (answer ≡ too_long)
     (MatchOption at (answer ≡ unknown_reader) (λ place. IsReaderAnswer (take place line) (drop (place + 1) line) answer))
-
-pub IsAnswer-long : (line : List ℕ) → line_limit < length line → IsAnswer line too_long
-IsAnswer-long line long =
-    subst (λ test. IsAnswerBy line too_long test (position is_space line)) (sym (lt-ltb line_limit (length line) long)) refl
-
-pub IsAnswer-spaceless : (line : List ℕ) → length line ≤ line_limit → None ≡ position is_space line → IsAnswer line unknown_reader
-IsAnswer-spaceless line short none =
-    subst (λ test. IsAnswerBy line unknown_reader test (position is_space line)) (sym (le-ltb line_limit (length line) short))
-    (subst (λ at. MatchOption at (unknown_reader ≡ unknown_reader) (λ place. IsReaderAnswer (take place line) (drop (place + 1) line) unknown_reader)) none refl)
 
 pub IsAnswer-word : (line answer : List ℕ) (place : ℕ) → length line ≤ line_limit → Some place ≡ position is_space line
     → IsReaderAnswer (take place line) (take (length line - (place + 1)) (drop (place + 1) line)) answer → IsAnswer line answer
@@ -32,9 +24,8 @@ IsAnswer-word line answer place short at is =
     (subst (λ o. MatchOption o (answer ≡ unknown_reader) (λ p. IsReaderAnswer (take p line) (drop (p + 1) line) answer)) at
     (subst (λ t. IsReaderAnswer (take place line) t answer) all is))
 
-pub IsReaderAnswer-unknown : (name text : List ℕ) → None ≡ word_named name → IsReaderAnswer name text unknown_reader
-IsReaderAnswer-unknown name text none =
-    subst (λ o. MatchOption o (unknown_reader ≡ unknown_reader) (λ word. IsOutcome (reader_of word) text unknown_reader)) none refl
+pub IsReaderAnswer-word : (name text answer : List ℕ) (word : Word) → name ≡ name_of word → IsOutcome (reader_of word) text answer → IsReaderAnswer name text answer
+IsReaderAnswer-word name text answer word is outcome = inl (word, is, outcome)
 
 -- what a reader has to read, which is the text, gives it the value
 pub Gives-text : (reader : Reader) (text rest : List ℕ) (found : Found) → rest ≡ text → Gives reader (letters rest) found → Gives reader (letters text) found
@@ -43,9 +34,6 @@ Gives-text reader text rest found same gives = subst (λ (t : List ℕ). Gives r
 -- it is refused with the fault
 pub Refuses-text : (reader : Reader) (text rest : List ℕ) (fault : Fault) → rest ≡ text → Refuses reader (letters rest) fault → Refuses reader (letters text) fault
 Refuses-text reader text rest fault same has = subst (λ (t : List ℕ). Refuses reader (letters t) fault) same has
-
-pub IsOutcome-ok : (reader : Reader) (text : List ℕ) (found : Found) → Gives reader (letters text) found → IsOutcome reader text (ok_answer_of found)
-IsOutcome-ok reader text found gives = inl (found, gives, refl)
 
 pub IsOutcome-error : (reader : Reader) (text : List ℕ) (fault : Fault) → Refuses reader (letters text) fault → IsOutcome reader text (error_answer_of fault)
 IsOutcome-error reader text fault has = inr (fault, has, refl)

@@ -2,11 +2,12 @@
 use Rattle.std.proofs.Common.{◌≡◌, ℕ, suc, ◌+◌, ◌-◌, ◌<◌, List, [], ◌∷◌, ◌++◌, length, take, drop, get_or, Option, Result, Ok, Err, IsErrAnd, Bor, sym, ap, subst, ◌∙◌, arith, append_assoc}
 use Rattle.std.proofs.Math.Seq.{drop-cons}
 use Rattle.std.proofs.lemmas.Grind.{flat_map-append}
-use Rattle.std.proofs.KnownBytes.{Appends-trans, Appends-nil}
+use Rattle.std.proofs.KnownBytes.{Appends-trans}
 use Rattle.std.proofs.lemmas.List.{append-nil, take_all, take_more, length-drop, take-append-drop}
 use Rattle.std.specs.Io.KnownBytes.{Appends}
 use Rattle.ixdtf_lines.specs.declared.error.RunError.{RunError}
-use Rattle.ixdtf_lines.specs.Output.{AppendsFront, Writes, Sent, Puts, joined}
+use Rattle.ixdtf_lines.specs.declared.output.Output.{Output}
+use Rattle.ixdtf_lines.specs.Output.{AppendsFront, Writes, Sent, written, Puts, joined}
 
 -- a write took n bytes of the rest
 pub wrote_more : (a b c : Option (List ℕ)) (bytes rest : List ℕ) (n : ℕ)
@@ -53,38 +54,44 @@ AppendsFront-more ys p = record {
   appended = p.appended;
 }
 
--- the bytes fit behind those that wait
-pub Puts-kept : (a : Option (List ℕ)) {u v xs : List ℕ} {t : Unit {0}} → v ≡ u ++ xs → Puts a a u v (Ok t) xs
-Puts-kept a is = record { ok = record { front = []; whole = sym is; appended = Appends-nil a }; err = tt }
-
--- what waited was written, or a front of it
-pub Puts-written : {a b : Option (List ℕ)} {u : List ℕ} {r : Result (Unit {0}) RunError} → Writes a b r u → Puts a b u [] r []
-Puts-written {a = a} {b = b} {u = u} {r = Ok t} p = record { ok = Sent-written (subst (Appends a b) (sym (append-nil u)) p.ok); err = tt }
-Puts-written {r = Err e} p = record { ok = tt; err = (p.err.0, AppendsFront-more [] p.err.1) }
-
-Puts-past : {a b : Option (List ℕ)} {xs : List ℕ} {r : Result (Unit {0}) RunError} → Writes a b r xs → Puts a b [] [] r xs
-Puts-past {r = Ok t} p = record { ok = Sent-written p.ok; err = tt }
-Puts-past {r = Err e} p = record { ok = tt; err = p.err }
-
 -- nothing waits, and the bytes are written past the array
-pub Puts-through : {a b : Option (List ℕ)} {u xs : List ℕ} {r : Result (Unit {0}) RunError} → u ≡ [] → Writes a b r xs → Puts a b u u r xs
-Puts-through {a = a} {b = b} {u = u} {xs = xs} {r = r} none p =
-    subst (λ (t : List ℕ). Puts a b t t r xs) (sym none) (Puts-past p)
+pub Puts-through : {W : Type 0} {contents : W → Option (List ℕ)} {x y : Output W} {r : Result (Unit {0}) RunError} {bytes : List ℕ}
+    → y.writer.ghost_name ≡ x.writer.ghost_name → x.waiting ≡ [] → y.waiting ≡ [] → Writes (written contents x) (written contents y) r bytes → Puts contents x y r bytes
+Puts-through {contents = contents} {x = x} {y = y} {r = Ok t} {bytes = bytes} same none still p = record {
+  same = same;
+  ok = subst (λ (t : List ℕ). Sent (written contents x) (written contents y) t (x.waiting ++ bytes)) (sym still)
+      (subst (λ (t : List ℕ). Sent (written contents x) (written contents y) [] (t ++ bytes)) (sym none) (Sent-written p.ok));
+  err = tt;
+}
+Puts-through {contents = contents} {x = x} {y = y} {r = Err e} {bytes = bytes} same none still p = record {
+  same = same;
+  ok = tt;
+  err = (p.err.0, subst (λ (t : List ℕ). AppendsFront (written contents x) (written contents y) (t ++ bytes)) (sym none) p.err.1);
+}
 
 -- the first bytes were put, and then the others
-pub Puts-after : {a b c : Option (List ℕ)} {u v w : List ℕ} {t : Unit {0}} {r : Result (Unit {0}) RunError} {xs ys : List ℕ}
-    → Puts a b u v (Ok t) xs → Puts b c v w r ys → Puts a c u w r (xs ++ ys)
-Puts-after {a = a} {c = c} {u = u} {w = w} {r = Ok s} {xs = xs} {ys = ys} p q =
-    record { ok = subst (Sent a c w) (append_assoc u xs ys) (Sent-trans ys p.ok q.ok); err = tt }
-Puts-after {a = a} {c = c} {u = u} {r = Err e} {xs = xs} {ys = ys} p q =
-    record { ok = tt; err = (q.err.0, subst (AppendsFront a c) (append_assoc u xs ys) (Sent-front ys p.ok q.err.1)) }
+pub Puts-after : {W : Type 0} {contents : W → Option (List ℕ)} {x y z : Output W} {t : Unit {0}} {r : Result (Unit {0}) RunError} {xs ys : List ℕ}
+    → Puts contents x y (Ok t) xs → Puts contents y z r ys → Puts contents x z r (xs ++ ys)
+Puts-after {contents = contents} {x = x} {z = z} {r = Ok s} {xs = xs} {ys = ys} p q = record {
+  same = q.same ∙ p.same;
+  ok = subst (Sent (written contents x) (written contents z) z.waiting) (append_assoc x.waiting xs ys) (Sent-trans ys p.ok q.ok);
+  err = tt;
+}
+Puts-after {contents = contents} {x = x} {z = z} {r = Err e} {xs = xs} {ys = ys} p q = record {
+  same = q.same ∙ p.same;
+  ok = tt;
+  err = (q.err.0, subst (AppendsFront (written contents x) (written contents z)) (append_assoc x.waiting xs ys) (Sent-front ys p.ok q.err.1));
+}
 
 -- the exit of a `?`: putting the first bytes failed
-pub Puts-exit : {a b : Option (List ℕ)} {u v w : List ℕ} {r : Result (Unit {0}) RunError} {e : RunError} {xs : List ℕ} (ys : List ℕ)
-    → IsErrAnd r (λ y. y ≡ e) → Puts a b u v (Err e) xs → Puts a b u w r (xs ++ ys)
+pub Puts-exit : {W : Type 0} {contents : W → Option (List ℕ)} {x y : Output W} {r : Result (Unit {0}) RunError} {e : RunError} {xs : List ℕ} (ys : List ℕ)
+    → IsErrAnd r (λ y. y ≡ e) → Puts contents x y (Err e) xs → Puts contents x y r (xs ++ ys)
 Puts-exit {r = Ok t} ys same failed = absurd same
-Puts-exit {a = a} {b = b} {u = u} {r = Err y} {xs = xs} ys same failed =
-    record { ok = tt; err = (same ∙ failed.err.0, subst (AppendsFront a b) (append_assoc u xs ys) (AppendsFront-more ys failed.err.1)) }
+Puts-exit {contents = contents} {x = x} {y = y} {r = Err e} {xs = xs} ys same failed = record {
+  same = failed.same;
+  ok = tt;
+  err = (same ∙ failed.err.0, subst (AppendsFront (written contents x) (written contents y)) (append_assoc x.waiting xs ys) (AppendsFront-more ys failed.err.1));
+}
 
 joined-at : (pieces : List (Bor (List ℕ))) (i : ℕ) (d : Bor (List ℕ)) → i < length pieces
     → joined pieces ≡ (joined (take i pieces) ++ (get_or pieces i d).now) ++ joined (drop (suc i) pieces)
@@ -98,15 +105,15 @@ joined-next pieces i d inside = sym (ap joined (take_more pieces i d inside)
     ∙ flat_map-append _ (take i pieces) (get_or pieces i d ∷ []) ∙ ap (λ (t : List ℕ). joined (take i pieces) ++ t) (append-nil (get_or pieces i d).now))
 
 -- one more piece was put
-pub Puts-next : {a b c : Option (List ℕ)} {u v w : List ℕ} {t : Unit {0}} {r : Result (Unit {0}) RunError} (pieces : List (Bor (List ℕ))) (i : ℕ) (d : Bor (List ℕ))
-    → i < length pieces → Puts a b u v (Ok t) (joined (take i pieces)) → Puts b c v w r (get_or pieces i d).now
-    → Puts a c u w r (joined (take (i + 1) pieces))
-Puts-next {a = a} {c = c} {u = u} {w = w} {r = r} pieces i d inside before next =
-    subst (Puts a c u w r) (joined-next pieces i d inside) (Puts-after before next)
+pub Puts-next : {W : Type 0} {contents : W → Option (List ℕ)} {x y z : Output W} {t : Unit {0}} {r : Result (Unit {0}) RunError} (pieces : List (Bor (List ℕ))) (i : ℕ) (d : Bor (List ℕ))
+    → i < length pieces → Puts contents x y (Ok t) (joined (take i pieces)) → Puts contents y z r (get_or pieces i d).now
+    → Puts contents x z r (joined (take (i + 1) pieces))
+Puts-next {contents = contents} {x = x} {z = z} {r = r} pieces i d inside before next =
+    subst (Puts contents x z r) (joined-next pieces i d inside) (Puts-after before next)
 
 -- the exit of a `?` at a piece of a list, after the pieces before it
-pub Puts-piece : {a b c : Option (List ℕ)} {u v w z : List ℕ} {t : Unit {0}} {r : Result (Unit {0}) RunError} {e : RunError} (pieces : List (Bor (List ℕ))) (i : ℕ) (d : Bor (List ℕ))
-    → i < length pieces → Puts a b u v (Ok t) (joined (take i pieces)) → IsErrAnd r (λ y. y ≡ e)
-    → Puts b c v w (Err e) (get_or pieces i d).now → Puts a c u z r (joined pieces)
-Puts-piece {a = a} {c = c} {u = u} {z = z} {r = r} pieces i d inside before same failed =
-    subst (Puts a c u z r) (sym (joined-at pieces i d inside)) (Puts-exit (joined (drop (suc i) pieces)) same (Puts-after before failed))
+pub Puts-piece : {W : Type 0} {contents : W → Option (List ℕ)} {x y z : Output W} {t : Unit {0}} {r : Result (Unit {0}) RunError} {e : RunError} (pieces : List (Bor (List ℕ))) (i : ℕ) (d : Bor (List ℕ))
+    → i < length pieces → Puts contents x y (Ok t) (joined (take i pieces)) → IsErrAnd r (λ y. y ≡ e)
+    → Puts contents y z (Err e) (get_or pieces i d).now → Puts contents x z r (joined pieces)
+Puts-piece {contents = contents} {x = x} {z = z} {r = r} pieces i d inside before same failed =
+    subst (Puts contents x z r) (sym (joined-at pieces i d inside)) (Puts-exit (joined (drop (suc i) pieces)) same (Puts-after before failed))

@@ -1,32 +1,25 @@
 -- The steps of a run.
 use Rattle.std.proofs.Common.{◌≡◌, ◌≢◌, ℕ, ◌+◌, ◌<◌, false, ◌==◌, List, [], ◌∷◌, ◌++◌, length, take, drop, get_or, Option, Result, Ok, Err, OnOk, MatchResult, refl, sym, ap, subst, ◌∙◌, append_assoc}
 use Rattle.std.proofs.lemmas.List.{append-nil, take_more, take-append-drop}
-use Rattle.std.proofs.KnownBytes.{Appends-trans}
 use Rattle.std.specs.Io.KnownBytes.{Appends}
 use Rattle.ixdtf_lines.specs.declared.line.Line.{Line}
+use Rattle.ixdtf_lines.specs.declared.output.Output.{Output}
 use Rattle.ixdtf_lines.specs.declared.error.RunError.{RunError}
-use Rattle.ixdtf_lines.specs.declared.error.RunError.TheVariants.{Write}
 use Rattle.ixdtf_lines.specs.Answer.{IsAnswer}
 use Rattle.ixdtf_lines.specs.Line.{Holds}
 use Rattle.ixdtf_lines.specs.Lines.{newline, ended_lines_of, unended_of, last_line_of, lines_of}
-use Rattle.ixdtf_lines.specs.Output.{AppendsFront, Writes, Sent, Puts}
-use Rattle.ixdtf_lines.specs.Progress.{TakesAnswers, Stands, Rests}
+use Rattle.ixdtf_lines.specs.Output.{AppendsFront, Sent, written, Puts}
+use Rattle.ixdtf_lines.specs.Progress.{TakesAnswers, Stands, Rests, Fails}
 use Rattle.ixdtf_lines.specs.Run.{AreAnswers, WritesAnswers, WritesFront}
+use Rattle.ixdtf_lines.proofs.EachLine.{all_answers, AreAnswers-append}
 use Rattle.ixdtf_lines.proofs.LinesLemmas.{split_of-newline, split_of-byte, ended_lines_of-append}
 use Rattle.ixdtf_lines.proofs.OutputLemmas.{Sent-trans, Sent-front, Sent-all, Sent-written}
 
 -- one more line, and its answer
 AreAnswers-more : (lines : List (List ℕ)) (written line answer : List ℕ) → AreAnswers lines written → IsAnswer line answer
     → AreAnswers (lines ++ line ∷ []) (written ++ (answer ++ newline ∷ []))
-AreAnswers-more [] written line answer none is =
-    (answer, [], is, ap (λ (t : List ℕ). t ++ (answer ++ newline ∷ [])) none, refl)
-AreAnswers-more (first ∷ lines) written line answer (a, others, first_is, whole, rest) is = (
-  a,
-  others ++ (answer ++ newline ∷ []),
-  first_is,
-  ap (λ (t : List ℕ). t ++ (answer ++ newline ∷ [])) whole ∙ append_assoc a (newline ∷ others) _,
-  AreAnswers-more lines others line answer rest is,
-)
+AreAnswers-more lines written line answer are is =
+    AreAnswers-append lines (line ∷ []) written (answer ++ newline ∷ []) are (answer, [], is, refl, refl)
 
 -- the answer to one more line was taken
 TakesAnswers-more : {start old new : Option (List ℕ)} {before after : List ℕ} {lines : List (List ℕ)} (line answer : List ℕ)
@@ -42,9 +35,6 @@ TakesAnswers-more {lines = lines} line answer p is sent = record {
 WritesFront-of : {start now : Option (List ℕ)} {lines : List (List ℕ)} {taken : List ℕ} → AreAnswers lines taken → AppendsFront start now taken
     → WritesFront start now lines
 WritesFront-of {lines = lines} are p = record {
-  first = lines;
-  others = [];
-  whole = sym (append-nil lines);
   written = p.front;
   rest = p.rest;
   answers = subst (AreAnswers lines) p.whole are;
@@ -60,15 +50,14 @@ WritesFront-more {lines = lines} line answer p is front =
 
 -- a front of the answers to the first lines is a front of the answers to them all
 pub WritesFront-append : (start now : Option (List ℕ)) (lines others : List (List ℕ)) → WritesFront start now lines → WritesFront start now (lines ++ others)
-WritesFront-append start now lines others p = record {
-  first = p.first;
-  others = p.others ++ others;
-  written = p.written;
-  rest = p.rest;
-  answers = p.answers;
-  appended = p.appended;
-  whole = ap (λ (t : List (List ℕ)). t ++ others) p.whole ∙ append_assoc p.first p.others others;
-}
+WritesFront-append start now lines others p =
+    let (bytes, answers) = all_answers others in
+    record {
+      written = p.written;
+      rest = p.rest ++ bytes;
+      answers = subst (AreAnswers (lines ++ others)) (append_assoc p.written p.rest bytes) (AreAnswers-append lines others (p.written ++ p.rest) bytes p.answers answers);
+      appended = p.appended;
+    }
 
 -- the same for the lines that ended in what was read
 pub WritesFront-read : (start now : Option (List ℕ)) (read more : List ℕ) → WritesFront start now (ended_lines_of read)
@@ -78,30 +67,31 @@ WritesFront-read start now read more front =
     subst (WritesFront start now) (sym others.1) (WritesFront-append start now (ended_lines_of read) others.0 front)
 
 -- a newline was read, and the answer to its line was taken
-pub Stands-newline : {start old new : Option (List ℕ)} {u v : List ℕ} {before after : Line} {read : List ℕ} (answer : List ℕ)
-    → Stands start old u before read → IsAnswer (unended_of read) answer → Sent old new v (u ++ (answer ++ newline ∷ [])) → Holds after []
-    → Stands start new v after (read ++ newline ∷ [])
-Stands-newline {start = start} {new = new} {v = v} {after = after} {read = read} answer stands is sent empty = record {
+pub Stands-newline : {W : Type 0} {contents : W → Option (List ℕ)} {start : Option (List ℕ)} {x y : Output W} {before after : Line} {read : List ℕ} (answer : List ℕ)
+    → Stands contents start x before read → IsAnswer (unended_of read) answer
+    → Sent (written contents x) (written contents y) y.waiting (x.waiting ++ (answer ++ newline ∷ [])) → Holds after []
+    → Stands contents start y after (read ++ newline ∷ [])
+Stands-newline {contents = contents} {start = start} {y = y} {after = after} {read = read} answer stands is sent empty = record {
   pending = subst (λ s. Holds after s.unended) (sym (split_of-newline read)) empty;
-  answered = subst (λ s. TakesAnswers start new v s.ended) (sym (split_of-newline read))
+  answered = subst (λ s. TakesAnswers start (written contents y) y.waiting s.ended) (sym (split_of-newline read))
       (TakesAnswers-more (unended_of read) answer stands.answered is sent);
 }
 
 -- a newline was read, and answering its line failed
-pub WritesFront-newline : {start old new : Option (List ℕ)} {u : List ℕ} {line : Line} {read : List ℕ} (answer : List ℕ)
-    → Stands start old u line read → IsAnswer (unended_of read) answer → AppendsFront old new (u ++ (answer ++ newline ∷ []))
+pub WritesFront-newline : {W : Type 0} {contents : W → Option (List ℕ)} {start new : Option (List ℕ)} {x : Output W} {line : Line} {read : List ℕ} (answer : List ℕ)
+    → Stands contents start x line read → IsAnswer (unended_of read) answer → AppendsFront (written contents x) new (x.waiting ++ (answer ++ newline ∷ []))
     → WritesFront start new (ended_lines_of (read ++ newline ∷ []))
 WritesFront-newline {start = start} {new = new} {read = read} answer stands is front =
     subst (λ s. WritesFront start new s.ended) (sym (split_of-newline read))
     (WritesFront-more (unended_of read) answer stands.answered is front)
 
 -- another byte was read, and went onto the line
-pub Stands-byte : {start now : Option (List ℕ)} {u : List ℕ} {before after : Line} {read : List ℕ} (byte : ℕ)
-    → (byte == newline) ≡ false → Stands start now u before read → Holds after (unended_of read ++ byte ∷ [])
-    → Stands start now u after (read ++ byte ∷ [])
-Stands-byte {start = start} {now = now} {u = u} {after = after} {read = read} byte other stands holds = record {
+pub Stands-byte : {W : Type 0} {contents : W → Option (List ℕ)} {start : Option (List ℕ)} {x : Output W} {before after : Line} {read : List ℕ} (byte : ℕ)
+    → (byte == newline) ≡ false → Stands contents start x before read → Holds after (unended_of read ++ byte ∷ [])
+    → Stands contents start x after (read ++ byte ∷ [])
+Stands-byte {contents = contents} {start = start} {x = x} {after = after} {read = read} byte other stands holds = record {
   pending = subst (λ s. Holds after s.unended) (sym (split_of-byte read byte other)) holds;
-  answered = subst (λ s. TakesAnswers start now u s.ended) (sym (split_of-byte read byte other)) stands.answered;
+  answered = subst (λ s. TakesAnswers start (written contents x) x.waiting s.ended) (sym (split_of-byte read byte other)) stands.answered;
 }
 
 -- all that was taken was written
@@ -113,21 +103,22 @@ Takes-written {start = start} {now = now} none (written, are, appended) = record
 }
 
 -- what waits was handed on, or that failed
-pub handed_on : {start old new : Option (List ℕ)} {u v : List ℕ} {lines : List (List ℕ)} {r : Result (Unit {0}) RunError}
-    → TakesAnswers start old u lines → OnOk r (v ≡ []) → Puts old new u v r []
-    → MatchResult r (λ _. WritesAnswers start new lines) (λ error. (error ≡ Write) × WritesFront start new lines)
-handed_on {start = start} {new = new} {lines = lines} {r = Ok t} p none puts =
-    (p.taken, p.answers, subst (Appends start new) (append-nil p.taken) (Sent-all (Sent-trans [] p.sent puts.ok) none))
-handed_on {start = start} {new = new} {lines = lines} {r = Err e} p none puts =
-    (puts.err.0, WritesFront-of p.answers (subst (AppendsFront start new) (append-nil p.taken) (Sent-front [] p.sent puts.err.1)))
+pub handed_on : {W : Type 0} {contents : W → Option (List ℕ)} {start : Option (List ℕ)} {x y : Output W} {lines : List (List ℕ)} {r : Result (Unit {0}) RunError}
+    → TakesAnswers start (written contents x) x.waiting lines → OnOk r (y.waiting ≡ []) → Puts contents x y r []
+    → MatchResult r (λ _. WritesAnswers start (written contents y) lines) (Fails start (written contents y) lines)
+handed_on {contents = contents} {start = start} {y = y} {r = Ok t} p none puts =
+    (p.taken, p.answers, subst (Appends start (written contents y)) (append-nil p.taken) (Sent-all (Sent-trans [] p.sent puts.ok) none))
+handed_on {contents = contents} {start = start} {y = y} {r = Err e} p none puts =
+    (puts.err.0, WritesFront-of p.answers (subst (AppendsFront start (written contents y)) (append-nil p.taken) (Sent-front [] p.sent puts.err.1)))
 
-pub Stands-rests : {start now : Option (List ℕ)} {u : List ℕ} {line : Line} {read : List ℕ} → Rests start now u line read → Stands start now u line read
+pub Stands-rests : {W : Type 0} {contents : W → Option (List ℕ)} {start : Option (List ℕ)} {x : Output W} {line : Line} {read : List ℕ}
+    → Rests contents start x line read → Stands contents start x line read
 Stands-rests rests = record { pending = rests.pending; answered = Takes-written rests.none rests.answered }
 
 -- the same of a run that stands
-pub Rests-handed : {start old new : Option (List ℕ)} {u v : List ℕ} {line : Line} {read : List ℕ} {r : Result (Unit {0}) RunError}
-    → Stands start old u line read → OnOk r (v ≡ []) → Puts old new u v r []
-    → MatchResult r (λ _. Rests start new v line read) (λ error. (error ≡ Write) × WritesFront start new (ended_lines_of read))
+pub Rests-handed : {W : Type 0} {contents : W → Option (List ℕ)} {start : Option (List ℕ)} {x y : Output W} {line : Line} {read : List ℕ} {r : Result (Unit {0}) RunError}
+    → Stands contents start x line read → OnOk r (y.waiting ≡ []) → Puts contents x y r []
+    → MatchResult r (λ _. Rests contents start y line read) (Fails start (written contents y) (ended_lines_of read))
 Rests-handed {r = Ok t} stands none puts = record { pending = stands.pending; none = none; answered = handed_on stands.answered none puts }
 Rests-handed {r = Err e} stands none puts = handed_on stands.answered none puts
 
@@ -136,32 +127,23 @@ nonempty_last [] other = absurd (other refl)
 nonempty_last (byte ∷ bytes) other = refl
 
 -- the last line had no newline, and its answer was taken
-pub Takes-last : {start old new : Option (List ℕ)} {u v : List ℕ} {line : Line} {read : List ℕ} (answer : List ℕ) → unended_of read ≢ []
-    → Rests start old u line read → IsAnswer (unended_of read) answer → Sent old new v (u ++ (answer ++ newline ∷ []))
+pub Takes-last : {W : Type 0} {contents : W → Option (List ℕ)} {start new : Option (List ℕ)} {x : Output W} {v : List ℕ} {line : Line} {read : List ℕ} (answer : List ℕ) → unended_of read ≢ []
+    → Rests contents start x line read → IsAnswer (unended_of read) answer → Sent (written contents x) new v (x.waiting ++ (answer ++ newline ∷ []))
     → TakesAnswers start new v (lines_of read)
 Takes-last {read = read} answer some rests is sent =
     rw (nonempty_last (unended_of read) some) (TakesAnswers-more (unended_of read) answer (Takes-written rests.none rests.answered) is sent)
 
 -- the last line had no newline, and answering it failed
-pub WritesFront-last : {start old new : Option (List ℕ)} {u : List ℕ} {line : Line} {read : List ℕ} (answer : List ℕ) → unended_of read ≢ []
-    → Rests start old u line read → IsAnswer (unended_of read) answer → AppendsFront old new (u ++ (answer ++ newline ∷ []))
+pub WritesFront-last : {W : Type 0} {contents : W → Option (List ℕ)} {start new : Option (List ℕ)} {x : Output W} {line : Line} {read : List ℕ} (answer : List ℕ) → unended_of read ≢ []
+    → Rests contents start x line read → IsAnswer (unended_of read) answer → AppendsFront (written contents x) new (x.waiting ++ (answer ++ newline ∷ []))
     → WritesFront start new (lines_of read)
 WritesFront-last {read = read} answer some rests is front =
     rw (nonempty_last (unended_of read) some) (WritesFront-more (unended_of read) answer (Takes-written rests.none rests.answered) is front)
 
 -- each line had a newline
-pub WritesAnswers-ended : {start now : Option (List ℕ)} {u : List ℕ} {line : Line} {read : List ℕ} → unended_of read ≡ []
-    → Rests start now u line read → WritesAnswers start now (lines_of read)
-WritesAnswers-ended none rests = rw (none, append-nil) rests.answered
-
--- all was answered, and then the writer was flushed
-pub flushed : (start : Option (List ℕ)) {old new : Option (List ℕ)} (lines : List (List ℕ)) {r : Result (Unit {0}) RunError}
-    → WritesAnswers start old lines → Writes old new r []
-    → MatchResult r (λ _. WritesAnswers start new lines) (λ error. (error ≡ Write) × WritesFront start new lines)
-flushed start {old = old} {new = new} lines {r = Ok t} (written, are, before) after =
-    (written, are, subst (Appends start new) (append-nil written) (Appends-trans start old new written [] before after.ok))
-flushed start {new = new} lines {r = Err e} (written, are, before) after =
-    (after.err.0, WritesFront-of are (subst (AppendsFront start new) (append-nil written) (Sent-front [] (Sent-written before) after.err.1)))
+pub Takes-ended : {W : Type 0} {contents : W → Option (List ℕ)} {start : Option (List ℕ)} {x : Output W} {line : Line} {read : List ℕ} → unended_of read ≡ []
+    → Rests contents start x line read → TakesAnswers start (written contents x) x.waiting (lines_of read)
+Takes-ended none rests = rw (none, append-nil) (Takes-written rests.none rests.answered)
 
 -- one more byte of a chunk
 pub take_step : (read bytes : List ℕ) (i : ℕ) → i < length bytes

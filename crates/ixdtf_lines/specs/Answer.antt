@@ -6,12 +6,13 @@ use Rattle.ixdtf.specs.table.Faults.{Fault}
 use Rattle.ixdtf.specs.Handlers.{PlainRecord, PlainFault}
 use Rattle.ixdtf.specs.language.Languages.{Found, Derives}
 use Rattle.ixdtf.specs.table.Outcomes.{HasFault}
-use Rattle.ixdtf.specs.language.Languages.Found.{parsed}
+use Rattle.ixdtf.specs.language.Languages.Found.{parsed, shifted, identified, named}
 use Rattle.ixdtf.specs.language.Letters.{Text, byte_letter}
 use Rattle.ixdtf.specs.language.Readers.{Reader}
-use Rattle.ixdtf.specs.language.Readers.Reader.{parse}
+use Rattle.ixdtf.specs.language.Readers.Reader.{parse, parse_offset, parse_identifier, parse_iana_identifier}
 use Rattle.ixdtf_lines.specs.Fields.{fields_of}
-use Rattle.ixdtf_lines.specs.Word.{word_named, reader_of}
+use Rattle.ixdtf_lines.specs.Word.{name_of, reader_of, IsNoWord}
+use Rattle.ixdtf_lines.specs.declared.word.Word.{Word}
 
 -- the longest line that is read
 abbrev pub line_limit : ℕ
@@ -38,18 +39,24 @@ ok_answer_of found = codes "ok" ++ fields_of found
 abbrev pub error_answer_of : Fault → List ℕ
 error_answer_of fault = codes "error " ++ message_of fault
 
--- the text gives the reader the value: to `parse` a record, where each pair answers for itself, and to each other reader
+-- the text gives the reader the value: to `parse` a record, where each pair replies for itself, and to each other reader
 -- what it derives, with no pairs
 abbrev pub Gives : Reader → Text → Found → Type 0
 Gives parse text (parsed found) = PlainRecord parse text found
-Gives parse text _ = ⊥
-Gives reader text found = Derives reader text found []
+Gives parse text (shifted offset) = ⊥
+Gives parse text (identified zone) = ⊥
+Gives parse text (named name) = ⊥
+Gives parse_offset text found = Derives parse_offset text found []
+Gives parse_identifier text found = Derives parse_identifier text found []
+Gives parse_iana_identifier text found = Derives parse_iana_identifier text found []
 
--- the reader refuses the text with the fault: `parse` with one that the text gives, where each pair answers for itself, and
+-- the reader refuses the text with the fault: `parse` with one that the text gives, where each pair replies for itself, and
 -- each other reader with one that the text has, with no pairs
 abbrev pub Refuses : Reader → Text → Fault → Type 0
 Refuses parse text fault = PlainFault parse text fault
-Refuses reader text fault = HasFault reader text [] fault
+Refuses parse_offset text fault = HasFault parse_offset text [] fault
+Refuses parse_identifier text fault = HasFault parse_identifier text [] fault
+Refuses parse_iana_identifier text fault = HasFault parse_iana_identifier text [] fault
 
 -- the answer of a reader, to which the text gives a value, or which refuses the text
 abbrev pub IsOutcome : Reader → List ℕ → List ℕ → Type 0
@@ -57,9 +64,11 @@ IsOutcome reader text answer =
     ((found : Found) × Gives reader (letters text) found × (answer ≡ ok_answer_of found))
     ⊎ ((fault : Fault) × Refuses reader (letters text) fault × (answer ≡ error_answer_of fault))
 
--- the answer of the reader that the name names
+-- the answer of the reader that the name names, where there is one
 abbrev pub IsReaderAnswer : List ℕ → List ℕ → List ℕ → Type 0
-IsReaderAnswer name text answer = MatchOption (word_named name) (answer ≡ unknown_reader) (λ word. IsOutcome (reader_of word) text answer)
+IsReaderAnswer name text answer =
+    ((word : Word) × (name ≡ name_of word) × IsOutcome (reader_of word) text answer)
+    ⊎ (IsNoWord name × (answer ≡ unknown_reader))
 
 -- the answer to a line
 abbrev pub IsAnswer : List ℕ → List ℕ → Type 0

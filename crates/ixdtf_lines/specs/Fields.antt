@@ -1,5 +1,5 @@
 -- The fields of what a reader derives, each after a space.
-use Rattle.std.specs.Prelude.{ℕ, Bool, true, false, List, [], ◌∷◌, ◌++◌, Option, Some, None, codes}
+use Rattle.std.specs.Prelude.{ℕ, Bool, true, false, List, [], ◌∷◌, ◌++◌, map, Option, Some, None, codes}
 use Rattle.std.specs.Fmt.{decimal, signed_decimal}
 use Rattle.ixdtf.specs.declared.records.DateRecord.{DateRecord}
 use Rattle.ixdtf.specs.declared.records.FullPrecisionOffset.{FullPrecisionOffset}
@@ -11,13 +11,15 @@ use Rattle.ixdtf.specs.declared.records.UtcOffsetRecord.{UtcOffsetRecord}
 use Rattle.ixdtf.specs.declared.records.UtcOffsetRecord.TheVariants as offsets
 use Rattle.ixdtf.specs.declared.records.UtcOffsetRecordOrZ.{UtcOffsetRecordOrZ}
 use Rattle.ixdtf.specs.declared.records.UtcOffsetRecordOrZ.TheVariants as shifts
+use Rattle.ixdtf.specs.language.Digits.{padded_digits}
 use Rattle.ixdtf.specs.language.Fractions.{FractionParts, nanoseconds_of}
 use Rattle.ixdtf.specs.language.Brackets.{ZoneNote}
+use Rattle.ixdtf.specs.language.Letters.{Letter}
+use Rattle.ixdtf.specs.language.Letters.Letter.{Plain, Bad}
 use Rattle.ixdtf.specs.language.Languages.{Parsed, Found}
 use Rattle.ixdtf.specs.language.Languages.Found.{parsed, shifted, identified, named}
 use Rattle.ixdtf.specs.language.ZoneNames.{Zone}
 use Rattle.ixdtf.specs.language.ZoneNames.Zone.{Name, Offset}
-use Rattle.ixdtf_lines.specs.Digits.{nine_digits_of}
 
 -- `,`
 abbrev pub comma : ℕ
@@ -26,6 +28,15 @@ comma = 44
 -- `.`
 abbrev pub point : ℕ
 point = 46
+
+-- the byte of a letter; no byte has the letter `Bad`
+abbrev pub byte_of : Letter → ℕ
+byte_of (Plain byte) = byte
+byte_of Bad = 0
+
+-- the last nine digits of a number, with leading zeros
+abbrev pub nine_digits_of : ℕ → List ℕ
+nine_digits_of number = map byte_of (padded_digits 9 number)
 
 -- year, month and day
 abbrev pub date_text_of : DateRecord → List ℕ
@@ -61,10 +72,14 @@ sign_text_of Positive = codes "+"
 abbrev pub minute_offset_text_of : MinutePrecisionOffset → List ℕ
 minute_offset_text_of offset = sign_text_of offset.sign ++ (decimal offset.hour ++ comma ∷ decimal offset.minute)
 
--- the seconds after the minutes, with their fraction
+-- the seconds after the minutes
+abbrev pub second_text_of : ℕ → List ℕ
+second_text_of second = comma ∷ decimal second
+
+-- an offset with seconds, and their fraction
 abbrev pub full_offset_text_of : FullPrecisionOffset → List ℕ
 full_offset_text_of offset =
-    minute_offset_text_of offset.minute_precision_offset ++ (comma ∷ decimal offset.second ++ fraction_text_of offset.fraction)
+    minute_offset_text_of offset.minute_precision_offset ++ (second_text_of offset.second ++ fraction_text_of offset.fraction)
 
 -- the numbers of an offset, with seconds where it has them
 abbrev pub offset_numbers_of : UtcOffsetRecord → List ℕ
@@ -94,9 +109,13 @@ abbrev pub critical_text_of : Bool → List ℕ
 critical_text_of true = codes "!"
 critical_text_of false = []
 
+-- what stands before a zone
+abbrev pub zone_label_of : Bool → List ℕ
+zone_label_of critical = codes " tz=" ++ critical_text_of critical
+
 -- a zone, and whether it is critical
 abbrev pub zone_text_of : Bool → Zone → List ℕ
-zone_text_of critical zone = codes " tz=" ++ (critical_text_of critical ++ name_or_offset_of zone)
+zone_text_of critical zone = zone_label_of critical ++ name_or_offset_of zone
 
 abbrev pub zone_field_of : Option ZoneNote → List ℕ
 zone_field_of None = []

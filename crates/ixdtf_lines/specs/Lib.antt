@@ -1,10 +1,9 @@
 pub mod Answer
-pub mod Digits
+pub mod AnswerText
 pub mod Fields
 pub mod Found
 pub mod Line
 pub mod Lines
-pub mod Number
 pub mod Output
 pub mod Progress
 pub mod Run

@@ -1,11 +1,11 @@
--- What a writer holds after a call, and what waits to be written.
-use Rattle.std.specs.Prelude.{◌≡◌, ℕ, List, [], ◌∷◌, ◌++◌, Option, Result, OnOk, IfErr}
+-- What a writer holds after a call, and what waits to be written to it.
+use Rattle.std.specs.Prelude.{◌≡◌, ℕ, List, ◌++◌, Option, Result, OnOk, IfErr}
 use Rattle.std.specs.Io.KnownBytes.{Appends}
 use Rattle.std.specs.List.{flat_map}
 use denote.Bor.{Bor}
 use Rattle.ixdtf_lines.specs.declared.error.RunError.{RunError}
 use Rattle.ixdtf_lines.specs.declared.error.RunError.TheVariants.{Write}
-use Rattle.ixdtf_lines.specs.Lines.{newline}
+use Rattle.ixdtf_lines.specs.declared.output.Output.{Output}
 
 -- a front of the bytes was appended
 pub record AppendsFront (old new : Option (List ℕ)) (bytes : List ℕ) : Type 0 where
@@ -25,14 +25,15 @@ pub record Sent (old new : Option (List ℕ)) (waiting taken : List ℕ) : Type 
   pub whole : taken ≡ front ++ waiting
   pub appended : Appends old new front
 
--- the bytes were taken behind those that waited before, or writing failed after a front of them all
-pub record Puts (old new : Option (List ℕ)) (before after : List ℕ) (result : Result (Unit {0}) RunError) (bytes : List ℕ) : Type 0 where
-  pub ok : OnOk result (Sent old new after (before ++ bytes))
-  pub err : IfErr result (λ error. (error ≡ Write) × AppendsFront old new (before ++ bytes))
+-- what the writer of an output holds
+abbrev pub written : {W : Type 0} → (W → Option (List ℕ)) → Output W → Option (List ℕ)
+written contents output = contents output.writer.now
 
--- the same of some text that the fact says, and a newline
-abbrev pub PutsLine : Option (List ℕ) → Option (List ℕ) → List ℕ → List ℕ → Result (Unit {0}) RunError → (List ℕ → Type 0) → Type 0
-PutsLine old new before after result IsText = (text : List ℕ) × IsText text × Puts old new before after result (text ++ newline ∷ [])
+-- the bytes were taken behind those that waited before, or writing failed after a front of them all; the writer is the same
+pub record Puts {W : Type 0} (contents : W → Option (List ℕ)) (before after : Output W) (result : Result (Unit {0}) RunError) (bytes : List ℕ) : Type 0 where
+  pub same : after.writer.ghost_name ≡ before.writer.ghost_name
+  pub ok : OnOk result (Sent (written contents before) (written contents after) after.waiting (before.waiting ++ bytes))
+  pub err : IfErr result (λ error. (error ≡ Write) × AppendsFront (written contents before) (written contents after) (before.waiting ++ bytes))
 
 -- the bytes of the slices, one after the other
 abbrev pub joined : List (Bor (List ℕ)) → List ℕ

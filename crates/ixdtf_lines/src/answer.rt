@@ -1,50 +1,59 @@
 //! The answer to a line.
-ghost use Rattle.std.specs.Prelude.{◌≡◌, ℕ, List, [], ◌∷◌, ◌++◌, ◌≤◌, length, position, codes};
+ghost use Rattle.std.specs.Prelude.{◌≡◌, ℕ, List, [], ◌∷◌, ◌++◌, ◌≤◌, length, position};
 ghost use Rattle.ixdtf.specs.table.ErrorTexts.{message_of};
 ghost use Rattle.ixdtf.specs.table.Faults.{fault_of};
-ghost use Rattle.ixdtf_lines.specs.Answer.{IsAnswer, IsReaderAnswer, IsOutcome, is_space, ok_answer_of, error_answer_of};
+ghost use Rattle.ixdtf_lines.specs.Answer.{IsAnswer, is_space, ok_answer_of, error_answer_of};
+ghost use Rattle.ixdtf_lines.specs.AnswerText.{answer_text_of};
 ghost use Rattle.ixdtf_lines.specs.Found.{found_of};
 ghost use Rattle.ixdtf_lines.specs.Line.{Holds};
 ghost use Rattle.ixdtf_lines.specs.Lines.{newline};
-ghost use Rattle.ixdtf_lines.specs.Output.{Puts, PutsLine};
-ghost use Rattle.ixdtf_lines.specs.Word.{reader_of};
+ghost use Rattle.ixdtf_lines.specs.Output.{Puts};
 
 use crate::error::RunError;
-use crate::fields::put_fields;
 use crate::found::{Found, read};
 use crate::line::Line;
-use crate::waiting::Waiting;
+use crate::output::Output;
 use crate::word::Word;
 use ixdtf::ParseError;
 use std::io::Write;
 
-/// Puts the answer to the line, and a newline.
-pub fn put_answer<W: Write>(
-    waiting: &mut Waiting,
-    writer: &mut W,
-    line: &Line,
-) -> Result<(), RunError>
-    ensures { (text : List ℕ) → Holds line.now text
-        → PutsLine (W.contents writer.old) (W.contents writer.new) waiting.old waiting.new result (IsAnswer text) }
+/// The answer to a line.
+#[derive(Drop)]
+pub enum Answer<'a> {
+    /// What the reader found.
+    Found(Found<'a>),
+    /// The line is too long to be read.
+    TooLong,
+    /// The line names no reader.
+    NoSuchReader,
+    /// The reader refuses the text.
+    Refused(ParseError),
+}
+
+/// What is found in the line, or why the line is refused.
+pub fn answer_to(line: &Line) -> Answer<'_>
+    ensures { (text : List ℕ) → Holds line.now text → IsAnswer text (answer_text_of result) }
 {
     match line.as_slice() {
-        None => waiting.put(writer, b"error line too long\n"),
-        Some(text) => put_short_answer(waiting, writer, text),
+        None => Answer::TooLong,
+        Some(text) => answer_to_short(text),
     }
 }
 
-/// Puts the answer to a line that is not too long.
-fn put_short_answer<W: Write>(
-    waiting: &mut Waiting,
-    writer: &mut W,
-    line: &[u8],
-) -> Result<(), RunError>
+/// The answer to a line that is not too long.
+fn answer_to_short(line: &[u8]) -> Answer<'_>
     requires { length line.now ≤ 4096 }
-    ensures { PutsLine (W.contents writer.old) (W.contents writer.new) waiting.old waiting.new result (IsAnswer line.now) }
+    ensures { IsAnswer line.now (answer_text_of result) }
 {
-    match first_space(line) {
-        None => waiting.put(writer, b"error unknown reader\n"),
-        Some(place) => put_reader_answer(waiting, writer, &line[..place], &line[place + 1..]),
+    let Some(place) = first_space(line) else {
+        return Answer::NoSuchReader;
+    };
+    let Some(word) = Word::named(&line[..place]) else {
+        return Answer::NoSuchReader;
+    };
+    match read(word, &line[place + 1..]) {
+        Ok(found) => Answer::Found(found),
+        Err(error) => Answer::Refused(error),
     }
 }
 
@@ -55,67 +64,43 @@ fn first_space(line: &[u8]) -> Option<usize>
     line.iter().position(|byte| *byte == b' ')
 }
 
-/// Puts the answer of the reader of this name.
-fn put_reader_answer<W: Write>(
-    waiting: &mut Waiting,
-    writer: &mut W,
-    name: &[u8],
-    text: &[u8],
-) -> Result<(), RunError>
-    ensures { PutsLine (W.contents writer.old) (W.contents writer.new) waiting.old waiting.new result (IsReaderAnswer name.now text.now) }
-{
-    match Word::named(name) {
-        None => waiting.put(writer, b"error unknown reader\n"),
-        Some(word) => put_answer_of(waiting, writer, word, text),
+impl<W: Write> Output<'_, W> {
+    /// Puts the answer, and a newline.
+    pub fn put_answer(&mut self, answer: &Answer<'_>) -> Result<(), RunError>
+        ensures { Puts W.contents self.old self.new result
+            (answer_text_of answer.now ++ newline ∷ []) }
+    {
+        match answer {
+            Answer::Found(found) => self.put_found(found),
+            Answer::TooLong => self.put(b"error line too long\n"),
+            Answer::NoSuchReader => self.put(b"error unknown reader\n"),
+            Answer::Refused(error) => self.put_error(*error),
+        }
     }
-}
 
-/// Puts the answer of the reader that the word names.
-fn put_answer_of<W: Write>(
-    waiting: &mut Waiting,
-    writer: &mut W,
-    word: Word,
-    text: &[u8],
-) -> Result<(), RunError>
-    ensures { PutsLine (W.contents writer.old) (W.contents writer.new) waiting.old waiting.new result (IsOutcome (reader_of word) text.now) }
-{
-    match read(word, text) {
-        Ok(found) => put_found(waiting, writer, &found),
-        Err(error) => put_error(waiting, writer, error),
+    /// Puts the answer to a text that is read, and a newline.
+    fn put_found(&mut self, found: &Found<'_>) -> Result<(), RunError>
+        ensures { Puts W.contents self.old self.new result
+            (ok_answer_of (found_of found.now) ++ newline ∷ []) }
+    {
+        self.put(b"ok")?;
+        self.put_fields(found)?;
+        self.put(b"\n")
     }
-}
 
-/// Puts the answer to a text that is read.
-fn put_found<W: Write>(
-    waiting: &mut Waiting,
-    writer: &mut W,
-    found: &Found<'_>,
-) -> Result<(), RunError>
-    ensures { Puts (W.contents writer.old) (W.contents writer.new) waiting.old waiting.new result
-        (ok_answer_of (found_of found.now) ++ newline ∷ []) }
-{
-    waiting.put(writer, b"ok")?;
-    put_fields(waiting, writer, found)?;
-    waiting.put(writer, b"\n")
-}
-
-/// Puts the answer to a text that is refused.
-fn put_error<W: Write>(
-    waiting: &mut Waiting,
-    writer: &mut W,
-    error: ParseError,
-) -> Result<(), RunError>
-    ensures { Puts (W.contents writer.old) (W.contents writer.new) waiting.old waiting.new result
-        (error_answer_of (fault_of error.entry) ++ newline ∷ []) }
-{
-    let (text, location) = error_parts(error);
-    let pieces = [
-        b"error ".as_slice(),
-        text.as_bytes(),
-        location.as_bytes(),
-        b"\n".as_slice(),
-    ];
-    waiting.put_all(writer, &pieces)
+    /// Puts the answer to a text that is refused, and a newline.
+    fn put_error(&mut self, error: ParseError) -> Result<(), RunError>
+        ensures { Puts W.contents self.old self.new result
+            (error_answer_of (fault_of error.entry) ++ newline ∷ []) }
+    {
+        let (text, location) = error_parts(error);
+        self.put_all(&[
+            b"error ".as_slice(),
+            text.as_bytes(),
+            location.as_bytes(),
+            b"\n".as_slice(),
+        ])
+    }
 }
 
 /// The two parts of what Display writes.

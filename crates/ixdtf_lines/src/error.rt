@@ -3,8 +3,8 @@
 /// What failed.
 #[derive(Clone, Copy, Debug, PartialEq)]
 pub enum RunError {
-    /// A read answered an error.
+    /// A read returned an error.
     Read = 1,
-    /// A write or a flush answered an error, or a write took no byte.
+    /// A write or a flush returned an error, or a write took no byte.
     Write = 2,
 }

@@ -1,7 +1,6 @@
 //! What the readers find.
 ghost use Rattle.std.specs.Prelude.{IfOk, IfErr};
 ghost use Rattle.ixdtf.specs.table.Faults.{fault_of};
-ghost use Rattle.ixdtf.specs.language.Readers.Reader.{parse as parse_reader, parse_offset as offset_reader, parse_identifier as zone_reader, parse_iana_identifier as iana_reader};
 ghost use Rattle.ixdtf_lines.specs.Answer.{letters, Gives, Refuses};
 ghost use Rattle.ixdtf_lines.specs.Found.{found_of};
 ghost use Rattle.ixdtf_lines.specs.Word.{reader_of};
@@ -27,61 +26,27 @@ pub enum Found<'a> {
 
 /// What the reader of the word finds in the text.
 pub fn read(word: Word, text: &[u8]) -> ParserResult<Found<'_>>
-    ensures ok { IfOk result (λ found. Gives (reader_of word) (letters text.now) (found_of found)) }
-    ensures err { IfErr result (λ error. Refuses (reader_of word) (letters text.now) (fault_of error)) }
+    ensures ok { IfOk result (λ found.
+        Gives (reader_of word) (letters text.now) (found_of found)) }
+    ensures err { IfErr result (λ error.
+        Refuses (reader_of word) (letters text.now) (fault_of error)) }
 {
     match word {
-        Word::Parse => read_record(text),
-        Word::Offset => read_offset(text),
-        Word::Zone => read_zone(text),
-        Word::Iana => read_name(text),
-    }
-}
-
-/// What `parse` finds.
-fn read_record(text: &[u8]) -> ParserResult<Found<'_>>
-    ensures ok { IfOk result (λ found. Gives parse_reader (letters text.now) (found_of found)) }
-    ensures err { IfErr result (λ error. Refuses parse_reader (letters text.now) (fault_of error)) }
-{
-    let mut parser = IxdtfParser::from_utf8(text);
-    match parser.parse() {
-        Ok(parts) => Ok(Found::Record(parts)),
-        Err(error) => Err(error),
-    }
-}
-
-/// What `offset` finds.
-fn read_offset(text: &[u8]) -> ParserResult<Found<'_>>
-    ensures ok { IfOk result (λ found. Gives offset_reader (letters text.now) (found_of found)) }
-    ensures err { IfErr result (λ error. Refuses offset_reader (letters text.now) (fault_of error)) }
-{
-    let mut parser = TimeZoneParser::from_utf8(text);
-    match parser.parse_offset() {
-        Ok(offset) => Ok(Found::Offset(offset)),
-        Err(error) => Err(error),
-    }
-}
-
-/// What `zone` finds.
-fn read_zone(text: &[u8]) -> ParserResult<Found<'_>>
-    ensures ok { IfOk result (λ found. Gives zone_reader (letters text.now) (found_of found)) }
-    ensures err { IfErr result (λ error. Refuses zone_reader (letters text.now) (fault_of error)) }
-{
-    let mut parser = TimeZoneParser::from_utf8(text);
-    match parser.parse_identifier() {
-        Ok(zone) => Ok(Found::Zone(zone)),
-        Err(error) => Err(error),
-    }
-}
-
-/// What `iana` finds.
-fn read_name(text: &[u8]) -> ParserResult<Found<'_>>
-    ensures ok { IfOk result (λ found. Gives iana_reader (letters text.now) (found_of found)) }
-    ensures err { IfErr result (λ error. Refuses iana_reader (letters text.now) (fault_of error)) }
-{
-    let mut parser = TimeZoneParser::from_utf8(text);
-    match parser.parse_iana_identifier() {
-        Ok(name) => Ok(Found::Name(name)),
-        Err(error) => Err(error),
+        Word::Parse => match IxdtfParser::from_utf8(text).parse() {
+            Ok(parts) => Ok(Found::Record(parts)),
+            Err(error) => Err(error),
+        },
+        Word::Offset => match TimeZoneParser::from_utf8(text).parse_offset() {
+            Ok(offset) => Ok(Found::Offset(offset)),
+            Err(error) => Err(error),
+        },
+        Word::Zone => match TimeZoneParser::from_utf8(text).parse_identifier() {
+            Ok(zone) => Ok(Found::Zone(zone)),
+            Err(error) => Err(error),
+        },
+        Word::Iana => match TimeZoneParser::from_utf8(text).parse_iana_identifier() {
+            Ok(name) => Ok(Found::Name(name)),
+            Err(error) => Err(error),
+        },
     }
 }

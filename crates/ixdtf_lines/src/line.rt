@@ -57,7 +57,8 @@ impl Line {
     /// The line, unless it is too long.
     pub fn as_slice(&self) -> Option<&[u8]>
         ensures { (text : List ℕ) → Holds self.now text
-            → MatchOption result (4096 < length text) (λ bytes. (bytes.now ≡ text) × (length text ≤ 4096)) }
+            → MatchOption result (4096 < length text)
+            (λ bytes. (bytes.now ≡ text) × (length text ≤ 4096)) }
     {
         if self.is_too_long {
             None

@@ -1,7 +1,9 @@
 //! Numbers as text.
-ghost use Rattle.std.specs.Prelude.{◌≡◌, ◌++◌, ◌<◌, ◌^◌, drop, unsigned_abs};
+ghost use Rattle.std.specs.Prelude.{◌≡◌, ◌++◌, ◌+◌, ◌%◌, ◌<◌, ◌^◌, ℕ, List, drop, unsigned_abs};
 ghost use Rattle.std.specs.Fmt.{decimal, signed_decimal};
-ghost use Rattle.ixdtf_lines.specs.Digits.{digit_of, nine_digits_of};
+ghost use Rattle.ixdtf_lines.specs.Fields.{nine_digits_of};
+
+use std::marker::Model;
 
 /// The most digits of a `u64`.
 const MOST_DIGITS: usize = 20;
@@ -11,15 +13,20 @@ const MOST_DIGITS: usize = 20;
 pub struct Decimal {
     digits: [u8; MOST_DIGITS],
     start: usize,
-    ghost in_array: { start < 20 },
+}
+
+impl Model for Decimal {
+    ghost Value = { List ℕ };
+
+    ghost view = { λ number. drop number.start number.digits };
+
+    ghost invariant = { λ number. number.start < 20 };
 }
 
 impl Decimal {
-    ghost use Rattle.ixdtf_lines.specs.Number.{digits_of};
-
     /// The digits of the number, without leading zeros.
     pub fn new(number: u64) -> Decimal
-        ensures { digits_of result ≡ decimal number }
+        ensures { result ≡ decimal number }
     {
         let mut digits = [0; MOST_DIGITS];
         let start = put_decimal(number, &mut digits);
@@ -28,7 +35,7 @@ impl Decimal {
 
     /// The digits as bytes.
     pub fn as_slice(&self) -> &[u8]
-        ensures { result.now ≡ digits_of self.now }
+        ensures { result.now ≡ self.now }
     {
         &self.digits[self.start..]
     }
@@ -82,7 +89,7 @@ pub fn nine_digits(nanoseconds: u32) -> [u8; 9]
 
 /// The last digit of the number.
 fn digit(number: u32) -> u8
-    ensures { result ≡ digit_of number }
+    ensures { result ≡ 48 + number % 10 }
 {
     b'0' + (number % 10) as u8
 }

@@ -2,14 +2,14 @@
 ghost use Rattle.std.specs.Prelude.{◌≡◌, ℕ, ◌<◌, ◌≤◌, List, ◌∷◌, [], ◌++◌, length, take, Option, Err, IfOk, IfErr, OnOk, IfSome, MatchResult};
 ghost use Rattle.std.specs.Io.KnownBytes.{Consumes, Keeps, IsAtEnd};
 ghost use Rattle.ixdtf_lines.specs.Lines.{lines_of, ended_lines_of};
+ghost use Rattle.ixdtf_lines.specs.Output.{written};
+ghost use Rattle.ixdtf_lines.specs.Progress.{Stands, Rests, Fails, Runs};
 ghost use Rattle.ixdtf_lines.specs.Run.{WritesAnswers, WritesFront};
-ghost use Rattle.ixdtf_lines.specs.Progress.{Stands, Rests};
 
-use crate::answer::put_answer;
+use crate::answer::answer_to;
 use crate::error::RunError;
 use crate::line::Line;
-use crate::output::flush;
-use crate::waiting::Waiting;
+use crate::output::Output;
 use std::io::{Read, Write};
 
 /// The bytes that one read asks for.
@@ -26,21 +26,31 @@ pub fn run<R: Read, W: Write>(reader: &mut R, writer: &mut W) -> Result<(), RunE
         × Consumes (R.remaining reader.old) (R.remaining reader.new) bytes
         × WritesAnswers (W.contents writer.old) (W.contents writer.new) (ended_lines_of bytes) }
 
-    // A beginning of the answers to what was read was written.
+    // A beginning of the answers to all lines of what was read was written.
     ensures write { result ≡ Err RunError.Write → (bytes : List ℕ)
         × Consumes (R.remaining reader.old) (R.remaining reader.new) bytes
         × WritesFront (W.contents writer.old) (W.contents writer.new) (lines_of bytes) }
 {
-    let mut waiting = Waiting::new();
+    let mut output = Output::new(writer);
+    answer_all(reader, &mut output)
+}
+
+/// Answers each line of the reader on an output where no byte waits.
+fn answer_all<R: Read, W: Write>(reader: &mut R, output: &mut Output<'_, W>) -> Result<(), RunError>
+    requires { output.old.waiting ≡ [] }
+    ensures same { output.new.writer.ghost_name ≡ output.old.writer.ghost_name }
+    ensures runs { Runs (R.remaining reader.old) (R.remaining reader.new)
+        (written W.contents output.old) (written W.contents output.new) result }
+{
     let mut line = Line::new();
     let mut input = [0; INPUT_SIZE];
     // A loop is proved to end, so this one counts its reads. No byte waits at any of them.
     'reads: for _ in 0..u64::MAX {
         let count = read_some(reader, &mut input)?;
         if count == 0 {
-            return finish(&mut waiting, writer, &line);
+            return finish(output, &line);
         }
-        answer_bytes(&mut waiting, writer, &mut line, &input[..count])?;
+        answer_bytes(output, &mut line, &input[..count])?;
     }
     Err(RunError::Read)
 }
@@ -48,9 +58,12 @@ pub fn run<R: Read, W: Write>(reader: &mut R, writer: &mut W) -> Result<(), RunE
 /// One read.
 fn read_some<R: Read>(reader: &mut R, input: &mut [u8]) -> Result<usize, RunError>
     ensures bound { IfOk result (λ count. count ≤ length input.new) }
-    ensures ok { IfOk result (λ count. Consumes (R.remaining reader.old) (R.remaining reader.new) (take count input.new)) }
-    ensures end { IfOk result (λ count. count ≡ 0 → 0 < length input.old → IsAtEnd (R.remaining reader.new)) }
-    ensures err { IfErr result (λ error. (error ≡ RunError.Read) × Keeps (R.remaining reader.old) (R.remaining reader.new)) }
+    ensures ok { IfOk result (λ count.
+        Consumes (R.remaining reader.old) (R.remaining reader.new) (take count input.new)) }
+    ensures end { IfOk result (λ count. count ≡ 0 → 0 < length input.old
+        → IsAtEnd (R.remaining reader.new)) }
+    ensures err { IfErr result (λ error. (error ≡ RunError.Read)
+        × Keeps (R.remaining reader.old) (R.remaining reader.new)) }
 {
     match reader.read(input) {
         Ok(count) => Ok(count),
@@ -58,77 +71,57 @@ fn read_some<R: Read>(reader: &mut R, input: &mut [u8]) -> Result<usize, RunErro
     }
 }
 
-/// Takes the bytes of a read, and hands the answers to the writer.
+/// Takes the bytes of a read, answers each line that ends in them, and hands the answers on.
 fn answer_bytes<W: Write>(
-    waiting: &mut Waiting,
-    writer: &mut W,
+    output: &mut Output<'_, W>,
     line: &mut Line,
     bytes: &[u8],
 ) -> Result<(), RunError>
-    ensures { (start : Option (List ℕ)) (read : List ℕ) → Rests start (W.contents writer.old) waiting.old line.old read
-        → MatchResult result (λ _. Rests start (W.contents writer.new) waiting.new line.new (read ++ bytes.now))
-        (λ error. (error ≡ RunError.Write) × WritesFront start (W.contents writer.new) (ended_lines_of (read ++ bytes.now))) }
-{
-    take_bytes(waiting, writer, line, bytes)?;
-    waiting.hand_on(writer)
-}
-
-/// Takes the bytes onto the line, and answers each line that ends in them.
-fn take_bytes<W: Write>(
-    waiting: &mut Waiting,
-    writer: &mut W,
-    line: &mut Line,
-    bytes: &[u8],
-) -> Result<(), RunError>
-    ensures { (start : Option (List ℕ)) (read : List ℕ) → Stands start (W.contents writer.old) waiting.old line.old read
-        → MatchResult result (λ _. Stands start (W.contents writer.new) waiting.new line.new (read ++ bytes.now))
-        (λ error. (error ≡ RunError.Write) × WritesFront start (W.contents writer.new) (ended_lines_of (read ++ bytes.now))) }
+    ensures same { output.new.writer.ghost_name ≡ output.old.writer.ghost_name }
+    ensures answers { (start : Option (List ℕ)) (read : List ℕ)
+        → Rests W.contents start output.old line.old read
+        → MatchResult result (λ _. Rests W.contents start output.new line.new (read ++ bytes.now))
+        (Fails start (written W.contents output.new) (ended_lines_of (read ++ bytes.now))) }
 {
     for byte in bytes {
-        take_byte(waiting, writer, line, *byte)?;
+        take_byte(output, line, *byte)?;
     }
-    Ok(())
+    output.hand_on()
 }
 
 /// Takes a byte onto the line, or answers the line where the byte ends it.
 fn take_byte<W: Write>(
-    waiting: &mut Waiting,
-    writer: &mut W,
+    output: &mut Output<'_, W>,
     line: &mut Line,
     byte: u8,
 ) -> Result<(), RunError>
-    ensures { (start : Option (List ℕ)) (read : List ℕ) → Stands start (W.contents writer.old) waiting.old line.old read
-        → MatchResult result (λ _. Stands start (W.contents writer.new) waiting.new line.new (read ++ byte ∷ []))
-        (λ error. (error ≡ RunError.Write) × WritesFront start (W.contents writer.new) (ended_lines_of (read ++ byte ∷ []))) }
+    ensures same { output.new.writer.ghost_name ≡ output.old.writer.ghost_name }
+    ensures answers { (start : Option (List ℕ)) (read : List ℕ)
+        → Stands W.contents start output.old line.old read
+        → MatchResult result (λ _. Stands W.contents start output.new line.new (read ++ byte ∷ []))
+        (Fails start (written W.contents output.new) (ended_lines_of (read ++ byte ∷ []))) }
 {
-    if byte == b'\n' {
-        put_answer(waiting, writer, line)?;
-        line.clear();
-    } else {
+    if byte != b'\n' {
         line.push(byte);
+        return Ok(());
     }
+    output.put_answer(&answer_to(line))?;
+    line.clear();
     Ok(())
 }
 
 /// Answers what stands after the last newline, hands the answer to the writer, and flushes it.
-fn finish<W: Write>(waiting: &mut Waiting, writer: &mut W, line: &Line) -> Result<(), RunError>
-    ensures { (start : Option (List ℕ)) (read : List ℕ) → Rests start (W.contents writer.old) waiting.old line.now read
-        → MatchResult result (λ _. WritesAnswers start (W.contents writer.new) (lines_of read))
-        (λ error. (error ≡ RunError.Write) × WritesFront start (W.contents writer.new) (lines_of read)) }
-{
-    answer_rest(waiting, writer, line)?;
-    flush(writer)
-}
-
-/// Answers what stands after the last newline, and hands the answer to the writer.
-fn answer_rest<W: Write>(waiting: &mut Waiting, writer: &mut W, line: &Line) -> Result<(), RunError>
-    ensures { (start : Option (List ℕ)) (read : List ℕ) → Rests start (W.contents writer.old) waiting.old line.now read
-        → MatchResult result (λ _. WritesAnswers start (W.contents writer.new) (lines_of read))
-        (λ error. (error ≡ RunError.Write) × WritesFront start (W.contents writer.new) (lines_of read)) }
+fn finish<W: Write>(output: &mut Output<'_, W>, line: &Line) -> Result<(), RunError>
+    ensures same { output.new.writer.ghost_name ≡ output.old.writer.ghost_name }
+    ensures answers { (start : Option (List ℕ)) (read : List ℕ)
+        → Rests W.contents start output.old line.now read
+        → MatchResult result
+        (λ _. WritesAnswers start (written W.contents output.new) (lines_of read))
+        (Fails start (written W.contents output.new) (lines_of read)) }
 {
     if line.is_empty() {
-        return Ok(());
+        return output.finish();
     }
-    put_answer(waiting, writer, line)?;
-    waiting.hand_on(writer)
+    output.put_answer(&answer_to(line))?;
+    output.finish()
 }

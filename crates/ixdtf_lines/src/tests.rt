@@ -11,22 +11,36 @@ use std::io::{ErrorKind, Read, Write};
 use std::process::Abort;
 use std::test::Fail;
 
-/// A reader that gives few bytes at a time, and fails at one of its reads.
+/// A reader that gives few bytes at a time, fails at one of its reads, and then goes on.
 #[derive(Drop)]
 struct FaultyReader<'a> {
     rest: &'a [u8],
     /// The most bytes that one read gives.
     most: usize,
-    /// How many reads succeed.
+    /// How many reads succeed before the one that fails.
     good_reads: usize,
+    /// How many reads there were.
+    reads: usize,
+}
+
+impl FaultyReader<'_> {
+    fn new(rest: &[u8], most: usize, good_reads: usize) -> FaultyReader<'_> {
+        FaultyReader {
+            rest,
+            most,
+            good_reads,
+            reads: 0,
+        }
+    }
 }
 
 impl Read for FaultyReader<'_> {
     fn read(&mut self, buf: &mut [u8]) -> io::Result<usize> {
-        if self.good_reads == 0 {
+        let earlier = self.reads;
+        self.reads = earlier.saturating_add(1);
+        if earlier == self.good_reads {
             return Err(io::Error::from(ErrorKind::Other));
         }
-        self.good_reads -= 1;
         let count = self.rest.len().min(self.most).min(buf.len());
         let (front, rest) = self.rest.split_at(count);
         buf[..count].copy_from_slice(front);
@@ -274,16 +288,13 @@ fn answers_more_than_the_array_holds(rt: HostRuntime) -> Result<(), Fail> {
     check_run(&rt, rt.alloc(), lines.as_slice(), answers.as_slice())
 }
 
-/// What a run on the two lines has written where the reader fails after so many reads.
+/// What a run on the two lines has written where the reader fails once, after so many reads. The run reads no more then.
 fn check_reader(rt: &impl Abort, most: usize, good_reads: usize, bytes: &[u8]) {
-    let mut reader = FaultyReader {
-        rest: TWO_LINES,
-        most,
-        good_reads,
-    };
+    let mut reader = FaultyReader::new(TWO_LINES, most, good_reads);
     let mut writer = FaultyWriter::new();
     let outcome = run(&mut reader, &mut writer);
     assert_eq!(rt; outcome, Err(RunError::Read));
+    assert_eq!(rt; reader.reads, good_reads.saturating_add(1));
     assert_eq!(rt; writer.written(), bytes);
 }
 
@@ -296,6 +307,17 @@ fn stops_at_a_read_that_fails(rt: HostRuntime) {
 }
 
 #[test]
+fn reads_no_more_after_a_read_that_fails(rt: HostRuntime) {
+    let mut reader = FaultyReader::new(TWO_LINES, 17, 0);
+    let mut writer = FaultyWriter::new();
+    let outcome = run(&mut reader, &mut writer);
+    assert_eq!(rt; outcome, Err(RunError::Read));
+    assert_eq!(rt; reader.reads, 1);
+    assert_eq!(rt; reader.rest, TWO_LINES);
+    assert_eq!(rt; writer.written(), b"".as_slice());
+}
+
+#[test]
 fn answers_the_lines_before_each_fault(rt: HostRuntime) {
     for good_reads in 0..LINES.len() + 1 {
         check_fault(&rt, good_reads);
@@ -304,11 +326,7 @@ fn answers_the_lines_before_each_fault(rt: HostRuntime) {
 
 /// With one byte a read, a run that stops after so many reads has the answers to the lines that ended.
 fn check_fault(rt: &impl Abort, good_reads: usize) {
-    let mut reader = FaultyReader {
-        rest: LINES,
-        most: 1,
-        good_reads,
-    };
+    let mut reader = FaultyReader::new(LINES, 1, good_reads);
     let mut writer = FaultyWriter::new();
     let outcome = run(&mut reader, &mut writer);
     assert_eq!(rt; outcome, Err(RunError::Read));
@@ -328,11 +346,7 @@ fn check_fault(rt: &impl Abort, good_reads: usize) {
 
 #[test]
 fn reads_to_the_end_byte_by_byte(rt: HostRuntime) {
-    let mut reader = FaultyReader {
-        rest: LINES,
-        most: 1,
-        good_reads: LINES.len() + 1,
-    };
+    let mut reader = FaultyReader::new(LINES, 1, LINES.len() + 1);
     let mut writer = FaultyWriter::new();
     let outcome = run(&mut reader, &mut writer);
     assert_eq!(rt; outcome, Ok(()));

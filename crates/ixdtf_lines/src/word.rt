@@ -1,5 +1,5 @@
 //! The words that name the readers.
-ghost use Rattle.std.specs.Prelude.{◌≡◌};
+ghost use Rattle.ixdtf_lines.specs.Word.{IsNamed};
 
 /// A reader.
 #[derive(Clone, Copy, Debug, PartialEq)]
@@ -15,11 +15,9 @@ pub enum Word {
 }
 
 impl Word {
-    ghost use Rattle.ixdtf_lines.specs.Word.{word_named};
-
     /// The reader of this name.
     pub fn named(name: &[u8]) -> Option<Word>
-        ensures { result ≡ word_named name.now }
+        ensures { IsNamed name.now result }
     {
         if name == b"parse".as_slice() {
             Some(Word::Parse)

@@ -1,0 +1,44 @@
+-- What each reader gave, and what it refused.
+use Rattle.std.proofs.Common.{refl, map}
+use Rattle.ixdtf.specs.Views.{parsed_of, zone_of}
+use Rattle.ixdtf.specs.table.Faults.{fault_of}
+use Rattle.ixdtf.specs.language.Languages.Found.{parsed, shifted, identified, named}
+use Rattle.ixdtf.specs.language.Readers.Reader.{parse, parse_offset, parse_identifier, parse_iana_identifier}
+use Rattle.ixdtf_lines.proofs.AnswerLemmas.{Gives-text, Refuses-text}
+use Rattle.ixdtf_lines.proofs.found.read.Goals as goal
+
+pub returns-in-Ok-clause-ok : goal.returns-in-Ok-clause-ok
+returns-in-Ok-clause-ok c =
+    let found = parsed_of (λ byte. byte) c.in-Ok.parts in
+    rw c.in-Parse.is (Gives-text parse c.args.text.now _ (parsed found) c.from_utf8.ensures.rest ((c.in-Ok.ensures.ok found).0 refl))
+
+pub returns-in-Err-clause-err : goal.returns-in-Err-clause-err
+returns-in-Err-clause-err c =
+    rw c.in-Parse.is (Refuses-text parse c.args.text.now _ (fault_of c.in-Err.error) c.from_utf8.ensures.rest c.in-Err.ensures.err)
+
+pub returns-in-Ok-parse_offset-clause-ok : goal.returns-in-Ok-parse_offset-clause-ok
+returns-in-Ok-parse_offset-clause-ok c =
+    let found = c.in-Ok-parse_offset.offset in
+    rw c.in-Offset.is (Gives-text parse_offset c.args.text.now _ (shifted found) c.from_utf8-in-Offset.ensures.rest ((c.in-Ok-parse_offset.ensures.ok found).0 refl))
+
+pub returns-in-Err-parse_offset-clause-err : goal.returns-in-Err-parse_offset-clause-err
+returns-in-Err-parse_offset-clause-err c =
+    rw c.in-Offset.is (Refuses-text parse_offset c.args.text.now _ (fault_of c.in-Err-parse_offset.error) c.from_utf8-in-Offset.ensures.rest c.in-Err-parse_offset.ensures.err)
+
+pub returns-in-Ok-parse_identifier-clause-ok : goal.returns-in-Ok-parse_identifier-clause-ok
+returns-in-Ok-parse_identifier-clause-ok c =
+    let found = zone_of (λ byte. byte) c.in-Ok-parse_identifier.zone in
+    rw c.in-Zone.is (Gives-text parse_identifier c.args.text.now _ (identified found) c.from_utf8-in-Zone.ensures.rest ((c.in-Ok-parse_identifier.ensures.ok found).0 refl))
+
+pub returns-in-Err-parse_identifier-clause-err : goal.returns-in-Err-parse_identifier-clause-err
+returns-in-Err-parse_identifier-clause-err c =
+    rw c.in-Zone.is (Refuses-text parse_identifier c.args.text.now _ (fault_of c.in-Err-parse_identifier.error) c.from_utf8-in-Zone.ensures.rest c.in-Err-parse_identifier.ensures.err)
+
+pub returns-in-Ok-parse_iana_identifier-clause-ok : goal.returns-in-Ok-parse_iana_identifier-clause-ok
+returns-in-Ok-parse_iana_identifier-clause-ok c =
+    let found = map (λ byte. byte) c.in-Ok-parse_iana_identifier.name.now in
+    rw c.in-Iana.is (Gives-text parse_iana_identifier c.args.text.now _ (named found) c.from_utf8-in-Iana.ensures.rest ((c.in-Ok-parse_iana_identifier.ensures.ok found).0 refl))
+
+pub returns-in-Err-parse_iana_identifier-clause-err : goal.returns-in-Err-parse_iana_identifier-clause-err
+returns-in-Err-parse_iana_identifier-clause-err c =
+    rw c.in-Iana.is (Refuses-text parse_iana_identifier c.args.text.now _ (fault_of c.in-Err-parse_iana_identifier.error) c.from_utf8-in-Iana.ensures.rest c.in-Err-parse_iana_identifier.ensures.err)
