@@ -3,3 +3,4 @@ pub mod Handled
 pub mod NoRow
 pub mod OneOutcome
 pub mod Rfc3339
+pub mod PlainOutcomes

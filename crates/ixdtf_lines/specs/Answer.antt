@@ -9,7 +9,7 @@ use Rattle.ixdtf.specs.table.Outcomes.{HasFault}
 use Rattle.ixdtf.specs.language.Languages.Found.{parsed, shifted, identified, named}
 use Rattle.ixdtf.specs.language.Letters.{Text, byte_letter}
 use Rattle.ixdtf.specs.language.Readers.{Reader}
-use Rattle.ixdtf.specs.language.Readers.Reader.{parse, parse_offset, parse_identifier, parse_iana_identifier}
+use Rattle.ixdtf.specs.language.Readers.Reader.{bracketed, parse_offset, parse_identifier, parse_iana_identifier}
 use Rattle.ixdtf_lines.specs.Fields.{fields_of}
 use Rattle.ixdtf_lines.specs.Word.{name_of, reader_of, IsNoWord}
 use Rattle.ixdtf_lines.specs.declared.word.Word.{Word}
@@ -39,21 +39,21 @@ ok_answer_of found = codes "ok" ++ fields_of found
 abbrev pub error_answer_of : Fault → List ℕ
 error_answer_of fault = codes "error " ++ message_of fault
 
--- the text gives the reader the value: to `parse` a record, where each pair replies for itself, and to each other reader
+-- the text gives the reader the value: to one with brackets a record, where each pair is its own reply, and to each other
 -- what it derives, with no pairs
 abbrev pub Gives : Reader → Text → Found → Type 0
-Gives parse text (parsed found) = PlainRecord parse text found
-Gives parse text (shifted offset) = ⊥
-Gives parse text (identified zone) = ⊥
-Gives parse text (named name) = ⊥
+Gives (bracketed kind) text (parsed found) = PlainRecord (bracketed kind) text found
+Gives (bracketed kind) text (shifted offset) = ⊥
+Gives (bracketed kind) text (identified zone) = ⊥
+Gives (bracketed kind) text (named name) = ⊥
 Gives parse_offset text found = Derives parse_offset text found []
 Gives parse_identifier text found = Derives parse_identifier text found []
 Gives parse_iana_identifier text found = Derives parse_iana_identifier text found []
 
--- the reader refuses the text with the fault: `parse` with one that the text gives, where each pair replies for itself, and
+-- the reader refuses the text with the fault: `parse` with one that the text gives, where each pair is its own reply, and
 -- each other reader with one that the text has, with no pairs
 abbrev pub Refuses : Reader → Text → Fault → Type 0
-Refuses parse text fault = PlainFault parse text fault
+Refuses (bracketed kind) text fault = PlainFault (bracketed kind) text fault
 Refuses parse_offset text fault = HasFault parse_offset text [] fault
 Refuses parse_identifier text fault = HasFault parse_identifier text [] fault
 Refuses parse_iana_identifier text fault = HasFault parse_iana_identifier text [] fault

@@ -3,7 +3,8 @@ use Rattle.std.proofs.Common.{refl, map}
 use Rattle.ixdtf.specs.Views.{parsed_of, zone_of}
 use Rattle.ixdtf.specs.table.Faults.{fault_of}
 use Rattle.ixdtf.specs.language.Languages.Found.{parsed, shifted, identified, named}
-use Rattle.ixdtf.specs.language.Readers.Reader.{parse, parse_offset, parse_identifier, parse_iana_identifier}
+use Rattle.ixdtf.specs.language.Readers.{parse}
+use Rattle.ixdtf.specs.language.Readers.Reader.{parse_offset, parse_identifier, parse_iana_identifier}
 use Rattle.ixdtf_lines.proofs.AnswerLemmas.{Gives-text, Refuses-text}
 use Rattle.ixdtf_lines.proofs.found.read.Goals as goal
 
