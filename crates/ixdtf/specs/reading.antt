@@ -6,6 +6,7 @@ pub mod Cores
 pub mod Dates
 pub mod Looks
 pub mod Pairs
+pub mod Runs
 pub mod Times
 pub mod Wholes
 pub mod Zones

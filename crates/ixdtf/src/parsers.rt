@@ -16,6 +16,7 @@ mod brackets;
 mod cores;
 mod dates;
 mod grammar;
+mod letters;
 mod offsets;
 mod texts;
 mod time;

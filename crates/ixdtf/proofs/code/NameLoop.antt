@@ -1,5 +1,6 @@
 -- The letters of a zone name, taken off one by one, and the look ahead in a bracket.
-use Rattle.std.proofs.Common.{◌≡◌, ℕ, ◌||◌, ◌&&◌, Bool, true, false, List, [], ◌∷◌, map, drop, Some, None, Result, Ok, Err, refl, append-nil, if◌then◌else◌}
+use Rattle.std.proofs.Common.{◌≡◌, ℕ, ◌||◌, ◌&&◌, Bool, true, false, List, [], ◌∷◌, map, drop, Option, Some, None, option_map, Result, Ok, Err, refl, ◌∙◌, if◌then◌else◌}
+use Rattle.ixdtf.specs.declared.parsers.timezone.NameLetters.{NameLetters}
 use Rattle.ixdtf.specs.language.Letters.{Letter, Text}
 use Rattle.ixdtf.specs.language.Letters.Letter.{Plain, Bad}
 use Rattle.ixdtf.specs.language.Letters.{zone_char, slash, equals, closing}
@@ -8,66 +9,57 @@ use Rattle.ixdtf.specs.table.Faults.Fault.{NonAsciiCodePoint, IanaCharPostSepara
 use Rattle.ixdtf.specs.table.Lines.{abrupt_bracket}
 use Rattle.ixdtf.specs.reading.Looks.{Read, look_at, error_of}
 use Rattle.ixdtf.specs.reading.Zones.{with_letter, name_step, name_stops, name_run}
+use Rattle.ixdtf.specs.reading.Runs.{Taken, letters_by, name_after}
 use Rattle.ixdtf.specs.reading.Brackets.{sight_at}
-use Rattle.ixdtf.proofs.code.LetterLoops.{with_letters, IsSoFar, at_letter, reads_here}
+use Rattle.ixdtf.proofs.code.LetterLoops.{closed, IsRun, run_failed, run_closes}
 
 -- ---- names
 
-abbrev pub run_of : Bool → Text → Read Fault (List ℕ)
-run_of may_end text = name_run error_of may_end text
+abbrev pub name_ends : Bool → Text → Result Text Fault
+name_ends true text = Ok text
+name_ends false text = Err IanaCharPostSeparator
 
-abbrev pub stops : Bool → Text → Read Fault (List ℕ)
-stops may_end text = name_stops IanaCharPostSeparator may_end text
+abbrev pub name_close : NameLetters → Option ℕ → Text → Result Text Fault
+name_close letters next text = name_ends letters.may_end text
 
--- the letter goes on
-pub run_more : (c : ℕ) (may_end next : Bool) (rest : Text) → name_step c may_end ≡ Some next → run_of may_end (Plain c ∷ rest) ≡ with_letter c (run_of next rest)
+abbrev reading : NameLetters → Text → Read Fault (List ℕ)
+reading letters text = name_run error_of letters.may_end text
+
+stops_so : (may_end : Bool) (text : Text) → name_stops IanaCharPostSeparator may_end text ≡ closed [] (name_ends may_end text)
+stops_so true text = refl
+stops_so false text = refl
+
+name_is_run : IsRun name_after name_close reading
 unfolding name_run
-run_more c may_end next rest is = go (zone_char c) refl (slash c && may_end) refl is
+name_is_run = record {
+  at_end = λ letters. stops_so letters.may_end [];
+  at_bad = λ letters rest. refl;
+  at_other = λ letters c rest is. other c letters.may_end rest (zone_char c) refl (slash c && letters.may_end) refl is;
+  at_letter = λ letters next c rest is. more c letters.may_end next rest (zone_char c) refl (slash c && letters.may_end) refl is;
+}
   where
-    go : (b : Bool) → zone_char c ≡ b → (d : Bool) → (slash c && may_end) ≡ d → (if b then Some true else (if d then Some false else None)) ≡ Some next → run_of may_end (Plain c ∷ rest) ≡ with_letter c (run_of next rest)
-    go true p d q e = let same : true ≡ next = cc in rw (p, ← same) refl
-    go false p true q e = let same : false ≡ next = cc in rw (p, q, ← same) refl
-    go false p false q e = absurd cc
+    after : Option Bool → Option NameLetters
+    after step = option_map (λ (may_end : Bool). record { may_end = may_end }) step
+    other : (c : ℕ) (may_end : Bool) (rest : Text) (b : Bool) → zone_char c ≡ b → (d : Bool) → (slash c && may_end) ≡ d → after (if b then Some true else (if d then Some false else None)) ≡ None → name_run error_of may_end (Plain c ∷ rest) ≡ closed [] (name_ends may_end (Plain c ∷ rest))
+    other c may_end rest true p d q e = absurd cc
+    other c may_end rest false p true q e = absurd cc
+    other c may_end rest false p false q e = rw (p, q) (stops_so may_end (Plain c ∷ rest))
+    more : (c : ℕ) (may_end : Bool) (next : NameLetters) (rest : Text) (b : Bool) → zone_char c ≡ b → (d : Bool) → (slash c && may_end) ≡ d → after (if b then Some true else (if d then Some false else None)) ≡ Some next → name_run error_of may_end (Plain c ∷ rest) ≡ with_letter c (name_run error_of next.may_end rest)
+    more c may_end next rest true p d q e = let same : true ≡ next.may_end = cc in rw (p, ← same) refl
+    more c may_end next rest false p true q e = let same : false ≡ next.may_end = cc in rw (p, q, ← same) refl
+    more c may_end next rest false p false q e = absurd cc
 
--- the letter does not go on
-run_other : (c : ℕ) (may_end : Bool) (rest : Text) → name_step c may_end ≡ None → run_of may_end (Plain c ∷ rest) ≡ stops may_end (Plain c ∷ rest)
-unfolding name_run
-run_other c may_end rest is = go (zone_char c) refl (slash c && may_end) refl is
-  where
-    go : (b : Bool) → zone_char c ≡ b → (d : Bool) → (slash c && may_end) ≡ d → (if b then Some true else (if d then Some false else None)) ≡ None → run_of may_end (Plain c ∷ rest) ≡ stops may_end (Plain c ∷ rest)
-    go true p d q e = absurd cc
-    go false p true q e = absurd cc
-    go false p false q e = rw (p, q) refl
+pub name_failed : (text : Text) (fault : Fault) → letters_by name_after (record { may_end = true }) text ≡ Err fault → name_run error_of true text ≡ Err fault
+name_failed text fault e = run_failed name_after name_close reading name_is_run (record { may_end = true }) text fault e
 
-module _ (letter : ℕ → Letter) (faithful : (unit n : ℕ) → letter unit ≡ Plain n → n ≡ unit) where
-  -- the name goes no further
-  pub ends_at_other : (whole rest : List ℕ) (may_end : Bool) (c : ℕ) → (far : IsSoFar run_of true letter whole rest may_end) → look_at NonAsciiCodePoint (map letter rest) ≡ Ok (Some c) → name_step c may_end ≡ None → run_of true (map letter whole) ≡ with_letters far.taken (stops may_end (map letter rest))
-  ends_at_other whole rest may_end c far e is = at_letter letter faithful run_of true whole rest may_end c far e (stops may_end) (λ more. run_other c may_end more is)
+pub name_ended : (text rest : Text) (taken : Taken NameLetters) → letters_by name_after (record { may_end = true }) text ≡ Ok (taken, rest) → taken.state.may_end ≡ true → name_run error_of true text ≡ Ok (taken.letters, rest)
+name_ended text rest taken e is = run_closes name_after name_close reading name_is_run (record { may_end = true }) text rest taken e ∙ rw is refl
 
-pub ends_at_end : (letter : ℕ → Letter) (whole rest : List ℕ) (may_end : Bool) → (far : IsSoFar run_of true letter whole rest may_end) → look_at NonAsciiCodePoint (map letter rest) ≡ Ok None → run_of true (map letter whole) ≡ with_letters far.taken (stops may_end (map letter rest))
-unfolding look_at name_run
-ends_at_end letter whole rest may_end far e = reads_here run_of true letter whole rest may_end far (stops may_end (map letter rest)) (go (map letter rest) e)
-  where
-    go : (text : Text) → look_at NonAsciiCodePoint text ≡ Ok None → run_of may_end text ≡ stops may_end text
-    go [] e = refl
-    go (Plain n ∷ more) e = absurd cc
-    go (Bad ∷ more) e = absurd cc
+pub name_refused : (text rest : Text) (taken : Taken NameLetters) → letters_by name_after (record { may_end = true }) text ≡ Ok (taken, rest) → taken.state.may_end ≡ false → name_run error_of true text ≡ Err IanaCharPostSeparator
+name_refused text rest taken e is = run_closes name_after name_close reading name_is_run (record { may_end = true }) text rest taken e ∙ rw is refl
 
-pub fails : (letter : ℕ → Letter) (whole rest : List ℕ) (may_end : Bool) (fault : Fault) → IsSoFar run_of true letter whole rest may_end → look_at NonAsciiCodePoint (map letter rest) ≡ Err fault → run_of true (map letter whole) ≡ Err fault
-unfolding look_at name_run
-fails letter whole rest may_end fault far e = reads_here run_of true letter whole rest may_end far (Err fault) (go (map letter rest) e)
-  where
-    go : (text : Text) → look_at NonAsciiCodePoint text ≡ Err fault → run_of may_end text ≡ Err fault
-    go [] e = absurd cc
-    go (Plain n ∷ more) e = absurd cc
-    go (Bad ∷ more) e = let same : NonAsciiCodePoint ≡ fault = cc in rw (← same) refl
-
--- what a name that goes no further returns
-pub refused : (taken : List ℕ) (may_end : Bool) (text : Text) → may_end ≡ false → with_letters taken (stops may_end text) ≡ Err IanaCharPostSeparator
-refused taken may_end text is = rw is refl
-
-pub ended : (taken : List ℕ) (may_end : Bool) (text : Text) → may_end ≡ true → with_letters taken (stops may_end text) ≡ Ok (taken, text)
-ended taken may_end text is = rw (is, append-nil taken) refl
+-- the names that the code takes off
+pub ruleset names = (name_failed, name_ended, name_refused)
 
 -- ---- the look ahead
 

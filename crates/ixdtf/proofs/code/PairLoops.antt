@@ -1,66 +1,111 @@
 -- The letters of a key and of a value, taken off one by one.
-use Rattle.std.proofs.Common.{◌≡◌, ℕ, true, false, List, [], ◌∷◌, None, Ok, Err, refl}
+use Rattle.std.proofs.Common.{◌≡◌, ℕ, Bool, true, false, List, [], ◌∷◌, drop, Option, Some, None, Result, Ok, Err, refl, ◌∙◌, if◌then◌else◌}
+use Rattle.ixdtf.specs.declared.parsers.annotations.KeyLetters.{KeyLetters}
+use Rattle.ixdtf.specs.declared.parsers.annotations.ValueState.{ValueState}
+use Rattle.ixdtf.specs.declared.parsers.annotations.ValueStep.{ValueStep}
+use Rattle.ixdtf.specs.declared.parsers.annotations.ValueStep.TheVariants.{GoesOn, Ends, Stops}
 use Rattle.ixdtf.specs.language.Letters.{Text}
 use Rattle.ixdtf.specs.language.Letters.Letter.{Plain, Bad}
 use Rattle.ixdtf.specs.language.Letters.{equals, key_char}
 use Rattle.ixdtf.specs.table.Faults.{Fault}
-use Rattle.ixdtf.specs.table.Faults.Fault.{NonAsciiCodePoint, AnnotationKeyValueSeparator, AnnotationKeyChar}
-use Rattle.ixdtf.specs.reading.Looks.{Read, look_at, error_of}
+use Rattle.ixdtf.specs.table.Faults.Fault.{AnnotationKeyValueSeparator, AnnotationKeyChar}
+use Rattle.ixdtf.specs.reading.Looks.{Read, error_of}
 use Rattle.ixdtf.specs.reading.Zones.{with_letter}
-use Rattle.ixdtf.specs.reading.Pairs.{key_run, value_run, ValueState, goes_on, ends, stops, value_step, value_end, value_other}
-use Rattle.ixdtf.proofs.to_reading.Pair.{by_step}
+use Rattle.ixdtf.specs.reading.Runs.{Taken, letters_by}
+use Rattle.ixdtf.specs.reading.Pairs.{key_run, value_run, value_step, value_goes_on, value_end, value_other}
+use Rattle.ixdtf.proofs.code.LetterLoops.{closed, IsRun, run_failed, run_closes}
 
 -- ---- keys
 
-abbrev pub keys_of : Unit {0} → Text → Read Fault (List ℕ)
-keys_of state text = key_run error_of text
+abbrev pub key_after : KeyLetters → ℕ → Option KeyLetters
+key_after letters c = if key_char c then Some letters else None
 
-pub key_more : (c : ℕ) (more : Text) → key_char c ≡ true → keys_of tt (Plain c ∷ more) ≡ with_letter c (keys_of tt more)
+abbrev pub key_close : KeyLetters → Option ℕ → Text → Result Text Fault
+key_close letters None text = Err AnnotationKeyValueSeparator
+key_close letters (Some c) text = if equals c then Ok (drop 1 text) else Err AnnotationKeyChar
+
+key_is_run : IsRun key_after key_close (λ letters text. key_run error_of text)
 unfolding key_run
-key_more c more is = rw is refl
+key_is_run = record {
+  at_end = λ letters. refl;
+  at_bad = λ letters rest. refl;
+  at_other = λ letters c rest is. other letters c rest (key_char c) refl is;
+  at_letter = λ letters next c rest is. more letters next c rest (key_char c) refl is;
+}
+  where
+    other : (letters : KeyLetters) (c : ℕ) (rest : Text) (b : Bool) → key_char c ≡ b → (if b then Some letters else None) ≡ None → key_run error_of (Plain c ∷ rest) ≡ closed [] (key_close letters (Some c) (Plain c ∷ rest))
+    other letters c rest true p e = absurd cc
+    other letters c rest false p e = rw p (ends (equals c) refl)
+      where
+        ends : (d : Bool) → equals c ≡ d → (if d then Ok ([], rest) else Err AnnotationKeyChar) ≡ closed [] (if d then Ok rest else Err AnnotationKeyChar)
+        ends true q = refl
+        ends false q = refl
+    more : (letters next : KeyLetters) (c : ℕ) (rest : Text) (b : Bool) → key_char c ≡ b → (if b then Some letters else None) ≡ Some next → key_run error_of (Plain c ∷ rest) ≡ with_letter c (key_run error_of rest)
+    more letters next c rest true p e = rw p refl
+    more letters next c rest false p e = absurd cc
 
-pub key_ends : (c : ℕ) (more : Text) → key_char c ≡ false → equals c ≡ true → keys_of tt (Plain c ∷ more) ≡ Ok ([], more)
-unfolding key_run
-key_ends c more other is = rw (other, is) refl
+pub key_failed : (letters : KeyLetters) (text : Text) (fault : Fault) → letters_by key_after letters text ≡ Err fault → key_run error_of text ≡ Err fault
+key_failed letters text fault e = run_failed key_after key_close (λ l t. key_run error_of t) key_is_run letters text fault e
 
-pub key_refused : (c : ℕ) (more : Text) → key_char c ≡ false → equals c ≡ false → keys_of tt (Plain c ∷ more) ≡ Err AnnotationKeyChar
-unfolding key_run
-key_refused c more other is = rw (other, is) refl
+pub key_ended : (letters : KeyLetters) (text rest : Text) (taken : Taken KeyLetters) → letters_by key_after letters text ≡ Ok (taken, rest) → taken.next ≡ None → key_run error_of text ≡ Err AnnotationKeyValueSeparator
+key_ended letters text rest taken e is = run_closes key_after key_close (λ l t. key_run error_of t) key_is_run letters text rest taken e ∙ rw is refl
 
-pub key_at_end : (text : Text) → look_at NonAsciiCodePoint text ≡ Ok None → keys_of tt text ≡ Err AnnotationKeyValueSeparator
-unfolding look_at key_run
-key_at_end [] e = refl
-key_at_end (Plain n ∷ more) e = absurd cc
-key_at_end (Bad ∷ more) e = absurd cc
+pub key_closed : (letters : KeyLetters) (text rest : Text) (taken : Taken KeyLetters) (c : ℕ) → letters_by key_after letters text ≡ Ok (taken, rest) → taken.next ≡ Some c → equals c ≡ true → key_run error_of text ≡ Ok (taken.letters, drop 1 rest)
+key_closed letters text rest taken c e is test = run_closes key_after key_close (λ l t. key_run error_of t) key_is_run letters text rest taken e ∙ rw (is, test) refl
 
-pub key_fails : (text : Text) (fault : Fault) → look_at NonAsciiCodePoint text ≡ Err fault → keys_of tt text ≡ Err fault
-unfolding look_at key_run
-key_fails [] fault e = absurd cc
-key_fails (Plain n ∷ more) fault e = absurd cc
-key_fails (Bad ∷ more) fault e = let same : NonAsciiCodePoint ≡ fault = cc in rw (← same) refl
+pub key_refused : (letters : KeyLetters) (text rest : Text) (taken : Taken KeyLetters) (c : ℕ) → letters_by key_after letters text ≡ Ok (taken, rest) → taken.next ≡ Some c → equals c ≡ false → key_run error_of text ≡ Err AnnotationKeyChar
+key_refused letters text rest taken c e is test = run_closes key_after key_close (λ l t. key_run error_of t) key_is_run letters text rest taken e ∙ rw (is, test) refl
+
+-- the keys that the code takes off
+pub ruleset keys = (key_failed, key_ended, key_closed, key_refused)
 
 -- ---- values
 
-abbrev pub values_of : ValueState → Text → Read Fault (List ℕ)
-values_of state text = value_run error_of state text
+abbrev pub value_after : ValueState → ℕ → Option ValueState
+value_after state c = value_goes_on (value_step state c)
 
-pub value_more : (state next : ValueState) (c : ℕ) (more : Text) → value_step state c ≡ goes_on next → values_of state (Plain c ∷ more) ≡ with_letter c (values_of next more)
-value_more state next c more is = by_step error_of state c more (goes_on next) is
+abbrev pub step_closes : ValueState → ValueStep → Text → Result Text Fault
+step_closes state Ends text = Ok (drop 1 text)
+step_closes state Stops text = Err (value_other state)
+step_closes state (GoesOn next) text = Err (value_other state)
 
-pub value_ends : (state : ValueState) (c : ℕ) (more : Text) → value_step state c ≡ ends → values_of state (Plain c ∷ more) ≡ Ok ([], more)
-value_ends state c more is = by_step error_of state c more ends is
+abbrev pub value_close : ValueState → Option ℕ → Text → Result Text Fault
+value_close state None text = Err (value_end state)
+value_close state (Some c) text = step_closes state (value_step state c) text
 
-pub value_refused : (state : ValueState) (c : ℕ) (more : Text) → value_step state c ≡ stops → values_of state (Plain c ∷ more) ≡ Err (value_other state)
-value_refused state c more is = by_step error_of state c more stops is
+value_is_run : IsRun value_after value_close (λ state text. value_run error_of state text)
+unfolding value_run
+value_is_run = record {
+  at_end = λ state. refl;
+  at_bad = λ state rest. refl;
+  at_other = λ state c rest is. other state c rest (value_step state c) refl is;
+  at_letter = λ state next c rest is. more state next c rest (value_step state c) refl is;
+}
+  where
+    other : (state : ValueState) (c : ℕ) (rest : Text) (step : ValueStep) → value_step state c ≡ step → value_goes_on step ≡ None → value_run error_of state (Plain c ∷ rest) ≡ closed [] (step_closes state (value_step state c) (Plain c ∷ rest))
+    other state c rest (GoesOn next) p e = absurd cc
+    other state c rest Ends p e = rw (p, value_run) refl
+    other state c rest Stops p e = rw (p, value_run) refl
+    more : (state next : ValueState) (c : ℕ) (rest : Text) (step : ValueStep) → value_step state c ≡ step → value_goes_on step ≡ Some next → value_run error_of state (Plain c ∷ rest) ≡ with_letter c (value_run error_of next rest)
+    more state next c rest (GoesOn there) p e = let same : there ≡ next = cc in rw (p, value_run, same) refl
+    more state next c rest Ends p e = absurd cc
+    more state next c rest Stops p e = absurd cc
 
-pub value_at_end : (state : ValueState) (text : Text) → look_at NonAsciiCodePoint text ≡ Ok None → values_of state text ≡ Err (value_end state)
-unfolding look_at value_run
-value_at_end state [] e = refl
-value_at_end state (Plain n ∷ more) e = absurd cc
-value_at_end state (Bad ∷ more) e = absurd cc
+pub value_failed : (state : ValueState) (text : Text) (fault : Fault) → letters_by value_after state text ≡ Err fault → value_run error_of state text ≡ Err fault
+value_failed state text fault e = run_failed value_after value_close (λ s t. value_run error_of s t) value_is_run state text fault e
 
-pub value_fails : (state : ValueState) (text : Text) (fault : Fault) → look_at NonAsciiCodePoint text ≡ Err fault → values_of state text ≡ Err fault
-unfolding look_at value_run
-value_fails state [] fault e = absurd cc
-value_fails state (Plain n ∷ more) fault e = absurd cc
-value_fails state (Bad ∷ more) fault e = let same : NonAsciiCodePoint ≡ fault = cc in rw (← same) refl
+pub value_ended : (state : ValueState) (text rest : Text) (taken : Taken ValueState) → letters_by value_after state text ≡ Ok (taken, rest) → taken.next ≡ None → value_run error_of state text ≡ Err (value_end taken.state)
+value_ended state text rest taken e is = run_closes value_after value_close (λ s t. value_run error_of s t) value_is_run state text rest taken e ∙ rw is refl
+
+value_stepped : (state : ValueState) (text rest : Text) (taken : Taken ValueState) (c : ℕ) (step : ValueStep) → letters_by value_after state text ≡ Ok (taken, rest) → taken.next ≡ Some c → value_step taken.state c ≡ step → value_run error_of state text ≡ closed taken.letters (step_closes taken.state step rest)
+value_stepped state text rest taken c step e is test = run_closes value_after value_close (λ s t. value_run error_of s t) value_is_run state text rest taken e ∙ rw (is, test) refl
+
+pub value_closed : (state : ValueState) (text rest : Text) (taken : Taken ValueState) (c : ℕ) → letters_by value_after state text ≡ Ok (taken, rest) → taken.next ≡ Some c → value_step taken.state c ≡ Ends → value_run error_of state text ≡ Ok (taken.letters, drop 1 rest)
+value_closed state text rest taken c e is test = value_stepped state text rest taken c Ends e is test
+
+pub value_refused : (state : ValueState) (text rest : Text) (taken : Taken ValueState) (c : ℕ) → letters_by value_after state text ≡ Ok (taken, rest) → taken.next ≡ Some c → value_step taken.state c ≡ Stops → value_run error_of state text ≡ Err (value_other taken.state)
+value_refused state text rest taken c e is test = value_stepped state text rest taken c Stops e is test
+
+pub value_refused_on : (state next : ValueState) (text rest : Text) (taken : Taken ValueState) (c : ℕ) → letters_by value_after state text ≡ Ok (taken, rest) → taken.next ≡ Some c → value_step taken.state c ≡ GoesOn next → value_run error_of state text ≡ Err (value_other taken.state)
+value_refused_on state next text rest taken c e is test = value_stepped state text rest taken c (GoesOn next) e is test
+

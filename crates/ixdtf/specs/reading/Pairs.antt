@@ -53,6 +53,12 @@ value_mark AfterHyphen c = Stops
 abbrev pub value_step : ValueState → ℕ → ValueStep
 value_step state c = if value_char c then GoesOn Inside else value_mark state c
 
+-- how far reading is after a letter that goes on in a value
+abbrev pub value_goes_on : ValueStep → Option ValueState
+value_goes_on (GoesOn next) = Some next
+value_goes_on Ends = None
+value_goes_on Stops = None
+
 -- The letters of a value and the `]` after them.
 unfoldable pub value_run : {E : Type 0} → (Row → E) → ValueState → Text → Read E (List ℕ)
 value_run fault state [] = Err (fault (row_of (of_pair (value_line state)) end (value_end state)))

@@ -1,12 +1,13 @@
 //! Reading annotations of a key and a value, and what is kept of the replies to them.
 
-ghost use Rattle.std.specs.Prelude.{◌≡◌, ◌+◌, ◌≤◌, ◌<◌, ◌*◌, ◌↔◌, [], ◌∷◌, map, length, option_map, Some, None, IsTrue, OnOk, IfOk, IfErr, IsSome};
+ghost use Rattle.std.specs.Prelude.{◌≡◌, ◌+◌, ◌≤◌, ◌<◌, ◌*◌, ◌↔◌, [], ◌∷◌, map, length, option_map, Some, None, IsTrue, OnOk, IfOk, IfErr, IsSome, if◌then◌else◌};
 ghost use Rattle.std.specs.Option.{option_or};
 ghost use Rattle.ixdtf.specs.declared.parsers.annotations.ValueState.TheVariants.{AtStart};
+ghost use Rattle.ixdtf.specs.language.Letters.{key_char};
 ghost use Rattle.ixdtf.specs.table.Faults.{Fault};
 ghost use Rattle.ixdtf.specs.reading.Clauses.{Reads, Spends, fault_of_stop, yielded};
 ghost use Rattle.ixdtf.specs.reading.Looks.{error_of};
-ghost use Rattle.ixdtf.specs.reading.Pairs.{key_run, value_run, value_step, value_end, value_other, pair_at, critical_pair_at, later_pair_at, next_pair_at};
+ghost use Rattle.ixdtf.specs.reading.Pairs.{key_run, value_run, value_step, value_goes_on, value_end, value_other, pair_at, critical_pair_at, later_pair_at, next_pair_at};
 ghost use Rattle.ixdtf.specs.Handlers.{RefusedBeside, first_calendar, pair_of};
 ghost use Rattle.ixdtf.specs.reading.Chains.{PairsRead, first_pairs};
 
@@ -16,12 +17,27 @@ use crate::parsers::grammar::{
     is_a_key_char, is_a_key_leading_char, is_annotation_close, is_annotation_key_value_separator,
     is_annotation_open, is_annotation_value_component, is_critical_flag, is_hyphen,
 };
+use crate::parsers::letters::{Letters, take_letters};
 use crate::records::Annotation;
 use crate::stop::Stop;
 
 // ==== Keys and values ====
 
+/// The letters of a key.
+#[derive(Clone, Copy)]
+pub struct KeyLetters;
+
+impl Letters for KeyLetters {
+    ghost after = { λ letters c. if key_char c then Some letters else None };
+
+    #[inline(always)]
+    fn go_on(self, byte: u8) -> Option<Self> {
+        if is_a_key_char(byte) { Some(self) } else { None }
+    }
+}
+
 /// Reads a key from its first letter on, and the `=` after it, and returns the key's units.
+#[tactic(auto, using(crate::proofs::code::PairLoops::keys))]
 pub fn parse_annotation_key<'a, T: EncodingType>(
     cursor: &mut Cursor<'a, T>,
 ) -> Result<&'a [T::CodeUnit], Stop>
@@ -33,19 +49,15 @@ pub fn parse_annotation_key<'a, T: EncodingType>(
     ensures paid { OnOk result (Spends 0 cursor.old cursor.new) }
     ensures shorter { OnOk result (length cursor.new.rest < length cursor.old.rest) }
 {
-    let start = cursor.rest();
-    while let Some(byte) = cursor.look()? {
-        if !is_a_key_char(byte) {
-            if !is_annotation_key_value_separator(byte) {
-                return Err(Stop::AnnotationKeyChar);
-            }
-            let count = start.len() - cursor.rest().len();
+    let key = take_letters(cursor, KeyLetters)?;
+    match key.next {
+        None => Err(Stop::AnnotationKeyValueSeparator),
+        Some(byte) if is_annotation_key_value_separator(byte) => {
             cursor.step();
-            return Ok(&start[..count]);
+            Ok(key.units)
         }
-        cursor.step();
+        Some(_) => Err(Stop::AnnotationKeyChar),
     }
-    Err(Stop::AnnotationKeyValueSeparator)
 }
 
 /// Where reading of a value is.
@@ -108,7 +120,20 @@ impl ValueState {
     }
 }
 
+impl Letters for ValueState {
+    ghost after = { λ state c. value_goes_on (value_step state c) };
+
+    #[inline(always)]
+    fn go_on(self, byte: u8) -> Option<Self> {
+        match self.step(byte) {
+            ValueStep::GoesOn(next) => Some(next),
+            ValueStep::Ends | ValueStep::Stops => None,
+        }
+    }
+}
+
 /// Reads a value and the `]` after it, and returns the value's units.
+#[tactic(auto, using(crate::proofs::code::PairLoops::value_failed))]
 pub fn parse_annotation_value<'a, T: EncodingType>(
     cursor: &mut Cursor<'a, T>,
 ) -> Result<&'a [T::CodeUnit], Stop>
@@ -120,23 +145,17 @@ pub fn parse_annotation_value<'a, T: EncodingType>(
     ensures paid { OnOk result (Spends 0 cursor.old cursor.new) }
     ensures shorter { OnOk result (length cursor.new.rest < length cursor.old.rest) }
 {
-    let start = cursor.rest();
-    let mut state = ValueState::AtStart;
-    while let Some(byte) = cursor.look()? {
-        match state.step(byte) {
-            ValueStep::GoesOn(next) => {
-                cursor.step();
-                state = next;
-            }
+    let value = take_letters(cursor, ValueState::AtStart)?;
+    match value.next {
+        None => Err(value.state.end_stop()),
+        Some(byte) => match value.state.step(byte) {
             ValueStep::Ends => {
-                let count = start.len() - cursor.rest().len();
                 cursor.step();
-                return Ok(&start[..count]);
+                Ok(value.units)
             }
-            ValueStep::Stops => return Err(state.other_stop()),
-        }
+            ValueStep::GoesOn(_) | ValueStep::Stops => Err(value.state.other_stop()),
+        },
     }
-    Err(state.end_stop())
 }
 
 // ==== Pairs ====
@@ -258,19 +277,19 @@ fn has_same_units<T: EncodingType>(left: &[T::CodeUnit], right: &[T::CodeUnit]) 
     left == right
 }
 
-/// The calendar that is kept after an answer: the first one. An answer that is critical and no calendar is
+/// The calendar that is kept after a reply: the first one. A reply that is critical and no calendar is
 /// `UnrecognizedCritical`, and a calendar with another value than the first is `CriticalDuplicateCalendar` where one of
 /// the two is critical.
 #[inline(always)]
 fn keep_first_calendar<'a, T: EncodingType>(
     calendar: Option<Annotation<'a, T>>,
-    answer: Option<Annotation<'a, T>>,
+    reply: Option<Annotation<'a, T>>,
 ) -> Result<Option<Annotation<'a, T>>, Stop>
-    ensures accepted { IfOk result (λ next. (fault : Fault) → ¬ (RefusedBeside (option_map (pair_of T.number) calendar.entry) (option_map (pair_of T.number) answer.entry) fault)) }
-    ensures kept { IfOk result (λ next. option_map (pair_of T.number) next ≡ option_or (option_map (pair_of T.number) calendar.entry) (first_calendar (option_map (pair_of T.number) answer.entry ∷ []))) }
-    ensures err { IfErr result (λ e. RefusedBeside (option_map (pair_of T.number) calendar.entry) (option_map (pair_of T.number) answer.entry) (fault_of_stop e)) }
+    ensures accepted { IfOk result (λ next. (fault : Fault) → ¬ (RefusedBeside (option_map (pair_of T.number) calendar.entry) (option_map (pair_of T.number) reply.entry) fault)) }
+    ensures kept { IfOk result (λ next. option_map (pair_of T.number) next ≡ option_or (option_map (pair_of T.number) calendar.entry) (first_calendar (option_map (pair_of T.number) reply.entry ∷ []))) }
+    ensures err { IfErr result (λ e. RefusedBeside (option_map (pair_of T.number) calendar.entry) (option_map (pair_of T.number) reply.entry) (fault_of_stop e)) }
 {
-    let Some(found) = answer else {
+    let Some(found) = reply else {
         return Ok(calendar);
     };
     if !T::check_calendar_key(found.key) {
@@ -308,12 +327,12 @@ where
 {
     let mut calendar = None;
     if let Some(annotation) = first {
-        let answer = ask::<T, F>(handler, annotation);
-        calendar = keep_first_calendar::<T>(None, answer)?;
+        let reply = ask::<T, F>(handler, annotation);
+        calendar = keep_first_calendar::<T>(None, reply)?;
     }
     while let Some(annotation) = next_annotation(cursor)? {
-        let answer = ask::<T, F>(handler, annotation);
-        calendar = keep_first_calendar::<T>(calendar, answer)?;
+        let reply = ask::<T, F>(handler, annotation);
+        calendar = keep_first_calendar::<T>(calendar, reply)?;
     }
     Ok(calendar)
 }

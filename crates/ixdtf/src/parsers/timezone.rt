@@ -4,7 +4,8 @@ ghost use Rattle.std.specs.Prelude.{◌≡◌, ◌+◌, ◌≤◌, map, length, 
 ghost use Rattle.ixdtf.specs.Views.{zone_of};
 ghost use Rattle.ixdtf.specs.reading.Clauses.{Reads, Spends, fault_of_stop, closing_look};
 ghost use Rattle.ixdtf.specs.reading.Looks.{error_of, next_by};
-ghost use Rattle.ixdtf.specs.reading.Zones.{name_run, name_step, name_alone_at, iana_identifier_at, minute_offset_alone_at, identifier_at};
+ghost use Rattle.ixdtf.specs.reading.Zones.{name_run, name_alone_at, iana_identifier_at, minute_offset_alone_at, identifier_at};
+ghost use Rattle.ixdtf.specs.reading.Runs.{name_after};
 ghost use Rattle.ixdtf.specs.reading.Brackets.{name_in_bracket_at, offset_in_bracket_at};
 
 use crate::cursor::Cursor;
@@ -12,6 +13,7 @@ use crate::encoding::EncodingType;
 use crate::parsers::grammar::{
     is_annotation_close, is_ascii_sign, is_tz_char, is_tz_leading_char, is_tz_name_separator,
 };
+use crate::parsers::letters::{Letters, take_letters};
 use crate::parsers::offsets::minute_offset;
 use crate::parsers::time::{Clock, parse_clock};
 use crate::records::TimeZoneRecord;
@@ -19,23 +21,29 @@ use crate::stop::Stop;
 
 // ==== Names ====
 
-/// Whether a name may end after the letter, or `None` where the letter does not go on in it: after a `/` it may not end,
-/// and no other `/` goes on.
-#[inline(always)]
-fn name_goes_on(byte: u8, may_end: bool) -> Option<bool>
-    ensures { result ≡ name_step byte may_end }
-{
-    if is_tz_char(byte) {
-        Some(true)
-    } else if is_tz_name_separator(byte) && may_end {
-        Some(false)
-    } else {
-        None
+/// The letters of a name, by whether it may end: after a `/` it may not, and no other `/` goes on.
+#[derive(Clone, Copy)]
+pub struct NameLetters {
+    may_end: bool,
+}
+
+impl Letters for NameLetters {
+    ghost after = { name_after };
+
+    #[inline(always)]
+    fn go_on(self, byte: u8) -> Option<Self> {
+        if is_tz_char(byte) {
+            Some(NameLetters { may_end: true })
+        } else if is_tz_name_separator(byte) && self.may_end {
+            Some(NameLetters { may_end: false })
+        } else {
+            None
+        }
     }
 }
 
 /// Reads a name as far as it goes, from its first letter on, and returns its units.
-#[inline(always)]
+#[tactic(auto, using(crate::proofs::code::NameLoop::names))]
 pub fn parse_tz_name<'a, T: EncodingType>(
     cursor: &mut Cursor<'a, T>,
 ) -> Result<&'a [T::CodeUnit], Stop>
@@ -45,22 +53,11 @@ pub fn parse_tz_name<'a, T: EncodingType>(
     }
     ensures looks { Spends 1 cursor.old cursor.new }
 {
-    let start = cursor.rest();
-    let mut may_end = true;
-    while let Some(byte) = cursor.look()? {
-        match name_goes_on(byte, may_end) {
-            Some(next) => {
-                cursor.step();
-                may_end = next;
-            }
-            None => break,
-        }
-    }
-    if !may_end {
+    let name = take_letters(cursor, NameLetters { may_end: true })?;
+    if !name.state.may_end {
         return Err(Stop::IanaCharPostSeparator);
     }
-    let count = start.len() - cursor.rest().len();
-    Ok(&start[..count])
+    Ok(name.units)
 }
 
 /// Reads a name, and wants the end.
