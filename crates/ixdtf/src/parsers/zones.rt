@@ -88,7 +88,8 @@ impl<'a, T: EncodingType> TimeZoneParser<'a, T> {
     /// - `NonAsciiCodePoint` at a unit that stands for no letter, which no 8-bit unit does.
     pub fn parse_identifier(&mut self) -> ParserResult<TimeZoneRecord<'a, T>>
         // `Ok` exactly where the language derives the zone.
-        ensures ok { (zone : Zone) → (returned (zone_of T.number) result ≡ Ok zone) ↔ Derives parse_identifier (map T.letter self.old.rest) (identified zone) [] }
+        ensures ok { (zone : Zone) → (returned (zone_of T.number) result ≡ Ok zone) ↔
+            Derives parse_identifier (map T.letter self.old.rest) (identified zone) [] }
         // `Err` only where a row of the fault table with this error fits.
         ensures err { IfErr result (λ e. HasFault parse_identifier (map T.letter self.old.rest) [] (fault_of e)) }
 
@@ -98,6 +99,7 @@ impl<'a, T: EncodingType> TimeZoneParser<'a, T> {
         ensures empty { OnOk result (self.new.rest ≡ []) }
         ensures unchanged { OnErr result (self.new.rest ≡ self.old.rest) }
         ensures looks { self.new.looks ≤ self.old.looks + most_looks self.old.rest }
+        // The count of looks never goes down.
         ensures counted { self.old.looks ≤ self.new.looks }
     {
         let mut here = self.cursor.take();
@@ -141,7 +143,8 @@ impl<'a, T: EncodingType> TimeZoneParser<'a, T> {
     /// - `NonAsciiCodePoint` at a unit that stands for no letter, which no 8-bit unit does.
     pub fn parse_offset(&mut self) -> ParserResult<UtcOffsetRecord>
         // `Ok` exactly where the language derives the offset.
-        ensures ok { (offset : UtcOffsetRecord) → (returned (λ offset. offset) result ≡ Ok offset) ↔ Derives parse_offset (map T.letter self.old.rest) (shifted offset) [] }
+        ensures ok { (offset : UtcOffsetRecord) → (returned (λ offset. offset) result ≡ Ok offset) ↔
+            Derives parse_offset (map T.letter self.old.rest) (shifted offset) [] }
         // `Err` only where a row of the fault table with this error fits.
         ensures err { IfErr result (λ e. HasFault parse_offset (map T.letter self.old.rest) [] (fault_of e)) }
 
@@ -151,6 +154,7 @@ impl<'a, T: EncodingType> TimeZoneParser<'a, T> {
         ensures empty { OnOk result (self.new.rest ≡ []) }
         ensures unchanged { OnErr result (self.new.rest ≡ self.old.rest) }
         ensures looks { self.new.looks ≤ self.old.looks + most_looks self.old.rest }
+        // The count of looks never goes down.
         ensures counted { self.old.looks ≤ self.new.looks }
     {
         let mut here = self.cursor.take();
@@ -186,7 +190,8 @@ impl<'a, T: EncodingType> TimeZoneParser<'a, T> {
     /// - `NonAsciiCodePoint` at a unit that stands for no letter, which no 8-bit unit does.
     pub fn parse_iana_identifier(&mut self) -> ParserResult<&'a [T::CodeUnit]>
         // `Ok` exactly where the language derives the name.
-        ensures ok { (name : List ℕ) → (returned (λ units. map T.number units.now) result ≡ Ok name) ↔ Derives parse_iana_identifier (map T.letter self.old.rest) (named name) [] }
+        ensures ok { (name : List ℕ) → (returned (λ units. map T.number units.now) result ≡ Ok name) ↔
+            Derives parse_iana_identifier (map T.letter self.old.rest) (named name) [] }
         // `Err` only where a row of the fault table with this error fits.
         ensures err { IfErr result (λ e. HasFault parse_iana_identifier (map T.letter self.old.rest) [] (fault_of e)) }
 
@@ -196,6 +201,7 @@ impl<'a, T: EncodingType> TimeZoneParser<'a, T> {
         ensures empty { OnOk result (self.new.rest ≡ []) }
         ensures unchanged { OnErr result (self.new.rest ≡ self.old.rest) }
         ensures looks { self.new.looks ≤ self.old.looks + most_looks self.old.rest }
+        // The count of looks never goes down.
         ensures counted { self.old.looks ≤ self.new.looks }
     {
         let mut here = self.cursor.take();
