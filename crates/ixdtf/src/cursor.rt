@@ -85,9 +85,7 @@ impl<'a, T: EncodingType> Cursor<'a, T> {
     /// This is the one place that calls `get_ascii`.
     #[inline(always)]
     pub fn look_at(&mut self, index: usize) -> Result<Option<u8>, Stop>
-        ensures letter {
-            Yields (λ found. found) result (ascii_at T.letter index self.old.rest)
-        }
+        ensures letter { Yields (λ found. found) result (ascii_at T.letter index self.old.rest) }
         ensures rest { self.new.rest ≡ self.old.rest }
         ensures looks { self.new.looks ≡ self.old.looks + 1 }
     {
@@ -102,10 +100,8 @@ impl<'a, T: EncodingType> Cursor<'a, T> {
     #[inline(always)]
     #[tactic(auto, using(crate::proofs::code::Units::first_look))]
     pub fn look(&mut self) -> Result<Option<u8>, Stop>
-        ensures letter {
-            Yields (λ found. found) result
-                (look_at NonAsciiCodePoint (map T.letter self.old.rest))
-        }
+        ensures letter { Yields (λ found. found) result
+            (look_at NonAsciiCodePoint (map T.letter self.old.rest)) }
         ensures rest { self.new.rest ≡ self.old.rest }
         ensures looks { self.new.looks ≡ self.old.looks + 1 }
     {
@@ -131,10 +127,8 @@ impl<'a, T: EncodingType> Cursor<'a, T> {
     #[inline(always)]
     #[tactic(auto, unfolding(crate::specs::reading::Looks::next_by))]
     pub fn next_digit(&mut self, other: Stop) -> Result<u8, Stop>
-        ensures digit {
-            Reads T.letter (λ byte. byte) self.old result self.new
-                (next_by (digit_look (fault_of_stop other)))
-        }
+        ensures digit { Reads T.letter (λ byte. byte) self.old result self.new
+            (next_by (digit_look (fault_of_stop other))) }
         ensures is_digit { IfOk result (λ byte. IsTrue (digit byte)) }
         ensures looks { Spends 1 self.old self.new }
         ensures paid { OnOk result (Spends 0 self.old self.new) }
@@ -153,10 +147,8 @@ impl<'a, T: EncodingType> Cursor<'a, T> {
     #[inline(always)]
     #[tactic(auto, unfolding(crate::specs::reading::Looks::digits_by))]
     pub fn two_digits(&mut self, other: Stop) -> Result<(u8, u8), Stop>
-        ensures digits {
-            Reads T.letter (λ ds. Plain ds.0 ∷ Plain ds.1 ∷ []) self.old result self.new
-                (digits_by (digit_look (fault_of_stop other)) 2)
-        }
+        ensures digits { Reads T.letter (λ ds. Plain ds.0 ∷ Plain ds.1 ∷ []) self.old result self.new
+            (digits_by (digit_look (fault_of_stop other)) 2) }
         ensures are_digits { IfOk result (λ ds. IsTrue (digit ds.0) × IsTrue (digit ds.1)) }
         ensures looks { Spends 1 self.old self.new }
     {

@@ -10,9 +10,8 @@ use std::fmt;
 /// Why a reader refused a text, or a reply to an annotation.
 ///
 /// Each error that a reader returns for a text has a row in the fault table (`docs/FAULTS.md`), which says at which place of
-/// the text it comes. `CriticalDuplicateCalendar` and `UnrecognizedCritical` come for replies. Eight variants exist only
-/// for compatibility; no reader returns them. The names and the texts are those of the Rust crate, as they are spelled
-/// there.
+/// the text it comes. `CriticalDuplicateCalendar` and `UnrecognizedCritical` come for replies. The names and the texts are
+/// those of the Rust crate, as they are spelled there.
 ///
 /// The lifetime is that of a location. At the root of the crate `ParseError` is this type at `'static`.
 #[derive(Clone, Copy, Debug)]

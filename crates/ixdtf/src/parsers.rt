@@ -106,8 +106,8 @@ impl<'a, T: EncodingType> IxdtfParser<'a, T> {
     /// 2024-03-02[!a=b]          Err(UnrecognizedCritical)
     /// ```
     ///
-    /// After `Ok` nothing is left to be read. After an error all that was still to be read still is, so a second call
-    /// returns the same.
+    /// After `Ok` nothing is left to be read. After an error all that was still to be read still is, so a second call returns
+    /// the same.
     ///
     /// # Errors
     ///
@@ -139,11 +139,12 @@ impl<'a, T: EncodingType> IxdtfParser<'a, T> {
     /// - `InvalidEnd` at any other letter after a date, a time, an offset or a bracket;
     /// - `NonAsciiCodePoint` at a unit that stands for no letter, which no 8-bit unit does.
     pub fn parse(&mut self) -> ParserResult<IxdtfParseRecord<'a, T>>
-        // `Ok` exactly with the record that the text gives, where each pair is its own reply.
+        // `Ok` exactly with the record that the text gives, where each pair replies for itself.
         ensures ok { (p : Parsed) → (returned (parsed_of T.number) result ≡ Ok p) ↔
             PlainRecord reader_parse (map T.letter self.old.rest) p }
         // `Err` only with a fault that it gives so.
-        ensures err { IfErr result (λ e. PlainFault reader_parse (map T.letter self.old.rest) (fault_of e)) }
+        ensures err { IfErr result
+            (λ e. PlainFault reader_parse (map T.letter self.old.rest) (fault_of e)) }
 
         // None of the errors that no reader gives.
         ensures comes { IfErr result (λ e. IsFalse (never_comes (fault_of e))) }
@@ -151,6 +152,7 @@ impl<'a, T: EncodingType> IxdtfParser<'a, T> {
         ensures empty { OnOk result (self.new.rest ≡ []) }
         ensures unchanged { OnErr result (self.new.rest ≡ self.old.rest) }
         ensures looks { self.new.looks ≤ self.old.looks + most_looks self.old.rest }
+        // The count of looks never goes down.
         ensures counted { self.old.looks ≤ self.new.looks }
     {
         self.parse_with_annotation_handler(|annotation| Some(annotation))
@@ -197,6 +199,7 @@ impl<'a, T: EncodingType> IxdtfParser<'a, T> {
         ensures empty { OnOk result (self.new.rest ≡ []) }
         ensures unchanged { OnErr result (self.new.rest ≡ self.old.rest) }
         ensures looks { self.new.looks ≤ self.old.looks + most_looks self.old.rest }
+        // The count of looks never goes down.
         ensures counted { self.old.looks ≤ self.new.looks }
     {
         let mut found: IxdtfParseRecord<'a, T> = IxdtfParseRecord {

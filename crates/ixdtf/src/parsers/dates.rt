@@ -17,10 +17,8 @@ use crate::stop::Stop;
 /// Reads a date.
 #[tactic(auto, unfolding(crate::specs::reading::Dates::date_at))]
 pub fn parse_date<'a, T: EncodingType>(cursor: &mut Cursor<'a, T>) -> Result<DateRecord, Stop>
-    ensures date {
-        Reads T.letter (λ date. date) cursor.old result cursor.new
-            (date_at error_of)
-    }
+    ensures date { Reads T.letter (λ date. date) cursor.old result cursor.new
+        (date_at error_of) }
     ensures looks { Spends 11 cursor.old cursor.new }
 {
     let year = parse_date_year(cursor)?;
@@ -32,10 +30,8 @@ pub fn parse_date<'a, T: EncodingType>(cursor: &mut Cursor<'a, T>) -> Result<Dat
 /// Reads a year: four digits, or a sign and six digits.
 #[tactic(auto, using(crate::proofs::code::DigitClasses::digit_no_sign), unfolding(crate::specs::reading::Dates::year_at, crate::specs::reading::Looks::next_by))]
 fn parse_date_year<'a, T: EncodingType>(cursor: &mut Cursor<'a, T>) -> Result<i32, Stop>
-    ensures year {
-        Reads T.letter (λ year. year) cursor.old result cursor.new
-            (year_at error_of)
-    }
+    ensures year { Reads T.letter (λ year. year) cursor.old result cursor.new
+        (year_at error_of) }
     ensures looks { Spends 7 cursor.old cursor.new }
 {
     match cursor.look()? {
@@ -59,10 +55,8 @@ fn parse_plain_year<'a, T: EncodingType>(
     thousands: u8,
 ) -> Result<i32, Stop>
     requires digit { IsTrue (digit thousands) }
-    ensures year {
-        Reads T.letter (λ year. year) cursor.old result cursor.new
-            (plain_year_at error_of thousands)
-    }
+    ensures year { Reads T.letter (λ year. year) cursor.old result cursor.new
+        (plain_year_at error_of thousands) }
     ensures looks { Spends 3 cursor.old cursor.new }
 {
     let hundreds = cursor.next_digit(Stop::DateYear)?;
@@ -82,10 +76,8 @@ fn parse_extended_year<'a, T: EncodingType>(
     cursor: &mut Cursor<'a, T>,
     sign: u8,
 ) -> Result<i32, Stop>
-    ensures year {
-        Reads T.letter (λ year. year) cursor.old result cursor.new
-            (extended_year_at error_of sign)
-    }
+    ensures year { Reads T.letter (λ year. year) cursor.old result cursor.new
+        (extended_year_at error_of sign) }
     ensures looks { Spends 6 cursor.old cursor.new }
 {
     let value = parse_six_digits(cursor)?;
@@ -98,13 +90,11 @@ fn parse_extended_year<'a, T: EncodingType>(
     Ok(-(value as i32))
 }
 
-/// Reads six digits, and answers their number.
+/// Reads six digits, and returns their number.
 #[tactic(auto, unfolding(crate::specs::reading::Looks::digits_by))]
 fn parse_six_digits<'a, T: EncodingType>(cursor: &mut Cursor<'a, T>) -> Result<u32, Stop>
-    ensures number {
-        Reads T.letter (λ number. number) cursor.old result cursor.new
-            (λ text. number_of (digits_by (digit_look DateExtendedYear) 6 text))
-    }
+    ensures number { Reads T.letter (λ number. number) cursor.old result cursor.new
+        (λ text. number_of (digits_by (digit_look DateExtendedYear) 6 text)) }
     ensures small { IfOk result (λ number. number < 1000000) }
     ensures looks { Spends 6 cursor.old cursor.new }
 {
@@ -132,10 +122,8 @@ fn parse_after_year<'a, T: EncodingType>(
     cursor: &mut Cursor<'a, T>,
     year: i32,
 ) -> Result<DateRecord, Stop>
-    ensures date {
-        Reads T.letter (λ date. date) cursor.old result cursor.new
-            (after_year_at error_of year)
-    }
+    ensures date { Reads T.letter (λ date. date) cursor.old result cursor.new
+        (after_year_at error_of year) }
     ensures looks { Spends 4 cursor.old cursor.new }
 {
     match cursor.look()? {
@@ -158,10 +146,8 @@ fn parse_hyphenated_date<'a, T: EncodingType>(
     cursor: &mut Cursor<'a, T>,
     year: i32,
 ) -> Result<DateRecord, Stop>
-    ensures date {
-        Reads T.letter (λ date. date) cursor.old result cursor.new
-            (hyphened_date_at error_of year)
-    }
+    ensures date { Reads T.letter (λ date. date) cursor.old result cursor.new
+        (hyphened_date_at error_of year) }
     ensures looks { Spends 3 cursor.old cursor.new }
 {
     let (tens, ones) = cursor.two_digits(Stop::DateMonth)?;
@@ -176,10 +162,8 @@ fn parse_hyphenated_day<'a, T: EncodingType>(
     year: i32,
     month: u8,
 ) -> Result<DateRecord, Stop>
-    ensures date {
-        Reads T.letter (λ date. date) cursor.old result cursor.new
-            (after_hyphened_month_at error_of year month)
-    }
+    ensures date { Reads T.letter (λ date. date) cursor.old result cursor.new
+        (after_hyphened_month_at error_of year month) }
     ensures looks { Spends 2 cursor.old cursor.new }
 {
     match cursor.look()? {
@@ -198,10 +182,8 @@ fn parse_plain_date<'a, T: EncodingType>(
     tens: u8,
 ) -> Result<DateRecord, Stop>
     requires digit { IsTrue (digit tens) }
-    ensures date {
-        Reads T.letter (λ date. date) cursor.old result cursor.new
-            (plain_date_at error_of year tens)
-    }
+    ensures date { Reads T.letter (λ date. date) cursor.old result cursor.new
+        (plain_date_at error_of year tens) }
     ensures looks { Spends 3 cursor.old cursor.new }
 {
     let ones = cursor.next_digit(Stop::DateMonth)?;
@@ -216,10 +198,8 @@ fn parse_plain_day<'a, T: EncodingType>(
     year: i32,
     month: u8,
 ) -> Result<DateRecord, Stop>
-    ensures date {
-        Reads T.letter (λ date. date) cursor.old result cursor.new
-            (after_plain_month_at error_of year month)
-    }
+    ensures date { Reads T.letter (λ date. date) cursor.old result cursor.new
+        (after_plain_month_at error_of year month) }
     ensures looks { Spends 2 cursor.old cursor.new }
 {
     match cursor.look()? {
@@ -236,7 +216,8 @@ fn parse_plain_day<'a, T: EncodingType>(
 
 /// The month, where it is one.
 fn check_month(month: u8) -> Result<u8, Stop>
-    ensures { Checks (λ month. month) result month (nat_le 1 month && nat_le month 12) InvalidMonthRange }
+    ensures { Checks (λ month. month) result month (nat_le 1 month && nat_le month 12)
+        InvalidMonthRange }
 {
     if month < 1 || month > 12 {
         return Err(Stop::InvalidMonthRange);
@@ -246,7 +227,8 @@ fn check_month(month: u8) -> Result<u8, Stop>
 
 /// The date, where its month has the day.
 fn check_date(year: i32, month: u8, day: u8) -> Result<DateRecord, Stop>
-    ensures { Checks (λ date. date) result (date_of year month day) (nat_le 1 day && nat_le day (month_length year month)) InvalidDayRange }
+    ensures { Checks (λ date. date) result (date_of year month day)
+        (nat_le 1 day && nat_le day (month_length year month)) InvalidDayRange }
 {
     if day < 1 || day > days_in_month(year, month) {
         return Err(Stop::InvalidDayRange);

@@ -35,10 +35,8 @@ where
     requires no_offset { found.old.offset ≡ None }
     requires no_zone { found.old.tz ≡ None }
     requires no_calendar { found.old.calendar ≡ None }
-    ensures replied {
-        TextRead T.number F.step handler.old handler.new (bracketed date_time)
-            (map T.letter cursor.old.rest) (yielded (λ _. parsed_of T.number found.new) result)
-    }
+    ensures replied { TextRead T.number F.step handler.old handler.new (bracketed date_time)
+        (map T.letter cursor.old.rest) (yielded (λ _. parsed_of T.number found.new) result) }
     ensures empty { OnOk result (cursor.new.rest ≡ []) }
     ensures looks { cursor.new.looks ≤ cursor.old.looks + most_looks cursor.old.rest }
     ensures counted { cursor.old.looks ≤ cursor.new.looks }
@@ -64,10 +62,8 @@ where
     requires callable { F.IsAlwaysCallable handler.old }
     requires no_zone { found.old.tz ≡ None }
     requires no_calendar { found.old.calendar ≡ None }
-    ensures replied {
-        TextReadAfter T.number F.step handler.old handler.new (core_in found.old) true
-            (map T.letter cursor.old.rest) (yielded (λ _. parsed_of T.number found.new) result)
-    }
+    ensures replied { TextReadAfter T.number F.step handler.old handler.new (core_in found.old) true
+        (map T.letter cursor.old.rest) (yielded (λ _. parsed_of T.number found.new) result) }
     ensures empty { OnOk result (cursor.new.rest ≡ []) }
     ensures looks { cursor.new.looks ≤ cursor.old.looks + 3 * length cursor.old.rest + 24 }
     ensures counted { cursor.old.looks ≤ cursor.new.looks }
@@ -90,10 +86,8 @@ where
     requires callable { F.IsAlwaysCallable handler.old }
     requires no_zone { found.old.tz ≡ None }
     requires no_calendar { found.old.calendar ≡ None }
-    ensures replied {
-        TextReadAfter T.number F.step handler.old handler.new (core_in found.old) true
-            (map T.letter cursor.old.rest) (yielded (λ _. parsed_of T.number found.new) result)
-    }
+    ensures replied { TextReadAfter T.number F.step handler.old handler.new (core_in found.old) true
+        (map T.letter cursor.old.rest) (yielded (λ _. parsed_of T.number found.new) result) }
     ensures empty { OnOk result (cursor.new.rest ≡ []) }
     ensures looks { cursor.new.looks ≤ cursor.old.looks + 3 * length cursor.old.rest + 24 }
     ensures counted { cursor.old.looks ≤ cursor.new.looks }
@@ -113,14 +107,10 @@ fn place_bracket<'a, T: EncodingType>(
 ) -> Option<Annotation<'a, T>>
     requires no_zone { found.old.tz ≡ None }
     requires no_calendar { found.old.calendar ≡ None }
-    ensures pair {
-        first_pairs (option_map (pair_of T.number) result) ≡
-            pairs_in (bracket_of T.number bracket.entry)
-    }
-    ensures zone {
-        parsed_of T.number found.new ≡
-            parsed_with (core_in found.old) (zone_in (bracket_of T.number bracket.entry))
-    }
+    ensures pair { first_pairs (option_map (pair_of T.number) result) ≡
+        pairs_in (bracket_of T.number bracket.entry) }
+    ensures zone { parsed_of T.number found.new ≡
+        parsed_with (core_in found.old) (zone_in (bracket_of T.number bracket.entry)) }
 {
     match bracket {
         Bracket::Zone(zone) => {
@@ -137,11 +127,9 @@ fn place_calendar<'a, T: EncodingType>(
     calendar: Option<Annotation<'a, T>>,
     found: &mut IxdtfParseRecord<'a, T>,
 )
-    ensures {
-        parsed_of T.number found.new ≡
-            with_calendar (parsed_of T.number found.old)
-                (calendar_value (option_map (pair_of T.number) calendar.entry))
-    }
+    ensures { parsed_of T.number found.new ≡
+        with_calendar (parsed_of T.number found.old)
+        (calendar_value (option_map (pair_of T.number) calendar.entry)) }
 {
     found.calendar = calendar.map(|kept| kept.value);
 }

@@ -100,6 +100,7 @@ impl<'a, T: EncodingType> TimeZoneParser<'a, T> {
         ensures empty { OnOk result (self.new.rest ≡ []) }
         ensures unchanged { OnErr result (self.new.rest ≡ self.old.rest) }
         ensures looks { self.new.looks ≤ self.old.looks + most_looks self.old.rest }
+        // The count of looks never goes down.
         ensures counted { self.old.looks ≤ self.new.looks }
     {
         let mut here = self.cursor.take();
@@ -155,6 +156,7 @@ impl<'a, T: EncodingType> TimeZoneParser<'a, T> {
         ensures empty { OnOk result (self.new.rest ≡ []) }
         ensures unchanged { OnErr result (self.new.rest ≡ self.old.rest) }
         ensures looks { self.new.looks ≤ self.old.looks + most_looks self.old.rest }
+        // The count of looks never goes down.
         ensures counted { self.old.looks ≤ self.new.looks }
     {
         let mut here = self.cursor.take();
@@ -202,6 +204,7 @@ impl<'a, T: EncodingType> TimeZoneParser<'a, T> {
         ensures empty { OnOk result (self.new.rest ≡ []) }
         ensures unchanged { OnErr result (self.new.rest ≡ self.old.rest) }
         ensures looks { self.new.looks ≤ self.old.looks + most_looks self.old.rest }
+        // The count of looks never goes down.
         ensures counted { self.old.looks ≤ self.new.looks }
     {
         let mut here = self.cursor.take();

@@ -34,6 +34,7 @@ loop-byte-preserved g c =
       same = c.loop-byte.invariant.same ∙ sight_passes g.T.EncodingType.letter _ _ _ found is moved;
       looks = omega (arith, shrinks g.T.EncodingType.letter _ _ _ found moved, c.loop-byte.invariant.looks);
       shorter = omega (arith, shrinks g.T.EncodingType.letter _ _ _ found moved, c.loop-byte.invariant.shorter);
+      counted = omega (arith, c.loop-byte.invariant.counted, c.in_ok-byte.ensures.looks, c.step.ensures.looks);
     }
 
 pub returns-clause-sight : goal.returns-clause-sight

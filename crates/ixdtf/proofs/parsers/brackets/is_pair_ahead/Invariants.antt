@@ -9,6 +9,7 @@ invariant-loop-byte g l = record {
   same : sight_at error_of (map g.T.EncodingType.letter l.initial.cursor.rest) ≡ sight_at error_of (map g.T.EncodingType.letter l.cursor.rest);
   looks : l.cursor.looks + length l.cursor.rest ≤ l.initial.cursor.looks + length l.initial.cursor.rest;
   shorter : length l.cursor.rest ≤ length l.initial.cursor.rest;
+  counted : l.initial.cursor.looks ≤ l.cursor.looks;
 }
 
 abbrev pub decreases-loop-byte : goal.decreases-loop-byte
