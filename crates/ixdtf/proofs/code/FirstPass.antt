@@ -1,5 +1,5 @@
 -- One pass over a first bracket that begins as a key may: letters of a key, and then letters of a name.
-use Rattle.std.proofs.Common.{◌≡◌, ℕ, ◌&&◌, ◌||◌, not, Bool, true, false, IsTrue, List, [], ◌∷◌, ◌++◌, drop, Option, Some, None, option_map, Result, Ok, Err, refl, ap, subst, ◌∙◌, arith, if◌then◌else◌}
+use Rattle.std.proofs.Common.{◌≡◌, ℕ, ◌&&◌, ◌||◌, not, Bool, true, false, IsTrue, List, [], ◌∷◌, ◌++◌, drop, Option, Some, None, option_map, Result, Ok, Err, refl, sym, ap, subst, ◌∙◌, arith, if◌then◌else◌}
 use Rattle.std.proofs.lemmas.Bool.Decides.{nat_tests}
 use Rattle.ixdtf.specs.declared.parsers.annotations.KeyLetters.{KeyLetters}
 use Rattle.ixdtf.specs.declared.parsers.annotations.ValueState.TheVariants.{AtStart}
@@ -14,10 +14,10 @@ use Rattle.ixdtf.specs.table.Faults.{Fault}
 use Rattle.ixdtf.specs.table.Faults.Fault.{NonAsciiCodePoint, AnnotationKeyChar, IanaChar, IanaCharPostSeparator}
 use Rattle.ixdtf.specs.table.Lines.{abrupt_bracket}
 use Rattle.ixdtf.specs.reading.Looks.{Read, ◌>>=◌, look_at, next_by, error_of}
-use Rattle.ixdtf.specs.reading.Zones.{with_letter, name_run}
+use Rattle.ixdtf.specs.reading.Zones.{with_letter, name_run, as_zone}
 use Rattle.ixdtf.specs.reading.Pairs.{key_run, value_run, pair_at}
 use Rattle.ixdtf.specs.reading.Runs.{Taken, one_more, nothing_taken, on_letter, letters_by, name_after}
-use Rattle.ixdtf.specs.reading.Brackets.{Bracket, zoned, paired, refusal, name_fault, next_is, sight_at, name_in_bracket_at, name_or_pair_at}
+use Rattle.ixdtf.specs.reading.Brackets.{Bracket, zoned, paired, noted, as_pair, refusal, name_fault, next_is, sight_at, name_in_bracket_at, name_or_pair_at}
 use Rattle.ixdtf.proofs.code.NameLoop.{name_ended, name_refused}
 use Rattle.ixdtf.proofs.code.PairLoops.{key_after, key_closed, key_refused}
 use Rattle.ixdtf.proofs.parts.LookAhead.{over_letter, zone_char_passed, slash_passed, key_char_passed}
@@ -205,6 +205,14 @@ unseen : (critical : Bool) (text : Text) (fault : Fault) → sight text ≡ Err 
 unfolding name_or_pair_at
 unseen critical text fault e = rw e refl
 
+seen : (critical : Bool) (text : Text) (b : Bool) → sight text ≡ Ok b → name_or_pair_at error_of critical text ≡ (if b then as_pair (pair_at error_of critical text) else noted critical (as_zone (name_in_bracket_at error_of text)))
+unfolding name_or_pair_at
+seen critical text b e = rw e refl
+
+some_next : (class : Class) (next : Option ℕ) → next_is class next ≡ true → (c : ℕ) × (next ≡ Some c) × (class c ≡ true)
+some_next class None e = absurd cc
+some_next class (Some c) e = (c, refl, e)
+
 module _ (critical : Bool) (letters : KeyLetters) (text : Text) where
   pub pass_failed : (fault : Fault) → letters_by key_after letters text ≡ Err fault → name_or_pair_at error_of critical text ≡ Err fault
   pass_failed fault e = unseen critical text fault (sight_fails key_after key_over letters text fault e)
@@ -215,3 +223,77 @@ module _ (critical : Bool) (letters : KeyLetters) (text : Text) where
 
     key_next : look_at NonAsciiCodePoint rest ≡ Ok key.next
     key_next = next_shown key_after letters text rest key keys
+
+    -- a pair, or a value that is refused
+    as_pair_is : name_or_pair_at error_of critical text ≡ as_pair (pair_at error_of critical text) → next_is equals key.next ≡ true → name_or_pair_at error_of critical text ≡ as_pair (value_run error_of AtStart (drop 1 rest) >>= λ value. Ok (record { critical = critical; key = key.letters; value = value.0 }, value.1))
+    unfolding pair_at
+    as_pair_is e is =
+        let found = some_next equals key.next is in
+        e ∙ rw (key_closed letters text rest key found.0 keys found.1 found.2) refl
+
+    module _ (is : next_is equals key.next ≡ true) where
+      pair_seen : sight text ≡ Ok true
+      pair_seen = let found = some_next equals key.next is in sight_is ∙ sight_at_equals rest found.0 (key_next ∙ ap (λ (o : Option ℕ). Ok o) found.1) found.2
+
+      pub value_failed : (fault : Fault) → value_run error_of AtStart (drop 1 rest) ≡ Err fault → name_or_pair_at error_of critical text ≡ Err fault
+      value_failed fault e = as_pair_is (seen critical text true pair_seen) is ∙ rw e refl
+
+      pub pair_read : (value : List ℕ) (after : Text) → value_run error_of AtStart (drop 1 rest) ≡ Ok (value, after) → name_or_pair_at error_of critical text ≡ Ok (paired (record { critical = critical; key = key.letters; value = value }), after)
+      pair_read value after e = as_pair_is (seen critical text true pair_seen) is ∙ rw e refl
+
+    pub more_failed : (fault : Fault) → letters_by name_after (record { may_end = true }) rest ≡ Err fault → name_or_pair_at error_of critical text ≡ Err fault
+    more_failed fault e = unseen critical text fault (sight_is ∙ sight_fails name_after name_over (record { may_end = true }) rest fault e)
+
+    module _ (after : Text) (more : Taken NameLetters) (mores : letters_by name_after (record { may_end = true }) rest ≡ Ok (more, after)) where
+      sight_after : sight text ≡ sight after
+      sight_after = sight_is ∙ sight_goes_on name_after name_over (record { may_end = true }) rest after more mores
+
+      more_next : look_at NonAsciiCodePoint after ≡ Ok more.next
+      more_next = next_shown name_after (record { may_end = true }) rest after more mores
+
+      name_ends_so : more.state.may_end ≡ true → name_run error_of true text ≡ Ok (key.letters ++ more.letters, after)
+      name_ends_so e = name_keyed letters text ∙ rw (keys, name_ended rest after more mores e) refl
+
+      name_refused_so : more.state.may_end ≡ false → name_run error_of true text ≡ Err IanaCharPostSeparator
+      name_refused_so e = name_keyed letters text ∙ rw (keys, name_refused rest after more mores e) refl
+
+      -- a name
+      pub name_read : (more.state.may_end && next_is closing more.next) ≡ true → name_or_pair_at error_of critical text ≡ Ok (zoned (record { critical = critical; zone = Name (key.letters ++ more.letters) }), drop 1 after)
+      unfolding name_in_bracket_at next_by
+      name_read is = go more.state.may_end refl is
+        where
+          go : (b : Bool) → more.state.may_end ≡ b → (b && next_is closing more.next) ≡ true → name_or_pair_at error_of critical text ≡ Ok (zoned (record { critical = critical; zone = Name (key.letters ++ more.letters) }), drop 1 after)
+          go true p e =
+              let found = some_next closing more.next e in
+              let next : look_at NonAsciiCodePoint after ≡ Ok (Some found.0) = more_next ∙ ap (λ (o : Option ℕ). Ok o) found.1 in
+              seen critical text false (sight_after ∙ sight_at_closing after found.0 next found.2)
+              ∙ rw (name_ends_so p, next, found.2) refl
+          go false p e = absurd cc
+
+      pair_refused : next_is equals key.next ≡ false → sight rest ≡ Ok true → as_pair (pair_at error_of critical text) ≡ Err AnnotationKeyChar
+      unfolding pair_at
+      pair_refused no_key p = go key.next refl no_key
+        where
+          go : (next : Option ℕ) → key.next ≡ next → next_is equals next ≡ false → as_pair (pair_at error_of critical text) ≡ Err AnnotationKeyChar
+          go None e other = let ended : Ok true ≡ Err abrupt_bracket = sym p ∙ sight_at_end rest (key_next ∙ ap (λ (o : Option ℕ). Ok o) e) in absurd cc
+          go (Some c) e other = rw (key_refused letters text rest key c keys e other) refl
+
+      zone_refused : (more.state.may_end && next_is closing more.next) ≡ false → sight after ≡ Ok false → noted critical (as_zone (name_in_bracket_at error_of text)) ≡ Err (name_fault more.state.may_end)
+      unfolding name_in_bracket_at next_by
+      zone_refused is p = go more.state.may_end refl more.next refl is
+        where
+          go : (b : Bool) → more.state.may_end ≡ b → (next : Option ℕ) → more.next ≡ next → (b && next_is closing next) ≡ false → noted critical (as_zone (name_in_bracket_at error_of text)) ≡ Err (name_fault more.state.may_end)
+          go false q next e test = rw (name_refused_so q, q) refl
+          go true q None e test = let ended : Ok false ≡ Err abrupt_bracket = sym p ∙ sight_at_end after (more_next ∙ ap (λ (o : Option ℕ). Ok o) e) in absurd cc
+          go true q (Some c) e test =
+              let next : look_at NonAsciiCodePoint after ≡ Ok (Some c) = more_next ∙ ap (λ (o : Option ℕ). Ok o) e in
+              rw (name_ends_so q, next, test, q) refl
+
+      -- neither
+      pub name_refuses : next_is equals key.next ≡ false → (more.state.may_end && next_is closing more.next) ≡ false → name_or_pair_at error_of critical text ≡ Err (refusal (sight_at error_of after) (name_fault more.state.may_end))
+      name_refuses no_key is = go (sight after) refl
+        where
+          go : (seen_so : Result Bool Fault) → sight after ≡ seen_so → name_or_pair_at error_of critical text ≡ Err (refusal (sight_at error_of after) (name_fault more.state.may_end))
+          go (Err e) p = rw p (unseen critical text e (sight_after ∙ p))
+          go (Ok true) p = rw p (seen critical text true (sight_after ∙ p) ∙ pair_refused no_key (sym sight_is ∙ sight_after ∙ p))
+          go (Ok false) p = rw p (seen critical text false (sight_after ∙ p) ∙ zone_refused is p)
