@@ -163,7 +163,7 @@ pub fn parse_annotation_value<'a, T: EncodingType>(
 /// Reads a key, `=`, a value and `]`.
 #[inline(always)]
 #[tactic(auto, unfolding(crate::specs::reading::Pairs::pair_at))]
-pub fn parse_pair<'a, T: EncodingType>(
+fn parse_pair<'a, T: EncodingType>(
     cursor: &mut Cursor<'a, T>,
     critical: bool,
 ) -> Result<Annotation<'a, T>, Stop>

@@ -24,7 +24,7 @@ use crate::stop::Stop;
 /// The letters of a name, by whether it may end: after a `/` it may not, and no other `/` goes on.
 #[derive(Clone, Copy)]
 pub struct NameLetters {
-    may_end: bool,
+    pub may_end: bool,
 }
 
 impl Letters for NameLetters {

@@ -60,6 +60,12 @@ returns-clause-letters g c =
           rw next (stays _ g.T.EncodingType.letter g.met.T.EncodingType.faithful _ _ _ _ far _ found none)
     ]
 
+pub returns-clause-units : goal.returns-clause-units
+returns-clause-units g c =
+    let far = c.loop-stop.invariant.far in
+    let front = front_is g.T.EncodingType.number c.rest-start.result.now c.rest.result.now far.taken c.loop-stop.here.rest _ c.loop-stop.invariant.start far.units (c.rest.ensures ∙ c.look.ensures.rest) in
+    rw (front, c.look.ensures.rest) far.units
+
 -- a letter that stays is taken off by a step
 pub returns-clause-stays : goal.returns-clause-stays
 returns-clause-stays g c some = elim c.match-look.branch [
