@@ -1,2 +1,3 @@
 -- Texts and their outcomes, computed.
-pub mod Examples
+pub mod Helpers
+pub mod Dates
