@@ -1,3 +1,4 @@
 -- Texts and their outcomes, computed.
 pub mod Helpers
 pub mod Dates
+pub mod Times

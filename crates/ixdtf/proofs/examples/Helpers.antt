@@ -103,6 +103,10 @@ stops_after pairs name place fault = refused (row_of name place fault) pairs
 abbrev pub stops : LineName → Place → Fault → Outcome
 stops name place fault = stops_after [] name place fault
 
+-- a text of plain letters, and what it is derived as
+abbrev pub gives : List ℕ → Outcome → Example
+gives units outcome = (text_of units, outcome)
+
 -- a text that ends there, and its row
 abbrev pub ends : List ℕ → LineName → Fault → Example
 ends front name fault = (text_of front, stops name end fault)
