@@ -2,3 +2,5 @@
 pub mod Helpers
 pub mod Dates
 pub mod Times
+pub mod Offsets
+pub mod Zones
