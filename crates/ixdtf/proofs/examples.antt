@@ -4,3 +4,5 @@ pub mod Dates
 pub mod Times
 pub mod Offsets
 pub mod Zones
+pub mod FirstBracket
+pub mod Pairs
