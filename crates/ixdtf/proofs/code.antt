@@ -10,6 +10,7 @@ pub mod Nanoseconds
 pub mod OneMoreReply
 pub mod PairLoops
 pub mod ReadersWithoutPairs
+pub mod Tables
 pub mod Tail
 pub mod Units
 pub mod WalkNames

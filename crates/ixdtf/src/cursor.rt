@@ -3,17 +3,17 @@
 //! There is no index: a cursor keeps the end of the source that is still to be read, as one slice. So a place past the end
 //! cannot be, and a reader that refuses puts back the slice that it began with.
 
-ghost use Rattle.std.specs.Prelude.{◌≡◌, ℕ, ◌+◌, ◌-◌, ◌<◌, ◌≤◌, List, [], map, length, drop, None, IfOk, IsTrue};
+ghost use Rattle.std.specs.Prelude.{◌≡◌, ℕ, ◌+◌, ◌-◌, ◌<◌, ◌≤◌, ◌∷◌, List, [], map, length, drop, None, IfOk, IsTrue};
 ghost use Rattle.ixdtf.specs.language.Letters.{digit};
-ghost use Rattle.ixdtf.specs.table.Faults.{fault_of, NonAsciiCodePoint};
-ghost use Rattle.ixdtf.specs.Views.{Returns, Unread};
-ghost use Rattle.ixdtf.specs.reading.Clauses.{Reads, Spends};
-ghost use Rattle.ixdtf.specs.reading.CodeReadings.{end_look};
-ghost use Rattle.ixdtf.specs.reading.Looks.{look_at, next_by, peek_by, digit_look};
+ghost use Rattle.ixdtf.specs.language.Letters.Letter.{Plain};
+ghost use Rattle.ixdtf.specs.table.Faults.{NonAsciiCodePoint};
+ghost use Rattle.ixdtf.specs.Views.{Unread, ascii_at};
+ghost use Rattle.ixdtf.specs.reading.Clauses.{Reads, Spends, Yields, fault_of_stop, end_look};
+ghost use Rattle.ixdtf.specs.reading.Looks.{look_at, next_by, peek_by, digit_look, digits_by};
 
 use crate::encoding::EncodingType;
 use crate::looks::Looks;
-use crate::{ParseError, ParserResult};
+use crate::stop::Stop;
 use std::marker::Model;
 
 /// The units that are still to be read, and a count of looks at them, which takes no byte.
@@ -59,17 +59,48 @@ impl<'a, T: EncodingType> Cursor<'a, T> {
         self.rest = rest;
     }
 
-    /// Looks at the first letter of the rest: `None` at the end, the error `NonAsciiCodePoint` at a unit that stands for
-    /// no letter. This is the one place that calls `get_ascii`.
+    /// A cursor of its own at the same place, with the looks that were made: this one keeps its rest, and no count. So a
+    /// reader and its loops work on a value that nothing else sees, and put it back at their end.
     #[inline(always)]
-    #[tactic(auto, using(crate::proofs::code::Units::first_look))]
-    pub fn look(&mut self) -> ParserResult<Option<u8>>
-        ensures letter { Returns (λ found. found) result (look_at NonAsciiCodePoint (map T.letter self.old.rest)) }
+    pub fn take(&mut self) -> Self
+        ensures same { result ≡ self.old }
+        ensures rest { self.new.rest ≡ self.old.rest }
+    {
+        Cursor {
+            rest: self.rest,
+            looks: std::mem::replace(&mut self.looks, Looks::none()),
+        }
+    }
+
+    /// Looks at a place of the rest: `None` past its end, and `NonAsciiCodePoint` at a unit that stands for no letter.
+    /// This is the one place that calls `get_ascii`.
+    #[inline(always)]
+    pub fn look_at(&mut self, index: usize) -> Result<Option<u8>, Stop>
+        ensures letter {
+            Yields (λ found. found) result (ascii_at T.letter index self.old.rest)
+        }
         ensures rest { self.new.rest ≡ self.old.rest }
         ensures looks { self.new.looks ≡ self.old.looks + 1 }
     {
         self.looks.tick();
-        T::get_ascii(self.rest, 0)
+        match T::get_ascii(self.rest, index) {
+            Ok(found) => Ok(found),
+            Err(_) => Err(Stop::NonAsciiCodePoint),
+        }
+    }
+
+    /// Looks at the first letter of the rest.
+    #[inline(always)]
+    #[tactic(auto, using(crate::proofs::code::Units::first_look))]
+    pub fn look(&mut self) -> Result<Option<u8>, Stop>
+        ensures letter {
+            Yields (λ found. found) result
+                (look_at NonAsciiCodePoint (map T.letter self.old.rest))
+        }
+        ensures rest { self.new.rest ≡ self.old.rest }
+        ensures looks { self.new.looks ≡ self.old.looks + 1 }
+    {
+        self.look_at(0)
     }
 
     /// Takes the first unit off, where there is one.
@@ -86,17 +117,20 @@ impl<'a, T: EncodingType> Cursor<'a, T> {
         }
     }
 
-    /// Takes a digit off and answers it, as an ASCII byte. The end is `AbruptEnd` at `digit`, and another letter this
-    /// error; both stay.
+    /// Takes a digit off and returns it, as an ASCII byte. The end is `AbruptDigit`, and another letter this stop; both
+    /// stay.
     #[inline(always)]
     #[tactic(auto, unfolding(crate::specs::reading::Looks::next_by))]
-    pub fn next_digit(&mut self, other: ParseError) -> ParserResult<u8>
-        ensures digit { Reads (λ byte. byte) (map T.letter self.old.rest) result (map T.letter self.new.rest) (next_by (digit_look (fault_of other.entry))) }
+    pub fn next_digit(&mut self, other: Stop) -> Result<u8, Stop>
+        ensures digit {
+            Reads T.letter (λ byte. byte) self.old result self.new
+                (next_by (digit_look (fault_of_stop other)))
+        }
         ensures is_digit { IfOk result (λ byte. IsTrue (digit byte)) }
         ensures looks { Spends 1 self.old self.new }
     {
         match self.look()? {
-            None => Err(ParseError::AbruptEnd { location: "digit" }),
+            None => Err(Stop::AbruptDigit),
             Some(byte) if byte.is_ascii_digit() => {
                 self.step();
                 Ok(byte)
@@ -105,17 +139,33 @@ impl<'a, T: EncodingType> Cursor<'a, T> {
         }
     }
 
+    /// Takes two digits off and returns them, as ASCII bytes.
+    #[inline(always)]
+    #[tactic(auto, unfolding(crate::specs::reading::Looks::digits_by))]
+    pub fn two_digits(&mut self, other: Stop) -> Result<(u8, u8), Stop>
+        ensures digits {
+            Reads T.letter (λ ds. Plain ds.0 ∷ Plain ds.1 ∷ []) self.old result self.new
+                (digits_by (digit_look (fault_of_stop other)) 2)
+        }
+        ensures are_digits { IfOk result (λ ds. IsTrue (digit ds.0) × IsTrue (digit ds.1)) }
+        ensures looks { Spends 2 self.old self.new }
+    {
+        let tens = self.next_digit(other)?;
+        let ones = self.next_digit(other)?;
+        Ok((tens, ones))
+    }
+
     /// Wants the end of the source: `InvalidEnd` at any letter.
     #[inline(always)]
     #[tactic(auto, unfolding(crate::specs::reading::Looks::peek_by))]
-    pub fn close(&mut self) -> ParserResult<()>
-        ensures end { Reads (λ _. None) (map T.letter self.old.rest) result (map T.letter self.new.rest) (peek_by end_look) }
+    pub fn close(&mut self) -> Result<(), Stop>
+        ensures end { Reads T.letter (λ _. None) self.old result self.new (peek_by end_look) }
         ensures rest { self.new.rest ≡ self.old.rest }
         ensures looks { Spends 1 self.old self.new }
     {
         match self.look()? {
             None => Ok(()),
-            Some(_) => Err(ParseError::InvalidEnd),
+            Some(_) => Err(Stop::InvalidEnd),
         }
     }
 }

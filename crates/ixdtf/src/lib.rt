@@ -26,6 +26,7 @@ mod laws;
 mod looks;
 pub mod parsers;
 pub mod records;
+mod stop;
 
 /// Why a reader refused a text, or an answer to an annotation.
 pub type ParseError = error::ParseError<'static>;

@@ -7,7 +7,7 @@ use Rattle.ixdtf.specs.table.Faults.{Fault}
 use Rattle.ixdtf.specs.table.Faults.Fault.{NonAsciiCodePoint}
 use Rattle.ixdtf.specs.language.Fractions.{FractionParts, fraction_of}
 use Rattle.ixdtf.specs.reading.Looks.{Read, ◌>>=◌, look_at, digit_run}
-use Rattle.ixdtf.specs.reading.CodeReadings.{more_digits_at}
+use Rattle.ixdtf.specs.reading.Clauses.{more_digits_at}
 use Rattle.ixdtf.proofs.code.GrowingDigits.{Grown, fraction_grows}
 
 -- digits that were read, with more in front of them

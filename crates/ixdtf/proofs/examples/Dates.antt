@@ -2,8 +2,7 @@
 use Rattle.std.proofs.Common.{◌≡◌, List, [], ◌∷◌, ◌++◌, map, codes, ℤ, pos, neg_ℤ, refl}
 use Rattle.ixdtf.specs.language.Readers.{parse}
 use Rattle.ixdtf.specs.table.Faults.Fault.{NonAsciiCodePoint, InvalidEnd, InvalidMonthRange, InvalidDayRange, DateYear, DateExtendedYear, DateMonth, DateDay, DateSeparator}
-use Rattle.ixdtf.specs.table.LineNames.{DateLine, LineName}
-use Rattle.ixdtf.specs.table.LineNames.LineName.{of_date}
+use Rattle.ixdtf.specs.table.LineNames.{DateLine, LineName, of_date}
 use Rattle.ixdtf.specs.table.LineNames.DateLine.{year_start, year_digits, extended_year_digits, minus_zero_year, after_year, month_digits, month_range, after_hyphened_month, after_plain_month, day_digits, day_range, after_date}
 use Rattle.ixdtf.specs.table.Lines.{abrupt_digit, abrupt_date}
 use Rattle.ixdtf.specs.language.Letters.Letter.{Bad}

@@ -8,7 +8,7 @@ use Rattle.ixdtf.specs.language.Letters.{digit, sign, hyphen}
 use Rattle.ixdtf.specs.language.Digits.{decimal}
 use Rattle.ixdtf.specs.table.Faults.Fault.{DateExtendedYear}
 use Rattle.ixdtf.specs.language.Dates.{Year}
-use Rattle.ixdtf.specs.table.LineNames.LineName.{of_date}
+use Rattle.ixdtf.specs.table.LineNames.{of_date}
 use Rattle.ixdtf.specs.table.LineNames.DateLine.{year_start, year_digits, extended_year_digits, minus_zero_year}
 use Rattle.ixdtf.specs.table.Rows.{Row}
 use Rattle.ixdtf.specs.reading.Looks.{letter_at, digits_at}

@@ -17,7 +17,7 @@ use Rattle.ixdtf.specs.language.Brackets.{Pair}
 use Rattle.ixdtf.specs.language.Readers.{Reader, has_brackets}
 use Rattle.ixdtf.specs.table.LineNames.{LineName}
 use Rattle.ixdtf.specs.language.Readers.Reader.{parse_offset, parse_identifier, parse_iana_identifier}
-use Rattle.ixdtf.specs.table.LineNames.LineName.{of_date, of_clock, of_offset, of_zone, of_bracket, of_pair}
+use Rattle.ixdtf.specs.table.LineNames.LineName.{of_core, of_clock, of_offset, of_zone, of_bracket, of_pair}
 use Rattle.ixdtf.specs.table.LineNames.OffsetLine.{offset_start, after_zulu}
 use Rattle.ixdtf.specs.table.LineNames.ZoneLine.{identifier_start, zone_name_start, in_zone_name, after_zone_slash}
 use Rattle.ixdtf.specs.table.Lines.{table, line_of, follow_of, zone_letters, zone_other}
@@ -99,7 +99,7 @@ module _ {E : Type 0} (fault : Row → E) where
   offset_rows (of_clock clocks.Offset l) pairs place e prior front rest b f at = rw b.0.1 (clock_rows fault false clocks.Offset (offset_at fault) (offset_after b.0.0) (Plain b.0.0 ∷ []) (offset_lead b.0.0 b.0.2) (offset_refuses b.0.0) l place e front rest f at)
   offset_rows (of_clock clocks.Time l) pairs place e prior front rest b f at = absurd b.0
   offset_rows (of_clock clocks.MinuteOffset l) pairs place e prior front rest b f at = absurd b.0
-  offset_rows (of_date l) pairs place e prior front rest b f at = absurd b.0
+  offset_rows (of_core l) pairs place e prior front rest b f at = absurd b.0
   offset_rows (of_zone l) pairs place e prior front rest b f at = absurd b.0
   offset_rows (of_bracket l) pairs place e prior front rest b f at = absurd b.0
   offset_rows (of_pair l) pairs place e prior front rest b f at = absurd b.0
@@ -191,7 +191,7 @@ module _ {E : Type 0} (fault : Row → E) where
   iana_identifier_rows (of_zone identifier_start) pairs place e prior front rest b f at = absurd b.0
   iana_identifier_rows (of_offset l) pairs place e prior front rest b f at = absurd b.0
   iana_identifier_rows (of_clock clock l) pairs place e prior front rest b f at = absurd b.0
-  iana_identifier_rows (of_date l) pairs place e prior front rest b f at = absurd b.0
+  iana_identifier_rows (of_core l) pairs place e prior front rest b f at = absurd b.0
   iana_identifier_rows (of_bracket l) pairs place e prior front rest b f at = absurd b.0
   iana_identifier_rows (of_pair l) pairs place e prior front rest b f at = absurd b.0
 
@@ -244,7 +244,7 @@ module _ {E : Type 0} (fault : Row → E) where
   identifier_rows (of_clock clocks.Time l) pairs place e prior front rest b f at = absurd b.0
   identifier_rows (of_clock clocks.Offset l) pairs place e prior front rest b f at = absurd b.0
   identifier_rows (of_offset l) pairs place e prior front rest b f at = absurd b.0
-  identifier_rows (of_date l) pairs place e prior front rest b f at = absurd b.0
+  identifier_rows (of_core l) pairs place e prior front rest b f at = absurd b.0
   identifier_rows (of_bracket l) pairs place e prior front rest b f at = absurd b.0
   identifier_rows (of_pair l) pairs place e prior front rest b f at = absurd b.0
 

@@ -19,7 +19,8 @@ use Rattle.ixdtf.specs.language.Readers.CoreKind.{date_time}
 use Rattle.ixdtf.specs.language.Readers.Reader.{bracketed}
 use Rattle.ixdtf.specs.table.Faults.Fault.{NonAsciiCodePoint, InvalidEnd}
 use Rattle.ixdtf.specs.table.LineNames.{DateLine, LineName}
-use Rattle.ixdtf.specs.table.LineNames.LineName.{of_date, of_clock, of_offset}
+use Rattle.ixdtf.specs.table.LineNames.{of_date}
+use Rattle.ixdtf.specs.table.LineNames.LineName.{of_clock, of_offset}
 use Rattle.ixdtf.specs.table.LineNames.DateLine.{year_start, year_digits, extended_year_digits, minus_zero_year, after_year, month_digits, month_range, after_hyphened_month, after_plain_month, day_digits, day_range, after_date}
 use Rattle.ixdtf.specs.table.LineNames.OffsetLine.{after_zulu}
 use Rattle.ixdtf.specs.table.Before.{Before, BeforeDate, BeforeTime, BeforeOffset}

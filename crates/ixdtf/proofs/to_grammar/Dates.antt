@@ -10,7 +10,7 @@ use Rattle.ixdtf.specs.language.Shapes.{Shape, one}
 use Rattle.ixdtf.specs.language.Digits.{decimal}
 use Rattle.ixdtf.specs.table.Faults.Fault.{InvalidDayRange}
 use Rattle.ixdtf.specs.language.Dates.{Year, Month, DateShape, IsDate, month_length}
-use Rattle.ixdtf.specs.table.LineNames.LineName.{of_date}
+use Rattle.ixdtf.specs.table.LineNames.{of_date}
 use Rattle.ixdtf.specs.table.LineNames.DateLine.{after_year, month_digits, month_range, after_hyphened_month, after_plain_month, day_digits, day_range}
 use Rattle.ixdtf.specs.table.Lines.{date_line, HyphenOrDigit}
 use Rattle.ixdtf.specs.table.Rows.{Row, front_of}

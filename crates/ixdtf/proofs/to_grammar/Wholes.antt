@@ -9,7 +9,7 @@ use Rattle.ixdtf.specs.language.Cores.{Core, IsCore}
 use Rattle.ixdtf.specs.language.Readers.{Reader, CoreKind}
 use Rattle.ixdtf.specs.table.LineNames.{LineName}
 use Rattle.ixdtf.specs.language.Readers.Reader.{bracketed, parse_offset, parse_identifier, parse_iana_identifier}
-use Rattle.ixdtf.specs.table.LineNames.LineName.{of_date, of_clock, of_offset, of_zone, of_bracket, of_pair}
+use Rattle.ixdtf.specs.table.LineNames.LineName.{of_core, of_clock, of_offset, of_zone, of_bracket, of_pair}
 use Rattle.ixdtf.specs.table.LineNames.ZoneLine.{identifier_start, zone_name_start, in_zone_name, after_zone_slash}
 use Rattle.ixdtf.specs.table.LineNames.BracketLine.{first_bracket_start, first_critical_start, first_bracket_scan, after_bracket}
 use Rattle.ixdtf.specs.table.LineNames.PairLine.{key_start, critical_key_start, in_key, value_start, in_value, after_value_hyphen}
@@ -33,7 +33,7 @@ use Rattle.ixdtf.proofs.parts.ZonesAlone.{offset_read, identifier_read, iana_ide
 
 -- what stands before a line of a first bracket, where a core stands before it
 in_first : (kind : CoreKind) (name : LineName) (cores prior rest : Text) → some (IsCore kind) cores → InBracket name prior rest → Before (bracketed kind) name [] (cores ++ prior) rest
-in_first kind (of_date name) cores prior rest core b = absurd b
+in_first kind (of_core name) cores prior rest core b = absurd b
 in_first kind (of_clock clocks.Time name) cores prior rest core b = absurd b
 in_first kind (of_clock clocks.Offset name) cores prior rest core b = absurd b
 in_first kind (of_clock clocks.MinuteOffset name) cores prior rest core b = ((cores ++ b.0, b.1, rw b.2 (simp append_assoc), (cores, b.0, refl, core, b.3), b.4), refl)
@@ -59,7 +59,7 @@ after_core kind row text cores body is core f = (cores ++ f.0, f.1, is ∙ rw f.
 
 -- the same where whole brackets stand before the line
 in_later : (kind : CoreKind) (name : LineName) (pairs : List Pair) (whole prior rest : Text) → Bracketed kind pairs whole → AfterBrackets name prior → Before (bracketed kind) name pairs (whole ++ prior) rest
-in_later kind (of_date name) pairs whole prior rest h b = absurd b
+in_later kind (of_core name) pairs whole prior rest h b = absurd b
 in_later kind (of_clock clock name) pairs whole prior rest h b = absurd b
 in_later kind (of_offset name) pairs whole prior rest h b = absurd b
 in_later kind (of_zone name) pairs whole prior rest h b = absurd b

@@ -19,12 +19,14 @@ use Rattle.ixdtf.specs.language.Readers.{CoreKind}
 use Rattle.ixdtf.specs.language.Readers.CoreKind.{date_time}
 use Rattle.ixdtf.specs.table.Faults.{Fault}
 use Rattle.ixdtf.specs.table.Faults.Fault.{InvalidEnd}
-use Rattle.ixdtf.specs.table.LineNames.{DateLine, ClockLine, LineName}
-use Rattle.ixdtf.specs.table.LineNames.LineName.{of_date, of_clock, of_offset}
+use Rattle.ixdtf.specs.table.LineNames.{DateLine, CoreLine, ClockLine, LineName}
+use Rattle.ixdtf.specs.table.LineNames.{of_date}
+use Rattle.ixdtf.specs.table.LineNames.CoreLine.{dates}
+use Rattle.ixdtf.specs.table.LineNames.LineName.{of_core, of_clock, of_offset}
 use Rattle.ixdtf.specs.table.LineNames.DateLine.{after_date}
 use Rattle.ixdtf.specs.table.LineNames.OffsetLine.{after_zulu}
 use Rattle.ixdtf.specs.table.Lines.{line_of, follow_of, always}
-use Rattle.ixdtf.specs.table.Before.{BeforeDate, BeforeTime, BeforeOffset}
+use Rattle.ixdtf.specs.table.Before.{BeforeCore, BeforeTime, BeforeOffset}
 use Rattle.ixdtf.specs.table.Rows.{Row, Place, Stops, front_of}
 use Rattle.ixdtf.specs.table.Rows.Place.{end, other, bad, anywhere}
 use Rattle.ixdtf.specs.reading.Looks.{Read, ◌>>=◌, row_of, look_at}
@@ -189,9 +191,9 @@ module _ {E : Type 0} (fault : Row → E) where
   core_takes date_time front core rest d ends = date_time_takes front core rest d ends
 
   -- each row of a core's lines is returned
-  pub core_date_rows : (kind : CoreKind) (l : DateLine) (place : Place) (e : Fault) (prior front rest : Text) → BeforeDate kind l prior → front_of (line_of true (of_date l)) front → Stops (line_of true (of_date l)) place e rest → core_at fault kind (prior ++ (front ++ rest)) ≡ Err (fault (row_of (of_date l) place e))
-  core_date_rows date_time after_date place e prior front rest b f at = rw b (after_date_row place e front rest f at)
-  core_date_rows date_time l place e prior front rest b f at = rw b (date_row l tt place e front rest f at)
+  pub core_line_rows : (kind : CoreKind) (l : CoreLine) (place : Place) (e : Fault) (prior front rest : Text) → BeforeCore kind l prior (front ++ rest) → front_of (line_of true (of_core l)) front → Stops (line_of true (of_core l)) place e rest → core_at fault kind (prior ++ (front ++ rest)) ≡ Err (fault (row_of (of_core l) place e))
+  core_line_rows date_time (dates after_date) place e prior front rest b f at = rw b (after_date_row place e front rest f at)
+  core_line_rows date_time (dates l) place e prior front rest b f at = rw b (date_row l tt place e front rest f at)
 
   pub core_time_rows : (kind : CoreKind) (l : ClockLine) (place : Place) (e : Fault) (prior front rest : Text) → BeforeTime kind prior → front_of (line_of true (of_clock clocks.Time l)) front → Stops (line_of true (of_clock clocks.Time l)) place e rest → core_at fault kind (prior ++ (front ++ rest)) ≡ Err (fault (row_of (of_clock clocks.Time l) place e))
   core_time_rows date_time l place e prior front rest b f at = rw b.2 (time_rows (Some b.3.0) (date_time_core_at fault) (b.0 ++ b.1) (date_time_lead b.0 b.1 b.3.0 b.3.1 b.4) l place e front rest f at)

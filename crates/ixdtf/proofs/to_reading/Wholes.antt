@@ -11,7 +11,7 @@ use Rattle.ixdtf.specs.language.Cores.{Core, IsCore}
 use Rattle.ixdtf.specs.language.Readers.{Reader, CoreKind}
 use Rattle.ixdtf.specs.table.LineNames.{LineName}
 use Rattle.ixdtf.specs.language.Readers.Reader.{bracketed, parse_offset, parse_identifier, parse_iana_identifier}
-use Rattle.ixdtf.specs.table.LineNames.LineName.{of_date, of_clock, of_offset, of_zone, of_bracket, of_pair}
+use Rattle.ixdtf.specs.table.LineNames.LineName.{of_core, of_clock, of_offset, of_zone, of_bracket, of_pair}
 use Rattle.ixdtf.specs.table.LineNames.OffsetLine.{offset_start, after_zulu}
 use Rattle.ixdtf.specs.table.LineNames.ZoneLine.{identifier_start, zone_name_start, in_zone_name, after_zone_slash}
 use Rattle.ixdtf.specs.table.LineNames.BracketLine.{first_bracket_start, first_critical_start, first_bracket_scan, after_bracket}
@@ -27,7 +27,7 @@ use Rattle.ixdtf.specs.reading.Brackets.{Bracket, zoned, paired, zone_in, pairs_
 use Rattle.ixdtf.specs.reading.Cores.{core_at}
 use Rattle.ixdtf.specs.reading.Wholes.{bracketed_at, annotated_at, bracketed_text_at, read_at}
 use Rattle.ixdtf.specs.reading.Chains.{AfterBrackets}
-use Rattle.ixdtf.proofs.to_reading.Cores.{core_takes, core_date_rows, core_time_rows, core_offset_rows, core_zulu_row}
+use Rattle.ixdtf.proofs.to_reading.Cores.{core_takes, core_line_rows, core_time_rows, core_offset_rows, core_zulu_row}
 use Rattle.ixdtf.proofs.to_grammar.FirstBracket.{InBracket, IsBracket}
 use Rattle.ixdtf.proofs.to_reading.FirstBracket.{bracket_takes, bracket_rows}
 use Rattle.ixdtf.proofs.to_reading.MorePairs.{over_pairs, pairs_end, pairs_row}
@@ -153,7 +153,7 @@ module _ {E : Type 0} (fault : List Pair → Row → E) (kind : CoreKind) where
   in_core text row pairs none h = no_pairs text row pairs none (core_row text (fault [] row) h)
 
   pub whole_row : (name : LineName) (pairs : List Pair) (place : Place) (e : Fault) (prior front rest : Text) → BeforeBracketed kind name pairs prior (front ++ rest) → front_of (line_of true name) front → Stops (line_of true name) place e rest → whole_at (prior ++ (front ++ rest)) ≡ Err (fault pairs (row_of name place e))
-  whole_row (of_date l) pairs place e prior front rest b f at = in_core _ _ pairs b.1 (core_date_rows (fault []) kind l place e prior front rest b.0 f at)
+  whole_row (of_core l) pairs place e prior front rest b f at = in_core _ _ pairs b.1 (core_line_rows (fault []) kind l place e prior front rest b.0 f at)
   whole_row (of_clock clocks.Time l) pairs place e prior front rest b f at = in_core _ _ pairs b.1 (core_time_rows (fault []) kind l place e prior front rest b.0 f at)
   whole_row (of_clock clocks.Offset l) pairs place e prior front rest b f at = in_core _ _ pairs b.1 (core_offset_rows (fault []) kind l place e prior front rest b.0 f at)
   whole_row (of_clock clocks.MinuteOffset l) pairs place e prior front rest (b, none) f at =

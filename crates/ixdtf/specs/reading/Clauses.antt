@@ -1,44 +1,104 @@
 -- Forms of the clauses of private functions, and what the code's own types stand for. No public clause cites one.
-use Rattle.std.specs.Prelude.{◌≡◌, ℕ, Bool, IsTrue, IsFalse, ◌+◌, ◌≤◌, map, length, Option, Some, None, Result, Ok, Err}
-use Rattle.ixdtf.specs.declared.error.ParseError.{ParseError}
+use Rattle.std.specs.Prelude.{◌≡◌, ℕ, Bool, IsTrue, IsFalse, ◌+◌, ◌≤◌, map, length, Option, Some, None, Result, Ok, Err, ◌∷◌}
+use Rattle.ixdtf.specs.declared.records.IxdtfParseRecord.{IxdtfParseRecord}
+use Rattle.ixdtf.specs.declared.stop.Stop.{Stop}
+use Rattle.ixdtf.specs.declared.stop.Stop.TheVariants as stops
 use Rattle.ixdtf.specs.declared.parsers.time.Clock.{Clock as CodeClock}
 use Rattle.ixdtf.specs.declared.parsers.time.Clock.TheVariants as code_clocks
-use Rattle.ixdtf.specs.declared.parsers.annotations.Bracket.{Bracket as CodeBracket}
-use Rattle.ixdtf.specs.declared.parsers.annotations.Bracket.TheVariants as brackets
+use Rattle.ixdtf.specs.declared.parsers.time.Shape.{Shape as CodeShape}
+use Rattle.ixdtf.specs.declared.parsers.time.Shape.TheVariants as code_shapes
+use Rattle.ixdtf.specs.declared.parsers.time.Clocked.{Clocked}
+use Rattle.ixdtf.specs.declared.parsers.brackets.Bracket.{Bracket as CodeBracket}
+use Rattle.ixdtf.specs.declared.parsers.brackets.Bracket.TheVariants as brackets
 use Rattle.ixdtf.specs.language.Letters.{Letter, Text, none, closing}
-use Rattle.ixdtf.specs.language.Times.{Clock}
+use Rattle.ixdtf.specs.language.Letters.Letter.{Plain}
+use Rattle.ixdtf.specs.language.Fractions.{FractionParts, fraction_of}
+use Rattle.ixdtf.specs.language.Times.{Clock, TimeShape}
 use Rattle.ixdtf.specs.language.Times.{Clock as clocks}
-use Rattle.ixdtf.specs.table.Faults.{Fault, fault_of}
-use Rattle.ixdtf.specs.table.Faults.Fault.{NonAsciiCodePoint, InvalidEnd, AnnotationClose}
-use Rattle.ixdtf.specs.table.Lines.{always}
+use Rattle.ixdtf.specs.language.Times.{TimeShape as shapes}
+use Rattle.ixdtf.specs.language.Cores.{Core, core_of}
+use Rattle.ixdtf.specs.table.Faults.{Fault}
+use Rattle.ixdtf.specs.table.Faults.{Fault as faults}
+use Rattle.ixdtf.specs.table.Lines.{always, abrupt_digit, abrupt_date, abrupt_bracket, abrupt_offset, abrupt_zone}
 use Rattle.ixdtf.specs.Views.{Unread, note_of}
 use Rattle.ixdtf.specs.Handlers.{pair_of}
-use Rattle.ixdtf.specs.reading.Looks.{Look}
+use Rattle.ixdtf.specs.reading.Looks.{Read, Look, ◌>>=◌, digit_run}
+use Rattle.ixdtf.specs.reading.Times.{OpenTime}
 use Rattle.ixdtf.specs.reading.Brackets.{Bracket, zoned, paired}
 
+-- the fault of the error that a stop is
+abbrev pub fault_of_stop : Stop → Fault
+fault_of_stop stops.NonAsciiCodePoint = faults.NonAsciiCodePoint
+fault_of_stop stops.AbruptDigit = abrupt_digit
+fault_of_stop stops.AbruptDate = abrupt_date
+fault_of_stop stops.AbruptBracket = abrupt_bracket
+fault_of_stop stops.AbruptOffset = abrupt_offset
+fault_of_stop stops.AbruptZone = abrupt_zone
+fault_of_stop stops.InvalidEnd = faults.InvalidEnd
+fault_of_stop stops.InvalidMonthRange = faults.InvalidMonthRange
+fault_of_stop stops.InvalidDayRange = faults.InvalidDayRange
+fault_of_stop stops.DateYear = faults.DateYear
+fault_of_stop stops.DateExtendedYear = faults.DateExtendedYear
+fault_of_stop stops.DateMonth = faults.DateMonth
+fault_of_stop stops.DateDay = faults.DateDay
+fault_of_stop stops.TimeHour = faults.TimeHour
+fault_of_stop stops.TimeMinuteSecond = faults.TimeMinuteSecond
+fault_of_stop stops.TimeSecond = faults.TimeSecond
+fault_of_stop stops.FractionPart = faults.FractionPart
+fault_of_stop stops.DateSeparator = faults.DateSeparator
+fault_of_stop stops.TimeSeparator = faults.TimeSeparator
+fault_of_stop stops.AnnotationClose = faults.AnnotationClose
+fault_of_stop stops.AnnotationKeyValueSeparator = faults.AnnotationKeyValueSeparator
+fault_of_stop stops.AnnotationKeyLeadingChar = faults.AnnotationKeyLeadingChar
+fault_of_stop stops.AnnotationKeyChar = faults.AnnotationKeyChar
+fault_of_stop stops.AnnotationValueCharPostHyphen = faults.AnnotationValueCharPostHyphen
+fault_of_stop stops.AnnotationValueChar = faults.AnnotationValueChar
+fault_of_stop stops.InvalidMinutePrecisionOffset = faults.InvalidMinutePrecisionOffset
+fault_of_stop stops.CriticalDuplicateCalendar = faults.CriticalDuplicateCalendar
+fault_of_stop stops.UnrecognizedCritical = faults.UnrecognizedCritical
+fault_of_stop stops.TzLeadingChar = faults.TzLeadingChar
+fault_of_stop stops.IanaCharPostSeparator = faults.IanaCharPostSeparator
+fault_of_stop stops.IanaChar = faults.IanaChar
+fault_of_stop stops.UtcTimeSeparator = faults.UtcTimeSeparator
+fault_of_stop stops.OffsetNeedsSign = faults.OffsetNeedsSign
+
+-- what a private function returned, with its value seen by a view, and its stop by its fault
+abbrev pub yielded : {X Y : Type 0} → (X → Y) → Result X Stop → Result Y Fault
+yielded view (Ok x) = Ok (view x)
+yielded view (Err e) = Err (fault_of_stop e)
+
+-- what a private function returned, seen so, is what is wanted
+abbrev pub Yields : {X Y : Type 0} → (X → Y) → Result X Stop → Result Y Fault → Type 0
+Yields view (Ok x) wanted = wanted ≡ Ok (view x)
+Yields view (Err e) wanted = wanted ≡ Err (fault_of_stop e)
+
 -- what a function returned of the letters that were still to be read, and what it left of them, is what reading gives
-abbrev pub Reads : {X Y : Type 0} → (ℕ → Letter) → (X → Y) → Unread → Result X ParseError → Unread → (Text → Result (Y × Text) Fault) → Type 0
+abbrev pub Reads : {X Y : Type 0} → (ℕ → Letter) → (X → Y) → Unread → Result X Stop → Unread → (Text → Result (Y × Text) Fault) → Type 0
 Reads letter view old (Ok x) new reading = reading (map letter old.rest) ≡ Ok (view x, map letter new.rest)
-Reads letter view old (Err e) new reading = reading (map letter old.rest) ≡ Err (fault_of e)
+Reads letter view old (Err e) new reading = reading (map letter old.rest) ≡ Err (fault_of_stop e)
 
--- looks at letters that are then taken are paid for by the letters; so many looks more were made at most
+-- looks at letters that are then taken are paid for by the letters; so many looks more were made at most, and none is lost
 abbrev pub Spends : ℕ → Unread → Unread → Type 0
-Spends more old new = new.looks + length new.rest ≤ old.looks + length old.rest + more
+Spends more old new = (new.looks + length new.rest ≤ old.looks + length old.rest + more) × (old.looks ≤ new.looks)
 
--- a test held of a number that was handed back, or else the error came
-abbrev pub Checks : {X Y : Type 0} → (X → Y) → Result X ParseError → Y → Bool → Fault → Type 0
+-- a test held of a number that was handed back, or else the stop came
+abbrev pub Checks : {X Y : Type 0} → (X → Y) → Result X Stop → Y → Bool → Fault → Type 0
 Checks view (Ok x) wanted test fault = (view x ≡ wanted) × IsTrue test
-Checks view (Err e) wanted test fault = (fault_of e ≡ fault) × IsFalse test
+Checks view (Err e) wanted test fault = (fault_of_stop e ≡ fault) × IsFalse test
 
 -- ---- looks, as the code makes them: it returns errors, and does not tell the line
 
 -- the look for the end of the text
 abbrev pub end_look : Look Fault
-end_look = record { goes_on = none; at_end = None; at_other = always InvalidEnd; at_bad = NonAsciiCodePoint }
+end_look = record { goes_on = none; at_end = None; at_other = always faults.InvalidEnd; at_bad = faults.NonAsciiCodePoint }
 
 -- the look for the end of a bracket
 abbrev pub closing_look : Fault → Look Fault
-closing_look fault = record { goes_on = closing; at_end = Some AnnotationClose; at_other = always fault; at_bad = NonAsciiCodePoint }
+closing_look fault = record { goes_on = closing; at_end = Some faults.AnnotationClose; at_other = always fault; at_bad = faults.NonAsciiCodePoint }
+
+-- the other digits of a fraction, and the fraction
+abbrev pub more_digits_at : ℕ → Text → Read Fault FractionParts
+more_digits_at first text = digit_run faults.NonAsciiCodePoint text >>= λ more. Ok (fraction_of (Plain first ∷ more.0), more.1)
 
 -- ---- the code's own types
 
@@ -46,6 +106,24 @@ abbrev pub clock_of : CodeClock → Clock
 clock_of code_clocks.Time = clocks.Time
 clock_of code_clocks.Offset = clocks.Offset
 clock_of code_clocks.MinuteOffset = clocks.MinuteOffset
+
+abbrev pub shape_of : CodeShape → TimeShape
+shape_of code_shapes.Hours = shapes.hours
+shape_of code_shapes.PlainMinutes = shapes.plain_minutes
+shape_of code_shapes.ColonMinutes = shapes.colon_minutes
+shape_of code_shapes.Seconds = shapes.seconds
+shape_of code_shapes.Fractions = shapes.fractions
+
+abbrev pub open_time_of : Clocked → OpenTime
+open_time_of clocked = (shape_of clocked.shape, clocked.time)
+
+-- the core that stands in a record
+abbrev pub core_in : {T U : Type 0} → IxdtfParseRecord T U → Core
+core_in found = core_of found.date found.time found.offset
+
+-- what brackets write in a record is as before
+abbrev pub KeepsBrackets : {T U : Type 0} → IxdtfParseRecord T U → IxdtfParseRecord T U → Type 0
+KeepsBrackets old new = (new.tz ≡ old.tz) × (new.calendar ≡ old.calendar)
 
 abbrev pub bracket_of : {T U : Type 0} → (U → ℕ) → CodeBracket T U → Bracket
 bracket_of number (brackets.Zone annotation) = zoned (note_of number annotation)

@@ -13,7 +13,8 @@ use Rattle.ixdtf.specs.language.Readers.{CoreKind}
 use Rattle.ixdtf.specs.language.Readers.CoreKind.{date_time}
 use Rattle.ixdtf.specs.table.Faults.Fault.{NonAsciiCodePoint, InvalidEnd}
 use Rattle.ixdtf.specs.table.LineNames.{LineName}
-use Rattle.ixdtf.specs.table.LineNames.LineName.{of_date, of_offset}
+use Rattle.ixdtf.specs.table.LineNames.{of_date}
+use Rattle.ixdtf.specs.table.LineNames.LineName.{of_offset}
 use Rattle.ixdtf.specs.table.LineNames.DateLine.{after_date}
 use Rattle.ixdtf.specs.table.LineNames.OffsetLine.{after_zulu}
 use Rattle.ixdtf.specs.table.Rows.{Row}

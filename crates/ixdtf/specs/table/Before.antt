@@ -10,13 +10,14 @@ use Rattle.ixdtf.specs.language.Cores.{IsCore}
 use Rattle.ixdtf.specs.language.Readers.{Reader, CoreKind}
 use Rattle.ixdtf.specs.language.Readers.CoreKind.{date_time}
 use Rattle.ixdtf.specs.language.Readers.Reader.{bracketed, parse_offset, parse_identifier, parse_iana_identifier}
-use Rattle.ixdtf.specs.table.LineNames.{DateLine, OffsetLine, LineName}
+use Rattle.ixdtf.specs.table.LineNames.{DateLine, CoreLine, OffsetLine, LineName}
 use Rattle.ixdtf.specs.table.LineNames.DateLine.{year_start, year_digits, extended_year_digits, minus_zero_year, after_year, month_digits, month_range, after_hyphened_month, after_plain_month, day_digits, day_range, after_date}
+use Rattle.ixdtf.specs.table.LineNames.CoreLine.{dates}
 use Rattle.ixdtf.specs.table.LineNames.OffsetLine.{offset_start, after_zulu}
 use Rattle.ixdtf.specs.table.LineNames.ZoneLine.{identifier_start, zone_name_start, in_zone_name, after_zone_slash}
 use Rattle.ixdtf.specs.table.LineNames.BracketLine.{first_bracket_start, first_critical_start, first_bracket_scan, after_bracket}
 use Rattle.ixdtf.specs.table.LineNames.PairLine.{key_start, critical_key_start, in_key, value_start, in_value, after_value_hyphen}
-use Rattle.ixdtf.specs.table.LineNames.LineName.{of_date, of_clock, of_offset, of_zone, of_bracket, of_pair}
+use Rattle.ixdtf.specs.table.LineNames.LineName.{of_core, of_clock, of_offset, of_zone, of_bracket, of_pair}
 
 -- ---- lines of cores
 
@@ -40,6 +41,10 @@ BeforeDate date_time after_plain_month before = nothing before
 BeforeDate date_time day_digits before = nothing before
 BeforeDate date_time day_range before = nothing before
 BeforeDate date_time after_date before = nothing before
+
+-- what stands before a line of a core, and what the text has from its front on
+abbrev pub BeforeCore : CoreKind → CoreLine → Text → Text → Type 0
+BeforeCore kind (dates line) before rest = BeforeDate kind line before
 
 -- what stands before a line of times
 abbrev pub BeforeTime : CoreKind → Shape
@@ -71,7 +76,7 @@ BeforeKey kind pairs before rest = (Opened kind before × ReadsAsPair rest × (p
 
 -- what stands before a line in a reader of a core of the kind and brackets: these pairs stand whole before the front
 abbrev pub BeforeBracketed : CoreKind → LineName → List Pair → Text → Text → Type 0
-BeforeBracketed kind (of_date line) pairs before rest = BeforeDate kind line before × (pairs ≡ [])
+BeforeBracketed kind (of_core line) pairs before rest = BeforeCore kind line before rest × (pairs ≡ [])
 BeforeBracketed kind (of_clock Time line) pairs before rest = BeforeTime kind before × (pairs ≡ [])
 BeforeBracketed kind (of_clock Offset line) pairs before rest = (BeforeOffset kind then one sign) before × (pairs ≡ [])
 BeforeBracketed kind (of_clock MinuteOffset line) pairs before rest = (Opened kind then one sign) before × (pairs ≡ [])
@@ -99,7 +104,7 @@ InOffset (of_offset after_zulu) before = ⊥
 InOffset (of_clock Offset line) before = one sign before
 InOffset (of_clock Time line) before = ⊥
 InOffset (of_clock MinuteOffset line) before = ⊥
-InOffset (of_date line) before = ⊥
+InOffset (of_core line) before = ⊥
 InOffset (of_zone line) before = ⊥
 InOffset (of_bracket line) before = ⊥
 InOffset (of_pair line) before = ⊥
@@ -112,7 +117,7 @@ InIdentifier (of_zone after_zone_slash) before = nothing before
 InIdentifier (of_clock MinuteOffset line) before = one sign before
 InIdentifier (of_clock Time line) before = ⊥
 InIdentifier (of_clock Offset line) before = ⊥
-InIdentifier (of_date line) before = ⊥
+InIdentifier (of_core line) before = ⊥
 InIdentifier (of_offset line) before = ⊥
 InIdentifier (of_bracket line) before = ⊥
 InIdentifier (of_pair line) before = ⊥
@@ -122,7 +127,7 @@ InIanaIdentifier (of_zone zone_name_start) before = nothing before
 InIanaIdentifier (of_zone identifier_start) before = ⊥
 InIanaIdentifier (of_zone in_zone_name) before = nothing before
 InIanaIdentifier (of_zone after_zone_slash) before = nothing before
-InIanaIdentifier (of_date line) before = ⊥
+InIanaIdentifier (of_core line) before = ⊥
 InIanaIdentifier (of_clock clock line) before = ⊥
 InIanaIdentifier (of_offset line) before = ⊥
 InIanaIdentifier (of_bracket line) before = ⊥

@@ -7,6 +7,10 @@ pub data DateLine : Type 0 where
   after_year month_digits month_range : DateLine
   after_hyphened_month after_plain_month day_digits day_range after_date : DateLine
 
+-- the lines of cores but for those of times and offsets, by the part that they speak of
+pub data CoreLine : Type 0 where
+  dates : DateLine → CoreLine
+
 -- the lines of times, and of offsets after their sign
 pub data ClockLine : Type 0 where
   hour_start hour_digit hour_range after_hour : ClockLine
@@ -31,9 +35,13 @@ pub data PairLine : Type 0 where
 
 -- the lines, by the part that they speak of
 pub data LineName : Type 0 where
-  of_date : DateLine → LineName
+  of_core : CoreLine → LineName
   of_clock : Clock → ClockLine → LineName
   of_offset : OffsetLine → LineName
   of_zone : ZoneLine → LineName
   of_bracket : BracketLine → LineName
   of_pair : PairLine → LineName
+
+-- a line of dates
+pattern abbrev pub of_date : DateLine → LineName
+of_date name = of_core (dates name)

@@ -13,14 +13,15 @@ use Rattle.ixdtf.specs.language.Times.TimeShape.{hours, plain_minutes, colon_min
 use Rattle.ixdtf.specs.language.ZoneNames.{ZoneName}
 use Rattle.ixdtf.specs.language.Brackets.{passed, Key, Value}
 use Rattle.ixdtf.specs.language.Readers.{Reader, has_brackets}
-use Rattle.ixdtf.specs.table.LineNames.{DateLine, ClockLine, OffsetLine, ZoneLine, BracketLine, PairLine, LineName}
+use Rattle.ixdtf.specs.table.LineNames.{DateLine, CoreLine, ClockLine, OffsetLine, ZoneLine, BracketLine, PairLine, LineName}
 use Rattle.ixdtf.specs.table.LineNames.DateLine.{year_start, year_digits, extended_year_digits, minus_zero_year, after_year, month_digits, month_range, after_hyphened_month, after_plain_month, day_digits, day_range, after_date}
+use Rattle.ixdtf.specs.table.LineNames.CoreLine.{dates}
 use Rattle.ixdtf.specs.table.LineNames.ClockLine.{hour_start, hour_digit, hour_range, after_hour, minute_digits, minute_range, after_plain_minute, after_colon_minute, second_digits, second_range, after_second, fraction_start, after_fraction}
 use Rattle.ixdtf.specs.table.LineNames.OffsetLine.{offset_start, after_zulu}
 use Rattle.ixdtf.specs.table.LineNames.ZoneLine.{identifier_start, zone_name_start, in_zone_name, after_zone_slash}
 use Rattle.ixdtf.specs.table.LineNames.BracketLine.{first_bracket_start, first_critical_start, first_bracket_scan, after_bracket}
 use Rattle.ixdtf.specs.table.LineNames.PairLine.{key_start, critical_key_start, in_key, value_start, in_value, after_value_hyphen}
-use Rattle.ixdtf.specs.table.LineNames.LineName.{of_date, of_clock, of_offset, of_zone, of_bracket, of_pair}
+use Rattle.ixdtf.specs.table.LineNames.LineName.{of_core, of_clock, of_offset, of_zone, of_bracket, of_pair}
 
 -- what the end of the text is after a front: no fault, or an error
 pub data Ending : Type 0 where
@@ -125,6 +126,9 @@ date_line day_digits = line (PlainDay either HyphenedDay) digit (error abrupt_di
 date_line day_range = whole (some NoDayOfMonth) InvalidDayRange
 -- a date
 date_line after_date = line (some IsDate) (date_time_separator or opening) ok (always InvalidEnd)
+
+abbrev pub core_line : CoreLine → Line
+core_line (dates name) = date_line name
 
 -- ---- times, and offsets after their sign
 
@@ -264,7 +268,7 @@ follow_of brackets clock = if brackets then follow_before_brackets clock else en
 
 -- the lines, for a reader that has brackets or has none
 abbrev pub line_of : Bool → LineName → Line
-line_of brackets (of_date name) = date_line name
+line_of brackets (of_core name) = core_line name
 line_of brackets (of_clock clock name) = clock_line (follow_of brackets clock) clock name
 line_of brackets (of_offset name) = offset_line name
 line_of brackets (of_zone name) = zone_line brackets name

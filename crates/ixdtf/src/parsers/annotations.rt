@@ -1,37 +1,34 @@
-//! Reading brackets: the first one, which may name a zone, and annotations of a key and a value.
+//! Reading annotations of a key and a value, and what is kept of the replies to them.
 
-ghost use Rattle.std.specs.Prelude.{◌≡◌, ◌+◌, ◌≤◌, ◌<◌, ◌*◌, ◌||◌, ◌↔◌, [], ◌∷◌, map, length, option_map, Some, None, IsTrue, OnOk, IfOk, IfErr, IsSome};
+ghost use Rattle.std.specs.Prelude.{◌≡◌, ◌+◌, ◌≤◌, ◌<◌, ◌*◌, ◌↔◌, [], ◌∷◌, map, length, option_map, Some, None, IsTrue, OnOk, IfOk, IfErr, IsSome};
 ghost use Rattle.std.specs.Option.{option_or};
-ghost use Rattle.ixdtf.specs.language.Letters.{equals, closing, key_char};
-ghost use Rattle.ixdtf.specs.table.Faults.{fault_of, Fault};
-ghost use Rattle.ixdtf.specs.Views.{Returns, returned};
-ghost use Rattle.ixdtf.specs.reading.Clauses.{Reads, Spends};
-ghost use Rattle.ixdtf.specs.reading.CodeReadings.{next_pair_at};
+ghost use Rattle.ixdtf.specs.declared.parsers.annotations.ValueState.TheVariants.{AtStart};
+ghost use Rattle.ixdtf.specs.table.Faults.{Fault};
+ghost use Rattle.ixdtf.specs.reading.Clauses.{Reads, Spends, fault_of_stop, yielded};
 ghost use Rattle.ixdtf.specs.reading.Looks.{error_of};
-ghost use Rattle.ixdtf.specs.reading.Pairs.{key_run, value_run, value_step, value_end, value_other, pair_at, critical_pair_at, later_pair_at, at_start};
-ghost use Rattle.ixdtf.specs.reading.Brackets.{sight_at, name_or_pair_at, inside_at, critical_bracket_at, bracket_at};
+ghost use Rattle.ixdtf.specs.reading.Pairs.{key_run, value_run, value_step, value_end, value_other, pair_at, critical_pair_at, later_pair_at, next_pair_at};
 ghost use Rattle.ixdtf.specs.Handlers.{RefusedBeside, first_calendar, pair_of};
 ghost use Rattle.ixdtf.specs.reading.Chains.{PairsRead, first_pairs};
-ghost use Rattle.ixdtf.specs.reading.CodeViews.{bracket_of, state_of, step_of};
 
 use crate::cursor::Cursor;
 use crate::encoding::EncodingType;
 use crate::parsers::grammar::{
     is_a_key_char, is_a_key_leading_char, is_annotation_close, is_annotation_key_value_separator,
-    is_annotation_open, is_annotation_value_component, is_ascii_sign, is_critical_flag, is_hyphen,
-    is_tz_leading_char,
+    is_annotation_open, is_annotation_value_component, is_critical_flag, is_hyphen,
 };
-use crate::parsers::timezone::{parse_name_in_bracket, parse_offset_in_bracket};
-use crate::records::{Annotation, TimeZoneAnnotation, TimeZoneRecord};
-use crate::{ParseError, ParserResult, error};
+use crate::records::Annotation;
+use crate::stop::Stop;
 
 // ==== Keys and values ====
 
-/// Reads a key from its first letter on, and the `=` after it, and answers the key's units.
+/// Reads a key from its first letter on, and the `=` after it, and returns the key's units.
 pub fn parse_annotation_key<'a, T: EncodingType>(
     cursor: &mut Cursor<'a, T>,
-) -> ParserResult<&'a [T::CodeUnit]>
-    ensures key { Reads (λ units. map T.number units.now) (map T.letter cursor.old.rest) result (map T.letter cursor.new.rest) (key_run error_of) }
+) -> Result<&'a [T::CodeUnit], Stop>
+    ensures key {
+        Reads T.letter (λ units. map T.number units.now) cursor.old result cursor.new
+            (key_run error_of)
+    }
     ensures looks { Spends 1 cursor.old cursor.new }
     ensures paid { OnOk result (Spends 0 cursor.old cursor.new) }
     ensures shorter { OnOk result (length cursor.new.rest < length cursor.old.rest) }
@@ -40,7 +37,7 @@ pub fn parse_annotation_key<'a, T: EncodingType>(
     while let Some(byte) = cursor.look()? {
         if !is_a_key_char(byte) {
             if !is_annotation_key_value_separator(byte) {
-                return Err(ParseError::AnnotationKeyChar);
+                return Err(Stop::AnnotationKeyChar);
             }
             let count = start.len() - cursor.rest().len();
             cursor.step();
@@ -48,7 +45,7 @@ pub fn parse_annotation_key<'a, T: EncodingType>(
         }
         cursor.step();
     }
-    Err(ParseError::AnnotationKeyValueSeparator)
+    Err(Stop::AnnotationKeyValueSeparator)
 }
 
 /// Where reading of a value is.
@@ -77,7 +74,7 @@ impl ValueState {
     /// What the letter does here.
     #[inline(always)]
     fn step(self, byte: u8) -> ValueStep
-        ensures { step_of result ≡ value_step (state_of self) byte }
+        ensures { result ≡ value_step self byte }
     {
         if is_annotation_value_component(byte) {
             return ValueStep::GoesOn(ValueState::Inside);
@@ -89,33 +86,36 @@ impl ValueState {
         }
     }
 
-    /// The error where the text ends here.
-    fn end_error(self) -> ParseError
-        ensures { fault_of result ≡ value_end (state_of self) }
+    /// Why reading stops where the text ends here.
+    fn end_stop(self) -> Stop
+        ensures { fault_of_stop result ≡ value_end self }
     {
         match self {
-            ValueState::AtStart => ParseError::AnnotationValueChar,
-            ValueState::Inside => ParseError::AnnotationClose,
-            ValueState::AfterHyphen => ParseError::AnnotationValueCharPostHyphen,
+            ValueState::AtStart => Stop::AnnotationValueChar,
+            ValueState::Inside => Stop::AnnotationClose,
+            ValueState::AfterHyphen => Stop::AnnotationValueCharPostHyphen,
         }
     }
 
-    /// The error at another letter here.
-    fn other_error(self) -> ParseError
-        ensures { fault_of result ≡ value_other (state_of self) }
+    /// Why reading stops at another letter here.
+    fn other_stop(self) -> Stop
+        ensures { fault_of_stop result ≡ value_other self }
     {
         match self {
-            ValueState::AtStart | ValueState::Inside => ParseError::AnnotationValueChar,
-            ValueState::AfterHyphen => ParseError::AnnotationValueCharPostHyphen,
+            ValueState::AtStart | ValueState::Inside => Stop::AnnotationValueChar,
+            ValueState::AfterHyphen => Stop::AnnotationValueCharPostHyphen,
         }
     }
 }
 
-/// Reads a value and the `]` after it, and answers the value's units.
+/// Reads a value and the `]` after it, and returns the value's units.
 pub fn parse_annotation_value<'a, T: EncodingType>(
     cursor: &mut Cursor<'a, T>,
-) -> ParserResult<&'a [T::CodeUnit]>
-    ensures value { Reads (λ units. map T.number units.now) (map T.letter cursor.old.rest) result (map T.letter cursor.new.rest) (value_run error_of at_start) }
+) -> Result<&'a [T::CodeUnit], Stop>
+    ensures value {
+        Reads T.letter (λ units. map T.number units.now) cursor.old result cursor.new
+            (value_run error_of AtStart)
+    }
     ensures looks { Spends 1 cursor.old cursor.new }
     ensures paid { OnOk result (Spends 0 cursor.old cursor.new) }
     ensures shorter { OnOk result (length cursor.new.rest < length cursor.old.rest) }
@@ -133,10 +133,10 @@ pub fn parse_annotation_value<'a, T: EncodingType>(
                 cursor.step();
                 return Ok(&start[..count]);
             }
-            ValueStep::Stops => return Err(state.other_error()),
+            ValueStep::Stops => return Err(state.other_stop()),
         }
     }
-    Err(state.end_error())
+    Err(state.end_stop())
 }
 
 // ==== Pairs ====
@@ -144,11 +144,14 @@ pub fn parse_annotation_value<'a, T: EncodingType>(
 /// Reads a key, `=`, a value and `]`.
 #[inline(always)]
 #[tactic(auto, unfolding(crate::specs::reading::Pairs::pair_at))]
-fn parse_pair<'a, T: EncodingType>(
+pub fn parse_pair<'a, T: EncodingType>(
     cursor: &mut Cursor<'a, T>,
     critical: bool,
-) -> ParserResult<Annotation<'a, T>>
-    ensures pair { Reads (pair_of T.number) (map T.letter cursor.old.rest) result (map T.letter cursor.new.rest) (pair_at error_of critical) }
+) -> Result<Annotation<'a, T>, Stop>
+    ensures pair {
+        Reads T.letter (pair_of T.number) cursor.old result cursor.new
+            (pair_at error_of critical)
+    }
     ensures looks { Spends 2 cursor.old cursor.new }
     ensures paid { OnOk result (Spends 0 cursor.old cursor.new) }
     ensures shorter { OnOk result (2 + length cursor.new.rest ≤ length cursor.old.rest) }
@@ -167,8 +170,11 @@ fn parse_pair<'a, T: EncodingType>(
 #[tactic(auto, unfolding(crate::specs::reading::Pairs::later_pair_at, crate::specs::reading::Looks::next_by))]
 fn parse_later_pair<'a, T: EncodingType>(
     cursor: &mut Cursor<'a, T>,
-) -> ParserResult<Annotation<'a, T>>
-    ensures pair { Reads (pair_of T.number) (map T.letter cursor.old.rest) result (map T.letter cursor.new.rest) (later_pair_at error_of) }
+) -> Result<Annotation<'a, T>, Stop>
+    ensures pair {
+        Reads T.letter (pair_of T.number) cursor.old result cursor.new
+            (later_pair_at error_of)
+    }
     ensures looks { Spends 4 cursor.old cursor.new }
     ensures paid { OnOk result (Spends 2 cursor.old cursor.new) }
     ensures shorter { OnOk result (2 + length cursor.new.rest ≤ length cursor.old.rest) }
@@ -179,7 +185,7 @@ fn parse_later_pair<'a, T: EncodingType>(
             parse_critical_pair(cursor)
         }
         Some(byte) if is_a_key_leading_char(byte) => parse_pair(cursor, false),
-        _ => Err(ParseError::AnnotationKeyLeadingChar),
+        _ => Err(Stop::AnnotationKeyLeadingChar),
     }
 }
 
@@ -188,25 +194,31 @@ fn parse_later_pair<'a, T: EncodingType>(
 #[tactic(auto, unfolding(crate::specs::reading::Pairs::critical_pair_at, crate::specs::reading::Looks::next_by))]
 fn parse_critical_pair<'a, T: EncodingType>(
     cursor: &mut Cursor<'a, T>,
-) -> ParserResult<Annotation<'a, T>>
-    ensures pair { Reads (pair_of T.number) (map T.letter cursor.old.rest) result (map T.letter cursor.new.rest) (critical_pair_at error_of) }
+) -> Result<Annotation<'a, T>, Stop>
+    ensures pair {
+        Reads T.letter (pair_of T.number) cursor.old result cursor.new
+            (critical_pair_at error_of)
+    }
     ensures looks { Spends 3 cursor.old cursor.new }
     ensures paid { OnOk result (Spends 1 cursor.old cursor.new) }
     ensures shorter { OnOk result (2 + length cursor.new.rest ≤ length cursor.old.rest) }
 {
     match cursor.look()? {
         Some(byte) if is_a_key_leading_char(byte) => parse_pair(cursor, true),
-        _ => Err(ParseError::AnnotationKeyLeadingChar),
+        _ => Err(Stop::AnnotationKeyLeadingChar),
     }
 }
 
 /// Reads the next pair after whole brackets, or `None` at the end.
 #[inline(always)]
-#[tactic(auto, unfolding(crate::specs::reading::CodeReadings::next_pair_at, crate::specs::reading::Looks::peek_by))]
+#[tactic(auto, unfolding(crate::specs::reading::Pairs::next_pair_at, crate::specs::reading::Looks::peek_by))]
 fn next_annotation<'a, T: EncodingType>(
     cursor: &mut Cursor<'a, T>,
-) -> ParserResult<Option<Annotation<'a, T>>>
-    ensures pair { Reads (option_map (pair_of T.number)) (map T.letter cursor.old.rest) result (map T.letter cursor.new.rest) (next_pair_at error_of) }
+) -> Result<Option<Annotation<'a, T>>, Stop>
+    ensures pair {
+        Reads T.letter (option_map (pair_of T.number)) cursor.old result cursor.new
+            (next_pair_at error_of)
+    }
     ensures looks { Spends 6 cursor.old cursor.new }
     ensures paid { IfOk result (λ next. IsSome next → cursor.new.looks + 2 * length cursor.new.rest ≤ cursor.old.looks + 2 * length cursor.old.rest) }
     ensures shorter { IfOk result (λ next. IsSome next → length cursor.new.rest < length cursor.old.rest) }
@@ -218,11 +230,11 @@ fn next_annotation<'a, T: EncodingType>(
             let annotation = parse_later_pair(cursor)?;
             Ok(Some(annotation))
         }
-        Some(_) => Err(ParseError::InvalidEnd),
+        Some(_) => Err(Stop::InvalidEnd),
     }
 }
 
-// ==== Answers ====
+// ==== Replies ====
 
 /// Asks the handler about an annotation. This is the one place that calls it.
 #[inline(always)]
@@ -253,17 +265,17 @@ fn has_same_units<T: EncodingType>(left: &[T::CodeUnit], right: &[T::CodeUnit]) 
 fn keep_first_calendar<'a, T: EncodingType>(
     calendar: Option<Annotation<'a, T>>,
     answer: Option<Annotation<'a, T>>,
-) -> ParserResult<Option<Annotation<'a, T>>>
+) -> Result<Option<Annotation<'a, T>>, Stop>
     ensures accepted { IfOk result (λ next. (fault : Fault) → ¬ (RefusedBeside (option_map (pair_of T.number) calendar.entry) (option_map (pair_of T.number) answer.entry) fault)) }
     ensures kept { IfOk result (λ next. option_map (pair_of T.number) next ≡ option_or (option_map (pair_of T.number) calendar.entry) (first_calendar (option_map (pair_of T.number) answer.entry ∷ []))) }
-    ensures err { IfErr result (λ e. RefusedBeside (option_map (pair_of T.number) calendar.entry) (option_map (pair_of T.number) answer.entry) (fault_of e)) }
+    ensures err { IfErr result (λ e. RefusedBeside (option_map (pair_of T.number) calendar.entry) (option_map (pair_of T.number) answer.entry) (fault_of_stop e)) }
 {
     let Some(found) = answer else {
         return Ok(calendar);
     };
     if !T::check_calendar_key(found.key) {
         if found.critical {
-            return Err(ParseError::UnrecognizedCritical);
+            return Err(Stop::UnrecognizedCritical);
         }
         return Ok(calendar);
     }
@@ -271,24 +283,28 @@ fn keep_first_calendar<'a, T: EncodingType>(
         return Ok(Some(found));
     };
     if !has_same_units::<T>(first.value, found.value) && (first.critical || found.critical) {
-        return Err(ParseError::CriticalDuplicateCalendar);
+        return Err(Stop::CriticalDuplicateCalendar);
     }
     Ok(Some(first))
 }
 
-/// Reads the pairs to the end, asks the handler about each as soon as it was read whole, and answers the calendar that is
+/// Reads the pairs to the end, asks the handler about each as soon as it was read whole, and returns the calendar that is
 /// kept. A first pair may have been read already.
-pub fn parse_annotations<'a, 's, T: EncodingType, F>(
+pub fn parse_annotations<'a, T: EncodingType, F>(
     cursor: &mut Cursor<'a, T>,
     first: Option<Annotation<'a, T>>,
     handler: &mut F,
-) -> Result<Option<Annotation<'a, T>>, error::ParseError<'s>>
+) -> Result<Option<Annotation<'a, T>>, Stop>
 where
     F: FnMut(Annotation<'a, T>) -> Option<Annotation<'a, T>>,
     requires callable { F.IsAlwaysCallable handler.old }
-    ensures pairs { PairsRead T.number F.step handler.old handler.new (first_pairs (option_map (pair_of T.number) first.entry)) (map T.letter cursor.old.rest) (returned (option_map (pair_of T.number)) result) }
+    ensures pairs { PairsRead T.number F.step handler.old handler.new (first_pairs (option_map (pair_of T.number) first.entry)) (map T.letter cursor.old.rest) (yielded (option_map (pair_of T.number)) result) }
     ensures empty { OnOk result (cursor.new.rest ≡ []) }
-    ensures looks { cursor.new.looks + length cursor.new.rest ≤ cursor.old.looks + 2 * length cursor.old.rest + 7 }
+    ensures looks {
+        cursor.new.looks + length cursor.new.rest ≤
+            cursor.old.looks + 2 * length cursor.old.rest + 7
+    }
+    ensures counted { cursor.old.looks ≤ cursor.new.looks }
 {
     let mut calendar = None;
     if let Some(annotation) = first {
@@ -302,125 +318,3 @@ where
     Ok(calendar)
 }
 
-// ==== The first bracket ====
-
-/// A first bracket: a zone or a pair.
-#[derive(Drop)]
-pub enum Bracket<'a, T: EncodingType> {
-    Zone(TimeZoneAnnotation<'a, T>),
-    Pair(Annotation<'a, T>),
-}
-
-/// Reads a first bracket after its `[`.
-#[tactic(auto, unfolding(crate::specs::reading::Brackets::bracket_at, crate::specs::reading::Looks::next_by))]
-pub fn parse_first_bracket<'a, T: EncodingType>(
-    cursor: &mut Cursor<'a, T>,
-) -> ParserResult<Bracket<'a, T>>
-    ensures bracket { Reads (bracket_of T.number) (map T.letter cursor.old.rest) result (map T.letter cursor.new.rest) (bracket_at error_of) }
-    ensures looks { Spends (length cursor.old.rest + 16) cursor.old cursor.new }
-{
-    match cursor.look()? {
-        None => Err(ParseError::AbruptEnd {
-            location: "AmbiguousAnnotation",
-        }),
-        Some(byte) if is_critical_flag(byte) => {
-            cursor.step();
-            parse_critical_bracket(cursor)
-        }
-        Some(byte) if is_ascii_sign(byte) || is_tz_leading_char(byte) => {
-            parse_inside(cursor, false, byte)
-        }
-        Some(_) => Err(ParseError::TzLeadingChar),
-    }
-}
-
-/// Reads a first bracket after its `[` and `!`.
-#[inline(always)]
-#[tactic(auto, unfolding(crate::specs::reading::Brackets::critical_bracket_at, crate::specs::reading::Looks::next_by))]
-fn parse_critical_bracket<'a, T: EncodingType>(
-    cursor: &mut Cursor<'a, T>,
-) -> ParserResult<Bracket<'a, T>>
-    ensures bracket { Reads (bracket_of T.number) (map T.letter cursor.old.rest) result (map T.letter cursor.new.rest) (critical_bracket_at error_of) }
-    ensures looks { Spends (length cursor.old.rest + 15) cursor.old cursor.new }
-{
-    match cursor.look()? {
-        None => Err(ParseError::AbruptEnd {
-            location: "AmbiguousAnnotation",
-        }),
-        Some(byte) if is_ascii_sign(byte) || is_tz_leading_char(byte) => {
-            parse_inside(cursor, true, byte)
-        }
-        Some(_) => Err(ParseError::TzLeadingChar),
-    }
-}
-
-/// Reads what stands in a first bracket from its first letter on, and its `]`.
-#[inline(always)]
-#[tactic(auto, using(crate::proofs::code::CodeLemmas::offset_in_bracket_is), unfolding(crate::specs::reading::Brackets::inside_at))]
-fn parse_inside<'a, T: EncodingType>(
-    cursor: &mut Cursor<'a, T>,
-    critical: bool,
-    lead: u8,
-) -> ParserResult<Bracket<'a, T>>
-    ensures bracket { Reads (bracket_of T.number) (map T.letter cursor.old.rest) result (map T.letter cursor.new.rest) (inside_at error_of critical lead) }
-    ensures looks { Spends (length cursor.old.rest + 14) cursor.old cursor.new }
-{
-    if is_a_key_leading_char(lead) {
-        return parse_name_or_pair(cursor, critical);
-    }
-    let tz = if is_ascii_sign(lead) {
-        cursor.step();
-        parse_offset_in_bracket(cursor, lead)?
-    } else {
-        TimeZoneRecord::Name(parse_name_in_bracket(cursor)?)
-    };
-    Ok(Bracket::Zone(TimeZoneAnnotation { critical, tz }))
-}
-
-/// Reads a pair where an `=` comes before any `]`, else a name, and the bracket's `]`.
-#[inline(always)]
-#[tactic(auto, unfolding(crate::specs::reading::Brackets::name_or_pair_at))]
-fn parse_name_or_pair<'a, T: EncodingType>(
-    cursor: &mut Cursor<'a, T>,
-    critical: bool,
-) -> ParserResult<Bracket<'a, T>>
-    ensures bracket { Reads (bracket_of T.number) (map T.letter cursor.old.rest) result (map T.letter cursor.new.rest) (name_or_pair_at error_of critical) }
-    ensures looks { Spends (length cursor.old.rest + 3) cursor.old cursor.new }
-{
-    if is_pair_ahead(cursor)? {
-        let annotation = parse_pair(cursor, critical)?;
-        return Ok(Bracket::Pair(annotation));
-    }
-    let name = parse_name_in_bracket(cursor)?;
-    Ok(Bracket::Zone(TimeZoneAnnotation {
-        critical,
-        tz: TimeZoneRecord::Name(name),
-    }))
-}
-
-/// `=` or `]`.
-#[inline(always)]
-fn ends_key(byte: u8) -> bool
-    ensures { result ≡ equals byte || closing byte }
-{
-    is_annotation_key_value_separator(byte) || is_annotation_close(byte)
-}
-
-/// Looks ahead whether an `=` comes before any `]`. Where neither comes it is `AbruptEnd`. Nothing is taken off.
-fn is_pair_ahead<'a, T: EncodingType>(cursor: &mut Cursor<'a, T>) -> ParserResult<bool>
-    ensures sight { Returns (λ pair. pair) result (sight_at error_of (map T.letter cursor.old.rest)) }
-    ensures rest { OnOk result (cursor.new.rest ≡ cursor.old.rest) }
-    ensures looks { Spends (length cursor.old.rest + 1) cursor.old cursor.new }
-{
-    let start = cursor.rest();
-    while let Some(byte) = cursor.look()? {
-        if ends_key(byte) {
-            cursor.go_back(start);
-            return Ok(is_annotation_key_value_separator(byte));
-        }
-        cursor.step();
-    }
-    Err(ParseError::AbruptEnd {
-        location: "AmbiguousAnnotation",
-    })
-}

@@ -3,7 +3,7 @@ use crate::ParseError;
 use crate::laws::parse_unanswered;
 use crate::records::{
     DateRecord, Fraction, FullPrecisionOffset, MinutePrecisionOffset, Sign, TimeRecord,
-    TimeZoneAnnotation, UtcOffsetRecordOrZ,
+    TimeZoneAnnotation, TimeZoneRecord, UtcOffsetRecord, UtcOffsetRecordOrZ,
 };
 
 const AT_DIGIT: ParseError = ParseError::AbruptEnd { location: "digit" };

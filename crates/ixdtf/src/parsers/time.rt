@@ -1,20 +1,19 @@
 //! Reading times of day, and offsets after their sign, which are written as times are.
 
-ghost use Rattle.std.specs.Prelude.{◌≡◌, ◌+◌, ◌≤◌, map, nat_le, length, IsTrue, IfOk};
+ghost use Rattle.std.specs.Prelude.{◌≡◌, ◌+◌, ◌≤◌, ◌∷◌, [], map, nat_le, length, IsTrue, IfOk};
 ghost use Rattle.ixdtf.specs.language.Letters.{digit};
-ghost use Rattle.ixdtf.specs.table.Faults.{fault_of};
+ghost use Rattle.ixdtf.specs.language.Letters.Letter.{Plain};
+ghost use Rattle.ixdtf.specs.language.Times.{greatest_second, has_seconds, writes_seconds};
 ghost use Rattle.ixdtf.specs.table.Lines.{mixed, second_fault};
-ghost use Rattle.ixdtf.specs.language.Times.{greatest_second, has_seconds};
-ghost use Rattle.ixdtf.specs.reading.Clauses.{Reads, Spends, Checks};
-ghost use Rattle.ixdtf.specs.reading.CodeReadings.{more_digits_at, precise};
-ghost use Rattle.ixdtf.specs.reading.Looks.{error_of, next_by, digit_look};
-ghost use Rattle.ixdtf.specs.reading.Times.{clock_at, after_hour_at, colon_minute_at, plain_minute_at, after_colon_minute_at, after_plain_minute_at, colon_second_at, plain_second_at, after_second_at, fraction_at};
+ghost use Rattle.ixdtf.specs.reading.Clauses.{Reads, Spends, Checks, more_digits_at, fault_of_stop, clock_of, shape_of, open_time_of};
+ghost use Rattle.ixdtf.specs.reading.Looks.{error_of, next_by, digit_look, digits_by};
+ghost use Rattle.ixdtf.specs.reading.Times.{time_of, clock_at, after_hour_at, colon_minute_at, plain_minute_at, after_colon_minute_at, after_plain_minute_at, colon_second_at, plain_second_at, after_second_at, fraction_at};
 
 use crate::cursor::Cursor;
 use crate::encoding::EncodingType;
 use crate::parsers::grammar::{digits_value, is_decimal_separator, is_time_separator};
 use crate::records::{Fraction, TimeRecord};
-use crate::{ParseError, ParserResult};
+use crate::stop::Stop;
 
 /// What is written as a time is.
 #[derive(Clone, Copy)]
@@ -31,7 +30,7 @@ impl Clock {
     /// Whether seconds may be written.
     #[inline(always)]
     fn has_seconds(self) -> bool
-        ensures { result ≡ has_seconds self }
+        ensures { result ≡ has_seconds (clock_of self) }
     {
         match self {
             Clock::Time | Clock::Offset => true,
@@ -39,60 +38,125 @@ impl Clock {
         }
     }
 
-    /// The error at a colon or a digit after a minute that no second may follow so.
+    /// Why reading stops at a colon or a digit after a minute that no second may follow so.
     #[inline(always)]
-    fn mixed_error(self) -> ParseError
-        ensures { fault_of result ≡ mixed self }
+    fn mixed(self) -> Stop
+        ensures { fault_of_stop result ≡ mixed (clock_of self) }
     {
         match self {
-            Clock::Time => ParseError::TimeSeparator,
-            Clock::Offset => ParseError::UtcTimeSeparator,
-            Clock::MinuteOffset => ParseError::InvalidMinutePrecisionOffset,
+            Clock::Time => Stop::TimeSeparator,
+            Clock::Offset => Stop::UtcTimeSeparator,
+            Clock::MinuteOffset => Stop::InvalidMinutePrecisionOffset,
         }
     }
 }
 
-/// A time that was read, and whether it was written with seconds.
-#[derive(Drop)]
+/// How far a time was written.
+#[derive(Clone, Copy)]
+pub enum Shape {
+    /// An hour alone.
+    Hours,
+    /// An hour and a minute right after it.
+    PlainMinutes,
+    /// An hour, a colon and a minute.
+    ColonMinutes,
+    /// A second too.
+    Seconds,
+    /// A fraction of a second too.
+    Fractions,
+}
+
+impl Shape {
+    /// Whether a second stands in it.
+    #[inline(always)]
+    pub fn writes_seconds(self) -> bool
+        ensures { result ≡ writes_seconds (shape_of self) }
+    {
+        match self {
+            Shape::Seconds | Shape::Fractions => true,
+            Shape::Hours | Shape::PlainMinutes | Shape::ColonMinutes => false,
+        }
+    }
+}
+
+/// A time that was read, and how far it was written.
+#[derive(Clone, Copy)]
 pub struct Clocked {
+    pub shape: Shape,
     pub time: TimeRecord,
-    pub has_seconds: bool,
 }
 
-/// Reads a time, as far as it goes.
-#[tactic(auto, unfolding(crate::specs::reading::Times::clock_at, crate::specs::reading::Times::hour_from, crate::specs::reading::Looks::in_range, crate::specs::reading::Looks::digits_by))]
-pub fn parse_clock<'a, T: EncodingType>(
-    cursor: &mut Cursor<'a, T>,
-    clock: Clock,
-) -> ParserResult<Clocked>
-    ensures time { Reads (λ c. (c.has_seconds, c.time)) (map T.letter cursor.old.rest) result (map T.letter cursor.new.rest) (λ text. precise (clock_at error_of clock text)) }
-    ensures looks { Spends 13 cursor.old cursor.new }
-{
-    let tens = cursor.next_digit(ParseError::TimeHour)?;
-    let ones = cursor.next_digit(ParseError::TimeHour)?;
-    let hour = check_most(digits_value(tens, ones), 23, ParseError::TimeHour)?;
-    parse_after_hour(cursor, clock, hour)
-}
-
-/// The number, where it is at most the greatest of its place, else the error.
+/// A time of these parts.
 #[inline(always)]
-fn check_most(number: u8, greatest: u8, error: ParseError) -> ParserResult<u8>
-    ensures { Checks (λ number. number) result number (nat_le number greatest) (fault_of error.entry) }
+fn timed(
+    shape: Shape,
+    hour: u8,
+    minute: u8,
+    second: u8,
+    fraction: Option<Fraction>,
+) -> Clocked
+    ensures { open_time_of result ≡ (shape_of shape, time_of hour minute second fraction) }
+{
+    Clocked {
+        shape,
+        time: TimeRecord {
+            hour,
+            minute,
+            second,
+            fraction,
+        },
+    }
+}
+
+/// The number, where it is at most the greatest of its place, else the stop.
+#[inline(always)]
+fn check_most(number: u8, greatest: u8, stop: Stop) -> Result<u8, Stop>
+    ensures {
+        Checks (λ number. number) result number (nat_le number greatest) (fault_of_stop stop)
+    }
 {
     if number > greatest {
-        return Err(error);
+        return Err(stop);
     }
     Ok(number)
 }
 
+/// Reads a time, as far as it goes.
+#[inline(always)]
+#[tactic(auto, unfolding(
+    crate::specs::reading::Times::clock_at,
+    crate::specs::reading::Times::hour_from,
+    crate::specs::reading::Looks::in_range,
+    crate::specs::reading::Looks::digits_by
+))]
+pub fn parse_clock<'a, T: EncodingType>(
+    cursor: &mut Cursor<'a, T>,
+    clock: Clock,
+) -> Result<Clocked, Stop>
+    ensures time {
+        Reads T.letter open_time_of cursor.old result cursor.new
+            (clock_at error_of (clock_of clock))
+    }
+    ensures looks { Spends 13 cursor.old cursor.new }
+{
+    let tens = cursor.next_digit(Stop::TimeHour)?;
+    let ones = cursor.next_digit(Stop::TimeHour)?;
+    let hour = check_most(digits_value(tens, ones), 23, Stop::TimeHour)?;
+    parse_after_hour(cursor, clock, hour)
+}
+
 /// Reads what of a time stands after its hour.
+#[inline(always)]
 #[tactic(auto, unfolding(crate::specs::reading::Times::after_hour_at))]
 fn parse_after_hour<'a, T: EncodingType>(
     cursor: &mut Cursor<'a, T>,
     clock: Clock,
     hour: u8,
-) -> ParserResult<Clocked>
-    ensures time { Reads (λ c. (c.has_seconds, c.time)) (map T.letter cursor.old.rest) result (map T.letter cursor.new.rest) (λ text. precise (after_hour_at error_of clock hour text)) }
+) -> Result<Clocked, Stop>
+    ensures time {
+        Reads T.letter open_time_of cursor.old result cursor.new
+            (after_hour_at error_of (clock_of clock) hour)
+    }
     ensures looks { Spends 11 cursor.old cursor.new }
 {
     match cursor.look()? {
@@ -104,61 +168,71 @@ fn parse_after_hour<'a, T: EncodingType>(
             cursor.step();
             parse_plain_minute(cursor, clock, hour, byte)
         }
-        _ => Ok(Clocked {
-            time: TimeRecord {
-                hour,
-                minute: 0,
-                second: 0,
-                fraction: None,
-            },
-            has_seconds: false,
-        }),
+        _ => Ok(timed(Shape::Hours, hour, 0, 0, None)),
     }
 }
 
 /// Reads the minute after a colon, and what of the time stands after it.
-#[tactic(auto, unfolding(crate::specs::reading::Times::colon_minute_at, crate::specs::reading::Looks::in_range, crate::specs::reading::Looks::digits_by))]
+#[inline(always)]
+#[tactic(auto, unfolding(
+    crate::specs::reading::Times::colon_minute_at,
+    crate::specs::reading::Looks::in_range
+))]
 fn parse_colon_minute<'a, T: EncodingType>(
     cursor: &mut Cursor<'a, T>,
     clock: Clock,
     hour: u8,
-) -> ParserResult<Clocked>
-    ensures time { Reads (λ c. (c.has_seconds, c.time)) (map T.letter cursor.old.rest) result (map T.letter cursor.new.rest) (λ text. precise (colon_minute_at error_of clock hour text)) }
+) -> Result<Clocked, Stop>
+    ensures time {
+        Reads T.letter open_time_of cursor.old result cursor.new
+            (colon_minute_at error_of (clock_of clock) hour)
+    }
     ensures looks { Spends 10 cursor.old cursor.new }
 {
-    let tens = cursor.next_digit(ParseError::TimeMinuteSecond)?;
-    let ones = cursor.next_digit(ParseError::TimeMinuteSecond)?;
-    let minute = check_most(digits_value(tens, ones), 59, ParseError::TimeMinuteSecond)?;
+    let (tens, ones) = cursor.two_digits(Stop::TimeMinuteSecond)?;
+    let minute = check_most(digits_value(tens, ones), 59, Stop::TimeMinuteSecond)?;
     parse_after_colon_minute(cursor, clock, hour, minute)
 }
 
 /// Reads the minute's second digit, and what of the time stands after it.
-#[tactic(auto, unfolding(crate::specs::reading::Times::plain_minute_at, crate::specs::reading::Looks::in_range, crate::specs::reading::Looks::digits_by))]
+#[inline(always)]
+#[tactic(auto, unfolding(
+    crate::specs::reading::Times::plain_minute_at,
+    crate::specs::reading::Looks::in_range,
+    crate::specs::reading::Looks::digits_by
+))]
 fn parse_plain_minute<'a, T: EncodingType>(
     cursor: &mut Cursor<'a, T>,
     clock: Clock,
     hour: u8,
     tens: u8,
-) -> ParserResult<Clocked>
+) -> Result<Clocked, Stop>
     requires digit { IsTrue (digit tens) }
-    ensures time { Reads (λ c. (c.has_seconds, c.time)) (map T.letter cursor.old.rest) result (map T.letter cursor.new.rest) (λ text. precise (plain_minute_at error_of clock hour tens text)) }
+    ensures time {
+        Reads T.letter open_time_of cursor.old result cursor.new
+            (plain_minute_at error_of (clock_of clock) hour tens)
+    }
     ensures looks { Spends 9 cursor.old cursor.new }
 {
-    let ones = cursor.next_digit(ParseError::TimeMinuteSecond)?;
-    let minute = check_most(digits_value(tens, ones), 59, ParseError::TimeMinuteSecond)?;
+    let ones = cursor.next_digit(Stop::TimeMinuteSecond)?;
+    let minute = check_most(digits_value(tens, ones), 59, Stop::TimeMinuteSecond)?;
     parse_after_plain_minute(cursor, clock, hour, minute)
 }
 
 /// Reads what of a time stands after `Hour : Min`: a digit there is an error, and a colon where no
 /// seconds may be.
+#[inline(always)]
 #[tactic(auto, unfolding(crate::specs::reading::Times::after_colon_minute_at))]
 fn parse_after_colon_minute<'a, T: EncodingType>(
     cursor: &mut Cursor<'a, T>,
     clock: Clock,
     hour: u8,
     minute: u8,
-) -> ParserResult<Clocked>
-    ensures time { Reads (λ c. (c.has_seconds, c.time)) (map T.letter cursor.old.rest) result (map T.letter cursor.new.rest) (λ text. precise (after_colon_minute_at error_of clock hour minute text)) }
+) -> Result<Clocked, Stop>
+    ensures time {
+        Reads T.letter open_time_of cursor.old result cursor.new
+            (after_colon_minute_at error_of (clock_of clock) hour minute)
+    }
     ensures looks { Spends 8 cursor.old cursor.new }
 {
     match cursor.look()? {
@@ -166,29 +240,25 @@ fn parse_after_colon_minute<'a, T: EncodingType>(
             cursor.step();
             parse_colon_second(cursor, clock, hour, minute)
         }
-        Some(byte) if is_time_separator(byte) || byte.is_ascii_digit() => Err(clock.mixed_error()),
-        _ => Ok(Clocked {
-            time: TimeRecord {
-                hour,
-                minute,
-                second: 0,
-                fraction: None,
-            },
-            has_seconds: false,
-        }),
+        Some(byte) if is_time_separator(byte) || byte.is_ascii_digit() => Err(clock.mixed()),
+        _ => Ok(timed(Shape::ColonMinutes, hour, minute, 0, None)),
     }
 }
 
 /// Reads what of a time stands after `Hour Min`: a colon there is an error, and a digit where no
 /// seconds may be.
+#[inline(always)]
 #[tactic(auto, unfolding(crate::specs::reading::Times::after_plain_minute_at))]
 fn parse_after_plain_minute<'a, T: EncodingType>(
     cursor: &mut Cursor<'a, T>,
     clock: Clock,
     hour: u8,
     minute: u8,
-) -> ParserResult<Clocked>
-    ensures time { Reads (λ c. (c.has_seconds, c.time)) (map T.letter cursor.old.rest) result (map T.letter cursor.new.rest) (λ text. precise (after_plain_minute_at error_of clock hour minute text)) }
+) -> Result<Clocked, Stop>
+    ensures time {
+        Reads T.letter open_time_of cursor.old result cursor.new
+            (after_plain_minute_at error_of (clock_of clock) hour minute)
+    }
     ensures looks { Spends 8 cursor.old cursor.new }
 {
     match cursor.look()? {
@@ -196,16 +266,8 @@ fn parse_after_plain_minute<'a, T: EncodingType>(
             cursor.step();
             parse_plain_second(cursor, clock, hour, minute, byte)
         }
-        Some(byte) if is_time_separator(byte) || byte.is_ascii_digit() => Err(clock.mixed_error()),
-        _ => Ok(Clocked {
-            time: TimeRecord {
-                hour,
-                minute,
-                second: 0,
-                fraction: None,
-            },
-            has_seconds: false,
-        }),
+        Some(byte) if is_time_separator(byte) || byte.is_ascii_digit() => Err(clock.mixed()),
+        _ => Ok(timed(Shape::PlainMinutes, hour, minute, 0, None)),
     }
 }
 
@@ -214,56 +276,95 @@ fn parse_after_plain_minute<'a, T: EncodingType>(
 fn next_second_digit<'a, T: EncodingType>(
     cursor: &mut Cursor<'a, T>,
     clock: Clock,
-) -> ParserResult<u8>
-    ensures digit { Reads (λ byte. byte) (map T.letter cursor.old.rest) result (map T.letter cursor.new.rest) (next_by (digit_look (second_fault clock))) }
+) -> Result<u8, Stop>
+    ensures digit {
+        Reads T.letter (λ byte. byte) cursor.old result cursor.new
+            (next_by (digit_look (second_fault (clock_of clock))))
+    }
     ensures is_digit { IfOk result (λ byte. IsTrue (digit byte)) }
     ensures looks { Spends 1 cursor.old cursor.new }
 {
     match clock {
-        Clock::Time => cursor.next_digit(ParseError::TimeSecond),
-        Clock::Offset | Clock::MinuteOffset => cursor.next_digit(ParseError::TimeMinuteSecond),
+        Clock::Time => cursor.next_digit(Stop::TimeSecond),
+        Clock::Offset | Clock::MinuteOffset => cursor.next_digit(Stop::TimeMinuteSecond),
     }
 }
 
-/// The second, where it is at most the greatest one, else the error.
+/// Takes the two digits of a second off.
 #[inline(always)]
-fn check_second(second: u8, clock: Clock) -> ParserResult<u8>
-    ensures { Checks (λ number. number) result second (nat_le second (greatest_second clock)) (second_fault clock) }
+fn second_digits<'a, T: EncodingType>(
+    cursor: &mut Cursor<'a, T>,
+    clock: Clock,
+) -> Result<(u8, u8), Stop>
+    ensures digits {
+        Reads T.letter (λ ds. Plain ds.0 ∷ Plain ds.1 ∷ []) cursor.old result cursor.new
+            (digits_by (digit_look (second_fault (clock_of clock))) 2)
+    }
+    ensures are_digits { IfOk result (λ ds. IsTrue (digit ds.0) × IsTrue (digit ds.1)) }
+    ensures looks { Spends 2 cursor.old cursor.new }
 {
     match clock {
-        Clock::Time => check_most(second, 60, ParseError::TimeSecond),
-        Clock::Offset | Clock::MinuteOffset => check_most(second, 59, ParseError::TimeMinuteSecond),
+        Clock::Time => cursor.two_digits(Stop::TimeSecond),
+        Clock::Offset | Clock::MinuteOffset => cursor.two_digits(Stop::TimeMinuteSecond),
+    }
+}
+
+/// The second, where it is at most the greatest one, else the stop.
+#[inline(always)]
+fn check_second(second: u8, clock: Clock) -> Result<u8, Stop>
+    ensures {
+        Checks (λ number. number) result second
+            (nat_le second (greatest_second (clock_of clock))) (second_fault (clock_of clock))
+    }
+{
+    match clock {
+        Clock::Time => check_most(second, 60, Stop::TimeSecond),
+        Clock::Offset | Clock::MinuteOffset => check_most(second, 59, Stop::TimeMinuteSecond),
     }
 }
 
 /// Reads the second after a colon, and a fraction where there is one.
-#[tactic(auto, unfolding(crate::specs::reading::Times::colon_second_at, crate::specs::reading::Looks::in_range, crate::specs::reading::Looks::digits_by))]
+#[inline(always)]
+#[tactic(auto, unfolding(
+    crate::specs::reading::Times::colon_second_at,
+    crate::specs::reading::Looks::in_range
+))]
 fn parse_colon_second<'a, T: EncodingType>(
     cursor: &mut Cursor<'a, T>,
     clock: Clock,
     hour: u8,
     minute: u8,
-) -> ParserResult<Clocked>
-    ensures time { Reads (λ c. (c.has_seconds, c.time)) (map T.letter cursor.old.rest) result (map T.letter cursor.new.rest) (λ text. precise (colon_second_at error_of clock hour minute text)) }
+) -> Result<Clocked, Stop>
+    ensures time {
+        Reads T.letter open_time_of cursor.old result cursor.new
+            (colon_second_at error_of (clock_of clock) hour minute)
+    }
     ensures looks { Spends 7 cursor.old cursor.new }
 {
-    let tens = next_second_digit(cursor, clock)?;
-    let ones = next_second_digit(cursor, clock)?;
+    let (tens, ones) = second_digits(cursor, clock)?;
     let second = check_second(digits_value(tens, ones), clock)?;
     parse_after_second(cursor, clock, hour, minute, second)
 }
 
 /// Reads the second's second digit, and a fraction where there is one.
-#[tactic(auto, unfolding(crate::specs::reading::Times::plain_second_at, crate::specs::reading::Looks::in_range, crate::specs::reading::Looks::digits_by))]
+#[inline(always)]
+#[tactic(auto, unfolding(
+    crate::specs::reading::Times::plain_second_at,
+    crate::specs::reading::Looks::in_range,
+    crate::specs::reading::Looks::digits_by
+))]
 fn parse_plain_second<'a, T: EncodingType>(
     cursor: &mut Cursor<'a, T>,
     clock: Clock,
     hour: u8,
     minute: u8,
     tens: u8,
-) -> ParserResult<Clocked>
+) -> Result<Clocked, Stop>
     requires digit { IsTrue (digit tens) }
-    ensures time { Reads (λ c. (c.has_seconds, c.time)) (map T.letter cursor.old.rest) result (map T.letter cursor.new.rest) (λ text. precise (plain_second_at error_of clock hour minute tens text)) }
+    ensures time {
+        Reads T.letter open_time_of cursor.old result cursor.new
+            (plain_second_at error_of (clock_of clock) hour minute tens)
+    }
     ensures looks { Spends 6 cursor.old cursor.new }
 {
     let ones = next_second_digit(cursor, clock)?;
@@ -272,6 +373,7 @@ fn parse_plain_second<'a, T: EncodingType>(
 }
 
 /// Reads a fraction after a second, where there is one.
+#[inline(always)]
 #[tactic(auto, unfolding(crate::specs::reading::Times::after_second_at))]
 fn parse_after_second<'a, T: EncodingType>(
     cursor: &mut Cursor<'a, T>,
@@ -279,45 +381,37 @@ fn parse_after_second<'a, T: EncodingType>(
     hour: u8,
     minute: u8,
     second: u8,
-) -> ParserResult<Clocked>
-    ensures time { Reads (λ c. (c.has_seconds, c.time)) (map T.letter cursor.old.rest) result (map T.letter cursor.new.rest) (λ text. precise (after_second_at error_of clock hour minute second text)) }
+) -> Result<Clocked, Stop>
+    ensures time {
+        Reads T.letter open_time_of cursor.old result cursor.new
+            (after_second_at error_of (clock_of clock) hour minute second)
+    }
     ensures looks { Spends 5 cursor.old cursor.new }
 {
     match cursor.look()? {
         Some(byte) if is_decimal_separator(byte) => {
             cursor.step();
-            match parse_fraction(cursor, clock) {
-                Ok(fraction) => Ok(Clocked {
-                    time: TimeRecord {
-                        hour,
-                        minute,
-                        second,
-                        fraction: Some(fraction),
-                    },
-                    has_seconds: true,
-                }),
-                Err(error) => Err(error),
-            }
+            let fraction = parse_fraction(cursor, clock)?;
+            Ok(timed(Shape::Fractions, hour, minute, second, Some(fraction)))
         }
-        _ => Ok(Clocked {
-            time: TimeRecord {
-                hour,
-                minute,
-                second,
-                fraction: None,
-            },
-            has_seconds: true,
-        }),
+        _ => Ok(timed(Shape::Seconds, hour, minute, second, None)),
     }
 }
 
 /// Reads the digits of a fraction after its decimal mark: `FractionPart` where there is none.
-#[tactic(auto, unfolding(crate::specs::reading::Times::fraction_at, crate::specs::reading::Looks::next_by))]
+#[inline(always)]
+#[tactic(auto, unfolding(
+    crate::specs::reading::Times::fraction_at,
+    crate::specs::reading::Looks::next_by
+))]
 fn parse_fraction<'a, T: EncodingType>(
     cursor: &mut Cursor<'a, T>,
     clock: Clock,
-) -> ParserResult<Fraction>
-    ensures fraction { Reads (λ fraction. fraction) (map T.letter cursor.old.rest) result (map T.letter cursor.new.rest) (fraction_at error_of clock) }
+) -> Result<Fraction, Stop>
+    ensures fraction {
+        Reads T.letter (λ fraction. fraction) cursor.old result cursor.new
+            (fraction_at error_of (clock_of clock))
+    }
     ensures looks { Spends 3 cursor.old cursor.new }
 {
     match cursor.look()? {
@@ -325,17 +419,20 @@ fn parse_fraction<'a, T: EncodingType>(
             cursor.step();
             parse_more_digits(cursor, byte)
         }
-        _ => Err(ParseError::FractionPart),
+        _ => Err(Stop::FractionPart),
     }
 }
 
 /// Reads the other digits of a fraction.
+#[inline(always)]
 fn parse_more_digits<'a, T: EncodingType>(
     cursor: &mut Cursor<'a, T>,
     first: u8,
-) -> ParserResult<Fraction>
+) -> Result<Fraction, Stop>
     requires digit { IsTrue (digit first) }
-    ensures fraction { Reads (λ fraction. fraction) (map T.letter cursor.old.rest) result (map T.letter cursor.new.rest) (more_digits_at first) }
+    ensures fraction {
+        Reads T.letter (λ fraction. fraction) cursor.old result cursor.new (more_digits_at first)
+    }
     ensures looks { Spends 2 cursor.old cursor.new }
 {
     let mut fraction = Fraction::start(first);

@@ -21,6 +21,7 @@ loop-byte-preserved g c =
     record {
       far = goes_on _ _ _ _ _ _ _ c.loop-byte.invariant.far found is left (record { count = c.with_digit-fraction.ensures.count; grows = c.with_digit-fraction.ensures.grows; stays = c.with_digit-fraction.ensures.stays });
       looks = omega (arith, shrinks g.T.EncodingType.letter _ _ _ found moved, c.loop-byte.invariant.looks);
+      counted = omega (arith, c.loop-byte.invariant.counted, c.in_ok-byte.ensures.looks, c.step.ensures.looks);
     }
 
 pub returns-in_err-byte-clause-fraction : goal.returns-in_err-byte-clause-fraction

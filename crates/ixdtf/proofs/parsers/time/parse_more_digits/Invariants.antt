@@ -6,6 +6,7 @@ abbrev pub invariant-loop-byte : goal.invariant-loop-byte
 invariant-loop-byte g l = record {
   far : IsSoFar l.first (map g.T.EncodingType.letter l.initial.cursor.rest) (map g.T.EncodingType.letter l.cursor.rest) l.fraction;
   looks : l.cursor.looks + length l.cursor.rest ≤ l.initial.cursor.looks + length l.initial.cursor.rest;
+  counted : l.initial.cursor.looks ≤ l.cursor.looks;
 }
 
 abbrev pub decreases-loop-byte : goal.decreases-loop-byte

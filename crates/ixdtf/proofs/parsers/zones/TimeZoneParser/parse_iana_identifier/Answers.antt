@@ -4,7 +4,7 @@ use Rattle.ixdtf.specs.language.Languages.Found.{named}
 use Rattle.ixdtf.proofs.code.Units.{no_units}
 use Rattle.ixdtf.proofs.code.ReadersWithoutPairs.{nothing_left, ok_where_derived, err_where_refused, err_where_fits}
 use Rattle.ixdtf.proofs.theorems.NeverComes.{fault_comes}
-use Rattle.ixdtf.proofs.parsers.TimeZoneParser.parse_iana_identifier.Goals as goal
+use Rattle.ixdtf.proofs.parsers.zones.TimeZoneParser.parse_iana_identifier.Goals as goal
 
 pub returns-in-Ok-clause-ok : goal.returns-in-Ok-clause-ok
 returns-in-Ok-clause-ok g c = rw (← c.self.view_is) (ok_where_derived parse_iana_identifier named (λ x y e. cc) _ _ refl _ _ c.in-Ok.ensures.name)

@@ -4,7 +4,7 @@ use Rattle.ixdtf.specs.table.Faults.Fault.{NonAsciiCodePoint}
 use Rattle.ixdtf.specs.reading.Looks.{look_at}
 use Rattle.ixdtf.proofs.code.FractionLoop.{shrinks}
 use Rattle.ixdtf.proofs.code.NameLoop.{sight_passes, sight_found, sight_ends, sight_fails}
-use Rattle.ixdtf.proofs.parsers.annotations.is_pair_ahead.Goals as goal
+use Rattle.ixdtf.proofs.parsers.brackets.is_pair_ahead.Goals as goal
 
 pub returns-in_err-byte-clause-sight : goal.returns-in_err-byte-clause-sight
 returns-in_err-byte-clause-sight g c =

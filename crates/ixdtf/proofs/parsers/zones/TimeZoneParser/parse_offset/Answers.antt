@@ -6,7 +6,7 @@ use Rattle.ixdtf.proofs.code.Units.{no_units}
 use Rattle.ixdtf.proofs.code.CodeLemmas.{offset_reader_is}
 use Rattle.ixdtf.proofs.code.ReadersWithoutPairs.{nothing_left, ok_where_derived, err_where_refused, err_where_fits}
 use Rattle.ixdtf.proofs.theorems.NeverComes.{fault_comes}
-use Rattle.ixdtf.proofs.parsers.TimeZoneParser.parse_offset.Goals as goal
+use Rattle.ixdtf.proofs.parsers.zones.TimeZoneParser.parse_offset.Goals as goal
 
 pub returns-in-Ok-clause-ok : goal.returns-in-Ok-clause-ok
 returns-in-Ok-clause-ok g c = rw (← c.self.view_is) (ok_where_derived parse_offset shifted (λ x y e. cc) _ _ (ap (finding shifted) (offset_reader_is _)) _ _ c.in-Ok.ensures.offset)

@@ -1,7 +1,7 @@
 use Rattle.std.proofs.Common.{◌≡◌, ◌+◌, ◌≤◌, length, map}
 use Rattle.ixdtf.specs.reading.Looks.{error_of}
 use Rattle.ixdtf.specs.reading.Brackets.{sight_at}
-use Rattle.ixdtf.proofs.parsers.annotations.is_pair_ahead.Given as goal
+use Rattle.ixdtf.proofs.parsers.brackets.is_pair_ahead.Given as goal
 
 abbrev pub invariant-loop-byte : goal.invariant-loop-byte
 invariant-loop-byte g l = record {

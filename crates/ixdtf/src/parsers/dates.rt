@@ -1,0 +1,274 @@
+//! Reading dates.
+
+ghost use Rattle.std.specs.Prelude.{◌≡◌, ◌∷◌, [], ◌&&◌, ◌+◌, ◌*◌, ◌-◌, ◌<◌, ◌≤◌, map, nat_le, length, IsTrue, IfOk};
+ghost use Rattle.ixdtf.specs.language.Letters.{digit, sign};
+ghost use Rattle.ixdtf.specs.language.Dates.{is_leap, month_length};
+ghost use Rattle.ixdtf.specs.table.Faults.Fault.{DateExtendedYear, InvalidMonthRange, InvalidDayRange};
+ghost use Rattle.ixdtf.specs.reading.Clauses.{Reads, Spends, Checks};
+ghost use Rattle.ixdtf.specs.reading.Looks.{error_of, number_of, digits_by, digit_look};
+ghost use Rattle.ixdtf.specs.reading.Dates.{date_of, year_at, plain_year_at, extended_year_at, date_at, after_year_at, hyphened_date_at, plain_date_at, after_hyphened_month_at, after_plain_month_at};
+
+use crate::cursor::Cursor;
+use crate::encoding::EncodingType;
+use crate::parsers::grammar::{digits_value, is_ascii_sign, is_hyphen};
+use crate::records::DateRecord;
+use crate::stop::Stop;
+
+/// Reads a date.
+#[tactic(auto, unfolding(crate::specs::reading::Dates::date_at))]
+pub fn parse_date<'a, T: EncodingType>(cursor: &mut Cursor<'a, T>) -> Result<DateRecord, Stop>
+    ensures date {
+        Reads T.letter (λ date. date) cursor.old result cursor.new
+            (date_at error_of)
+    }
+    ensures looks { Spends 13 cursor.old cursor.new }
+{
+    let year = parse_date_year(cursor)?;
+    parse_after_year(cursor, year)
+}
+
+// ==== Years ====
+
+/// Reads a year: four digits, or a sign and six digits.
+#[tactic(auto, using(crate::proofs::code::DigitClasses::digit_no_sign), unfolding(crate::specs::reading::Dates::year_at, crate::specs::reading::Looks::next_by))]
+fn parse_date_year<'a, T: EncodingType>(cursor: &mut Cursor<'a, T>) -> Result<i32, Stop>
+    ensures year {
+        Reads T.letter (λ year. year) cursor.old result cursor.new
+            (year_at error_of)
+    }
+    ensures looks { Spends 7 cursor.old cursor.new }
+{
+    match cursor.look()? {
+        None => Err(Stop::AbruptDigit),
+        Some(byte) if byte.is_ascii_digit() => {
+            cursor.step();
+            parse_plain_year(cursor, byte)
+        }
+        Some(byte) if is_ascii_sign(byte) => {
+            cursor.step();
+            parse_extended_year(cursor, byte)
+        }
+        Some(_) => Err(Stop::DateYear),
+    }
+}
+
+/// Reads the other three digits of a year of four.
+#[tactic(auto, unfolding(crate::specs::reading::Dates::plain_year_at, crate::specs::reading::Looks::digits_by))]
+fn parse_plain_year<'a, T: EncodingType>(
+    cursor: &mut Cursor<'a, T>,
+    thousands: u8,
+) -> Result<i32, Stop>
+    requires digit { IsTrue (digit thousands) }
+    ensures year {
+        Reads T.letter (λ year. year) cursor.old result cursor.new
+            (plain_year_at error_of thousands)
+    }
+    ensures looks { Spends 3 cursor.old cursor.new }
+{
+    let hundreds = cursor.next_digit(Stop::DateYear)?;
+    let tens = cursor.next_digit(Stop::DateYear)?;
+    let ones = cursor.next_digit(Stop::DateYear)?;
+    Ok(
+        1000 * i32::from(thousands - b'0')
+            + 100 * i32::from(hundreds - b'0')
+            + 10 * i32::from(tens - b'0')
+            + i32::from(ones - b'0'),
+    )
+}
+
+/// Reads the six digits of a year with a sign.
+#[tactic(auto, unfolding(crate::specs::reading::Dates::extended_year_at))]
+fn parse_extended_year<'a, T: EncodingType>(
+    cursor: &mut Cursor<'a, T>,
+    sign: u8,
+) -> Result<i32, Stop>
+    ensures year {
+        Reads T.letter (λ year. year) cursor.old result cursor.new
+            (extended_year_at error_of sign)
+    }
+    ensures looks { Spends 6 cursor.old cursor.new }
+{
+    let value = parse_six_digits(cursor)?;
+    if !is_hyphen(sign) {
+        return Ok(value as i32);
+    }
+    if value == 0 {
+        return Err(Stop::DateExtendedYear);
+    }
+    Ok(-(value as i32))
+}
+
+/// Reads six digits, and answers their number.
+#[tactic(auto, unfolding(crate::specs::reading::Looks::digits_by))]
+fn parse_six_digits<'a, T: EncodingType>(cursor: &mut Cursor<'a, T>) -> Result<u32, Stop>
+    ensures number {
+        Reads T.letter (λ number. number) cursor.old result cursor.new
+            (λ text. number_of (digits_by (digit_look DateExtendedYear) 6 text))
+    }
+    ensures small { IfOk result (λ number. number < 1000000) }
+    ensures looks { Spends 6 cursor.old cursor.new }
+{
+    let first = cursor.next_digit(Stop::DateExtendedYear)?;
+    let second = cursor.next_digit(Stop::DateExtendedYear)?;
+    let third = cursor.next_digit(Stop::DateExtendedYear)?;
+    let fourth = cursor.next_digit(Stop::DateExtendedYear)?;
+    let fifth = cursor.next_digit(Stop::DateExtendedYear)?;
+    let sixth = cursor.next_digit(Stop::DateExtendedYear)?;
+    Ok(
+        100_000 * u32::from(first - b'0')
+            + 10_000 * u32::from(second - b'0')
+            + 1000 * u32::from(third - b'0')
+            + 100 * u32::from(fourth - b'0')
+            + 10 * u32::from(fifth - b'0')
+            + u32::from(sixth - b'0'),
+    )
+}
+
+// ==== Months and days ====
+
+/// Reads the month and the day after a year: with hyphens where the first one stands, else without.
+#[tactic(auto, unfolding(crate::specs::reading::Dates::after_year_at, crate::specs::reading::Looks::next_by))]
+fn parse_after_year<'a, T: EncodingType>(
+    cursor: &mut Cursor<'a, T>,
+    year: i32,
+) -> Result<DateRecord, Stop>
+    ensures date {
+        Reads T.letter (λ date. date) cursor.old result cursor.new
+            (after_year_at error_of year)
+    }
+    ensures looks { Spends 6 cursor.old cursor.new }
+{
+    match cursor.look()? {
+        None => Err(Stop::AbruptDate),
+        Some(byte) if is_hyphen(byte) => {
+            cursor.step();
+            parse_hyphenated_date(cursor, year)
+        }
+        Some(byte) if byte.is_ascii_digit() => {
+            cursor.step();
+            parse_plain_date(cursor, year, byte)
+        }
+        Some(_) => Err(Stop::DateMonth),
+    }
+}
+
+/// Reads the month after a hyphen, and the day.
+#[tactic(auto, unfolding(crate::specs::reading::Dates::hyphened_date_at, crate::specs::reading::Dates::month_in_range, crate::specs::reading::Looks::digits_by))]
+fn parse_hyphenated_date<'a, T: EncodingType>(
+    cursor: &mut Cursor<'a, T>,
+    year: i32,
+) -> Result<DateRecord, Stop>
+    ensures date {
+        Reads T.letter (λ date. date) cursor.old result cursor.new
+            (hyphened_date_at error_of year)
+    }
+    ensures looks { Spends 5 cursor.old cursor.new }
+{
+    let (tens, ones) = cursor.two_digits(Stop::DateMonth)?;
+    let month = check_month(digits_value(tens, ones))?;
+    parse_hyphenated_day(cursor, year, month)
+}
+
+/// Reads the second hyphen, and the day after it.
+#[tactic(auto, unfolding(crate::specs::reading::Dates::after_hyphened_month_at, crate::specs::reading::Dates::hyphened_day_at, crate::specs::reading::Dates::day_in_range, crate::specs::reading::Looks::next_by, crate::specs::reading::Looks::digits_by))]
+fn parse_hyphenated_day<'a, T: EncodingType>(
+    cursor: &mut Cursor<'a, T>,
+    year: i32,
+    month: u8,
+) -> Result<DateRecord, Stop>
+    ensures date {
+        Reads T.letter (λ date. date) cursor.old result cursor.new
+            (after_hyphened_month_at error_of year month)
+    }
+    ensures looks { Spends 3 cursor.old cursor.new }
+{
+    match cursor.look()? {
+        Some(byte) if is_hyphen(byte) => cursor.step(),
+        _ => return Err(Stop::DateSeparator),
+    }
+    let (tens, ones) = cursor.two_digits(Stop::DateDay)?;
+    check_date(year, month, digits_value(tens, ones))
+}
+
+/// Reads the month's second digit, and the day.
+#[tactic(auto, unfolding(crate::specs::reading::Dates::plain_date_at, crate::specs::reading::Dates::month_in_range, crate::specs::reading::Looks::digits_by))]
+fn parse_plain_date<'a, T: EncodingType>(
+    cursor: &mut Cursor<'a, T>,
+    year: i32,
+    tens: u8,
+) -> Result<DateRecord, Stop>
+    requires digit { IsTrue (digit tens) }
+    ensures date {
+        Reads T.letter (λ date. date) cursor.old result cursor.new
+            (plain_date_at error_of year tens)
+    }
+    ensures looks { Spends 3 cursor.old cursor.new }
+{
+    let ones = cursor.next_digit(Stop::DateMonth)?;
+    let month = check_month(digits_value(tens, ones))?;
+    parse_plain_day(cursor, year, month)
+}
+
+/// Reads the day right after a month: a hyphen there is `DateSeparator`.
+#[tactic(auto, unfolding(crate::specs::reading::Dates::after_plain_month_at, crate::specs::reading::Dates::plain_day_at, crate::specs::reading::Dates::day_in_range, crate::specs::reading::Looks::next_by, crate::specs::reading::Looks::digits_by))]
+fn parse_plain_day<'a, T: EncodingType>(
+    cursor: &mut Cursor<'a, T>,
+    year: i32,
+    month: u8,
+) -> Result<DateRecord, Stop>
+    ensures date {
+        Reads T.letter (λ date. date) cursor.old result cursor.new
+            (after_plain_month_at error_of year month)
+    }
+    ensures looks { Spends 2 cursor.old cursor.new }
+{
+    match cursor.look()? {
+        None => Err(Stop::AbruptDigit),
+        Some(tens) if tens.is_ascii_digit() => {
+            cursor.step();
+            let ones = cursor.next_digit(Stop::DateDay)?;
+            check_date(year, month, digits_value(tens, ones))
+        }
+        Some(byte) if is_hyphen(byte) => Err(Stop::DateSeparator),
+        Some(_) => Err(Stop::DateDay),
+    }
+}
+
+/// The month, where it is one.
+fn check_month(month: u8) -> Result<u8, Stop>
+    ensures { Checks (λ month. month) result month (nat_le 1 month && nat_le month 12) InvalidMonthRange }
+{
+    if month < 1 || month > 12 {
+        return Err(Stop::InvalidMonthRange);
+    }
+    Ok(month)
+}
+
+/// The date, where its month has the day.
+fn check_date(year: i32, month: u8, day: u8) -> Result<DateRecord, Stop>
+    ensures { Checks (λ date. date) result (date_of year month day) (nat_le 1 day && nat_le day (month_length year month)) InvalidDayRange }
+{
+    if day < 1 || day > days_in_month(year, month) {
+        return Err(Stop::InvalidDayRange);
+    }
+    Ok(DateRecord { year, month, day })
+}
+
+/// The length of a month in the Gregorian calendar.
+fn days_in_month(year: i32, month: u8) -> u8
+    ensures { result ≡ month_length year month }
+{
+    match month {
+        2 => { if is_leap_year(year) { 29 } else { 28 } }
+        4 | 6 | 9 | 11 => 30,
+        _ => 31,
+    }
+}
+
+/// Whether the year has 29 days in February.
+fn is_leap_year(year: i32) -> bool
+    ensures { result ≡ is_leap year }
+{
+    let distance = year.unsigned_abs();
+    (distance % 4 == 0 && distance % 100 != 0) || distance % 400 == 0
+}

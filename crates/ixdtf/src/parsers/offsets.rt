@@ -1,0 +1,104 @@
+//! Reading offsets from UTC.
+
+ghost use Rattle.std.specs.Prelude.{◌≡◌, ◌+◌, ◌≤◌, map, length};
+ghost use Rattle.ixdtf.specs.language.Offsets.{sign_of, minutes_of, offset_of};
+ghost use Rattle.ixdtf.specs.language.Times.{writes_seconds};
+ghost use Rattle.ixdtf.specs.reading.Clauses.{Reads, Spends, shape_of};
+ghost use Rattle.ixdtf.specs.reading.Looks.{error_of};
+ghost use Rattle.ixdtf.specs.reading.Zones.{offset_at, offset_alone_at};
+
+use crate::cursor::Cursor;
+use crate::encoding::EncodingType;
+use crate::parsers::grammar::{is_ascii_sign, is_hyphen};
+use crate::parsers::time::{Clock, Clocked, parse_clock};
+use crate::records::{FullPrecisionOffset, MinutePrecisionOffset, Sign, TimeRecord, UtcOffsetRecord};
+use crate::stop::Stop;
+
+/// The sign of a `+` or a `-`.
+#[inline(always)]
+fn sign_from(byte: u8) -> Sign
+    ensures { result ≡ sign_of byte }
+{
+    if is_hyphen(byte) {
+        Sign::Negative
+    } else {
+        Sign::Positive
+    }
+}
+
+/// The sign, hour and minute of an offset.
+#[inline(always)]
+pub fn minute_offset(sign: u8, time: TimeRecord) -> MinutePrecisionOffset
+    ensures { result ≡ minutes_of sign time }
+{
+    MinutePrecisionOffset {
+        sign: sign_from(sign),
+        hour: time.hour,
+        minute: time.minute,
+    }
+}
+
+/// The record of an offset: in full where it has seconds.
+#[inline(always)]
+pub fn offset_from(sign: u8, clocked: Clocked) -> UtcOffsetRecord
+    ensures { result ≡ offset_of sign (writes_seconds (shape_of clocked.shape)) clocked.time }
+{
+    let shape = clocked.shape;
+    let time = clocked.time;
+    let second = time.second;
+    let fraction = time.fraction;
+    let minute_precision_offset = minute_offset(sign, time);
+    if !shape.writes_seconds() {
+        return UtcOffsetRecord::MinutePrecision(minute_precision_offset);
+    }
+    UtcOffsetRecord::FullPrecisionOffset(FullPrecisionOffset {
+        minute_precision_offset,
+        second,
+        fraction,
+    })
+}
+
+/// Reads an offset after its sign, and wants the end.
+#[inline(always)]
+#[tactic(auto, unfolding(
+    crate::specs::reading::Zones::offset_alone_at,
+    crate::specs::reading::Looks::peek_by
+))]
+fn parse_offset_alone<'a, T: EncodingType>(
+    cursor: &mut Cursor<'a, T>,
+    sign: u8,
+) -> Result<UtcOffsetRecord, Stop>
+    ensures offset {
+        Reads T.letter (λ offset. offset) cursor.old result cursor.new
+            (offset_alone_at error_of sign)
+    }
+    ensures looks { Spends 14 cursor.old cursor.new }
+{
+    let clocked = parse_clock(cursor, Clock::Offset)?;
+    cursor.close()?;
+    Ok(offset_from(sign, clocked))
+}
+
+/// Reads an offset, and wants the end.
+#[inline(always)]
+#[tactic(auto, unfolding(
+    crate::specs::reading::Zones::offset_at,
+    crate::specs::reading::Looks::next_by
+))]
+pub fn parse_offset_text<'a, T: EncodingType>(
+    cursor: &mut Cursor<'a, T>,
+) -> Result<UtcOffsetRecord, Stop>
+    ensures offset {
+        Reads T.letter (λ offset. offset) cursor.old result cursor.new (offset_at error_of)
+    }
+    ensures looks { Spends 15 cursor.old cursor.new }
+{
+    match cursor.look()? {
+        None => Err(Stop::AbruptOffset),
+        Some(byte) if is_ascii_sign(byte) => {
+            cursor.step();
+            parse_offset_alone(cursor, byte)
+        }
+        Some(_) => Err(Stop::OffsetNeedsSign),
+    }
+}

@@ -1,0 +1,94 @@
+//! Why a reading stopped, in one byte.
+
+ghost use Rattle.std.specs.Prelude.{◌≡◌};
+ghost use Rattle.ixdtf.specs.table.Faults.{fault_of};
+ghost use Rattle.ixdtf.specs.reading.Clauses.{fault_of_stop};
+
+use crate::error::ParseError;
+
+/// Why a reading stopped: an error that a reader returns, with `AbruptEnd` once for each location. It takes one byte,
+/// and the error is made of it only where a public reader returns.
+#[derive(Clone, Copy)]
+pub enum Stop {
+    NonAsciiCodePoint,
+    AbruptDigit,
+    AbruptDate,
+    AbruptBracket,
+    AbruptOffset,
+    AbruptZone,
+    InvalidEnd,
+    InvalidMonthRange,
+    InvalidDayRange,
+    DateYear,
+    DateExtendedYear,
+    DateMonth,
+    DateDay,
+    TimeHour,
+    TimeMinuteSecond,
+    TimeSecond,
+    FractionPart,
+    DateSeparator,
+    TimeSeparator,
+    AnnotationClose,
+    AnnotationKeyValueSeparator,
+    AnnotationKeyLeadingChar,
+    AnnotationKeyChar,
+    AnnotationValueCharPostHyphen,
+    AnnotationValueChar,
+    InvalidMinutePrecisionOffset,
+    CriticalDuplicateCalendar,
+    UnrecognizedCritical,
+    TzLeadingChar,
+    IanaCharPostSeparator,
+    IanaChar,
+    UtcTimeSeparator,
+    OffsetNeedsSign,
+}
+
+impl Stop {
+    /// The error of it.
+    #[cold]
+    #[inline(never)]
+    #[rattlefmt::skip]
+    pub fn error<'s>(self) -> ParseError<'s>
+        ensures { fault_of result ≡ fault_of_stop self }
+    {
+        match self {
+            Stop::NonAsciiCodePoint => ParseError::NonAsciiCodePoint,
+            Stop::AbruptDigit => ParseError::AbruptEnd { location: "digit" },
+            Stop::AbruptDate => ParseError::AbruptEnd { location: "Date" },
+            Stop::AbruptBracket => ParseError::AbruptEnd { location: "AmbiguousAnnotation" },
+            Stop::AbruptOffset => ParseError::AbruptEnd { location: "time-numoffset" },
+            Stop::AbruptZone => ParseError::AbruptEnd { location: "TimeZoneAnnotation" },
+            Stop::InvalidEnd => ParseError::InvalidEnd,
+            Stop::InvalidMonthRange => ParseError::InvalidMonthRange,
+            Stop::InvalidDayRange => ParseError::InvalidDayRange,
+            Stop::DateYear => ParseError::DateYear,
+            Stop::DateExtendedYear => ParseError::DateExtendedYear,
+            Stop::DateMonth => ParseError::DateMonth,
+            Stop::DateDay => ParseError::DateDay,
+            Stop::TimeHour => ParseError::TimeHour,
+            Stop::TimeMinuteSecond => ParseError::TimeMinuteSecond,
+            Stop::TimeSecond => ParseError::TimeSecond,
+            Stop::FractionPart => ParseError::FractionPart,
+            Stop::DateSeparator => ParseError::DateSeparator,
+            Stop::TimeSeparator => ParseError::TimeSeparator,
+            Stop::AnnotationClose => ParseError::AnnotationClose,
+            Stop::AnnotationKeyValueSeparator => ParseError::AnnotationKeyValueSeparator,
+            Stop::AnnotationKeyLeadingChar => ParseError::AnnotationKeyLeadingChar,
+            Stop::AnnotationKeyChar => ParseError::AnnotationKeyChar,
+            Stop::AnnotationValueCharPostHyphen => ParseError::AnnotationValueCharPostHyphen,
+            Stop::AnnotationValueChar => ParseError::AnnotationValueChar,
+            Stop::InvalidMinutePrecisionOffset => ParseError::InvalidMinutePrecisionOffset,
+            Stop::CriticalDuplicateCalendar => ParseError::CriticalDuplicateCalendar,
+            Stop::UnrecognizedCritical => ParseError::UnrecognizedCritical,
+            Stop::TzLeadingChar => ParseError::TzLeadingChar,
+            Stop::IanaCharPostSeparator => ParseError::IanaCharPostSeparator,
+            Stop::IanaChar => ParseError::IanaChar,
+            Stop::UtcTimeSeparator => ParseError::UtcTimeSeparator,
+            Stop::OffsetNeedsSign => ParseError::OffsetNeedsSign,
+        }
+    }
+}
+
+const _: () = prove!(size_of::<Stop>() == 1);
