@@ -6,3 +6,5 @@ pub mod Offsets
 pub mod Zones
 pub mod FirstBracket
 pub mod Pairs
+pub mod Replies
+pub mod Handlers
