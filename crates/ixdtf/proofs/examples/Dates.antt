@@ -1,13 +1,13 @@
 -- Dates and the lines of dates, computed.
-use Rattle.std.proofs.Common.{◌≡◌, List, [], ◌∷◌, ◌++◌, map, codes, ℤ, pos, neg_ℤ, refl}
+use Rattle.std.proofs.Common.{List, [], ◌∷◌, ◌++◌, map, codes, pos, neg_ℤ, refl}
 use Rattle.ixdtf.specs.language.Readers.{parse}
 use Rattle.ixdtf.specs.table.Faults.Fault.{NonAsciiCodePoint, InvalidEnd, InvalidMonthRange, InvalidDayRange, DateYear, DateExtendedYear, DateMonth, DateDay, DateSeparator}
-use Rattle.ixdtf.specs.table.LineNames.{DateLine, LineName, of_date}
+use Rattle.ixdtf.specs.table.LineNames.{LineName, of_date}
 use Rattle.ixdtf.specs.table.LineNames.DateLine.{year_start, year_digits, extended_year_digits, minus_zero_year, after_year, month_digits, month_range, after_hyphened_month, after_plain_month, day_digits, day_range, after_date}
 use Rattle.ixdtf.specs.table.Lines.{abrupt_digit, abrupt_date}
 use Rattle.ixdtf.specs.language.Letters.Letter.{Bad}
 use Rattle.ixdtf.specs.table.Rows.Place.{bad, anywhere}
-use Rattle.ixdtf.proofs.examples.Helpers.{all_readings, parsing, date, Example, Compute, ends, goes_off, meets_bad, stands, one, two, three, ShowEachRow, gives, stops, text_of, and_bad}
+use Rattle.ixdtf.proofs.examples.Helpers.{all_readings, date, Example, Compute, ends, goes_off, meets_bad, stands, one, two, three, ShowEachRow, gives, stops, text_of, and_bad}
 
 -- ---- each row of the lines of dates, in `parse`
 

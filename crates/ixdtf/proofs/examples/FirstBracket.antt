@@ -1,14 +1,12 @@
 -- The first bracket of a text and the lines of brackets, computed.
 use Rattle.ixdtf.specs.table.Rows.{other}
-use Rattle.std.proofs.Common.{◌≡◌, ℕ, Bool, true, false, List, [], ◌∷◌, ◌++◌, codes, Some, None, refl}
+use Rattle.std.proofs.Common.{true, false, List, [], ◌∷◌, ◌++◌, codes, Some, None, refl}
 use Rattle.ixdtf.specs.declared.records.Sign.TheVariants.{Negative}
 use Rattle.ixdtf.specs.declared.records.UtcOffsetRecord.TheVariants.{MinutePrecision}
 use Rattle.ixdtf.specs.declared.records.UtcOffsetRecordOrZ.TheVariants.{Offset, Z}
 use Rattle.ixdtf.specs.language.Times.Clock.{MinuteOffset}
-use Rattle.ixdtf.specs.language.Letters.Letter.{Bad}
 use Rattle.ixdtf.specs.language.Readers.{parse}
 use Rattle.ixdtf.specs.table.Faults.Fault.{NonAsciiCodePoint, InvalidEnd, TzLeadingChar, TimeHour, IanaChar, AnnotationValueChar, AnnotationKeyChar}
-use Rattle.ixdtf.specs.table.LineNames.{LineName}
 use Rattle.ixdtf.specs.table.LineNames.LineName.{of_bracket, of_clock, of_zone, of_pair}
 use Rattle.ixdtf.specs.table.LineNames.ClockLine.{hour_start}
 use Rattle.ixdtf.specs.table.LineNames.ZoneLine.{in_zone_name}

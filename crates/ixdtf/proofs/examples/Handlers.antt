@@ -1,10 +1,10 @@
 -- Texts with pairs, and what they and the replies to the pairs give.
-use Rattle.std.proofs.Common.{◌≡◌, ◌⊎◌, ℕ, Bool, true, false, List, [], ◌∷◌, ◌++◌, codes, Option, Some, None, pos, refl, inl, inr}
+use Rattle.std.proofs.Common.{◌≡◌, ℕ, Bool, true, false, List, [], ◌∷◌, codes, Some, None, pos, refl, inl, inr}
 use Rattle.ixdtf.specs.declared.records.Sign.TheVariants.{Positive, Negative}
 use Rattle.ixdtf.specs.declared.records.UtcOffsetRecord.TheVariants.{MinutePrecision, FullPrecisionOffset}
 use Rattle.ixdtf.specs.declared.records.UtcOffsetRecordOrZ.TheVariants.{Offset}
-use Rattle.ixdtf.specs.Handlers.{Reply, calendar_key, first_calendar, NoneRefused, LastRefused, with_calendar, GivesRecord, GivesFault, own_replies, PlainRecord, PlainFault}
-use Rattle.ixdtf.specs.language.Brackets.{Pair, ZoneNote}
+use Rattle.ixdtf.specs.Handlers.{calendar_key, first_calendar, NoneRefused, LastRefused, with_calendar, GivesRecord, GivesFault, own_replies, PlainRecord, PlainFault}
+use Rattle.ixdtf.specs.language.Brackets.{Pair}
 use Rattle.ixdtf.specs.language.Cores.{core_of}
 use Rattle.ixdtf.specs.language.Readers.{parse}
 use Rattle.ixdtf.specs.language.Languages.{Parsed, parsed_with}

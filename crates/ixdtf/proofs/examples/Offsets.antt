@@ -1,5 +1,5 @@
 -- Offsets, with seconds and without, and the lines of offsets, computed.
-use Rattle.std.proofs.Common.{◌≡◌, ℕ, Bool, true, false, List, [], ◌∷◌, ◌++◌, map, codes, Option, Some, None, pos, refl}
+use Rattle.std.proofs.Common.{ℕ, Bool, true, false, List, [], ◌∷◌, ◌++◌, map, codes, Option, Some, None, refl}
 use Rattle.ixdtf.specs.declared.records.Sign.{Sign}
 use Rattle.ixdtf.specs.declared.records.Sign.TheVariants.{Positive, Negative}
 use Rattle.ixdtf.specs.declared.records.UtcOffsetRecord.{UtcOffsetRecord}
@@ -21,7 +21,6 @@ use Rattle.ixdtf.specs.table.Lines.{abrupt_digit, abrupt_offset}
 use Rattle.ixdtf.specs.table.Rows.Place.{anywhere}
 use Rattle.ixdtf.specs.table.Outcomes.{Outcome}
 use Rattle.ixdtf.specs.table.Outcomes.Outcome.{derived}
-use Rattle.ixdtf.specs.reading.Dates.{date_of}
 use Rattle.ixdtf.specs.reading.Times.{time_of}
 use Rattle.ixdtf.proofs.examples.Helpers.{all_readings, and_bad, morning, new_years_day, with, Example, Compute, gives, ends, goes_off, meets_bad, stands, stops, one, two, three, ShowEachRow}
 

@@ -1,9 +1,9 @@
 -- From the outcome of a text and a test of replies to what the text and the replies give.
-use Rattle.std.proofs.Common.{◌≡◌, ◌≢◌, ◌⊎◌, ℕ, nat_eq, Bool, true, false, not, ◌&&◌, ◌||◌, IsTrue, List, [], ◌∷◌, ◌++◌, codes, Option, Some, None, pos, refl, sym, ◌∙◌, ap, subst, inl, inr, append_assoc, append-nil, Ok, Err}
+use Rattle.std.proofs.Common.{◌≡◌, ◌≢◌, ◌⊎◌, ℕ, nat_eq, Bool, true, false, not, ◌&&◌, ◌||◌, IsTrue, List, [], ◌∷◌, ◌++◌, Option, Some, None, refl, sym, ◌∙◌, ap, subst, inl, inr, append_assoc, append-nil, Ok, Err}
 use Rattle.std.specs.Cmp.Lexicographic.{pointwise, same_text}
 use Rattle.std.proofs.lemmas.Cmp.{nat_list_eq_equiv}
 use Rattle.std.proofs.lemmas.Bool.{and_parts, false_from_ne_true}
-use Rattle.ixdtf.specs.Handlers.{Reply, calendar_key, is_calendar, first_calendar, RefusedBeside, NoneRefused, LastRefused, calendar_value, with_calendar, GivesRecord, GivesFault, own_replies, PlainRecord, PlainFault}
+use Rattle.ixdtf.specs.Handlers.{Reply, calendar_key, is_calendar, first_calendar, RefusedBeside, NoneRefused, calendar_value, with_calendar, GivesRecord, GivesFault, own_replies, PlainRecord}
 use Rattle.ixdtf.specs.language.Letters.{Text}
 use Rattle.ixdtf.specs.language.Brackets.{Pair}
 use Rattle.ixdtf.specs.language.Readers.{Reader, parse}
@@ -18,7 +18,7 @@ use Rattle.ixdtf.specs.reading.Looks.{Read}
 use Rattle.ixdtf.specs.reading.Wholes.{RowBehind, row_behind, read_at, outcome_of, outcome}
 use Rattle.ixdtf.proofs.code.OneMoreReply.{NoneRefused-nothing, NoneRefused-more, neither_refused}
 use Rattle.ixdtf.proofs.to_grammar.Wholes.{OnWhole, whole_read}
-use Rattle.ixdtf.proofs.examples.Helpers.{all_readings, text_of, parsing, tagged}
+use Rattle.ixdtf.proofs.examples.Helpers.{text_of, parsing}
 
 -- ---- replies that are accepted, by a test
 

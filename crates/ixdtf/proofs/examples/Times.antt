@@ -1,8 +1,7 @@
 -- Times after a date and a separator, and the lines of times, computed.
-use Rattle.std.proofs.Common.{◌≡◌, ℕ, List, [], ◌∷◌, ◌++◌, map, codes, Some, None, pos, refl}
+use Rattle.std.proofs.Common.{ℕ, List, [], ◌∷◌, ◌++◌, map, codes, Some, None, pos, refl}
 use Rattle.ixdtf.specs.language.Times.Clock.{Time}
 use Rattle.ixdtf.specs.language.Readers.{parse}
-use Rattle.ixdtf.specs.language.Fractions.{FractionParts}
 use Rattle.ixdtf.specs.table.Faults.Fault.{InvalidEnd, TimeHour, TimeMinuteSecond, TimeSecond, TimeSeparator, FractionPart}
 use Rattle.ixdtf.specs.table.LineNames.{ClockLine, LineName}
 use Rattle.ixdtf.specs.table.LineNames.LineName.{of_clock}

@@ -1,11 +1,10 @@
 -- Names of time zones and their lines, computed.
-use Rattle.std.proofs.Common.{◌≡◌, ℕ, Bool, true, false, List, [], ◌∷◌, ◌++◌, codes, None, refl}
+use Rattle.std.proofs.Common.{true, false, List, [], ◌∷◌, ◌++◌, codes, None, refl}
 use Rattle.ixdtf.specs.language.ZoneNames.Zone.{Name}
 use Rattle.ixdtf.specs.language.Readers.{parse}
 use Rattle.ixdtf.specs.language.Readers.Reader.{parse_identifier, parse_iana_identifier}
 use Rattle.ixdtf.specs.language.Languages.Found.{identified, named}
 use Rattle.ixdtf.specs.table.Faults.Fault.{InvalidEnd, TzLeadingChar, IanaChar, IanaCharPostSeparator, AnnotationClose}
-use Rattle.ixdtf.specs.table.LineNames.{LineName}
 use Rattle.ixdtf.specs.table.LineNames.LineName.{of_zone}
 use Rattle.ixdtf.specs.table.LineNames.ZoneLine.{identifier_start, zone_name_start, in_zone_name, after_zone_slash}
 use Rattle.ixdtf.specs.table.Lines.{abrupt_zone}
