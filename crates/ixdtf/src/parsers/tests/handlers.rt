@@ -1,8 +1,10 @@
 use super::{AT_DIGIT, dated, morning, short};
-use crate::ParseError;
+use crate::encoding::Utf8;
 use crate::laws::parse_unanswered;
 use crate::parsers::IxdtfParser;
-use crate::records::{Annotation, Sign, UtcOffsetRecordOrZ};
+use crate::records::{Annotation, DateRecord, Sign, UtcOffsetRecordOrZ};
+use crate::{ParseError, ParserResult, error};
+use std::test::Fail;
 
 #[test]
 fn asks_as_far_as_the_first_refusal(rt: HostRuntime) {
@@ -109,6 +111,71 @@ fn keeps_pairs_that_it_refused(rt: HostRuntime) {
     assert_eq!(rt; third, Ok(dated(2020, 1, 1, None)));
     let fourth = parser.parse();
     assert_eq!(rt; fourth, Err(AT_DIGIT));
+}
+
+// The calendar of a text with the handler of a caller, of whatever type it is. An error is handed on.
+fn calendar_of<'a, 's, F>(
+    text: &'a str,
+    handler: F,
+) -> Result<Option<&'a [u8]>, error::ParseError<'s>>
+where
+    F: FnMut(Annotation<'a, Utf8>) -> Option<Annotation<'a, Utf8>>,
+    requires callable { F.IsAlwaysCallable handler }
+{
+    let mut parser = IxdtfParser::from_str(text);
+    let record = parser.parse_with_annotation_handler(handler)?;
+    Ok(record.calendar)
+}
+
+#[test]
+fn takes_the_handler_of_a_caller(rt: HostRuntime) {
+    let text = "2020-01-01[u-ca=a][!c=d]";
+    let mut calls = 0u32;
+    let found = calendar_of(text, |annotation| {
+        calls = calls.saturating_add(1);
+        if annotation.critical {
+            None
+        } else {
+            Some(annotation)
+        }
+    });
+    assert_eq!(rt; found, Ok(Some(b"a".as_slice())));
+    assert_eq!(rt; calls, 2);
+    let refused = calendar_of(text, |annotation| Some(annotation));
+    assert_eq!(rt; refused, Err(ParseError::UnrecognizedCritical));
+}
+
+// The date of a text whose annotations are all passed over, as a result of the crate.
+fn date_of(text: &'static str) -> ParserResult<Option<DateRecord>> {
+    let mut parser = IxdtfParser::from_str(text);
+    let record = parser.parse_with_annotation_handler(|_annotation| None)?;
+    Ok(record.date)
+}
+
+#[test]
+fn hands_an_error_on(rt: HostRuntime) -> Result<(), Fail> {
+    let date = date_of("2020-01-02[!c=d]")?;
+    let wanted = DateRecord {
+        year: 2020,
+        month: 1,
+        day: 2,
+    };
+    assert_eq!(rt; date, Some(wanted));
+    assert_eq!(rt; date_of("2020-01-02[!c=d"), Err(ParseError::AnnotationClose));
+    Ok(())
+}
+
+#[test]
+fn may_be_discarded(rt: HostRuntime) {
+    let mut parser = IxdtfParser::from_str("2020-01-01[a=b][!c=d]");
+    let mut calls = 0u32;
+    let _ = parser.parse_with_annotation_handler(|annotation| {
+        calls = calls.saturating_add(1);
+        Some(annotation)
+    });
+    assert_eq!(rt; calls, 2);
+    let _ = parser.parse_with_annotation_handler(|_annotation| None);
+    assert_eq!(rt; parser.parse(), Err(AT_DIGIT));
 }
 
 #[test]
