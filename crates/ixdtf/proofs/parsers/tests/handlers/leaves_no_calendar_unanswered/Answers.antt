@@ -1,6 +1,6 @@
 use Rattle.std.proofs.Common.{rules}
 use denote.Param.Always.{mut_total}
-use Rattle.ixdtf.proofs.parsers.tests.leaves_no_calendar_unanswered.Goals as goal
+use Rattle.ixdtf.proofs.parsers.tests.handlers.leaves_no_calendar_unanswered.Goals as goal
 
 -- the handler may always be called, and replies none
 pub parse_unanswered-found-requires : goal.parse_unanswered-found-requires

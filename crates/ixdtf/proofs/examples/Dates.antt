@@ -1,0 +1,129 @@
+-- Dates and the lines of dates, computed.
+use Rattle.std.proofs.Common.{List, [], ◌∷◌, ◌++◌, map, codes, pos, neg_ℤ, refl}
+use Rattle.ixdtf.specs.language.Readers.{parse}
+use Rattle.ixdtf.specs.table.Faults.Fault.{NonAsciiCodePoint, InvalidEnd, InvalidMonthRange, InvalidDayRange, DateYear, DateExtendedYear, DateMonth, DateDay, DateSeparator}
+use Rattle.ixdtf.specs.table.LineNames.{LineName, of_date}
+use Rattle.ixdtf.specs.table.LineNames.DateLine.{year_start, year_digits, extended_year_digits, minus_zero_year, after_year, month_digits, month_range, after_hyphened_month, after_plain_month, day_digits, day_range, after_date}
+use Rattle.ixdtf.specs.table.Lines.{abrupt_digit, abrupt_date}
+use Rattle.ixdtf.specs.language.Letters.Letter.{Bad}
+use Rattle.ixdtf.specs.table.Rows.Place.{bad, anywhere}
+use Rattle.ixdtf.proofs.examples.Helpers.{all_readings, date, Example, Compute, ends, goes_off, meets_bad, stands, one, two, three, ShowEachRow, gives, stops, text_of, and_bad}
+
+-- ---- each row of the lines of dates, in `parse`
+
+abbrev date_lines : List LineName
+date_lines =
+    map of_date (year_start ∷ year_digits ∷ extended_year_digits ∷ minus_zero_year ∷ after_year ∷ month_digits ∷ month_range
+    ∷ after_hyphened_month ∷ after_plain_month ∷ day_digits ∷ day_range ∷ after_date ∷ [])
+
+abbrev date_rows : List Example
+date_rows =
+    three (of_date year_start) [] abrupt_digit (codes "x") DateYear
+    ++ three (of_date year_digits) (codes "202") abrupt_digit (codes "x") DateYear
+    ++ three (of_date extended_year_digits) (codes "+00202") abrupt_digit (codes "x") DateExtendedYear
+    ++ one (of_date minus_zero_year) (codes "-000000") DateExtendedYear
+    ++ three (of_date after_year) (codes "2020") abrupt_date (codes "x") DateMonth
+    ++ three (of_date month_digits) (codes "2020-") abrupt_digit (codes "x") DateMonth
+    ++ one (of_date month_range) (codes "2020-13") InvalidMonthRange
+    ++ three (of_date after_hyphened_month) (codes "2020-01") DateSeparator (codes "x") DateSeparator
+    ++ three (of_date after_plain_month) (codes "202001") abrupt_digit (codes "x") DateDay
+    ++ three (of_date day_digits) (codes "2020-01-") abrupt_digit (codes "x") DateDay
+    ++ one (of_date day_range) (codes "2020-02-30") InvalidDayRange
+    ++ two (of_date after_date) (codes "2020-01-01") (codes "x") InvalidEnd
+
+each_row_of_dates : ShowEachRow parse date_lines date_rows
+unfolding all_readings
+each_row_of_dates = (refl, refl)
+
+-- ---- dates
+
+dates : Compute parse (
+    gives (codes "20201108") (date (pos 2020) 11 8)
+    ∷ gives (codes "2020-11-08") (date (pos 2020) 11 8)
+    ∷ gives (codes "2024-03-02") (date (pos 2024) 3 2)
+    ∷ gives (codes "20240302") (date (pos 2024) 3 2)
+    ∷ gives (codes "+002024-03-02") (date (pos 2024) 3 2)
+    ∷ gives (codes "+0020240302") (date (pos 2024) 3 2)
+    ∷ gives (codes "-002020-11-08") (date (neg_ℤ (pos 2020)) 11 8)
+    ∷ gives (codes "+000000-02-29") (date (pos 0) 2 29)
+    ∷ gives (codes "-000400-02-29") (date (neg_ℤ (pos 400)) 2 29)
+    ∷ gives (codes "+999999-12-31") (date (pos 999999) 12 31)
+    ∷ gives (codes "-999999-01-01") (date (neg_ℤ (pos 999999)) 1 1)
+    ∷ [])
+unfolding all_readings
+dates = refl
+
+-- ---- texts that are no date
+
+-- in a year
+no_year : Compute parse (
+    ends (codes "2") (of_date year_digits) abrupt_digit
+    ∷ ends (codes "20") (of_date year_digits) abrupt_digit
+    ∷ goes_off (codes "20-06-05") (of_date year_digits) DateYear
+    ∷ ends (codes "+") (of_date extended_year_digits) abrupt_digit
+    ∷ ends (codes "-00000") (of_date extended_year_digits) abrupt_digit
+    ∷ goes_off (codes "-P12Y") (of_date extended_year_digits) DateExtendedYear
+    ∷ stands (codes "-000000-11-08") (of_date minus_zero_year) DateExtendedYear
+    ∷ [])
+unfolding all_readings
+no_year = refl
+
+-- in a month
+no_month : Compute parse (
+    goes_off (codes "02020-01-01") (of_date month_digits) DateMonth
+    ∷ goes_off (codes "2020-W01-1") (of_date month_digits) DateMonth
+    ∷ goes_off (codes "-1000000-11-08") (of_date month_digits) DateMonth
+    ∷ ends (codes "2020-0") (of_date month_digits) abrupt_digit
+    ∷ ends (codes "20200") (of_date month_digits) abrupt_digit
+    ∷ meets_bad (codes "2020-0") (of_date month_digits)
+    ∷ meets_bad (codes "20200") (of_date month_digits)
+    ∷ stands (codes "2020-001") (of_date month_range) InvalidMonthRange
+    ∷ stands (codes "202000") (of_date month_range) InvalidMonthRange
+    ∷ stands (codes "2020-13-01") (of_date month_range) InvalidMonthRange
+    ∷ stands (codes "2020-13x") (of_date month_range) InvalidMonthRange
+    ∷ [])
+unfolding all_readings
+no_month = refl
+
+-- in a day, and after it
+no_day : Compute parse (
+    goes_off (codes "2020-0101") (of_date after_hyphened_month) DateSeparator
+    ∷ goes_off (codes "202206-05") (of_date after_plain_month) DateSeparator
+    ∷ ends (codes "2020010") (of_date day_digits) abrupt_digit
+    ∷ ends (codes "2020-01-0") (of_date day_digits) abrupt_digit
+    ∷ goes_off (codes "2020010x") (of_date day_digits) DateDay
+    ∷ goes_off (codes "2020-01-0x") (of_date day_digits) DateDay
+    ∷ meets_bad (codes "2020010") (of_date day_digits)
+    ∷ meets_bad (codes "2020-01-0") (of_date day_digits)
+    ∷ stands (codes "2020-01-001") (of_date day_range) InvalidDayRange
+    ∷ stands (codes "20200132") (of_date day_range) InvalidDayRange
+    ∷ stands (codes "2020-04-31") (of_date day_range) InvalidDayRange
+    ∷ stands (codes "2021-02-29") (of_date day_range) InvalidDayRange
+    ∷ stands (codes "-000100-02-29") (of_date day_range) InvalidDayRange
+    ∷ goes_off (codes "+10000001108") (of_date after_date) InvalidEnd
+    ∷ goes_off (codes "2020-01-01+05:00") (of_date after_date) InvalidEnd
+    ∷ goes_off (codes "2020-01-01Z") (of_date after_date) InvalidEnd
+    ∷ [])
+unfolding all_readings
+no_day = refl
+
+-- ---- units that stand for no letter, and the mask, which has 128 in their place
+
+bad_in_dates : Compute parse (
+    (Bad ∷ text_of (codes "020-01-01"), stops (of_date year_start) bad NonAsciiCodePoint)
+    ∷ (and_bad (codes "2020-13-01"), stops (of_date month_range) anywhere InvalidMonthRange)
+    ∷ (and_bad (codes "2020-02-30"), stops (of_date day_range) anywhere InvalidDayRange)
+    ∷ (and_bad (codes "-000000"), stops (of_date minus_zero_year) anywhere DateExtendedYear)
+    ∷ [])
+unfolding all_readings
+bad_in_dates = refl
+
+masked_dates : Compute parse (
+    goes_off (128 ∷ codes "020-01-01") (of_date year_start) DateYear
+    ∷ stands (codes "2020-13-01" ++ (128 ∷ [])) (of_date month_range) InvalidMonthRange
+    ∷ goes_off (codes "2020-01-01" ++ (128 ∷ [])) (of_date after_date) InvalidEnd
+    -- `é` in UTF-8
+    ∷ goes_off (codes "2020-01-01" ++ (195 ∷ 169 ∷ [])) (of_date after_date) InvalidEnd
+    ∷ [])
+unfolding all_readings
+masked_dates = refl

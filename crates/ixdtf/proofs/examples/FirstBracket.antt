@@ -1,0 +1,92 @@
+-- The first bracket of a text and the lines of brackets, computed.
+use Rattle.ixdtf.specs.table.Rows.{other}
+use Rattle.std.proofs.Common.{true, false, List, [], ◌∷◌, ◌++◌, codes, Some, None, refl}
+use Rattle.ixdtf.specs.declared.records.Sign.TheVariants.{Negative}
+use Rattle.ixdtf.specs.declared.records.UtcOffsetRecord.TheVariants.{MinutePrecision}
+use Rattle.ixdtf.specs.declared.records.UtcOffsetRecordOrZ.TheVariants.{Offset, Z}
+use Rattle.ixdtf.specs.language.Times.Clock.{MinuteOffset}
+use Rattle.ixdtf.specs.language.Readers.{parse}
+use Rattle.ixdtf.specs.table.Faults.Fault.{NonAsciiCodePoint, InvalidEnd, TzLeadingChar, TimeHour, IanaChar, AnnotationValueChar, AnnotationKeyChar}
+use Rattle.ixdtf.specs.table.LineNames.LineName.{of_bracket, of_clock, of_zone, of_pair}
+use Rattle.ixdtf.specs.table.LineNames.ClockLine.{hour_start}
+use Rattle.ixdtf.specs.table.LineNames.ZoneLine.{in_zone_name}
+use Rattle.ixdtf.specs.table.LineNames.PairLine.{in_key, value_start}
+use Rattle.ixdtf.specs.table.LineNames.BracketLine.{first_bracket_start, first_critical_start, first_bracket_scan, after_bracket}
+use Rattle.ixdtf.specs.table.Lines.{abrupt_bracket}
+use Rattle.ixdtf.specs.table.Rows.Place.{bad}
+use Rattle.ixdtf.proofs.examples.Helpers.{all_readings, text_of, and_bad, morning, zone_named, tagged, annotated, Example, Compute, gives, ends, goes_off, meets_bad, stops, stops_after, two, three, ShowEachRow}
+
+-- ---- each row of the lines of brackets
+
+-- `first_bracket_scan` goes on with any letter, so it has no row for another one.
+abbrev bracket_rows : List Example
+bracket_rows =
+    three (of_bracket first_bracket_start) (codes "2020-01-01[") abrupt_bracket (codes "]") TzLeadingChar
+    ++ three (of_bracket first_critical_start) (codes "2020-01-01[!") abrupt_bracket (codes "!") TzLeadingChar
+    ++ ends (codes "2020-01-01[cet") (of_bracket first_bracket_scan) abrupt_bracket
+    ∷ meets_bad (codes "2020-01-01[cet") (of_bracket first_bracket_scan)
+    ∷ two (of_bracket after_bracket) (codes "2020-01-01[UTC]") (codes "x") InvalidEnd
+
+each_row_of_brackets : ShowEachRow parse
+    (of_bracket first_bracket_start ∷ of_bracket first_critical_start ∷ of_bracket first_bracket_scan ∷ of_bracket after_bracket ∷ [])
+    bracket_rows
+unfolding all_readings
+each_row_of_brackets = (refl, refl)
+
+-- ---- a time, an offset and a first bracket
+
+brackets : Compute parse (
+    gives (codes "2020-01-01[cet]") (annotated (zone_named false (codes "cet")) [])
+    ∷ gives (codes "2024-03-02T08:48:00-05:00[America/New_York]")
+        (morning (Some (Offset (MinutePrecision (record { sign = Negative; hour = 5; minute = 0 })))) (zone_named false (codes "America/New_York")))
+    ∷ gives (codes "2024-03-02T08:48:00Z[!America/New_York]") (morning (Some Z) (zone_named true (codes "America/New_York")))
+    ∷ gives (codes "2020-01-01[u=u]") (annotated None (tagged false (codes "u") (codes "u") ∷ []))
+    ∷ [])
+unfolding all_readings
+brackets = refl
+
+-- ---- whether a first bracket is a zone or a pair
+
+-- what begins as a key may, with no `=` and no `]` before the end, or before a unit that stands for no letter
+open_brackets : Compute parse (
+    ends (codes "2020-01-01[!cet") (of_bracket first_bracket_scan) abrupt_bracket
+    ∷ ends (codes "2020-01-01[a!") (of_bracket first_bracket_scan) abrupt_bracket
+    ∷ meets_bad (codes "2020-01-01[a!") (of_bracket first_bracket_scan)
+    ∷ meets_bad (codes "2020-01-01[!a") (of_bracket first_bracket_scan)
+    ∷ (and_bad (codes "2020-01-01[cet!") ++ text_of (codes "]"), stops (of_bracket first_bracket_scan) bad NonAsciiCodePoint)
+    ∷ (and_bad (codes "2020-01-01[a") ++ text_of (codes "=b]"), stops (of_bracket first_bracket_scan) bad NonAsciiCodePoint)
+    ∷ [])
+unfolding all_readings
+open_brackets = refl
+
+-- with a `]` first it is a name, and with a `=` first a key
+told_brackets : Compute parse (
+    goes_off (codes "2020-01-01[a!]=") (of_zone in_zone_name) IanaChar
+    ∷ goes_off (codes "2020-01-01[a!=]") (of_pair in_key) AnnotationKeyChar
+    ∷ (and_bad (codes "2020-01-01[a!]"), stops (of_zone in_zone_name) other IanaChar)
+    ∷ (and_bad (codes "2020-01-01[a=!"), stops (of_pair value_start) other AnnotationValueChar)
+    ∷ (and_bad (codes "2020-01-01[A!"), stops (of_zone in_zone_name) other IanaChar)
+    ∷ [])
+unfolding all_readings
+told_brackets = refl
+
+-- ---- texts with another bracket
+
+no_bracket : Compute parse (
+    goes_off (codes "2020-01-01[!]") (of_bracket first_critical_start) TzLeadingChar
+    ∷ goes_off (codes "2020-01-01[!!UTC]") (of_bracket first_critical_start) TzLeadingChar
+    ∷ goes_off (codes "2020-01-01[1]") (of_bracket first_bracket_start) TzLeadingChar
+    ∷ goes_off (codes "2020-01-01[=a]") (of_bracket first_bracket_start) TzLeadingChar
+    ∷ goes_off (codes "2020-01-01[+]") (of_clock MinuteOffset hour_start) TimeHour
+    ∷ goes_off (codes "2020-01-01T00:00:00+00:00[UTC]junk") (of_bracket after_bracket) InvalidEnd
+    ∷ [])
+unfolding all_readings
+no_bracket = refl
+
+-- after a bracket with a pair
+after_a_pair : Compute parse (
+    (text_of (codes "2020-01-01[a=b]junk"), stops_after (tagged false (codes "a") (codes "b") ∷ []) (of_bracket after_bracket) other InvalidEnd)
+    ∷ (and_bad (codes "2020-01-01[a=b]"), stops_after (tagged false (codes "a") (codes "b") ∷ []) (of_bracket after_bracket) bad NonAsciiCodePoint)
+    ∷ [])
+unfolding all_readings
+after_a_pair = refl

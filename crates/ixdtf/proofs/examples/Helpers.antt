@@ -1,0 +1,172 @@
+-- What the examples are written with.
+use Rattle.std.proofs.Common.{◌≡◌, ℕ, Bool, List, [], ◌∷◌, ◌++◌, map, Option, Some, None, ℤ, pos}
+use Rattle.ixdtf.specs.declared.records.DateRecord.{DateRecord}
+use Rattle.ixdtf.specs.declared.records.TimeRecord.{TimeRecord}
+use Rattle.ixdtf.specs.declared.records.UtcOffsetRecordOrZ.{UtcOffsetRecordOrZ}
+use Rattle.ixdtf.specs.language.Letters.{Text}
+use Rattle.ixdtf.specs.language.Letters.Letter.{Plain, Bad}
+use Rattle.ixdtf.specs.language.Fractions.{FractionParts}
+use Rattle.ixdtf.specs.language.ZoneNames.Zone.{Name}
+use Rattle.ixdtf.specs.language.Brackets.{Pair, ZoneNote}
+use Rattle.ixdtf.specs.language.Cores.{core_of}
+use Rattle.ixdtf.specs.language.Readers.{Reader, parse}
+use Rattle.ixdtf.specs.language.Languages.{parsed_with}
+use Rattle.ixdtf.specs.language.Languages.Found.{parsed}
+use Rattle.ixdtf.specs.table.Faults.{Fault}
+use Rattle.ixdtf.specs.table.Faults.Fault.{NonAsciiCodePoint}
+use Rattle.ixdtf.specs.table.LineNames.{LineName}
+use Rattle.ixdtf.specs.table.Lines.{Line, table}
+use Rattle.ixdtf.specs.table.Lines.Line.{line, scanned, whole}
+use Rattle.ixdtf.specs.table.Lines.Ending.{ok, error}
+use Rattle.ixdtf.specs.table.Rows.{Place}
+use Rattle.ixdtf.specs.table.Rows.Place.{end, other, bad, anywhere}
+use Rattle.ixdtf.specs.table.Outcomes.{Outcome}
+use Rattle.ixdtf.specs.table.Outcomes.Outcome.{derived, refused}
+use Rattle.ixdtf.specs.reading.Looks.{row_of, look_at, next_by, digits_by, peek_by, in_range, digit_run}
+use Rattle.ixdtf.specs.reading.Dates.{date_of, extended_year_at, plain_year_at, year_at, month_in_range, day_in_range, hyphened_day_at, after_hyphened_month_at, hyphened_date_at, plain_day_at, after_plain_month_at, plain_date_at, after_year_at, date_at}
+use Rattle.ixdtf.specs.reading.Times.{time_of, fraction_at, after_second_at, colon_second_at, plain_second_at, after_colon_minute_at, after_plain_minute_at, colon_minute_at, plain_minute_at, after_hour_at, hour_from, clock_at}
+use Rattle.ixdtf.specs.reading.Zones.{name_run, name_alone_at, iana_identifier_at, offset_alone_at, offset_at, minute_offset_alone_at, identifier_at}
+use Rattle.ixdtf.specs.reading.Pairs.{key_run, value_run, pair_at, critical_pair_at, later_pair_at, next_pair_at, pairs_at}
+use Rattle.ixdtf.specs.reading.Brackets.{sight_at, name_in_bracket_at, name_or_pair_at, offset_in_bracket_at, inside_at, critical_bracket_at, bracket_at}
+use Rattle.ixdtf.specs.reading.Cores.{core_end_at, offset_core_at, after_time_at, time_core_at, after_date_at, date_time_core_at}
+use Rattle.ixdtf.specs.reading.Wholes.{bracketed_at, annotated_at, bracketed_text_at, outcome}
+
+-- unfolding this unfolds every reading
+unfoldable pub all_readings : ℕ
+unfolding look_at next_by digits_by peek_by in_range digit_run extended_year_at plain_year_at year_at month_in_range day_in_range hyphened_day_at after_hyphened_month_at hyphened_date_at plain_day_at after_plain_month_at plain_date_at after_year_at date_at fraction_at after_second_at colon_second_at plain_second_at after_colon_minute_at after_plain_minute_at colon_minute_at plain_minute_at after_hour_at hour_from clock_at name_run name_alone_at iana_identifier_at offset_alone_at offset_at minute_offset_alone_at identifier_at sight_at name_in_bracket_at name_or_pair_at key_run value_run pair_at critical_pair_at later_pair_at next_pair_at pairs_at offset_in_bracket_at inside_at critical_bracket_at bracket_at core_end_at offset_core_at after_time_at time_core_at after_date_at date_time_core_at bracketed_at annotated_at bracketed_text_at
+all_readings = 0
+
+-- ---- texts and their outcomes
+
+-- the letters of a text of plain letters
+abbrev pub text_of : List ℕ → Text
+text_of units = map Plain units
+
+-- a text of plain letters, and Bad after it
+abbrev pub and_bad : List ℕ → Text
+and_bad units = text_of units ++ (Bad ∷ [])
+
+abbrev pub parsing : List ℕ → Outcome
+parsing units = outcome parse (text_of units)
+
+-- what stands before the brackets, and a zone where there is one
+abbrev pub with : DateRecord → Option TimeRecord → Option UtcOffsetRecordOrZ → Option ZoneNote → Outcome
+with day time offset zone = derived (parsed (parsed_with (core_of (Some day) time offset) zone)) []
+
+abbrev pub date : ℤ → ℕ → ℕ → Outcome
+date year month day = with (date_of year month day) None None None
+
+abbrev pub new_years_day : DateRecord
+new_years_day = date_of (pos 2020) 1 1
+
+-- 1 January 2020 at a time
+abbrev pub new_year : ℕ → ℕ → ℕ → Option FractionParts → Outcome
+new_year hour minute second fraction = with new_years_day (Some (time_of hour minute second fraction)) None None
+
+-- 2 March 2024 at 8:48
+abbrev pub morning : Option UtcOffsetRecordOrZ → Option ZoneNote → Outcome
+morning offset zone = with (date_of (pos 2024) 3 2) (Some (time_of 8 48 0 None)) offset zone
+
+abbrev pub zone_named : Bool → List ℕ → Option ZoneNote
+zone_named critical name = Some (record { critical = critical; zone = Name name })
+
+-- a pair, by its key and its value
+abbrev pub tagged : Bool → List ℕ → List ℕ → Pair
+tagged critical key value = record { critical = critical; key = key; value = value }
+
+-- 1 January 2020 with these pairs
+abbrev pub annotated : Option ZoneNote → List Pair → Outcome
+annotated zone pairs = derived (parsed (parsed_with (core_of (Some new_years_day) None None) zone)) pairs
+
+-- ---- tables of examples
+
+-- a text, and its outcome
+abbrev pub Example : Type 0
+Example = Text × Outcome
+
+-- the outcomes of the texts
+abbrev pub computed : Reader → List Example → List Outcome
+computed reader examples = map (λ example. outcome reader example.0) examples
+
+-- the outcomes that stand in the table
+abbrev pub expected : List Example → List Outcome
+expected examples = map (λ example. example.1) examples
+
+-- each text of the table has the outcome that stands beside it
+abbrev pub Compute : Reader → List Example → Type 0
+Compute reader examples = computed reader examples ≡ expected examples
+
+-- a row, with these whole pairs before it
+abbrev pub stops_after : List Pair → LineName → Place → Fault → Outcome
+stops_after pairs name place fault = refused (row_of name place fault) pairs
+
+abbrev pub stops : LineName → Place → Fault → Outcome
+stops name place fault = stops_after [] name place fault
+
+-- a text of plain letters, and what it is derived as
+abbrev pub gives : List ℕ → Outcome → Example
+gives units outcome = (text_of units, outcome)
+
+-- a text that ends there, and its row
+abbrev pub ends : List ℕ → LineName → Fault → Example
+ends front name fault = (text_of front, stops name end fault)
+
+-- a text with another letter there, and its row
+abbrev pub goes_off : List ℕ → LineName → Fault → Example
+goes_off front name fault = (text_of front, stops name other fault)
+
+-- a text that ends with Bad, and its row
+abbrev pub meets_bad : List ℕ → LineName → Example
+meets_bad front name = (and_bad front, stops name bad NonAsciiCodePoint)
+
+-- a text that begins with a front of a whole line, and its row
+abbrev pub stands : List ℕ → LineName → Fault → Example
+stands front name fault = (text_of front, stops name anywhere fault)
+
+-- The rows of a line where the text may end, after these pairs: a text with a front of the line, at another letter and at Bad.
+abbrev pub two_after : List Pair → LineName → List ℕ → List ℕ → Fault → List Example
+two_after pairs name front letter at_other =
+    (text_of (front ++ letter), stops_after pairs name other at_other)
+    ∷ ((and_bad front, stops_after pairs name bad NonAsciiCodePoint) ∷ [])
+
+-- The rows of a line where the text may not end, after these pairs: at the end, at another letter and at Bad.
+abbrev pub three_after : List Pair → LineName → List ℕ → Fault → List ℕ → Fault → List Example
+three_after pairs name front at_end letter at_other =
+    (text_of front, stops_after pairs name end at_end) ∷ two_after pairs name front letter at_other
+
+abbrev pub two : LineName → List ℕ → List ℕ → Fault → List Example
+two name front letter at_other = two_after [] name front letter at_other
+
+abbrev pub three : LineName → List ℕ → Fault → List ℕ → Fault → List Example
+three name front at_end letter at_other = three_after [] name front at_end letter at_other
+
+-- the row of a whole line
+abbrev pub one : LineName → List ℕ → Fault → List Example
+one name front fault = stands front name fault ∷ []
+
+-- ---- each row of the table
+
+-- the places at which a line has rows
+abbrev pub places_of : Line → List Place
+places_of (line front goes_on (error fault) at_other) = end ∷ (other ∷ (bad ∷ []))
+places_of (line front goes_on ok at_other) = other ∷ (bad ∷ [])
+places_of (scanned front fault) = end ∷ (bad ∷ [])
+places_of (whole front fault) = anywhere ∷ []
+
+-- the rows of these lines in a reader, each by its line and its place
+abbrev pub rows_of : Reader → List LineName → List (LineName × Place)
+rows_of reader [] = []
+rows_of reader (name ∷ names) = map (λ place. (name, place)) (places_of (table reader name)) ++ rows_of reader names
+
+abbrev pub row_shown : Outcome → List (LineName × Place)
+row_shown (derived found pairs) = []
+row_shown (refused row pairs) = (row.name, row.place) ∷ []
+
+-- the rows that a table of examples shows
+abbrev pub shown : List Example → List (LineName × Place)
+shown [] = []
+shown (example ∷ examples) = row_shown example.1 ++ shown examples
+
+-- The examples compute, and show each row of these lines in the reader.
+abbrev pub ShowEachRow : Reader → List LineName → List Example → Type 0
+ShowEachRow reader names examples = Compute reader examples × (shown examples ≡ rows_of reader names)

@@ -1,0 +1,251 @@
+-- Offsets, with seconds and without, and the lines of offsets, computed.
+use Rattle.std.proofs.Common.{ℕ, Bool, true, false, List, [], ◌∷◌, ◌++◌, map, codes, Option, Some, None, refl}
+use Rattle.ixdtf.specs.declared.records.Sign.{Sign}
+use Rattle.ixdtf.specs.declared.records.Sign.TheVariants.{Positive, Negative}
+use Rattle.ixdtf.specs.declared.records.UtcOffsetRecord.{UtcOffsetRecord}
+use Rattle.ixdtf.specs.declared.records.UtcOffsetRecord.TheVariants.{MinutePrecision, FullPrecisionOffset}
+use Rattle.ixdtf.specs.declared.records.UtcOffsetRecordOrZ.TheVariants.{Offset, Z}
+use Rattle.ixdtf.specs.language.Times.Clock.{Offset as OffsetClock, MinuteOffset}
+use Rattle.ixdtf.specs.language.Fractions.{FractionParts}
+use Rattle.ixdtf.specs.language.ZoneNames.Zone.{Offset as zone_offset}
+use Rattle.ixdtf.specs.language.Brackets.{ZoneNote}
+use Rattle.ixdtf.specs.language.Readers.{parse}
+use Rattle.ixdtf.specs.language.Readers.Reader.{parse_offset, parse_identifier}
+use Rattle.ixdtf.specs.language.Languages.Found.{shifted, identified}
+use Rattle.ixdtf.specs.table.Faults.Fault.{InvalidEnd, TimeHour, TimeMinuteSecond, FractionPart, UtcTimeSeparator, InvalidMinutePrecisionOffset, OffsetNeedsSign, AnnotationClose}
+use Rattle.ixdtf.specs.table.LineNames.{ClockLine, LineName}
+use Rattle.ixdtf.specs.table.LineNames.LineName.{of_clock, of_offset}
+use Rattle.ixdtf.specs.table.LineNames.OffsetLine.{offset_start, after_zulu}
+use Rattle.ixdtf.specs.table.LineNames.ClockLine.{hour_start, hour_digit, hour_range, after_hour, minute_digits, minute_range, after_plain_minute, after_colon_minute, second_digits, second_range, after_second, fraction_start, after_fraction}
+use Rattle.ixdtf.specs.table.Lines.{abrupt_digit, abrupt_offset}
+use Rattle.ixdtf.specs.table.Rows.Place.{anywhere}
+use Rattle.ixdtf.specs.table.Outcomes.{Outcome}
+use Rattle.ixdtf.specs.table.Outcomes.Outcome.{derived}
+use Rattle.ixdtf.specs.reading.Times.{time_of}
+use Rattle.ixdtf.proofs.examples.Helpers.{all_readings, and_bad, morning, new_years_day, with, Example, Compute, gives, ends, goes_off, meets_bad, stands, stops, one, two, three, ShowEachRow}
+
+-- the lines of an offset, and of one without seconds
+abbrev of_full : ClockLine → LineName
+of_full line = of_clock OffsetClock line
+
+abbrev of_short : ClockLine → LineName
+of_short line = of_clock MinuteOffset line
+
+-- an offset after a time, after the sign
+abbrev at : List ℕ → List ℕ
+at units = codes "2020-01-01T00:00+" ++ units
+
+-- ---- each row of the lines of offsets, in `parse`
+
+abbrev full_lines : List LineName
+full_lines =
+    map of_full (hour_start ∷ hour_digit ∷ hour_range ∷ after_hour ∷ minute_digits ∷ minute_range ∷ after_plain_minute
+    ∷ after_colon_minute ∷ second_digits ∷ second_range ∷ after_second ∷ fraction_start ∷ after_fraction ∷ [])
+
+abbrev rows_after_times : List Example
+rows_after_times =
+    three (of_full hour_start) (at []) abrupt_digit (codes "x") TimeHour
+    ++ three (of_full hour_digit) (at (codes "0")) abrupt_digit (codes ":") TimeHour
+    ++ one (of_full hour_range) (at (codes "24")) TimeHour
+    ++ two (of_full after_hour) (at (codes "05")) (codes "x") InvalidEnd
+    ++ three (of_full minute_digits) (at (codes "05:")) abrupt_digit (codes "x") TimeMinuteSecond
+    ++ one (of_full minute_range) (at (codes "05:60")) TimeMinuteSecond
+    ++ two (of_full after_plain_minute) (at (codes "0530")) (codes "x") InvalidEnd
+    ++ two (of_full after_colon_minute) (at (codes "05:30")) (codes "x") InvalidEnd
+    ++ three (of_full second_digits) (at (codes "05:30:")) abrupt_digit (codes "x") TimeMinuteSecond
+    ++ one (of_full second_range) (at (codes "05:30:60")) TimeMinuteSecond
+    ++ two (of_full after_second) (at (codes "05:30:00")) (codes "x") InvalidEnd
+    ++ three (of_full fraction_start) (at (codes "05:30:00.")) FractionPart (codes "x") FractionPart
+    ++ two (of_full after_fraction) (at (codes "05:30:00.5")) (codes "x") InvalidEnd
+    ++ two (of_offset after_zulu) (codes "2020-01-01T00:00Z") (codes "x") InvalidEnd
+
+each_row_after_times : ShowEachRow parse (full_lines ++ (of_offset after_zulu ∷ [])) rows_after_times
+unfolding all_readings
+each_row_after_times = (refl, refl)
+
+-- ---- each row in `parse_offset`, where no bracket may follow
+
+abbrev rows_alone : List Example
+rows_alone =
+    three (of_offset offset_start) [] abrupt_offset (codes "0") OffsetNeedsSign
+    ++ three (of_full hour_start) (codes "+") abrupt_digit (codes "x") TimeHour
+    ++ three (of_full hour_digit) (codes "-0") abrupt_digit (codes ":") TimeHour
+    ++ one (of_full hour_range) (codes "+24") TimeHour
+    ++ two (of_full after_hour) (codes "+05") (codes "[") InvalidEnd
+    ++ three (of_full minute_digits) (codes "+05:") abrupt_digit (codes "x") TimeMinuteSecond
+    ++ one (of_full minute_range) (codes "+05:60") TimeMinuteSecond
+    ++ two (of_full after_plain_minute) (codes "+0530") (codes "[") InvalidEnd
+    ++ two (of_full after_colon_minute) (codes "+05:30") (codes "[") InvalidEnd
+    ++ three (of_full second_digits) (codes "+05:30:") abrupt_digit (codes "x") TimeMinuteSecond
+    ++ one (of_full second_range) (codes "+05:30:60") TimeMinuteSecond
+    ++ two (of_full after_second) (codes "+05:30:00") (codes "[") InvalidEnd
+    ++ three (of_full fraction_start) (codes "+05:30:00.") FractionPart (codes "x") FractionPart
+    ++ two (of_full after_fraction) (codes "+05:30:00.5") (codes "[") InvalidEnd
+
+each_row_alone : ShowEachRow parse_offset (of_offset offset_start ∷ full_lines) rows_alone
+unfolding all_readings
+each_row_alone = (refl, refl)
+
+-- ---- each row of the lines of offsets without seconds, in a bracket and in `parse_identifier`
+
+-- No text comes to `second_digits`, `second_range`, `after_second`, `fraction_start` or `after_fraction` of such an offset:
+-- their rows fit no text.
+abbrev short_lines : List LineName
+short_lines =
+    map of_short (hour_start ∷ hour_digit ∷ hour_range ∷ after_hour ∷ minute_digits ∷ minute_range ∷ after_plain_minute
+    ∷ after_colon_minute ∷ [])
+
+-- an offset in a bracket, after the sign
+abbrev inside : List ℕ → List ℕ
+inside units = codes "2020-01-01[+" ++ units
+
+abbrev rows_in_brackets : List Example
+rows_in_brackets =
+    three (of_short hour_start) (inside []) abrupt_digit (codes "]") TimeHour
+    ++ three (of_short hour_digit) (inside (codes "0")) abrupt_digit (codes "]") TimeHour
+    ++ one (of_short hour_range) (inside (codes "24")) TimeHour
+    ++ three (of_short after_hour) (inside (codes "05")) AnnotationClose (codes "x") AnnotationClose
+    ++ three (of_short minute_digits) (inside (codes "05:")) abrupt_digit (codes "]") TimeMinuteSecond
+    ++ one (of_short minute_range) (inside (codes "05:60")) TimeMinuteSecond
+    ++ three (of_short after_plain_minute) (inside (codes "0530")) AnnotationClose (codes "x") AnnotationClose
+    ++ three (of_short after_colon_minute) (inside (codes "05:30")) AnnotationClose (codes "x") AnnotationClose
+
+each_row_in_brackets : ShowEachRow parse short_lines rows_in_brackets
+unfolding all_readings
+each_row_in_brackets = (refl, refl)
+
+abbrev rows_of_zones : List Example
+rows_of_zones =
+    three (of_short hour_start) (codes "+") abrupt_digit (codes "x") TimeHour
+    ++ three (of_short hour_digit) (codes "-0") abrupt_digit (codes ":") TimeHour
+    ++ one (of_short hour_range) (codes "+24") TimeHour
+    ++ two (of_short after_hour) (codes "+05") (codes "]") InvalidEnd
+    ++ three (of_short minute_digits) (codes "+05:") abrupt_digit (codes "x") TimeMinuteSecond
+    ++ one (of_short minute_range) (codes "+05:60") TimeMinuteSecond
+    ++ two (of_short after_plain_minute) (codes "+0530") (codes "]") InvalidEnd
+    ++ two (of_short after_colon_minute) (codes "+05:30") (codes "]") InvalidEnd
+
+each_row_of_zones : ShowEachRow parse_identifier short_lines rows_of_zones
+unfolding all_readings
+each_row_of_zones = (refl, refl)
+
+-- ---- offsets
+
+abbrev short : Sign → ℕ → ℕ → UtcOffsetRecord
+short sign hour minute = MinutePrecision (record { sign = sign; hour = hour; minute = minute })
+
+abbrev long : Sign → ℕ → ℕ → ℕ → Option FractionParts → UtcOffsetRecord
+long sign hour minute second fraction =
+    FullPrecisionOffset (record { minute_precision_offset = record { sign = sign; hour = hour; minute = minute }; second = second; fraction = fraction })
+
+-- an offset that is read alone
+abbrev alone : UtcOffsetRecord → Outcome
+alone offset = derived (shifted offset) []
+
+offsets : Compute parse_offset (
+    gives (codes "+05") (alone (short Positive 5 0))
+    ∷ gives (codes "+0530") (alone (short Positive 5 30))
+    ∷ gives (codes "-05:30") (alone (short Negative 5 30))
+    ∷ gives (codes "-00:00") (alone (short Negative 0 0))
+    ∷ gives (codes "+235959") (alone (long Positive 23 59 59 None))
+    ∷ gives (codes "+01:00:00") (alone (long Positive 1 0 0 None))
+    ∷ gives (codes "-050030,25") (alone (long Negative 5 0 30 (Some (record { count = 2; value = 25 }))))
+    ∷ gives (codes "-05:00:30.5") (alone (long Negative 5 0 30 (Some (record { count = 1; value = 5 }))))
+    ∷ gives (codes "-05:00:30.123456789") (alone (long Negative 5 0 30 (Some (record { count = 9; value = 123456789 }))))
+    ∷ [])
+unfolding all_readings
+offsets = refl
+
+offsets_after_times : Compute parse (
+    gives (codes "2024-03-02T08:48:00-05:00") (morning (Some (Offset (short Negative 5 0))) None)
+    ∷ gives (codes "2024-03-02T08:48-05") (morning (Some (Offset (short Negative 5 0))) None)
+    ∷ gives (codes "2024-03-02T08:48:00-00:00") (morning (Some (Offset (short Negative 0 0))) None)
+    ∷ gives (codes "2024-03-02 08:48:00+01:00:00") (morning (Some (Offset (long Positive 1 0 0 None))) None)
+    ∷ gives (codes "2020-01-01T00:00z") (with new_years_day (Some (time_of 0 0 0 None)) (Some Z) None)
+    ∷ gives (codes "2024-03-02T08:48:00Z") (morning (Some Z) None)
+    ∷ [])
+unfolding all_readings
+offsets_after_times = refl
+
+-- a zone that is an offset
+abbrev zone : Sign → ℕ → ℕ → Outcome
+zone sign hour minute = derived (identified (zone_offset (record { sign = sign; hour = hour; minute = minute }))) []
+
+zones : Compute parse_identifier (
+    gives (codes "+05:30") (zone Positive 5 30)
+    ∷ gives (codes "-0530") (zone Negative 5 30)
+    ∷ gives (codes "+08") (zone Positive 8 0)
+    ∷ [])
+unfolding all_readings
+zones = refl
+
+abbrev zone_at : Bool → Sign → ℕ → ℕ → Option ZoneNote
+zone_at critical sign hour minute = Some (record { critical = critical; zone = zone_offset (record { sign = sign; hour = hour; minute = minute }) })
+
+offsets_in_brackets : Compute parse (
+    gives (codes "2020-01-01[-05:00]") (with new_years_day None None (zone_at false Negative 5 0))
+    ∷ gives (codes "2020-01-01[!+0530]") (with new_years_day None None (zone_at true Positive 5 30))
+    ∷ gives (codes "2020-01-01[+08]") (with new_years_day None None (zone_at false Positive 8 0))
+    ∷ gives (codes "2024-03-02T08:48:00-05:00[-05:00]") (morning (Some (Offset (short Negative 5 0))) (zone_at false Negative 5 0))
+    ∷ [])
+unfolding all_readings
+offsets_in_brackets = refl
+
+-- ---- texts that are no offset
+
+no_offset : Compute parse_offset (
+    goes_off (codes "00:00") (of_offset offset_start) OffsetNeedsSign
+    ∷ goes_off (codes "Z") (of_offset offset_start) OffsetNeedsSign
+    ∷ goes_off (codes "+05.5") (of_full after_hour) InvalidEnd
+    ∷ ends (codes "+08:0") (of_full minute_digits) abrupt_digit
+    ∷ ends (codes "+080") (of_full minute_digits) abrupt_digit
+    ∷ goes_off (codes "+08:0x") (of_full minute_digits) TimeMinuteSecond
+    ∷ goes_off (codes "+080x") (of_full minute_digits) TimeMinuteSecond
+    ∷ stands (codes "+0860") (of_full minute_range) TimeMinuteSecond
+    ∷ goes_off (codes "+0800:00") (of_full after_plain_minute) UtcTimeSeparator
+    ∷ goes_off (codes "+08:0000") (of_full after_colon_minute) UtcTimeSeparator
+    ∷ goes_off (codes "+08:00:5x") (of_full second_digits) TimeMinuteSecond
+    ∷ ends (codes "+08005") (of_full second_digits) abrupt_digit
+    ∷ meets_bad (codes "+08005") (of_full second_digits)
+    ∷ stands (codes "+080060") (of_full second_range) TimeMinuteSecond
+    ∷ goes_off (codes "+08:00:00[") (of_full after_second) InvalidEnd
+    ∷ (and_bad (codes "+24"), stops (of_full hour_range) anywhere TimeHour)
+    ∷ [])
+unfolding all_readings
+no_offset = refl
+
+no_offset_after_a_time : Compute parse (
+    goes_off (codes "2020-01-01T00:00:00+01:00Z") (of_full after_colon_minute) InvalidEnd
+    ∷ stands (codes "2024-08-24T14:00:00-05:00:60") (of_full second_range) TimeMinuteSecond
+    ∷ stands (codes "2024-08-24T14:00:00-050060") (of_full second_range) TimeMinuteSecond
+    ∷ goes_off (codes "2024-08-24T14:00:00-05:0060") (of_full after_colon_minute) UtcTimeSeparator
+    ∷ goes_off (codes "2024-08-24T14:00:00-0500:60") (of_full after_plain_minute) UtcTimeSeparator
+    ∷ goes_off (codes "2024-08-24T14:00:00-5:00") (of_full hour_digit) TimeHour
+    ∷ goes_off (codes "2024-08-24T14:00:00Z+") (of_offset after_zulu) InvalidEnd
+    ∷ [])
+unfolding all_readings
+no_offset_after_a_time = refl
+
+-- an offset without seconds, with seconds or a fraction
+no_short_offset : Compute parse_identifier (
+    goes_off (codes "+00:00:00") (of_short after_colon_minute) InvalidMinutePrecisionOffset
+    ∷ goes_off (codes "+00:000") (of_short after_colon_minute) InvalidMinutePrecisionOffset
+    ∷ goes_off (codes "+000000") (of_short after_plain_minute) InvalidMinutePrecisionOffset
+    ∷ goes_off (codes "+0000:00") (of_short after_plain_minute) InvalidMinutePrecisionOffset
+    ∷ goes_off (codes "+00:00.1") (of_short after_colon_minute) InvalidEnd
+    ∷ stands (codes "+24:00") (of_short hour_range) TimeHour
+    ∷ stands (codes "+0060") (of_short minute_range) TimeMinuteSecond
+    ∷ [])
+unfolding all_readings
+no_short_offset = refl
+
+no_short_offset_in_a_bracket : Compute parse (
+    goes_off (codes "2020-01-01[-05:00:60]") (of_short after_colon_minute) InvalidMinutePrecisionOffset
+    ∷ goes_off (codes "2020-01-01[-05:000]") (of_short after_colon_minute) InvalidMinutePrecisionOffset
+    ∷ goes_off (codes "2020-01-01[-050000]") (of_short after_plain_minute) InvalidMinutePrecisionOffset
+    ∷ goes_off (codes "2020-01-01[!-0500:]") (of_short after_plain_minute) InvalidMinutePrecisionOffset
+    ∷ goes_off (codes "2024-08-24T14:00:00-05:00[-05:00.1]") (of_short after_colon_minute) AnnotationClose
+    ∷ goes_off (codes "2020-01-01[+05=]") (of_short after_hour) AnnotationClose
+    ∷ [])
+unfolding all_readings
+no_short_offset_in_a_bracket = refl

@@ -1,0 +1,97 @@
+-- Pairs and the lines of pairs, computed.
+use Rattle.std.proofs.Common.{true, false, List, [], ◌∷◌, ◌++◌, map, codes, None, refl}
+use Rattle.ixdtf.specs.language.Brackets.{Pair}
+use Rattle.ixdtf.specs.language.Readers.{parse}
+use Rattle.ixdtf.specs.table.Faults.Fault.{AnnotationClose, AnnotationKeyLeadingChar, AnnotationKeyChar, AnnotationKeyValueSeparator, AnnotationValueChar, AnnotationValueCharPostHyphen}
+use Rattle.ixdtf.specs.table.LineNames.{LineName}
+use Rattle.ixdtf.specs.table.LineNames.LineName.{of_pair}
+use Rattle.ixdtf.specs.table.LineNames.PairLine.{key_start, critical_key_start, in_key, value_start, in_value, after_value_hyphen}
+use Rattle.ixdtf.proofs.examples.Helpers.{all_readings, zone_named, tagged, annotated, Example, Compute, gives, ends, goes_off, meets_bad, three, three_after, ShowEachRow}
+
+abbrev pair_lines : List LineName
+pair_lines = map of_pair (key_start ∷ critical_key_start ∷ in_key ∷ value_start ∷ in_value ∷ after_value_hyphen ∷ [])
+
+-- ---- each row in a bracket after a zone
+
+abbrev rows_after_a_zone : List Example
+rows_after_a_zone =
+    three (of_pair key_start) (codes "2020-01-01[UTC][") AnnotationKeyLeadingChar (codes "E") AnnotationKeyLeadingChar
+    ++ three (of_pair critical_key_start) (codes "2020-01-01[UTC][!") AnnotationKeyLeadingChar (codes "!") AnnotationKeyLeadingChar
+    ++ three (of_pair in_key) (codes "2020-01-01[UTC][u-ca") AnnotationKeyValueSeparator (codes "]") AnnotationKeyChar
+    ++ three (of_pair value_start) (codes "2020-01-01[UTC][u-ca=") AnnotationValueChar (codes "]") AnnotationValueChar
+    ++ three (of_pair in_value) (codes "2020-01-01[UTC][u-ca=a") AnnotationClose (codes ")") AnnotationValueChar
+    ++ three (of_pair after_value_hyphen) (codes "2020-01-01[UTC][u-ca=a-") AnnotationValueCharPostHyphen (codes "]") AnnotationValueCharPostHyphen
+
+each_row_after_a_zone : ShowEachRow parse pair_lines rows_after_a_zone
+unfolding all_readings
+each_row_after_a_zone = (refl, refl)
+
+-- ---- each row in a bracket after a pair, which stands whole before it
+
+abbrev one_pair : List Pair
+one_pair = tagged false (codes "a") (codes "b") ∷ []
+
+abbrev rows_after_a_pair : List Example
+rows_after_a_pair =
+    three_after one_pair (of_pair key_start) (codes "2020-01-01[a=b][") AnnotationKeyLeadingChar (codes "E") AnnotationKeyLeadingChar
+    ++ three_after one_pair (of_pair critical_key_start) (codes "2020-01-01[a=b][!") AnnotationKeyLeadingChar (codes "!") AnnotationKeyLeadingChar
+    ++ three_after one_pair (of_pair in_key) (codes "2020-01-01[a=b][u") AnnotationKeyValueSeparator (codes "]") AnnotationKeyChar
+    ++ three_after one_pair (of_pair value_start) (codes "2020-01-01[a=b][u=") AnnotationValueChar (codes "-") AnnotationValueChar
+    ++ three_after one_pair (of_pair in_value) (codes "2020-01-01[a=b][u=a") AnnotationClose (codes "_") AnnotationValueChar
+    ++ three_after one_pair (of_pair after_value_hyphen) (codes "2020-01-01[a=b][u=a-") AnnotationValueCharPostHyphen (codes "-") AnnotationValueCharPostHyphen
+
+each_row_after_a_pair : ShowEachRow parse pair_lines rows_after_a_pair
+unfolding all_readings
+each_row_after_a_pair = (refl, refl)
+
+-- ---- each row in a first bracket
+
+-- The first bracket begins with the lines of brackets. What begins as a key may is a key where an `=` comes before any `]`,
+-- the end and any unit that stands for no letter, and so the rows of `in_key` for the end and for such a unit fit no text.
+abbrev rows_in_a_first_bracket : List Example
+rows_in_a_first_bracket =
+    three (of_pair value_start) (codes "2020-01-01[a=") AnnotationValueChar (codes "]") AnnotationValueChar
+    ++ three (of_pair in_value) (codes "2020-01-01[a=b") AnnotationClose (codes ")") AnnotationValueChar
+    ++ three (of_pair after_value_hyphen) (codes "2020-01-01[a=b-") AnnotationValueCharPostHyphen (codes "]") AnnotationValueCharPostHyphen
+
+each_row_in_a_first_bracket : ShowEachRow parse (map of_pair (value_start ∷ in_value ∷ after_value_hyphen ∷ [])) rows_in_a_first_bracket
+unfolding all_readings
+each_row_in_a_first_bracket = (refl, refl)
+
+keys_in_a_first_bracket : Compute parse (
+    goes_off (codes "2020-01-01[u-cA=iso8601]") (of_pair in_key) AnnotationKeyChar
+    ∷ goes_off (codes "2020-01-01[_!=]") (of_pair in_key) AnnotationKeyChar
+    ∷ goes_off (codes "2020-01-01[!a/b=c]") (of_pair in_key) AnnotationKeyChar
+    ∷ [])
+unfolding all_readings
+keys_in_a_first_bracket = refl
+
+-- ---- pairs
+
+pairs : Compute parse (
+    gives (codes "2020-01-01[a=b][!u-ca=a-1]") (annotated None (tagged false (codes "a") (codes "b") ∷ tagged true (codes "u-ca") (codes "a-1") ∷ []))
+    ∷ gives (codes "2020-01-01[!_=Z]") (annotated None (tagged true (codes "_") (codes "Z") ∷ []))
+    ∷ gives (codes "2020-01-01[u][u=u]") (annotated (zone_named false (codes "u")) (tagged false (codes "u") (codes "u") ∷ []))
+    ∷ gives (codes "2020-01-01[!u-ca=iso8601][f-1a2b=a0sa-2l4s]")
+        (annotated None (tagged true (codes "u-ca") (codes "iso8601") ∷ tagged false (codes "f-1a2b") (codes "a0sa-2l4s") ∷ []))
+    ∷ gives (codes "2020-01-01[u-ca=a-bc-d]") (annotated None (tagged false (codes "u-ca") (codes "a-bc-d") ∷ []))
+    ∷ [])
+unfolding all_readings
+pairs = refl
+
+-- ---- texts with another pair
+
+no_pair : Compute parse (
+    goes_off (codes "2020-01-01[u-ca=iso8601)") (of_pair in_value) AnnotationValueChar
+    ∷ goes_off (codes "2020-01-01[u-ca=-iso]") (of_pair value_start) AnnotationValueChar
+    ∷ goes_off (codes "2020-01-01[u-ca=iso-]") (of_pair after_value_hyphen) AnnotationValueCharPostHyphen
+    ∷ goes_off (codes "2020-01-01[u-ca=iso--8601]") (of_pair after_value_hyphen) AnnotationValueCharPostHyphen
+    ∷ goes_off (codes "2020-01-01[u][Europe/London]") (of_pair key_start) AnnotationKeyLeadingChar
+    ∷ goes_off (codes "2020-01-01[u][]") (of_pair key_start) AnnotationKeyLeadingChar
+    ∷ goes_off (codes "2020-01-01[u][!]") (of_pair critical_key_start) AnnotationKeyLeadingChar
+    ∷ ends (codes "2020-01-01[u][a-1") (of_pair in_key) AnnotationKeyValueSeparator
+    ∷ ends (codes "2020-01-01[a=b-c") (of_pair in_value) AnnotationClose
+    ∷ meets_bad (codes "2020-01-01[a=b-c") (of_pair in_value)
+    ∷ [])
+unfolding all_readings
+no_pair = refl

@@ -1,0 +1,189 @@
+use super::{AT_DIGIT, dated, morning, short};
+use crate::encoding::Utf8;
+use crate::laws::parse_unanswered;
+use crate::parsers::IxdtfParser;
+use crate::records::{Annotation, DateRecord, Sign, UtcOffsetRecordOrZ};
+use crate::{ParseError, ParserResult, error};
+use std::test::Fail;
+
+#[test]
+fn asks_as_far_as_the_first_refusal(rt: HostRuntime) {
+    let mut parser = IxdtfParser::from_str("2020-01-01[a=b][!c=d][e=f]");
+    let mut calls = 0u32;
+    let refused = parser.parse_with_annotation_handler(|annotation| {
+        calls = calls.saturating_add(1);
+        Some(annotation)
+    });
+    assert_eq!(rt; refused, Err(ParseError::UnrecognizedCritical));
+    assert_eq!(rt; calls, 2);
+    let mut more = 0u32;
+    let found = parser.parse_with_annotation_handler(|_annotation| {
+        more = more.saturating_add(1);
+        None
+    });
+    assert_eq!(rt; found, Ok(dated(2020, 1, 1, None)));
+    assert_eq!(rt; more, 3);
+}
+
+#[test]
+fn asks_before_a_fault(rt: HostRuntime) {
+    let rows = [
+        ("2020-01-01[a=b]junk", 1u32, ParseError::InvalidEnd),
+        ("2020-01-01[a=b][c=d]junk", 2, ParseError::InvalidEnd),
+        ("2020-01-01[a=b][c=d", 1, ParseError::AnnotationClose),
+        ("2020-13-01[a=b]", 0, ParseError::InvalidMonthRange),
+    ];
+    for (text, wanted, error) in rows {
+        let mut calls = 0u32;
+        let mut parser = IxdtfParser::from_str(text);
+        let refused = parser.parse_with_annotation_handler(|annotation| {
+            calls = calls.saturating_add(1);
+            Some(annotation)
+        });
+        assert_eq!(rt; refused, Err(error), "at {text}");
+        assert_eq!(rt; calls, wanted, "at {text}");
+    }
+}
+
+#[test]
+fn judges_the_reply(rt: HostRuntime) {
+    let mut parser = IxdtfParser::from_str("2020-01-01[x=y]");
+    let refused = parser.parse_with_annotation_handler(|annotation| {
+        Some(Annotation {
+            critical: true,
+            key: annotation.key,
+            value: annotation.value,
+        })
+    });
+    assert_eq!(rt; refused, Err(ParseError::UnrecognizedCritical));
+}
+
+#[test]
+fn takes_a_calendar_that_is_not_of_the_source(rt: HostRuntime) {
+    let mut parser = IxdtfParser::from_str("2020-01-01[x=y][u-ca=iso8601]");
+    let found = parser.parse_with_annotation_handler(|annotation| {
+        if annotation.key == b"x".as_slice() {
+            Some(Annotation {
+                critical: false,
+                key: b"u-ca",
+                value: b"\xff\x00 foreign",
+            })
+        } else {
+            Some(annotation)
+        }
+    });
+    let mut record = dated(2020, 1, 1, None);
+    record.calendar = Some(b"\xff\x00 foreign".as_slice());
+    assert_eq!(rt; found, Ok(record));
+}
+
+#[test]
+fn passes_over_the_answer_to_the_universe(rt: HostRuntime) {
+    let text = "2024-03-02T08:48:00-05:00[u-ca=iso8601][!answer-to-universe=fortytwo]";
+    let mut calls = 0u32;
+    let mut second_is_known = false;
+    let found = IxdtfParser::from_str(text).parse_with_annotation_handler(|annotation| {
+        calls = calls.saturating_add(1);
+        if annotation.key == "answer-to-universe".as_bytes() {
+            second_is_known = calls == 2
+                && annotation.critical
+                && annotation.value == "fortytwo".as_bytes();
+            None
+        } else {
+            Some(annotation)
+        }
+    });
+    let offset = UtcOffsetRecordOrZ::Offset(short(Sign::Negative, 5, 0));
+    let mut record = morning(Some(offset));
+    record.calendar = Some(b"iso8601");
+    assert_eq!(rt; found, Ok(record));
+    assert!(rt; second_is_known && calls == 2);
+}
+
+#[test]
+fn keeps_pairs_that_it_refused(rt: HostRuntime) {
+    let mut parser = IxdtfParser::from_str("2020-01-01[u-ca=a][x=y][!c=d]");
+    let first = parser.parse();
+    assert_eq!(rt; first, Err(ParseError::UnrecognizedCritical));
+    let second = parser.parse();
+    assert_eq!(rt; second, Err(ParseError::UnrecognizedCritical));
+    let third = parser.parse_with_annotation_handler(|_annotation| None);
+    assert_eq!(rt; third, Ok(dated(2020, 1, 1, None)));
+    let fourth = parser.parse();
+    assert_eq!(rt; fourth, Err(AT_DIGIT));
+}
+
+// The calendar of a text with the handler of a caller, of whatever type it is. An error is handed on.
+fn calendar_of<'a, 's, F>(
+    text: &'a str,
+    handler: F,
+) -> Result<Option<&'a [u8]>, error::ParseError<'s>>
+where
+    F: FnMut(Annotation<'a, Utf8>) -> Option<Annotation<'a, Utf8>>,
+    requires callable { F.IsAlwaysCallable handler }
+{
+    let mut parser = IxdtfParser::from_str(text);
+    let record = parser.parse_with_annotation_handler(handler)?;
+    Ok(record.calendar)
+}
+
+#[test]
+fn takes_the_handler_of_a_caller(rt: HostRuntime) {
+    let text = "2020-01-01[u-ca=a][!c=d]";
+    let mut calls = 0u32;
+    let found = calendar_of(text, |annotation| {
+        calls = calls.saturating_add(1);
+        if annotation.critical {
+            None
+        } else {
+            Some(annotation)
+        }
+    });
+    assert_eq!(rt; found, Ok(Some(b"a".as_slice())));
+    assert_eq!(rt; calls, 2);
+    let refused = calendar_of(text, |annotation| Some(annotation));
+    assert_eq!(rt; refused, Err(ParseError::UnrecognizedCritical));
+}
+
+// The date of a text whose annotations are all passed over, as a result of the crate.
+fn date_of(text: &'static str) -> ParserResult<Option<DateRecord>> {
+    let mut parser = IxdtfParser::from_str(text);
+    let record = parser.parse_with_annotation_handler(|_annotation| None)?;
+    Ok(record.date)
+}
+
+#[test]
+fn hands_an_error_on(rt: HostRuntime) -> Result<(), Fail> {
+    let date = date_of("2020-01-02[!c=d]")?;
+    let wanted = DateRecord {
+        year: 2020,
+        month: 1,
+        day: 2,
+    };
+    assert_eq!(rt; date, Some(wanted));
+    assert_eq!(rt; date_of("2020-01-02[!c=d"), Err(ParseError::AnnotationClose));
+    Ok(())
+}
+
+#[test]
+fn may_be_discarded(rt: HostRuntime) {
+    let mut parser = IxdtfParser::from_str("2020-01-01[a=b][!c=d]");
+    let mut calls = 0u32;
+    let _ = parser.parse_with_annotation_handler(|annotation| {
+        calls = calls.saturating_add(1);
+        Some(annotation)
+    });
+    assert_eq!(rt; calls, 2);
+    let _ = parser.parse_with_annotation_handler(|_annotation| None);
+    assert_eq!(rt; parser.parse(), Err(AT_DIGIT));
+}
+
+#[test]
+fn leaves_no_calendar_unanswered(rt: HostRuntime) {
+    let mut parser = IxdtfParser::from_str("2020-01-01[u-ca=a][!u-ca=b][!c=d]");
+    let found = parse_unanswered(&mut parser, |_annotation| None);
+    assert_eq!(rt; found, Ok(dated(2020, 1, 1, None)));
+    let mut faulty = IxdtfParser::from_str("2020-01-01[!c=d]junk");
+    let refused = parse_unanswered(&mut faulty, |_annotation| None);
+    assert_eq!(rt; refused, Err(ParseError::InvalidEnd));
+}
