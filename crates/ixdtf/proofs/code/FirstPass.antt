@@ -139,6 +139,7 @@ bracket_found letters text rest taken c e is =
   where
     next : look_at NonAsciiCodePoint rest ≡ Ok (Some c)
     next = next_shown bracket_after letters text rest taken e ∙ ap (λ (o : Option ℕ). Ok o) is
+
     go : (b : Bool) → equals c ≡ b → sight rest ≡ Ok (equals c)
     go true p = rw p (sight_at_equals rest c next p)
     go false p = rw p (sight_at_closing rest c next (bracket_other taken.state c (next_stays bracket_after letters text rest taken c e is) p))

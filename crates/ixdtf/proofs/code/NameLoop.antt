@@ -36,10 +36,12 @@ name_is_run = record {
   where
     after : Option Bool → Option NameLetters
     after step = option_map (λ (may_end : Bool). record { may_end = may_end }) step
+
     other : (c : ℕ) (may_end : Bool) (rest : Text) (b : Bool) → zone_char c ≡ b → (d : Bool) → (slash c && may_end) ≡ d → after (if b then Some true else (if d then Some false else None)) ≡ None → name_run error_of may_end (Plain c ∷ rest) ≡ closed [] (name_ends may_end (Plain c ∷ rest))
     other c may_end rest true p d q e = absurd cc
     other c may_end rest false p true q e = absurd cc
     other c may_end rest false p false q e = rw (p, q) (stops_so may_end (Plain c ∷ rest))
+
     more : (c : ℕ) (may_end : Bool) (next : NameLetters) (rest : Text) (b : Bool) → zone_char c ≡ b → (d : Bool) → (slash c && may_end) ≡ d → after (if b then Some true else (if d then Some false else None)) ≡ Some next → name_run error_of may_end (Plain c ∷ rest) ≡ with_letter c (name_run error_of next.may_end rest)
     more c may_end next rest true p d q e = let same : true ≡ next.may_end = cc in rw (p, ← same) refl
     more c may_end next rest false p true q e = let same : false ≡ next.may_end = cc in rw (p, q, ← same) refl
