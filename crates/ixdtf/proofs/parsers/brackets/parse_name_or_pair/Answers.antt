@@ -1,6 +1,6 @@
-use Rattle.std.proofs.Common.{◌≡◌, ◌&&◌, true, false, List, ◌++◌, map, ℕ, refl, sym, ap, ◌∙◌, append_assoc, rules}
+use Rattle.std.proofs.Common.{◌≡◌, ◌&&◌, true, false, List, ◌++◌, map, ℕ, refl, sym, ap, ◌∙◌, append_assoc}
 use Rattle.std.proofs.lemmas.Result.{err_from_is_err_and}
-use Rattle.ixdtf.specs.language.Letters.{equals, closing}
+use Rattle.ixdtf.specs.language.Letters.{closing}
 use Rattle.ixdtf.specs.reading.Brackets.{next_is}
 use Rattle.ixdtf.proofs.code.LetterLoops.{front_is}
 use Rattle.ixdtf.proofs.code.FirstPass.{pass_failed, value_failed, pair_read, more_failed, name_read, name_refuses}
