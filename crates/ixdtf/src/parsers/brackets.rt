@@ -1,6 +1,6 @@
 //! Reading the first bracket, which may name a zone.
 
-ghost use Rattle.std.specs.Prelude.{◌≡◌, ◌+◌, ◌≤◌, Some, None, map, length, if◌then◌else◌};
+ghost use Rattle.std.specs.Prelude.{◌≡◌, Some, None, map, if◌then◌else◌};
 ghost use Rattle.ixdtf.specs.language.Letters.{equals, closing};
 ghost use Rattle.ixdtf.specs.language.Brackets.{passed};
 ghost use Rattle.ixdtf.specs.reading.Clauses.{Reads, Spends, bracket_of, fault_of_stop};
@@ -33,7 +33,7 @@ pub fn parse_first_bracket<'a, T: EncodingType>(
 ) -> Result<Bracket<'a, T>, Stop>
     ensures bracket { Reads T.letter (bracket_of T.number) cursor.old result cursor.new
         (bracket_at error_of) }
-    ensures looks { Spends (length cursor.old.rest + 16) cursor.old cursor.new }
+    ensures looks { Spends 16 cursor.old cursor.new }
 {
     match cursor.look()? {
         None => Err(Stop::AbruptBracket),
@@ -56,7 +56,7 @@ fn parse_critical_bracket<'a, T: EncodingType>(
 ) -> Result<Bracket<'a, T>, Stop>
     ensures bracket { Reads T.letter (bracket_of T.number) cursor.old result cursor.new
         (critical_bracket_at error_of) }
-    ensures looks { Spends (length cursor.old.rest + 15) cursor.old cursor.new }
+    ensures looks { Spends 15 cursor.old cursor.new }
 {
     match cursor.look()? {
         None => Err(Stop::AbruptBracket),
@@ -76,7 +76,7 @@ fn parse_inside<'a, T: EncodingType>(
 ) -> Result<Bracket<'a, T>, Stop>
     ensures bracket { Reads T.letter (bracket_of T.number) cursor.old result cursor.new
         (inside_at error_of critical lead) }
-    ensures looks { Spends (length cursor.old.rest + 14) cursor.old cursor.new }
+    ensures looks { Spends 14 cursor.old cursor.new }
 {
     if is_a_key_leading_char(lead) {
         return parse_name_or_pair(cursor, critical);
