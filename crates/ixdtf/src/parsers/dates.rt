@@ -164,7 +164,7 @@ fn parse_hyphenated_day<'a, T: EncodingType>(
 ) -> Result<DateRecord, Stop>
     ensures date { Reads T.letter (λ date. date) cursor.old result cursor.new
         (after_hyphened_month_at error_of year month) }
-    ensures looks { Spends 2 cursor.old cursor.new }
+    ensures looks { Spends 3 cursor.old cursor.new }
 {
     match cursor.look()? {
         Some(byte) if is_hyphen(byte) => cursor.step(),
