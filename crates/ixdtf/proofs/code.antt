@@ -10,8 +10,10 @@ pub mod NameLoop
 pub mod Nanoseconds
 pub mod OneMoreReply
 pub mod PairLoops
+pub mod Placed
 pub mod ReadersWithoutPairs
 pub mod Tables
 pub mod Tail
+pub mod TwoDigits
 pub mod Units
 pub mod WalkNames

@@ -59,7 +59,7 @@ pub trait EncodingType: private::Sealed {
     ghost equal: { (a b : Self.CodeUnit) → IsTrue (Self.CodeUnit.eq a b) ↔ (number a ≡ number b) };
 }
 
-/// Sources in 8-bit units, as UTF-8. Each unit is its own letter, also 0 and those from 128 up, and `get_ascii` answers no
+/// Sources in 8-bit units, as UTF-8. Each unit is its own letter, also 0 and those from 128 up, and `get_ascii` returns no
 /// error. That the units are UTF-8 is not tested.
 #[derive(Clone, Debug, Drop, PartialEq)]
 pub struct Utf8;
@@ -84,6 +84,7 @@ impl EncodingType for Utf8 {
         Ok(source.get(index).copied())
     }
 
+    #[inline(always)]
     fn check_calendar_key(key: &[u8]) -> bool {
         matches!(key, [b'u', b'-', b'c', b'a'])
     }

@@ -1,4 +1,4 @@
-//! What a text, or an answer to an annotation, can be refused for, and what is written of it.
+//! What a text, or a reply to an annotation, can be refused for, and what is written of it.
 
 ghost use Rattle.std.specs.Prelude.{◌≡◌};
 ghost use Rattle.ixdtf.specs.table.Faults.{fault_of};
@@ -7,20 +7,20 @@ ghost use Rattle.ixdtf.specs.table.ErrorEquality.{place_of, location_of};
 
 use std::fmt;
 
-/// Why a reader refused a text, or an answer to an annotation.
+/// Why a reader refused a text, or a reply to an annotation.
 ///
-/// Each error that a reader answers for a text has a row in the fault table (`docs/FAULTS.md`), which says at which place of
-/// the text it comes. `CriticalDuplicateCalendar` and `UnrecognizedCritical` come for answers. The names and the texts are
+/// Each error that a reader returns for a text has a row in the fault table (`docs/FAULTS.md`), which says at which place of
+/// the text it comes. `CriticalDuplicateCalendar` and `UnrecognizedCritical` come for replies. The names and the texts are
 /// those of the Rust crate, as they are spelled there.
 ///
 /// The lifetime is that of a location. At the root of the crate `ParseError` is this type at `'static`.
 #[derive(Clone, Copy, Debug)]
 pub enum ParseError<'s> {
-    /// A mistake of the reader itself. No reader answers it.
+    /// A mistake of the reader itself. No reader returns it.
     ImplAssert,
     /// The next unit stands for no letter. Each 8-bit unit stands for one, so a `Utf8` source never has this error.
     NonAsciiCodePoint,
-    /// No reader answers it.
+    /// No reader returns it.
     ParseFloat,
     /// The text ends where more has to follow. The location is `digit` where a digit has to follow, `Date` right after a
     /// year, and `AmbiguousAnnotation` after the `[` or `[!` of a first bracket, or in a first bracket that begins with a
@@ -42,9 +42,9 @@ pub enum ParseError<'s> {
     DateMonth,
     /// Another letter stands in the place of a day's digit.
     DateDay,
-    /// No reader answers it.
+    /// No reader returns it.
     DateUnexpectedEnd,
-    /// No reader answers it.
+    /// No reader returns it.
     TimeRequired,
     /// Another letter stands in the place of an hour's digit, or the hour is past 23, in a time or in an offset.
     TimeHour,
@@ -60,16 +60,16 @@ pub enum ParseError<'s> {
     DateSeparator,
     /// A time has one of its two colons: after `12:00` a digit follows, or after `1200` a colon does.
     TimeSeparator,
-    /// No reader answers it.
+    /// No reader returns it.
     DecimalSeparator,
-    /// No reader answers it.
+    /// No reader returns it.
     InvalidAnnotation,
-    /// No reader answers it.
+    /// No reader returns it.
     AnnotationOpen,
     /// A bracket is not closed: the text ends after the zone name or the annotation's value in it, or after the offset in it
     /// the text ends or another letter stands.
     AnnotationClose,
-    /// No reader answers it.
+    /// No reader returns it.
     AnnotationChar,
     /// The text ends in the key of an annotation, before its `=`.
     AnnotationKeyValueSeparator,
@@ -86,10 +86,10 @@ pub enum ParseError<'s> {
     /// A colon or a digit follows the minute of an offset that may have no seconds: one in brackets, or one that
     /// `parse_identifier` reads.
     InvalidMinutePrecisionOffset,
-    /// An answer to an annotation has the key `u-ca` and another value than the first answer with this key, and one of the
-    /// two is critical. Without a handler each annotation is its own answer.
+    /// A reply to an annotation has the key `u-ca` and another value than the first reply with this key, and one of the
+    /// two is critical. Without a handler each annotation is its own reply.
     CriticalDuplicateCalendar,
-    /// An answer to an annotation is critical, and its key is not `u-ca`. Without a handler each annotation is its own answer.
+    /// A reply to an annotation is critical, and its key is not `u-ca`. Without a handler each annotation is its own reply.
     UnrecognizedCritical,
     /// A letter stands where a time zone begins, and none begins so. From `parse_iana_identifier` the empty text has this
     /// error too.

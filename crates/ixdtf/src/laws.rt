@@ -9,7 +9,7 @@ use crate::error;
 use crate::parsers::IxdtfParser;
 use crate::records::{Annotation, IxdtfParseRecord};
 
-/// Reads with a handler that answers `None` to each annotation: the record has no calendar, and no answer is refused.
+/// Reads with a handler that replies `None` to each annotation: the record has no calendar, and no reply is refused.
 pub(crate) fn parse_unanswered<'a, 's, T: EncodingType, F>(
     parser: &mut IxdtfParser<'a, T>,
     handler: F,
@@ -17,7 +17,8 @@ pub(crate) fn parse_unanswered<'a, 's, T: EncodingType, F>(
 where
     F: FnMut(Annotation<'a, T>) -> Option<Annotation<'a, T>>,
     requires callable { F.IsAlwaysCallable handler }
-    requires unanswered { (state : F) (annotation : _) (answer : _) (next : F) → F.step state annotation answer next → answer ≡ None }
+    requires unanswered { (state : F) (annotation : _) (reply : _) (next : F) →
+        F.step state annotation reply next → reply ≡ None }
     ensures calendar { IfOk result (λ found. found.calendar ≡ None) }
     ensures unrecognized { IfErr result (λ e. fault_of e ≢ UnrecognizedCritical) }
     ensures duplicate { IfErr result (λ e. fault_of e ≢ CriticalDuplicateCalendar) }

@@ -6,17 +6,16 @@
 //! [`parsers::IxdtfParser::parse_with_annotation_handler`] asks the caller about each annotation.
 //! [`parsers::TimeZoneParser`] reads a text that is an offset, a time zone or the name of one alone.
 //!
-//! Each reader answers `Ok` exactly where the grammar has the source and no answer to an annotation is refused, and else an
-//! error: one that the fault table gives, or that of the refused answer. It takes no memory, and returns on every input.
+//! Each reader returns `Ok` exactly where the grammar has the source and no reply to an annotation is refused, and else an
+//! error: one that the fault table gives, or that of the refused reply. It takes no memory, and returns on every input.
 //!
 //! - [`parsers`]: the readers.
-//! - [`records`]: what they answer.
+//! - [`records`]: what they return.
 //! - [`ParseError`]: why they refused.
 //! - [`encoding`]: the units of a source.
 //!
-//! The definitions that the contracts cite are in `specs/`: the grammar in `Dates`, `Times`, `Fractions`, `Offsets`,
-//! `ZoneNames`, `Brackets`, `Pairs`, `Cores` and `Languages`, the fault table in `FaultTable` and `Rows`, and what answers to
-//! annotations make of a text in `Handlers`. `docs/` tells them in words.
+//! The definitions that the contracts cite are in `specs/`: the grammar in `language`, the fault table in `table`, what a
+//! contract sees in `Views`, and what replies to annotations make of a text in `Handlers`. `docs/` tells them in words.
 #![tactic(auto)]
 
 mod cursor;
@@ -28,8 +27,8 @@ pub mod parsers;
 pub mod records;
 mod stop;
 
-/// Why a reader refused a text, or an answer to an annotation.
+/// Why a reader refused a text, or a reply to an annotation.
 pub type ParseError = error::ParseError<'static>;
 
-/// What a reader answers: what it found, or why it refused.
+/// What a reader returns: what it found, or why it refused.
 pub type ParserResult<T> = Result<T, ParseError>;

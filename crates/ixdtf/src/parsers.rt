@@ -23,9 +23,8 @@ mod time;
 mod timezone;
 mod zones;
 
-pub use self::zones::TimeZoneParser;
-
 use self::texts::parse_text;
+pub use self::zones::TimeZoneParser;
 use crate::cursor::Cursor;
 use crate::encoding::{EncodingType, Utf8};
 use crate::records::{Annotation, IxdtfParseRecord};
@@ -107,8 +106,8 @@ impl<'a, T: EncodingType> IxdtfParser<'a, T> {
     /// 2024-03-02[!a=b]          Err(UnrecognizedCritical)
     /// ```
     ///
-    /// After `Ok` nothing is left to be read. After an error all that was still to be read still is, so a second call gives
-    /// the same answer.
+    /// After `Ok` nothing is left to be read. After an error all that was still to be read still is, so a second call returns
+    /// the same.
     ///
     /// # Errors
     ///
@@ -140,10 +139,12 @@ impl<'a, T: EncodingType> IxdtfParser<'a, T> {
     /// - `InvalidEnd` at any other letter after a date, a time, an offset or a bracket;
     /// - `NonAsciiCodePoint` at a unit that stands for no letter, which no 8-bit unit does.
     pub fn parse(&mut self) -> ParserResult<IxdtfParseRecord<'a, T>>
-        // `Ok` exactly with the record that the text gives, where each pair answers for itself.
-        ensures ok { (p : Parsed) → (returned (parsed_of T.number) result ≡ Ok p) ↔ PlainRecord reader_parse (map T.letter self.old.rest) p }
+        // `Ok` exactly with the record that the text gives, where each pair replies for itself.
+        ensures ok { (p : Parsed) → (returned (parsed_of T.number) result ≡ Ok p) ↔
+            PlainRecord reader_parse (map T.letter self.old.rest) p }
         // `Err` only with a fault that it gives so.
-        ensures err { IfErr result (λ e. PlainFault reader_parse (map T.letter self.old.rest) (fault_of e)) }
+        ensures err { IfErr result
+            (λ e. PlainFault reader_parse (map T.letter self.old.rest) (fault_of e)) }
 
         // None of the errors that no reader gives.
         ensures comes { IfErr result (λ e. IsFalse (never_comes (fault_of e))) }
@@ -151,6 +152,7 @@ impl<'a, T: EncodingType> IxdtfParser<'a, T> {
         ensures empty { OnOk result (self.new.rest ≡ []) }
         ensures unchanged { OnErr result (self.new.rest ≡ self.old.rest) }
         ensures looks { self.new.looks ≤ self.old.looks + most_looks self.old.rest }
+        // The count of looks never goes down.
         ensures counted { self.old.looks ≤ self.new.looks }
     {
         self.parse_with_annotation_handler(|annotation| Some(annotation))
@@ -158,10 +160,10 @@ impl<'a, T: EncodingType> IxdtfParser<'a, T> {
 
     /// Reads as [`parse`](Self::parse) does, and asks the handler about each annotation of a key and a value.
     ///
-    /// The handler is called once on each annotation whose bracket was read whole, in order, up to the first answer that is
-    /// refused or the first fault of the text. What it answers stands in the annotation's place, and may be another
-    /// annotation; `None` is passed over. The record's `calendar` is the value of the first answer whose key is `u-ca`, a
-    /// slice of that answer, which need not be of the source. `|annotation| Some(annotation)` gives [`parse`](Self::parse).
+    /// The handler is called once on each annotation whose bracket was read whole, in order, up to the first reply that is
+    /// refused or the first fault of the text. What it replies stands in the annotation's place, and may be another
+    /// annotation; `None` is passed over. The record's `calendar` is the value of the first reply whose key is `u-ca`, a
+    /// slice of that reply, which need not be of the source. `|annotation| Some(annotation)` gives [`parse`](Self::parse).
     ///
     /// ```text
     /// 2020-01-01[a=b][!c=d][e=f]    |annotation| Some(annotation)    two calls, then Err(UnrecognizedCritical)
@@ -172,12 +174,12 @@ impl<'a, T: EncodingType> IxdtfParser<'a, T> {
     /// The handler has to be one that may be called at any time, in any state that it reached, on any annotation.
     ///
     /// After `Ok` nothing is left to be read. After an error what was still to be read still is. Calls that were made stay
-    /// made. The answer is a [`ParserResult`]: the lifetime of its error may be any, and so also `'static`.
+    /// made. The result is a [`ParserResult`]: the lifetime of its error may be any, and so also `'static`.
     ///
     /// # Errors
     ///
-    /// Those of [`parse`](Self::parse), where `CriticalDuplicateCalendar` and `UnrecognizedCritical` come for the answers
-    /// alone: the first answer that is refused ends the call, and nothing after its bracket counts.
+    /// Those of [`parse`](Self::parse), where `CriticalDuplicateCalendar` and `UnrecognizedCritical` come for the replies
+    /// alone: the first reply that is refused ends the call, and nothing after its bracket counts.
     pub fn parse_with_annotation_handler<'s, F>(
         &mut self,
         mut handler: F,
@@ -187,8 +189,9 @@ impl<'a, T: EncodingType> IxdtfParser<'a, T> {
         // The handler may be called at any time, in any state that it reached, on any annotation.
         requires callable { F.IsAlwaysCallable handler }
         // For the one chain of its calls: `Ok` exactly with the record, and `Err` only with a fault, that the text and the
-        // answers give.
-        ensures handled { Handled T.number F.step handler reader_parse (map T.letter self.old.rest) (returned (parsed_of T.number) result) }
+        // replies give.
+        ensures handled { Handled T.number F.step handler reader_parse (map T.letter self.old.rest)
+            (returned (parsed_of T.number) result) }
 
         // None of the errors that no reader gives.
         ensures comes { IfErr result (λ e. IsFalse (never_comes (fault_of e))) }
@@ -196,9 +199,9 @@ impl<'a, T: EncodingType> IxdtfParser<'a, T> {
         ensures empty { OnOk result (self.new.rest ≡ []) }
         ensures unchanged { OnErr result (self.new.rest ≡ self.old.rest) }
         ensures looks { self.new.looks ≤ self.old.looks + most_looks self.old.rest }
+        // The count of looks never goes down.
         ensures counted { self.old.looks ≤ self.new.looks }
     {
-        let start = self.cursor.rest();
         let mut found: IxdtfParseRecord<'a, T> = IxdtfParseRecord {
             date: None,
             time: None,
@@ -206,10 +209,14 @@ impl<'a, T: EncodingType> IxdtfParser<'a, T> {
             tz: None,
             calendar: None,
         };
-        match parse_text::<T, F>(&mut self.cursor, &mut handler, &mut found) {
-            Ok(()) => Ok(found),
+        let mut here = self.cursor.take();
+        match parse_text::<T, F>(&mut here, &mut handler, &mut found) {
+            Ok(()) => {
+                self.cursor = here;
+                Ok(found)
+            }
             Err(stop) => {
-                self.cursor.go_back(start);
+                self.cursor.count(here);
                 Err(stop.error())
             }
         }

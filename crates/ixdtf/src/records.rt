@@ -1,4 +1,4 @@
-//! The records that the readers answer: dates, times, offsets, time zones and fractions of a second.
+//! The records that the readers return: dates, times, offsets, time zones and fractions of a second.
 
 ghost use Rattle.std.specs.Prelude.{◌≡◌, ◌+◌, ◌-◌, ◌*◌, ◌<◌, ◌≤◌, ◌^◌, min};
 ghost use Rattle.ixdtf.specs.language.Fractions.{FractionParts, nanoseconds_of};
@@ -19,7 +19,7 @@ pub struct IxdtfParseRecord<'a, T: EncodingType> {
     /// The time zone in brackets (`time-zone` of RFC 9557, section 4.1).
     pub tz: Option<TimeZoneAnnotation<'a, T>>,
     /// The units of the value of the first annotation with the key `u-ca` (`suffix-tag` of RFC 9557, section 4.1), which
-    /// names a calendar; where a handler was asked, those of the first such answer. No list of calendars is asked.
+    /// names a calendar; where a handler was asked, those of the first such reply. No list of calendars is asked.
     pub calendar: Option<&'a [T::CodeUnit]>,
 }
 

@@ -13,7 +13,7 @@ use Rattle.ixdtf.specs.language.Letters.{Text}
 use Rattle.ixdtf.specs.language.Letters.Letter.{Plain}
 use Rattle.ixdtf.specs.language.Letters.{sign, hyphen, zulu}
 use Rattle.ixdtf.specs.language.Shapes.{one}
-use Rattle.ixdtf.specs.language.Times.{TimeShape, ClockOf, writes_seconds}
+use Rattle.ixdtf.specs.language.Times.{Clock, TimeShape, ClockOf, writes_seconds}
 
 -- `-` is negative
 abbrev pub sign_of : ℕ → Sign
@@ -31,27 +31,24 @@ full_of c time = FullPrecisionOffset (record { minute_precision_offset = minutes
 abbrev pub offset_of : ℕ → Bool → TimeRecord → UtcOffsetRecord
 offset_of c in_full time = if in_full then full_of c time else MinutePrecision (minutes_of c time)
 
--- a sign, and one of the five shapes of a time
-pub record IsOffset (text : Text) (offset : UtcOffsetRecord) : Type 0 where
+-- a sign, and a time of a shape that the clock has, and what they stand for
+pub record IsSigned {O : Type 0} (written_as : Clock) (record_of : ℕ → TimeShape → TimeRecord → O) (text : Text) (offset : O) : Type 0 where
   pub c : ℕ
   pub body : Text
   pub shape : TimeShape
   pub time : TimeRecord
   pub is : text ≡ Plain c ∷ body
   pub sign : IsTrue (sign c)
-  pub clock : ClockOf clocks.Offset shape body time
-  pub value : offset ≡ offset_of c (writes_seconds shape) time
+  pub clock : ClockOf written_as shape body time
+  pub value : offset ≡ record_of c shape time
+
+-- a sign, and one of the five shapes of a time
+abbrev pub IsOffset : Text → UtcOffsetRecord → Type 0
+IsOffset text offset = IsSigned clocks.Offset (λ c shape time. offset_of c (writes_seconds shape) time) text offset
 
 abbrev pub IsOffsetOrZ : Text → UtcOffsetRecordOrZ → Type 0
 IsOffsetOrZ text found = ((offset : UtcOffsetRecord) × IsOffset text offset × (found ≡ Offset offset)) ⊎ (one zulu text × (found ≡ Z))
 
--- an offset without seconds
-pub record IsMinuteOffset (text : Text) (offset : MinutePrecisionOffset) : Type 0 where
-  pub c : ℕ
-  pub body : Text
-  pub shape : TimeShape
-  pub time : TimeRecord
-  pub is : text ≡ Plain c ∷ body
-  pub sign : IsTrue (sign c)
-  pub clock : ClockOf clocks.MinuteOffset shape body time
-  pub value : offset ≡ minutes_of c time
+-- the same without seconds
+abbrev pub IsMinuteOffset : Text → MinutePrecisionOffset → Type 0
+IsMinuteOffset text offset = IsSigned clocks.MinuteOffset (λ c shape time. minutes_of c time) text offset

@@ -27,12 +27,10 @@ pub fn parse_core<'a, T: EncodingType>(
 ) -> Result<bool, Stop>
     requires no_time { found.old.time ≡ None }
     requires no_offset { found.old.offset ≡ None }
-    ensures core {
-        Reads T.letter (λ more. (core_in found.new, more)) cursor.old result cursor.new
-            (date_time_core_at error_of)
-    }
+    ensures core { Reads T.letter (λ more. (core_in found.new, more)) cursor.old result cursor.new
+        (date_time_core_at error_of) }
     ensures kept { KeepsBrackets found.old found.new }
-    ensures looks { Spends 42 cursor.old cursor.new }
+    ensures looks { Spends 40 cursor.old cursor.new }
 {
     let date = parse_date(cursor)?;
     parse_after_date(cursor, date, found)
@@ -40,10 +38,7 @@ pub fn parse_core<'a, T: EncodingType>(
 
 /// Reads what stands after a date.
 #[inline(always)]
-#[tactic(auto, unfolding(
-    crate::specs::reading::Cores::after_date_at,
-    crate::specs::reading::Cores::time_core_at
-))]
+#[tactic(auto, unfolding(crate::specs::reading::Cores::after_date_at, crate::specs::reading::Cores::time_core_at))]
 fn parse_after_date<'a, T: EncodingType>(
     cursor: &mut Cursor<'a, T>,
     date: DateRecord,
@@ -51,10 +46,8 @@ fn parse_after_date<'a, T: EncodingType>(
 ) -> Result<bool, Stop>
     requires no_time { found.old.time ≡ None }
     requires no_offset { found.old.offset ≡ None }
-    ensures core {
-        Reads T.letter (λ more. (core_in found.new, more)) cursor.old result cursor.new
-            (after_date_at error_of date)
-    }
+    ensures core { Reads T.letter (λ more. (core_in found.new, more)) cursor.old result cursor.new
+        (after_date_at error_of date) }
     ensures kept { KeepsBrackets found.old found.new }
     ensures looks { Spends 29 cursor.old cursor.new }
 {
@@ -71,20 +64,15 @@ fn parse_after_date<'a, T: EncodingType>(
 
 /// Reads an offset or `Z` after a time, where there is one.
 #[inline(always)]
-#[tactic(auto, unfolding(
-    crate::specs::reading::Cores::after_time_at,
-    crate::specs::reading::Cores::offset_core_at
-))]
+#[tactic(auto, unfolding(crate::specs::reading::Cores::after_time_at, crate::specs::reading::Cores::offset_core_at))]
 fn parse_after_time<'a, T: EncodingType>(
     cursor: &mut Cursor<'a, T>,
     clocked: Clocked,
     found: &mut IxdtfParseRecord<'a, T>,
 ) -> Result<bool, Stop>
     requires no_offset { found.old.offset ≡ None }
-    ensures core {
-        Reads T.letter (λ more. (core_in found.new, more)) cursor.old result cursor.new
-            (after_time_at error_of found.old.date (open_time_of clocked))
-    }
+    ensures core { Reads T.letter (λ more. (core_in found.new, more)) cursor.old result cursor.new
+        (after_time_at error_of found.old.date (open_time_of clocked)) }
     ensures kept { KeepsBrackets found.old found.new }
     ensures looks { Spends 15 cursor.old cursor.new }
 {
@@ -108,16 +96,11 @@ fn parse_after_time<'a, T: EncodingType>(
 /// Wants the end of the text or a `[` after a core, and returns whether it is the `[`, which is taken off: `InvalidEnd` at
 /// any other letter.
 #[inline(always)]
-#[tactic(auto, unfolding(
-    crate::specs::reading::Cores::core_end_at,
-    crate::specs::reading::Looks::peek_by
-))]
+#[tactic(auto, unfolding(crate::specs::reading::Cores::core_end_at, crate::specs::reading::Looks::peek_by))]
 fn close_core<'a, T: EncodingType>(cursor: &mut Cursor<'a, T>) -> Result<bool, Stop>
-    ensures core {
-        (name : LineName) (core : Core) →
-            Reads T.letter (λ more. (core, more)) cursor.old result cursor.new
-                (core_end_at error_of name core)
-    }
+    ensures core { (name : LineName) (core : Core) →
+        Reads T.letter (λ more. (core, more)) cursor.old result cursor.new
+        (core_end_at error_of name core) }
     ensures looks { Spends 1 cursor.old cursor.new }
 {
     match cursor.look()? {

@@ -15,13 +15,12 @@ use crate::records::DateRecord;
 use crate::stop::Stop;
 
 /// Reads a date.
+#[inline(always)]
 #[tactic(auto, unfolding(crate::specs::reading::Dates::date_at))]
 pub fn parse_date<'a, T: EncodingType>(cursor: &mut Cursor<'a, T>) -> Result<DateRecord, Stop>
-    ensures date {
-        Reads T.letter (λ date. date) cursor.old result cursor.new
-            (date_at error_of)
-    }
-    ensures looks { Spends 13 cursor.old cursor.new }
+    ensures date { Reads T.letter (λ date. date) cursor.old result cursor.new
+        (date_at error_of) }
+    ensures looks { Spends 11 cursor.old cursor.new }
 {
     let year = parse_date_year(cursor)?;
     parse_after_year(cursor, year)
@@ -30,12 +29,11 @@ pub fn parse_date<'a, T: EncodingType>(cursor: &mut Cursor<'a, T>) -> Result<Dat
 // ==== Years ====
 
 /// Reads a year: four digits, or a sign and six digits.
+#[inline(always)]
 #[tactic(auto, using(crate::proofs::code::DigitClasses::digit_no_sign), unfolding(crate::specs::reading::Dates::year_at, crate::specs::reading::Looks::next_by))]
 fn parse_date_year<'a, T: EncodingType>(cursor: &mut Cursor<'a, T>) -> Result<i32, Stop>
-    ensures year {
-        Reads T.letter (λ year. year) cursor.old result cursor.new
-            (year_at error_of)
-    }
+    ensures year { Reads T.letter (λ year. year) cursor.old result cursor.new
+        (year_at error_of) }
     ensures looks { Spends 7 cursor.old cursor.new }
 {
     match cursor.look()? {
@@ -53,16 +51,15 @@ fn parse_date_year<'a, T: EncodingType>(cursor: &mut Cursor<'a, T>) -> Result<i3
 }
 
 /// Reads the other three digits of a year of four.
+#[inline(always)]
 #[tactic(auto, unfolding(crate::specs::reading::Dates::plain_year_at, crate::specs::reading::Looks::digits_by))]
 fn parse_plain_year<'a, T: EncodingType>(
     cursor: &mut Cursor<'a, T>,
     thousands: u8,
 ) -> Result<i32, Stop>
     requires digit { IsTrue (digit thousands) }
-    ensures year {
-        Reads T.letter (λ year. year) cursor.old result cursor.new
-            (plain_year_at error_of thousands)
-    }
+    ensures year { Reads T.letter (λ year. year) cursor.old result cursor.new
+        (plain_year_at error_of thousands) }
     ensures looks { Spends 3 cursor.old cursor.new }
 {
     let hundreds = cursor.next_digit(Stop::DateYear)?;
@@ -77,15 +74,14 @@ fn parse_plain_year<'a, T: EncodingType>(
 }
 
 /// Reads the six digits of a year with a sign.
+#[inline(always)]
 #[tactic(auto, unfolding(crate::specs::reading::Dates::extended_year_at))]
 fn parse_extended_year<'a, T: EncodingType>(
     cursor: &mut Cursor<'a, T>,
     sign: u8,
 ) -> Result<i32, Stop>
-    ensures year {
-        Reads T.letter (λ year. year) cursor.old result cursor.new
-            (extended_year_at error_of sign)
-    }
+    ensures year { Reads T.letter (λ year. year) cursor.old result cursor.new
+        (extended_year_at error_of sign) }
     ensures looks { Spends 6 cursor.old cursor.new }
 {
     let value = parse_six_digits(cursor)?;
@@ -98,13 +94,12 @@ fn parse_extended_year<'a, T: EncodingType>(
     Ok(-(value as i32))
 }
 
-/// Reads six digits, and answers their number.
+/// Reads six digits, and returns their number.
+#[inline(always)]
 #[tactic(auto, unfolding(crate::specs::reading::Looks::digits_by))]
 fn parse_six_digits<'a, T: EncodingType>(cursor: &mut Cursor<'a, T>) -> Result<u32, Stop>
-    ensures number {
-        Reads T.letter (λ number. number) cursor.old result cursor.new
-            (λ text. number_of (digits_by (digit_look DateExtendedYear) 6 text))
-    }
+    ensures number { Reads T.letter (λ number. number) cursor.old result cursor.new
+        (λ text. number_of (digits_by (digit_look DateExtendedYear) 6 text)) }
     ensures small { IfOk result (λ number. number < 1000000) }
     ensures looks { Spends 6 cursor.old cursor.new }
 {
@@ -127,16 +122,15 @@ fn parse_six_digits<'a, T: EncodingType>(cursor: &mut Cursor<'a, T>) -> Result<u
 // ==== Months and days ====
 
 /// Reads the month and the day after a year: with hyphens where the first one stands, else without.
+#[inline(always)]
 #[tactic(auto, unfolding(crate::specs::reading::Dates::after_year_at, crate::specs::reading::Looks::next_by))]
 fn parse_after_year<'a, T: EncodingType>(
     cursor: &mut Cursor<'a, T>,
     year: i32,
 ) -> Result<DateRecord, Stop>
-    ensures date {
-        Reads T.letter (λ date. date) cursor.old result cursor.new
-            (after_year_at error_of year)
-    }
-    ensures looks { Spends 6 cursor.old cursor.new }
+    ensures date { Reads T.letter (λ date. date) cursor.old result cursor.new
+        (after_year_at error_of year) }
+    ensures looks { Spends 4 cursor.old cursor.new }
 {
     match cursor.look()? {
         None => Err(Stop::AbruptDate),
@@ -153,16 +147,15 @@ fn parse_after_year<'a, T: EncodingType>(
 }
 
 /// Reads the month after a hyphen, and the day.
+#[inline(always)]
 #[tactic(auto, unfolding(crate::specs::reading::Dates::hyphened_date_at, crate::specs::reading::Dates::month_in_range, crate::specs::reading::Looks::digits_by))]
 fn parse_hyphenated_date<'a, T: EncodingType>(
     cursor: &mut Cursor<'a, T>,
     year: i32,
 ) -> Result<DateRecord, Stop>
-    ensures date {
-        Reads T.letter (λ date. date) cursor.old result cursor.new
-            (hyphened_date_at error_of year)
-    }
-    ensures looks { Spends 5 cursor.old cursor.new }
+    ensures date { Reads T.letter (λ date. date) cursor.old result cursor.new
+        (hyphened_date_at error_of year) }
+    ensures looks { Spends 3 cursor.old cursor.new }
 {
     let (tens, ones) = cursor.two_digits(Stop::DateMonth)?;
     let month = check_month(digits_value(tens, ones))?;
@@ -170,16 +163,15 @@ fn parse_hyphenated_date<'a, T: EncodingType>(
 }
 
 /// Reads the second hyphen, and the day after it.
+#[inline(always)]
 #[tactic(auto, unfolding(crate::specs::reading::Dates::after_hyphened_month_at, crate::specs::reading::Dates::hyphened_day_at, crate::specs::reading::Dates::day_in_range, crate::specs::reading::Looks::next_by, crate::specs::reading::Looks::digits_by))]
 fn parse_hyphenated_day<'a, T: EncodingType>(
     cursor: &mut Cursor<'a, T>,
     year: i32,
     month: u8,
 ) -> Result<DateRecord, Stop>
-    ensures date {
-        Reads T.letter (λ date. date) cursor.old result cursor.new
-            (after_hyphened_month_at error_of year month)
-    }
+    ensures date { Reads T.letter (λ date. date) cursor.old result cursor.new
+        (after_hyphened_month_at error_of year month) }
     ensures looks { Spends 3 cursor.old cursor.new }
 {
     match cursor.look()? {
@@ -191,6 +183,7 @@ fn parse_hyphenated_day<'a, T: EncodingType>(
 }
 
 /// Reads the month's second digit, and the day.
+#[inline(always)]
 #[tactic(auto, unfolding(crate::specs::reading::Dates::plain_date_at, crate::specs::reading::Dates::month_in_range, crate::specs::reading::Looks::digits_by))]
 fn parse_plain_date<'a, T: EncodingType>(
     cursor: &mut Cursor<'a, T>,
@@ -198,10 +191,8 @@ fn parse_plain_date<'a, T: EncodingType>(
     tens: u8,
 ) -> Result<DateRecord, Stop>
     requires digit { IsTrue (digit tens) }
-    ensures date {
-        Reads T.letter (λ date. date) cursor.old result cursor.new
-            (plain_date_at error_of year tens)
-    }
+    ensures date { Reads T.letter (λ date. date) cursor.old result cursor.new
+        (plain_date_at error_of year tens) }
     ensures looks { Spends 3 cursor.old cursor.new }
 {
     let ones = cursor.next_digit(Stop::DateMonth)?;
@@ -210,16 +201,15 @@ fn parse_plain_date<'a, T: EncodingType>(
 }
 
 /// Reads the day right after a month: a hyphen there is `DateSeparator`.
+#[inline(always)]
 #[tactic(auto, unfolding(crate::specs::reading::Dates::after_plain_month_at, crate::specs::reading::Dates::plain_day_at, crate::specs::reading::Dates::day_in_range, crate::specs::reading::Looks::next_by, crate::specs::reading::Looks::digits_by))]
 fn parse_plain_day<'a, T: EncodingType>(
     cursor: &mut Cursor<'a, T>,
     year: i32,
     month: u8,
 ) -> Result<DateRecord, Stop>
-    ensures date {
-        Reads T.letter (λ date. date) cursor.old result cursor.new
-            (after_plain_month_at error_of year month)
-    }
+    ensures date { Reads T.letter (λ date. date) cursor.old result cursor.new
+        (after_plain_month_at error_of year month) }
     ensures looks { Spends 2 cursor.old cursor.new }
 {
     match cursor.look()? {
@@ -235,8 +225,10 @@ fn parse_plain_day<'a, T: EncodingType>(
 }
 
 /// The month, where it is one.
+#[inline(always)]
 fn check_month(month: u8) -> Result<u8, Stop>
-    ensures { Checks (λ month. month) result month (nat_le 1 month && nat_le month 12) InvalidMonthRange }
+    ensures { Checks (λ month. month) result month (nat_le 1 month && nat_le month 12)
+        InvalidMonthRange }
 {
     if month < 1 || month > 12 {
         return Err(Stop::InvalidMonthRange);
@@ -245,8 +237,10 @@ fn check_month(month: u8) -> Result<u8, Stop>
 }
 
 /// The date, where its month has the day.
+#[inline(always)]
 fn check_date(year: i32, month: u8, day: u8) -> Result<DateRecord, Stop>
-    ensures { Checks (λ date. date) result (date_of year month day) (nat_le 1 day && nat_le day (month_length year month)) InvalidDayRange }
+    ensures { Checks (λ date. date) result (date_of year month day)
+        (nat_le 1 day && nat_le day (month_length year month)) InvalidDayRange }
 {
     if day < 1 || day > days_in_month(year, month) {
         return Err(Stop::InvalidDayRange);
@@ -255,6 +249,7 @@ fn check_date(year: i32, month: u8, day: u8) -> Result<DateRecord, Stop>
 }
 
 /// The length of a month in the Gregorian calendar.
+#[inline(always)]
 fn days_in_month(year: i32, month: u8) -> u8
     ensures { result ≡ month_length year month }
 {
@@ -266,6 +261,7 @@ fn days_in_month(year: i32, month: u8) -> u8
 }
 
 /// Whether the year has 29 days in February.
+#[inline(always)]
 fn is_leap_year(year: i32) -> bool
     ensures { result ≡ is_leap year }
 {

@@ -11,7 +11,9 @@ use crate::cursor::Cursor;
 use crate::encoding::EncodingType;
 use crate::parsers::grammar::{is_ascii_sign, is_hyphen};
 use crate::parsers::time::{Clock, Clocked, parse_clock};
-use crate::records::{FullPrecisionOffset, MinutePrecisionOffset, Sign, TimeRecord, UtcOffsetRecord};
+use crate::records::{
+    FullPrecisionOffset, MinutePrecisionOffset, Sign, TimeRecord, UtcOffsetRecord,
+};
 use crate::stop::Stop;
 
 /// The sign of a `+` or a `-`.
@@ -60,18 +62,13 @@ pub fn offset_from(sign: u8, clocked: Clocked) -> UtcOffsetRecord
 
 /// Reads an offset after its sign, and wants the end.
 #[inline(always)]
-#[tactic(auto, unfolding(
-    crate::specs::reading::Zones::offset_alone_at,
-    crate::specs::reading::Looks::peek_by
-))]
+#[tactic(auto, unfolding(crate::specs::reading::Zones::offset_alone_at, crate::specs::reading::Looks::peek_by))]
 fn parse_offset_alone<'a, T: EncodingType>(
     cursor: &mut Cursor<'a, T>,
     sign: u8,
 ) -> Result<UtcOffsetRecord, Stop>
-    ensures offset {
-        Reads T.letter (λ offset. offset) cursor.old result cursor.new
-            (offset_alone_at error_of sign)
-    }
+    ensures offset { Reads T.letter (λ offset. offset) cursor.old result cursor.new
+        (offset_alone_at error_of sign) }
     ensures looks { Spends 14 cursor.old cursor.new }
 {
     let clocked = parse_clock(cursor, Clock::Offset)?;
@@ -81,16 +78,11 @@ fn parse_offset_alone<'a, T: EncodingType>(
 
 /// Reads an offset, and wants the end.
 #[inline(always)]
-#[tactic(auto, unfolding(
-    crate::specs::reading::Zones::offset_at,
-    crate::specs::reading::Looks::next_by
-))]
+#[tactic(auto, unfolding(crate::specs::reading::Zones::offset_at, crate::specs::reading::Looks::next_by))]
 pub fn parse_offset_text<'a, T: EncodingType>(
     cursor: &mut Cursor<'a, T>,
 ) -> Result<UtcOffsetRecord, Stop>
-    ensures offset {
-        Reads T.letter (λ offset. offset) cursor.old result cursor.new (offset_at error_of)
-    }
+    ensures offset { Reads T.letter (λ offset. offset) cursor.old result cursor.new (offset_at error_of) }
     ensures looks { Spends 15 cursor.old cursor.new }
 {
     match cursor.look()? {

@@ -1,11 +1,14 @@
 //! Reading whole texts: a core, a first bracket and the brackets after it.
 
-ghost use Rattle.std.specs.Prelude.{◌≡◌, ◌+◌, ◌*◌, ◌≤◌, [], true, map, length, OnOk, None};
+ghost use Rattle.std.specs.Prelude.{◌≡◌, ◌+◌, ◌*◌, ◌≤◌, [], true, map, length, OnOk, None, option_map};
 ghost use Rattle.ixdtf.specs.language.Readers.CoreKind.{date_time};
 ghost use Rattle.ixdtf.specs.language.Readers.Reader.{bracketed};
+ghost use Rattle.ixdtf.specs.language.Languages.{parsed_with};
+ghost use Rattle.ixdtf.specs.Handlers.{with_calendar, calendar_value, pair_of};
 ghost use Rattle.ixdtf.specs.Views.{parsed_of, most_looks};
-ghost use Rattle.ixdtf.specs.reading.Chains.{TextRead, TextReadAfter};
-ghost use Rattle.ixdtf.specs.reading.Clauses.{yielded, core_in};
+ghost use Rattle.ixdtf.specs.reading.Brackets.{zone_in, pairs_in};
+ghost use Rattle.ixdtf.specs.reading.Chains.{TextRead, TextReadAfter, first_pairs};
+ghost use Rattle.ixdtf.specs.reading.Clauses.{yielded, core_in, bracket_of};
 
 use crate::cursor::Cursor;
 use crate::encoding::EncodingType;
@@ -32,10 +35,8 @@ where
     requires no_offset { found.old.offset ≡ None }
     requires no_zone { found.old.tz ≡ None }
     requires no_calendar { found.old.calendar ≡ None }
-    ensures replied {
-        TextRead T.number F.step handler.old handler.new (bracketed date_time)
-            (map T.letter cursor.old.rest) (yielded (λ _. parsed_of T.number found.new) result)
-    }
+    ensures replied { TextRead T.number F.step handler.old handler.new (bracketed date_time)
+        (map T.letter cursor.old.rest) (yielded (λ _. parsed_of T.number found.new) result) }
     ensures empty { OnOk result (cursor.new.rest ≡ []) }
     ensures looks { cursor.new.looks ≤ cursor.old.looks + most_looks cursor.old.rest }
     ensures counted { cursor.old.looks ≤ cursor.new.looks }
@@ -61,10 +62,8 @@ where
     requires callable { F.IsAlwaysCallable handler.old }
     requires no_zone { found.old.tz ≡ None }
     requires no_calendar { found.old.calendar ≡ None }
-    ensures replied {
-        TextReadAfter T.number F.step handler.old handler.new (core_in found.old) true
-            (map T.letter cursor.old.rest) (yielded (λ _. parsed_of T.number found.new) result)
-    }
+    ensures replied { TextReadAfter T.number F.step handler.old handler.new (core_in found.old) true
+        (map T.letter cursor.old.rest) (yielded (λ _. parsed_of T.number found.new) result) }
     ensures empty { OnOk result (cursor.new.rest ≡ []) }
     ensures looks { cursor.new.looks ≤ cursor.old.looks + 3 * length cursor.old.rest + 24 }
     ensures counted { cursor.old.looks ≤ cursor.new.looks }
@@ -87,22 +86,50 @@ where
     requires callable { F.IsAlwaysCallable handler.old }
     requires no_zone { found.old.tz ≡ None }
     requires no_calendar { found.old.calendar ≡ None }
-    ensures replied {
-        TextReadAfter T.number F.step handler.old handler.new (core_in found.old) true
-            (map T.letter cursor.old.rest) (yielded (λ _. parsed_of T.number found.new) result)
-    }
+    ensures replied { TextReadAfter T.number F.step handler.old handler.new (core_in found.old) true
+        (map T.letter cursor.old.rest) (yielded (λ _. parsed_of T.number found.new) result) }
     ensures empty { OnOk result (cursor.new.rest ≡ []) }
     ensures looks { cursor.new.looks ≤ cursor.old.looks + 3 * length cursor.old.rest + 24 }
     ensures counted { cursor.old.looks ≤ cursor.new.looks }
 {
-    let first = match parse_first_bracket(cursor)? {
-        Bracket::Zone(tz) => {
-            found.tz = Some(tz);
+    let bracket = parse_first_bracket(cursor)?;
+    let first = place_bracket(bracket, found);
+    let calendar = parse_annotations::<T, F>(cursor, first, handler)?;
+    place_calendar(calendar, found);
+    Ok(())
+}
+
+/// Writes the zone of a first bracket into the record, or returns its pair.
+#[inline(always)]
+fn place_bracket<'a, T: EncodingType>(
+    bracket: Bracket<'a, T>,
+    found: &mut IxdtfParseRecord<'a, T>,
+) -> Option<Annotation<'a, T>>
+    requires no_zone { found.old.tz ≡ None }
+    requires no_calendar { found.old.calendar ≡ None }
+    ensures pair { first_pairs (option_map (pair_of T.number) result) ≡
+        pairs_in (bracket_of T.number bracket.entry) }
+    ensures zone { parsed_of T.number found.new ≡
+        parsed_with (core_in found.old) (zone_in (bracket_of T.number bracket.entry)) }
+{
+    match bracket {
+        Bracket::Zone(zone) => {
+            found.tz = Some(zone);
             None
         }
         Bracket::Pair(annotation) => Some(annotation),
-    };
-    let calendar = parse_annotations::<T, F>(cursor, first, handler)?;
+    }
+}
+
+/// Writes the value of the calendar that is kept into the record.
+#[inline(always)]
+fn place_calendar<'a, T: EncodingType>(
+    calendar: Option<Annotation<'a, T>>,
+    found: &mut IxdtfParseRecord<'a, T>,
+)
+    ensures { parsed_of T.number found.new ≡
+        with_calendar (parsed_of T.number found.old)
+        (calendar_value (option_map (pair_of T.number) calendar.entry)) }
+{
     found.calendar = calendar.map(|kept| kept.value);
-    Ok(())
 }

@@ -88,13 +88,7 @@ pub struct Clocked {
 
 /// A time of these parts.
 #[inline(always)]
-fn timed(
-    shape: Shape,
-    hour: u8,
-    minute: u8,
-    second: u8,
-    fraction: Option<Fraction>,
-) -> Clocked
+fn timed(shape: Shape, hour: u8, minute: u8, second: u8, fraction: Option<Fraction>) -> Clocked
     ensures { open_time_of result ≡ (shape_of shape, time_of hour minute second fraction) }
 {
     Clocked {
@@ -111,9 +105,7 @@ fn timed(
 /// The number, where it is at most the greatest of its place, else the stop.
 #[inline(always)]
 fn check_most(number: u8, greatest: u8, stop: Stop) -> Result<u8, Stop>
-    ensures {
-        Checks (λ number. number) result number (nat_le number greatest) (fault_of_stop stop)
-    }
+    ensures { Checks (λ number. number) result number (nat_le number greatest) (fault_of_stop stop) }
 {
     if number > greatest {
         return Err(stop);
@@ -123,20 +115,13 @@ fn check_most(number: u8, greatest: u8, stop: Stop) -> Result<u8, Stop>
 
 /// Reads a time, as far as it goes.
 #[inline(always)]
-#[tactic(auto, unfolding(
-    crate::specs::reading::Times::clock_at,
-    crate::specs::reading::Times::hour_from,
-    crate::specs::reading::Looks::in_range,
-    crate::specs::reading::Looks::digits_by
-))]
+#[tactic(auto, unfolding(crate::specs::reading::Times::clock_at, crate::specs::reading::Times::hour_from, crate::specs::reading::Looks::in_range, crate::specs::reading::Looks::digits_by))]
 pub fn parse_clock<'a, T: EncodingType>(
     cursor: &mut Cursor<'a, T>,
     clock: Clock,
 ) -> Result<Clocked, Stop>
-    ensures time {
-        Reads T.letter open_time_of cursor.old result cursor.new
-            (clock_at error_of (clock_of clock))
-    }
+    ensures time { Reads T.letter open_time_of cursor.old result cursor.new
+        (clock_at error_of (clock_of clock)) }
     ensures looks { Spends 13 cursor.old cursor.new }
 {
     let tens = cursor.next_digit(Stop::TimeHour)?;
@@ -153,10 +138,8 @@ fn parse_after_hour<'a, T: EncodingType>(
     clock: Clock,
     hour: u8,
 ) -> Result<Clocked, Stop>
-    ensures time {
-        Reads T.letter open_time_of cursor.old result cursor.new
-            (after_hour_at error_of (clock_of clock) hour)
-    }
+    ensures time { Reads T.letter open_time_of cursor.old result cursor.new
+        (after_hour_at error_of (clock_of clock) hour) }
     ensures looks { Spends 11 cursor.old cursor.new }
 {
     match cursor.look()? {
@@ -174,19 +157,14 @@ fn parse_after_hour<'a, T: EncodingType>(
 
 /// Reads the minute after a colon, and what of the time stands after it.
 #[inline(always)]
-#[tactic(auto, unfolding(
-    crate::specs::reading::Times::colon_minute_at,
-    crate::specs::reading::Looks::in_range
-))]
+#[tactic(auto, unfolding(crate::specs::reading::Times::colon_minute_at, crate::specs::reading::Looks::in_range))]
 fn parse_colon_minute<'a, T: EncodingType>(
     cursor: &mut Cursor<'a, T>,
     clock: Clock,
     hour: u8,
 ) -> Result<Clocked, Stop>
-    ensures time {
-        Reads T.letter open_time_of cursor.old result cursor.new
-            (colon_minute_at error_of (clock_of clock) hour)
-    }
+    ensures time { Reads T.letter open_time_of cursor.old result cursor.new
+        (colon_minute_at error_of (clock_of clock) hour) }
     ensures looks { Spends 10 cursor.old cursor.new }
 {
     let (tens, ones) = cursor.two_digits(Stop::TimeMinuteSecond)?;
@@ -196,11 +174,7 @@ fn parse_colon_minute<'a, T: EncodingType>(
 
 /// Reads the minute's second digit, and what of the time stands after it.
 #[inline(always)]
-#[tactic(auto, unfolding(
-    crate::specs::reading::Times::plain_minute_at,
-    crate::specs::reading::Looks::in_range,
-    crate::specs::reading::Looks::digits_by
-))]
+#[tactic(auto, unfolding(crate::specs::reading::Times::plain_minute_at, crate::specs::reading::Looks::in_range, crate::specs::reading::Looks::digits_by))]
 fn parse_plain_minute<'a, T: EncodingType>(
     cursor: &mut Cursor<'a, T>,
     clock: Clock,
@@ -208,10 +182,8 @@ fn parse_plain_minute<'a, T: EncodingType>(
     tens: u8,
 ) -> Result<Clocked, Stop>
     requires digit { IsTrue (digit tens) }
-    ensures time {
-        Reads T.letter open_time_of cursor.old result cursor.new
-            (plain_minute_at error_of (clock_of clock) hour tens)
-    }
+    ensures time { Reads T.letter open_time_of cursor.old result cursor.new
+        (plain_minute_at error_of (clock_of clock) hour tens) }
     ensures looks { Spends 9 cursor.old cursor.new }
 {
     let ones = cursor.next_digit(Stop::TimeMinuteSecond)?;
@@ -229,10 +201,8 @@ fn parse_after_colon_minute<'a, T: EncodingType>(
     hour: u8,
     minute: u8,
 ) -> Result<Clocked, Stop>
-    ensures time {
-        Reads T.letter open_time_of cursor.old result cursor.new
-            (after_colon_minute_at error_of (clock_of clock) hour minute)
-    }
+    ensures time { Reads T.letter open_time_of cursor.old result cursor.new
+        (after_colon_minute_at error_of (clock_of clock) hour minute) }
     ensures looks { Spends 8 cursor.old cursor.new }
 {
     match cursor.look()? {
@@ -255,10 +225,8 @@ fn parse_after_plain_minute<'a, T: EncodingType>(
     hour: u8,
     minute: u8,
 ) -> Result<Clocked, Stop>
-    ensures time {
-        Reads T.letter open_time_of cursor.old result cursor.new
-            (after_plain_minute_at error_of (clock_of clock) hour minute)
-    }
+    ensures time { Reads T.letter open_time_of cursor.old result cursor.new
+        (after_plain_minute_at error_of (clock_of clock) hour minute) }
     ensures looks { Spends 8 cursor.old cursor.new }
 {
     match cursor.look()? {
@@ -277,10 +245,8 @@ fn next_second_digit<'a, T: EncodingType>(
     cursor: &mut Cursor<'a, T>,
     clock: Clock,
 ) -> Result<u8, Stop>
-    ensures digit {
-        Reads T.letter (λ byte. byte) cursor.old result cursor.new
-            (next_by (digit_look (second_fault (clock_of clock))))
-    }
+    ensures digit { Reads T.letter (λ byte. byte) cursor.old result cursor.new
+        (next_by (digit_look (second_fault (clock_of clock)))) }
     ensures is_digit { IfOk result (λ byte. IsTrue (digit byte)) }
     ensures looks { Spends 1 cursor.old cursor.new }
 {
@@ -296,10 +262,8 @@ fn second_digits<'a, T: EncodingType>(
     cursor: &mut Cursor<'a, T>,
     clock: Clock,
 ) -> Result<(u8, u8), Stop>
-    ensures digits {
-        Reads T.letter (λ ds. Plain ds.0 ∷ Plain ds.1 ∷ []) cursor.old result cursor.new
-            (digits_by (digit_look (second_fault (clock_of clock))) 2)
-    }
+    ensures digits { Reads T.letter (λ ds. Plain ds.0 ∷ Plain ds.1 ∷ []) cursor.old result cursor.new
+        (digits_by (digit_look (second_fault (clock_of clock))) 2) }
     ensures are_digits { IfOk result (λ ds. IsTrue (digit ds.0) × IsTrue (digit ds.1)) }
     ensures looks { Spends 2 cursor.old cursor.new }
 {
@@ -312,10 +276,8 @@ fn second_digits<'a, T: EncodingType>(
 /// The second, where it is at most the greatest one, else the stop.
 #[inline(always)]
 fn check_second(second: u8, clock: Clock) -> Result<u8, Stop>
-    ensures {
-        Checks (λ number. number) result second
-            (nat_le second (greatest_second (clock_of clock))) (second_fault (clock_of clock))
-    }
+    ensures { Checks (λ number. number) result second
+        (nat_le second (greatest_second (clock_of clock))) (second_fault (clock_of clock)) }
 {
     match clock {
         Clock::Time => check_most(second, 60, Stop::TimeSecond),
@@ -325,20 +287,15 @@ fn check_second(second: u8, clock: Clock) -> Result<u8, Stop>
 
 /// Reads the second after a colon, and a fraction where there is one.
 #[inline(always)]
-#[tactic(auto, unfolding(
-    crate::specs::reading::Times::colon_second_at,
-    crate::specs::reading::Looks::in_range
-))]
+#[tactic(auto, unfolding(crate::specs::reading::Times::colon_second_at, crate::specs::reading::Looks::in_range))]
 fn parse_colon_second<'a, T: EncodingType>(
     cursor: &mut Cursor<'a, T>,
     clock: Clock,
     hour: u8,
     minute: u8,
 ) -> Result<Clocked, Stop>
-    ensures time {
-        Reads T.letter open_time_of cursor.old result cursor.new
-            (colon_second_at error_of (clock_of clock) hour minute)
-    }
+    ensures time { Reads T.letter open_time_of cursor.old result cursor.new
+        (colon_second_at error_of (clock_of clock) hour minute) }
     ensures looks { Spends 7 cursor.old cursor.new }
 {
     let (tens, ones) = second_digits(cursor, clock)?;
@@ -348,11 +305,7 @@ fn parse_colon_second<'a, T: EncodingType>(
 
 /// Reads the second's second digit, and a fraction where there is one.
 #[inline(always)]
-#[tactic(auto, unfolding(
-    crate::specs::reading::Times::plain_second_at,
-    crate::specs::reading::Looks::in_range,
-    crate::specs::reading::Looks::digits_by
-))]
+#[tactic(auto, unfolding(crate::specs::reading::Times::plain_second_at, crate::specs::reading::Looks::in_range, crate::specs::reading::Looks::digits_by))]
 fn parse_plain_second<'a, T: EncodingType>(
     cursor: &mut Cursor<'a, T>,
     clock: Clock,
@@ -361,10 +314,8 @@ fn parse_plain_second<'a, T: EncodingType>(
     tens: u8,
 ) -> Result<Clocked, Stop>
     requires digit { IsTrue (digit tens) }
-    ensures time {
-        Reads T.letter open_time_of cursor.old result cursor.new
-            (plain_second_at error_of (clock_of clock) hour minute tens)
-    }
+    ensures time { Reads T.letter open_time_of cursor.old result cursor.new
+        (plain_second_at error_of (clock_of clock) hour minute tens) }
     ensures looks { Spends 6 cursor.old cursor.new }
 {
     let ones = next_second_digit(cursor, clock)?;
@@ -382,10 +333,8 @@ fn parse_after_second<'a, T: EncodingType>(
     minute: u8,
     second: u8,
 ) -> Result<Clocked, Stop>
-    ensures time {
-        Reads T.letter open_time_of cursor.old result cursor.new
-            (after_second_at error_of (clock_of clock) hour minute second)
-    }
+    ensures time { Reads T.letter open_time_of cursor.old result cursor.new
+        (after_second_at error_of (clock_of clock) hour minute second) }
     ensures looks { Spends 5 cursor.old cursor.new }
 {
     match cursor.look()? {
@@ -400,10 +349,6 @@ fn parse_after_second<'a, T: EncodingType>(
 
 /// Reads the digits of a fraction after its decimal mark: `FractionPart` where there is none.
 #[inline(always)]
-#[tactic(auto, unfolding(
-    crate::specs::reading::Times::fraction_at,
-    crate::specs::reading::Looks::next_by
-))]
 fn parse_fraction<'a, T: EncodingType>(
     cursor: &mut Cursor<'a, T>,
     clock: Clock,
@@ -414,13 +359,36 @@ fn parse_fraction<'a, T: EncodingType>(
     }
     ensures looks { Spends 3 cursor.old cursor.new }
 {
-    match cursor.look()? {
-        Some(byte) if byte.is_ascii_digit() => {
-            cursor.step();
-            parse_more_digits(cursor, byte)
-        }
-        _ => Err(Stop::FractionPart),
+    let mut here = cursor.take();
+    let read = parse_digits(&mut here, clock);
+    *cursor = here;
+    read
+}
+
+/// Reads the digits of a fraction. It is not inlined: few texts have one.
+#[inline(never)]
+#[tactic(auto, unfolding(crate::specs::reading::Times::fraction_at, crate::specs::reading::Looks::next_by))]
+fn parse_digits<'a, T: EncodingType>(
+    cursor: &mut Cursor<'a, T>,
+    clock: Clock,
+) -> Result<Fraction, Stop>
+    ensures fraction {
+        Reads T.letter (λ fraction. fraction) cursor.old result cursor.new
+            (fraction_at error_of (clock_of clock))
     }
+    ensures looks { Spends 3 cursor.old cursor.new }
+{
+    let mut here = cursor.take();
+    let read = match here.look() {
+        Ok(Some(byte)) if byte.is_ascii_digit() => {
+            here.step();
+            parse_more_digits(&mut here, byte)
+        }
+        Ok(_) => Err(Stop::FractionPart),
+        Err(stop) => Err(stop),
+    };
+    *cursor = here;
+    read
 }
 
 /// Reads the other digits of a fraction.
@@ -430,9 +398,7 @@ fn parse_more_digits<'a, T: EncodingType>(
     first: u8,
 ) -> Result<Fraction, Stop>
     requires digit { IsTrue (digit first) }
-    ensures fraction {
-        Reads T.letter (λ fraction. fraction) cursor.old result cursor.new (more_digits_at first)
-    }
+    ensures fraction { Reads T.letter (λ fraction. fraction) cursor.old result cursor.new (more_digits_at first) }
     ensures looks { Spends 2 cursor.old cursor.new }
 {
     let mut fraction = Fraction::start(first);

@@ -88,7 +88,8 @@ impl<'a, T: EncodingType> TimeZoneParser<'a, T> {
     /// - `NonAsciiCodePoint` at a unit that stands for no letter, which no 8-bit unit does.
     pub fn parse_identifier(&mut self) -> ParserResult<TimeZoneRecord<'a, T>>
         // `Ok` exactly where the language derives the zone.
-        ensures ok { (zone : Zone) → (returned (zone_of T.number) result ≡ Ok zone) ↔ Derives parse_identifier (map T.letter self.old.rest) (identified zone) [] }
+        ensures ok { (zone : Zone) → (returned (zone_of T.number) result ≡ Ok zone) ↔
+            Derives parse_identifier (map T.letter self.old.rest) (identified zone) [] }
         // `Err` only where a row of the fault table with this error fits.
         ensures err { IfErr result (λ e. HasFault parse_identifier (map T.letter self.old.rest) [] (fault_of e)) }
 
@@ -98,16 +99,17 @@ impl<'a, T: EncodingType> TimeZoneParser<'a, T> {
         ensures empty { OnOk result (self.new.rest ≡ []) }
         ensures unchanged { OnErr result (self.new.rest ≡ self.old.rest) }
         ensures looks { self.new.looks ≤ self.old.looks + most_looks self.old.rest }
+        // The count of looks never goes down.
         ensures counted { self.old.looks ≤ self.new.looks }
     {
-        let start = self.cursor.rest();
-        let mut cursor = self.cursor.take();
-        let read = parse_identifier_text(&mut cursor);
-        self.cursor = cursor;
-        match read {
-            Ok(zone) => Ok(zone),
+        let mut here = self.cursor.take();
+        match parse_identifier_text(&mut here) {
+            Ok(zone) => {
+                self.cursor = here;
+                Ok(zone)
+            }
             Err(stop) => {
-                self.cursor.go_back(start);
+                self.cursor.count(here);
                 Err(stop.error())
             }
         }
@@ -141,7 +143,8 @@ impl<'a, T: EncodingType> TimeZoneParser<'a, T> {
     /// - `NonAsciiCodePoint` at a unit that stands for no letter, which no 8-bit unit does.
     pub fn parse_offset(&mut self) -> ParserResult<UtcOffsetRecord>
         // `Ok` exactly where the language derives the offset.
-        ensures ok { (offset : UtcOffsetRecord) → (returned (λ offset. offset) result ≡ Ok offset) ↔ Derives parse_offset (map T.letter self.old.rest) (shifted offset) [] }
+        ensures ok { (offset : UtcOffsetRecord) → (returned (λ offset. offset) result ≡ Ok offset) ↔
+            Derives parse_offset (map T.letter self.old.rest) (shifted offset) [] }
         // `Err` only where a row of the fault table with this error fits.
         ensures err { IfErr result (λ e. HasFault parse_offset (map T.letter self.old.rest) [] (fault_of e)) }
 
@@ -151,16 +154,17 @@ impl<'a, T: EncodingType> TimeZoneParser<'a, T> {
         ensures empty { OnOk result (self.new.rest ≡ []) }
         ensures unchanged { OnErr result (self.new.rest ≡ self.old.rest) }
         ensures looks { self.new.looks ≤ self.old.looks + most_looks self.old.rest }
+        // The count of looks never goes down.
         ensures counted { self.old.looks ≤ self.new.looks }
     {
-        let start = self.cursor.rest();
-        let mut cursor = self.cursor.take();
-        let read = parse_offset_text(&mut cursor);
-        self.cursor = cursor;
-        match read {
-            Ok(offset) => Ok(offset),
+        let mut here = self.cursor.take();
+        match parse_offset_text(&mut here) {
+            Ok(offset) => {
+                self.cursor = here;
+                Ok(offset)
+            }
             Err(stop) => {
-                self.cursor.go_back(start);
+                self.cursor.count(here);
                 Err(stop.error())
             }
         }
@@ -186,7 +190,8 @@ impl<'a, T: EncodingType> TimeZoneParser<'a, T> {
     /// - `NonAsciiCodePoint` at a unit that stands for no letter, which no 8-bit unit does.
     pub fn parse_iana_identifier(&mut self) -> ParserResult<&'a [T::CodeUnit]>
         // `Ok` exactly where the language derives the name.
-        ensures ok { (name : List ℕ) → (returned (λ units. map T.number units.now) result ≡ Ok name) ↔ Derives parse_iana_identifier (map T.letter self.old.rest) (named name) [] }
+        ensures ok { (name : List ℕ) → (returned (λ units. map T.number units.now) result ≡ Ok name) ↔
+            Derives parse_iana_identifier (map T.letter self.old.rest) (named name) [] }
         // `Err` only where a row of the fault table with this error fits.
         ensures err { IfErr result (λ e. HasFault parse_iana_identifier (map T.letter self.old.rest) [] (fault_of e)) }
 
@@ -196,16 +201,17 @@ impl<'a, T: EncodingType> TimeZoneParser<'a, T> {
         ensures empty { OnOk result (self.new.rest ≡ []) }
         ensures unchanged { OnErr result (self.new.rest ≡ self.old.rest) }
         ensures looks { self.new.looks ≤ self.old.looks + most_looks self.old.rest }
+        // The count of looks never goes down.
         ensures counted { self.old.looks ≤ self.new.looks }
     {
-        let start = self.cursor.rest();
-        let mut cursor = self.cursor.take();
-        let read = parse_iana_identifier_text(&mut cursor);
-        self.cursor = cursor;
-        match read {
-            Ok(name) => Ok(name),
+        let mut here = self.cursor.take();
+        match parse_iana_identifier_text(&mut here) {
+            Ok(name) => {
+                self.cursor = here;
+                Ok(name)
+            }
             Err(stop) => {
-                self.cursor.go_back(start);
+                self.cursor.count(here);
                 Err(stop.error())
             }
         }

@@ -1,16 +1,15 @@
 use Rattle.ixdtf.specs.Views.{parsed_of}
 use Rattle.ixdtf.proofs.code.ReadersWithoutPairs.{each_err}
-use Rattle.ixdtf.proofs.theorems.Handled.{ignored_err}
-use Rattle.ixdtf.proofs.theorems.Unanswered.{no_calendar}
+use Rattle.ixdtf.proofs.theorems.Handled.{no_calendar, ignored_err}
 use Rattle.ixdtf.proofs.laws.parse_unanswered.Goals as goal
 
 pub returns-clause-calendar : goal.returns-clause-calendar
-returns-clause-calendar g c = no_calendar g.T.EncodingType.number _ _ _ c.parse_with_annotation_handler.result c.requires.unanswered c.parse_with_annotation_handler.ensures.handled
+returns-clause-calendar g c = no_calendar g.T.EncodingType.number _ _ _ _ c.parse_with_annotation_handler.result c.requires.unanswered c.parse_with_annotation_handler.ensures.handled
 
 pub returns-clause-unrecognized : goal.returns-clause-unrecognized
 returns-clause-unrecognized g c = each_err (parsed_of g.T.EncodingType.number) _ c.parse_with_annotation_handler.result
-    (λ fault is. (ignored_err g.T.EncodingType.number _ _ _ _ c.requires.unanswered c.parse_with_annotation_handler.ensures.handled fault is).0)
+    (λ fault is. (ignored_err g.T.EncodingType.number _ _ _ _ _ c.requires.unanswered c.parse_with_annotation_handler.ensures.handled fault is).0)
 
 pub returns-clause-duplicate : goal.returns-clause-duplicate
 returns-clause-duplicate g c = each_err (parsed_of g.T.EncodingType.number) _ c.parse_with_annotation_handler.result
-    (λ fault is. (ignored_err g.T.EncodingType.number _ _ _ _ c.requires.unanswered c.parse_with_annotation_handler.ensures.handled fault is).1)
+    (λ fault is. (ignored_err g.T.EncodingType.number _ _ _ _ _ c.requires.unanswered c.parse_with_annotation_handler.ensures.handled fault is).1)
