@@ -14,5 +14,6 @@ pub mod Placed
 pub mod ReadersWithoutPairs
 pub mod Tables
 pub mod Tail
+pub mod TwoDigits
 pub mod Units
 pub mod WalkNames

@@ -8,7 +8,7 @@ ghost use Rattle.ixdtf.specs.language.Letters.{digit};
 ghost use Rattle.ixdtf.specs.language.Letters.Letter.{Plain};
 ghost use Rattle.ixdtf.specs.table.Faults.{NonAsciiCodePoint};
 ghost use Rattle.ixdtf.specs.Views.{Unread, ascii_at};
-ghost use Rattle.ixdtf.specs.reading.Clauses.{Reads, Spends, Yields, fault_of_stop, end_look};
+ghost use Rattle.ixdtf.specs.reading.Clauses.{Reads, Spends, Yields, fault_of_stop, digit_seen, end_look};
 ghost use Rattle.ixdtf.specs.reading.Looks.{look_at, next_by, peek_by, digit_look, digits_by};
 
 use crate::encoding::EncodingType;
@@ -143,18 +143,56 @@ impl<'a, T: EncodingType> Cursor<'a, T> {
         }
     }
 
-    /// Takes two digits off and returns them, as ASCII bytes.
+    /// The digit at a place of the rest, as an ASCII byte. The end is `AbruptDigit`, and another letter this stop.
     #[inline(always)]
-    #[tactic(auto, unfolding(crate::specs::reading::Looks::digits_by))]
-    pub fn two_digits(&mut self, other: Stop) -> Result<(u8, u8), Stop>
-        ensures digits { Reads T.letter (λ ds. Plain ds.0 ∷ Plain ds.1 ∷ []) self.old result self.new
-            (digits_by (digit_look (fault_of_stop other)) 2) }
-        ensures are_digits { IfOk result (λ ds. IsTrue (digit ds.0) × IsTrue (digit ds.1)) }
-        ensures looks { Spends 1 self.old self.new }
+    fn digit_at(&mut self, index: usize, other: Stop) -> Result<u8, Stop>
+        ensures digit {
+            Yields (λ byte. byte) result
+                (digit_seen (fault_of_stop other) (ascii_at T.letter index self.old.rest))
+        }
+        ensures is_digit { IfOk result (λ byte. IsTrue (digit byte)) }
+        ensures rest { self.new.rest ≡ self.old.rest }
+        ensures looks { self.new.looks ≡ self.old.looks + 1 }
     {
-        let tens = self.next_digit(other)?;
-        let ones = self.next_digit(other)?;
+        match self.look_at(index)? {
+            None => Err(Stop::AbruptDigit),
+            Some(byte) if byte.is_ascii_digit() => Ok(byte),
+            Some(_) => Err(other),
+        }
+    }
+
+    /// Takes two digits off and returns them, as ASCII bytes, with one test for the end.
+    #[inline(always)]
+    pub fn two_digits(&mut self, other: Stop) -> Result<(u8, u8), Stop>
+        ensures digits {
+            Reads T.letter (λ ds. Plain ds.0 ∷ Plain ds.1 ∷ []) self.old result self.new
+                (digits_by (digit_look (fault_of_stop other)) 2)
+        }
+        ensures are_digits { IfOk result (λ ds. IsTrue (digit ds.0) × IsTrue (digit ds.1)) }
+        ensures looks { Spends 2 self.old self.new }
+        ensures paid { OnOk result (Spends 0 self.old self.new) }
+    {
+        if self.rest.len() < 2 {
+            self.digit_at(0, other)?;
+            return Err(Stop::AbruptDigit);
+        }
+        let tens = self.digit_at(0, other)?;
+        let ones = self.digit_at(1, other)?;
+        self.skip_two();
         Ok((tens, ones))
+    }
+
+    /// Takes two units off, where there are as many.
+    #[inline(always)]
+    fn skip_two(&mut self)
+        requires { 2 ≤ length self.old.rest }
+        ensures rest { self.new.rest ≡ drop 2 self.old.rest }
+        ensures shorter { length self.new.rest + 2 ≡ length self.old.rest }
+        ensures looks { self.new.looks ≡ self.old.looks }
+    {
+        if let [_, _, rest @ ..] = self.rest {
+            self.rest = rest;
+        }
     }
 
     /// Wants the end of the source: `InvalidEnd` at any letter.

@@ -11,13 +11,13 @@ use Rattle.ixdtf.specs.language.Letters.{equals, closing, slash, key_char, zone_
 use Rattle.ixdtf.specs.language.ZoneNames.Zone.{Name}
 use Rattle.ixdtf.specs.language.Brackets.{passed}
 use Rattle.ixdtf.specs.table.Faults.{Fault}
-use Rattle.ixdtf.specs.table.Faults.Fault.{NonAsciiCodePoint, AnnotationKeyChar, IanaChar, IanaCharPostSeparator}
+use Rattle.ixdtf.specs.table.Faults.Fault.{NonAsciiCodePoint, AnnotationKeyChar, IanaCharPostSeparator}
 use Rattle.ixdtf.specs.table.Lines.{abrupt_bracket}
 use Rattle.ixdtf.specs.reading.Looks.{Read, ◌>>=◌, look_at, next_by, error_of}
 use Rattle.ixdtf.specs.reading.Zones.{with_letter, name_run, as_zone}
-use Rattle.ixdtf.specs.reading.Pairs.{key_run, value_run, pair_at}
+use Rattle.ixdtf.specs.reading.Pairs.{value_run, pair_at}
 use Rattle.ixdtf.specs.reading.Runs.{Taken, one_more, nothing_taken, on_letter, letters_by, name_after}
-use Rattle.ixdtf.specs.reading.Brackets.{Bracket, zoned, paired, noted, as_pair, refusal, name_fault, next_is, sight_at, name_in_bracket_at, name_or_pair_at}
+use Rattle.ixdtf.specs.reading.Brackets.{zoned, paired, noted, as_pair, refusal, name_fault, next_is, sight_at, name_in_bracket_at, name_or_pair_at}
 use Rattle.ixdtf.proofs.code.NameLoop.{name_ended, name_refused}
 use Rattle.ixdtf.proofs.code.PairLoops.{key_after, key_closed, key_refused}
 use Rattle.ixdtf.proofs.parts.LookAhead.{over_letter, zone_char_passed, slash_passed, key_char_passed}
@@ -139,6 +139,7 @@ bracket_found letters text rest taken c e is =
   where
     next : look_at NonAsciiCodePoint rest ≡ Ok (Some c)
     next = next_shown bracket_after letters text rest taken e ∙ ap (λ (o : Option ℕ). Ok o) is
+
     go : (b : Bool) → equals c ≡ b → sight rest ≡ Ok (equals c)
     go true p = rw p (sight_at_equals rest c next p)
     go false p = rw p (sight_at_closing rest c next (bracket_other taken.state c (next_stays bracket_after letters text rest taken c e is) p))

@@ -1,15 +1,15 @@
 -- The letters of a key and of a value, taken off one by one.
-use Rattle.std.proofs.Common.{◌≡◌, ℕ, Bool, true, false, List, [], ◌∷◌, drop, Option, Some, None, Result, Ok, Err, refl, ◌∙◌, if◌then◌else◌}
+use Rattle.std.proofs.Common.{◌≡◌, ℕ, Bool, true, false, [], ◌∷◌, drop, Option, Some, None, Result, Ok, Err, refl, ◌∙◌, if◌then◌else◌}
 use Rattle.ixdtf.specs.declared.parsers.annotations.KeyLetters.{KeyLetters}
 use Rattle.ixdtf.specs.declared.parsers.annotations.ValueState.{ValueState}
 use Rattle.ixdtf.specs.declared.parsers.annotations.ValueStep.{ValueStep}
 use Rattle.ixdtf.specs.declared.parsers.annotations.ValueStep.TheVariants.{GoesOn, Ends, Stops}
 use Rattle.ixdtf.specs.language.Letters.{Text}
-use Rattle.ixdtf.specs.language.Letters.Letter.{Plain, Bad}
+use Rattle.ixdtf.specs.language.Letters.Letter.{Plain}
 use Rattle.ixdtf.specs.language.Letters.{equals, key_char}
 use Rattle.ixdtf.specs.table.Faults.{Fault}
 use Rattle.ixdtf.specs.table.Faults.Fault.{AnnotationKeyValueSeparator, AnnotationKeyChar}
-use Rattle.ixdtf.specs.reading.Looks.{Read, error_of}
+use Rattle.ixdtf.specs.reading.Looks.{error_of}
 use Rattle.ixdtf.specs.reading.Zones.{with_letter}
 use Rattle.ixdtf.specs.reading.Runs.{Taken, letters_by}
 use Rattle.ixdtf.specs.reading.Pairs.{key_run, value_run, value_step, value_goes_on, value_end, value_other}

@@ -1,5 +1,5 @@
 -- Forms of the clauses of private functions, and what the code's own types stand for. No public clause cites one.
-use Rattle.std.specs.Prelude.{◌≡◌, ℕ, Bool, IsTrue, IsFalse, ◌+◌, ◌≤◌, map, length, Option, Some, None, Result, Ok, Err, ◌∷◌}
+use Rattle.std.specs.Prelude.{◌≡◌, ℕ, Bool, IsTrue, IsFalse, ◌+◌, ◌≤◌, map, length, Option, Some, None, Result, Ok, Err, ◌∷◌, if◌then◌else◌}
 use Rattle.ixdtf.specs.declared.records.IxdtfParseRecord.{IxdtfParseRecord}
 use Rattle.ixdtf.specs.declared.stop.Stop.{Stop}
 use Rattle.ixdtf.specs.declared.stop.Stop.TheVariants as stops
@@ -10,7 +10,7 @@ use Rattle.ixdtf.specs.declared.parsers.time.Shape.TheVariants as code_shapes
 use Rattle.ixdtf.specs.declared.parsers.time.Clocked.{Clocked}
 use Rattle.ixdtf.specs.declared.parsers.brackets.Bracket.{Bracket as CodeBracket}
 use Rattle.ixdtf.specs.declared.parsers.brackets.Bracket.TheVariants as brackets
-use Rattle.ixdtf.specs.language.Letters.{Letter, Text, none, closing}
+use Rattle.ixdtf.specs.language.Letters.{Letter, Text, none, digit, closing}
 use Rattle.ixdtf.specs.language.Letters.Letter.{Plain}
 use Rattle.ixdtf.specs.language.Fractions.{FractionParts, fraction_of}
 use Rattle.ixdtf.specs.language.Times.{Clock, TimeShape}
@@ -95,6 +95,12 @@ end_look = record { goes_on = none; at_end = None; at_other = always faults.Inva
 -- the look for the end of a bracket
 abbrev pub closing_look : Fault → Look Fault
 closing_look fault = record { goes_on = closing; at_end = Some faults.AnnotationClose; at_other = always fault; at_bad = faults.NonAsciiCodePoint }
+
+-- what a look for a digit finds, with the error at another letter
+abbrev pub digit_seen : Fault → Result (Option ℕ) Fault → Result ℕ Fault
+digit_seen other (Ok None) = Err abrupt_digit
+digit_seen other (Ok (Some c)) = if digit c then Ok c else Err other
+digit_seen other (Err e) = Err e
 
 -- the other digits of a fraction, and the fraction
 abbrev pub more_digits_at : ℕ → Text → Read Fault FractionParts

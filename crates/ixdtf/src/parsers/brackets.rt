@@ -1,6 +1,6 @@
 //! Reading the first bracket, which may name a zone.
 
-ghost use Rattle.std.specs.Prelude.{◌≡◌, ◌+◌, ◌≤◌, Some, None, map, length, if◌then◌else◌};
+ghost use Rattle.std.specs.Prelude.{◌≡◌, Some, None, map, if◌then◌else◌};
 ghost use Rattle.ixdtf.specs.language.Letters.{equals, closing};
 ghost use Rattle.ixdtf.specs.language.Brackets.{passed};
 ghost use Rattle.ixdtf.specs.reading.Clauses.{Reads, Spends, bracket_of, fault_of_stop};
@@ -31,11 +31,9 @@ pub enum Bracket<'a, T: EncodingType> {
 pub fn parse_first_bracket<'a, T: EncodingType>(
     cursor: &mut Cursor<'a, T>,
 ) -> Result<Bracket<'a, T>, Stop>
-    ensures bracket {
-        Reads T.letter (bracket_of T.number) cursor.old result cursor.new
-            (bracket_at error_of)
-    }
-    ensures looks { Spends (length cursor.old.rest + 16) cursor.old cursor.new }
+    ensures bracket { Reads T.letter (bracket_of T.number) cursor.old result cursor.new
+        (bracket_at error_of) }
+    ensures looks { Spends 16 cursor.old cursor.new }
 {
     match cursor.look()? {
         None => Err(Stop::AbruptBracket),
@@ -56,11 +54,9 @@ pub fn parse_first_bracket<'a, T: EncodingType>(
 fn parse_critical_bracket<'a, T: EncodingType>(
     cursor: &mut Cursor<'a, T>,
 ) -> Result<Bracket<'a, T>, Stop>
-    ensures bracket {
-        Reads T.letter (bracket_of T.number) cursor.old result cursor.new
-            (critical_bracket_at error_of)
-    }
-    ensures looks { Spends (length cursor.old.rest + 15) cursor.old cursor.new }
+    ensures bracket { Reads T.letter (bracket_of T.number) cursor.old result cursor.new
+        (critical_bracket_at error_of) }
+    ensures looks { Spends 15 cursor.old cursor.new }
 {
     match cursor.look()? {
         None => Err(Stop::AbruptBracket),
@@ -72,18 +68,15 @@ fn parse_critical_bracket<'a, T: EncodingType>(
 }
 
 /// Reads what stands in a first bracket from its first letter on, and its `]`.
-#[inline(always)]
 #[tactic(auto, unfolding(crate::specs::reading::Brackets::inside_at))]
 fn parse_inside<'a, T: EncodingType>(
     cursor: &mut Cursor<'a, T>,
     critical: bool,
     lead: u8,
 ) -> Result<Bracket<'a, T>, Stop>
-    ensures bracket {
-        Reads T.letter (bracket_of T.number) cursor.old result cursor.new
-            (inside_at error_of critical lead)
-    }
-    ensures looks { Spends (length cursor.old.rest + 14) cursor.old cursor.new }
+    ensures bracket { Reads T.letter (bracket_of T.number) cursor.old result cursor.new
+        (inside_at error_of critical lead) }
+    ensures looks { Spends 14 cursor.old cursor.new }
 {
     if is_a_key_leading_char(lead) {
         return parse_name_or_pair(cursor, critical);
@@ -120,10 +113,8 @@ fn parse_name_or_pair<'a, T: EncodingType>(
     cursor: &mut Cursor<'a, T>,
     critical: bool,
 ) -> Result<Bracket<'a, T>, Stop>
-    ensures bracket {
-        Reads T.letter (bracket_of T.number) cursor.old result cursor.new
-            (name_or_pair_at error_of critical)
-    }
+    ensures bracket { Reads T.letter (bracket_of T.number) cursor.old result cursor.new
+        (name_or_pair_at error_of critical) }
     ensures looks { Spends 3 cursor.old cursor.new }
 {
     let start = cursor.rest();
@@ -171,10 +162,8 @@ impl Letters for BracketLetters {
 #[cold]
 #[tactic(auto, using(crate::proofs::code::FirstPass::sights))]
 fn refuse_bracket<'a, T: EncodingType>(cursor: &mut Cursor<'a, T>, name: NameLetters) -> Stop
-    ensures stop {
-        fault_of_stop result ≡
-            refusal (sight_at error_of (map T.letter cursor.old.rest)) (name_fault name.may_end)
-    }
+    ensures stop { fault_of_stop result ≡
+        refusal (sight_at error_of (map T.letter cursor.old.rest)) (name_fault name.may_end) }
     ensures looks { Spends 1 cursor.old cursor.new }
 {
     match take_letters(cursor, BracketLetters) {

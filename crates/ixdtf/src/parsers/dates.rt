@@ -15,6 +15,7 @@ use crate::records::DateRecord;
 use crate::stop::Stop;
 
 /// Reads a date.
+#[inline(always)]
 #[tactic(auto, unfolding(crate::specs::reading::Dates::date_at))]
 pub fn parse_date<'a, T: EncodingType>(cursor: &mut Cursor<'a, T>) -> Result<DateRecord, Stop>
     ensures date { Reads T.letter (λ date. date) cursor.old result cursor.new
@@ -28,6 +29,7 @@ pub fn parse_date<'a, T: EncodingType>(cursor: &mut Cursor<'a, T>) -> Result<Dat
 // ==== Years ====
 
 /// Reads a year: four digits, or a sign and six digits.
+#[inline(always)]
 #[tactic(auto, using(crate::proofs::code::DigitClasses::digit_no_sign), unfolding(crate::specs::reading::Dates::year_at, crate::specs::reading::Looks::next_by))]
 fn parse_date_year<'a, T: EncodingType>(cursor: &mut Cursor<'a, T>) -> Result<i32, Stop>
     ensures year { Reads T.letter (λ year. year) cursor.old result cursor.new
@@ -49,6 +51,7 @@ fn parse_date_year<'a, T: EncodingType>(cursor: &mut Cursor<'a, T>) -> Result<i3
 }
 
 /// Reads the other three digits of a year of four.
+#[inline(always)]
 #[tactic(auto, unfolding(crate::specs::reading::Dates::plain_year_at, crate::specs::reading::Looks::digits_by))]
 fn parse_plain_year<'a, T: EncodingType>(
     cursor: &mut Cursor<'a, T>,
@@ -71,6 +74,7 @@ fn parse_plain_year<'a, T: EncodingType>(
 }
 
 /// Reads the six digits of a year with a sign.
+#[inline(always)]
 #[tactic(auto, unfolding(crate::specs::reading::Dates::extended_year_at))]
 fn parse_extended_year<'a, T: EncodingType>(
     cursor: &mut Cursor<'a, T>,
@@ -91,6 +95,7 @@ fn parse_extended_year<'a, T: EncodingType>(
 }
 
 /// Reads six digits, and returns their number.
+#[inline(always)]
 #[tactic(auto, unfolding(crate::specs::reading::Looks::digits_by))]
 fn parse_six_digits<'a, T: EncodingType>(cursor: &mut Cursor<'a, T>) -> Result<u32, Stop>
     ensures number { Reads T.letter (λ number. number) cursor.old result cursor.new
@@ -117,6 +122,7 @@ fn parse_six_digits<'a, T: EncodingType>(cursor: &mut Cursor<'a, T>) -> Result<u
 // ==== Months and days ====
 
 /// Reads the month and the day after a year: with hyphens where the first one stands, else without.
+#[inline(always)]
 #[tactic(auto, unfolding(crate::specs::reading::Dates::after_year_at, crate::specs::reading::Looks::next_by))]
 fn parse_after_year<'a, T: EncodingType>(
     cursor: &mut Cursor<'a, T>,
@@ -141,6 +147,7 @@ fn parse_after_year<'a, T: EncodingType>(
 }
 
 /// Reads the month after a hyphen, and the day.
+#[inline(always)]
 #[tactic(auto, unfolding(crate::specs::reading::Dates::hyphened_date_at, crate::specs::reading::Dates::month_in_range, crate::specs::reading::Looks::digits_by))]
 fn parse_hyphenated_date<'a, T: EncodingType>(
     cursor: &mut Cursor<'a, T>,
@@ -156,6 +163,7 @@ fn parse_hyphenated_date<'a, T: EncodingType>(
 }
 
 /// Reads the second hyphen, and the day after it.
+#[inline(always)]
 #[tactic(auto, unfolding(crate::specs::reading::Dates::after_hyphened_month_at, crate::specs::reading::Dates::hyphened_day_at, crate::specs::reading::Dates::day_in_range, crate::specs::reading::Looks::next_by, crate::specs::reading::Looks::digits_by))]
 fn parse_hyphenated_day<'a, T: EncodingType>(
     cursor: &mut Cursor<'a, T>,
@@ -164,7 +172,7 @@ fn parse_hyphenated_day<'a, T: EncodingType>(
 ) -> Result<DateRecord, Stop>
     ensures date { Reads T.letter (λ date. date) cursor.old result cursor.new
         (after_hyphened_month_at error_of year month) }
-    ensures looks { Spends 2 cursor.old cursor.new }
+    ensures looks { Spends 3 cursor.old cursor.new }
 {
     match cursor.look()? {
         Some(byte) if is_hyphen(byte) => cursor.step(),
@@ -175,6 +183,7 @@ fn parse_hyphenated_day<'a, T: EncodingType>(
 }
 
 /// Reads the month's second digit, and the day.
+#[inline(always)]
 #[tactic(auto, unfolding(crate::specs::reading::Dates::plain_date_at, crate::specs::reading::Dates::month_in_range, crate::specs::reading::Looks::digits_by))]
 fn parse_plain_date<'a, T: EncodingType>(
     cursor: &mut Cursor<'a, T>,
@@ -192,6 +201,7 @@ fn parse_plain_date<'a, T: EncodingType>(
 }
 
 /// Reads the day right after a month: a hyphen there is `DateSeparator`.
+#[inline(always)]
 #[tactic(auto, unfolding(crate::specs::reading::Dates::after_plain_month_at, crate::specs::reading::Dates::plain_day_at, crate::specs::reading::Dates::day_in_range, crate::specs::reading::Looks::next_by, crate::specs::reading::Looks::digits_by))]
 fn parse_plain_day<'a, T: EncodingType>(
     cursor: &mut Cursor<'a, T>,
@@ -215,6 +225,7 @@ fn parse_plain_day<'a, T: EncodingType>(
 }
 
 /// The month, where it is one.
+#[inline(always)]
 fn check_month(month: u8) -> Result<u8, Stop>
     ensures { Checks (λ month. month) result month (nat_le 1 month && nat_le month 12)
         InvalidMonthRange }
@@ -226,6 +237,7 @@ fn check_month(month: u8) -> Result<u8, Stop>
 }
 
 /// The date, where its month has the day.
+#[inline(always)]
 fn check_date(year: i32, month: u8, day: u8) -> Result<DateRecord, Stop>
     ensures { Checks (λ date. date) result (date_of year month day)
         (nat_le 1 day && nat_le day (month_length year month)) InvalidDayRange }
@@ -237,6 +249,7 @@ fn check_date(year: i32, month: u8, day: u8) -> Result<DateRecord, Stop>
 }
 
 /// The length of a month in the Gregorian calendar.
+#[inline(always)]
 fn days_in_month(year: i32, month: u8) -> u8
     ensures { result ≡ month_length year month }
 {
@@ -248,6 +261,7 @@ fn days_in_month(year: i32, month: u8) -> u8
 }
 
 /// Whether the year has 29 days in February.
+#[inline(always)]
 fn is_leap_year(year: i32) -> bool
     ensures { result ≡ is_leap year }
 {

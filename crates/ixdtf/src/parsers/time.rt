@@ -349,22 +349,46 @@ fn parse_after_second<'a, T: EncodingType>(
 
 /// Reads the digits of a fraction after its decimal mark: `FractionPart` where there is none.
 #[inline(always)]
-#[tactic(auto, unfolding(crate::specs::reading::Times::fraction_at, crate::specs::reading::Looks::next_by))]
 fn parse_fraction<'a, T: EncodingType>(
     cursor: &mut Cursor<'a, T>,
     clock: Clock,
 ) -> Result<Fraction, Stop>
-    ensures fraction { Reads T.letter (λ fraction. fraction) cursor.old result cursor.new
-        (fraction_at error_of (clock_of clock)) }
+    ensures fraction {
+        Reads T.letter (λ fraction. fraction) cursor.old result cursor.new
+            (fraction_at error_of (clock_of clock))
+    }
     ensures looks { Spends 3 cursor.old cursor.new }
 {
-    match cursor.look()? {
-        Some(byte) if byte.is_ascii_digit() => {
-            cursor.step();
-            parse_more_digits(cursor, byte)
-        }
-        _ => Err(Stop::FractionPart),
+    let mut here = cursor.take();
+    let read = parse_digits(&mut here, clock);
+    *cursor = here;
+    read
+}
+
+/// Reads the digits of a fraction. It is not inlined: few texts have one.
+#[inline(never)]
+#[tactic(auto, unfolding(crate::specs::reading::Times::fraction_at, crate::specs::reading::Looks::next_by))]
+fn parse_digits<'a, T: EncodingType>(
+    cursor: &mut Cursor<'a, T>,
+    clock: Clock,
+) -> Result<Fraction, Stop>
+    ensures fraction {
+        Reads T.letter (λ fraction. fraction) cursor.old result cursor.new
+            (fraction_at error_of (clock_of clock))
     }
+    ensures looks { Spends 3 cursor.old cursor.new }
+{
+    let mut here = cursor.take();
+    let read = match here.look() {
+        Ok(Some(byte)) if byte.is_ascii_digit() => {
+            here.step();
+            parse_more_digits(&mut here, byte)
+        }
+        Ok(_) => Err(Stop::FractionPart),
+        Err(stop) => Err(stop),
+    };
+    *cursor = here;
+    read
 }
 
 /// Reads the other digits of a fraction.

@@ -1,6 +1,6 @@
-use Rattle.std.proofs.Common.{◌≡◌, ◌&&◌, true, false, List, ◌++◌, map, ℕ, refl, sym, ap, ◌∙◌, append_assoc, rules}
+use Rattle.std.proofs.Common.{◌≡◌, ◌&&◌, true, false, List, ◌++◌, map, ℕ, refl, sym, ap, ◌∙◌, append_assoc}
 use Rattle.std.proofs.lemmas.Result.{err_from_is_err_and}
-use Rattle.ixdtf.specs.language.Letters.{equals, closing}
+use Rattle.ixdtf.specs.language.Letters.{closing}
 use Rattle.ixdtf.specs.reading.Brackets.{next_is}
 use Rattle.ixdtf.proofs.code.LetterLoops.{front_is}
 use Rattle.ixdtf.proofs.code.FirstPass.{pass_failed, value_failed, pair_read, more_failed, name_read, name_refuses}
@@ -32,7 +32,7 @@ returns-then-ends_bracket-clause-bracket g c =
     let key : List ℕ = map g.T.EncodingType.number c.in_ok-key.key.units.now in
     let more : List ℕ = map g.T.EncodingType.number c.in_ok-more.more.units.now in
     let split : c.args.cursor.now.rest ≡ (key ++ more) ++ c.take_letters-2.new.cursor.rest =
-        c.in_ok-key.ensures.units ∙ ap (λ (t : List ℕ). key ++ t) c.in_ok-more.ensures.units ∙ sym (append_assoc key more c.take_letters-2.new.cursor.rest) in
+    c.in_ok-key.ensures.units ∙ ap (λ (t : List ℕ). key ++ t) c.in_ok-more.ensures.units ∙ sym (append_assoc key more c.take_letters-2.new.cursor.rest) in
     let front = front_is g.T.EncodingType.number c.rest-start.result.now c.rest.result.now (key ++ more) c.take_letters-2.new.cursor.rest _ c.rest-start.ensures split c.rest.ensures in
     let is : (c.in_ok-more.more.state.may_end && next_is closing c.in_ok-more.more.next) ≡ true = rw c.if-more.true (sym c.ends_bracket.ensures ∙ c.if-ends_bracket.true) in
     rw (front, c.step-then-ends_bracket.ensures.letters) (name_read _ _ _ _ _ c.in_ok-key.ensures.letters _ _ c.in_ok-more.ensures.letters is)
