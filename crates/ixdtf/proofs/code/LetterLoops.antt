@@ -1,5 +1,5 @@
 -- Letters that a loop takes off one by one.
-use Rattle.std.proofs.Common.{◌≡◌, ℕ, ◌+◌, ◌-◌, List, [], ◌∷◌, ◌++◌, length, map, drop, take, Option, Some, None, Result, Ok, Err, refl, sym, ap, ◌∙◌, arith, append_assoc, append-nil}
+use Rattle.std.proofs.Common.{◌≡◌, ℕ, ◌-◌, List, [], ◌∷◌, ◌++◌, length, map, drop, take, Option, Some, None, Result, Ok, Err, refl, sym, ap, ◌∙◌, arith, append_assoc, append-nil}
 use Rattle.std.proofs.lemmas.List.{take-map, length-map, length-append, take_all, take-append-le}
 use Rattle.ixdtf.specs.language.Letters.{Letter, Text}
 use Rattle.ixdtf.specs.language.Letters.Letter.{Plain, Bad}

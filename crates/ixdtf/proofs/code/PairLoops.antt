@@ -1,15 +1,15 @@
 -- The letters of a key and of a value, taken off one by one.
-use Rattle.std.proofs.Common.{◌≡◌, ℕ, Bool, true, false, List, [], ◌∷◌, drop, Option, Some, None, Result, Ok, Err, refl, ◌∙◌, if◌then◌else◌}
+use Rattle.std.proofs.Common.{◌≡◌, ℕ, Bool, true, false, [], ◌∷◌, drop, Option, Some, None, Result, Ok, Err, refl, ◌∙◌, if◌then◌else◌}
 use Rattle.ixdtf.specs.declared.parsers.annotations.KeyLetters.{KeyLetters}
 use Rattle.ixdtf.specs.declared.parsers.annotations.ValueState.{ValueState}
 use Rattle.ixdtf.specs.declared.parsers.annotations.ValueStep.{ValueStep}
 use Rattle.ixdtf.specs.declared.parsers.annotations.ValueStep.TheVariants.{GoesOn, Ends, Stops}
 use Rattle.ixdtf.specs.language.Letters.{Text}
-use Rattle.ixdtf.specs.language.Letters.Letter.{Plain, Bad}
+use Rattle.ixdtf.specs.language.Letters.Letter.{Plain}
 use Rattle.ixdtf.specs.language.Letters.{equals, key_char}
 use Rattle.ixdtf.specs.table.Faults.{Fault}
 use Rattle.ixdtf.specs.table.Faults.Fault.{AnnotationKeyValueSeparator, AnnotationKeyChar}
-use Rattle.ixdtf.specs.reading.Looks.{Read, error_of}
+use Rattle.ixdtf.specs.reading.Looks.{error_of}
 use Rattle.ixdtf.specs.reading.Zones.{with_letter}
 use Rattle.ixdtf.specs.reading.Runs.{Taken, letters_by}
 use Rattle.ixdtf.specs.reading.Pairs.{key_run, value_run, value_step, value_goes_on, value_end, value_other}
@@ -40,6 +40,7 @@ key_is_run = record {
         ends : (d : Bool) → equals c ≡ d → (if d then Ok ([], rest) else Err AnnotationKeyChar) ≡ closed [] (if d then Ok rest else Err AnnotationKeyChar)
         ends true q = refl
         ends false q = refl
+
     more : (letters next : KeyLetters) (c : ℕ) (rest : Text) (b : Bool) → key_char c ≡ b → (if b then Some letters else None) ≡ Some next → key_run error_of (Plain c ∷ rest) ≡ with_letter c (key_run error_of rest)
     more letters next c rest true p e = rw p refl
     more letters next c rest false p e = absurd cc
@@ -86,6 +87,7 @@ value_is_run = record {
     other state c rest (GoesOn next) p e = absurd cc
     other state c rest Ends p e = rw (p, value_run) refl
     other state c rest Stops p e = rw (p, value_run) refl
+
     more : (state next : ValueState) (c : ℕ) (rest : Text) (step : ValueStep) → value_step state c ≡ step → value_goes_on step ≡ Some next → value_run error_of state (Plain c ∷ rest) ≡ with_letter c (value_run error_of next rest)
     more state next c rest (GoesOn there) p e = let same : there ≡ next = cc in rw (p, value_run, same) refl
     more state next c rest Ends p e = absurd cc
@@ -108,4 +110,3 @@ value_refused state text rest taken c e is test = value_stepped state text rest 
 
 pub value_refused_on : (state next : ValueState) (text rest : Text) (taken : Taken ValueState) (c : ℕ) → letters_by value_after state text ≡ Ok (taken, rest) → taken.next ≡ Some c → value_step taken.state c ≡ GoesOn next → value_run error_of state text ≡ Err (value_other taken.state)
 value_refused_on state next text rest taken c e is test = value_stepped state text rest taken c (GoesOn next) e is test
-

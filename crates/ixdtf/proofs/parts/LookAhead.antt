@@ -29,13 +29,13 @@ passed_no_closing c h = grind (arith, nat_tests)
 neither_passed : (c : ℕ) → IsFalse (equals c) → IsFalse (closing c) → IsTrue (passed c)
 neither_passed c no_equals no_closing = rw (no_equals, no_closing) refl
 
-zone_char_passed : (c : ℕ) → IsTrue (zone_char c) → IsTrue (passed c)
+pub zone_char_passed : (c : ℕ) → IsTrue (zone_char c) → IsTrue (passed c)
 zone_char_passed c h = grind (arith, nat_tests)
 
-slash_passed : (c : ℕ) → IsTrue (slash c) → IsTrue (passed c)
+pub slash_passed : (c : ℕ) → IsTrue (slash c) → IsTrue (passed c)
 slash_passed c h = grind (arith, nat_tests)
 
-key_char_passed : (c : ℕ) → IsTrue (key_char c) → IsTrue (passed c)
+pub key_char_passed : (c : ℕ) → IsTrue (key_char c) → IsTrue (passed c)
 key_char_passed c h = grind (arith, nat_tests)
 
 pub key_lead_passed : (c : ℕ) → IsTrue (key_lead c) → IsTrue (passed c)

@@ -3,8 +3,9 @@ use Rattle.std.specs.Prelude.{ℕ, Bool, true, false, List, [], ◌∷◌, drop,
 use Rattle.ixdtf.specs.language.Times.{Clock as clocks}
 use Rattle.ixdtf.specs.language.Letters.{Text}
 use Rattle.ixdtf.specs.language.Letters.Letter.{Plain, Bad}
-use Rattle.ixdtf.specs.language.Letters.{sign, equals, closing, exclamation, key_lead}
-use Rattle.ixdtf.specs.table.Faults.Fault.{NonAsciiCodePoint}
+use Rattle.ixdtf.specs.language.Letters.{Class, sign, equals, closing, exclamation, key_lead}
+use Rattle.ixdtf.specs.table.Faults.{Fault}
+use Rattle.ixdtf.specs.table.Faults.Fault.{NonAsciiCodePoint, AnnotationKeyChar, IanaChar, IanaCharPostSeparator}
 use Rattle.ixdtf.specs.language.Offsets.{minutes_of}
 use Rattle.ixdtf.specs.language.ZoneNames.{Zone}
 use Rattle.ixdtf.specs.language.ZoneNames.Zone.{Offset}
@@ -25,6 +26,22 @@ unfoldable pub sight_at : {E : Type 0} → (Row → E) → Text → Result Bool 
 sight_at fault [] = Err (fault (row_of (of_bracket first_bracket_scan) end abrupt_bracket))
 sight_at fault (Bad ∷ rest) = Err (fault (row_of (of_bracket first_bracket_scan) bad NonAsciiCodePoint))
 sight_at fault (Plain c ∷ rest) = if equals c then Ok true else (if closing c then Ok false else sight_at fault rest)
+
+-- why a bracket is refused that is no name: with an `=` before any `]` it is a pair, whose key does not go on
+abbrev pub refusal : Result Bool Fault → Fault → Fault
+refusal (Ok true) name = AnnotationKeyChar
+refusal (Ok false) name = name
+refusal (Err e) name = e
+
+-- why a name is refused where its letters go no further, and it may end there or not
+abbrev pub name_fault : Bool → Fault
+name_fault true = IanaChar
+name_fault false = IanaCharPostSeparator
+
+-- whether the next letter is of the class
+abbrev pub next_is : Class → Option ℕ → Bool
+next_is class None = false
+next_is class (Some c) = class c
 
 -- a name and `]`
 unfoldable pub name_in_bracket_at : {E : Type 0} → (Row → E) → Text → Read E (List ℕ)

@@ -32,19 +32,22 @@ impl Letters for KeyLetters {
 
     #[inline(always)]
     fn go_on(self, byte: u8) -> Option<Self> {
-        if is_a_key_char(byte) { Some(self) } else { None }
+        if is_a_key_char(byte) {
+            Some(self)
+        } else {
+            None
+        }
     }
 }
 
 /// Reads a key from its first letter on, and the `=` after it, and returns the key's units.
+#[inline(always)]
 #[tactic(auto, using(crate::proofs::code::PairLoops::keys))]
 pub fn parse_annotation_key<'a, T: EncodingType>(
     cursor: &mut Cursor<'a, T>,
 ) -> Result<&'a [T::CodeUnit], Stop>
-    ensures key {
-        Reads T.letter (λ units. map T.number units.now) cursor.old result cursor.new
-            (key_run error_of)
-    }
+    ensures key { Reads T.letter (λ units. map T.number units.now) cursor.old result cursor.new
+        (key_run error_of) }
     ensures looks { Spends 1 cursor.old cursor.new }
     ensures paid { OnOk result (Spends 0 cursor.old cursor.new) }
     ensures shorter { OnOk result (length cursor.new.rest < length cursor.old.rest) }
@@ -133,14 +136,13 @@ impl Letters for ValueState {
 }
 
 /// Reads a value and the `]` after it, and returns the value's units.
+#[inline(always)]
 #[tactic(auto, using(crate::proofs::code::PairLoops::value_failed))]
 pub fn parse_annotation_value<'a, T: EncodingType>(
     cursor: &mut Cursor<'a, T>,
 ) -> Result<&'a [T::CodeUnit], Stop>
-    ensures value {
-        Reads T.letter (λ units. map T.number units.now) cursor.old result cursor.new
-            (value_run error_of AtStart)
-    }
+    ensures value { Reads T.letter (λ units. map T.number units.now) cursor.old result cursor.new
+        (value_run error_of AtStart) }
     ensures looks { Spends 1 cursor.old cursor.new }
     ensures paid { OnOk result (Spends 0 cursor.old cursor.new) }
     ensures shorter { OnOk result (length cursor.new.rest < length cursor.old.rest) }
@@ -163,14 +165,12 @@ pub fn parse_annotation_value<'a, T: EncodingType>(
 /// Reads a key, `=`, a value and `]`.
 #[inline(always)]
 #[tactic(auto, unfolding(crate::specs::reading::Pairs::pair_at))]
-pub fn parse_pair<'a, T: EncodingType>(
+fn parse_pair<'a, T: EncodingType>(
     cursor: &mut Cursor<'a, T>,
     critical: bool,
 ) -> Result<Annotation<'a, T>, Stop>
-    ensures pair {
-        Reads T.letter (pair_of T.number) cursor.old result cursor.new
-            (pair_at error_of critical)
-    }
+    ensures pair { Reads T.letter (pair_of T.number) cursor.old result cursor.new
+        (pair_at error_of critical) }
     ensures looks { Spends 2 cursor.old cursor.new }
     ensures paid { OnOk result (Spends 0 cursor.old cursor.new) }
     ensures shorter { OnOk result (2 + length cursor.new.rest ≤ length cursor.old.rest) }
@@ -190,10 +190,8 @@ pub fn parse_pair<'a, T: EncodingType>(
 fn parse_later_pair<'a, T: EncodingType>(
     cursor: &mut Cursor<'a, T>,
 ) -> Result<Annotation<'a, T>, Stop>
-    ensures pair {
-        Reads T.letter (pair_of T.number) cursor.old result cursor.new
-            (later_pair_at error_of)
-    }
+    ensures pair { Reads T.letter (pair_of T.number) cursor.old result cursor.new
+        (later_pair_at error_of) }
     ensures looks { Spends 4 cursor.old cursor.new }
     ensures paid { OnOk result (Spends 2 cursor.old cursor.new) }
     ensures shorter { OnOk result (2 + length cursor.new.rest ≤ length cursor.old.rest) }
@@ -214,10 +212,8 @@ fn parse_later_pair<'a, T: EncodingType>(
 fn parse_critical_pair<'a, T: EncodingType>(
     cursor: &mut Cursor<'a, T>,
 ) -> Result<Annotation<'a, T>, Stop>
-    ensures pair {
-        Reads T.letter (pair_of T.number) cursor.old result cursor.new
-            (critical_pair_at error_of)
-    }
+    ensures pair { Reads T.letter (pair_of T.number) cursor.old result cursor.new
+        (critical_pair_at error_of) }
     ensures looks { Spends 3 cursor.old cursor.new }
     ensures paid { OnOk result (Spends 1 cursor.old cursor.new) }
     ensures shorter { OnOk result (2 + length cursor.new.rest ≤ length cursor.old.rest) }
@@ -234,12 +230,12 @@ fn parse_critical_pair<'a, T: EncodingType>(
 fn next_annotation<'a, T: EncodingType>(
     cursor: &mut Cursor<'a, T>,
 ) -> Result<Option<Annotation<'a, T>>, Stop>
-    ensures pair {
-        Reads T.letter (option_map (pair_of T.number)) cursor.old result cursor.new
-            (next_pair_at error_of)
-    }
+    ensures pair { Reads T.letter (option_map (pair_of T.number)) cursor.old result cursor.new
+        (next_pair_at error_of) }
     ensures looks { Spends 6 cursor.old cursor.new }
-    ensures paid { IfOk result (λ next. IsSome next → cursor.new.looks + 2 * length cursor.new.rest ≤ cursor.old.looks + 2 * length cursor.old.rest) }
+    ensures paid { IfOk result (λ next. IsSome next →
+        cursor.new.looks + 2 * length cursor.new.rest ≤
+        cursor.old.looks + 2 * length cursor.old.rest) }
     ensures shorter { IfOk result (λ next. IsSome next → length cursor.new.rest < length cursor.old.rest) }
 {
     match cursor.look()? {
@@ -285,9 +281,16 @@ fn keep_first_calendar<'a, T: EncodingType>(
     calendar: Option<Annotation<'a, T>>,
     reply: Option<Annotation<'a, T>>,
 ) -> Result<Option<Annotation<'a, T>>, Stop>
-    ensures accepted { IfOk result (λ next. (fault : Fault) → ¬ (RefusedBeside (option_map (pair_of T.number) calendar.entry) (option_map (pair_of T.number) reply.entry) fault)) }
-    ensures kept { IfOk result (λ next. option_map (pair_of T.number) next ≡ option_or (option_map (pair_of T.number) calendar.entry) (first_calendar (option_map (pair_of T.number) reply.entry ∷ []))) }
-    ensures err { IfErr result (λ e. RefusedBeside (option_map (pair_of T.number) calendar.entry) (option_map (pair_of T.number) reply.entry) (fault_of_stop e)) }
+    ensures accepted { IfOk result (λ next. (fault : Fault) →
+        ¬ (RefusedBeside (option_map (pair_of T.number) calendar.entry)
+        (option_map (pair_of T.number) reply.entry) fault)) }
+    ensures kept { IfOk result (λ next.
+        option_map (pair_of T.number) next ≡
+        option_or (option_map (pair_of T.number) calendar.entry)
+        (first_calendar (option_map (pair_of T.number) reply.entry ∷ []))) }
+    ensures err { IfErr result (λ e.
+        RefusedBeside (option_map (pair_of T.number) calendar.entry)
+        (option_map (pair_of T.number) reply.entry) (fault_of_stop e)) }
 {
     let Some(found) = reply else {
         return Ok(calendar);
@@ -317,12 +320,12 @@ pub fn parse_annotations<'a, T: EncodingType, F>(
 where
     F: FnMut(Annotation<'a, T>) -> Option<Annotation<'a, T>>,
     requires callable { F.IsAlwaysCallable handler.old }
-    ensures pairs { PairsRead T.number F.step handler.old handler.new (first_pairs (option_map (pair_of T.number) first.entry)) (map T.letter cursor.old.rest) (yielded (option_map (pair_of T.number)) result) }
+    ensures pairs { PairsRead T.number F.step handler.old handler.new
+        (first_pairs (option_map (pair_of T.number) first.entry))
+        (map T.letter cursor.old.rest) (yielded (option_map (pair_of T.number)) result) }
     ensures empty { OnOk result (cursor.new.rest ≡ []) }
-    ensures looks {
-        cursor.new.looks + length cursor.new.rest ≤
-            cursor.old.looks + 2 * length cursor.old.rest + 7
-    }
+    ensures looks { cursor.new.looks + length cursor.new.rest ≤
+        cursor.old.looks + 2 * length cursor.old.rest + 7 }
     ensures counted { cursor.old.looks ≤ cursor.new.looks }
 {
     let mut calendar = None;
@@ -336,4 +339,3 @@ where
     }
     Ok(calendar)
 }
-

@@ -1,19 +1,21 @@
 //! Reading the first bracket, which may name a zone.
 
-ghost use Rattle.std.specs.Prelude.{◌≡◌, ◌+◌, ◌≤◌, ◌||◌, map, length, OnOk};
+ghost use Rattle.std.specs.Prelude.{◌≡◌, Some, None, map, if◌then◌else◌};
 ghost use Rattle.ixdtf.specs.language.Letters.{equals, closing};
-ghost use Rattle.ixdtf.specs.reading.Clauses.{Reads, Spends, Yields, bracket_of};
+ghost use Rattle.ixdtf.specs.language.Brackets.{passed};
+ghost use Rattle.ixdtf.specs.reading.Clauses.{Reads, Spends, bracket_of, fault_of_stop};
 ghost use Rattle.ixdtf.specs.reading.Looks.{error_of};
-ghost use Rattle.ixdtf.specs.reading.Brackets.{sight_at, name_or_pair_at, inside_at, critical_bracket_at, bracket_at};
+ghost use Rattle.ixdtf.specs.reading.Brackets.{refusal, name_fault, next_is, sight_at, name_or_pair_at, inside_at, critical_bracket_at, bracket_at};
 
 use crate::cursor::Cursor;
 use crate::encoding::EncodingType;
-use crate::parsers::annotations::parse_pair;
+use crate::parsers::annotations::{KeyLetters, parse_annotation_value};
 use crate::parsers::grammar::{
     is_a_key_leading_char, is_annotation_close, is_annotation_key_value_separator, is_ascii_sign,
     is_critical_flag, is_tz_leading_char,
 };
-use crate::parsers::timezone::{parse_name_in_bracket, parse_offset_in_bracket};
+use crate::parsers::letters::{Letters, take_letters};
+use crate::parsers::timezone::{NameLetters, parse_name_in_bracket, parse_offset_in_bracket};
 use crate::records::{Annotation, TimeZoneAnnotation, TimeZoneRecord};
 use crate::stop::Stop;
 
@@ -29,11 +31,9 @@ pub enum Bracket<'a, T: EncodingType> {
 pub fn parse_first_bracket<'a, T: EncodingType>(
     cursor: &mut Cursor<'a, T>,
 ) -> Result<Bracket<'a, T>, Stop>
-    ensures bracket {
-        Reads T.letter (bracket_of T.number) cursor.old result cursor.new
-            (bracket_at error_of)
-    }
-    ensures looks { Spends (length cursor.old.rest + 16) cursor.old cursor.new }
+    ensures bracket { Reads T.letter (bracket_of T.number) cursor.old result cursor.new
+        (bracket_at error_of) }
+    ensures looks { Spends 16 cursor.old cursor.new }
 {
     match cursor.look()? {
         None => Err(Stop::AbruptBracket),
@@ -54,11 +54,9 @@ pub fn parse_first_bracket<'a, T: EncodingType>(
 fn parse_critical_bracket<'a, T: EncodingType>(
     cursor: &mut Cursor<'a, T>,
 ) -> Result<Bracket<'a, T>, Stop>
-    ensures bracket {
-        Reads T.letter (bracket_of T.number) cursor.old result cursor.new
-            (critical_bracket_at error_of)
-    }
-    ensures looks { Spends (length cursor.old.rest + 15) cursor.old cursor.new }
+    ensures bracket { Reads T.letter (bracket_of T.number) cursor.old result cursor.new
+        (critical_bracket_at error_of) }
+    ensures looks { Spends 15 cursor.old cursor.new }
 {
     match cursor.look()? {
         None => Err(Stop::AbruptBracket),
@@ -70,18 +68,15 @@ fn parse_critical_bracket<'a, T: EncodingType>(
 }
 
 /// Reads what stands in a first bracket from its first letter on, and its `]`.
-#[inline(always)]
 #[tactic(auto, unfolding(crate::specs::reading::Brackets::inside_at))]
 fn parse_inside<'a, T: EncodingType>(
     cursor: &mut Cursor<'a, T>,
     critical: bool,
     lead: u8,
 ) -> Result<Bracket<'a, T>, Stop>
-    ensures bracket {
-        Reads T.letter (bracket_of T.number) cursor.old result cursor.new
-            (inside_at error_of critical lead)
-    }
-    ensures looks { Spends (length cursor.old.rest + 14) cursor.old cursor.new }
+    ensures bracket { Reads T.letter (bracket_of T.number) cursor.old result cursor.new
+        (inside_at error_of critical lead) }
+    ensures looks { Spends 14 cursor.old cursor.new }
 {
     if is_a_key_leading_char(lead) {
         return parse_name_or_pair(cursor, critical);
@@ -95,51 +90,89 @@ fn parse_inside<'a, T: EncodingType>(
     Ok(Bracket::Zone(TimeZoneAnnotation { critical, tz }))
 }
 
-/// Reads a pair where an `=` comes before any `]`, else a name, and the bracket's `]`.
+/// Whether the letter is the `=` after a key.
 #[inline(always)]
-#[tactic(auto, unfolding(crate::specs::reading::Brackets::name_or_pair_at))]
+fn ends_key(next: Option<u8>) -> bool
+    ensures { result ≡ next_is equals next }
+{
+    matches!(next, Some(byte) if is_annotation_key_value_separator(byte))
+}
+
+/// Whether the letter is the `]` of a bracket.
+#[inline(always)]
+fn ends_bracket(next: Option<u8>) -> bool
+    ensures { result ≡ next_is closing next }
+{
+    matches!(next, Some(byte) if is_annotation_close(byte))
+}
+
+/// Reads a pair where an `=` comes before any `]`, else a name, and the bracket's `]`. Letters of a key are letters of a
+/// name too, so it takes these first, and it looks further ahead only where it refuses.
+#[inline(always)]
 fn parse_name_or_pair<'a, T: EncodingType>(
     cursor: &mut Cursor<'a, T>,
     critical: bool,
 ) -> Result<Bracket<'a, T>, Stop>
-    ensures bracket {
-        Reads T.letter (bracket_of T.number) cursor.old result cursor.new
-            (name_or_pair_at error_of critical)
-    }
-    ensures looks { Spends (length cursor.old.rest + 3) cursor.old cursor.new }
-{
-    if is_pair_ahead(cursor)? {
-        let annotation = parse_pair(cursor, critical)?;
-        return Ok(Bracket::Pair(annotation));
-    }
-    let name = parse_name_in_bracket(cursor)?;
-    Ok(Bracket::Zone(TimeZoneAnnotation {
-        critical,
-        tz: TimeZoneRecord::Name(name),
-    }))
-}
-
-/// `=` or `]`.
-#[inline(always)]
-fn ends_key(byte: u8) -> bool
-    ensures { result ≡ equals byte || closing byte }
-{
-    is_annotation_key_value_separator(byte) || is_annotation_close(byte)
-}
-
-/// Looks ahead whether an `=` comes before any `]`. Where neither comes it is `AbruptEnd`. Nothing is taken off.
-fn is_pair_ahead<'a, T: EncodingType>(cursor: &mut Cursor<'a, T>) -> Result<bool, Stop>
-    ensures sight { Yields (λ pair. pair) result (sight_at error_of (map T.letter cursor.old.rest)) }
-    ensures rest { OnOk result (cursor.new.rest ≡ cursor.old.rest) }
-    ensures looks { Spends (length cursor.old.rest + 1) cursor.old cursor.new }
+    ensures bracket { Reads T.letter (bracket_of T.number) cursor.old result cursor.new
+        (name_or_pair_at error_of critical) }
+    ensures looks { Spends 3 cursor.old cursor.new }
 {
     let start = cursor.rest();
-    while let Some(byte) = cursor.look()? {
-        if ends_key(byte) {
-            cursor.go_back(start);
-            return Ok(is_annotation_key_value_separator(byte));
-        }
+    let key = take_letters(cursor, KeyLetters)?;
+    if ends_key(key.next) {
         cursor.step();
+        let value = parse_annotation_value(cursor)?;
+        return Ok(Bracket::Pair(Annotation {
+            critical,
+            key: key.units,
+            value,
+        }));
     }
-    Err(Stop::AbruptBracket)
+    let more = take_letters(cursor, NameLetters { may_end: true })?;
+    if more.state.may_end && ends_bracket(more.next) {
+        let count = start.len() - cursor.rest().len();
+        cursor.step();
+        return Ok(Bracket::Zone(TimeZoneAnnotation {
+            critical,
+            tz: TimeZoneRecord::Name(&start[..count]),
+        }));
+    }
+    Err(refuse_bracket(cursor, more.state))
+}
+
+/// The letters of a first bracket before an `=` or a `]`.
+#[derive(Clone, Copy)]
+pub struct BracketLetters;
+
+impl Letters for BracketLetters {
+    ghost after = { λ letters c. if passed c then Some letters else None };
+
+    #[inline(always)]
+    fn go_on(self, byte: u8) -> Option<Self> {
+        if is_annotation_key_value_separator(byte) || is_annotation_close(byte) {
+            None
+        } else {
+            Some(self)
+        }
+    }
+}
+
+/// Why a first bracket is refused that is no name, after the letters of one: with an `=` before any `]` it is a pair, whose
+/// key does not go on.
+#[cold]
+#[tactic(auto, using(crate::proofs::code::FirstPass::sights))]
+fn refuse_bracket<'a, T: EncodingType>(cursor: &mut Cursor<'a, T>, name: NameLetters) -> Stop
+    ensures stop { fault_of_stop result ≡
+        refusal (sight_at error_of (map T.letter cursor.old.rest)) (name_fault name.may_end) }
+    ensures looks { Spends 1 cursor.old cursor.new }
+{
+    match take_letters(cursor, BracketLetters) {
+        Err(stop) => stop,
+        Ok(passed) => match passed.next {
+            None => Stop::AbruptBracket,
+            Some(byte) if is_annotation_key_value_separator(byte) => Stop::AnnotationKeyChar,
+            Some(_) if name.may_end => Stop::IanaChar,
+            Some(_) => Stop::IanaCharPostSeparator,
+        },
+    }
 }

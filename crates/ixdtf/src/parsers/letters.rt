@@ -1,6 +1,6 @@
 //! Taking letters off one by one.
 
-ghost use Rattle.std.specs.Prelude.{◌≡◌, ℕ, ◌+◌, ◌≤◌, Option, map, length, drop, OnOk, IfOk, IsSome};
+ghost use Rattle.std.specs.Prelude.{◌≡◌, ℕ, ◌+◌, ◌≤◌, ◌++◌, Option, map, length, drop, OnOk, IfOk, IsSome};
 ghost use Rattle.ixdtf.specs.reading.Clauses.{Reads, Spends};
 ghost use Rattle.ixdtf.specs.reading.Runs.{letters_by, taken_of};
 
@@ -32,15 +32,13 @@ pub fn take_letters<'a, T: EncodingType, S: Letters>(
     cursor: &mut Cursor<'a, T>,
     first: S,
 ) -> Result<Taken<'a, T, S>, Stop>
-    ensures letters {
-        Reads T.letter (taken_of T.number) cursor.old result cursor.new
-            (letters_by S.after first)
-    }
+    ensures letters { Reads T.letter (taken_of T.number) cursor.old result cursor.new
+        (letters_by S.after first) }
     ensures looks { Spends 1 cursor.old cursor.new }
-    ensures stays {
-        IfOk result (λ taken. IsSome taken.next →
-            length (drop 1 cursor.new.rest) + 1 ≡ length cursor.new.rest)
-    }
+    ensures units { IfOk result (λ taken.
+        cursor.old.rest ≡ map T.number taken.units.now ++ cursor.new.rest) }
+    ensures stays { IfOk result (λ taken. IsSome taken.next →
+        length (drop 1 cursor.new.rest) + 1 ≡ length cursor.new.rest) }
     ensures shorter { OnOk result (length cursor.new.rest ≤ length cursor.old.rest) }
 {
     let start = cursor.rest();

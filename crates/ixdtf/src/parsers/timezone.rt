@@ -24,7 +24,7 @@ use crate::stop::Stop;
 /// The letters of a name, by whether it may end: after a `/` it may not, and no other `/` goes on.
 #[derive(Clone, Copy)]
 pub struct NameLetters {
-    may_end: bool,
+    pub may_end: bool,
 }
 
 impl Letters for NameLetters {
@@ -43,14 +43,13 @@ impl Letters for NameLetters {
 }
 
 /// Reads a name as far as it goes, from its first letter on, and returns its units.
+#[inline(always)]
 #[tactic(auto, using(crate::proofs::code::NameLoop::names))]
 pub fn parse_tz_name<'a, T: EncodingType>(
     cursor: &mut Cursor<'a, T>,
 ) -> Result<&'a [T::CodeUnit], Stop>
-    ensures name {
-        Reads T.letter (λ units. map T.number units.now) cursor.old result cursor.new
-            (name_run error_of true)
-    }
+    ensures name { Reads T.letter (λ units. map T.number units.now) cursor.old result cursor.new
+        (name_run error_of true) }
     ensures looks { Spends 1 cursor.old cursor.new }
 {
     let name = take_letters(cursor, NameLetters { may_end: true })?;
@@ -65,10 +64,8 @@ pub fn parse_tz_name<'a, T: EncodingType>(
 fn parse_name_alone<'a, T: EncodingType>(
     cursor: &mut Cursor<'a, T>,
 ) -> Result<&'a [T::CodeUnit], Stop>
-    ensures name {
-        Reads T.letter (λ units. map T.number units.now) cursor.old result cursor.new
-            (name_alone_at error_of)
-    }
+    ensures name { Reads T.letter (λ units. map T.number units.now) cursor.old result cursor.new
+        (name_alone_at error_of) }
     ensures looks { Spends 2 cursor.old cursor.new }
 {
     let name = parse_tz_name(cursor)?;
@@ -84,10 +81,8 @@ fn parse_name_alone<'a, T: EncodingType>(
 pub fn parse_iana_identifier_text<'a, T: EncodingType>(
     cursor: &mut Cursor<'a, T>,
 ) -> Result<&'a [T::CodeUnit], Stop>
-    ensures name {
-        Reads T.letter (λ units. map T.number units.now) cursor.old result cursor.new
-            (iana_identifier_at error_of)
-    }
+    ensures name { Reads T.letter (λ units. map T.number units.now) cursor.old result cursor.new
+        (iana_identifier_at error_of) }
     ensures looks { Spends 3 cursor.old cursor.new }
 {
     match cursor.look()? {
@@ -98,18 +93,13 @@ pub fn parse_iana_identifier_text<'a, T: EncodingType>(
 
 /// Reads an offset without seconds after its sign, and wants the end.
 #[inline(always)]
-#[tactic(auto, unfolding(
-    crate::specs::reading::Zones::minute_offset_alone_at,
-    crate::specs::reading::Looks::peek_by
-))]
+#[tactic(auto, unfolding(crate::specs::reading::Zones::minute_offset_alone_at, crate::specs::reading::Looks::peek_by))]
 fn parse_minute_offset_alone<'a, T: EncodingType>(
     cursor: &mut Cursor<'a, T>,
     sign: u8,
 ) -> Result<TimeZoneRecord<'a, T>, Stop>
-    ensures offset {
-        Reads T.letter (zone_of T.number) cursor.old result cursor.new
-            (minute_offset_alone_at error_of sign)
-    }
+    ensures offset { Reads T.letter (zone_of T.number) cursor.old result cursor.new
+        (minute_offset_alone_at error_of sign) }
     ensures looks { Spends 14 cursor.old cursor.new }
 {
     let clocked = parse_clock(cursor, Clock::MinuteOffset)?;
@@ -122,10 +112,8 @@ fn parse_minute_offset_alone<'a, T: EncodingType>(
 pub fn parse_identifier_text<'a, T: EncodingType>(
     cursor: &mut Cursor<'a, T>,
 ) -> Result<TimeZoneRecord<'a, T>, Stop>
-    ensures zone {
-        Reads T.letter (zone_of T.number) cursor.old result cursor.new
-            (identifier_at error_of)
-    }
+    ensures zone { Reads T.letter (zone_of T.number) cursor.old result cursor.new
+        (identifier_at error_of) }
     ensures looks { Spends 15 cursor.old cursor.new }
 {
     match cursor.look()? {
@@ -147,14 +135,9 @@ pub fn parse_identifier_text<'a, T: EncodingType>(
 /// Wants `]`: the end is `AnnotationClose`, and another letter this stop.
 #[inline(always)]
 #[tactic(auto, unfolding(crate::specs::reading::Looks::next_by))]
-fn close_bracket<'a, T: EncodingType>(
-    cursor: &mut Cursor<'a, T>,
-    other: Stop,
-) -> Result<u8, Stop>
-    ensures end {
-        Reads T.letter (λ byte. byte) cursor.old result cursor.new
-            (next_by (closing_look (fault_of_stop other)))
-    }
+fn close_bracket<'a, T: EncodingType>(cursor: &mut Cursor<'a, T>, other: Stop) -> Result<u8, Stop>
+    ensures end { Reads T.letter (λ byte. byte) cursor.old result cursor.new
+        (next_by (closing_look (fault_of_stop other))) }
     ensures looks { Spends 1 cursor.old cursor.new }
 {
     match cursor.look()? {
@@ -173,10 +156,8 @@ pub fn parse_offset_in_bracket<'a, T: EncodingType>(
     cursor: &mut Cursor<'a, T>,
     sign: u8,
 ) -> Result<TimeZoneRecord<'a, T>, Stop>
-    ensures offset {
-        Reads T.letter (zone_of T.number) cursor.old result cursor.new
-            (offset_in_bracket_at error_of sign)
-    }
+    ensures offset { Reads T.letter (zone_of T.number) cursor.old result cursor.new
+        (offset_in_bracket_at error_of sign) }
     ensures looks { Spends 14 cursor.old cursor.new }
 {
     let clocked = parse_clock(cursor, Clock::MinuteOffset)?;
@@ -190,10 +171,8 @@ pub fn parse_offset_in_bracket<'a, T: EncodingType>(
 pub fn parse_name_in_bracket<'a, T: EncodingType>(
     cursor: &mut Cursor<'a, T>,
 ) -> Result<&'a [T::CodeUnit], Stop>
-    ensures name {
-        Reads T.letter (λ units. map T.number units.now) cursor.old result cursor.new
-            (name_in_bracket_at error_of)
-    }
+    ensures name { Reads T.letter (λ units. map T.number units.now) cursor.old result cursor.new
+        (name_in_bracket_at error_of) }
     ensures looks { Spends 2 cursor.old cursor.new }
 {
     let name = parse_tz_name(cursor)?;

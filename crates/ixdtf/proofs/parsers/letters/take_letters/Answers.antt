@@ -1,4 +1,4 @@
-use Rattle.std.proofs.Common.{◌≡◌, ℕ, List, map, drop, Option, Some, None, Ok, Err, IsSome, refl, ap, ◌∙◌, arith, rules}
+use Rattle.std.proofs.Common.{◌≡◌, ℕ, List, map, drop, Option, Some, None, Ok, IsSome, refl, ap, ◌∙◌, arith, rules}
 use Rattle.std.proofs.lemmas.Result.{err_from_is_err_and}
 use Rattle.ixdtf.specs.table.Faults.Fault.{NonAsciiCodePoint}
 use Rattle.ixdtf.specs.reading.Looks.{look_at}
@@ -38,8 +38,8 @@ returns-in_err-next-clause-letters g c =
       | in-Err w ↦
           let same : c.in_err-next.field-0.0 ≡ w.in-Err.stop = search rules in
           rw same (fails _ g.T.EncodingType.letter g.met.T.EncodingType.faithful _ _ _ _ c.loop-stop.invariant.far _ w.in-Err.ensures.letter)
-      | in-Ok-None w ↦ absurd (search rules)
-      | in-Ok-Some+in-None w ↦ absurd (search rules)
+      | in-Ok-None w ↦ cc (w.found-is, c.in_err-next.was)
+      | in-Ok-Some+in-None w ↦ cc (w.found-is, c.in_err-next.was)
     ]
 
 -- the letters go no further, at a letter or at the end
@@ -48,7 +48,7 @@ returns-clause-letters g c =
     let far = c.loop-stop.invariant.far in
     let front = front_is g.T.EncodingType.number c.rest-start.result.now c.rest.result.now far.taken c.loop-stop.here.rest _ c.loop-stop.invariant.start far.units (c.rest.ensures ∙ c.look.ensures.rest) in
     rw (front, c.look.ensures.rest) elim c.match-look.branch [
-      | in-Err w ↦ absurd (search rules)
+      | in-Err w ↦ cc (w.found-is, c.in_ok-next.was)
       | in-Ok-None w ↦
           let over : look_at NonAsciiCodePoint (map g.T.EncodingType.letter c.loop-stop.here.rest) ≡ Ok None = search rules in
           let none : c.in_ok-next.next ≡ None = search rules in
@@ -60,10 +60,16 @@ returns-clause-letters g c =
           rw next (stays _ g.T.EncodingType.letter g.met.T.EncodingType.faithful _ _ _ _ far _ found none)
     ]
 
+pub returns-clause-units : goal.returns-clause-units
+returns-clause-units g c =
+    let far = c.loop-stop.invariant.far in
+    let front = front_is g.T.EncodingType.number c.rest-start.result.now c.rest.result.now far.taken c.loop-stop.here.rest _ c.loop-stop.invariant.start far.units (c.rest.ensures ∙ c.look.ensures.rest) in
+    rw (front, c.look.ensures.rest) far.units
+
 -- a letter that stays is taken off by a step
 pub returns-clause-stays : goal.returns-clause-stays
 returns-clause-stays g c some = elim c.match-look.branch [
-  | in-Err w ↦ absurd (search rules)
+  | in-Err w ↦ cc (w.found-is, c.in_ok-next.was)
   | in-Ok-None w ↦ absurd (nothing_next _ (search rules) some)
   | in-Ok-Some+in-None w ↦
       let found : look_at NonAsciiCodePoint (map g.T.EncodingType.letter c.loop-stop.here.rest) ≡ Ok (Some w.in-Ok-Some.byte) = search rules in
