@@ -73,10 +73,27 @@ fn parse_plain_year<'a, T: EncodingType>(
     )
 }
 
-/// Reads the six digits of a year with a sign.
+/// Reads the six digits of a year with a sign, by a cursor of its own.
 #[inline(always)]
-#[tactic(auto, unfolding(crate::specs::reading::Dates::extended_year_at))]
 fn parse_extended_year<'a, T: EncodingType>(
+    cursor: &mut Cursor<'a, T>,
+    sign: u8,
+) -> Result<i32, Stop>
+    ensures year {
+        Reads T.letter (λ year. year) cursor.old result cursor.new (extended_year_at error_of sign)
+    }
+    ensures looks { Spends 6 cursor.old cursor.new }
+{
+    let mut here = cursor.take();
+    let read = parse_signed_year(&mut here, sign);
+    *cursor = here;
+    read
+}
+
+/// Reads the six digits of a year with a sign. It is not inlined: few texts have one.
+#[inline(never)]
+#[tactic(auto, unfolding(crate::specs::reading::Dates::extended_year_at))]
+fn parse_signed_year<'a, T: EncodingType>(
     cursor: &mut Cursor<'a, T>,
     sign: u8,
 ) -> Result<i32, Stop>
@@ -182,10 +199,30 @@ fn parse_hyphenated_day<'a, T: EncodingType>(
     check_date(year, month, digits_value(tens, ones))
 }
 
-/// Reads the month's second digit, and the day.
+/// Reads the month's second digit, and the day, by a cursor of its own.
 #[inline(always)]
-#[tactic(auto, unfolding(crate::specs::reading::Dates::plain_date_at, crate::specs::reading::Dates::month_in_range, crate::specs::reading::Looks::digits_by))]
 fn parse_plain_date<'a, T: EncodingType>(
+    cursor: &mut Cursor<'a, T>,
+    year: i32,
+    tens: u8,
+) -> Result<DateRecord, Stop>
+    requires digit { IsTrue (digit tens) }
+    ensures date {
+        Reads T.letter (λ date. date) cursor.old result cursor.new
+            (plain_date_at error_of year tens)
+    }
+    ensures looks { Spends 3 cursor.old cursor.new }
+{
+    let mut here = cursor.take();
+    let read = parse_plain_month(&mut here, year, tens);
+    *cursor = here;
+    read
+}
+
+/// Reads the month's second digit, and the day. It is not inlined: few texts have no hyphens.
+#[inline(never)]
+#[tactic(auto, unfolding(crate::specs::reading::Dates::plain_date_at, crate::specs::reading::Dates::month_in_range, crate::specs::reading::Looks::digits_by))]
+fn parse_plain_month<'a, T: EncodingType>(
     cursor: &mut Cursor<'a, T>,
     year: i32,
     tens: u8,

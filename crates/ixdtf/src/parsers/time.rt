@@ -172,10 +172,31 @@ fn parse_colon_minute<'a, T: EncodingType>(
     parse_after_colon_minute(cursor, clock, hour, minute)
 }
 
-/// Reads the minute's second digit, and what of the time stands after it.
+/// Reads the minute's second digit, and what of the time stands after it, by a cursor of its own.
 #[inline(always)]
-#[tactic(auto, unfolding(crate::specs::reading::Times::plain_minute_at, crate::specs::reading::Looks::in_range, crate::specs::reading::Looks::digits_by))]
 fn parse_plain_minute<'a, T: EncodingType>(
+    cursor: &mut Cursor<'a, T>,
+    clock: Clock,
+    hour: u8,
+    tens: u8,
+) -> Result<Clocked, Stop>
+    requires digit { IsTrue (digit tens) }
+    ensures time {
+        Reads T.letter open_time_of cursor.old result cursor.new
+            (plain_minute_at error_of (clock_of clock) hour tens)
+    }
+    ensures looks { Spends 9 cursor.old cursor.new }
+{
+    let mut here = cursor.take();
+    let read = parse_plain_rest(&mut here, clock, hour, tens);
+    *cursor = here;
+    read
+}
+
+/// Reads the minute's second digit, and what of the time stands after it. It is not inlined: few texts have no colons.
+#[inline(never)]
+#[tactic(auto, unfolding(crate::specs::reading::Times::plain_minute_at, crate::specs::reading::Looks::in_range, crate::specs::reading::Looks::digits_by))]
+fn parse_plain_rest<'a, T: EncodingType>(
     cursor: &mut Cursor<'a, T>,
     clock: Clock,
     hour: u8,
