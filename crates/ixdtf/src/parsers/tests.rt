@@ -94,25 +94,34 @@ enum Reader {
     IanaIdentifier,
 }
 
-// The error that the reader refuses the text with.
-fn error_of(reader: Reader, text: &'static str) -> Option<ParseError> {
-    match reader {
-        Reader::Parse => IxdtfParser::from_str(text).parse().err(),
-        Reader::Offset => TimeZoneParser::from_str(text).parse_offset().err(),
-        Reader::Identifier => TimeZoneParser::from_str(text).parse_identifier().err(),
-        Reader::IanaIdentifier => TimeZoneParser::from_str(text).parse_iana_identifier().err(),
-    }
-}
-
 /// The reader refuses each text with the error beside it.
 fn check_refused(rt: &impl Abort, reader: Reader, rows: &[(&'static str, ParseError)]) {
     for (text, error) in rows {
-        assert_eq!(rt; error_of(reader, text), Some(*error), "at {text}");
+        match reader {
+            Reader::Parse => {
+                let found = IxdtfParser::from_str(text).parse();
+                assert_eq!(rt; found, Err(*error), "at {text}");
+            }
+            Reader::Offset => {
+                let found = TimeZoneParser::from_str(text).parse_offset();
+                assert_eq!(rt; found, Err(*error), "at {text}");
+            }
+            Reader::Identifier => {
+                let found = TimeZoneParser::from_str(text).parse_identifier();
+                assert_eq!(rt; found, Err(*error), "at {text}");
+            }
+            Reader::IanaIdentifier => {
+                let found = TimeZoneParser::from_str(text).parse_iana_identifier();
+                assert_eq!(rt; found, Err(*error), "at {text}");
+            }
+        }
     }
 }
 
 /// `parse` gives the record of the text.
-fn check_parsed(rt: &impl Abort, text: &'static str, record: Record) {
-    let found = IxdtfParser::from_str(text).parse();
-    assert_eq!(rt; found, Ok(record), "at {text}");
+fn check_parsed(rt: &impl Abort, text: &'static str, record: &Record) {
+    match IxdtfParser::from_str(text).parse() {
+        Ok(found) => assert_eq!(rt; &found, record, "at {text}"),
+        Err(error) => panic!(rt; "{error} at {text}"),
+    }
 }

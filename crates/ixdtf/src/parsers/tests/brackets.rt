@@ -23,7 +23,7 @@ fn reads_names_in_brackets(rt: HostRuntime) {
     ];
     for (text, critical, name) in rows {
         let zone = TimeZoneRecord::Name(name.as_bytes());
-        check_parsed(&rt, text, zoned(2020, 4, 8, critical, zone));
+        check_parsed(&rt, text, &zoned(2020, 4, 8, critical, zone));
     }
 }
 
@@ -36,7 +36,7 @@ fn reads_offsets_in_brackets(rt: HostRuntime) {
     ];
     for (text, critical, offset) in rows {
         let zone = TimeZoneRecord::Offset(offset);
-        check_parsed(&rt, text, zoned(2020, 4, 8, critical, zone));
+        check_parsed(&rt, text, &zoned(2020, 4, 8, critical, zone));
     }
 }
 
@@ -57,7 +57,7 @@ fn reads_a_time_an_offset_and_a_zone(rt: HostRuntime) {
             critical,
             tz: TimeZoneRecord::Name("America/New_York".as_bytes()),
         });
-        check_parsed(&rt, text, record);
+        check_parsed(&rt, text, &record);
     }
 }
 
@@ -176,7 +176,7 @@ fn reads_calendars(rt: HostRuntime) {
     ];
     for (text, calendar) in rows {
         let record = with_calendar(2020, 11, 8, None, calendar);
-        check_parsed(&rt, text, record);
+        check_parsed(&rt, text, &record);
     }
 }
 
@@ -187,13 +187,13 @@ fn reads_calendars_and_names_of_new_year(rt: HostRuntime) {
         critical: false,
         tz: TimeZoneRecord::Name("asia/kolkata".as_bytes()),
     });
-    check_parsed(&rt, "2020-01-01[asia/kolkata]", named);
+    check_parsed(&rt, "2020-01-01[asia/kolkata]", &named);
     let rows = [
         ("2020-01-01[u-ca=a-bc-d]", "a-bc-d"),
         ("2020-01-01[u-ca=a][u-ca=b][!u-ca=a]", "a"),
     ];
     for (text, calendar) in rows {
-        check_parsed(&rt, text, with_calendar(2020, 1, 1, None, calendar));
+        check_parsed(&rt, text, &with_calendar(2020, 1, 1, None, calendar));
     }
 }
 
@@ -205,7 +205,7 @@ fn reads_pairs_of_other_keys(rt: HostRuntime) {
         "2020-11-08[_-9=Z-1]",
     ];
     for text in rows {
-        check_parsed(&rt, text, dated(2020, 11, 8, None));
+        check_parsed(&rt, text, &dated(2020, 11, 8, None));
     }
 }
 
@@ -235,7 +235,7 @@ fn reads_an_offset_and_calendars(rt: HostRuntime) {
         let offset = UtcOffsetRecordOrZ::Offset(short(Sign::Negative, 5, 0));
         let mut record = morning(Some(offset));
         record.calendar = Some(b"iso8601");
-        check_parsed(&rt, text, record);
+        check_parsed(&rt, text, &record);
     }
 }
 

@@ -17,7 +17,7 @@ fn reads_dates(rt: HostRuntime) {
         ("-999999-01-01", -999_999, 1, 1),
     ];
     for (text, year, month, day) in rows {
-        check_parsed(&rt, text, dated(year, month, day, None));
+        check_parsed(&rt, text, &dated(year, month, day, None));
     }
 }
 
@@ -25,7 +25,7 @@ fn reads_dates(rt: HostRuntime) {
 fn reads_one_date_in_four_forms(rt: HostRuntime) {
     let rows = ["2024-03-02", "+002024-03-02", "20240302", "+0020240302"];
     for text in rows {
-        check_parsed(&rt, text, dated(2024, 3, 2, None));
+        check_parsed(&rt, text, &dated(2024, 3, 2, None));
     }
 }
 

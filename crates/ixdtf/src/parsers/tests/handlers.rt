@@ -123,8 +123,10 @@ where
     requires callable { F.IsAlwaysCallable handler }
 {
     let mut parser = IxdtfParser::from_str(text);
-    let record = parser.parse_with_annotation_handler(handler)?;
-    Ok(record.calendar)
+    match parser.parse_with_annotation_handler(handler) {
+        Ok(record) => Ok(record.calendar),
+        Err(error) => Err(error),
+    }
 }
 
 #[test]
@@ -148,8 +150,10 @@ fn takes_the_handler_of_a_caller(rt: HostRuntime) {
 // The date of a text whose annotations are all passed over, as a result of the crate.
 fn date_of(text: &'static str) -> ParserResult<Option<DateRecord>> {
     let mut parser = IxdtfParser::from_str(text);
-    let record = parser.parse_with_annotation_handler(|_annotation| None)?;
-    Ok(record.date)
+    match parser.parse_with_annotation_handler(|_annotation| None) {
+        Ok(record) => Ok(record.date),
+        Err(error) => Err(error),
+    }
 }
 
 #[test]

@@ -74,7 +74,7 @@ fn reads_offsets_after_times(rt: HostRuntime) {
     ];
     for (text, offset) in rows {
         let record = morning(Some(UtcOffsetRecordOrZ::Offset(offset)));
-        check_parsed(&rt, text, record);
+        check_parsed(&rt, text, &record);
     }
 }
 

@@ -25,7 +25,7 @@ fn reads_times(rt: HostRuntime) {
         ),
     ];
     for (text, (year, month, day), time) in rows {
-        check_parsed(&rt, text, dated(year, month, day, time));
+        check_parsed(&rt, text, &dated(year, month, day, time));
     }
 }
 
