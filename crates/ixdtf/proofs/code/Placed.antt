@@ -1,5 +1,5 @@
 -- What was read of a whole text, by the record that it was written into.
-use Rattle.std.proofs.Common.{◌≡◌, ℕ, true, false, List, map, Option, None, Ok, Err, sym, subst}
+use Rattle.std.proofs.Common.{◌≡◌, ℕ, true, false, List, Option, None, Ok, Err, sym, subst}
 use Rattle.ixdtf.specs.declared.records.IxdtfParseRecord.{IxdtfParseRecord}
 use Rattle.ixdtf.specs.language.Letters.{Text}
 use Rattle.ixdtf.specs.language.Cores.{Core}

@@ -20,8 +20,7 @@ use Rattle.ixdtf.specs.language.Readers.Reader.{parse_offset, parse_identifier, 
 use Rattle.ixdtf.specs.table.LineNames.LineName.{of_core, of_clock, of_offset, of_zone, of_bracket, of_pair}
 use Rattle.ixdtf.specs.table.LineNames.OffsetLine.{offset_start, after_zulu}
 use Rattle.ixdtf.specs.table.LineNames.ZoneLine.{identifier_start, zone_name_start, in_zone_name, after_zone_slash}
-use Rattle.ixdtf.specs.table.Lines.{table, line_of, follow_of, zone_letters, zone_other}
-use Rattle.ixdtf.specs.table.Lines.Ending.{ok}
+use Rattle.ixdtf.specs.table.Lines.{table, line_of, follow_of, zone_other}
 use Rattle.ixdtf.specs.table.Before.{Before}
 use Rattle.ixdtf.specs.table.Rows.{Row, Place, Stops, Fits, front_of}
 use Rattle.ixdtf.specs.table.Rows.Place.{end, other, bad, anywhere}

@@ -17,7 +17,6 @@ use Rattle.ixdtf.specs.language.Times.{IsTime, SecondText}
 use Rattle.ixdtf.specs.language.Times.TimeShape.{colon_minutes, seconds, fractions}
 use Rattle.ixdtf.specs.language.Offsets.{offset_of, IsOffsetOrZ}
 use Rattle.ixdtf.specs.language.Cores.{core_of}
-use Rattle.ixdtf.specs.language.Readers.Reader.{bracketed}
 use Rattle.ixdtf.specs.language.Languages.{Parsed, parsed_with, Derives}
 use Rattle.ixdtf.specs.language.Languages.Found.{parsed}
 use Rattle.ixdtf.specs.reading.Dates.{date_of}

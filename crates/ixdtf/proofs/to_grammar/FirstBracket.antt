@@ -14,7 +14,6 @@ use Rattle.ixdtf.specs.language.ZoneNames.{Zone, IsZone, IsZoneName}
 use Rattle.ixdtf.specs.language.Brackets.{Opens, IsZoneBracket, ReadsAsName}
 use Rattle.ixdtf.specs.language.Brackets.{Pair, IsPair, ReadsAsPair}
 use Rattle.ixdtf.specs.table.LineNames.{ZoneLine, BracketLine, PairLine, LineName}
-use Rattle.ixdtf.specs.language.Readers.Reader.{bracketed}
 use Rattle.ixdtf.specs.table.LineNames.LineName.{of_clock, of_zone, of_bracket, of_pair}
 use Rattle.ixdtf.specs.table.LineNames.ZoneLine.{identifier_start, zone_name_start, in_zone_name, after_zone_slash}
 use Rattle.ixdtf.specs.table.LineNames.BracketLine.{first_bracket_start, first_critical_start, first_bracket_scan}

@@ -2,7 +2,6 @@
 use Rattle.std.proofs.Common.{◌≡◌, ℕ, zero, suc, ◌<◌, List, [], ◌∷◌, ◌++◌, length, Ok, Err, Option, Some, None, refl, sym, ap, ◌∙◌, subst, arith, append_assoc, append-nil}
 use Rattle.std.proofs.lemmas.Bool.{eqb-true}
 use Rattle.ixdtf.specs.language.Letters.{Text}
-use Rattle.ixdtf.specs.language.Letters.Letter.{Plain}
 use Rattle.ixdtf.specs.language.Letters.{opening}
 use Rattle.ixdtf.specs.language.Shapes.{nothing}
 use Rattle.ixdtf.specs.table.Faults.{Fault}

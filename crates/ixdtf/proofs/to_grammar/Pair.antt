@@ -11,7 +11,6 @@ use Rattle.ixdtf.specs.language.Brackets.{Opens}
 use Rattle.ixdtf.specs.language.Brackets.{Pair, Key, ValueRun, Value, IsPair}
 use Rattle.ixdtf.specs.table.LineNames.{PairLine, LineName}
 use Rattle.ixdtf.specs.table.LineNames.PairLine.{key_start, critical_key_start, in_key, value_start, in_value, after_value_hyphen}
-use Rattle.ixdtf.specs.language.Readers.Reader.{bracketed}
 use Rattle.ixdtf.specs.table.LineNames.LineName.{of_pair}
 use Rattle.ixdtf.specs.table.Lines.{line_of, pair_line}
 use Rattle.ixdtf.specs.table.Rows.{Row, Stops, FitsHere, front_of}
@@ -25,7 +24,7 @@ use Rattle.ixdtf.specs.declared.parsers.annotations.ValueStep.TheVariants.{GoesO
 use Rattle.ixdtf.specs.declared.parsers.annotations.ValueStep.TheVariants as steps
 use Rattle.ixdtf.specs.reading.Pairs.{value_line, value_end, value_other, value_step, key_run, value_run, pair_at, critical_pair_at, later_pair_at}
 use Rattle.ixdtf.specs.reading.Chains.{AfterBrackets, FitsAfterBrackets}
-use Rattle.ixdtf.proofs.parts.Looks.{OnRead, then_read, read_if, read_letter, onto, stops}
+use Rattle.ixdtf.proofs.parts.Looks.{OnRead, then_read, read_if, read_letter, onto}
 use Rattle.ixdtf.proofs.to_reading.Pair.{InPair, PairText, stepped, by_step}
 
 -- what reading a pair gave, from its key on

@@ -1,5 +1,5 @@
 -- What reading a whole text returns is derived, or is a row that fits.
-use Rattle.std.proofs.Common.{◌≡◌, ◌≢◌, ℕ, suc, List, [], ◌∷◌, ◌++◌, length, Ok, Err, Option, Some, None, refl, ap, ◌∙◌, sym, inl, inr, arith, append_assoc, append-nil, false, true}
+use Rattle.std.proofs.Common.{◌≡◌, ◌≢◌, suc, List, [], ◌∷◌, ◌++◌, length, Ok, Err, None, refl, ap, ◌∙◌, sym, inl, inr, arith, append_assoc, append-nil, false, true}
 use Rattle.ixdtf.specs.language.Times.{Clock as clocks}
 use Rattle.ixdtf.specs.language.Letters.{Text}
 use Rattle.ixdtf.specs.language.Letters.Letter.{Plain}

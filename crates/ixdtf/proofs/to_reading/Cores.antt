@@ -1,5 +1,5 @@
 -- A core is read, with the end or the bracket after it, and each row of a core's lines is returned.
-use Rattle.std.proofs.Common.{◌≡◌, ℕ, ◌⊎◌, true, false, IsTrue, IsFalse, [], ◌∷◌, ◌++◌, Ok, Err, Option, Some, None, refl, ap, ◌∙◌, inl, inr, ◌||◌, arith, append_assoc, append-nil}
+use Rattle.std.proofs.Common.{◌≡◌, ℕ, ◌⊎◌, true, false, IsTrue, IsFalse, [], ◌∷◌, ◌++◌, Ok, Err, Option, Some, None, refl, ap, ◌∙◌, inl, inr, ◌||◌, arith, append_assoc}
 use Rattle.std.proofs.lemmas.Bool.{or_parts}
 use Rattle.std.proofs.lemmas.Bool.Decides.{nat_tests}
 use Rattle.ixdtf.specs.declared.records.DateRecord.{DateRecord}
@@ -10,7 +10,7 @@ use Rattle.ixdtf.specs.language.Letters.{Text, digit, colon, decimal_mark, sign,
 use Rattle.ixdtf.specs.language.Letters.Letter.{Plain}
 use Rattle.ixdtf.specs.language.Shapes.{one, some, ◌then◌}
 use Rattle.ixdtf.specs.language.Dates.{IsDate}
-use Rattle.ixdtf.specs.language.Times.{Clock, TimeShape, ClockOf, IsTime, writes_seconds}
+use Rattle.ixdtf.specs.language.Times.{Clock, TimeShape, ClockOf, writes_seconds}
 use Rattle.ixdtf.specs.language.Times.{Clock as clocks}
 use Rattle.ixdtf.specs.language.Times.TimeShape.{hours, plain_minutes, colon_minutes, seconds, fractions}
 use Rattle.ixdtf.specs.language.Offsets.{offset_of}

@@ -17,7 +17,6 @@ use Rattle.ixdtf.specs.language.ZoneNames.Zone.{Offset}
 use Rattle.ixdtf.specs.language.Brackets.{Opens, zone_only_lead, ReadsAsName}
 use Rattle.ixdtf.specs.language.Brackets.{ReadsAsPair}
 use Rattle.ixdtf.specs.table.LineNames.{ClockLine, PairLine, LineName}
-use Rattle.ixdtf.specs.language.Readers.Reader.{bracketed}
 use Rattle.ixdtf.specs.table.LineNames.LineName.{of_core, of_clock, of_offset, of_zone, of_bracket, of_pair}
 use Rattle.ixdtf.specs.table.LineNames.ZoneLine.{identifier_start, zone_name_start, in_zone_name, after_zone_slash}
 use Rattle.ixdtf.specs.table.LineNames.BracketLine.{first_bracket_start, first_critical_start, first_bracket_scan, after_bracket}

@@ -11,7 +11,6 @@ use Rattle.ixdtf.specs.table.Faults.{Fault}
 use Rattle.ixdtf.specs.language.Brackets.{Pair, Key, ValueRun, Value, IsPair}
 use Rattle.ixdtf.specs.language.Brackets.{Opens}
 use Rattle.ixdtf.specs.table.LineNames.{PairLine}
-use Rattle.ixdtf.specs.language.Readers.Reader.{bracketed}
 use Rattle.ixdtf.specs.table.LineNames.LineName.{of_pair}
 use Rattle.ixdtf.specs.table.LineNames.PairLine.{key_start, critical_key_start, in_key, value_start, in_value, after_value_hyphen}
 use Rattle.ixdtf.specs.table.Lines.{line_of, pair_line}
