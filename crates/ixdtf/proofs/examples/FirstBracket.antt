@@ -38,7 +38,7 @@ each_row_of_brackets = (refl, refl)
 brackets : Compute parse (
     gives (codes "2020-01-01[cet]") (annotated (zone_named false (codes "cet")) [])
     ∷ gives (codes "2024-03-02T08:48:00-05:00[America/New_York]")
-        (morning (Some (Offset (MinutePrecision (record { sign = Negative; hour = 5; minute = 0 })))) (zone_named false (codes "America/New_York")))
+    (morning (Some (Offset (MinutePrecision (record { sign = Negative; hour = 5; minute = 0 })))) (zone_named false (codes "America/New_York")))
     ∷ gives (codes "2024-03-02T08:48:00Z[!America/New_York]") (morning (Some Z) (zone_named true (codes "America/New_York")))
     ∷ gives (codes "2020-01-01[u=u]") (annotated None (tagged false (codes "u") (codes "u") ∷ []))
     ∷ [])

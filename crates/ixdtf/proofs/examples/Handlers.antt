@@ -136,29 +136,44 @@ same_calendar_twice =
 
 second_calendar_is_critical : PlainFault parse (text_of (codes "2020-01-01[u-ca=a][!u-ca=b]")) CriticalDuplicateCalendar
 unfolding all_readings
-second_calendar_is_critical = (_, refuses (codes "2020-01-01[u-ca=a][!u-ca=b]") [] new_year (calendar false (codes "a") ∷ calendar true (codes "b") ∷ [])
-    (own_replies (calendar false (codes "a") ∷ [])) (Some (calendar true (codes "b"))) CriticalDuplicateCalendar refl refl (refl, differ _ _ refl, inr refl))
+second_calendar_is_critical = (
+  _,
+  refuses (codes "2020-01-01[u-ca=a][!u-ca=b]") [] new_year (calendar false (codes "a") ∷ calendar true (codes "b") ∷ [])
+      (own_replies (calendar false (codes "a") ∷ [])) (Some (calendar true (codes "b"))) CriticalDuplicateCalendar refl refl (refl, differ _ _ refl, inr refl),
+)
 
 first_calendar_is_critical : PlainFault parse (text_of (codes "2020-01-01[!u-ca=a][u-ca=b]")) CriticalDuplicateCalendar
 unfolding all_readings
-first_calendar_is_critical = (_, refuses (codes "2020-01-01[!u-ca=a][u-ca=b]") [] new_year (calendar true (codes "a") ∷ calendar false (codes "b") ∷ [])
-    (own_replies (calendar true (codes "a") ∷ [])) (Some (calendar false (codes "b"))) CriticalDuplicateCalendar refl refl (refl, differ _ _ refl, inl refl))
+first_calendar_is_critical = (
+  _,
+  refuses (codes "2020-01-01[!u-ca=a][u-ca=b]") [] new_year (calendar true (codes "a") ∷ calendar false (codes "b") ∷ [])
+      (own_replies (calendar true (codes "a") ∷ [])) (Some (calendar false (codes "b"))) CriticalDuplicateCalendar refl refl (refl, differ _ _ refl, inl refl),
+)
 
 zone_after_a_calendar : PlainFault parse (text_of (codes "2020-01-01[u-ca=a][Europe/London]")) AnnotationKeyLeadingChar
 unfolding all_readings
-zone_after_a_calendar = (_, stops_with (codes "2020-01-01[u-ca=a][Europe/London]") (row_of (of_pair key_start) other AnnotationKeyLeadingChar)
-    (calendar false (codes "a") ∷ []) (own_replies (calendar false (codes "a") ∷ [])) refl refl)
+zone_after_a_calendar = (
+  _,
+  stops_with (codes "2020-01-01[u-ca=a][Europe/London]") (row_of (of_pair key_start) other AnnotationKeyLeadingChar)
+      (calendar false (codes "a") ∷ []) (own_replies (calendar false (codes "a") ∷ [])) refl refl,
+)
 
 zone_after_a_pair : PlainFault parse (text_of (codes "2020-01-01[a=b][u]")) AnnotationKeyChar
 unfolding all_readings
-zone_after_a_pair = (_, stops_with (codes "2020-01-01[a=b][u]") (row_of (of_pair in_key) other AnnotationKeyChar)
-    (plain (codes "a") (codes "b") ∷ []) (own_replies (plain (codes "a") (codes "b") ∷ [])) refl refl)
+zone_after_a_pair = (
+  _,
+  stops_with (codes "2020-01-01[a=b][u]") (row_of (of_pair in_key) other AnnotationKeyChar)
+      (plain (codes "a") (codes "b") ∷ []) (own_replies (plain (codes "a") (codes "b") ∷ [])) refl refl,
+)
 
 -- The reply is refused before the letters after the bracket are looked at.
 refused_before_the_end : PlainFault parse (text_of (codes "2020-01-01[!a=b]junk")) UnrecognizedCritical
 unfolding all_readings
-refused_before_the_end = (_, refuses (codes "2020-01-01[!a=b]") (codes "junk") new_year (critical (codes "a") (codes "b") ∷ [])
-    [] (Some (critical (codes "a") (codes "b"))) UnrecognizedCritical refl refl (refl, differ _ _ refl))
+refused_before_the_end = (
+  _,
+  refuses (codes "2020-01-01[!a=b]") (codes "junk") new_year (critical (codes "a") (codes "b") ∷ [])
+      [] (Some (critical (codes "a") (codes "b"))) UnrecognizedCritical refl refl (refl, differ _ _ refl),
+)
 
 -- ---- texts and a handler
 

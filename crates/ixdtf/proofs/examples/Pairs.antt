@@ -73,7 +73,7 @@ pairs : Compute parse (
     ∷ gives (codes "2020-01-01[!_=Z]") (annotated None (tagged true (codes "_") (codes "Z") ∷ []))
     ∷ gives (codes "2020-01-01[u][u=u]") (annotated (zone_named false (codes "u")) (tagged false (codes "u") (codes "u") ∷ []))
     ∷ gives (codes "2020-01-01[!u-ca=iso8601][f-1a2b=a0sa-2l4s]")
-        (annotated None (tagged true (codes "u-ca") (codes "iso8601") ∷ tagged false (codes "f-1a2b") (codes "a0sa-2l4s") ∷ []))
+    (annotated None (tagged true (codes "u-ca") (codes "iso8601") ∷ tagged false (codes "f-1a2b") (codes "a0sa-2l4s") ∷ []))
     ∷ gives (codes "2020-01-01[u-ca=a-bc-d]") (annotated None (tagged false (codes "u-ca") (codes "a-bc-d") ∷ []))
     ∷ [])
 unfolding all_readings

@@ -104,8 +104,9 @@ pub refuses : (front rest : List ℕ) (read : Parsed) (pairs : List Pair) (earli
     → parsing front ≡ derived (parsed read) pairs → accepted [] earlier ≡ true → RefusedBeside (first_calendar earlier) reply fault
     → GivesFault parse (text_of front ++ text_of rest) pairs (earlier ++ reply ∷ []) fault
 refuses front rest read pairs earlier reply fault is none is_refused = inl (
-    (text_of front, text_of rest, refl, read, holds parse (text_of front) (derived (parsed read) pairs) is),
-    record { earlier = earlier; reply = reply; split = refl; none = all_accepted earlier none; refused = is_refused })
+  (text_of front, text_of rest, refl, read, holds parse (text_of front) (derived (parsed read) pairs) is),
+  record { earlier = earlier; reply = reply; split = refl; none = all_accepted earlier none; refused = is_refused },
+)
 
 -- The pairs reply for themselves.
 pub plain_record : (units : List ℕ) (read : Parsed) (pairs : List Pair) → parsing units ≡ derived (parsed read) pairs → accepted [] (own_replies pairs) ≡ true

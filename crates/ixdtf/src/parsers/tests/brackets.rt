@@ -1,11 +1,20 @@
-use super::{AT_BRACKET, AT_DIGIT, Reader, Record, check_parsed, check_refused, dated, long, minutes, morning, short, timed};
+use super::{
+    AT_BRACKET, AT_DIGIT, Reader, Record, check_parsed, check_refused, dated, long, minutes,
+    morning, short, timed,
+};
 use crate::ParseError;
 use crate::encoding::Utf8;
 use crate::parsers::IxdtfParser;
 use crate::records::{Sign, TimeRecord, TimeZoneAnnotation, TimeZoneRecord, UtcOffsetRecordOrZ};
 
 // A date with a zone.
-fn zoned(year: i32, month: u8, day: u8, critical: bool, tz: TimeZoneRecord<'static, Utf8>) -> Record {
+fn zoned(
+    year: i32,
+    month: u8,
+    day: u8,
+    critical: bool,
+    tz: TimeZoneRecord<'static, Utf8>,
+) -> Record {
     let mut record = dated(year, month, day, None);
     record.tz = Some(TimeZoneAnnotation { critical, tz });
     record

@@ -165,7 +165,10 @@ fn hands_an_error_on(rt: HostRuntime) -> Result<(), Fail> {
         day: 2,
     };
     assert_eq!(rt; date, Some(wanted));
-    assert_eq!(rt; date_of("2020-01-02[!c=d"), Err(ParseError::AnnotationClose));
+    assert_eq!(rt;
+        date_of("2020-01-02[!c=d"),
+        Err(ParseError::AnnotationClose)
+    );
     Ok(())
 }
 

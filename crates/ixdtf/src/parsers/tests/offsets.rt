@@ -1,4 +1,7 @@
-use super::{AT_DIGIT, AT_OFFSET, Reader, check_parsed, check_refused, dated, long, minutes, morning, short, timed};
+use super::{
+    AT_DIGIT, AT_OFFSET, Reader, check_parsed, check_refused, dated, long, minutes, morning, short,
+    timed,
+};
 use crate::ParseError;
 use crate::parsers::{IxdtfParser, TimeZoneParser};
 use crate::records::{Fraction, Sign, UtcOffsetRecordOrZ};
