@@ -47,6 +47,8 @@ pub enum Stop {
 
 impl Stop {
     /// The error of it.
+    #[cold]
+    #[inline(never)]
     #[rattlefmt::skip]
     pub fn error<'s>(self) -> ParseError<'s>
         ensures { fault_of result ≡ fault_of_stop self }
