@@ -146,10 +146,8 @@ impl<'a, T: EncodingType> Cursor<'a, T> {
     /// The digit at a place of the rest, as an ASCII byte. The end is `AbruptDigit`, and another letter this stop.
     #[inline(always)]
     fn digit_at(&mut self, index: usize, other: Stop) -> Result<u8, Stop>
-        ensures digit {
-            Yields (λ byte. byte) result
-                (digit_seen (fault_of_stop other) (ascii_at T.letter index self.old.rest))
-        }
+        ensures digit { Yields (λ byte. byte) result
+            (digit_seen (fault_of_stop other) (ascii_at T.letter index self.old.rest)) }
         ensures is_digit { IfOk result (λ byte. IsTrue (digit byte)) }
         ensures rest { self.new.rest ≡ self.old.rest }
         ensures looks { self.new.looks ≡ self.old.looks + 1 }
@@ -164,10 +162,9 @@ impl<'a, T: EncodingType> Cursor<'a, T> {
     /// Takes two digits off and returns them, as ASCII bytes, with one test for the end.
     #[inline(always)]
     pub fn two_digits(&mut self, other: Stop) -> Result<(u8, u8), Stop>
-        ensures digits {
-            Reads T.letter (λ ds. Plain ds.0 ∷ Plain ds.1 ∷ []) self.old result self.new
-                (digits_by (digit_look (fault_of_stop other)) 2)
-        }
+        ensures digits { Reads T.letter (λ ds. Plain ds.0 ∷ Plain ds.1 ∷ [])
+            self.old result self.new
+            (digits_by (digit_look (fault_of_stop other)) 2) }
         ensures are_digits { IfOk result (λ ds. IsTrue (digit ds.0) × IsTrue (digit ds.1)) }
         ensures looks { Spends 2 self.old self.new }
         ensures paid { OnOk result (Spends 0 self.old self.new) }

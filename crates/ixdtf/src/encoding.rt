@@ -42,7 +42,8 @@ pub trait EncodingType: private::Sealed {
     ///
     /// The error `NonAsciiCodePoint` comes exactly where the unit there stands for no letter.
     fn get_ascii(source: &[Self::CodeUnit], index: usize) -> ParserResult<Option<u8>>
-        ensures letter { Returns (λ found. found) result (ascii_at letter index (map number source.now)) }
+        ensures letter { Returns (λ found. found) result
+            (ascii_at letter index (map number source.now)) }
         ensures small { All (λ unit. number unit < limit) source.now };
 
     /// Whether the key is `u-ca`, the key of calendars (RFC 9557 section 4.1).

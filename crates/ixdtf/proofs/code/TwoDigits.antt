@@ -22,6 +22,7 @@ module _ (letter : ℕ → Letter) (other : Fault) where
       plain : (c : ℕ) (b : Bool) → digit c ≡ b → digits_by (digit_look other) 2 (Plain c ∷ []) ≡ (digit_seen other (Ok (Some c)) >>= λ a. Err abrupt_digit)
       plain c true is = rw is refl
       plain c false is = rw is refl
+
       go : (l : Letter) → digits_by (digit_look other) 2 (l ∷ []) ≡ (digit_seen other (looked (Some l)) >>= λ a. Err abrupt_digit)
       go Bad = refl
       go (Plain c) = plain c (digit c) refl

@@ -236,7 +236,8 @@ fn next_annotation<'a, T: EncodingType>(
     ensures paid { IfOk result (λ next. IsSome next →
         cursor.new.looks + 2 * length cursor.new.rest ≤
         cursor.old.looks + 2 * length cursor.old.rest) }
-    ensures shorter { IfOk result (λ next. IsSome next → length cursor.new.rest < length cursor.old.rest) }
+    ensures shorter { IfOk result (λ next. IsSome next →
+        length cursor.new.rest < length cursor.old.rest) }
 {
     match cursor.look()? {
         None => Ok(None),

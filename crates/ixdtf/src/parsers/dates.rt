@@ -79,9 +79,8 @@ fn parse_extended_year<'a, T: EncodingType>(
     cursor: &mut Cursor<'a, T>,
     sign: u8,
 ) -> Result<i32, Stop>
-    ensures year {
-        Reads T.letter (λ year. year) cursor.old result cursor.new (extended_year_at error_of sign)
-    }
+    ensures year { Reads T.letter (λ year. year) cursor.old result cursor.new
+        (extended_year_at error_of sign) }
     ensures looks { Spends 6 cursor.old cursor.new }
 {
     let mut here = cursor.take();
@@ -93,10 +92,7 @@ fn parse_extended_year<'a, T: EncodingType>(
 /// Reads the six digits of a year with a sign. It is not inlined: few texts have one.
 #[inline(never)]
 #[tactic(auto, unfolding(crate::specs::reading::Dates::extended_year_at))]
-fn parse_signed_year<'a, T: EncodingType>(
-    cursor: &mut Cursor<'a, T>,
-    sign: u8,
-) -> Result<i32, Stop>
+fn parse_signed_year<'a, T: EncodingType>(cursor: &mut Cursor<'a, T>, sign: u8) -> Result<i32, Stop>
     ensures year { Reads T.letter (λ year. year) cursor.old result cursor.new
         (extended_year_at error_of sign) }
     ensures looks { Spends 6 cursor.old cursor.new }
@@ -207,10 +203,8 @@ fn parse_plain_date<'a, T: EncodingType>(
     tens: u8,
 ) -> Result<DateRecord, Stop>
     requires digit { IsTrue (digit tens) }
-    ensures date {
-        Reads T.letter (λ date. date) cursor.old result cursor.new
-            (plain_date_at error_of year tens)
-    }
+    ensures date { Reads T.letter (λ date. date) cursor.old result cursor.new
+        (plain_date_at error_of year tens) }
     ensures looks { Spends 3 cursor.old cursor.new }
 {
     let mut here = cursor.take();

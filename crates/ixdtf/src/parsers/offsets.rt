@@ -82,7 +82,8 @@ fn parse_offset_alone<'a, T: EncodingType>(
 pub fn parse_offset_text<'a, T: EncodingType>(
     cursor: &mut Cursor<'a, T>,
 ) -> Result<UtcOffsetRecord, Stop>
-    ensures offset { Reads T.letter (λ offset. offset) cursor.old result cursor.new (offset_at error_of) }
+    ensures offset { Reads T.letter (λ offset. offset) cursor.old result cursor.new
+        (offset_at error_of) }
     ensures looks { Spends 15 cursor.old cursor.new }
 {
     match cursor.look()? {

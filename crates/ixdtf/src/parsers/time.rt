@@ -105,7 +105,8 @@ fn timed(shape: Shape, hour: u8, minute: u8, second: u8, fraction: Option<Fracti
 /// The number, where it is at most the greatest of its place, else the stop.
 #[inline(always)]
 fn check_most(number: u8, greatest: u8, stop: Stop) -> Result<u8, Stop>
-    ensures { Checks (λ number. number) result number (nat_le number greatest) (fault_of_stop stop) }
+    ensures { Checks (λ number. number) result number
+        (nat_le number greatest) (fault_of_stop stop) }
 {
     if number > greatest {
         return Err(stop);
@@ -181,10 +182,8 @@ fn parse_plain_minute<'a, T: EncodingType>(
     tens: u8,
 ) -> Result<Clocked, Stop>
     requires digit { IsTrue (digit tens) }
-    ensures time {
-        Reads T.letter open_time_of cursor.old result cursor.new
-            (plain_minute_at error_of (clock_of clock) hour tens)
-    }
+    ensures time { Reads T.letter open_time_of cursor.old result cursor.new
+        (plain_minute_at error_of (clock_of clock) hour tens) }
     ensures looks { Spends 9 cursor.old cursor.new }
 {
     let mut here = cursor.take();
@@ -283,7 +282,8 @@ fn second_digits<'a, T: EncodingType>(
     cursor: &mut Cursor<'a, T>,
     clock: Clock,
 ) -> Result<(u8, u8), Stop>
-    ensures digits { Reads T.letter (λ ds. Plain ds.0 ∷ Plain ds.1 ∷ []) cursor.old result cursor.new
+    ensures digits { Reads T.letter (λ ds. Plain ds.0 ∷ Plain ds.1 ∷ [])
+        cursor.old result cursor.new
         (digits_by (digit_look (second_fault (clock_of clock))) 2) }
     ensures are_digits { IfOk result (λ ds. IsTrue (digit ds.0) × IsTrue (digit ds.1)) }
     ensures looks { Spends 2 cursor.old cursor.new }
@@ -374,10 +374,8 @@ fn parse_fraction<'a, T: EncodingType>(
     cursor: &mut Cursor<'a, T>,
     clock: Clock,
 ) -> Result<Fraction, Stop>
-    ensures fraction {
-        Reads T.letter (λ fraction. fraction) cursor.old result cursor.new
-            (fraction_at error_of (clock_of clock))
-    }
+    ensures fraction { Reads T.letter (λ fraction. fraction) cursor.old result cursor.new
+        (fraction_at error_of (clock_of clock)) }
     ensures looks { Spends 3 cursor.old cursor.new }
 {
     let mut here = cursor.take();
@@ -393,10 +391,8 @@ fn parse_digits<'a, T: EncodingType>(
     cursor: &mut Cursor<'a, T>,
     clock: Clock,
 ) -> Result<Fraction, Stop>
-    ensures fraction {
-        Reads T.letter (λ fraction. fraction) cursor.old result cursor.new
-            (fraction_at error_of (clock_of clock))
-    }
+    ensures fraction { Reads T.letter (λ fraction. fraction) cursor.old result cursor.new
+        (fraction_at error_of (clock_of clock)) }
     ensures looks { Spends 3 cursor.old cursor.new }
 {
     let mut here = cursor.take();
@@ -419,7 +415,8 @@ fn parse_more_digits<'a, T: EncodingType>(
     first: u8,
 ) -> Result<Fraction, Stop>
     requires digit { IsTrue (digit first) }
-    ensures fraction { Reads T.letter (λ fraction. fraction) cursor.old result cursor.new (more_digits_at first) }
+    ensures fraction { Reads T.letter (λ fraction. fraction) cursor.old result cursor.new
+        (more_digits_at first) }
     ensures looks { Spends 2 cursor.old cursor.new }
 {
     let mut fraction = Fraction::start(first);

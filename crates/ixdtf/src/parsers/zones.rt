@@ -144,7 +144,8 @@ impl<'a, T: EncodingType> TimeZoneParser<'a, T> {
     /// - `NonAsciiCodePoint` at a unit that stands for no letter, which no 8-bit unit does.
     pub fn parse_offset(&mut self) -> ParserResult<UtcOffsetRecord>
         // `Ok` exactly where the language derives the offset.
-        ensures ok { (offset : UtcOffsetRecord) → (returned (λ offset. offset) result ≡ Ok offset) ↔
+        ensures ok { (offset : UtcOffsetRecord) →
+            (returned (λ offset. offset) result ≡ Ok offset) ↔
             Derives parse_offset (map T.letter self.old.rest) (shifted offset) [] }
         // `Err` only where a row of the fault table with this error fits.
         ensures err { IfErr result
@@ -192,7 +193,8 @@ impl<'a, T: EncodingType> TimeZoneParser<'a, T> {
     /// - `NonAsciiCodePoint` at a unit that stands for no letter, which no 8-bit unit does.
     pub fn parse_iana_identifier(&mut self) -> ParserResult<&'a [T::CodeUnit]>
         // `Ok` exactly where the language derives the name.
-        ensures ok { (name : List ℕ) → (returned (λ units. map T.number units.now) result ≡ Ok name) ↔
+        ensures ok { (name : List ℕ) →
+            (returned (λ units. map T.number units.now) result ≡ Ok name) ↔
             Derives parse_iana_identifier (map T.letter self.old.rest) (named name) [] }
         // `Err` only where a row of the fault table with this error fits.
         ensures err { IfErr result
