@@ -27,6 +27,7 @@ pub enum Bracket<'a, T: EncodingType> {
 }
 
 /// Reads a first bracket after its `[`.
+#[inline(always)]
 #[tactic(auto, unfolding(crate::specs::reading::Brackets::bracket_at, crate::specs::reading::Looks::next_by))]
 pub fn parse_first_bracket<'a, T: EncodingType>(
     cursor: &mut Cursor<'a, T>,
@@ -68,6 +69,7 @@ fn parse_critical_bracket<'a, T: EncodingType>(
 }
 
 /// Reads what stands in a first bracket from its first letter on, and its `]`.
+#[inline(always)]
 #[tactic(auto, unfolding(crate::specs::reading::Brackets::inside_at))]
 fn parse_inside<'a, T: EncodingType>(
     cursor: &mut Cursor<'a, T>,
