@@ -117,11 +117,3 @@ fn check_refused(rt: &impl Abort, reader: Reader, rows: &[(&'static str, ParseEr
         }
     }
 }
-
-/// `parse` gives the record of the text.
-fn check_parsed(rt: &impl Abort, text: &'static str, record: &Record) {
-    match IxdtfParser::from_str(text).parse() {
-        Ok(found) => assert_eq!(rt; &found, record, "at {text}"),
-        Err(error) => panic!(rt; "{error} at {text}"),
-    }
-}

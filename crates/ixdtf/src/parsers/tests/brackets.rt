@@ -1,6 +1,6 @@
 use super::{
-    AT_BRACKET, AT_DIGIT, Reader, Record, check_parsed, check_refused, dated, long, minutes,
-    morning, short, timed,
+    AT_BRACKET, AT_DIGIT, Reader, Record, check_refused, dated, long, minutes, morning, short,
+    timed,
 };
 use crate::ParseError;
 use crate::encoding::Utf8;
@@ -32,7 +32,8 @@ fn reads_names_in_brackets(rt: HostRuntime) {
     ];
     for (text, critical, name) in rows {
         let zone = TimeZoneRecord::Name(name.as_bytes());
-        check_parsed(&rt, text, &zoned(2020, 4, 8, critical, zone));
+        let found = IxdtfParser::from_str(text).parse();
+        assert_eq!(rt; found, Ok(zoned(2020, 4, 8, critical, zone)), "at {text}");
     }
 }
 
@@ -45,7 +46,8 @@ fn reads_offsets_in_brackets(rt: HostRuntime) {
     ];
     for (text, critical, offset) in rows {
         let zone = TimeZoneRecord::Offset(offset);
-        check_parsed(&rt, text, &zoned(2020, 4, 8, critical, zone));
+        let found = IxdtfParser::from_str(text).parse();
+        assert_eq!(rt; found, Ok(zoned(2020, 4, 8, critical, zone)), "at {text}");
     }
 }
 
@@ -66,7 +68,8 @@ fn reads_a_time_an_offset_and_a_zone(rt: HostRuntime) {
             critical,
             tz: TimeZoneRecord::Name("America/New_York".as_bytes()),
         });
-        check_parsed(&rt, text, &record);
+        let found = IxdtfParser::from_str(text).parse();
+        assert_eq!(rt; found, Ok(record), "at {text}");
     }
 }
 
@@ -185,7 +188,8 @@ fn reads_calendars(rt: HostRuntime) {
     ];
     for (text, calendar) in rows {
         let record = with_calendar(2020, 11, 8, None, calendar);
-        check_parsed(&rt, text, &record);
+        let found = IxdtfParser::from_str(text).parse();
+        assert_eq!(rt; found, Ok(record), "at {text}");
     }
 }
 
@@ -196,13 +200,19 @@ fn reads_calendars_and_names_of_new_year(rt: HostRuntime) {
         critical: false,
         tz: TimeZoneRecord::Name("asia/kolkata".as_bytes()),
     });
-    check_parsed(&rt, "2020-01-01[asia/kolkata]", &named);
+    let found = IxdtfParser::from_str("2020-01-01[asia/kolkata]").parse();
+    assert_eq!(rt; found, Ok(named));
     let rows = [
         ("2020-01-01[u-ca=a-bc-d]", "a-bc-d"),
         ("2020-01-01[u-ca=a][u-ca=b][!u-ca=a]", "a"),
     ];
     for (text, calendar) in rows {
-        check_parsed(&rt, text, &with_calendar(2020, 1, 1, None, calendar));
+        let found = IxdtfParser::from_str(text).parse();
+        assert_eq!(rt;
+            found,
+            Ok(with_calendar(2020, 1, 1, None, calendar)),
+            "at {text}"
+        );
     }
 }
 
@@ -214,7 +224,8 @@ fn reads_pairs_of_other_keys(rt: HostRuntime) {
         "2020-11-08[_-9=Z-1]",
     ];
     for text in rows {
-        check_parsed(&rt, text, &dated(2020, 11, 8, None));
+        let found = IxdtfParser::from_str(text).parse();
+        assert_eq!(rt; found, Ok(dated(2020, 11, 8, None)), "at {text}");
     }
 }
 
@@ -244,7 +255,8 @@ fn reads_an_offset_and_calendars(rt: HostRuntime) {
         let offset = UtcOffsetRecordOrZ::Offset(short(Sign::Negative, 5, 0));
         let mut record = morning(Some(offset));
         record.calendar = Some(b"iso8601");
-        check_parsed(&rt, text, &record);
+        let found = IxdtfParser::from_str(text).parse();
+        assert_eq!(rt; found, Ok(record), "at {text}");
     }
 }
 

@@ -1,6 +1,5 @@
 use super::{
-    AT_DIGIT, AT_OFFSET, Reader, check_parsed, check_refused, dated, long, minutes, morning, short,
-    timed,
+    AT_DIGIT, AT_OFFSET, Reader, check_refused, dated, long, minutes, morning, short, timed,
 };
 use crate::ParseError;
 use crate::parsers::{IxdtfParser, TimeZoneParser};
@@ -77,7 +76,8 @@ fn reads_offsets_after_times(rt: HostRuntime) {
     ];
     for (text, offset) in rows {
         let record = morning(Some(UtcOffsetRecordOrZ::Offset(offset)));
-        check_parsed(&rt, text, &record);
+        let found = IxdtfParser::from_str(text).parse();
+        assert_eq!(rt; found, Ok(record), "at {text}");
     }
 }
 

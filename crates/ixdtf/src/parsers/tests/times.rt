@@ -1,4 +1,4 @@
-use super::{AT_DIGIT, Reader, check_parsed, check_refused, dated, timed};
+use super::{AT_DIGIT, Reader, check_refused, dated, timed};
 use crate::ParseError;
 use crate::parsers::IxdtfParser;
 use crate::records::Fraction;
@@ -25,7 +25,8 @@ fn reads_times(rt: HostRuntime) {
         ),
     ];
     for (text, (year, month, day), time) in rows {
-        check_parsed(&rt, text, &dated(year, month, day, time));
+        let found = IxdtfParser::from_str(text).parse();
+        assert_eq!(rt; found, Ok(dated(year, month, day, time)), "at {text}");
     }
 }
 
