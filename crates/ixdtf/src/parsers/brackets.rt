@@ -26,10 +26,25 @@ pub enum Bracket<'a, T: EncodingType> {
     Pair(Annotation<'a, T>),
 }
 
+/// Reads a first bracket after its `[`, by a cursor of its own.
+#[inline(always)]
+pub fn parse_first_bracket<'a, T: EncodingType>(
+    cursor: &mut Cursor<'a, T>,
+) -> Result<Bracket<'a, T>, Stop>
+    ensures bracket { Reads T.letter (bracket_of T.number) cursor.old result cursor.new
+        (bracket_at error_of) }
+    ensures looks { Spends 16 cursor.old cursor.new }
+{
+    let mut here = cursor.take();
+    let read = parse_bracket(&mut here);
+    *cursor = here;
+    read
+}
+
 /// Reads a first bracket after its `[`.
 #[inline(always)]
 #[tactic(auto, unfolding(crate::specs::reading::Brackets::bracket_at, crate::specs::reading::Looks::next_by))]
-pub fn parse_first_bracket<'a, T: EncodingType>(
+fn parse_bracket<'a, T: EncodingType>(
     cursor: &mut Cursor<'a, T>,
 ) -> Result<Bracket<'a, T>, Stop>
     ensures bracket { Reads T.letter (bracket_of T.number) cursor.old result cursor.new
