@@ -44,9 +44,7 @@ pub fn parse_first_bracket<'a, T: EncodingType>(
 /// Reads a first bracket after its `[`.
 #[inline(always)]
 #[tactic(auto, unfolding(crate::specs::reading::Brackets::bracket_at, crate::specs::reading::Looks::next_by))]
-fn parse_bracket<'a, T: EncodingType>(
-    cursor: &mut Cursor<'a, T>,
-) -> Result<Bracket<'a, T>, Stop>
+fn parse_bracket<'a, T: EncodingType>(cursor: &mut Cursor<'a, T>) -> Result<Bracket<'a, T>, Stop>
     ensures bracket { Reads T.letter (bracket_of T.number) cursor.old result cursor.new
         (bracket_at error_of) }
     ensures looks { Spends 16 cursor.old cursor.new }
