@@ -78,7 +78,14 @@ same_error-laws = partial_equiv_from_equiv (on_texts_equal (λ e. spelled (fault
 
 -- each fault, in the order of their places
 faults : List ℕ → List Fault
-faults location = ImplAssert ∷ NonAsciiCodePoint ∷ ParseFloat ∷ AbruptEnd location ∷ InvalidEnd ∷ InvalidMonthRange ∷ InvalidDayRange ∷ DateYear ∷ DateExtendedYear ∷ DateMonth ∷ DateDay ∷ DateUnexpectedEnd ∷ TimeRequired ∷ TimeHour ∷ TimeMinuteSecond ∷ TimeSecond ∷ FractionPart ∷ DateSeparator ∷ TimeSeparator ∷ DecimalSeparator ∷ InvalidAnnotation ∷ AnnotationOpen ∷ AnnotationClose ∷ AnnotationChar ∷ AnnotationKeyValueSeparator ∷ AnnotationKeyLeadingChar ∷ AnnotationKeyChar ∷ AnnotationValueCharPostHyphen ∷ AnnotationValueChar ∷ InvalidMinutePrecisionOffset ∷ CriticalDuplicateCalendar ∷ UnrecognizedCritical ∷ TzLeadingChar ∷ IanaCharPostSeparator ∷ IanaChar ∷ UtcTimeSeparator ∷ OffsetNeedsSign ∷ MonthDayHyphen ∷ DurationDisgnator ∷ DurationValueExceededRange ∷ DateDurationPartOrder ∷ TimeDurationPartOrder ∷ TimeDurationDesignator ∷ AmbiguousTimeMonthDay ∷ AmbiguousTimeYearMonth ∷ InvalidMonthDay ∷ []
+faults location =
+    ImplAssert ∷ NonAsciiCodePoint ∷ ParseFloat ∷ AbruptEnd location ∷ InvalidEnd ∷ InvalidMonthRange ∷ InvalidDayRange ∷ DateYear ∷
+    DateExtendedYear ∷ DateMonth ∷ DateDay ∷ DateUnexpectedEnd ∷ TimeRequired ∷ TimeHour ∷ TimeMinuteSecond ∷ TimeSecond ∷ FractionPart ∷
+    DateSeparator ∷ TimeSeparator ∷ DecimalSeparator ∷ InvalidAnnotation ∷ AnnotationOpen ∷ AnnotationClose ∷ AnnotationChar ∷
+    AnnotationKeyValueSeparator ∷ AnnotationKeyLeadingChar ∷ AnnotationKeyChar ∷ AnnotationValueCharPostHyphen ∷ AnnotationValueChar ∷
+    InvalidMinutePrecisionOffset ∷ CriticalDuplicateCalendar ∷ UnrecognizedCritical ∷ TzLeadingChar ∷ IanaCharPostSeparator ∷ IanaChar ∷
+    UtcTimeSeparator ∷ OffsetNeedsSign ∷ MonthDayHyphen ∷ DurationDisgnator ∷ DurationValueExceededRange ∷ DateDurationPartOrder ∷
+    TimeDurationPartOrder ∷ TimeDurationDesignator ∷ AmbiguousTimeMonthDay ∷ AmbiguousTimeYearMonth ∷ InvalidMonthDay ∷ []
 
 -- the fault that is spelled so
 fault_at : List ℕ → Fault
