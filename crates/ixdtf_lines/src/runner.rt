@@ -1,7 +1,7 @@
 //! The run over all lines.
 ghost use Rattle.std.specs.Prelude.{◌≡◌, ℕ, ◌<◌, ◌≤◌, List, ◌∷◌, [], ◌++◌, length, take, Option, Err, IfOk, IfErr, OnOk, IfSome, MatchResult};
 ghost use Rattle.std.specs.Io.KnownBytes.{Consumes, Keeps, IsAtEnd};
-ghost use Rattle.ixdtf_lines.specs.Lines.{lines_of, ended_lines_of};
+ghost use Rattle.ixdtf_lines.specs.Lines.{newline, lines_of, ended_lines_of};
 ghost use Rattle.ixdtf_lines.specs.Output.{written};
 ghost use Rattle.ixdtf_lines.specs.Progress.{Stands, Rests, Fails, Runs};
 ghost use Rattle.ixdtf_lines.specs.Run.{WritesAnswers, WritesFront};
@@ -101,10 +101,24 @@ fn take_byte<W: Write>(
         → MatchResult result (λ _. Stands W.contents start output.new line.new (read ++ byte ∷ []))
         (Fails start (written W.contents output.new) (ended_lines_of (read ++ byte ∷ []))) }
 {
-    if byte != b'\n' {
-        line.push(byte);
-        return Ok(());
+    if byte == b'\n' {
+        return end_line(output, line);
     }
+    line.push(byte);
+    Ok(())
+}
+
+/// Answers the line, whose newline was read, and begins the next one.
+///
+/// It is not inlined: the room for an answer is cleared on entry, here once a line and not once a byte.
+#[inline(never)]
+fn end_line<W: Write>(output: &mut Output<'_, W>, line: &mut Line) -> Result<(), RunError>
+    ensures same { output.new.writer.ghost_name ≡ output.old.writer.ghost_name }
+    ensures answers { (start : Option (List ℕ)) (read : List ℕ)
+        → Stands W.contents start output.old line.old read
+        → MatchResult result (λ _. Stands W.contents start output.new line.new (read ++ newline ∷ []))
+        (Fails start (written W.contents output.new) (ended_lines_of (read ++ newline ∷ []))) }
+{
     output.put_answer(&answer_to(line))?;
     line.clear();
     Ok(())
