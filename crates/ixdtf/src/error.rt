@@ -290,6 +290,3 @@ impl<'s> fmt::Display for ParseError<'s> {
         }
     }
 }
-
-#[cfg(test)]
-mod tests;

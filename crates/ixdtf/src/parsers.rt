@@ -222,6 +222,3 @@ impl<'a, T: EncodingType> IxdtfParser<'a, T> {
         }
     }
 }
-
-#[cfg(test)]
-mod tests;

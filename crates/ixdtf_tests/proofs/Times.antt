@@ -10,7 +10,7 @@ use Rattle.ixdtf.specs.table.Rows.Place.{anywhere}
 use Rattle.ixdtf.specs.table.Lines.{abrupt_digit}
 use Rattle.ixdtf.specs.reading.Dates.{date_of}
 use Rattle.ixdtf.specs.reading.Times.{time_of}
-use Rattle.ixdtf.proofs.examples.Helpers.{all_readings, and_bad, new_year, with, Example, Compute, gives, ends, goes_off, meets_bad, stands, stops, one, two, three, ShowEachRow}
+use Rattle.ixdtf_tests.proofs.Helpers.{all_readings, and_bad, new_year, with, Example, Compute, gives, ends, goes_off, meets_bad, stands, stops, one, two, three, ShowEachRow}
 
 abbrev of_time : ClockLine → LineName
 of_time line = of_clock Time line

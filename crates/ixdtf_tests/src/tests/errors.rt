@@ -1,4 +1,4 @@
-use super::*;
+use ixdtf::ParseError;
 use std::test::Fail;
 
 #[test]

@@ -7,7 +7,7 @@ use Rattle.ixdtf.specs.table.LineNames.DateLine.{year_start, year_digits, extend
 use Rattle.ixdtf.specs.table.Lines.{abrupt_digit, abrupt_date}
 use Rattle.ixdtf.specs.language.Letters.Letter.{Bad}
 use Rattle.ixdtf.specs.table.Rows.Place.{bad, anywhere}
-use Rattle.ixdtf.proofs.examples.Helpers.{all_readings, date, Example, Compute, ends, goes_off, meets_bad, stands, one, two, three, ShowEachRow, gives, stops, text_of, and_bad}
+use Rattle.ixdtf_tests.proofs.Helpers.{all_readings, date, Example, Compute, ends, goes_off, meets_bad, stands, one, two, three, ShowEachRow, gives, stops, text_of, and_bad}
 
 -- ---- each row of the lines of dates, in `parse`
 

@@ -1,12 +1,11 @@
-use super::{AT_DIGIT, Reader, check_refused, dated, timed};
-use crate::ParseError;
-use crate::parsers::IxdtfParser;
-use crate::records::Fraction;
+use super::{AT_DIGIT, Reader, check_refused, dated, fraction_of, timed};
+use ixdtf::ParseError;
+use ixdtf::parsers::IxdtfParser;
 
 #[test]
 fn reads_times(rt: HostRuntime) {
-    let zeros = Fraction::start(b'0').with_digit(b'0').with_digit(b'0');
-    let quarter = Fraction::start(b'2').with_digit(b'5');
+    let zeros = fraction_of("+00:00:00.000");
+    let quarter = fraction_of("+00:00:00.25");
     let rows = [
         ("2020-01-01T05", (2020, 1, 1), timed(5, 0, 0, None)),
         ("2020-01-01t0506", (2020, 1, 1), timed(5, 6, 0, None)),
@@ -16,12 +15,12 @@ fn reads_times(rt: HostRuntime) {
         (
             "2022-06-05 043422.000",
             (2022, 6, 5),
-            timed(4, 34, 22, Some(zeros)),
+            timed(4, 34, 22, zeros),
         ),
         (
             "2024-03-02T08:48:00,25",
             (2024, 3, 2),
-            timed(8, 48, 0, Some(quarter)),
+            timed(8, 48, 0, quarter),
         ),
     ];
     for (text, (year, month, day), time) in rows {

@@ -1,7 +1,7 @@
 use super::{AT_DATE, AT_DIGIT, Reader, check_refused, dated};
-use crate::ParseError;
-use crate::encoding::Utf8;
-use crate::parsers::IxdtfParser;
+use ixdtf::ParseError;
+use ixdtf::encoding::Utf8;
+use ixdtf::parsers::IxdtfParser;
 
 #[test]
 fn reads_dates(rt: HostRuntime) {

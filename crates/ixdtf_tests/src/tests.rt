@@ -2,16 +2,19 @@
 
 mod brackets;
 mod dates;
+mod encodings;
+mod errors;
 mod handlers;
 mod offsets;
+mod records;
 mod replies;
 mod times;
 mod zones;
 
-use super::{IxdtfParser, TimeZoneParser};
-use crate::ParseError;
-use crate::encoding::Utf8;
-use crate::records::{
+use ixdtf::ParseError;
+use ixdtf::encoding::Utf8;
+use ixdtf::parsers::{IxdtfParser, TimeZoneParser};
+use ixdtf::records::{
     DateRecord, Fraction, FullPrecisionOffset, IxdtfParseRecord, MinutePrecisionOffset, Sign,
     TimeRecord, UtcOffsetRecord, UtcOffsetRecordOrZ,
 };
@@ -79,6 +82,14 @@ fn timed(hour: u8, minute: u8, second: u8, fraction: Option<Fraction>) -> Option
         second,
         fraction,
     })
+}
+
+/// The fraction of the second of an offset, such as `+00:00:00.25`.
+fn fraction_of(text: &'static str) -> Option<Fraction> {
+    match TimeZoneParser::from_str(text).parse_offset() {
+        Ok(offset) => offset.fraction(),
+        Err(_) => None,
+    }
 }
 
 /// A reader of a text.

@@ -1,27 +1,16 @@
 use super::{
-    AT_DIGIT, AT_OFFSET, Reader, check_refused, dated, long, minutes, morning, short, timed,
+    AT_DIGIT, AT_OFFSET, Reader, check_refused, dated, fraction_of, long, minutes, morning, short,
+    timed,
 };
-use crate::ParseError;
-use crate::parsers::{IxdtfParser, TimeZoneParser};
-use crate::records::{Fraction, Sign, UtcOffsetRecordOrZ};
-
-// The fraction 123456789.
-fn nine_digits() -> Fraction {
-    Fraction::start(b'1')
-        .with_digit(b'2')
-        .with_digit(b'3')
-        .with_digit(b'4')
-        .with_digit(b'5')
-        .with_digit(b'6')
-        .with_digit(b'7')
-        .with_digit(b'8')
-        .with_digit(b'9')
-}
+use ixdtf::ParseError;
+use ixdtf::parsers::{IxdtfParser, TimeZoneParser};
+use ixdtf::records::{Sign, UtcOffsetRecordOrZ};
 
 #[test]
 fn reads_offsets(rt: HostRuntime) {
-    let half = Fraction::start(b'5');
-    let quarter = Fraction::start(b'2').with_digit(b'5');
+    let half = fraction_of("+00:00:00.5");
+    let quarter = fraction_of("+00:00:00.25");
+    let nine_digits = fraction_of("+00:00:00.123456789");
     let five = minutes(Sign::Negative, 5, 0);
     let rows = [
         ("+05", short(Sign::Positive, 5, 0)),
@@ -30,9 +19,9 @@ fn reads_offsets(rt: HostRuntime) {
         ("-00:00", short(Sign::Negative, 0, 0)),
         ("+235959", long(minutes(Sign::Positive, 23, 59), 59, None)),
         ("+01:00:00", long(minutes(Sign::Positive, 1, 0), 0, None)),
-        ("-050030,25", long(five, 30, Some(quarter))),
-        ("-05:00:30.5", long(five, 30, Some(half))),
-        ("-05:00:30.123456789", long(five, 30, Some(nine_digits()))),
+        ("-050030,25", long(five, 30, quarter)),
+        ("-05:00:30.5", long(five, 30, half)),
+        ("-05:00:30.123456789", long(five, 30, nine_digits)),
     ];
     for (text, offset) in rows {
         let found = TimeZoneParser::from_str(text).parse_offset();

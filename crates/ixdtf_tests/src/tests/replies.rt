@@ -1,8 +1,8 @@
-use super::{AT_DIGIT, dated, timed};
-use crate::encoding::Utf8;
-use crate::parsers::IxdtfParser;
-use crate::records::{Annotation, Fraction, IxdtfParseRecord, TimeRecord, UtcOffsetRecordOrZ};
-use crate::{ParseError, error};
+use super::{AT_DIGIT, dated, fraction_of, timed};
+use ixdtf::encoding::Utf8;
+use ixdtf::parsers::IxdtfParser;
+use ixdtf::records::{Annotation, IxdtfParseRecord, TimeRecord, UtcOffsetRecordOrZ};
+use ixdtf::{ParseError, ParserResult};
 
 /// What a handler was handed: the flag, the key and the value.
 type Call<'c> = (bool, &'c str, &'c str);
@@ -71,14 +71,11 @@ fn is_listed<'a, 'c>(annotation: &Annotation<'a, Utf8>, listed: Option<&Call<'c>
 }
 
 // What a text gives with a handler, and whether these calls of it were made, in this order, and no more.
-fn handled<'a, 's, 'c>(
-    text: &'a str,
+fn handled<'c>(
+    text: &'static str,
     kind: Kind,
     calls: &[Call<'c>],
-) -> (
-    Result<IxdtfParseRecord<'a, Utf8>, error::ParseError<'s>>,
-    bool,
-) {
+) -> (ParserResult<IxdtfParseRecord<'static, Utf8>>, bool) {
     let mut count = 0usize;
     let mut as_listed = true;
     let mut parser = IxdtfParser::from_str(text);
@@ -91,9 +88,13 @@ fn handled<'a, 's, 'c>(
     (found, as_listed && count == calls.len())
 }
 
+// Half a second past midnight.
+fn half_a_second() -> Option<TimeRecord> {
+    timed(0, 0, 0, fraction_of("+00:00:00.5"))
+}
+
 #[test]
 fn heeds_handlers(rt: HostRuntime) {
-    let half = Fraction::start(b'5');
     let rows: [(
         &'static str,
         Kind,
@@ -149,7 +150,7 @@ fn heeds_handlers(rt: HostRuntime) {
             "2020-01-01 00:00:00.5Z[!u-ca=A]",
             Kind::RepliesNone,
             &[(true, "u-ca", "A")],
-            timed(0, 0, 0, Some(half)),
+            half_a_second(),
             Some(UtcOffsetRecordOrZ::Z),
             None,
         ),
@@ -165,7 +166,7 @@ fn heeds_handlers(rt: HostRuntime) {
             "2020-01-01 00:00:00.5Z[!u-ca=n-dzMM2]",
             Kind::MakesCritical,
             &[(true, "u-ca", "n-dzMM2")],
-            timed(0, 0, 0, Some(half)),
+            half_a_second(),
             Some(UtcOffsetRecordOrZ::Z),
             Some("n-dzMM2"),
         ),
@@ -173,7 +174,7 @@ fn heeds_handlers(rt: HostRuntime) {
             "2020-01-01 00:00:00.5Z[u-ca=mr-nUk-EDkNu]",
             Kind::TurnsCritical,
             &[(false, "u-ca", "mr-nUk-EDkNu")],
-            timed(0, 0, 0, Some(half)),
+            half_a_second(),
             Some(UtcOffsetRecordOrZ::Z),
             Some("mr-nUk-EDkNu"),
         ),
@@ -181,7 +182,7 @@ fn heeds_handlers(rt: HostRuntime) {
             "2020-01-01 00:00:00.5Z[answer-to-universe=OSR]",
             Kind::RepliesAnother,
             &[(false, "answer-to-universe", "OSR")],
-            timed(0, 0, 0, Some(half)),
+            half_a_second(),
             Some(UtcOffsetRecordOrZ::Z),
             Some("a"),
         ),

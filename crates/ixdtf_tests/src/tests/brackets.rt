@@ -2,10 +2,10 @@ use super::{
     AT_BRACKET, AT_DIGIT, Reader, Record, check_refused, dated, long, minutes, morning, short,
     timed,
 };
-use crate::ParseError;
-use crate::encoding::Utf8;
-use crate::parsers::IxdtfParser;
-use crate::records::{Sign, TimeRecord, TimeZoneAnnotation, TimeZoneRecord, UtcOffsetRecordOrZ};
+use ixdtf::ParseError;
+use ixdtf::encoding::Utf8;
+use ixdtf::parsers::IxdtfParser;
+use ixdtf::records::{Sign, TimeRecord, TimeZoneAnnotation, TimeZoneRecord, UtcOffsetRecordOrZ};
 
 // A date with a zone.
 fn zoned(

@@ -6,7 +6,7 @@ use Rattle.ixdtf.specs.table.Faults.Fault.{AnnotationClose, AnnotationKeyLeading
 use Rattle.ixdtf.specs.table.LineNames.{LineName}
 use Rattle.ixdtf.specs.table.LineNames.LineName.{of_pair}
 use Rattle.ixdtf.specs.table.LineNames.PairLine.{key_start, critical_key_start, in_key, value_start, in_value, after_value_hyphen}
-use Rattle.ixdtf.proofs.examples.Helpers.{all_readings, zone_named, tagged, annotated, Example, Compute, gives, ends, goes_off, meets_bad, three, three_after, ShowEachRow}
+use Rattle.ixdtf_tests.proofs.Helpers.{all_readings, zone_named, tagged, annotated, Example, Compute, gives, ends, goes_off, meets_bad, three, three_after, ShowEachRow}
 
 abbrev pair_lines : List LineName
 pair_lines = map of_pair (key_start ∷ critical_key_start ∷ in_key ∷ value_start ∷ in_value ∷ after_value_hyphen ∷ [])

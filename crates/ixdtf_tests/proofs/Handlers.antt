@@ -16,8 +16,8 @@ use Rattle.ixdtf.specs.table.Rows.Place.{other}
 use Rattle.ixdtf.specs.reading.Looks.{row_of}
 use Rattle.ixdtf.specs.reading.Dates.{date_of}
 use Rattle.ixdtf.specs.reading.Times.{time_of}
-use Rattle.ixdtf.proofs.examples.Helpers.{all_readings, text_of, new_years_day, tagged, zone_named}
-use Rattle.ixdtf.proofs.examples.Replies.{all_accepted, gives, stops_with, refuses, plain_record, differ}
+use Rattle.ixdtf_tests.proofs.Helpers.{all_readings, text_of, new_years_day, tagged, zone_named}
+use Rattle.ixdtf_tests.proofs.Replies.{all_accepted, gives, stops_with, refuses, plain_record, differ}
 
 -- a calendar
 abbrev calendar : Bool → List ℕ → Pair

@@ -1,4 +1,3 @@
--- Texts and their outcomes, computed.
 pub mod Helpers
 pub mod Dates
 pub mod Times

@@ -18,7 +18,7 @@ use Rattle.ixdtf.specs.reading.Looks.{Read}
 use Rattle.ixdtf.specs.reading.Wholes.{RowBehind, row_behind, read_at, outcome_of, outcome}
 use Rattle.ixdtf.proofs.code.OneMoreReply.{NoneRefused-nothing, NoneRefused-more, neither_refused}
 use Rattle.ixdtf.proofs.to_grammar.Wholes.{OnWhole, whole_read}
-use Rattle.ixdtf.proofs.examples.Helpers.{text_of, parsing}
+use Rattle.ixdtf_tests.proofs.Helpers.{text_of, parsing}
 
 -- ---- replies that are accepted, by a test
 

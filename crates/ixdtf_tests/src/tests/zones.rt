@@ -1,8 +1,8 @@
 use super::{AT_DIGIT, AT_ZONE, Reader, check_refused, minutes};
-use crate::ParseError;
-use crate::encoding::Utf8;
-use crate::parsers::TimeZoneParser;
-use crate::records::{Sign, TimeZoneRecord};
+use ixdtf::ParseError;
+use ixdtf::encoding::Utf8;
+use ixdtf::parsers::TimeZoneParser;
+use ixdtf::records::{Sign, TimeZoneRecord};
 
 #[test]
 fn reads_names(rt: HostRuntime) {
