@@ -3,14 +3,15 @@
 //! There is no index: a cursor keeps the end of the source that is still to be read, as one slice. So a place past the end
 //! cannot be, and a reader that refuses puts back the slice that it began with.
 
-ghost use Rattle.std.specs.Prelude.{◌≡◌, ℕ, ◌+◌, ◌-◌, ◌<◌, ◌≤◌, ◌∷◌, List, [], map, length, drop, None, IfOk, OnOk, IsTrue};
+ghost use Rattle.std.specs.Prelude.{◌≡◌, ℕ, ◌+◌, ◌-◌, ◌<◌, ◌≤◌, ◌∷◌, List, [], map, length, drop, None, IfOk, OnOk, OnErr, IsTrue};
 ghost use Rattle.ixdtf.specs.language.Letters.{digit};
 ghost use Rattle.ixdtf.specs.language.Letters.Letter.{Plain};
 ghost use Rattle.ixdtf.specs.table.Faults.{NonAsciiCodePoint};
 ghost use Rattle.ixdtf.specs.Views.{Unread, ascii_at};
-ghost use Rattle.ixdtf.specs.reading.Clauses.{Reads, Spends, Yields, fault_of_stop, digit_seen, end_look};
+ghost use Rattle.ixdtf.specs.reading.Clauses.{Reads, Settles, Spends, Yields, fault_of_stop, digit_seen, end_look};
 ghost use Rattle.ixdtf.specs.reading.Looks.{look_at, next_by, peek_by, digit_look, digits_by};
 
+use crate::ParserResult;
 use crate::encoding::EncodingType;
 use crate::looks::Looks;
 use crate::stop::Stop;
@@ -79,6 +80,27 @@ impl<'a, T: EncodingType> Cursor<'a, T> {
         ensures looks { self.new.looks ≡ here.entry.looks }
     {
         self.looks = here.looks;
+    }
+
+    /// Ends a reader that worked on a cursor of its own. Where it found something, this cursor goes on from there; where it
+    /// stopped, this one keeps its rest and counts the looks, and the stop becomes the error.
+    #[inline(always)]
+    pub fn settle<R>(&mut self, here: Self, read: Result<R, Stop>) -> ParserResult<R>
+        ensures settled { Settles read result }
+        ensures ended { OnOk result (self.new.rest ≡ here.entry.rest) }
+        ensures unchanged { OnErr result (self.new.rest ≡ self.old.rest) }
+        ensures looks { self.new.looks ≡ here.entry.looks }
+    {
+        match read {
+            Ok(found) => {
+                *self = here;
+                Ok(found)
+            }
+            Err(stop) => {
+                self.count(here);
+                Err(stop.error())
+            }
+        }
     }
 
     /// Looks at a place of the rest: `None` past its end, and `NonAsciiCodePoint` at a unit that stands for no letter.

@@ -1,9 +1,11 @@
 -- The clauses of a reader that reads no pairs, from what its reading returns.
-use Rattle.std.proofs.Common.{refl, ◌≡◌, List, [], Result, Ok, Err, sym, ap, ◌∙◌, subst, IfErr}
-use Rattle.ixdtf.specs.language.Letters.{Text}
-use Rattle.ixdtf.specs.table.Faults.{Fault, fault_of}
+use Rattle.std.proofs.Common.{refl, ◌≡◌, ℕ, List, [], map, Result, Ok, Err, sym, ap, ◌∙◌, subst, IfErr, OnOk, IsFalse}
+use Rattle.ixdtf.specs.language.Letters.{Letter, Text}
+use Rattle.ixdtf.specs.table.Faults.{Fault, fault_of, never_comes}
+use Rattle.ixdtf.specs.declared.stop.Stop.{Stop}
 use Rattle.ixdtf.specs.declared.error.ParseError.{ParseError}
-use Rattle.ixdtf.specs.Views.{returned}
+use Rattle.ixdtf.specs.Views.{Unread, returned}
+use Rattle.ixdtf.specs.reading.Clauses.{Reads, Settles, fault_of_stop}
 use Rattle.ixdtf.specs.language.Brackets.{Pair}
 use Rattle.ixdtf.specs.language.Readers.{Reader}
 use Rattle.ixdtf.specs.language.Readers.Reader.{bracketed, parse_offset, parse_identifier, parse_iana_identifier}
@@ -14,6 +16,8 @@ use Rattle.ixdtf.specs.reading.Looks.{Read}
 use Rattle.ixdtf.specs.reading.Wholes.{finding, read_at}
 use Rattle.ixdtf.proofs.to_grammar.Wholes.{OnWhole, whole_read}
 use Rattle.ixdtf.proofs.to_reading.Wholes.{takes}
+use Rattle.ixdtf.proofs.theorems.NoRow.{fault_comes}
+use Rattle.ixdtf.proofs.code.Units.{no_units}
 
 abbrev done : {A : Type 0} → A → Result A Fault
 done x = Ok x
@@ -54,26 +58,51 @@ module _ {A : Type 0} (reader : Reader) (found : A → Found) (same : (x y : A) 
   returned_here read is = subst Returned (reads ∙ ap (finding found) is) (whole_read error_after reader text)
 
   -- all of the text was read
-  pub nothing_left : (x : A) (rest : Text) → reading ≡ Ok (x, rest) → rest ≡ []
+  nothing_left : (x : A) (rest : Text) → reading ≡ Ok (x, rest) → rest ≡ []
   nothing_left x rest is = (returned_here (Ok (x, rest)) is).0
 
   -- `Ok` exactly where it is derived
-  pub ok_where_derived : (x : A) (rest : Text) → reading ≡ Ok (x, rest) → (y : A) → (done x ≡ done y → Derives reader text (found y) []) × (Derives reader text (found y) [] → done x ≡ done y)
+  ok_where_derived : (x : A) (rest : Text) → reading ≡ Ok (x, rest) → (y : A) → (done x ≡ done y → Derives reader text (found y) []) × (Derives reader text (found y) [] → done x ≡ done y)
   ok_where_derived x rest is y = (
     λ e. subst (λ z. Derives reader text (found z) []) (done_is x y e) (returned_here (Ok (x, rest)) is).1,
     λ d. ap done (same x y (ap (λ (p : (Found × List Pair) × Text). p.0.0) (done_is ((found x, []), rest) ((found y, []), []) (sym (reads ∙ ap (finding found) is) ∙ takes error_after reader text (found y) [] d)))),
   )
 
   -- nothing is derived where reading returned a fault
-  pub err_where_refused : (fault : Fault) → reading ≡ Err fault → (y : A) → (failed fault ≡ done y → Derives reader text (found y) []) × (Derives reader text (found y) [] → failed fault ≡ done y)
+  err_where_refused : (fault : Fault) → reading ≡ Err fault → (y : A) → (failed fault ≡ done y → Derives reader text (found y) []) × (Derives reader text (found y) [] → failed fault ≡ done y)
   err_where_refused fault is y = (
     λ e. absurd (failed_is y fault e),
     λ d. absurd (failed_is ((found y, []), []) fault (sym (reads ∙ ap (finding found) is) ∙ takes error_after reader text (found y) [] d)),
   )
 
   -- a fault is the error of a row that fits
-  pub err_where_fits : (fault : Fault) → reading ≡ Err fault → ReadsNoPairs reader → HasFault reader text [] fault
+  err_where_fits : (fault : Fault) → reading ≡ Err fault → ReadsNoPairs reader → HasFault reader text [] fault
   err_where_fits fault is none = let row = returned_here (Err fault) is in (row.1, no_pairs reader row.1 row.0 text none row.3, sym row.2)
+
+-- What a public reader returned, where its private one read so and its cursor settled with that.
+module _ {U A : Type 0} (letter : ℕ → Letter) (view : U → A) (reader : Reader) (found : A → Found) (same : (x y : A) → found x ≡ found y → x ≡ y) (none : ReadsNoPairs reader) (reading : Text → Read Fault A) (old new : Unread) (reads : read_at error_after reader (map letter old.rest) ≡ finding found (reading (map letter old.rest))) where
+  -- the clauses of the reader
+  pub record Exact (result : Result U ParseError) : Type 0 where
+    pub ok : (y : A) → (returned view result ≡ Ok y → Derives reader (map letter old.rest) (found y) []) × (Derives reader (map letter old.rest) (found y) [] → returned view result ≡ Ok y)
+    pub err : IfErr result (λ e. HasFault reader (map letter old.rest) [] (fault_of e))
+    pub comes : IfErr result (λ e. IsFalse (never_comes (fault_of e)))
+    pub empty : (left : List ℕ) → OnOk result (left ≡ new.rest) → OnOk result (left ≡ [])
+
+  pub exact : (read : Result U Stop) (result : Result U ParseError) → Reads letter view old read new reading → Settles read result → Exact result
+  exact (Ok x) (Ok y) h s = record {
+    ok = rw s (ok_where_derived reader found same (map letter old.rest) _ reads (view x) (map letter new.rest) h);
+    err = tt;
+    comes = tt;
+    empty = λ left is. is ∙ no_units letter new.rest (nothing_left reader found same (map letter old.rest) _ reads (view x) (map letter new.rest) h);
+  }
+  exact (Ok x) (Err e) h s = absurd s
+  exact (Err stop) (Ok y) h s = absurd s
+  exact (Err stop) (Err e) h s = let fits : HasFault reader (map letter old.rest) [] (fault_of e) = rw s (err_where_fits reader found same (map letter old.rest) _ reads (fault_of_stop stop) h none) in record {
+    ok = rw s (err_where_refused reader found same (map letter old.rest) _ reads (fault_of_stop stop) h);
+    err = fits;
+    comes = fault_comes reader (map letter old.rest) [] (fault_of e) fits;
+    empty = λ left is. tt;
+  }
 
 -- what holds of each fault that was returned
 pub each_err : {X Y : Type 0} (view : X → Y) (holds : Fault → Type 0) (r : Result X ParseError) → ((fault : Fault) → returned view r ≡ Err fault → holds fault) → IfErr r (λ e. holds (fault_of e))

@@ -104,16 +104,8 @@ impl<'a, T: EncodingType> TimeZoneParser<'a, T> {
         ensures counted { self.old.looks ≤ self.new.looks }
     {
         let mut here = self.cursor.take();
-        match parse_identifier_text(&mut here) {
-            Ok(zone) => {
-                self.cursor = here;
-                Ok(zone)
-            }
-            Err(stop) => {
-                self.cursor.count(here);
-                Err(stop.error())
-            }
-        }
+        let read = parse_identifier_text(&mut here);
+        self.cursor.settle(here, read)
     }
 
     /// Reads all that is still to be read, as an offset from UTC (`time-numoffset` of RFC 3339, section 5.6, and longer and
@@ -161,16 +153,8 @@ impl<'a, T: EncodingType> TimeZoneParser<'a, T> {
         ensures counted { self.old.looks ≤ self.new.looks }
     {
         let mut here = self.cursor.take();
-        match parse_offset_text(&mut here) {
-            Ok(offset) => {
-                self.cursor = here;
-                Ok(offset)
-            }
-            Err(stop) => {
-                self.cursor.count(here);
-                Err(stop.error())
-            }
-        }
+        let read = parse_offset_text(&mut here);
+        self.cursor.settle(here, read)
     }
 
     /// Reads all that is still to be read, as the name of a time zone (`time-zone-name` of RFC 9557, section 4.1), and returns
@@ -210,15 +194,7 @@ impl<'a, T: EncodingType> TimeZoneParser<'a, T> {
         ensures counted { self.old.looks ≤ self.new.looks }
     {
         let mut here = self.cursor.take();
-        match parse_iana_identifier_text(&mut here) {
-            Ok(name) => {
-                self.cursor = here;
-                Ok(name)
-            }
-            Err(stop) => {
-                self.cursor.count(here);
-                Err(stop.error())
-            }
-        }
+        let read = parse_iana_identifier_text(&mut here);
+        self.cursor.settle(here, read)
     }
 }

@@ -1,22 +1,14 @@
 use Rattle.std.proofs.Common.{refl}
 use Rattle.ixdtf.specs.language.Readers.Reader.{parse_offset}
 use Rattle.ixdtf.specs.language.Languages.Found.{shifted}
-use Rattle.ixdtf.proofs.code.Units.{no_units}
-use Rattle.ixdtf.proofs.code.ReadersWithoutPairs.{nothing_left, ok_where_derived, err_where_refused, err_where_fits}
-use Rattle.ixdtf.proofs.theorems.NoRow.{fault_comes}
+use Rattle.ixdtf.proofs.code.ReadersWithoutPairs.{exact}
 use Rattle.ixdtf.proofs.parsers.zones.TimeZoneParser.parse_offset.Goals as goal
 
-pub returns-in-Ok-clause-ok : goal.returns-in-Ok-clause-ok
-returns-in-Ok-clause-ok g c = rw (← c.self.view_is, ← c.take-here.ensures.same) (ok_where_derived parse_offset shifted (λ x y e. cc) _ _ refl _ _ c.in-Ok.ensures.offset)
+pub returns-clause-ok : goal.returns-clause-ok
+returns-clause-ok g c = rw (← c.self.view_is, ← c.take-here.ensures.same) ((exact _ _ parse_offset shifted (λ x y e. cc) tt _ c.take-here.result c.parse_offset_text-read.new.cursor refl _ _ c.parse_offset_text-read.ensures.offset c.settle.ensures.settled).ok)
 
-pub returns-in-Ok-clause-empty : goal.returns-in-Ok-clause-empty
-returns-in-Ok-clause-empty g c = no_units g.T.EncodingType.letter _ (nothing_left parse_offset shifted (λ x y e. cc) _ _ refl _ _ c.in-Ok.ensures.offset)
+pub returns-clause-err : goal.returns-clause-err
+returns-clause-err g c = rw (← c.self.view_is, ← c.take-here.ensures.same) ((exact _ _ parse_offset shifted (λ x y e. cc) tt _ c.take-here.result c.parse_offset_text-read.new.cursor refl _ _ c.parse_offset_text-read.ensures.offset c.settle.ensures.settled).err)
 
-pub returns-in-Err-clause-ok : goal.returns-in-Err-clause-ok
-returns-in-Err-clause-ok g c = rw (← c.self.view_is, ← c.take-here.ensures.same, c.error.ensures) (err_where_refused parse_offset shifted (λ x y e. cc) _ _ refl _ c.in-Err.ensures.offset)
-
-pub returns-in-Err-clause-err : goal.returns-in-Err-clause-err
-returns-in-Err-clause-err g c = rw (← c.self.view_is, ← c.take-here.ensures.same, c.error.ensures) (err_where_fits parse_offset shifted (λ x y e. cc) _ _ refl _ c.in-Err.ensures.offset tt)
-
-pub returns-in-Err-clause-comes : goal.returns-in-Err-clause-comes
-returns-in-Err-clause-comes g c = rw c.error.ensures (fault_comes parse_offset _ _ _ (err_where_fits parse_offset shifted (λ x y e. cc) _ _ refl _ c.in-Err.ensures.offset tt))
+pub returns-clause-empty : goal.returns-clause-empty
+returns-clause-empty g c = (exact _ _ parse_offset shifted (λ x y e. cc) tt _ c.take-here.result c.parse_offset_text-read.new.cursor refl _ _ c.parse_offset_text-read.ensures.offset c.settle.ensures.settled).empty _ c.settle.ensures.ended
