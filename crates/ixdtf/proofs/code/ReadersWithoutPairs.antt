@@ -1,9 +1,8 @@
 -- The clauses of a reader that reads no pairs, from what its reading returns.
 use Rattle.std.proofs.Common.{refl, ◌≡◌, List, [], Result, Ok, Err, sym, ap, ◌∙◌, subst, IfErr}
 use Rattle.ixdtf.specs.language.Letters.{Text}
-use Rattle.ixdtf.specs.table.Faults.{Fault, fault_of}
-use Rattle.ixdtf.specs.declared.error.ParseError.{ParseError}
-use Rattle.ixdtf.specs.Views.{returned}
+use Rattle.ixdtf.specs.table.Faults.{Fault}
+use Rattle.ixdtf.specs.Views.{returned_by}
 use Rattle.ixdtf.specs.language.Brackets.{Pair}
 use Rattle.ixdtf.specs.language.Readers.{Reader}
 use Rattle.ixdtf.specs.language.Readers.Reader.{bracketed, parse_offset, parse_identifier, parse_iana_identifier}
@@ -76,6 +75,6 @@ module _ {A : Type 0} (reader : Reader) (found : A → Found) (same : (x y : A) 
   err_where_fits fault is none = let row = returned_here (Err fault) is in (row.1, no_pairs reader row.1 row.0 text none row.3, sym row.2)
 
 -- what holds of each fault that was returned
-pub each_err : {X Y : Type 0} (view : X → Y) (holds : Fault → Type 0) (r : Result X ParseError) → ((fault : Fault) → returned view r ≡ Err fault → holds fault) → IfErr r (λ e. holds (fault_of e))
-each_err view holds (Ok x) h = tt
-each_err view holds (Err e) h = h (fault_of e) refl
+pub each_err : {X Y E : Type 0} (named : E → Fault) (view : X → Y) (holds : Fault → Type 0) (r : Result X E) → ((fault : Fault) → returned_by named view r ≡ Err fault → holds fault) → IfErr r (λ e. holds (named e))
+each_err named view holds (Ok x) h = tt
+each_err named view holds (Err e) h = h (named e) refl

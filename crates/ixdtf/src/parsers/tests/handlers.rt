@@ -3,7 +3,7 @@ use crate::encoding::Utf8;
 use crate::laws::parse_unanswered;
 use crate::parsers::IxdtfParser;
 use crate::records::{Annotation, DateRecord, Sign, UtcOffsetRecordOrZ};
-use crate::{ParseError, ParserResult, error};
+use crate::{ParseError, ParserResult};
 use std::test::Fail;
 
 #[test]
@@ -113,11 +113,9 @@ fn keeps_pairs_that_it_refused(rt: HostRuntime) {
     assert_eq!(rt; fourth, Err(AT_DIGIT));
 }
 
-// The calendar of a text with the handler of a caller, of whatever type it is. An error is handed on.
-fn calendar_of<'a, 's, F>(
-    text: &'a str,
-    handler: F,
-) -> Result<Option<&'a [u8]>, error::ParseError<'s>>
+// The calendar of a text with the handler of a caller, of whatever type it is. An error is handed on, as any error that it
+// becomes.
+fn calendar_of<'a, E: From<ParseError>, F>(text: &'a str, handler: F) -> Result<Option<&'a [u8]>, E>
 where
     F: FnMut(Annotation<'a, Utf8>) -> Option<Annotation<'a, Utf8>>,
     requires callable { F.IsAlwaysCallable handler }
@@ -125,7 +123,7 @@ where
     let mut parser = IxdtfParser::from_str(text);
     match parser.parse_with_annotation_handler(handler) {
         Ok(record) => Ok(record.calendar),
-        Err(error) => Err(error),
+        Err(error) => Err(E::from(error)),
     }
 }
 
@@ -133,7 +131,7 @@ where
 fn takes_the_handler_of_a_caller(rt: HostRuntime) {
     let text = "2020-01-01[u-ca=a][!c=d]";
     let mut calls = 0u32;
-    let found = calendar_of(text, |annotation| {
+    let found = calendar_of::<ParseError, _>(text, |annotation| {
         calls = calls.saturating_add(1);
         if annotation.critical {
             None
@@ -143,7 +141,7 @@ fn takes_the_handler_of_a_caller(rt: HostRuntime) {
     });
     assert_eq!(rt; found, Ok(Some(b"a".as_slice())));
     assert_eq!(rt; calls, 2);
-    let refused = calendar_of(text, |annotation| Some(annotation));
+    let refused = calendar_of::<ParseError, _>(text, |annotation| Some(annotation));
     assert_eq!(rt; refused, Err(ParseError::UnrecognizedCritical));
 }
 
@@ -188,9 +186,9 @@ fn may_be_discarded(rt: HostRuntime) {
 #[test]
 fn leaves_no_calendar_unanswered(rt: HostRuntime) {
     let mut parser = IxdtfParser::from_str("2020-01-01[u-ca=a][!u-ca=b][!c=d]");
-    let found = parse_unanswered(&mut parser, |_annotation| None);
+    let found = parse_unanswered::<_, ParseError, _>(&mut parser, |_annotation| None);
     assert_eq!(rt; found, Ok(dated(2020, 1, 1, None)));
     let mut faulty = IxdtfParser::from_str("2020-01-01[!c=d]junk");
-    let refused = parse_unanswered(&mut faulty, |_annotation| None);
+    let refused = parse_unanswered::<_, ParseError, _>(&mut faulty, |_annotation| None);
     assert_eq!(rt; refused, Err(ParseError::InvalidEnd));
 }

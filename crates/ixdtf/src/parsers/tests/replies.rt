@@ -2,7 +2,7 @@ use super::{AT_DIGIT, dated, timed};
 use crate::encoding::Utf8;
 use crate::parsers::IxdtfParser;
 use crate::records::{Annotation, Fraction, IxdtfParseRecord, TimeRecord, UtcOffsetRecordOrZ};
-use crate::{ParseError, error};
+use crate::{ParseError, ParserResult};
 
 /// What a handler was handed: the flag, the key and the value.
 type Call<'c> = (bool, &'c str, &'c str);
@@ -71,14 +71,11 @@ fn is_listed<'a, 'c>(annotation: &Annotation<'a, Utf8>, listed: Option<&Call<'c>
 }
 
 // What a text gives with a handler, and whether these calls of it were made, in this order, and no more.
-fn handled<'a, 's, 'c>(
+fn handled<'a, 'c>(
     text: &'a str,
     kind: Kind,
     calls: &[Call<'c>],
-) -> (
-    Result<IxdtfParseRecord<'a, Utf8>, error::ParseError<'s>>,
-    bool,
-) {
+) -> (ParserResult<IxdtfParseRecord<'a, Utf8>>, bool) {
     let mut count = 0usize;
     let mut as_listed = true;
     let mut parser = IxdtfParser::from_str(text);
