@@ -5,12 +5,14 @@ pub mod EqualUnits
 pub mod FirstPass
 pub mod FractionLoop
 pub mod GrowingDigits
+pub mod HandsOn
 pub mod LetterLoops
 pub mod NameLoop
 pub mod Nanoseconds
 pub mod OneMoreReply
 pub mod PairLoops
 pub mod Placed
+pub mod PlainErrors
 pub mod ReadersWithoutPairs
 pub mod Tables
 pub mod Tail

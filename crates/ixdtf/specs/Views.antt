@@ -29,10 +29,14 @@ looked (Some Bad) = Err NonAsciiCodePoint
 abbrev pub ascii_at : (ℕ → Letter) → ℕ → List ℕ → Result (Option ℕ) Fault
 ascii_at letter place units = looked (option_map letter (slice_get units place))
 
+-- what a function returned, with its value and its error each seen by a view
+abbrev pub returned_by : {X Y E : Type 0} → (E → Fault) → (X → Y) → Result X E → Result Y Fault
+returned_by fault view (Ok x) = Ok (view x)
+returned_by fault view (Err e) = Err (fault e)
+
 -- what a function returned, with its value seen by a view, and its error by its fault
 abbrev pub returned : {X Y : Type 0} → (X → Y) → Result X ParseError → Result Y Fault
-returned view (Ok x) = Ok (view x)
-returned view (Err e) = Err (fault_of e)
+returned = returned_by fault_of
 
 -- what a function returned, seen so, is what is wanted
 abbrev pub Returns : {X Y : Type 0} → (X → Y) → Result X ParseError → Result Y Fault → Type 0

@@ -12,10 +12,8 @@ use std::fmt;
 /// Each error that a reader returns for a text has a row in the fault table (`docs/FAULTS.md`), which says at which place of
 /// the text it comes. `CriticalDuplicateCalendar` and `UnrecognizedCritical` come for replies. The names and the texts are
 /// those of the Rust crate, as they are spelled there.
-///
-/// The lifetime is that of a location. At the root of the crate `ParseError` is this type at `'static`.
 #[derive(Clone, Copy, Debug)]
-pub enum ParseError<'s> {
+pub enum ParseError {
     /// A mistake of the reader itself. No reader returns it.
     ImplAssert,
     /// The next unit stands for no letter. Each 8-bit unit stands for one, so a `Utf8` source never has this error.
@@ -26,7 +24,7 @@ pub enum ParseError<'s> {
     /// year, and `AmbiguousAnnotation` after the `[` or `[!` of a first bracket, or in a first bracket that begins with a
     /// small letter or `_` and has no `=` and no `]`. Where there is nothing at all it is `time-numoffset` from `parse_offset`
     /// and `TimeZoneAnnotation` from `parse_identifier`.
-    AbruptEnd { location: &'s str },
+    AbruptEnd { location: &'static str },
     /// A letter stands after a whole date, time, offset or bracket, and the text does not go on with it. In a text that is a
     /// name alone, a `]` after the name has this error.
     InvalidEnd,
@@ -122,7 +120,7 @@ pub enum ParseError<'s> {
     InvalidMonthDay,
 }
 
-impl<'s> ParseError<'s> {
+impl ParseError {
     /// The text of the error, the same for each `AbruptEnd`. Display also writes the location of an `AbruptEnd`.
     pub fn to_static_string(&self) -> &'static str
         ensures { result.now ≡ text_of (fault_of self.now) }
@@ -184,7 +182,7 @@ impl<'s> ParseError<'s> {
     }
 }
 
-impl<'s> ParseError<'s> {
+impl ParseError {
     /// The place of the variant in the list of variants.
     fn place(&self) -> u8
         ensures { result ≡ place_of (fault_of self.now) }
@@ -240,9 +238,9 @@ impl<'s> ParseError<'s> {
     }
 }
 
-impl<'s> ParseError<'s> {
+impl ParseError {
     /// Where the text ended, and nothing for every other error.
-    fn location(&self) -> &'s str
+    fn location(&self) -> &'static str
         ensures { result.now ≡ location_of (fault_of self.now) }
     {
         match *self {
@@ -252,7 +250,7 @@ impl<'s> ParseError<'s> {
     }
 }
 
-impl<'s> PartialEq for ParseError<'s> {
+impl PartialEq for ParseError {
     ghost use Rattle.std.specs.Prelude.{◌≡◌, ◌↔◌, IsTrue};
     ghost use Rattle.ixdtf.specs.table.Faults.{fault_of};
     ghost use Rattle.ixdtf.specs.table.ErrorEquality.{same_error, same_error-laws};
@@ -262,7 +260,7 @@ impl<'s> PartialEq for ParseError<'s> {
     ghost laws = { same_error-laws };
 
     /// Whether the errors are one variant, and their locations have equal bytes.
-    fn eq(&self, other: &ParseError<'s>) -> bool
+    fn eq(&self, other: &ParseError) -> bool
         ensures computes { result ≡ same_error self.now other.now }
         ensures equal { IsTrue result ↔ (fault_of self.now ≡ fault_of other.now) }
     {
@@ -272,7 +270,7 @@ impl<'s> PartialEq for ParseError<'s> {
 
 // Display writes the text of the error, and for `AbruptEnd` `Parsing ended abruptly while parsing ` and the location. It
 // heeds no width and no fill.
-impl<'s> fmt::Display for ParseError<'s> {
+impl fmt::Display for ParseError {
     ghost use Rattle.std.specs.Prelude.{Some};
     ghost use Rattle.ixdtf.specs.table.Faults.{fault_of};
     ghost use Rattle.ixdtf.specs.table.ErrorTexts.{message_of};

@@ -28,8 +28,7 @@ pub mod parsers;
 pub mod records;
 mod stop;
 
-/// Why a reader refused a text, or a reply to an annotation.
-pub type ParseError = error::ParseError<'static>;
+pub use error::ParseError;
 
 /// What a reader returns: what it found, or why it refused.
 pub type ParserResult<T> = Result<T, ParseError>;

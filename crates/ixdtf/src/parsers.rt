@@ -9,7 +9,7 @@ ghost use Rattle.ixdtf.specs.table.Faults.{fault_of, never_comes};
 ghost use Rattle.ixdtf.specs.language.Readers.{parse as reader_parse};
 ghost use Rattle.ixdtf.specs.language.Languages.{Parsed};
 ghost use Rattle.ixdtf.specs.Handlers.{Handled, PlainRecord, PlainFault};
-ghost use Rattle.ixdtf.specs.Views.{Unread, returned, parsed_of, most_looks};
+ghost use Rattle.ixdtf.specs.Views.{Unread, returned, returned_by, parsed_of, most_looks};
 
 mod annotations;
 mod brackets;
@@ -28,7 +28,8 @@ pub use self::zones::TimeZoneParser;
 use crate::cursor::Cursor;
 use crate::encoding::{EncodingType, Utf8};
 use crate::records::{Annotation, IxdtfParseRecord};
-use crate::{ParserResult, error};
+use crate::stop::Raised;
+use crate::{ParseError, ParserResult};
 use std::marker::Model;
 
 /// A reader of dates and times, with an offset, a time zone and annotations.
@@ -174,16 +175,16 @@ impl<'a, T: EncodingType> IxdtfParser<'a, T> {
     /// The handler has to be one that may be called at any time, in any state that it reached, on any annotation.
     ///
     /// After `Ok` nothing is left to be read. After an error what was still to be read still is. Calls that were made stay
-    /// made. The result is a [`ParserResult`]: the lifetime of its error may be any, and so also `'static`.
+    /// made.
     ///
     /// # Errors
     ///
     /// Those of [`parse`](Self::parse), where `CriticalDuplicateCalendar` and `UnrecognizedCritical` come for the replies
     /// alone: the first reply that is refused ends the call, and nothing after its bracket counts.
-    pub fn parse_with_annotation_handler<'s, F>(
+    pub fn parse_with_annotation_handler<F>(
         &mut self,
-        mut handler: F,
-    ) -> Result<IxdtfParseRecord<'a, T>, error::ParseError<'s>>
+        handler: F,
+    ) -> ParserResult<IxdtfParseRecord<'a, T>>
     where
         F: FnMut(Annotation<'a, T>) -> Option<Annotation<'a, T>>,
         // The handler may be called at any time, in any state that it reached, on any annotation.
@@ -195,6 +196,33 @@ impl<'a, T: EncodingType> IxdtfParser<'a, T> {
 
         // None of the errors that no reader gives.
         ensures comes { IfErr result (λ e. IsFalse (never_comes (fault_of e))) }
+
+        ensures empty { OnOk result (self.new.rest ≡ []) }
+        ensures unchanged { OnErr result (self.new.rest ≡ self.old.rest) }
+        ensures looks { self.new.looks ≤ self.old.looks + most_looks self.old.rest }
+        // The count of looks never goes down.
+        ensures counted { self.old.looks ≤ self.new.looks }
+    {
+        self.read_as::<ParseError, F>(handler)
+    }
+
+    /// Reads as [`parse_with_annotation_handler`](Self::parse_with_annotation_handler) does, with an error that a stop gives.
+    #[inline(always)]
+    pub(crate) fn read_as<E: Raised, F>(
+        &mut self,
+        mut handler: F,
+    ) -> Result<IxdtfParseRecord<'a, T>, E>
+    where
+        F: FnMut(Annotation<'a, T>) -> Option<Annotation<'a, T>>,
+        // The handler may be called at any time, in any state that it reached, on any annotation.
+        requires callable { F.IsAlwaysCallable handler }
+        // For the one chain of its calls: `Ok` exactly with the record, and `Err` only with a fault, that the text and the
+        // replies give.
+        ensures handled { Handled T.number F.step handler reader_parse (map T.letter self.old.rest)
+            (returned_by E.fault (parsed_of T.number) result) }
+
+        // None of the errors that no reader gives.
+        ensures comes { IfErr result (λ e. IsFalse (never_comes (E.fault e))) }
 
         ensures empty { OnOk result (self.new.rest ≡ []) }
         ensures unchanged { OnErr result (self.new.rest ≡ self.old.rest) }
@@ -217,7 +245,7 @@ impl<'a, T: EncodingType> IxdtfParser<'a, T> {
             }
             Err(stop) => {
                 self.cursor.count(here);
-                Err(stop.error())
+                Err(E::of_stop(stop))
             }
         }
     }

@@ -1,7 +1,7 @@
 //! Why a reading stopped, in one byte.
 
 ghost use Rattle.std.specs.Prelude.{◌≡◌};
-ghost use Rattle.ixdtf.specs.table.Faults.{fault_of};
+ghost use Rattle.ixdtf.specs.table.Faults.{Fault, fault_of};
 ghost use Rattle.ixdtf.specs.reading.Clauses.{fault_of_stop};
 
 use crate::error::ParseError;
@@ -50,7 +50,7 @@ impl Stop {
     #[cold]
     #[inline(never)]
     #[rattlefmt::skip]
-    pub fn error<'s>(self) -> ParseError<'s>
+    pub fn error(self) -> ParseError
         ensures { fault_of result ≡ fault_of_stop self }
     {
         match self {
@@ -92,3 +92,27 @@ impl Stop {
 }
 
 const _: () = prove!(size_of::<Stop>() == 1);
+
+/// An error that a stop gives.
+///
+/// What calls a handler is generic in its error by this bound, and is used at `ParseError` alone: the toolchain's proof of
+/// borrows does not cover a function that makes such a call and whose own signature names `'static`, as `ParseError` does.
+pub trait Raised {
+    /// The fault that an error names.
+    ghost fault: { Self → Fault };
+
+    /// The error of a stop.
+    fn of_stop(stop: Stop) -> Self
+        ensures { fault result ≡ fault_of_stop stop };
+}
+
+impl Raised for ParseError {
+    ghost use Rattle.ixdtf.specs.table.Faults.{fault_of};
+
+    ghost fault = { fault_of };
+
+    #[inline(always)]
+    fn of_stop(stop: Stop) -> ParseError {
+        stop.error()
+    }
+}

@@ -4,7 +4,7 @@ use Rattle.ixdtf.specs.language.Letters.{Letter, Text}
 use Rattle.ixdtf.specs.table.Faults.{Fault, fault_of, never_comes}
 use Rattle.ixdtf.specs.declared.stop.Stop.{Stop}
 use Rattle.ixdtf.specs.declared.error.ParseError.{ParseError}
-use Rattle.ixdtf.specs.Views.{Unread, returned}
+use Rattle.ixdtf.specs.Views.{Unread, returned, returned_by}
 use Rattle.ixdtf.specs.reading.Clauses.{Reads, Settles, fault_of_stop}
 use Rattle.ixdtf.specs.language.Brackets.{Pair}
 use Rattle.ixdtf.specs.language.Readers.{Reader}
@@ -105,6 +105,6 @@ module _ {U A : Type 0} (letter : ℕ → Letter) (view : U → A) (reader : Rea
   }
 
 -- what holds of each fault that was returned
-pub each_err : {X Y : Type 0} (view : X → Y) (holds : Fault → Type 0) (r : Result X ParseError) → ((fault : Fault) → returned view r ≡ Err fault → holds fault) → IfErr r (λ e. holds (fault_of e))
-each_err view holds (Ok x) h = tt
-each_err view holds (Err e) h = h (fault_of e) refl
+pub each_err : {X Y E : Type 0} (named : E → Fault) (view : X → Y) (holds : Fault → Type 0) (r : Result X E) → ((fault : Fault) → returned_by named view r ≡ Err fault → holds fault) → IfErr r (λ e. holds (named e))
+each_err named view holds (Ok x) h = tt
+each_err named view holds (Err e) h = h (named e) refl

@@ -1,10 +1,9 @@
 -- From what the code replied for a chain of calls to what a handler's clauses say.
 use Rattle.std.proofs.Common.{◌≡◌, ◌≢◌, ◌↔◌, ℕ, IsFalse, List, [], ◌∷◌, ◌++◌, Option, Some, None, Result, Ok, Err, refl, sym, ◌∙◌, ap, subst, inl, inr, map, option_map, IfOk}
 use Rattle.std.proofs.lemmas.List.{map-append, append-nil}
-use Rattle.ixdtf.specs.declared.error.ParseError.{ParseError}
 use Rattle.ixdtf.specs.declared.records.Annotation.{Annotation}
 use Rattle.ixdtf.specs.declared.records.IxdtfParseRecord.{IxdtfParseRecord}
-use Rattle.ixdtf.specs.Views.{returned, parsed_of}
+use Rattle.ixdtf.specs.Views.{returned_by, parsed_of}
 use Rattle.ixdtf.specs.language.Letters.{Text}
 use Rattle.ixdtf.specs.table.Faults.{Fault, never_comes}
 use Rattle.ixdtf.specs.table.Faults.Fault.{UnrecognizedCritical, CriticalDuplicateCalendar}
@@ -175,8 +174,8 @@ none_seen view None e = refl
 none_seen view (Some x) e = absurd cc
 
 -- its record has no calendar
-pub no_calendar : {T U F : Type 0} (number : U → ℕ) (step : Step T U F) (handler : F) (reader : Reader) (text : Text) (result : Result (IxdtfParseRecord T U) ParseError)
-    → NoReplies step → Handled number step handler reader text (returned (parsed_of number) result) → IfOk result (λ found. found.calendar ≡ None)
-no_calendar number step handler reader text (Ok found) none h =
-    none_seen (λ units. map number units.now) found.calendar (ignored number step handler reader text (returned (parsed_of number) (Ok found)) none h (parsed_of number found) refl)
-no_calendar number step handler reader text (Err e) none h = tt
+pub no_calendar : {T U F E : Type 0} (named : E → Fault) (number : U → ℕ) (step : Step T U F) (handler : F) (reader : Reader) (text : Text) (result : Result (IxdtfParseRecord T U) E)
+    → NoReplies step → Handled number step handler reader text (returned_by named (parsed_of number) result) → IfOk result (λ found. found.calendar ≡ None)
+no_calendar named number step handler reader text (Ok found) none h =
+    none_seen (λ units. map number units.now) found.calendar (ignored number step handler reader text (returned_by named (parsed_of number) (Ok found)) none h (parsed_of number found) refl)
+no_calendar named number step handler reader text (Err e) none h = tt

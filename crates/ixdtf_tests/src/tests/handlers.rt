@@ -112,16 +112,17 @@ fn keeps_pairs_that_it_refused(rt: HostRuntime) {
     assert_eq!(rt; fourth, Err(AT_DIGIT));
 }
 
-// The calendar of a text with the handler of a caller, of whatever type it is, where the text is not refused.
-fn calendar_of<'a, F>(text: &'a str, handler: F) -> Option<Option<&'a [u8]>>
+// The calendar of a text with the handler of a caller, of whatever type it is. An error is handed on, as any error that it
+// becomes.
+fn calendar_of<'a, E: From<ParseError>, F>(text: &'a str, handler: F) -> Result<Option<&'a [u8]>, E>
 where
     F: FnMut(Annotation<'a, Utf8>) -> Option<Annotation<'a, Utf8>>,
     requires callable { F.IsAlwaysCallable handler }
 {
     let mut parser = IxdtfParser::from_str(text);
     match parser.parse_with_annotation_handler(handler) {
-        Ok(record) => Some(record.calendar),
-        Err(_) => None,
+        Ok(record) => Ok(record.calendar),
+        Err(error) => Err(E::from(error)),
     }
 }
 
@@ -129,7 +130,7 @@ where
 fn takes_the_handler_of_a_caller(rt: HostRuntime) {
     let text = "2020-01-01[u-ca=a][!c=d]";
     let mut calls = 0u32;
-    let found = calendar_of(text, |annotation| {
+    let found = calendar_of::<ParseError, _>(text, |annotation| {
         calls = calls.saturating_add(1);
         if annotation.critical {
             None
@@ -137,10 +138,10 @@ fn takes_the_handler_of_a_caller(rt: HostRuntime) {
             Some(annotation)
         }
     });
-    assert_eq!(rt; found, Some(Some(b"a".as_slice())));
+    assert_eq!(rt; found, Ok(Some(b"a".as_slice())));
     assert_eq!(rt; calls, 2);
-    let refused = calendar_of(text, |annotation| Some(annotation));
-    assert_eq!(rt; refused, None);
+    let refused = calendar_of::<ParseError, _>(text, |annotation| Some(annotation));
+    assert_eq!(rt; refused, Err(ParseError::UnrecognizedCritical));
 }
 
 // The date of a text whose annotations are all passed over, as a result of the crate.

@@ -4,12 +4,12 @@ use Rattle.ixdtf.proofs.theorems.Handled.{no_calendar, ignored_err}
 use Rattle.ixdtf.proofs.laws.parse_unanswered.Goals as goal
 
 pub returns-clause-calendar : goal.returns-clause-calendar
-returns-clause-calendar g c = no_calendar g.T.EncodingType.number _ _ _ _ c.parse_with_annotation_handler.result c.requires.unanswered c.parse_with_annotation_handler.ensures.handled
+returns-clause-calendar g c = no_calendar g.E.Raised.fault g.T.EncodingType.number _ _ _ _ c.read_as.result c.requires.unanswered c.read_as.ensures.handled
 
 pub returns-clause-unrecognized : goal.returns-clause-unrecognized
-returns-clause-unrecognized g c = each_err (parsed_of g.T.EncodingType.number) _ c.parse_with_annotation_handler.result
-    (λ fault is. (ignored_err g.T.EncodingType.number _ _ _ _ _ c.requires.unanswered c.parse_with_annotation_handler.ensures.handled fault is).0)
+returns-clause-unrecognized g c = each_err g.E.Raised.fault (parsed_of g.T.EncodingType.number) _ c.read_as.result
+    (λ fault is. (ignored_err g.T.EncodingType.number _ _ _ _ _ c.requires.unanswered c.read_as.ensures.handled fault is).0)
 
 pub returns-clause-duplicate : goal.returns-clause-duplicate
-returns-clause-duplicate g c = each_err (parsed_of g.T.EncodingType.number) _ c.parse_with_annotation_handler.result
-    (λ fault is. (ignored_err g.T.EncodingType.number _ _ _ _ _ c.requires.unanswered c.parse_with_annotation_handler.ensures.handled fault is).1)
+returns-clause-duplicate g c = each_err g.E.Raised.fault (parsed_of g.T.EncodingType.number) _ c.read_as.result
+    (λ fault is. (ignored_err g.T.EncodingType.number _ _ _ _ _ c.requires.unanswered c.read_as.ensures.handled fault is).1)

@@ -1,0 +1,46 @@
+-- `ParseError` as the error of a function that is generic in its error.
+use mathlib.Core.Path.{refl}
+use mathlib.Core.List.{[], ◌∷◌}
+use lib.Dec.{T}
+use Prim.Native.Nat.{ℕ}
+use mir.Syntax.{Ty}
+use mir.Raw.{raw as bare}
+use mir.Val.{Val, has_ty, WT}
+use denote.Exit.{no}
+use denote.RattleType.{RattleType}
+use denote.Laws.{Is}
+use denote.Param.{layout, param, arg}
+use denote.Param.Laws.{Laws, param_laws, arg_laws}
+use denote.Enum.Loose.{loose_lawful}
+use denote.Ref.{NamedLft}
+use types.Logic.{Logic}
+use seplogic.Ra.Ura.{Ura}
+use Rattle.std.specs.contracts.result.Result
+use Rattle.std.proofs.result.Result.TheLaws as result_laws
+use Rattle.ixdtf.specs.contracts.error.ParseError
+use Rattle.ixdtf.proofs.error.ParseError.TheLaws as error_laws
+use Rattle.ixdtf.specs.contracts.records.IxdtfParseRecord
+use Rattle.ixdtf.proofs.records.IxdtfParseRecord.TheLaws as record_laws
+
+abbrev pub written : Ty
+written = bare (layout ParseError.the_row)
+
+-- as such a function takes it
+abbrev pub E : RattleType
+E = arg written no ParseError.the_row
+
+pub E_laws : Laws E
+E_laws = arg_laws written no ParseError.the_row error_laws.the_row_laws refl
+
+-- a record, of an encoding and its units by their numbers among the types, or this error
+module _ (at : NamedLft) (i j : ℕ) (T' U : RattleType) where
+  abbrev pub Found : RattleType
+  Found = IxdtfParseRecord.the_row at (param i T') (param j U)
+
+  abbrev pub Got : RattleType
+  Got = Result.the_row Found ParseError.the_row
+
+  pub lands : Laws T' → Laws U → {M : Type 1} {𝓤 : Ura M} (𝓛 : Logic 𝓤) (x : Got.Denot) (r : Val) → Is Got x (r ∷ []) → T (has_ty (layout Got) r) × WT r
+  lands LT LU 𝓛 x r is =
+      let record_is = record_laws.the_row_laws at (param i T') (param j U) (param_laws i T' LT) (param_laws j U LU) in
+      ((loose_lawful (Result.the_type Found ParseError.the_row) (result_laws.the_loose Found ParseError.the_row record_is error_laws.the_row_laws) tt 𝓛).typed x (r ∷ []) is).0
