@@ -11,10 +11,9 @@ ghost use Rattle.ixdtf.specs.Views.{Unread, ascii_at};
 ghost use Rattle.ixdtf.specs.reading.Clauses.{Reads, Settles, Spends, Yields, fault_of_stop, digit_seen, end_look};
 ghost use Rattle.ixdtf.specs.reading.Looks.{look_at, next_by, peek_by, digit_look, digits_by};
 
-use crate::ParserResult;
 use crate::encoding::EncodingType;
 use crate::looks::Looks;
-use crate::stop::Stop;
+use crate::stop::{Raised, Stop};
 use std::marker::Model;
 
 /// The units that are still to be read, and a count of looks at them, which takes no byte.
@@ -85,8 +84,8 @@ impl<'a, T: EncodingType> Cursor<'a, T> {
     /// Ends a reader that worked on a cursor of its own. Where it found something, this cursor goes on from there; where it
     /// stopped, this one keeps its rest and counts the looks, and the stop becomes the error.
     #[inline(always)]
-    pub fn settle<R>(&mut self, here: Self, read: Result<R, Stop>) -> ParserResult<R>
-        ensures settled { Settles read result }
+    pub fn settle<R, E: Raised>(&mut self, here: Self, read: Result<R, Stop>) -> Result<R, E>
+        ensures settled { Settles E.fault read result }
         ensures ended { OnOk result (self.new.rest ≡ here.entry.rest) }
         ensures unchanged { OnErr result (self.new.rest ≡ self.old.rest) }
         ensures looks { self.new.looks ≡ here.entry.looks }
@@ -98,7 +97,7 @@ impl<'a, T: EncodingType> Cursor<'a, T> {
             }
             Err(stop) => {
                 self.count(here);
-                Err(stop.error())
+                Err(E::of_stop(stop))
             }
         }
     }

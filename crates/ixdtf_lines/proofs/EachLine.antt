@@ -12,20 +12,13 @@ use Rattle.ixdtf.specs.table.Faults.{Fault}
 use Rattle.ixdtf.specs.table.Outcomes.{Outcome, Holds}
 use Rattle.ixdtf.specs.table.Outcomes.Outcome.{derived, refused}
 use Rattle.ixdtf.proofs.theorems.OneOutcome.{one_outcome}
-use Rattle.ixdtf.proofs.theorems.PlainOutcomes.{plain_outcome}
+use Rattle.ixdtf.proofs.theorems.PlainOutcomes.{plain_outcome, same_bytes}
 use Rattle.ixdtf_lines.specs.Answer.{line_limit, too_long, unknown_reader, is_space, letters, ok_answer_of, error_answer_of, Gives, Refuses, IsOutcome, IsReaderAnswer, IsAnswer}
 use Rattle.ixdtf_lines.specs.Lines.{newline}
 use Rattle.ixdtf_lines.specs.Run.{AreAnswers}
 use Rattle.ixdtf_lines.specs.Word.{name_of, reader_of, IsNoWord}
 use Rattle.ixdtf_lines.specs.declared.word.Word.{Word}
 use Rattle.ixdtf_lines.specs.declared.word.Word.TheVariants.{Parse, Offset, Zone, Iana}
-
-same_bytes : (xs ys : List ℕ) → (xs ≡ ys) ⊎ (xs ≢ ys)
-same_bytes xs ys = go (bytes_eq xs ys) (bytes_eq-Decides xs ys)
-  where
-    go : (test : Bool) → (test ≡ true → xs ≡ ys) × (xs ≡ ys → test ≡ true) → (xs ≡ ys) ⊎ (xs ≢ ys)
-    go true p = inl (p.0 refl)
-    go false p = inr (λ same. true≢false (sym (p.1 same)))
 
 -- ---- each text has an outcome
 

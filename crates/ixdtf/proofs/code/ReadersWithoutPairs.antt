@@ -88,7 +88,7 @@ module _ {U A : Type 0} (letter : ℕ → Letter) (view : U → A) (reader : Rea
     pub comes : IfErr result (λ e. IsFalse (never_comes (fault_of e)))
     pub empty : (left : List ℕ) → OnOk result (left ≡ new.rest) → OnOk result (left ≡ [])
 
-  pub exact : (read : Result U Stop) (result : Result U ParseError) → Reads letter view old read new reading → Settles read result → Exact result
+  pub exact : (read : Result U Stop) (result : Result U ParseError) → Reads letter view old read new reading → Settles fault_of read result → Exact result
   exact (Ok x) (Ok y) h s = record {
     ok = rw s (ok_where_derived reader found same (map letter old.rest) _ reads (view x) (map letter new.rest) h);
     err = tt;

@@ -4,13 +4,14 @@ use Rattle.std.proofs.lemmas.Bool.{or_from, or_cases, or_left, or_right, both_wa
 use Rattle.std.proofs.lemmas.Bool.Decides.{nat_tests}
 use Rattle.ixdtf.specs.language.Times.{Clock as clocks}
 use Rattle.ixdtf.specs.declared.records.TimeRecord.{TimeRecord}
+use Rattle.ixdtf.specs.declared.records.MinutePrecisionOffset.{MinutePrecisionOffset}
 use Rattle.ixdtf.specs.declared.records.UtcOffsetRecord.{UtcOffsetRecord}
 use Rattle.ixdtf.specs.language.Letters.{Text}
 use Rattle.ixdtf.specs.language.Letters.Letter.{Plain}
 use Rattle.ixdtf.specs.language.Letters.{◌or◌, none, sign, slash, zone_lead, zone_char}
 use Rattle.ixdtf.specs.table.Faults.{Fault}
-use Rattle.ixdtf.specs.language.Offsets.{IsOffset, offset_of, minutes_of}
-use Rattle.ixdtf.specs.language.Times.{TimeShape, writes_seconds}
+use Rattle.ixdtf.specs.language.Offsets.{IsSigned, IsOffset, IsMinuteOffset, offset_of, minutes_of}
+use Rattle.ixdtf.specs.language.Times.{Clock, TimeShape, writes_seconds}
 use Rattle.ixdtf.specs.language.ZoneNames.{Zone, ZoneName, IsZone, IsZoneName}
 use Rattle.ixdtf.specs.language.ZoneNames.Zone.{Offset}
 use Rattle.ixdtf.specs.language.Brackets.{Pair}
@@ -26,7 +27,7 @@ use Rattle.ixdtf.specs.table.Rows.{Row, Place, Stops, Fits, front_of}
 use Rattle.ixdtf.specs.table.Rows.Place.{end, other, bad, anywhere}
 use Rattle.ixdtf.specs.reading.Looks.{Read, ◌>>=◌, row_of, letter_at, peek_by}
 use Rattle.ixdtf.specs.reading.Times.{OpenTime, line_after, clock_at}
-use Rattle.ixdtf.specs.reading.Zones.{follow_look, name_run, name_look, name_alone_at, iana_identifier_at, offset_alone_at, offset_at, minute_offset_alone_at, as_zone, identifier_at}
+use Rattle.ixdtf.specs.reading.Zones.{follow_look, name_run, name_look, name_alone_at, iana_identifier_at, signed_alone_at, offset_alone_at, offset_at, minute_offset_alone_at, as_zone, identifier_at}
 use Rattle.ixdtf.proofs.parts.Looks.{lift, OnRead, then_read, read_weaker, read_if, FitsIn, goes, stops, read_letter, Peeked, peek_end, peek_other, peek_read, NotNext}
 use Rattle.ixdtf.proofs.to_reading.ZoneNames.{StopsName, name_takes, name_row, slash_row}
 use Rattle.ixdtf.proofs.to_grammar.ZoneNames.{NameFront, name_read, name_stops_here, name_lines}
@@ -67,26 +68,52 @@ module _ {E : Type 0} (fault : Row → E) where
   abbrev ReadsAllRows : {A : Type 0} → Reader → (Text → Read E A) → Type 0
   ReadsAllRows reader read = (name : LineName) (pairs : List Pair) (place : Place) (e : Fault) (prior front rest : Text) → Before reader name pairs prior (front ++ rest) → front_of (table reader name) front → Stops (table reader name) place e rest → read (prior ++ (front ++ rest)) ≡ Err (fault (row_of name place e))
 
+  -- ---- a sign and a time
+
+  module _ {O : Type 0} (clock : Clock) (record_of : ℕ → TimeShape → TimeRecord → O) where
+    -- what is read after the time
+    abbrev signed_after : ℕ → OpenTime × Text → Read E O
+    signed_after c time = peek_by (follow_look fault false clock time.0) time.1 >>= λ next. Ok (record_of c time.0.0 time.0.1, next.1)
+
+    -- a reader that a sign leads to a time
+    abbrev LeadsToTime : (Text → Read E O) → Type 0
+    LeadsToTime read = (c : ℕ) → IsTrue (sign c) → (body : Text) → read (Plain c ∷ body) ≡ (clock_at fault clock body >>= signed_after c)
+
+    signed_takes : (read : Text → Read E O) → LeadsToTime read → (text : Text) (found : O) → IsSigned clock record_of text found → read text ≡ Ok (found, [])
+    signed_takes read lead text found h =
+        rw (h.is, h.value) (ap (λ t. read (Plain h.c ∷ t)) (sym (append-nil h.body))
+        ∙ over_clock fault false clock read (signed_after h.c) (Plain h.c ∷ []) (lead h.c h.sign) h.shape h.body h.time [] h.clock (closed_at_end clock h.shape)
+        ∙ rw (peek_end (follow_look fault false clock (h.shape, h.time))) refl)
+
+    -- the row after a whole time
+    signed_refuses : (c : ℕ) (shape : TimeShape) (t : TimeRecord) (place : Place) (e : Fault) (rest : Text) → Closed clock shape rest → StopsAfter (follow_of false clock) place e rest → signed_after c ((shape, t), rest) ≡ Err (fault (row_of (line_after clock shape) place e))
+    signed_refuses c shape t place e rest closed at = rw (peek_stops_after fault false clock (shape, t) place e rest refl at) refl
+
+    signed_alone_read : (c : ℕ) (body : Text) → IsTrue (sign c) → OnRead fault (signed_alone_at fault clock record_of c body) (λ found rest. (rest ≡ []) × IsSigned clock record_of (Plain c ∷ body) found) (λ row. FitsIn (of_clock clock) false row body)
+    unfolding signed_alone_at
+    signed_alone_read c body signed = then_read fault (clock_at fault clock body) _ _ _ _ _ (clock_read fault false clock body)
+        (λ x left g. then_read fault (peek_by (follow_look fault false clock x) left) _ _ _ _ _ (clock_peek_read fault false clock body x left g refl)
+        (λ next last k. at_next x left g next last k)
+        (λ r k. k))
+        (λ r g. g)
+      where
+        at_next : (x : OpenTime) (left : Text) → TimeFront clock body x left → (next : Option ℕ) (last : Text) → Peeked none left next last → (last ≡ []) × IsSigned clock record_of (Plain c ∷ body) (record_of c x.0 x.1)
+        at_next x left g None last k = (k.1, record { c = c; body = body; shape = x.0; time = x.1; is = refl; sign = signed; clock = rw (g.1, k.0, append-nil) g.2; value = refl })
+        at_next x left g (Some d) last k = absurd (true≢false (sym k.1))
+
   -- ---- offsets
 
-  -- what is read after the time of an offset
-  abbrev offset_after : ℕ → OpenTime × Text → Read E UtcOffsetRecord
-  offset_after c time = peek_by (follow_look fault false clocks.Offset time.0) time.1 >>= λ next. Ok (offset_of c (writes_seconds time.0.0) time.0.1, next.1)
+  -- the record of an offset
+  abbrev offset_record : ℕ → TimeShape → TimeRecord → UtcOffsetRecord
+  offset_record c shape time = offset_of c (writes_seconds shape) time
 
   -- a sign leads to a time
-  offset_lead : (c : ℕ) → IsTrue (sign c) → (body : Text) → offset_at fault (Plain c ∷ body) ≡ (clock_at fault clocks.Offset body >>= offset_after c)
-  unfolding offset_at offset_alone_at
+  offset_lead : LeadsToTime clocks.Offset offset_record (offset_at fault)
+  unfolding offset_at signed_alone_at
   offset_lead c h body = rw (goes fault (of_offset offset_start) c body tt h) refl
 
   pub offset_takes : (text : Text) (offset : UtcOffsetRecord) → IsOffset text offset → offset_at fault text ≡ Ok (offset, [])
-  offset_takes text offset h =
-      rw (h.is, h.value) (ap (λ t. offset_at fault (Plain h.c ∷ t)) (sym (append-nil h.body))
-      ∙ over_clock fault false clocks.Offset (offset_at fault) (offset_after h.c) (Plain h.c ∷ []) (offset_lead h.c h.sign) h.shape h.body h.time [] h.clock (closed_at_end clocks.Offset h.shape)
-      ∙ rw (peek_end (follow_look fault false clocks.Offset (h.shape, h.time))) refl)
-
-  -- the row after a whole time
-  offset_refuses : (c : ℕ) (shape : TimeShape) (t : TimeRecord) (place : Place) (e : Fault) (rest : Text) → Closed clocks.Offset shape rest → StopsAfter (follow_of false clocks.Offset) place e rest → offset_after c ((shape, t), rest) ≡ Err (fault (row_of (line_after clocks.Offset shape) place e))
-  offset_refuses c shape t place e rest closed at = rw (peek_stops_after fault false clocks.Offset (shape, t) place e rest refl at) refl
+  offset_takes = signed_takes clocks.Offset offset_record (offset_at fault) offset_lead
 
   offset_start_row : (place : Place) (e : Fault) (rest : Text) → Stops (table parse_offset (of_offset offset_start)) place e rest → offset_at fault rest ≡ Err (fault (row_of (of_offset offset_start) place e))
   unfolding offset_at
@@ -95,7 +122,7 @@ module _ {E : Type 0} (fault : Row → E) where
   pub offset_rows : ReadsAllRows parse_offset (offset_at fault)
   offset_rows (of_offset offset_start) pairs place e prior front rest b f at = rw (b.0, f) (offset_start_row place e rest at)
   offset_rows (of_offset after_zulu) pairs place e prior front rest b f at = absurd b.0
-  offset_rows (of_clock clocks.Offset l) pairs place e prior front rest b f at = rw b.0.1 (clock_rows fault false clocks.Offset (offset_at fault) (offset_after b.0.0) (Plain b.0.0 ∷ []) (offset_lead b.0.0 b.0.2) (offset_refuses b.0.0) l place e front rest f at)
+  offset_rows (of_clock clocks.Offset l) pairs place e prior front rest b f at = rw b.0.1 (clock_rows fault false clocks.Offset (offset_at fault) (signed_after clocks.Offset offset_record b.0.0) (Plain b.0.0 ∷ []) (offset_lead b.0.0 b.0.2) (signed_refuses clocks.Offset offset_record b.0.0) l place e front rest f at)
   offset_rows (of_clock clocks.Time l) pairs place e prior front rest b f at = absurd b.0
   offset_rows (of_clock clocks.MinuteOffset l) pairs place e prior front rest b f at = absurd b.0
   offset_rows (of_core l) pairs place e prior front rest b f at = absurd b.0
@@ -103,22 +130,10 @@ module _ {E : Type 0} (fault : Row → E) where
   offset_rows (of_bracket l) pairs place e prior front rest b f at = absurd b.0
   offset_rows (of_pair l) pairs place e prior front rest b f at = absurd b.0
 
-  offset_alone_read : (c : ℕ) (body : Text) → IsTrue (sign c) → OnRead fault (offset_alone_at fault c body) (λ offset rest. (rest ≡ []) × IsOffset (Plain c ∷ body) offset) (λ row. FitsIn (of_clock clocks.Offset) false row body)
-  unfolding offset_alone_at
-  offset_alone_read c body signed = then_read fault (clock_at fault clocks.Offset body) _ _ _ _ _ (clock_read fault false clocks.Offset body)
-      (λ x left g. then_read fault (peek_by (follow_look fault false clocks.Offset x) left) _ _ _ _ _ (clock_peek_read fault false clocks.Offset body x left g refl)
-      (λ next last k. at_next x left g next last k)
-      (λ r k. k))
-      (λ r g. g)
-    where
-      at_next : (x : OpenTime) (left : Text) → TimeFront clocks.Offset body x left → (next : Option ℕ) (last : Text) → Peeked none left next last → (last ≡ []) × IsOffset (Plain c ∷ body) (offset_of c (writes_seconds x.0) x.1)
-      at_next x left g None last k = (k.1, record { c = c; body = body; shape = x.0; time = x.1; is = refl; sign = signed; clock = rw (g.1, k.0, append-nil) g.2; value = refl })
-      at_next x left g (Some d) last k = absurd (true≢false (sym k.1))
-
   pub offset_read : (text : Text) → OnRead fault (offset_at fault text) (λ offset rest. (rest ≡ []) × IsOffset text offset) (λ row. Fits parse_offset row [] text)
   unfolding offset_at
   offset_read text = then_read fault (letter_at fault (of_offset offset_start) text) _ _ _ _ _ (read_letter fault (of_offset offset_start) text tt)
-      (λ c body h. rw h.0 (read_weaker fault (offset_alone_at fault c body) _ _ _ _ (offset_alone_read c body h.1)
+      (λ c body h. rw h.0 (read_weaker fault (offset_alone_at fault c body) _ _ _ _ (signed_alone_read clocks.Offset offset_record c body h.1)
       (λ offset rest g. g)
       (λ r g. lift (of_clock clocks.Offset) parse_offset r (Plain c ∷ body) (Plain c ∷ []) body refl (λ l. ((c, refl, h.1), refl)) g)))
       (λ r h. lift_start parse_offset (of_offset offset_start) r text h.0 (refl, refl) refl h.1)
@@ -204,29 +219,26 @@ module _ {E : Type 0} (fault : Row → E) where
 
   -- ---- zones
 
-  -- what is read after the time of an offset without seconds
-  abbrev zone_after : ℕ → OpenTime × Text → Read E Zone
-  zone_after c time = peek_by (follow_look fault false clocks.MinuteOffset time.0) time.1 >>= λ next. Ok (Offset (minutes_of c time.0.1), next.1)
+  -- the zone of an offset without seconds
+  abbrev zone_record : ℕ → TimeShape → TimeRecord → Zone
+  zone_record c shape time = Offset (minutes_of c time)
 
   -- a sign leads to a time, and the first letter of a name to a name
-  zone_sign_lead : (c : ℕ) → IsTrue (sign c) → (body : Text) → identifier_at fault (Plain c ∷ body) ≡ (clock_at fault clocks.MinuteOffset body >>= zone_after c)
-  unfolding identifier_at minute_offset_alone_at
+  zone_sign_lead : LeadsToTime clocks.MinuteOffset zone_record (identifier_at fault)
+  unfolding identifier_at signed_alone_at
   zone_sign_lead c h body = rw (goes fault (of_zone identifier_start) c body tt (or_right _ _ h), h) refl
 
   zone_name_lead : (text rest : Text) → ZoneName text → identifier_at fault (text ++ rest) ≡ as_zone (name_alone_at fault (text ++ rest))
   unfolding identifier_at
   zone_name_lead text rest h = let first = first_letter text h in rw first.2 (rw (goes fault (of_zone identifier_start) first.0 (first.1 ++ rest) tt (or_left _ _ first.3), lead_no_sign first.0 first.3) refl)
 
+  -- the offset of a zone, as the zone
+  zone_of_offset : (text : Text) (zone : Zone) (offset : MinutePrecisionOffset) → IsMinuteOffset text offset → zone ≡ Offset offset → IsSigned clocks.MinuteOffset zone_record text zone
+  zone_of_offset text zone offset h is = record { c = h.c; body = h.body; shape = h.shape; time = h.time; is = h.is; sign = h.sign; clock = h.clock; value = is ∙ ap (λ o. Offset o) h.value }
+
   pub identifier_takes : (text : Text) (zone : Zone) → IsZone text zone → identifier_at fault text ≡ Ok (zone, [])
   identifier_takes text zone (inl h) = rw h.2 (ap (identifier_at fault) (sym (append-nil text)) ∙ zone_name_lead text [] h.1.0 ∙ ap (λ t. as_zone (name_alone_at fault t)) (append-nil text) ∙ rw (alone_takes text h.0 h.1) refl)
-  identifier_takes text zone (inr (offset, h, is)) =
-      rw (is, h.is, h.value) (ap (λ t. identifier_at fault (Plain h.c ∷ t)) (sym (append-nil h.body))
-      ∙ over_clock fault false clocks.MinuteOffset (identifier_at fault) (zone_after h.c) (Plain h.c ∷ []) (zone_sign_lead h.c h.sign) h.shape h.body h.time [] h.clock (closed_at_end clocks.MinuteOffset h.shape)
-      ∙ rw (peek_end (follow_look fault false clocks.MinuteOffset (h.shape, h.time))) refl)
-
-  -- the row after a whole time
-  zone_refuses : (c : ℕ) (shape : TimeShape) (t : TimeRecord) (place : Place) (e : Fault) (rest : Text) → Closed clocks.MinuteOffset shape rest → StopsAfter (follow_of false clocks.MinuteOffset) place e rest → zone_after c ((shape, t), rest) ≡ Err (fault (row_of (line_after clocks.MinuteOffset shape) place e))
-  zone_refuses c shape t place e rest closed at = rw (peek_stops_after fault false clocks.MinuteOffset (shape, t) place e rest refl at) refl
+  identifier_takes text zone (inr (offset, h, is)) = signed_takes clocks.MinuteOffset zone_record (identifier_at fault) zone_sign_lead text zone (zone_of_offset text zone offset h is)
 
   zone_start_row : (place : Place) (e : Fault) (rest : Text) → Stops (table parse_identifier (of_zone identifier_start)) place e rest → identifier_at fault rest ≡ Err (fault (row_of (of_zone identifier_start) place e))
   unfolding identifier_at
@@ -239,7 +251,7 @@ module _ {E : Type 0} (fault : Row → E) where
       let name : identifier_at fault (front ++ rest) ≡ as_zone (name_alone_at fault (front ++ rest)) = rw (f.2, append_assoc) (zone_name_lead f.0 (f.1 ++ rest) f.3) in
       rw b.0 (name ∙ rw (alone_slash_row place e front rest f at) refl)
   identifier_rows (of_zone zone_name_start) pairs place e prior front rest b f at = absurd b.0
-  identifier_rows (of_clock clocks.MinuteOffset l) pairs place e prior front rest b f at = rw b.0.1 (clock_rows fault false clocks.MinuteOffset (identifier_at fault) (zone_after b.0.0) (Plain b.0.0 ∷ []) (zone_sign_lead b.0.0 b.0.2) (zone_refuses b.0.0) l place e front rest f at)
+  identifier_rows (of_clock clocks.MinuteOffset l) pairs place e prior front rest b f at = rw b.0.1 (clock_rows fault false clocks.MinuteOffset (identifier_at fault) (signed_after clocks.MinuteOffset zone_record b.0.0) (Plain b.0.0 ∷ []) (zone_sign_lead b.0.0 b.0.2) (signed_refuses clocks.MinuteOffset zone_record b.0.0) l place e front rest f at)
   identifier_rows (of_clock clocks.Time l) pairs place e prior front rest b f at = absurd b.0
   identifier_rows (of_clock clocks.Offset l) pairs place e prior front rest b f at = absurd b.0
   identifier_rows (of_offset l) pairs place e prior front rest b f at = absurd b.0
@@ -247,17 +259,9 @@ module _ {E : Type 0} (fault : Row → E) where
   identifier_rows (of_bracket l) pairs place e prior front rest b f at = absurd b.0
   identifier_rows (of_pair l) pairs place e prior front rest b f at = absurd b.0
 
-  minute_alone_read : (c : ℕ) (body : Text) → IsTrue (sign c) → OnRead fault (minute_offset_alone_at fault c body) (λ zone rest. (rest ≡ []) × IsZone (Plain c ∷ body) zone) (λ row. FitsIn (of_clock clocks.MinuteOffset) false row body)
-  unfolding minute_offset_alone_at
-  minute_alone_read c body signed = then_read fault (clock_at fault clocks.MinuteOffset body) _ _ _ _ _ (clock_read fault false clocks.MinuteOffset body)
-      (λ x left g. then_read fault (peek_by (follow_look fault false clocks.MinuteOffset x) left) _ _ _ _ _ (clock_peek_read fault false clocks.MinuteOffset body x left g refl)
-      (λ next last k. at_next x left g next last k)
-      (λ r k. k))
-      (λ r g. g)
-    where
-      at_next : (x : OpenTime) (left : Text) → TimeFront clocks.MinuteOffset body x left → (next : Option ℕ) (last : Text) → Peeked none left next last → (last ≡ []) × IsZone (Plain c ∷ body) (Offset (minutes_of c x.1))
-      at_next x left g None last k = (k.1, inr (minutes_of c x.1, record { c = c; body = body; shape = x.0; time = x.1; is = refl; sign = signed; clock = rw (g.1, k.0, append-nil) g.2; value = refl }, refl))
-      at_next x left g (Some d) last k = absurd (true≢false (sym k.1))
+  -- an offset that was read is a zone
+  offset_is_zone : (text : Text) (zone : Zone) → IsSigned clocks.MinuteOffset zone_record text zone → IsZone text zone
+  offset_is_zone text zone h = inr (minutes_of h.c h.time, record { c = h.c; body = h.body; shape = h.shape; time = h.time; is = h.is; sign = h.sign; clock = h.clock; value = refl }, h.value)
 
   -- a name that was read is a zone
   zone_of_name : (text : Text) (stopped : Row → Type 0) (r : Read E (List ℕ)) → OnRead fault r (λ name rest. (rest ≡ []) × IsZoneName text name) stopped → OnRead fault (as_zone r) (λ zone rest. (rest ≡ []) × IsZone text zone) stopped
@@ -268,8 +272,8 @@ module _ {E : Type 0} (fault : Row → E) where
   unfolding identifier_at
   identifier_read text = then_read fault (letter_at fault (of_zone identifier_start) text) _ _ _ _ _ (read_letter fault (of_zone identifier_start) text tt)
       (λ c more h. read_if fault (sign c) _ _ _ _
-      (λ signed. rw h.0 (read_weaker fault (minute_offset_alone_at fault c more) _ _ _ _ (minute_alone_read c more signed)
-      (λ zone rest g. g)
+      (λ signed. rw h.0 (read_weaker fault (minute_offset_alone_at fault c more) _ _ _ _ (signed_alone_read clocks.MinuteOffset zone_record c more signed)
+      (λ zone rest g. (g.0, offset_is_zone (Plain c ∷ more) zone g.1))
       (λ r g. lift (of_clock clocks.MinuteOffset) parse_identifier r (Plain c ∷ more) (Plain c ∷ []) more refl (λ l. ((c, refl, signed), refl)) g)))
       (λ plain. let lead : IsTrue (zone_lead c) = no_sign_lead c h.1 plain in
       zone_of_name text _ (name_alone_at fault text) (read_weaker fault (name_alone_at fault text) _ _ _ _ (alone_read c text more h.0 lead)

@@ -28,7 +28,7 @@ use Rattle.ixdtf.proofs.theorems.OneOutcome.{one_outcome}
 
 -- ---- a refused reply, or none
 
-same_bytes : (xs ys : List ℕ) → (xs ≡ ys) ⊎ (xs ≢ ys)
+pub same_bytes : (xs ys : List ℕ) → (xs ≡ ys) ⊎ (xs ≢ ys)
 same_bytes xs ys = go (bytes_eq xs ys) (bytes_eq-Decides xs ys)
   where
     go : (test : Bool) → (test ≡ true → xs ≡ ys) × (xs ≡ ys → test ≡ true) → (xs ≡ ys) ⊎ (xs ≢ ys)

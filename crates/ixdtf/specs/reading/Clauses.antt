@@ -1,7 +1,6 @@
 -- Forms of the clauses of private functions, and what the code's own types stand for. No public clause cites one.
 use Rattle.std.specs.Prelude.{◌≡◌, ℕ, Bool, IsTrue, IsFalse, ◌+◌, ◌≤◌, map, length, Option, Some, None, Result, Ok, Err, ◌∷◌, if◌then◌else◌}
 use Rattle.ixdtf.specs.declared.records.IxdtfParseRecord.{IxdtfParseRecord}
-use Rattle.ixdtf.specs.declared.error.ParseError.{ParseError}
 use Rattle.ixdtf.specs.declared.stop.Stop.{Stop}
 use Rattle.ixdtf.specs.declared.stop.Stop.TheVariants as stops
 use Rattle.ixdtf.specs.declared.parsers.time.Clock.{Clock as CodeClock}
@@ -18,7 +17,7 @@ use Rattle.ixdtf.specs.language.Times.{Clock, TimeShape}
 use Rattle.ixdtf.specs.language.Times.{Clock as clocks}
 use Rattle.ixdtf.specs.language.Times.{TimeShape as shapes}
 use Rattle.ixdtf.specs.language.Cores.{Core, core_of}
-use Rattle.ixdtf.specs.table.Faults.{Fault, fault_of}
+use Rattle.ixdtf.specs.table.Faults.{Fault}
 use Rattle.ixdtf.specs.table.Faults.{Fault as faults}
 use Rattle.ixdtf.specs.table.Lines.{always, abrupt_digit, abrupt_date, abrupt_bracket, abrupt_offset, abrupt_zone}
 use Rattle.ixdtf.specs.Views.{Unread, note_of}
@@ -79,11 +78,11 @@ Reads letter view old (Ok x) new reading = reading (map letter old.rest) ≡ Ok 
 Reads letter view old (Err e) new reading = reading (map letter old.rest) ≡ Err (fault_of_stop e)
 
 -- what a public function returned is what a private one did, with the error of its stop
-abbrev pub Settles : {X : Type 0} → Result X Stop → Result X ParseError → Type 0
-Settles (Ok x) (Ok y) = y ≡ x
-Settles (Ok x) (Err e) = ⊥
-Settles (Err stop) (Ok y) = ⊥
-Settles (Err stop) (Err e) = fault_of e ≡ fault_of_stop stop
+abbrev pub Settles : {X E : Type 0} → (E → Fault) → Result X Stop → Result X E → Type 0
+Settles named (Ok x) (Ok y) = y ≡ x
+Settles named (Ok x) (Err e) = ⊥
+Settles named (Err stop) (Ok y) = ⊥
+Settles named (Err stop) (Err e) = named e ≡ fault_of_stop stop
 
 -- looks at letters that are then taken are paid for by the letters; so many looks more were made at most, and none is lost
 abbrev pub Spends : ℕ → Unread → Unread → Type 0

@@ -7,7 +7,8 @@ use Rattle.ixdtf.specs.language.Letters.Letter.{Plain, Bad}
 use Rattle.ixdtf.specs.language.Letters.{Class, none, sign, slash, zone_char}
 use Rattle.ixdtf.specs.table.Faults.Fault.{NonAsciiCodePoint, IanaCharPostSeparator}
 use Rattle.ixdtf.specs.language.Offsets.{offset_of, minutes_of}
-use Rattle.ixdtf.specs.language.Times.{Clock, writes_seconds}
+use Rattle.ixdtf.specs.declared.records.TimeRecord.{TimeRecord}
+use Rattle.ixdtf.specs.language.Times.{Clock, TimeShape, writes_seconds}
 use Rattle.ixdtf.specs.language.ZoneNames.{Zone}
 use Rattle.ixdtf.specs.language.ZoneNames.Zone.{Name, Offset}
 use Rattle.ixdtf.specs.table.LineNames.{LineName}
@@ -83,12 +84,16 @@ iana_identifier_at fault text = do
   lead ← letter_at fault (of_zone zone_name_start) text
   name_alone_at fault text
 
+-- what a sign and a time of the clock stand for, after the sign, and the end
+unfoldable pub signed_alone_at : {E O : Type 0} → (Row → E) → Clock → (ℕ → TimeShape → TimeRecord → O) → ℕ → Text → Read E O
+signed_alone_at fault clock record_of c text = do
+  time ← clock_at fault clock text
+  next ← peek_by (follow_look fault false clock time.0) time.1
+  Ok (record_of c time.0.0 time.0.1, next.1)
+
 -- an offset after its sign, and the end
-unfoldable pub offset_alone_at : {E : Type 0} → (Row → E) → ℕ → Text → Read E UtcOffsetRecord
-offset_alone_at fault c text = do
-  time ← clock_at fault clocks.Offset text
-  next ← peek_by (follow_look fault false clocks.Offset time.0) time.1
-  Ok (offset_of c (writes_seconds time.0.0) time.0.1, next.1)
+abbrev pub offset_alone_at : {E : Type 0} → (Row → E) → ℕ → Text → Read E UtcOffsetRecord
+offset_alone_at fault = signed_alone_at fault clocks.Offset (λ c shape time. offset_of c (writes_seconds shape) time)
 
 unfoldable pub offset_at : {E : Type 0} → (Row → E) → Text → Read E UtcOffsetRecord
 offset_at fault text = do
@@ -96,11 +101,8 @@ offset_at fault text = do
   offset_alone_at fault lead.0 lead.1
 
 -- an offset without seconds after its sign, and the end
-unfoldable pub minute_offset_alone_at : {E : Type 0} → (Row → E) → ℕ → Text → Read E Zone
-minute_offset_alone_at fault c text = do
-  time ← clock_at fault clocks.MinuteOffset text
-  next ← peek_by (follow_look fault false clocks.MinuteOffset time.0) time.1
-  Ok (Offset (minutes_of c time.0.1), next.1)
+abbrev pub minute_offset_alone_at : {E : Type 0} → (Row → E) → ℕ → Text → Read E Zone
+minute_offset_alone_at fault = signed_alone_at fault clocks.MinuteOffset (λ c shape time. Offset (minutes_of c time))
 
 -- a zone that is a name
 abbrev pub as_zone : {E : Type 0} → Read E (List ℕ) → Read E Zone

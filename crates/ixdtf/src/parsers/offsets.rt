@@ -62,7 +62,7 @@ pub fn offset_from(sign: u8, clocked: Clocked) -> UtcOffsetRecord
 
 /// Reads an offset after its sign, and wants the end.
 #[inline(always)]
-#[tactic(auto, unfolding(crate::specs::reading::Zones::offset_alone_at, crate::specs::reading::Looks::peek_by))]
+#[tactic(auto, unfolding(crate::specs::reading::Zones::signed_alone_at, crate::specs::reading::Looks::peek_by))]
 fn parse_offset_alone<'a, T: EncodingType>(
     cursor: &mut Cursor<'a, T>,
     sign: u8,

@@ -93,7 +93,7 @@ pub fn parse_iana_identifier_text<'a, T: EncodingType>(
 
 /// Reads an offset without seconds after its sign, and wants the end.
 #[inline(always)]
-#[tactic(auto, unfolding(crate::specs::reading::Zones::minute_offset_alone_at, crate::specs::reading::Looks::peek_by))]
+#[tactic(auto, unfolding(crate::specs::reading::Zones::signed_alone_at, crate::specs::reading::Looks::peek_by))]
 fn parse_minute_offset_alone<'a, T: EncodingType>(
     cursor: &mut Cursor<'a, T>,
     sign: u8,

@@ -1,0 +1,183 @@
+//! Calls of each reader, as the README and `docs/CALLING.md` show them.
+
+use ixdtf::ParseError::{self, AbruptEnd, InvalidDayRange, InvalidMonthRange};
+use ixdtf::ParserResult;
+use ixdtf::encoding::Utf8;
+use ixdtf::parsers::{IxdtfParser, TimeZoneParser};
+use ixdtf::records::{Annotation, TimeZoneRecord};
+use std::test::Fail;
+
+// ==== One call of each reader ====
+
+// The year, month and day of a text.
+fn date_of(text: &str) -> ParserResult<Option<(i32, u8, u8)>> {
+    let record = IxdtfParser::from_str(text).parse()?;
+    Ok(record.date.map(|date| (date.year, date.month, date.day)))
+}
+
+// The hour of the offset of a text, and the minute, each with the sign.
+fn hour_and_minute(text: &str) -> ParserResult<(i32, i32)> {
+    let offset = TimeZoneParser::from_str(text).parse_offset()?;
+    let sign = offset.sign() as i32;
+    Ok((
+        sign * i32::from(offset.hour()),
+        sign * i32::from(offset.minute()),
+    ))
+}
+
+// Whether a text is a zone by its name, and not by an offset.
+fn has_a_name(text: &str) -> ParserResult<bool> {
+    match TimeZoneParser::from_str(text).parse_identifier()? {
+        TimeZoneRecord::Name(_) => Ok(true),
+        TimeZoneRecord::Offset(_) => Ok(false),
+    }
+}
+
+// The bytes of a zone's name, all of the text.
+fn name_of<'a>(text: &'a str) -> ParserResult<&'a [u8]> {
+    TimeZoneParser::from_str(text).parse_iana_identifier()
+}
+
+#[test]
+fn calls_each_reader(rt: HostRuntime) -> Result<(), Fail> {
+    assert_eq!(rt; date_of("2024-03-02T08:48:00Z")?, Some((2024, 3, 2)));
+    assert_eq!(rt; hour_and_minute("-05:30")?, (-5, -30));
+    assert!(rt; has_a_name("America/New_York")?);
+    assert!(rt; !has_a_name("-05:00")?);
+    assert_eq!(rt; name_of("Europe/Berlin")?, b"Europe/Berlin".as_slice());
+    Ok(())
+}
+
+// ==== Errors ====
+
+// What to tell whoever wrote the text.
+fn advice(error: ParseError) -> &'static str {
+    match error {
+        InvalidMonthRange => "there is no such month",
+        InvalidDayRange => "the month has no such day",
+        AbruptEnd { location } => location,
+        other => other.to_static_string(),
+    }
+}
+
+#[test]
+fn matches_errors(rt: HostRuntime) {
+    let rows = [
+        ("2024-13-01", "there is no such month"),
+        ("2023-02-29", "the month has no such day"),
+        ("2024-03-0", "digit"),
+        (
+            "2024-03-02x",
+            "Unexpected character found after parsing was completed.",
+        ),
+    ];
+    for (text, wanted) in rows {
+        match date_of(text) {
+            Ok(_) => assert!(rt; false, "at {text}"),
+            Err(error) => assert_eq!(rt; advice(error), wanted, "at {text}"),
+        }
+    }
+}
+
+// ==== Handlers ====
+
+// How many annotations a text has. None of them is kept, and so none is refused.
+fn count_annotations(text: &str) -> ParserResult<u32> {
+    let mut count = 0u32;
+    let mut parser = IxdtfParser::from_str(text);
+    let read = parser.parse_with_annotation_handler(|_annotation| {
+        count = count.saturating_add(1);
+        None
+    });
+    match read {
+        Ok(_record) => Ok(count),
+        Err(error) => Err(error),
+    }
+}
+
+// Whether a text is read where annotations of the key `x-note` are passed over, also critical ones.
+fn reads_with_notes(text: &str) -> bool {
+    let mut parser = IxdtfParser::from_str(text);
+    let read = parser.parse_with_annotation_handler(|annotation| {
+        if annotation.key == b"x-note".as_slice() {
+            None
+        } else {
+            Some(annotation)
+        }
+    });
+    read.is_ok()
+}
+
+#[test]
+fn hands_annotations_out(rt: HostRuntime) -> Result<(), Fail> {
+    assert_eq!(rt; count_annotations("2024-03-02[u-ca=hebrew][!a=b]")?, 2);
+    assert!(rt; reads_with_notes("2024-03-02[!x-note=draft][u-ca=hebrew]"));
+    assert!(rt; !reads_with_notes("2024-03-02[!x-text=draft]"));
+    Ok(())
+}
+
+// ==== Functions that take a handler ====
+
+/// Why a text has no calendar for a caller of its own.
+#[derive(Clone, Copy, Debug, PartialEq)]
+enum Refused {
+    /// The text is refused.
+    ByTheReader(ParseError),
+}
+
+impl From<ParseError> for Refused {
+    fn from(error: ParseError) -> Refused {
+        Refused::ByTheReader(error)
+    }
+}
+
+// With an error of the caller's choice.
+fn calendar_or<'a, E: From<ParseError>, F>(text: &'a str, handler: F) -> Result<Option<&'a [u8]>, E>
+where
+    F: FnMut(Annotation<'a, Utf8>) -> Option<Annotation<'a, Utf8>>,
+    requires callable { F.IsAlwaysCallable handler }
+{
+    let mut parser = IxdtfParser::from_str(text);
+    match parser.parse_with_annotation_handler(handler) {
+        Ok(record) => Ok(record.calendar),
+        Err(error) => Err(E::from(error)),
+    }
+}
+
+// Without an error.
+fn calendar_if_read<'a, F>(text: &'a str, handler: F) -> Option<Option<&'a [u8]>>
+where
+    F: FnMut(Annotation<'a, Utf8>) -> Option<Annotation<'a, Utf8>>,
+    requires callable { F.IsAlwaysCallable handler }
+{
+    let mut parser = IxdtfParser::from_str(text);
+    match parser.parse_with_annotation_handler(handler) {
+        Ok(record) => Some(record.calendar),
+        Err(_) => None,
+    }
+}
+
+// With a handler for sources of every lifetime.
+fn has_calendar<F>(text: &str, handler: F) -> ParserResult<bool>
+where
+    F: for<'b> FnMut(Annotation<'b, Utf8>) -> Option<Annotation<'b, Utf8>>,
+    requires callable { F.IsAlwaysCallable handler }
+{
+    let mut parser = IxdtfParser::from_str(text);
+    match parser.parse_with_annotation_handler(handler) {
+        Ok(record) => Ok(record.calendar.is_some()),
+        Err(error) => Err(error),
+    }
+}
+
+#[test]
+fn forwards_handlers(rt: HostRuntime) {
+    let text = "2024-03-02[u-ca=hebrew]";
+    let hebrew = Some(b"hebrew".as_slice());
+    let found = calendar_or::<Refused, _>(text, |annotation| Some(annotation));
+    assert_eq!(rt; found, Ok(hebrew));
+    let refused = calendar_or::<Refused, _>("2024-03-02x", |annotation| Some(annotation));
+    assert_eq!(rt; refused, Err(Refused::ByTheReader(ParseError::InvalidEnd)));
+    assert_eq!(rt; calendar_if_read(text, |annotation| Some(annotation)), Some(hebrew));
+    assert_eq!(rt; has_calendar(text, |_annotation| None), Ok(false));
+}
