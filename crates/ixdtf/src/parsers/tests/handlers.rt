@@ -186,9 +186,9 @@ fn may_be_discarded(rt: HostRuntime) {
 #[test]
 fn leaves_no_calendar_unanswered(rt: HostRuntime) {
     let mut parser = IxdtfParser::from_str("2020-01-01[u-ca=a][!u-ca=b][!c=d]");
-    let found = parse_unanswered::<_, ParseError, _>(&mut parser, |_annotation| None);
+    let found = parse_unanswered(&mut parser, |_annotation| None);
     assert_eq!(rt; found, Ok(dated(2020, 1, 1, None)));
     let mut faulty = IxdtfParser::from_str("2020-01-01[!c=d]junk");
-    let refused = parse_unanswered::<_, ParseError, _>(&mut faulty, |_annotation| None);
+    let refused = parse_unanswered(&mut faulty, |_annotation| None);
     assert_eq!(rt; refused, Err(ParseError::InvalidEnd));
 }
