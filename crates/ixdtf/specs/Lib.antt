@@ -2,4 +2,5 @@ pub mod language
 pub mod table
 pub mod Handlers
 pub mod Views
+pub mod Laws
 pub mod reading

@@ -1,16 +1,72 @@
-//! What follows for some handlers.
+//! What follows from the readers' contracts, for callers to cite.
+//!
+//! A law is a function whose contract states it. A caller cites a law by calling the function: what that ensures is known
+//! from there on, at no cost where the law takes nothing and does nothing. [`parse_unanswered`] reads, and its contract is
+//! that of [`IxdtfParser::parse_with_annotation_handler`] with the law beside it.
 
-ghost use Rattle.std.specs.Prelude.{◌≡◌, ◌≢◌, IfOk, IfErr, None};
-ghost use Rattle.ixdtf.specs.table.Faults.{fault_of};
+ghost use Rattle.std.specs.Prelude.{◌≡◌, ◌≢◌, ◌+◌, ◌≤◌, [], map, OnOk, OnErr, IfOk, IfErr, IsFalse, None};
+ghost use Rattle.ixdtf.specs.table.Faults.{fault_of, never_comes};
 ghost use Rattle.ixdtf.specs.table.Faults.Fault.{CriticalDuplicateCalendar, UnrecognizedCritical};
+ghost use Rattle.ixdtf.specs.language.Readers.{parse as reader_parse};
+ghost use Rattle.ixdtf.specs.Handlers.{Handled};
+ghost use Rattle.ixdtf.specs.Laws.{EveryDateTimeIsRead, EveryNameIsAnIdentifier};
+ghost use Rattle.ixdtf.specs.Views.{returned, returned_by, parsed_of, most_looks};
 
 use crate::encoding::EncodingType;
 use crate::parsers::IxdtfParser;
 use crate::records::{Annotation, IxdtfParseRecord};
 use crate::stop::Raised;
+use crate::{ParseError, ParserResult};
 
-/// Reads with a handler that replies `None` to each annotation: the record has no calendar, and no reply is refused.
-pub(crate) fn parse_unanswered<'a, T: EncodingType, E: Raised, F>(
+/// Every date-time of RFC 3339, section 5.6, is read: [`IxdtfParser::parse`] returns `Ok` for it. That section's `T` and `Z`
+/// may be small letters.
+///
+/// The law speaks of texts in letters, and so of sources in every encoding: what it says of a text is the right side of
+/// `ok` of `parse`.
+pub fn every_rfc3339_date_time_is_read()
+    ensures { EveryDateTimeIsRead }
+{}
+
+/// Every name that [`TimeZoneParser::parse_iana_identifier`](crate::parsers::TimeZoneParser::parse_iana_identifier) reads is
+/// the whole of its text, and [`TimeZoneParser::parse_identifier`](crate::parsers::TimeZoneParser::parse_identifier) reads
+/// the text as `Name` of the same units.
+pub fn every_name_is_an_identifier()
+    ensures { EveryNameIsAnIdentifier }
+{}
+
+/// Reads as [`IxdtfParser::parse_with_annotation_handler`] does, with a handler that replies `None` to each annotation: the
+/// record has no calendar, and no reply is refused.
+///
+/// # Errors
+///
+/// Those of [`IxdtfParser::parse`], but for `CriticalDuplicateCalendar` and `UnrecognizedCritical`.
+pub fn parse_unanswered<'a, T: EncodingType, F>(
+    parser: &mut IxdtfParser<'a, T>,
+    handler: F,
+) -> ParserResult<IxdtfParseRecord<'a, T>>
+where
+    F: FnMut(Annotation<'a, T>) -> Option<Annotation<'a, T>>,
+    requires callable { F.IsAlwaysCallable handler }
+    requires unanswered { (state : F) (annotation : _) (reply : _) (next : F) →
+        F.step state annotation reply next → reply ≡ None }
+    ensures calendar { IfOk result (λ found. found.calendar ≡ None) }
+    ensures unrecognized { IfErr result (λ e. fault_of e ≢ UnrecognizedCritical) }
+    ensures duplicate { IfErr result (λ e. fault_of e ≢ CriticalDuplicateCalendar) }
+
+    ensures handled { Handled T.number F.step handler reader_parse (map T.letter parser.old.rest)
+        (returned (parsed_of T.number) result) }
+    ensures comes { IfErr result (λ e. IsFalse (never_comes (fault_of e))) }
+    ensures empty { OnOk result (parser.new.rest ≡ []) }
+    ensures unchanged { OnErr result (parser.new.rest ≡ parser.old.rest) }
+    ensures looks { parser.new.looks ≤ parser.old.looks + most_looks parser.old.rest }
+    ensures counted { parser.old.looks ≤ parser.new.looks }
+{
+    parse_unanswered_as::<T, ParseError, F>(parser, handler)
+}
+
+/// Reads as [`parse_unanswered`] does, with an error that a stop gives.
+#[inline(always)]
+fn parse_unanswered_as<'a, T: EncodingType, E: Raised, F>(
     parser: &mut IxdtfParser<'a, T>,
     handler: F,
 ) -> Result<IxdtfParseRecord<'a, T>, E>
@@ -22,6 +78,14 @@ where
     ensures calendar { IfOk result (λ found. found.calendar ≡ None) }
     ensures unrecognized { IfErr result (λ e. E.fault e ≢ UnrecognizedCritical) }
     ensures duplicate { IfErr result (λ e. E.fault e ≢ CriticalDuplicateCalendar) }
+
+    ensures handled { Handled T.number F.step handler reader_parse (map T.letter parser.old.rest)
+        (returned_by E.fault (parsed_of T.number) result) }
+    ensures comes { IfErr result (λ e. IsFalse (never_comes (E.fault e))) }
+    ensures empty { OnOk result (parser.new.rest ≡ []) }
+    ensures unchanged { OnErr result (parser.new.rest ≡ parser.old.rest) }
+    ensures looks { parser.new.looks ≤ parser.old.looks + most_looks parser.old.rest }
+    ensures counted { parser.old.looks ≤ parser.new.looks }
 {
     parser.read_as::<E, F>(handler)
 }

@@ -22,7 +22,7 @@
 mod cursor;
 pub mod encoding;
 mod error;
-mod laws;
+pub mod laws;
 mod looks;
 pub mod parsers;
 pub mod records;

@@ -1,6 +1,7 @@
 //! Texts of the readers, with the records and errors that they give.
 
 mod brackets;
+mod calling;
 mod dates;
 mod encodings;
 mod errors;

@@ -1,18 +1,14 @@
 -- `ParseError` as the error of a function that is generic in its error.
-use mathlib.Core.Path.{refl}
-use mathlib.Core.List.{[], ◌∷◌}
 use lib.Dec.{T}
 use Prim.Native.Nat.{ℕ}
 use mir.Syntax.{Ty}
 use mir.Raw.{raw as bare}
 use mir.Val.{Val, has_ty, WT}
 use denote.Exit.{no}
-use denote.RattleType.{RattleType}
 use denote.Laws.{Is}
-use denote.Param.{layout, param, arg}
+use denote.Param.{layout, arg}
 use denote.Param.Laws.{Laws, param_laws, arg_laws}
 use denote.Enum.Loose.{loose_lawful}
-use denote.Ref.{NamedLft}
 use types.Logic.{Logic}
 use seplogic.Ra.Ura.{Ura}
 use Rattle.std.specs.contracts.result.Result
@@ -21,6 +17,26 @@ use Rattle.ixdtf.specs.contracts.error.ParseError
 use Rattle.ixdtf.proofs.error.ParseError.TheLaws as error_laws
 use Rattle.ixdtf.specs.contracts.records.IxdtfParseRecord
 use Rattle.ixdtf.proofs.records.IxdtfParseRecord.TheLaws as record_laws
+-- the names that such a proof cites besides
+pub use mathlib.Core.Path.{◌≡◌, refl, subst}
+pub use mathlib.Core.List.{[], ◌∷◌}
+pub use mir.Syntax.{named}
+pub use base.Logic.{sep, via, id⊢, fst∗, snd∗}
+pub use base.Fml.{Lft}
+pub use prog.Wp.{Tables}
+pub use contract.BorrowLft.{⊑_refl, ⊑_static}
+pub use contract.Lifetimes.{Lfts}
+pub use contract.Monad.{fact, fact_use}
+pub use contract.Running.{tables}
+unfoldable pub use contract.Running.{tables_of}
+pub use denote.RattleType.{RattleType, Denots}
+pub use denote.Param.{param}
+pub use denote.Ref.{NamedLft}
+pub use denote.Signature.{types_at}
+pub use denote.Triple.Impl.{implements, insides_in, with_fact}
+pub use denote.Triple.Spec.{SpecAt}
+pub use denote.Triple.Table.{run_framed}
+pub use Rattle.ixdtf.proofs.code.HandsOn.{hands_on}
 
 abbrev pub written : Ty
 written = bare (layout ParseError.the_row)
@@ -31,6 +47,10 @@ E = arg written no ParseError.the_row
 
 pub E_laws : Laws E
 E_laws = arg_laws written no ParseError.the_row error_laws.the_row_laws refl
+
+-- the claim under which such a function has its bound, from that under which its caller has it
+abbrev pub Under : (Lfts 5 → Type 0) → Lfts 6 → Type 0
+Under P κs = (τs : Lfts 5) × P τs × (τs.1.0 ≡ κs.1.0)
 
 -- a record, of an encoding and its units by their numbers among the types, or this error
 module _ (at : NamedLft) (i j : ℕ) (T' U : RattleType) where

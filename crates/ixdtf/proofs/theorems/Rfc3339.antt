@@ -21,6 +21,9 @@ use Rattle.ixdtf.specs.language.Languages.{Parsed, parsed_with, Derives}
 use Rattle.ixdtf.specs.language.Languages.Found.{parsed}
 use Rattle.ixdtf.specs.reading.Dates.{date_of}
 use Rattle.ixdtf.specs.reading.Times.{time_of}
+use Rattle.ixdtf.specs.Handlers.{PlainRecord}
+use Rattle.ixdtf.specs.Laws.{EveryDateTimeIsRead}
+use Rattle.ixdtf.proofs.code.OneMoreReply.{NoneRefused-nothing}
 use Rattle.ixdtf.specs.language.Rfc3339.{FullDate, WholeTime, SecondFraction, TimeOffset, IsRfcDateTime, date_time_letter}
 
 full_date : (text : Text) → FullDate text → (date : DateRecord) × IsDate text date
@@ -110,3 +113,10 @@ rfc_3339_derives text d =
         has = refl;
       },
     )
+
+-- without pairs nothing is refused, and there is no calendar
+plain : (text : Text) (found : Parsed) → Derives parse text (parsed found) [] → PlainRecord parse text found
+plain text found d = ([], record { read = found; whole = d; accepted = NoneRefused-nothing; has = rw d.has refl })
+
+pub every_date_time_is_read : EveryDateTimeIsRead
+every_date_time_is_read text is = let (found, d) = rfc_3339_derives text is in (found, d, plain text found d)

@@ -178,6 +178,9 @@ fn forwards_handlers(rt: HostRuntime) {
     assert_eq!(rt; found, Ok(hebrew));
     let refused = calendar_or::<Refused, _>("2024-03-02x", |annotation| Some(annotation));
     assert_eq!(rt; refused, Err(Refused::ByTheReader(ParseError::InvalidEnd)));
-    assert_eq!(rt; calendar_if_read(text, |annotation| Some(annotation)), Some(hebrew));
+    assert_eq!(rt;
+        calendar_if_read(text, |annotation| Some(annotation)),
+        Some(hebrew)
+    );
     assert_eq!(rt; has_calendar(text, |_annotation| None), Ok(false));
 }

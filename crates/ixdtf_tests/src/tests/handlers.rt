@@ -1,5 +1,6 @@
 use super::{AT_DIGIT, dated, morning, short};
 use ixdtf::encoding::Utf8;
+use ixdtf::laws::parse_unanswered;
 use ixdtf::parsers::IxdtfParser;
 use ixdtf::records::{Annotation, DateRecord, Sign, UtcOffsetRecordOrZ};
 use ixdtf::{ParseError, ParserResult};
@@ -180,4 +181,14 @@ fn may_be_discarded(rt: HostRuntime) {
     assert_eq!(rt; calls, 2);
     let _ = parser.parse_with_annotation_handler(|_annotation| None);
     assert_eq!(rt; parser.parse(), Err(AT_DIGIT));
+}
+
+#[test]
+fn leaves_no_calendar_unanswered(rt: HostRuntime) {
+    let mut parser = IxdtfParser::from_str("2020-01-01[u-ca=a][!u-ca=b][!c=d]");
+    let found = parse_unanswered(&mut parser, |_annotation| None);
+    assert_eq!(rt; found, Ok(dated(2020, 1, 1, None)));
+    let mut faulty = IxdtfParser::from_str("2020-01-01[!c=d]junk");
+    let refused = parse_unanswered(&mut faulty, |_annotation| None);
+    assert_eq!(rt; refused, Err(ParseError::InvalidEnd));
 }

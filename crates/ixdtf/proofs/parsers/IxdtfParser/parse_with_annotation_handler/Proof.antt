@@ -1,21 +1,6 @@
 -- The function only hands its arguments on to `read_as`, at the plain error. Assumes `Logic`.
-use mathlib.Core.Path.{◌≡◌, refl, subst}
-use mir.Syntax.{named}
-use base.Logic.{sep, via, id⊢, fst∗, snd∗}
-use base.Fml.{Lft}
-use prog.Wp.{Tables}
-use contract.BorrowLft.{⊑_refl, ⊑_static}
-use contract.Lifetimes.{Lfts}
-use contract.Monad.{fact, fact_use}
-use contract.Running.{tables, tables_of}
-use denote.RattleType.{Denots}
-use denote.Param.{param}
+use Rattle.ixdtf.proofs.code.PlainErrors.{refl, subst, named, sep, via, id⊢, fst∗, snd∗, Lft, Tables, ⊑_refl, ⊑_static, Lfts, fact, fact_use, tables, tables_of, Denots, param, NamedLft, types_at, implements, insides_in, with_fact, SpecAt, run_framed, hands_on, E, E_laws, Under, Got, lands}
 use denote.Param.Members as Members
-use denote.Ref.{NamedLft}
-use denote.Signature.{types_at}
-use denote.Triple.Impl.{implements, insides_in, with_fact}
-use denote.Triple.Spec.{SpecAt}
-use denote.Triple.Table.{run_framed}
 use Rattle.ixdtf.specs.contracts.parsers.IxdtfParser
 use Rattle.ixdtf.specs.contracts.stop.ParseErrorRaised.TheImpl as raises
 use Rattle.ixdtf.proofs.stop.ParseErrorRaised.TheImpl.Met as raises_met
@@ -26,15 +11,12 @@ use Rattle.ixdtf.specs.contracts.parsers.IxdtfParser.read_as.F-FnOnce as GO
 use Rattle.ixdtf.proofs.parsers.IxdtfParser.read_as.Met as G_met
 use Rattle.ixdtf.proofs.parsers.IxdtfParser.parse_with_annotation_handler.Statement as stated
 use Rattle.ixdtf.proofs.parsers.IxdtfParser.parse_with_annotation_handler.Code as code
-use Rattle.ixdtf.proofs.code.HandsOn.{hands_on}
-use Rattle.ixdtf.proofs.code.PlainErrors.{E, E_laws, Got, lands}
 
 pub parse_with_annotation_handler_spec : {M : Type 1} → stated.statement M
 unfolding tables_of
 parse_with_annotation_handler_spec {M} 𝓤 𝓛 𝓜 𝓡 wired T' U F LT LU LF g₀ d₀ gₛ dₛ g₁ d₁ g₂ d₂ g₃ d₃ d₄ g d d' d'' P b₀ bₛ b₁ b₂ b₃ b₄ b b' b'' =
     let 𝓣 : Tables 𝓤 𝓛.H = tables_of 𝓤 𝓛.H 𝓜 (tables 𝓤 𝓛.H 𝓜 𝓡 𝓡.env) in
-    -- the claim under which the callee has the bound
-    let Q : Lfts 6 → Type 0 = λ κs. (τs : Lfts 5) × P τs × (τs.1.0 ≡ κs.1.0) in
+    let Q = Under P in
     -- the error names no lifetime, so its token may be any
     let f : Lfts 5 → Lfts 6 = λ τs. (τs.0, (τs.1.0, (τs.1.1.0, (τs.1.1.1.0, (τs.1.0, (τs.1.1.1.1.0, tt)))))) in
     let S = R.signature T' U F g₀ d₀ gₛ dₛ g₁ d₁ g₂ d₂ g₃ d₃ d₄ g d d' d'' P in

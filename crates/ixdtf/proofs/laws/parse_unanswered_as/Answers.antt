@@ -1,7 +1,7 @@
 use Rattle.ixdtf.specs.Views.{parsed_of}
 use Rattle.ixdtf.proofs.code.ReadersWithoutPairs.{each_err}
 use Rattle.ixdtf.proofs.theorems.Handled.{no_calendar, ignored_err}
-use Rattle.ixdtf.proofs.laws.parse_unanswered.Goals as goal
+use Rattle.ixdtf.proofs.laws.parse_unanswered_as.Goals as goal
 
 pub returns-clause-calendar : goal.returns-clause-calendar
 returns-clause-calendar g c = no_calendar g.E.Raised.fault g.T.EncodingType.number _ _ _ _ c.read_as.result c.requires.unanswered c.read_as.ensures.handled

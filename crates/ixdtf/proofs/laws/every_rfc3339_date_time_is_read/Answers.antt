@@ -1,0 +1,5 @@
+use Rattle.ixdtf.proofs.theorems.Rfc3339.{every_date_time_is_read}
+use Rattle.ixdtf.proofs.laws.every_rfc3339_date_time_is_read.Goals as goal
+
+pub returns : goal.returns
+returns c = every_date_time_is_read

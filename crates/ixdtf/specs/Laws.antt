@@ -1,0 +1,20 @@
+-- What the laws say, each for every text.
+use Rattle.std.specs.Prelude.{◌≡◌, ℕ, List, [], map}
+use Rattle.ixdtf.specs.Handlers.{PlainRecord}
+use Rattle.ixdtf.specs.language.Languages.{Parsed, Derives}
+use Rattle.ixdtf.specs.language.Languages.Found.{parsed, identified, named}
+use Rattle.ixdtf.specs.language.Letters.{Text}
+use Rattle.ixdtf.specs.language.Letters.Letter.{Plain}
+use Rattle.ixdtf.specs.language.Readers.{parse}
+use Rattle.ixdtf.specs.language.Readers.Reader.{parse_identifier, parse_iana_identifier}
+use Rattle.ixdtf.specs.language.Rfc3339.{IsRfcDateTime}
+use Rattle.ixdtf.specs.language.ZoneNames.Zone.{Name}
+
+-- a record is derived from every date-time of RFC 3339 section 5.6, with no pairs, and `parse` has it for this text
+abbrev pub EveryDateTimeIsRead : Type 0
+EveryDateTimeIsRead = (text : Text) → IsRfcDateTime text → (found : Parsed) × Derives parse text (parsed found) [] × PlainRecord parse text found
+
+-- every name of a time zone is the whole of its text, and the time zone of this name is derived from the text
+abbrev pub EveryNameIsAnIdentifier : Type 0
+EveryNameIsAnIdentifier = (text : Text) (name : List ℕ) → Derives parse_iana_identifier text (named name) [] →
+    (text ≡ map Plain name) × Derives parse_identifier text (identified (Name name)) []
