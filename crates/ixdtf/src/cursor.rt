@@ -3,6 +3,8 @@
 //! There is no index: a cursor keeps the end of the source that is still to be read, as one slice. So a place past the end
 //! cannot be, and a reader that refuses puts back the slice that it began with.
 
+#![tactic(auto, unfolding(crate::specs::reading::Looks::look_readings))]
+
 ghost use Rattle.std.specs.Prelude.{◌≡◌, ℕ, ◌+◌, ◌-◌, ◌<◌, ◌≤◌, ◌∷◌, List, [], map, length, drop, None, IfOk, OnOk, OnErr, IsTrue};
 ghost use Rattle.ixdtf.specs.language.Letters.{digit};
 ghost use Rattle.ixdtf.specs.language.Letters.Letter.{Plain};
@@ -146,7 +148,6 @@ impl<'a, T: EncodingType> Cursor<'a, T> {
     /// Takes a digit off and returns it, as an ASCII byte. The end is `AbruptDigit`, and another letter this stop; both
     /// stay.
     #[inline(always)]
-    #[tactic(auto, unfolding(crate::specs::reading::Looks::next_by))]
     pub fn next_digit(&mut self, other: Stop) -> Result<u8, Stop>
         ensures digit { Reads T.letter (λ byte. byte) self.old result self.new
             (next_by (digit_look (fault_of_stop other))) }
@@ -215,7 +216,6 @@ impl<'a, T: EncodingType> Cursor<'a, T> {
 
     /// Wants the end of the source: `InvalidEnd` at any letter.
     #[inline(always)]
-    #[tactic(auto, unfolding(crate::specs::reading::Looks::peek_by))]
     pub fn close(&mut self) -> Result<(), Stop>
         ensures end { Reads T.letter (λ _. None) self.old result self.new (peek_by end_look) }
         ensures rest { self.new.rest ≡ self.old.rest }

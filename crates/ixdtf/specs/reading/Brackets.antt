@@ -19,7 +19,7 @@ use Rattle.ixdtf.specs.table.Rows.Place.{end, bad}
 use Rattle.ixdtf.specs.reading.Looks.{Read, ◌>>=◌, row_of, letter_at, next_by}
 use Rattle.ixdtf.specs.reading.Times.{clock_at}
 use Rattle.ixdtf.specs.reading.Pairs.{pair_at}
-use Rattle.ixdtf.specs.reading.Zones.{follow_look, name_run, name_look, as_zone}
+use Rattle.ixdtf.specs.reading.Zones.{follow_look, name_run, name_look, as_zone, zone_readings}
 
 -- whether an `=` comes before any `]`
 unfoldable pub sight_at : {E : Type 0} → (Row → E) → Text → Result Bool E
@@ -103,3 +103,8 @@ zone_in (paired pair) = None
 abbrev pub pairs_in : Bracket → List Pair
 pairs_in (zoned note) = []
 pairs_in (paired pair) = pair ∷ []
+
+-- opening this opens the readings of first brackets, and of what stands in them
+unfoldable pub bracket_readings : ℕ
+unfolding zone_readings name_in_bracket_at offset_in_bracket_at inside_at critical_bracket_at bracket_at
+bracket_readings = 0

@@ -135,3 +135,8 @@ digit_run at_bad [] = Ok ([], [])
 digit_run at_bad (Bad ∷ rest) = Err at_bad
 digit_run at_bad (Plain c ∷ rest) =
     if digit c then (digit_run at_bad rest >>= λ more. Ok (Plain c ∷ more.0, more.1)) else Ok ([], Plain c ∷ rest)
+
+-- opening this opens the looks at single letters
+unfoldable pub look_readings : ℕ
+unfolding next_by digits_by peek_by in_range digit_run
+look_readings = 0

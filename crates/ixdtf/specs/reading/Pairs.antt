@@ -16,7 +16,7 @@ use Rattle.ixdtf.specs.table.LineNames.BracketLine.{after_bracket}
 use Rattle.ixdtf.specs.table.LineNames.PairLine.{key_start, critical_key_start, in_key, value_start, in_value, after_value_hyphen}
 use Rattle.ixdtf.specs.table.Rows.{Row}
 use Rattle.ixdtf.specs.table.Rows.Place.{end, other, bad}
-use Rattle.ixdtf.specs.reading.Looks.{Read, ◌>>=◌, row_of, look_at_line, letter_at, peek_by}
+use Rattle.ixdtf.specs.reading.Looks.{Read, ◌>>=◌, row_of, look_at_line, letter_at, peek_by, look_readings}
 use Rattle.ixdtf.specs.reading.Zones.{with_letter}
 
 -- The letters of a key and the `=` after them.
@@ -107,3 +107,8 @@ pairs_at fault (suc n) pairs text =
       | None ↦ Ok (pairs, next.1)
       | Some pair ↦ pairs_at fault n (pairs ++ (pair ∷ [])) next.1
     ]
+
+-- opening this opens the readings of pairs, but for the loops
+unfoldable pub pair_readings : ℕ
+unfolding look_readings pair_at critical_pair_at later_pair_at next_pair_at
+pair_readings = 0

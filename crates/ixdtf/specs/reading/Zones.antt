@@ -18,7 +18,7 @@ use Rattle.ixdtf.specs.table.LineNames.ZoneLine.{identifier_start, zone_name_sta
 use Rattle.ixdtf.specs.table.Lines.{follow_of, zone_end, zone_other}
 use Rattle.ixdtf.specs.table.Rows.{Row}
 use Rattle.ixdtf.specs.table.Rows.Place.{end, other, bad}
-use Rattle.ixdtf.specs.reading.Looks.{Read, Look, ◌>>=◌, row_of, end_of, letter_at, peek_by}
+use Rattle.ixdtf.specs.reading.Looks.{Read, Look, ◌>>=◌, row_of, end_of, letter_at, peek_by, look_readings}
 use Rattle.ixdtf.specs.reading.Times.{OpenTime, line_after, bad_after, clock_at}
 
 -- the look at what follows a time or an offset that does not go on as its shape does, where brackets may follow or not
@@ -113,3 +113,8 @@ unfoldable pub identifier_at : {E : Type 0} → (Row → E) → Text → Read E 
 identifier_at fault text = do
   lead ← letter_at fault (of_zone identifier_start) text
   if sign lead.0 then minute_offset_alone_at fault lead.0 lead.1 else as_zone (name_alone_at fault text)
+
+-- opening this opens the readings of offsets and zones, but for the loop over a name
+unfoldable pub zone_readings : ℕ
+unfolding look_readings name_alone_at iana_identifier_at signed_alone_at offset_at identifier_at
+zone_readings = 0

@@ -1,5 +1,7 @@
 //! Reading annotations of a key and a value, and what is kept of the replies to them.
 
+#![tactic(auto, unfolding(crate::specs::reading::Pairs::pair_readings))]
+
 ghost use Rattle.std.specs.Prelude.{◌≡◌, ◌+◌, ◌≤◌, ◌<◌, ◌*◌, ◌↔◌, [], ◌∷◌, map, length, option_map, Some, None, IsTrue, OnOk, IfOk, IfErr, IsSome, if◌then◌else◌};
 ghost use Rattle.std.specs.Option.{option_or};
 ghost use Rattle.ixdtf.specs.declared.parsers.annotations.ValueState.TheVariants.{AtStart};
@@ -164,7 +166,6 @@ pub fn parse_annotation_value<'a, T: EncodingType>(
 
 /// Reads a key, `=`, a value and `]`.
 #[inline(always)]
-#[tactic(auto, unfolding(crate::specs::reading::Pairs::pair_at))]
 fn parse_pair<'a, T: EncodingType>(
     cursor: &mut Cursor<'a, T>,
     critical: bool,
@@ -186,7 +187,6 @@ fn parse_pair<'a, T: EncodingType>(
 
 /// Reads a pair after the `[` of a bracket after others.
 #[inline(always)]
-#[tactic(auto, unfolding(crate::specs::reading::Pairs::later_pair_at, crate::specs::reading::Looks::next_by))]
 fn parse_later_pair<'a, T: EncodingType>(
     cursor: &mut Cursor<'a, T>,
 ) -> Result<Annotation<'a, T>, Stop>
@@ -208,7 +208,6 @@ fn parse_later_pair<'a, T: EncodingType>(
 
 /// Reads a pair after the `[` and the `!` of a bracket after others.
 #[inline(always)]
-#[tactic(auto, unfolding(crate::specs::reading::Pairs::critical_pair_at, crate::specs::reading::Looks::next_by))]
 fn parse_critical_pair<'a, T: EncodingType>(
     cursor: &mut Cursor<'a, T>,
 ) -> Result<Annotation<'a, T>, Stop>
@@ -226,7 +225,6 @@ fn parse_critical_pair<'a, T: EncodingType>(
 
 /// Reads the next pair after whole brackets, or `None` at the end.
 #[inline(always)]
-#[tactic(auto, unfolding(crate::specs::reading::Pairs::next_pair_at, crate::specs::reading::Looks::peek_by))]
 fn next_annotation<'a, T: EncodingType>(
     cursor: &mut Cursor<'a, T>,
 ) -> Result<Option<Annotation<'a, T>>, Stop>

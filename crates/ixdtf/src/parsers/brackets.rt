@@ -1,5 +1,7 @@
 //! Reading the first bracket, which may name a zone.
 
+#![tactic(auto, unfolding(crate::specs::reading::Brackets::bracket_readings))]
+
 ghost use Rattle.std.specs.Prelude.{◌≡◌, Some, None, map, if◌then◌else◌};
 ghost use Rattle.ixdtf.specs.language.Letters.{equals, closing};
 ghost use Rattle.ixdtf.specs.language.Brackets.{passed};
@@ -43,7 +45,6 @@ pub fn parse_first_bracket<'a, T: EncodingType>(
 
 /// Reads a first bracket after its `[`.
 #[inline(always)]
-#[tactic(auto, unfolding(crate::specs::reading::Brackets::bracket_at, crate::specs::reading::Looks::next_by))]
 fn parse_bracket<'a, T: EncodingType>(cursor: &mut Cursor<'a, T>) -> Result<Bracket<'a, T>, Stop>
     ensures bracket { Reads T.letter (bracket_of T.number) cursor.old result cursor.new
         (bracket_at error_of) }
@@ -64,7 +65,6 @@ fn parse_bracket<'a, T: EncodingType>(cursor: &mut Cursor<'a, T>) -> Result<Brac
 
 /// Reads a first bracket after its `[` and `!`.
 #[inline(always)]
-#[tactic(auto, unfolding(crate::specs::reading::Brackets::critical_bracket_at, crate::specs::reading::Looks::next_by))]
 fn parse_critical_bracket<'a, T: EncodingType>(
     cursor: &mut Cursor<'a, T>,
 ) -> Result<Bracket<'a, T>, Stop>
@@ -83,7 +83,6 @@ fn parse_critical_bracket<'a, T: EncodingType>(
 
 /// Reads what stands in a first bracket from its first letter on, and its `]`.
 #[inline(always)]
-#[tactic(auto, unfolding(crate::specs::reading::Brackets::inside_at))]
 fn parse_inside<'a, T: EncodingType>(
     cursor: &mut Cursor<'a, T>,
     critical: bool,

@@ -1,5 +1,7 @@
 //! Reading offsets from UTC.
 
+#![tactic(auto, unfolding(crate::specs::reading::Zones::zone_readings))]
+
 ghost use Rattle.std.specs.Prelude.{◌≡◌, ◌+◌, ◌≤◌, map, length};
 ghost use Rattle.ixdtf.specs.language.Offsets.{sign_of, minutes_of, offset_of};
 ghost use Rattle.ixdtf.specs.language.Times.{writes_seconds};
@@ -62,7 +64,6 @@ pub fn offset_from(sign: u8, clocked: Clocked) -> UtcOffsetRecord
 
 /// Reads an offset after its sign, and wants the end.
 #[inline(always)]
-#[tactic(auto, unfolding(crate::specs::reading::Zones::signed_alone_at, crate::specs::reading::Looks::peek_by))]
 fn parse_offset_alone<'a, T: EncodingType>(
     cursor: &mut Cursor<'a, T>,
     sign: u8,
@@ -78,7 +79,6 @@ fn parse_offset_alone<'a, T: EncodingType>(
 
 /// Reads an offset, and wants the end.
 #[inline(always)]
-#[tactic(auto, unfolding(crate::specs::reading::Zones::offset_at, crate::specs::reading::Looks::next_by))]
 pub fn parse_offset_text<'a, T: EncodingType>(
     cursor: &mut Cursor<'a, T>,
 ) -> Result<UtcOffsetRecord, Stop>

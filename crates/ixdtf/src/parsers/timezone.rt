@@ -1,5 +1,7 @@
 //! Reading zone names, and texts that are a time zone.
 
+#![tactic(auto, unfolding(crate::specs::reading::Brackets::bracket_readings))]
+
 ghost use Rattle.std.specs.Prelude.{◌≡◌, ◌+◌, ◌≤◌, map, length, true};
 ghost use Rattle.ixdtf.specs.Views.{zone_of};
 ghost use Rattle.ixdtf.specs.reading.Clauses.{Reads, Spends, fault_of_stop, closing_look};
@@ -60,7 +62,6 @@ pub fn parse_tz_name<'a, T: EncodingType>(
 }
 
 /// Reads a name, and wants the end.
-#[tactic(auto, unfolding(crate::specs::reading::Zones::name_alone_at, crate::specs::reading::Looks::peek_by))]
 fn parse_name_alone<'a, T: EncodingType>(
     cursor: &mut Cursor<'a, T>,
 ) -> Result<&'a [T::CodeUnit], Stop>
@@ -77,7 +78,6 @@ fn parse_name_alone<'a, T: EncodingType>(
 }
 
 /// Reads a name from its first letter on, and wants the end.
-#[tactic(auto, unfolding(crate::specs::reading::Zones::iana_identifier_at, crate::specs::reading::Looks::next_by))]
 pub fn parse_iana_identifier_text<'a, T: EncodingType>(
     cursor: &mut Cursor<'a, T>,
 ) -> Result<&'a [T::CodeUnit], Stop>
@@ -93,7 +93,6 @@ pub fn parse_iana_identifier_text<'a, T: EncodingType>(
 
 /// Reads an offset without seconds after its sign, and wants the end.
 #[inline(always)]
-#[tactic(auto, unfolding(crate::specs::reading::Zones::signed_alone_at, crate::specs::reading::Looks::peek_by))]
 fn parse_minute_offset_alone<'a, T: EncodingType>(
     cursor: &mut Cursor<'a, T>,
     sign: u8,
@@ -108,7 +107,6 @@ fn parse_minute_offset_alone<'a, T: EncodingType>(
 }
 
 /// Reads a name, or an offset without seconds, and wants the end.
-#[tactic(auto, unfolding(crate::specs::reading::Zones::identifier_at, crate::specs::reading::Looks::next_by))]
 pub fn parse_identifier_text<'a, T: EncodingType>(
     cursor: &mut Cursor<'a, T>,
 ) -> Result<TimeZoneRecord<'a, T>, Stop>
@@ -134,7 +132,6 @@ pub fn parse_identifier_text<'a, T: EncodingType>(
 
 /// Wants `]`: the end is `AnnotationClose`, and another letter this stop.
 #[inline(always)]
-#[tactic(auto, unfolding(crate::specs::reading::Looks::next_by))]
 fn close_bracket<'a, T: EncodingType>(cursor: &mut Cursor<'a, T>, other: Stop) -> Result<u8, Stop>
     ensures end { Reads T.letter (λ byte. byte) cursor.old result cursor.new
         (next_by (closing_look (fault_of_stop other))) }
@@ -151,7 +148,6 @@ fn close_bracket<'a, T: EncodingType>(cursor: &mut Cursor<'a, T>, other: Stop) -
 }
 
 /// Reads an offset after its sign, and its bracket's `]`.
-#[tactic(auto, unfolding(crate::specs::reading::Brackets::offset_in_bracket_at, crate::specs::reading::Looks::next_by))]
 pub fn parse_offset_in_bracket<'a, T: EncodingType>(
     cursor: &mut Cursor<'a, T>,
     sign: u8,
@@ -167,7 +163,6 @@ pub fn parse_offset_in_bracket<'a, T: EncodingType>(
 
 /// Reads a name and its bracket's `]`.
 #[inline(always)]
-#[tactic(auto, unfolding(crate::specs::reading::Brackets::name_in_bracket_at))]
 pub fn parse_name_in_bracket<'a, T: EncodingType>(
     cursor: &mut Cursor<'a, T>,
 ) -> Result<&'a [T::CodeUnit], Stop>
