@@ -89,3 +89,6 @@ where
 {
     parser.read_as::<E, F>(handler)
 }
+
+#[cfg(test)]
+mod tests;

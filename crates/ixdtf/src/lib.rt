@@ -14,6 +14,7 @@
 //! - [`records`]: what they return.
 //! - [`ParseError`]: why they refused.
 //! - [`encoding`]: the units of a source.
+//! - [`laws`]: what follows from their contracts, for callers to cite.
 //!
 //! The definitions that the contracts cite are in `specs/`: the grammar in `language`, the fault table in `table`, and what
 //! replies to annotations make of a text in `Handlers`. `docs/` tells them in words.
