@@ -4,30 +4,33 @@ use ixdtf::ParseError::{self, AbruptEnd, InvalidDayRange, InvalidMonthRange};
 use ixdtf::ParserResult;
 use ixdtf::encoding::Utf8;
 use ixdtf::parsers::{IxdtfParser, TimeZoneParser};
-use ixdtf::records::{Annotation, TimeZoneRecord};
+use ixdtf::records::{Annotation, Sign, TimeZoneRecord};
 use std::test::Fail;
 
 // ==== One call of each reader ====
 
 // The year, month and day of a text.
 fn date_of(text: &str) -> ParserResult<Option<(i32, u8, u8)>> {
-    let record = IxdtfParser::from_str(text).parse()?;
-    Ok(record.date.map(|date| (date.year, date.month, date.day)))
+    let mut parser = IxdtfParser::from_str(text);
+    match parser.parse() {
+        Ok(record) => Ok(record.date.map(|date| (date.year, date.month, date.day))),
+        Err(error) => Err(error),
+    }
 }
 
-// The hour of the offset of a text, and the minute, each with the sign.
-fn hour_and_minute(text: &str) -> ParserResult<(i32, i32)> {
-    let offset = TimeZoneParser::from_str(text).parse_offset()?;
-    let sign = offset.sign() as i32;
-    Ok((
-        sign * i32::from(offset.hour()),
-        sign * i32::from(offset.minute()),
-    ))
+// The sign, the hour and the minute of an offset.
+fn offset_of(text: &str) -> ParserResult<(Sign, u8, u8)> {
+    let mut parser = TimeZoneParser::from_str(text);
+    match parser.parse_offset() {
+        Ok(offset) => Ok((offset.sign(), offset.hour(), offset.minute())),
+        Err(error) => Err(error),
+    }
 }
 
 // Whether a text is a zone by its name, and not by an offset.
 fn has_a_name(text: &str) -> ParserResult<bool> {
-    match TimeZoneParser::from_str(text).parse_identifier()? {
+    let mut parser = TimeZoneParser::from_str(text);
+    match parser.parse_identifier()? {
         TimeZoneRecord::Name(_) => Ok(true),
         TimeZoneRecord::Offset(_) => Ok(false),
     }
@@ -35,13 +38,14 @@ fn has_a_name(text: &str) -> ParserResult<bool> {
 
 // The bytes of a zone's name, all of the text.
 fn name_of<'a>(text: &'a str) -> ParserResult<&'a [u8]> {
-    TimeZoneParser::from_str(text).parse_iana_identifier()
+    let mut parser = TimeZoneParser::from_str(text);
+    parser.parse_iana_identifier()
 }
 
 #[test]
 fn calls_each_reader(rt: HostRuntime) -> Result<(), Fail> {
     assert_eq!(rt; date_of("2024-03-02T08:48:00Z")?, Some((2024, 3, 2)));
-    assert_eq!(rt; hour_and_minute("-05:30")?, (-5, -30));
+    assert_eq!(rt; offset_of("-05:30")?, (Sign::Negative, 5, 30));
     assert!(rt; has_a_name("America/New_York")?);
     assert!(rt; !has_a_name("-05:00")?);
     assert_eq!(rt; name_of("Europe/Berlin")?, b"Europe/Berlin".as_slice());

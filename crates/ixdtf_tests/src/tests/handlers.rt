@@ -77,27 +77,41 @@ fn takes_a_calendar_that_is_not_of_the_source(rt: HostRuntime) {
     assert_eq!(rt; found, Ok(record));
 }
 
+/// What a handler saw.
+#[derive(Drop)]
+struct Seen {
+    calls: u32,
+    second_is_known: bool,
+}
+
+impl Seen {
+    // Passes over the answer to the universe, and hands any other annotation back.
+    fn reply<'a>(&mut self, annotation: Annotation<'a, Utf8>) -> Option<Annotation<'a, Utf8>> {
+        self.calls = self.calls.saturating_add(1);
+        if annotation.key != "answer-to-universe".as_bytes() {
+            return Some(annotation);
+        }
+        self.second_is_known = self.calls == 2
+            && annotation.critical
+            && annotation.value == "fortytwo".as_bytes();
+        None
+    }
+}
+
 #[test]
 fn passes_over_the_answer_to_the_universe(rt: HostRuntime) {
     let text = "2024-03-02T08:48:00-05:00[u-ca=iso8601][!answer-to-universe=fortytwo]";
-    let mut calls = 0u32;
-    let mut second_is_known = false;
-    let found = IxdtfParser::from_str(text).parse_with_annotation_handler(|annotation| {
-        calls = calls.saturating_add(1);
-        if annotation.key == "answer-to-universe".as_bytes() {
-            second_is_known = calls == 2
-                && annotation.critical
-                && annotation.value == "fortytwo".as_bytes();
-            None
-        } else {
-            Some(annotation)
-        }
-    });
+    let mut seen = Seen {
+        calls: 0,
+        second_is_known: false,
+    };
+    let mut parser = IxdtfParser::from_str(text);
+    let found = parser.parse_with_annotation_handler(|annotation| seen.reply(annotation));
     let offset = UtcOffsetRecordOrZ::Offset(short(Sign::Negative, 5, 0));
     let mut record = morning(Some(offset));
     record.calendar = Some(b"iso8601");
     assert_eq!(rt; found, Ok(record));
-    assert!(rt; second_is_known && calls == 2);
+    assert!(rt; seen.second_is_known && seen.calls == 2);
 }
 
 #[test]

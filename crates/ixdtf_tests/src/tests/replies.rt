@@ -4,9 +4,6 @@ use ixdtf::parsers::IxdtfParser;
 use ixdtf::records::{Annotation, IxdtfParseRecord, TimeRecord, UtcOffsetRecordOrZ};
 use ixdtf::{ParseError, ParserResult};
 
-/// What a handler was handed: the flag, the key and the value.
-type Call<'c> = (bool, &'c str, &'c str);
-
 /// What a handler replies.
 #[derive(Clone, Copy)]
 enum Kind {
@@ -58,34 +55,53 @@ fn reply<'a>(
     }
 }
 
-// Whether an annotation is the one that is listed.
-fn is_listed<'a, 'c>(annotation: &Annotation<'a, Utf8>, listed: Option<&Call<'c>>) -> bool {
-    match listed {
-        Some((critical, key, value)) => {
-            annotation.critical == *critical
-                && annotation.key == key.as_bytes()
-                && annotation.value == value.as_bytes()
+/// A handler that writes down what it was asked about, as `[key=value]` and `[!key=value]`.
+#[derive(Drop)]
+struct Listener {
+    kind: Kind,
+    calls: usize,
+    heard: [u8; 256],
+    length: usize,
+}
+
+impl Listener {
+    fn write(&mut self, part: &[u8]) {
+        for byte in part {
+            if let Some(place) = self.heard.get_mut(self.length) {
+                *place = *byte;
+                self.length = self.length.saturating_add(1);
+            }
         }
-        None => false,
+    }
+
+    fn reply<'a>(&mut self, annotation: Annotation<'a, Utf8>) -> Option<Annotation<'a, Utf8>> {
+        self.write(if annotation.critical { b"[!" } else { b"[" });
+        self.write(annotation.key);
+        self.write(b"=");
+        self.write(annotation.value);
+        self.write(b"]");
+        let before = self.calls;
+        self.calls = self.calls.saturating_add(1);
+        reply(self.kind, before, annotation)
     }
 }
 
 // What a text gives with a handler, and whether these calls of it were made, in this order, and no more.
-fn handled<'c>(
+fn handled(
     text: &'static str,
     kind: Kind,
-    calls: &[Call<'c>],
+    calls: &'static str,
 ) -> (ParserResult<IxdtfParseRecord<'static, Utf8>>, bool) {
-    let mut count = 0usize;
-    let mut as_listed = true;
+    let mut listener = Listener {
+        kind,
+        calls: 0,
+        heard: [0; 256],
+        length: 0,
+    };
     let mut parser = IxdtfParser::from_str(text);
-    let found = parser.parse_with_annotation_handler(|annotation| {
-        as_listed = as_listed && is_listed(&annotation, calls.get(count));
-        let before = count;
-        count = count.saturating_add(1);
-        reply(kind, before, annotation)
-    });
-    (found, as_listed && count == calls.len())
+    let found = parser.parse_with_annotation_handler(|annotation| listener.reply(annotation));
+    let heard = listener.heard.get(..listener.length);
+    (found, heard == Some(calls.as_bytes()))
 }
 
 // Half a second past midnight.
@@ -98,7 +114,7 @@ fn heeds_handlers(rt: HostRuntime) {
     let rows: [(
         &'static str,
         Kind,
-        &'static [Call<'static>],
+        &'static str,
         Option<TimeRecord>,
         Option<UtcOffsetRecordOrZ>,
         Option<&'static str>,
@@ -106,13 +122,7 @@ fn heeds_handlers(rt: HostRuntime) {
         (
             "2020-01-01[u-ca=a0sa-2l4s][u-ca=a0sa-2l4s][answer-to-universe=hebrew][a=gregory][u-ca=45W-E0h61U-kXpZ]",
             Kind::HandsBack,
-            &[
-                (false, "u-ca", "a0sa-2l4s"),
-                (false, "u-ca", "a0sa-2l4s"),
-                (false, "answer-to-universe", "hebrew"),
-                (false, "a", "gregory"),
-                (false, "u-ca", "45W-E0h61U-kXpZ"),
-            ],
+            "[u-ca=a0sa-2l4s][u-ca=a0sa-2l4s][answer-to-universe=hebrew][a=gregory][u-ca=45W-E0h61U-kXpZ]",
             None,
             None,
             Some("a0sa-2l4s"),
@@ -120,7 +130,7 @@ fn heeds_handlers(rt: HostRuntime) {
         (
             "20200101T12[u-ca=A][qe7idr62=O-QXB-Ir]",
             Kind::HandsBack,
-            &[(false, "u-ca", "A"), (false, "qe7idr62", "O-QXB-Ir")],
+            "[u-ca=A][qe7idr62=O-QXB-Ir]",
             timed(12, 0, 0, None),
             None,
             Some("A"),
@@ -128,7 +138,7 @@ fn heeds_handlers(rt: HostRuntime) {
         (
             "2020-01-01[a=a1]",
             Kind::HandsBack,
-            &[(false, "a", "a1")],
+            "[a=a1]",
             None,
             None,
             None,
@@ -136,12 +146,7 @@ fn heeds_handlers(rt: HostRuntime) {
         (
             "2020-01-01[u-ca=gregory][!u-ca=1][!u-ca=a0sa-2l4s][u-ca=k-H0EGv]",
             Kind::RepliesNone,
-            &[
-                (false, "u-ca", "gregory"),
-                (true, "u-ca", "1"),
-                (true, "u-ca", "a0sa-2l4s"),
-                (false, "u-ca", "k-H0EGv"),
-            ],
+            "[u-ca=gregory][!u-ca=1][!u-ca=a0sa-2l4s][u-ca=k-H0EGv]",
             None,
             None,
             None,
@@ -149,7 +154,7 @@ fn heeds_handlers(rt: HostRuntime) {
         (
             "2020-01-01 00:00:00.5Z[!u-ca=A]",
             Kind::RepliesNone,
-            &[(true, "u-ca", "A")],
+            "[!u-ca=A]",
             half_a_second(),
             Some(UtcOffsetRecordOrZ::Z),
             None,
@@ -157,7 +162,7 @@ fn heeds_handlers(rt: HostRuntime) {
         (
             "2020-01-01[u-ca=japanese][!u-ca=FE-4-s-y]",
             Kind::RepliesNone,
-            &[(false, "u-ca", "japanese"), (true, "u-ca", "FE-4-s-y")],
+            "[u-ca=japanese][!u-ca=FE-4-s-y]",
             None,
             None,
             None,
@@ -165,7 +170,7 @@ fn heeds_handlers(rt: HostRuntime) {
         (
             "2020-01-01 00:00:00.5Z[!u-ca=n-dzMM2]",
             Kind::MakesCritical,
-            &[(true, "u-ca", "n-dzMM2")],
+            "[!u-ca=n-dzMM2]",
             half_a_second(),
             Some(UtcOffsetRecordOrZ::Z),
             Some("n-dzMM2"),
@@ -173,7 +178,7 @@ fn heeds_handlers(rt: HostRuntime) {
         (
             "2020-01-01 00:00:00.5Z[u-ca=mr-nUk-EDkNu]",
             Kind::TurnsCritical,
-            &[(false, "u-ca", "mr-nUk-EDkNu")],
+            "[u-ca=mr-nUk-EDkNu]",
             half_a_second(),
             Some(UtcOffsetRecordOrZ::Z),
             Some("mr-nUk-EDkNu"),
@@ -181,7 +186,7 @@ fn heeds_handlers(rt: HostRuntime) {
         (
             "2020-01-01 00:00:00.5Z[answer-to-universe=OSR]",
             Kind::RepliesAnother,
-            &[(false, "answer-to-universe", "OSR")],
+            "[answer-to-universe=OSR]",
             half_a_second(),
             Some(UtcOffsetRecordOrZ::Z),
             Some("a"),
@@ -199,114 +204,91 @@ fn heeds_handlers(rt: HostRuntime) {
 
 #[test]
 fn heeds_handlers_and_refuses(rt: HostRuntime) {
-    let rows: [(&'static str, Kind, &'static [Call<'static>], ParseError); 16] = [
+    let rows: [(&'static str, Kind, &'static str, ParseError); 16] = [
         (
             "2020-01-01[xy=a0sa-2l4s][!u-ca=iso8601][!u-ca=A][u-ca=a][u-ca=a]",
             Kind::HandsBack,
-            &[
-                (false, "xy", "a0sa-2l4s"),
-                (true, "u-ca", "iso8601"),
-                (true, "u-ca", "A"),
-            ],
+            "[xy=a0sa-2l4s][!u-ca=iso8601][!u-ca=A]",
             ParseError::CriticalDuplicateCalendar,
         ),
         (
             "2020-01-01[u-ca=Nl8-jswAuQ-H][",
             Kind::HandsBack,
-            &[(false, "u-ca", "Nl8-jswAuQ-H")],
+            "[u-ca=Nl8-jswAuQ-H]",
             ParseError::AnnotationKeyLeadingChar,
         ),
         (
             "2020-01-01[u-ca=4-aYg][!u_ca=dbto-3eyv22-fA-rtts]",
             Kind::HandsBack,
-            &[
-                (false, "u-ca", "4-aYg"),
-                (true, "u_ca", "dbto-3eyv22-fA-rtts"),
-            ],
+            "[u-ca=4-aYg][!u_ca=dbto-3eyv22-fA-rtts]",
             ParseError::UnrecognizedCritical,
         ),
         (
             "20200101T12[yh=Vx-Qi-v0Zpe7-Nx1][foo=B1aoE-XS-yGk-7][u-cb=iWnJ0a][!u-cb=l][u-ca=uz5HNg-NV3x]",
             Kind::HandsBack,
-            &[
-                (false, "yh", "Vx-Qi-v0Zpe7-Nx1"),
-                (false, "foo", "B1aoE-XS-yGk-7"),
-                (false, "u-cb", "iWnJ0a"),
-                (true, "u-cb", "l"),
-            ],
+            "[yh=Vx-Qi-v0Zpe7-Nx1][foo=B1aoE-XS-yGk-7][u-cb=iWnJ0a][!u-cb=l]",
             ParseError::UnrecognizedCritical,
         ),
-        ("2020-01-0", Kind::RepliesNone, &[], AT_DIGIT),
+        ("2020-01-0", Kind::RepliesNone, "", AT_DIGIT),
         (
             "2020-01-01 00:00:00.5Z[bsgaqql7=4FH][!nk_8nl=",
             Kind::RepliesNone,
-            &[(false, "bsgaqql7", "4FH")],
+            "[bsgaqql7=4FH]",
             ParseError::AnnotationValueChar,
         ),
         (
             "20200101T12[u-ca=a][s=iE-Dn-NXDPL]",
             Kind::MakesCritical,
-            &[(false, "u-ca", "a"), (false, "s", "iE-Dn-NXDPL")],
+            "[u-ca=a][s=iE-Dn-NXDPL]",
             ParseError::UnrecognizedCritical,
         ),
         (
             "2020-01-01[u-ca=Cwup_-X]",
             Kind::TurnsCritical,
-            &[],
+            "",
             ParseError::AnnotationValueChar,
         ),
         (
             "20200101T12[u-ca=R2-uY40-cvb-w][x-y=WXTo]",
             Kind::TurnsCritical,
-            &[(false, "u-ca", "R2-uY40-cvb-w"), (false, "x-y", "WXTo")],
+            "[u-ca=R2-uY40-cvb-w][x-y=WXTo]",
             ParseError::UnrecognizedCritical,
         ),
-        ("2020-0", Kind::TurnsCritical, &[], AT_DIGIT),
+        ("2020-0", Kind::TurnsCritical, "", AT_DIGIT),
         (
             "202-01-01[u-ca=iso8601][fgq=Czb32s-v-zayknf]",
             Kind::TurnsCritical,
-            &[],
+            "",
             ParseError::DateYear,
         ),
         (
             "2020-01-01[!u-ca=a-b][!u-ca=a3Z-DL-Irpq-2U]",
             Kind::RepliesAnother,
-            &[(true, "u-ca", "a-b"), (true, "u-ca", "a3Z-DL-Irpq-2U")],
+            "[!u-ca=a-b][!u-ca=a3Z-DL-Irpq-2U]",
             ParseError::CriticalDuplicateCalendar,
         ),
         (
             "2020-01-01 00:00:00.5Z[!u-ca=b][u-ca=AdUhu-LRdEB][!u-ca",
             Kind::RepliesAnother,
-            &[(true, "u-ca", "b"), (false, "u-ca", "AdUhu-LRdEB")],
+            "[!u-ca=b][u-ca=AdUhu-LRdEB]",
             ParseError::AnnotationKeyValueSeparator,
         ),
         (
             "2020-01-01[!u-ca=1][u-ca=xjQk-E][u-ca=b][!u-ca=UAq-KMwlE][u-ca =okKb7P]",
             Kind::RepliesAnother,
-            &[
-                (true, "u-ca", "1"),
-                (false, "u-ca", "xjQk-E"),
-                (false, "u-ca", "b"),
-                (true, "u-ca", "UAq-KMwlE"),
-            ],
+            "[!u-ca=1][u-ca=xjQk-E][u-ca=b][!u-ca=UAq-KMwlE]",
             ParseError::CriticalDuplicateCalendar,
         ),
         (
             "20200101WT12[!u--=1]",
             Kind::RepliesAnother,
-            &[],
+            "",
             ParseError::InvalidEnd,
         ),
         (
             "20200101T12[answer-to-universe=xRozE-IPf-E3][u-ca=a0sa-2l4s][answer-to-universe=OMr-WGJ2kC-6pOrnn][u-ca=iso8601][u-ca=a][!",
             Kind::RepliesAnother,
-            &[
-                (false, "answer-to-universe", "xRozE-IPf-E3"),
-                (false, "u-ca", "a0sa-2l4s"),
-                (false, "answer-to-universe", "OMr-WGJ2kC-6pOrnn"),
-                (false, "u-ca", "iso8601"),
-                (false, "u-ca", "a"),
-            ],
+            "[answer-to-universe=xRozE-IPf-E3][u-ca=a0sa-2l4s][answer-to-universe=OMr-WGJ2kC-6pOrnn][u-ca=iso8601][u-ca=a]",
             ParseError::AnnotationKeyLeadingChar,
         ),
     ];
