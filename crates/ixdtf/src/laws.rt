@@ -89,6 +89,3 @@ where
 {
     parser.read_as::<E, F>(handler)
 }
-
-#[cfg(test)]
-mod tests;

@@ -6,6 +6,7 @@ mod dates;
 mod encodings;
 mod errors;
 mod handlers;
+mod laws;
 mod offsets;
 mod records;
 mod replies;

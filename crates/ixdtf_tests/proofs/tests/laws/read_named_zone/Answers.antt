@@ -1,7 +1,7 @@
 use Rattle.std.proofs.Common.{refl, map}
 use Rattle.ixdtf.specs.language.Letters.{byte_letter}
 use Rattle.ixdtf.specs.language.ZoneNames.Zone.{Name}
-use Rattle.ixdtf.proofs.laws.tests.read_named_zone.Goals as goal
+use Rattle.ixdtf_tests.proofs.tests.laws.read_named_zone.Goals as goal
 
 pub unreachable-requires : goal.unreachable-requires
 unreachable-requires c =

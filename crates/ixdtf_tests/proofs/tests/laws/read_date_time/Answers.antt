@@ -2,7 +2,7 @@ use Rattle.std.proofs.Common.{refl, ◌≡◌, Result, Ok, Err, IsOk, map}
 use Rattle.ixdtf.specs.declared.error.ParseError.{ParseError}
 use Rattle.ixdtf.specs.language.Letters.{byte_letter}
 use Rattle.ixdtf.specs.Views.{returned}
-use Rattle.ixdtf.proofs.laws.tests.read_date_time.Goals as goal
+use Rattle.ixdtf_tests.proofs.tests.laws.read_date_time.Goals as goal
 
 ok_returned : {X Y : Type 0} (view : X → Y) (r : Result X ParseError) (y : Y) → returned view r ≡ Ok y → IsOk r
 ok_returned view (Ok x) y is = refl

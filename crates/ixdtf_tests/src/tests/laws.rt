@@ -2,11 +2,11 @@ ghost use Rattle.std.specs.Prelude.{map, IsOk};
 ghost use Rattle.ixdtf.specs.language.Letters.{byte_letter};
 ghost use Rattle.ixdtf.specs.language.Rfc3339.{IsRfcDateTime};
 
-use super::{every_name_is_an_identifier, every_rfc3339_date_time_is_read};
-use crate::ParserResult;
-use crate::encoding::Utf8;
-use crate::parsers::{IxdtfParser, TimeZoneParser};
-use crate::records::{IxdtfParseRecord, TimeZoneRecord};
+use ixdtf::ParserResult;
+use ixdtf::encoding::Utf8;
+use ixdtf::laws::{every_name_is_an_identifier, every_rfc3339_date_time_is_read};
+use ixdtf::parsers::{IxdtfParser, TimeZoneParser};
+use ixdtf::records::{IxdtfParseRecord, TimeZoneRecord};
 
 // What a caller makes of the law: where the bytes are a date-time of RFC 3339, no error comes.
 fn read_date_time<'a>(bytes: &'a [u8]) -> ParserResult<IxdtfParseRecord<'a, Utf8>>
