@@ -51,7 +51,11 @@ fn parse_after_date<'a, T: EncodingType>(
     ensures kept { KeepsBrackets found.old found.new }
     ensures looks { Spends 29 cursor.old cursor.new }
 {
-    found.date = Some(date);
+    found.date = Some(DateRecord {
+        year: date.year,
+        month: date.month,
+        day: date.day,
+    });
     match cursor.look()? {
         Some(byte) if is_date_time_separator(byte) => {
             cursor.step();

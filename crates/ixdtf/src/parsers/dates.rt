@@ -195,28 +195,10 @@ fn parse_hyphenated_day<'a, T: EncodingType>(
     check_date(year, month, digits_value(tens, ones))
 }
 
-/// Reads the month's second digit, and the day, by a cursor of its own.
+/// Reads the month's second digit, and the day.
 #[inline(always)]
-fn parse_plain_date<'a, T: EncodingType>(
-    cursor: &mut Cursor<'a, T>,
-    year: i32,
-    tens: u8,
-) -> Result<DateRecord, Stop>
-    requires digit { IsTrue (digit tens) }
-    ensures date { Reads T.letter (λ date. date) cursor.old result cursor.new
-        (plain_date_at error_of year tens) }
-    ensures looks { Spends 3 cursor.old cursor.new }
-{
-    let mut here = cursor.take();
-    let read = parse_plain_month(&mut here, year, tens);
-    *cursor = here;
-    read
-}
-
-/// Reads the month's second digit, and the day. It is not inlined: few texts have no hyphens.
-#[inline(never)]
 #[tactic(auto, unfolding(crate::specs::reading::Dates::plain_date_at, crate::specs::reading::Dates::month_in_range, crate::specs::reading::Looks::digits_by))]
-fn parse_plain_month<'a, T: EncodingType>(
+fn parse_plain_date<'a, T: EncodingType>(
     cursor: &mut Cursor<'a, T>,
     year: i32,
     tens: u8,
