@@ -30,7 +30,7 @@ pub fn parse_core<'a, T: EncodingType>(
     ensures core { Reads T.letter (λ more. (core_in found.new, more)) cursor.old result cursor.new
         (date_time_core_at error_of) }
     ensures kept { KeepsBrackets found.old found.new }
-    ensures looks { Spends 40 cursor.old cursor.new }
+    ensures looks { Spends 37 cursor.old cursor.new }
 {
     let date = parse_date(cursor)?;
     parse_after_date(cursor, date, found)
@@ -49,7 +49,7 @@ fn parse_after_date<'a, T: EncodingType>(
     ensures core { Reads T.letter (λ more. (core_in found.new, more)) cursor.old result cursor.new
         (after_date_at error_of date) }
     ensures kept { KeepsBrackets found.old found.new }
-    ensures looks { Spends 29 cursor.old cursor.new }
+    ensures looks { Spends 21 cursor.old cursor.new }
 {
     found.date = Some(DateRecord {
         year: date.year,
@@ -80,7 +80,7 @@ fn parse_after_time<'a, T: EncodingType>(
     ensures core { Reads T.letter (λ more. (core_in found.new, more)) cursor.old result cursor.new
         (after_time_at error_of found.old.date (open_time_of time shape)) }
     ensures kept { KeepsBrackets found.old found.new }
-    ensures looks { Spends 15 cursor.old cursor.new }
+    ensures looks { Spends 11 cursor.old cursor.new }
 {
     found.time = Some(time);
     match cursor.look()? {

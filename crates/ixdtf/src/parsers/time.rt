@@ -114,7 +114,7 @@ pub fn parse_clock<'a, T: EncodingType>(
 ) -> Result<Shape, Stop>
     ensures time { Reads T.letter (open_time_of time.new) cursor.old result cursor.new
         (clock_at error_of (clock_of clock)) }
-    ensures looks { Spends 13 cursor.old cursor.new }
+    ensures looks { Spends 9 cursor.old cursor.new }
 {
     let tens = cursor.next_digit(Stop::TimeHour)?;
     let ones = cursor.next_digit(Stop::TimeHour)?;
@@ -133,7 +133,7 @@ fn parse_after_hour<'a, T: EncodingType>(
 ) -> Result<Shape, Stop>
     ensures time { Reads T.letter (open_time_of time.new) cursor.old result cursor.new
         (after_hour_at error_of (clock_of clock) hour) }
-    ensures looks { Spends 11 cursor.old cursor.new }
+    ensures looks { Spends 9 cursor.old cursor.new }
 {
     match cursor.look()? {
         Some(byte) if is_time_separator(byte) => {
@@ -162,7 +162,7 @@ fn parse_colon_minute<'a, T: EncodingType>(
 ) -> Result<Shape, Stop>
     ensures time { Reads T.letter (open_time_of time.new) cursor.old result cursor.new
         (colon_minute_at error_of (clock_of clock) hour) }
-    ensures looks { Spends 10 cursor.old cursor.new }
+    ensures looks { Spends 8 cursor.old cursor.new }
 {
     let (tens, ones) = cursor.two_digits(Stop::TimeMinuteSecond)?;
     let minute = check_most(digits_value(tens, ones), 59, Stop::TimeMinuteSecond)?;
@@ -181,7 +181,7 @@ fn parse_plain_minute<'a, T: EncodingType>(
     requires digit { IsTrue (digit tens) }
     ensures time { Reads T.letter (open_time_of time.new) cursor.old result cursor.new
         (plain_minute_at error_of (clock_of clock) hour tens) }
-    ensures looks { Spends 9 cursor.old cursor.new }
+    ensures looks { Spends 8 cursor.old cursor.new }
 {
     let mut here = cursor.take();
     let mut there = *time;
@@ -204,7 +204,7 @@ fn parse_plain_rest<'a, T: EncodingType>(
     requires digit { IsTrue (digit tens) }
     ensures time { Reads T.letter (open_time_of time.new) cursor.old result cursor.new
         (plain_minute_at error_of (clock_of clock) hour tens) }
-    ensures looks { Spends 9 cursor.old cursor.new }
+    ensures looks { Spends 8 cursor.old cursor.new }
 {
     let ones = cursor.next_digit(Stop::TimeMinuteSecond)?;
     let minute = check_most(digits_value(tens, ones), 59, Stop::TimeMinuteSecond)?;
