@@ -3,6 +3,7 @@ pub mod Chains
 pub mod DigitClasses
 pub mod EqualUnits
 pub mod FirstPass
+pub mod FixedDate
 pub mod FractionLoop
 pub mod GrowingDigits
 pub mod HandsOn

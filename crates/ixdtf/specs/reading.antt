@@ -4,6 +4,7 @@ pub mod Chains
 pub mod Clauses
 pub mod Cores
 pub mod Dates
+pub mod FixedPlaces
 pub mod Looks
 pub mod Pairs
 pub mod Runs

@@ -5,7 +5,7 @@
 
 #![tactic(auto, unfolding(crate::specs::reading::Looks::look_readings))]
 
-ghost use Rattle.std.specs.Prelude.{◌≡◌, ℕ, ◌+◌, ◌-◌, ◌<◌, ◌≤◌, ◌∷◌, List, [], map, length, drop, None, IfOk, OnOk, OnErr, IsTrue};
+ghost use Rattle.std.specs.Prelude.{◌≡◌, ℕ, ◌+◌, ◌-◌, ◌<◌, ◌≤◌, ◌∷◌, List, [], map, length, drop, Ok, Some, None, IfOk, IfSome, OnOk, OnErr, IsTrue};
 ghost use Rattle.ixdtf.specs.language.Letters.{digit};
 ghost use Rattle.ixdtf.specs.language.Letters.Letter.{Plain};
 ghost use Rattle.ixdtf.specs.table.Faults.{NonAsciiCodePoint};
@@ -197,20 +197,47 @@ impl<'a, T: EncodingType> Cursor<'a, T> {
         }
         let tens = self.digit_at(0, other)?;
         let ones = self.digit_at(1, other)?;
-        self.skip_two();
+        self.skip(2);
         Ok((tens, ones))
     }
 
-    /// Takes two units off, where there are as many.
+    /// Takes so many units off.
     #[inline(always)]
-    fn skip_two(&mut self)
-        requires { 2 ≤ length self.old.rest }
-        ensures rest { self.new.rest ≡ drop 2 self.old.rest }
-        ensures shorter { length self.new.rest + 2 ≡ length self.old.rest }
+    pub fn skip(&mut self, count: usize)
+        requires { count ≤ length self.old.rest }
+        ensures rest { self.new.rest ≡ drop count self.old.rest }
+        ensures shorter { length self.new.rest + count ≡ length self.old.rest }
         ensures looks { self.new.looks ≡ self.old.looks }
     {
-        if let [_, _, rest @ ..] = self.rest {
-            self.rest = rest;
+        self.rest = &self.rest[count..];
+    }
+
+    /// The digit at a fixed place of the rest, as an ASCII byte, or `None` where no digit stands there.
+    #[inline(always)]
+    pub fn fixed_digit(&mut self, index: usize) -> Option<u8>
+        ensures digit { IfSome result (λ byte. IsTrue (digit byte)) }
+        ensures there { IfSome result
+            (λ byte. ascii_at T.letter index self.old.rest ≡ Ok (Some byte)) }
+        ensures rest { self.new.rest ≡ self.old.rest }
+        ensures looks { self.new.looks ≡ self.old.looks + 1 }
+    {
+        match self.look_at(index) {
+            Ok(Some(byte)) if byte.is_ascii_digit() => Some(byte),
+            _ => None,
+        }
+    }
+
+    /// The letter, where it stands at a fixed place of the rest, or `None`.
+    #[inline(always)]
+    pub fn fixed_letter(&mut self, index: usize, letter: u8) -> Option<u8>
+        ensures there { IfSome result
+            (λ _. ascii_at T.letter index self.old.rest ≡ Ok (Some letter)) }
+        ensures rest { self.new.rest ≡ self.old.rest }
+        ensures looks { self.new.looks ≡ self.old.looks + 1 }
+    {
+        match self.look_at(index) {
+            Ok(Some(byte)) if byte == letter => Some(byte),
+            _ => None,
         }
     }
 

@@ -4,12 +4,13 @@
 //! source and no reply to an annotation is refused, and an error only where a row of the fault table (`docs/FAULTS.md`) with
 //! this error fits the source, or a reply is refused with it.
 
-ghost use Rattle.std.specs.Prelude.{◌≡◌, ◌↔◌, ◌+◌, ◌≤◌, [], map, Ok, OnOk, OnErr, IfErr, IsFalse};
+ghost use Rattle.std.specs.Prelude.{◌≡◌, ◌↔◌, ◌+◌, ◌≤◌, [], map, Ok, None, OnOk, OnErr, IfErr, IsFalse};
 ghost use Rattle.ixdtf.specs.table.Faults.{fault_of, never_comes};
 ghost use Rattle.ixdtf.specs.language.Readers.{parse as reader_parse};
 ghost use Rattle.ixdtf.specs.language.Languages.{Parsed};
 ghost use Rattle.ixdtf.specs.Handlers.{Handled, PlainRecord, PlainFault};
 ghost use Rattle.ixdtf.specs.Views.{Unread, returned, returned_by, parsed_of, most_looks};
+ghost use Rattle.ixdtf.specs.reading.Clauses.{yielded, fault_of_stop};
 
 mod annotations;
 mod brackets;
@@ -28,7 +29,7 @@ pub use self::zones::TimeZoneParser;
 use crate::cursor::Cursor;
 use crate::encoding::{EncodingType, Utf8};
 use crate::records::{Annotation, IxdtfParseRecord};
-use crate::stop::Raised;
+use crate::stop::{Raised, Stop};
 use crate::{ParseError, ParserResult};
 use std::marker::Model;
 
@@ -156,7 +157,11 @@ impl<'a, T: EncodingType> IxdtfParser<'a, T> {
         // The count of looks never goes down.
         ensures counted { self.old.looks ≤ self.new.looks }
     {
-        self.parse_with_annotation_handler(|annotation| Some(annotation))
+        let mut found = empty_record();
+        match self.read_into(|annotation| Some(annotation), &mut found) {
+            Ok(()) => Ok(found),
+            Err(stop) => return Err(stop.error()),
+        }
     }
 
     /// Reads as [`parse`](Self::parse) does, and asks the handler about each annotation of a key and a value.
@@ -210,7 +215,7 @@ impl<'a, T: EncodingType> IxdtfParser<'a, T> {
     #[inline(always)]
     pub(crate) fn read_as<E: Raised, F>(
         &mut self,
-        mut handler: F,
+        handler: F,
     ) -> Result<IxdtfParseRecord<'a, T>, E>
     where
         F: FnMut(Annotation<'a, T>) -> Option<Annotation<'a, T>>,
@@ -230,23 +235,66 @@ impl<'a, T: EncodingType> IxdtfParser<'a, T> {
         // The count of looks never goes down.
         ensures counted { self.old.looks ≤ self.new.looks }
     {
-        let mut found: IxdtfParseRecord<'a, T> = IxdtfParseRecord {
-            date: None,
-            time: None,
-            offset: None,
-            tz: None,
-            calendar: None,
-        };
+        let mut found = empty_record();
+        match self.read_into(handler, &mut found) {
+            Ok(()) => Ok(found),
+            Err(stop) => return Err(E::of_stop(stop)),
+        }
+    }
+
+    /// Reads all that is still to be read into a record in which nothing stands yet. After an error what was still to be
+    /// read still is.
+    ///
+    /// Each public reader of records calls this one, and returns by itself in each arm: where a reader hands on what another
+    /// returned, or its arms meet before it returns, the whole record is copied once more.
+    #[inline(always)]
+    fn read_into<F>(
+        &mut self,
+        mut handler: F,
+        found: &mut IxdtfParseRecord<'a, T>,
+    ) -> Result<(), Stop>
+    where
+        F: FnMut(Annotation<'a, T>) -> Option<Annotation<'a, T>>,
+        requires callable { F.IsAlwaysCallable handler }
+        requires no_time { found.old.time ≡ None }
+        requires no_offset { found.old.offset ≡ None }
+        requires no_zone { found.old.tz ≡ None }
+        requires no_calendar { found.old.calendar ≡ None }
+        ensures handled { Handled T.number F.step handler reader_parse (map T.letter self.old.rest)
+            (yielded (λ _. parsed_of T.number found.new) result) }
+        ensures comes { IfErr result (λ stop. IsFalse (never_comes (fault_of_stop stop))) }
+        ensures empty { OnOk result (self.new.rest ≡ []) }
+        ensures unchanged { OnErr result (self.new.rest ≡ self.old.rest) }
+        ensures looks { self.new.looks ≤ self.old.looks + most_looks self.old.rest }
+        ensures counted { self.old.looks ≤ self.new.looks }
+    {
         let mut here = self.cursor.take();
-        match parse_text::<T, F>(&mut here, &mut handler, &mut found) {
+        match parse_text::<T, F>(&mut here, &mut handler, found) {
             Ok(()) => {
                 self.cursor = here;
-                Ok(found)
+                Ok(())
             }
             Err(stop) => {
                 self.cursor.count(here);
-                Err(E::of_stop(stop))
+                Err(stop)
             }
         }
+    }
+}
+
+/// A record in which nothing stands.
+#[inline(always)]
+fn empty_record<'a, T: EncodingType>() -> IxdtfParseRecord<'a, T>
+    ensures time { result.time ≡ None }
+    ensures offset { result.offset ≡ None }
+    ensures zone { result.tz ≡ None }
+    ensures calendar { result.calendar ≡ None }
+{
+    IxdtfParseRecord {
+        date: None,
+        time: None,
+        offset: None,
+        tz: None,
+        calendar: None,
     }
 }

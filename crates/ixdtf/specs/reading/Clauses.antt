@@ -7,7 +7,7 @@ use Rattle.ixdtf.specs.declared.parsers.time.Clock.{Clock as CodeClock}
 use Rattle.ixdtf.specs.declared.parsers.time.Clock.TheVariants as code_clocks
 use Rattle.ixdtf.specs.declared.parsers.time.Shape.{Shape as CodeShape}
 use Rattle.ixdtf.specs.declared.parsers.time.Shape.TheVariants as code_shapes
-use Rattle.ixdtf.specs.declared.parsers.time.Clocked.{Clocked}
+use Rattle.ixdtf.specs.declared.records.TimeRecord.{TimeRecord}
 use Rattle.ixdtf.specs.declared.parsers.brackets.Bracket.{Bracket as CodeBracket}
 use Rattle.ixdtf.specs.declared.parsers.brackets.Bracket.TheVariants as brackets
 use Rattle.ixdtf.specs.language.Letters.{Letter, Text, none, digit, closing}
@@ -127,8 +127,9 @@ shape_of code_shapes.ColonMinutes = shapes.colon_minutes
 shape_of code_shapes.Seconds = shapes.seconds
 shape_of code_shapes.Fractions = shapes.fractions
 
-abbrev pub open_time_of : Clocked → OpenTime
-open_time_of clocked = (shape_of clocked.shape, clocked.time)
+-- a time that was written, and how far
+abbrev pub open_time_of : TimeRecord → CodeShape → OpenTime
+open_time_of time shape = (shape_of shape, time)
 
 -- the core that stands in a record
 abbrev pub core_in : {T U : Type 0} → IxdtfParseRecord T U → Core

@@ -14,8 +14,8 @@ use crate::parsers::grammar::{
     is_annotation_open, is_ascii_sign, is_date_time_separator, is_utc_designator,
 };
 use crate::parsers::offsets::offset_from;
-use crate::parsers::time::{Clock, Clocked, parse_clock};
-use crate::records::{DateRecord, IxdtfParseRecord, UtcOffsetRecordOrZ};
+use crate::parsers::time::{Clock, Shape, parse_clock};
+use crate::records::{DateRecord, IxdtfParseRecord, TimeRecord, UtcOffsetRecordOrZ};
 use crate::stop::Stop;
 
 /// Reads a date, and a time and an offset where there are, and returns whether a bracket follows, whose `[` is taken off.
@@ -30,7 +30,7 @@ pub fn parse_core<'a, T: EncodingType>(
     ensures core { Reads T.letter (λ more. (core_in found.new, more)) cursor.old result cursor.new
         (date_time_core_at error_of) }
     ensures kept { KeepsBrackets found.old found.new }
-    ensures looks { Spends 40 cursor.old cursor.new }
+    ensures looks { Spends 37 cursor.old cursor.new }
 {
     let date = parse_date(cursor)?;
     parse_after_date(cursor, date, found)
@@ -49,14 +49,19 @@ fn parse_after_date<'a, T: EncodingType>(
     ensures core { Reads T.letter (λ more. (core_in found.new, more)) cursor.old result cursor.new
         (after_date_at error_of date) }
     ensures kept { KeepsBrackets found.old found.new }
-    ensures looks { Spends 29 cursor.old cursor.new }
+    ensures looks { Spends 21 cursor.old cursor.new }
 {
-    found.date = Some(date);
+    found.date = Some(DateRecord {
+        year: date.year,
+        month: date.month,
+        day: date.day,
+    });
     match cursor.look()? {
         Some(byte) if is_date_time_separator(byte) => {
             cursor.step();
-            let clocked = parse_clock(cursor, Clock::Time)?;
-            parse_after_time(cursor, clocked, found)
+            let mut time = TimeRecord::default();
+            let shape = parse_clock(cursor, Clock::Time, &mut time)?;
+            parse_after_time(cursor, shape, time, found)
         }
         _ => close_core(cursor),
     }
@@ -67,20 +72,23 @@ fn parse_after_date<'a, T: EncodingType>(
 #[tactic(auto, unfolding(crate::specs::reading::Cores::after_time_at, crate::specs::reading::Cores::offset_core_at))]
 fn parse_after_time<'a, T: EncodingType>(
     cursor: &mut Cursor<'a, T>,
-    clocked: Clocked,
+    shape: Shape,
+    time: TimeRecord,
     found: &mut IxdtfParseRecord<'a, T>,
 ) -> Result<bool, Stop>
     requires no_offset { found.old.offset ≡ None }
     ensures core { Reads T.letter (λ more. (core_in found.new, more)) cursor.old result cursor.new
-        (after_time_at error_of found.old.date (open_time_of clocked)) }
+        (after_time_at error_of found.old.date (open_time_of time shape)) }
     ensures kept { KeepsBrackets found.old found.new }
-    ensures looks { Spends 15 cursor.old cursor.new }
+    ensures looks { Spends 11 cursor.old cursor.new }
 {
-    found.time = Some(clocked.time);
+    found.time = Some(time);
     match cursor.look()? {
         Some(byte) if is_ascii_sign(byte) => {
             cursor.step();
-            let offset = offset_from(byte, parse_clock(cursor, Clock::Offset)?);
+            let mut time = TimeRecord::default();
+            let shape = parse_clock(cursor, Clock::Offset, &mut time)?;
+            let offset = offset_from(byte, shape, time);
             found.offset = Some(UtcOffsetRecordOrZ::Offset(offset));
             close_core(cursor)
         }

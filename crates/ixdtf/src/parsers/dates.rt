@@ -1,10 +1,13 @@
 //! Reading dates.
 
-ghost use Rattle.std.specs.Prelude.{◌≡◌, ◌∷◌, [], ◌&&◌, ◌+◌, ◌*◌, ◌-◌, ◌<◌, ◌≤◌, map, nat_le, length, IsTrue, IfOk};
-ghost use Rattle.ixdtf.specs.language.Letters.{digit, sign};
+ghost use Rattle.std.specs.Prelude.{◌≡◌, ◌∷◌, [], ◌&&◌, ◌+◌, ◌*◌, ◌-◌, ◌<◌, ◌≤◌, map, nat_le, length, pos, None, IsTrue, IfOk, IfSome};
+ghost use Rattle.ixdtf.specs.language.Letters.{Text, digit, sign};
+ghost use Rattle.ixdtf.specs.language.Letters.Letter.{Plain};
+ghost use Rattle.ixdtf.specs.language.Digits.{decimal};
 ghost use Rattle.ixdtf.specs.language.Dates.{is_leap, month_length};
 ghost use Rattle.ixdtf.specs.table.Faults.Fault.{DateExtendedYear, InvalidMonthRange, InvalidDayRange};
-ghost use Rattle.ixdtf.specs.reading.Clauses.{Reads, Spends, Checks};
+ghost use Rattle.ixdtf.specs.reading.Clauses.{Reads, Spends, Checks, Yields};
+ghost use Rattle.ixdtf.specs.reading.FixedPlaces.{ranged};
 ghost use Rattle.ixdtf.specs.reading.Looks.{error_of, number_of, digits_by, digit_look};
 ghost use Rattle.ixdtf.specs.reading.Dates.{date_of, year_at, plain_year_at, extended_year_at, date_at, after_year_at, hyphened_date_at, plain_date_at, after_hyphened_month_at, after_plain_month_at};
 
@@ -14,16 +17,71 @@ use crate::parsers::grammar::{digits_value, is_ascii_sign, is_hyphen};
 use crate::records::DateRecord;
 use crate::stop::Stop;
 
-/// Reads a date.
+/// Reads a date: at fixed places where these fit, and else part by part.
 #[inline(always)]
-#[tactic(auto, unfolding(crate::specs::reading::Dates::date_at))]
 pub fn parse_date<'a, T: EncodingType>(cursor: &mut Cursor<'a, T>) -> Result<DateRecord, Stop>
     ensures date { Reads T.letter (λ date. date) cursor.old result cursor.new
         (date_at error_of) }
-    ensures looks { Spends 11 cursor.old cursor.new }
+    ensures looks { Spends 16 cursor.old cursor.new }
+{
+    match fixed_date(cursor) {
+        Some(date) => check_ranges(date),
+        None => parse_any_date(cursor),
+    }
+}
+
+/// Reads a date of any form.
+#[inline(always)]
+#[tactic(auto, unfolding(crate::specs::reading::Dates::date_at))]
+fn parse_any_date<'a, T: EncodingType>(cursor: &mut Cursor<'a, T>) -> Result<DateRecord, Stop>
+    ensures date { Reads T.letter (λ date. date) cursor.old result cursor.new
+        (date_at error_of) }
+    ensures looks { Spends 6 cursor.old cursor.new }
 {
     let year = parse_date_year(cursor)?;
     parse_after_year(cursor, year)
+}
+
+// ==== Fixed places ====
+
+/// The letters of `YYYY-MM-DD`, which are taken off, or `None`, with the rest unchanged, at the first place that does not
+/// fit. Its ranges are not checked.
+#[inline(always)]
+fn fixed_date<'a, T: EncodingType>(cursor: &mut Cursor<'a, T>) -> Option<DateRecord>
+    ensures some { IfSome result (λ date. date_at error_of (map T.letter cursor.old.rest) ≡
+        ranged date (map T.letter cursor.new.rest)) }
+    ensures none { result ≡ None → cursor.new.rest ≡ cursor.old.rest }
+    ensures looks { Spends 10 cursor.old cursor.new }
+{
+    if cursor.rest().len() < 10 {
+        return None;
+    }
+    let thousands = cursor.fixed_digit(0)?;
+    let hundreds = cursor.fixed_digit(1)?;
+    let tens = cursor.fixed_digit(2)?;
+    let ones = cursor.fixed_digit(3)?;
+    cursor.fixed_letter(4, b'-')?;
+    let month_tens = cursor.fixed_digit(5)?;
+    let month_ones = cursor.fixed_digit(6)?;
+    cursor.fixed_letter(7, b'-')?;
+    let day_tens = cursor.fixed_digit(8)?;
+    let day_ones = cursor.fixed_digit(9)?;
+    cursor.skip(10);
+    Some(DateRecord {
+        year: year_of(thousands, hundreds, tens, ones),
+        month: digits_value(month_tens, month_ones),
+        day: digits_value(day_tens, day_ones),
+    })
+}
+
+/// The date, where its month is one and has the day.
+#[inline(always)]
+#[tactic(auto, unfolding(crate::specs::reading::Dates::day_in_range))]
+fn check_ranges(date: DateRecord) -> Result<DateRecord, Stop>
+    ensures { (rest : Text) → Yields (λ date. (date, rest)) result (ranged date rest) }
+{
+    check_month(date.month)?;
+    check_date(date.year, date.month, date.day)
 }
 
 // ==== Years ====
@@ -34,7 +92,7 @@ pub fn parse_date<'a, T: EncodingType>(cursor: &mut Cursor<'a, T>) -> Result<Dat
 fn parse_date_year<'a, T: EncodingType>(cursor: &mut Cursor<'a, T>) -> Result<i32, Stop>
     ensures year { Reads T.letter (λ year. year) cursor.old result cursor.new
         (year_at error_of) }
-    ensures looks { Spends 7 cursor.old cursor.new }
+    ensures looks { Spends 2 cursor.old cursor.new }
 {
     match cursor.look()? {
         None => Err(Stop::AbruptDigit),
@@ -60,17 +118,28 @@ fn parse_plain_year<'a, T: EncodingType>(
     requires digit { IsTrue (digit thousands) }
     ensures year { Reads T.letter (λ year. year) cursor.old result cursor.new
         (plain_year_at error_of thousands) }
-    ensures looks { Spends 3 cursor.old cursor.new }
+    ensures looks { Spends 1 cursor.old cursor.new }
 {
     let hundreds = cursor.next_digit(Stop::DateYear)?;
     let tens = cursor.next_digit(Stop::DateYear)?;
     let ones = cursor.next_digit(Stop::DateYear)?;
-    Ok(
-        1000 * i32::from(thousands - b'0')
-            + 100 * i32::from(hundreds - b'0')
-            + 10 * i32::from(tens - b'0')
-            + i32::from(ones - b'0'),
-    )
+    Ok(year_of(thousands, hundreds, tens, ones))
+}
+
+/// The number of a year's four digits.
+#[inline(always)]
+fn year_of(thousands: u8, hundreds: u8, tens: u8, ones: u8) -> i32
+    requires thousands { IsTrue (digit thousands) }
+    requires hundreds { IsTrue (digit hundreds) }
+    requires tens { IsTrue (digit tens) }
+    requires ones { IsTrue (digit ones) }
+    ensures { result ≡
+        pos (decimal (Plain thousands ∷ Plain hundreds ∷ Plain tens ∷ Plain ones ∷ [])) }
+{
+    1000 * i32::from(thousands - b'0')
+        + 100 * i32::from(hundreds - b'0')
+        + 10 * i32::from(tens - b'0')
+        + i32::from(ones - b'0')
 }
 
 /// Reads the six digits of a year with a sign, by a cursor of its own.
@@ -81,7 +150,7 @@ fn parse_extended_year<'a, T: EncodingType>(
 ) -> Result<i32, Stop>
     ensures year { Reads T.letter (λ year. year) cursor.old result cursor.new
         (extended_year_at error_of sign) }
-    ensures looks { Spends 6 cursor.old cursor.new }
+    ensures looks { Spends 1 cursor.old cursor.new }
 {
     let mut here = cursor.take();
     let read = parse_signed_year(&mut here, sign);
@@ -95,7 +164,7 @@ fn parse_extended_year<'a, T: EncodingType>(
 fn parse_signed_year<'a, T: EncodingType>(cursor: &mut Cursor<'a, T>, sign: u8) -> Result<i32, Stop>
     ensures year { Reads T.letter (λ year. year) cursor.old result cursor.new
         (extended_year_at error_of sign) }
-    ensures looks { Spends 6 cursor.old cursor.new }
+    ensures looks { Spends 1 cursor.old cursor.new }
 {
     let value = parse_six_digits(cursor)?;
     if !is_hyphen(sign) {
@@ -114,7 +183,7 @@ fn parse_six_digits<'a, T: EncodingType>(cursor: &mut Cursor<'a, T>) -> Result<u
     ensures number { Reads T.letter (λ number. number) cursor.old result cursor.new
         (λ text. number_of (digits_by (digit_look DateExtendedYear) 6 text)) }
     ensures small { IfOk result (λ number. number < 1000000) }
-    ensures looks { Spends 6 cursor.old cursor.new }
+    ensures looks { Spends 1 cursor.old cursor.new }
 {
     let first = cursor.next_digit(Stop::DateExtendedYear)?;
     let second = cursor.next_digit(Stop::DateExtendedYear)?;
@@ -195,28 +264,10 @@ fn parse_hyphenated_day<'a, T: EncodingType>(
     check_date(year, month, digits_value(tens, ones))
 }
 
-/// Reads the month's second digit, and the day, by a cursor of its own.
+/// Reads the month's second digit, and the day.
 #[inline(always)]
-fn parse_plain_date<'a, T: EncodingType>(
-    cursor: &mut Cursor<'a, T>,
-    year: i32,
-    tens: u8,
-) -> Result<DateRecord, Stop>
-    requires digit { IsTrue (digit tens) }
-    ensures date { Reads T.letter (λ date. date) cursor.old result cursor.new
-        (plain_date_at error_of year tens) }
-    ensures looks { Spends 3 cursor.old cursor.new }
-{
-    let mut here = cursor.take();
-    let read = parse_plain_month(&mut here, year, tens);
-    *cursor = here;
-    read
-}
-
-/// Reads the month's second digit, and the day. It is not inlined: few texts have no hyphens.
-#[inline(never)]
 #[tactic(auto, unfolding(crate::specs::reading::Dates::plain_date_at, crate::specs::reading::Dates::month_in_range, crate::specs::reading::Looks::digits_by))]
-fn parse_plain_month<'a, T: EncodingType>(
+fn parse_plain_date<'a, T: EncodingType>(
     cursor: &mut Cursor<'a, T>,
     year: i32,
     tens: u8,

@@ -12,7 +12,7 @@ ghost use Rattle.ixdtf.specs.reading.Zones.{offset_at, offset_alone_at};
 use crate::cursor::Cursor;
 use crate::encoding::EncodingType;
 use crate::parsers::grammar::{is_ascii_sign, is_hyphen};
-use crate::parsers::time::{Clock, Clocked, parse_clock};
+use crate::parsers::time::{Clock, Shape, parse_clock};
 use crate::records::{
     FullPrecisionOffset, MinutePrecisionOffset, Sign, TimeRecord, UtcOffsetRecord,
 };
@@ -44,11 +44,9 @@ pub fn minute_offset(sign: u8, time: TimeRecord) -> MinutePrecisionOffset
 
 /// The record of an offset: in full where it has seconds.
 #[inline(always)]
-pub fn offset_from(sign: u8, clocked: Clocked) -> UtcOffsetRecord
-    ensures { result ≡ offset_of sign (writes_seconds (shape_of clocked.shape)) clocked.time }
+pub fn offset_from(sign: u8, shape: Shape, time: TimeRecord) -> UtcOffsetRecord
+    ensures { result ≡ offset_of sign (writes_seconds (shape_of shape)) time }
 {
-    let shape = clocked.shape;
-    let time = clocked.time;
     let second = time.second;
     let fraction = time.fraction;
     let minute_precision_offset = minute_offset(sign, time);
@@ -72,9 +70,10 @@ fn parse_offset_alone<'a, T: EncodingType>(
         (offset_alone_at error_of sign) }
     ensures looks { Spends 14 cursor.old cursor.new }
 {
-    let clocked = parse_clock(cursor, Clock::Offset)?;
+    let mut time = TimeRecord::default();
+    let shape = parse_clock(cursor, Clock::Offset, &mut time)?;
     cursor.close()?;
-    Ok(offset_from(sign, clocked))
+    Ok(offset_from(sign, shape, time))
 }
 
 /// Reads an offset, and wants the end.

@@ -79,27 +79,17 @@ impl Shape {
     }
 }
 
-/// A time that was read, and how far it was written.
-#[derive(Clone, Copy)]
-pub struct Clocked {
-    pub shape: Shape,
-    pub time: TimeRecord,
-}
-
-/// A time of these parts.
+/// Writes a time of these parts, as far as the shape.
 #[inline(always)]
-fn timed(shape: Shape, hour: u8, minute: u8, second: u8, fraction: Option<Fraction>) -> Clocked
-    ensures { open_time_of result ≡ (shape_of shape, time_of hour minute second fraction) }
+fn write_time(time: &mut TimeRecord, hour: u8, minute: u8, second: u8, fraction: Option<Fraction>)
+    ensures { time.new ≡ time_of hour minute second fraction }
 {
-    Clocked {
-        shape,
-        time: TimeRecord {
-            hour,
-            minute,
-            second,
-            fraction,
-        },
-    }
+    *time = TimeRecord {
+        hour,
+        minute,
+        second,
+        fraction,
+    };
 }
 
 /// The number, where it is at most the greatest of its place, else the stop.
@@ -120,15 +110,16 @@ fn check_most(number: u8, greatest: u8, stop: Stop) -> Result<u8, Stop>
 pub fn parse_clock<'a, T: EncodingType>(
     cursor: &mut Cursor<'a, T>,
     clock: Clock,
-) -> Result<Clocked, Stop>
-    ensures time { Reads T.letter open_time_of cursor.old result cursor.new
+    time: &mut TimeRecord,
+) -> Result<Shape, Stop>
+    ensures time { Reads T.letter (open_time_of time.new) cursor.old result cursor.new
         (clock_at error_of (clock_of clock)) }
-    ensures looks { Spends 13 cursor.old cursor.new }
+    ensures looks { Spends 9 cursor.old cursor.new }
 {
     let tens = cursor.next_digit(Stop::TimeHour)?;
     let ones = cursor.next_digit(Stop::TimeHour)?;
     let hour = check_most(digits_value(tens, ones), 23, Stop::TimeHour)?;
-    parse_after_hour(cursor, clock, hour)
+    parse_after_hour(cursor, clock, hour, time)
 }
 
 /// Reads what of a time stands after its hour.
@@ -138,21 +129,25 @@ fn parse_after_hour<'a, T: EncodingType>(
     cursor: &mut Cursor<'a, T>,
     clock: Clock,
     hour: u8,
-) -> Result<Clocked, Stop>
-    ensures time { Reads T.letter open_time_of cursor.old result cursor.new
+    time: &mut TimeRecord,
+) -> Result<Shape, Stop>
+    ensures time { Reads T.letter (open_time_of time.new) cursor.old result cursor.new
         (after_hour_at error_of (clock_of clock) hour) }
-    ensures looks { Spends 11 cursor.old cursor.new }
+    ensures looks { Spends 9 cursor.old cursor.new }
 {
     match cursor.look()? {
         Some(byte) if is_time_separator(byte) => {
             cursor.step();
-            parse_colon_minute(cursor, clock, hour)
+            parse_colon_minute(cursor, clock, hour, time)
         }
         Some(byte) if byte.is_ascii_digit() => {
             cursor.step();
-            parse_plain_minute(cursor, clock, hour, byte)
+            parse_plain_minute(cursor, clock, hour, byte, time)
         }
-        _ => Ok(timed(Shape::Hours, hour, 0, 0, None)),
+        _ => {
+            write_time(time, hour, 0, 0, None);
+            Ok(Shape::Hours)
+        }
     }
 }
 
@@ -163,14 +158,15 @@ fn parse_colon_minute<'a, T: EncodingType>(
     cursor: &mut Cursor<'a, T>,
     clock: Clock,
     hour: u8,
-) -> Result<Clocked, Stop>
-    ensures time { Reads T.letter open_time_of cursor.old result cursor.new
+    time: &mut TimeRecord,
+) -> Result<Shape, Stop>
+    ensures time { Reads T.letter (open_time_of time.new) cursor.old result cursor.new
         (colon_minute_at error_of (clock_of clock) hour) }
-    ensures looks { Spends 10 cursor.old cursor.new }
+    ensures looks { Spends 8 cursor.old cursor.new }
 {
     let (tens, ones) = cursor.two_digits(Stop::TimeMinuteSecond)?;
     let minute = check_most(digits_value(tens, ones), 59, Stop::TimeMinuteSecond)?;
-    parse_after_colon_minute(cursor, clock, hour, minute)
+    parse_after_colon_minute(cursor, clock, hour, minute, time)
 }
 
 /// Reads the minute's second digit, and what of the time stands after it, by a cursor of its own.
@@ -180,15 +176,18 @@ fn parse_plain_minute<'a, T: EncodingType>(
     clock: Clock,
     hour: u8,
     tens: u8,
-) -> Result<Clocked, Stop>
+    time: &mut TimeRecord,
+) -> Result<Shape, Stop>
     requires digit { IsTrue (digit tens) }
-    ensures time { Reads T.letter open_time_of cursor.old result cursor.new
+    ensures time { Reads T.letter (open_time_of time.new) cursor.old result cursor.new
         (plain_minute_at error_of (clock_of clock) hour tens) }
-    ensures looks { Spends 9 cursor.old cursor.new }
+    ensures looks { Spends 8 cursor.old cursor.new }
 {
     let mut here = cursor.take();
-    let read = parse_plain_rest(&mut here, clock, hour, tens);
+    let mut there = *time;
+    let read = parse_plain_rest(&mut here, clock, hour, tens, &mut there);
     *cursor = here;
+    *time = there;
     read
 }
 
@@ -200,15 +199,16 @@ fn parse_plain_rest<'a, T: EncodingType>(
     clock: Clock,
     hour: u8,
     tens: u8,
-) -> Result<Clocked, Stop>
+    time: &mut TimeRecord,
+) -> Result<Shape, Stop>
     requires digit { IsTrue (digit tens) }
-    ensures time { Reads T.letter open_time_of cursor.old result cursor.new
+    ensures time { Reads T.letter (open_time_of time.new) cursor.old result cursor.new
         (plain_minute_at error_of (clock_of clock) hour tens) }
-    ensures looks { Spends 9 cursor.old cursor.new }
+    ensures looks { Spends 8 cursor.old cursor.new }
 {
     let ones = cursor.next_digit(Stop::TimeMinuteSecond)?;
     let minute = check_most(digits_value(tens, ones), 59, Stop::TimeMinuteSecond)?;
-    parse_after_plain_minute(cursor, clock, hour, minute)
+    parse_after_plain_minute(cursor, clock, hour, minute, time)
 }
 
 /// Reads what of a time stands after `Hour : Min`: a digit there is an error, and a colon where no
@@ -220,18 +220,22 @@ fn parse_after_colon_minute<'a, T: EncodingType>(
     clock: Clock,
     hour: u8,
     minute: u8,
-) -> Result<Clocked, Stop>
-    ensures time { Reads T.letter open_time_of cursor.old result cursor.new
+    time: &mut TimeRecord,
+) -> Result<Shape, Stop>
+    ensures time { Reads T.letter (open_time_of time.new) cursor.old result cursor.new
         (after_colon_minute_at error_of (clock_of clock) hour minute) }
     ensures looks { Spends 8 cursor.old cursor.new }
 {
     match cursor.look()? {
         Some(byte) if clock.has_seconds() && is_time_separator(byte) => {
             cursor.step();
-            parse_colon_second(cursor, clock, hour, minute)
+            parse_colon_second(cursor, clock, hour, minute, time)
         }
         Some(byte) if is_time_separator(byte) || byte.is_ascii_digit() => Err(clock.mixed()),
-        _ => Ok(timed(Shape::ColonMinutes, hour, minute, 0, None)),
+        _ => {
+            write_time(time, hour, minute, 0, None);
+            Ok(Shape::ColonMinutes)
+        }
     }
 }
 
@@ -244,18 +248,22 @@ fn parse_after_plain_minute<'a, T: EncodingType>(
     clock: Clock,
     hour: u8,
     minute: u8,
-) -> Result<Clocked, Stop>
-    ensures time { Reads T.letter open_time_of cursor.old result cursor.new
+    time: &mut TimeRecord,
+) -> Result<Shape, Stop>
+    ensures time { Reads T.letter (open_time_of time.new) cursor.old result cursor.new
         (after_plain_minute_at error_of (clock_of clock) hour minute) }
     ensures looks { Spends 8 cursor.old cursor.new }
 {
     match cursor.look()? {
         Some(byte) if clock.has_seconds() && byte.is_ascii_digit() => {
             cursor.step();
-            parse_plain_second(cursor, clock, hour, minute, byte)
+            parse_plain_second(cursor, clock, hour, minute, byte, time)
         }
         Some(byte) if is_time_separator(byte) || byte.is_ascii_digit() => Err(clock.mixed()),
-        _ => Ok(timed(Shape::PlainMinutes, hour, minute, 0, None)),
+        _ => {
+            write_time(time, hour, minute, 0, None);
+            Ok(Shape::PlainMinutes)
+        }
     }
 }
 
@@ -314,14 +322,15 @@ fn parse_colon_second<'a, T: EncodingType>(
     clock: Clock,
     hour: u8,
     minute: u8,
-) -> Result<Clocked, Stop>
-    ensures time { Reads T.letter open_time_of cursor.old result cursor.new
+    time: &mut TimeRecord,
+) -> Result<Shape, Stop>
+    ensures time { Reads T.letter (open_time_of time.new) cursor.old result cursor.new
         (colon_second_at error_of (clock_of clock) hour minute) }
     ensures looks { Spends 7 cursor.old cursor.new }
 {
     let (tens, ones) = second_digits(cursor, clock)?;
     let second = check_second(digits_value(tens, ones), clock)?;
-    parse_after_second(cursor, clock, hour, minute, second)
+    parse_after_second(cursor, clock, hour, minute, second, time)
 }
 
 /// Reads the second's second digit, and a fraction where there is one.
@@ -333,15 +342,16 @@ fn parse_plain_second<'a, T: EncodingType>(
     hour: u8,
     minute: u8,
     tens: u8,
-) -> Result<Clocked, Stop>
+    time: &mut TimeRecord,
+) -> Result<Shape, Stop>
     requires digit { IsTrue (digit tens) }
-    ensures time { Reads T.letter open_time_of cursor.old result cursor.new
+    ensures time { Reads T.letter (open_time_of time.new) cursor.old result cursor.new
         (plain_second_at error_of (clock_of clock) hour minute tens) }
     ensures looks { Spends 6 cursor.old cursor.new }
 {
     let ones = next_second_digit(cursor, clock)?;
     let second = check_second(digits_value(tens, ones), clock)?;
-    parse_after_second(cursor, clock, hour, minute, second)
+    parse_after_second(cursor, clock, hour, minute, second, time)
 }
 
 /// Reads a fraction after a second, where there is one.
@@ -353,8 +363,9 @@ fn parse_after_second<'a, T: EncodingType>(
     hour: u8,
     minute: u8,
     second: u8,
-) -> Result<Clocked, Stop>
-    ensures time { Reads T.letter open_time_of cursor.old result cursor.new
+    time: &mut TimeRecord,
+) -> Result<Shape, Stop>
+    ensures time { Reads T.letter (open_time_of time.new) cursor.old result cursor.new
         (after_second_at error_of (clock_of clock) hour minute second) }
     ensures looks { Spends 5 cursor.old cursor.new }
 {
@@ -362,9 +373,13 @@ fn parse_after_second<'a, T: EncodingType>(
         Some(byte) if is_decimal_separator(byte) => {
             cursor.step();
             let fraction = parse_fraction(cursor, clock)?;
-            Ok(timed(Shape::Fractions, hour, minute, second, Some(fraction)))
+            write_time(time, hour, minute, second, Some(fraction));
+            Ok(Shape::Fractions)
         }
-        _ => Ok(timed(Shape::Seconds, hour, minute, second, None)),
+        _ => {
+            write_time(time, hour, minute, second, None);
+            Ok(Shape::Seconds)
+        }
     }
 }
 

@@ -18,7 +18,7 @@ use crate::parsers::grammar::{
 use crate::parsers::letters::{Letters, take_letters};
 use crate::parsers::offsets::minute_offset;
 use crate::parsers::time::{Clock, parse_clock};
-use crate::records::TimeZoneRecord;
+use crate::records::{TimeRecord, TimeZoneRecord};
 use crate::stop::Stop;
 
 // ==== Names ====
@@ -101,9 +101,10 @@ fn parse_minute_offset_alone<'a, T: EncodingType>(
         (minute_offset_alone_at error_of sign) }
     ensures looks { Spends 14 cursor.old cursor.new }
 {
-    let clocked = parse_clock(cursor, Clock::MinuteOffset)?;
+    let mut time = TimeRecord::default();
+    parse_clock(cursor, Clock::MinuteOffset, &mut time)?;
     cursor.close()?;
-    Ok(TimeZoneRecord::Offset(minute_offset(sign, clocked.time)))
+    Ok(TimeZoneRecord::Offset(minute_offset(sign, time)))
 }
 
 /// Reads a name, or an offset without seconds, and wants the end.
@@ -156,9 +157,10 @@ pub fn parse_offset_in_bracket<'a, T: EncodingType>(
         (offset_in_bracket_at error_of sign) }
     ensures looks { Spends 14 cursor.old cursor.new }
 {
-    let clocked = parse_clock(cursor, Clock::MinuteOffset)?;
+    let mut time = TimeRecord::default();
+    parse_clock(cursor, Clock::MinuteOffset, &mut time)?;
     close_bracket(cursor, Stop::AnnotationClose)?;
-    Ok(TimeZoneRecord::Offset(minute_offset(sign, clocked.time)))
+    Ok(TimeZoneRecord::Offset(minute_offset(sign, time)))
 }
 
 /// Reads a name and its bracket's `]`.

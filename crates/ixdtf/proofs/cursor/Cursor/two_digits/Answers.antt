@@ -32,4 +32,4 @@ returns-in_err-ones-clause-digits g c =
 pub returns-clause-digits : goal.returns-clause-digits
 returns-clause-digits g c =
     let read = long_enough g.T.EncodingType.letter (fault_of_stop c.args.other) c.args.self.now.rest (omega (arith, ap (λ (u : Unread). length u.rest) c.self.view_is, length-map c.self.inside.rest.now g.T.EncodingType.number)) in
-    read ∙ rw (c.in_ok-tens.ensures.digit, ← c.in_ok-tens.ensures.rest, c.in_ok-ones.ensures.digit, c.skip_two.ensures.rest, c.in_ok-ones.ensures.rest) refl
+    read ∙ rw (c.in_ok-tens.ensures.digit, ← c.in_ok-tens.ensures.rest, c.in_ok-ones.ensures.digit, c.skip.ensures.rest, c.in_ok-ones.ensures.rest) refl
