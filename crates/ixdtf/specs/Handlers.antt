@@ -1,5 +1,6 @@
 -- Handlers: what the replies to the pairs of a text make of it.
-use Rattle.std.specs.Prelude.{◌≡◌, ◌≢◌, ◌↔◌, ◌⊎◌, ℕ, Bool, IsTrue, nat_eq, List, [], ◌∷◌, ◌++◌, map, find, filter_map, codes, Option, Some, None, option_map, Result, Ok, Err}
+use Rattle.std.specs.Prelude.{◌≡◌, ◌≢◌, ◌↔◌, ◌⊎◌, ℕ, Bool, IsTrue, nat_eq, List, [], ◌∷◌, ◌++◌}
+use Rattle.std.specs.Prelude.{map, find, filter_map, codes, Option, Some, None, option_map, Result, Ok, Err}
 use Rattle.std.specs.Cmp.Lexicographic.{pointwise}
 use Rattle.std.specs.List.{FoldsTo}
 use Rattle.ixdtf.specs.declared.records.Annotation.{Annotation}

@@ -213,10 +213,7 @@ impl<'a, T: EncodingType> IxdtfParser<'a, T> {
 
     /// Reads as [`parse_with_annotation_handler`](Self::parse_with_annotation_handler) does, with an error that a stop gives.
     #[inline(always)]
-    pub(crate) fn read_as<E: Raised, F>(
-        &mut self,
-        handler: F,
-    ) -> Result<IxdtfParseRecord<'a, T>, E>
+    pub(crate) fn read_as<E: Raised, F>(&mut self, handler: F) -> Result<IxdtfParseRecord<'a, T>, E>
     where
         F: FnMut(Annotation<'a, T>) -> Option<Annotation<'a, T>>,
         // The handler may be called at any time, in any state that it reached, on any annotation.

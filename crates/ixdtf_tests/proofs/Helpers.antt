@@ -22,18 +22,20 @@ use Rattle.ixdtf.specs.table.Rows.{Place}
 use Rattle.ixdtf.specs.table.Rows.Place.{end, other, bad, anywhere}
 use Rattle.ixdtf.specs.table.Outcomes.{Outcome}
 use Rattle.ixdtf.specs.table.Outcomes.Outcome.{derived, refused}
-use Rattle.ixdtf.specs.reading.Looks.{row_of, look_at, next_by, digits_by, peek_by, in_range, digit_run}
-use Rattle.ixdtf.specs.reading.Dates.{date_of, extended_year_at, plain_year_at, year_at, month_in_range, day_in_range, hyphened_day_at, after_hyphened_month_at, hyphened_date_at, plain_day_at, after_plain_month_at, plain_date_at, after_year_at, date_at}
-use Rattle.ixdtf.specs.reading.Times.{time_of, fraction_at, after_second_at, colon_second_at, plain_second_at, after_colon_minute_at, after_plain_minute_at, colon_minute_at, plain_minute_at, after_hour_at, hour_from, clock_at}
-use Rattle.ixdtf.specs.reading.Zones.{name_run, name_alone_at, iana_identifier_at, signed_alone_at, offset_at, identifier_at}
-use Rattle.ixdtf.specs.reading.Pairs.{key_run, value_run, pair_at, critical_pair_at, later_pair_at, next_pair_at, pairs_at}
-use Rattle.ixdtf.specs.reading.Brackets.{sight_at, name_in_bracket_at, name_or_pair_at, offset_in_bracket_at, inside_at, critical_bracket_at, bracket_at}
+use Rattle.ixdtf.specs.reading.Looks.{row_of, look_at}
+use Rattle.ixdtf.specs.reading.Dates.{date_of, date_readings}
+use Rattle.ixdtf.specs.reading.Times.{time_of, time_readings}
+use Rattle.ixdtf.specs.reading.Zones.{name_run, zone_readings}
+use Rattle.ixdtf.specs.reading.Pairs.{key_run, value_run, pairs_at, pair_readings}
+use Rattle.ixdtf.specs.reading.Brackets.{sight_at, name_or_pair_at, bracket_readings}
 use Rattle.ixdtf.specs.reading.Cores.{core_end_at, offset_core_at, after_time_at, time_core_at, after_date_at, date_time_core_at}
 use Rattle.ixdtf.specs.reading.Wholes.{bracketed_at, annotated_at, bracketed_text_at, outcome}
 
 -- unfolding this unfolds every reading
 unfoldable pub all_readings : ℕ
-unfolding look_at next_by digits_by peek_by in_range digit_run extended_year_at plain_year_at year_at month_in_range day_in_range hyphened_day_at after_hyphened_month_at hyphened_date_at plain_day_at after_plain_month_at plain_date_at after_year_at date_at fraction_at after_second_at colon_second_at plain_second_at after_colon_minute_at after_plain_minute_at colon_minute_at plain_minute_at after_hour_at hour_from clock_at name_run name_alone_at iana_identifier_at signed_alone_at offset_at identifier_at sight_at name_in_bracket_at name_or_pair_at key_run value_run pair_at critical_pair_at later_pair_at next_pair_at pairs_at offset_in_bracket_at inside_at critical_bracket_at bracket_at core_end_at offset_core_at after_time_at time_core_at after_date_at date_time_core_at bracketed_at annotated_at bracketed_text_at
+unfolding date_readings time_readings zone_readings pair_readings bracket_readings
+    core_end_at offset_core_at after_time_at time_core_at after_date_at date_time_core_at
+    look_at name_run key_run value_run pairs_at sight_at name_or_pair_at bracketed_at annotated_at bracketed_text_at
 all_readings = 0
 
 -- ---- texts and their outcomes

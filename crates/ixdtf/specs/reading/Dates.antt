@@ -8,10 +8,11 @@ use Rattle.ixdtf.specs.language.Digits.{decimal}
 use Rattle.ixdtf.specs.table.Faults.Fault.{DateExtendedYear, InvalidMonthRange, InvalidDayRange}
 use Rattle.ixdtf.specs.language.Dates.{signed, month_length}
 use Rattle.ixdtf.specs.table.LineNames.{of_date}
-use Rattle.ixdtf.specs.table.LineNames.DateLine.{year_start, year_digits, extended_year_digits, minus_zero_year, after_year, month_digits, month_range, after_hyphened_month, after_plain_month, day_digits, day_range}
+use Rattle.ixdtf.specs.table.LineNames.DateLine.{year_start, year_digits, extended_year_digits, minus_zero_year, after_year, month_digits}
+use Rattle.ixdtf.specs.table.LineNames.DateLine.{month_range, after_hyphened_month, after_plain_month, day_digits, day_range}
 use Rattle.ixdtf.specs.table.Rows.{Row}
 use Rattle.ixdtf.specs.table.Rows.Place.{anywhere}
-use Rattle.ixdtf.specs.reading.Looks.{Read, ◌>>=◌, row_of, letter_at, digits_at}
+use Rattle.ixdtf.specs.reading.Looks.{Read, ◌>>=◌, row_of, letter_at, digits_at, look_readings}
 
 -- after a sign
 unfoldable pub extended_year_at : {E : Type 0} → (Row → E) → ℕ → Text → Read E ℤ
@@ -89,3 +90,9 @@ unfoldable pub date_at : {E : Type 0} → (Row → E) → Text → Read E DateRe
 date_at fault text = do
   year ← year_at fault text
   after_year_at fault year.0 year.1
+
+-- opening this opens the readings of dates
+unfoldable pub date_readings : ℕ
+unfolding look_readings extended_year_at plain_year_at year_at month_in_range day_in_range
+    hyphened_day_at after_hyphened_month_at hyphened_date_at plain_day_at after_plain_month_at plain_date_at after_year_at date_at
+date_readings = 0

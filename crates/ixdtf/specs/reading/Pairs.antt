@@ -8,7 +8,8 @@ use Rattle.ixdtf.specs.language.Letters.{Text}
 use Rattle.ixdtf.specs.language.Letters.Letter.{Plain, Bad}
 use Rattle.ixdtf.specs.language.Letters.{hyphen, equals, closing, exclamation, key_char, value_char}
 use Rattle.ixdtf.specs.table.Faults.{Fault}
-use Rattle.ixdtf.specs.table.Faults.Fault.{NonAsciiCodePoint, AnnotationKeyValueSeparator, AnnotationKeyChar, AnnotationValueChar, AnnotationClose, AnnotationValueCharPostHyphen}
+use Rattle.ixdtf.specs.table.Faults.Fault.{NonAsciiCodePoint, AnnotationKeyValueSeparator, AnnotationKeyChar}
+use Rattle.ixdtf.specs.table.Faults.Fault.{AnnotationValueChar, AnnotationClose, AnnotationValueCharPostHyphen}
 use Rattle.ixdtf.specs.language.Brackets.{Pair}
 use Rattle.ixdtf.specs.table.LineNames.{PairLine}
 use Rattle.ixdtf.specs.table.LineNames.LineName.{of_bracket, of_pair}

@@ -10,11 +10,12 @@ use Rattle.ixdtf.specs.language.Times.{Clock, TimeShape, greatest_second}
 use Rattle.ixdtf.specs.language.Times.TimeShape.{hours, plain_minutes, colon_minutes, seconds, fractions}
 use Rattle.ixdtf.specs.table.LineNames.{LineName}
 use Rattle.ixdtf.specs.table.LineNames.LineName.{of_clock}
-use Rattle.ixdtf.specs.table.LineNames.ClockLine.{hour_start, hour_digit, hour_range, after_hour, minute_digits, minute_range, after_plain_minute, after_colon_minute, second_digits, second_range, after_second, fraction_start, after_fraction}
+use Rattle.ixdtf.specs.table.LineNames.ClockLine.{hour_start, hour_digit, hour_range, after_hour, minute_digits, minute_range, after_plain_minute}
+use Rattle.ixdtf.specs.table.LineNames.ClockLine.{after_colon_minute, second_digits, second_range, after_second, fraction_start, after_fraction}
 use Rattle.ixdtf.specs.table.Lines.{seconds_after, mixed, second_fault}
 use Rattle.ixdtf.specs.table.Rows.{Row}
 use Rattle.ixdtf.specs.table.Rows.Place.{other, bad, anywhere}
-use Rattle.ixdtf.specs.reading.Looks.{Read, ◌>>=◌, row_of, letter_at, digits_at, in_range, on_next, digit_run}
+use Rattle.ixdtf.specs.reading.Looks.{Read, ◌>>=◌, row_of, letter_at, digits_at, in_range, on_next, digit_run, look_readings}
 
 -- a time that may yet go on as its shape does
 abbrev pub OpenTime : Type 0
@@ -107,3 +108,9 @@ unfoldable pub clock_at : {E : Type 0} → (Row → E) → Clock → Text → Re
 clock_at fault clock text = do
   tens ← letter_at fault (of_clock clock hour_start) text
   hour_from fault clock tens.0 tens.1
+
+-- opening this opens the readings of times
+unfoldable pub time_readings : ℕ
+unfolding look_readings fraction_at after_second_at colon_second_at plain_second_at after_colon_minute_at
+    after_plain_minute_at colon_minute_at plain_minute_at after_hour_at hour_from clock_at
+time_readings = 0

@@ -11,7 +11,8 @@ use Rattle.ixdtf.specs.language.Readers.{Reader, CoreKind}
 use Rattle.ixdtf.specs.language.Readers.CoreKind.{date_time}
 use Rattle.ixdtf.specs.language.Readers.Reader.{bracketed, parse_offset, parse_identifier, parse_iana_identifier}
 use Rattle.ixdtf.specs.table.LineNames.{DateLine, CoreLine, OffsetLine, LineName}
-use Rattle.ixdtf.specs.table.LineNames.DateLine.{year_start, year_digits, extended_year_digits, minus_zero_year, after_year, month_digits, month_range, after_hyphened_month, after_plain_month, day_digits, day_range, after_date}
+use Rattle.ixdtf.specs.table.LineNames.DateLine.{year_start, year_digits, extended_year_digits, minus_zero_year, after_year, month_digits}
+use Rattle.ixdtf.specs.table.LineNames.DateLine.{month_range, after_hyphened_month, after_plain_month, day_digits, day_range, after_date}
 use Rattle.ixdtf.specs.table.LineNames.CoreLine.{dates}
 use Rattle.ixdtf.specs.table.LineNames.OffsetLine.{offset_start, after_zulu}
 use Rattle.ixdtf.specs.table.LineNames.ZoneLine.{identifier_start, zone_name_start, in_zone_name, after_zone_slash}

@@ -9,7 +9,14 @@ use Rattle.std.specs.Cmp.Lexicographic.{on_texts_equal}
 use Rattle.std.proofs.lemmas.Slice.Eq.{bytes_eq-Decides}
 use Rattle.ixdtf.specs.declared.error.ParseError.{ParseError}
 use Rattle.ixdtf.specs.table.Faults.{Fault, fault_of}
-use Rattle.ixdtf.specs.table.Faults.Fault.{ImplAssert, NonAsciiCodePoint, ParseFloat, AbruptEnd, InvalidEnd, InvalidMonthRange, InvalidDayRange, DateYear, DateExtendedYear, DateMonth, DateDay, DateUnexpectedEnd, TimeRequired, TimeHour, TimeMinuteSecond, TimeSecond, FractionPart, DateSeparator, TimeSeparator, DecimalSeparator, InvalidAnnotation, AnnotationOpen, AnnotationClose, AnnotationChar, AnnotationKeyValueSeparator, AnnotationKeyLeadingChar, AnnotationKeyChar, AnnotationValueCharPostHyphen, AnnotationValueChar, InvalidMinutePrecisionOffset, CriticalDuplicateCalendar, UnrecognizedCritical, TzLeadingChar, IanaCharPostSeparator, IanaChar, UtcTimeSeparator, OffsetNeedsSign, MonthDayHyphen, DurationDisgnator, DurationValueExceededRange, DateDurationPartOrder, TimeDurationPartOrder, TimeDurationDesignator, AmbiguousTimeMonthDay, AmbiguousTimeYearMonth, InvalidMonthDay}
+use Rattle.ixdtf.specs.table.Faults.Fault.{ImplAssert, NonAsciiCodePoint, ParseFloat, AbruptEnd, InvalidEnd, InvalidMonthRange, InvalidDayRange, DateYear}
+use Rattle.ixdtf.specs.table.Faults.Fault.{DateExtendedYear, DateMonth, DateDay, DateUnexpectedEnd, TimeRequired, TimeHour, TimeMinuteSecond, TimeSecond}
+use Rattle.ixdtf.specs.table.Faults.Fault.{FractionPart, DateSeparator, TimeSeparator, DecimalSeparator, InvalidAnnotation, AnnotationOpen, AnnotationClose}
+use Rattle.ixdtf.specs.table.Faults.Fault.{AnnotationChar, AnnotationKeyValueSeparator, AnnotationKeyLeadingChar, AnnotationKeyChar}
+use Rattle.ixdtf.specs.table.Faults.Fault.{AnnotationValueCharPostHyphen, AnnotationValueChar, InvalidMinutePrecisionOffset, CriticalDuplicateCalendar}
+use Rattle.ixdtf.specs.table.Faults.Fault.{UnrecognizedCritical, TzLeadingChar, IanaCharPostSeparator, IanaChar, UtcTimeSeparator, OffsetNeedsSign}
+use Rattle.ixdtf.specs.table.Faults.Fault.{MonthDayHyphen, DurationDisgnator, DurationValueExceededRange, DateDurationPartOrder, TimeDurationPartOrder}
+use Rattle.ixdtf.specs.table.Faults.Fault.{TimeDurationDesignator, AmbiguousTimeMonthDay, AmbiguousTimeYearMonth, InvalidMonthDay}
 
 -- the place of a fault in the list of faults
 abbrev pub place_of : Fault → ℕ

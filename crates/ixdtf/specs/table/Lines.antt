@@ -1,11 +1,16 @@
 -- The fault table, line by line.
 use Rattle.std.specs.Prelude.{◌≡◌, ◌⊎◌, IsTrue, ℕ, ◌<◌, ◌&&◌, ◌||◌, Bool, codes, if◌then◌else◌}
 use Rattle.ixdtf.specs.declared.records.DateRecord.{DateRecord}
-use Rattle.ixdtf.specs.language.Letters.{Text, Class, ◌or◌, none, digit, sign, hyphen, colon, decimal_mark, date_time_separator, zulu, opening, closing, exclamation, equals, slash, zone_lead, zone_char, key_lead, key_char, value_char}
+use Rattle.ixdtf.specs.language.Letters.{Text, Class, ◌or◌, none, digit, sign, hyphen, colon, decimal_mark, date_time_separator, zulu, opening, closing}
+use Rattle.ixdtf.specs.language.Letters.{exclamation, equals, slash, zone_lead, zone_char, key_lead, key_char, value_char}
 use Rattle.ixdtf.specs.language.Shapes.{Shape, nothing, one, ◌then◌, ◌either◌, digits, fewer_digits_than, some, many}
 use Rattle.ixdtf.specs.language.Digits.{decimal, UpTo}
 use Rattle.ixdtf.specs.table.Faults.{Fault}
-use Rattle.ixdtf.specs.table.Faults.Fault.{AbruptEnd, InvalidEnd, InvalidMonthRange, InvalidDayRange, DateYear, DateExtendedYear, DateMonth, DateDay, DateSeparator, TimeHour, TimeMinuteSecond, TimeSecond, TimeSeparator, FractionPart, UtcTimeSeparator, InvalidMinutePrecisionOffset, OffsetNeedsSign, TzLeadingChar, IanaChar, IanaCharPostSeparator, AnnotationClose, AnnotationKeyLeadingChar, AnnotationKeyChar, AnnotationKeyValueSeparator, AnnotationValueChar, AnnotationValueCharPostHyphen}
+use Rattle.ixdtf.specs.table.Faults.Fault.{AbruptEnd, InvalidEnd, InvalidMonthRange, InvalidDayRange, DateYear, DateExtendedYear, DateMonth, DateDay}
+use Rattle.ixdtf.specs.table.Faults.Fault.{DateSeparator, TimeHour, TimeMinuteSecond, TimeSecond, TimeSeparator, FractionPart, UtcTimeSeparator}
+use Rattle.ixdtf.specs.table.Faults.Fault.{InvalidMinutePrecisionOffset, OffsetNeedsSign, TzLeadingChar, IanaChar, IanaCharPostSeparator, AnnotationClose}
+use Rattle.ixdtf.specs.table.Faults.Fault.{AnnotationKeyLeadingChar, AnnotationKeyChar, AnnotationKeyValueSeparator, AnnotationValueChar}
+use Rattle.ixdtf.specs.table.Faults.Fault.{AnnotationValueCharPostHyphen}
 use Rattle.ixdtf.specs.language.Dates.{Year, Month, DateShape, IsDayOfMonth, IsDate}
 use Rattle.ixdtf.specs.language.Times.{Clock, ClockOf, PlainMinuteText, ColonMinuteText, greatest_second, has_seconds}
 use Rattle.ixdtf.specs.language.Times.Clock.{Time, Offset, MinuteOffset}
@@ -14,9 +19,11 @@ use Rattle.ixdtf.specs.language.ZoneNames.{ZoneName}
 use Rattle.ixdtf.specs.language.Brackets.{passed, Key, Value}
 use Rattle.ixdtf.specs.language.Readers.{Reader, has_brackets}
 use Rattle.ixdtf.specs.table.LineNames.{DateLine, CoreLine, ClockLine, OffsetLine, ZoneLine, BracketLine, PairLine, LineName}
-use Rattle.ixdtf.specs.table.LineNames.DateLine.{year_start, year_digits, extended_year_digits, minus_zero_year, after_year, month_digits, month_range, after_hyphened_month, after_plain_month, day_digits, day_range, after_date}
+use Rattle.ixdtf.specs.table.LineNames.DateLine.{year_start, year_digits, extended_year_digits, minus_zero_year, after_year, month_digits, month_range}
+use Rattle.ixdtf.specs.table.LineNames.DateLine.{after_hyphened_month, after_plain_month, day_digits, day_range, after_date}
 use Rattle.ixdtf.specs.table.LineNames.CoreLine.{dates}
-use Rattle.ixdtf.specs.table.LineNames.ClockLine.{hour_start, hour_digit, hour_range, after_hour, minute_digits, minute_range, after_plain_minute, after_colon_minute, second_digits, second_range, after_second, fraction_start, after_fraction}
+use Rattle.ixdtf.specs.table.LineNames.ClockLine.{hour_start, hour_digit, hour_range, after_hour, minute_digits, minute_range, after_plain_minute}
+use Rattle.ixdtf.specs.table.LineNames.ClockLine.{after_colon_minute, second_digits, second_range, after_second, fraction_start, after_fraction}
 use Rattle.ixdtf.specs.table.LineNames.OffsetLine.{offset_start, after_zulu}
 use Rattle.ixdtf.specs.table.LineNames.ZoneLine.{identifier_start, zone_name_start, in_zone_name, after_zone_slash}
 use Rattle.ixdtf.specs.table.LineNames.BracketLine.{first_bracket_start, first_critical_start, first_bracket_scan, after_bracket}

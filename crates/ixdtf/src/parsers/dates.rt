@@ -1,5 +1,7 @@
 //! Reading dates.
 
+#![tactic(auto, unfolding(crate::specs::reading::Dates::date_readings))]
+
 ghost use Rattle.std.specs.Prelude.{◌≡◌, ◌∷◌, [], ◌&&◌, ◌+◌, ◌*◌, ◌-◌, ◌<◌, ◌≤◌, map, nat_le, length, pos, None, IsTrue, IfOk, IfSome};
 ghost use Rattle.ixdtf.specs.language.Letters.{Text, digit, sign};
 ghost use Rattle.ixdtf.specs.language.Letters.Letter.{Plain};
@@ -32,7 +34,6 @@ pub fn parse_date<'a, T: EncodingType>(cursor: &mut Cursor<'a, T>) -> Result<Dat
 
 /// Reads a date of any form.
 #[inline(always)]
-#[tactic(auto, unfolding(crate::specs::reading::Dates::date_at))]
 fn parse_any_date<'a, T: EncodingType>(cursor: &mut Cursor<'a, T>) -> Result<DateRecord, Stop>
     ensures date { Reads T.letter (λ date. date) cursor.old result cursor.new
         (date_at error_of) }
@@ -76,7 +77,6 @@ fn fixed_date<'a, T: EncodingType>(cursor: &mut Cursor<'a, T>) -> Option<DateRec
 
 /// The date, where its month is one and has the day.
 #[inline(always)]
-#[tactic(auto, unfolding(crate::specs::reading::Dates::day_in_range))]
 fn check_ranges(date: DateRecord) -> Result<DateRecord, Stop>
     ensures { (rest : Text) → Yields (λ date. (date, rest)) result (ranged date rest) }
 {
@@ -88,7 +88,7 @@ fn check_ranges(date: DateRecord) -> Result<DateRecord, Stop>
 
 /// Reads a year: four digits, or a sign and six digits.
 #[inline(always)]
-#[tactic(auto, using(crate::proofs::code::DigitClasses::digit_no_sign), unfolding(crate::specs::reading::Dates::year_at, crate::specs::reading::Looks::next_by))]
+#[tactic(auto, using(crate::proofs::code::DigitClasses::digit_no_sign), unfolding(crate::specs::reading::Dates::date_readings))]
 fn parse_date_year<'a, T: EncodingType>(cursor: &mut Cursor<'a, T>) -> Result<i32, Stop>
     ensures year { Reads T.letter (λ year. year) cursor.old result cursor.new
         (year_at error_of) }
@@ -110,7 +110,6 @@ fn parse_date_year<'a, T: EncodingType>(cursor: &mut Cursor<'a, T>) -> Result<i3
 
 /// Reads the other three digits of a year of four.
 #[inline(always)]
-#[tactic(auto, unfolding(crate::specs::reading::Dates::plain_year_at, crate::specs::reading::Looks::digits_by))]
 fn parse_plain_year<'a, T: EncodingType>(
     cursor: &mut Cursor<'a, T>,
     thousands: u8,
@@ -160,7 +159,6 @@ fn parse_extended_year<'a, T: EncodingType>(
 
 /// Reads the six digits of a year with a sign. It is not inlined: few texts have one.
 #[inline(never)]
-#[tactic(auto, unfolding(crate::specs::reading::Dates::extended_year_at))]
 fn parse_signed_year<'a, T: EncodingType>(cursor: &mut Cursor<'a, T>, sign: u8) -> Result<i32, Stop>
     ensures year { Reads T.letter (λ year. year) cursor.old result cursor.new
         (extended_year_at error_of sign) }
@@ -178,7 +176,6 @@ fn parse_signed_year<'a, T: EncodingType>(cursor: &mut Cursor<'a, T>, sign: u8) 
 
 /// Reads six digits, and returns their number.
 #[inline(always)]
-#[tactic(auto, unfolding(crate::specs::reading::Looks::digits_by))]
 fn parse_six_digits<'a, T: EncodingType>(cursor: &mut Cursor<'a, T>) -> Result<u32, Stop>
     ensures number { Reads T.letter (λ number. number) cursor.old result cursor.new
         (λ text. number_of (digits_by (digit_look DateExtendedYear) 6 text)) }
@@ -205,7 +202,6 @@ fn parse_six_digits<'a, T: EncodingType>(cursor: &mut Cursor<'a, T>) -> Result<u
 
 /// Reads the month and the day after a year: with hyphens where the first one stands, else without.
 #[inline(always)]
-#[tactic(auto, unfolding(crate::specs::reading::Dates::after_year_at, crate::specs::reading::Looks::next_by))]
 fn parse_after_year<'a, T: EncodingType>(
     cursor: &mut Cursor<'a, T>,
     year: i32,
@@ -230,7 +226,6 @@ fn parse_after_year<'a, T: EncodingType>(
 
 /// Reads the month after a hyphen, and the day.
 #[inline(always)]
-#[tactic(auto, unfolding(crate::specs::reading::Dates::hyphened_date_at, crate::specs::reading::Dates::month_in_range, crate::specs::reading::Looks::digits_by))]
 fn parse_hyphenated_date<'a, T: EncodingType>(
     cursor: &mut Cursor<'a, T>,
     year: i32,
@@ -246,7 +241,6 @@ fn parse_hyphenated_date<'a, T: EncodingType>(
 
 /// Reads the second hyphen, and the day after it.
 #[inline(always)]
-#[tactic(auto, unfolding(crate::specs::reading::Dates::after_hyphened_month_at, crate::specs::reading::Dates::hyphened_day_at, crate::specs::reading::Dates::day_in_range, crate::specs::reading::Looks::next_by, crate::specs::reading::Looks::digits_by))]
 fn parse_hyphenated_day<'a, T: EncodingType>(
     cursor: &mut Cursor<'a, T>,
     year: i32,
@@ -266,7 +260,6 @@ fn parse_hyphenated_day<'a, T: EncodingType>(
 
 /// Reads the month's second digit, and the day.
 #[inline(always)]
-#[tactic(auto, unfolding(crate::specs::reading::Dates::plain_date_at, crate::specs::reading::Dates::month_in_range, crate::specs::reading::Looks::digits_by))]
 fn parse_plain_date<'a, T: EncodingType>(
     cursor: &mut Cursor<'a, T>,
     year: i32,
@@ -284,7 +277,6 @@ fn parse_plain_date<'a, T: EncodingType>(
 
 /// Reads the day right after a month: a hyphen there is `DateSeparator`.
 #[inline(always)]
-#[tactic(auto, unfolding(crate::specs::reading::Dates::after_plain_month_at, crate::specs::reading::Dates::plain_day_at, crate::specs::reading::Dates::day_in_range, crate::specs::reading::Looks::next_by, crate::specs::reading::Looks::digits_by))]
 fn parse_plain_day<'a, T: EncodingType>(
     cursor: &mut Cursor<'a, T>,
     year: i32,

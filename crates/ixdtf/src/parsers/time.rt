@@ -1,5 +1,7 @@
 //! Reading times of day, and offsets after their sign, which are written as times are.
 
+#![tactic(auto, unfolding(crate::specs::reading::Times::time_readings))]
+
 ghost use Rattle.std.specs.Prelude.{◌≡◌, ◌+◌, ◌≤◌, ◌∷◌, [], map, nat_le, length, IsTrue, IfOk};
 ghost use Rattle.ixdtf.specs.language.Letters.{digit};
 ghost use Rattle.ixdtf.specs.language.Letters.Letter.{Plain};
@@ -106,7 +108,6 @@ fn check_most(number: u8, greatest: u8, stop: Stop) -> Result<u8, Stop>
 
 /// Reads a time, as far as it goes.
 #[inline(always)]
-#[tactic(auto, unfolding(crate::specs::reading::Times::clock_at, crate::specs::reading::Times::hour_from, crate::specs::reading::Looks::in_range, crate::specs::reading::Looks::digits_by))]
 pub fn parse_clock<'a, T: EncodingType>(
     cursor: &mut Cursor<'a, T>,
     clock: Clock,
@@ -124,7 +125,6 @@ pub fn parse_clock<'a, T: EncodingType>(
 
 /// Reads what of a time stands after its hour.
 #[inline(always)]
-#[tactic(auto, unfolding(crate::specs::reading::Times::after_hour_at))]
 fn parse_after_hour<'a, T: EncodingType>(
     cursor: &mut Cursor<'a, T>,
     clock: Clock,
@@ -153,7 +153,6 @@ fn parse_after_hour<'a, T: EncodingType>(
 
 /// Reads the minute after a colon, and what of the time stands after it.
 #[inline(always)]
-#[tactic(auto, unfolding(crate::specs::reading::Times::colon_minute_at, crate::specs::reading::Looks::in_range))]
 fn parse_colon_minute<'a, T: EncodingType>(
     cursor: &mut Cursor<'a, T>,
     clock: Clock,
@@ -193,7 +192,6 @@ fn parse_plain_minute<'a, T: EncodingType>(
 
 /// Reads the minute's second digit, and what of the time stands after it. It is not inlined: few texts have no colons.
 #[inline(never)]
-#[tactic(auto, unfolding(crate::specs::reading::Times::plain_minute_at, crate::specs::reading::Looks::in_range, crate::specs::reading::Looks::digits_by))]
 fn parse_plain_rest<'a, T: EncodingType>(
     cursor: &mut Cursor<'a, T>,
     clock: Clock,
@@ -214,7 +212,6 @@ fn parse_plain_rest<'a, T: EncodingType>(
 /// Reads what of a time stands after `Hour : Min`: a digit there is an error, and a colon where no
 /// seconds may be.
 #[inline(always)]
-#[tactic(auto, unfolding(crate::specs::reading::Times::after_colon_minute_at))]
 fn parse_after_colon_minute<'a, T: EncodingType>(
     cursor: &mut Cursor<'a, T>,
     clock: Clock,
@@ -242,7 +239,6 @@ fn parse_after_colon_minute<'a, T: EncodingType>(
 /// Reads what of a time stands after `Hour Min`: a colon there is an error, and a digit where no
 /// seconds may be.
 #[inline(always)]
-#[tactic(auto, unfolding(crate::specs::reading::Times::after_plain_minute_at))]
 fn parse_after_plain_minute<'a, T: EncodingType>(
     cursor: &mut Cursor<'a, T>,
     clock: Clock,
@@ -316,7 +312,6 @@ fn check_second(second: u8, clock: Clock) -> Result<u8, Stop>
 
 /// Reads the second after a colon, and a fraction where there is one.
 #[inline(always)]
-#[tactic(auto, unfolding(crate::specs::reading::Times::colon_second_at, crate::specs::reading::Looks::in_range))]
 fn parse_colon_second<'a, T: EncodingType>(
     cursor: &mut Cursor<'a, T>,
     clock: Clock,
@@ -335,7 +330,6 @@ fn parse_colon_second<'a, T: EncodingType>(
 
 /// Reads the second's second digit, and a fraction where there is one.
 #[inline(always)]
-#[tactic(auto, unfolding(crate::specs::reading::Times::plain_second_at, crate::specs::reading::Looks::in_range, crate::specs::reading::Looks::digits_by))]
 fn parse_plain_second<'a, T: EncodingType>(
     cursor: &mut Cursor<'a, T>,
     clock: Clock,
@@ -356,7 +350,6 @@ fn parse_plain_second<'a, T: EncodingType>(
 
 /// Reads a fraction after a second, where there is one.
 #[inline(always)]
-#[tactic(auto, unfolding(crate::specs::reading::Times::after_second_at))]
 fn parse_after_second<'a, T: EncodingType>(
     cursor: &mut Cursor<'a, T>,
     clock: Clock,
@@ -401,7 +394,6 @@ fn parse_fraction<'a, T: EncodingType>(
 
 /// Reads the digits of a fraction. It is not inlined: few texts have one.
 #[inline(never)]
-#[tactic(auto, unfolding(crate::specs::reading::Times::fraction_at, crate::specs::reading::Looks::next_by))]
 fn parse_digits<'a, T: EncodingType>(
     cursor: &mut Cursor<'a, T>,
     clock: Clock,
