@@ -4,6 +4,7 @@ pub mod DigitClasses
 pub mod EqualUnits
 pub mod FirstPass
 pub mod FixedDate
+pub mod FixedTime
 pub mod FractionLoop
 pub mod GrowingDigits
 pub mod HandsOn

@@ -1,4 +1,4 @@
--- Ten units at fixed places.
+-- A date at fixed places.
 use Rattle.std.proofs.Common.{◌≡◌, ℕ, zero, suc, Bool, true, false, IsTrue, List, [], ◌∷◌, map, drop, Some, Ok, Err, refl, ap, ◌∙◌, nat_le, ◌&&◌, if◌then◌else◌, pos}
 use Rattle.ixdtf.specs.language.Letters.{Letter, Text}
 use Rattle.ixdtf.specs.language.Letters.Letter.{Plain, Bad}
@@ -22,7 +22,8 @@ at_next letter (u ∷ more) zero c e = go (letter u) refl e
     go (Plain n) is e = let same : n ≡ c = cc in ap (λ (l : Letter). l ∷ map letter more) (is ∙ ap (λ (m : ℕ). Plain m) same)
     go Bad is e = absurd cc
 
-on_test : {A B : Type 0} (t : Bool) (x : A × Text) (f : Fault) (k : A × Text → Read Fault B) → ((if t then Ok x else Err f) >>= k) ≡ (if t then k x else Err f)
+-- a test between a reading and what goes on from it
+pub on_test : {A B : Type 0} (t : Bool) (x : A × Text) (f : Fault) (k : A × Text → Read Fault B) → ((if t then Ok x else Err f) >>= k) ≡ (if t then k x else Err f)
 on_test true x f k = refl
 on_test false x f k = refl
 

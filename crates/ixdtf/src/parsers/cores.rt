@@ -14,7 +14,7 @@ use crate::parsers::grammar::{
     is_annotation_open, is_ascii_sign, is_date_time_separator, is_utc_designator,
 };
 use crate::parsers::offsets::offset_from;
-use crate::parsers::time::{Clock, Shape, parse_clock};
+use crate::parsers::time::{Clock, Shape, parse_clock, parse_time};
 use crate::records::{DateRecord, IxdtfParseRecord, TimeRecord, UtcOffsetRecordOrZ};
 use crate::stop::Stop;
 
@@ -60,7 +60,7 @@ fn parse_after_date<'a, T: EncodingType>(
         Some(byte) if is_date_time_separator(byte) => {
             cursor.step();
             let mut time = TimeRecord::default();
-            let shape = parse_clock(cursor, Clock::Time, &mut time)?;
+            let shape = parse_time(cursor, &mut time)?;
             parse_after_time(cursor, shape, time, found)
         }
         _ => close_core(cursor),
@@ -80,7 +80,7 @@ fn parse_after_time<'a, T: EncodingType>(
     ensures core { Reads T.letter (λ more. (core_in found.new, more)) cursor.old result cursor.new
         (after_time_at error_of found.old.date (open_time_of time shape)) }
     ensures kept { KeepsBrackets found.old found.new }
-    ensures looks { Spends 11 cursor.old cursor.new }
+    ensures looks { Spends 7 cursor.old cursor.new }
 {
     found.time = Some(time);
     match cursor.look()? {

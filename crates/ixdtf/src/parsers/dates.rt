@@ -45,8 +45,8 @@ fn parse_any_date<'a, T: EncodingType>(cursor: &mut Cursor<'a, T>) -> Result<Dat
 
 // ==== Fixed places ====
 
-/// The letters of `YYYY-MM-DD`, which are taken off, or `None`, with the rest unchanged, at the first place that does not
-/// fit. Its ranges are not checked.
+/// The date of `YYYY-MM-DD`, whose letters are taken off, or `None`, with the rest unchanged, at the first place that does
+/// not fit. Its ranges are not checked.
 #[inline(always)]
 fn fixed_date<'a, T: EncodingType>(cursor: &mut Cursor<'a, T>) -> Option<DateRecord>
     ensures some { IfSome result (λ date. date_at error_of (map T.letter cursor.old.rest) ≡

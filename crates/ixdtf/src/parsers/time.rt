@@ -2,13 +2,14 @@
 
 #![tactic(auto, unfolding(crate::specs::reading::Times::time_readings))]
 
-ghost use Rattle.std.specs.Prelude.{◌≡◌, ◌+◌, ◌≤◌, ◌∷◌, [], map, nat_le, length, IsTrue, IfOk};
+ghost use Rattle.std.specs.Prelude.{◌≡◌, ◌+◌, ◌≤◌, ◌∷◌, [], map, nat_le, length, None, IsTrue, IfOk, IfSome, OnOk};
 ghost use Rattle.ixdtf.specs.language.Letters.{digit};
 ghost use Rattle.ixdtf.specs.language.Letters.Letter.{Plain};
-ghost use Rattle.ixdtf.specs.language.Times.{greatest_second, has_seconds, writes_seconds};
+ghost use Rattle.ixdtf.specs.language.Times.{Clock as clocks, greatest_second, has_seconds, writes_seconds};
 ghost use Rattle.ixdtf.specs.table.Lines.{mixed, second_fault};
 ghost use Rattle.ixdtf.specs.reading.Clauses.{Reads, Spends, Checks, more_digits_at, fault_of_stop, clock_of, shape_of, open_time_of};
 ghost use Rattle.ixdtf.specs.reading.Looks.{error_of, next_by, digit_look, digits_by};
+ghost use Rattle.ixdtf.specs.reading.FixedPlaces.{ranged_time};
 ghost use Rattle.ixdtf.specs.reading.Times.{time_of, clock_at, after_hour_at, colon_minute_at, plain_minute_at, after_colon_minute_at, after_plain_minute_at, colon_second_at, plain_second_at, after_second_at, fraction_at};
 
 use crate::cursor::Cursor;
@@ -106,6 +107,76 @@ fn check_most(number: u8, greatest: u8, stop: Stop) -> Result<u8, Stop>
     Ok(number)
 }
 
+/// The hour, the minute and the second of a time at fixed places.
+#[derive(Clone, Copy)]
+struct FixedTime {
+    hour: u8,
+    minute: u8,
+    second: u8,
+}
+
+/// Reads a time of day: at fixed places where these fit, and else part by part.
+#[inline(always)]
+pub fn parse_time<'a, T: EncodingType>(
+    cursor: &mut Cursor<'a, T>,
+    time: &mut TimeRecord,
+) -> Result<Shape, Stop>
+    ensures time { Reads T.letter (open_time_of time.new) cursor.old result cursor.new
+        (clock_at error_of clocks.Time) }
+    ensures looks { Spends 13 cursor.old cursor.new }
+{
+    match fixed_time(cursor) {
+        Some(fixed) => parse_after_fixed_time(cursor, fixed, time),
+        None => parse_clock(cursor, Clock::Time, time),
+    }
+}
+
+/// The numbers of `HH:MM:SS`, whose letters are taken off, or `None`, with the rest unchanged, at the first place that does
+/// not fit. Their ranges are not checked.
+#[inline(always)]
+fn fixed_time<'a, T: EncodingType>(cursor: &mut Cursor<'a, T>) -> Option<FixedTime>
+    ensures some { IfSome result (λ fixed.
+        clock_at error_of clocks.Time (map T.letter cursor.old.rest) ≡
+        ranged_time fixed.hour fixed.minute fixed.second (map T.letter cursor.new.rest)) }
+    ensures none { result ≡ None → cursor.new.rest ≡ cursor.old.rest }
+    ensures looks { Spends 8 cursor.old cursor.new }
+{
+    if cursor.rest().len() < 8 {
+        return None;
+    }
+    let hour_tens = cursor.fixed_digit(0)?;
+    let hour_ones = cursor.fixed_digit(1)?;
+    cursor.fixed_letter(2, b':')?;
+    let minute_tens = cursor.fixed_digit(3)?;
+    let minute_ones = cursor.fixed_digit(4)?;
+    cursor.fixed_letter(5, b':')?;
+    let second_tens = cursor.fixed_digit(6)?;
+    let second_ones = cursor.fixed_digit(7)?;
+    cursor.skip(8);
+    Some(FixedTime {
+        hour: digits_value(hour_tens, hour_ones),
+        minute: digits_value(minute_tens, minute_ones),
+        second: digits_value(second_tens, second_ones),
+    })
+}
+
+/// Checks the ranges of a time at fixed places, and reads a fraction after it, where there is one.
+#[inline(always)]
+fn parse_after_fixed_time<'a, T: EncodingType>(
+    cursor: &mut Cursor<'a, T>,
+    fixed: FixedTime,
+    time: &mut TimeRecord,
+) -> Result<Shape, Stop>
+    ensures time { Reads T.letter (open_time_of time.new) cursor.old result cursor.new
+        (ranged_time fixed.hour fixed.minute fixed.second) }
+    ensures looks { Spends 3 cursor.old cursor.new }
+{
+    let hour = check_most(fixed.hour, 23, Stop::TimeHour)?;
+    let minute = check_most(fixed.minute, 59, Stop::TimeMinuteSecond)?;
+    let second = check_most(fixed.second, 60, Stop::TimeSecond)?;
+    parse_after_second(cursor, Clock::Time, hour, minute, second, time)
+}
+
 /// Reads a time, as far as it goes.
 #[inline(always)]
 pub fn parse_clock<'a, T: EncodingType>(
@@ -115,7 +186,7 @@ pub fn parse_clock<'a, T: EncodingType>(
 ) -> Result<Shape, Stop>
     ensures time { Reads T.letter (open_time_of time.new) cursor.old result cursor.new
         (clock_at error_of (clock_of clock)) }
-    ensures looks { Spends 9 cursor.old cursor.new }
+    ensures looks { Spends 5 cursor.old cursor.new }
 {
     let tens = cursor.next_digit(Stop::TimeHour)?;
     let ones = cursor.next_digit(Stop::TimeHour)?;
@@ -133,7 +204,7 @@ fn parse_after_hour<'a, T: EncodingType>(
 ) -> Result<Shape, Stop>
     ensures time { Reads T.letter (open_time_of time.new) cursor.old result cursor.new
         (after_hour_at error_of (clock_of clock) hour) }
-    ensures looks { Spends 9 cursor.old cursor.new }
+    ensures looks { Spends 5 cursor.old cursor.new }
 {
     match cursor.look()? {
         Some(byte) if is_time_separator(byte) => {
@@ -161,7 +232,7 @@ fn parse_colon_minute<'a, T: EncodingType>(
 ) -> Result<Shape, Stop>
     ensures time { Reads T.letter (open_time_of time.new) cursor.old result cursor.new
         (colon_minute_at error_of (clock_of clock) hour) }
-    ensures looks { Spends 8 cursor.old cursor.new }
+    ensures looks { Spends 4 cursor.old cursor.new }
 {
     let (tens, ones) = cursor.two_digits(Stop::TimeMinuteSecond)?;
     let minute = check_most(digits_value(tens, ones), 59, Stop::TimeMinuteSecond)?;
@@ -180,7 +251,7 @@ fn parse_plain_minute<'a, T: EncodingType>(
     requires digit { IsTrue (digit tens) }
     ensures time { Reads T.letter (open_time_of time.new) cursor.old result cursor.new
         (plain_minute_at error_of (clock_of clock) hour tens) }
-    ensures looks { Spends 8 cursor.old cursor.new }
+    ensures looks { Spends 4 cursor.old cursor.new }
 {
     let mut here = cursor.take();
     let mut there = *time;
@@ -202,7 +273,7 @@ fn parse_plain_rest<'a, T: EncodingType>(
     requires digit { IsTrue (digit tens) }
     ensures time { Reads T.letter (open_time_of time.new) cursor.old result cursor.new
         (plain_minute_at error_of (clock_of clock) hour tens) }
-    ensures looks { Spends 8 cursor.old cursor.new }
+    ensures looks { Spends 4 cursor.old cursor.new }
 {
     let ones = cursor.next_digit(Stop::TimeMinuteSecond)?;
     let minute = check_most(digits_value(tens, ones), 59, Stop::TimeMinuteSecond)?;
@@ -221,7 +292,7 @@ fn parse_after_colon_minute<'a, T: EncodingType>(
 ) -> Result<Shape, Stop>
     ensures time { Reads T.letter (open_time_of time.new) cursor.old result cursor.new
         (after_colon_minute_at error_of (clock_of clock) hour minute) }
-    ensures looks { Spends 8 cursor.old cursor.new }
+    ensures looks { Spends 4 cursor.old cursor.new }
 {
     match cursor.look()? {
         Some(byte) if clock.has_seconds() && is_time_separator(byte) => {
@@ -248,7 +319,7 @@ fn parse_after_plain_minute<'a, T: EncodingType>(
 ) -> Result<Shape, Stop>
     ensures time { Reads T.letter (open_time_of time.new) cursor.old result cursor.new
         (after_plain_minute_at error_of (clock_of clock) hour minute) }
-    ensures looks { Spends 8 cursor.old cursor.new }
+    ensures looks { Spends 4 cursor.old cursor.new }
 {
     match cursor.look()? {
         Some(byte) if clock.has_seconds() && byte.is_ascii_digit() => {
@@ -273,6 +344,7 @@ fn next_second_digit<'a, T: EncodingType>(
         (next_by (digit_look (second_fault (clock_of clock)))) }
     ensures is_digit { IfOk result (λ byte. IsTrue (digit byte)) }
     ensures looks { Spends 1 cursor.old cursor.new }
+    ensures paid { OnOk result (Spends 0 cursor.old cursor.new) }
 {
     match clock {
         Clock::Time => cursor.next_digit(Stop::TimeSecond),
@@ -291,6 +363,7 @@ fn second_digits<'a, T: EncodingType>(
         (digits_by (digit_look (second_fault (clock_of clock))) 2) }
     ensures are_digits { IfOk result (λ ds. IsTrue (digit ds.0) × IsTrue (digit ds.1)) }
     ensures looks { Spends 2 cursor.old cursor.new }
+    ensures paid { OnOk result (Spends 0 cursor.old cursor.new) }
 {
     match clock {
         Clock::Time => cursor.two_digits(Stop::TimeSecond),
@@ -321,7 +394,7 @@ fn parse_colon_second<'a, T: EncodingType>(
 ) -> Result<Shape, Stop>
     ensures time { Reads T.letter (open_time_of time.new) cursor.old result cursor.new
         (colon_second_at error_of (clock_of clock) hour minute) }
-    ensures looks { Spends 7 cursor.old cursor.new }
+    ensures looks { Spends 3 cursor.old cursor.new }
 {
     let (tens, ones) = second_digits(cursor, clock)?;
     let second = check_second(digits_value(tens, ones), clock)?;
@@ -341,7 +414,7 @@ fn parse_plain_second<'a, T: EncodingType>(
     requires digit { IsTrue (digit tens) }
     ensures time { Reads T.letter (open_time_of time.new) cursor.old result cursor.new
         (plain_second_at error_of (clock_of clock) hour minute tens) }
-    ensures looks { Spends 6 cursor.old cursor.new }
+    ensures looks { Spends 3 cursor.old cursor.new }
 {
     let ones = next_second_digit(cursor, clock)?;
     let second = check_second(digits_value(tens, ones), clock)?;
@@ -360,7 +433,7 @@ fn parse_after_second<'a, T: EncodingType>(
 ) -> Result<Shape, Stop>
     ensures time { Reads T.letter (open_time_of time.new) cursor.old result cursor.new
         (after_second_at error_of (clock_of clock) hour minute second) }
-    ensures looks { Spends 5 cursor.old cursor.new }
+    ensures looks { Spends 3 cursor.old cursor.new }
 {
     match cursor.look()? {
         Some(byte) if is_decimal_separator(byte) => {
@@ -384,7 +457,7 @@ fn parse_fraction<'a, T: EncodingType>(
 ) -> Result<Fraction, Stop>
     ensures fraction { Reads T.letter (λ fraction. fraction) cursor.old result cursor.new
         (fraction_at error_of (clock_of clock)) }
-    ensures looks { Spends 3 cursor.old cursor.new }
+    ensures looks { Spends 2 cursor.old cursor.new }
 {
     let mut here = cursor.take();
     let read = parse_digits(&mut here, clock);
@@ -400,7 +473,7 @@ fn parse_digits<'a, T: EncodingType>(
 ) -> Result<Fraction, Stop>
     ensures fraction { Reads T.letter (λ fraction. fraction) cursor.old result cursor.new
         (fraction_at error_of (clock_of clock)) }
-    ensures looks { Spends 3 cursor.old cursor.new }
+    ensures looks { Spends 2 cursor.old cursor.new }
 {
     let mut here = cursor.take();
     let read = match here.look() {
@@ -424,7 +497,7 @@ fn parse_more_digits<'a, T: EncodingType>(
     requires digit { IsTrue (digit first) }
     ensures fraction { Reads T.letter (λ fraction. fraction) cursor.old result cursor.new
         (more_digits_at first) }
-    ensures looks { Spends 2 cursor.old cursor.new }
+    ensures looks { Spends 1 cursor.old cursor.new }
 {
     let mut fraction = Fraction::start(first);
     while let Some(byte) = cursor.look()? {
