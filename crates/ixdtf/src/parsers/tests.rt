@@ -12,8 +12,8 @@ use super::{IxdtfParser, TimeZoneParser};
 use crate::ParseError;
 use crate::encoding::Utf8;
 use crate::records::{
-    DateRecord, Fraction, FullPrecisionOffset, IxdtfParseRecord, MinutePrecisionOffset, Sign,
-    TimeRecord, UtcOffsetRecord, UtcOffsetRecordOrZ,
+    Annotation, DateRecord, Fraction, FullPrecisionOffset, IxdtfParseRecord, MinutePrecisionOffset,
+    Sign, TimeRecord, UtcOffsetRecord, UtcOffsetRecordOrZ,
 };
 use std::process::Abort;
 
@@ -115,5 +115,21 @@ fn check_refused(rt: &impl Abort, reader: Reader, rows: &[(&'static str, ParseEr
                 assert_eq!(rt; found, Err(*error), "at {text}");
             }
         }
+    }
+}
+
+// What a text gives with a handler, and an error as any that it becomes. A caller whose handler holds borrows of several
+// lifetimes calls by such a function.
+fn read_with<'a, E: From<ParseError>, F>(
+    text: &'a str,
+    handler: F,
+) -> Result<IxdtfParseRecord<'a, Utf8>, E>
+where
+    F: FnMut(Annotation<'a, Utf8>) -> Option<Annotation<'a, Utf8>>,
+    requires callable { F.IsAlwaysCallable handler }
+{
+    match IxdtfParser::from_str(text).parse_with_annotation_handler(handler) {
+        Ok(record) => Ok(record),
+        Err(error) => Err(E::from(error)),
     }
 }

@@ -1,4 +1,4 @@
-use super::{AT_DIGIT, dated, morning, short};
+use super::{AT_DIGIT, dated, morning, read_with, short};
 use crate::encoding::Utf8;
 use crate::laws::parse_unanswered;
 use crate::parsers::IxdtfParser;
@@ -82,7 +82,7 @@ fn passes_over_the_answer_to_the_universe(rt: HostRuntime) {
     let text = "2024-03-02T08:48:00-05:00[u-ca=iso8601][!answer-to-universe=fortytwo]";
     let mut calls = 0u32;
     let mut second_is_known = false;
-    let found = IxdtfParser::from_str(text).parse_with_annotation_handler(|annotation| {
+    let found = read_with::<ParseError, _>(text, |annotation| {
         calls = calls.saturating_add(1);
         if annotation.key == "answer-to-universe".as_bytes() {
             second_is_known = calls == 2
@@ -113,25 +113,11 @@ fn keeps_pairs_that_it_refused(rt: HostRuntime) {
     assert_eq!(rt; fourth, Err(AT_DIGIT));
 }
 
-// The calendar of a text with the handler of a caller, of whatever type it is. An error is handed on, as any error that it
-// becomes.
-fn calendar_of<'a, E: From<ParseError>, F>(text: &'a str, handler: F) -> Result<Option<&'a [u8]>, E>
-where
-    F: FnMut(Annotation<'a, Utf8>) -> Option<Annotation<'a, Utf8>>,
-    requires callable { F.IsAlwaysCallable handler }
-{
-    let mut parser = IxdtfParser::from_str(text);
-    match parser.parse_with_annotation_handler(handler) {
-        Ok(record) => Ok(record.calendar),
-        Err(error) => Err(E::from(error)),
-    }
-}
-
 #[test]
 fn takes_the_handler_of_a_caller(rt: HostRuntime) {
     let text = "2020-01-01[u-ca=a][!c=d]";
     let mut calls = 0u32;
-    let found = calendar_of::<ParseError, _>(text, |annotation| {
+    let found = read_with::<ParseError, _>(text, |annotation| {
         calls = calls.saturating_add(1);
         if annotation.critical {
             None
@@ -139,9 +125,11 @@ fn takes_the_handler_of_a_caller(rt: HostRuntime) {
             Some(annotation)
         }
     });
-    assert_eq!(rt; found, Ok(Some(b"a".as_slice())));
+    let mut record = dated(2020, 1, 1, None);
+    record.calendar = Some(b"a".as_slice());
+    assert_eq!(rt; found, Ok(record));
     assert_eq!(rt; calls, 2);
-    let refused = calendar_of::<ParseError, _>(text, |annotation| Some(annotation));
+    let refused = read_with::<ParseError, _>(text, |annotation| Some(annotation));
     assert_eq!(rt; refused, Err(ParseError::UnrecognizedCritical));
 }
 

@@ -1,6 +1,5 @@
-use super::{AT_DIGIT, dated, timed};
+use super::{AT_DIGIT, dated, read_with, timed};
 use crate::encoding::Utf8;
-use crate::parsers::IxdtfParser;
 use crate::records::{Annotation, Fraction, IxdtfParseRecord, TimeRecord, UtcOffsetRecordOrZ};
 use crate::{ParseError, ParserResult};
 
@@ -78,8 +77,7 @@ fn handled<'a, 'c>(
 ) -> (ParserResult<IxdtfParseRecord<'a, Utf8>>, bool) {
     let mut count = 0usize;
     let mut as_listed = true;
-    let mut parser = IxdtfParser::from_str(text);
-    let found = parser.parse_with_annotation_handler(|annotation| {
+    let found = read_with::<ParseError, _>(text, |annotation| {
         as_listed = as_listed && is_listed(&annotation, calls.get(count));
         let before = count;
         count = count.saturating_add(1);
