@@ -177,7 +177,9 @@ impl<'a, T: EncodingType> IxdtfParser<'a, T> {
     /// 2020-01-01[a=b][c=d]junk      |_| None                         two calls, then Err(InvalidEnd)
     /// ```
     ///
-    /// The handler has to be one that may be called at any time, in any state that it reached, on any annotation.
+    /// The handler has to be one that may be called at any time, in any state that it reached, on any annotation. Where it
+    /// holds borrows of several lifetimes, as a closure does that captures two variables, the proof of its caller wants a
+    /// function between them, generic in the handler and in an error `E: From<ParseError>`.
     ///
     /// After `Ok` nothing is left to be read. After an error what was still to be read still is. Calls that were made stay
     /// made.

@@ -91,7 +91,7 @@ impl<W: Write> Output<'_, W> {
     /// Puts the answer to a text that is refused, and a newline.
     fn put_error(&mut self, error: ParseError) -> Result<(), RunError>
         ensures { Puts W.contents self.old self.new result
-            (error_answer_of (fault_of error.entry) ++ newline ∷ []) }
+            (error_answer_of (fault_of error) ++ newline ∷ []) }
     {
         let (text, location) = error_parts(error);
         self.put_all(&[
@@ -105,7 +105,7 @@ impl<W: Write> Output<'_, W> {
 
 /// The two parts of what Display writes.
 fn error_parts(error: ParseError) -> (&'static str, &'static str)
-    ensures { message_of (fault_of error.entry) ≡ result.0.now ++ result.1.now }
+    ensures { message_of (fault_of error) ≡ result.0.now ++ result.1.now }
 {
     match error {
         ParseError::AbruptEnd { location } => ("Parsing ended abruptly while parsing ", location),
