@@ -22,7 +22,7 @@ use Rattle.ixdtf.specs.table.Rows.{Place}
 use Rattle.ixdtf.specs.table.Rows.Place.{end, other, bad, anywhere}
 use Rattle.ixdtf.specs.table.Outcomes.{Outcome}
 use Rattle.ixdtf.specs.table.Outcomes.Outcome.{derived, refused}
-use Rattle.ixdtf.specs.reading.Looks.{row_of, look_at}
+use Rattle.ixdtf.specs.reading.Looks.{row_of, look_at, number_by}
 use Rattle.ixdtf.specs.reading.Dates.{date_of, date_readings}
 use Rattle.ixdtf.specs.reading.Times.{time_of, time_readings}
 use Rattle.ixdtf.specs.reading.Zones.{name_run, zone_readings}
@@ -35,7 +35,7 @@ use Rattle.ixdtf.specs.reading.Wholes.{bracketed_at, annotated_at, bracketed_tex
 unfoldable pub all_readings : ℕ
 unfolding date_readings time_readings zone_readings pair_readings bracket_readings
     core_end_at offset_core_at after_time_at time_core_at after_date_at date_time_core_at
-    look_at name_run key_run value_run pairs_at sight_at name_or_pair_at bracketed_at annotated_at bracketed_text_at
+    look_at number_by name_run key_run value_run pairs_at sight_at name_or_pair_at bracketed_at annotated_at bracketed_text_at
 all_readings = 0
 
 -- ---- texts and their outcomes

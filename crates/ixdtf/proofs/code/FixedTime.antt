@@ -1,5 +1,5 @@
 -- A time at fixed places.
-use Rattle.std.proofs.Common.{◌≡◌, ℕ, IsTrue, List, [], ◌∷◌, map, drop, Some, Ok, Err, refl, ◌∙◌, nat_le, if◌then◌else◌}
+use Rattle.std.proofs.Common.{◌≡◌, ℕ, true, IsTrue, List, [], ◌∷◌, map, drop, Some, Ok, Err, refl, ◌∙◌, nat_le, if◌then◌else◌}
 use Rattle.ixdtf.specs.language.Letters.{Letter, Text, digit}
 use Rattle.ixdtf.specs.language.Letters.Letter.{Plain}
 use Rattle.ixdtf.specs.language.Digits.{decimal}
@@ -7,8 +7,8 @@ use Rattle.ixdtf.specs.language.Times.Clock.{Time}
 use Rattle.ixdtf.specs.table.Faults.{Fault}
 use Rattle.ixdtf.specs.table.Faults.Fault.{TimeHour, TimeMinuteSecond, TimeSecond}
 use Rattle.ixdtf.specs.Views.{ascii_at}
-use Rattle.ixdtf.specs.reading.Looks.{Read, error_of, in_range, look_at, next_by, digits_by}
-use Rattle.ixdtf.specs.reading.Times.{OpenTime, after_second_at, colon_second_at, after_colon_minute_at, colon_minute_at, after_hour_at, hour_from, clock_at}
+use Rattle.ixdtf.specs.reading.Looks.{Read, error_of, in_range, look_at, next_by, digits_by, number_by}
+use Rattle.ixdtf.specs.reading.Times.{OpenTime, after_second_at, second_at, after_minute_at, minute_at, after_hour_at, hour_from, clock_at}
 use Rattle.ixdtf.specs.reading.FixedPlaces.{ranged_time}
 use Rattle.ixdtf.proofs.code.FixedDate.{at_next, on_test}
 
@@ -18,18 +18,18 @@ number a b = decimal (Plain a ∷ Plain b ∷ [])
 abbrev from_second : ℕ → ℕ → ℕ → Text → Read Fault OpenTime
 from_second hour minute second more = if nat_le second 60 then after_second_at error_of Time hour minute second more else Err TimeSecond
 
-second_read : (hour minute p q : ℕ) (more : Text) → IsTrue (digit p) → IsTrue (digit q) → colon_second_at error_of Time hour minute (Plain p ∷ Plain q ∷ more) ≡ from_second hour minute (number p q) more
-unfolding colon_second_at in_range digits_by next_by look_at
+second_read : (hour minute p q : ℕ) (more : Text) → IsTrue (digit p) → IsTrue (digit q) → second_at error_of Time hour minute (Plain p ∷ Plain q ∷ more) ≡ from_second hour minute (number p q) more
+unfolding second_at number_by in_range digits_by next_by look_at
 second_read hour minute p q more ep eq = rw (ep, eq) (on_test (nat_le (number p q) 60) (number p q, more) TimeSecond (λ x. after_second_at error_of Time hour minute x.0 x.1))
 
 abbrev from_minute : ℕ → ℕ → ℕ → Text → Read Fault OpenTime
 from_minute hour minute second more = if nat_le minute 59 then from_second hour minute second more else Err TimeMinuteSecond
 
 minute_read : (hour m n p q : ℕ) (more : Text) → IsTrue (digit m) → IsTrue (digit n) → IsTrue (digit p) → IsTrue (digit q)
-    → colon_minute_at error_of Time hour (Plain m ∷ Plain n ∷ Plain 58 ∷ Plain p ∷ Plain q ∷ more) ≡ from_minute hour (number m n) (number p q) more
-unfolding colon_minute_at after_colon_minute_at in_range digits_by next_by look_at
+    → minute_at error_of Time true hour (Plain m ∷ Plain n ∷ Plain 58 ∷ Plain p ∷ Plain q ∷ more) ≡ from_minute hour (number m n) (number p q) more
+unfolding minute_at after_minute_at number_by in_range digits_by next_by look_at
 minute_read hour m n p q more em en ep eq =
-    let step = on_test (nat_le (number m n) 59) (number m n, Plain 58 ∷ Plain p ∷ Plain q ∷ more) TimeMinuteSecond (λ x. after_colon_minute_at error_of Time hour x.0 x.1) in
+    let step = on_test (nat_le (number m n) 59) (number m n, Plain 58 ∷ Plain p ∷ Plain q ∷ more) TimeMinuteSecond (λ x. after_minute_at error_of Time true hour x.0 x.1) in
     rw (em, en) (step ∙ rw (second_read hour (number m n) p q more ep eq) refl)
 
 time_read : (a b m n p q : ℕ) (more : Text) → IsTrue (digit a) → IsTrue (digit b) → IsTrue (digit m) → IsTrue (digit n) → IsTrue (digit p) → IsTrue (digit q)

@@ -186,7 +186,7 @@ module _ {E : Type 0} (fault : Row → E) (name : LineName) where
       go (scanned front e) looks = absurd looks
       go (whole front e) looks = absurd looks
 
-  digit_goes : (l : Line) (c : ℕ) → LooksForDigit l → IsTrue (digit c) → Goes l c
+  pub digit_goes : (l : Line) (c : ℕ) → LooksForDigit l → IsTrue (digit c) → Goes l c
   digit_goes (line front goes_on (error e) at_other) c same h = same c ∙ h
   digit_goes (line front goes_on ok at_other) c same h = absurd same
   digit_goes (scanned front e) c same h = absurd same
@@ -198,7 +198,7 @@ module _ {E : Type 0} (fault : Row → E) (name : LineName) where
   goes_digit (scanned front e) c same h = absurd same
   goes_digit (whole front e) c same h = absurd same
 
-  digit_looks : (l : Line) → LooksForDigit l → Looks l
+  pub digit_looks : (l : Line) → LooksForDigit l → Looks l
   digit_looks (line front goes_on (error e) at_other) same = tt
   digit_looks (line front goes_on ok at_other) same = absurd same
   digit_looks (scanned front e) same = absurd same

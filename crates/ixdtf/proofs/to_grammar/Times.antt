@@ -1,5 +1,5 @@
 -- What reading a time returns is a time as far as it goes, or a row that fits.
-use Rattle.std.proofs.Common.{◌≡◌, ℕ, ◌<◌, ◌≤◌, ◌⊎◌, IsTrue, IsFalse, [], ◌∷◌, ◌++◌, Ok, Err, Option, Some, None, refl, ◌∙◌, inl, inr, arith, append_assoc, nat_le, Bool, true, false}
+use Rattle.std.proofs.Common.{◌≡◌, ℕ, ◌<◌, ◌≤◌, ◌⊎◌, IsTrue, IsFalse, [], ◌∷◌, ◌++◌, Ok, Err, Option, Some, None, refl, ◌∙◌, inl, inr, arith, append_assoc, nat_le, Bool, true, false, if◌then◌else◌}
 use Rattle.std.proofs.lemmas.Bool.{eqb-true, leb-true, leb-false, and_parts, or_from}
 use Rattle.std.proofs.lemmas.Bool.Decides.{nat_tests}
 use Rattle.ixdtf.specs.language.Times.{Clock}
@@ -8,24 +8,25 @@ use Rattle.ixdtf.specs.declared.records.TimeRecord.{TimeRecord}
 use Rattle.ixdtf.specs.language.Letters.{Text}
 use Rattle.ixdtf.specs.language.Letters.Letter.{Plain, Bad}
 use Rattle.ixdtf.specs.language.Letters.{◌or◌, digit, colon, decimal_mark}
-use Rattle.ixdtf.specs.language.Shapes.{one}
+use Rattle.ixdtf.specs.language.Shapes.{Shape, some, one, fewer_digits_than, ◌then◌, ◌either◌}
 use Rattle.ixdtf.specs.language.Digits.{decimal, UpTo}
 use Rattle.ixdtf.specs.language.Fractions.{FractionParts, SomeDigits, fraction_of}
 use Rattle.ixdtf.specs.table.Faults.{Fault}
 use Rattle.ixdtf.specs.table.Faults.Fault.{NonAsciiCodePoint}
 use Rattle.ixdtf.specs.language.Times.{TimeShape, ClockOf, PlainMinuteText, ColonMinuteText, SecondText, greatest_second, has_seconds}
 use Rattle.ixdtf.specs.language.Times.TimeShape.{hours, plain_minutes, colon_minutes, seconds, fractions}
+use Rattle.ixdtf.specs.table.LineNames.{LineName}
 use Rattle.ixdtf.specs.table.LineNames.LineName.{of_clock}
 use Rattle.ixdtf.specs.table.LineNames.ClockLine.{hour_start, hour_digit, hour_range, after_hour, minute_digits, minute_range, after_plain_minute, after_colon_minute, second_digits, second_range, after_second, fraction_start, after_fraction}
-use Rattle.ixdtf.specs.table.Lines.{follow_of, seconds_after, mixed, ColonOrDigit}
+use Rattle.ixdtf.specs.table.Lines.{line_of, follow_of, seconds_after, mixed, ColonOrDigit, Past}
 use Rattle.ixdtf.specs.table.Lines.Ending.{ok, error}
 use Rattle.ixdtf.specs.table.Rows.{Row, Place}
 use Rattle.ixdtf.specs.table.Rows.Place.{end, other, bad, anywhere}
-use Rattle.ixdtf.specs.reading.Looks.{Read, ◌>>=◌, row_of, letter_at, look_at, next_by, digits_at, peek_by, in_range, digit_run}
-use Rattle.ixdtf.specs.reading.Times.{OpenTime, time_of, line_after, bad_after, mixed_after, fraction_at, after_second_at, colon_second_at, plain_second_at, after_colon_minute_at, after_plain_minute_at, colon_minute_at, plain_minute_at, after_hour_at, hour_from, clock_at}
+use Rattle.ixdtf.specs.reading.Looks.{Read, ◌>>=◌, row_of, letter_at, look_at, next_by, digits_at, peek_by, in_range, number_by, digit_run}
+use Rattle.ixdtf.specs.reading.Times.{OpenTime, time_of, line_after, bad_after, mixed_after, hour_past, minute_past, second_past, minutes_shape, second_start, number_at, fraction_at, after_second_at, second_at, after_minute_at, minute_at, after_hour_at, hour_from, clock_at}
 use Rattle.ixdtf.specs.reading.Zones.{follow_look}
-use Rattle.ixdtf.proofs.parts.Looks.{Stopped, OnRead, OnRun, FitsIn, fits_in, then_read, read_if, no_digit, none_or_one, read_letter, digits_read, Peeked, peek_read, next_read, run_read, further, onto, NotNext}
-use Rattle.ixdtf.proofs.to_reading.Times.{Closed, StopsAfter, hour_past, minute_past, second_past, with_fraction}
+use Rattle.ixdtf.proofs.parts.Looks.{Stopped, OnRead, OnRun, FitsIn, fits_in, then_read, read_weaker, read_if, no_digit, none_or_one, LooksForDigit, DigitsStop, goes, stops, digit_goes, digit_looks, read_letter, digits_read, Peeked, peek_read, next_read, run_read, further, onto, NotNext}
+use Rattle.ixdtf.proofs.to_reading.Times.{Closed, StopsAfter, closed_minutes, with_fraction}
 
 -- what reading a time gave
 abbrev pub TimeFront : Clock → Text → OpenTime → Text → Type 0
@@ -38,9 +39,46 @@ mixed_no_follow true Offset c h = grind (arith, h, nat_tests)
 mixed_no_follow true MinuteOffset c h = grind (arith, h, nat_tests)
 mixed_no_follow false clock c h = refl
 
+-- what stands before the digits of a minute and of a second, with colons and without
+abbrev marks : Bool → Text
+marks true = Plain 58 ∷ []
+marks false = []
+
+-- a digit stands next where no colon was taken off
+abbrev Starts : Bool → Text → Type 0
+Starts true rest = Unit {0}
+Starts false rest = (c : ℕ) × (more : Text) × (rest ≡ Plain c ∷ more) × IsTrue (digit c)
+
+-- fewer than two digits, and not none where no colon stands before them
+abbrev Begun : Bool → Shape
+Begun true = fewer_digits_than 2
+Begun false = one digit
+
 after_colon : (ds : Text) → (ds ≡ []) ⊎ one digit ds → ColonOrDigit (Plain 58 ∷ ds)
 after_colon ds (inl h) = inl (58, rw h refl, refl)
 after_colon ds (inr h) = inr (inl (Plain 58 ∷ [], ds, refl, (58, refl, refl), h))
+
+a_mark : (colons : Bool) → (marks colons ≡ []) ⊎ one colon (marks colons)
+a_mark true = inr (58, refl, refl)
+a_mark false = inl refl
+
+minute_begun : (colons : Bool) (ds : Text) → Begun colons ds → ColonOrDigit (marks colons ++ ds)
+minute_begun true ds b = after_colon ds (none_or_one b.0 ds b.1 b.2)
+minute_begun false ds b = inr (inr b)
+
+minute_text : (clock : Clock) (colons : Bool) (h m : ℕ) (front ds : Text) → UpTo 23 front h → UpTo 59 ds m → ClockOf clock (minutes_shape colons) (front ++ (marks colons ++ ds)) (time_of h m 0 None)
+minute_text clock true h m front ds x u = record { hs = front; ms = ds; is = refl; hour = x; minute = u; no_second = refl; no_fraction = refl }
+minute_text clock false h m front ds x u = record { hs = front; ms = ds; is = refl; hour = x; minute = u; no_second = refl; no_fraction = refl }
+
+-- what stands after a minute where a second is
+after_minute_text : (clock : Clock) (shape : Bool → Shape) (colons : Bool) (t : TimeRecord) (front ds : Text) → ClockOf clock (minutes_shape colons) front t → shape colons ds
+    → ((some PlainMinuteText then shape false) either (some ColonMinuteText then one colon then shape true)) (front ++ (marks colons ++ ds))
+after_minute_text clock shape true t front ds x s = inr (front, _, refl, (t, x), (Plain 58 ∷ [], ds, refl, (58, refl, refl), s))
+after_minute_text clock shape false t front ds x s = inl (front, ds, refl, (t, x), s)
+
+second_text : (clock : Clock) (colons : Bool) (h m s : ℕ) (front ds : Text) → IsTrue (has_seconds clock) → ClockOf clock (minutes_shape colons) front (time_of h m 0 None) → UpTo (greatest_second clock) ds s → SecondText clock (front ++ (marks colons ++ ds)) (time_of h m s None)
+second_text clock true h m s front ds may x u = inr (record { hs = x.hs; ms = x.ms; ss = ds; is = rw x.is (simp append_assoc); may = may; hour = x.hour; minute = x.minute; second = u })
+second_text clock false h m s front ds may x u = inl (record { hs = x.hs; ms = x.ms; ss = ds; is = rw x.is (simp append_assoc); may = may; hour = x.hour; minute = x.minute; second = u })
 
 -- the text of hour, minute and second says nothing of the fraction
 other_fraction : (clock : Clock) (text : Text) (h m s : ℕ) (f g : Option FractionParts) → SecondText clock text (time_of h m s f) → SecondText clock text (time_of h m s g)
@@ -71,6 +109,29 @@ module _ {E : Type 0} (fault : Row → E) where
   unfolding in_range
   range_read greatest wanted ds rest = read_if fault (nat_le (decimal ds) greatest) _ _ _ _ (λ h. (refl, refl, leb-true _ _ h)) (λ h. (wanted, refl, (refl, leb-false _ _ h)))
 
+  module _ (name : LineName) (asks : LooksForDigit (line_of true name)) where
+    -- the row is of a number past the greatest, or of fewer than two digits
+    abbrev NumberStop : ℕ → Row → Text → Row → Type 0
+    NumberStop greatest wanted text row = ((ds rest : Text) × (text ≡ ds ++ rest) × (row ≡ wanted) × Past greatest ds) ⊎ DigitsStop name 2 text row
+
+    number_read : (greatest : ℕ) (wanted : Row) (text : Text) → OnRead fault (number_at fault name greatest wanted text) (λ n rest. (ds : Text) × (text ≡ ds ++ rest) × UpTo greatest ds n) (NumberStop greatest wanted text)
+    unfolding number_by
+    number_read greatest wanted text = then_read fault (digits_at fault name 2 text) _ _ _ _ _ (digits_read fault name asks 2 text)
+        (λ ds more g. read_weaker fault (in_range greatest (fault wanted) (ds, more)) _ _ _ _ (range_read greatest wanted ds more)
+        (λ n left u. (ds, rw u.0 g.0, (g.1, u.1, u.2)))
+        (λ r u. inl (ds, more, g.0, u.0, (g.1, u.1))))
+        (λ r g. inr g)
+
+    begun : (colons : Bool) (rest : Text) (row : Row) → Starts colons rest → (g : DigitsStop name 2 rest row) → Begun colons g.2
+    begun true rest row at g = (g.0, g.1, g.5)
+    begun false rest row at g = some_digit (none_or_one g.0 g.2 g.1 g.5)
+      where
+        some_digit : (g.2 ≡ []) ⊎ one digit g.2 → one digit g.2
+        some_digit (inl h) =
+            let looks = digit_looks fault name (line_of true name) asks in
+            absurd (grind (arith, goes fault name at.0 at.1 looks (digit_goes fault name (line_of true name) at.0 asks at.3), stops fault name row.place row.error g.3 looks g.6.1, g.4, at.2, h))
+        some_digit (inr d) = d
+
   module _ (brackets : Bool) (clock : Clock) (text : Text) where
     -- ---- the lines at which a time may stop
 
@@ -84,13 +145,11 @@ module _ {E : Type 0} (fault : Row → E) where
       open_bad fractions t more x next = (row_of (of_clock clock after_fraction) bad NonAsciiCodePoint, refl, (after_fraction, refl, (front, rest, is, (t, x), (more, next, refl))))
 
       -- at a colon or a digit that does not go on
-      plain_mixed_read : (t : TimeRecord) (c : ℕ) (more : Text) → PlainMinuteText front t → rest ≡ Plain c ∷ more → IsFalse (seconds_after clock digit c) → IsTrue ((colon or digit) c) → Stopped fault (mixed_after fault clock plain_minutes) (λ row. FitsIn (of_clock clock) brackets row text)
-      plain_mixed_read t c more x next out h =
-          (row_of (of_clock clock after_plain_minute) other (mixed clock), refl, (after_plain_minute, refl, (front, rest, is, (t, x), (c, more, next, or_from _ _ out (mixed_no_follow brackets clock c h), rw h refl))))
-
-      colon_mixed_read : (t : TimeRecord) (c : ℕ) (more : Text) → ColonMinuteText front t → rest ≡ Plain c ∷ more → IsFalse (seconds_after clock colon c) → IsTrue ((colon or digit) c) → Stopped fault (mixed_after fault clock colon_minutes) (λ row. FitsIn (of_clock clock) brackets row text)
-      colon_mixed_read t c more x next out h =
+      mixed_read : (colons : Bool) (t : TimeRecord) (c : ℕ) (more : Text) → ClockOf clock (minutes_shape colons) front t → rest ≡ Plain c ∷ more → IsFalse (seconds_after clock (second_start colons) c) → IsTrue ((colon or digit) c) → Stopped fault (mixed_after fault clock (minutes_shape colons)) (λ row. FitsIn (of_clock clock) brackets row text)
+      mixed_read true t c more x next out h =
           (row_of (of_clock clock after_colon_minute) other (mixed clock), refl, (after_colon_minute, refl, (front, rest, is, (t, x), (c, more, next, or_from _ _ out (mixed_no_follow brackets clock c h), rw h refl))))
+      mixed_read false t c more x next out h =
+          (row_of (of_clock clock after_plain_minute) other (mixed clock), refl, (after_plain_minute, refl, (front, rest, is, (t, x), (c, more, next, or_from _ _ out (mixed_no_follow brackets clock c h), rw h refl))))
 
       -- at the end, where it is an error
       open_end : (shape : TimeShape) (t : TimeRecord) (e : Fault) → ClockOf clock shape front t → rest ≡ [] → (follow_of brackets clock).at_end ≡ error e → FitsIn (of_clock clock) brackets (row_of (line_after clock shape) end e) text
@@ -145,61 +204,41 @@ module _ {E : Type 0} (fault : Row → E) where
         (λ c more next mark. with_fraction_read h m s c front x mark more (is ∙ rw next refl))
         (λ closed. (front, is, (x, refl), closed))
 
-    colon_second_read : (h m : ℕ) (front rest : Text) → IsTrue (has_seconds clock) → text ≡ (front ++ (Plain 58 ∷ [])) ++ rest → ColonMinuteText front (time_of h m 0 None) → Reads (colon_second_at fault clock h m rest)
-    unfolding colon_second_at
-    colon_second_read h m front rest may is x = then_read fault (digits_at fault (of_clock clock second_digits) 2 rest) _ _ _ _ _ (digits_read fault (of_clock clock second_digits) (λ c. refl) 2 rest)
-        (λ ds more g. then_read fault (in_range (greatest_second clock) (fault (second_past clock)) (ds, more)) _ _ _ _ _ (range_read (greatest_second clock) (second_past clock) ds more)
-        (λ s left u. after_second_read h m s (x.hs ++ (Plain 58 ∷ (x.ms ++ (Plain 58 ∷ ds)))) left (is ∙ rw (x.is, g.0, u.0) (simp append_assoc)) (inr (record { hs = x.hs; ms = x.ms; ss = ds; is = refl; may = may; hour = x.hour; minute = x.minute; second = (g.1, u.1, u.2) })))
-        (λ r u. rw u.0 (second_range, refl, (front ++ (Plain 58 ∷ ds), more, is ∙ rw g.0 (simp append_assoc), (may, inr (front, _, refl, (_, x), (Plain 58 ∷ [], ds, refl, (58, refl, refl), (g.1, u.1)))), refl))))
-        (λ r g. fits_in (of_clock clock) brackets second_digits r text (front ++ (Plain 58 ∷ g.2)) g.3 g.6.0 (is ∙ rw g.4 (simp append_assoc)) (may, inr (front, _, refl, (_, x), (Plain 58 ∷ [], g.2, refl, (58, refl, refl), (g.0, g.1, g.5)))) g.6.1)
+    second_read : (colons : Bool) (h m : ℕ) (front rest : Text) → IsTrue (has_seconds clock) → text ≡ front ++ (marks colons ++ rest) → Starts colons rest → ClockOf clock (minutes_shape colons) front (time_of h m 0 None) → Reads (second_at fault clock h m rest)
+    unfolding second_at
+    second_read colons h m front rest may is at x = then_read fault (number_at fault (of_clock clock second_digits) (greatest_second clock) (second_past clock) rest) _ _ _ _ _ (number_read (of_clock clock second_digits) (λ c. refl) (greatest_second clock) (second_past clock) rest)
+        (λ s left g. after_second_read h m s (front ++ (marks colons ++ g.0)) left (is ∙ rw g.1 (simp append_assoc)) (second_text clock colons h m s front g.0 may x g.2))
+        by_row
+      where
+        by_row : (row : Row) → NumberStop (of_clock clock second_digits) (λ c. refl) (greatest_second clock) (second_past clock) rest row → FitsIn (of_clock clock) brackets row text
+        by_row row (inl g) = rw g.3 (second_range, refl, (front ++ (marks colons ++ g.0), g.1, is ∙ rw g.2 (simp append_assoc), (may, after_minute_text clock (λ b. Past (greatest_second clock)) colons _ front g.0 x g.4), refl))
+        by_row row (inr g) = fits_in (of_clock clock) brackets second_digits row text (front ++ (marks colons ++ g.2)) g.3 g.6.0 (is ∙ rw g.4 (simp append_assoc))
+            (may, after_minute_text clock Begun colons _ front g.2 x (begun (of_clock clock second_digits) (λ c. refl) colons rest row at g)) g.6.1
 
-    plain_second_read : (h m c : ℕ) (front rest : Text) → IsTrue (has_seconds clock) → IsTrue (digit c) → text ≡ (front ++ (Plain c ∷ [])) ++ rest → PlainMinuteText front (time_of h m 0 None) → Reads (plain_second_at fault clock h m c rest)
-    unfolding plain_second_at
-    plain_second_read h m c front rest may d is x = then_read fault (digits_at fault (of_clock clock second_digits) 1 rest) _ _ _ _ _ (digits_read fault (of_clock clock second_digits) (λ c. refl) 1 rest)
-        (λ ds more g. then_read fault (in_range (greatest_second clock) (fault (second_past clock)) (Plain c ∷ ds, more)) _ _ _ _ _ (range_read (greatest_second clock) (second_past clock) (Plain c ∷ ds) more)
-        (λ s left u. after_second_read h m s (x.hs ++ (x.ms ++ (Plain c ∷ ds))) left (is ∙ rw (x.is, g.0, u.0) (simp append_assoc)) (inl (record { hs = x.hs; ms = x.ms; ss = Plain c ∷ ds; is = refl; may = may; hour = x.hour; minute = x.minute; second = ((c, ds, refl, d, g.1), u.1, u.2) })))
-        (λ r u. rw u.0 (second_range, refl, (front ++ (Plain c ∷ ds), more, is ∙ rw g.0 (simp append_assoc), (may, inl (front, _, refl, (_, x), ((c, ds, refl, d, g.1), u.1))), refl))))
-        (λ r g. let at = no_digit (of_clock clock second_digits) rest r g in
-        fits_in (of_clock clock) brackets second_digits r text (front ++ (Plain c ∷ [])) rest at.0 is (may, inl (front, _, refl, (_, x), (c, refl, d))) at.1)
+    second_from : (colons : Bool) (h m c : ℕ) (front rest more : Text) → text ≡ front ++ rest → rest ≡ Plain c ∷ more → IsTrue (seconds_after clock (second_start colons) c) → ClockOf clock (minutes_shape colons) front (time_of h m 0 None) → Reads (second_at fault clock h m (if colons then more else rest))
+    second_from true h m c front rest more is next mark x = let parts = and_parts _ _ mark in second_read true h m front more parts.0 (is ∙ rw (next, eqb-true c 58 parts.1) refl) tt x
+    second_from false h m c front rest more is next mark x = let parts = and_parts _ _ mark in second_read false h m front rest parts.0 is (c, more, next, parts.1) x
 
-    after_colon_minute_read : (h m : ℕ) (front rest : Text) → text ≡ front ++ rest → ColonMinuteText front (time_of h m 0 None) → Reads (after_colon_minute_at fault clock h m rest)
-    unfolding after_colon_minute_at
-    after_colon_minute_read h m front rest is x = next_read (bad_after fault clock colon_minutes) (seconds_after clock colon) _ _ fault rest (TimeFront clock text) (λ row. FitsIn (of_clock clock) brackets row text)
-        (λ more next. open_bad front rest is colon_minutes (time_of h m 0 None) more x next)
-        (λ c more next mark. let parts = and_parts _ _ mark in
-        colon_second_read h m front more parts.0 (further text front rest (Plain 58 ∷ []) more is (next ∙ rw (eqb-true c 58 parts.1) refl)) x)
-        (λ no_second. next_read (bad_after fault clock colon_minutes) (colon or digit) (λ d left. Err (mixed_after fault clock colon_minutes)) _ fault rest (TimeFront clock text) (λ row. FitsIn (of_clock clock) brackets row text)
-        (λ more next. open_bad front rest is colon_minutes (time_of h m 0 None) more x next)
-        (λ c more next h. colon_mixed_read front rest is _ c more x next (rw next at no_second) h)
-        (λ closed. (front, is, x, (no_second, closed))))
+    after_minute_read : (colons : Bool) (h m : ℕ) (front rest : Text) → text ≡ front ++ rest → ClockOf clock (minutes_shape colons) front (time_of h m 0 None) → Reads (after_minute_at fault clock colons h m rest)
+    unfolding after_minute_at
+    after_minute_read colons h m front rest is x = next_read (bad_after fault clock (minutes_shape colons)) (seconds_after clock (second_start colons)) _ _ fault rest (TimeFront clock text) (λ row. FitsIn (of_clock clock) brackets row text)
+        (λ more next. open_bad front rest is (minutes_shape colons) (time_of h m 0 None) more x next)
+        (λ c more next mark. second_from colons h m c front rest more is next mark x)
+        (λ no_second. next_read (bad_after fault clock (minutes_shape colons)) (colon or digit) (λ d left. Err (mixed_after fault clock (minutes_shape colons))) _ fault rest (TimeFront clock text) (λ row. FitsIn (of_clock clock) brackets row text)
+        (λ more next. open_bad front rest is (minutes_shape colons) (time_of h m 0 None) more x next)
+        (λ c more next h. mixed_read front rest is colons _ c more x next (rw next at no_second) h)
+        (λ closed. (front, is, x, closed_minutes clock colons rest no_second closed)))
 
-    after_plain_minute_read : (h m : ℕ) (front rest : Text) → text ≡ front ++ rest → PlainMinuteText front (time_of h m 0 None) → Reads (after_plain_minute_at fault clock h m rest)
-    unfolding after_plain_minute_at
-    after_plain_minute_read h m front rest is x = next_read (bad_after fault clock plain_minutes) (seconds_after clock digit) _ _ fault rest (TimeFront clock text) (λ row. FitsIn (of_clock clock) brackets row text)
-        (λ more next. open_bad front rest is plain_minutes (time_of h m 0 None) more x next)
-        (λ c more next d. let parts = and_parts _ _ d in
-        plain_second_read h m c front more parts.0 parts.1 (further text front rest (Plain c ∷ []) more is next) x)
-        (λ no_second. next_read (bad_after fault clock plain_minutes) (colon or digit) (λ d left. Err (mixed_after fault clock plain_minutes)) _ fault rest (TimeFront clock text) (λ row. FitsIn (of_clock clock) brackets row text)
-        (λ more next. open_bad front rest is plain_minutes (time_of h m 0 None) more x next)
-        (λ c more next h. plain_mixed_read front rest is _ c more x next (rw next at no_second) h)
-        (λ closed. (front, is, x, (no_second, closed))))
-
-    colon_minute_read : (h : ℕ) (front rest : Text) → text ≡ (front ++ (Plain 58 ∷ [])) ++ rest → UpTo 23 front h → Reads (colon_minute_at fault clock h rest)
-    unfolding colon_minute_at
-    colon_minute_read h front rest is x = then_read fault (digits_at fault (of_clock clock minute_digits) 2 rest) _ _ _ _ _ (digits_read fault (of_clock clock minute_digits) (λ c. refl) 2 rest)
-        (λ ds more g. then_read fault (in_range 59 (fault (minute_past clock)) (ds, more)) _ _ _ _ _ (range_read 59 (minute_past clock) ds more)
-        (λ m left u. after_colon_minute_read h m (front ++ (Plain 58 ∷ ds)) left (is ∙ rw (g.0, u.0) (simp append_assoc)) (record { hs = front; ms = ds; is = refl; hour = x; minute = (g.1, u.1, u.2); no_second = refl; no_fraction = refl }))
-        (λ r u. rw u.0 (minute_range, refl, (front ++ (Plain 58 ∷ ds), more, is ∙ rw g.0 (simp append_assoc), (front, _, refl, (h, x), (Plain 58 ∷ [], ds, refl, inr (58, refl, refl), (g.1, u.1))), refl))))
-        (λ r g. fits_in (of_clock clock) brackets minute_digits r text (front ++ (Plain 58 ∷ g.2)) g.3 g.6.0 (is ∙ rw g.4 (simp append_assoc)) (front, _, refl, (h, x), after_colon g.2 (none_or_one g.0 g.2 g.1 g.5)) g.6.1)
-
-    plain_minute_read : (h c : ℕ) (front rest : Text) → IsTrue (digit c) → text ≡ (front ++ (Plain c ∷ [])) ++ rest → UpTo 23 front h → Reads (plain_minute_at fault clock h c rest)
-    unfolding plain_minute_at
-    plain_minute_read h c front rest d is x = then_read fault (digits_at fault (of_clock clock minute_digits) 1 rest) _ _ _ _ _ (digits_read fault (of_clock clock minute_digits) (λ c. refl) 1 rest)
-        (λ ds more g. then_read fault (in_range 59 (fault (minute_past clock)) (Plain c ∷ ds, more)) _ _ _ _ _ (range_read 59 (minute_past clock) (Plain c ∷ ds) more)
-        (λ m left u. after_plain_minute_read h m (front ++ (Plain c ∷ ds)) left (is ∙ rw (g.0, u.0) (simp append_assoc)) (record { hs = front; ms = Plain c ∷ ds; is = refl; hour = x; minute = ((c, ds, refl, d, g.1), u.1, u.2); no_second = refl; no_fraction = refl }))
-        (λ r u. rw u.0 (minute_range, refl, (front ++ (Plain c ∷ ds), more, is ∙ rw g.0 (simp append_assoc), (front, _, refl, (h, x), ([], Plain c ∷ ds, refl, inl refl, ((c, ds, refl, d, g.1), u.1))), refl))))
-        (λ r g. let at = no_digit (of_clock clock minute_digits) rest r g in
-        fits_in (of_clock clock) brackets minute_digits r text (front ++ (Plain c ∷ [])) rest at.0 is (front, _, refl, (h, x), inr (inr (c, refl, d))) at.1)
+    minute_read : (colons : Bool) (h : ℕ) (front rest : Text) → text ≡ front ++ (marks colons ++ rest) → Starts colons rest → UpTo 23 front h → Reads (minute_at fault clock colons h rest)
+    unfolding minute_at
+    minute_read colons h front rest is at x = then_read fault (number_at fault (of_clock clock minute_digits) 59 (minute_past clock) rest) _ _ _ _ _ (number_read (of_clock clock minute_digits) (λ c. refl) 59 (minute_past clock) rest)
+        (λ m left g. after_minute_read colons h m (front ++ (marks colons ++ g.0)) left (is ∙ rw g.1 (simp append_assoc)) (minute_text clock colons h m front g.0 x g.2))
+        by_row
+      where
+        by_row : (row : Row) → NumberStop (of_clock clock minute_digits) (λ c. refl) 59 (minute_past clock) rest row → FitsIn (of_clock clock) brackets row text
+        by_row row (inl g) = rw g.3 (minute_range, refl, (front ++ (marks colons ++ g.0), g.1, is ∙ rw g.2 (simp append_assoc), (front, _, refl, (h, x), (marks colons, g.0, refl, a_mark colons, g.4)), refl))
+        by_row row (inr g) = fits_in (of_clock clock) brackets minute_digits row text (front ++ (marks colons ++ g.2)) g.3 g.6.0 (is ∙ rw g.4 (simp append_assoc))
+            (front, _, refl, (h, x), minute_begun colons g.2 (begun (of_clock clock minute_digits) (λ c. refl) colons rest row at g)) g.6.1
 
     after_hour_read : (h : ℕ) (front rest : Text) → text ≡ front ++ rest → UpTo 23 front h → Reads (after_hour_at fault clock h rest)
     unfolding after_hour_at
@@ -207,10 +246,10 @@ module _ {E : Type 0} (fault : Row → E) where
         let hour : ClockOf clock hours front (time_of h 0 0 None) = record { hour = x; no_minute = refl; no_second = refl; no_fraction = refl } in
         next_read (bad_after fault clock hours) colon _ _ fault rest (TimeFront clock text) (λ row. FitsIn (of_clock clock) brackets row text)
         (λ more next. open_bad front rest is hours (time_of h 0 0 None) more hour next)
-        (λ c more next mark. colon_minute_read h front more (further text front rest (Plain 58 ∷ []) more is (next ∙ rw (eqb-true c 58 mark) refl)) x)
+        (λ c more next mark. minute_read true h front more (is ∙ rw (next, eqb-true c 58 mark) refl) tt x)
         (λ no_colon. next_read (bad_after fault clock hours) digit _ _ fault rest (TimeFront clock text) (λ row. FitsIn (of_clock clock) brackets row text)
         (λ more next. open_bad front rest is hours (time_of h 0 0 None) more hour next)
-        (λ c more next d. plain_minute_read h c front more d (further text front rest (Plain c ∷ []) more is next) x)
+        (λ c more next d. minute_read false h front rest is (c, more, next, d) x)
         (λ closed. (front, is, hour, (no_colon, closed))))
 
     pub hour_read : (c : ℕ) (rest : Text) → IsTrue (digit c) → text ≡ Plain c ∷ rest → Reads (hour_from fault clock c rest)

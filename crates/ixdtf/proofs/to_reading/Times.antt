@@ -1,5 +1,5 @@
 -- A time is read as far as it goes, wherever it starts, and each row of a time's lines is returned.
-use Rattle.std.proofs.Common.{◌≡◌, ℕ, ◌<◌, ◌⊎◌, Bool, true, false, IsTrue, IsFalse, [], ◌∷◌, ◌++◌, Ok, Err, Option, Some, None, refl, sym, ap, ◌∙◌, inl, inr, arith, append-nil, nat_le}
+use Rattle.std.proofs.Common.{◌≡◌, ℕ, suc, ◌<◌, ◌⊎◌, Bool, true, false, IsTrue, IsFalse, [], ◌∷◌, ◌++◌, Ok, Err, Option, Some, None, refl, sym, ap, ◌∙◌, inl, inr, arith, append-nil, nat_le}
 use Rattle.std.proofs.lemmas.Bool.{le-leb, lt-leb, or_parts}
 use Rattle.std.proofs.lemmas.Bool.Decides.{nat_tests}
 use Rattle.ixdtf.specs.language.Times.{Clock}
@@ -11,19 +11,19 @@ use Rattle.ixdtf.specs.language.Shapes.{Shape, some, digits, one}
 use Rattle.ixdtf.specs.language.Digits.{decimal, UpTo}
 use Rattle.ixdtf.specs.language.Fractions.{FractionParts, fraction_of}
 use Rattle.ixdtf.specs.table.Faults.{Fault}
-use Rattle.ixdtf.specs.table.Faults.Fault.{TimeHour, TimeMinuteSecond}
-use Rattle.ixdtf.specs.language.Times.{TimeShape, ClockOf, PlainMinuteText, ColonMinuteText, SecondText, greatest_second, has_seconds}
+use Rattle.ixdtf.specs.language.Times.{TimeShape, ClockOf, SecondText, greatest_second, has_seconds}
 use Rattle.ixdtf.specs.language.Times.TimeShape.{hours, plain_minutes, colon_minutes, seconds, fractions}
+use Rattle.ixdtf.specs.table.LineNames.{LineName}
 use Rattle.ixdtf.specs.table.LineNames.LineName.{of_clock}
 use Rattle.ixdtf.specs.table.LineNames.ClockLine.{hour_digit, hour_range, minute_digits, minute_range, second_digits, second_range, fraction_start}
-use Rattle.ixdtf.specs.table.Lines.{Follow, line_of, follow_of, seconds_after, second_fault, after_minute, Past, ColonOrDigit}
+use Rattle.ixdtf.specs.table.Lines.{Follow, line_of, follow_of, seconds_after, after_minute, Past, ColonOrDigit}
 use Rattle.ixdtf.specs.table.Lines.Line.{line}
 use Rattle.ixdtf.specs.table.Lines.Ending.{error}
 use Rattle.ixdtf.specs.table.Rows.{Row, Place, Stops, front_of}
 use Rattle.ixdtf.specs.table.Rows.Place.{end, other, bad, anywhere}
-use Rattle.ixdtf.specs.reading.Looks.{Read, ◌>>=◌, row_of, look_at, in_range}
-use Rattle.ixdtf.specs.reading.Times.{OpenTime, time_of, line_after, bad_after, mixed_after, fraction_at, after_second_at, colon_second_at, plain_second_at, after_colon_minute_at, after_plain_minute_at, colon_minute_at, plain_minute_at, after_hour_at, hour_from}
-use Rattle.ixdtf.proofs.parts.Looks.{Leads, ◌before◌, Yields, ◌upto◌, Halts, ◌till◌, RowsRead, whole_row, goes, stops, digits_go, digits_stop, one_as_digits, NotNext, run_takes, run_bad}
+use Rattle.ixdtf.specs.reading.Looks.{Read, ◌>>=◌, row_of, look_at, in_range, number_by}
+use Rattle.ixdtf.specs.reading.Times.{OpenTime, time_of, line_after, bad_after, mixed_after, hour_past, minute_past, second_past, minutes_shape, second_start, number_at, fraction_at, after_second_at, second_at, after_minute_at, minute_at, after_hour_at, hour_from}
+use Rattle.ixdtf.proofs.parts.Looks.{Leads, ◌before◌, Yields, ◌upto◌, Halts, ◌till◌, RowsRead, whole_row, LooksForDigit, goes, stops, digits_go, digits_stop, one_as_digits, NotNext, run_takes, run_bad}
 
 digit_no_colon : (c : ℕ) → IsTrue (digit c) → IsFalse (colon c)
 digit_no_colon c h = grind (arith, nat_tests)
@@ -35,6 +35,30 @@ range_fits greatest n e ds rest h = let test : nat_le (decimal ds) greatest ≡ 
 range_refused : {E : Type 0} (greatest : ℕ) (e : E) (ds rest : Text) → greatest < decimal ds → in_range greatest e (ds, rest) ≡ Err e
 unfolding in_range
 range_refused greatest e ds rest h = rw (lt-leb (decimal ds) greatest h) refl
+
+module _ {E : Type 0} (fault : Row → E) (name : LineName) (asks : LooksForDigit (line_of true name)) (greatest : ℕ) (past : Row) where
+  number_goes : (ds rest : Text) (n : ℕ) → UpTo greatest ds n → number_at fault name greatest past (ds ++ rest) ≡ Ok (n, rest)
+  unfolding number_by
+  number_goes ds rest n u = rw (digits_go fault name asks 2 ds rest u.0, range_fits greatest n (fault past) ds rest u) refl
+
+  number_stops : (k : ℕ) (ds rest : Text) (place : Place) (e : Fault) → k < 2 → digits k ds → Stops (line_of true name) place e rest → number_at fault name greatest past (ds ++ rest) ≡ Err (fault (row_of name place e))
+  unfolding number_by
+  number_stops k ds rest place e less d at = rw (digits_stop fault name asks 2 k ds rest place e less d at) refl
+
+  number_too_great : (ds rest : Text) → Past greatest ds → number_at fault name greatest past (ds ++ rest) ≡ Err (fault past)
+  unfolding number_by
+  number_too_great ds rest p = rw (digits_go fault name asks 2 ds rest p.0, range_refused greatest (fault past) ds rest p.1) refl
+
+-- at a digit, which stays, a reading goes on as another
+module _ {E A : Type 0} (start stage : Text → Read E A) (same : (c : ℕ) (rest : Text) → IsTrue (digit c) → start (Plain c ∷ rest) ≡ stage (Plain c ∷ rest)) where
+  same_over : (n : ℕ) (ds rest : Text) → digits (suc n) ds → start (ds ++ rest) ≡ stage (ds ++ rest)
+  same_over n ds rest d = rw d.2 (same d.0 (d.1 ++ rest) d.3)
+
+  leads_as : {further : Text → Read E A} (n : ℕ) (ds : Text) → digits (suc n) ds → Leads stage ds further → Leads start ds further
+  leads_as n ds d from = record { over = λ rest. same_over n ds rest d ∙ from.over rest }
+
+  halts_as : {rest : Text} {e : E} (n : ℕ) (ds : Text) → digits (suc n) ds → Halts stage ds rest e → Halts start ds rest e
+  halts_as n ds d from = record { halts = same_over n ds _ d ∙ from.halts }
 
 -- the parts of a time that are absent are 0 or None
 same_time : (t : TimeRecord) (h m s : ℕ) (f : Option FractionParts) → h ≡ t.hour → m ≡ t.minute → s ≡ t.second → f ≡ t.fraction → time_of h m s f ≡ t
@@ -51,6 +75,10 @@ Closed clock colon_minutes rest = NotNext (seconds_after clock colon) rest × No
 Closed clock seconds rest = NotNext decimal_mark rest
 Closed clock fractions rest = NotNext digit rest
 
+pub closed_minutes : (clock : Clock) (colons : Bool) (rest : Text) → NotNext (seconds_after clock (second_start colons)) rest → NotNext (colon or digit) rest → Closed clock (minutes_shape colons) rest
+closed_minutes clock true rest h g = (h, g)
+closed_minutes clock false rest h g = (h, g)
+
 -- what stands after a whole time where the row of its line fits, but at Bad and at what goes wrong in the time
 abbrev pub StopsAfter : Follow → Place → Fault → Text → Type 0
 StopsAfter follow end e rest = (rest ≡ []) × (follow.at_end ≡ error e)
@@ -65,16 +93,6 @@ closed_at_end clock plain_minutes = (tt, tt)
 closed_at_end clock colon_minutes = (tt, tt)
 closed_at_end clock seconds = tt
 closed_at_end clock fractions = tt
-
--- the rows of numbers that are too great
-abbrev pub hour_past : Clock → Row
-hour_past clock = row_of (of_clock clock hour_range) anywhere TimeHour
-
-abbrev pub minute_past : Clock → Row
-minute_past clock = row_of (of_clock clock minute_range) anywhere TimeMinuteSecond
-
-abbrev pub second_past : Clock → Row
-second_past clock = row_of (of_clock clock second_range) anywhere (second_fault clock)
 
 -- a time with the fraction that was read
 abbrev pub with_fraction : {E : Type 0} → ℕ → ℕ → ℕ → Read E FractionParts → Read E OpenTime
@@ -91,59 +109,43 @@ module _ {E : Type 0} (fault : Row → E) (clock : Clock) (start : Text → Read
             ∙ rw (digits_go fault (of_clock clock hour_digit) (λ c. refl) 1 g.1 rest g.4) (rw (range_fits 23 h (fault (hour_past clock)) (Plain g.0 ∷ g.1) rest (rw g.2 at u)) refl));
       }
 
-  over_colon : (h : ℕ) (t : Text) → one colon t → Leads (after_hour_at fault clock h) t (colon_minute_at fault clock h)
+  over_colon : (h : ℕ) (t : Text) → one colon t → Leads (after_hour_at fault clock h) t (minute_at fault clock true h)
   unfolding after_hour_at look_at
   over_colon h t o = record { over = λ rest. rw (o.1, o.2) refl }
 
-  over_minute_digit : (h c : ℕ) → IsTrue (digit c) → Leads (after_hour_at fault clock h) (Plain c ∷ []) (plain_minute_at fault clock h c)
+  at_minute_digit : (h c : ℕ) (rest : Text) → IsTrue (digit c) → after_hour_at fault clock h (Plain c ∷ rest) ≡ minute_at fault clock false h (Plain c ∷ rest)
   unfolding after_hour_at look_at
-  over_minute_digit h c d = record { over = λ rest. rw (digit_no_colon c d, d) refl }
+  at_minute_digit h c rest d = rw (digit_no_colon c d, d) refl
 
-  over_colon_minute : (h : ℕ) (ms : Text) (m : ℕ) → UpTo 59 ms m → Leads (colon_minute_at fault clock h) ms (after_colon_minute_at fault clock h m)
-  unfolding colon_minute_at
-  over_colon_minute h ms m u = record { over = λ rest. rw (digits_go fault (of_clock clock minute_digits) (λ c. refl) 2 ms rest u.0, range_fits 59 m (fault (minute_past clock)) ms rest u) refl }
+  over_minute : (colons : Bool) (h : ℕ) (ms : Text) (m : ℕ) → UpTo 59 ms m → Leads (minute_at fault clock colons h) ms (after_minute_at fault clock colons h m)
+  unfolding minute_at
+  over_minute colons h ms m u = record { over = λ rest. rw (number_goes fault (of_clock clock minute_digits) (λ c. refl) 59 (minute_past clock) ms rest m u) refl }
 
-  over_plain_minute : (h : ℕ) (ms : Text) (m : ℕ) → UpTo 59 ms m → Leads (after_hour_at fault clock h) ms (after_plain_minute_at fault clock h m)
-  unfolding plain_minute_at
-  over_plain_minute h ms m u =
-      let g = u.0 in
-      record {
-        over = λ rest. rw g.2 ((over_minute_digit h g.0 g.3).over (g.1 ++ rest)
-            ∙ rw (digits_go fault (of_clock clock minute_digits) (λ c. refl) 1 g.1 rest g.4) (rw (range_fits 59 m (fault (minute_past clock)) (Plain g.0 ∷ g.1) rest (rw g.2 at u)) refl));
-      }
+  over_plain_minute : (h : ℕ) (ms : Text) (m : ℕ) → UpTo 59 ms m → Leads (after_hour_at fault clock h) ms (after_minute_at fault clock false h m)
+  over_plain_minute h ms m u = leads_as _ _ (at_minute_digit h) 1 ms u.0 (over_minute false h ms m u)
 
-  over_second_colon : (h m : ℕ) (t : Text) → IsTrue (has_seconds clock) → one colon t → Leads (after_colon_minute_at fault clock h m) t (colon_second_at fault clock h m)
-  unfolding after_colon_minute_at look_at
+  over_minutes : (colons : Bool) (text : Text) (t : TimeRecord) → ClockOf clock (minutes_shape colons) text t → Leads start text (after_minute_at fault clock colons t.hour t.minute)
+  over_minutes true text t x = rw x.is (over_hour _ _ x.hour before over_colon _ _ (58, refl, refl) before over_minute true _ _ _ x.minute)
+  over_minutes false text t x = rw x.is (over_hour _ _ x.hour before over_plain_minute _ _ _ x.minute)
+
+  over_second_colon : (h m : ℕ) (t : Text) → IsTrue (has_seconds clock) → one colon t → Leads (after_minute_at fault clock true h m) t (second_at fault clock h m)
+  unfolding after_minute_at look_at
   over_second_colon h m t may o = record { over = λ rest. rw (o.1, may, o.2) refl }
 
-  over_second_digit : (h m c : ℕ) → IsTrue (has_seconds clock) → IsTrue (digit c) → Leads (after_plain_minute_at fault clock h m) (Plain c ∷ []) (plain_second_at fault clock h m c)
-  unfolding after_plain_minute_at look_at
-  over_second_digit h m c may d = record { over = λ rest. rw (may, d) refl }
+  at_second_digit : (h m : ℕ) → IsTrue (has_seconds clock) → (c : ℕ) (rest : Text) → IsTrue (digit c) → after_minute_at fault clock false h m (Plain c ∷ rest) ≡ second_at fault clock h m (Plain c ∷ rest)
+  unfolding after_minute_at look_at
+  at_second_digit h m may c rest d = rw (may, d) refl
 
-  over_colon_second : (h m : ℕ) (ss : Text) (s : ℕ) → UpTo (greatest_second clock) ss s → Leads (colon_second_at fault clock h m) ss (after_second_at fault clock h m s)
-  unfolding colon_second_at
-  over_colon_second h m ss s u = record { over = λ rest. rw (digits_go fault (of_clock clock second_digits) (λ c. refl) 2 ss rest u.0, range_fits (greatest_second clock) s (fault (second_past clock)) ss rest u) refl }
-
-  over_plain_second : (h m : ℕ) (ss : Text) (s : ℕ) → IsTrue (has_seconds clock) → UpTo (greatest_second clock) ss s → Leads (after_plain_minute_at fault clock h m) ss (after_second_at fault clock h m s)
-  unfolding plain_second_at
-  over_plain_second h m ss s may u =
-      let g = u.0 in
-      record {
-        over = λ rest. rw g.2 ((over_second_digit h m g.0 may g.3).over (g.1 ++ rest)
-            ∙ rw (digits_go fault (of_clock clock second_digits) (λ c. refl) 1 g.1 rest g.4) (rw (range_fits (greatest_second clock) s (fault (second_past clock)) (Plain g.0 ∷ g.1) rest (rw g.2 at u)) refl));
-      }
-
-  over_plain_minutes : (text : Text) (t : TimeRecord) → PlainMinuteText text t → Leads start text (after_plain_minute_at fault clock t.hour t.minute)
-  over_plain_minutes text t x = rw x.is (over_hour _ _ x.hour before over_plain_minute _ _ _ x.minute)
-
-  over_colon_minutes : (text : Text) (t : TimeRecord) → ColonMinuteText text t → Leads start text (after_colon_minute_at fault clock t.hour t.minute)
-  over_colon_minutes text t x = rw x.is (over_hour _ _ x.hour before over_colon _ _ (58, refl, refl) before over_colon_minute _ _ _ x.minute)
+  over_second : (h m : ℕ) (ss : Text) (s : ℕ) → UpTo (greatest_second clock) ss s → Leads (second_at fault clock h m) ss (after_second_at fault clock h m s)
+  unfolding second_at
+  over_second h m ss s u = record { over = λ rest. rw (number_goes fault (of_clock clock second_digits) (λ c. refl) (greatest_second clock) (second_past clock) ss rest s u) refl }
 
   over_seconds : (text : Text) (t : TimeRecord) → SecondText clock text t → Leads start text (after_second_at fault clock t.hour t.minute t.second)
-  over_seconds text t (inl x) = rw x.is (over_hour _ _ x.hour before over_plain_minute _ _ _ x.minute before over_plain_second _ _ _ _ x.may x.second)
+  over_seconds text t (inl x) =
+      rw x.is (over_hour _ _ x.hour before over_plain_minute _ _ _ x.minute before leads_as _ _ (at_second_digit _ _ x.may) 1 _ x.second.0 (over_second _ _ _ _ x.second))
   over_seconds text t (inr x) =
-      rw x.is (over_hour _ _ x.hour before over_colon _ _ (58, refl, refl) before over_colon_minute _ _ _ x.minute
-      before over_second_colon _ _ _ x.may (58, refl, refl) before over_colon_second _ _ _ _ x.second)
+      rw x.is (over_hour _ _ x.hour before over_colon _ _ (58, refl, refl) before over_minute true _ _ _ x.minute
+      before over_second_colon _ _ _ x.may (58, refl, refl) before over_second _ _ _ _ x.second)
 
   fraction_stage : ℕ → ℕ → ℕ → Text → Read E OpenTime
   fraction_stage h m s rest = with_fraction h m s (fraction_at fault clock rest)
@@ -164,17 +166,11 @@ module _ {E : Type 0} (fault : Row → E) (clock : Clock) (start : Text → Read
   stays_at_hour h (Bad ∷ rest) closed = absurd closed.0
   stays_at_hour h (Plain c ∷ rest) closed = rw (closed.0, closed.1) refl
 
-  stays_at_plain_minute : (h m : ℕ) (rest : Text) → Closed clock plain_minutes rest → after_plain_minute_at fault clock h m rest ≡ Ok ((plain_minutes, time_of h m 0 None), rest)
-  unfolding after_plain_minute_at look_at
-  stays_at_plain_minute h m [] closed = refl
-  stays_at_plain_minute h m (Bad ∷ rest) closed = absurd closed.0
-  stays_at_plain_minute h m (Plain c ∷ rest) closed = rw (closed.0, closed.1) refl
-
-  stays_at_colon_minute : (h m : ℕ) (rest : Text) → Closed clock colon_minutes rest → after_colon_minute_at fault clock h m rest ≡ Ok ((colon_minutes, time_of h m 0 None), rest)
-  unfolding after_colon_minute_at look_at
-  stays_at_colon_minute h m [] closed = refl
-  stays_at_colon_minute h m (Bad ∷ rest) closed = absurd closed.0
-  stays_at_colon_minute h m (Plain c ∷ rest) closed = rw (closed.0, closed.1) refl
+  stays_at_minute : (colons : Bool) (h m : ℕ) (rest : Text) → NotNext (seconds_after clock (second_start colons)) rest → NotNext (colon or digit) rest → after_minute_at fault clock colons h m rest ≡ Ok ((minutes_shape colons, time_of h m 0 None), rest)
+  unfolding after_minute_at look_at
+  stays_at_minute colons h m [] no_second closed = refl
+  stays_at_minute colons h m (Bad ∷ rest) no_second closed = absurd closed
+  stays_at_minute colons h m (Plain c ∷ rest) no_second closed = rw (no_second, closed) refl
 
   stays_at_second : (h m s : ℕ) (rest : Text) → Closed clock seconds rest → after_second_at fault clock h m s rest ≡ Ok ((seconds, time_of h m s None), rest)
   unfolding after_second_at look_at
@@ -187,9 +183,9 @@ module _ {E : Type 0} (fault : Row → E) (clock : Clock) (start : Text → Read
   time_takes hours text t rest x closed =
       (over_hour _ _ x.hour).over rest ∙ stays_at_hour t.hour rest closed ∙ ap (λ u. Ok ((hours, u), rest)) (same_time t _ _ _ _ refl (sym x.no_minute) (sym x.no_second) (sym x.no_fraction))
   time_takes plain_minutes text t rest x closed =
-      (over_plain_minutes text t x).over rest ∙ stays_at_plain_minute t.hour t.minute rest closed ∙ ap (λ u. Ok ((plain_minutes, u), rest)) (same_time t _ _ _ _ refl refl (sym x.no_second) (sym x.no_fraction))
+      (over_minutes false text t x).over rest ∙ stays_at_minute false t.hour t.minute rest closed.0 closed.1 ∙ ap (λ u. Ok ((plain_minutes, u), rest)) (same_time t _ _ _ _ refl refl (sym x.no_second) (sym x.no_fraction))
   time_takes colon_minutes text t rest x closed =
-      (over_colon_minutes text t x).over rest ∙ stays_at_colon_minute t.hour t.minute rest closed ∙ ap (λ u. Ok ((colon_minutes, u), rest)) (same_time t _ _ _ _ refl refl (sym x.no_second) (sym x.no_fraction))
+      (over_minutes true text t x).over rest ∙ stays_at_minute true t.hour t.minute rest closed.0 closed.1 ∙ ap (λ u. Ok ((colon_minutes, u), rest)) (same_time t _ _ _ _ refl refl (sym x.no_second) (sym x.no_fraction))
   time_takes seconds text t rest x closed =
       (over_seconds text t x.0).over rest ∙ stays_at_second t.hour t.minute t.second rest closed ∙ ap (λ u. Ok ((seconds, u), rest)) (same_time t _ _ _ _ refl refl refl (sym x.1))
   time_takes fractions text t rest x closed =
@@ -211,73 +207,50 @@ module _ {E : Type 0} (fault : Row → E) (clock : Clock) (start : Text → Read
         let g = f.0 in
         rw (g.2, at) ((starts g.0 g.3).over (g.1 ++ rest) ∙ rw (digits_go fault (of_clock clock hour_digit) (λ c. refl) 1 g.1 rest g.4) (rw (range_refused 23 _ (Plain g.0 ∷ g.1) rest (rw g.2 at f.1)) refl))
 
-    colon_minute_stops : (h k : ℕ) (ds rest : Text) (place : Place) (e : Fault) → k < 2 → digits k ds → Stops (line_of brackets (of_clock clock minute_digits)) place e rest → Halts (colon_minute_at fault clock h) ds rest (fault (row_of (of_clock clock minute_digits) place e))
-    unfolding colon_minute_at
-    colon_minute_stops h k ds rest place e less d at = record { halts = rw (digits_stop fault (of_clock clock minute_digits) (λ c. refl) 2 k ds rest place e less d at) refl }
-
-    plain_minute_stops : (h c : ℕ) (rest : Text) (place : Place) (e : Fault) → Stops (line_of brackets (of_clock clock minute_digits)) place e rest → Halts (plain_minute_at fault clock h c) [] rest (fault (row_of (of_clock clock minute_digits) place e))
-    unfolding plain_minute_at
-    plain_minute_stops h c rest place e at = record { halts = rw (digits_stop fault (of_clock clock minute_digits) (λ c. refl) 1 0 [] rest place e (omega arith) refl at) refl }
+    minute_stops : (colons : Bool) (h k : ℕ) (ds rest : Text) (place : Place) (e : Fault) → k < 2 → digits k ds → Stops (line_of brackets (of_clock clock minute_digits)) place e rest → Halts (minute_at fault clock colons h) ds rest (fault (row_of (of_clock clock minute_digits) place e))
+    unfolding minute_at
+    minute_stops colons h k ds rest place e less d at = record { halts = rw (number_stops fault (of_clock clock minute_digits) (λ c. refl) 59 (minute_past clock) k ds rest place e less d at) refl }
 
     pub minute_digits_row : RowsRead fault brackets start (of_clock clock minute_digits)
     minute_digits_row place e front rest f at = rw f.2 ((at_place f.4).halts)
       where
         at_place : ColonOrDigit f.1 → Halts start (f.0 ++ f.1) rest (fault (row_of (of_clock clock minute_digits) place e))
-        at_place (inl h) = over_hour _ _ f.3.1 till rw (← append-nil f.1) (over_colon _ _ h till colon_minute_stops _ 0 [] rest place e (omega arith) refl at)
-        at_place (inr (inl h)) = rw h.2 (over_hour _ _ f.3.1 till over_colon _ _ h.3 till colon_minute_stops _ 1 h.1 rest place e (omega arith) (one_as_digits _ h.4) at)
-        at_place (inr (inr h)) = rw h.1 (over_hour _ _ f.3.1 till over_minute_digit _ _ h.2 till plain_minute_stops _ _ rest place e at)
+        at_place (inl h) = over_hour _ _ f.3.1 till rw (← append-nil f.1) (over_colon _ _ h till minute_stops true _ 0 [] rest place e (omega arith) refl at)
+        at_place (inr (inl h)) = rw h.2 (over_hour _ _ f.3.1 till over_colon _ _ h.3 till minute_stops true _ 1 h.1 rest place e (omega arith) (one_as_digits _ h.4) at)
+        at_place (inr (inr h)) = let d = one_as_digits _ h in over_hour _ _ f.3.1 till halts_as _ _ (at_minute_digit _) 0 f.1 d (minute_stops false _ 1 f.1 rest place e (omega arith) d at)
 
-    colon_minute_past : (h : ℕ) (ds rest : Text) → Past 59 ds → Halts (colon_minute_at fault clock h) ds rest (fault (minute_past clock))
-    unfolding colon_minute_at
-    colon_minute_past h ds rest p = record { halts = rw (digits_go fault (of_clock clock minute_digits) (λ c. refl) 2 ds rest p.0, range_refused 59 (fault (minute_past clock)) ds rest p.1) refl }
-
-    plain_minute_past : (h : ℕ) (ds rest : Text) → Past 59 ds → Halts (after_hour_at fault clock h) ds rest (fault (minute_past clock))
-    unfolding plain_minute_at
-    plain_minute_past h ds rest p =
-        let g = p.0 in
-        record {
-          halts = rw g.2 ((over_minute_digit h g.0 g.3).over (g.1 ++ rest)
-              ∙ rw (digits_go fault (of_clock clock minute_digits) (λ c. refl) 1 g.1 rest g.4) (rw (range_refused 59 (fault (minute_past clock)) (Plain g.0 ∷ g.1) rest (rw g.2 at p.1)) refl));
-        }
+    minute_too_great : (colons : Bool) (h : ℕ) (ds rest : Text) → Past 59 ds → Halts (minute_at fault clock colons h) ds rest (fault (minute_past clock))
+    unfolding minute_at
+    minute_too_great colons h ds rest p = record { halts = rw (number_too_great fault (of_clock clock minute_digits) (λ c. refl) 59 (minute_past clock) ds rest p) refl }
 
     pub minute_range_row : RowsRead fault brackets start (of_clock clock minute_range)
     minute_range_row = whole_row fault brackets start (of_clock clock minute_range) tt λ e front rest f at. rw (f.2, f.4.2, at) ((at_place f f.4.3).halts)
       where
         at_place : {front rest : Text} (f : front_of (line_of brackets (of_clock clock minute_range)) front) → ((f.4.0 ≡ []) ⊎ one colon f.4.0) → Halts start (f.0 ++ (f.4.0 ++ f.4.1)) rest (fault (minute_past clock))
-        at_place f (inl h) = rw h (over_hour _ _ f.3.1 till plain_minute_past _ _ _ f.4.4)
-        at_place f (inr h) = over_hour _ _ f.3.1 till over_colon _ _ h till colon_minute_past _ _ _ f.4.4
+        at_place f (inl h) = rw h (over_hour _ _ f.3.1 till halts_as _ _ (at_minute_digit _) 1 _ f.4.4.0 (minute_too_great false _ _ _ f.4.4))
+        at_place f (inr h) = over_hour _ _ f.3.1 till over_colon _ _ h till minute_too_great true _ _ _ f.4.4
 
-    colon_second_stops : (h m k : ℕ) (ds rest : Text) (place : Place) (e : Fault) → k < 2 → digits k ds → Stops (line_of brackets (of_clock clock second_digits)) place e rest → Halts (colon_second_at fault clock h m) ds rest (fault (row_of (of_clock clock second_digits) place e))
-    unfolding colon_second_at
-    colon_second_stops h m k ds rest place e less d at = record { halts = rw (digits_stop fault (of_clock clock second_digits) (λ c. refl) 2 k ds rest place e less d at) refl }
-
-    plain_second_stops : (h m c : ℕ) (rest : Text) (place : Place) (e : Fault) → Stops (line_of brackets (of_clock clock second_digits)) place e rest → Halts (plain_second_at fault clock h m c) [] rest (fault (row_of (of_clock clock second_digits) place e))
-    unfolding plain_second_at
-    plain_second_stops h m c rest place e at = record { halts = rw (digits_stop fault (of_clock clock second_digits) (λ c. refl) 1 0 [] rest place e (omega arith) refl at) refl }
+    second_stops : (h m k : ℕ) (ds rest : Text) (place : Place) (e : Fault) → k < 2 → digits k ds → Stops (line_of brackets (of_clock clock second_digits)) place e rest → Halts (second_at fault clock h m) ds rest (fault (row_of (of_clock clock second_digits) place e))
+    unfolding second_at
+    second_stops h m k ds rest place e less d at = record { halts = rw (number_stops fault (of_clock clock second_digits) (λ c. refl) (greatest_second clock) (second_past clock) k ds rest place e less d at) refl }
 
     pub second_digits_row : RowsRead fault brackets start (of_clock clock second_digits)
-    second_digits_row place e front rest (may, inl f) at = rw (f.2, f.4.1) ((over_plain_minutes _ _ f.3.1 till over_second_digit _ _ _ may f.4.2 till plain_second_stops _ _ _ rest place e at).halts)
-    second_digits_row place e front rest (may, inr f) at = rw (f.2, f.4.2) ((over_colon_minutes _ _ f.3.1 till over_second_colon _ _ _ may f.4.3 till colon_second_stops _ _ f.4.4.0 _ rest place e f.4.4.1 f.4.4.2 at).halts)
+    second_digits_row place e front rest (may, inl f) at =
+        let d = one_as_digits _ f.4 in
+        rw f.2 ((over_minutes false f.0 f.3.0 f.3.1 till halts_as _ _ (at_second_digit _ _ may) 0 f.1 d (second_stops _ _ 1 f.1 rest place e (omega arith) d at)).halts)
+    second_digits_row place e front rest (may, inr f) at =
+        rw (f.2, f.4.2) ((over_minutes true f.0 f.3.0 f.3.1 till over_second_colon _ _ _ may f.4.3 till second_stops _ _ f.4.4.0 _ rest place e f.4.4.1 f.4.4.2 at).halts)
 
-    colon_second_past : (h m : ℕ) (ds rest : Text) → Past (greatest_second clock) ds → Halts (colon_second_at fault clock h m) ds rest (fault (second_past clock))
-    unfolding colon_second_at
-    colon_second_past h m ds rest p = record { halts = rw (digits_go fault (of_clock clock second_digits) (λ c. refl) 2 ds rest p.0, range_refused (greatest_second clock) (fault (second_past clock)) ds rest p.1) refl }
-
-    plain_second_past : (h m : ℕ) (ds rest : Text) → IsTrue (has_seconds clock) → Past (greatest_second clock) ds → Halts (after_plain_minute_at fault clock h m) ds rest (fault (second_past clock))
-    unfolding plain_second_at
-    plain_second_past h m ds rest may p =
-        let g = p.0 in
-        record {
-          halts = rw g.2 ((over_second_digit h m g.0 may g.3).over (g.1 ++ rest)
-              ∙ rw (digits_go fault (of_clock clock second_digits) (λ c. refl) 1 g.1 rest g.4) (rw (range_refused (greatest_second clock) (fault (second_past clock)) (Plain g.0 ∷ g.1) rest (rw g.2 at p.1)) refl));
-        }
+    second_too_great : (h m : ℕ) (ds rest : Text) → Past (greatest_second clock) ds → Halts (second_at fault clock h m) ds rest (fault (second_past clock))
+    unfolding second_at
+    second_too_great h m ds rest p = record { halts = rw (number_too_great fault (of_clock clock second_digits) (λ c. refl) (greatest_second clock) (second_past clock) ds rest p) refl }
 
     pub second_range_row : RowsRead fault brackets start (of_clock clock second_range)
     second_range_row = whole_row fault brackets start (of_clock clock second_range) tt λ e front rest f at. rw at ((at_place front rest f).halts)
       where
         at_place : (front rest : Text) → front_of (line_of brackets (of_clock clock second_range)) front → Halts start front rest (fault (second_past clock))
-        at_place front rest (may, inl f) = rw f.2 (over_plain_minutes _ _ f.3.1 till plain_second_past _ _ _ _ may f.4)
-        at_place front rest (may, inr f) = rw (f.2, f.4.2) (over_colon_minutes _ _ f.3.1 till over_second_colon _ _ _ may f.4.3 till colon_second_past _ _ _ _ f.4.4)
+        at_place front rest (may, inl f) = rw f.2 (over_minutes false f.0 f.3.0 f.3.1 till halts_as _ _ (at_second_digit _ _ may) 1 _ f.4.0 (second_too_great _ _ _ _ f.4))
+        at_place front rest (may, inr f) = rw (f.2, f.4.2) (over_minutes true f.0 f.3.0 f.3.1 till over_second_colon _ _ _ may f.4.3 till second_too_great _ _ _ _ f.4.4)
 
     pub fraction_start_row : RowsRead fault brackets start (of_clock clock fraction_start)
     unfolding fraction_at fraction_stage
@@ -292,10 +265,10 @@ module _ {E : Type 0} (fault : Row → E) (clock : Clock) (start : Text → Read
 
   -- at Bad
   time_bad : (shape : TimeShape) (text : Text) (t : TimeRecord) (rest : Text) → ClockOf clock shape text t → start (text ++ (Bad ∷ rest)) ≡ Err (bad_after fault clock shape)
-  unfolding after_hour_at after_plain_minute_at after_colon_minute_at after_second_at fraction_at fraction_stage look_at
+  unfolding after_hour_at after_minute_at after_second_at fraction_at fraction_stage look_at
   time_bad hours text t rest x = (over_hour _ _ x.hour).over (Bad ∷ rest)
-  time_bad plain_minutes text t rest x = (over_plain_minutes text t x).over (Bad ∷ rest)
-  time_bad colon_minutes text t rest x = (over_colon_minutes text t x).over (Bad ∷ rest)
+  time_bad plain_minutes text t rest x = (over_minutes false text t x).over (Bad ∷ rest)
+  time_bad colon_minutes text t rest x = (over_minutes true text t x).over (Bad ∷ rest)
   time_bad seconds text t rest x = (over_seconds text t x.0).over (Bad ∷ rest)
   time_bad fractions text t rest x =
       let part = x.shape in
@@ -304,13 +277,9 @@ module _ {E : Type 0} (fault : Row → E) (clock : Clock) (start : Text → Read
       till fraction_bad _ _ _ ds.0 ds.1 rest part.some.0 ds.3 ds.4).halts)
 
   -- at a colon or a digit that does not go on
-  plain_mixed : (text : Text) (t : TimeRecord) (c : ℕ) (rest : Text) → PlainMinuteText text t → IsFalse (seconds_after clock digit c) → IsTrue ((colon or digit) c) → start (text ++ (Plain c ∷ rest)) ≡ Err (mixed_after fault clock plain_minutes)
-  unfolding after_plain_minute_at look_at
-  plain_mixed text t c rest x out is = (over_plain_minutes text t x).over (Plain c ∷ rest) ∙ rw (out, is) refl
-
-  colon_mixed : (text : Text) (t : TimeRecord) (c : ℕ) (rest : Text) → ColonMinuteText text t → IsFalse (seconds_after clock colon c) → IsTrue ((colon or digit) c) → start (text ++ (Plain c ∷ rest)) ≡ Err (mixed_after fault clock colon_minutes)
-  unfolding after_colon_minute_at look_at
-  colon_mixed text t c rest x out is = (over_colon_minutes text t x).over (Plain c ∷ rest) ∙ rw (out, is) refl
+  minute_mixed : (colons : Bool) (text : Text) (t : TimeRecord) (c : ℕ) (rest : Text) → ClockOf clock (minutes_shape colons) text t → IsFalse (seconds_after clock (second_start colons) c) → IsTrue ((colon or digit) c) → start (text ++ (Plain c ∷ rest)) ≡ Err (mixed_after fault clock (minutes_shape colons))
+  unfolding after_minute_at look_at
+  minute_mixed colons text t c rest x out is = (over_minutes colons text t x).over (Plain c ∷ rest) ∙ rw (out, is) refl
 
   module _ (brackets : Bool) where
     abbrev follow : Follow
@@ -326,21 +295,17 @@ module _ {E : Type 0} (fault : Row → E) (clock : Clock) (start : Text → Read
     at_places shape shown goes_on at_other bad e front rest t x at at_letter = inl (rw (at.1, at.2) (time_bad shape front t at.0 x))
     at_places shape shown goes_on at_other anywhere e front rest t x at at_letter = absurd at
 
+    at_mixed : (colons : Bool) (e : Fault) (front rest : Text) (t : TimeRecord) → ClockOf clock (minutes_shape colons) front t → (c : ℕ) (more : Text) → rest ≡ Plain c ∷ more → IsFalse (seconds_after clock (second_start colons) c) × IsFalse (follow.letters c) → e ≡ after_minute follow clock c → (b : Bool) → (colon or digit) c ≡ b → OpenRow (minutes_shape colons) other e front rest
+    at_mixed colons e front rest t x c more is out same true h = inl (rw (is, same, h) (minute_mixed colons front t c more x out.0 h))
+    at_mixed colons e front rest t x c more is out same false h = inr (rw is (closed_minutes clock colons (Plain c ∷ more) out.0 h), (c, more, is, out.1, rw h at same))
+
     pub open_row : (shape : TimeShape) (place : Place) (e : Fault) (front rest : Text) (t : TimeRecord) → ClockOf clock shape front t → Stops (line_of brackets (line_after clock shape)) place e rest → OpenRow shape place e front rest
     open_row hours place e front rest t x at = at_places hours (some (ClockOf clock hours)) _ _ place e front rest t x at λ c more is out same.
         let parts = or_parts _ _ out in
         let first = or_parts _ _ parts.0 in
         inr (rw is (first.0, first.1), (c, more, is, parts.1, same))
-    open_row plain_minutes place e front rest t x at = at_places plain_minutes (some (ClockOf clock plain_minutes)) _ _ place e front rest t x at λ c more is out same. at_mixed c more is (or_parts _ _ out) same ((colon or digit) c) refl
-      where
-        at_mixed : (c : ℕ) (more : Text) → rest ≡ Plain c ∷ more → IsFalse (seconds_after clock digit c) × IsFalse (follow.letters c) → e ≡ after_minute follow clock c → (b : Bool) → (colon or digit) c ≡ b → OpenRow plain_minutes other e front rest
-        at_mixed c more is out same true h = inl (rw (is, same, h) (plain_mixed front t c more x out.0 h))
-        at_mixed c more is out same false h = inr (rw is (out.0, h), (c, more, is, out.1, rw h at same))
-    open_row colon_minutes place e front rest t x at = at_places colon_minutes (some (ClockOf clock colon_minutes)) _ _ place e front rest t x at λ c more is out same. at_mixed c more is (or_parts _ _ out) same ((colon or digit) c) refl
-      where
-        at_mixed : (c : ℕ) (more : Text) → rest ≡ Plain c ∷ more → IsFalse (seconds_after clock colon c) × IsFalse (follow.letters c) → e ≡ after_minute follow clock c → (b : Bool) → (colon or digit) c ≡ b → OpenRow colon_minutes other e front rest
-        at_mixed c more is out same true h = inl (rw (is, same, h) (colon_mixed front t c more x out.0 h))
-        at_mixed c more is out same false h = inr (rw is (out.0, h), (c, more, is, out.1, rw h at same))
+    open_row plain_minutes place e front rest t x at = at_places plain_minutes (some (ClockOf clock plain_minutes)) _ _ place e front rest t x at λ c more is out same. at_mixed false e front rest t x c more is (or_parts _ _ out) same ((colon or digit) c) refl
+    open_row colon_minutes place e front rest t x at = at_places colon_minutes (some (ClockOf clock colon_minutes)) _ _ place e front rest t x at λ c more is out same. at_mixed true e front rest t x c more is (or_parts _ _ out) same ((colon or digit) c) refl
     open_row seconds place e front rest t x at = at_places seconds (some (ClockOf clock seconds)) _ _ place e front rest t x at λ c more is out same.
         let parts = or_parts _ _ out in inr (rw is parts.0, (c, more, is, parts.1, same))
     open_row fractions place e front rest t x at = at_places fractions (some (ClockOf clock fractions)) _ _ place e front rest t x at λ c more is out same.

@@ -129,6 +129,10 @@ on_next at_bad class go stay text = look_at at_bad text >>= λ next. chosen clas
 unfoldable pub in_range : {E : Type 0} → ℕ → E → Text × Text → Read E ℕ
 in_range greatest fault ds = if nat_le (decimal ds.0) greatest then Ok (decimal ds.0, ds.1) else Err fault
 
+-- two digits, whose number is at most the greatest of its place
+unfoldable pub number_by : {E : Type 0} → Look E → ℕ → E → Text → Read E ℕ
+number_by l greatest past text = digits_by l 2 text >>= in_range greatest past
+
 -- all the digits in front, and the text after them
 unfoldable pub digit_run : {E : Type 0} → E → Text → Read E Text
 digit_run at_bad [] = Ok ([], [])

@@ -2,15 +2,14 @@
 
 #![tactic(auto, unfolding(crate::specs::reading::Times::time_readings))]
 
-ghost use Rattle.std.specs.Prelude.{◌≡◌, ◌+◌, ◌≤◌, ◌∷◌, [], map, nat_le, length, None, IsTrue, IfOk, IfSome, OnOk};
+ghost use Rattle.std.specs.Prelude.{◌≡◌, ◌+◌, ◌≤◌, map, nat_le, length, false, true, None, IsTrue, IfSome, OnOk};
 ghost use Rattle.ixdtf.specs.language.Letters.{digit};
-ghost use Rattle.ixdtf.specs.language.Letters.Letter.{Plain};
-ghost use Rattle.ixdtf.specs.language.Times.{Clock as clocks, greatest_second, has_seconds, writes_seconds};
-ghost use Rattle.ixdtf.specs.table.Lines.{mixed, second_fault};
+ghost use Rattle.ixdtf.specs.language.Times.{Clock as clocks, greatest_second, writes_seconds};
+ghost use Rattle.ixdtf.specs.table.Lines.{mixed, second_fault, seconds_after};
 ghost use Rattle.ixdtf.specs.reading.Clauses.{Reads, Spends, Checks, more_digits_at, fault_of_stop, clock_of, shape_of, open_time_of};
-ghost use Rattle.ixdtf.specs.reading.Looks.{error_of, next_by, digit_look, digits_by};
+ghost use Rattle.ixdtf.specs.reading.Looks.{error_of, digit_look, number_by};
 ghost use Rattle.ixdtf.specs.reading.FixedPlaces.{ranged_time};
-ghost use Rattle.ixdtf.specs.reading.Times.{time_of, clock_at, after_hour_at, colon_minute_at, plain_minute_at, after_colon_minute_at, after_plain_minute_at, colon_second_at, plain_second_at, after_second_at, fraction_at};
+ghost use Rattle.ixdtf.specs.reading.Times.{time_of, second_start, clock_at, after_hour_at, minute_at, after_minute_at, second_at, after_second_at, fraction_at};
 
 use crate::cursor::Cursor;
 use crate::encoding::EncodingType;
@@ -30,13 +29,14 @@ pub enum Clock {
 }
 
 impl Clock {
-    /// Whether seconds may be written.
+    /// Whether a second starts at the byte after a minute: at a colon where colons are written, and else at a digit.
     #[inline(always)]
-    fn has_seconds(self) -> bool
-        ensures { result ≡ has_seconds (clock_of self) }
+    fn starts_second(self, colons: bool, byte: u8) -> bool
+        ensures { result ≡ seconds_after (clock_of self) (second_start colons) byte }
     {
         match self {
-            Clock::Time | Clock::Offset => true,
+            Clock::Time | Clock::Offset if colons => is_time_separator(byte),
+            Clock::Time | Clock::Offset => byte.is_ascii_digit(),
             Clock::MinuteOffset => false,
         }
     }
@@ -209,11 +209,15 @@ fn parse_after_hour<'a, T: EncodingType>(
     match cursor.look()? {
         Some(byte) if is_time_separator(byte) => {
             cursor.step();
-            parse_colon_minute(cursor, clock, hour, time)
+            parse_minute(cursor, clock, true, hour, time)
         }
         Some(byte) if byte.is_ascii_digit() => {
-            cursor.step();
-            parse_plain_minute(cursor, clock, hour, byte, time)
+            let mut here = cursor.take();
+            let mut there = *time;
+            let read = parse_plain_minute(&mut here, clock, hour, &mut there);
+            *cursor = here;
+            *time = there;
+            read
         }
         _ => {
             write_time(time, hour, 0, 0, None);
@@ -222,170 +226,108 @@ fn parse_after_hour<'a, T: EncodingType>(
     }
 }
 
-/// Reads the minute after a colon, and what of the time stands after it.
+/// Takes two digits off and returns their number, which is at most the greatest of its place. The end is `AbruptDigit`, and
+/// another letter or a greater number this stop.
 #[inline(always)]
-fn parse_colon_minute<'a, T: EncodingType>(
+#[tactic(auto, unfolding(crate::specs::reading::Looks::number_by, crate::specs::reading::Looks::in_range))]
+fn next_number<'a, T: EncodingType>(
     cursor: &mut Cursor<'a, T>,
-    clock: Clock,
-    hour: u8,
-    time: &mut TimeRecord,
-) -> Result<Shape, Stop>
-    ensures time { Reads T.letter (open_time_of time.new) cursor.old result cursor.new
-        (colon_minute_at error_of (clock_of clock) hour) }
-    ensures looks { Spends 4 cursor.old cursor.new }
+    greatest: u8,
+    stop: Stop,
+) -> Result<u8, Stop>
+    ensures number { Reads T.letter (λ number. number) cursor.old result cursor.new
+        (number_by (digit_look (fault_of_stop stop)) greatest (fault_of_stop stop)) }
+    ensures looks { Spends 2 cursor.old cursor.new }
+    ensures paid { OnOk result (Spends 0 cursor.old cursor.new) }
 {
-    let (tens, ones) = cursor.two_digits(Stop::TimeMinuteSecond)?;
-    let minute = check_most(digits_value(tens, ones), 59, Stop::TimeMinuteSecond)?;
-    parse_after_colon_minute(cursor, clock, hour, minute, time)
+    let (tens, ones) = cursor.two_digits(stop)?;
+    check_most(digits_value(tens, ones), greatest, stop)
 }
 
-/// Reads the minute's second digit, and what of the time stands after it, by a cursor of its own.
-#[inline(always)]
+/// Reads the minute right after an hour, and what of the time stands after it. It is not inlined: few texts have no colons.
+#[inline(never)]
 fn parse_plain_minute<'a, T: EncodingType>(
     cursor: &mut Cursor<'a, T>,
     clock: Clock,
     hour: u8,
-    tens: u8,
     time: &mut TimeRecord,
 ) -> Result<Shape, Stop>
-    requires digit { IsTrue (digit tens) }
     ensures time { Reads T.letter (open_time_of time.new) cursor.old result cursor.new
-        (plain_minute_at error_of (clock_of clock) hour tens) }
+        (minute_at error_of (clock_of clock) false hour) }
     ensures looks { Spends 4 cursor.old cursor.new }
 {
-    let mut here = cursor.take();
-    let mut there = *time;
-    let read = parse_plain_rest(&mut here, clock, hour, tens, &mut there);
-    *cursor = here;
-    *time = there;
-    read
+    parse_minute(cursor, clock, false, hour, time)
 }
 
-/// Reads the minute's second digit, and what of the time stands after it. It is not inlined: few texts have no colons.
-#[inline(never)]
-fn parse_plain_rest<'a, T: EncodingType>(
-    cursor: &mut Cursor<'a, T>,
-    clock: Clock,
-    hour: u8,
-    tens: u8,
-    time: &mut TimeRecord,
-) -> Result<Shape, Stop>
-    requires digit { IsTrue (digit tens) }
-    ensures time { Reads T.letter (open_time_of time.new) cursor.old result cursor.new
-        (plain_minute_at error_of (clock_of clock) hour tens) }
-    ensures looks { Spends 4 cursor.old cursor.new }
-{
-    let ones = cursor.next_digit(Stop::TimeMinuteSecond)?;
-    let minute = check_most(digits_value(tens, ones), 59, Stop::TimeMinuteSecond)?;
-    parse_after_plain_minute(cursor, clock, hour, minute, time)
-}
-
-/// Reads what of a time stands after `Hour : Min`: a digit there is an error, and a colon where no
-/// seconds may be.
+/// Reads the minute, where its colon is taken off if colons are written, and what of the time stands after it.
 #[inline(always)]
-fn parse_after_colon_minute<'a, T: EncodingType>(
+fn parse_minute<'a, T: EncodingType>(
     cursor: &mut Cursor<'a, T>,
     clock: Clock,
+    colons: bool,
+    hour: u8,
+    time: &mut TimeRecord,
+) -> Result<Shape, Stop>
+    ensures time { Reads T.letter (open_time_of time.new) cursor.old result cursor.new
+        (minute_at error_of (clock_of clock) colons hour) }
+    ensures looks { Spends 4 cursor.old cursor.new }
+{
+    let minute = next_number(cursor, 59, Stop::TimeMinuteSecond)?;
+    parse_after_minute(cursor, clock, colons, hour, minute, time)
+}
+
+/// Reads what of a time stands after `Hour : Min`, or after `Hour Min`. A colon and a digit go on there as they did before
+/// the minute, where seconds may be, and are errors else.
+#[inline(always)]
+fn parse_after_minute<'a, T: EncodingType>(
+    cursor: &mut Cursor<'a, T>,
+    clock: Clock,
+    colons: bool,
     hour: u8,
     minute: u8,
     time: &mut TimeRecord,
 ) -> Result<Shape, Stop>
     ensures time { Reads T.letter (open_time_of time.new) cursor.old result cursor.new
-        (after_colon_minute_at error_of (clock_of clock) hour minute) }
+        (after_minute_at error_of (clock_of clock) colons hour minute) }
     ensures looks { Spends 4 cursor.old cursor.new }
 {
     match cursor.look()? {
-        Some(byte) if clock.has_seconds() && is_time_separator(byte) => {
-            cursor.step();
-            parse_colon_second(cursor, clock, hour, minute, time)
+        Some(byte) if clock.starts_second(colons, byte) => {
+            if colons {
+                cursor.step();
+            }
+            parse_second(cursor, clock, hour, minute, time)
         }
         Some(byte) if is_time_separator(byte) || byte.is_ascii_digit() => Err(clock.mixed()),
         _ => {
             write_time(time, hour, minute, 0, None);
-            Ok(Shape::ColonMinutes)
+            Ok(if colons {
+                Shape::ColonMinutes
+            } else {
+                Shape::PlainMinutes
+            })
         }
     }
 }
 
-/// Reads what of a time stands after `Hour Min`: a colon there is an error, and a digit where no
-/// seconds may be.
+/// Takes the two digits of a second off and returns their number.
 #[inline(always)]
-fn parse_after_plain_minute<'a, T: EncodingType>(
-    cursor: &mut Cursor<'a, T>,
-    clock: Clock,
-    hour: u8,
-    minute: u8,
-    time: &mut TimeRecord,
-) -> Result<Shape, Stop>
-    ensures time { Reads T.letter (open_time_of time.new) cursor.old result cursor.new
-        (after_plain_minute_at error_of (clock_of clock) hour minute) }
-    ensures looks { Spends 4 cursor.old cursor.new }
-{
-    match cursor.look()? {
-        Some(byte) if clock.has_seconds() && byte.is_ascii_digit() => {
-            cursor.step();
-            parse_plain_second(cursor, clock, hour, minute, byte, time)
-        }
-        Some(byte) if is_time_separator(byte) || byte.is_ascii_digit() => Err(clock.mixed()),
-        _ => {
-            write_time(time, hour, minute, 0, None);
-            Ok(Shape::PlainMinutes)
-        }
-    }
-}
-
-/// Takes a digit of a second off.
-#[inline(always)]
-fn next_second_digit<'a, T: EncodingType>(
-    cursor: &mut Cursor<'a, T>,
-    clock: Clock,
-) -> Result<u8, Stop>
-    ensures digit { Reads T.letter (λ byte. byte) cursor.old result cursor.new
-        (next_by (digit_look (second_fault (clock_of clock)))) }
-    ensures is_digit { IfOk result (λ byte. IsTrue (digit byte)) }
-    ensures looks { Spends 1 cursor.old cursor.new }
-    ensures paid { OnOk result (Spends 0 cursor.old cursor.new) }
-{
-    match clock {
-        Clock::Time => cursor.next_digit(Stop::TimeSecond),
-        Clock::Offset | Clock::MinuteOffset => cursor.next_digit(Stop::TimeMinuteSecond),
-    }
-}
-
-/// Takes the two digits of a second off.
-#[inline(always)]
-fn second_digits<'a, T: EncodingType>(
-    cursor: &mut Cursor<'a, T>,
-    clock: Clock,
-) -> Result<(u8, u8), Stop>
-    ensures digits { Reads T.letter (λ ds. Plain ds.0 ∷ Plain ds.1 ∷ [])
-        cursor.old result cursor.new
-        (digits_by (digit_look (second_fault (clock_of clock))) 2) }
-    ensures are_digits { IfOk result (λ ds. IsTrue (digit ds.0) × IsTrue (digit ds.1)) }
+fn next_second<'a, T: EncodingType>(cursor: &mut Cursor<'a, T>, clock: Clock) -> Result<u8, Stop>
+    ensures second { Reads T.letter (λ number. number) cursor.old result cursor.new
+        (number_by (digit_look (second_fault (clock_of clock)))
+            (greatest_second (clock_of clock)) (second_fault (clock_of clock))) }
     ensures looks { Spends 2 cursor.old cursor.new }
     ensures paid { OnOk result (Spends 0 cursor.old cursor.new) }
 {
     match clock {
-        Clock::Time => cursor.two_digits(Stop::TimeSecond),
-        Clock::Offset | Clock::MinuteOffset => cursor.two_digits(Stop::TimeMinuteSecond),
+        Clock::Time => next_number(cursor, 60, Stop::TimeSecond),
+        Clock::Offset | Clock::MinuteOffset => next_number(cursor, 59, Stop::TimeMinuteSecond),
     }
 }
 
-/// The second, where it is at most the greatest one, else the stop.
+/// Reads the second, and a fraction where there is one.
 #[inline(always)]
-fn check_second(second: u8, clock: Clock) -> Result<u8, Stop>
-    ensures { Checks (λ number. number) result second
-        (nat_le second (greatest_second (clock_of clock))) (second_fault (clock_of clock)) }
-{
-    match clock {
-        Clock::Time => check_most(second, 60, Stop::TimeSecond),
-        Clock::Offset | Clock::MinuteOffset => check_most(second, 59, Stop::TimeMinuteSecond),
-    }
-}
-
-/// Reads the second after a colon, and a fraction where there is one.
-#[inline(always)]
-fn parse_colon_second<'a, T: EncodingType>(
+fn parse_second<'a, T: EncodingType>(
     cursor: &mut Cursor<'a, T>,
     clock: Clock,
     hour: u8,
@@ -393,31 +335,10 @@ fn parse_colon_second<'a, T: EncodingType>(
     time: &mut TimeRecord,
 ) -> Result<Shape, Stop>
     ensures time { Reads T.letter (open_time_of time.new) cursor.old result cursor.new
-        (colon_second_at error_of (clock_of clock) hour minute) }
+        (second_at error_of (clock_of clock) hour minute) }
     ensures looks { Spends 3 cursor.old cursor.new }
 {
-    let (tens, ones) = second_digits(cursor, clock)?;
-    let second = check_second(digits_value(tens, ones), clock)?;
-    parse_after_second(cursor, clock, hour, minute, second, time)
-}
-
-/// Reads the second's second digit, and a fraction where there is one.
-#[inline(always)]
-fn parse_plain_second<'a, T: EncodingType>(
-    cursor: &mut Cursor<'a, T>,
-    clock: Clock,
-    hour: u8,
-    minute: u8,
-    tens: u8,
-    time: &mut TimeRecord,
-) -> Result<Shape, Stop>
-    requires digit { IsTrue (digit tens) }
-    ensures time { Reads T.letter (open_time_of time.new) cursor.old result cursor.new
-        (plain_second_at error_of (clock_of clock) hour minute tens) }
-    ensures looks { Spends 3 cursor.old cursor.new }
-{
-    let ones = next_second_digit(cursor, clock)?;
-    let second = check_second(digits_value(tens, ones), clock)?;
+    let second = next_second(cursor, clock)?;
     parse_after_second(cursor, clock, hour, minute, second, time)
 }
 
