@@ -107,6 +107,24 @@ fn check_most(number: u8, greatest: u8, stop: Stop) -> Result<u8, Stop>
     Ok(number)
 }
 
+/// Takes two digits off and returns their number, which is at most the greatest of its place. The end is `AbruptDigit`, and
+/// another letter or a greater number this stop.
+#[inline(always)]
+#[tactic(auto, unfolding(crate::specs::reading::Looks::number_by, crate::specs::reading::Looks::in_range))]
+fn next_number<'a, T: EncodingType>(
+    cursor: &mut Cursor<'a, T>,
+    greatest: u8,
+    stop: Stop,
+) -> Result<u8, Stop>
+    ensures number { Reads T.letter (λ number. number) cursor.old result cursor.new
+        (number_by (digit_look (fault_of_stop stop)) greatest (fault_of_stop stop)) }
+    ensures looks { Spends 2 cursor.old cursor.new }
+    ensures paid { OnOk result (Spends 0 cursor.old cursor.new) }
+{
+    let (tens, ones) = cursor.two_digits(stop)?;
+    check_most(digits_value(tens, ones), greatest, stop)
+}
+
 /// The hour, the minute and the second of a time at fixed places.
 #[derive(Clone, Copy)]
 struct FixedTime {
@@ -211,14 +229,7 @@ fn parse_after_hour<'a, T: EncodingType>(
             cursor.step();
             parse_minute(cursor, clock, true, hour, time)
         }
-        Some(byte) if byte.is_ascii_digit() => {
-            let mut here = cursor.take();
-            let mut there = *time;
-            let read = parse_plain_minute(&mut here, clock, hour, &mut there);
-            *cursor = here;
-            *time = there;
-            read
-        }
+        Some(byte) if byte.is_ascii_digit() => parse_plain_minute(cursor, clock, hour, time),
         _ => {
             write_time(time, hour, 0, 0, None);
             Ok(Shape::Hours)
@@ -226,27 +237,29 @@ fn parse_after_hour<'a, T: EncodingType>(
     }
 }
 
-/// Takes two digits off and returns their number, which is at most the greatest of its place. The end is `AbruptDigit`, and
-/// another letter or a greater number this stop.
+/// Reads the minute right after an hour, and what of the time stands after it, by a cursor of its own.
 #[inline(always)]
-#[tactic(auto, unfolding(crate::specs::reading::Looks::number_by, crate::specs::reading::Looks::in_range))]
-fn next_number<'a, T: EncodingType>(
+fn parse_plain_minute<'a, T: EncodingType>(
     cursor: &mut Cursor<'a, T>,
-    greatest: u8,
-    stop: Stop,
-) -> Result<u8, Stop>
-    ensures number { Reads T.letter (λ number. number) cursor.old result cursor.new
-        (number_by (digit_look (fault_of_stop stop)) greatest (fault_of_stop stop)) }
-    ensures looks { Spends 2 cursor.old cursor.new }
-    ensures paid { OnOk result (Spends 0 cursor.old cursor.new) }
+    clock: Clock,
+    hour: u8,
+    time: &mut TimeRecord,
+) -> Result<Shape, Stop>
+    ensures time { Reads T.letter (open_time_of time.new) cursor.old result cursor.new
+        (minute_at error_of (clock_of clock) false hour) }
+    ensures looks { Spends 4 cursor.old cursor.new }
 {
-    let (tens, ones) = cursor.two_digits(stop)?;
-    check_most(digits_value(tens, ones), greatest, stop)
+    let mut here = cursor.take();
+    let mut there = *time;
+    let read = parse_plain_rest(&mut here, clock, hour, &mut there);
+    *cursor = here;
+    *time = there;
+    read
 }
 
 /// Reads the minute right after an hour, and what of the time stands after it. It is not inlined: few texts have no colons.
 #[inline(never)]
-fn parse_plain_minute<'a, T: EncodingType>(
+fn parse_plain_rest<'a, T: EncodingType>(
     cursor: &mut Cursor<'a, T>,
     clock: Clock,
     hour: u8,
@@ -315,7 +328,7 @@ fn parse_after_minute<'a, T: EncodingType>(
 fn next_second<'a, T: EncodingType>(cursor: &mut Cursor<'a, T>, clock: Clock) -> Result<u8, Stop>
     ensures second { Reads T.letter (λ number. number) cursor.old result cursor.new
         (number_by (digit_look (second_fault (clock_of clock)))
-            (greatest_second (clock_of clock)) (second_fault (clock_of clock))) }
+        (greatest_second (clock_of clock)) (second_fault (clock_of clock))) }
     ensures looks { Spends 2 cursor.old cursor.new }
     ensures paid { OnOk result (Spends 0 cursor.old cursor.new) }
 {
