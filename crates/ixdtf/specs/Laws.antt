@@ -18,3 +18,7 @@ EveryDateTimeIsRead = (text : Text) → IsRfcDateTime text → (found : Parsed) 
 abbrev pub EveryNameIsAnIdentifier : Type 0
 EveryNameIsAnIdentifier = (text : Text) (name : List ℕ) → Derives parse_iana_identifier text (named name) [] →
     (text ≡ map Plain name) × Derives parse_identifier text (identified (Name name)) []
+
+-- cloning never fails, and each clone is its source
+abbrev pub ClonesAreEqual : {K : Type 0} → (K → K → Type 0) → (K → Type 0) → Type 0
+ClonesAreEqual {K} is_clone is_infallible = (source : K) → is_infallible source × ((copy : K) → is_clone source copy → copy ≡ source)

@@ -4,17 +4,22 @@
 //! from there on, at no cost where the law takes nothing and does nothing. [`parse_unanswered`] reads, and its contract is
 //! that of [`IxdtfParser::parse_with_annotation_handler`] with the law beside it.
 
-ghost use Rattle.std.specs.Prelude.{◌≡◌, ◌≢◌, ◌+◌, ◌≤◌, [], map, OnOk, OnErr, IfOk, IfErr, IsFalse, None};
+ghost use Rattle.std.specs.Prelude.{◌≡◌, ◌≢◌, ◌+◌, ◌≤◌, [], map, OnOk, OnErr, IfOk, IfErr, IfSome, IsFalse, None};
+ghost use Rattle.std.specs.Cmp.{IsEquivalence};
 ghost use Rattle.ixdtf.specs.table.Faults.{fault_of, never_comes};
 ghost use Rattle.ixdtf.specs.table.Faults.Fault.{CriticalDuplicateCalendar, UnrecognizedCritical};
 ghost use Rattle.ixdtf.specs.language.Readers.{parse as reader_parse};
 ghost use Rattle.ixdtf.specs.Handlers.{Handled};
-ghost use Rattle.ixdtf.specs.Laws.{EveryDateTimeIsRead, EveryNameIsAnIdentifier};
+ghost use Rattle.ixdtf.specs.Laws.{EveryDateTimeIsRead, EveryNameIsAnIdentifier, ClonesAreEqual};
+ghost use Rattle.ixdtf.specs.language.Fractions.{exact_nanoseconds_of, nanoseconds_of};
 ghost use Rattle.ixdtf.specs.Views.{returned, returned_by, parsed_of, most_looks};
 
 use crate::encoding::EncodingType;
 use crate::parsers::IxdtfParser;
-use crate::records::{Annotation, IxdtfParseRecord};
+use crate::records::{
+    Annotation, DateRecord, Fraction, FullPrecisionOffset, IxdtfParseRecord, MinutePrecisionOffset,
+    Sign, TimeRecord, TimeZoneAnnotation, TimeZoneRecord, UtcOffsetRecord, UtcOffsetRecordOrZ,
+};
 use crate::stop::Raised;
 use crate::{ParseError, ParserResult};
 
@@ -32,6 +37,57 @@ pub fn every_rfc3339_date_time_is_read()
 /// the text as `Name` of the same units.
 pub fn every_name_is_an_identifier()
     ensures { EveryNameIsAnIdentifier }
+{}
+
+/// Where [`Fraction::to_nanoseconds`] returns `Some`, [`Fraction::to_truncated_nanoseconds`] returns the same number.
+pub fn exact_nanoseconds_are_the_truncated_ones(fraction: &Fraction)
+    ensures { IfSome (exact_nanoseconds_of fraction.now) (λ n. nanoseconds_of fraction.now ≡ n) }
+{
+    let _ = fraction.to_nanoseconds();
+}
+
+/// Equality of slices of units, of each record and of errors is reflexive, symmetric and transitive, in every encoding.
+pub fn equality_is_an_equivalence<'a, T: EncodingType>()
+where
+    T::CodeUnit: 'a,
+    ensures units { IsEquivalence ⟦<&'a [T::CodeUnit] as PartialEq>⟧.eq }
+    ensures record { IsEquivalence ⟦<IxdtfParseRecord<'a, T> as PartialEq>⟧.eq }
+    ensures annotation { IsEquivalence ⟦<Annotation<'a, T> as PartialEq>⟧.eq }
+    ensures zone_annotation { IsEquivalence ⟦<TimeZoneAnnotation<'a, T> as PartialEq>⟧.eq }
+    ensures zone { IsEquivalence ⟦<TimeZoneRecord<'a, T> as PartialEq>⟧.eq }
+    ensures date { IsEquivalence ⟦<DateRecord as PartialEq>⟧.eq }
+    ensures time { IsEquivalence ⟦<TimeRecord as PartialEq>⟧.eq }
+    ensures fraction { IsEquivalence ⟦<Fraction as PartialEq>⟧.eq }
+    ensures sign { IsEquivalence ⟦<Sign as PartialEq>⟧.eq }
+    ensures minute_offset { IsEquivalence ⟦<MinutePrecisionOffset as PartialEq>⟧.eq }
+    ensures full_offset { IsEquivalence ⟦<FullPrecisionOffset as PartialEq>⟧.eq }
+    ensures offset { IsEquivalence ⟦<UtcOffsetRecord as PartialEq>⟧.eq }
+    ensures offset_or_z { IsEquivalence ⟦<UtcOffsetRecordOrZ as PartialEq>⟧.eq }
+    ensures error { IsEquivalence ⟦<ParseError as PartialEq>⟧.eq }
+{}
+
+/// `clone` of each record and of an error is `Ok`, and what it returns is the value, in every encoding.
+pub fn clones_are_equal<'a, T: EncodingType>()
+where
+    T::CodeUnit: 'a,
+    ensures annotation { ClonesAreEqual
+        ⟦<Annotation<'a, T> as Clone>⟧.is_clone ⟦<Annotation<'a, T> as Clone>⟧.is_infallible }
+    ensures zone_annotation { ClonesAreEqual
+        ⟦<TimeZoneAnnotation<'a, T> as Clone>⟧.is_clone ⟦<TimeZoneAnnotation<'a, T> as Clone>⟧.is_infallible }
+    ensures zone { ClonesAreEqual
+        ⟦<TimeZoneRecord<'a, T> as Clone>⟧.is_clone ⟦<TimeZoneRecord<'a, T> as Clone>⟧.is_infallible }
+    ensures date { ClonesAreEqual ⟦<DateRecord as Clone>⟧.is_clone ⟦<DateRecord as Clone>⟧.is_infallible }
+    ensures time { ClonesAreEqual ⟦<TimeRecord as Clone>⟧.is_clone ⟦<TimeRecord as Clone>⟧.is_infallible }
+    ensures fraction { ClonesAreEqual ⟦<Fraction as Clone>⟧.is_clone ⟦<Fraction as Clone>⟧.is_infallible }
+    ensures sign { ClonesAreEqual ⟦<Sign as Clone>⟧.is_clone ⟦<Sign as Clone>⟧.is_infallible }
+    ensures minute_offset { ClonesAreEqual
+        ⟦<MinutePrecisionOffset as Clone>⟧.is_clone ⟦<MinutePrecisionOffset as Clone>⟧.is_infallible }
+    ensures full_offset { ClonesAreEqual
+        ⟦<FullPrecisionOffset as Clone>⟧.is_clone ⟦<FullPrecisionOffset as Clone>⟧.is_infallible }
+    ensures offset { ClonesAreEqual ⟦<UtcOffsetRecord as Clone>⟧.is_clone ⟦<UtcOffsetRecord as Clone>⟧.is_infallible }
+    ensures offset_or_z { ClonesAreEqual
+        ⟦<UtcOffsetRecordOrZ as Clone>⟧.is_clone ⟦<UtcOffsetRecordOrZ as Clone>⟧.is_infallible }
+    ensures error { ClonesAreEqual ⟦<ParseError as Clone>⟧.is_clone ⟦<ParseError as Clone>⟧.is_infallible }
 {}
 
 /// Reads as [`IxdtfParser::parse_with_annotation_handler`] does, with a handler that replies `None` to each annotation: the
