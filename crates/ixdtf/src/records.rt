@@ -330,11 +330,10 @@ impl Fraction {
         ensures exact { result ≡ exact_nanoseconds_of self.now }
         ensures value { IfSome result (λ n. n ≡ nanoseconds_of self.now) }
     {
-        if self.digits <= 9 {
-            Some(self.to_truncated_nanoseconds())
-        } else {
-            None
+        if self.digits > 9 {
+            return None;
         }
+        Some(self.to_truncated_nanoseconds())
     }
 
     /// The whole nanoseconds of the fraction: its first nine digits, with zeros behind them where there are fewer. What
