@@ -326,6 +326,7 @@ impl Fraction {
 
     /// The nanoseconds of the fraction, or `None` where it has more than nine digits, also where those behind the ninth are
     /// zeros. Where they are there, they are what [`to_truncated_nanoseconds`](Self::to_truncated_nanoseconds) returns.
+    #[tactic(auto, using(crate::proofs::code::Nanoseconds::exact_few))]
     pub fn to_nanoseconds(&self) -> Option<u32>
         ensures exact { result ≡ exact_nanoseconds_of self.now }
         ensures value { IfSome result (λ n. n ≡ nanoseconds_of self.now) }

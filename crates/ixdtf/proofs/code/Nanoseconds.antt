@@ -116,8 +116,8 @@ nanoseconds-many count value power many fits is_power =
     })
 
 -- the nanoseconds of a fraction of at most nine digits are exact
-pub exact-few : (fraction : FractionParts) → fraction.count ≤ 9 → fraction.value < 10 ^ min fraction.count 18 → Some (nanoseconds_of fraction) ≡ exact_nanoseconds_of fraction
-exact-few fraction few fits =
+pub exact_few : (fraction : FractionParts) → fraction.count ≤ 9 → fraction.value < 10 ^ min fraction.count 18 → Some (nanoseconds_of fraction) ≡ exact_nanoseconds_of fraction
+exact_few fraction few fits =
     let test : true ≡ nat_le fraction.count 9 = grind (arith, nat_tests, few) in
     let value = (nanoseconds-few fraction.count fraction.value _ few fits refl).value in
     ap Some (sym value) ∙ ap (λ b. cond b (Some (fraction.value * 10 ^ (9 - fraction.count))) None) test

@@ -13,13 +13,13 @@ use ixdtf::records::{
 
 /// A text in 16-bit units, each character in one unit.
 #[derive(Drop)]
-struct Wide {
+pub(super) struct Wide {
     units: [u16; 512],
     length: usize,
 }
 
 impl Wide {
-    fn new(text: &str) -> Wide {
+    pub(super) fn new(text: &str) -> Wide {
         let mut wide = Wide {
             units: [0; 512],
             length: 0,
@@ -34,7 +34,7 @@ impl Wide {
         wide
     }
 
-    fn units(&self) -> &[u16] {
+    pub(super) fn units(&self) -> &[u16] {
         match self.units.get(..self.length) {
             Some(units) => units,
             None => &[],
@@ -320,45 +320,57 @@ fn refuses_what_stands_before_such_a_unit(rt: HostRuntime) {
 
 // What stands after a date.
 #[derive(Clone, Copy)]
-struct After {
-    time: Option<TimeRecord>,
-    offset: Option<UtcOffsetRecordOrZ>,
+pub(super) struct After {
+    pub(super) time: Option<TimeRecord>,
+    pub(super) offset: Option<UtcOffsetRecordOrZ>,
     // A `!`, where it stands, and a name.
-    zone: Option<(bool, &'static str)>,
-    calendar: Option<&'static str>,
+    pub(super) zone: Option<(bool, &'static str)>,
+    pub(super) calendar: Option<&'static str>,
 }
 
-const NOTHING: After = After {
+pub(super) const NOTHING: After = After {
     time: None,
     offset: None,
     zone: None,
     calendar: None,
 };
 
-// Whether the text has this record, with names and calendar in 16-bit units.
-fn gives(text: &'static str, (year, month, day): (i32, u8, u8), after: After) -> bool {
-    let wide = Wide::new(text);
+// Whether the record is of this date and of what stands after it, with names and calendar in 16-bit units.
+pub(super) fn has_parts<'a>(
+    record: &IxdtfParseRecord<'a, Utf16>,
+    (year, month, day): (i32, u8, u8),
+    after: After,
+) -> bool {
     let (critical, name) = after.zone.unwrap_or((false, ""));
     let name = Wide::new(name);
     let calendar = Wide::new(after.calendar.unwrap_or(""));
-    let record: IxdtfParseRecord<'_, Utf16> = IxdtfParseRecord {
-        date: Some(DateRecord { year, month, day }),
-        time: after.time,
-        offset: after.offset,
-        tz: match after.zone {
-            None => None,
-            Some(_) => Some(TimeZoneAnnotation {
-                critical,
-                tz: TimeZoneRecord::Name(name.units()),
-            }),
-        },
-        calendar: match after.calendar {
-            None => None,
-            Some(_) => Some(calendar.units()),
-        },
+    let zone = TimeZoneAnnotation {
+        critical,
+        tz: TimeZoneRecord::Name(name.units()),
     };
+    let has_zone = match &record.tz {
+        None => after.zone.is_none(),
+        Some(found) => after.zone.is_some() && *found == zone,
+    };
+    let has_calendar = match record.calendar {
+        None => after.calendar.is_none(),
+        Some(found) => after.calendar.is_some() && found == calendar.units(),
+    };
+    record.date == Some(DateRecord { year, month, day })
+        && record.time == after.time
+        && record.offset == after.offset
+        && has_zone
+        && has_calendar
+}
+
+// Whether the text has this record.
+fn gives(text: &'static str, date: (i32, u8, u8), after: After) -> bool {
+    let wide = Wide::new(text);
     let mut parser: IxdtfParser<'_, Utf16> = IxdtfParser::new(wide.units());
-    parser.parse() == Ok(record)
+    match parser.parse() {
+        Ok(record) => has_parts(&record, date, after),
+        Err(_) => false,
+    }
 }
 
 #[test]
