@@ -1,6 +1,7 @@
 -- What the functions of the code use.
 pub mod Chains
 pub mod DigitClasses
+pub mod EqualRecords
 pub mod EqualUnits
 pub mod FirstPass
 pub mod FixedDate

@@ -1,5 +1,6 @@
 -- What the laws say, each for every text.
-use Rattle.std.specs.Prelude.{◌≡◌, ℕ, List, [], map}
+use Rattle.std.specs.Prelude.{◌≡◌, ◌↔◌, ℕ, Bool, IsTrue, List, [], map}
+use Rattle.std.specs.Cmp.{IsEquivalence}
 use Rattle.ixdtf.specs.Handlers.{PlainRecord}
 use Rattle.ixdtf.specs.language.Languages.{Parsed, Derives}
 use Rattle.ixdtf.specs.language.Languages.Found.{parsed, identified, named}
@@ -18,3 +19,12 @@ EveryDateTimeIsRead = (text : Text) → IsRfcDateTime text → (found : Parsed) 
 abbrev pub EveryNameIsAnIdentifier : Type 0
 EveryNameIsAnIdentifier = (text : Text) (name : List ℕ) → Derives parse_iana_identifier text (named name) [] →
     (text ≡ map Plain name) × Derives parse_identifier text (identified (Name name)) []
+
+-- cloning never fails, and each clone is its source
+abbrev pub ClonesAreEqual : {K : Type 0} → (K → K → Type 0) → (K → Type 0) → Type 0
+ClonesAreEqual {K} is_clone is_infallible = (source : K) → is_infallible source × ((copy : K) → is_clone source copy → copy ≡ source)
+
+-- values are equal by this test exactly where they are seen as one, so the test is reflexive, symmetric and transitive
+pub record IsEqualityBy {K V : Type 0} (seen : K → V) (eq : K → K → Bool) : Type 0 where
+  pub exact : (a b : K) → IsTrue (eq a b) ↔ (seen a ≡ seen b)
+  pub equivalence : IsEquivalence eq

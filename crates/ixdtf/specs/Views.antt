@@ -61,6 +61,14 @@ parsed_of number r = record {
   calendar = option_map (λ units. map number units.now) r.calendar;
 }
 
+-- a record in which nothing stands
+pub record IsEmptyRecord {T U : Type 0} (r : IxdtfParseRecord T U) : Type 0 where
+  pub date : r.date ≡ None
+  pub time : r.time ≡ None
+  pub offset : r.offset ≡ None
+  pub tz : r.tz ≡ None
+  pub calendar : r.calendar ≡ None
+
 -- the most looks that a reader makes at a text
 abbrev pub most_looks : List ℕ → ℕ
 most_looks rest = 4 * length rest + 64

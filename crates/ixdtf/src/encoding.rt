@@ -5,10 +5,10 @@
 
 ghost use Rattle.std.specs.Prelude.{◌≡◌, ℕ, ◌<◌, ◌≤◌, ◌↔◌, ◌^◌, List, map, length, All, IsTrue, IsSome, IfSome, slice_range, codes};
 ghost use Rattle.std.specs.Cmp.{unsigned_Decides};
-ghost use Rattle.ixdtf.specs.language.Letters.{Letter, Plain, byte_letter, byte_letter-faithful};
+ghost use Rattle.ixdtf.specs.language.Letters.{Letter, Plain, byte_letter, wide_letter, byte_letter-faithful, wide_letter-faithful};
 ghost use Rattle.ixdtf.specs.Views.{Returns, ascii_at};
 
-use crate::ParserResult;
+use crate::{ParseError, ParserResult};
 
 mod private {
     /// Only this crate's encodings are encodings.
@@ -91,6 +91,47 @@ impl EncodingType for Utf8 {
     }
 
     ghost faithful = { byte_letter-faithful };
+
+    ghost injective = { λ a b same. same };
+
+    ghost equal = { unsigned_Decides };
+}
+
+/// Sources in 16-bit units, as UTF-16. Units from 1 to 126 are their own letters, and every other stands for none, also 0 and
+/// 127. That the units are UTF-16 is not tested.
+#[derive(Clone, Debug, Drop, PartialEq)]
+pub struct Utf16;
+
+impl private::Sealed for Utf16 {}
+
+impl EncodingType for Utf16 {
+    type CodeUnit = u16;
+
+    ghost number = { λ unit. unit };
+
+    ghost letter = { wide_letter };
+
+    ghost limit = { 2 ^ 16 };
+
+    fn slice(source: &[u16], start: usize, end: usize) -> Option<&[u16]> {
+        source.get(start..end)
+    }
+
+    #[inline(always)]
+    fn get_ascii(source: &[u16], index: usize) -> ParserResult<Option<u8>> {
+        match source.get(index) {
+            None => Ok(None),
+            Some(unit) if *unit < 1 || *unit > 126 => Err(ParseError::NonAsciiCodePoint),
+            Some(unit) => Ok(Some(*unit as u8)),
+        }
+    }
+
+    #[inline(always)]
+    fn check_calendar_key(key: &[u16]) -> bool {
+        matches!(key, [0x75, 0x2d, 0x63, 0x61])
+    }
+
+    ghost faithful = { wide_letter-faithful };
 
     ghost injective = { λ a b same. same };
 

@@ -5,6 +5,7 @@ ghost use Rattle.ixdtf.specs.table.Faults.{fault_of};
 ghost use Rattle.ixdtf.specs.table.ErrorTexts.{text_of};
 ghost use Rattle.ixdtf.specs.table.ErrorEquality.{place_of, location_of};
 
+use std::error::Error;
 use std::fmt;
 
 /// Why a reader refused a text, or a reply to an annotation.
@@ -288,3 +289,5 @@ impl fmt::Display for ParseError {
         }
     }
 }
+
+impl Error for ParseError {}

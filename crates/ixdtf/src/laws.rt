@@ -4,17 +4,21 @@
 //! from there on, at no cost where the law takes nothing and does nothing. [`parse_unanswered`] reads, and its contract is
 //! that of [`IxdtfParser::parse_with_annotation_handler`] with the law beside it.
 
-ghost use Rattle.std.specs.Prelude.{◌≡◌, ◌≢◌, ◌+◌, ◌≤◌, [], map, OnOk, OnErr, IfOk, IfErr, IsFalse, None};
+ghost use Rattle.std.specs.Prelude.{◌≡◌, ◌≢◌, ◌+◌, ◌≤◌, [], map, OnOk, OnErr, IfOk, IfErr, IfSome, IsFalse, None};
 ghost use Rattle.ixdtf.specs.table.Faults.{fault_of, never_comes};
 ghost use Rattle.ixdtf.specs.table.Faults.Fault.{CriticalDuplicateCalendar, UnrecognizedCritical};
 ghost use Rattle.ixdtf.specs.language.Readers.{parse as reader_parse};
-ghost use Rattle.ixdtf.specs.Handlers.{Handled};
-ghost use Rattle.ixdtf.specs.Laws.{EveryDateTimeIsRead, EveryNameIsAnIdentifier};
-ghost use Rattle.ixdtf.specs.Views.{returned, returned_by, parsed_of, most_looks};
+ghost use Rattle.ixdtf.specs.Handlers.{Handled, pair_of};
+ghost use Rattle.ixdtf.specs.Laws.{EveryDateTimeIsRead, EveryNameIsAnIdentifier, ClonesAreEqual, IsEqualityBy};
+ghost use Rattle.ixdtf.specs.language.Fractions.{exact_nanoseconds_of, nanoseconds_of};
+ghost use Rattle.ixdtf.specs.Views.{returned, returned_by, zone_of, note_of, parsed_of, most_looks};
 
 use crate::encoding::EncodingType;
 use crate::parsers::IxdtfParser;
-use crate::records::{Annotation, IxdtfParseRecord};
+use crate::records::{
+    Annotation, DateRecord, Fraction, FullPrecisionOffset, IxdtfParseRecord, MinutePrecisionOffset,
+    Sign, TimeRecord, TimeZoneAnnotation, TimeZoneRecord, UtcOffsetRecord, UtcOffsetRecordOrZ,
+};
 use crate::stop::Raised;
 use crate::{ParseError, ParserResult};
 
@@ -32,6 +36,68 @@ pub fn every_rfc3339_date_time_is_read()
 /// the text as `Name` of the same units.
 pub fn every_name_is_an_identifier()
     ensures { EveryNameIsAnIdentifier }
+{}
+
+/// Where [`Fraction::to_nanoseconds`] returns `Some`, [`Fraction::to_truncated_nanoseconds`] returns the same number.
+pub fn exact_nanoseconds_are_the_truncated_ones(fraction: &Fraction)
+    ensures { IfSome (exact_nanoseconds_of fraction.now) (λ n. nanoseconds_of fraction.now ≡ n) }
+{
+    let _ = fraction.to_nanoseconds();
+}
+
+/// Equality of slices of units, of each record and of errors is equality of what a contract sees of them, slices by the numbers
+/// of their units and locations by their bytes; and so it is reflexive, symmetric and transitive, in every encoding.
+pub fn equality_is_of_what_is_seen<'a, T: EncodingType>()
+where
+    T::CodeUnit: 'a,
+    ensures units { IsEqualityBy (λ units. map T.number units.now)
+        ⟦<&'a [T::CodeUnit] as PartialEq>⟧.eq }
+    ensures record { IsEqualityBy (parsed_of T.number)
+        ⟦<IxdtfParseRecord<'a, T> as PartialEq>⟧.eq }
+    ensures annotation { IsEqualityBy (pair_of T.number)
+        ⟦<Annotation<'a, T> as PartialEq>⟧.eq }
+    ensures zone_annotation { IsEqualityBy (note_of T.number)
+        ⟦<TimeZoneAnnotation<'a, T> as PartialEq>⟧.eq }
+    ensures zone { IsEqualityBy (zone_of T.number) ⟦<TimeZoneRecord<'a, T> as PartialEq>⟧.eq }
+    ensures date { IsEqualityBy (λ it. it) ⟦<DateRecord as PartialEq>⟧.eq }
+    ensures time { IsEqualityBy (λ it. it) ⟦<TimeRecord as PartialEq>⟧.eq }
+    ensures fraction { IsEqualityBy (λ it. it) ⟦<Fraction as PartialEq>⟧.eq }
+    ensures sign { IsEqualityBy (λ it. it) ⟦<Sign as PartialEq>⟧.eq }
+    ensures minute_offset { IsEqualityBy (λ it. it) ⟦<MinutePrecisionOffset as PartialEq>⟧.eq }
+    ensures full_offset { IsEqualityBy (λ it. it) ⟦<FullPrecisionOffset as PartialEq>⟧.eq }
+    ensures offset { IsEqualityBy (λ it. it) ⟦<UtcOffsetRecord as PartialEq>⟧.eq }
+    ensures offset_or_z { IsEqualityBy (λ it. it) ⟦<UtcOffsetRecordOrZ as PartialEq>⟧.eq }
+    ensures error { IsEqualityBy fault_of ⟦<ParseError as PartialEq>⟧.eq }
+{}
+
+/// `clone` of each record and of an error is `Ok`, and what it returns is the value, in every encoding.
+pub fn clones_are_equal<'a, T: EncodingType>()
+where
+    T::CodeUnit: 'a,
+    ensures annotation { ClonesAreEqual ⟦<Annotation<'a, T> as Clone>⟧.is_clone
+        ⟦<Annotation<'a, T> as Clone>⟧.is_infallible }
+    ensures zone_annotation { ClonesAreEqual ⟦<TimeZoneAnnotation<'a, T> as Clone>⟧.is_clone
+        ⟦<TimeZoneAnnotation<'a, T> as Clone>⟧.is_infallible }
+    ensures zone { ClonesAreEqual ⟦<TimeZoneRecord<'a, T> as Clone>⟧.is_clone
+        ⟦<TimeZoneRecord<'a, T> as Clone>⟧.is_infallible }
+    ensures date { ClonesAreEqual ⟦<DateRecord as Clone>⟧.is_clone
+        ⟦<DateRecord as Clone>⟧.is_infallible }
+    ensures time { ClonesAreEqual ⟦<TimeRecord as Clone>⟧.is_clone
+        ⟦<TimeRecord as Clone>⟧.is_infallible }
+    ensures fraction { ClonesAreEqual ⟦<Fraction as Clone>⟧.is_clone
+        ⟦<Fraction as Clone>⟧.is_infallible }
+    ensures sign { ClonesAreEqual ⟦<Sign as Clone>⟧.is_clone
+        ⟦<Sign as Clone>⟧.is_infallible }
+    ensures minute_offset { ClonesAreEqual ⟦<MinutePrecisionOffset as Clone>⟧.is_clone
+        ⟦<MinutePrecisionOffset as Clone>⟧.is_infallible }
+    ensures full_offset { ClonesAreEqual ⟦<FullPrecisionOffset as Clone>⟧.is_clone
+        ⟦<FullPrecisionOffset as Clone>⟧.is_infallible }
+    ensures offset { ClonesAreEqual ⟦<UtcOffsetRecord as Clone>⟧.is_clone
+        ⟦<UtcOffsetRecord as Clone>⟧.is_infallible }
+    ensures offset_or_z { ClonesAreEqual ⟦<UtcOffsetRecordOrZ as Clone>⟧.is_clone
+        ⟦<UtcOffsetRecordOrZ as Clone>⟧.is_infallible }
+    ensures error { ClonesAreEqual ⟦<ParseError as Clone>⟧.is_clone
+        ⟦<ParseError as Clone>⟧.is_infallible }
 {}
 
 /// Reads as [`IxdtfParser::parse_with_annotation_handler`] does, with a handler that replies `None` to each annotation: the

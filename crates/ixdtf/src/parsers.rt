@@ -27,7 +27,7 @@ mod zones;
 use self::texts::parse_text;
 pub use self::zones::TimeZoneParser;
 use crate::cursor::Cursor;
-use crate::encoding::{EncodingType, Utf8};
+use crate::encoding::{EncodingType, Utf8, Utf16};
 use crate::records::{Annotation, IxdtfParseRecord};
 use crate::stop::{Raised, Stop};
 use crate::{ParseError, ParserResult};
@@ -64,6 +64,16 @@ impl<'a> IxdtfParser<'a, Utf8> {
         ensures looks { result.looks ≡ 0 }
     {
         Self::new(source)
+    }
+}
+
+impl<'a> IxdtfParser<'a, Utf16> {
+    /// A parser of 16-bit units, which need not be UTF-16. All of them are still to be read.
+    pub fn from_utf16(source: &'a [u16]) -> Self
+        ensures rest { result.rest ≡ source.now }
+        ensures looks { result.looks ≡ 0 }
+    {
+        IxdtfParser::new(source)
     }
 }
 
@@ -157,7 +167,7 @@ impl<'a, T: EncodingType> IxdtfParser<'a, T> {
         // The count of looks never goes down.
         ensures counted { self.old.looks ≤ self.new.looks }
     {
-        let mut found = empty_record();
+        let mut found = IxdtfParseRecord::default();
         match self.read_into(|annotation| Some(annotation), &mut found) {
             Ok(()) => Ok(found),
             Err(stop) => return Err(stop.error()),
@@ -234,7 +244,7 @@ impl<'a, T: EncodingType> IxdtfParser<'a, T> {
         // The count of looks never goes down.
         ensures counted { self.old.looks ≤ self.new.looks }
     {
-        let mut found = empty_record();
+        let mut found = IxdtfParseRecord::default();
         match self.read_into(handler, &mut found) {
             Ok(()) => Ok(found),
             Err(stop) => return Err(E::of_stop(stop)),
@@ -278,22 +288,5 @@ impl<'a, T: EncodingType> IxdtfParser<'a, T> {
                 Err(stop)
             }
         }
-    }
-}
-
-/// A record in which nothing stands.
-#[inline(always)]
-fn empty_record<'a, T: EncodingType>() -> IxdtfParseRecord<'a, T>
-    ensures time { result.time ≡ None }
-    ensures offset { result.offset ≡ None }
-    ensures zone { result.tz ≡ None }
-    ensures calendar { result.calendar ≡ None }
-{
-    IxdtfParseRecord {
-        date: None,
-        time: None,
-        offset: None,
-        tz: None,
-        calendar: None,
     }
 }

@@ -1,14 +1,14 @@
 //! The records that the readers return: dates, times, offsets, time zones and fractions of a second.
 
-ghost use Rattle.std.specs.Prelude.{◌≡◌, ◌+◌, ◌-◌, ◌*◌, ◌<◌, ◌≤◌, ◌^◌, min};
-ghost use Rattle.ixdtf.specs.language.Fractions.{FractionParts, nanoseconds_of};
+ghost use Rattle.std.specs.Prelude.{◌≡◌, ◌+◌, ◌-◌, ◌*◌, ◌<◌, ◌≤◌, ◌^◌, min, IfSome};
+ghost use Rattle.ixdtf.specs.language.Fractions.{FractionParts, exact_nanoseconds_of, nanoseconds_of};
 
 use crate::encoding::EncodingType;
 use std::marker::Model;
 
 /// What a reader found in a text: each part that stood there, and `None` for each part that did not.
 #[derive(Drop)]
-#[derive_where(Debug, Default, PartialEq)]
+#[derive_where(Debug, PartialEq)]
 pub struct IxdtfParseRecord<'a, T: EncodingType> {
     /// The calendar date (`full-date` of RFC 3339, section 5.6, or one of its forms in ISO 8601).
     pub date: Option<DateRecord>,
@@ -21,6 +21,24 @@ pub struct IxdtfParseRecord<'a, T: EncodingType> {
     /// The units of the value of the first annotation with the key `u-ca` (`suffix-tag` of RFC 9557, section 4.1), which
     /// names a calendar; where a handler was asked, those of the first such reply. No list of calendars is asked.
     pub calendar: Option<&'a [T::CodeUnit]>,
+}
+
+impl<'a, T: EncodingType> Default for IxdtfParseRecord<'a, T> {
+    ghost use Rattle.ixdtf.specs.Views.{IsEmptyRecord};
+
+    ghost is_default = { IsEmptyRecord };
+
+    /// A record in which nothing stands.
+    #[inline(always)]
+    fn default() -> Self {
+        IxdtfParseRecord {
+            date: None,
+            time: None,
+            offset: None,
+            tz: None,
+            calendar: None,
+        }
+    }
 }
 
 /// A date of the Gregorian calendar, also before that calendar was in use (`full-date` of RFC 3339, section 5.6).
@@ -304,6 +322,19 @@ impl Fraction {
                 self.value
             },
         }
+    }
+
+    /// The nanoseconds of the fraction, or `None` where it has more than nine digits, also where those behind the ninth are
+    /// zeros. Where they are there, they are what [`to_truncated_nanoseconds`](Self::to_truncated_nanoseconds) returns.
+    #[tactic(auto, using(crate::proofs::code::Nanoseconds::exact_few))]
+    pub fn to_nanoseconds(&self) -> Option<u32>
+        ensures exact { result ≡ exact_nanoseconds_of self.now }
+        ensures value { IfSome result (λ n. n ≡ nanoseconds_of self.now) }
+    {
+        if self.digits > 9 {
+            return None;
+        }
+        Some(self.to_truncated_nanoseconds())
     }
 
     /// The whole nanoseconds of the fraction: its first nine digits, with zeros behind them where there are fewer. What

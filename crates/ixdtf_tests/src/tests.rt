@@ -10,7 +10,9 @@ mod laws;
 mod offsets;
 mod records;
 mod replies;
+mod surface;
 mod times;
+mod wide;
 mod zones;
 
 use ixdtf::ParseError;

@@ -1,5 +1,6 @@
 -- The nanoseconds of a fraction: the number that its digits stand for, from its value.
-use Rattle.std.proofs.Common.{◌≡◌, ◌<◌, ◌≤◌, ℕ, zero, suc, ◌+◌, ◌-◌, ◌*◌, ◌/◌, ◌%◌, ◌^◌, min, [], ◌∷◌, ◌++◌, length, take, take_all, refl, sym, ap, ◌∙◌, arith}
+use Rattle.std.proofs.Common.{true, cond, nat_le, Some, None, ◌≡◌, ◌<◌, ◌≤◌, ℕ, zero, suc, ◌+◌, ◌-◌, ◌*◌, ◌/◌, ◌%◌, ◌^◌, min, [], ◌∷◌, ◌++◌, length, take, take_all, refl, sym, ap, ◌∙◌, arith}
+use Rattle.std.proofs.lemmas.Bool.Decides.{nat_tests}
 use Rattle.std.proofs.Math.Nat.{pow-succ', one-le-pow, pow-le-pow_right, div-one, mod-one, zero-div, zero-mod, mod-eq_of_lt, div-div-eq-div-mul, min-le_right, mul-lt-mul_of_pos_right}
 use Rattle.std.proofs.Math.Arith.{mod-mul}
 use Rattle.std.proofs.Math.Seq.{take-append-add}
@@ -7,7 +8,7 @@ use Rattle.std.proofs.lemmas.Nat.{pow-add, div_below}
 use Rattle.std.proofs.lemmas.List.{length-append, length-take-le, take-append-le}
 use Rattle.ixdtf.specs.language.Letters.{Text}
 use Rattle.ixdtf.specs.language.Digits.{decimal, padded_digits}
-use Rattle.ixdtf.specs.language.Fractions.{FractionParts, nanoseconds_of}
+use Rattle.ixdtf.specs.language.Fractions.{FractionParts, exact_nanoseconds_of, nanoseconds_of}
 
 -- a power of ten is above zero
 pub ten_pos : (k : ℕ) → 0 < 10 ^ k
@@ -113,6 +114,13 @@ nanoseconds-many count value power many fits is_power =
       value = sym (cut 9 (min count 18 - 9) (min count 18) value (padded_digits 9 0) more fits);
       small = many-small (min count 18 - 9) 9 (min count 18) value more fits;
     })
+
+-- the nanoseconds of a fraction of at most nine digits are exact
+pub exact_few : (fraction : FractionParts) → fraction.count ≤ 9 → fraction.value < 10 ^ min fraction.count 18 → Some (nanoseconds_of fraction) ≡ exact_nanoseconds_of fraction
+exact_few fraction few fits =
+    let test : true ≡ nat_le fraction.count 9 = grind (arith, nat_tests, few) in
+    let value = (nanoseconds-few fraction.count fraction.value _ few fits refl).value in
+    ap Some (sym value) ∙ ap (λ b. cond b (Some (fraction.value * 10 ^ (9 - fraction.count))) None) test
 
 -- one more digit behind a number of fewer than 18 digits
 pub one_more : (count number digit : ℕ) → count < 18 → number < 10 ^ min count 18 → digit ≤ 9 → number * 10 + digit < 10 ^ min (count + 1) 18

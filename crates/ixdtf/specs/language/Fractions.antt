@@ -1,5 +1,5 @@
 -- Fractions of a second (ISO 8601, Temporal grammar).
-use Rattle.std.specs.Prelude.{◌≡◌, ℕ, suc, min, IsTrue, ◌∷◌, ◌++◌, length, take}
+use Rattle.std.specs.Prelude.{◌≡◌, ℕ, suc, ◌-◌, ◌*◌, ◌^◌, min, IsTrue, if◌then◌else◌, nat_le, ◌∷◌, ◌++◌, length, take, Option, Some, None}
 use Rattle.ixdtf.specs.language.Letters.{Text}
 use Rattle.ixdtf.specs.language.Letters.Letter.{Plain}
 use Rattle.ixdtf.specs.language.Letters.{decimal_mark}
@@ -42,3 +42,7 @@ places_of fraction = min fraction.count 18
 -- The whole nanoseconds of a fraction: the number of its first nine digits, filled with zeros on the right.
 abbrev pub nanoseconds_of : FractionParts → ℕ
 nanoseconds_of fraction = decimal (take 9 (padded_digits (places_of fraction) fraction.value ++ padded_digits 9 0))
+
+-- The nanoseconds of a fraction of at most nine digits, and nothing of a longer one.
+abbrev pub exact_nanoseconds_of : FractionParts → Option ℕ
+exact_nanoseconds_of fraction = if nat_le fraction.count 9 then Some (fraction.value * 10 ^ (9 - fraction.count)) else None

@@ -1,5 +1,5 @@
 -- Letters, which are what the units of a text stand for, as the readers see them, and classes of them (RFC 3339 section 5.6, ISO 8601).
-use Rattle.std.specs.Prelude.{◌≡◌, ℕ, List, Bool, true, false, nat_eq, nat_le, ◌&&◌, ◌||◌}
+use Rattle.std.specs.Prelude.{◌≡◌, ℕ, List, Bool, true, false, cond, if◌then◌else◌, nat_eq, nat_le, ◌&&◌, ◌||◌}
 
 -- The letter of a unit is the unit's number, or Bad for a unit that no reader takes.
 pub data Letter : Type 0 where
@@ -14,9 +14,20 @@ Text = List Letter
 abbrev pub byte_letter : ℕ → Letter
 byte_letter n = Plain n
 
+-- a 16-bit unit from 1 to 126 is its own letter, and every other is Bad
+abbrev pub wide_letter : ℕ → Letter
+wide_letter n = if nat_le 1 n && nat_le n 126 then Plain n else Bad
+
 -- a plain letter is the number of its unit
 pub byte_letter-faithful : (unit n : ℕ) → byte_letter unit ≡ Plain n → n ≡ unit
 byte_letter-faithful unit n is = cc
+
+pub wide_letter-faithful : (unit n : ℕ) → wide_letter unit ≡ Plain n → n ≡ unit
+wide_letter-faithful unit n = by_test (nat_le 1 unit && nat_le unit 126)
+  where
+    by_test : (b : Bool) → cond b (Plain unit) Bad ≡ Plain n → n ≡ unit
+    by_test true is = cc
+    by_test false is = absurd cc
 
 abbrev pub Class : Type 0
 Class = ℕ → Bool

@@ -11,7 +11,7 @@ ghost use Rattle.ixdtf.specs.Views.{Unread, returned, zone_of, most_looks};
 
 use crate::ParserResult;
 use crate::cursor::Cursor;
-use crate::encoding::{EncodingType, Utf8};
+use crate::encoding::{EncodingType, Utf8, Utf16};
 use crate::parsers::offsets::parse_offset_text;
 use crate::parsers::timezone::{parse_iana_identifier_text, parse_identifier_text};
 use crate::records::{TimeZoneRecord, UtcOffsetRecord};
@@ -48,6 +48,16 @@ impl<'a> TimeZoneParser<'a, Utf8> {
         ensures looks { result.looks ≡ 0 }
     {
         TimeZoneParser::new(source)
+    }
+}
+
+impl<'a> TimeZoneParser<'a, Utf16> {
+    /// A parser of 16-bit units, which need not be UTF-16. All of them are still to be read.
+    pub fn from_utf16(source: &'a [u16]) -> Self
+        ensures rest { result.rest ≡ source.now }
+        ensures looks { result.looks ≡ 0 }
+    {
+        Self::new(source)
     }
 }
 

@@ -1,5 +1,5 @@
 use super::fraction_of;
-use ixdtf::encoding::Utf8;
+use ixdtf::encoding::{Utf8, Utf16};
 use ixdtf::records::{
     DateRecord, FullPrecisionOffset, IxdtfParseRecord, MinutePrecisionOffset, Sign, TimeRecord,
     TimeZoneAnnotation, TimeZoneRecord, UtcOffsetRecord, UtcOffsetRecordOrZ,
@@ -33,25 +33,34 @@ const LONGER: &'static str =
 #[test]
 fn fractions_are_cut_at_nanoseconds(rt: HostRuntime) {
     let rows = [
-        ("+00:00:00.0", 0),
-        ("+00:00:00.25", 250_000_000),
-        ("+00:00:00.12345678", 123_456_780),
-        ("+00:00:00.123456789", 123_456_789),
-        ("+00:00:00.000000001", 1),
-        ("+00:00:00.1234567898", 123_456_789),
-        ("+00:00:00.0000000009", 0),
-        ("+00:00:00.999999999999999999", 999_999_999),
-        ("+00:00:00.1234567898765432109", 123_456_789),
+        ("+00:00:00.0", Some(0), 0),
+        ("+00:00:00.25", Some(250_000_000), 250_000_000),
+        ("+00:00:00.12345678", Some(123_456_780), 123_456_780),
+        ("+00:00:00.123456789", Some(123_456_789), 123_456_789),
+        ("+00:00:00.000000001", Some(1), 1),
+        ("+00:00:00.1234567890", None, 123_456_789),
+        ("+00:00:00.1234567898", None, 123_456_789),
+        ("+00:00:00.0000000009", None, 0),
+        ("+00:00:00.999999999999999999", None, 999_999_999),
+        ("+00:00:00.1234567898765432109", None, 123_456_789),
         (
             "+00:00:00.1234567898765432101234567890987654321",
+            None,
             123_456_789,
         ),
-        (LONGEST, 123_456_789),
-        (LONGER, 123_456_789),
+        (LONGEST, None, 123_456_789),
+        (LONGER, None, 123_456_789),
     ];
-    for (text, nanoseconds) in rows {
-        let found = fraction_of(text).map(|fraction| fraction.to_truncated_nanoseconds());
-        assert_eq!(rt; found, Some(nanoseconds), "at {text}");
+    for (text, exact, cut) in rows {
+        let found = fraction_of(text);
+        let nanoseconds = match found {
+            Some(fraction) => (
+                fraction.to_nanoseconds(),
+                fraction.to_truncated_nanoseconds(),
+            ),
+            None => (None, 0),
+        };
+        assert!(rt; found.is_some() && nanoseconds == (exact, cut), "at {text}");
     }
 }
 
@@ -87,6 +96,9 @@ fn records_have_defaults_and_clones(rt: HostRuntime) {
     let record: IxdtfParseRecord<'_, Utf8> = IxdtfParseRecord::default();
     assert!(rt; record.date == None && record.time == None && record.offset == None);
     assert!(rt; record.tz == None && record.calendar == None);
+    let wide: IxdtfParseRecord<'_, Utf16> = IxdtfParseRecord::default();
+    assert!(rt; wide.date == None && wide.time == None && wide.offset == None);
+    assert!(rt; wide.tz == None && wide.calendar == None);
     let annotation: TimeZoneAnnotation<'_, Utf8> = TimeZoneAnnotation {
         critical: true,
         tz: TimeZoneRecord::Name("Europe/Paris".as_bytes()),

@@ -1,5 +1,6 @@
+use super::wide::{After, NOTHING, Wide, has_parts};
 use super::{AT_DIGIT, dated, fraction_of, timed};
-use ixdtf::encoding::Utf8;
+use ixdtf::encoding::{EncodingType, Utf8, Utf16};
 use ixdtf::parsers::IxdtfParser;
 use ixdtf::records::{Annotation, IxdtfParseRecord, TimeRecord, UtcOffsetRecordOrZ};
 use ixdtf::{ParseError, ParserResult};
@@ -19,12 +20,52 @@ enum Kind {
     RepliesAnother,
 }
 
+/// Units that are of no source, for replies.
+trait Foreign: EncodingType {
+    /// `u-ca`.
+    fn key() -> &'static [Self::CodeUnit];
+
+    /// `a`.
+    fn first() -> &'static [Self::CodeUnit];
+
+    /// `b`.
+    fn second() -> &'static [Self::CodeUnit];
+}
+
+impl Foreign for Utf8 {
+    fn key() -> &'static [u8] {
+        b"u-ca"
+    }
+
+    fn first() -> &'static [u8] {
+        b"a"
+    }
+
+    fn second() -> &'static [u8] {
+        b"b"
+    }
+}
+
+impl Foreign for Utf16 {
+    fn key() -> &'static [u16] {
+        &[117, 45, 99, 97]
+    }
+
+    fn first() -> &'static [u16] {
+        &[97]
+    }
+
+    fn second() -> &'static [u16] {
+        &[98]
+    }
+}
+
 // What the handler replies at a call, where so many were made before it.
-fn reply<'a>(
+fn reply<'a, T: Foreign + 'static>(
     kind: Kind,
     before: usize,
-    annotation: Annotation<'a, Utf8>,
-) -> Option<Annotation<'a, Utf8>> {
+    annotation: Annotation<'a, T>,
+) -> Option<Annotation<'a, T>> {
     match kind {
         Kind::HandsBack => Some(annotation),
         Kind::RepliesNone => None,
@@ -41,13 +82,13 @@ fn reply<'a>(
         Kind::RepliesAnother => match before {
             0 => Some(Annotation {
                 critical: false,
-                key: b"u-ca",
-                value: b"a",
+                key: T::key(),
+                value: T::first(),
             }),
             1 => Some(Annotation {
                 critical: annotation.critical,
-                key: b"u-ca",
-                value: b"b",
+                key: T::key(),
+                value: T::second(),
             }),
             2 => None,
             _ => Some(annotation),
@@ -74,15 +115,40 @@ impl Listener {
         }
     }
 
-    fn reply<'a>(&mut self, annotation: Annotation<'a, Utf8>) -> Option<Annotation<'a, Utf8>> {
+    fn write_units<T: EncodingType>(&mut self, units: &[T::CodeUnit]) {
+        for index in 0..units.len() {
+            if let Ok(Some(byte)) = T::get_ascii(units, index) {
+                self.write(&[byte]);
+            }
+        }
+    }
+
+    fn reply<'a, T: Foreign + 'static>(
+        &mut self,
+        annotation: Annotation<'a, T>,
+    ) -> Option<Annotation<'a, T>> {
         self.write(if annotation.critical { b"[!" } else { b"[" });
-        self.write(annotation.key);
+        self.write_units::<T>(annotation.key);
         self.write(b"=");
-        self.write(annotation.value);
+        self.write_units::<T>(annotation.value);
         self.write(b"]");
         let before = self.calls;
         self.calls = self.calls.saturating_add(1);
         reply(self.kind, before, annotation)
+    }
+
+    fn new(kind: Kind) -> Listener {
+        Listener {
+            kind,
+            calls: 0,
+            heard: [0; 256],
+            length: 0,
+        }
+    }
+
+    // Whether it heard these calls, in this order, and no more.
+    fn has_heard(&self, calls: &'static str) -> bool {
+        self.heard.get(..self.length) == Some(calls.as_bytes())
     }
 }
 
@@ -92,16 +158,29 @@ fn handled(
     kind: Kind,
     calls: &'static str,
 ) -> (ParserResult<IxdtfParseRecord<'static, Utf8>>, bool) {
-    let mut listener = Listener {
-        kind,
-        calls: 0,
-        heard: [0; 256],
-        length: 0,
-    };
+    let mut listener = Listener::new(kind);
     let mut parser = IxdtfParser::from_str(text);
     let found = parser.parse_with_annotation_handler(|annotation| listener.reply(annotation));
-    let heard = listener.heard.get(..listener.length);
-    (found, heard == Some(calls.as_bytes()))
+    (found, listener.has_heard(calls))
+}
+
+// Whether a text in 16-bit units gives this on New Year's Day of 2020, or is refused with this error, after these calls.
+fn handled_wide(
+    text: &'static str,
+    kind: Kind,
+    calls: &'static str,
+    outcome: ParserResult<After>,
+) -> bool {
+    let mut listener = Listener::new(kind);
+    let wide = Wide::new(text);
+    let mut parser = IxdtfParser::from_utf16(wide.units());
+    let found = parser.parse_with_annotation_handler(|annotation| listener.reply(annotation));
+    let as_wanted = match (found, outcome) {
+        (Ok(record), Ok(after)) => has_parts(&record, (2020, 1, 1), after),
+        (Err(error), Err(wanted)) => error == wanted,
+        _ => false,
+    };
+    as_wanted && listener.has_heard(calls)
 }
 
 // Half a second past midnight.
@@ -296,5 +375,96 @@ fn heeds_handlers_and_refuses(rt: HostRuntime) {
         let (found, as_listed) = handled(text, kind, calls);
         assert_eq!(rt; found, Err(error), "at {text}");
         assert!(rt; as_listed, "at {text}");
+    }
+}
+
+#[test]
+fn heeds_handlers_of_wide_texts(rt: HostRuntime) {
+    let unsound = Err(ParseError::NonAsciiCodePoint);
+    let rows: [(&'static str, Kind, &'static str, ParserResult<After>); 12] = [
+        (
+            "2020-01-01[x-y=iso8601][!\u{15b}u-ca=hebrew][!u-cb=gregory][!u-c=TQ-of7][!u-ca=a0sa-2l4s]junk",
+            Kind::MakesCritical,
+            "[x-y=iso8601]",
+            Err(ParseError::UnrecognizedCritical),
+        ),
+        (
+            "2020-01-01[18:01][!u-ca=japanese\u{7f}]",
+            Kind::TurnsCritical,
+            "",
+            Err(ParseError::TzLeadingChar),
+        ),
+        (
+            "20200101T12[u-ca=iso8601][u-ca=e6dVZ][!answer-to-univers\u{12d}e=japanese][m1bs8=b]",
+            Kind::MakesCritical,
+            "[u-ca=iso8601][u-ca=e6dVZ]",
+            Err(ParseError::CriticalDuplicateCalendar),
+        ),
+        (
+            "2020-01-01 00:00:00.5Z[i4=WyQ-GeL-dW-SU]",
+            Kind::TurnsCritical,
+            "[i4=WyQ-GeL-dW-SU]",
+            Err(ParseError::UnrecognizedCritical),
+        ),
+        (
+            "2020-01-01 00:00:00.5Z[u-ca=CzQ0a3-PyM-ju][iwky-8bo=IwOJz-gjv-u4MDVT-zL4NDu][!jglkvdvm=XG\u{e9}Mqmt-Pe-Wz][u-ca=d-jX-Hmth-BXr]",
+            Kind::RepliesNone,
+            "[u-ca=CzQ0a3-PyM-ju][iwky-8bo=IwOJz-gjv-u4MDVT-zL4NDu]",
+            unsound,
+        ),
+        (
+            "2020-01-01[u-\u{7f}ca=oQ-b-vC]",
+            Kind::MakesCritical,
+            "",
+            unsound,
+        ),
+        (
+            "20200101T12[f-1a2b=v1xugC-9wa-FD-W6][u-ca=I",
+            Kind::HandsBack,
+            "[f-1a2b=v1xugC-9wa-FD-W6]",
+            Err(ParseError::AnnotationClose),
+        ),
+        (
+            "2020-01-01[0u-ca=\u{7f}a8-2UZ-2b6iy]",
+            Kind::MakesCritical,
+            "",
+            Err(ParseError::TzLeadingChar),
+        ),
+        (
+            "2020-01-01 00:00:00.5Z[u-ca=a-b][u-ca=japanese][!u-ca=gB-DxG-f6UUB8-CIgGr]",
+            Kind::RepliesNone,
+            "[u-ca=a-b][u-ca=japanese][!u-ca=gB-DxG-f6UUB8-CIgGr]",
+            Ok(After {
+                time: half_a_second(),
+                offset: Some(UtcOffsetRecordOrZ::Z),
+                ..NOTHING
+            }),
+        ),
+        (
+            "2020-01-01[u-ca=ZQ-PB9T][q-rrwv=jRSShrMIMY-5g-\u{ff}rE9][rs1tpdw=fua06i-bJ-VN5]",
+            Kind::RepliesNone,
+            "[u-ca=ZQ-PB9T]",
+            unsound,
+        ),
+        (
+            "2020-01-01[!u-ca\u{130}=O8K-PA-73dBkw-WfIA9][!u-ca=japanese]",
+            Kind::HandsBack,
+            "",
+            unsound,
+        ),
+        (
+            "2020-01-01 00:00:00.5Z[answer-to-universe=OSR]",
+            Kind::RepliesAnother,
+            "[answer-to-universe=OSR]",
+            Ok(After {
+                time: half_a_second(),
+                offset: Some(UtcOffsetRecordOrZ::Z),
+                calendar: Some("a"),
+                ..NOTHING
+            }),
+        ),
+    ];
+    for (text, kind, calls, outcome) in rows {
+        assert!(rt; handled_wide(text, kind, calls, outcome), "at {text}");
     }
 }
