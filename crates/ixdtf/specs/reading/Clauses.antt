@@ -19,7 +19,7 @@ use Rattle.ixdtf.specs.language.Times.{TimeShape as shapes}
 use Rattle.ixdtf.specs.language.Cores.{Core, core_of}
 use Rattle.ixdtf.specs.table.Faults.{Fault}
 use Rattle.ixdtf.specs.table.Faults.{Fault as faults}
-use Rattle.ixdtf.specs.table.Lines.{always, abrupt_digit, abrupt_date, abrupt_bracket, abrupt_offset, abrupt_zone}
+use Rattle.ixdtf.specs.table.Lines.{always, abrupt_digit, abrupt_date, abrupt_month_day, abrupt_bracket, abrupt_offset, abrupt_zone}
 use Rattle.ixdtf.specs.Views.{Unread, note_of}
 use Rattle.ixdtf.specs.Handlers.{pair_of}
 use Rattle.ixdtf.specs.reading.Looks.{Read, Look, ◌>>=◌, digit_run}
@@ -61,6 +61,11 @@ fault_of_stop stops.IanaCharPostSeparator = faults.IanaCharPostSeparator
 fault_of_stop stops.IanaChar = faults.IanaChar
 fault_of_stop stops.UtcTimeSeparator = faults.UtcTimeSeparator
 fault_of_stop stops.OffsetNeedsSign = faults.OffsetNeedsSign
+fault_of_stop stops.AbruptMonthDay = abrupt_month_day
+fault_of_stop stops.MonthDayHyphen = faults.MonthDayHyphen
+fault_of_stop stops.InvalidMonthDay = faults.InvalidMonthDay
+fault_of_stop stops.AmbiguousTimeMonthDay = faults.AmbiguousTimeMonthDay
+fault_of_stop stops.AmbiguousTimeYearMonth = faults.AmbiguousTimeYearMonth
 
 -- what a private function returned, with its value seen by a view, and its stop by its fault
 abbrev pub yielded : {X Y : Type 0} → (X → Y) → Result X Stop → Result Y Fault
