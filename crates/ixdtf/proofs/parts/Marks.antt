@@ -4,7 +4,7 @@ use Rattle.std.proofs.lemmas.Bool.{eqb-true}
 use Rattle.std.proofs.lemmas.Bool.Decides.{nat_tests}
 use Rattle.ixdtf.specs.language.Letters.{Text, ◌or◌, digit, hyphen}
 use Rattle.ixdtf.specs.language.Letters.Letter.{Plain}
-use Rattle.ixdtf.specs.language.Shapes.{one, ◌then◌, digits}
+use Rattle.ixdtf.specs.language.Shapes.{one, digits}
 use Rattle.ixdtf.specs.language.Months.{OptionalHyphen}
 use Rattle.ixdtf.specs.table.Faults.{Fault}
 use Rattle.ixdtf.specs.table.LineNames.{LineName}
