@@ -6,6 +6,7 @@ pub mod Digits
 pub mod Fractions
 pub mod Languages
 pub mod Letters
+pub mod Months
 pub mod OffsetRecords
 pub mod Offsets
 pub mod Readers

@@ -6,6 +6,7 @@ pub mod Cores
 pub mod Dates
 pub mod FixedPlaces
 pub mod Looks
+pub mod Months
 pub mod Pairs
 pub mod Runs
 pub mod Times

@@ -43,6 +43,11 @@ pub enum Stop {
     IanaChar,
     UtcTimeSeparator,
     OffsetNeedsSign,
+    AbruptMonthDay,
+    MonthDayHyphen,
+    InvalidMonthDay,
+    AmbiguousTimeMonthDay,
+    AmbiguousTimeYearMonth,
 }
 
 impl Stop {
@@ -87,6 +92,11 @@ impl Stop {
             Stop::IanaChar => ParseError::IanaChar,
             Stop::UtcTimeSeparator => ParseError::UtcTimeSeparator,
             Stop::OffsetNeedsSign => ParseError::OffsetNeedsSign,
+            Stop::AbruptMonthDay => ParseError::AbruptEnd { location: "MonthDay" },
+            Stop::MonthDayHyphen => ParseError::MonthDayHyphen,
+            Stop::InvalidMonthDay => ParseError::InvalidMonthDay,
+            Stop::AmbiguousTimeMonthDay => ParseError::AmbiguousTimeMonthDay,
+            Stop::AmbiguousTimeYearMonth => ParseError::AmbiguousTimeYearMonth,
         }
     }
 }

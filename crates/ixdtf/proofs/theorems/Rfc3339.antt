@@ -8,7 +8,7 @@ use Rattle.ixdtf.specs.declared.records.TimeRecord.{TimeRecord}
 use Rattle.ixdtf.specs.declared.records.UtcOffsetRecordOrZ.{UtcOffsetRecordOrZ}
 use Rattle.ixdtf.specs.declared.records.UtcOffsetRecordOrZ.TheVariants.{Offset, Z}
 use Rattle.ixdtf.specs.language.Letters.{Text}
-use Rattle.ixdtf.specs.language.Letters.{date_time_separator}
+use Rattle.ixdtf.specs.language.Letters.{time_letter, date_time_separator}
 use Rattle.ixdtf.specs.language.Shapes.{nothing, ◌either◌}
 use Rattle.ixdtf.specs.language.Digits.{decimal}
 use Rattle.ixdtf.specs.language.Fractions.{FractionParts, fraction_of}
@@ -24,12 +24,12 @@ use Rattle.ixdtf.specs.reading.Times.{time_of}
 use Rattle.ixdtf.specs.Handlers.{PlainRecord}
 use Rattle.ixdtf.specs.Laws.{EveryDateTimeIsRead}
 use Rattle.ixdtf.proofs.code.OneMoreReply.{NoneRefused-nothing}
-use Rattle.ixdtf.specs.language.Rfc3339.{FullDate, WholeTime, SecondFraction, TimeOffset, IsRfcDateTime, date_time_letter}
+use Rattle.ixdtf.specs.language.Rfc3339.{FullDate, WholeTime, SecondFraction, TimeOffset, IsRfcDateTime}
 
 full_date : (text : Text) → FullDate text → (date : DateRecord) × IsDate text date
 full_date text d = (date_of (pos (decimal d.years)) d.month d.day, (inr (record { years = d.years; months = d.months; days = d.days; is = d.is; year = inl (d.is_year, refl); month = d.is_month; day = d.is_day }), (d.from_one, d.in_month)))
 
-separates : (c : ℕ) → IsTrue (date_time_letter c) → IsTrue (date_time_separator c)
+separates : (c : ℕ) → IsTrue (time_letter c) → IsTrue (date_time_separator c)
 separates c h = grind (arith, nat_tests, h)
 
 -- the time of its hour, minute and second, with any fraction

@@ -3,14 +3,14 @@ use Rattle.std.specs.Prelude.{◌≡◌, ◌⊎◌, [], ◌++◌, Option, Some, 
 use Rattle.ixdtf.specs.declared.records.DateRecord.{DateRecord}
 use Rattle.ixdtf.specs.declared.records.TimeRecord.{TimeRecord}
 use Rattle.ixdtf.specs.declared.records.UtcOffsetRecordOrZ.{UtcOffsetRecordOrZ}
-use Rattle.ixdtf.specs.language.Letters.{Text}
-use Rattle.ixdtf.specs.language.Letters.{date_time_separator}
-use Rattle.ixdtf.specs.language.Shapes.{one}
+use Rattle.ixdtf.specs.language.Letters.{Text, date_time_separator, time_letter}
+use Rattle.ixdtf.specs.language.Shapes.{Shape, nothing, one, ◌then◌, ◌either◌, some, anything}
 use Rattle.ixdtf.specs.language.Dates.{IsDate}
+use Rattle.ixdtf.specs.language.Months.{IsYearMonth, IsMonthDay, least_day}
 use Rattle.ixdtf.specs.language.Times.{IsTime}
 use Rattle.ixdtf.specs.language.Offsets.{IsOffsetOrZ}
 use Rattle.ixdtf.specs.language.Readers.{CoreKind}
-use Rattle.ixdtf.specs.language.Readers.CoreKind.{date_time}
+use Rattle.ixdtf.specs.language.Readers.CoreKind.{date_time, year_month, month_day, time_alone}
 
 -- what stands before the brackets
 pub record Core : Type 0 where
@@ -25,8 +25,9 @@ abbrev pub OptionalOffset : Text → Option UtcOffsetRecordOrZ → Type 0
 OptionalOffset text None = text ≡ []
 OptionalOffset text (Some offset) = IsOffsetOrZ text offset
 
-abbrev pub DateOnly : Text → Core → Type 0
-DateOnly text core = (date : DateRecord) × IsDate text date × (core ≡ core_of (Some date) None None)
+-- a core that is a date of the part alone
+abbrev pub DateAlone : (Text → DateRecord → Type 0) → Text → Core → Type 0
+DateAlone part text core = (date : DateRecord) × part text date × (core ≡ core_of (Some date) None None)
 
 -- `Date`, one of `T`, `t` and space, `Time`, and an offset or `Z` where there is one
 pub record DateAndTime (text : Text) (core : Core) : Type 0 where
@@ -45,8 +46,43 @@ pub record DateAndTime (text : Text) (core : Core) : Type 0 where
   pub has : core ≡ core_of (Some date) (Some time) offset
 
 abbrev pub IsDateTimeCore : Text → Core → Type 0
-IsDateTimeCore text core = DateOnly text core ⊎ DateAndTime text core
+IsDateTimeCore text core = DateAlone IsDate text core ⊎ DateAndTime text core
 
--- a core of the kind
+-- ---- times that stand alone
+
+-- `T` or `t` or neither
+abbrev pub TimeMark : Shape
+TimeMark = nothing either one time_letter
+
+-- `T` or `t` or neither, a time, and an offset or `Z` where there is one
+pub record MarkedTime (text : Text) (core : Core) : Type 0 where
+  pub marks : Text
+  pub times : Text
+  pub offsets : Text
+  pub time : TimeRecord
+  pub offset : Option UtcOffsetRecordOrZ
+  pub is : text ≡ marks ++ (times ++ offsets)
+  pub mark : TimeMark marks
+  pub is_time : IsTime times time
+  pub is_offset : OptionalOffset offsets offset
+  pub has : core ≡ core_of None (Some time) offset
+
+-- a front of the text has the shape
+abbrev pub HasFront : Shape → Shape
+HasFront shape = shape then anything
+
+-- no front of the text is a month-day, and none a year-month
+abbrev pub HasNoDateFront : Shape
+HasNoDateFront text = ¬ (HasFront (some (IsMonthDay least_day)) text) × ¬ (HasFront (some IsYearMonth) text)
+
+-- a time that does not begin as a month-day or a year-month
+abbrev pub IsTimeCore : Text → Core → Type 0
+IsTimeCore text core = MarkedTime text core × HasNoDateFront text
+
+-- ---- a core of the kind
+
 abbrev pub IsCore : CoreKind → Text → Core → Type 0
 IsCore date_time text core = IsDateTimeCore text core
+IsCore year_month text core = DateAlone IsYearMonth text core
+IsCore month_day text core = DateAlone (IsMonthDay least_day) text core
+IsCore time_alone text core = IsTimeCore text core

@@ -68,6 +68,10 @@ colon c = nat_eq c 58
 abbrev pub decimal_mark : Class
 decimal_mark c = nat_eq c 46 || nat_eq c 44
 
+-- `T` or `t`
+abbrev pub time_letter : Class
+time_letter c = nat_eq c 84 || nat_eq c 116
+
 -- `T`, `t` or a space
 abbrev pub date_time_separator : Class
 date_time_separator c = nat_eq c 84 || nat_eq c 116 || nat_eq c 32

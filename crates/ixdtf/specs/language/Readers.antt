@@ -1,9 +1,9 @@
 -- The readers.
 use Rattle.std.specs.Prelude.{Bool, true, false}
 
--- what stands before the brackets of a text: a date, or a date and a time
+-- what stands before the brackets of a text: a date, or a date and a time; a year and a month; a month and a day; a time
 pub data CoreKind : Type 0 where
-  date_time : CoreKind
+  date_time year_month month_day time_alone : CoreKind
 
 -- the readers: of a core and the brackets after it, of an offset, of a time zone, and of the name of one
 pub data Reader : Type 0 where
@@ -12,6 +12,15 @@ pub data Reader : Type 0 where
 
 abbrev pub parse : Reader
 parse = bracketed date_time
+
+abbrev pub parse_year_month : Reader
+parse_year_month = bracketed year_month
+
+abbrev pub parse_month_day : Reader
+parse_month_day = bracketed month_day
+
+abbrev pub parse_time : Reader
+parse_time = bracketed time_alone
 
 -- whether brackets may follow what the reader reads; what may follow a part of it depends on this
 abbrev pub has_brackets : Reader → Bool

@@ -1,8 +1,8 @@
 -- The date-times of RFC 3339 section 5.6, by its own productions.
-use Rattle.std.specs.Prelude.{◌≡◌, ◌≤◌, ℕ, suc, nat_eq, ◌||◌, [], ◌∷◌, ◌++◌, pos}
+use Rattle.std.specs.Prelude.{◌≡◌, ◌≤◌, ℕ, suc, [], ◌∷◌, ◌++◌, pos}
 use Rattle.ixdtf.specs.language.Letters.{Text}
 use Rattle.ixdtf.specs.language.Letters.Letter.{Plain}
-use Rattle.ixdtf.specs.language.Letters.{Class, sign, zulu}
+use Rattle.ixdtf.specs.language.Letters.{sign, zulu, time_letter}
 use Rattle.ixdtf.specs.language.Shapes.{Shape, nothing, one, ◌then◌, ◌either◌, digits}
 use Rattle.ixdtf.specs.language.Digits.{decimal, TwoDigits, UpTo}
 use Rattle.ixdtf.specs.language.Dates.{Month, month_length}
@@ -25,10 +25,6 @@ pub record FullDate (text : Text) : Type 0 where
 abbrev pub colon_mark : Shape
 colon_mark text = text ≡ Plain 58 ∷ []
 
--- `T` or `t`
-abbrev pub date_time_letter : Class
-date_time_letter c = nat_eq c 84 || nat_eq c 116
-
 -- a number of two digits, at most so great
 abbrev pub AtMost : ℕ → Shape
 AtMost greatest text = (n : ℕ) × UpTo greatest text n
@@ -47,4 +43,4 @@ TimeOffset = one zulu either (one sign then AtMost 23 then colon_mark then AtMos
 
 -- `full-date "T" full-time`, with `T` and `Z` in either case
 abbrev pub IsRfcDateTime : Shape
-IsRfcDateTime = FullDate then one date_time_letter then WholeTime then (nothing either SecondFraction) then TimeOffset
+IsRfcDateTime = FullDate then one time_letter then WholeTime then (nothing either SecondFraction) then TimeOffset

@@ -10,7 +10,7 @@ use Rattle.ixdtf.specs.declared.parsers.time.Shape.TheVariants as code_shapes
 use Rattle.ixdtf.specs.declared.records.TimeRecord.{TimeRecord}
 use Rattle.ixdtf.specs.declared.parsers.brackets.Bracket.{Bracket as CodeBracket}
 use Rattle.ixdtf.specs.declared.parsers.brackets.Bracket.TheVariants as brackets
-use Rattle.ixdtf.specs.language.Letters.{Letter, Text, none, digit, closing}
+use Rattle.ixdtf.specs.language.Letters.{Letter, Text, ◌or◌, none, digit, hyphen, closing}
 use Rattle.ixdtf.specs.language.Letters.Letter.{Plain}
 use Rattle.ixdtf.specs.language.Fractions.{FractionParts, fraction_of}
 use Rattle.ixdtf.specs.language.Times.{Clock, TimeShape}
@@ -19,7 +19,7 @@ use Rattle.ixdtf.specs.language.Times.{TimeShape as shapes}
 use Rattle.ixdtf.specs.language.Cores.{Core, core_of}
 use Rattle.ixdtf.specs.table.Faults.{Fault}
 use Rattle.ixdtf.specs.table.Faults.{Fault as faults}
-use Rattle.ixdtf.specs.table.Lines.{always, abrupt_digit, abrupt_date, abrupt_bracket, abrupt_offset, abrupt_zone}
+use Rattle.ixdtf.specs.table.Lines.{always, abrupt_digit, abrupt_date, abrupt_month_day, abrupt_bracket, abrupt_offset, abrupt_zone}
 use Rattle.ixdtf.specs.Views.{Unread, note_of}
 use Rattle.ixdtf.specs.Handlers.{pair_of}
 use Rattle.ixdtf.specs.reading.Looks.{Read, Look, ◌>>=◌, digit_run}
@@ -61,6 +61,11 @@ fault_of_stop stops.IanaCharPostSeparator = faults.IanaCharPostSeparator
 fault_of_stop stops.IanaChar = faults.IanaChar
 fault_of_stop stops.UtcTimeSeparator = faults.UtcTimeSeparator
 fault_of_stop stops.OffsetNeedsSign = faults.OffsetNeedsSign
+fault_of_stop stops.AbruptMonthDay = abrupt_month_day
+fault_of_stop stops.MonthDayHyphen = faults.MonthDayHyphen
+fault_of_stop stops.InvalidMonthDay = faults.InvalidMonthDay
+fault_of_stop stops.AmbiguousTimeMonthDay = faults.AmbiguousTimeMonthDay
+fault_of_stop stops.AmbiguousTimeYearMonth = faults.AmbiguousTimeYearMonth
 
 -- what a private function returned, with its value seen by a view, and its stop by its fault
 abbrev pub yielded : {X Y : Type 0} → (X → Y) → Result X Stop → Result Y Fault
@@ -98,6 +103,10 @@ Checks view (Err e) wanted test fault = (fault_of_stop e ≡ fault) × IsFalse t
 -- the look for the end of the text
 abbrev pub end_look : Look Fault
 end_look = record { goes_on = none; at_end = None; at_other = always faults.InvalidEnd; at_bad = faults.NonAsciiCodePoint }
+
+-- the look for a hyphen or a digit, with the errors at the end and at another letter
+abbrev pub hyphen_look : Fault → Fault → Look Fault
+hyphen_look at_end other = record { goes_on = hyphen or digit; at_end = Some at_end; at_other = always other; at_bad = faults.NonAsciiCodePoint }
 
 -- the look for the end of a bracket
 abbrev pub closing_look : Fault → Look Fault

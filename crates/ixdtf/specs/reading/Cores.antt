@@ -1,27 +1,41 @@
 -- Reading a core, and whether a bracket follows it.
-use Rattle.std.specs.Prelude.{ℕ, Bool, Option, Some, None, is_some, Ok}
+use Rattle.std.specs.Prelude.{ℕ, Bool, Option, Some, None, is_some, Ok, Err, if◌then◌else◌}
 use Rattle.ixdtf.specs.declared.records.DateRecord.{DateRecord}
 use Rattle.ixdtf.specs.declared.records.TimeRecord.{TimeRecord}
 use Rattle.ixdtf.specs.declared.records.UtcOffsetRecord.{UtcOffsetRecord}
 use Rattle.ixdtf.specs.declared.records.UtcOffsetRecordOrZ.TheVariants.{Offset, Z}
-use Rattle.ixdtf.specs.language.Letters.{Text, sign, zulu, opening, date_time_separator}
+use Rattle.ixdtf.specs.language.Letters.{Text, digit, sign, zulu, opening, date_time_separator, time_letter}
 use Rattle.ixdtf.specs.language.Times.{Clock as clocks}
 use Rattle.ixdtf.specs.language.Times.{writes_seconds}
 use Rattle.ixdtf.specs.language.Offsets.{offset_of}
 use Rattle.ixdtf.specs.language.Cores.{Core, core_of}
 use Rattle.ixdtf.specs.language.Readers.{CoreKind}
-use Rattle.ixdtf.specs.language.Readers.CoreKind.{date_time}
-use Rattle.ixdtf.specs.table.Faults.Fault.{NonAsciiCodePoint, InvalidEnd}
+use Rattle.ixdtf.specs.language.Readers.CoreKind.{date_time, year_month, month_day, time_alone}
+use Rattle.ixdtf.specs.table.Faults.Fault.{NonAsciiCodePoint, InvalidEnd, TimeHour, AmbiguousTimeMonthDay, AmbiguousTimeYearMonth}
 use Rattle.ixdtf.specs.table.LineNames.{LineName}
-use Rattle.ixdtf.specs.table.LineNames.{of_date}
+use Rattle.ixdtf.specs.table.LineNames.{of_date, of_year_month, of_month_day, of_time}
+use Rattle.ixdtf.specs.table.LineNames.YearMonthLine.{after_year_month}
+use Rattle.ixdtf.specs.table.LineNames.MonthDayLine.{after_month_day}
+use Rattle.ixdtf.specs.table.LineNames.TimeLine.{time_start, time_reads_as_month_day, time_reads_as_year_month}
+use Rattle.ixdtf.specs.table.Lines.{abrupt_digit}
 use Rattle.ixdtf.specs.table.LineNames.LineName.{of_offset}
 use Rattle.ixdtf.specs.table.LineNames.DateLine.{after_date}
 use Rattle.ixdtf.specs.table.LineNames.OffsetLine.{after_zulu}
 use Rattle.ixdtf.specs.table.Rows.{Row}
-use Rattle.ixdtf.specs.table.Rows.Place.{other, bad}
-use Rattle.ixdtf.specs.reading.Looks.{Read, Look, ◌>>=◌, row_of, peek_by, on_next}
+use Rattle.ixdtf.specs.table.Rows.Place.{end, other, bad, anywhere}
+use Rattle.ixdtf.specs.reading.Looks.{Read, Look, ◌>>=◌, row_of, next_by, peek_by, on_next}
 use Rattle.ixdtf.specs.reading.Dates.{date_at}
-use Rattle.ixdtf.specs.reading.Times.{OpenTime, line_after, bad_after, clock_at}
+use Rattle.ixdtf.specs.reading.Months.{year_month_at, month_day_at, month_day_begins, year_month_begins}
+use Rattle.ixdtf.specs.reading.Times.{OpenTime, line_after, bad_after, hour_from, clock_at}
+
+-- the look for the first digit of a time that stands alone and begins without `T` or `t`
+abbrev pub hour_look : {E : Type 0} → (Row → E) → Look E
+hour_look fault = record {
+  goes_on = digit;
+  at_end = Some (fault (row_of (of_time time_start) end abrupt_digit));
+  at_other = λ c. fault (row_of (of_time time_start) other TimeHour);
+  at_bad = fault (row_of (of_time time_start) bad NonAsciiCodePoint);
+}
 
 -- a core, and whether a bracket follows, whose `[` is taken off; else the text ends
 abbrev pub ClosedCore : Type 0
@@ -77,6 +91,45 @@ date_time_core_at fault text = do
   date ← date_at fault text
   after_date_at fault date.0 date.1
 
+-- a date that was read, alone, and the end of the core, which stops at the line
+abbrev pub date_alone_at : {E : Type 0} → (Row → E) → LineName → Read E DateRecord → Read E ClosedCore
+date_alone_at fault name date = date >>= λ date. core_end_at fault name (core_of (Some date.0) None None) date.1
+
+-- ---- a time that stands alone
+
+-- the hour of a time that begins without `T` or `t`
+unfoldable pub lone_time_at : {E : Type 0} → (Row → E) → Text → Read E OpenTime
+lone_time_at fault text = do
+  tens ← next_by (hour_look fault) text
+  hour_from fault clocks.Time tens.0 tens.1
+
+-- `T` or `t` or neither, and a time
+unfoldable pub marked_time_at : {E : Type 0} → (Row → E) → Text → Read E OpenTime
+marked_time_at fault text = on_next (fault (row_of (of_time time_start) bad NonAsciiCodePoint)) time_letter
+    (λ c rest. clock_at fault clocks.Time rest)
+    (λ rest. lone_time_at fault rest) text
+
+-- the same with its offset, before the end or a bracket
+unfoldable pub marked_core_at : {E : Type 0} → (Row → E) → Text → Read E ClosedCore
+marked_core_at fault text = do
+  time ← marked_time_at fault text
+  after_time_at fault None time.0 time.1
+
+-- The test of a time's front: where the text begins as a month-day or a year-month, this is the fault.
+abbrev pub unfronted : {E A : Type 0} → (Row → E) → Text → Read E A → Read E A
+unfronted fault text read =
+    if month_day_begins text then Err (fault (row_of (of_time time_reads_as_month_day) anywhere AmbiguousTimeMonthDay))
+    else (if year_month_begins text then Err (fault (row_of (of_time time_reads_as_year_month) anywhere AmbiguousTimeYearMonth)) else read)
+
+-- a time and its offset, before the end or a bracket; and then the test of its front
+unfoldable pub time_alone_core_at : {E : Type 0} → (Row → E) → Text → Read E ClosedCore
+time_alone_core_at fault text = do
+  core ← marked_core_at fault text
+  unfronted fault text (Ok core)
+
 -- a core of the kind
 abbrev pub core_at : {E : Type 0} → (Row → E) → CoreKind → Text → Read E ClosedCore
 core_at fault date_time text = date_time_core_at fault text
+core_at fault year_month text = date_alone_at fault (of_year_month after_year_month) (year_month_at fault text)
+core_at fault month_day text = date_alone_at fault (of_month_day after_month_day) (month_day_at fault text)
+core_at fault time_alone text = time_alone_core_at fault text

@@ -1,5 +1,5 @@
 -- Reading a date.
-use Rattle.std.specs.Prelude.{ℕ, ◌∷◌, Ok, Err, ℤ, pos, nat_eq, nat_le, ◌&&◌, if◌then◌else◌}
+use Rattle.std.specs.Prelude.{ℕ, Bool, true, false, ◌∷◌, Ok, Err, ℤ, pos, nat_eq, nat_le, ◌&&◌, if◌then◌else◌}
 use Rattle.ixdtf.specs.declared.records.DateRecord.{DateRecord}
 use Rattle.ixdtf.specs.language.Letters.{Text}
 use Rattle.ixdtf.specs.language.Letters.Letter.{Plain}
@@ -7,12 +7,12 @@ use Rattle.ixdtf.specs.language.Letters.{sign, hyphen}
 use Rattle.ixdtf.specs.language.Digits.{decimal}
 use Rattle.ixdtf.specs.table.Faults.Fault.{DateExtendedYear, InvalidMonthRange, InvalidDayRange}
 use Rattle.ixdtf.specs.language.Dates.{signed, month_length}
-use Rattle.ixdtf.specs.table.LineNames.{of_date}
+use Rattle.ixdtf.specs.table.LineNames.{LineName, of_date}
 use Rattle.ixdtf.specs.table.LineNames.DateLine.{year_start, year_digits, extended_year_digits, minus_zero_year, after_year, month_digits}
 use Rattle.ixdtf.specs.table.LineNames.DateLine.{month_range, after_hyphened_month, after_plain_month, day_digits, day_range}
 use Rattle.ixdtf.specs.table.Rows.{Row}
 use Rattle.ixdtf.specs.table.Rows.Place.{anywhere}
-use Rattle.ixdtf.specs.reading.Looks.{Read, ◌>>=◌, row_of, letter_at, digits_at, look_readings}
+use Rattle.ixdtf.specs.reading.Looks.{Read, Look, ◌>>=◌, row_of, look_at_line, letter_at, digits_at, mark_by, mark_at, look_readings}
 
 -- after a sign
 unfoldable pub extended_year_at : {E : Type 0} → (Row → E) → ℕ → Text → Read E ℤ
@@ -47,52 +47,37 @@ day_in_range fault date rest =
 abbrev pub date_of : ℤ → ℕ → ℕ → DateRecord
 date_of year month day = record { year = year; month = month; day = day }
 
-unfoldable pub hyphened_day_at : {E : Type 0} → (Row → E) → ℤ → ℕ → Text → Read E DateRecord
-hyphened_day_at fault year month text = do
-  ds ← digits_at fault (of_date day_digits) 2 text
-  day_in_range fault (date_of year month (decimal ds.0)) ds.1
-
-unfoldable pub after_hyphened_month_at : {E : Type 0} → (Row → E) → ℤ → ℕ → Text → Read E DateRecord
-after_hyphened_month_at fault year month text = do
-  separator ← letter_at fault (of_date after_hyphened_month) text
-  hyphened_day_at fault year month separator.1
-
-unfoldable pub hyphened_date_at : {E : Type 0} → (Row → E) → ℤ → Text → Read E DateRecord
-hyphened_date_at fault year text = do
-  ds ← digits_at fault (of_date month_digits) 2 text
+-- the month after a year, with or without a hyphen before it, and whether one stands, by the look at what follows the year
+unfoldable pub month_by : {E : Type 0} → (Row → E) → Look E → Text → Read E (ℕ × Bool)
+month_by fault l text = do
+  mark ← mark_by l hyphen text
+  ds ← digits_at fault (of_date month_digits) 2 mark.1
   month ← month_in_range fault ds
-  after_hyphened_month_at fault year month.0 month.1
+  Ok ((month.0, mark.0), month.1)
 
--- after the day's first digit
-unfoldable pub plain_day_at : {E : Type 0} → (Row → E) → ℤ → ℕ → ℕ → Text → Read E DateRecord
-plain_day_at fault year month tens text = do
-  ones ← digits_at fault (of_date day_digits) 1 text
-  day_in_range fault (date_of year month (decimal (Plain tens ∷ ones.0))) ones.1
+-- the same, where the year stops at the line
+abbrev pub month_at : {E : Type 0} → (Row → E) → LineName → Text → Read E (ℕ × Bool)
+month_at fault name text = month_by fault (look_at_line fault name) text
 
-unfoldable pub after_plain_month_at : {E : Type 0} → (Row → E) → ℤ → ℕ → Text → Read E DateRecord
-after_plain_month_at fault year month text = do
-  tens ← letter_at fault (of_date after_plain_month) text
-  plain_day_at fault year month tens.0 tens.1
+-- the line after a month, which has a hyphen before it or has none
+abbrev pub line_after_month : Bool → LineName
+line_after_month true = of_date after_hyphened_month
+line_after_month false = of_date after_plain_month
 
--- after the month's first digit
-unfoldable pub plain_date_at : {E : Type 0} → (Row → E) → ℤ → ℕ → Text → Read E DateRecord
-plain_date_at fault year tens text = do
-  ones ← digits_at fault (of_date month_digits) 1 text
-  month ← month_in_range fault (Plain tens ∷ ones.0, ones.1)
-  after_plain_month_at fault year month.0 month.1
-
-unfoldable pub after_year_at : {E : Type 0} → (Row → E) → ℤ → Text → Read E DateRecord
-after_year_at fault year text = do
-  next ← letter_at fault (of_date after_year) text
-  if hyphen next.0 then hyphened_date_at fault year next.1 else plain_date_at fault year next.0 next.1
+-- after a year and a month, which has a hyphen before it or has none
+unfoldable pub day_at : {E : Type 0} → (Row → E) → ℤ → ℕ × Bool → Text → Read E DateRecord
+day_at fault year month text = do
+  mark ← mark_at fault (line_after_month month.1) hyphen text
+  ds ← digits_at fault (of_date day_digits) 2 mark.1
+  day_in_range fault (date_of year month.0 (decimal ds.0)) ds.1
 
 unfoldable pub date_at : {E : Type 0} → (Row → E) → Text → Read E DateRecord
 date_at fault text = do
   year ← year_at fault text
-  after_year_at fault year.0 year.1
+  month ← month_at fault (of_date after_year) year.1
+  day_at fault year.0 month.0 month.1
 
 -- opening this opens the readings of dates
 unfoldable pub date_readings : ℕ
-unfolding look_readings extended_year_at plain_year_at year_at month_in_range day_in_range
-    hyphened_day_at after_hyphened_month_at hyphened_date_at plain_day_at after_plain_month_at plain_date_at after_year_at date_at
+unfolding look_readings extended_year_at plain_year_at year_at month_in_range month_by day_in_range day_at date_at
 date_readings = 0

@@ -1,7 +1,7 @@
 -- What every reading is made of. A reading is a plain function on texts, in the shape of the code; no public clause
 -- cites one. It returns a value and the text after it, or a fault. What a fault is comes from outside, by what is made
 -- of a row: the row itself, or its error.
-use Rattle.std.specs.Prelude.{ℕ, true, zero, suc, [], ◌∷◌, drop, Option, Some, None, Result, Ok, Err, nat_le, if◌then◌else◌}
+use Rattle.std.specs.Prelude.{ℕ, Bool, true, zero, suc, [], ◌∷◌, drop, Option, Some, None, Result, Ok, Err, nat_le, if◌then◌else◌}
 use Rattle.ixdtf.specs.language.Letters.{Text}
 use Rattle.ixdtf.specs.language.Letters.Letter.{Plain, Bad}
 use Rattle.ixdtf.specs.language.Letters.{Class, digit, none, any}
@@ -125,6 +125,15 @@ chosen class go stay (Some c) text = if class c then go c (drop 1 text) else sta
 abbrev pub on_next : {E A : Type 0} → E → Class → (ℕ → Text → Result A E) → (Text → Result A E) → Text → Result A E
 on_next at_bad class go stay text = look_at at_bad text >>= λ next. chosen class go stay next text
 
+-- whether a mark stands where the line goes on with it or without it; it is taken off, and any other letter stays
+unfoldable pub mark_by : {E : Type 0} → Look E → Class → Text → Read E Bool
+mark_by l mark text = do
+  next ← next_by l text
+  Ok (mark next.0, if mark next.0 then next.1 else text)
+
+abbrev pub mark_at : {E : Type 0} → (Row → E) → LineName → Class → Text → Read E Bool
+mark_at fault name mark text = mark_by (look_at_line fault name) mark text
+
 -- a number that is at most the greatest of its place
 unfoldable pub in_range : {E : Type 0} → ℕ → E → Text × Text → Read E ℕ
 in_range greatest fault ds = if nat_le (decimal ds.0) greatest then Ok (decimal ds.0, ds.1) else Err fault
@@ -142,5 +151,5 @@ digit_run at_bad (Plain c ∷ rest) =
 
 -- opening this opens the looks at single letters
 unfoldable pub look_readings : ℕ
-unfolding next_by digits_by peek_by in_range digit_run
+unfolding next_by digits_by peek_by mark_by in_range digit_run
 look_readings = 0

@@ -1,19 +1,23 @@
 -- Where a line is looked at: what stands before its front in a reader, and what the text has from the front on.
 use Rattle.std.specs.Prelude.{◌≡◌, ◌≢◌, ◌⊎◌, List, [], ◌++◌, Option}
-use Rattle.ixdtf.specs.language.Letters.{Text, sign, date_time_separator}
-use Rattle.ixdtf.specs.language.Shapes.{Shape, nothing, one, ◌then◌, some}
+use Rattle.ixdtf.specs.language.Letters.{Text, sign, date_time_separator, time_letter, opening}
+use Rattle.ixdtf.specs.language.Shapes.{Shape, nothing, one, ◌then◌, ◌either◌, some, anything}
 use Rattle.ixdtf.specs.language.Dates.{IsDate}
+use Rattle.ixdtf.specs.language.Months.{IsMonthDay, least_day}
 use Rattle.ixdtf.specs.language.Times.{IsTime}
 use Rattle.ixdtf.specs.language.Times.Clock.{Time, Offset, MinuteOffset}
 use Rattle.ixdtf.specs.language.Brackets.{ZoneNote, Opens, ReadsAsName, ReadsAsPair, Pair, IsTail}
-use Rattle.ixdtf.specs.language.Cores.{IsCore}
+use Rattle.ixdtf.specs.language.Cores.{TimeMark, MarkedTime, HasFront, IsCore}
 use Rattle.ixdtf.specs.language.Readers.{Reader, CoreKind}
-use Rattle.ixdtf.specs.language.Readers.CoreKind.{date_time}
+use Rattle.ixdtf.specs.language.Readers.CoreKind.{date_time, year_month, month_day, time_alone}
 use Rattle.ixdtf.specs.language.Readers.Reader.{bracketed, parse_offset, parse_identifier, parse_iana_identifier}
-use Rattle.ixdtf.specs.table.LineNames.{DateLine, CoreLine, OffsetLine, LineName}
+use Rattle.ixdtf.specs.table.LineNames.{DateLine, TimeLine, CoreLine, ClockLine, OffsetLine, LineName}
 use Rattle.ixdtf.specs.table.LineNames.DateLine.{year_start, year_digits, extended_year_digits, minus_zero_year, after_year, month_digits}
 use Rattle.ixdtf.specs.table.LineNames.DateLine.{month_range, after_hyphened_month, after_plain_month, day_digits, day_range, after_date}
-use Rattle.ixdtf.specs.table.LineNames.CoreLine.{dates}
+use Rattle.ixdtf.specs.table.LineNames.TimeLine.{time_start, time_reads_as_month_day, time_reads_as_year_month}
+use Rattle.ixdtf.specs.table.LineNames.CoreLine.{dates, year_months, month_days, times}
+use Rattle.ixdtf.specs.table.LineNames.ClockLine.{hour_start, hour_digit, hour_range, after_hour, minute_digits, minute_range, after_plain_minute}
+use Rattle.ixdtf.specs.table.LineNames.ClockLine.{after_colon_minute, second_digits, second_range, after_second, fraction_start, after_fraction}
 use Rattle.ixdtf.specs.table.LineNames.OffsetLine.{offset_start, after_zulu}
 use Rattle.ixdtf.specs.table.LineNames.ZoneLine.{identifier_start, zone_name_start, in_zone_name, after_zone_slash}
 use Rattle.ixdtf.specs.table.LineNames.BracketLine.{first_bracket_start, first_critical_start, first_bracket_scan, after_bracket}
@@ -42,18 +46,87 @@ BeforeDate date_time after_plain_month before = nothing before
 BeforeDate date_time day_digits before = nothing before
 BeforeDate date_time day_range before = nothing before
 BeforeDate date_time after_date before = nothing before
+BeforeDate year_month year_start before = nothing before
+BeforeDate year_month year_digits before = nothing before
+BeforeDate year_month extended_year_digits before = nothing before
+BeforeDate year_month minus_zero_year before = nothing before
+BeforeDate year_month after_year before = ⊥
+BeforeDate year_month month_digits before = nothing before
+BeforeDate year_month month_range before = nothing before
+BeforeDate year_month after_hyphened_month before = ⊥
+BeforeDate year_month after_plain_month before = ⊥
+BeforeDate year_month day_digits before = ⊥
+BeforeDate year_month day_range before = ⊥
+BeforeDate year_month after_date before = ⊥
+BeforeDate month_day line before = ⊥
+BeforeDate time_alone line before = ⊥
+
+abbrev pub BeforeYearMonth : CoreKind → Shape
+BeforeYearMonth year_month before = nothing before
+BeforeYearMonth date_time before = ⊥
+BeforeYearMonth month_day before = ⊥
+BeforeYearMonth time_alone before = ⊥
+
+abbrev pub BeforeMonthDay : CoreKind → Shape
+BeforeMonthDay month_day before = nothing before
+BeforeMonthDay date_time before = ⊥
+BeforeMonthDay year_month before = ⊥
+BeforeMonthDay time_alone before = ⊥
+
+-- the end, or a bracket: what a core may stand before
+abbrev pub AtCoreEnd : Shape
+AtCoreEnd = nothing either (one opening then anything)
+
+-- What begins here is a time with its offset, up to the end or a bracket.
+abbrev pub ReadsAsTime : Shape
+ReadsAsTime = some MarkedTime then AtCoreEnd
+
+-- The lines of a time's front are looked at where the time ended as a whole. That of a year-month gives way to that of a
+-- month-day.
+abbrev pub InTimeAlone : TimeLine → Text → Text → Type 0
+InTimeAlone time_start before rest = nothing before
+InTimeAlone time_reads_as_month_day before rest = nothing before × ReadsAsTime rest
+InTimeAlone time_reads_as_year_month before rest = nothing before × ReadsAsTime rest × ¬ (HasFront (some (IsMonthDay least_day)) rest)
+
+-- what stands before the other lines of a time that stands alone, and what the text has from their front on
+abbrev pub BeforeTimeAlone : CoreKind → TimeLine → Text → Text → Type 0
+BeforeTimeAlone time_alone line before rest = InTimeAlone line before rest
+BeforeTimeAlone date_time line before rest = ⊥
+BeforeTimeAlone year_month line before rest = ⊥
+BeforeTimeAlone month_day line before rest = ⊥
 
 -- what stands before a line of a core, and what the text has from its front on
 abbrev pub BeforeCore : CoreKind → CoreLine → Text → Text → Type 0
 BeforeCore kind (dates line) before rest = BeforeDate kind line before
+BeforeCore kind (year_months line) before rest = BeforeYearMonth kind before
+BeforeCore kind (month_days line) before rest = BeforeMonthDay kind before
+BeforeCore kind (times line) before rest = BeforeTimeAlone kind line before rest
 
--- what stands before a line of times
-abbrev pub BeforeTime : CoreKind → Shape
-BeforeTime date_time before = DateAndSeparator before
+-- what stands before a line of times; a time that stands alone has its own line where it begins, but for its letter
+abbrev pub BeforeTime : CoreKind → ClockLine → Shape
+BeforeTime date_time line before = DateAndSeparator before
+BeforeTime year_month line before = ⊥
+BeforeTime month_day line before = ⊥
+BeforeTime time_alone hour_start before = one time_letter before
+BeforeTime time_alone hour_digit before = TimeMark before
+BeforeTime time_alone hour_range before = TimeMark before
+BeforeTime time_alone after_hour before = TimeMark before
+BeforeTime time_alone minute_digits before = TimeMark before
+BeforeTime time_alone minute_range before = TimeMark before
+BeforeTime time_alone after_plain_minute before = TimeMark before
+BeforeTime time_alone after_colon_minute before = TimeMark before
+BeforeTime time_alone second_digits before = TimeMark before
+BeforeTime time_alone second_range before = TimeMark before
+BeforeTime time_alone after_second before = TimeMark before
+BeforeTime time_alone fraction_start before = TimeMark before
+BeforeTime time_alone after_fraction before = TimeMark before
 
 -- what stands before the sign of an offset, and before `Z`
 abbrev pub BeforeOffset : CoreKind → Shape
 BeforeOffset date_time before = DateTime before
+BeforeOffset year_month before = ⊥
+BeforeOffset month_day before = ⊥
+BeforeOffset time_alone before = (TimeMark then some IsTime) before
 
 abbrev pub BeforeOffsetLine : CoreKind → OffsetLine → Shape
 BeforeOffsetLine kind offset_start before = ⊥
@@ -78,7 +151,7 @@ BeforeKey kind pairs before rest = (Opened kind before × ReadsAsPair rest × (p
 -- what stands before a line in a reader of a core of the kind and brackets: these pairs stand whole before the front
 abbrev pub BeforeBracketed : CoreKind → LineName → List Pair → Text → Text → Type 0
 BeforeBracketed kind (of_core line) pairs before rest = BeforeCore kind line before rest × (pairs ≡ [])
-BeforeBracketed kind (of_clock Time line) pairs before rest = BeforeTime kind before × (pairs ≡ [])
+BeforeBracketed kind (of_clock Time line) pairs before rest = BeforeTime kind line before × (pairs ≡ [])
 BeforeBracketed kind (of_clock Offset line) pairs before rest = (BeforeOffset kind then one sign) before × (pairs ≡ [])
 BeforeBracketed kind (of_clock MinuteOffset line) pairs before rest = (Opened kind then one sign) before × (pairs ≡ [])
 BeforeBracketed kind (of_offset line) pairs before rest = BeforeOffsetLine kind line before × (pairs ≡ [])

@@ -7,9 +7,25 @@ pub data DateLine : Type 0 where
   after_year month_digits month_range : DateLine
   after_hyphened_month after_plain_month day_digits day_range after_date : DateLine
 
+-- the other lines of year-months
+pub data YearMonthLine : Type 0 where
+  after_year_in_year_month after_year_month : YearMonthLine
+
+-- the lines of month-days
+pub data MonthDayLine : Type 0 where
+  month_day_start month_day_hyphen month_day_month_digits month_day_month_range : MonthDayLine
+  after_month_day_month month_day_day_digits month_day_range after_month_day : MonthDayLine
+
+-- the other lines of times that stand alone: their start, and the fronts that read as something else
+pub data TimeLine : Type 0 where
+  time_start time_reads_as_month_day time_reads_as_year_month : TimeLine
+
 -- the lines of cores but for those of times and offsets, by the part that they speak of
 pub data CoreLine : Type 0 where
   dates : DateLine → CoreLine
+  year_months : YearMonthLine → CoreLine
+  month_days : MonthDayLine → CoreLine
+  times : TimeLine → CoreLine
 
 -- the lines of times, and of offsets after their sign
 pub data ClockLine : Type 0 where
@@ -45,3 +61,15 @@ pub data LineName : Type 0 where
 -- a line of dates
 pattern abbrev pub of_date : DateLine → LineName
 of_date name = of_core (dates name)
+
+-- a line of year-months
+pattern abbrev pub of_year_month : YearMonthLine → LineName
+of_year_month name = of_core (year_months name)
+
+-- a line of month-days
+pattern abbrev pub of_month_day : MonthDayLine → LineName
+of_month_day name = of_core (month_days name)
+
+-- a line of times that stand alone
+pattern abbrev pub of_time : TimeLine → LineName
+of_time name = of_core (times name)

@@ -1,7 +1,7 @@
 -- The fault table, line by line.
 use Rattle.std.specs.Prelude.{◌≡◌, ◌⊎◌, IsTrue, ℕ, ◌<◌, ◌&&◌, ◌||◌, Bool, codes, if◌then◌else◌}
 use Rattle.ixdtf.specs.declared.records.DateRecord.{DateRecord}
-use Rattle.ixdtf.specs.language.Letters.{Text, Class, ◌or◌, none, digit, sign, hyphen, colon, decimal_mark, date_time_separator, zulu, opening, closing}
+use Rattle.ixdtf.specs.language.Letters.{Text, Class, ◌or◌, none, digit, sign, hyphen, colon, decimal_mark, date_time_separator, zulu, opening, closing, time_letter}
 use Rattle.ixdtf.specs.language.Letters.{exclamation, equals, slash, zone_lead, zone_char, key_lead, key_char, value_char}
 use Rattle.ixdtf.specs.language.Shapes.{Shape, nothing, one, ◌then◌, ◌either◌, digits, fewer_digits_than, some, many}
 use Rattle.ixdtf.specs.language.Digits.{decimal, UpTo}
@@ -10,18 +10,23 @@ use Rattle.ixdtf.specs.table.Faults.Fault.{AbruptEnd, InvalidEnd, InvalidMonthRa
 use Rattle.ixdtf.specs.table.Faults.Fault.{DateSeparator, TimeHour, TimeMinuteSecond, TimeSecond, TimeSeparator, FractionPart, UtcTimeSeparator}
 use Rattle.ixdtf.specs.table.Faults.Fault.{InvalidMinutePrecisionOffset, OffsetNeedsSign, TzLeadingChar, IanaChar, IanaCharPostSeparator, AnnotationClose}
 use Rattle.ixdtf.specs.table.Faults.Fault.{AnnotationKeyLeadingChar, AnnotationKeyChar, AnnotationKeyValueSeparator, AnnotationValueChar}
-use Rattle.ixdtf.specs.table.Faults.Fault.{AnnotationValueCharPostHyphen}
+use Rattle.ixdtf.specs.table.Faults.Fault.{AnnotationValueCharPostHyphen, MonthDayHyphen, InvalidMonthDay, AmbiguousTimeMonthDay, AmbiguousTimeYearMonth}
 use Rattle.ixdtf.specs.language.Dates.{Year, Month, DateShape, IsDayOfMonth, IsDate}
+use Rattle.ixdtf.specs.language.Months.{Marks, OptionalHyphen, IsYearMonth, MonthDayShape, IsDayOfSomeYear, IsMonthDay, least_day}
 use Rattle.ixdtf.specs.language.Times.{Clock, ClockOf, PlainMinuteText, ColonMinuteText, greatest_second, has_seconds}
 use Rattle.ixdtf.specs.language.Times.Clock.{Time, Offset, MinuteOffset}
 use Rattle.ixdtf.specs.language.Times.TimeShape.{hours, plain_minutes, colon_minutes, seconds, fractions}
 use Rattle.ixdtf.specs.language.ZoneNames.{ZoneName}
 use Rattle.ixdtf.specs.language.Brackets.{passed, Key, Value}
 use Rattle.ixdtf.specs.language.Readers.{Reader, has_brackets}
-use Rattle.ixdtf.specs.table.LineNames.{DateLine, CoreLine, ClockLine, OffsetLine, ZoneLine, BracketLine, PairLine, LineName}
+use Rattle.ixdtf.specs.table.LineNames.{DateLine, YearMonthLine, MonthDayLine, TimeLine, CoreLine, ClockLine, OffsetLine, ZoneLine, BracketLine, PairLine, LineName}
 use Rattle.ixdtf.specs.table.LineNames.DateLine.{year_start, year_digits, extended_year_digits, minus_zero_year, after_year, month_digits, month_range}
 use Rattle.ixdtf.specs.table.LineNames.DateLine.{after_hyphened_month, after_plain_month, day_digits, day_range, after_date}
-use Rattle.ixdtf.specs.table.LineNames.CoreLine.{dates}
+use Rattle.ixdtf.specs.table.LineNames.YearMonthLine.{after_year_in_year_month, after_year_month}
+use Rattle.ixdtf.specs.table.LineNames.MonthDayLine.{month_day_start, month_day_hyphen, month_day_month_digits, month_day_month_range}
+use Rattle.ixdtf.specs.table.LineNames.MonthDayLine.{after_month_day_month, month_day_day_digits, month_day_range, after_month_day}
+use Rattle.ixdtf.specs.table.LineNames.TimeLine.{time_start, time_reads_as_month_day, time_reads_as_year_month}
+use Rattle.ixdtf.specs.table.LineNames.CoreLine.{dates, year_months, month_days, times}
 use Rattle.ixdtf.specs.table.LineNames.ClockLine.{hour_start, hour_digit, hour_range, after_hour, minute_digits, minute_range, after_plain_minute}
 use Rattle.ixdtf.specs.table.LineNames.ClockLine.{after_colon_minute, second_digits, second_range, after_second, fraction_start, after_fraction}
 use Rattle.ixdtf.specs.table.LineNames.OffsetLine.{offset_start, after_zulu}
@@ -52,6 +57,9 @@ abrupt_digit = AbruptEnd (codes "digit")
 
 abbrev pub abrupt_date : Fault
 abrupt_date = AbruptEnd (codes "Date")
+
+abbrev pub abrupt_month_day : Fault
+abrupt_month_day = AbruptEnd (codes "MonthDay")
 
 abbrev pub abrupt_offset : Fault
 abrupt_offset = AbruptEnd (codes "time-numoffset")
@@ -134,8 +142,61 @@ date_line day_range = whole (some NoDayOfMonth) InvalidDayRange
 -- a date
 date_line after_date = line (some IsDate) (date_time_separator or opening) ok (always InvalidEnd)
 
+-- ---- year-months
+
+abbrev pub year_month_line : YearMonthLine → Line
+-- a year, where no date may follow
+year_month_line after_year_in_year_month = line (some Year) (hyphen or digit) (error abrupt_digit) (always DateMonth)
+-- a year-month
+year_month_line after_year_month = line (some IsYearMonth) opening ok (always InvalidEnd)
+
+-- ---- month-days
+
+-- two hyphens, or one digit of a month
+abbrev pub MonthDayMonthDigits : Shape
+MonthDayMonthDigits = (one hyphen then one hyphen) either (Marks then one digit)
+
+-- a month and a hyphen, or one digit of a day
+abbrev pub MonthDayDayDigits : Shape
+MonthDayDayDigits = Marks then some Month then (one hyphen either (OptionalHyphen then one digit))
+
+-- a month-day's shape, with a day that its month never has, or below the least
+abbrev pub NoMonthDay : Text → DateRecord → Type 0
+NoMonthDay text date = MonthDayShape text date × ¬ (IsDayOfSomeYear least_day date)
+
+abbrev pub month_day_line : MonthDayLine → Line
+-- no letter of a month-day yet
+month_day_line month_day_start = line nothing (hyphen or digit) (error abrupt_month_day) (always DateMonth)
+-- the first of two hyphens
+month_day_line month_day_hyphen = line (one hyphen) hyphen (error abrupt_month_day) (always MonthDayHyphen)
+-- what stands before a month, and fewer than two digits of it
+month_day_line month_day_month_digits = line MonthDayMonthDigits digit (error abrupt_digit) (always DateMonth)
+-- two digits that are no month
+month_day_line month_day_month_range = whole (Marks then NoMonth) InvalidMonthRange
+-- a month
+month_day_line after_month_day_month = line (Marks then some Month) (hyphen or digit) (error abrupt_digit) (always DateDay)
+-- what stands before a day, and fewer than two digits of it
+month_day_line month_day_day_digits = line MonthDayDayDigits digit (error abrupt_digit) (always DateDay)
+-- a month-day's shape, with a day out of range
+month_day_line month_day_range = whole (some NoMonthDay) InvalidMonthDay
+-- a month-day
+month_day_line after_month_day = line (some (IsMonthDay least_day)) opening ok (always InvalidEnd)
+
+-- ---- the other lines of times that stand alone
+
+abbrev pub time_line : TimeLine → Line
+-- no letter of a time yet
+time_line time_start = line nothing (digit or time_letter) (error abrupt_digit) (always TimeHour)
+-- a month-day
+time_line time_reads_as_month_day = whole (some (IsMonthDay least_day)) AmbiguousTimeMonthDay
+-- a year-month
+time_line time_reads_as_year_month = whole (some IsYearMonth) AmbiguousTimeYearMonth
+
 abbrev pub core_line : CoreLine → Line
 core_line (dates name) = date_line name
+core_line (year_months name) = year_month_line name
+core_line (month_days name) = month_day_line name
+core_line (times name) = time_line name
 
 -- ---- times, and offsets after their sign
 

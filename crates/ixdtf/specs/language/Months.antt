@@ -1,0 +1,53 @@
+-- A year and a month, and a month and a day (ISO 8601, Temporal grammar).
+use Rattle.std.specs.Prelude.{◌≡◌, ℕ, ◌≤◌, ◌++◌, pos}
+use Rattle.ixdtf.specs.declared.records.DateRecord.{DateRecord}
+use Rattle.ixdtf.specs.language.Letters.{Text, hyphen}
+use Rattle.ixdtf.specs.language.Shapes.{Shape, nothing, one, ◌then◌, ◌either◌}
+use Rattle.ixdtf.specs.language.Digits.{TwoDigits}
+use Rattle.ixdtf.specs.language.Dates.{Year, Month, month_length}
+
+abbrev pub OptionalHyphen : Shape
+OptionalHyphen = nothing either one hyphen
+
+-- two hyphens or none
+abbrev pub Marks : Shape
+Marks = nothing either (one hyphen then one hyphen)
+
+-- a year and a month, with or without a hyphen between; the day is 1
+pub record IsYearMonth (text : Text) (date : DateRecord) : Type 0 where
+  pub years : Text
+  pub hyphens : Text
+  pub months : Text
+  pub is : text ≡ years ++ (hyphens ++ months)
+  pub year : Year years date.year
+  pub hyphen : OptionalHyphen hyphens
+  pub month : Month months date.month
+  pub first_day : date.day ≡ 1
+
+-- a month and any two digits, with or without a hyphen between, and with or without two hyphens before; the year is 0
+pub record MonthDayShape (text : Text) (date : DateRecord) : Type 0 where
+  pub marks : Text
+  pub months : Text
+  pub hyphens : Text
+  pub days : Text
+  pub is : text ≡ marks ++ (months ++ (hyphens ++ days))
+  pub mark : Marks marks
+  pub month : Month months date.month
+  pub hyphen : OptionalHyphen hyphens
+  pub day : TwoDigits days date.day
+  pub no_year : date.year ≡ pos 0
+
+-- the greatest day of a month that has it in some year: year 0 is a leap year
+abbrev pub greatest_day : ℕ → ℕ
+greatest_day month = month_length (pos 0) month
+
+abbrev pub IsDayOfSomeYear : ℕ → DateRecord → Type 0
+IsDayOfSomeYear least date = (least ≤ date.day) × (date.day ≤ greatest_day date.month)
+
+-- a month-day, whose day is at least this
+abbrev pub IsMonthDay : ℕ → Text → DateRecord → Type 0
+IsMonthDay least text date = MonthDayShape text date × IsDayOfSomeYear least date
+
+-- the least day of a month-day
+abbrev pub least_day : ℕ
+least_day = 0
