@@ -50,7 +50,7 @@ Gives parse_offset text found = Derives parse_offset text found []
 Gives parse_identifier text found = Derives parse_identifier text found []
 Gives parse_iana_identifier text found = Derives parse_iana_identifier text found []
 
--- the reader refuses the text with the fault: `parse` with one that the text gives, where each pair is its own reply, and
+-- the reader refuses the text with the fault: one with brackets with one that the text gives, where each pair is its own reply, and
 -- each other reader with one that the text has, with no pairs
 abbrev pub Refuses : Reader → Text → Fault → Type 0
 Refuses (bracketed kind) text fault = PlainFault (bracketed kind) text fault

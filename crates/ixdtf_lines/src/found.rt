@@ -14,7 +14,7 @@ use ixdtf::records::{IxdtfParseRecord, TimeZoneRecord, UtcOffsetRecord};
 /// What a reader found in a text.
 #[derive(Drop)]
 pub enum Found<'a> {
-    /// The parts of a date and a time.
+    /// The parts of a text with brackets.
     Record(IxdtfParseRecord<'a, Utf8>),
     /// An offset from UTC.
     Offset(UtcOffsetRecord),
@@ -33,6 +33,18 @@ pub fn read(word: Word, text: &[u8]) -> ParserResult<Found<'_>>
 {
     match word {
         Word::Parse => match IxdtfParser::from_utf8(text).parse() {
+            Ok(parts) => Ok(Found::Record(parts)),
+            Err(error) => Err(error),
+        },
+        Word::YearMonth => match IxdtfParser::from_utf8(text).parse_year_month() {
+            Ok(parts) => Ok(Found::Record(parts)),
+            Err(error) => Err(error),
+        },
+        Word::MonthDay => match IxdtfParser::from_utf8(text).parse_month_day() {
+            Ok(parts) => Ok(Found::Record(parts)),
+            Err(error) => Err(error),
+        },
+        Word::Time => match IxdtfParser::from_utf8(text).parse_time() {
             Ok(parts) => Ok(Found::Record(parts)),
             Err(error) => Err(error),
         },

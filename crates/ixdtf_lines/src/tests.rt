@@ -144,6 +144,22 @@ fn answers_dates_and_times(rt: HostRuntime) -> Result<(), Fail> {
 }
 
 #[test]
+fn answers_times_and_parts_of_dates(rt: HostRuntime) -> Result<(), Fail> {
+    check_run(
+        &rt,
+        rt.alloc(),
+        b"year-month +002020-11\nmonth-day 11-00\ntime 2021-13\ntime 0000-00\ntime 12\ntime T1200[UTC]\n",
+        b"ok date=2020,11,1\nok date=0,11,0\nok time=20,21,0 offset=-13,0\nok time=0,0,0 offset=-0,0\nok time=12,0,0\nok time=12,0,0 tz=UTC\n",
+    )?;
+    check_run(
+        &rt,
+        rt.alloc(),
+        b"time 1214[\ntime T1214[\ntime T19-12-08\ntime 1200\ntime 2021-12\n",
+        b"error Time is ambiguous with MonthDay\nerror Parsing ended abruptly while parsing AmbiguousAnnotation\nerror Unexpected character found after parsing was completed.\nerror Time is ambiguous with MonthDay\nerror Time is ambiguous with YearMonth\n",
+    )
+}
+
+#[test]
 fn answers_offsets(rt: HostRuntime) -> Result<(), Fail> {
     check_run(
         &rt,

@@ -6,6 +6,12 @@ ghost use Rattle.ixdtf_lines.specs.Word.{IsNamed};
 pub enum Word {
     /// `parse`: a date, or a date and a time, with an offset, a zone and a calendar.
     Parse,
+    /// `year-month`: a year and a month, with a zone and a calendar.
+    YearMonth,
+    /// `month-day`: a month and a day, with a zone and a calendar.
+    MonthDay,
+    /// `time`: a time, with an offset, a zone and a calendar.
+    Time,
     /// `offset`: an offset from UTC.
     Offset,
     /// `zone`: a time zone, by name or by offset.
@@ -21,6 +27,12 @@ impl Word {
     {
         if name == b"parse".as_slice() {
             Some(Word::Parse)
+        } else if name == b"year-month".as_slice() {
+            Some(Word::YearMonth)
+        } else if name == b"month-day".as_slice() {
+            Some(Word::MonthDay)
+        } else if name == b"time".as_slice() {
+            Some(Word::Time)
         } else if name == b"offset".as_slice() {
             Some(Word::Offset)
         } else if name == b"zone".as_slice() {

@@ -24,17 +24,20 @@ use Rattle.ixdtf.specs.table.Outcomes.{Outcome}
 use Rattle.ixdtf.specs.table.Outcomes.Outcome.{derived, refused}
 use Rattle.ixdtf.specs.reading.Looks.{row_of, look_at, number_by}
 use Rattle.ixdtf.specs.reading.Dates.{date_of, date_readings}
+use Rattle.ixdtf.specs.reading.Months.{month_readings}
 use Rattle.ixdtf.specs.reading.Times.{time_of, time_readings}
 use Rattle.ixdtf.specs.reading.Zones.{name_run, zone_readings}
 use Rattle.ixdtf.specs.reading.Pairs.{key_run, value_run, pairs_at, pair_readings}
 use Rattle.ixdtf.specs.reading.Brackets.{sight_at, name_or_pair_at, bracket_readings}
 use Rattle.ixdtf.specs.reading.Cores.{core_end_at, offset_core_at, after_time_at, time_core_at, after_date_at, date_time_core_at}
+use Rattle.ixdtf.specs.reading.Cores.{lone_time_at, marked_time_at, marked_core_at, time_alone_core_at}
 use Rattle.ixdtf.specs.reading.Wholes.{bracketed_at, annotated_at, bracketed_text_at, outcome}
 
 -- unfolding this unfolds every reading
 unfoldable pub all_readings : ℕ
-unfolding date_readings time_readings zone_readings pair_readings bracket_readings
+unfolding date_readings month_readings time_readings zone_readings pair_readings bracket_readings
     core_end_at offset_core_at after_time_at time_core_at after_date_at date_time_core_at
+    lone_time_at marked_time_at marked_core_at time_alone_core_at
     look_at number_by name_run key_run value_run pairs_at sight_at name_or_pair_at bracketed_at annotated_at bracketed_text_at
 all_readings = 0
 

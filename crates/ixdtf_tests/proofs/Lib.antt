@@ -1,7 +1,9 @@
 pub mod Helpers
 pub mod Dates
+pub mod Months
 pub mod Times
 pub mod Offsets
+pub mod LoneTimes
 pub mod Zones
 pub mod FirstBracket
 pub mod Pairs

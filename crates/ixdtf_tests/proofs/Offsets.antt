@@ -37,29 +37,30 @@ at units = codes "2020-01-01T00:00+" ++ units
 
 -- ---- each row of the lines of offsets, in `parse`
 
-abbrev full_lines : List LineName
+abbrev pub full_lines : List LineName
 full_lines =
     map of_full (hour_start ∷ hour_digit ∷ hour_range ∷ after_hour ∷ minute_digits ∷ minute_range ∷ after_plain_minute
     ∷ after_colon_minute ∷ second_digits ∷ second_range ∷ after_second ∷ fraction_start ∷ after_fraction ∷ [])
 
-abbrev rows_after_times : List Example
-rows_after_times =
-    three (of_full hour_start) (at []) abrupt_digit (codes "x") TimeHour
-    ++ three (of_full hour_digit) (at (codes "0")) abrupt_digit (codes ":") TimeHour
-    ++ one (of_full hour_range) (at (codes "24")) TimeHour
-    ++ two (of_full after_hour) (at (codes "05")) (codes "x") InvalidEnd
-    ++ three (of_full minute_digits) (at (codes "05:")) abrupt_digit (codes "x") TimeMinuteSecond
-    ++ one (of_full minute_range) (at (codes "05:60")) TimeMinuteSecond
-    ++ two (of_full after_plain_minute) (at (codes "0530")) (codes "x") InvalidEnd
-    ++ two (of_full after_colon_minute) (at (codes "05:30")) (codes "x") InvalidEnd
-    ++ three (of_full second_digits) (at (codes "05:30:")) abrupt_digit (codes "x") TimeMinuteSecond
-    ++ one (of_full second_range) (at (codes "05:30:60")) TimeMinuteSecond
-    ++ two (of_full after_second) (at (codes "05:30:00")) (codes "x") InvalidEnd
-    ++ three (of_full fraction_start) (at (codes "05:30:00.")) FractionPart (codes "x") FractionPart
-    ++ two (of_full after_fraction) (at (codes "05:30:00.5")) (codes "x") InvalidEnd
-    ++ two (of_offset after_zulu) (codes "2020-01-01T00:00Z") (codes "x") InvalidEnd
+-- after what stands before an offset
+abbrev pub full_rows : List ℕ → List Example
+full_rows before =
+    three (of_full hour_start) (before ++ codes "+") abrupt_digit (codes "x") TimeHour
+    ++ three (of_full hour_digit) (before ++ codes "+0") abrupt_digit (codes ":") TimeHour
+    ++ one (of_full hour_range) (before ++ codes "+24") TimeHour
+    ++ two (of_full after_hour) (before ++ codes "+05") (codes "x") InvalidEnd
+    ++ three (of_full minute_digits) (before ++ codes "+05:") abrupt_digit (codes "x") TimeMinuteSecond
+    ++ one (of_full minute_range) (before ++ codes "+05:60") TimeMinuteSecond
+    ++ two (of_full after_plain_minute) (before ++ codes "+0530") (codes "x") InvalidEnd
+    ++ two (of_full after_colon_minute) (before ++ codes "+05:30") (codes "x") InvalidEnd
+    ++ three (of_full second_digits) (before ++ codes "+05:30:") abrupt_digit (codes "x") TimeMinuteSecond
+    ++ one (of_full second_range) (before ++ codes "+05:30:60") TimeMinuteSecond
+    ++ two (of_full after_second) (before ++ codes "+05:30:00") (codes "x") InvalidEnd
+    ++ three (of_full fraction_start) (before ++ codes "+05:30:00.") FractionPart (codes "x") FractionPart
+    ++ two (of_full after_fraction) (before ++ codes "+05:30:00.5") (codes "x") InvalidEnd
+    ++ two (of_offset after_zulu) (before ++ codes "Z") (codes "x") InvalidEnd
 
-each_row_after_times : ShowEachRow parse (full_lines ++ (of_offset after_zulu ∷ [])) rows_after_times
+each_row_after_times : ShowEachRow parse (full_lines ++ (of_offset after_zulu ∷ [])) (full_rows (codes "2020-01-01T00:00"))
 unfolding all_readings
 each_row_after_times = (refl, refl)
 

@@ -12,8 +12,8 @@ use Rattle.ixdtf.specs.reading.Dates.{date_of}
 use Rattle.ixdtf.specs.reading.Times.{time_of}
 use Rattle.ixdtf_tests.proofs.Helpers.{all_readings, and_bad, new_year, with, Example, Compute, gives, ends, goes_off, meets_bad, stands, stops, one, two, three, ShowEachRow}
 
-abbrev of_time : ClockLine → LineName
-of_time line = of_clock Time line
+abbrev pub of_clock_time : ClockLine → LineName
+of_clock_time line = of_clock Time line
 
 -- a time on 1 January 2020
 abbrev at : List ℕ → List ℕ
@@ -21,28 +21,29 @@ at units = codes "2020-01-01T" ++ units
 
 -- ---- each row of the lines of times, in `parse`
 
-abbrev time_lines : List LineName
+abbrev pub time_lines : List LineName
 time_lines =
-    map of_time (hour_start ∷ hour_digit ∷ hour_range ∷ after_hour ∷ minute_digits ∷ minute_range ∷ after_plain_minute
+    map of_clock_time (hour_start ∷ hour_digit ∷ hour_range ∷ after_hour ∷ minute_digits ∷ minute_range ∷ after_plain_minute
     ∷ after_colon_minute ∷ second_digits ∷ second_range ∷ after_second ∷ fraction_start ∷ after_fraction ∷ [])
 
-abbrev time_rows : List Example
-time_rows =
-    three (of_time hour_start) (at []) abrupt_digit (codes "x") TimeHour
-    ++ three (of_time hour_digit) (at (codes "1")) abrupt_digit (codes ":") TimeHour
-    ++ one (of_time hour_range) (at (codes "24")) TimeHour
-    ++ two (of_time after_hour) (at (codes "12")) (codes "x") InvalidEnd
-    ++ three (of_time minute_digits) (at (codes "12:")) abrupt_digit (codes "x") TimeMinuteSecond
-    ++ one (of_time minute_range) (at (codes "12:60")) TimeMinuteSecond
-    ++ two (of_time after_plain_minute) (at (codes "1230")) (codes "x") InvalidEnd
-    ++ two (of_time after_colon_minute) (at (codes "12:30")) (codes "x") InvalidEnd
-    ++ three (of_time second_digits) (at (codes "12:30:")) abrupt_digit (codes "x") TimeSecond
-    ++ one (of_time second_range) (at (codes "00:00:61")) TimeSecond
-    ++ two (of_time after_second) (at (codes "00:00:00")) (codes "x") InvalidEnd
-    ++ three (of_time fraction_start) (at (codes "00:00:00.")) FractionPart (codes "x") FractionPart
-    ++ two (of_time after_fraction) (at (codes "00:00:00.5")) (codes "x") InvalidEnd
+-- after what stands before a time
+abbrev pub time_rows : List ℕ → List Example
+time_rows before =
+    three (of_clock_time hour_start) before abrupt_digit (codes "x") TimeHour
+    ++ three (of_clock_time hour_digit) (before ++ codes "1") abrupt_digit (codes ":") TimeHour
+    ++ one (of_clock_time hour_range) (before ++ codes "24") TimeHour
+    ++ two (of_clock_time after_hour) (before ++ codes "12") (codes "x") InvalidEnd
+    ++ three (of_clock_time minute_digits) (before ++ codes "12:") abrupt_digit (codes "x") TimeMinuteSecond
+    ++ one (of_clock_time minute_range) (before ++ codes "12:60") TimeMinuteSecond
+    ++ two (of_clock_time after_plain_minute) (before ++ codes "1230") (codes "x") InvalidEnd
+    ++ two (of_clock_time after_colon_minute) (before ++ codes "12:30") (codes "x") InvalidEnd
+    ++ three (of_clock_time second_digits) (before ++ codes "12:30:") abrupt_digit (codes "x") TimeSecond
+    ++ one (of_clock_time second_range) (before ++ codes "00:00:61") TimeSecond
+    ++ two (of_clock_time after_second) (before ++ codes "00:00:00") (codes "x") InvalidEnd
+    ++ three (of_clock_time fraction_start) (before ++ codes "00:00:00.") FractionPart (codes "x") FractionPart
+    ++ two (of_clock_time after_fraction) (before ++ codes "00:00:00.5") (codes "x") InvalidEnd
 
-each_row_of_times : ShowEachRow parse time_lines time_rows
+each_row_of_times : ShowEachRow parse time_lines (time_rows (at []))
 unfolding all_readings
 each_row_of_times = (refl, refl)
 
@@ -72,53 +73,53 @@ fractions = refl
 -- ---- texts that are no time
 
 no_time : Compute parse (
-    ends (at (codes "1")) (of_time hour_digit) abrupt_digit
-    ∷ goes_off (at (codes "1x")) (of_time hour_digit) TimeHour
-    ∷ stands (at (codes "24:00")) (of_time hour_range) TimeHour
-    ∷ ends (at (codes "001")) (of_time minute_digits) abrupt_digit
-    ∷ ends (at (codes "12:3")) (of_time minute_digits) abrupt_digit
-    ∷ goes_off (at (codes "12:3x")) (of_time minute_digits) TimeMinuteSecond
-    ∷ goes_off (at (codes "123x")) (of_time minute_digits) TimeMinuteSecond
-    ∷ meets_bad (at (codes "12:3")) (of_time minute_digits)
-    ∷ meets_bad (at (codes "123")) (of_time minute_digits)
-    ∷ stands (at (codes "01:60:61")) (of_time minute_range) TimeMinuteSecond
-    ∷ stands (at (codes "0160")) (of_time minute_range) TimeMinuteSecond
+    ends (at (codes "1")) (of_clock_time hour_digit) abrupt_digit
+    ∷ goes_off (at (codes "1x")) (of_clock_time hour_digit) TimeHour
+    ∷ stands (at (codes "24:00")) (of_clock_time hour_range) TimeHour
+    ∷ ends (at (codes "001")) (of_clock_time minute_digits) abrupt_digit
+    ∷ ends (at (codes "12:3")) (of_clock_time minute_digits) abrupt_digit
+    ∷ goes_off (at (codes "12:3x")) (of_clock_time minute_digits) TimeMinuteSecond
+    ∷ goes_off (at (codes "123x")) (of_clock_time minute_digits) TimeMinuteSecond
+    ∷ meets_bad (at (codes "12:3")) (of_clock_time minute_digits)
+    ∷ meets_bad (at (codes "123")) (of_clock_time minute_digits)
+    ∷ stands (at (codes "01:60:61")) (of_clock_time minute_range) TimeMinuteSecond
+    ∷ stands (at (codes "0160")) (of_clock_time minute_range) TimeMinuteSecond
     ∷ [])
 unfolding all_readings
 no_time = refl
 
 -- a colon or a digit that does not go on
 mixed_times : Compute parse (
-    goes_off (codes "2022-06-05 0434:22.000") (of_time after_plain_minute) TimeSeparator
-    ∷ goes_off (at (codes "01:001")) (of_time after_colon_minute) TimeSeparator
-    ∷ goes_off (at (codes "01:0000")) (of_time after_colon_minute) TimeSeparator
+    goes_off (codes "2022-06-05 0434:22.000") (of_clock_time after_plain_minute) TimeSeparator
+    ∷ goes_off (at (codes "01:001")) (of_clock_time after_colon_minute) TimeSeparator
+    ∷ goes_off (at (codes "01:0000")) (of_clock_time after_colon_minute) TimeSeparator
     ∷ [])
 unfolding all_readings
 mixed_times = refl
 
 no_second : Compute parse (
-    goes_off (codes "2022-06-05 03422.000") (of_time second_digits) TimeSecond
-    ∷ ends (at (codes "12300")) (of_time second_digits) abrupt_digit
-    ∷ ends (at (codes "12:30:0")) (of_time second_digits) abrupt_digit
-    ∷ goes_off (at (codes "12:30:0x")) (of_time second_digits) TimeSecond
-    ∷ meets_bad (at (codes "12300")) (of_time second_digits)
-    ∷ meets_bad (at (codes "12:30:0")) (of_time second_digits)
-    ∷ stands (at (codes "000061")) (of_time second_range) TimeSecond
-    ∷ goes_off (at (codes "01:01:001")) (of_time after_second) InvalidEnd
-    ∷ ends (at (codes "00:00:00,")) (of_time fraction_start) FractionPart
-    ∷ goes_off (at (codes "00:00:00..5")) (of_time fraction_start) FractionPart
-    ∷ goes_off (at (codes "12.5")) (of_time after_hour) InvalidEnd
-    ∷ goes_off (at (codes "12:30.5")) (of_time after_colon_minute) InvalidEnd
-    ∷ goes_off (at (codes "00:00:00.5.5")) (of_time after_fraction) InvalidEnd
+    goes_off (codes "2022-06-05 03422.000") (of_clock_time second_digits) TimeSecond
+    ∷ ends (at (codes "12300")) (of_clock_time second_digits) abrupt_digit
+    ∷ ends (at (codes "12:30:0")) (of_clock_time second_digits) abrupt_digit
+    ∷ goes_off (at (codes "12:30:0x")) (of_clock_time second_digits) TimeSecond
+    ∷ meets_bad (at (codes "12300")) (of_clock_time second_digits)
+    ∷ meets_bad (at (codes "12:30:0")) (of_clock_time second_digits)
+    ∷ stands (at (codes "000061")) (of_clock_time second_range) TimeSecond
+    ∷ goes_off (at (codes "01:01:001")) (of_clock_time after_second) InvalidEnd
+    ∷ ends (at (codes "00:00:00,")) (of_clock_time fraction_start) FractionPart
+    ∷ goes_off (at (codes "00:00:00..5")) (of_clock_time fraction_start) FractionPart
+    ∷ goes_off (at (codes "12.5")) (of_clock_time after_hour) InvalidEnd
+    ∷ goes_off (at (codes "12:30.5")) (of_clock_time after_colon_minute) InvalidEnd
+    ∷ goes_off (at (codes "00:00:00.5.5")) (of_clock_time after_fraction) InvalidEnd
     ∷ [])
 unfolding all_readings
 no_second = refl
 
 -- a unit that stands for no letter, after what is refused whatever follows
 bad_after_a_range : Compute parse (
-    (and_bad (at (codes "24")), stops (of_time hour_range) anywhere TimeHour)
-    ∷ (and_bad (at (codes "12:60")), stops (of_time minute_range) anywhere TimeMinuteSecond)
-    ∷ (and_bad (at (codes "00:00:61")), stops (of_time second_range) anywhere TimeSecond)
+    (and_bad (at (codes "24")), stops (of_clock_time hour_range) anywhere TimeHour)
+    ∷ (and_bad (at (codes "12:60")), stops (of_clock_time minute_range) anywhere TimeMinuteSecond)
+    ∷ (and_bad (at (codes "00:00:61")), stops (of_clock_time second_range) anywhere TimeSecond)
     ∷ [])
 unfolding all_readings
 bad_after_a_range = refl

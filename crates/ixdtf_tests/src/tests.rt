@@ -7,6 +7,8 @@ mod encodings;
 mod errors;
 mod handlers;
 mod laws;
+mod lone_times;
+mod months;
 mod offsets;
 mod records;
 mod replies;
@@ -27,6 +29,10 @@ use std::process::Abort;
 const AT_DIGIT: ParseError = ParseError::AbruptEnd { location: "digit" };
 
 const AT_DATE: ParseError = ParseError::AbruptEnd { location: "Date" };
+
+const AT_MONTH_DAY: ParseError = ParseError::AbruptEnd {
+    location: "MonthDay",
+};
 
 const AT_OFFSET: ParseError = ParseError::AbruptEnd {
     location: "time-numoffset",
@@ -101,6 +107,12 @@ fn fraction_of(text: &'static str) -> Option<Fraction> {
 enum Reader {
     /// `IxdtfParser::parse`.
     Parse,
+    /// `IxdtfParser::parse_year_month`.
+    YearMonth,
+    /// `IxdtfParser::parse_month_day`.
+    MonthDay,
+    /// `IxdtfParser::parse_time`.
+    Time,
     /// `TimeZoneParser::parse_offset`.
     Offset,
     /// `TimeZoneParser::parse_identifier`.
@@ -115,6 +127,18 @@ fn check_refused(rt: &impl Abort, reader: Reader, rows: &[(&'static str, ParseEr
         match reader {
             Reader::Parse => {
                 let found = IxdtfParser::from_str(text).parse();
+                assert_eq!(rt; found, Err(*error), "at {text}");
+            }
+            Reader::YearMonth => {
+                let found = IxdtfParser::from_str(text).parse_year_month();
+                assert_eq!(rt; found, Err(*error), "at {text}");
+            }
+            Reader::MonthDay => {
+                let found = IxdtfParser::from_str(text).parse_month_day();
+                assert_eq!(rt; found, Err(*error), "at {text}");
+            }
+            Reader::Time => {
+                let found = IxdtfParser::from_str(text).parse_time();
                 assert_eq!(rt; found, Err(*error), "at {text}");
             }
             Reader::Offset => {

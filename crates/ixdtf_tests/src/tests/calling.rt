@@ -18,6 +18,33 @@ fn date_of(text: &str) -> ParserResult<Option<(i32, u8, u8)>> {
     }
 }
 
+// The year and the month of a text such as `2020-11`.
+fn month_of(text: &str) -> ParserResult<Option<(i32, u8)>> {
+    let mut parser = IxdtfParser::from_str(text);
+    match parser.parse_year_month() {
+        Ok(record) => Ok(record.date.map(|date| (date.year, date.month))),
+        Err(error) => Err(error),
+    }
+}
+
+// The month and the day of a text such as `11-07`.
+fn birthday_of(text: &str) -> ParserResult<Option<(u8, u8)>> {
+    let mut parser = IxdtfParser::from_str(text);
+    match parser.parse_month_day() {
+        Ok(record) => Ok(record.date.map(|date| (date.month, date.day))),
+        Err(error) => Err(error),
+    }
+}
+
+// The hour and the minute of a text such as `T1200`. Without the `T` this one is refused: it begins as a month and a day.
+fn clock_of(text: &str) -> ParserResult<Option<(u8, u8)>> {
+    let mut parser = IxdtfParser::from_str(text);
+    match parser.parse_time() {
+        Ok(record) => Ok(record.time.map(|time| (time.hour, time.minute))),
+        Err(error) => Err(error),
+    }
+}
+
 // The sign, the hour and the minute of an offset.
 fn offset_of(text: &str) -> ParserResult<(Sign, u8, u8)> {
     let mut parser = TimeZoneParser::from_str(text);
@@ -45,6 +72,10 @@ fn name_of<'a>(text: &'a str) -> ParserResult<&'a [u8]> {
 #[test]
 fn calls_each_reader(rt: HostRuntime) -> Result<(), Fail> {
     assert_eq!(rt; date_of("2024-03-02T08:48:00Z")?, Some((2024, 3, 2)));
+    assert_eq!(rt; month_of("2020-11")?, Some((2020, 11)));
+    assert_eq!(rt; birthday_of("11-07")?, Some((11, 7)));
+    assert_eq!(rt; clock_of("T1200")?, Some((12, 0)));
+    assert_eq!(rt; clock_of("1200"), Err(ParseError::AmbiguousTimeMonthDay));
     assert_eq!(rt; offset_of("-05:30")?, (Sign::Negative, 5, 30));
     assert!(rt; has_a_name("America/New_York")?);
     assert!(rt; !has_a_name("-05:00")?);

@@ -3,7 +3,7 @@ use Rattle.std.proofs.Common.{refl, map}
 use Rattle.ixdtf.specs.Views.{parsed_of, zone_of}
 use Rattle.ixdtf.specs.table.Faults.{fault_of}
 use Rattle.ixdtf.specs.language.Languages.Found.{parsed, shifted, identified, named}
-use Rattle.ixdtf.specs.language.Readers.{parse}
+use Rattle.ixdtf.specs.language.Readers.{parse, parse_year_month, parse_month_day, parse_time}
 use Rattle.ixdtf.specs.language.Readers.Reader.{parse_offset, parse_identifier, parse_iana_identifier}
 use Rattle.ixdtf_lines.proofs.AnswerLemmas.{Gives-text, Refuses-text}
 use Rattle.ixdtf_lines.proofs.found.read.Goals as goal
@@ -16,6 +16,33 @@ returns-in-Ok-clause-ok c =
 pub returns-in-Err-clause-err : goal.returns-in-Err-clause-err
 returns-in-Err-clause-err c =
     rw c.in-Parse.is (Refuses-text parse c.args.text.now _ (fault_of c.in-Err.error) c.from_utf8.ensures.rest c.in-Err.ensures.err)
+
+pub returns-in-Ok-parse_year_month-clause-ok : goal.returns-in-Ok-parse_year_month-clause-ok
+returns-in-Ok-parse_year_month-clause-ok c =
+    let found = parsed_of (λ byte. byte) c.in-Ok-parse_year_month.parts in
+    rw c.in-YearMonth.is (Gives-text parse_year_month c.args.text.now _ (parsed found) c.from_utf8-in-YearMonth.ensures.rest ((c.in-Ok-parse_year_month.ensures.ok found).0 refl))
+
+pub returns-in-Err-parse_year_month-clause-err : goal.returns-in-Err-parse_year_month-clause-err
+returns-in-Err-parse_year_month-clause-err c =
+    rw c.in-YearMonth.is (Refuses-text parse_year_month c.args.text.now _ (fault_of c.in-Err-parse_year_month.error) c.from_utf8-in-YearMonth.ensures.rest c.in-Err-parse_year_month.ensures.err)
+
+pub returns-in-Ok-parse_month_day-clause-ok : goal.returns-in-Ok-parse_month_day-clause-ok
+returns-in-Ok-parse_month_day-clause-ok c =
+    let found = parsed_of (λ byte. byte) c.in-Ok-parse_month_day.parts in
+    rw c.in-MonthDay.is (Gives-text parse_month_day c.args.text.now _ (parsed found) c.from_utf8-in-MonthDay.ensures.rest ((c.in-Ok-parse_month_day.ensures.ok found).0 refl))
+
+pub returns-in-Err-parse_month_day-clause-err : goal.returns-in-Err-parse_month_day-clause-err
+returns-in-Err-parse_month_day-clause-err c =
+    rw c.in-MonthDay.is (Refuses-text parse_month_day c.args.text.now _ (fault_of c.in-Err-parse_month_day.error) c.from_utf8-in-MonthDay.ensures.rest c.in-Err-parse_month_day.ensures.err)
+
+pub returns-in-Ok-parse_time-clause-ok : goal.returns-in-Ok-parse_time-clause-ok
+returns-in-Ok-parse_time-clause-ok c =
+    let found = parsed_of (λ byte. byte) c.in-Ok-parse_time.parts in
+    rw c.in-Time.is (Gives-text parse_time c.args.text.now _ (parsed found) c.from_utf8-in-Time.ensures.rest ((c.in-Ok-parse_time.ensures.ok found).0 refl))
+
+pub returns-in-Err-parse_time-clause-err : goal.returns-in-Err-parse_time-clause-err
+returns-in-Err-parse_time-clause-err c =
+    rw c.in-Time.is (Refuses-text parse_time c.args.text.now _ (fault_of c.in-Err-parse_time.error) c.from_utf8-in-Time.ensures.rest c.in-Err-parse_time.ensures.err)
 
 pub returns-in-Ok-parse_offset-clause-ok : goal.returns-in-Ok-parse_offset-clause-ok
 returns-in-Ok-parse_offset-clause-ok c =

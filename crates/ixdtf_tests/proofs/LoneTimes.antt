@@ -1,0 +1,119 @@
+-- Times that stand alone, and their lines, computed.
+use Rattle.std.proofs.Common.{ℕ, List, [], ◌∷◌, ◌++◌, map, codes, Option, Some, None, false, refl}
+use Rattle.ixdtf.specs.declared.records.Sign.{Sign}
+use Rattle.ixdtf.specs.declared.records.Sign.TheVariants.{Negative}
+use Rattle.ixdtf.specs.declared.records.UtcOffsetRecord.TheVariants.{MinutePrecision}
+use Rattle.ixdtf.specs.declared.records.UtcOffsetRecordOrZ.{UtcOffsetRecordOrZ}
+use Rattle.ixdtf.specs.declared.records.UtcOffsetRecordOrZ.TheVariants.{Offset, Z}
+use Rattle.ixdtf.specs.language.Letters.Letter.{Bad}
+use Rattle.ixdtf.specs.language.Brackets.{ZoneNote}
+use Rattle.ixdtf.specs.language.Cores.{core_of}
+use Rattle.ixdtf.specs.language.Fractions.{FractionParts}
+use Rattle.ixdtf.specs.language.Readers.{parse_time}
+use Rattle.ixdtf.specs.language.Languages.{parsed_with}
+use Rattle.ixdtf.specs.language.Languages.Found.{parsed}
+use Rattle.ixdtf.specs.language.Times.Clock.{Offset as OffsetClock}
+use Rattle.ixdtf.specs.table.Faults.Fault.{NonAsciiCodePoint, InvalidEnd, TimeHour, TimeSeparator, AmbiguousTimeMonthDay, AmbiguousTimeYearMonth}
+use Rattle.ixdtf.specs.table.LineNames.{of_time}
+use Rattle.ixdtf.specs.table.LineNames.LineName.{of_clock, of_offset, of_bracket}
+use Rattle.ixdtf.specs.table.LineNames.TimeLine.{time_start, time_reads_as_month_day, time_reads_as_year_month}
+use Rattle.ixdtf.specs.table.LineNames.ClockLine.{hour_start, hour_digit, hour_range, after_hour, minute_digits, after_plain_minute, after_colon_minute}
+use Rattle.ixdtf.specs.table.LineNames.ClockLine.{after_second}
+use Rattle.ixdtf.specs.table.LineNames.OffsetLine.{after_zulu}
+use Rattle.ixdtf.specs.table.LineNames.BracketLine.{first_bracket_start}
+use Rattle.ixdtf.specs.table.Lines.{abrupt_digit, abrupt_bracket}
+use Rattle.ixdtf.specs.table.Rows.Place.{bad}
+use Rattle.ixdtf.specs.table.Outcomes.{Outcome}
+use Rattle.ixdtf.specs.table.Outcomes.Outcome.{derived}
+use Rattle.ixdtf.specs.reading.Times.{time_of}
+use Rattle.ixdtf_tests.proofs.Helpers.{all_readings, zone_named, Example, Compute, gives, ends, goes_off, meets_bad, stands, stops, one, three, ShowEachRow}
+use Rattle.ixdtf_tests.proofs.Times.{of_clock_time, time_lines, time_rows}
+use Rattle.ixdtf_tests.proofs.Offsets.{full_lines, full_rows}
+
+-- ---- each row in `parse_time`
+
+-- the rows of its own lines
+abbrev alone_rows : List Example
+alone_rows =
+    three (of_time time_start) [] abrupt_digit (codes "x") TimeHour
+    ++ one (of_time time_reads_as_month_day) (codes "1200") AmbiguousTimeMonthDay
+    ++ one (of_time time_reads_as_year_month) (codes "2021-12") AmbiguousTimeYearMonth
+
+each_row_of_its_own : ShowEachRow parse_time (map of_time (time_start ∷ time_reads_as_month_day ∷ time_reads_as_year_month ∷ [])) alone_rows
+unfolding all_readings
+each_row_of_its_own = (refl, refl)
+
+each_row_after_a_letter : ShowEachRow parse_time time_lines (time_rows (codes "T"))
+unfolding all_readings
+each_row_after_a_letter = (refl, refl)
+
+each_row_after_a_time : ShowEachRow parse_time (full_lines ++ (of_offset after_zulu ∷ [])) (full_rows (codes "t00:00"))
+unfolding all_readings
+each_row_after_a_time = (refl, refl)
+
+-- ---- times
+
+abbrev alone : ℕ → ℕ → ℕ → Option FractionParts → Option UtcOffsetRecordOrZ → Option ZoneNote → Outcome
+alone hour minute second fraction offset zone =
+    derived (parsed (parsed_with (core_of None (Some (time_of hour minute second fraction)) offset) zone)) []
+
+abbrev time : ℕ → ℕ → ℕ → Outcome
+time hour minute second = alone hour minute second None None None
+
+abbrev shifted_by : Sign → ℕ → ℕ → Option UtcOffsetRecordOrZ
+shifted_by sign hour minute = Some (Offset (MinutePrecision (record { sign = sign; hour = hour; minute = minute })))
+
+times_alone : Compute parse_time (
+    gives (codes "12") (time 12 0 0)
+    ∷ gives (codes "T1200") (time 12 0 0)
+    ∷ gives (codes "t121430") (time 12 14 30)
+    ∷ gives (codes "0230") (time 2 30 0)
+    ∷ gives (codes "0631") (time 6 31 0)
+    ∷ gives (codes "1232") (time 12 32 0)
+    ∷ gives (codes "13-14") (alone 13 0 0 None (shifted_by Negative 14 0) None)
+    ∷ gives (codes "2021-13") (alone 20 21 0 None (shifted_by Negative 13 0) None)
+    ∷ gives (codes "0000-00") (alone 0 0 0 None (shifted_by Negative 0 0) None)
+    ∷ gives (codes "T1214Z") (alone 12 14 0 None (Some Z) None)
+    ∷ gives (codes "T1200[UTC]") (alone 12 0 0 None None (zone_named false (codes "UTC")))
+    ∷ gives (codes "15:23:30.1234567890") (alone 15 23 30 (Some (record { count = 10; value = 1234567890 })) None None)
+    -- 37 digits, of which the value keeps 18
+    ∷ gives (codes "15:23:30.1234567898765432101234567890987654321")
+    (alone 15 23 30 (Some (record { count = 37; value = 123456789876543210 })) None None)
+    ∷ [])
+unfolding all_readings
+times_alone = refl
+
+-- ---- texts that read as something else
+
+ambiguous : Compute parse_time (
+    stands (codes "0229") (of_time time_reads_as_month_day) AmbiguousTimeMonthDay
+    ∷ stands (codes "1208-10") (of_time time_reads_as_month_day) AmbiguousTimeMonthDay
+    ∷ stands (codes "121430") (of_time time_reads_as_month_day) AmbiguousTimeMonthDay
+    ∷ stands (codes "1214Z") (of_time time_reads_as_month_day) AmbiguousTimeMonthDay
+    ∷ stands (codes "12-14[-14:00]") (of_time time_reads_as_month_day) AmbiguousTimeMonthDay
+    ∷ stands (codes "202112[UTC]") (of_time time_reads_as_year_month) AmbiguousTimeYearMonth
+    -- nothing inside a bracket is looked at
+    ∷ stands (codes "1214[") (of_time time_reads_as_month_day) AmbiguousTimeMonthDay
+    ∷ stands (codes "1200[a=b]") (of_time time_reads_as_month_day) AmbiguousTimeMonthDay
+    ∷ ends (codes "T1214[") (of_bracket first_bracket_start) abrupt_bracket
+    ∷ [])
+unfolding all_readings
+ambiguous = refl
+
+-- ---- texts that are no time
+
+no_time_alone : Compute parse_time (
+    stands (codes "24-12-08") (of_clock_time hour_range) TimeHour
+    ∷ goes_off (codes "20240801") (of_clock_time after_second) InvalidEnd
+    ∷ goes_off (codes "T19:120-08") (of_clock_time after_colon_minute) TimeSeparator
+    ∷ goes_off (codes "T19-12-08") (of_clock OffsetClock after_hour) InvalidEnd
+    ∷ ends (codes "T19:12-089") (of_clock OffsetClock minute_digits) abrupt_digit
+    ∷ goes_off (codes ":12") (of_time time_start) TimeHour
+    ∷ goes_off (codes "TT12") (of_clock_time hour_start) TimeHour
+    ∷ goes_off (codes "1:00") (of_clock_time hour_digit) TimeHour
+    -- a unit that stands for no letter comes before the test of the front
+    ∷ meets_bad (codes "1200") (of_clock_time after_plain_minute)
+    ∷ (Bad ∷ [], stops (of_time time_start) bad NonAsciiCodePoint)
+    ∷ [])
+unfolding all_readings
+no_time_alone = refl

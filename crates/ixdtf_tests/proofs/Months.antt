@@ -1,0 +1,133 @@
+-- Year-months and month-days, and their lines, computed.
+use Rattle.std.proofs.Common.{ℕ, List, [], ◌∷◌, ◌++◌, map, codes, ℤ, pos, neg_ℤ, Some, None, false, refl}
+use Rattle.ixdtf.specs.declared.records.Sign.TheVariants.{Positive}
+use Rattle.ixdtf.specs.language.ZoneNames.Zone.{Offset}
+use Rattle.ixdtf.specs.language.Readers.{parse_year_month, parse_month_day}
+use Rattle.ixdtf.specs.table.Faults.Fault.{InvalidEnd, InvalidMonthRange, InvalidMonthDay, DateYear, DateExtendedYear, DateMonth, DateDay, MonthDayHyphen}
+use Rattle.ixdtf.specs.table.LineNames.{LineName, of_date, of_year_month, of_month_day}
+use Rattle.ixdtf.specs.table.LineNames.DateLine.{year_start, year_digits, extended_year_digits, minus_zero_year, month_digits, month_range}
+use Rattle.ixdtf.specs.table.LineNames.YearMonthLine.{after_year_in_year_month, after_year_month}
+use Rattle.ixdtf.specs.table.LineNames.MonthDayLine.{month_day_start, month_day_hyphen, month_day_month_digits, month_day_month_range}
+use Rattle.ixdtf.specs.table.LineNames.MonthDayLine.{after_month_day_month, month_day_day_digits, month_day_range, after_month_day}
+use Rattle.ixdtf.specs.table.Lines.{abrupt_digit, abrupt_month_day}
+use Rattle.ixdtf.specs.table.Rows.Place.{anywhere}
+use Rattle.ixdtf.specs.table.Outcomes.{Outcome}
+use Rattle.ixdtf.specs.reading.Dates.{date_of}
+use Rattle.ixdtf_tests.proofs.Helpers.{all_readings, and_bad, date, with, Example, Compute, gives, ends, goes_off, meets_bad, stands, stops}
+use Rattle.ixdtf_tests.proofs.Helpers.{one, two, three, ShowEachRow}
+
+-- ---- each row of the lines of year-months
+
+abbrev year_month_lines : List LineName
+year_month_lines =
+    map of_date (year_start ∷ year_digits ∷ extended_year_digits ∷ minus_zero_year ∷ month_digits ∷ month_range ∷ [])
+    ++ map of_year_month (after_year_in_year_month ∷ after_year_month ∷ [])
+
+abbrev year_month_rows : List Example
+year_month_rows =
+    three (of_date year_start) [] abrupt_digit (codes "x") DateYear
+    ++ three (of_date year_digits) (codes "202") abrupt_digit (codes "x") DateYear
+    ++ three (of_date extended_year_digits) (codes "+00202") abrupt_digit (codes "x") DateExtendedYear
+    ++ one (of_date minus_zero_year) (codes "-000000") DateExtendedYear
+    ++ three (of_date month_digits) (codes "2020-") abrupt_digit (codes "x") DateMonth
+    ++ one (of_date month_range) (codes "2020-13") InvalidMonthRange
+    ++ three (of_year_month after_year_in_year_month) (codes "2020") abrupt_digit (codes "x") DateMonth
+    ++ two (of_year_month after_year_month) (codes "2020-01") (codes "x") InvalidEnd
+
+each_row_of_year_months : ShowEachRow parse_year_month year_month_lines year_month_rows
+unfolding all_readings
+each_row_of_year_months = (refl, refl)
+
+-- ---- year-months
+
+abbrev year_month : ℤ → ℕ → Outcome
+year_month year month = date year month 1
+
+year_months : Compute parse_year_month (
+    gives (codes "2020-01") (year_month (pos 2020) 1)
+    ∷ gives (codes "+002020-11") (year_month (pos 2020) 11)
+    ∷ gives (codes "+00202011") (year_month (pos 2020) 11)
+    ∷ gives (codes "-002020-11") (year_month (neg_ℤ (pos 2020)) 11)
+    ∷ gives (codes "202112") (year_month (pos 2021) 12)
+    ∷ [])
+unfolding all_readings
+year_months = refl
+
+no_year_month : Compute parse_year_month (
+    goes_off (codes "-202011[!u-ca=iso8601]") (of_year_month after_year_in_year_month) DateMonth
+    ∷ goes_off (codes "-00202011Z[Europe/Berlin]") (of_year_month after_year_month) InvalidEnd
+    ∷ goes_off (codes "2020-01-01") (of_year_month after_year_month) InvalidEnd
+    ∷ ends (codes "2020-0") (of_date month_digits) abrupt_digit
+    ∷ ends (codes "20200") (of_date month_digits) abrupt_digit
+    ∷ goes_off (codes "20200x") (of_date month_digits) DateMonth
+    ∷ meets_bad (codes "20200") (of_date month_digits)
+    ∷ stands (codes "202000") (of_date month_range) InvalidMonthRange
+    ∷ (and_bad (codes "2020-13"), stops (of_date month_range) anywhere InvalidMonthRange)
+    ∷ [])
+unfolding all_readings
+no_year_month = refl
+
+-- ---- each row of the lines of month-days
+
+abbrev month_day_lines : List LineName
+month_day_lines =
+    map of_month_day (month_day_start ∷ month_day_hyphen ∷ month_day_month_digits ∷ month_day_month_range
+    ∷ after_month_day_month ∷ month_day_day_digits ∷ month_day_range ∷ after_month_day ∷ [])
+
+abbrev month_day_rows : List Example
+month_day_rows =
+    three (of_month_day month_day_start) [] abrupt_month_day (codes "x") DateMonth
+    ++ three (of_month_day month_day_hyphen) (codes "-") abrupt_month_day (codes "1") MonthDayHyphen
+    ++ three (of_month_day month_day_month_digits) (codes "--") abrupt_digit (codes "x") DateMonth
+    ++ one (of_month_day month_day_month_range) (codes "13") InvalidMonthRange
+    ++ three (of_month_day after_month_day_month) (codes "11") abrupt_digit (codes "x") DateDay
+    ++ three (of_month_day month_day_day_digits) (codes "11-") abrupt_digit (codes "x") DateDay
+    ++ one (of_month_day month_day_range) (codes "02-30") InvalidMonthDay
+    ++ two (of_month_day after_month_day) (codes "11-07") (codes "x") InvalidEnd
+
+each_row_of_month_days : ShowEachRow parse_month_day month_day_lines month_day_rows
+unfolding all_readings
+each_row_of_month_days = (refl, refl)
+
+-- ---- month-days
+
+abbrev month_day : ℕ → ℕ → Outcome
+month_day month day = date (pos 0) month day
+
+month_days : Compute parse_month_day (
+    gives (codes "11-07") (month_day 11 7)
+    ∷ gives (codes "1107") (month_day 11 7)
+    ∷ gives (codes "--11-07") (month_day 11 7)
+    ∷ gives (codes "11-00") (month_day 11 0)
+    ∷ gives (codes "02-29") (month_day 2 29)
+    ∷ gives (codes "0430") (month_day 4 30)
+    ∷ gives (codes "1231") (month_day 12 31)
+    ∷ gives (codes "--1107[+04:00]") (with (date_of (pos 0) 11 7) None None
+    (Some (record { critical = false; zone = Offset (record { sign = Positive; hour = 4; minute = 0 }) })))
+    ∷ [])
+unfolding all_readings
+month_days = refl
+
+no_month_day : Compute parse_month_day (
+    goes_off (codes "-11-07") (of_month_day month_day_hyphen) MonthDayHyphen
+    ∷ ends (codes "1") (of_month_day month_day_month_digits) abrupt_digit
+    ∷ ends (codes "--1") (of_month_day month_day_month_digits) abrupt_digit
+    ∷ goes_off (codes "1-07") (of_month_day month_day_month_digits) DateMonth
+    ∷ goes_off (codes "---07") (of_month_day month_day_month_digits) DateMonth
+    ∷ meets_bad (codes "--1") (of_month_day month_day_month_digits)
+    ∷ stands (codes "00-07") (of_month_day month_day_month_range) InvalidMonthRange
+    ∷ stands (codes "--13") (of_month_day month_day_month_range) InvalidMonthRange
+    ∷ stands (codes "2020-01") (of_month_day month_day_month_range) InvalidMonthRange
+    ∷ goes_off (codes "11/07") (of_month_day after_month_day_month) DateDay
+    ∷ ends (codes "110") (of_month_day month_day_day_digits) abrupt_digit
+    ∷ ends (codes "11-0") (of_month_day month_day_day_digits) abrupt_digit
+    ∷ goes_off (codes "11-0x") (of_month_day month_day_day_digits) DateDay
+    ∷ goes_off (codes "11--7") (of_month_day month_day_day_digits) DateDay
+    ∷ meets_bad (codes "110") (of_month_day month_day_day_digits)
+    ∷ stands (codes "0230") (of_month_day month_day_range) InvalidMonthDay
+    ∷ stands (codes "04-31") (of_month_day month_day_range) InvalidMonthDay
+    ∷ stands (codes "12-32x") (of_month_day month_day_range) InvalidMonthDay
+    ∷ goes_off (codes "11-071") (of_month_day after_month_day) InvalidEnd
+    ∷ [])
+unfolding all_readings
+no_month_day = refl
