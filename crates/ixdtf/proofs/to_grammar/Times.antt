@@ -1,5 +1,5 @@
 -- What reading a time returns is a time as far as it goes, or a row that fits.
-use Rattle.std.proofs.Common.{◌≡◌, ℕ, ◌<◌, ◌≤◌, ◌⊎◌, IsTrue, IsFalse, [], ◌∷◌, ◌++◌, Ok, Err, Option, Some, None, refl, ◌∙◌, inl, inr, arith, append_assoc, nat_le, Bool, true, false, if◌then◌else◌}
+use Rattle.std.proofs.Common.{◌≡◌, ℕ, ◌<◌, ◌≤◌, ◌⊎◌, IsTrue, IsFalse, [], ◌∷◌, ◌++◌, Ok, Err, Option, Some, None, refl, ◌∙◌, subst, inl, inr, arith, append_assoc, nat_le, Bool, true, false, if◌then◌else◌}
 use Rattle.std.proofs.lemmas.Bool.{eqb-true, leb-true, leb-false, and_parts, or_from}
 use Rattle.std.proofs.lemmas.Bool.Decides.{nat_tests}
 use Rattle.ixdtf.specs.language.Times.{Clock}
@@ -12,15 +12,15 @@ use Rattle.ixdtf.specs.language.Shapes.{Shape, some, one, fewer_digits_than, ◌
 use Rattle.ixdtf.specs.language.Digits.{decimal, UpTo}
 use Rattle.ixdtf.specs.language.Fractions.{FractionParts, SomeDigits, fraction_of}
 use Rattle.ixdtf.specs.table.Faults.{Fault}
-use Rattle.ixdtf.specs.table.Faults.Fault.{NonAsciiCodePoint}
+use Rattle.ixdtf.specs.table.Faults.Fault.{NonAsciiCodePoint, TimeMinuteSecond}
 use Rattle.ixdtf.specs.language.Times.{TimeShape, ClockOf, PlainMinuteText, ColonMinuteText, SecondText, greatest_second, has_seconds}
 use Rattle.ixdtf.specs.language.Times.TimeShape.{hours, plain_minutes, colon_minutes, seconds, fractions}
-use Rattle.ixdtf.specs.table.LineNames.{LineName}
+use Rattle.ixdtf.specs.table.LineNames.{LineName, ClockLine}
 use Rattle.ixdtf.specs.table.LineNames.LineName.{of_clock}
 use Rattle.ixdtf.specs.table.LineNames.ClockLine.{hour_start, hour_digit, hour_range, after_hour, minute_digits, minute_range, after_plain_minute, after_colon_minute, second_digits, second_range, after_second, fraction_start, after_fraction}
-use Rattle.ixdtf.specs.table.Lines.{line_of, follow_of, seconds_after, mixed, ColonOrDigit, Past}
+use Rattle.ixdtf.specs.table.Lines.{line_of, follow_of, seconds_after, second_fault, mixed, ColonOrDigit, Past}
 use Rattle.ixdtf.specs.table.Lines.Ending.{ok, error}
-use Rattle.ixdtf.specs.table.Rows.{Row, Place}
+use Rattle.ixdtf.specs.table.Rows.{Row, Place, Stops, front_of}
 use Rattle.ixdtf.specs.table.Rows.Place.{end, other, bad, anywhere}
 use Rattle.ixdtf.specs.reading.Looks.{Read, ◌>>=◌, row_of, letter_at, look_at, next_by, digits_at, peek_by, in_range, number_by, digit_run}
 use Rattle.ixdtf.specs.reading.Times.{OpenTime, time_of, line_after, bad_after, mixed_after, hour_past, minute_past, second_past, minutes_shape, second_start, number_at, fraction_at, after_second_at, second_at, after_minute_at, minute_at, after_hour_at, hour_from, clock_at}
@@ -101,36 +101,19 @@ abbrev FractionFront : Text → FractionParts → Text → Type 0
 FractionFront text fraction rest = (ds : Text) × (text ≡ ds ++ rest) × SomeDigits ds × (fraction ≡ fraction_of ds) × NotNext digit rest
 
 module _ {E : Type 0} (fault : Row → E) where
-  -- the row is that of a number past the greatest
-  abbrev PastRow : Row → ℕ → Text → Row → Type 0
-  PastRow wanted greatest ds row = (row ≡ wanted) × (greatest < decimal ds)
-
-  range_read : (greatest : ℕ) (wanted : Row) (ds rest : Text) → OnRead fault (in_range greatest (fault wanted) (ds, rest)) (λ n more. (more ≡ rest) × (n ≡ decimal ds) × (n ≤ greatest)) (PastRow wanted greatest ds)
+  range_read : (greatest : ℕ) (wanted : Row) (ds rest : Text) → OnRead fault (in_range greatest (fault wanted) (ds, rest)) (λ n more. (more ≡ rest) × (n ≡ decimal ds) × (n ≤ greatest)) (λ row. (row ≡ wanted) × (greatest < decimal ds))
   unfolding in_range
   range_read greatest wanted ds rest = read_if fault (nat_le (decimal ds) greatest) _ _ _ _ (λ h. (refl, refl, leb-true _ _ h)) (λ h. (wanted, refl, (refl, leb-false _ _ h)))
 
-  module _ (name : LineName) (asks : LooksForDigit (line_of true name)) where
-    -- the row is of a number past the greatest, or of fewer than two digits
-    abbrev NumberStop : ℕ → Row → Text → Row → Type 0
-    NumberStop greatest wanted text row = ((ds rest : Text) × (text ≡ ds ++ rest) × (row ≡ wanted) × Past greatest ds) ⊎ DigitsStop name 2 text row
-
-    number_read : (greatest : ℕ) (wanted : Row) (text : Text) → OnRead fault (number_at fault name greatest wanted text) (λ n rest. (ds : Text) × (text ≡ ds ++ rest) × UpTo greatest ds n) (NumberStop greatest wanted text)
-    unfolding number_by
-    number_read greatest wanted text = then_read fault (digits_at fault name 2 text) _ _ _ _ _ (digits_read fault name asks 2 text)
-        (λ ds more g. read_weaker fault (in_range greatest (fault wanted) (ds, more)) _ _ _ _ (range_read greatest wanted ds more)
-        (λ n left u. (ds, rw u.0 g.0, (g.1, u.1, u.2)))
-        (λ r u. inl (ds, more, g.0, u.0, (g.1, u.1))))
-        (λ r g. inr g)
-
-    begun : (colons : Bool) (rest : Text) (row : Row) → Starts colons rest → (g : DigitsStop name 2 rest row) → Begun colons g.2
-    begun true rest row at g = (g.0, g.1, g.5)
-    begun false rest row at g = some_digit (none_or_one g.0 g.2 g.1 g.5)
-      where
-        some_digit : (g.2 ≡ []) ⊎ one digit g.2 → one digit g.2
-        some_digit (inl h) =
-            let looks = digit_looks fault name (line_of true name) asks in
-            absurd (grind (arith, goes fault name at.0 at.1 looks (digit_goes fault name (line_of true name) at.0 asks at.3), stops fault name row.place row.error g.3 looks g.6.1, g.4, at.2, h))
-        some_digit (inr d) = d
+  begun : (name : LineName) → LooksForDigit (line_of true name) → (colons : Bool) (rest : Text) (row : Row) → Starts colons rest → (g : DigitsStop name 2 rest row) → Begun colons g.2
+  begun name asks true rest row at g = (g.0, g.1, g.5)
+  begun name asks false rest row at g = some_digit (none_or_one g.0 g.2 g.1 g.5)
+    where
+      some_digit : (g.2 ≡ []) ⊎ one digit g.2 → one digit g.2
+      some_digit (inl h) =
+          let looks = digit_looks fault name (line_of true name) asks in
+          absurd (grind (arith, goes fault name at.0 at.1 looks (digit_goes fault name (line_of true name) at.0 asks at.3), stops fault name row.place row.error g.3 looks g.6.1, g.4, at.2, h))
+      some_digit (inr d) = d
 
   module _ (brackets : Bool) (clock : Clock) (text : Text) where
     -- ---- the lines at which a time may stop
@@ -204,16 +187,27 @@ module _ {E : Type 0} (fault : Row → E) where
         (λ c more next mark. with_fraction_read h m s c front x mark more (is ∙ rw next refl))
         (λ closed. (front, is, (x, refl), closed))
 
+    -- the number of a minute or a second: its digits and its range each have a line
+    module _ (at_digits at_range : ClockLine) (greatest : ℕ) (e : Fault) (asks : LooksForDigit (line_of true (of_clock clock at_digits)))
+      (same : line_of true (of_clock clock at_digits) ≡ line_of brackets (of_clock clock at_digits)) (whole : (t : Text) → Stops (line_of brackets (of_clock clock at_range)) anywhere e t) where
+      number_read : (colons : Bool) (front rest : Text) → text ≡ front ++ (marks colons ++ rest) → Starts colons rest
+          → ((ds : Text) → Begun colons ds → front_of (line_of brackets (of_clock clock at_digits)) (front ++ (marks colons ++ ds)))
+          → ((ds : Text) → Past greatest ds → front_of (line_of brackets (of_clock clock at_range)) (front ++ (marks colons ++ ds)))
+          → OnRead fault (number_at fault (of_clock clock at_digits) greatest (row_of (of_clock clock at_range) anywhere e) rest) (λ n left. (ds : Text) × (text ≡ (front ++ (marks colons ++ ds)) ++ left) × UpTo greatest ds n) (λ row. FitsIn (of_clock clock) brackets row text)
+      unfolding number_by
+      number_read colons front rest is at digits_front past_front = let wanted = row_of (of_clock clock at_range) anywhere e in
+          then_read fault (digits_at fault (of_clock clock at_digits) 2 rest) _ _ _ _ _ (digits_read fault (of_clock clock at_digits) asks 2 rest)
+          (λ ds more g. read_weaker fault (in_range greatest (fault wanted) (ds, more)) _ _ _ _ (range_read greatest wanted ds more)
+          (λ n left u. (ds, is ∙ rw (g.0, u.0) (simp append_assoc), (g.1, u.1, u.2)))
+          (λ r u. rw u.0 (at_range, refl, (front ++ (marks colons ++ ds), more, is ∙ rw g.0 (simp append_assoc), past_front ds (g.1, u.1), whole more))))
+          (λ r g. fits_in (of_clock clock) brackets at_digits r text (front ++ (marks colons ++ g.2)) g.3 g.6.0 (is ∙ rw g.4 (simp append_assoc)) (digits_front g.2 (begun (of_clock clock at_digits) asks colons rest r at g)) (subst (λ l. Stops l r.place r.error g.3) same g.6.1))
+
     second_read : (colons : Bool) (h m : ℕ) (front rest : Text) → IsTrue (has_seconds clock) → text ≡ front ++ (marks colons ++ rest) → Starts colons rest → ClockOf clock (minutes_shape colons) front (time_of h m 0 None) → Reads (second_at fault clock h m rest)
     unfolding second_at
-    second_read colons h m front rest may is at x = then_read fault (number_at fault (of_clock clock second_digits) (greatest_second clock) (second_past clock) rest) _ _ _ _ _ (number_read (of_clock clock second_digits) (λ c. refl) (greatest_second clock) (second_past clock) rest)
-        (λ s left g. after_second_read h m s (front ++ (marks colons ++ g.0)) left (is ∙ rw g.1 (simp append_assoc)) (second_text clock colons h m s front g.0 may x g.2))
-        by_row
-      where
-        by_row : (row : Row) → NumberStop (of_clock clock second_digits) (λ c. refl) (greatest_second clock) (second_past clock) rest row → FitsIn (of_clock clock) brackets row text
-        by_row row (inl g) = rw g.3 (second_range, refl, (front ++ (marks colons ++ g.0), g.1, is ∙ rw g.2 (simp append_assoc), (may, after_minute_text clock (λ b. Past (greatest_second clock)) colons _ front g.0 x g.4), refl))
-        by_row row (inr g) = fits_in (of_clock clock) brackets second_digits row text (front ++ (marks colons ++ g.2)) g.3 g.6.0 (is ∙ rw g.4 (simp append_assoc))
-            (may, after_minute_text clock Begun colons _ front g.2 x (begun (of_clock clock second_digits) (λ c. refl) colons rest row at g)) g.6.1
+    second_read colons h m front rest may is at x = then_read fault (number_at fault (of_clock clock second_digits) (greatest_second clock) (second_past clock) rest) _ _ _ _ _ (number_read second_digits second_range (greatest_second clock) (second_fault clock) (λ c. refl) refl (λ t. refl) colons front rest is at
+        (λ ds b. (may, after_minute_text clock Begun colons _ front ds x b)) (λ ds p. (may, after_minute_text clock (λ b. Past (greatest_second clock)) colons _ front ds x p)))
+        (λ s left g. after_second_read h m s (front ++ (marks colons ++ g.0)) left g.1 (second_text clock colons h m s front g.0 may x g.2))
+        (λ r g. g)
 
     second_from : (colons : Bool) (h m c : ℕ) (front rest more : Text) → text ≡ front ++ rest → rest ≡ Plain c ∷ more → IsTrue (seconds_after clock (second_start colons) c) → ClockOf clock (minutes_shape colons) front (time_of h m 0 None) → Reads (second_at fault clock h m (if colons then more else rest))
     second_from true h m c front rest more is next mark x = let parts = and_parts _ _ mark in second_read true h m front more parts.0 (is ∙ rw (next, eqb-true c 58 parts.1) refl) tt x
@@ -231,14 +225,10 @@ module _ {E : Type 0} (fault : Row → E) where
 
     minute_read : (colons : Bool) (h : ℕ) (front rest : Text) → text ≡ front ++ (marks colons ++ rest) → Starts colons rest → UpTo 23 front h → Reads (minute_at fault clock colons h rest)
     unfolding minute_at
-    minute_read colons h front rest is at x = then_read fault (number_at fault (of_clock clock minute_digits) 59 (minute_past clock) rest) _ _ _ _ _ (number_read (of_clock clock minute_digits) (λ c. refl) 59 (minute_past clock) rest)
-        (λ m left g. after_minute_read colons h m (front ++ (marks colons ++ g.0)) left (is ∙ rw g.1 (simp append_assoc)) (minute_text clock colons h m front g.0 x g.2))
-        by_row
-      where
-        by_row : (row : Row) → NumberStop (of_clock clock minute_digits) (λ c. refl) 59 (minute_past clock) rest row → FitsIn (of_clock clock) brackets row text
-        by_row row (inl g) = rw g.3 (minute_range, refl, (front ++ (marks colons ++ g.0), g.1, is ∙ rw g.2 (simp append_assoc), (front, _, refl, (h, x), (marks colons, g.0, refl, a_mark colons, g.4)), refl))
-        by_row row (inr g) = fits_in (of_clock clock) brackets minute_digits row text (front ++ (marks colons ++ g.2)) g.3 g.6.0 (is ∙ rw g.4 (simp append_assoc))
-            (front, _, refl, (h, x), minute_begun colons g.2 (begun (of_clock clock minute_digits) (λ c. refl) colons rest row at g)) g.6.1
+    minute_read colons h front rest is at x = then_read fault (number_at fault (of_clock clock minute_digits) 59 (minute_past clock) rest) _ _ _ _ _ (number_read minute_digits minute_range 59 TimeMinuteSecond (λ c. refl) refl (λ t. refl) colons front rest is at
+        (λ ds b. (front, _, refl, (h, x), minute_begun colons ds b)) (λ ds p. (front, _, refl, (h, x), (marks colons, ds, refl, a_mark colons, p))))
+        (λ m left g. after_minute_read colons h m (front ++ (marks colons ++ g.0)) left g.1 (minute_text clock colons h m front g.0 x g.2))
+        (λ r g. g)
 
     after_hour_read : (h : ℕ) (front rest : Text) → text ≡ front ++ rest → UpTo 23 front h → Reads (after_hour_at fault clock h rest)
     unfolding after_hour_at
