@@ -135,15 +135,22 @@ module _ {E : Type 0} (fault : Row → E) where
   unfolding lone_day_at
   over_lone_day m b ds d h = record {
     over = λ rest.
-        rw (append_assoc, hyphen_over fault (of_month_day after_month_day_month) b (ds ++ rest) (λ c. refl) (digits_start b 1 ds rest h.0),
-            digits_go fault (of_month_day month_day_day_digits) (λ c. refl) 2 ds rest h.0, h.1) refl;
+        rw (
+          append_assoc,
+          hyphen_over fault (of_month_day after_month_day_month) b (ds ++ rest) (λ c. refl) (digits_start b 1 ds rest h.0),
+          digits_go fault (of_month_day month_day_day_digits) (λ c. refl) 2 ds rest h.0,
+          h.1,
+        ) refl;
   }
 
   day_stops : (m : ℕ) (b : Bool) (ds rest : Text) (place : Place) (e : Fault) → Begun b ds → Stops (month_day_line month_day_day_digits) place e rest → Halts (lone_day_at fault m) (hyphens_of b ++ ds) rest (fault (row_of (of_month_day month_day_day_digits) place e))
   unfolding lone_day_at
   day_stops m b ds rest place e h at = record {
-    halts = rw (append_assoc, hyphen_over fault (of_month_day after_month_day_month) b (ds ++ rest) (λ c. refl) (begun_starts b ds rest h),
-        digits_stop_after fault (of_month_day month_day_day_digits) b ds rest place e (λ c. refl) h at) refl;
+    halts = rw (
+      append_assoc,
+      hyphen_over fault (of_month_day after_month_day_month) b (ds ++ rest) (λ c. refl) (begun_starts b ds rest h),
+      digits_stop_after fault (of_month_day month_day_day_digits) b ds rest place e (λ c. refl) h at,
+    ) refl;
   }
 
   over_month_day : (text : Text) (date : DateRecord) → MonthDayShape text date → Leads (month_day_at fault) text (lone_day_in_range fault date.month date.day)
