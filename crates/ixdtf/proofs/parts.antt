@@ -2,5 +2,6 @@
 pub mod Fronts
 pub mod LookAhead
 pub mod Looks
+pub mod Marks
 pub mod Years
 pub mod ZonesAlone
