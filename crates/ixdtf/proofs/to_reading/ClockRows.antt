@@ -1,4 +1,4 @@
--- A reading that has gone over what stands before a time or an offset, and goes on after it: it returns each row of their lines.
+-- A reading that has gone over what stands before a time or an offset, and goes on after it, returns each row of their lines.
 use Rattle.std.proofs.Common.{◌≡◌, ℕ, IsTrue, [], ◌∷◌, ◌++◌, Err, refl, ◌∙◌, inl, inr, arith, Bool}
 use Rattle.ixdtf.specs.language.Times.{Clock}
 use Rattle.ixdtf.specs.declared.records.TimeRecord.{TimeRecord}
@@ -8,7 +8,7 @@ use Rattle.ixdtf.specs.language.Letters.{digit}
 use Rattle.ixdtf.specs.table.Faults.{Fault}
 use Rattle.ixdtf.specs.language.Times.{TimeShape, ClockOf}
 use Rattle.ixdtf.specs.language.Times.TimeShape.{hours, plain_minutes, colon_minutes, seconds, fractions}
-use Rattle.ixdtf.specs.table.LineNames.{ClockLine}
+use Rattle.ixdtf.specs.table.LineNames.{ClockLine, LineName}
 use Rattle.ixdtf.specs.table.LineNames.LineName.{of_clock}
 use Rattle.ixdtf.specs.table.LineNames.ClockLine.{hour_start, hour_digit, hour_range, after_hour, minute_digits, minute_range, after_plain_minute, after_colon_minute, second_digits, second_range, after_second, fraction_start, after_fraction}
 use Rattle.ixdtf.specs.table.Lines.{line_of, follow_of}
@@ -21,7 +21,23 @@ use Rattle.ixdtf.specs.reading.Zones.{follow_look}
 use Rattle.ixdtf.proofs.parts.Looks.{Leads, RowsRead, goes, stops, peek_other}
 use Rattle.ixdtf.proofs.to_reading.Times.{Closed, IsLater, StopsAfter, OpenRow, time_takes, open_row, hour_digit_row, hour_range_row, minute_digits_row, minute_range_row, second_digits_row, second_range_row, fraction_start_row}
 
--- ---- a time with nothing of its own before it
+-- each row of the line is returned, behind what stands before it
+abbrev pub RowsBehind : {E A : Type 0} → (Row → E) → Bool → (Text → Read E A) → Text → LineName → Type 0
+RowsBehind fault brackets whole_at prior name = RowsRead fault brackets (λ body. whole_at (prior ++ body)) name
+
+-- what follows a time refuses, by each row of the line at which the time stops
+abbrev pub Refuses : {E A : Type 0} → (Row → E) → Bool → Clock → (OpenTime × Text → Read E A) → Type 0
+Refuses fault brackets clock after = (shape : TimeShape) (t : TimeRecord) (place : Place) (e : Fault) (rest : Text)
+    → Closed clock shape rest → StopsAfter (follow_of brackets clock) place e rest
+    → after ((shape, t), rest) ≡ Err (fault (row_of (line_after clock shape) place e))
+
+-- over what stands before a time reading goes on to the time, which starts in any way, and then to what follows it
+pub record TimeLead {E A : Type 0} (fault : Row → E) (clock : Clock) (whole_at : Text → Read E A) (after : OpenTime × Text → Read E A) (prior : Text) : Type 0 where
+  pub start : Text → Read E OpenTime
+  pub starts : (c : ℕ) → IsTrue (digit c) → Leads start (Plain c ∷ []) (hour_from fault clock c)
+  pub over : (body : Text) → whole_at (prior ++ body) ≡ (start body >>= after)
+
+-- ---- a time that starts with its hour
 
 module _ {E : Type 0} (fault : Row → E) (clock : Clock) where
   pub clock_starts : (c : ℕ) → IsTrue (digit c) → Leads (clock_at fault clock) (Plain c ∷ []) (hour_from fault clock c)
@@ -32,63 +48,69 @@ module _ {E : Type 0} (fault : Row → E) (clock : Clock) where
   unfolding clock_at
   hour_start_row brackets place e front rest f at = rw (f, stops fault (of_clock clock hour_start) place e rest tt at) refl
 
--- ---- a reading that goes on after a time, wherever the time starts
+  abbrev pub clock_lead : {A : Type 0} (whole_at : Text → Read E A) (after : OpenTime × Text → Read E A) (prior : Text)
+      → ((body : Text) → whole_at (prior ++ body) ≡ (clock_at fault clock body >>= after)) → TimeLead fault clock whole_at after prior
+  clock_lead whole_at after prior over = record { start = clock_at fault clock; starts = clock_starts; over = over }
 
-module _ {E A : Type 0} (fault : Row → E) (brackets : Bool) (clock : Clock) (start : Text → Read E OpenTime) (starts : (c : ℕ) → IsTrue (digit c) → Leads start (Plain c ∷ []) (hour_from fault clock c))
-    (whole_at : Text → Read E A) (after : OpenTime × Text → Read E A) (prior : Text) (lead : (body : Text) → whole_at (prior ++ body) ≡ (start body >>= after)) where
+-- ---- a reading that goes on after a time
+
+module _ {E A : Type 0} (fault : Row → E) (clock : Clock) (whole_at : Text → Read E A) (after : OpenTime × Text → Read E A) (prior : Text)
+    (lead : TimeLead fault clock whole_at after prior) where
   -- a time is read as far as it goes
-  pub over_start : (shape : TimeShape) (ts : Text) (t : TimeRecord) (rest : Text) → ClockOf clock shape ts t → Closed clock shape rest → whole_at (prior ++ (ts ++ rest)) ≡ after ((shape, t), rest)
-  over_start shape ts t rest x closed = lead (ts ++ rest) ∙ rw (time_takes fault clock start starts shape ts t rest x closed) refl
+  pub over_time : (shape : TimeShape) (ts : Text) (t : TimeRecord) (rest : Text) → ClockOf clock shape ts t → Closed clock shape rest
+      → whole_at (prior ++ (ts ++ rest)) ≡ after ((shape, t), rest)
+  over_time shape ts t rest x closed = lead.over (ts ++ rest) ∙ rw (time_takes fault clock lead.start lead.starts shape ts t rest x closed) refl
 
   -- a fault in the time is returned
-  pub from_start : (body : Text) (e : E) → start body ≡ Err e → whole_at (prior ++ body) ≡ Err e
-  from_start body e h = lead body ∙ rw h refl
+  in_time : (body : Text) (e : E) → lead.start body ≡ Err e → whole_at (prior ++ body) ≡ Err e
+  in_time body e h = lead.over body ∙ rw h refl
 
-  -- what follows a time of the shape refuses
-  abbrev pub Refuses : Type 0
-  Refuses = (shape : TimeShape) (t : TimeRecord) (place : Place) (e : Fault) (rest : Text) → Closed clock shape rest → StopsAfter (follow_of brackets clock) place e rest
-      → after ((shape, t), rest) ≡ Err (fault (row_of (line_after clock shape) place e))
+  module _ (brackets : Bool) where
+    -- a row of the start is returned
+    pub start_rows : (name : LineName) → RowsRead fault brackets lead.start name → RowsBehind fault brackets whole_at prior name
+    start_rows name h place e front rest f at = in_time (front ++ rest) _ (h place e front rest f at)
 
-  -- each row of the line is returned, behind what stands before the time
-  abbrev pub RowsBehind : ClockLine → Type 0
-  RowsBehind l = (place : Place) (e : Fault) (front rest : Text) → front_of (line_of brackets (of_clock clock l)) front → Stops (line_of brackets (of_clock clock l)) place e rest
-      → whole_at (prior ++ (front ++ rest)) ≡ Err (fault (row_of (of_clock clock l) place e))
+    module _ (refuses : Refuses fault brackets clock after) where
+      open_rows : (shape : TimeShape) (place : Place) (e : Fault) (front rest : Text) (t : TimeRecord) → ClockOf clock shape front t
+          → Stops (line_of brackets (line_after clock shape)) place e rest → whole_at (prior ++ (front ++ rest)) ≡ Err (fault (row_of (line_after clock shape) place e))
+      open_rows shape place e front rest t x at = by_row (open_row fault clock lead.start lead.starts brackets shape place e front rest t x at)
+        where
+          by_row : OpenRow fault clock lead.start lead.starts brackets shape place e front rest
+              → whole_at (prior ++ (front ++ rest)) ≡ Err (fault (row_of (line_after clock shape) place e))
+          by_row (inl h) = in_time (front ++ rest) _ h
+          by_row (inr h) = over_time shape front t rest x h.0 ∙ refuses shape t place e rest h.0 h.1
 
-  open_rows : Refuses → (shape : TimeShape) (place : Place) (e : Fault) (front rest : Text) (t : TimeRecord) → ClockOf clock shape front t → Stops (line_of brackets (line_after clock shape)) place e rest
-      → whole_at (prior ++ (front ++ rest)) ≡ Err (fault (row_of (line_after clock shape) place e))
-  open_rows refuses shape place e front rest t x at = by_row (open_row fault clock start starts brackets shape place e front rest t x at)
-    where
-      by_row : OpenRow fault clock start starts brackets shape place e front rest → whole_at (prior ++ (front ++ rest)) ≡ Err (fault (row_of (line_after clock shape) place e))
-      by_row (inl h) = from_start (front ++ rest) _ h
-      by_row (inr h) = over_start shape front t rest x h.0 ∙ refuses shape t place e rest h.0 h.1
+      -- every row of a time's lines but that of the first digit
+      pub later_rows : (l : ClockLine) → IsLater l → RowsBehind fault brackets whole_at prior (of_clock clock l)
+      later_rows hour_start is_later = absurd is_later
+      later_rows hour_digit is_later = start_rows (of_clock clock hour_digit) (hour_digit_row fault clock lead.start lead.starts brackets)
+      later_rows hour_range is_later = start_rows (of_clock clock hour_range) (hour_range_row fault clock lead.start lead.starts brackets)
+      later_rows after_hour is_later = λ place e front rest f at. open_rows hours place e front rest f.0 f.1 at
+      later_rows minute_digits is_later = start_rows (of_clock clock minute_digits) (minute_digits_row fault clock lead.start lead.starts brackets)
+      later_rows minute_range is_later = start_rows (of_clock clock minute_range) (minute_range_row fault clock lead.start lead.starts brackets)
+      later_rows after_plain_minute is_later = λ place e front rest f at. open_rows plain_minutes place e front rest f.0 f.1 at
+      later_rows after_colon_minute is_later = λ place e front rest f at. open_rows colon_minutes place e front rest f.0 f.1 at
+      later_rows second_digits is_later = start_rows (of_clock clock second_digits) (second_digits_row fault clock lead.start lead.starts brackets)
+      later_rows second_range is_later = start_rows (of_clock clock second_range) (second_range_row fault clock lead.start lead.starts brackets)
+      later_rows after_second is_later = λ place e front rest f at. open_rows seconds place e front rest f.0 f.1 at
+      later_rows fraction_start is_later = start_rows (of_clock clock fraction_start) (fraction_start_row fault clock lead.start lead.starts brackets)
+      later_rows after_fraction is_later = λ place e front rest f at. open_rows fractions place e front rest f.0 f.1 at
 
-  -- every row of a time's lines but the first
-  pub later_rows : Refuses → (l : ClockLine) → IsLater l → RowsBehind l
-  later_rows refuses hour_start later place e front rest f at = absurd later
-  later_rows refuses hour_digit later place e front rest f at = from_start (front ++ rest) _ (hour_digit_row fault clock start starts brackets place e front rest f at)
-  later_rows refuses hour_range later place e front rest f at = from_start (front ++ rest) _ (hour_range_row fault clock start starts brackets place e front rest f at)
-  later_rows refuses after_hour later place e front rest f at = open_rows refuses hours place e front rest f.0 f.1 at
-  later_rows refuses minute_digits later place e front rest f at = from_start (front ++ rest) _ (minute_digits_row fault clock start starts brackets place e front rest f at)
-  later_rows refuses minute_range later place e front rest f at = from_start (front ++ rest) _ (minute_range_row fault clock start starts brackets place e front rest f at)
-  later_rows refuses after_plain_minute later place e front rest f at = open_rows refuses plain_minutes place e front rest f.0 f.1 at
-  later_rows refuses after_colon_minute later place e front rest f at = open_rows refuses colon_minutes place e front rest f.0 f.1 at
-  later_rows refuses second_digits later place e front rest f at = from_start (front ++ rest) _ (second_digits_row fault clock start starts brackets place e front rest f at)
-  later_rows refuses second_range later place e front rest f at = from_start (front ++ rest) _ (second_range_row fault clock start starts brackets place e front rest f at)
-  later_rows refuses after_second later place e front rest f at = open_rows refuses seconds place e front rest f.0 f.1 at
-  later_rows refuses fraction_start later place e front rest f at = from_start (front ++ rest) _ (fraction_start_row fault clock start starts brackets place e front rest f at)
-  later_rows refuses after_fraction later place e front rest f at = open_rows refuses fractions place e front rest f.0 f.1 at
+-- ---- a reading that goes on after a time which starts with its hour
 
--- ---- where the time starts with its hour
+module _ {E A : Type 0} (fault : Row → E) (brackets : Bool) (clock : Clock) (whole_at : Text → Read E A) (after : OpenTime × Text → Read E A) (prior : Text)
+    (over : (body : Text) → whole_at (prior ++ body) ≡ (clock_at fault clock body >>= after)) where
+  abbrev lead : TimeLead fault clock whole_at after prior
+  lead = clock_lead fault clock whole_at after prior over
 
-module _ {E A : Type 0} (fault : Row → E) (brackets : Bool) (clock : Clock) (whole_at : Text → Read E A) (after : OpenTime × Text → Read E A) (prior : Text) (lead : (body : Text) → whole_at (prior ++ body) ≡ (clock_at fault clock body >>= after)) where
-  pub over_clock : (shape : TimeShape) (ts : Text) (t : TimeRecord) (rest : Text) → ClockOf clock shape ts t → Closed clock shape rest → whole_at (prior ++ (ts ++ rest)) ≡ after ((shape, t), rest)
-  over_clock = over_start fault brackets clock (clock_at fault clock) (clock_starts fault clock) whole_at after prior lead
+  pub over_clock : (shape : TimeShape) (ts : Text) (t : TimeRecord) (rest : Text) → ClockOf clock shape ts t → Closed clock shape rest
+      → whole_at (prior ++ (ts ++ rest)) ≡ after ((shape, t), rest)
+  over_clock = over_time fault clock whole_at after prior lead
 
   -- every row of a time's lines
-  pub clock_rows : Refuses fault brackets clock (clock_at fault clock) (clock_starts fault clock) whole_at after prior lead → (l : ClockLine)
-      → RowsBehind fault brackets clock (clock_at fault clock) (clock_starts fault clock) whole_at after prior lead l
-  clock_rows refuses hour_start place e front rest f at = from_start fault brackets clock (clock_at fault clock) (clock_starts fault clock) whole_at after prior lead (front ++ rest) _ (hour_start_row fault clock brackets place e front rest f at)
-  clock_rows refuses l place e front rest f at = later_rows fault brackets clock (clock_at fault clock) (clock_starts fault clock) whole_at after prior lead refuses l tt place e front rest f at
+  pub clock_rows : Refuses fault brackets clock after → (l : ClockLine) → RowsBehind fault brackets whole_at prior (of_clock clock l)
+  clock_rows refuses hour_start = start_rows fault clock whole_at after prior lead brackets (of_clock clock hour_start) (hour_start_row fault clock brackets)
+  clock_rows refuses l = later_rows fault clock whole_at after prior lead brackets refuses l tt
 
 -- ---- the look at what follows a time
 
