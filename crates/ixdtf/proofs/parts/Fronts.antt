@@ -1,6 +1,7 @@
 -- The test of a time's front: reading a month-day, or a year-month, from the start of a text succeeds exactly where one
 -- stands in front, and where a core stands before the end or a bracket, it is one in front of the core.
-use Rattle.std.proofs.Common.{◌≡◌, ℕ, zero, suc, Bool, true, false, IsTrue, IsFalse, ◌⊎◌, ℤ, [], ◌∷◌, ◌++◌, Ok, Err, refl, sym, ap, ◌∙◌, subst, inl, inr, arith, append_assoc}
+use Rattle.std.proofs.Common.{◌≡◌, ℕ, zero, suc, Bool, false, IsTrue, IsFalse, ◌⊎◌, ℤ, [], ◌∷◌, ◌++◌, Ok, Err, refl, sym, ap, ◌∙◌, subst, inl}
+use Rattle.std.proofs.Common.{inr, arith, append_assoc}
 use Rattle.std.proofs.lemmas.Bool.{both_ways, false_from_ne_true}
 use Rattle.std.proofs.lemmas.Bool.Decides.{nat_tests}
 use Rattle.ixdtf.specs.declared.records.DateRecord.{DateRecord}
@@ -105,7 +106,8 @@ unopened_marks text (inr h) = rw h.2 (unopened_append h.0 h.1 (unopened_hyphen h
 
 unopened_year : (text : Text) (year : ℤ) → Year text year → Unopened text
 unopened_year text year (inl h) = unopened_digits 4 text h.0
-unopened_year text year (inr h) = let no_opening : IsFalse (opening h.c) = grind (arith, nat_tests, h.sign) in rw h.is (no_opening, unopened_digits 6 h.ds h.digits)
+unopened_year text year (inr h) =
+    let no_opening : IsFalse (opening h.c) = grind (arith, nat_tests, h.sign) in rw h.is (no_opening, unopened_digits 6 h.ds h.digits)
 
 unopened_year_month : (text : Text) → some IsYearMonth text → Unopened text
 unopened_year_month text (date, h) =
@@ -117,7 +119,8 @@ unopened_month_day text (date, (h, in_month)) =
     rw h.is (unopened_append h.marks _ (unopened_marks h.marks h.mark) (unopened_append h.months _ (unopened_digits 2 h.months h.month.0.0)
     (unopened_append h.hyphens _ (unopened_hyphens h.hyphens h.hyphen) (unopened_digits 2 h.days h.day.0))))
 
-front_in_core : (shape : Shape) → ((text : Text) → shape text → Unopened text) → (cores rest : Text) → CoreEnds rest → HasFront shape (cores ++ rest) → HasFront shape cores
+front_in_core : (shape : Shape) → ((text : Text) → shape text → Unopened text) → (cores rest : Text) → CoreEnds rest → HasFront shape (cores ++ rest)
+    → HasFront shape cores
 front_in_core shape unopened cores rest ends h = let more = in_core h.0 h.1 cores rest (unopened h.0 h.3) ends h.2 in (h.0, more.0, more.1, h.3, tt)
 
 -- what stands after a core makes no front of the text
@@ -132,7 +135,8 @@ longer_front shape cores rest h = (h.0, h.1 ++ rest, ap (λ (t : Text). t ++ res
 
 -- a front of the core is one of the text
 pub no_front_of : (cores rest : Text) → HasNoDateFront (cores ++ rest) → HasNoDateFront cores
-no_front_of cores rest none = ((λ h. none.0 (longer_front (some (IsMonthDay least_day)) cores rest h)), λ h. none.1 (longer_front (some IsYearMonth) cores rest h))
+no_front_of cores rest none =
+    ((λ h. none.0 (longer_front (some (IsMonthDay least_day)) cores rest h)), λ h. none.1 (longer_front (some IsYearMonth) cores rest h))
 
 -- ---- the test
 
@@ -159,7 +163,10 @@ module _ (text : Text) where
 
     -- without such a front reading goes on
     pub unfronted_goes : HasNoDateFront text → unfronted fault text read ≡ read
-    unfronted_goes none = rw (not_there (month_day_begins text) _ (month_day_begins_exact text) none.0, not_there (year_month_begins text) _ (year_month_begins_exact text) none.1) refl
+    unfronted_goes none =
+        let no_month_day = not_there (month_day_begins text) _ (month_day_begins_exact text) none.0 in
+        let no_year_month = not_there (year_month_begins text) _ (year_month_begins_exact text) none.1 in
+        rw (no_month_day, no_year_month) refl
 
     -- and back
     pub unfronted_read : (found : A → Text → Type 0) (stopped : Row → Type 0) → (MonthDayBegins → stopped month_day_front)

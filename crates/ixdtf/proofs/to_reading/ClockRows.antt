@@ -10,16 +10,18 @@ use Rattle.ixdtf.specs.language.Times.{TimeShape, ClockOf}
 use Rattle.ixdtf.specs.language.Times.TimeShape.{hours, plain_minutes, colon_minutes, seconds, fractions}
 use Rattle.ixdtf.specs.table.LineNames.{ClockLine, LineName}
 use Rattle.ixdtf.specs.table.LineNames.LineName.{of_clock}
-use Rattle.ixdtf.specs.table.LineNames.ClockLine.{hour_start, hour_digit, hour_range, after_hour, minute_digits, minute_range, after_plain_minute, after_colon_minute, second_digits, second_range, after_second, fraction_start, after_fraction}
+use Rattle.ixdtf.specs.table.LineNames.ClockLine.{hour_start, hour_digit, hour_range, after_hour, minute_digits, minute_range, after_plain_minute}
+use Rattle.ixdtf.specs.table.LineNames.ClockLine.{after_colon_minute, second_digits, second_range, after_second, fraction_start, after_fraction}
 use Rattle.ixdtf.specs.table.Lines.{line_of, follow_of}
 use Rattle.ixdtf.specs.table.Lines.Ending.{ok}
-use Rattle.ixdtf.specs.table.Rows.{Row, Place, Stops, front_of}
+use Rattle.ixdtf.specs.table.Rows.{Row, Place, Stops}
 use Rattle.ixdtf.specs.table.Rows.Place.{end, other, bad, anywhere}
 use Rattle.ixdtf.specs.reading.Looks.{Read, ◌>>=◌, row_of, look_at, peek_by, next_by}
 use Rattle.ixdtf.specs.reading.Times.{OpenTime, line_after, hour_from, clock_at}
 use Rattle.ixdtf.specs.reading.Zones.{follow_look}
 use Rattle.ixdtf.proofs.parts.Looks.{Leads, RowsRead, goes, stops, peek_other}
-use Rattle.ixdtf.proofs.to_reading.Times.{Closed, IsLater, StopsAfter, OpenRow, time_takes, open_row, hour_digit_row, hour_range_row, minute_digits_row, minute_range_row, second_digits_row, second_range_row, fraction_start_row}
+use Rattle.ixdtf.proofs.to_reading.Times.{Closed, IsLater, StopsAfter, OpenRow, time_takes, open_row, hour_digit_row, hour_range_row}
+use Rattle.ixdtf.proofs.to_reading.Times.{minute_digits_row, minute_range_row, second_digits_row, second_range_row, fraction_start_row}
 
 -- each row of the line is returned, behind what stands before it
 abbrev pub RowsBehind : {E A : Type 0} → (Row → E) → Bool → (Text → Read E A) → Text → LineName → Type 0
@@ -32,7 +34,8 @@ Refuses fault brackets clock after = (shape : TimeShape) (t : TimeRecord) (place
     → after ((shape, t), rest) ≡ Err (fault (row_of (line_after clock shape) place e))
 
 -- over what stands before a time reading goes on to the time, which starts in any way, and then to what follows it
-pub record TimeLead {E A : Type 0} (fault : Row → E) (clock : Clock) (whole_at : Text → Read E A) (after : OpenTime × Text → Read E A) (prior : Text) : Type 0 where
+pub record TimeLead {E A : Type 0} (fault : Row → E) (clock : Clock) (whole_at : Text → Read E A) (after : OpenTime × Text → Read E A)
+    (prior : Text) : Type 0 where
   pub start : Text → Read E OpenTime
   pub starts : (c : ℕ) → IsTrue (digit c) → Leads start (Plain c ∷ []) (hour_from fault clock c)
   pub over : (body : Text) → whole_at (prior ++ body) ≡ (start body >>= after)
@@ -72,7 +75,8 @@ module _ {E A : Type 0} (fault : Row → E) (clock : Clock) (whole_at : Text →
 
     module _ (refuses : Refuses fault brackets clock after) where
       open_rows : (shape : TimeShape) (place : Place) (e : Fault) (front rest : Text) (t : TimeRecord) → ClockOf clock shape front t
-          → Stops (line_of brackets (line_after clock shape)) place e rest → whole_at (prior ++ (front ++ rest)) ≡ Err (fault (row_of (line_after clock shape) place e))
+          → Stops (line_of brackets (line_after clock shape)) place e rest
+          → whole_at (prior ++ (front ++ rest)) ≡ Err (fault (row_of (line_after clock shape) place e))
       open_rows shape place e front rest t x at = by_row (open_row fault clock lead.start lead.starts brackets shape place e front rest t x at)
         where
           by_row : OpenRow fault clock lead.start lead.starts brackets shape place e front rest
@@ -116,13 +120,16 @@ module _ {E A : Type 0} (fault : Row → E) (brackets : Bool) (clock : Clock) (w
 
 module _ {E : Type 0} (fault : Row → E) (brackets : Bool) (clock : Clock) where
   -- the look at what follows a time returns the row that fits: where the text may end, and where it may not
-  pub peek_stops_after : (x : OpenTime) (place : Place) (e : Fault) (rest : Text) → (follow_of brackets clock).at_end ≡ ok → StopsAfter (follow_of brackets clock) place e rest → peek_by (follow_look fault brackets clock x) rest ≡ Err (fault (row_of (line_after clock x.0) place e))
+  pub peek_stops_after : (x : OpenTime) (place : Place) (e : Fault) (rest : Text) → (follow_of brackets clock).at_end ≡ ok
+      → StopsAfter (follow_of brackets clock) place e rest
+      → peek_by (follow_look fault brackets clock x) rest ≡ Err (fault (row_of (line_after clock x.0) place e))
   peek_stops_after x end e rest ends at = absurd (grind (arith, ends, at.1))
   peek_stops_after x other e rest ends at = rw (at.2, at.4) (peek_other (follow_look fault brackets clock x) at.0 at.1 at.3)
   peek_stops_after x bad e rest ends at = absurd at
   peek_stops_after x anywhere e rest ends at = absurd at
 
-  pub next_stops_after : (x : OpenTime) (place : Place) (e : Fault) (rest : Text) → StopsAfter (follow_of brackets clock) place e rest → next_by (follow_look fault brackets clock x) rest ≡ Err (fault (row_of (line_after clock x.0) place e))
+  pub next_stops_after : (x : OpenTime) (place : Place) (e : Fault) (rest : Text) → StopsAfter (follow_of brackets clock) place e rest
+      → next_by (follow_look fault brackets clock x) rest ≡ Err (fault (row_of (line_after clock x.0) place e))
   unfolding next_by look_at
   next_stops_after x end e rest at = rw (at.0, at.1) refl
   next_stops_after x other e rest at = rw (at.2, at.3, at.4) refl

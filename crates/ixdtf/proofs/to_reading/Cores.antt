@@ -96,12 +96,14 @@ module _ {E : Type 0} (fault : Row → E) where
   end_closes name core rest read same =
       rw same (λ is. rw (is, peek_end (core_look fault name)) refl, λ more is. rw (is, peek_goes (core_look fault name) 91 more refl) refl)
 
-  end_other : (name : LineName) (core : Core) (c : ℕ) (rest : Text) → IsFalse (opening c) → core_end_at fault name core (Plain c ∷ rest) ≡ Err (fault (row_of name other InvalidEnd))
+  end_other : (name : LineName) (core : Core) (c : ℕ) (rest : Text) → IsFalse (opening c)
+      → core_end_at fault name core (Plain c ∷ rest) ≡ Err (fault (row_of name other InvalidEnd))
   unfolding core_end_at
   end_other name core c rest out = rw (peek_other (core_look fault name) c rest out) refl
 
   -- each row of what may follow a core
-  end_rows : (name : LineName) (core : Core) (shown : Shape) (place : Place) (e : Fault) (rest : Text) → Stops (line shown opening ok (always InvalidEnd)) place e rest
+  end_rows : (name : LineName) (core : Core) (shown : Shape) (place : Place) (e : Fault) (rest : Text)
+      → Stops (line shown opening ok (always InvalidEnd)) place e rest
       → core_end_at fault name core rest ≡ Err (fault (row_of name place e))
   unfolding core_end_at
   end_rows name core shown place e rest at = rw (peek_stops fault name shown opening (always InvalidEnd) place e rest at) refl
@@ -145,7 +147,8 @@ module _ {E : Type 0} (fault : Row → E) where
 
         offset_lead : (c : ℕ) → IsTrue (sign c) → (body : Text) → whole_at (signed c ++ body) ≡ (clock_at fault clocks.Offset body >>= after_offset t c)
         unfolding after_time_at offset_core_at look_at
-        offset_lead c h body = ap whole_at (simp append_assoc) ∙ timed_over (Plain c ∷ body) (closed_before clocks.Time shape c body (sign_outside c h)) ∙ rw h refl
+        offset_lead c h body =
+            ap whole_at (simp append_assoc) ∙ timed_over (Plain c ∷ body) (closed_before clocks.Time shape c body (sign_outside c h)) ∙ rw h refl
 
         zulu_over : (c : ℕ) → IsTrue (zulu c) → (rest : Text)
             → whole_at ((prior ++ ts) ++ (Plain c ∷ rest)) ≡ core_end_at fault (of_offset after_zulu) (core_of date (Some t) (Some Z)) rest
@@ -154,7 +157,8 @@ module _ {E : Type 0} (fault : Row → E) where
             let no_sign : IsFalse (sign c) = grind (arith, nat_tests, h) in
             ap whole_at (simp append_assoc) ∙ timed_over (Plain c ∷ rest) (closed_before clocks.Time shape c rest (zulu_outside c h)) ∙ rw (no_sign, h) refl
 
-        plain_over : (rest : Text) → CoreEnds rest → whole_at (prior ++ (ts ++ rest)) ≡ core_end_at fault (line_after clocks.Time shape) (core_of date (Some t) None) rest
+        plain_over : (rest : Text) → CoreEnds rest
+            → whole_at (prior ++ (ts ++ rest)) ≡ core_end_at fault (line_after clocks.Time shape) (core_of date (Some t) None) rest
         unfolding after_time_at look_at
         plain_over rest (inl is) = timed_over rest (closed_at_core_end clocks.Time shape rest (inl is)) ∙ rw is refl
         plain_over rest (inr h) = timed_over rest (closed_at_core_end clocks.Time shape rest (inr h)) ∙ rw h.1 refl
@@ -163,7 +167,8 @@ module _ {E : Type 0} (fault : Row → E) where
         offset_rows c h = clock_rows fault true clocks.Offset whole_at (after_offset t c) (signed c) (offset_lead c h) (offset_refuses t c)
 
         zulu_row : RowsBehind fault true whole_at (prior ++ ts) (of_offset after_zulu)
-        zulu_row place e front rest f at = rw f.1 (zulu_over f.0 f.2 rest ∙ end_rows (of_offset after_zulu) (core_of date (Some t) (Some Z)) (one zulu) place e rest at)
+        zulu_row place e front rest f at =
+            rw f.1 (zulu_over f.0 f.2 rest ∙ end_rows (of_offset after_zulu) (core_of date (Some t) (Some Z)) (one zulu) place e rest at)
 
         -- a time, and an offset or `Z` where there is one, before the end or a bracket
         timed_takes : (offsets : Text) (offset : Option UtcOffsetRecordOrZ) (rest : Text) → OptionalOffset offsets offset → CoreEnds rest
@@ -184,14 +189,16 @@ module _ {E : Type 0} (fault : Row → E) where
   module _ (before : Shape) (date_in : (prior : Text) → before prior → Option DateRecord) (whole_at : Text → Read E ClosedCore)
       (leads : (prior : Text) (b : before prior) → TimeLead fault clocks.Time whole_at (after_time (date_in prior b)) prior) where
     -- the row of the line at which the time starts
-    first_rows : (prior : Text) (b : before prior) (name : LineName) → RowsRead fault true (leads prior b).start name → RowsBehind fault true whole_at prior name
+    first_rows : (prior : Text) (b : before prior) (name : LineName) → RowsRead fault true (leads prior b).start name
+        → RowsBehind fault true whole_at prior name
     first_rows prior b = start_rows fault clocks.Time whole_at (after_time (date_in prior b)) prior (leads prior b) true
 
     time_rows : (l : ClockLine) → IsLater l → (prior : Text) → before prior → RowsBehind fault true whole_at prior (of_clock clocks.Time l)
     time_rows l is_later prior b =
         later_rows fault clocks.Time whole_at (after_time (date_in prior b)) prior (leads prior b) true (time_refuses (date_in prior b)) l is_later
 
-    time_offset_rows : (l : ClockLine) (prior : Text) → ((before then some IsTime) then one sign) prior → RowsBehind fault true whole_at prior (of_clock clocks.Offset l)
+    time_offset_rows : (l : ClockLine) (prior : Text) → ((before then some IsTime) then one sign) prior
+        → RowsBehind fault true whole_at prior (of_clock clocks.Offset l)
     time_offset_rows l prior b place e front rest f at =
         let timed = b.3 in
         let time = timed.4 in
@@ -216,11 +223,13 @@ module _ {E : Type 0} (fault : Row → E) where
   abbrev date_before : (prior : Text) → DateAndSeparator prior → Option DateRecord
   date_before prior b = Some b.3.0
 
-  over_date : (prior : Text) (b : DateAndSeparator prior) (body : Text) → date_time_core_at fault (prior ++ body) ≡ (clock_at fault clocks.Time body >>= after_time (date_before prior b))
+  over_date : (prior : Text) (b : DateAndSeparator prior) (body : Text)
+      → date_time_core_at fault (prior ++ body) ≡ (clock_at fault clocks.Time body >>= after_time (date_before prior b))
   unfolding date_time_core_at after_date_at time_core_at look_at
   over_date prior b body = let separator = b.4 in rw (b.2, append_assoc, date_takes fault b.0 b.3.0 (b.1 ++ body) b.3.1, separator.1, separator.2) refl
 
-  abbrev date_time_lead : (prior : Text) (b : DateAndSeparator prior) → TimeLead fault clocks.Time (date_time_core_at fault) (after_time (date_before prior b)) prior
+  abbrev date_time_lead : (prior : Text) (b : DateAndSeparator prior)
+      → TimeLead fault clocks.Time (date_time_core_at fault) (after_time (date_before prior b)) prior
   date_time_lead prior b = clock_lead fault clocks.Time (date_time_core_at fault) (after_time (date_before prior b)) prior (over_date prior b)
 
   -- the row of a line in a date
@@ -243,7 +252,8 @@ module _ {E : Type 0} (fault : Row → E) where
   no_time ds date rest d (inl is) = rw (date_takes fault ds date rest d, is) refl
   no_time ds date rest d (inr h) = rw (date_takes fault ds date rest d, h.1) refl
 
-  date_time_takes : (front : Text) (core : Core) (rest : Text) → IsDateTimeCore front core → CoreEnds rest → Closes core rest (date_time_core_at fault (front ++ rest))
+  date_time_takes : (front : Text) (core : Core) (rest : Text) → IsDateTimeCore front core → CoreEnds rest
+      → Closes core rest (date_time_core_at fault (front ++ rest))
   date_time_takes front core rest (inl d) ends = rw d.2 (end_closes (of_date after_date) _ rest _ (no_time front d.0 rest d.1 ends))
   date_time_takes front core rest (inr d) ends =
       let before : DateAndSeparator (d.dates ++ d.separator) = (d.dates, d.separator, refl, (d.date, d.is_date), d.separates) in
@@ -276,7 +286,8 @@ module _ {E : Type 0} (fault : Row → E) where
   unfolding marked_time_at lone_time_at look_at next_by
   lone_starts c d = record { over = λ rest. let no_letter : IsFalse (time_letter c) = grind (arith, nat_tests, d) in rw (no_letter, d) refl }
 
-  over_letter : (prior : Text) → one time_letter prior → (body : Text) → marked_core_at fault (prior ++ body) ≡ (clock_at fault clocks.Time body >>= after_time None)
+  over_letter : (prior : Text) → one time_letter prior → (body : Text)
+      → marked_core_at fault (prior ++ body) ≡ (clock_at fault clocks.Time body >>= after_time None)
   unfolding marked_core_at marked_time_at look_at
   over_letter prior h body = rw (h.1, h.2) refl
 
@@ -292,16 +303,19 @@ module _ {E : Type 0} (fault : Row → E) where
   time_start_row : RowsRead fault true (marked_time_at fault) (of_time time_start)
   unfolding marked_time_at lone_time_at look_at next_by
   time_start_row end e front rest f at = rw (f, at.0) (grind (arith, at.1))
-  time_start_row other e front rest f at = let parts : IsFalse (digit at.0) × IsFalse (time_letter at.0) = or_parts _ _ at.3 in rw (f, at.2, parts.0, parts.1, at.4) refl
+  time_start_row other e front rest f at =
+      let parts : IsFalse (digit at.0) × IsFalse (time_letter at.0) = or_parts _ _ at.3 in rw (f, at.2, parts.0, parts.1, at.4) refl
   time_start_row bad e front rest f at = rw (f, at.0, at.1, at.2) refl
   time_start_row anywhere e front rest f at = absurd at
 
   marked_takes : (front : Text) (core : Core) (rest : Text) → MarkedTime front core → CoreEnds rest → Closes core rest (marked_core_at fault (front ++ rest))
   marked_takes front core rest d ends =
-      rw (d.is, d.has) (timed_closes TimeMark no_date (marked_core_at fault) mark_lead d.marks d.times d.offsets d.mark d.time d.offset rest d.is_time d.is_offset ends)
+      rw (d.is, d.has)
+      (timed_closes TimeMark no_date (marked_core_at fault) mark_lead d.marks d.times d.offsets d.mark d.time d.offset rest d.is_time d.is_offset ends)
 
   -- a fault in the time comes before the test of its front
-  in_marked : (name : LineName) (prior : Text) → RowsBehind fault true (marked_core_at fault) prior name → RowsBehind fault true (time_alone_core_at fault) prior name
+  in_marked : (name : LineName) (prior : Text) → RowsBehind fault true (marked_core_at fault) prior name
+      → RowsBehind fault true (time_alone_core_at fault) prior name
   unfolding time_alone_core_at
   in_marked name prior h place e front rest f at = rw (h place e front rest f at) refl
 
@@ -315,9 +329,11 @@ module _ {E : Type 0} (fault : Row → E) where
   core_ends rest (inr h) = let bracket : h.3.0 ≡ 91 = eqb-true h.3.0 91 h.3.2 in inr (h.1, rw (h.2, h.3.1, bracket) refl)
 
   -- a time is read as a whole, and then the test of its front refuses it
-  front_refuses : (text : Text) (e : E) → ReadsAsTime text → ((x : ClosedCore × Text) → unfronted fault text (Ok x) ≡ Err e) → time_alone_core_at fault text ≡ Err e
+  front_refuses : (text : Text) (e : E) → ReadsAsTime text → ((x : ClosedCore × Text) → unfronted fault text (Ok x) ≡ Err e)
+      → time_alone_core_at fault text ≡ Err e
   unfolding time_alone_core_at
-  front_refuses text e h refuses = go (core_ends h.1 h.4) (subst (λ (t : Text). Closes h.3.0 h.1 (marked_core_at fault t)) (sym h.2) (marked_takes h.0 h.3.0 h.1 h.3.1 (core_ends h.1 h.4)))
+  front_refuses text e h refuses =
+      go (core_ends h.1 h.4) (subst (λ (t : Text). Closes h.3.0 h.1 (marked_core_at fault t)) (sym h.2) (marked_takes h.0 h.3.0 h.1 h.3.1 (core_ends h.1 h.4)))
     where
       go : CoreEnds h.1 → Closes h.3.0 h.1 (marked_core_at fault text) → time_alone_core_at fault text ≡ Err e
       go (inl is) closes = rw (closes.0 is) (refuses ((h.3.0, false), []))
@@ -328,7 +344,8 @@ module _ {E : Type 0} (fault : Row → E) where
       → front_of (line_of true (of_time l)) front → Stops (line_of true (of_time l)) place e rest
       → time_alone_core_at fault (prior ++ (front ++ rest)) ≡ Err (fault (row_of (of_time l) place e))
   time_line_rows time_start place e prior front rest b f at =
-      in_marked (of_time time_start) prior (first_rows TimeMark no_date (marked_core_at fault) mark_lead prior (inl b) (of_time time_start) time_start_row) place e front rest f at
+      in_marked (of_time time_start) prior
+      (first_rows TimeMark no_date (marked_core_at fault) mark_lead prior (inl b) (of_time time_start) time_start_row) place e front rest f at
   time_line_rows time_reads_as_month_day anywhere e prior front rest b f at =
       rw (b.0, at) (front_refuses (front ++ rest) _ b.1 (λ x. month_day_stops (front ++ rest) fault (Ok x) (front, rest, refl, f, tt)))
   time_line_rows time_reads_as_month_day place e prior front rest b f at = absurd at
@@ -339,10 +356,13 @@ module _ {E : Type 0} (fault : Row → E) where
   -- ---- a core of any kind
 
   -- a core is read where the end or a bracket follows it
-  pub core_takes : (kind : CoreKind) (front : Text) (core : Core) (rest : Text) → IsCore kind front core → CoreEnds rest → Closes core rest (core_at fault kind (front ++ rest))
+  pub core_takes : (kind : CoreKind) (front : Text) (core : Core) (rest : Text) → IsCore kind front core → CoreEnds rest
+      → Closes core rest (core_at fault kind (front ++ rest))
   core_takes date_time front core rest d ends = date_time_takes front core rest d ends
-  core_takes year_month front core rest d ends = alone_takes IsYearMonth (of_year_month after_year_month) (year_month_at fault) (year_month_takes fault) front core rest d
-  core_takes month_day front core rest d ends = alone_takes (IsMonthDay least_day) (of_month_day after_month_day) (month_day_at fault) (month_day_takes fault) front core rest d
+  core_takes year_month front core rest d ends =
+      alone_takes IsYearMonth (of_year_month after_year_month) (year_month_at fault) (year_month_takes fault) front core rest d
+  core_takes month_day front core rest d ends =
+      alone_takes (IsMonthDay least_day) (of_month_day after_month_day) (month_day_at fault) (month_day_takes fault) front core rest d
   core_takes time_alone front core rest d ends =
       let closes = marked_takes front core rest d.0 ends in
       let none = no_front_after front rest ends d.1 in
@@ -378,9 +398,11 @@ module _ {E : Type 0} (fault : Row → E) where
   core_line_rows time_alone (year_months l) place e prior front rest b f at = absurd b
   core_line_rows time_alone (month_days l) place e prior front rest b f at = absurd b
 
-  pub core_time_rows : (kind : CoreKind) (l : ClockLine) (prior : Text) → BeforeTime kind l prior → RowsBehind fault true (core_at fault kind) prior (of_clock clocks.Time l)
+  pub core_time_rows : (kind : CoreKind) (l : ClockLine) (prior : Text) → BeforeTime kind l prior
+      → RowsBehind fault true (core_at fault kind) prior (of_clock clocks.Time l)
   core_time_rows date_time hour_start prior b =
-      first_rows DateAndSeparator date_before (date_time_core_at fault) date_time_lead prior b (of_clock clocks.Time hour_start) (hour_start_row fault clocks.Time true)
+      first_rows DateAndSeparator date_before (date_time_core_at fault) date_time_lead prior b (of_clock clocks.Time hour_start)
+      (hour_start_row fault clocks.Time true)
   core_time_rows date_time l prior b = time_rows DateAndSeparator date_before (date_time_core_at fault) date_time_lead l tt prior b
   core_time_rows year_month l prior b = absurd b
   core_time_rows month_day l prior b = absurd b
