@@ -4,7 +4,7 @@ use Rattle.std.proofs.lemmas.Bool.{eqb-true}
 use Rattle.std.proofs.lemmas.Bool.Decides.{nat_tests}
 use Rattle.ixdtf.specs.language.Letters.{Text, ◌or◌, digit, hyphen}
 use Rattle.ixdtf.specs.language.Letters.Letter.{Plain}
-use Rattle.ixdtf.specs.language.Shapes.{one, ◌then◌, digits}
+use Rattle.ixdtf.specs.language.Shapes.{one, digits}
 use Rattle.ixdtf.specs.language.Months.{OptionalHyphen}
 use Rattle.ixdtf.specs.table.Faults.{Fault}
 use Rattle.ixdtf.specs.table.LineNames.{LineName}
@@ -83,13 +83,13 @@ goes_so (line front goes_on ok at_other) c same h = absurd same
 goes_so (scanned front e) c same h = absurd same
 goes_so (whole front e) c same h = absurd same
 
-pub went_so : (l : Line) (c : ℕ) → LooksForHyphen l → Goes l c → IsTrue ((hyphen or digit) c)
+went_so : (l : Line) (c : ℕ) → LooksForHyphen l → Goes l c → IsTrue ((hyphen or digit) c)
 went_so (line front goes_on (error e) at_other) c same h = sym (same c) ∙ h
 went_so (line front goes_on ok at_other) c same h = absurd same
 went_so (scanned front e) c same h = absurd same
 went_so (whole front e) c same h = absurd same
 
-pub goes_over : (l : Line) (b : Bool) → LooksForHyphen l → GoesOver l b
+goes_over : (l : Line) (b : Bool) → LooksForHyphen l → GoesOver l b
 goes_over l true asks = goes_so l 45 asks refl
 goes_over l false asks = λ c h. goes_so l c asks (digit_goes_on c h)
 
@@ -128,6 +128,9 @@ module _ {E : Type 0} (fault : Row → E) (name : LineName) where
   unfolding mark_by
   mark_over true text looks h starts = rw (goes fault name 45 text looks h) refl
   mark_over false text looks h starts = rw (starts.2, goes fault name starts.0 starts.1 looks (h starts.0 starts.3), digit_no_hyphen starts.0 starts.3) refl
+
+  pub hyphen_over : (b : Bool) (text : Text) → LooksForHyphen (line_of true name) → Starts b text → mark_at fault name hyphen (hyphens_of b ++ text) ≡ Ok (b, text)
+  hyphen_over b text asks starts = mark_over b text (hyphen_looks (line_of true name) asks) (goes_over (line_of true name) b asks) starts
 
   pub mark_stops : (place : Place) (e : Fault) (rest : Text) → Looks (line_of true name) → Stops (line_of true name) place e rest → mark_at fault name hyphen rest ≡ Err (fault (row_of name place e))
   unfolding mark_by

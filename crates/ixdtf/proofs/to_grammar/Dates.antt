@@ -5,7 +5,7 @@ use Rattle.std.proofs.lemmas.Bool.Decides.{nat_tests}
 use Rattle.ixdtf.specs.declared.records.DateRecord.{DateRecord}
 use Rattle.ixdtf.specs.language.Letters.{Text, hyphen}
 use Rattle.ixdtf.specs.language.Letters.Letter.{Plain}
-use Rattle.ixdtf.specs.language.Shapes.{one, ◌either◌, fewer_digits_than}
+use Rattle.ixdtf.specs.language.Shapes.{◌either◌, fewer_digits_than}
 use Rattle.ixdtf.specs.language.Digits.{decimal, TwoDigits}
 use Rattle.ixdtf.specs.table.Faults.Fault.{InvalidDayRange}
 use Rattle.ixdtf.specs.language.Dates.{Year, Month, DateShape, IsDate, month_length}

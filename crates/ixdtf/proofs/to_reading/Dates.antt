@@ -1,11 +1,9 @@
 -- A date gives its record and the rest, and each row of a date's lines is returned.
-use Rattle.std.proofs.Common.{◌≡◌, ℕ, ◌<◌, ◌⊎◌, Bool, true, false, IsTrue, [], ◌∷◌, ◌++◌, Ok, Err, refl, sym, ap, ◌∙◌, inl, inr, arith, append_assoc, ℤ, nat_le, ◌&&◌}
+use Rattle.std.proofs.Common.{◌≡◌, ℕ, ◌<◌, ◌⊎◌, Bool, true, false, IsTrue, [], ◌++◌, Ok, Err, refl, sym, ap, ◌∙◌, inl, inr, arith, append_assoc, ℤ, nat_le, ◌&&◌}
 use Rattle.std.proofs.lemmas.Bool.{and_parts, and_from, leb-true, le-leb, false_from_ne_true}
 use Rattle.std.proofs.lemmas.Bool.Decides.{nat_tests}
 use Rattle.ixdtf.specs.declared.records.DateRecord.{DateRecord}
 use Rattle.ixdtf.specs.language.Letters.{Text, hyphen}
-use Rattle.ixdtf.specs.language.Letters.Letter.{Plain}
-use Rattle.ixdtf.specs.language.Shapes.{one}
 use Rattle.ixdtf.specs.language.Digits.{decimal, TwoDigits}
 use Rattle.ixdtf.specs.language.Months.{OptionalHyphen}
 use Rattle.ixdtf.specs.table.Faults.{Fault}
@@ -17,12 +15,12 @@ use Rattle.ixdtf.specs.table.LineNames.{of_date}
 use Rattle.ixdtf.specs.table.LineNames.DateLine.{year_start, year_digits, extended_year_digits, minus_zero_year, after_year, month_digits, month_range, after_hyphened_month, after_plain_month, day_digits, day_range, after_date}
 use Rattle.ixdtf.specs.table.Lines.{line_of, date_line, HyphenOrDigit, NoMonth}
 use Rattle.ixdtf.specs.table.Before.{BeforeDate}
-use Rattle.ixdtf.specs.table.Rows.{Row, Place, Stops, front_of}
+use Rattle.ixdtf.specs.table.Rows.{Row, Place, Stops}
 use Rattle.ixdtf.specs.table.Rows.Place.{anywhere}
 use Rattle.ixdtf.specs.reading.Looks.{Read, ◌>>=◌, row_of, mark_at}
 use Rattle.ixdtf.specs.reading.Dates.{date_of, year_at, month_in_range, month_by, month_at, line_after_month, day_in_range, day_at, date_at}
 use Rattle.ixdtf.proofs.parts.Looks.{Leads, ◌before◌, Halts, ◌till◌, RowsRead, whole_row, digits_go, none_or_one}
-use Rattle.ixdtf.proofs.parts.Marks.{hyphens_of, Starts, Begun, LooksForHyphen, hyphen_is, begun_starts, digits_start, hyphen_looks, goes_over, mark_over, mark_stops, digits_stop_after}
+use Rattle.ixdtf.proofs.parts.Marks.{hyphens_of, Starts, Begun, LooksForHyphen, hyphen_is, begun_starts, digits_start, hyphen_looks, hyphen_over, mark_over, mark_stops, digits_stop_after}
 use Rattle.ixdtf.proofs.parts.Years.{year_takes, year_start_row, year_digits_row, extended_year_digits_row, minus_zero_year_row}
 
 -- the lines that a date's own reading returns
@@ -57,23 +55,20 @@ module _ {E : Type 0} (fault : Row → E) where
 
   -- the year stops at this line
   module _ (name : LineName) (asks : LooksForHyphen (line_of true name)) where
-    over_mark : (b : Bool) (text : Text) → Starts b text → mark_at fault name hyphen (hyphens_of b ++ text) ≡ Ok (b, text)
-    over_mark b text starts = mark_over fault name b text (hyphen_looks (line_of true name) asks) (goes_over (line_of true name) b asks) starts
-
     month_takes : (b : Bool) (ms : Text) (m : ℕ) (rest : Text) → Month ms m → month_at fault name ((hyphens_of b ++ ms) ++ rest) ≡ Ok ((m, b), rest)
     unfolding month_by
     month_takes b ms m rest h =
-        rw (append_assoc, over_mark b (ms ++ rest) (digits_start b 1 ms rest h.0.0), digits_go fault (of_date month_digits) (λ c. refl) 2 ms rest h.0.0, month_fits ms m rest h) refl
+        rw (append_assoc, hyphen_over fault name b (ms ++ rest) asks (digits_start b 1 ms rest h.0.0), digits_go fault (of_date month_digits) (λ c. refl) 2 ms rest h.0.0, month_fits ms m rest h) refl
 
     month_stops : (b : Bool) (ds rest : Text) (place : Place) (e : Fault) → Begun b ds → Stops (date_line month_digits) place e rest → month_at fault name ((hyphens_of b ++ ds) ++ rest) ≡ Err (fault (row_of (of_date month_digits) place e))
     unfolding month_by
     month_stops b ds rest place e h at =
-        rw (append_assoc, over_mark b (ds ++ rest) (begun_starts b ds rest h), digits_stop_after fault (of_date month_digits) b ds rest place e (λ c. refl) h at) refl
+        rw (append_assoc, hyphen_over fault name b (ds ++ rest) asks (begun_starts b ds rest h), digits_stop_after fault (of_date month_digits) b ds rest place e (λ c. refl) h at) refl
 
     month_out : (b : Bool) (ds rest : Text) → NoMonth ds → month_at fault name ((hyphens_of b ++ ds) ++ rest) ≡ Err (fault no_month)
     unfolding month_by
     month_out b ds rest h =
-        rw (append_assoc, over_mark b (ds ++ rest) (digits_start b 1 ds rest h.0), digits_go fault (of_date month_digits) (λ c. refl) 2 ds rest h.0, month_refused ds rest h.1) refl
+        rw (append_assoc, hyphen_over fault name b (ds ++ rest) asks (digits_start b 1 ds rest h.0), digits_go fault (of_date month_digits) (λ c. refl) 2 ds rest h.0, month_refused ds rest h.1) refl
 
     -- a year and a month, and what is read with them from there
     module _ {A : Type 0} (go : ℤ → (ℕ × Bool) × Text → Read E A) where
