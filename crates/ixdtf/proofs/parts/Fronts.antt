@@ -22,7 +22,7 @@ use Rattle.ixdtf.specs.reading.Months.{year_month_at, month_day_at, is_read, mon
 use Rattle.ixdtf.specs.reading.Cores.{unfronted}
 use Rattle.ixdtf.proofs.parts.Looks.{OnRead, read_if}
 use Rattle.ixdtf.proofs.to_reading.Months.{year_month_takes, month_day_takes}
-use Rattle.ixdtf.proofs.to_grammar.Months.{year_month_read, month_day_read}
+use Rattle.ixdtf.proofs.to_grammar.Months.{FrontIs, year_month_read, month_day_read}
 
 -- ---- what is read from the start
 
@@ -38,7 +38,7 @@ none_there test holds h fails there = both_ways test fails (h.1 there)
 
 -- a reading that takes each front of the part, and gives nothing else, tells whether one stands in front
 exact : (part : Text → DateRecord → Type 0) (text : Text) (read : Read Fault DateRecord) (stopped : Row → Type 0)
-    → OnRead error_of read (λ date rest. (front : Text) × (text ≡ front ++ rest) × part front date) stopped
+    → OnRead error_of read (FrontIs part text) stopped
     → ((front : Text) (date : DateRecord) (rest : Text) → text ≡ front ++ rest → part front date → read ≡ Ok (date, rest))
     → Exact (is_read read) (HasFront (some part) text)
 exact part text (Ok x) stopped gives takes = (λ h. (gives.0, x.1, gives.1, (x.0, gives.2), tt), λ h. refl)

@@ -37,7 +37,7 @@ use Rattle.ixdtf.specs.table.Lines.Ending.{ok}
 use Rattle.ixdtf.specs.table.Before.{BeforeDate, BeforeTime, BeforeOffset, DateAndSeparator, AtCoreEnd, ReadsAsTime}
 use Rattle.ixdtf.specs.table.Rows.{Row, Place, Stops, Fits}
 use Rattle.ixdtf.specs.table.Rows.Place.{end, other, bad}
-use Rattle.ixdtf.specs.reading.Looks.{Read, ◌>>=◌, row_of, look_at, next_by, peek_by}
+use Rattle.ixdtf.specs.reading.Looks.{Read, row_of, look_at, next_by, peek_by}
 use Rattle.ixdtf.specs.reading.Dates.{date_at}
 use Rattle.ixdtf.specs.reading.Months.{year_month_at, month_day_at}
 use Rattle.ixdtf.specs.reading.Times.{OpenTime, line_after, bad_after, hour_from, clock_at}
@@ -48,7 +48,7 @@ use Rattle.ixdtf.proofs.parts.Fronts.{no_front_of, unfronted_read}
 use Rattle.ixdtf.proofs.parts.Looks.{Stopped, OnRead, then_read, read_weaker, read_if, lift, NotNext, next_read, Peeked, peek_read, further}
 use Rattle.ixdtf.proofs.to_reading.Times.{Closed, IsLater}
 use Rattle.ixdtf.proofs.to_grammar.Dates.{DateFront, date_read}
-use Rattle.ixdtf.proofs.to_grammar.Months.{year_month_read, month_day_read}
+use Rattle.ixdtf.proofs.to_grammar.Months.{FrontIs, year_month_read, month_day_read}
 use Rattle.ixdtf.proofs.to_grammar.Times.{later, TimeFront, hour_read, clock_read, clock_stops}
 
 -- Bad does not stand where a time is closed
@@ -145,7 +145,7 @@ module _ {E : Type 0} (fault : Row → E) (kind : CoreKind) (text : Text) (is_co
         let offset : UtcOffsetRecord = offset_of s (writes_seconds o.0) o.1 in
         let signed : (BeforeOffset kind then one sign) ((prior ++ h.0) ++ (Plain s ∷ [])) = (prior ++ h.0, Plain s ∷ [], refl, timed, (s, refl, signs)) in
         let is_offset : IsOffset (Plain s ∷ g.0) offset =
-            record { c = s; body = g.0; shape = o.0; time = o.1; is = refl; sign = signs; clock = g.2; value = refl } in
+        record { c = s; body = g.0; shape = o.0; time = o.1; is = refl; sign = signs; clock = g.2; value = refl } in
         end_read (line_after clocks.Offset o.0) (with_offset date x.1 offset) (prior ++ (h.0 ++ (Plain s ∷ g.0))) left
         (is_text (Plain s ∷ g.0) left (next ∙ rw g.1 refl))
         (has_core (Plain s ∷ g.0) (Some (Offset offset)) (inl (offset, is_offset, refl)))
@@ -247,8 +247,12 @@ module _ {E : Type 0} (fault : Row → E) (text : Text) where
   unfolding after_date_at
   after_date_read date rest h = next_read (fault (row_of (of_date after_date) bad NonAsciiCodePoint)) date_time_separator _ _ fault rest
       (CoreFront date_time text) (λ row. FitsCore date_time text row)
-      (λ more next. (row_of (of_date after_date) bad NonAsciiCodePoint, refl, after_date_fits bad NonAsciiCodePoint h.0 rest h.1 (date, h.2)
-      (more, next, refl)))
+      (λ more next. (
+        row_of (of_date after_date) bad NonAsciiCodePoint,
+        refl,
+        after_date_fits bad NonAsciiCodePoint h.0 rest h.1 (date, h.2)
+            (more, next, refl),
+      ))
       (λ c more next separates. time_core_read h.0 (Plain c ∷ []) more date (further text h.0 rest (Plain c ∷ []) more h.1 next) h.2 (c, refl, separates))
       (λ closed. no_time_read date rest h closed)
 
@@ -268,7 +272,7 @@ module _ {E : Type 0} (fault : Row → E) (kind : CoreKind) (text : Text) (part 
       → FitsCore kind text (row_of name place e)
 
   alone_read : AfterFits → (read : Read E DateRecord)
-      → OnRead fault read (λ date rest. (front : Text) × (text ≡ front ++ rest) × part front date) (λ row. FitsCore kind text row)
+      → OnRead fault read (FrontIs part text) (λ row. FitsCore kind text row)
       → ReadsAs fault kind text (DateAlone part) (date_alone_at fault name read)
   alone_read fits read gives = then_read fault read _ _ _ _ _ gives
       (λ date rest h. closing_read fault kind text (DateAlone part) name (core_of (Some date) None None) h.0 rest h.1 (date, h.2, refl) (some part)
