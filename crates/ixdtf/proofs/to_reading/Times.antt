@@ -13,9 +13,9 @@ use Rattle.ixdtf.specs.language.Fractions.{FractionParts, fraction_of}
 use Rattle.ixdtf.specs.table.Faults.{Fault}
 use Rattle.ixdtf.specs.language.Times.{TimeShape, ClockOf, SecondText, greatest_second, has_seconds}
 use Rattle.ixdtf.specs.language.Times.TimeShape.{hours, plain_minutes, colon_minutes, seconds, fractions}
-use Rattle.ixdtf.specs.table.LineNames.{LineName}
+use Rattle.ixdtf.specs.table.LineNames.{ClockLine, LineName}
 use Rattle.ixdtf.specs.table.LineNames.LineName.{of_clock}
-use Rattle.ixdtf.specs.table.LineNames.ClockLine.{hour_digit, hour_range, minute_digits, minute_range, second_digits, second_range, fraction_start}
+use Rattle.ixdtf.specs.table.LineNames.ClockLine.{hour_start, hour_digit, hour_range, minute_digits, minute_range, second_digits, second_range, fraction_start}
 use Rattle.ixdtf.specs.table.Lines.{Follow, line_of, follow_of, seconds_after, after_minute, Past, ColonOrDigit}
 use Rattle.ixdtf.specs.table.Lines.Line.{line}
 use Rattle.ixdtf.specs.table.Lines.Ending.{error}
@@ -75,9 +75,15 @@ Closed clock colon_minutes rest = NotNext (seconds_after clock colon) rest × No
 Closed clock seconds rest = NotNext decimal_mark rest
 Closed clock fractions rest = NotNext digit rest
 
-pub closed_minutes : (clock : Clock) (colons : Bool) (rest : Text) → NotNext (seconds_after clock (second_start colons)) rest → NotNext (colon or digit) rest → Closed clock (minutes_shape colons) rest
+pub closed_minutes : (clock : Clock) (colons : Bool) (rest : Text) → NotNext (seconds_after clock (second_start colons)) rest → NotNext (colon or digit) rest
+    → Closed clock (minutes_shape colons) rest
 closed_minutes clock true rest h g = (h, g)
 closed_minutes clock false rest h g = (h, g)
+
+-- the lines after the first digit of an hour
+abbrev pub IsLater : ClockLine → Type 0
+IsLater hour_start = ⊥
+IsLater _ = Unit {0}
 
 -- what stands after a whole time where the row of its line fits, but at Bad and at what goes wrong in the time
 abbrev pub StopsAfter : Follow → Place → Fault → Text → Type 0
