@@ -348,8 +348,6 @@ pub(super) fn has_names<'a>(
 
 #[test]
 fn reads_wide_texts(rt: HostRuntime) {
-    let east = Some(UtcOffsetRecordOrZ::Offset(short(Sign::Positive, 2, 59)));
-    let zulu = Some(UtcOffsetRecordOrZ::Z);
     let rows: [(
         &'static str,
         (i32, u8, u8),
@@ -378,7 +376,7 @@ fn reads_wide_texts(rt: HostRuntime) {
             "20241130T23Z",
             (2024, 11, 30),
             timed(23, 0, 0, None),
-            zulu,
+            Some(UtcOffsetRecordOrZ::Z),
             None,
             None,
         ),
@@ -399,7 +397,7 @@ fn reads_wide_texts(rt: HostRuntime) {
             "9999-02-08T2321+0259[u-ca=7-0eQPRN-tgK]",
             (9999, 2, 8),
             timed(23, 21, 0, None),
-            east,
+            Some(UtcOffsetRecordOrZ::Offset(short(Sign::Positive, 2, 59))),
             None,
             Some("7-0eQPRN-tgK"),
         ),
@@ -407,7 +405,7 @@ fn reads_wide_texts(rt: HostRuntime) {
             "-0000041226 07:40:60z[!g5JQCjT/ypit3x7zwMtQkUs][u-ca=gregory][u-ca=G1RsE-K74p3R-XI-wVdDk]",
             (-4, 12, 26),
             timed(7, 40, 60, None),
-            zulu,
+            Some(UtcOffsetRecordOrZ::Z),
             Some((true, "g5JQCjT/ypit3x7zwMtQkUs")),
             Some("gregory"),
         ),
@@ -423,7 +421,7 @@ fn reads_wide_texts(rt: HostRuntime) {
             "00001231t16:27:01,0884335125320418725Z",
             (0, 12, 31),
             timed(16, 27, 1, fraction_of("+00:00:00.0884335125320418725")),
-            zulu,
+            Some(UtcOffsetRecordOrZ::Z),
             None,
             None,
         ),
