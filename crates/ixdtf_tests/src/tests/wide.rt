@@ -48,11 +48,23 @@ impl Wide {
 }
 
 // The error of a text, where it is refused.
-fn refusal(reader: Reader, text: &'static str) -> Option<ParseError> {
+pub(super) fn refusal(reader: Reader, text: &'static str) -> Option<ParseError> {
     let wide = Wide::new(text);
     let units = wide.units();
     match reader {
         Reader::Parse => match IxdtfParser::from_utf16(units).parse() {
+            Ok(_record) => None,
+            Err(error) => Some(error),
+        },
+        Reader::YearMonth => match IxdtfParser::from_utf16(units).parse_year_month() {
+            Ok(_record) => None,
+            Err(error) => Some(error),
+        },
+        Reader::MonthDay => match IxdtfParser::from_utf16(units).parse_month_day() {
+            Ok(_record) => None,
+            Err(error) => Some(error),
+        },
+        Reader::Time => match IxdtfParser::from_utf16(units).parse_time() {
             Ok(_record) => None,
             Err(error) => Some(error),
         },
