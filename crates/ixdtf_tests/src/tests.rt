@@ -15,6 +15,7 @@ mod replies;
 mod surface;
 mod times;
 mod wide;
+mod wide_parts;
 mod zones;
 
 use ixdtf::ParseError;

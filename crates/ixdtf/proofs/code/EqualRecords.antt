@@ -33,12 +33,16 @@ pub on_part : {J K V : Type 0} (part : J → K) {seen : K → V} {eq : K → K �
 on_part part exact a b = exact (part a) (part b)
 
 -- of two parts
-pub on_both : {K V W : Type 0} {f : K → V} {g : K → W} {E F : K → K → Bool} → Exact f E → Exact g F → Exact {V = V × W} (λ x. (f x, g x)) (λ x y. E x y && F x y)
-on_both {E = E} {F} e f a b =
-    (λ t i. ((e a b).0 (first_so (E a b) (F a b) t) i, (f a b).0 (second_so (E a b) (F a b) t) i), λ p. both_true ((e a b).1 (ap (λ x. x.0) p)) ((f a b).1 (ap (λ x. x.1) p)))
+pub on_both : {K V W : Type 0} {f : K → V} {g : K → W} {E F : K → K → Bool} →
+    Exact f E → Exact g F → Exact {V = V × W} (λ x. (f x, g x)) (λ x y. E x y && F x y)
+on_both {K} {V} {W} {f} {g} {E} {F} e h a b = (to, λ p. both_true ((e a b).1 (ap (λ x. x.0) p)) ((h a b).1 (ap (λ x. x.1) p)))
+  where
+    to : IsTrue (E a b && F a b) → ◌≡◌ {A = V × W} (f a, g a) (f b, g b)
+    to t i = ((e a b).0 (first_so (E a b) (F a b) t) i, (h a b).0 (second_so (E a b) (F a b) t) i)
 
 -- of what is put together, and can be taken apart again
-pub put_together : {K V W : Type 0} {seen : K → V} {eq : K → K → Bool} (to : V → W) (back : W → V) → ((x : V) → back (to x) ≡ x) → Exact seen eq → Exact (λ x. to (seen x)) eq
+pub put_together : {K V W : Type 0} {seen : K → V} {eq : K → K → Bool} (to : V → W) (back : W → V) →
+    ((x : V) → back (to x) ≡ x) → Exact seen eq → Exact (λ x. to (seen x)) eq
 put_together {seen = seen} to back undone exact a b =
     (λ t. ap to ((exact a b).0 t), λ p. (exact a b).1 (sym (undone (seen a)) ∙ ap back p ∙ undone (seen b)))
 
@@ -73,17 +77,23 @@ pub record OfTwo {K X Y : Type 0} (eq : K → K → Bool) (first : X → K) (sec
 
 -- zones
 module _ {T U : Type 0} (number : U → ℕ) {eq : TimeZoneRecord T U → TimeZoneRecord T U → Bool} where
-  pub zones_exact : {E : _ → _ → Bool} {F : _ → _ → Bool} → OfTwo eq zones.Name zones.Offset E F → Exact (λ units. map number units.now) E → Exact (λ o. o) F → Exact (zone_of number) eq
-  zones_exact of names shifts (zones.Name u) (zones.Name v) = moved (of.firsts u v) (λ t. ap Name ((names u v).0 t), λ e. (names u v).1 cc)
-  zones_exact of names shifts (zones.Offset o) (zones.Offset p) = moved (of.seconds o p) (λ t. ap Offset ((shifts o p).0 t), λ e. (shifts o p).1 cc)
+  pub zones_exact : {E : _ → _ → Bool} {F : _ → _ → Bool} →
+      OfTwo eq zones.Name zones.Offset E F → Exact (λ units. map number units.now) E → Exact (λ o. o) F → Exact (zone_of number) eq
+  zones_exact of names shifts (zones.Name u) (zones.Name v) =
+      moved (of.firsts u v) (λ t. ap Name ((names u v).0 t), λ e. (names u v).1 cc)
+  zones_exact of names shifts (zones.Offset o) (zones.Offset p) =
+      moved (of.seconds o p) (λ t. ap Offset ((shifts o p).0 t), λ e. (shifts o p).1 cc)
   zones_exact of names shifts (zones.Name u) (zones.Offset p) = apart (of.before u p) (λ e. cc)
   zones_exact of names shifts (zones.Offset o) (zones.Name v) = apart (of.after v o) (λ e. cc)
 
 -- offsets
 module _ {eq : UtcOffsetRecord → UtcOffsetRecord → Bool} where
-  pub offsets_exact : {E : _ → _ → Bool} {F : _ → _ → Bool} → OfTwo eq offsets.MinutePrecision offsets.FullPrecisionOffset E F → Exact (λ o. o) E → Exact (λ o. o) F → Exact (λ o. o) eq
-  offsets_exact of short long (offsets.MinutePrecision o) (offsets.MinutePrecision p) = moved (of.firsts o p) (λ t. ap offsets.MinutePrecision ((short o p).0 t), λ e. (short o p).1 cc)
-  offsets_exact of short long (offsets.FullPrecisionOffset o) (offsets.FullPrecisionOffset p) = moved (of.seconds o p) (λ t. ap offsets.FullPrecisionOffset ((long o p).0 t), λ e. (long o p).1 cc)
+  pub offsets_exact : {E : _ → _ → Bool} {F : _ → _ → Bool} →
+      OfTwo eq offsets.MinutePrecision offsets.FullPrecisionOffset E F → Exact (λ o. o) E → Exact (λ o. o) F → Exact (λ o. o) eq
+  offsets_exact of short long (offsets.MinutePrecision o) (offsets.MinutePrecision p) =
+      moved (of.firsts o p) (λ t. ap offsets.MinutePrecision ((short o p).0 t), λ e. (short o p).1 cc)
+  offsets_exact of short long (offsets.FullPrecisionOffset o) (offsets.FullPrecisionOffset p) =
+      moved (of.seconds o p) (λ t. ap offsets.FullPrecisionOffset ((long o p).0 t), λ e. (long o p).1 cc)
   offsets_exact of short long (offsets.MinutePrecision o) (offsets.FullPrecisionOffset p) = apart (of.before o p) (λ e. cc)
   offsets_exact of short long (offsets.FullPrecisionOffset o) (offsets.MinutePrecision p) = apart (of.after p o) (λ e. cc)
 
@@ -97,7 +107,8 @@ pub record OfOne {K X : Type 0} (eq : K → K → Bool) (some : X → K) (bare :
 -- offsets, or `Z`
 module _ {eq : UtcOffsetRecordOrZ → UtcOffsetRecordOrZ → Bool} where
   pub offsets_or_z_exact : {E : _ → _ → Bool} → OfOne eq offsets_or_z.Offset offsets_or_z.Z E → Exact (λ o. o) E → Exact (λ o. o) eq
-  offsets_or_z_exact of shifts (offsets_or_z.Offset o) (offsets_or_z.Offset p) = moved (of.somes o p) (λ t. ap offsets_or_z.Offset ((shifts o p).0 t), λ e. (shifts o p).1 cc)
+  offsets_or_z_exact of shifts (offsets_or_z.Offset o) (offsets_or_z.Offset p) =
+      moved (of.somes o p) (λ t. ap offsets_or_z.Offset ((shifts o p).0 t), λ e. (shifts o p).1 cc)
   offsets_or_z_exact of shifts offsets_or_z.Z offsets_or_z.Z = (λ t. refl, λ e. of.itself)
   offsets_or_z_exact of shifts (offsets_or_z.Offset o) offsets_or_z.Z = apart (of.before o) (λ e. cc)
   offsets_or_z_exact of shifts offsets_or_z.Z (offsets_or_z.Offset o) = apart (of.after o) (λ e. cc)

@@ -1,4 +1,4 @@
-use super::wide::{After, NOTHING, Wide, has_parts};
+use super::wide::{Wide, has_names};
 use super::{AT_DIGIT, dated, fraction_of, minutes, short, timed};
 use ixdtf::encoding::{EncodingType, Utf8, Utf16};
 use ixdtf::parsers::IxdtfParser;
@@ -192,13 +192,14 @@ fn handled(
     (found, listener.has_heard(calls))
 }
 
-// Whether a text in 16-bit units gives this on New Year's Day of 2020, or is refused with this error, after these calls.
-fn handled_wide(
+// Whether a text in 16-bit units is refused with this error, or gives this calendar, after these calls.
+fn heeds_wide(
     form: Form,
     text: &'static str,
     kind: Kind,
     calls: &'static str,
-    outcome: ParserResult<After>,
+    error: Option<ParseError>,
+    calendar: Option<&'static str>,
 ) -> bool {
     let mut listener = Listener::new(kind);
     let wide = Wide::new(text);
@@ -215,10 +216,9 @@ fn handled_wide(
             parser.parse_time_with_annotation_handler(|annotation| listener.reply(annotation))
         }
     };
-    let as_wanted = match (found, outcome) {
-        (Ok(record), Ok(after)) => has_parts(&record, (2020, 1, 1), after),
-        (Err(error), Err(wanted)) => error == wanted,
-        _ => false,
+    let as_wanted = match found {
+        Ok(record) => error.is_none() && has_names(&record, None, calendar),
+        Err(found) => error == Some(found),
     };
     as_wanted && listener.has_heard(calls)
 }
@@ -431,92 +431,100 @@ fn heeds_handlers_and_refuses(rt: HostRuntime) {
 
 #[test]
 fn heeds_handlers_of_wide_texts(rt: HostRuntime) {
-    let unsound = Err(ParseError::NonAsciiCodePoint);
-    let rows: [(&'static str, Kind, &'static str, ParserResult<After>); 12] = [
+    let rows: [(
+        &'static str,
+        Kind,
+        &'static str,
+        Option<ParseError>,
+        Option<&'static str>,
+    ); 12] = [
         (
             "2020-01-01[x-y=iso8601][!\u{15b}u-ca=hebrew][!u-cb=gregory][!u-c=TQ-of7][!u-ca=a0sa-2l4s]junk",
             Kind::MakesCritical,
             "[x-y=iso8601]",
-            Err(ParseError::UnrecognizedCritical),
+            Some(ParseError::UnrecognizedCritical),
+            None,
         ),
         (
             "2020-01-01[18:01][!u-ca=japanese\u{7f}]",
             Kind::TurnsCritical,
             "",
-            Err(ParseError::TzLeadingChar),
+            Some(ParseError::TzLeadingChar),
+            None,
         ),
         (
             "20200101T12[u-ca=iso8601][u-ca=e6dVZ][!answer-to-univers\u{12d}e=japanese][m1bs8=b]",
             Kind::MakesCritical,
             "[u-ca=iso8601][u-ca=e6dVZ]",
-            Err(ParseError::CriticalDuplicateCalendar),
+            Some(ParseError::CriticalDuplicateCalendar),
+            None,
         ),
         (
             "2020-01-01 00:00:00.5Z[i4=WyQ-GeL-dW-SU]",
             Kind::TurnsCritical,
             "[i4=WyQ-GeL-dW-SU]",
-            Err(ParseError::UnrecognizedCritical),
+            Some(ParseError::UnrecognizedCritical),
+            None,
         ),
         (
             "2020-01-01 00:00:00.5Z[u-ca=CzQ0a3-PyM-ju][iwky-8bo=IwOJz-gjv-u4MDVT-zL4NDu][!jglkvdvm=XG\u{e9}Mqmt-Pe-Wz][u-ca=d-jX-Hmth-BXr]",
             Kind::RepliesNone,
             "[u-ca=CzQ0a3-PyM-ju][iwky-8bo=IwOJz-gjv-u4MDVT-zL4NDu]",
-            unsound,
+            Some(ParseError::NonAsciiCodePoint),
+            None,
         ),
         (
             "2020-01-01[u-\u{7f}ca=oQ-b-vC]",
             Kind::MakesCritical,
             "",
-            unsound,
+            Some(ParseError::NonAsciiCodePoint),
+            None,
         ),
         (
             "20200101T12[f-1a2b=v1xugC-9wa-FD-W6][u-ca=I",
             Kind::HandsBack,
             "[f-1a2b=v1xugC-9wa-FD-W6]",
-            Err(ParseError::AnnotationClose),
+            Some(ParseError::AnnotationClose),
+            None,
         ),
         (
             "2020-01-01[0u-ca=\u{7f}a8-2UZ-2b6iy]",
             Kind::MakesCritical,
             "",
-            Err(ParseError::TzLeadingChar),
+            Some(ParseError::TzLeadingChar),
+            None,
         ),
         (
             "2020-01-01 00:00:00.5Z[u-ca=a-b][u-ca=japanese][!u-ca=gB-DxG-f6UUB8-CIgGr]",
             Kind::RepliesNone,
             "[u-ca=a-b][u-ca=japanese][!u-ca=gB-DxG-f6UUB8-CIgGr]",
-            Ok(After {
-                time: half_a_second(),
-                offset: Some(UtcOffsetRecordOrZ::Z),
-                ..NOTHING
-            }),
+            None,
+            None,
         ),
         (
             "2020-01-01[u-ca=ZQ-PB9T][q-rrwv=jRSShrMIMY-5g-\u{ff}rE9][rs1tpdw=fua06i-bJ-VN5]",
             Kind::RepliesNone,
             "[u-ca=ZQ-PB9T]",
-            unsound,
+            Some(ParseError::NonAsciiCodePoint),
+            None,
         ),
         (
             "2020-01-01[!u-ca\u{130}=O8K-PA-73dBkw-WfIA9][!u-ca=japanese]",
             Kind::HandsBack,
             "",
-            unsound,
+            Some(ParseError::NonAsciiCodePoint),
+            None,
         ),
         (
             "2020-01-01 00:00:00.5Z[answer-to-universe=OSR]",
             Kind::RepliesAnother,
             "[answer-to-universe=OSR]",
-            Ok(After {
-                time: half_a_second(),
-                offset: Some(UtcOffsetRecordOrZ::Z),
-                calendar: Some("a"),
-                ..NOTHING
-            }),
+            None,
+            Some("a"),
         ),
     ];
-    for (text, kind, calls, outcome) in rows {
-        assert!(rt; handled_wide(text, kind, calls, outcome), "at {text}");
+    for (text, kind, calls, error, calendar) in rows {
+        assert!(rt; heeds_wide(Form::Parse, text, kind, calls, error, calendar), "at {text}");
     }
 }
 
@@ -881,4 +889,36 @@ fn asks_as_far_as_the_first_refusal_in_each_form(rt: HostRuntime) {
     let (refused, not_asked) = handled(Form::Time, "1200[a=b]", Kind::HandsBack, "");
     assert_eq!(rt; refused, Err(ParseError::AmbiguousTimeMonthDay));
     assert!(rt; not_asked);
+}
+
+#[test]
+fn heeds_handlers_of_wide_texts_in_each_form(rt: HostRuntime) {
+    let rows: [(Form, &'static str, Kind, &'static str, Option<ParseError>, Option<&'static str>); 23] = [
+        (Form::YearMonth, "+00202001[o1][!u-ca=A][!s1wfZh=1][u-caa=a-b]", Kind::TurnsCritical, "[!u-ca=A]", Some(ParseError::AnnotationKeyChar), None),
+        (Form::Time, "12:00:00+01[!-22][!u-ca=a0sa-2l4s][!_v9ofa6fa=b][s6eaq2hh=wY]", Kind::MakesCritical, "[!u-ca=a0sa-2l4s][!_v9ofa6fa=b]", Some(ParseError::UnrecognizedCritical), None),
+        (Form::YearMonth, "2020-01[foo=a-b][u-ca=iso8601][_=ZjPsF3][u-ca=fm-wToEpf-y-05OR\u{13d}2][!u-ca=A]", Kind::RepliesNone, "[foo=a-b][u-ca=iso8601][_=ZjPsF3]", Some(ParseError::NonAsciiCodePoint), None),
+        (Form::MonthDay, "--0229[u-ca=rz44]", Kind::RepliesAnother, "[u-ca=rz44]", None, Some("a")),
+        (Form::YearMonth, "+00202001[u-c\u{132}a=hebrew]", Kind::RepliesNone, "", Some(ParseError::NonAsciiCodePoint), None),
+        (Form::YearMonth, "+00202001[u-cb=japanese[!u-ca=3Kd]", Kind::RepliesAnother, "", Some(ParseError::AnnotationValueChar), None),
+        (Form::Time, "1200[u-caa=pUqb1z][_f=A][cvdn3=b][!", Kind::TurnsCritical, "", Some(ParseError::AmbiguousTimeMonthDay), None),
+        (Form::Time, "T12[u-ca=japanese][a=a-b]", Kind::RepliesNone, "[u-ca=japanese][a=a-b]", None, None),
+        (Form::MonthDay, "11-07[!GFtI8pE/0FKB][u-ca=O-tOg\u{15b}fi6]", Kind::MakesCritical, "", Some(ParseError::NonAsciiCodePoint), None),
+        (Form::Time, "12:00:00+01[u-ca=b][!u-ca=G0-he3][u-ca=E]", Kind::RepliesAnother, "[u-ca=b][!u-ca=G0-he3]", Some(ParseError::CriticalDuplicateCalendar), None),
+        (Form::MonthDay, "--0229[u-ca=I8e0Ny-", Kind::RepliesNone, "", Some(ParseError::AnnotationValueCharPostHyphen), None),
+        (Form::YearMonth, "2020-01[u-ca=iso8601][ondv9=t-6-jvo8-DJG58", Kind::RepliesAnother, "[u-ca=iso8601]", Some(ParseError::AnnotationClose), None),
+        (Form::Time, "T12[x-y=buDYAD-vaR-P8Qz][zhbcf=gregory][u-ca=iso8601]\u{121}[u-ca=iso8601][!po-dtr=qOWsW-6sLMW-58PDWQ-VnRuMg]", Kind::HandsBack, "[x-y=buDYAD-vaR-P8Qz][zhbcf=gregory][u-ca=iso8601]", Some(ParseError::NonAsciiCodePoint), None),
+        (Form::MonthDay, "--0229[u-ca=1][u-ca=hnL-c7FsJ-v2eFk-baJ1Ai]\u{15d}", Kind::TurnsCritical, "[u-ca=1][u-ca=hnL-c7FsJ-v2eFk-baJ1Ai]", Some(ParseError::CriticalDuplicateCalendar), None),
+        (Form::YearMonth, "2020-01[u-ca=iso8601][!u", Kind::RepliesAnother, "[u-ca=iso8601]", Some(ParseError::AnnotationKeyValueSeparator), None),
+        (Form::MonthDay, "--0229[u-ca=4o-bOYK][u-ca=Ed\u{e9}]", Kind::HandsBack, "[u-ca=4o-bOYK]", Some(ParseError::NonAsciiCodePoint), None),
+        (Form::MonthDay, "--0229[!America/New_York][!answer-to-universe=b][u-cb=1][u-ca=HYmeY4-QAOv-1ufy][!_=GWi-d1g-9][u-ca=japanese][!", Kind::RepliesAnother, "[!answer-to-universe=b][u-cb=1][u-ca=HYmeY4-QAOv-1ufy][!_=GWi-d1g-9]", Some(ParseError::UnrecognizedCritical), None),
+        (Form::YearMonth, "+00202001[u-\u{80}ca=a-b]", Kind::HandsBack, "", Some(ParseError::NonAsciiCodePoint), None),
+        (Form::YearMonth, "+00202001[u-ca=p34ug][!f-1a2b=japanese][_=japane1se]", Kind::HandsBack, "[u-ca=p34ug][!f-1a2b=japanese]", Some(ParseError::UnrecognizedCritical), None),
+        (Form::Time, "12:00:00+01[!u-cb=1][u-ca=LUnY-xN][!u-ca=b][u_ca=a][u-ca=p1-x-ZkQCD]", Kind::RepliesAnother, "[!u-cb=1][u-ca=LUnY-xN][!u-ca=b][u_ca=a][u-ca=p1-x-ZkQCD]", None, Some("a")),
+        (Form::Time, "1200[uHEe/6s][foo=b-WXYB8Q][u-ca=PSg8-3y3ai-M-MiXa4O][u-ca=AJ0kh-Z-d][!u-c=nM]", Kind::MakesCritical, "", Some(ParseError::AmbiguousTimeMonthDay), None),
+        (Form::YearMonth, "2020-01[!mbpxmqurx=a][u-ca=evRyBU-ahbf]", Kind::RepliesNone, "[!mbpxmqurx=a][u-ca=evRyBU-ahbf]", None, None),
+        (Form::Time, "12:00:00+01[u\u{7fff}-ca=japanese][u-ca=ZZMN-ieDCE-9usg]", Kind::RepliesNone, "", Some(ParseError::NonAsciiCodePoint), None),
+    ];
+    for (form, text, kind, calls, error, calendar) in rows {
+        assert!(rt; heeds_wide(form, text, kind, calls, error, calendar), "at {text}");
+    }
 }

@@ -25,13 +25,18 @@ impl Wide {
             length: 0,
         };
         for letter in text.chars() {
-            let place = wide.units.get_mut(wide.length);
-            if let (Some(place), Ok(unit)) = (place, u16::try_from(u32::from(letter))) {
-                *place = unit;
-                wide.length = wide.length.saturating_add(1);
+            if let Ok(unit) = u16::try_from(u32::from(letter)) {
+                wide.push(unit);
             }
         }
         wide
+    }
+
+    fn push(&mut self, unit: u16) {
+        if let Some(place) = self.units.get_mut(self.length) {
+            *place = unit;
+            self.length = self.length.saturating_add(1);
+        }
     }
 
     pub(super) fn units(&self) -> &[u16] {
@@ -43,11 +48,23 @@ impl Wide {
 }
 
 // The error of a text, where it is refused.
-fn refusal(reader: Reader, text: &'static str) -> Option<ParseError> {
+pub(super) fn refusal(reader: Reader, text: &'static str) -> Option<ParseError> {
     let wide = Wide::new(text);
     let units = wide.units();
     match reader {
         Reader::Parse => match IxdtfParser::from_utf16(units).parse() {
+            Ok(_record) => None,
+            Err(error) => Some(error),
+        },
+        Reader::YearMonth => match IxdtfParser::from_utf16(units).parse_year_month() {
+            Ok(_record) => None,
+            Err(error) => Some(error),
+        },
+        Reader::MonthDay => match IxdtfParser::from_utf16(units).parse_month_day() {
+            Ok(_record) => None,
+            Err(error) => Some(error),
+        },
+        Reader::Time => match IxdtfParser::from_utf16(units).parse_time() {
             Ok(_record) => None,
             Err(error) => Some(error),
         },
@@ -318,163 +335,149 @@ fn refuses_what_stands_before_such_a_unit(rt: HostRuntime) {
     }
 }
 
-// What stands after a date.
-#[derive(Clone, Copy)]
-pub(super) struct After {
-    pub(super) time: Option<TimeRecord>,
-    pub(super) offset: Option<UtcOffsetRecordOrZ>,
-    // A `!`, where it stands, and a name.
-    pub(super) zone: Option<(bool, &'static str)>,
-    pub(super) calendar: Option<&'static str>,
-}
-
-pub(super) const NOTHING: After = After {
-    time: None,
-    offset: None,
-    zone: None,
-    calendar: None,
-};
-
-// Whether the record is of this date and of what stands after it, with names and calendar in 16-bit units.
-pub(super) fn has_parts<'a>(
+// Whether the names and the calendar of a record are these, in 16-bit units: a zone's `!` and its name.
+pub(super) fn has_names<'a>(
     record: &IxdtfParseRecord<'a, Utf16>,
-    (year, month, day): (i32, u8, u8),
-    after: After,
+    zone: Option<(bool, &str)>,
+    calendar: Option<&str>,
 ) -> bool {
-    let (critical, name) = after.zone.unwrap_or((false, ""));
-    let name = Wide::new(name);
-    let calendar = Wide::new(after.calendar.unwrap_or(""));
-    let zone = TimeZoneAnnotation {
-        critical,
-        tz: TimeZoneRecord::Name(name.units()),
+    let has_zone = match (&record.tz, zone) {
+        (None, None) => true,
+        (Some(found), Some((critical, name))) => {
+            let name = Wide::new(name);
+            let tz = TimeZoneRecord::Name(name.units());
+            *found == TimeZoneAnnotation { critical, tz }
+        }
+        _ => false,
     };
-    let has_zone = match &record.tz {
-        None => after.zone.is_none(),
-        Some(found) => after.zone.is_some() && *found == zone,
+    let has_calendar = match (record.calendar, calendar) {
+        (None, None) => true,
+        (Some(found), Some(name)) => found == Wide::new(name).units(),
+        _ => false,
     };
-    let has_calendar = match record.calendar {
-        None => after.calendar.is_none(),
-        Some(found) => after.calendar.is_some() && found == calendar.units(),
-    };
-    record.date == Some(DateRecord { year, month, day })
-        && record.time == after.time
-        && record.offset == after.offset
-        && has_zone
-        && has_calendar
-}
-
-// Whether the text has this record.
-fn gives(text: &'static str, date: (i32, u8, u8), after: After) -> bool {
-    let wide = Wide::new(text);
-    let mut parser: IxdtfParser<'_, Utf16> = IxdtfParser::new(wide.units());
-    match parser.parse() {
-        Ok(record) => has_parts(&record, date, after),
-        Err(_) => false,
-    }
+    has_zone && has_calendar
 }
 
 #[test]
 fn reads_wide_texts(rt: HostRuntime) {
-    let east = UtcOffsetRecordOrZ::Offset(short(Sign::Positive, 2, 59));
-    let zulu = Some(UtcOffsetRecordOrZ::Z);
-    let rows = [
+    let rows: [(
+        &'static str,
+        (i32, u8, u8),
+        Option<TimeRecord>,
+        Option<UtcOffsetRecordOrZ>,
+        Option<(bool, &'static str)>,
+        Option<&'static str>,
+    ); 11] = [
         (
             "2020-04-08[America/Chicago]",
             (2020, 4, 8),
-            After {
-                zone: Some((false, "America/Chicago")),
-                ..NOTHING
-            },
+            None,
+            None,
+            Some((false, "America/Chicago")),
+            None,
         ),
         (
             "19000612[a/b/c][!u-ca=ZAV-HDz9-U-NBrdk]",
             (1900, 6, 12),
-            After {
-                zone: Some((false, "a/b/c")),
-                calendar: Some("ZAV-HDz9-U-NBrdk"),
-                ..NOTHING
-            },
+            None,
+            None,
+            Some((false, "a/b/c")),
+            Some("ZAV-HDz9-U-NBrdk"),
         ),
         (
             "20241130T23Z",
             (2024, 11, 30),
-            After {
-                time: timed(23, 0, 0, None),
-                offset: zulu,
-                ..NOTHING
-            },
+            timed(23, 0, 0, None),
+            Some(UtcOffsetRecordOrZ::Z),
+            None,
+            None,
         ),
         (
             "99990207 14:22:44,11111111111111111111111111111",
             (9999, 2, 7),
-            After {
-                time: timed(
-                    14,
-                    22,
-                    44,
-                    fraction_of("+00:00:00.11111111111111111111111111111"),
-                ),
-                ..NOTHING
-            },
+            timed(
+                14,
+                22,
+                44,
+                fraction_of("+00:00:00.11111111111111111111111111111"),
+            ),
+            None,
+            None,
+            None,
         ),
         (
             "9999-02-08T2321+0259[u-ca=7-0eQPRN-tgK]",
             (9999, 2, 8),
-            After {
-                time: timed(23, 21, 0, None),
-                offset: Some(east),
-                calendar: Some("7-0eQPRN-tgK"),
-                ..NOTHING
-            },
+            timed(23, 21, 0, None),
+            Some(UtcOffsetRecordOrZ::Offset(short(Sign::Positive, 2, 59))),
+            None,
+            Some("7-0eQPRN-tgK"),
         ),
         (
             "-0000041226 07:40:60z[!g5JQCjT/ypit3x7zwMtQkUs][u-ca=gregory][u-ca=G1RsE-K74p3R-XI-wVdDk]",
             (-4, 12, 26),
-            After {
-                time: timed(7, 40, 60, None),
-                offset: zulu,
-                zone: Some((true, "g5JQCjT/ypit3x7zwMtQkUs")),
-                calendar: Some("gregory"),
-            },
+            timed(7, 40, 60, None),
+            Some(UtcOffsetRecordOrZ::Z),
+            Some((true, "g5JQCjT/ypit3x7zwMtQkUs")),
+            Some("gregory"),
         ),
         (
             "+0001001201[!G]",
             (100, 12, 1),
-            After {
-                zone: Some((true, "G")),
-                ..NOTHING
-            },
+            None,
+            None,
+            Some((true, "G")),
+            None,
         ),
         (
             "00001231t16:27:01,0884335125320418725Z",
             (0, 12, 31),
-            After {
-                time: timed(16, 27, 1, fraction_of("+00:00:00.0884335125320418725")),
-                offset: zulu,
-                ..NOTHING
-            },
+            timed(16, 27, 1, fraction_of("+00:00:00.0884335125320418725")),
+            Some(UtcOffsetRecordOrZ::Z),
+            None,
+            None,
         ),
-        ("+0099990131[v0jtgdxn=hebrew]", (9999, 1, 31), NOTHING),
+        (
+            "+0099990131[v0jtgdxn=hebrew]",
+            (9999, 1, 31),
+            None,
+            None,
+            None,
+            None,
+        ),
         (
             "+0001000207 233400.9787904139",
             (100, 2, 7),
-            After {
-                time: timed(23, 34, 0, fraction_of("+00:00:00.9787904139")),
-                ..NOTHING
-            },
+            timed(23, 34, 0, fraction_of("+00:00:00.9787904139")),
+            None,
+            None,
+            None,
         ),
         (
             "10001120 1059[u-ca=hebrew]",
             (1000, 11, 20),
-            After {
-                time: timed(10, 59, 0, None),
-                calendar: Some("hebrew"),
-                ..NOTHING
-            },
+            timed(10, 59, 0, None),
+            None,
+            None,
+            Some("hebrew"),
         ),
     ];
-    for (text, date, after) in rows {
-        assert!(rt; gives(text, date, after), "at {text}");
+    for (text, (year, month, day), time, offset, zone, calendar) in rows {
+        let wide = Wide::new(text);
+        let mut parser: IxdtfParser<'_, Utf16> = IxdtfParser::new(wide.units());
+        match parser.parse() {
+            Ok(record) => {
+                assert_eq!(rt;
+                    record.date,
+                    Some(DateRecord { year, month, day }),
+                    "at {text}"
+                );
+                assert_eq!(rt; record.time, time, "at {text}");
+                assert_eq!(rt; record.offset, offset, "at {text}");
+                assert!(rt; has_names(&record, zone, calendar), "at {text}");
+            }
+            Err(error) => assert!(rt; false, "{error} at {text}"),
+        }
     }
 }
 
@@ -515,20 +518,22 @@ fn reads_wide_zones(rt: HostRuntime) {
 #[test]
 fn sees_each_unit(rt: HostRuntime) {
     for unit in 0..=u16::MAX {
-        let letter = Utf16::get_ascii(&[unit], 0);
-        let expected = match u8::try_from(unit) {
-            Ok(byte) if byte > 0 && byte < 127 => Ok(Some(byte)),
-            _ => Err(ParseError::NonAsciiCodePoint),
-        };
-        assert_eq!(rt; letter, expected, "at {unit}");
+        let units = [unit];
+        let letter = Utf16::get_ascii(&units, 0);
+        match u8::try_from(unit) {
+            Ok(byte) if byte > 0 && byte < 127 => assert_eq!(rt; letter, Ok(Some(byte))),
+            _ => assert_eq!(rt; letter, Err(ParseError::NonAsciiCodePoint), "at {unit}"),
+        }
     }
-    assert_eq!(rt; Utf16::get_ascii(&[65, 306], 2), Ok(None));
     let units: [u16; 3] = [97, 306, 99];
-    assert_eq!(rt; Utf16::slice(&units, 1, 3), Some([306, 99].as_slice()));
+    assert_eq!(rt; Utf16::get_ascii(&units, 3), Ok(None));
+    let last: [u16; 2] = [306, 99];
+    assert_eq!(rt; Utf16::slice(&units, 1, 3), Some(last.as_slice()));
     for (start, end) in [(2, 1), (0, 4)] {
         assert_eq!(rt; Utf16::slice(&units, start, end), None);
     }
-    assert_eq!(rt; Utf16::slice(&units, 3, 3), Some([].as_slice()));
+    let none: [u16; 0] = [];
+    assert_eq!(rt; Utf16::slice(&units, 3, 3), Some(none.as_slice()));
     for (key, is_calendar) in [
         ("u-ca", true),
         ("u-cA", false),

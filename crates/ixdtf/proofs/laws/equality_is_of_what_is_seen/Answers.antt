@@ -26,24 +26,34 @@ returns-clause-fraction g c = by_exact (λ a b. search rules)
 pub returns-clause-time : goal.returns-clause-time
 returns-clause-time g c =
     let fraction = on_plain_option (returns-clause-fraction g c).exact in
-    by_exact (put_together (λ parts. record { hour = parts.0; minute = parts.1.0; second = parts.1.1.0; fraction = parts.1.1.1 }) (λ t. (t.hour, (t.minute, (t.second, t.fraction)))) (λ parts. refl) (
-    on_both (on_part (λ t. t.hour) unsigned_Decides) (on_both (on_part (λ t. t.minute) unsigned_Decides) (on_both (on_part (λ t. t.second) unsigned_Decides) (on_part (λ t. t.fraction) fraction)))))
+    by_exact (put_together (λ parts. record { hour = parts.0; minute = parts.1.0; second = parts.1.1.0; fraction = parts.1.1.1 })
+    (λ t. (t.hour, (t.minute, (t.second, t.fraction)))) (λ parts. refl) (
+    on_both (on_part (λ t. t.hour) unsigned_Decides) (on_both (on_part (λ t. t.minute) unsigned_Decides) (
+    on_both (on_part (λ t. t.second) unsigned_Decides) (on_part (λ t. t.fraction) fraction)))))
 
 pub returns-clause-full_offset : goal.returns-clause-full_offset
 returns-clause-full_offset g c =
     let minutes = (returns-clause-minute_offset g c).exact in
     let fraction = on_plain_option (returns-clause-fraction g c).exact in
-    by_exact (put_together (λ parts. record { minute_precision_offset = parts.0; second = parts.1.0; fraction = parts.1.1 }) (λ o. (o.minute_precision_offset, (o.second, o.fraction))) (λ parts. refl) (
+    by_exact (put_together (λ parts. record { minute_precision_offset = parts.0; second = parts.1.0; fraction = parts.1.1 })
+    (λ o. (o.minute_precision_offset, (o.second, o.fraction))) (λ parts. refl) (
     on_both (on_part (λ o. o.minute_precision_offset) minutes) (on_both (on_part (λ o. o.second) unsigned_Decides) (on_part (λ o. o.fraction) fraction))))
 
 pub returns-clause-offset : goal.returns-clause-offset
-returns-clause-offset g c = by_exact (offsets_exact (record { firsts = λ o p. refl; seconds = λ o p. refl; before = λ o p. refl; after = λ o p. refl }) (returns-clause-minute_offset g c).exact (returns-clause-full_offset g c).exact)
+returns-clause-offset g c =
+    by_exact (offsets_exact (record { firsts = λ o p. refl; seconds = λ o p. refl; before = λ o p. refl; after = λ o p. refl })
+    (returns-clause-minute_offset g c).exact (returns-clause-full_offset g c).exact)
 
 pub returns-clause-offset_or_z : goal.returns-clause-offset_or_z
-returns-clause-offset_or_z g c = by_exact (offsets_or_z_exact (record { somes = λ o p. refl; itself = refl; before = λ o. refl; after = λ o. refl }) (returns-clause-offset g c).exact)
+returns-clause-offset_or_z g c =
+    by_exact (offsets_or_z_exact (record { somes = λ o p. refl; itself = refl; before = λ o. refl; after = λ o. refl })
+    (returns-clause-offset g c).exact)
 
 pub returns-clause-zone : goal.returns-clause-zone
-returns-clause-zone g c = by_exact (zones_exact g.T.EncodingType.number (record { firsts = λ u v. refl; seconds = λ o p. refl; before = λ u o. refl; after = λ u o. refl }) (returns-clause-units g c).exact (returns-clause-minute_offset g c).exact)
+returns-clause-zone g c =
+    by_exact (zones_exact g.T.EncodingType.number
+    (record { firsts = λ u v. refl; seconds = λ o p. refl; before = λ u o. refl; after = λ u o. refl })
+    (returns-clause-units g c).exact (returns-clause-minute_offset g c).exact)
 
 pub returns-clause-zone_annotation : goal.returns-clause-zone_annotation
 returns-clause-zone_annotation g c =
@@ -57,8 +67,11 @@ returns-clause-record g c =
     let offset = on_plain_option (returns-clause-offset_or_z g c).exact in
     let zone = on_option (returns-clause-zone_annotation g c).exact in
     let calendar = on_option (returns-clause-units g c).exact in
-    by_exact (put_together (λ parts. record { date = parts.0; time = parts.1.0; offset = parts.1.1.0; zone = parts.1.1.1.0; calendar = parts.1.1.1.1 }) (λ r. (r.date, (r.time, (r.offset, (r.zone, r.calendar))))) (λ parts. refl) (
-    on_both (on_part (λ r. r.date) date) (on_both (on_part (λ r. r.time) time) (on_both (on_part (λ r. r.offset) offset) (on_both (on_part (λ r. r.tz) zone) (on_part (λ r. r.calendar) calendar))))))
+    by_exact (put_together
+    (λ parts. record { date = parts.0; time = parts.1.0; offset = parts.1.1.0; zone = parts.1.1.1.0; calendar = parts.1.1.1.1 })
+    (λ r. (r.date, (r.time, (r.offset, (r.zone, r.calendar))))) (λ parts. refl) (
+    on_both (on_part (λ r. r.date) date) (on_both (on_part (λ r. r.time) time) (on_both (on_part (λ r. r.offset) offset) (
+    on_both (on_part (λ r. r.tz) zone) (on_part (λ r. r.calendar) calendar))))))
 
 pub returns-clause-error : goal.returns-clause-error
 returns-clause-error g c = by_exact same_error-Decides
