@@ -110,10 +110,10 @@ line_has brackets (of_clock clock hour_range) = refl
 line_has brackets (of_clock clock after_hour) = let f = follow_has brackets clock in (f.0, λ c. f.1)
 line_has brackets (of_clock clock minute_digits) = (refl, λ c. refl)
 line_has brackets (of_clock clock minute_range) = refl
-line_has brackets (of_clock clock after_plain_minute) = let f =
-    follow_has brackets clock in (f.0, λ c. either_has (colon c || digit c) (mixed clock) (follow_of brackets clock).at_other (mixed_has clock) f.1)
-line_has brackets (of_clock clock after_colon_minute) = let f =
-    follow_has brackets clock in (f.0, λ c. either_has (colon c || digit c) (mixed clock) (follow_of brackets clock).at_other (mixed_has clock) f.1)
+line_has brackets (of_clock clock after_plain_minute) =
+    let f = follow_has brackets clock in (f.0, λ c. either_has (colon c || digit c) (mixed clock) (follow_of brackets clock).at_other (mixed_has clock) f.1)
+line_has brackets (of_clock clock after_colon_minute) =
+    let f = follow_has brackets clock in (f.0, λ c. either_has (colon c || digit c) (mixed clock) (follow_of brackets clock).at_other (mixed_has clock) f.1)
 line_has brackets (of_clock clock second_digits) = (refl, λ c. second_has clock)
 line_has brackets (of_clock clock second_range) = second_has clock
 line_has brackets (of_clock clock after_second) = let f = follow_has brackets clock in (f.0, λ c. f.1)
