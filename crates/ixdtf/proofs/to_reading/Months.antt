@@ -1,5 +1,6 @@
 -- A year-month and a month-day give their record and the rest, and each row of their lines is returned.
-use Rattle.std.proofs.Common.{◌≡◌, ℕ, ◌<◌, ◌⊎◌, Bool, true, false, IsTrue, [], ◌∷◌, ◌++◌, Ok, Err, refl, sym, ap, ◌∙◌, inl, inr, arith, append_assoc, ℤ, pos, nat_le, ◌&&◌}
+use Rattle.std.proofs.Common.{◌≡◌, ℕ, ◌<◌, ◌⊎◌, Bool, true, false, IsTrue, [], ◌∷◌, ◌++◌, Ok, Err, refl, sym, ap, ◌∙◌, inl, inr, arith, append_assoc, ℤ, pos}
+use Rattle.std.proofs.Common.{nat_le, ◌&&◌}
 use Rattle.std.proofs.lemmas.Bool.{and_parts, and_from, leb-true, le-leb, false_from_ne_true}
 use Rattle.std.proofs.lemmas.Bool.Decides.{nat_tests}
 use Rattle.ixdtf.specs.declared.records.DateRecord.{DateRecord}
@@ -34,12 +35,14 @@ module _ {E : Type 0} (fault : Row → E) where
   abbrev first_of : ℤ → (ℕ × Bool) × Text → Read E DateRecord
   first_of y month = Ok (date_of y month.0.0 1, month.1)
 
-  over_year_month : (text : Text) (date : DateRecord) → IsYearMonth text date → Leads (year_month_at fault) text (λ rest. Ok (date_of date.year date.month 1, rest))
+  over_year_month : (text : Text) (date : DateRecord) → IsYearMonth text date
+      → Leads (year_month_at fault) text (λ rest. Ok (date_of date.year date.month 1, rest))
   unfolding year_month_at
   over_year_month text date h =
       let t = hyphens_are h.hyphens h.hyphen in
       rw (h.is, t.1)
-      (over_year fault (of_year_month after_year_in_year_month) (λ c. refl) first_of _ _ h.year before over_month fault (of_year_month after_year_in_year_month) (λ c. refl) first_of _ t.0 _ _ h.month)
+      (over_year fault (of_year_month after_year_in_year_month) (λ c. refl) first_of _ _ h.year
+      before over_month fault (of_year_month after_year_in_year_month) (λ c. refl) first_of _ t.0 _ _ h.month)
 
   pub year_month_takes : (text : Text) (date : DateRecord) (rest : Text) → IsYearMonth text date → year_month_at fault (text ++ rest) ≡ Ok (date, rest)
   year_month_takes text date rest h = (over_year_month text date h).over rest ∙ λ i. Ok (date_of date.year date.month (sym h.first_day i), rest)
@@ -93,7 +96,9 @@ IsInMonthDay _ = Unit {0}
 module _ {E : Type 0} (fault : Row → E) where
   month_fits : (ds : Text) (m : ℕ) (rest : Text) → Month ds m → lone_month_in_range fault (ds, rest) ≡ Ok (m, rest)
   unfolding lone_month_in_range
-  month_fits ds m rest h = let test : (nat_le 1 (decimal ds) && nat_le (decimal ds) 12) ≡ true = rw (sym h.0.1) (and_from _ _ (le-leb 1 m h.1) (le-leb m 12 h.2)) in rw (test, h.0.1) refl
+  month_fits ds m rest h =
+      let test : (nat_le 1 (decimal ds) && nat_le (decimal ds) 12) ≡ true = rw (sym h.0.1) (and_from _ _ (le-leb 1 m h.1) (le-leb m 12 h.2)) in
+      rw (test, h.0.1) refl
 
   month_refused : (ds rest : Text) → (decimal ds ≡ 0) ⊎ (12 < decimal ds) → lone_month_in_range fault (ds, rest) ≡ Err (fault no_lone_month)
   unfolding lone_month_in_range
@@ -103,33 +108,54 @@ module _ {E : Type 0} (fault : Row → E) where
   unfolding lone_day_in_range
   day_fits m d rest h = rw (and_from _ _ (le-leb least_day d h.0) (le-leb d _ h.1)) refl
 
-  day_refused : (m d : ℕ) (rest : Text) → ¬ (IsDayOfSomeYear least_day (date_of (pos 0) m d)) → lone_day_in_range fault m d rest ≡ Err (fault (row_of (of_month_day month_day_range) anywhere InvalidMonthDay))
+  day_refused : (m d : ℕ) (rest : Text) → ¬ (IsDayOfSomeYear least_day (date_of (pos 0) m d))
+      → lone_day_in_range fault m d rest ≡ Err (fault (row_of (of_month_day month_day_range) anywhere InvalidMonthDay))
   unfolding lone_day_in_range
-  day_refused m d rest h = rw (false_from_ne_true _ (λ test. h (let both : IsTrue (nat_le least_day d) × IsTrue (nat_le d (greatest_day m)) = and_parts _ _ test in (leb-true _ _ both.0, leb-true _ _ both.1)))) refl
+  day_refused m d rest h = rw (false_from_ne_true _ (λ test. h (
+      let both : IsTrue (nat_le least_day d) × IsTrue (nat_le d (greatest_day m)) = and_parts _ _ test in
+      (leb-true _ _ both.0, leb-true _ _ both.1)))) refl
 
   -- ---- from stage to stage
 
   over_marks : (b : Bool) (text : Text) → Starts b text → marks_at fault (marks_of b ++ text) ≡ Ok (b, text)
   unfolding marks_at
-  over_marks true text starts = rw (hyphen_over fault (of_month_day month_day_start) true (Plain 45 ∷ text) (λ c. refl) tt, mark_over fault (of_month_day month_day_hyphen) true text tt refl tt) refl
+  over_marks true text starts = rw (
+    hyphen_over fault (of_month_day month_day_start) true (Plain 45 ∷ text) (λ c. refl) tt,
+    mark_over fault (of_month_day month_day_hyphen) true text tt refl tt,
+  ) refl
   over_marks false text starts = rw (hyphen_over fault (of_month_day month_day_start) false text (λ c. refl) starts) refl
 
   over_lone_month : (b : Bool) (ms : Text) (m : ℕ) → Month ms m → Leads (month_day_at fault) (marks_of b ++ ms) (lone_day_at fault m)
   unfolding month_day_at
   over_lone_month b ms m h = record {
     over = λ rest.
-        rw (append_assoc, over_marks b (ms ++ rest) (digits_start b 1 ms rest h.0.0), digits_go fault (of_month_day month_day_month_digits) (λ c. refl) 2 ms rest h.0.0, month_fits ms m rest h) refl;
+        rw (
+          append_assoc,
+          over_marks b (ms ++ rest) (digits_start b 1 ms rest h.0.0),
+          digits_go fault (of_month_day month_day_month_digits) (λ c. refl) 2 ms rest h.0.0,
+          month_fits ms m rest h,
+        ) refl;
   }
 
-  month_stops : (b : Bool) (ds rest : Text) (place : Place) (e : Fault) → Begun b ds → Stops (month_day_line month_day_month_digits) place e rest → month_day_at fault ((marks_of b ++ ds) ++ rest) ≡ Err (fault (row_of (of_month_day month_day_month_digits) place e))
+  month_stops : (b : Bool) (ds rest : Text) (place : Place) (e : Fault) → Begun b ds → Stops (month_day_line month_day_month_digits) place e rest
+      → month_day_at fault ((marks_of b ++ ds) ++ rest) ≡ Err (fault (row_of (of_month_day month_day_month_digits) place e))
   unfolding month_day_at
   month_stops b ds rest place e h at =
-      rw (append_assoc, over_marks b (ds ++ rest) (begun_starts b ds rest h), digits_stop_after fault (of_month_day month_day_month_digits) b ds rest place e (λ c. refl) h at) refl
+      rw (
+        append_assoc,
+        over_marks b (ds ++ rest) (begun_starts b ds rest h),
+        digits_stop_after fault (of_month_day month_day_month_digits) b ds rest place e (λ c. refl) h at,
+      ) refl
 
   month_out : (b : Bool) (ds rest : Text) → NoMonth ds → month_day_at fault ((marks_of b ++ ds) ++ rest) ≡ Err (fault no_lone_month)
   unfolding month_day_at
   month_out b ds rest h =
-      rw (append_assoc, over_marks b (ds ++ rest) (digits_start b 1 ds rest h.0), digits_go fault (of_month_day month_day_month_digits) (λ c. refl) 2 ds rest h.0, month_refused ds rest h.1) refl
+      rw (
+        append_assoc,
+        over_marks b (ds ++ rest) (digits_start b 1 ds rest h.0),
+        digits_go fault (of_month_day month_day_month_digits) (λ c. refl) 2 ds rest h.0,
+        month_refused ds rest h.1,
+      ) refl
 
   over_lone_day : (m : ℕ) (b : Bool) (ds : Text) (d : ℕ) → TwoDigits ds d → Leads (lone_day_at fault m) (hyphens_of b ++ ds) (lone_day_in_range fault m d)
   unfolding lone_day_at
@@ -143,7 +169,8 @@ module _ {E : Type 0} (fault : Row → E) where
         ) refl;
   }
 
-  day_stops : (m : ℕ) (b : Bool) (ds rest : Text) (place : Place) (e : Fault) → Begun b ds → Stops (month_day_line month_day_day_digits) place e rest → Halts (lone_day_at fault m) (hyphens_of b ++ ds) rest (fault (row_of (of_month_day month_day_day_digits) place e))
+  day_stops : (m : ℕ) (b : Bool) (ds rest : Text) (place : Place) (e : Fault) → Begun b ds → Stops (month_day_line month_day_day_digits) place e rest
+      → Halts (lone_day_at fault m) (hyphens_of b ++ ds) rest (fault (row_of (of_month_day month_day_day_digits) place e))
   unfolding lone_day_at
   day_stops m b ds rest place e h at = record {
     halts = rw (
@@ -157,10 +184,12 @@ module _ {E : Type 0} (fault : Row → E) where
   over_month_day text date h =
       let marks = marks_are h.marks h.mark in
       let hyphens = hyphens_are h.hyphens h.hyphen in
-      rw (h.is, ← append_assoc h.marks h.months (h.hyphens ++ h.days), marks.1, hyphens.1) (over_lone_month marks.0 _ _ h.month before over_lone_day _ hyphens.0 _ _ h.day)
+      rw (h.is, ← append_assoc h.marks h.months (h.hyphens ++ h.days), marks.1, hyphens.1)
+      (over_lone_month marks.0 _ _ h.month before over_lone_day _ hyphens.0 _ _ h.day)
 
   pub month_day_takes : (text : Text) (date : DateRecord) (rest : Text) → IsMonthDay least_day text date → month_day_at fault (text ++ rest) ≡ Ok (date, rest)
-  month_day_takes text date rest h = (over_month_day text date h.0).over rest ∙ day_fits date.month date.day rest h.1 ∙ λ i. Ok (date_of (sym h.0.no_year i) date.month date.day, rest)
+  month_day_takes text date rest h = (over_month_day text date h.0).over rest ∙ day_fits date.month date.day rest h.1
+      ∙ λ i. Ok (date_of (sym h.0.no_year i) date.month date.day, rest)
 
   -- ---- each row is returned
 
@@ -171,7 +200,11 @@ module _ {E : Type 0} (fault : Row → E) where
   hyphen_row : RowsRead fault true (month_day_at fault) (of_month_day month_day_hyphen)
   unfolding month_day_at marks_at
   hyphen_row place e front rest f at =
-      rw (hyphen_is front f, hyphen_over fault (of_month_day month_day_start) true rest (λ c. refl) tt, mark_stops fault (of_month_day month_day_hyphen) place e rest tt at) refl
+      rw (
+        hyphen_is front f,
+        hyphen_over fault (of_month_day month_day_start) true rest (λ c. refl) tt,
+        mark_stops fault (of_month_day month_day_hyphen) place e rest tt at,
+      ) refl
 
   month_digits_row : RowsRead fault true (month_day_at fault) (of_month_day month_day_month_digits)
   month_digits_row place e front rest f at = let t = begun_month front f in rw t.2 (month_stops t.0 t.1 rest place e t.3 at)
@@ -191,7 +224,8 @@ module _ {E : Type 0} (fault : Row → E) where
   day_digits_row place e front rest f at =
       let t = marks_are f.0 f.3 in
       let s = begun_day f.4.1 f.4.4 in
-      rw (f.2, f.4.2, ← append_assoc f.0 f.4.0 f.4.1, t.1, s.2) ((over_lone_month t.0 f.4.0 f.4.3.0 f.4.3.1 till day_stops f.4.3.0 s.0 s.1 rest place e s.3 at).halts)
+      rw (f.2, f.4.2, ← append_assoc f.0 f.4.0 f.4.1, t.1, s.2)
+      ((over_lone_month t.0 f.4.0 f.4.3.0 f.4.3.1 till day_stops f.4.3.0 s.0 s.1 rest place e s.3 at).halts)
 
   day_range_row : RowsRead fault true (month_day_at fault) (of_month_day month_day_range)
   day_range_row = whole_row fault true (month_day_at fault) (of_month_day month_day_range) tt λ e front rest f at.
