@@ -1,5 +1,5 @@
 -- Texts in 16-bit units and in 8-bit units, computed: the letters of units, and what the texts give.
-use Rattle.std.proofs.Common.{◌≡◌, ℕ, List, [], ◌∷◌, ◌++◌, map, codes, true, false, None, pos, refl}
+use Rattle.std.proofs.Common.{◌≡◌, ℕ, List, [], ◌∷◌, ◌++◌, map, codes, false, None, pos, refl}
 use Rattle.ixdtf.specs.language.Letters.{Text, byte_letter, wide_letter}
 use Rattle.ixdtf.specs.language.Letters.Letter.{Plain, Bad}
 use Rattle.ixdtf.specs.language.Readers.{parse}
