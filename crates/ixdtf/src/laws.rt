@@ -45,8 +45,8 @@ pub fn exact_nanoseconds_are_the_truncated_ones(fraction: &Fraction)
     let _ = fraction.to_nanoseconds();
 }
 
-/// Equality of slices of units, of each record and of errors is equality of what a contract sees of them, slices by the numbers
-/// of their units and locations by their bytes; and so it is reflexive, symmetric and transitive, in every encoding.
+/// Equality of slices of units, of each record and of errors is equality of what a contract sees of them, slices by the
+/// numbers of their units and locations by their bytes; and so it is reflexive, symmetric and transitive, in every encoding.
 pub fn equality_is_of_what_is_seen<'a, T: EncodingType>()
 where
     T::CodeUnit: 'a,
