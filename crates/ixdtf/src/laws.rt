@@ -13,7 +13,7 @@ ghost use Rattle.ixdtf.specs.Laws.{EveryDateTimeIsRead, EveryNameIsAnIdentifier}
 ghost use Rattle.ixdtf.specs.Views.{returned, returned_by, parsed_of, most_looks};
 
 use crate::encoding::EncodingType;
-use crate::parsers::IxdtfParser;
+use crate::parsers::{DateTimes, IxdtfParser};
 use crate::records::{Annotation, IxdtfParseRecord};
 use crate::stop::Raised;
 use crate::{ParseError, ParserResult};
@@ -87,5 +87,5 @@ where
     ensures looks { parser.new.looks ≤ parser.old.looks + most_looks parser.old.rest }
     ensures counted { parser.old.looks ≤ parser.new.looks }
 {
-    parser.read_as::<E, F>(handler)
+    parser.read_as::<E, DateTimes, F>(handler)
 }

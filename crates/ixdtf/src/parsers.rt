@@ -7,6 +7,7 @@
 ghost use Rattle.std.specs.Prelude.{◌≡◌, ◌↔◌, ◌+◌, ◌≤◌, [], map, Ok, None, OnOk, OnErr, IfErr, IsFalse};
 ghost use Rattle.ixdtf.specs.table.Faults.{fault_of, never_comes};
 ghost use Rattle.ixdtf.specs.language.Readers.{parse as reader_parse};
+ghost use Rattle.ixdtf.specs.language.Readers.Reader.{bracketed};
 ghost use Rattle.ixdtf.specs.language.Languages.{Parsed};
 ghost use Rattle.ixdtf.specs.Handlers.{Handled, PlainRecord, PlainFault};
 ghost use Rattle.ixdtf.specs.Views.{Unread, returned, returned_by, parsed_of, most_looks};
@@ -24,6 +25,8 @@ mod time;
 mod timezone;
 mod zones;
 
+use self::cores::{Cores, LoneTimes, MonthDays, YearMonths};
+pub(crate) use self::cores::DateTimes;
 use self::texts::parse_text;
 pub use self::zones::TimeZoneParser;
 use crate::cursor::Cursor;
@@ -158,7 +161,7 @@ impl<'a, T: EncodingType> IxdtfParser<'a, T> {
         ensures counted { self.old.looks ≤ self.new.looks }
     {
         let mut found = empty_record();
-        match self.read_into(|annotation| Some(annotation), &mut found) {
+        match self.read_into::<DateTimes, _>(|annotation| Some(annotation), &mut found) {
             Ok(()) => Ok(found),
             Err(stop) => return Err(stop.error()),
         }
@@ -210,19 +213,23 @@ impl<'a, T: EncodingType> IxdtfParser<'a, T> {
         // The count of looks never goes down.
         ensures counted { self.old.looks ≤ self.new.looks }
     {
-        self.read_as::<ParseError, F>(handler)
+        self.read_as::<ParseError, DateTimes, F>(handler)
     }
 
-    /// Reads as [`parse_with_annotation_handler`](Self::parse_with_annotation_handler) does, with an error that a stop gives.
+    /// Reads a text with a core of the kind, as [`parse_with_annotation_handler`](Self::parse_with_annotation_handler) does, with
+    /// an error that a stop gives.
     #[inline(always)]
-    pub(crate) fn read_as<E: Raised, F>(&mut self, handler: F) -> Result<IxdtfParseRecord<'a, T>, E>
+    pub(crate) fn read_as<E: Raised, C: Cores, F>(
+        &mut self,
+        handler: F,
+    ) -> Result<IxdtfParseRecord<'a, T>, E>
     where
         F: FnMut(Annotation<'a, T>) -> Option<Annotation<'a, T>>,
         // The handler may be called at any time, in any state that it reached, on any annotation.
         requires callable { F.IsAlwaysCallable handler }
         // For the one chain of its calls: `Ok` exactly with the record, and `Err` only with a fault, that the text and the
         // replies give.
-        ensures handled { Handled T.number F.step handler reader_parse (map T.letter self.old.rest)
+        ensures handled { Handled T.number F.step handler (bracketed C.kind) (map T.letter self.old.rest)
             (returned_by E.fault (parsed_of T.number) result) }
 
         // None of the errors that no reader gives.
@@ -235,7 +242,7 @@ impl<'a, T: EncodingType> IxdtfParser<'a, T> {
         ensures counted { self.old.looks ≤ self.new.looks }
     {
         let mut found = empty_record();
-        match self.read_into(handler, &mut found) {
+        match self.read_into::<C, F>(handler, &mut found) {
             Ok(()) => Ok(found),
             Err(stop) => return Err(E::of_stop(stop)),
         }
@@ -247,7 +254,7 @@ impl<'a, T: EncodingType> IxdtfParser<'a, T> {
     /// Each public reader of records calls this one, and returns by itself in each arm: where a reader hands on what another
     /// returned, or its arms meet before it returns, the whole record is copied once more.
     #[inline(always)]
-    fn read_into<F>(
+    fn read_into<C: Cores, F>(
         &mut self,
         mut handler: F,
         found: &mut IxdtfParseRecord<'a, T>,
@@ -255,11 +262,12 @@ impl<'a, T: EncodingType> IxdtfParser<'a, T> {
     where
         F: FnMut(Annotation<'a, T>) -> Option<Annotation<'a, T>>,
         requires callable { F.IsAlwaysCallable handler }
+        requires no_date { found.old.date ≡ None }
         requires no_time { found.old.time ≡ None }
         requires no_offset { found.old.offset ≡ None }
         requires no_zone { found.old.tz ≡ None }
         requires no_calendar { found.old.calendar ≡ None }
-        ensures handled { Handled T.number F.step handler reader_parse (map T.letter self.old.rest)
+        ensures handled { Handled T.number F.step handler (bracketed C.kind) (map T.letter self.old.rest)
             (yielded (λ _. parsed_of T.number found.new) result) }
         ensures comes { IfErr result (λ stop. IsFalse (never_comes (fault_of_stop stop))) }
         ensures empty { OnOk result (self.new.rest ≡ []) }
@@ -268,7 +276,7 @@ impl<'a, T: EncodingType> IxdtfParser<'a, T> {
         ensures counted { self.old.looks ≤ self.new.looks }
     {
         let mut here = self.cursor.take();
-        match parse_text::<T, F>(&mut here, &mut handler, found) {
+        match parse_text::<T, C, F>(&mut here, &mut handler, found) {
             Ok(()) => {
                 self.cursor = here;
                 Ok(())
@@ -284,6 +292,7 @@ impl<'a, T: EncodingType> IxdtfParser<'a, T> {
 /// A record in which nothing stands.
 #[inline(always)]
 fn empty_record<'a, T: EncodingType>() -> IxdtfParseRecord<'a, T>
+    ensures date { result.date ≡ None }
     ensures time { result.time ≡ None }
     ensures offset { result.offset ≡ None }
     ensures zone { result.tz ≡ None }

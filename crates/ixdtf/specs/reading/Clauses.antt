@@ -22,8 +22,9 @@ use Rattle.ixdtf.specs.table.Faults.{Fault as faults}
 use Rattle.ixdtf.specs.table.Lines.{always, abrupt_digit, abrupt_date, abrupt_month_day, abrupt_bracket, abrupt_offset, abrupt_zone}
 use Rattle.ixdtf.specs.Views.{Unread, note_of}
 use Rattle.ixdtf.specs.Handlers.{pair_of}
-use Rattle.ixdtf.specs.reading.Looks.{Read, Look, ◌>>=◌, digit_run}
-use Rattle.ixdtf.specs.reading.Times.{OpenTime}
+use Rattle.ixdtf.specs.reading.Looks.{Read, Look, ◌>>=◌, error_of, digit_run}
+use Rattle.ixdtf.specs.reading.Times.{OpenTime, clock_at}
+use Rattle.ixdtf.specs.reading.Cores.{ClosedCore, after_time_at}
 use Rattle.ixdtf.specs.reading.Brackets.{Bracket, zoned, paired}
 
 -- the fault of the error that a stop is
@@ -117,6 +118,10 @@ digit_seen other (Err e) = Err e
 -- the other digits of a fraction, and the fraction
 abbrev pub more_digits_at : ℕ → Text → Read Fault FractionParts
 more_digits_at first text = digit_run faults.NonAsciiCodePoint text >>= λ more. Ok (fraction_of (Plain first ∷ more.0), more.1)
+
+-- a time that stands alone, behind its letter where it has one, and its offset
+unfoldable pub lone_core_at : Text → Read Fault ClosedCore
+lone_core_at text = clock_at error_of clocks.Time text >>= λ time. after_time_at error_of None time.0 time.1
 
 -- ---- the code's own types
 
