@@ -157,6 +157,7 @@ impl<'a, T: EncodingType> Cursor<'a, T> {
             (next_by (digit_look (fault_of_stop other))) }
         ensures is_digit { IfOk result (λ byte. IsTrue (digit byte)) }
         ensures looks { Spends 1 self.old self.new }
+        ensures few { self.new.looks ≤ self.old.looks + 1 }
         ensures paid { OnOk result (Spends 0 self.old self.new) }
     {
         match self.look()? {
@@ -193,6 +194,7 @@ impl<'a, T: EncodingType> Cursor<'a, T> {
             (digits_by (digit_look (fault_of_stop other)) 2) }
         ensures are_digits { IfOk result (λ ds. IsTrue (digit ds.0) × IsTrue (digit ds.1)) }
         ensures looks { Spends 2 self.old self.new }
+        ensures few { self.new.looks ≤ self.old.looks + 2 }
         ensures paid { OnOk result (Spends 0 self.old self.new) }
     {
         if self.rest.len() < 2 {

@@ -19,6 +19,7 @@ mod cores;
 mod dates;
 mod grammar;
 mod letters;
+mod months;
 mod offsets;
 mod texts;
 mod time;

@@ -10,7 +10,7 @@ use Rattle.ixdtf.specs.declared.parsers.time.Shape.TheVariants as code_shapes
 use Rattle.ixdtf.specs.declared.records.TimeRecord.{TimeRecord}
 use Rattle.ixdtf.specs.declared.parsers.brackets.Bracket.{Bracket as CodeBracket}
 use Rattle.ixdtf.specs.declared.parsers.brackets.Bracket.TheVariants as brackets
-use Rattle.ixdtf.specs.language.Letters.{Letter, Text, none, digit, closing}
+use Rattle.ixdtf.specs.language.Letters.{Letter, Text, ◌or◌, none, digit, hyphen, closing}
 use Rattle.ixdtf.specs.language.Letters.Letter.{Plain}
 use Rattle.ixdtf.specs.language.Fractions.{FractionParts, fraction_of}
 use Rattle.ixdtf.specs.language.Times.{Clock, TimeShape}
@@ -104,6 +104,10 @@ Checks view (Err e) wanted test fault = (fault_of_stop e ≡ fault) × IsFalse t
 -- the look for the end of the text
 abbrev pub end_look : Look Fault
 end_look = record { goes_on = none; at_end = None; at_other = always faults.InvalidEnd; at_bad = faults.NonAsciiCodePoint }
+
+-- the look for a hyphen or a digit, with the errors at the end and at another letter
+abbrev pub hyphen_look : Fault → Fault → Look Fault
+hyphen_look at_end other = record { goes_on = hyphen or digit; at_end = Some at_end; at_other = always other; at_bad = faults.NonAsciiCodePoint }
 
 -- the look for the end of a bracket
 abbrev pub closing_look : Fault → Look Fault

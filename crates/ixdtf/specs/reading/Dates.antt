@@ -12,7 +12,7 @@ use Rattle.ixdtf.specs.table.LineNames.DateLine.{year_start, year_digits, extend
 use Rattle.ixdtf.specs.table.LineNames.DateLine.{month_range, after_hyphened_month, after_plain_month, day_digits, day_range}
 use Rattle.ixdtf.specs.table.Rows.{Row}
 use Rattle.ixdtf.specs.table.Rows.Place.{anywhere}
-use Rattle.ixdtf.specs.reading.Looks.{Read, ◌>>=◌, row_of, letter_at, digits_at, mark_at, look_readings}
+use Rattle.ixdtf.specs.reading.Looks.{Read, Look, ◌>>=◌, row_of, look_at_line, letter_at, digits_at, mark_by, mark_at, look_readings}
 
 -- after a sign
 unfoldable pub extended_year_at : {E : Type 0} → (Row → E) → ℕ → Text → Read E ℤ
@@ -47,13 +47,17 @@ day_in_range fault date rest =
 abbrev pub date_of : ℤ → ℕ → ℕ → DateRecord
 date_of year month day = record { year = year; month = month; day = day }
 
--- the month after a year, with or without a hyphen before it, and whether one stands; the year stops at the line
-unfoldable pub month_at : {E : Type 0} → (Row → E) → LineName → Text → Read E (ℕ × Bool)
-month_at fault name text = do
-  mark ← mark_at fault name hyphen text
+-- the month after a year, with or without a hyphen before it, and whether one stands, by the look at what follows the year
+unfoldable pub month_by : {E : Type 0} → (Row → E) → Look E → Text → Read E (ℕ × Bool)
+month_by fault l text = do
+  mark ← mark_by l hyphen text
   ds ← digits_at fault (of_date month_digits) 2 mark.1
   month ← month_in_range fault ds
   Ok ((month.0, mark.0), month.1)
+
+-- the same, where the year stops at the line
+abbrev pub month_at : {E : Type 0} → (Row → E) → LineName → Text → Read E (ℕ × Bool)
+month_at fault name text = month_by fault (look_at_line fault name) text
 
 -- the line after a month, which has a hyphen before it or has none
 abbrev pub line_after_month : Bool → LineName
@@ -75,5 +79,5 @@ date_at fault text = do
 
 -- opening this opens the readings of dates
 unfoldable pub date_readings : ℕ
-unfolding look_readings extended_year_at plain_year_at year_at month_in_range month_at day_in_range day_at date_at
+unfolding look_readings extended_year_at plain_year_at year_at month_in_range month_by day_in_range day_at date_at
 date_readings = 0

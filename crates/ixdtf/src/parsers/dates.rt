@@ -2,16 +2,16 @@
 
 #![tactic(auto, unfolding(crate::specs::reading::Dates::date_readings))]
 
-ghost use Rattle.std.specs.Prelude.{◌≡◌, ◌∷◌, [], ◌&&◌, ◌+◌, ◌*◌, ◌-◌, ◌<◌, ◌≤◌, map, nat_le, length, pos, None, IsTrue, IfOk, IfSome};
-ghost use Rattle.ixdtf.specs.language.Letters.{Text, digit, sign};
+ghost use Rattle.std.specs.Prelude.{◌≡◌, ◌∷◌, [], ◌&&◌, ◌+◌, ◌*◌, ◌-◌, ◌<◌, ◌≤◌, map, nat_le, length, pos, None, IsTrue, IfOk, IfSome, OnOk};
+ghost use Rattle.ixdtf.specs.language.Letters.{Text, digit, hyphen};
 ghost use Rattle.ixdtf.specs.language.Letters.Letter.{Plain};
 ghost use Rattle.ixdtf.specs.language.Digits.{decimal};
 ghost use Rattle.ixdtf.specs.language.Dates.{is_leap, month_length};
-ghost use Rattle.ixdtf.specs.table.Faults.Fault.{DateExtendedYear, InvalidMonthRange, InvalidDayRange};
-ghost use Rattle.ixdtf.specs.reading.Clauses.{Reads, Spends, Checks, Yields};
+ghost use Rattle.ixdtf.specs.table.Faults.Fault.{DateExtendedYear, DateMonth, InvalidMonthRange, InvalidDayRange};
+ghost use Rattle.ixdtf.specs.reading.Clauses.{Reads, Spends, Checks, Yields, fault_of_stop, hyphen_look};
 ghost use Rattle.ixdtf.specs.reading.FixedPlaces.{ranged};
-ghost use Rattle.ixdtf.specs.reading.Looks.{error_of, number_of, digits_by, digit_look};
-ghost use Rattle.ixdtf.specs.reading.Dates.{date_of, year_at, plain_year_at, extended_year_at, date_at, after_year_at, hyphened_date_at, plain_date_at, after_hyphened_month_at, after_plain_month_at};
+ghost use Rattle.ixdtf.specs.reading.Looks.{error_of, number_of, digits_by, digit_look, mark_by, mark_at};
+ghost use Rattle.ixdtf.specs.reading.Dates.{date_of, year_at, plain_year_at, extended_year_at, date_at, month_by, day_at, line_after_month};
 
 use crate::cursor::Cursor;
 use crate::encoding::EncodingType;
@@ -40,7 +40,8 @@ fn parse_any_date<'a, T: EncodingType>(cursor: &mut Cursor<'a, T>) -> Result<Dat
     ensures looks { Spends 6 cursor.old cursor.new }
 {
     let year = parse_date_year(cursor)?;
-    parse_after_year(cursor, year)
+    let (month, hyphened) = parse_month(cursor, Stop::AbruptDate)?;
+    parse_day(cursor, year, month, hyphened)
 }
 
 // ==== Fixed places ====
@@ -89,10 +90,11 @@ fn check_ranges(date: DateRecord) -> Result<DateRecord, Stop>
 /// Reads a year: four digits, or a sign and six digits.
 #[inline(always)]
 #[tactic(auto, using(crate::proofs::code::DigitClasses::digit_no_sign), unfolding(crate::specs::reading::Dates::date_readings))]
-fn parse_date_year<'a, T: EncodingType>(cursor: &mut Cursor<'a, T>) -> Result<i32, Stop>
+pub fn parse_date_year<'a, T: EncodingType>(cursor: &mut Cursor<'a, T>) -> Result<i32, Stop>
     ensures year { Reads T.letter (λ year. year) cursor.old result cursor.new
         (year_at error_of) }
     ensures looks { Spends 2 cursor.old cursor.new }
+    ensures few { cursor.new.looks ≤ cursor.old.looks + 7 }
 {
     match cursor.look()? {
         None => Err(Stop::AbruptDigit),
@@ -118,6 +120,7 @@ fn parse_plain_year<'a, T: EncodingType>(
     ensures year { Reads T.letter (λ year. year) cursor.old result cursor.new
         (plain_year_at error_of thousands) }
     ensures looks { Spends 1 cursor.old cursor.new }
+    ensures few { cursor.new.looks ≤ cursor.old.looks + 3 }
 {
     let hundreds = cursor.next_digit(Stop::DateYear)?;
     let tens = cursor.next_digit(Stop::DateYear)?;
@@ -150,6 +153,7 @@ fn parse_extended_year<'a, T: EncodingType>(
     ensures year { Reads T.letter (λ year. year) cursor.old result cursor.new
         (extended_year_at error_of sign) }
     ensures looks { Spends 1 cursor.old cursor.new }
+    ensures few { cursor.new.looks ≤ cursor.old.looks + 6 }
 {
     let mut here = cursor.take();
     let read = parse_signed_year(&mut here, sign);
@@ -163,6 +167,7 @@ fn parse_signed_year<'a, T: EncodingType>(cursor: &mut Cursor<'a, T>, sign: u8) 
     ensures year { Reads T.letter (λ year. year) cursor.old result cursor.new
         (extended_year_at error_of sign) }
     ensures looks { Spends 1 cursor.old cursor.new }
+    ensures few { cursor.new.looks ≤ cursor.old.looks + 6 }
 {
     let value = parse_six_digits(cursor)?;
     if !is_hyphen(sign) {
@@ -181,6 +186,7 @@ fn parse_six_digits<'a, T: EncodingType>(cursor: &mut Cursor<'a, T>) -> Result<u
         (λ text. number_of (digits_by (digit_look DateExtendedYear) 6 text)) }
     ensures small { IfOk result (λ number. number < 1000000) }
     ensures looks { Spends 1 cursor.old cursor.new }
+    ensures few { cursor.new.looks ≤ cursor.old.looks + 6 }
 {
     let first = cursor.next_digit(Stop::DateExtendedYear)?;
     let second = cursor.next_digit(Stop::DateExtendedYear)?;
@@ -200,107 +206,92 @@ fn parse_six_digits<'a, T: EncodingType>(cursor: &mut Cursor<'a, T>) -> Result<u
 
 // ==== Months and days ====
 
-/// Reads the month and the day after a year: with hyphens where the first one stands, else without.
+/// Takes a hyphen off, and returns whether one stands there: a digit stays. The end is one stop, and another letter the
+/// other.
 #[inline(always)]
-fn parse_after_year<'a, T: EncodingType>(
+pub fn take_hyphen<'a, T: EncodingType>(
     cursor: &mut Cursor<'a, T>,
-    year: i32,
-) -> Result<DateRecord, Stop>
-    ensures date { Reads T.letter (λ date. date) cursor.old result cursor.new
-        (after_year_at error_of year) }
-    ensures looks { Spends 4 cursor.old cursor.new }
+    at_end: Stop,
+    other: Stop,
+) -> Result<bool, Stop>
+    ensures hyphen { Reads T.letter (λ stands. stands) cursor.old result cursor.new
+        (mark_by (hyphen_look (fault_of_stop at_end) (fault_of_stop other)) hyphen) }
+    ensures looks { Spends 1 cursor.old cursor.new }
+    ensures few { cursor.new.looks ≤ cursor.old.looks + 1 }
 {
     match cursor.look()? {
-        None => Err(Stop::AbruptDate),
+        None => Err(at_end),
         Some(byte) if is_hyphen(byte) => {
             cursor.step();
-            parse_hyphenated_date(cursor, year)
+            Ok(true)
         }
-        Some(byte) if byte.is_ascii_digit() => {
-            cursor.step();
-            parse_plain_date(cursor, year, byte)
-        }
-        Some(_) => Err(Stop::DateMonth),
+        Some(byte) if byte.is_ascii_digit() => Ok(false),
+        Some(_) => Err(other),
     }
 }
 
-/// Reads the month after a hyphen, and the day.
+/// Reads a month after a year, and returns whether a hyphen stands before it. The end of the text after the year is this
+/// stop.
 #[inline(always)]
-fn parse_hyphenated_date<'a, T: EncodingType>(
+pub fn parse_month<'a, T: EncodingType>(
     cursor: &mut Cursor<'a, T>,
-    year: i32,
-) -> Result<DateRecord, Stop>
-    ensures date { Reads T.letter (λ date. date) cursor.old result cursor.new
-        (hyphened_date_at error_of year) }
+    at_end: Stop,
+) -> Result<(u8, bool), Stop>
+    ensures month { Reads T.letter (λ month. month) cursor.old result cursor.new
+        (month_by error_of (hyphen_look (fault_of_stop at_end) DateMonth)) }
     ensures looks { Spends 3 cursor.old cursor.new }
+    ensures paid { OnOk result (Spends 1 cursor.old cursor.new) }
+    ensures few { cursor.new.looks ≤ cursor.old.looks + 3 }
 {
+    let hyphened = take_hyphen(cursor, at_end, Stop::DateMonth)?;
     let (tens, ones) = cursor.two_digits(Stop::DateMonth)?;
     let month = check_month(digits_value(tens, ones))?;
-    parse_hyphenated_day(cursor, year, month)
+    Ok((month, hyphened))
 }
 
-/// Reads the second hyphen, and the day after it.
+/// Reads the day after a month, with a hyphen before it where one stands before the month.
 #[inline(always)]
-fn parse_hyphenated_day<'a, T: EncodingType>(
+fn parse_day<'a, T: EncodingType>(
     cursor: &mut Cursor<'a, T>,
     year: i32,
     month: u8,
+    hyphened: bool,
 ) -> Result<DateRecord, Stop>
     ensures date { Reads T.letter (λ date. date) cursor.old result cursor.new
-        (after_hyphened_month_at error_of year month) }
+        (day_at error_of year (month, hyphened)) }
     ensures looks { Spends 3 cursor.old cursor.new }
 {
-    match cursor.look()? {
-        Some(byte) if is_hyphen(byte) => cursor.step(),
-        _ => return Err(Stop::DateSeparator),
-    }
+    take_separator(cursor, hyphened)?;
     let (tens, ones) = cursor.two_digits(Stop::DateDay)?;
     check_date(year, month, digits_value(tens, ones))
 }
 
-/// Reads the month's second digit, and the day.
+/// Takes the hyphen after a month off where one stands before the month, and else wants a digit, which stays.
 #[inline(always)]
-fn parse_plain_date<'a, T: EncodingType>(
+fn take_separator<'a, T: EncodingType>(
     cursor: &mut Cursor<'a, T>,
-    year: i32,
-    tens: u8,
-) -> Result<DateRecord, Stop>
-    requires digit { IsTrue (digit tens) }
-    ensures date { Reads T.letter (λ date. date) cursor.old result cursor.new
-        (plain_date_at error_of year tens) }
-    ensures looks { Spends 3 cursor.old cursor.new }
-{
-    let ones = cursor.next_digit(Stop::DateMonth)?;
-    let month = check_month(digits_value(tens, ones))?;
-    parse_plain_day(cursor, year, month)
-}
-
-/// Reads the day right after a month: a hyphen there is `DateSeparator`.
-#[inline(always)]
-fn parse_plain_day<'a, T: EncodingType>(
-    cursor: &mut Cursor<'a, T>,
-    year: i32,
-    month: u8,
-) -> Result<DateRecord, Stop>
-    ensures date { Reads T.letter (λ date. date) cursor.old result cursor.new
-        (after_plain_month_at error_of year month) }
-    ensures looks { Spends 2 cursor.old cursor.new }
+    hyphened: bool,
+) -> Result<(), Stop>
+    ensures separator { Reads T.letter (λ _. hyphened) cursor.old result cursor.new
+        (mark_at error_of (line_after_month hyphened) hyphen) }
+    ensures looks { Spends 1 cursor.old cursor.new }
 {
     match cursor.look()? {
-        None => Err(Stop::AbruptDigit),
-        Some(tens) if tens.is_ascii_digit() => {
+        Some(byte) if is_hyphen(byte) && hyphened => {
             cursor.step();
-            let ones = cursor.next_digit(Stop::DateDay)?;
-            check_date(year, month, digits_value(tens, ones))
+            Ok(())
         }
         Some(byte) if is_hyphen(byte) => Err(Stop::DateSeparator),
+        _ if hyphened => Err(Stop::DateSeparator),
+        None => Err(Stop::AbruptDigit),
+        Some(byte) if byte.is_ascii_digit() => Ok(()),
         Some(_) => Err(Stop::DateDay),
     }
 }
 
 /// The month, where it is one.
 #[inline(always)]
-fn check_month(month: u8) -> Result<u8, Stop>
+pub fn check_month(month: u8) -> Result<u8, Stop>
     ensures { Checks (λ month. month) result month (nat_le 1 month && nat_le month 12)
         InvalidMonthRange }
 {
@@ -324,7 +315,7 @@ fn check_date(year: i32, month: u8, day: u8) -> Result<DateRecord, Stop>
 
 /// The length of a month in the Gregorian calendar.
 #[inline(always)]
-fn days_in_month(year: i32, month: u8) -> u8
+pub fn days_in_month(year: i32, month: u8) -> u8
     ensures { result ≡ month_length year month }
 {
     match month {

@@ -1,0 +1,106 @@
+//! Reading year-months and month-days.
+
+#![tactic(auto, unfolding(crate::specs::reading::Months::month_readings))]
+
+ghost use Rattle.std.specs.Prelude.{◌+◌, ◌≤◌, ◌&&◌, nat_le, pos};
+ghost use Rattle.ixdtf.specs.language.Months.{greatest_day, least_day};
+ghost use Rattle.ixdtf.specs.table.Faults.Fault.{InvalidMonthDay};
+ghost use Rattle.ixdtf.specs.reading.Clauses.{Reads, Spends, Checks};
+ghost use Rattle.ixdtf.specs.reading.Looks.{error_of};
+ghost use Rattle.ixdtf.specs.reading.Dates.{date_of};
+ghost use Rattle.ixdtf.specs.reading.Months.{year_month_at, marks_at, month_day_at, lone_day_at};
+
+use crate::cursor::Cursor;
+use crate::encoding::EncodingType;
+use crate::parsers::dates::{check_month, days_in_month, parse_date_year, parse_month, take_hyphen};
+use crate::parsers::grammar::{digits_value, is_hyphen};
+use crate::records::DateRecord;
+use crate::stop::Stop;
+
+/// Reads a year-month, as a date with day 1.
+#[inline(always)]
+pub fn parse_year_month_date<'a, T: EncodingType>(
+    cursor: &mut Cursor<'a, T>,
+) -> Result<DateRecord, Stop>
+    ensures date { Reads T.letter (λ date. date) cursor.old result cursor.new
+        (year_month_at error_of) }
+    ensures looks { Spends 5 cursor.old cursor.new }
+    ensures few { cursor.new.looks ≤ cursor.old.looks + 10 }
+{
+    let year = parse_date_year(cursor)?;
+    let (month, _) = parse_month(cursor, Stop::AbruptDigit)?;
+    Ok(DateRecord {
+        year,
+        month,
+        day: 1,
+    })
+}
+
+/// Reads a month-day, as a date with year 0.
+#[inline(always)]
+pub fn parse_month_day_date<'a, T: EncodingType>(
+    cursor: &mut Cursor<'a, T>,
+) -> Result<DateRecord, Stop>
+    ensures date { Reads T.letter (λ date. date) cursor.old result cursor.new
+        (month_day_at error_of) }
+    ensures looks { Spends 7 cursor.old cursor.new }
+    ensures few { cursor.new.looks ≤ cursor.old.looks + 7 }
+{
+    take_marks(cursor)?;
+    let (tens, ones) = cursor.two_digits(Stop::DateMonth)?;
+    let month = check_month(digits_value(tens, ones))?;
+    parse_lone_day(cursor, month)
+}
+
+/// Takes two hyphens off, where the text does not begin with a digit.
+#[inline(always)]
+fn take_marks<'a, T: EncodingType>(cursor: &mut Cursor<'a, T>) -> Result<bool, Stop>
+    ensures marks { Reads T.letter (λ stand. stand) cursor.old result cursor.new
+        (marks_at error_of) }
+    ensures looks { Spends 2 cursor.old cursor.new }
+    ensures few { cursor.new.looks ≤ cursor.old.looks + 2 }
+{
+    if !take_hyphen(cursor, Stop::AbruptMonthDay, Stop::DateMonth)? {
+        return Ok(false);
+    }
+    match cursor.look()? {
+        None => Err(Stop::AbruptMonthDay),
+        Some(byte) if is_hyphen(byte) => {
+            cursor.step();
+            Ok(true)
+        }
+        Some(_) => Err(Stop::MonthDayHyphen),
+    }
+}
+
+/// Reads the day after a month of no year, with or without a hyphen before it.
+#[inline(always)]
+fn parse_lone_day<'a, T: EncodingType>(
+    cursor: &mut Cursor<'a, T>,
+    month: u8,
+) -> Result<DateRecord, Stop>
+    ensures date { Reads T.letter (λ date. date) cursor.old result cursor.new
+        (lone_day_at error_of month) }
+    ensures looks { Spends 3 cursor.old cursor.new }
+    ensures few { cursor.new.looks ≤ cursor.old.looks + 3 }
+{
+    take_hyphen(cursor, Stop::AbruptDigit, Stop::DateDay)?;
+    let (tens, ones) = cursor.two_digits(Stop::DateDay)?;
+    check_month_day(month, digits_value(tens, ones))
+}
+
+/// The month-day, where its month has the day in some year. Day 0 is taken too.
+#[inline(always)]
+fn check_month_day(month: u8, day: u8) -> Result<DateRecord, Stop>
+    ensures { Checks (λ date. date) result (date_of (pos 0) month day)
+        (nat_le least_day day && nat_le day (greatest_day month)) InvalidMonthDay }
+{
+    if day > days_in_month(0, month) {
+        return Err(Stop::InvalidMonthDay);
+    }
+    Ok(DateRecord {
+        year: 0,
+        month,
+        day,
+    })
+}
