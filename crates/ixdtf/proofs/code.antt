@@ -9,6 +9,7 @@ pub mod FractionLoop
 pub mod GrowingDigits
 pub mod HandsOn
 pub mod LetterLoops
+pub mod LoneTimes
 pub mod NameLoop
 pub mod Nanoseconds
 pub mod OneMoreReply

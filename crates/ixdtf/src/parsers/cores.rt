@@ -11,11 +11,12 @@ ghost use Rattle.ixdtf.specs.reading.Cores.{ClosedCore, core_end_at, offset_core
 
 use crate::cursor::Cursor;
 use crate::encoding::EncodingType;
-use crate::parsers::dates::{parse_date, parse_month_day_date, parse_year_month_date};
+use crate::parsers::dates::parse_date;
 use crate::parsers::grammar::{
     is_annotation_open, is_ascii_sign, is_date_time_separator, is_time_designator,
     is_utc_designator,
 };
+use crate::parsers::months::{parse_month_day_date, parse_year_month_date};
 use crate::parsers::offsets::offset_from;
 use crate::parsers::time::{Clock, Shape, parse_clock, parse_time};
 use crate::records::{DateRecord, IxdtfParseRecord, TimeRecord, UtcOffsetRecordOrZ};
@@ -190,7 +191,7 @@ fn check_front<'a, T: EncodingType>(
     ensures front { (core : ClosedCore) (rest : Text) → Yields (λ _. (core, rest)) result
         (unfronted error_of (map T.letter (map T.number start.now)) (Ok (core, rest))) }
     ensures rest { cursor.new.rest ≡ cursor.old.rest }
-    ensures looks { Spends 19 cursor.old cursor.new }
+    ensures looks { Spends 17 cursor.old cursor.new }
 {
     let mut front = cursor.at(start);
     let month_day = parse_month_day_date(&mut front).is_ok();
