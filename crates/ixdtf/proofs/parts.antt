@@ -1,5 +1,6 @@
 -- What readings are made of.
 pub mod LookAhead
 pub mod Looks
+pub mod Marks
 pub mod Years
 pub mod ZonesAlone

@@ -7,9 +7,12 @@ use Rattle.ixdtf.specs.language.Digits.{decimal}
 use Rattle.ixdtf.specs.table.Faults.{Fault}
 use Rattle.ixdtf.specs.table.Faults.Fault.{InvalidMonthRange}
 use Rattle.ixdtf.specs.Views.{ascii_at, looked}
-use Rattle.ixdtf.specs.reading.Looks.{Read, ◌>>=◌, error_of, look_at, next_by, digits_by}
-use Rattle.ixdtf.specs.reading.Dates.{date_of, year_at, plain_year_at, month_in_range, day_in_range, hyphened_day_at, after_hyphened_month_at, hyphened_date_at, after_year_at, date_at}
+use Rattle.ixdtf.specs.reading.Looks.{Read, ◌>>=◌, error_of, look_at, next_by, mark_by, digits_by}
+use Rattle.ixdtf.specs.reading.Dates.{date_of, year_at, plain_year_at, month_in_range, month_by, month_at, day_in_range, day_at, date_at}
 use Rattle.ixdtf.specs.reading.FixedPlaces.{ranged}
+use Rattle.ixdtf.specs.table.LineNames.{of_date}
+use Rattle.ixdtf.specs.table.LineNames.DateLine.{after_year}
+use Rattle.ixdtf.proofs.parts.Looks.{in_turn}
 use Rattle.ixdtf.proofs.code.DigitClasses.{digit_no_sign}
 
 -- a look at a place found this letter there
@@ -27,17 +30,18 @@ pub on_test : {A B : Type 0} (t : Bool) (x : A × Text) (f : Fault) (k : A × Te
 on_test true x f k = refl
 on_test false x f k = refl
 
-day_read : (y : _) (month p q : ℕ) (more : Text) → IsTrue (digit p) → IsTrue (digit q) → after_hyphened_month_at error_of y month (Plain 45 ∷ Plain p ∷ Plain q ∷ more) ≡ day_in_range error_of (date_of y month (decimal (Plain p ∷ Plain q ∷ []))) more
-unfolding after_hyphened_month_at hyphened_day_at digits_by next_by look_at
+day_read : (y : _) (month p q : ℕ) (more : Text) → IsTrue (digit p) → IsTrue (digit q) → day_at error_of y (month, true) (Plain 45 ∷ Plain p ∷ Plain q ∷ more) ≡ day_in_range error_of (date_of y month (decimal (Plain p ∷ Plain q ∷ []))) more
+unfolding day_at mark_by digits_by next_by look_at
 day_read y month p q more ep eq = rw (ep, eq) refl
 
 month_read : (y : _) (m n p q : ℕ) (more : Text) → IsTrue (digit m) → IsTrue (digit n) → IsTrue (digit p) → IsTrue (digit q)
-    → after_year_at error_of y (Plain 45 ∷ Plain m ∷ Plain n ∷ Plain 45 ∷ Plain p ∷ Plain q ∷ more) ≡ ranged (date_of y (decimal (Plain m ∷ Plain n ∷ [])) (decimal (Plain p ∷ Plain q ∷ []))) more
-unfolding after_year_at hyphened_date_at month_in_range digits_by next_by look_at
+    → (month_at error_of (of_date after_year) (Plain 45 ∷ Plain m ∷ Plain n ∷ Plain 45 ∷ Plain p ∷ Plain q ∷ more) >>= λ month. day_at error_of y month.0 month.1) ≡ ranged (date_of y (decimal (Plain m ∷ Plain n ∷ [])) (decimal (Plain p ∷ Plain q ∷ []))) more
+unfolding month_by mark_by month_in_range digits_by next_by look_at
 month_read y m n p q more em en ep eq =
     let month = decimal (Plain m ∷ Plain n ∷ []) in
-    let step = on_test (nat_le 1 month && nat_le month 12) (month, Plain 45 ∷ Plain p ∷ Plain q ∷ more) InvalidMonthRange (λ x. after_hyphened_month_at error_of y x.0 x.1) in
-    rw (em, en) (step ∙ rw (day_read y month p q more ep eq) refl)
+    let test = nat_le 1 month && nat_le month 12 in
+    let step = on_test test (month, Plain 45 ∷ Plain p ∷ Plain q ∷ more) InvalidMonthRange (λ x. day_at error_of y (x.0, true) x.1) in
+    rw (em, en) (in_turn (if test then Ok (month, Plain 45 ∷ Plain p ∷ Plain q ∷ more) else Err InvalidMonthRange) (λ x. Ok ((x.0, true), x.1)) (λ x. day_at error_of y x.0 x.1) ∙ step ∙ rw (day_read y month p q more ep eq) refl)
 
 pub fixed_read : (a b c d m n p q : ℕ) (more : Text) → IsTrue (digit a) → IsTrue (digit b) → IsTrue (digit c) → IsTrue (digit d) → IsTrue (digit m) → IsTrue (digit n) → IsTrue (digit p) → IsTrue (digit q)
     → date_at error_of (Plain a ∷ Plain b ∷ Plain c ∷ Plain d ∷ Plain 45 ∷ Plain m ∷ Plain n ∷ Plain 45 ∷ Plain p ∷ Plain q ∷ more)
