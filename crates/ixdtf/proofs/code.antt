@@ -7,6 +7,7 @@ pub mod FixedDate
 pub mod FixedTime
 pub mod FractionLoop
 pub mod GrowingDigits
+pub mod HandledForms
 pub mod HandsOn
 pub mod LetterLoops
 pub mod LoneTimes
