@@ -2,6 +2,7 @@
 pub mod Cores
 pub mod Dates
 pub mod FirstBracket
+pub mod Months
 pub mod MorePairs
 pub mod Pair
 pub mod Times

@@ -3,6 +3,7 @@ pub mod ClockRows
 pub mod Cores
 pub mod Dates
 pub mod FirstBracket
+pub mod Months
 pub mod MorePairs
 pub mod Pair
 pub mod Times

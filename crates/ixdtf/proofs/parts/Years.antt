@@ -8,8 +8,11 @@ use Rattle.ixdtf.specs.language.Letters.{digit, sign, hyphen}
 use Rattle.ixdtf.specs.language.Digits.{decimal}
 use Rattle.ixdtf.specs.table.Faults.Fault.{DateExtendedYear}
 use Rattle.ixdtf.specs.language.Dates.{Year}
+use Rattle.ixdtf.specs.language.Readers.CoreKind.{year_month}
+use Rattle.ixdtf.specs.table.LineNames.{DateLine, LineName}
 use Rattle.ixdtf.specs.table.LineNames.{of_date}
 use Rattle.ixdtf.specs.table.LineNames.DateLine.{year_start, year_digits, extended_year_digits, minus_zero_year}
+use Rattle.ixdtf.specs.table.Before.{BeforeDate}
 use Rattle.ixdtf.specs.table.Rows.{Row}
 use Rattle.ixdtf.specs.reading.Looks.{letter_at, digits_at}
 use Rattle.ixdtf.specs.reading.Dates.{year_at, plain_year_at, extended_year_at}
@@ -28,6 +31,13 @@ no_minus_zero c n h = go (hyphen c) refl
 
 hyphen_sign : (c : ℕ) → IsTrue (hyphen c) → IsTrue (sign c)
 hyphen_sign c h = grind (arith, nat_tests)
+
+-- a line of a year or of a month after it
+abbrev pub YearOrMonthLine : Type 0
+YearOrMonthLine = (l : DateLine) × BeforeDate year_month l []
+
+abbrev pub in_year_or_month : YearOrMonthLine → LineName
+in_year_or_month l = of_date l.0
 
 -- what reading a year gave
 abbrev pub YearFront : Text → ℤ → Text → Type 0
@@ -75,25 +85,25 @@ module _ {E : Type 0} (fault : Row → E) where
 
     -- ---- and back
 
-    plain_read : (text : Text) (c : ℕ) (rest : Text) → text ≡ Plain c ∷ rest → IsTrue (digit c) → OnRead fault (plain_year_at fault c rest) (YearFront text) (λ row. FitsIn of_date brackets row text)
+    plain_read : (text : Text) (c : ℕ) (rest : Text) → text ≡ Plain c ∷ rest → IsTrue (digit c) → OnRead fault (plain_year_at fault c rest) (YearFront text) (λ row. FitsIn in_year_or_month brackets row text)
     unfolding plain_year_at
     plain_read text c rest is h = then_read fault (digits_at fault (of_date year_digits) 3 rest) _ _ _ _ _ (digits_read fault (of_date year_digits) (λ d. refl) 3 rest)
         (λ ds more g. (Plain c ∷ ds, is ∙ ap (λ t. Plain c ∷ t) g.0, inl ((c, ds, refl, h, g.1), refl)))
-        (λ r g. fits_in of_date brackets year_digits r text (Plain c ∷ g.2) g.3 g.6.0 (is ∙ ap (λ t. Plain c ∷ t) g.4) (Plain c ∷ [], g.2, refl, (c, refl, h), (g.0, g.1, g.5)) g.6.1)
+        (λ r g. fits_in in_year_or_month brackets (year_digits, refl) r text (Plain c ∷ g.2) g.3 g.6.0 (is ∙ ap (λ t. Plain c ∷ t) g.4) (Plain c ∷ [], g.2, refl, (c, refl, h), (g.0, g.1, g.5)) g.6.1)
 
-    extended_read : (text : Text) (c : ℕ) (rest : Text) → text ≡ Plain c ∷ rest → IsTrue (sign c) → OnRead fault (extended_year_at fault c rest) (YearFront text) (λ row. FitsIn of_date brackets row text)
+    extended_read : (text : Text) (c : ℕ) (rest : Text) → text ≡ Plain c ∷ rest → IsTrue (sign c) → OnRead fault (extended_year_at fault c rest) (YearFront text) (λ row. FitsIn in_year_or_month brackets row text)
     unfolding extended_year_at
     extended_read text c rest is h = then_read fault (digits_at fault (of_date extended_year_digits) 6 rest) _ _ _ _ _ (digits_read fault (of_date extended_year_digits) (λ d. refl) 6 rest)
         (λ ds more g. read_if fault (hyphen c && nat_eq (decimal ds) 0) _ _ _ _
         (λ zero_year. let both : IsTrue (hyphen c) × IsTrue (nat_eq (decimal ds) 0) = and_parts _ _ zero_year in
-        fits_whole_in fault of_date brackets minus_zero_year DateExtendedYear text (Plain c ∷ ds) more (is ∙ ap (λ t. Plain c ∷ t) g.0) (Plain c ∷ [], ds, refl, (c, refl, both.0), (g.1, eqb-true _ 0 both.1)) refl)
+        fits_whole_in fault in_year_or_month brackets (minus_zero_year, refl) DateExtendedYear text (Plain c ∷ ds) more (is ∙ ap (λ t. Plain c ∷ t) g.0) (Plain c ∷ [], ds, refl, (c, refl, both.0), (g.1, eqb-true _ 0 both.1)) refl)
         (λ not_zero. (Plain c ∷ ds, is ∙ ap (λ t. Plain c ∷ t) g.0, inr (record { c = c; ds = ds; is = refl; sign = h; digits = g.1; no_minus_zero = λ minus same. both_ways _ not_zero (and_from _ _ minus (eq-eqb _ 0 same)); value = refl }))))
-        (λ r g. fits_in of_date brackets extended_year_digits r text (Plain c ∷ g.2) g.3 g.6.0 (is ∙ ap (λ t. Plain c ∷ t) g.4) (Plain c ∷ [], g.2, refl, (c, refl, h), (g.0, g.1, g.5)) g.6.1)
+        (λ r g. fits_in in_year_or_month brackets (extended_year_digits, refl) r text (Plain c ∷ g.2) g.3 g.6.0 (is ∙ ap (λ t. Plain c ∷ t) g.4) (Plain c ∷ [], g.2, refl, (c, refl, h), (g.0, g.1, g.5)) g.6.1)
 
-    pub year_read : (text : Text) → OnRead fault (year_at fault text) (YearFront text) (λ row. FitsIn of_date brackets row text)
+    pub year_read : (text : Text) → OnRead fault (year_at fault text) (YearFront text) (λ row. FitsIn in_year_or_month brackets row text)
     unfolding year_at
     year_read text = then_read fault (letter_at fault (of_date year_start) text) _ _ _ _ _ (read_letter fault (of_date year_start) text tt)
         (λ c rest h. read_if fault (sign c) _ _ _ _
         (λ signed. extended_read text c rest h.0 signed)
         (λ plain. plain_read text c rest h.0 (grind (arith, h.1, plain, nat_tests))))
-        (λ r h. fits_in of_date brackets year_start r text [] text h.0 refl refl h.1)
+        (λ r h. fits_in in_year_or_month brackets (year_start, refl) r text [] text h.0 refl refl h.1)

@@ -1,11 +1,10 @@
 -- A date gives its record and the rest, and each row of a date's lines is returned.
-use Rattle.std.proofs.Common.{◌≡◌, ℕ, ◌<◌, ◌⊎◌, Bool, true, false, IsTrue, [], ◌∷◌, ◌++◌, Ok, Err, refl, sym, ap, ◌∙◌, inl, inr, arith, append_assoc, ℤ, nat_le, ◌&&◌}
+use Rattle.std.proofs.Common.{◌≡◌, ℕ, ◌<◌, ◌⊎◌, Bool, true, false, IsTrue, [], ◌++◌, Ok, Err, refl, sym, ap, ◌∙◌, inl, inr, arith, append_assoc, ℤ, nat_le}
+use Rattle.std.proofs.Common.{◌&&◌}
 use Rattle.std.proofs.lemmas.Bool.{and_parts, and_from, leb-true, le-leb, false_from_ne_true}
 use Rattle.std.proofs.lemmas.Bool.Decides.{nat_tests}
 use Rattle.ixdtf.specs.declared.records.DateRecord.{DateRecord}
 use Rattle.ixdtf.specs.language.Letters.{Text, hyphen}
-use Rattle.ixdtf.specs.language.Letters.Letter.{Plain}
-use Rattle.ixdtf.specs.language.Shapes.{one}
 use Rattle.ixdtf.specs.language.Digits.{decimal, TwoDigits}
 use Rattle.ixdtf.specs.language.Months.{OptionalHyphen}
 use Rattle.ixdtf.specs.table.Faults.{Fault}
@@ -14,15 +13,17 @@ use Rattle.ixdtf.specs.language.Dates.{Year, Month, DateShape, IsDayOfMonth, IsD
 use Rattle.ixdtf.specs.language.Readers.CoreKind.{year_month}
 use Rattle.ixdtf.specs.table.LineNames.{DateLine, LineName}
 use Rattle.ixdtf.specs.table.LineNames.{of_date}
-use Rattle.ixdtf.specs.table.LineNames.DateLine.{year_start, year_digits, extended_year_digits, minus_zero_year, after_year, month_digits, month_range, after_hyphened_month, after_plain_month, day_digits, day_range, after_date}
+use Rattle.ixdtf.specs.table.LineNames.DateLine.{year_start, year_digits, extended_year_digits, minus_zero_year, after_year, month_digits, month_range}
+use Rattle.ixdtf.specs.table.LineNames.DateLine.{after_hyphened_month, after_plain_month, day_digits, day_range, after_date}
 use Rattle.ixdtf.specs.table.Lines.{line_of, date_line, HyphenOrDigit, NoMonth}
 use Rattle.ixdtf.specs.table.Before.{BeforeDate}
-use Rattle.ixdtf.specs.table.Rows.{Row, Place, Stops, front_of}
+use Rattle.ixdtf.specs.table.Rows.{Row, Place, Stops}
 use Rattle.ixdtf.specs.table.Rows.Place.{anywhere}
 use Rattle.ixdtf.specs.reading.Looks.{Read, ◌>>=◌, row_of, mark_at}
 use Rattle.ixdtf.specs.reading.Dates.{date_of, year_at, month_in_range, month_by, month_at, line_after_month, day_in_range, day_at, date_at}
 use Rattle.ixdtf.proofs.parts.Looks.{Leads, ◌before◌, Halts, ◌till◌, RowsRead, whole_row, digits_go, none_or_one}
-use Rattle.ixdtf.proofs.parts.Marks.{hyphens_of, Starts, Begun, LooksForHyphen, hyphen_is, begun_starts, digits_start, hyphen_looks, goes_over, mark_over, mark_stops, digits_stop_after}
+use Rattle.ixdtf.proofs.parts.Marks.{hyphens_of, Starts, Begun, LooksForHyphen, hyphen_is, begun_starts, digits_start, hyphen_looks, hyphen_over, mark_over}
+use Rattle.ixdtf.proofs.parts.Marks.{mark_stops, digits_stop_after}
 use Rattle.ixdtf.proofs.parts.Years.{year_takes, year_start_row, year_digits_row, extended_year_digits_row, minus_zero_year_row}
 
 -- the lines that a date's own reading returns
@@ -49,7 +50,9 @@ module _ {E : Type 0} (fault : Row → E) where
 
   month_fits : (ds : Text) (m : ℕ) (rest : Text) → Month ds m → month_in_range fault (ds, rest) ≡ Ok (m, rest)
   unfolding month_in_range
-  month_fits ds m rest h = let test : (nat_le 1 (decimal ds) && nat_le (decimal ds) 12) ≡ true = rw (sym h.0.1) (and_from _ _ (le-leb 1 m h.1) (le-leb m 12 h.2)) in rw (test, h.0.1) refl
+  month_fits ds m rest h =
+      let test : (nat_le 1 (decimal ds) && nat_le (decimal ds) 12) ≡ true = rw (sym h.0.1) (and_from _ _ (le-leb 1 m h.1) (le-leb m 12 h.2)) in
+      rw (test, h.0.1) refl
 
   month_refused : (ds rest : Text) → (decimal ds ≡ 0) ⊎ (12 < decimal ds) → month_in_range fault (ds, rest) ≡ Err (fault no_month)
   unfolding month_in_range
@@ -57,23 +60,35 @@ module _ {E : Type 0} (fault : Row → E) where
 
   -- the year stops at this line
   module _ (name : LineName) (asks : LooksForHyphen (line_of true name)) where
-    over_mark : (b : Bool) (text : Text) → Starts b text → mark_at fault name hyphen (hyphens_of b ++ text) ≡ Ok (b, text)
-    over_mark b text starts = mark_over fault name b text (hyphen_looks (line_of true name) asks) (goes_over (line_of true name) b asks) starts
-
     month_takes : (b : Bool) (ms : Text) (m : ℕ) (rest : Text) → Month ms m → month_at fault name ((hyphens_of b ++ ms) ++ rest) ≡ Ok ((m, b), rest)
     unfolding month_by
     month_takes b ms m rest h =
-        rw (append_assoc, over_mark b (ms ++ rest) (digits_start b 1 ms rest h.0.0), digits_go fault (of_date month_digits) (λ c. refl) 2 ms rest h.0.0, month_fits ms m rest h) refl
+        rw (
+          append_assoc,
+          hyphen_over fault name b (ms ++ rest) asks (digits_start b 1 ms rest h.0.0),
+          digits_go fault (of_date month_digits) (λ c. refl) 2 ms rest h.0.0,
+          month_fits ms m rest h,
+        ) refl
 
-    month_stops : (b : Bool) (ds rest : Text) (place : Place) (e : Fault) → Begun b ds → Stops (date_line month_digits) place e rest → month_at fault name ((hyphens_of b ++ ds) ++ rest) ≡ Err (fault (row_of (of_date month_digits) place e))
+    month_stops : (b : Bool) (ds rest : Text) (place : Place) (e : Fault) → Begun b ds → Stops (date_line month_digits) place e rest
+        → month_at fault name ((hyphens_of b ++ ds) ++ rest) ≡ Err (fault (row_of (of_date month_digits) place e))
     unfolding month_by
     month_stops b ds rest place e h at =
-        rw (append_assoc, over_mark b (ds ++ rest) (begun_starts b ds rest h), digits_stop_after fault (of_date month_digits) b ds rest place e (λ c. refl) h at) refl
+        rw (
+          append_assoc,
+          hyphen_over fault name b (ds ++ rest) asks (begun_starts b ds rest h),
+          digits_stop_after fault (of_date month_digits) b ds rest place e (λ c. refl) h at,
+        ) refl
 
     month_out : (b : Bool) (ds rest : Text) → NoMonth ds → month_at fault name ((hyphens_of b ++ ds) ++ rest) ≡ Err (fault no_month)
     unfolding month_by
     month_out b ds rest h =
-        rw (append_assoc, over_mark b (ds ++ rest) (digits_start b 1 ds rest h.0), digits_go fault (of_date month_digits) (λ c. refl) 2 ds rest h.0, month_refused ds rest h.1) refl
+        rw (
+          append_assoc,
+          hyphen_over fault name b (ds ++ rest) asks (digits_start b 1 ds rest h.0),
+          digits_go fault (of_date month_digits) (λ c. refl) 2 ds rest h.0,
+          month_refused ds rest h.1,
+        ) refl
 
     -- a year and a month, and what is read with them from there
     module _ {A : Type 0} (go : ℤ → (ℕ × Bool) × Text → Read E A) where
@@ -89,7 +104,8 @@ module _ {E : Type 0} (fault : Row → E) where
       pub over_month : (y : ℤ) (b : Bool) (ms : Text) (m : ℕ) → Month ms m → Leads (from_month y) (hyphens_of b ++ ms) (λ rest. go y ((m, b), rest))
       over_month y b ms m h = record { over = λ rest. rw (month_takes b ms m rest h) refl }
 
-      pub year_stops : (ys : Text) (y : ℤ) (place : Place) (e : Fault) (rest : Text) → Year ys y → Stops (line_of true name) place e rest → from_year (ys ++ rest) ≡ Err (fault (row_of name place e))
+      pub year_stops : (ys : Text) (y : ℤ) (place : Place) (e : Fault) (rest : Text) → Year ys y → Stops (line_of true name) place e rest
+          → from_year (ys ++ rest) ≡ Err (fault (row_of name place e))
       unfolding month_by
       year_stops ys y place e rest h at = (over_year ys y h).over rest ∙ rw (mark_stops fault name place e rest (hyphen_looks (line_of true name) asks) at) refl
 
@@ -108,8 +124,10 @@ module _ {E : Type 0} (fault : Row → E) where
         month_range_row : RowsRead fault brackets from_year (of_date month_range)
         month_range_row = whole_row fault brackets from_year (of_date month_range) tt λ e front rest f at.
             let t = hyphens_are f.4.0 f.4.3 in
-            let halted : Halts (from_month f.3.0) (hyphens_of t.0 ++ f.4.1) rest (fault no_month) = record { halts = rw (month_out t.0 f.4.1 rest f.4.4) refl } in
-            rw (f.2, f.4.2, t.1, at) ((over_year f.0 f.3.0 f.3.1 till halted).halts)
+            rw (f.2, f.4.2, t.1, at) ((over_year f.0 f.3.0 f.3.1 till halted f.3.0 t.0 f.4.1 rest f.4.4).halts)
+          where
+            halted : (y : ℤ) (b : Bool) (ds rest : Text) → NoMonth ds → Halts (from_month y) (hyphens_of b ++ ds) rest (fault no_month)
+            halted y b ds rest h = record { halts = rw (month_out b ds rest h) refl }
 
         -- every row of a year and of a month after it
         pub year_and_month_row : (l : DateLine) → BeforeDate year_month l [] → RowsRead fault brackets from_year (of_date l)
@@ -132,24 +150,38 @@ module _ {E : Type 0} (fault : Row → E) where
   unfolding day_in_range
   day_fits date rest h = rw (and_from _ _ (le-leb 1 date.day h.0) (le-leb date.day _ h.1)) refl
 
-  day_refused : (date : DateRecord) (rest : Text) → ¬ (IsDayOfMonth date) → day_in_range fault date rest ≡ Err (fault (row_of (of_date day_range) anywhere InvalidDayRange))
+  day_refused : (date : DateRecord) (rest : Text) → ¬ (IsDayOfMonth date)
+      → day_in_range fault date rest ≡ Err (fault (row_of (of_date day_range) anywhere InvalidDayRange))
   unfolding day_in_range
-  day_refused date rest h = rw (false_from_ne_true _ (λ test. h (let both : IsTrue (nat_le 1 date.day) × IsTrue (nat_le date.day (month_length date.year date.month)) = and_parts _ _ test in (leb-true _ _ both.0, leb-true _ _ both.1)))) refl
+  day_refused date rest h = rw (false_from_ne_true _ (λ test. h (
+      let both : IsTrue (nat_le 1 date.day) × IsTrue (nat_le date.day (month_length date.year date.month)) = and_parts _ _ test in
+      (leb-true _ _ both.0, leb-true _ _ both.1)))) refl
 
   over_separator : (b : Bool) (text : Text) → Starts b text → mark_at fault (line_after_month b) hyphen (hyphens_of b ++ text) ≡ Ok (b, text)
   over_separator true text starts = mark_over fault (of_date after_hyphened_month) true text tt refl starts
   over_separator false text starts = mark_over fault (of_date after_plain_month) false text tt (λ c h. h) starts
 
-  over_day : (y : ℤ) (m : ℕ) (b : Bool) (ds : Text) (d : ℕ) → TwoDigits ds d → Leads (day_at fault y (m, b)) (hyphens_of b ++ ds) (day_in_range fault (date_of y m d))
+  over_day : (y : ℤ) (m : ℕ) (b : Bool) (ds : Text) (d : ℕ) → TwoDigits ds d
+      → Leads (day_at fault y (m, b)) (hyphens_of b ++ ds) (day_in_range fault (date_of y m d))
   unfolding day_at
   over_day y m b ds d h = record {
-    over = λ rest. rw (append_assoc, over_separator b (ds ++ rest) (digits_start b 1 ds rest h.0), digits_go fault (of_date day_digits) (λ c. refl) 2 ds rest h.0, h.1) refl;
+    over = λ rest. rw (
+      append_assoc,
+      over_separator b (ds ++ rest) (digits_start b 1 ds rest h.0),
+      digits_go fault (of_date day_digits) (λ c. refl) 2 ds rest h.0,
+      h.1,
+    ) refl;
   }
 
-  day_stops : (y : ℤ) (m : ℕ) (b : Bool) (ds rest : Text) (place : Place) (e : Fault) → Begun b ds → Stops (date_line day_digits) place e rest → Halts (day_at fault y (m, b)) (hyphens_of b ++ ds) rest (fault (row_of (of_date day_digits) place e))
+  day_stops : (y : ℤ) (m : ℕ) (b : Bool) (ds rest : Text) (place : Place) (e : Fault) → Begun b ds → Stops (date_line day_digits) place e rest
+      → Halts (day_at fault y (m, b)) (hyphens_of b ++ ds) rest (fault (row_of (of_date day_digits) place e))
   unfolding day_at
   day_stops y m b ds rest place e h at = record {
-    halts = rw (append_assoc, over_separator b (ds ++ rest) (begun_starts b ds rest h), digits_stop_after fault (of_date day_digits) b ds rest place e (λ c. refl) h at) refl;
+    halts = rw (
+      append_assoc,
+      over_separator b (ds ++ rest) (begun_starts b ds rest h),
+      digits_stop_after fault (of_date day_digits) b ds rest place e (λ c. refl) h at,
+    ) refl;
   }
 
   -- ---- dates
@@ -161,7 +193,8 @@ module _ {E : Type 0} (fault : Row → E) where
   unfolding date_at
   to_year = over_year (of_date after_year) (λ c. refl) day_from
 
-  to_month : (y : ℤ) (b : Bool) (ms : Text) (m : ℕ) → Month ms m → Leads (from_month (of_date after_year) (λ c. refl) day_from y) (hyphens_of b ++ ms) (day_at fault y (m, b))
+  to_month : (y : ℤ) (b : Bool) (ms : Text) (m : ℕ) → Month ms m
+      → Leads (from_month (of_date after_year) (λ c. refl) day_from y) (hyphens_of b ++ ms) (day_at fault y (m, b))
   to_month = over_month (of_date after_year) (λ c. refl) day_from
 
   over_date : (text : Text) (date : DateRecord) → DateShape text date → Leads (date_at fault) text (day_in_range fault date)
@@ -202,7 +235,8 @@ module _ {E : Type 0} (fault : Row → E) where
         till day_stops _ _ true last.1 rest place e (none_or_one last.4.0 last.1 last.4.1 last.4.2) at).halts)
 
     day_range_row : RowsRead fault brackets (date_at fault) (of_date day_range)
-    day_range_row = whole_row fault brackets (date_at fault) (of_date day_range) tt λ e front rest f at. rw at ((over_date front f.0 f.1.0).over rest ∙ day_refused f.0 rest f.1.1)
+    day_range_row = whole_row fault brackets (date_at fault) (of_date day_range) tt λ e front rest f at.
+        rw at ((over_date front f.0 f.1.0).over rest ∙ day_refused f.0 rest f.1.1)
 
     -- every row of a date but those after it
     pub date_row_read : (l : DateLine) → IsInside l → RowsRead fault brackets (date_at fault) (of_date l)

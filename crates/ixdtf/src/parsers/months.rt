@@ -12,7 +12,9 @@ ghost use Rattle.ixdtf.specs.reading.Months.{year_month_at, marks_at, month_day_
 
 use crate::cursor::Cursor;
 use crate::encoding::EncodingType;
-use crate::parsers::dates::{check_month, days_in_month, parse_date_year, parse_month, take_hyphen};
+use crate::parsers::dates::{
+    check_month, days_in_month, parse_date_year, parse_month, take_hyphen,
+};
 use crate::parsers::grammar::{digits_value, is_hyphen};
 use crate::records::DateRecord;
 use crate::stop::Stop;
