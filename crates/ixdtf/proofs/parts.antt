@@ -1,4 +1,5 @@
 -- What readings are made of.
+pub mod Fronts
 pub mod LookAhead
 pub mod Looks
 pub mod Marks

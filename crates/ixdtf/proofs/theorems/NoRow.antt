@@ -10,12 +10,16 @@ use Rattle.ixdtf.specs.language.Brackets.{Pair}
 use Rattle.ixdtf.specs.language.Readers.{Reader, has_brackets}
 use Rattle.ixdtf.specs.table.LineNames.{LineName}
 use Rattle.ixdtf.specs.table.LineNames.DateLine.{year_start, year_digits, extended_year_digits, minus_zero_year, after_year, month_digits, month_range, after_hyphened_month, after_plain_month, day_digits, day_range, after_date}
+use Rattle.ixdtf.specs.table.LineNames.YearMonthLine.{after_year_in_year_month, after_year_month}
+use Rattle.ixdtf.specs.table.LineNames.MonthDayLine.{month_day_start, month_day_hyphen, month_day_month_digits, month_day_month_range}
+use Rattle.ixdtf.specs.table.LineNames.MonthDayLine.{after_month_day_month, month_day_day_digits, month_day_range, after_month_day}
+use Rattle.ixdtf.specs.table.LineNames.TimeLine.{time_start, time_reads_as_month_day, time_reads_as_year_month}
 use Rattle.ixdtf.specs.table.LineNames.ClockLine.{hour_start, hour_digit, hour_range, after_hour, minute_digits, minute_range, after_plain_minute, after_colon_minute, second_digits, second_range, after_second, fraction_start, after_fraction}
 use Rattle.ixdtf.specs.table.LineNames.OffsetLine.{offset_start, after_zulu}
 use Rattle.ixdtf.specs.table.LineNames.ZoneLine.{identifier_start, zone_name_start, in_zone_name, after_zone_slash}
 use Rattle.ixdtf.specs.table.LineNames.BracketLine.{first_bracket_start, first_critical_start, first_bracket_scan, after_bracket}
 use Rattle.ixdtf.specs.table.LineNames.PairLine.{key_start, critical_key_start, in_key, value_start, in_value, after_value_hyphen}
-use Rattle.ixdtf.specs.table.LineNames.{of_date}
+use Rattle.ixdtf.specs.table.LineNames.{of_date, of_year_month, of_month_day, of_time}
 use Rattle.ixdtf.specs.table.LineNames.LineName.{of_clock, of_offset, of_zone, of_bracket, of_pair}
 use Rattle.ixdtf.specs.table.Lines.{Line, Ending, Follow, follow_of, mixed, second_fault, zone_line, line_of, table}
 use Rattle.ixdtf.specs.table.Lines.Line.{line, scanned, whole}
@@ -85,6 +89,19 @@ line_has brackets (of_date after_plain_month) = (refl, λ c. either_has (hyphen 
 line_has brackets (of_date day_digits) = (refl, λ c. refl)
 line_has brackets (of_date day_range) = refl
 line_has brackets (of_date after_date) = (tt, λ c. refl)
+line_has brackets (of_year_month after_year_in_year_month) = (refl, λ c. refl)
+line_has brackets (of_year_month after_year_month) = (tt, λ c. refl)
+line_has brackets (of_month_day month_day_start) = (refl, λ c. refl)
+line_has brackets (of_month_day month_day_hyphen) = (refl, λ c. refl)
+line_has brackets (of_month_day month_day_month_digits) = (refl, λ c. refl)
+line_has brackets (of_month_day month_day_month_range) = refl
+line_has brackets (of_month_day after_month_day_month) = (refl, λ c. refl)
+line_has brackets (of_month_day month_day_day_digits) = (refl, λ c. refl)
+line_has brackets (of_month_day month_day_range) = refl
+line_has brackets (of_month_day after_month_day) = (tt, λ c. refl)
+line_has brackets (of_time time_start) = (refl, λ c. refl)
+line_has brackets (of_time time_reads_as_month_day) = refl
+line_has brackets (of_time time_reads_as_year_month) = refl
 line_has brackets (of_clock clock hour_start) = (refl, λ c. refl)
 line_has brackets (of_clock clock hour_digit) = (refl, λ c. refl)
 line_has brackets (of_clock clock hour_range) = refl

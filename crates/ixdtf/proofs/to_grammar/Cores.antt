@@ -1,39 +1,55 @@
 -- What reading a core returns is a core, with the end or a bracket after it, or a row that fits.
-use Rattle.std.proofs.Common.{◌≡◌, ℕ, Bool, true, false, IsTrue, IsFalse, [], ◌∷◌, ◌++◌, Option, Some, None, is_some, refl, sym, ap, ◌∙◌, subst, inl, inr, append_assoc, append-nil}
+use Rattle.std.proofs.Common.{◌≡◌, ℕ, Bool, true, false, IsTrue, IsFalse, [], ◌∷◌, ◌++◌, Ok, Option, Some, None, is_some, refl, sym, ap, ◌∙◌, subst}
+use Rattle.std.proofs.Common.{inl, inr, append_assoc, append-nil}
 use Rattle.std.proofs.lemmas.Bool.{or_from, eqb-true}
 use Rattle.ixdtf.specs.declared.records.DateRecord.{DateRecord}
 use Rattle.ixdtf.specs.declared.records.TimeRecord.{TimeRecord}
+use Rattle.ixdtf.specs.declared.records.UtcOffsetRecord.{UtcOffsetRecord}
 use Rattle.ixdtf.specs.declared.records.UtcOffsetRecordOrZ.{UtcOffsetRecordOrZ}
 use Rattle.ixdtf.specs.declared.records.UtcOffsetRecordOrZ.TheVariants.{Offset, Z}
-use Rattle.ixdtf.specs.language.Letters.{Text, Class, sign, zulu, opening, date_time_separator}
+use Rattle.ixdtf.specs.language.Letters.{Text, Class, digit, sign, zulu, opening, time_letter, date_time_separator}
 use Rattle.ixdtf.specs.language.Letters.Letter.{Plain, Bad}
-use Rattle.ixdtf.specs.language.Shapes.{one}
+use Rattle.ixdtf.specs.language.Shapes.{Shape, one, some, ◌then◌}
 use Rattle.ixdtf.specs.language.Dates.{IsDate}
+use Rattle.ixdtf.specs.language.Months.{IsYearMonth, IsMonthDay, least_day}
 use Rattle.ixdtf.specs.language.Times.{Clock, TimeShape, IsTime, writes_seconds}
 use Rattle.ixdtf.specs.language.Times.{Clock as clocks}
 use Rattle.ixdtf.specs.language.Times.TimeShape.{hours, plain_minutes, colon_minutes, seconds, fractions}
-use Rattle.ixdtf.specs.language.Offsets.{offset_of}
-use Rattle.ixdtf.specs.language.Cores.{Core, core_of, OptionalOffset, IsCore}
+use Rattle.ixdtf.specs.language.Offsets.{IsOffset, offset_of}
+use Rattle.ixdtf.specs.language.Cores.{Core, core_of, OptionalOffset, DateAlone, IsDateTimeCore, TimeMark, MarkedTime, HasNoDateFront, IsCore}
 use Rattle.ixdtf.specs.language.Readers.{CoreKind}
-use Rattle.ixdtf.specs.language.Readers.CoreKind.{date_time}
+use Rattle.ixdtf.specs.language.Readers.CoreKind.{date_time, year_month, month_day, time_alone}
 use Rattle.ixdtf.specs.language.Readers.Reader.{bracketed}
-use Rattle.ixdtf.specs.table.Faults.Fault.{NonAsciiCodePoint, InvalidEnd}
-use Rattle.ixdtf.specs.table.LineNames.{DateLine, LineName}
-use Rattle.ixdtf.specs.table.LineNames.{of_date}
+use Rattle.ixdtf.specs.table.Faults.{Fault}
+use Rattle.ixdtf.specs.table.Faults.Fault.{NonAsciiCodePoint, InvalidEnd, TimeHour}
+use Rattle.ixdtf.specs.table.LineNames.{DateLine, ClockLine, LineName}
+use Rattle.ixdtf.specs.table.LineNames.{of_date, of_year_month, of_month_day, of_time}
 use Rattle.ixdtf.specs.table.LineNames.LineName.{of_clock, of_offset}
-use Rattle.ixdtf.specs.table.LineNames.DateLine.{year_start, year_digits, extended_year_digits, minus_zero_year, after_year, month_digits, month_range, after_hyphened_month, after_plain_month, day_digits, day_range, after_date}
+use Rattle.ixdtf.specs.table.LineNames.DateLine.{year_start, after_date}
+use Rattle.ixdtf.specs.table.LineNames.YearMonthLine.{after_year_month}
+use Rattle.ixdtf.specs.table.LineNames.MonthDayLine.{after_month_day}
+use Rattle.ixdtf.specs.table.LineNames.TimeLine.{time_start}
+use Rattle.ixdtf.specs.table.LineNames.ClockLine.{hour_start}
 use Rattle.ixdtf.specs.table.LineNames.OffsetLine.{after_zulu}
-use Rattle.ixdtf.specs.table.Before.{Before, BeforeDate, BeforeTime, BeforeOffset}
-use Rattle.ixdtf.specs.table.Rows.{Row, FitsHere, Fits}
-use Rattle.ixdtf.specs.table.Rows.Place.{other, bad}
-use Rattle.ixdtf.specs.reading.Looks.{Read, ◌>>=◌, row_of, peek_by}
+use Rattle.ixdtf.specs.table.Lines.{line_of, abrupt_digit, always}
+use Rattle.ixdtf.specs.table.Lines.Line.{line}
+use Rattle.ixdtf.specs.table.Lines.Ending.{ok}
+use Rattle.ixdtf.specs.table.Before.{BeforeDate, BeforeTime, BeforeOffset, DateAndSeparator, AtCoreEnd, ReadsAsTime}
+use Rattle.ixdtf.specs.table.Rows.{Row, Place, Stops, Fits}
+use Rattle.ixdtf.specs.table.Rows.Place.{end, other, bad}
+use Rattle.ixdtf.specs.reading.Looks.{Read, row_of, look_at, next_by, peek_by}
 use Rattle.ixdtf.specs.reading.Dates.{date_at}
-use Rattle.ixdtf.specs.reading.Times.{OpenTime, line_after, bad_after, clock_at}
-use Rattle.ixdtf.specs.reading.Cores.{ClosedCore, core_look, core_end_at, with_offset, offset_core_at, after_time_at, time_core_at, after_date_at, date_time_core_at, core_at}
-use Rattle.ixdtf.proofs.parts.Looks.{OnRead, then_read, FitsIn, lift, NotNext, next_read, Peeked, peek_read, further}
-use Rattle.ixdtf.proofs.to_reading.Times.{Closed}
+use Rattle.ixdtf.specs.reading.Months.{year_month_at, month_day_at}
+use Rattle.ixdtf.specs.reading.Times.{OpenTime, line_after, bad_after, hour_from, clock_at}
+use Rattle.ixdtf.specs.reading.Cores.{ClosedCore, core_look, core_end_at, with_offset, offset_core_at, after_time_at, time_core_at, after_date_at}
+use Rattle.ixdtf.specs.reading.Cores.{date_time_core_at, date_alone_at, hour_look, lone_time_at, marked_time_at, marked_core_at, unfronted}
+use Rattle.ixdtf.specs.reading.Cores.{time_alone_core_at, core_at}
+use Rattle.ixdtf.proofs.parts.Fronts.{no_front_of, unfronted_read}
+use Rattle.ixdtf.proofs.parts.Looks.{Stopped, OnRead, then_read, read_weaker, read_if, lift, NotNext, next_read, Peeked, peek_read, further}
+use Rattle.ixdtf.proofs.to_reading.Times.{Closed, IsLater}
 use Rattle.ixdtf.proofs.to_grammar.Dates.{DateFront, date_read}
-use Rattle.ixdtf.proofs.to_grammar.Times.{TimeFront, clock_read, clock_stops}
+use Rattle.ixdtf.proofs.to_grammar.Months.{FrontIs, year_month_read, month_day_read}
+use Rattle.ixdtf.proofs.to_grammar.Times.{later, TimeFront, hour_read, clock_read, clock_stops}
 
 -- Bad does not stand where a time is closed
 closed_not_bad : (clock : Clock) (shape : TimeShape) (rest more : Text) → Closed clock shape rest → rest ≡ Bad ∷ more → ⊥
@@ -54,136 +70,191 @@ abbrev pub Splits : Text → Text → Bool → Text → Type 0
 Splits text front true rest = text ≡ front ++ (Plain 91 ∷ rest)
 Splits text front false rest = (text ≡ front) × (rest ≡ [])
 
--- what reading a core gave
+-- what reading a core, or a thing like a core, gave
+abbrev pub FrontOf : (Text → Core → Type 0) → Text → ClosedCore → Text → Type 0
+FrontOf is_core text x rest = (front : Text) × Splits text front x.1 rest × is_core front x.0
+
 abbrev pub CoreFront : CoreKind → Text → ClosedCore → Text → Type 0
-CoreFront kind text x rest = (front : Text) × Splits text front x.1 rest × IsCore kind front x.0
+CoreFront kind text x rest = FrontOf (IsCore kind) text x rest
+
+-- the row fits a core of the kind, or what follows it
+abbrev FitsCore : CoreKind → Text → Row → Type 0
+FitsCore kind text row = Fits (bracketed kind) row [] text
 
 module _ {E : Type 0} (fault : Row → E) (kind : CoreKind) (text : Text) where
+  -- what is known of reading a core, or a thing like a core
+  abbrev ReadsAs : (Text → Core → Type 0) → Read E ClosedCore → Type 0
+  ReadsAs is_core read = OnRead fault read (FrontOf is_core text) (λ row. FitsCore kind text row)
+
   abbrev pub ReadsCore : Read E ClosedCore → Type 0
-  ReadsCore r = OnRead fault r (CoreFront kind text) (λ row. Fits (bracketed kind) row [] text)
+  ReadsCore read = ReadsAs (IsCore kind) read
+
+module _ {E : Type 0} (fault : Row → E) (kind : CoreKind) (text : Text) (is_core : Text → Core → Type 0) where
+  abbrev Reads : Read E ClosedCore → Type 0
+  Reads read = ReadsAs fault kind text is_core read
 
   -- ---- the end of a core
 
   -- a core was read, which stops at the line
-  module _ (name : LineName) (core : Core) (front rest : Text) (is : text ≡ front ++ rest) (is_core : IsCore kind front core)
-      (at_other : (c : ℕ) (more : Text) → rest ≡ Plain c ∷ more → IsFalse (opening c) → Fits (bracketed kind) (row_of name other InvalidEnd) [] text)
-      (at_bad : (more : Text) → rest ≡ Bad ∷ more → Fits (bracketed kind) (row_of name bad NonAsciiCodePoint) [] text) where
-    at_next : (next : Option ℕ) (more : Text) → Peeked opening rest next more → CoreFront kind text (core, is_some next) more
-    at_next None more h = (front, (is ∙ rw h.0 (append-nil front), h.1), is_core)
-    at_next (Some c) more h = (front, is ∙ ap (λ t. front ++ t) (h.0 ∙ ap (λ n. Plain n ∷ more) (eqb-true c 91 h.1)), is_core)
+  module _ (name : LineName) (core : Core) (front rest : Text) (is : text ≡ front ++ rest) (core_here : is_core front core) where
+    at_next : (next : Option ℕ) (more : Text) → Peeked opening rest next more → FrontOf is_core text (core, is_some next) more
+    at_next None more h = (front, (is ∙ rw h.0 (append-nil front), h.1), core_here)
+    at_next (Some c) more h = (front, is ∙ ap (λ t. front ++ t) (h.0 ∙ ap (λ n. Plain n ∷ more) (eqb-true c 91 h.1)), core_here)
 
-    end_read : ReadsCore (core_end_at fault name core rest)
+    end_read : ((c : ℕ) (more : Text) → rest ≡ Plain c ∷ more → IsFalse (opening c) → FitsCore kind text (row_of name other InvalidEnd))
+        → ((more : Text) → rest ≡ Bad ∷ more → FitsCore kind text (row_of name bad NonAsciiCodePoint)) → Reads (core_end_at fault name core rest)
     unfolding core_end_at
-    end_read = then_read fault (peek_by (core_look fault name) rest) _ _ _ _ _
-        (peek_read (core_look fault name) fault rest (λ row. Fits (bracketed kind) row [] text)
+    end_read at_other at_bad = then_read fault (peek_by (core_look fault name) rest) _ _ _ _ _
+        (peek_read (core_look fault name) fault rest (λ row. FitsCore kind text row)
         (λ c more next out. (row_of name other InvalidEnd, refl, at_other c more next out))
         (λ more next. (row_of name bad NonAsciiCodePoint, refl, at_bad more next)))
         (λ next more h. at_next next more h)
         (λ row f. f)
 
-  -- ---- a time and what follows it, behind what stands before a time
+    -- the same, where nothing but a bracket may follow at the line
+    closing_read : (shown : Shape)
+        → ((place : Place) (e : Fault) → Stops (line shown opening ok (always InvalidEnd)) place e rest → FitsCore kind text (row_of name place e))
+        → Reads (core_end_at fault name core rest)
+    closing_read shown fits =
+        end_read (λ c more next out. fits other InvalidEnd (c, more, next, out, refl)) (λ more next. fits bad NonAsciiCodePoint (more, next, refl))
 
-  module _ (date : Option DateRecord) (prior body : Text) (is : text ≡ prior ++ body) (stands : BeforeTime kind prior)
-      (core_of_parts : (ts offsets : Text) (t : TimeRecord) (offset : Option UtcOffsetRecordOrZ) → IsTime ts t → OptionalOffset offsets offset → IsCore kind (prior ++ (ts ++ offsets)) (core_of date (Some t) offset))
-      (before_offset : (ts : Text) (t : TimeRecord) → IsTime ts t → BeforeOffset kind (prior ++ ts)) where
-    module _ (x : OpenTime) (rest : Text) (h : TimeFront clocks.Time body x rest) where
-      is_text : (offsets left : Text) → rest ≡ offsets ++ left → text ≡ (prior ++ (h.0 ++ offsets)) ++ left
-      is_text offsets left next = is ∙ rw (h.1, next) (simp append_assoc)
+  -- ---- what follows a time, behind what stands before the time
 
-      is_core : (offsets : Text) (offset : Option UtcOffsetRecordOrZ) → OptionalOffset offsets offset → IsCore kind (prior ++ (h.0 ++ offsets)) (core_of date (Some x.1) offset)
-      is_core offsets offset o = core_of_parts h.0 offsets x.1 offset (x.0, h.2) o
+  module _ (date : Option DateRecord) (prior body : Text) (is : text ≡ prior ++ body) (stands : (l : ClockLine) → IsLater l → BeforeTime kind l prior)
+      (core_of_parts : (ts offsets : Text) (t : TimeRecord) (offset : Option UtcOffsetRecordOrZ) → IsTime ts t → OptionalOffset offsets offset
+      → is_core (prior ++ (ts ++ offsets)) (core_of date (Some t) offset))
+      (before_offset : (ts : Text) (t : TimeRecord) → IsTime ts t → BeforeOffset kind (prior ++ ts)) (x : OpenTime) (rest : Text)
+      (h : TimeFront clocks.Time body x rest) where
+    is_text : (offsets left : Text) → rest ≡ offsets ++ left → text ≡ (prior ++ (h.0 ++ offsets)) ++ left
+    is_text offsets left next = is ∙ rw (h.1, next) (simp append_assoc)
 
-      timed : BeforeOffset kind (prior ++ h.0)
-      timed = before_offset h.0 x.1 (x.0, h.2)
+    has_core : (offsets : Text) (offset : Option UtcOffsetRecordOrZ) → OptionalOffset offsets offset
+        → is_core (prior ++ (h.0 ++ offsets)) (core_of date (Some x.1) offset)
+    has_core offsets offset o = core_of_parts h.0 offsets x.1 offset (x.0, h.2) o
 
-      time_text : text ≡ (prior ++ h.0) ++ rest
-      time_text = is ∙ rw h.1 (simp append_assoc)
+    timed : BeforeOffset kind (prior ++ h.0)
+    timed = before_offset h.0 x.1 (x.0, h.2)
 
-      -- an offset after its sign
-      offset_read : (s : ℕ) (more : Text) → rest ≡ Plain s ∷ more → IsTrue (sign s) → ReadsCore (offset_core_at fault date x.1 s more)
-      unfolding offset_core_at
-      offset_read s more next signs =
-          let before : Text = (prior ++ h.0) ++ (Plain s ∷ []) in
-          let split : text ≡ before ++ more = time_text ∙ rw next (simp append_assoc) in
-          let lifted : (row : Row) → FitsIn (of_clock clocks.Offset) true row more → Fits (bracketed kind) row [] text = λ row f. lift (of_clock clocks.Offset) (bracketed kind) row text before more split (λ l. ((prior ++ h.0, Plain s ∷ [], refl, timed, (s, refl, signs)), refl)) f in
-          then_read fault (clock_at fault clocks.Offset more) _ _ _ _ _ (clock_read fault true clocks.Offset more)
-          (λ o left g. end_read (line_after clocks.Offset o.0) (with_offset date x.1 (offset_of s (writes_seconds o.0) o.1)) (prior ++ (h.0 ++ (Plain s ∷ g.0))) left
-          (is_text (Plain s ∷ g.0) left (next ∙ rw g.1 refl))
-          (is_core (Plain s ∷ g.0) (Some (Offset (offset_of s (writes_seconds o.0) o.1))) (inl (offset_of s (writes_seconds o.0) o.1, record { c = s; body = g.0; shape = o.0; time = o.1; is = refl; sign = signs; clock = g.2; value = refl }, refl)))
-          (λ c after ends out. lifted _ (clock_stops fault true clocks.Offset more o other InvalidEnd left g (c, after, ends, out, refl)))
-          (λ after ends. absurd (closed_not_bad clocks.Offset o.0 left after g.3 ends)))
-          lifted
+    time_text : text ≡ (prior ++ h.0) ++ rest
+    time_text = is ∙ rw h.1 (simp append_assoc)
 
-      -- `Z` or `z`
-      zulu_read : (z : ℕ) (more : Text) → rest ≡ Plain z ∷ more → IsTrue (zulu z) → ReadsCore (core_end_at fault (of_offset after_zulu) (core_of date (Some x.1) (Some Z)) more)
-      zulu_read z more next is_zulu =
-          let here : (row : Row) → FitsHere true row (Plain z ∷ more) → row.name ≡ of_offset after_zulu → Fits (bracketed kind) row [] text = λ row f same. (prior ++ h.0, Plain z ∷ more, time_text ∙ rw next refl, subst (λ (n : LineName). Before (bracketed kind) n [] (prior ++ h.0) (Plain z ∷ more)) (sym same) (timed, refl), f) in
-          end_read (of_offset after_zulu) (core_of date (Some x.1) (Some Z)) (prior ++ (h.0 ++ (Plain z ∷ []))) more
-          (is_text (Plain z ∷ []) more next)
-          (is_core (Plain z ∷ []) (Some Z) (inr ((z, refl, is_zulu), refl)))
-          (λ c after ends out. here (row_of (of_offset after_zulu) other InvalidEnd) (Plain z ∷ [], more, refl, (z, refl, is_zulu), (c, after, ends, out, refl)) refl)
-          (λ after ends. here (row_of (of_offset after_zulu) bad NonAsciiCodePoint) (Plain z ∷ [], more, refl, (z, refl, is_zulu), (after, ends, refl)) refl)
+    -- an offset was read after its sign
+    after_offset_read : (s : ℕ) (more : Text) → rest ≡ Plain s ∷ more → IsTrue (sign s) → (o : OpenTime) (left : Text) → TimeFront clocks.Offset more o left
+        → Reads (core_end_at fault (line_after clocks.Offset o.0) (with_offset date x.1 (offset_of s (writes_seconds o.0) o.1)) left)
+    after_offset_read s more next signs o left g =
+        let offset : UtcOffsetRecord = offset_of s (writes_seconds o.0) o.1 in
+        let signed : (BeforeOffset kind then one sign) ((prior ++ h.0) ++ (Plain s ∷ [])) = (prior ++ h.0, Plain s ∷ [], refl, timed, (s, refl, signs)) in
+        let is_offset : IsOffset (Plain s ∷ g.0) offset =
+        record { c = s; body = g.0; shape = o.0; time = o.1; is = refl; sign = signs; clock = g.2; value = refl } in
+        end_read (line_after clocks.Offset o.0) (with_offset date x.1 offset) (prior ++ (h.0 ++ (Plain s ∷ g.0))) left
+        (is_text (Plain s ∷ g.0) left (next ∙ rw g.1 refl))
+        (has_core (Plain s ∷ g.0) (Some (Offset offset)) (inl (offset, is_offset, refl)))
+        (λ c after ends out. lift (later clocks.Offset) (bracketed kind) _ text _ more (time_text ∙ rw next (simp append_assoc)) (λ l. (signed, refl))
+        (clock_stops fault true clocks.Offset more o other InvalidEnd left g (c, after, ends, out, refl)))
+        (λ after ends. absurd (closed_not_bad clocks.Offset o.0 left after g.3 ends))
 
-      -- nothing of an offset
-      no_offset_read : NotNext sign rest → NotNext zulu rest → ReadsCore (core_end_at fault (line_after clocks.Time x.0) (core_of date (Some x.1) None) rest)
-      no_offset_read no_sign no_zulu = end_read (line_after clocks.Time x.0) (core_of date (Some x.1) None) (prior ++ (h.0 ++ [])) rest
-          (is_text [] rest refl)
-          (is_core [] None refl)
-          (λ c after ends out. lift (of_clock clocks.Time) (bracketed kind) _ text prior body is (λ l. (stands, refl))
-          (clock_stops fault true clocks.Time body x other InvalidEnd rest h (c, after, ends, or_from _ _ (or_from _ _ (not_next sign rest c after no_sign ends) (not_next zulu rest c after no_zulu ends)) out, refl)))
-          (λ after ends. absurd (not_bad sign rest after no_sign ends))
+    -- an offset after its sign
+    offset_read : (s : ℕ) (more : Text) → rest ≡ Plain s ∷ more → IsTrue (sign s) → Reads (offset_core_at fault date x.1 s more)
+    unfolding offset_core_at
+    offset_read s more next signs = then_read fault (clock_at fault clocks.Offset more) _ _ _ _ _ (clock_read fault true clocks.Offset more)
+        (λ o left g. after_offset_read s more next signs o left g)
+        (λ row f. lift (of_clock clocks.Offset) (bracketed kind) row text ((prior ++ h.0) ++ (Plain s ∷ [])) more (time_text ∙ rw next (simp append_assoc))
+        (λ l. ((prior ++ h.0, Plain s ∷ [], refl, timed, (s, refl, signs)), refl)) f)
 
-      after_time_read : ReadsCore (after_time_at fault date x rest)
-      unfolding after_time_at
-      after_time_read = next_read (bad_after fault clocks.Time x.0) sign _ _ fault rest (CoreFront kind text) (λ row. Fits (bracketed kind) row [] text)
-          (λ more next. absurd (closed_not_bad clocks.Time x.0 rest more h.3 next))
-          (λ s more next signs. offset_read s more next signs)
-          (λ no_sign. next_read (bad_after fault clocks.Time x.0) zulu (λ z more. core_end_at fault (of_offset after_zulu) (core_of date (Some x.1) (Some Z)) more) _ fault rest (CoreFront kind text) (λ row. Fits (bracketed kind) row [] text)
-          (λ more next. absurd (closed_not_bad clocks.Time x.0 rest more h.3 next))
-          (λ z more next is_zulu. zulu_read z more next is_zulu)
-          (λ no_zulu. no_offset_read no_sign no_zulu))
+    -- `Z` or `z`
+    zulu_read : (z : ℕ) (more : Text) → rest ≡ Plain z ∷ more → IsTrue (zulu z)
+        → Reads (core_end_at fault (of_offset after_zulu) (core_of date (Some x.1) (Some Z)) more)
+    zulu_read z more next is_zulu = closing_read (of_offset after_zulu) (core_of date (Some x.1) (Some Z)) (prior ++ (h.0 ++ (Plain z ∷ []))) more
+        (is_text (Plain z ∷ []) more next)
+        (has_core (Plain z ∷ []) (Some Z) (inr ((z, refl, is_zulu), refl)))
+        (one zulu)
+        (λ place e at. (prior ++ h.0, Plain z ∷ more, time_text ∙ rw next refl, (timed, refl), (Plain z ∷ [], more, refl, (z, refl, is_zulu), at)))
 
-    pub timed_read : ReadsCore (clock_at fault clocks.Time body >>= λ time. after_time_at fault date time.0 time.1)
-    timed_read = then_read fault (clock_at fault clocks.Time body) _ _ _ _ _ (clock_read fault true clocks.Time body)
-        (λ x rest h. after_time_read x rest h)
-        (λ row f. lift (of_clock clocks.Time) (bracketed kind) row text prior body is (λ l. (stands, refl)) f)
+    -- nothing of an offset
+    no_offset_read : NotNext sign rest → NotNext zulu rest → Reads (core_end_at fault (line_after clocks.Time x.0) (core_of date (Some x.1) None) rest)
+    no_offset_read no_sign no_zulu = end_read (line_after clocks.Time x.0) (core_of date (Some x.1) None) (prior ++ (h.0 ++ [])) rest
+        (is_text [] rest refl)
+        (has_core [] None refl)
+        (λ c after ends out. let stops = or_from _ _ (or_from _ _ (not_next sign rest c after no_sign ends) (not_next zulu rest c after no_zulu ends)) out in
+        lift (later clocks.Time) (bracketed kind) _ text prior body is (λ l. (stands l.0 l.1, refl))
+        (clock_stops fault true clocks.Time body x other InvalidEnd rest h (c, after, ends, stops, refl)))
+        (λ after ends. absurd (not_bad sign rest after no_sign ends))
+
+    after_time_read : Reads (after_time_at fault date x rest)
+    unfolding after_time_at
+    after_time_read =
+        let at_bad : (more : Text) → rest ≡ Bad ∷ more → ⊥ = λ more next. closed_not_bad clocks.Time x.0 rest more h.3 next in
+        next_read (bad_after fault clocks.Time x.0) sign _ _ fault rest (FrontOf is_core text) (λ row. FitsCore kind text row)
+        (λ more next. absurd (at_bad more next))
+        (λ s more next signs. offset_read s more next signs)
+        (λ no_sign. next_read (bad_after fault clocks.Time x.0) zulu
+        (λ z more. core_end_at fault (of_offset after_zulu) (core_of date (Some x.1) (Some Z)) more) _ fault rest
+        (FrontOf is_core text) (λ row. FitsCore kind text row)
+        (λ more next. absurd (at_bad more next))
+        (λ z more next is_zulu. zulu_read z more next is_zulu)
+        (λ no_zulu. no_offset_read no_sign no_zulu))
 
 -- ---- dates and times
 
+-- a line of dates that a text begins with
+before_date : (l : DateLine) → BeforeDate date_time l []
+before_date year_start = refl
+before_date l = refl
+
 module _ {E : Type 0} (fault : Row → E) (text : Text) where
   -- a date and a separator were read
-  time_core_read : (ds separator body : Text) (date : DateRecord) → text ≡ (ds ++ separator) ++ body → IsDate ds date → one date_time_separator separator → ReadsCore fault date_time text (time_core_at fault date body)
+  time_core_read : (ds separator body : Text) (date : DateRecord) → text ≡ (ds ++ separator) ++ body → IsDate ds date → one date_time_separator separator
+      → ReadsCore fault date_time text (time_core_at fault date body)
   unfolding time_core_at
-  time_core_read ds separator body date is is_date separates = timed_read fault date_time text (Some date) (ds ++ separator) body is (ds, separator, refl, (date, is_date), separates)
-      (λ ts offsets t offset is_time o. inr (record { dates = ds; separator = separator; times = ts; offsets = offsets; date = date; time = t; offset = offset; is = append_assoc ds separator (ts ++ offsets); is_date = is_date; separates = separates; is_time = is_time; is_offset = o; has = refl }))
-      (λ ts t is_time. (ds ++ separator, ts, refl, (ds, separator, refl, (date, is_date), separates), (t, is_time)))
+  time_core_read ds separator body date is is_date separates =
+      let before : DateAndSeparator (ds ++ separator) = (ds, separator, refl, (date, is_date), separates) in
+      then_read fault (clock_at fault clocks.Time body) _ _ _ _ _ (clock_read fault true clocks.Time body)
+      (after_time_read fault date_time text IsDateTimeCore (Some date) (ds ++ separator) body is (λ l later_line. before)
+      (λ ts offsets t offset is_time o. inr (record {
+        dates = ds;
+        separator = separator;
+        times = ts;
+        offsets = offsets;
+        date = date;
+        time = t;
+        offset = offset;
+        is = append_assoc ds separator (ts ++ offsets);
+        is_date = is_date;
+        separates = separates;
+        is_time = is_time;
+        is_offset = o;
+        has = refl;
+      }))
+      (λ ts t is_time. (ds ++ separator, ts, refl, before, (t, is_time))))
+      (λ row f. lift (of_clock clocks.Time) (bracketed date_time) row text (ds ++ separator) body is (λ l. (before, refl)) f)
+
+  -- the row of what follows a date
+  after_date_fits : (place : Place) (e : Fault) (front rest : Text) → text ≡ front ++ rest → some IsDate front
+      → Stops (line_of true (of_date after_date)) place e rest
+      → FitsCore date_time text (row_of (of_date after_date) place e)
+  after_date_fits place e front rest is date at = ([], text, refl, (refl, refl), (front, rest, is, date, at))
 
   -- a date and no separator
-  date_alone_read : (date : DateRecord) (rest : Text) → DateFront text date rest → NotNext date_time_separator rest → ReadsCore fault date_time text (core_end_at fault (of_date after_date) (core_of (Some date) None None) rest)
-  date_alone_read date rest h closed = end_read fault date_time text (of_date after_date) (core_of (Some date) None None) h.0 rest h.1 (inl (date, h.2, refl))
-      (λ c more next out. ([], text, refl, (refl, refl), (h.0, rest, h.1, (date, h.2), (c, more, next, or_from _ _ (not_next date_time_separator rest c more closed next) out, refl))))
+  no_time_read : (date : DateRecord) (rest : Text) → DateFront text date rest → NotNext date_time_separator rest
+      → ReadsCore fault date_time text (core_end_at fault (of_date after_date) (core_of (Some date) None None) rest)
+  no_time_read date rest h closed = end_read fault date_time text IsDateTimeCore (of_date after_date) (core_of (Some date) None None) h.0 rest h.1
+      (inl (date, h.2, refl))
+      (λ c more next out. let stops = or_from _ _ (not_next date_time_separator rest c more closed next) out in
+      after_date_fits other InvalidEnd h.0 rest h.1 (date, h.2) (c, more, next, stops, refl))
       (λ more next. absurd (not_bad date_time_separator rest more closed next))
 
   after_date_read : (date : DateRecord) (rest : Text) → DateFront text date rest → ReadsCore fault date_time text (after_date_at fault date rest)
   unfolding after_date_at
-  after_date_read date rest h = next_read (fault (row_of (of_date after_date) bad NonAsciiCodePoint)) date_time_separator _ _ fault rest (CoreFront date_time text) (λ row. Fits (bracketed date_time) row [] text)
-      (λ more next. (row_of (of_date after_date) bad NonAsciiCodePoint, refl, ([], text, refl, (refl, refl), (h.0, rest, h.1, (date, h.2), (more, next, refl)))))
+  after_date_read date rest h = next_read (fault (row_of (of_date after_date) bad NonAsciiCodePoint)) date_time_separator _ _ fault rest
+      (CoreFront date_time text) (λ row. FitsCore date_time text row)
+      (λ more next. (
+        row_of (of_date after_date) bad NonAsciiCodePoint,
+        refl,
+        after_date_fits bad NonAsciiCodePoint h.0 rest h.1 (date, h.2)
+            (more, next, refl),
+      ))
       (λ c more next separates. time_core_read h.0 (Plain c ∷ []) more date (further text h.0 rest (Plain c ∷ []) more h.1 next) h.2 (c, refl, separates))
-      (λ closed. date_alone_read date rest h closed)
-
-  before_date : (l : DateLine) → BeforeDate date_time l []
-  before_date year_start = refl
-  before_date year_digits = refl
-  before_date extended_year_digits = refl
-  before_date minus_zero_year = refl
-  before_date after_year = refl
-  before_date month_digits = refl
-  before_date month_range = refl
-  before_date after_hyphened_month = refl
-  before_date after_plain_month = refl
-  before_date day_digits = refl
-  before_date day_range = refl
-  before_date after_date = refl
+      (λ closed. no_time_read date rest h closed)
 
   date_time_read : ReadsCore fault date_time text (date_time_core_at fault text)
   unfolding date_time_core_at
@@ -191,6 +262,116 @@ module _ {E : Type 0} (fault : Row → E) (text : Text) where
       (λ date rest h. after_date_read date rest h)
       (λ row f. lift of_date (bracketed date_time) row text [] text refl (λ l. (before_date l, refl)) f)
 
+-- ---- a date of a part, alone
+
+module _ {E : Type 0} (fault : Row → E) (kind : CoreKind) (text : Text) (part : Text → DateRecord → Type 0) (name : LineName) where
+  -- the row of what follows it
+  abbrev AfterFits : Type 0
+  AfterFits = (place : Place) (e : Fault) (front rest : Text) → text ≡ front ++ rest → some part front
+      → Stops (line (some part) opening ok (always InvalidEnd)) place e rest
+      → FitsCore kind text (row_of name place e)
+
+  alone_read : AfterFits → (read : Read E DateRecord)
+      → OnRead fault read (FrontIs part text) (λ row. FitsCore kind text row)
+      → ReadsAs fault kind text (DateAlone part) (date_alone_at fault name read)
+  alone_read fits read gives = then_read fault read _ _ _ _ _ gives
+      (λ date rest h. closing_read fault kind text (DateAlone part) name (core_of (Some date) None None) h.0 rest h.1 (date, h.2, refl) (some part)
+      (λ place e at. fits place e h.0 rest h.1 (date, h.2) at))
+      (λ row f. f)
+
+-- ---- times that stand alone
+
+-- what stands before a line after the first digit of the hour
+marked_line : (l : ClockLine) (prior : Text) → IsLater l → TimeMark prior → BeforeTime time_alone l prior
+marked_line hour_start prior is_later mark = absurd is_later
+marked_line l prior is_later mark = mark
+
+-- and before any line of a time, where the letter stands
+lettered_line : (l : ClockLine) (prior : Text) → one time_letter prior → BeforeTime time_alone l prior
+lettered_line hour_start prior letter = letter
+lettered_line l prior letter = inr letter
+
+-- the end or a bracket stands after what was read
+split_ends : (text front : Text) (has_bracket : Bool) (rest : Text) → Splits text front has_bracket rest
+    → (after : Text) × (text ≡ front ++ after) × AtCoreEnd after
+split_ends text front true rest is = (Plain 91 ∷ rest, is, inr (Plain 91 ∷ [], rest, refl, (91, refl, refl), tt))
+split_ends text front false rest is = ([], is.0 ∙ sym (append-nil front), inl refl)
+
+-- what reading a time gave, behind `T` or `t` or neither
+abbrev MarkedFront : Text → OpenTime → Text → Type 0
+MarkedFront text x rest = (marks body : Text) × (text ≡ marks ++ body) × TimeMark marks × TimeFront clocks.Time body x rest
+
+module _ {E : Type 0} (fault : Row → E) (text : Text) where
+  start_stops : (place : Place) (e : Fault) → Stops (line_of true (of_time time_start)) place e text
+      → Stopped fault (fault (row_of (of_time time_start) place e)) (λ row. FitsCore time_alone text row)
+  start_stops place e at = (row_of (of_time time_start) place e, refl, ([], text, refl, (refl, refl), ([], text, refl, refl, at)))
+
+  hour_digit_read : (body : Text) → text ≡ body → NotNext time_letter body
+      → OnRead fault (next_by (hour_look fault) body) (λ c rest. (text ≡ Plain c ∷ rest) × IsTrue (digit c)) (λ row. FitsCore time_alone text row)
+  unfolding next_by look_at
+  hour_digit_read [] is closed = start_stops end abrupt_digit (is, refl)
+  hour_digit_read (Bad ∷ rest) is closed = absurd closed
+  hour_digit_read (Plain c ∷ rest) is closed =
+      read_if fault (digit c) _ _ _ _ (λ d. (is, d)) (λ out. start_stops other TimeHour (c, rest, is, or_from _ _ out closed, refl))
+
+  lone_time_read : NotNext time_letter text → OnRead fault (lone_time_at fault text) (MarkedFront text) (λ row. FitsCore time_alone text row)
+  unfolding lone_time_at
+  lone_time_read closed = then_read fault (next_by (hour_look fault) text) _ _ _ _ _ (hour_digit_read text refl closed)
+      (λ c rest h. read_weaker fault (hour_from fault clocks.Time c rest) _ _ _ _ (hour_read fault true clocks.Time text c rest h.1 h.0)
+      (λ x left g. ([], text, refl, inl refl, g))
+      (λ row f. lift (later clocks.Time) (bracketed time_alone) row text [] text refl (λ l. (marked_line l.0 [] l.1 (inl refl), refl)) f))
+      (λ row f. f)
+
+  marked_time_read : OnRead fault (marked_time_at fault text) (MarkedFront text) (λ row. FitsCore time_alone text row)
+  unfolding marked_time_at
+  marked_time_read = next_read (fault (row_of (of_time time_start) bad NonAsciiCodePoint)) time_letter _ _ fault text
+      (MarkedFront text) (λ row. FitsCore time_alone text row)
+      (λ more next. start_stops bad NonAsciiCodePoint (more, next, refl))
+      (λ c rest next letter. read_weaker fault (clock_at fault clocks.Time rest) _ _ _ _ (clock_read fault true clocks.Time rest)
+      (λ x left g. (Plain c ∷ [], rest, next, inr (c, refl, letter), g))
+      (λ row f. lift (of_clock clocks.Time) (bracketed time_alone) row text (Plain c ∷ []) rest next
+      (λ l. (lettered_line l (Plain c ∷ []) (c, refl, letter), refl)) f))
+      (λ closed. lone_time_read closed)
+
+  marked_core_read : ReadsAs fault time_alone text MarkedTime (marked_core_at fault text)
+  unfolding marked_core_at
+  marked_core_read = then_read fault (marked_time_at fault text) _ _ _ _ _ marked_time_read
+      (λ x rest h. after_time_read fault time_alone text MarkedTime None h.0 h.1 h.2 (λ l is_later. marked_line l h.0 is_later h.3)
+      (λ ts offsets t offset is_time o. record {
+        marks = h.0;
+        times = ts;
+        offsets = offsets;
+        time = t;
+        offset = offset;
+        is = refl;
+        mark = h.3;
+        is_time = is_time;
+        is_offset = o;
+        has = refl;
+      })
+      (λ ts t is_time. (h.0, ts, refl, h.3, (t, is_time)))
+      x rest h.4)
+      (λ row f. f)
+
+  -- the test of the front, after the time
+  tested_read : (x : ClosedCore) (rest : Text) → FrontOf MarkedTime text x rest → ReadsCore fault time_alone text (unfronted fault text (Ok (x, rest)))
+  tested_read x rest h =
+      let ends = split_ends text h.0 x.1 rest h.1 in
+      let time : ReadsAsTime text = (h.0, ends.0, ends.1, (x.0, h.2), ends.2) in
+      unfronted_read text fault (Ok (x, rest)) (CoreFront time_alone text) (λ row. FitsCore time_alone text row)
+      (λ begins. ([], text, refl, ((refl, time), refl), (begins.0, begins.1, begins.2, begins.3, refl)))
+      (λ begins none. ([], text, refl, ((refl, time, none), refl), (begins.0, begins.1, begins.2, begins.3, refl)))
+      (λ none. (h.0, h.1, (h.2, no_front_of h.0 ends.0 (subst HasNoDateFront ends.1 none))))
+
+  time_alone_read : ReadsCore fault time_alone text (time_alone_core_at fault text)
+  unfolding time_alone_core_at
+  time_alone_read = then_read fault (marked_core_at fault text) _ _ _ _ _ marked_core_read (λ x rest h. tested_read x rest h) (λ row f. f)
+
   -- a core of any kind
   pub core_read : (kind : CoreKind) → ReadsCore fault kind text (core_at fault kind text)
-  core_read date_time = date_time_read
+  core_read date_time = date_time_read fault text
+  core_read year_month = alone_read fault year_month text IsYearMonth (of_year_month after_year_month)
+      (λ place e front rest is date at. ([], text, refl, (refl, refl), (front, rest, is, date, at))) (year_month_at fault text) (year_month_read fault text)
+  core_read month_day = alone_read fault month_day text (IsMonthDay least_day) (of_month_day after_month_day)
+      (λ place e front rest is date at. ([], text, refl, (refl, refl), (front, rest, is, date, at))) (month_day_at fault text) (month_day_read fault text)
+  core_read time_alone = time_alone_read

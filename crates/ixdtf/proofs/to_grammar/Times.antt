@@ -1,5 +1,6 @@
 -- What reading a time returns is a time as far as it goes, or a row that fits.
-use Rattle.std.proofs.Common.{◌≡◌, ℕ, ◌<◌, ◌≤◌, ◌⊎◌, IsTrue, IsFalse, [], ◌∷◌, ◌++◌, Ok, Err, Option, Some, None, refl, ◌∙◌, inl, inr, arith, append_assoc, nat_le, Bool, true, false}
+use Rattle.std.proofs.Common.{◌≡◌, ℕ, ◌<◌, ◌≤◌, ◌⊎◌, IsTrue, IsFalse, [], ◌∷◌, ◌++◌, Ok, Err, Option, Some, None, refl, ◌∙◌, inl, inr, arith, append_assoc}
+use Rattle.std.proofs.Common.{nat_le, Bool, true, false}
 use Rattle.std.proofs.lemmas.Bool.{eqb-true, leb-true, leb-false, and_parts, or_from}
 use Rattle.std.proofs.lemmas.Bool.Decides.{nat_tests}
 use Rattle.ixdtf.specs.language.Times.{Clock}
@@ -12,24 +13,32 @@ use Rattle.ixdtf.specs.language.Shapes.{one}
 use Rattle.ixdtf.specs.language.Digits.{decimal, UpTo}
 use Rattle.ixdtf.specs.language.Fractions.{FractionParts, SomeDigits, fraction_of}
 use Rattle.ixdtf.specs.table.Faults.{Fault}
-use Rattle.ixdtf.specs.table.Faults.Fault.{NonAsciiCodePoint}
+use Rattle.ixdtf.specs.table.Faults.Fault.{NonAsciiCodePoint, TimeHour, TimeMinuteSecond}
 use Rattle.ixdtf.specs.language.Times.{TimeShape, ClockOf, PlainMinuteText, ColonMinuteText, SecondText, greatest_second, has_seconds}
 use Rattle.ixdtf.specs.language.Times.TimeShape.{hours, plain_minutes, colon_minutes, seconds, fractions}
+use Rattle.ixdtf.specs.table.LineNames.{ClockLine, LineName}
 use Rattle.ixdtf.specs.table.LineNames.LineName.{of_clock}
-use Rattle.ixdtf.specs.table.LineNames.ClockLine.{hour_start, hour_digit, hour_range, after_hour, minute_digits, minute_range, after_plain_minute, after_colon_minute, second_digits, second_range, after_second, fraction_start, after_fraction}
-use Rattle.ixdtf.specs.table.Lines.{follow_of, seconds_after, mixed, ColonOrDigit}
+use Rattle.ixdtf.specs.table.LineNames.ClockLine.{hour_start, hour_digit, hour_range, after_hour, minute_digits, minute_range, after_plain_minute}
+use Rattle.ixdtf.specs.table.LineNames.ClockLine.{after_colon_minute, second_digits, second_range, after_second, fraction_start, after_fraction}
+use Rattle.ixdtf.specs.table.Lines.{line_of, follow_of, seconds_after, mixed, second_fault, ColonOrDigit}
 use Rattle.ixdtf.specs.table.Lines.Ending.{ok, error}
-use Rattle.ixdtf.specs.table.Rows.{Row, Place}
+use Rattle.ixdtf.specs.table.Rows.{Row, Place, Stops, front_of}
 use Rattle.ixdtf.specs.table.Rows.Place.{end, other, bad, anywhere}
 use Rattle.ixdtf.specs.reading.Looks.{Read, ◌>>=◌, row_of, letter_at, look_at, next_by, digits_at, peek_by, in_range, digit_run}
-use Rattle.ixdtf.specs.reading.Times.{OpenTime, time_of, line_after, bad_after, mixed_after, fraction_at, after_second_at, colon_second_at, plain_second_at, after_colon_minute_at, after_plain_minute_at, colon_minute_at, plain_minute_at, after_hour_at, hour_from, clock_at}
+use Rattle.ixdtf.specs.reading.Times.{OpenTime, time_of, line_after, bad_after, mixed_after, fraction_at, after_second_at, colon_second_at, plain_second_at}
+use Rattle.ixdtf.specs.reading.Times.{after_colon_minute_at, after_plain_minute_at, colon_minute_at, plain_minute_at, after_hour_at, hour_from, clock_at}
 use Rattle.ixdtf.specs.reading.Zones.{follow_look}
-use Rattle.ixdtf.proofs.parts.Looks.{Stopped, OnRead, OnRun, FitsIn, fits_in, then_read, read_if, no_digit, none_or_one, read_letter, digits_read, Peeked, peek_read, next_read, run_read, further, onto, NotNext}
-use Rattle.ixdtf.proofs.to_reading.Times.{Closed, StopsAfter, hour_past, minute_past, second_past, with_fraction}
+use Rattle.ixdtf.proofs.parts.Looks.{Stopped, OnRead, OnRun, FitsIn, fits_in, then_read, read_weaker, read_if, no_digit, none_or_one, read_letter, digits_read}
+use Rattle.ixdtf.proofs.parts.Looks.{Peeked, peek_read, next_read, run_read, further, onto, NotNext}
+use Rattle.ixdtf.proofs.to_reading.Times.{Closed, IsLater, StopsAfter, hour_past, minute_past, second_past, with_fraction}
 
 -- what reading a time gave
 abbrev pub TimeFront : Clock → Text → OpenTime → Text → Type 0
 TimeFront clock text x rest = (front : Text) × (text ≡ front ++ rest) × ClockOf clock x.0 front x.1 × Closed clock x.0 rest
+
+-- a line after the first digit of an hour
+abbrev pub later : Clock → (l : ClockLine) × IsLater l → LineName
+later clock l = of_clock clock l.0
 
 -- a colon or a digit does not follow a time
 mixed_no_follow : (brackets : Bool) (clock : Clock) (c : ℕ) → IsTrue ((colon or digit) c) → IsFalse ((follow_of brackets clock).letters c)
@@ -43,11 +52,15 @@ after_colon ds (inl h) = inl (58, rw h refl, refl)
 after_colon ds (inr h) = inr (inl (Plain 58 ∷ [], ds, refl, (58, refl, refl), h))
 
 -- the text of hour, minute and second says nothing of the fraction
-other_fraction : (clock : Clock) (text : Text) (h m s : ℕ) (f g : Option FractionParts) → SecondText clock text (time_of h m s f) → SecondText clock text (time_of h m s g)
-other_fraction clock text h m s f g (inl x) = inl (record { hs = x.hs; ms = x.ms; ss = x.ss; is = x.is; may = x.may; hour = x.hour; minute = x.minute; second = x.second })
-other_fraction clock text h m s f g (inr x) = inr (record { hs = x.hs; ms = x.ms; ss = x.ss; is = x.is; may = x.may; hour = x.hour; minute = x.minute; second = x.second })
+other_fraction : (clock : Clock) (text : Text) (h m s : ℕ) (f g : Option FractionParts) → SecondText clock text (time_of h m s f)
+    → SecondText clock text (time_of h m s g)
+other_fraction clock text h m s f g (inl x) =
+    inl (record { hs = x.hs; ms = x.ms; ss = x.ss; is = x.is; may = x.may; hour = x.hour; minute = x.minute; second = x.second })
+other_fraction clock text h m s f g (inr x) =
+    inr (record { hs = x.hs; ms = x.ms; ss = x.ss; is = x.is; may = x.may; hour = x.hour; minute = x.minute; second = x.second })
 
-fraction_shape : (clock : Clock) (h m s c : ℕ) (front ds : Text) (fraction : FractionParts) → SecondText clock front (time_of h m s None) → IsTrue (decimal_mark c) → SomeDigits ds → fraction ≡ fraction_of ds → ClockOf clock fractions (front ++ (Plain c ∷ ds)) (time_of h m s (Some fraction))
+fraction_shape : (clock : Clock) (h m s c : ℕ) (front ds : Text) (fraction : FractionParts) → SecondText clock front (time_of h m s None)
+    → IsTrue (decimal_mark c) → SomeDigits ds → fraction ≡ fraction_of ds → ClockOf clock fractions (front ++ (Plain c ∷ ds)) (time_of h m s (Some fraction))
 fraction_shape clock h m s c front ds fraction x mark some same = record {
   whole = front;
   part = Plain c ∷ ds;
@@ -67,189 +80,291 @@ module _ {E : Type 0} (fault : Row → E) where
   abbrev PastRow : Row → ℕ → Text → Row → Type 0
   PastRow wanted greatest ds row = (row ≡ wanted) × (greatest < decimal ds)
 
-  range_read : (greatest : ℕ) (wanted : Row) (ds rest : Text) → OnRead fault (in_range greatest (fault wanted) (ds, rest)) (λ n more. (more ≡ rest) × (n ≡ decimal ds) × (n ≤ greatest)) (PastRow wanted greatest ds)
+  range_read : (greatest : ℕ) (wanted : Row) (ds rest : Text)
+      → OnRead fault (in_range greatest (fault wanted) (ds, rest)) (λ n more. (more ≡ rest) × (n ≡ decimal ds) × (n ≤ greatest)) (PastRow wanted greatest ds)
   unfolding in_range
-  range_read greatest wanted ds rest = read_if fault (nat_le (decimal ds) greatest) _ _ _ _ (λ h. (refl, refl, leb-true _ _ h)) (λ h. (wanted, refl, (refl, leb-false _ _ h)))
+  range_read greatest wanted ds rest =
+      read_if fault (nat_le (decimal ds) greatest) _ _ _ _ (λ h. (refl, refl, leb-true _ _ h)) (λ h. (wanted, refl, (refl, leb-false _ _ h)))
 
   module _ (brackets : Bool) (clock : Clock) (text : Text) where
+    -- the row is of a line after the first digit of an hour, and fits
+    abbrev Fitting : Row → Type 0
+    Fitting row = FitsIn (later clock) brackets row text
+
+    fits : (l : ClockLine) (is_later : IsLater l) (place : Place) (e : Fault) (front rest : Text) → text ≡ front ++ rest
+        → front_of (line_of brackets (of_clock clock l)) front → Stops (line_of brackets (of_clock clock l)) place e rest
+        → Fitting (row_of (of_clock clock l) place e)
+    fits l is_later place e front rest is shown at = ((l, is_later), refl, (front, rest, is, shown, at))
+
     -- ---- the lines at which a time may stop
 
     module _ (front rest : Text) (is : text ≡ front ++ rest) where
       -- at Bad
-      open_bad : (shape : TimeShape) (t : TimeRecord) (more : Text) → ClockOf clock shape front t → rest ≡ Bad ∷ more → Stopped fault (bad_after fault clock shape) (λ row. FitsIn (of_clock clock) brackets row text)
-      open_bad hours t more x next = (row_of (of_clock clock after_hour) bad NonAsciiCodePoint, refl, (after_hour, refl, (front, rest, is, (t, x), (more, next, refl))))
-      open_bad plain_minutes t more x next = (row_of (of_clock clock after_plain_minute) bad NonAsciiCodePoint, refl, (after_plain_minute, refl, (front, rest, is, (t, x), (more, next, refl))))
-      open_bad colon_minutes t more x next = (row_of (of_clock clock after_colon_minute) bad NonAsciiCodePoint, refl, (after_colon_minute, refl, (front, rest, is, (t, x), (more, next, refl))))
-      open_bad seconds t more x next = (row_of (of_clock clock after_second) bad NonAsciiCodePoint, refl, (after_second, refl, (front, rest, is, (t, x), (more, next, refl))))
-      open_bad fractions t more x next = (row_of (of_clock clock after_fraction) bad NonAsciiCodePoint, refl, (after_fraction, refl, (front, rest, is, (t, x), (more, next, refl))))
+      open_bad : (shape : TimeShape) (t : TimeRecord) (more : Text) → ClockOf clock shape front t → rest ≡ Bad ∷ more
+          → Stopped fault (bad_after fault clock shape) Fitting
+      open_bad hours t more x next =
+          (row_of (of_clock clock after_hour) bad NonAsciiCodePoint, refl, fits after_hour tt bad NonAsciiCodePoint front rest is (t, x) (more, next, refl))
+      open_bad plain_minutes t more x next = (
+        row_of (of_clock clock after_plain_minute) bad NonAsciiCodePoint,
+        refl,
+        fits after_plain_minute tt bad NonAsciiCodePoint front rest is (t, x)
+            (more, next, refl),
+      )
+      open_bad colon_minutes t more x next = (
+        row_of (of_clock clock after_colon_minute) bad NonAsciiCodePoint,
+        refl,
+        fits after_colon_minute tt bad NonAsciiCodePoint front rest is (t, x)
+            (more, next, refl),
+      )
+      open_bad seconds t more x next =
+          (row_of (of_clock clock after_second) bad NonAsciiCodePoint, refl, fits after_second tt bad NonAsciiCodePoint front rest is (t, x) (more, next, refl))
+      open_bad fractions t more x next = (
+        row_of (of_clock clock after_fraction) bad NonAsciiCodePoint,
+        refl,
+        fits after_fraction tt bad NonAsciiCodePoint front rest is (t, x)
+            (more, next, refl),
+      )
 
       -- at a colon or a digit that does not go on
-      plain_mixed_read : (t : TimeRecord) (c : ℕ) (more : Text) → PlainMinuteText front t → rest ≡ Plain c ∷ more → IsFalse (seconds_after clock digit c) → IsTrue ((colon or digit) c) → Stopped fault (mixed_after fault clock plain_minutes) (λ row. FitsIn (of_clock clock) brackets row text)
-      plain_mixed_read t c more x next out h =
-          (row_of (of_clock clock after_plain_minute) other (mixed clock), refl, (after_plain_minute, refl, (front, rest, is, (t, x), (c, more, next, or_from _ _ out (mixed_no_follow brackets clock c h), rw h refl))))
+      plain_mixed_read : (t : TimeRecord) (c : ℕ) (more : Text) → PlainMinuteText front t → rest ≡ Plain c ∷ more → IsFalse (seconds_after clock digit c)
+          → IsTrue ((colon or digit) c) → Stopped fault (mixed_after fault clock plain_minutes) Fitting
+      plain_mixed_read t c more x next out h = (
+        row_of (of_clock clock after_plain_minute) other (mixed clock),
+        refl,
+        fits after_plain_minute tt other (mixed clock) front rest is (t, x)
+            (c, more, next, or_from _ _ out (mixed_no_follow brackets clock c h), rw h refl),
+      )
 
-      colon_mixed_read : (t : TimeRecord) (c : ℕ) (more : Text) → ColonMinuteText front t → rest ≡ Plain c ∷ more → IsFalse (seconds_after clock colon c) → IsTrue ((colon or digit) c) → Stopped fault (mixed_after fault clock colon_minutes) (λ row. FitsIn (of_clock clock) brackets row text)
-      colon_mixed_read t c more x next out h =
-          (row_of (of_clock clock after_colon_minute) other (mixed clock), refl, (after_colon_minute, refl, (front, rest, is, (t, x), (c, more, next, or_from _ _ out (mixed_no_follow brackets clock c h), rw h refl))))
+      colon_mixed_read : (t : TimeRecord) (c : ℕ) (more : Text) → ColonMinuteText front t → rest ≡ Plain c ∷ more → IsFalse (seconds_after clock colon c)
+          → IsTrue ((colon or digit) c) → Stopped fault (mixed_after fault clock colon_minutes) Fitting
+      colon_mixed_read t c more x next out h = (
+        row_of (of_clock clock after_colon_minute) other (mixed clock),
+        refl,
+        fits after_colon_minute tt other (mixed clock) front rest is (t, x)
+            (c, more, next, or_from _ _ out (mixed_no_follow brackets clock c h), rw h refl),
+      )
 
       -- at the end, where it is an error
-      open_end : (shape : TimeShape) (t : TimeRecord) (e : Fault) → ClockOf clock shape front t → rest ≡ [] → (follow_of brackets clock).at_end ≡ error e → FitsIn (of_clock clock) brackets (row_of (line_after clock shape) end e) text
-      open_end hours t e x next ends = (after_hour, refl, (front, rest, is, (t, x), (next, ends)))
-      open_end plain_minutes t e x next ends = (after_plain_minute, refl, (front, rest, is, (t, x), (next, ends)))
-      open_end colon_minutes t e x next ends = (after_colon_minute, refl, (front, rest, is, (t, x), (next, ends)))
-      open_end seconds t e x next ends = (after_second, refl, (front, rest, is, (t, x), (next, ends)))
-      open_end fractions t e x next ends = (after_fraction, refl, (front, rest, is, (t, x), (next, ends)))
+      open_end : (shape : TimeShape) (t : TimeRecord) (e : Fault) → ClockOf clock shape front t → rest ≡ [] → (follow_of brackets clock).at_end ≡ error e
+          → Fitting (row_of (line_after clock shape) end e)
+      open_end hours t e x next ends = ((after_hour, tt), refl, (front, rest, is, (t, x), (next, ends)))
+      open_end plain_minutes t e x next ends = ((after_plain_minute, tt), refl, (front, rest, is, (t, x), (next, ends)))
+      open_end colon_minutes t e x next ends = ((after_colon_minute, tt), refl, (front, rest, is, (t, x), (next, ends)))
+      open_end seconds t e x next ends = ((after_second, tt), refl, (front, rest, is, (t, x), (next, ends)))
+      open_end fractions t e x next ends = ((after_fraction, tt), refl, (front, rest, is, (t, x), (next, ends)))
 
       -- at a letter that may not follow
-      open_other : (shape : TimeShape) (t : TimeRecord) (c : ℕ) (more : Text) (e : Fault) → ClockOf clock shape front t → rest ≡ Plain c ∷ more → IsFalse ((follow_of brackets clock).letters c) → e ≡ (follow_of brackets clock).at_other → Closed clock shape (Plain c ∷ more) → FitsIn (of_clock clock) brackets (row_of (line_after clock shape) other e) text
+      open_other : (shape : TimeShape) (t : TimeRecord) (c : ℕ) (more : Text) (e : Fault) → ClockOf clock shape front t → rest ≡ Plain c ∷ more
+          → IsFalse ((follow_of brackets clock).letters c) → e ≡ (follow_of brackets clock).at_other → Closed clock shape (Plain c ∷ more)
+          → Fitting (row_of (line_after clock shape) other e)
       open_other hours t c more e x next out same closed =
-          (after_hour, refl, (front, rest, is, (t, x), (c, more, next, or_from _ _ (or_from _ _ closed.0 closed.1) out, same)))
+          ((after_hour, tt), refl, (front, rest, is, (t, x), (c, more, next, or_from _ _ (or_from _ _ closed.0 closed.1) out, same)))
       open_other plain_minutes t c more e x next out same closed =
-          (after_plain_minute, refl, (front, rest, is, (t, x), (c, more, next, or_from _ _ closed.0 out, rw closed.1 same)))
+          ((after_plain_minute, tt), refl, (front, rest, is, (t, x), (c, more, next, or_from _ _ closed.0 out, rw closed.1 same)))
       open_other colon_minutes t c more e x next out same closed =
-          (after_colon_minute, refl, (front, rest, is, (t, x), (c, more, next, or_from _ _ closed.0 out, rw closed.1 same)))
+          ((after_colon_minute, tt), refl, (front, rest, is, (t, x), (c, more, next, or_from _ _ closed.0 out, rw closed.1 same)))
       open_other seconds t c more e x next out same closed =
-          (after_second, refl, (front, rest, is, (t, x), (c, more, next, or_from _ _ closed out, same)))
+          ((after_second, tt), refl, (front, rest, is, (t, x), (c, more, next, or_from _ _ closed out, same)))
       open_other fractions t c more e x next out same closed =
-          (after_fraction, refl, (front, rest, is, (t, x), (c, more, next, or_from _ _ closed out, same)))
+          ((after_fraction, tt), refl, (front, rest, is, (t, x), (c, more, next, or_from _ _ closed out, same)))
 
     -- what is known of reading a time, or a part of it
     abbrev Reads : Read E OpenTime → Type 0
-    Reads r = OnRead fault r (TimeFront clock text) (λ row. FitsIn (of_clock clock) brackets row text)
+    Reads r = OnRead fault r (TimeFront clock text) Fitting
 
     -- ---- from stage to stage
 
     module _ (h m s c : ℕ) (front : Text) (x : SecondText clock front (time_of h m s None)) (mark : IsTrue (decimal_mark c)) where
       -- after the first digit of a fraction
-      more_digits_read : (d : ℕ) (more : Text) → text ≡ front ++ (Plain c ∷ (Plain d ∷ more)) → IsTrue (digit d) → (r : Read E Text) → OnRun (bad_after fault clock fractions) more r → OnRead fault (r >>= λ ds. Ok (fraction_of (Plain d ∷ ds.0), ds.1)) (FractionFront (Plain d ∷ more)) (λ row. FitsIn (of_clock clock) brackets row text)
+      more_digits_read : (d : ℕ) (more : Text) → text ≡ front ++ (Plain c ∷ (Plain d ∷ more)) → IsTrue (digit d) → (r : Read E Text)
+          → OnRun (bad_after fault clock fractions) more r
+          → OnRead fault (r >>= λ ds. Ok (fraction_of (Plain d ∷ ds.0), ds.1)) (FractionFront (Plain d ∷ more)) Fitting
       more_digits_read d more is digit_d (Ok ds) run = (Plain d ∷ ds.0, onto d run.0, (run.1.0, (d, ds.0, refl, digit_d, run.1.1)), refl, run.2)
       more_digits_read d more is digit_d (Err e) run =
-          rw run.0 (open_bad (front ++ (Plain c ∷ (Plain d ∷ run.1))) (Bad ∷ run.2) (further text front _ (Plain c ∷ (Plain d ∷ run.1)) (Bad ∷ run.2) is (onto c (onto d run.3))) fractions
-          (time_of h m s (Some (fraction_of (Plain d ∷ run.1)))) run.2 (fraction_shape clock h m s c front (Plain d ∷ run.1) _ x mark (run.4, (d, run.1, refl, digit_d, run.5)) refl) refl)
+          rw run.0
+          (open_bad (front ++ (Plain c ∷ (Plain d ∷ run.1))) (Bad ∷ run.2)
+          (further text front _ (Plain c ∷ (Plain d ∷ run.1)) (Bad ∷ run.2) is (onto c (onto d run.3))) fractions
+          (time_of h m s (Some (fraction_of (Plain d ∷ run.1)))) run.2
+          (fraction_shape clock h m s c front (Plain d ∷ run.1) _ x mark (run.4, (d, run.1, refl, digit_d, run.5)) refl) refl)
 
-      fraction_read : (rest : Text) → text ≡ front ++ (Plain c ∷ rest) → OnRead fault (fraction_at fault clock rest) (FractionFront rest) (λ row. FitsIn (of_clock clock) brackets row text)
+      fraction_read : (rest : Text) → text ≡ front ++ (Plain c ∷ rest) → OnRead fault (fraction_at fault clock rest) (FractionFront rest) Fitting
       unfolding fraction_at
-      fraction_read rest is = then_read fault (letter_at fault (of_clock clock fraction_start) rest) _ _ _ _ _ (read_letter fault (of_clock clock fraction_start) rest tt)
-          (λ d left g. rw g.0 (more_digits_read d left (is ∙ rw g.0 refl) g.1 (digit_run (bad_after fault clock fractions) left) (run_read (bad_after fault clock fractions) left)))
-          (λ r g. fits_in (of_clock clock) brackets fraction_start r text (front ++ (Plain c ∷ [])) rest g.0 (further text front _ (Plain c ∷ []) rest is refl) (front, _, refl, (time_of h m s None, (x, refl)), (c, refl, mark)) g.1)
+      fraction_read rest is =
+          then_read fault (letter_at fault (of_clock clock fraction_start) rest) _ _ _ _ _ (read_letter fault (of_clock clock fraction_start) rest tt)
+          (λ d left g. rw g.0
+          (more_digits_read d left (is ∙ rw g.0 refl) g.1 (digit_run (bad_after fault clock fractions) left) (run_read (bad_after fault clock fractions) left)))
+          (λ r g. fits_in (later clock) brackets (fraction_start, tt) r text (front ++ (Plain c ∷ [])) rest g.0
+          (further text front _ (Plain c ∷ []) rest is refl) (front, _, refl, (time_of h m s None, (x, refl)), (c, refl, mark)) g.1)
 
       with_fraction_read : (rest : Text) → text ≡ front ++ (Plain c ∷ rest) → Reads (with_fraction h m s (fraction_at fault clock rest))
       with_fraction_read rest is = then_read fault (fraction_at fault clock rest) _ _ _ _ _ (fraction_read rest is)
-          (λ fraction more f. (front ++ (Plain c ∷ f.0), further text front _ (Plain c ∷ f.0) more is (onto c f.1), fraction_shape clock h m s c front f.0 fraction x mark f.2 f.3, f.4))
+          (λ fraction more f. let whole = fraction_shape clock h m s c front f.0 fraction x mark f.2 f.3 in
+          (front ++ (Plain c ∷ f.0), further text front _ (Plain c ∷ f.0) more is (onto c f.1), whole, f.4))
           (λ r f. f)
 
-    after_second_read : (h m s : ℕ) (front rest : Text) → text ≡ front ++ rest → SecondText clock front (time_of h m s None) → Reads (after_second_at fault clock h m s rest)
+    after_second_read : (h m s : ℕ) (front rest : Text) → text ≡ front ++ rest → SecondText clock front (time_of h m s None)
+        → Reads (after_second_at fault clock h m s rest)
     unfolding after_second_at
-    after_second_read h m s front rest is x = next_read (bad_after fault clock seconds) decimal_mark _ _ fault rest (TimeFront clock text) (λ row. FitsIn (of_clock clock) brackets row text)
+    after_second_read h m s front rest is x = next_read (bad_after fault clock seconds) decimal_mark _ _ fault rest (TimeFront clock text) Fitting
         (λ more next. open_bad front rest is seconds (time_of h m s None) more (x, refl) next)
         (λ c more next mark. with_fraction_read h m s c front x mark more (is ∙ rw next refl))
         (λ closed. (front, is, (x, refl), closed))
 
-    colon_second_read : (h m : ℕ) (front rest : Text) → IsTrue (has_seconds clock) → text ≡ (front ++ (Plain 58 ∷ [])) ++ rest → ColonMinuteText front (time_of h m 0 None) → Reads (colon_second_at fault clock h m rest)
+    colon_second_read : (h m : ℕ) (front rest : Text) → IsTrue (has_seconds clock) → text ≡ (front ++ (Plain 58 ∷ [])) ++ rest
+        → ColonMinuteText front (time_of h m 0 None) → Reads (colon_second_at fault clock h m rest)
     unfolding colon_second_at
-    colon_second_read h m front rest may is x = then_read fault (digits_at fault (of_clock clock second_digits) 2 rest) _ _ _ _ _ (digits_read fault (of_clock clock second_digits) (λ c. refl) 2 rest)
-        (λ ds more g. then_read fault (in_range (greatest_second clock) (fault (second_past clock)) (ds, more)) _ _ _ _ _ (range_read (greatest_second clock) (second_past clock) ds more)
-        (λ s left u. after_second_read h m s (x.hs ++ (Plain 58 ∷ (x.ms ++ (Plain 58 ∷ ds)))) left (is ∙ rw (x.is, g.0, u.0) (simp append_assoc)) (inr (record { hs = x.hs; ms = x.ms; ss = ds; is = refl; may = may; hour = x.hour; minute = x.minute; second = (g.1, u.1, u.2) })))
-        (λ r u. rw u.0 (second_range, refl, (front ++ (Plain 58 ∷ ds), more, is ∙ rw g.0 (simp append_assoc), (may, inr (front, _, refl, (_, x), (Plain 58 ∷ [], ds, refl, (58, refl, refl), (g.1, u.1)))), refl))))
-        (λ r g. fits_in (of_clock clock) brackets second_digits r text (front ++ (Plain 58 ∷ g.2)) g.3 g.6.0 (is ∙ rw g.4 (simp append_assoc)) (may, inr (front, _, refl, (_, x), (Plain 58 ∷ [], g.2, refl, (58, refl, refl), (g.0, g.1, g.5)))) g.6.1)
+    colon_second_read h m front rest may is x =
+        then_read fault (digits_at fault (of_clock clock second_digits) 2 rest) _ _ _ _ _ (digits_read fault (of_clock clock second_digits) (λ c. refl) 2 rest)
+        (λ ds more g. then_read fault (in_range (greatest_second clock) (fault (second_past clock)) (ds, more)) _ _ _ _ _
+        (range_read (greatest_second clock) (second_past clock) ds more)
+        (λ s left u. after_second_read h m s (x.hs ++ (Plain 58 ∷ (x.ms ++ (Plain 58 ∷ ds)))) left (is ∙ rw (x.is, g.0, u.0) (simp append_assoc))
+        (inr (record { hs = x.hs; ms = x.ms; ss = ds; is = refl; may = may; hour = x.hour; minute = x.minute; second = (g.1, u.1, u.2) })))
+        (λ r u. rw u.0 (fits second_range tt anywhere (second_fault clock) (front ++ (Plain 58 ∷ ds)) more (is ∙ rw g.0 (simp append_assoc))
+        (may, inr (front, _, refl, (_, x), (Plain 58 ∷ [], ds, refl, (58, refl, refl), (g.1, u.1)))) refl)))
+        (λ r g. fits_in (later clock) brackets (second_digits, tt) r text (front ++ (Plain 58 ∷ g.2)) g.3 g.6.0 (is ∙ rw g.4 (simp append_assoc))
+        (may, inr (front, _, refl, (_, x), (Plain 58 ∷ [], g.2, refl, (58, refl, refl), (g.0, g.1, g.5)))) g.6.1)
 
-    plain_second_read : (h m c : ℕ) (front rest : Text) → IsTrue (has_seconds clock) → IsTrue (digit c) → text ≡ (front ++ (Plain c ∷ [])) ++ rest → PlainMinuteText front (time_of h m 0 None) → Reads (plain_second_at fault clock h m c rest)
+    plain_second_read : (h m c : ℕ) (front rest : Text) → IsTrue (has_seconds clock) → IsTrue (digit c) → text ≡ (front ++ (Plain c ∷ [])) ++ rest
+        → PlainMinuteText front (time_of h m 0 None) → Reads (plain_second_at fault clock h m c rest)
     unfolding plain_second_at
-    plain_second_read h m c front rest may d is x = then_read fault (digits_at fault (of_clock clock second_digits) 1 rest) _ _ _ _ _ (digits_read fault (of_clock clock second_digits) (λ c. refl) 1 rest)
-        (λ ds more g. then_read fault (in_range (greatest_second clock) (fault (second_past clock)) (Plain c ∷ ds, more)) _ _ _ _ _ (range_read (greatest_second clock) (second_past clock) (Plain c ∷ ds) more)
-        (λ s left u. after_second_read h m s (x.hs ++ (x.ms ++ (Plain c ∷ ds))) left (is ∙ rw (x.is, g.0, u.0) (simp append_assoc)) (inl (record { hs = x.hs; ms = x.ms; ss = Plain c ∷ ds; is = refl; may = may; hour = x.hour; minute = x.minute; second = ((c, ds, refl, d, g.1), u.1, u.2) })))
-        (λ r u. rw u.0 (second_range, refl, (front ++ (Plain c ∷ ds), more, is ∙ rw g.0 (simp append_assoc), (may, inl (front, _, refl, (_, x), ((c, ds, refl, d, g.1), u.1))), refl))))
+    plain_second_read h m c front rest may d is x =
+        then_read fault (digits_at fault (of_clock clock second_digits) 1 rest) _ _ _ _ _ (digits_read fault (of_clock clock second_digits) (λ c. refl) 1 rest)
+        (λ ds more g. then_read fault (in_range (greatest_second clock) (fault (second_past clock)) (Plain c ∷ ds, more)) _ _ _ _ _
+        (range_read (greatest_second clock) (second_past clock) (Plain c ∷ ds) more)
+        (λ s left u. after_second_read h m s (x.hs ++ (x.ms ++ (Plain c ∷ ds))) left (is ∙ rw (x.is, g.0, u.0) (simp append_assoc))
+        (inl (record {
+          hs = x.hs;
+          ms = x.ms;
+          ss = Plain c ∷ ds;
+          is = refl;
+          may = may;
+          hour = x.hour;
+          minute = x.minute;
+          second = ((c, ds, refl, d, g.1), u.1, u.2);
+        })))
+        (λ r u. rw u.0 (fits second_range tt anywhere (second_fault clock) (front ++ (Plain c ∷ ds)) more (is ∙ rw g.0 (simp append_assoc))
+        (may, inl (front, _, refl, (_, x), ((c, ds, refl, d, g.1), u.1))) refl)))
         (λ r g. let at = no_digit (of_clock clock second_digits) rest r g in
-        fits_in (of_clock clock) brackets second_digits r text (front ++ (Plain c ∷ [])) rest at.0 is (may, inl (front, _, refl, (_, x), (c, refl, d))) at.1)
+        fits_in (later clock) brackets (second_digits, tt) r text (front ++ (Plain c ∷ [])) rest at.0 is (may, inl (front, _, refl, (_, x), (c, refl, d))) at.1)
 
-    after_colon_minute_read : (h m : ℕ) (front rest : Text) → text ≡ front ++ rest → ColonMinuteText front (time_of h m 0 None) → Reads (after_colon_minute_at fault clock h m rest)
+    after_colon_minute_read : (h m : ℕ) (front rest : Text) → text ≡ front ++ rest → ColonMinuteText front (time_of h m 0 None)
+        → Reads (after_colon_minute_at fault clock h m rest)
     unfolding after_colon_minute_at
-    after_colon_minute_read h m front rest is x = next_read (bad_after fault clock colon_minutes) (seconds_after clock colon) _ _ fault rest (TimeFront clock text) (λ row. FitsIn (of_clock clock) brackets row text)
+    after_colon_minute_read h m front rest is x =
+        next_read (bad_after fault clock colon_minutes) (seconds_after clock colon) _ _ fault rest (TimeFront clock text) Fitting
         (λ more next. open_bad front rest is colon_minutes (time_of h m 0 None) more x next)
         (λ c more next mark. let parts = and_parts _ _ mark in
         colon_second_read h m front more parts.0 (further text front rest (Plain 58 ∷ []) more is (next ∙ rw (eqb-true c 58 parts.1) refl)) x)
-        (λ no_second. next_read (bad_after fault clock colon_minutes) (colon or digit) (λ d left. Err (mixed_after fault clock colon_minutes)) _ fault rest (TimeFront clock text) (λ row. FitsIn (of_clock clock) brackets row text)
+        (λ no_second. next_read (bad_after fault clock colon_minutes) (colon or digit) (λ d left. Err (mixed_after fault clock colon_minutes)) _ fault rest
+        (TimeFront clock text) Fitting
         (λ more next. open_bad front rest is colon_minutes (time_of h m 0 None) more x next)
         (λ c more next h. colon_mixed_read front rest is _ c more x next (rw next at no_second) h)
         (λ closed. (front, is, x, (no_second, closed))))
 
-    after_plain_minute_read : (h m : ℕ) (front rest : Text) → text ≡ front ++ rest → PlainMinuteText front (time_of h m 0 None) → Reads (after_plain_minute_at fault clock h m rest)
+    after_plain_minute_read : (h m : ℕ) (front rest : Text) → text ≡ front ++ rest → PlainMinuteText front (time_of h m 0 None)
+        → Reads (after_plain_minute_at fault clock h m rest)
     unfolding after_plain_minute_at
-    after_plain_minute_read h m front rest is x = next_read (bad_after fault clock plain_minutes) (seconds_after clock digit) _ _ fault rest (TimeFront clock text) (λ row. FitsIn (of_clock clock) brackets row text)
+    after_plain_minute_read h m front rest is x =
+        next_read (bad_after fault clock plain_minutes) (seconds_after clock digit) _ _ fault rest (TimeFront clock text) Fitting
         (λ more next. open_bad front rest is plain_minutes (time_of h m 0 None) more x next)
         (λ c more next d. let parts = and_parts _ _ d in
         plain_second_read h m c front more parts.0 parts.1 (further text front rest (Plain c ∷ []) more is next) x)
-        (λ no_second. next_read (bad_after fault clock plain_minutes) (colon or digit) (λ d left. Err (mixed_after fault clock plain_minutes)) _ fault rest (TimeFront clock text) (λ row. FitsIn (of_clock clock) brackets row text)
+        (λ no_second. next_read (bad_after fault clock plain_minutes) (colon or digit) (λ d left. Err (mixed_after fault clock plain_minutes)) _ fault rest
+        (TimeFront clock text) Fitting
         (λ more next. open_bad front rest is plain_minutes (time_of h m 0 None) more x next)
         (λ c more next h. plain_mixed_read front rest is _ c more x next (rw next at no_second) h)
         (λ closed. (front, is, x, (no_second, closed))))
 
     colon_minute_read : (h : ℕ) (front rest : Text) → text ≡ (front ++ (Plain 58 ∷ [])) ++ rest → UpTo 23 front h → Reads (colon_minute_at fault clock h rest)
     unfolding colon_minute_at
-    colon_minute_read h front rest is x = then_read fault (digits_at fault (of_clock clock minute_digits) 2 rest) _ _ _ _ _ (digits_read fault (of_clock clock minute_digits) (λ c. refl) 2 rest)
+    colon_minute_read h front rest is x =
+        then_read fault (digits_at fault (of_clock clock minute_digits) 2 rest) _ _ _ _ _ (digits_read fault (of_clock clock minute_digits) (λ c. refl) 2 rest)
         (λ ds more g. then_read fault (in_range 59 (fault (minute_past clock)) (ds, more)) _ _ _ _ _ (range_read 59 (minute_past clock) ds more)
-        (λ m left u. after_colon_minute_read h m (front ++ (Plain 58 ∷ ds)) left (is ∙ rw (g.0, u.0) (simp append_assoc)) (record { hs = front; ms = ds; is = refl; hour = x; minute = (g.1, u.1, u.2); no_second = refl; no_fraction = refl }))
-        (λ r u. rw u.0 (minute_range, refl, (front ++ (Plain 58 ∷ ds), more, is ∙ rw g.0 (simp append_assoc), (front, _, refl, (h, x), (Plain 58 ∷ [], ds, refl, inr (58, refl, refl), (g.1, u.1))), refl))))
-        (λ r g. fits_in (of_clock clock) brackets minute_digits r text (front ++ (Plain 58 ∷ g.2)) g.3 g.6.0 (is ∙ rw g.4 (simp append_assoc)) (front, _, refl, (h, x), after_colon g.2 (none_or_one g.0 g.2 g.1 g.5)) g.6.1)
+        (λ m left u. after_colon_minute_read h m (front ++ (Plain 58 ∷ ds)) left (is ∙ rw (g.0, u.0) (simp append_assoc))
+        (record { hs = front; ms = ds; is = refl; hour = x; minute = (g.1, u.1, u.2); no_second = refl; no_fraction = refl }))
+        (λ r u. rw u.0 (fits minute_range tt anywhere TimeMinuteSecond (front ++ (Plain 58 ∷ ds)) more (is ∙ rw g.0 (simp append_assoc))
+        (front, _, refl, (h, x), (Plain 58 ∷ [], ds, refl, inr (58, refl, refl), (g.1, u.1))) refl)))
+        (λ r g. fits_in (later clock) brackets (minute_digits, tt) r text (front ++ (Plain 58 ∷ g.2)) g.3 g.6.0 (is ∙ rw g.4 (simp append_assoc))
+        (front, _, refl, (h, x), after_colon g.2 (none_or_one g.0 g.2 g.1 g.5)) g.6.1)
 
-    plain_minute_read : (h c : ℕ) (front rest : Text) → IsTrue (digit c) → text ≡ (front ++ (Plain c ∷ [])) ++ rest → UpTo 23 front h → Reads (plain_minute_at fault clock h c rest)
+    plain_minute_read : (h c : ℕ) (front rest : Text) → IsTrue (digit c) → text ≡ (front ++ (Plain c ∷ [])) ++ rest → UpTo 23 front h
+        → Reads (plain_minute_at fault clock h c rest)
     unfolding plain_minute_at
-    plain_minute_read h c front rest d is x = then_read fault (digits_at fault (of_clock clock minute_digits) 1 rest) _ _ _ _ _ (digits_read fault (of_clock clock minute_digits) (λ c. refl) 1 rest)
-        (λ ds more g. then_read fault (in_range 59 (fault (minute_past clock)) (Plain c ∷ ds, more)) _ _ _ _ _ (range_read 59 (minute_past clock) (Plain c ∷ ds) more)
-        (λ m left u. after_plain_minute_read h m (front ++ (Plain c ∷ ds)) left (is ∙ rw (g.0, u.0) (simp append_assoc)) (record { hs = front; ms = Plain c ∷ ds; is = refl; hour = x; minute = ((c, ds, refl, d, g.1), u.1, u.2); no_second = refl; no_fraction = refl }))
-        (λ r u. rw u.0 (minute_range, refl, (front ++ (Plain c ∷ ds), more, is ∙ rw g.0 (simp append_assoc), (front, _, refl, (h, x), ([], Plain c ∷ ds, refl, inl refl, ((c, ds, refl, d, g.1), u.1))), refl))))
+    plain_minute_read h c front rest d is x =
+        then_read fault (digits_at fault (of_clock clock minute_digits) 1 rest) _ _ _ _ _ (digits_read fault (of_clock clock minute_digits) (λ c. refl) 1 rest)
+        (λ ds more g. then_read fault (in_range 59 (fault (minute_past clock)) (Plain c ∷ ds, more)) _ _ _ _ _
+        (range_read 59 (minute_past clock) (Plain c ∷ ds) more)
+        (λ m left u. after_plain_minute_read h m (front ++ (Plain c ∷ ds)) left (is ∙ rw (g.0, u.0) (simp append_assoc))
+        (record { hs = front; ms = Plain c ∷ ds; is = refl; hour = x; minute = ((c, ds, refl, d, g.1), u.1, u.2); no_second = refl; no_fraction = refl }))
+        (λ r u. rw u.0 (fits minute_range tt anywhere TimeMinuteSecond (front ++ (Plain c ∷ ds)) more (is ∙ rw g.0 (simp append_assoc))
+        (front, _, refl, (h, x), ([], Plain c ∷ ds, refl, inl refl, ((c, ds, refl, d, g.1), u.1))) refl)))
         (λ r g. let at = no_digit (of_clock clock minute_digits) rest r g in
-        fits_in (of_clock clock) brackets minute_digits r text (front ++ (Plain c ∷ [])) rest at.0 is (front, _, refl, (h, x), inr (inr (c, refl, d))) at.1)
+        fits_in (later clock) brackets (minute_digits, tt) r text (front ++ (Plain c ∷ [])) rest at.0 is (front, _, refl, (h, x), inr (inr (c, refl, d))) at.1)
 
     after_hour_read : (h : ℕ) (front rest : Text) → text ≡ front ++ rest → UpTo 23 front h → Reads (after_hour_at fault clock h rest)
     unfolding after_hour_at
     after_hour_read h front rest is x =
         let hour : ClockOf clock hours front (time_of h 0 0 None) = record { hour = x; no_minute = refl; no_second = refl; no_fraction = refl } in
-        next_read (bad_after fault clock hours) colon _ _ fault rest (TimeFront clock text) (λ row. FitsIn (of_clock clock) brackets row text)
+        next_read (bad_after fault clock hours) colon _ _ fault rest (TimeFront clock text) Fitting
         (λ more next. open_bad front rest is hours (time_of h 0 0 None) more hour next)
         (λ c more next mark. colon_minute_read h front more (further text front rest (Plain 58 ∷ []) more is (next ∙ rw (eqb-true c 58 mark) refl)) x)
-        (λ no_colon. next_read (bad_after fault clock hours) digit _ _ fault rest (TimeFront clock text) (λ row. FitsIn (of_clock clock) brackets row text)
+        (λ no_colon. next_read (bad_after fault clock hours) digit _ _ fault rest (TimeFront clock text) Fitting
         (λ more next. open_bad front rest is hours (time_of h 0 0 None) more hour next)
         (λ c more next d. plain_minute_read h c front more d (further text front rest (Plain c ∷ []) more is next) x)
         (λ closed. (front, is, hour, (no_colon, closed))))
 
     pub hour_read : (c : ℕ) (rest : Text) → IsTrue (digit c) → text ≡ Plain c ∷ rest → Reads (hour_from fault clock c rest)
     unfolding hour_from
-    hour_read c rest d is = then_read fault (digits_at fault (of_clock clock hour_digit) 1 rest) _ _ _ _ _ (digits_read fault (of_clock clock hour_digit) (λ c. refl) 1 rest)
-        (λ ds more g. then_read fault (in_range 23 (fault (hour_past clock)) (Plain c ∷ ds, more)) _ _ _ _ _ (range_read 23 (hour_past clock) (Plain c ∷ ds) more)
+    hour_read c rest d is =
+        then_read fault (digits_at fault (of_clock clock hour_digit) 1 rest) _ _ _ _ _ (digits_read fault (of_clock clock hour_digit) (λ c. refl) 1 rest)
+        (λ ds more g. then_read fault (in_range 23 (fault (hour_past clock)) (Plain c ∷ ds, more)) _ _ _ _ _
+        (range_read 23 (hour_past clock) (Plain c ∷ ds) more)
         (λ h left u. after_hour_read h (Plain c ∷ ds) left (is ∙ rw (g.0, u.0) refl) ((c, ds, refl, d, g.1), u.1, u.2))
-        (λ r u. rw u.0 (hour_range, refl, (Plain c ∷ ds, more, is ∙ rw g.0 refl, ((c, ds, refl, d, g.1), u.1), refl))))
+        (λ r u. rw u.0 (fits hour_range tt anywhere TimeHour (Plain c ∷ ds) more (is ∙ rw g.0 refl) ((c, ds, refl, d, g.1), u.1) refl)))
         (λ r g. let at = no_digit (of_clock clock hour_digit) rest r g in
-        fits_in (of_clock clock) brackets hour_digit r text (Plain c ∷ []) rest at.0 is (c, refl, d) at.1)
+        fits_in (later clock) brackets (hour_digit, tt) r text (Plain c ∷ []) rest at.0 is (c, refl, d) at.1)
 
     -- a time with nothing before it
     pub clock_read : OnRead fault (clock_at fault clock text) (TimeFront clock text) (λ row. FitsIn (of_clock clock) brackets row text)
     unfolding clock_at
     clock_read = then_read fault (letter_at fault (of_clock clock hour_start) text) _ _ _ _ _ (read_letter fault (of_clock clock hour_start) text tt)
-        (λ c rest h. hour_read c rest h.1 h.0)
+        (λ c rest h. read_weaker fault (hour_from fault clock c rest) _ _ _ _ (hour_read c rest h.1 h.0) (λ x more g. g) (λ row g. (g.0.0, g.1, g.2)))
         (λ r h. fits_in (of_clock clock) brackets hour_start r text [] text h.0 refl refl h.1)
 
     -- ---- what follows a time
 
     -- the row where a whole time stops
-    pub clock_stops : (x : OpenTime) (place : Place) (e : Fault) (rest : Text) → TimeFront clock text x rest → StopsAfter (follow_of brackets clock) place e rest → FitsIn (of_clock clock) brackets (row_of (line_after clock x.0) place e) text
+    pub clock_stops : (x : OpenTime) (place : Place) (e : Fault) (rest : Text) → TimeFront clock text x rest
+        → StopsAfter (follow_of brackets clock) place e rest → Fitting (row_of (line_after clock x.0) place e)
     clock_stops x end e rest h at = open_end h.0 rest h.1 x.0 x.1 e h.2 at.0 at.1
     clock_stops x other e rest h at = open_other h.0 rest h.1 x.0 x.1 at.0 at.1 e h.2 at.2 at.3 at.4 (rw at.2 at h.3)
     clock_stops x bad e rest h at = absurd at
     clock_stops x anywhere e rest h at = absurd at
 
     -- at a letter that may not follow
-    other_read : (x : OpenTime) (rest : Text) → TimeFront clock text x rest → (c : ℕ) (more : Text) → rest ≡ Plain c ∷ more → IsFalse ((follow_of brackets clock).letters c) → Stopped fault ((follow_look fault brackets clock x).at_other c) (λ row. FitsIn (of_clock clock) brackets row text)
+    other_read : (x : OpenTime) (rest : Text) → TimeFront clock text x rest → (c : ℕ) (more : Text) → rest ≡ Plain c ∷ more
+        → IsFalse ((follow_of brackets clock).letters c) → Stopped fault ((follow_look fault brackets clock x).at_other c) Fitting
     other_read x rest h c more next out =
         let e = (follow_of brackets clock).at_other in
         (row_of (line_after clock x.0) other e, refl, clock_stops x other e rest h (c, more, next, out, refl))
 
-    -- the look at what follows: where the text may end, and where it may not
-    pub clock_peek_read : (x : OpenTime) (rest : Text) → TimeFront clock text x rest → (follow_of brackets clock).at_end ≡ ok → OnRead fault (peek_by (follow_look fault brackets clock x) rest) (Peeked (follow_of brackets clock).letters rest) (λ row. FitsIn (of_clock clock) brackets row text)
-    clock_peek_read x rest h ends = peek_read (follow_look fault brackets clock x) fault rest _ (other_read x rest h) (λ more next. open_bad h.0 rest h.1 x.0 x.1 more h.2 next)
+    -- a line after the first digit is one of the clock's lines
+    in_clock : (e : E) → Stopped fault e Fitting → Stopped fault e (λ row. FitsIn (of_clock clock) brackets row text)
+    in_clock e h = (h.0, h.1, (h.2.0.0, h.2.1, h.2.2))
 
-    pub clock_next_read : (x : OpenTime) (rest : Text) (e : Fault) → TimeFront clock text x rest → (follow_of brackets clock).at_end ≡ error e → OnRead fault (next_by (follow_look fault brackets clock x) rest) (λ c more. (rest ≡ Plain c ∷ more) × IsTrue ((follow_of brackets clock).letters c)) (λ row. FitsIn (of_clock clock) brackets row text)
+    -- the look at what follows: where the text may end, and where it may not
+    pub clock_peek_read : (x : OpenTime) (rest : Text) → TimeFront clock text x rest → (follow_of brackets clock).at_end ≡ ok
+        → OnRead fault (peek_by (follow_look fault brackets clock x) rest) (Peeked (follow_of brackets clock).letters rest)
+        (λ row. FitsIn (of_clock clock) brackets row text)
+    clock_peek_read x rest h ends = peek_read (follow_look fault brackets clock x) fault rest _
+        (λ c more next out. in_clock _ (other_read x rest h c more next out))
+        (λ more next. in_clock _ (open_bad h.0 rest h.1 x.0 x.1 more h.2 next))
+
+    pub clock_next_read : (x : OpenTime) (rest : Text) (e : Fault) → TimeFront clock text x rest → (follow_of brackets clock).at_end ≡ error e
+        → OnRead fault (next_by (follow_look fault brackets clock x) rest) (λ c more. (rest ≡ Plain c ∷ more) × IsTrue ((follow_of brackets clock).letters c))
+        (λ row. FitsIn (of_clock clock) brackets row text)
     unfolding next_by look_at
-    clock_next_read x [] e h ends = rw ends (row_of (line_after clock x.0) end e, refl, clock_stops x end e [] h (refl, ends))
-    clock_next_read x (Bad ∷ rest) e h ends = open_bad h.0 _ h.1 x.0 x.1 rest h.2 refl
-    clock_next_read x (Plain c ∷ rest) e h ends = read_if fault ((follow_of brackets clock).letters c) _ _ _ _ (λ g. (refl, g)) (λ out. other_read x (Plain c ∷ rest) h c rest refl out)
+    clock_next_read x [] e h ends = rw ends (in_clock _ (row_of (line_after clock x.0) end e, refl, clock_stops x end e [] h (refl, ends)))
+    clock_next_read x (Bad ∷ rest) e h ends = in_clock _ (open_bad h.0 _ h.1 x.0 x.1 rest h.2 refl)
+    clock_next_read x (Plain c ∷ rest) e h ends =
+        read_if fault ((follow_of brackets clock).letters c) _ _ _ _ (λ g. (refl, g)) (λ out. in_clock _ (other_read x (Plain c ∷ rest) h c rest refl out))

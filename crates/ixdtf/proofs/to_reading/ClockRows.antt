@@ -1,4 +1,4 @@
--- A brackets that has read what stands before a time or an offset, and goes on after it: it returns each row of its lines.
+-- A reading that has gone over what stands before a time or an offset, and goes on after it, returns each row of their lines.
 use Rattle.std.proofs.Common.{◌≡◌, ℕ, IsTrue, [], ◌∷◌, ◌++◌, Err, refl, ◌∙◌, inl, inr, arith, Bool}
 use Rattle.ixdtf.specs.language.Times.{Clock}
 use Rattle.ixdtf.specs.declared.records.TimeRecord.{TimeRecord}
@@ -8,80 +8,128 @@ use Rattle.ixdtf.specs.language.Letters.{digit}
 use Rattle.ixdtf.specs.table.Faults.{Fault}
 use Rattle.ixdtf.specs.language.Times.{TimeShape, ClockOf}
 use Rattle.ixdtf.specs.language.Times.TimeShape.{hours, plain_minutes, colon_minutes, seconds, fractions}
-use Rattle.ixdtf.specs.table.LineNames.{ClockLine}
+use Rattle.ixdtf.specs.table.LineNames.{ClockLine, LineName}
 use Rattle.ixdtf.specs.table.LineNames.LineName.{of_clock}
-use Rattle.ixdtf.specs.table.LineNames.ClockLine.{hour_start, hour_digit, hour_range, after_hour, minute_digits, minute_range, after_plain_minute, after_colon_minute, second_digits, second_range, after_second, fraction_start, after_fraction}
+use Rattle.ixdtf.specs.table.LineNames.ClockLine.{hour_start, hour_digit, hour_range, after_hour, minute_digits, minute_range, after_plain_minute}
+use Rattle.ixdtf.specs.table.LineNames.ClockLine.{after_colon_minute, second_digits, second_range, after_second, fraction_start, after_fraction}
 use Rattle.ixdtf.specs.table.Lines.{line_of, follow_of}
 use Rattle.ixdtf.specs.table.Lines.Ending.{ok}
-use Rattle.ixdtf.specs.table.Rows.{Row, Place, Stops, front_of}
+use Rattle.ixdtf.specs.table.Rows.{Row, Place, Stops}
 use Rattle.ixdtf.specs.table.Rows.Place.{end, other, bad, anywhere}
 use Rattle.ixdtf.specs.reading.Looks.{Read, ◌>>=◌, row_of, look_at, peek_by, next_by}
 use Rattle.ixdtf.specs.reading.Times.{OpenTime, line_after, hour_from, clock_at}
 use Rattle.ixdtf.specs.reading.Zones.{follow_look}
 use Rattle.ixdtf.proofs.parts.Looks.{Leads, RowsRead, goes, stops, peek_other}
-use Rattle.ixdtf.proofs.to_reading.Times.{Closed, StopsAfter, OpenRow, time_takes, open_row, hour_digit_row, hour_range_row, minute_digits_row, minute_range_row, second_digits_row, second_range_row, fraction_start_row}
+use Rattle.ixdtf.proofs.to_reading.Times.{Closed, IsLater, StopsAfter, OpenRow, time_takes, open_row, hour_digit_row, hour_range_row}
+use Rattle.ixdtf.proofs.to_reading.Times.{minute_digits_row, minute_range_row, second_digits_row, second_range_row, fraction_start_row}
 
--- ---- a time with nothing of its own before it
+-- each row of the line is returned, behind what stands before it
+abbrev pub RowsBehind : {E A : Type 0} → (Row → E) → Bool → (Text → Read E A) → Text → LineName → Type 0
+RowsBehind fault brackets whole_at prior name = RowsRead fault brackets (λ body. whole_at (prior ++ body)) name
+
+-- what follows a time refuses, by each row of the line at which the time stops
+abbrev pub Refuses : {E A : Type 0} → (Row → E) → Bool → Clock → (OpenTime × Text → Read E A) → Type 0
+Refuses fault brackets clock after = (shape : TimeShape) (t : TimeRecord) (place : Place) (e : Fault) (rest : Text)
+    → Closed clock shape rest → StopsAfter (follow_of brackets clock) place e rest
+    → after ((shape, t), rest) ≡ Err (fault (row_of (line_after clock shape) place e))
+
+-- over what stands before a time reading goes on to the time, which starts in any way, and then to what follows it
+pub record TimeLead {E A : Type 0} (fault : Row → E) (clock : Clock) (whole_at : Text → Read E A) (after : OpenTime × Text → Read E A)
+    (prior : Text) : Type 0 where
+  pub start : Text → Read E OpenTime
+  pub starts : (c : ℕ) → IsTrue (digit c) → Leads start (Plain c ∷ []) (hour_from fault clock c)
+  pub over : (body : Text) → whole_at (prior ++ body) ≡ (start body >>= after)
+
+-- ---- a time that starts with its hour
 
 module _ {E : Type 0} (fault : Row → E) (clock : Clock) where
-  clock_starts : (c : ℕ) → IsTrue (digit c) → Leads (clock_at fault clock) (Plain c ∷ []) (hour_from fault clock c)
+  pub clock_starts : (c : ℕ) → IsTrue (digit c) → Leads (clock_at fault clock) (Plain c ∷ []) (hour_from fault clock c)
   unfolding clock_at
   clock_starts c d = record { over = λ rest. rw (goes fault (of_clock clock hour_start) c rest tt d) refl }
 
-  hour_start_row : (brackets : Bool) → RowsRead fault brackets (clock_at fault clock) (of_clock clock hour_start)
+  pub hour_start_row : (brackets : Bool) → RowsRead fault brackets (clock_at fault clock) (of_clock clock hour_start)
   unfolding clock_at
   hour_start_row brackets place e front rest f at = rw (f, stops fault (of_clock clock hour_start) place e rest tt at) refl
 
--- ---- a brackets that goes on after a time
+  abbrev pub clock_lead : {A : Type 0} (whole_at : Text → Read E A) (after : OpenTime × Text → Read E A) (prior : Text)
+      → ((body : Text) → whole_at (prior ++ body) ≡ (clock_at fault clock body >>= after)) → TimeLead fault clock whole_at after prior
+  clock_lead whole_at after prior over = record { start = clock_at fault clock; starts = clock_starts; over = over }
 
-module _ {E A : Type 0} (fault : Row → E) (brackets : Bool) (clock : Clock) (whole_at : Text → Read E A) (after : OpenTime × Text → Read E A) (prior : Text) (lead : (body : Text) → whole_at (prior ++ body) ≡ (clock_at fault clock body >>= after)) where
+-- ---- a reading that goes on after a time
+
+module _ {E A : Type 0} (fault : Row → E) (clock : Clock) (whole_at : Text → Read E A) (after : OpenTime × Text → Read E A) (prior : Text)
+    (lead : TimeLead fault clock whole_at after prior) where
   -- a time is read as far as it goes
-  pub over_clock : (shape : TimeShape) (ts : Text) (t : TimeRecord) (rest : Text) → ClockOf clock shape ts t → Closed clock shape rest → whole_at (prior ++ (ts ++ rest)) ≡ after ((shape, t), rest)
-  over_clock shape ts t rest x closed = lead (ts ++ rest) ∙ rw (time_takes fault clock (clock_at fault clock) (clock_starts fault clock) shape ts t rest x closed) refl
+  pub over_time : (shape : TimeShape) (ts : Text) (t : TimeRecord) (rest : Text) → ClockOf clock shape ts t → Closed clock shape rest
+      → whole_at (prior ++ (ts ++ rest)) ≡ after ((shape, t), rest)
+  over_time shape ts t rest x closed = lead.over (ts ++ rest) ∙ rw (time_takes fault clock lead.start lead.starts shape ts t rest x closed) refl
 
   -- a fault in the time is returned
-  from_start : (body : Text) (e : E) → clock_at fault clock body ≡ Err e → whole_at (prior ++ body) ≡ Err e
-  from_start body e h = lead body ∙ rw h refl
+  in_time : (body : Text) (e : E) → lead.start body ≡ Err e → whole_at (prior ++ body) ≡ Err e
+  in_time body e h = lead.over body ∙ rw h refl
 
-  -- what follows a time of the shape refuses
-  abbrev Refuses : Type 0
-  Refuses = (shape : TimeShape) (t : TimeRecord) (place : Place) (e : Fault) (rest : Text) → Closed clock shape rest → StopsAfter (follow_of brackets clock) place e rest → after ((shape, t), rest) ≡ Err (fault (row_of (line_after clock shape) place e))
+  module _ (brackets : Bool) where
+    -- a row of the start is returned
+    pub start_rows : (name : LineName) → RowsRead fault brackets lead.start name → RowsBehind fault brackets whole_at prior name
+    start_rows name h place e front rest f at = in_time (front ++ rest) _ (h place e front rest f at)
 
-  open_rows : Refuses → (shape : TimeShape) (place : Place) (e : Fault) (front rest : Text) (t : TimeRecord) → ClockOf clock shape front t → Stops (line_of brackets (line_after clock shape)) place e rest → whole_at (prior ++ (front ++ rest)) ≡ Err (fault (row_of (line_after clock shape) place e))
-  open_rows refuses shape place e front rest t x at = by_row (open_row fault clock (clock_at fault clock) (clock_starts fault clock) brackets shape place e front rest t x at)
-    where
-      by_row : OpenRow fault clock (clock_at fault clock) (clock_starts fault clock) brackets shape place e front rest → whole_at (prior ++ (front ++ rest)) ≡ Err (fault (row_of (line_after clock shape) place e))
-      by_row (inl h) = from_start (front ++ rest) _ h
-      by_row (inr h) = over_clock shape front t rest x h.0 ∙ refuses shape t place e rest h.0 h.1
+    module _ (refuses : Refuses fault brackets clock after) where
+      open_rows : (shape : TimeShape) (place : Place) (e : Fault) (front rest : Text) (t : TimeRecord) → ClockOf clock shape front t
+          → Stops (line_of brackets (line_after clock shape)) place e rest
+          → whole_at (prior ++ (front ++ rest)) ≡ Err (fault (row_of (line_after clock shape) place e))
+      open_rows shape place e front rest t x at = by_row (open_row fault clock lead.start lead.starts brackets shape place e front rest t x at)
+        where
+          by_row : OpenRow fault clock lead.start lead.starts brackets shape place e front rest
+              → whole_at (prior ++ (front ++ rest)) ≡ Err (fault (row_of (line_after clock shape) place e))
+          by_row (inl h) = in_time (front ++ rest) _ h
+          by_row (inr h) = over_time shape front t rest x h.0 ∙ refuses shape t place e rest h.0 h.1
+
+      -- every row of a time's lines but that of the first digit
+      pub later_rows : (l : ClockLine) → IsLater l → RowsBehind fault brackets whole_at prior (of_clock clock l)
+      later_rows hour_start is_later = absurd is_later
+      later_rows hour_digit is_later = start_rows (of_clock clock hour_digit) (hour_digit_row fault clock lead.start lead.starts brackets)
+      later_rows hour_range is_later = start_rows (of_clock clock hour_range) (hour_range_row fault clock lead.start lead.starts brackets)
+      later_rows after_hour is_later = λ place e front rest f at. open_rows hours place e front rest f.0 f.1 at
+      later_rows minute_digits is_later = start_rows (of_clock clock minute_digits) (minute_digits_row fault clock lead.start lead.starts brackets)
+      later_rows minute_range is_later = start_rows (of_clock clock minute_range) (minute_range_row fault clock lead.start lead.starts brackets)
+      later_rows after_plain_minute is_later = λ place e front rest f at. open_rows plain_minutes place e front rest f.0 f.1 at
+      later_rows after_colon_minute is_later = λ place e front rest f at. open_rows colon_minutes place e front rest f.0 f.1 at
+      later_rows second_digits is_later = start_rows (of_clock clock second_digits) (second_digits_row fault clock lead.start lead.starts brackets)
+      later_rows second_range is_later = start_rows (of_clock clock second_range) (second_range_row fault clock lead.start lead.starts brackets)
+      later_rows after_second is_later = λ place e front rest f at. open_rows seconds place e front rest f.0 f.1 at
+      later_rows fraction_start is_later = start_rows (of_clock clock fraction_start) (fraction_start_row fault clock lead.start lead.starts brackets)
+      later_rows after_fraction is_later = λ place e front rest f at. open_rows fractions place e front rest f.0 f.1 at
+
+-- ---- a reading that goes on after a time which starts with its hour
+
+module _ {E A : Type 0} (fault : Row → E) (brackets : Bool) (clock : Clock) (whole_at : Text → Read E A) (after : OpenTime × Text → Read E A) (prior : Text)
+    (over : (body : Text) → whole_at (prior ++ body) ≡ (clock_at fault clock body >>= after)) where
+  abbrev lead : TimeLead fault clock whole_at after prior
+  lead = clock_lead fault clock whole_at after prior over
+
+  pub over_clock : (shape : TimeShape) (ts : Text) (t : TimeRecord) (rest : Text) → ClockOf clock shape ts t → Closed clock shape rest
+      → whole_at (prior ++ (ts ++ rest)) ≡ after ((shape, t), rest)
+  over_clock = over_time fault clock whole_at after prior lead
 
   -- every row of a time's lines
-  pub clock_rows : ((shape : TimeShape) (t : TimeRecord) (place : Place) (e : Fault) (rest : Text) → Closed clock shape rest → StopsAfter (follow_of brackets clock) place e rest → after ((shape, t), rest) ≡ Err (fault (row_of (line_after clock shape) place e)))
-      → (l : ClockLine) (place : Place) (e : Fault) (front rest : Text) → front_of (line_of brackets (of_clock clock l)) front → Stops (line_of brackets (of_clock clock l)) place e rest → whole_at (prior ++ (front ++ rest)) ≡ Err (fault (row_of (of_clock clock l) place e))
-  clock_rows refuses hour_start place e front rest f at = from_start (front ++ rest) _ (hour_start_row fault clock brackets place e front rest f at)
-  clock_rows refuses hour_digit place e front rest f at = from_start (front ++ rest) _ (hour_digit_row fault clock (clock_at fault clock) (clock_starts fault clock) brackets place e front rest f at)
-  clock_rows refuses hour_range place e front rest f at = from_start (front ++ rest) _ (hour_range_row fault clock (clock_at fault clock) (clock_starts fault clock) brackets place e front rest f at)
-  clock_rows refuses after_hour place e front rest f at = open_rows refuses hours place e front rest f.0 f.1 at
-  clock_rows refuses minute_digits place e front rest f at = from_start (front ++ rest) _ (minute_digits_row fault clock (clock_at fault clock) (clock_starts fault clock) brackets place e front rest f at)
-  clock_rows refuses minute_range place e front rest f at = from_start (front ++ rest) _ (minute_range_row fault clock (clock_at fault clock) (clock_starts fault clock) brackets place e front rest f at)
-  clock_rows refuses after_plain_minute place e front rest f at = open_rows refuses plain_minutes place e front rest f.0 f.1 at
-  clock_rows refuses after_colon_minute place e front rest f at = open_rows refuses colon_minutes place e front rest f.0 f.1 at
-  clock_rows refuses second_digits place e front rest f at = from_start (front ++ rest) _ (second_digits_row fault clock (clock_at fault clock) (clock_starts fault clock) brackets place e front rest f at)
-  clock_rows refuses second_range place e front rest f at = from_start (front ++ rest) _ (second_range_row fault clock (clock_at fault clock) (clock_starts fault clock) brackets place e front rest f at)
-  clock_rows refuses after_second place e front rest f at = open_rows refuses seconds place e front rest f.0 f.1 at
-  clock_rows refuses fraction_start place e front rest f at = from_start (front ++ rest) _ (fraction_start_row fault clock (clock_at fault clock) (clock_starts fault clock) brackets place e front rest f at)
-  clock_rows refuses after_fraction place e front rest f at = open_rows refuses fractions place e front rest f.0 f.1 at
+  pub clock_rows : Refuses fault brackets clock after → (l : ClockLine) → RowsBehind fault brackets whole_at prior (of_clock clock l)
+  clock_rows refuses hour_start = start_rows fault clock whole_at after prior lead brackets (of_clock clock hour_start) (hour_start_row fault clock brackets)
+  clock_rows refuses l = later_rows fault clock whole_at after prior lead brackets refuses l tt
 
 -- ---- the look at what follows a time
 
 module _ {E : Type 0} (fault : Row → E) (brackets : Bool) (clock : Clock) where
   -- the look at what follows a time returns the row that fits: where the text may end, and where it may not
-  pub peek_stops_after : (x : OpenTime) (place : Place) (e : Fault) (rest : Text) → (follow_of brackets clock).at_end ≡ ok → StopsAfter (follow_of brackets clock) place e rest → peek_by (follow_look fault brackets clock x) rest ≡ Err (fault (row_of (line_after clock x.0) place e))
+  pub peek_stops_after : (x : OpenTime) (place : Place) (e : Fault) (rest : Text) → (follow_of brackets clock).at_end ≡ ok
+      → StopsAfter (follow_of brackets clock) place e rest
+      → peek_by (follow_look fault brackets clock x) rest ≡ Err (fault (row_of (line_after clock x.0) place e))
   peek_stops_after x end e rest ends at = absurd (grind (arith, ends, at.1))
   peek_stops_after x other e rest ends at = rw (at.2, at.4) (peek_other (follow_look fault brackets clock x) at.0 at.1 at.3)
   peek_stops_after x bad e rest ends at = absurd at
   peek_stops_after x anywhere e rest ends at = absurd at
 
-  pub next_stops_after : (x : OpenTime) (place : Place) (e : Fault) (rest : Text) → StopsAfter (follow_of brackets clock) place e rest → next_by (follow_look fault brackets clock x) rest ≡ Err (fault (row_of (line_after clock x.0) place e))
+  pub next_stops_after : (x : OpenTime) (place : Place) (e : Fault) (rest : Text) → StopsAfter (follow_of brackets clock) place e rest
+      → next_by (follow_look fault brackets clock x) rest ≡ Err (fault (row_of (line_after clock x.0) place e))
   unfolding next_by look_at
   next_stops_after x end e rest at = rw (at.0, at.1) refl
   next_stops_after x other e rest at = rw (at.2, at.3, at.4) refl

@@ -1,45 +1,53 @@
 -- A core is read, with the end or the bracket after it, and each row of a core's lines is returned.
-use Rattle.std.proofs.Common.{◌≡◌, ℕ, ◌⊎◌, true, false, IsTrue, IsFalse, [], ◌∷◌, ◌++◌, Ok, Err, Option, Some, None, refl, ap, ◌∙◌, inl, inr, ◌||◌, arith, append_assoc}
-use Rattle.std.proofs.lemmas.Bool.{or_parts}
+use Rattle.std.proofs.Common.{◌≡◌, ℕ, true, false, IsTrue, IsFalse, [], ◌∷◌, ◌++◌, Ok, Err, Option, Some, None, refl, sym, ap, ◌∙◌, subst, inl, inr, ◌||◌}
+use Rattle.std.proofs.Common.{arith, append_assoc}
+use Rattle.std.proofs.lemmas.Bool.{or_parts, eqb-true}
 use Rattle.std.proofs.lemmas.Bool.Decides.{nat_tests}
 use Rattle.ixdtf.specs.declared.records.DateRecord.{DateRecord}
 use Rattle.ixdtf.specs.declared.records.TimeRecord.{TimeRecord}
 use Rattle.ixdtf.specs.declared.records.UtcOffsetRecordOrZ.{UtcOffsetRecordOrZ}
 use Rattle.ixdtf.specs.declared.records.UtcOffsetRecordOrZ.TheVariants.{Z}
-use Rattle.ixdtf.specs.language.Letters.{Text, digit, colon, decimal_mark, sign, zulu, opening, date_time_separator}
+use Rattle.ixdtf.specs.language.Letters.{Text, digit, colon, decimal_mark, sign, zulu, opening, date_time_separator, time_letter}
 use Rattle.ixdtf.specs.language.Letters.Letter.{Plain}
-use Rattle.ixdtf.specs.language.Shapes.{one, some, ◌then◌}
+use Rattle.ixdtf.specs.language.Shapes.{Shape, one, some, ◌then◌}
 use Rattle.ixdtf.specs.language.Dates.{IsDate}
-use Rattle.ixdtf.specs.language.Times.{Clock, TimeShape, ClockOf, writes_seconds}
+use Rattle.ixdtf.specs.language.Months.{IsYearMonth, IsMonthDay, least_day}
+use Rattle.ixdtf.specs.language.Times.{Clock, TimeShape, ClockOf, IsTime, writes_seconds}
 use Rattle.ixdtf.specs.language.Times.{Clock as clocks}
 use Rattle.ixdtf.specs.language.Times.TimeShape.{hours, plain_minutes, colon_minutes, seconds, fractions}
 use Rattle.ixdtf.specs.language.Offsets.{offset_of}
-use Rattle.ixdtf.specs.language.Cores.{Core, core_of, OptionalOffset, IsDateTimeCore, IsCore}
+use Rattle.ixdtf.specs.language.Cores.{Core, core_of, OptionalOffset, DateAlone, IsDateTimeCore, TimeMark, MarkedTime, HasNoDateFront, IsCore}
 use Rattle.ixdtf.specs.language.Readers.{CoreKind}
-use Rattle.ixdtf.specs.language.Readers.CoreKind.{date_time}
+use Rattle.ixdtf.specs.language.Readers.CoreKind.{date_time, year_month, month_day, time_alone}
 use Rattle.ixdtf.specs.table.Faults.{Fault}
 use Rattle.ixdtf.specs.table.Faults.Fault.{InvalidEnd}
-use Rattle.ixdtf.specs.table.LineNames.{DateLine, CoreLine, ClockLine, LineName}
-use Rattle.ixdtf.specs.table.LineNames.{of_date}
-use Rattle.ixdtf.specs.table.LineNames.CoreLine.{dates}
+use Rattle.ixdtf.specs.table.LineNames.{DateLine, TimeLine, CoreLine, ClockLine, LineName, of_date, of_year_month, of_month_day, of_time}
+use Rattle.ixdtf.specs.table.LineNames.CoreLine.{dates, year_months, month_days, times}
 use Rattle.ixdtf.specs.table.LineNames.LineName.{of_core, of_clock, of_offset}
-use Rattle.ixdtf.specs.table.LineNames.DateLine.{after_date}
+use Rattle.ixdtf.specs.table.LineNames.DateLine.{after_year, after_hyphened_month, after_plain_month, day_digits, day_range, after_date}
+use Rattle.ixdtf.specs.table.LineNames.YearMonthLine.{after_year_in_year_month, after_year_month}
+use Rattle.ixdtf.specs.table.LineNames.MonthDayLine.{after_month_day}
+use Rattle.ixdtf.specs.table.LineNames.TimeLine.{time_start, time_reads_as_month_day, time_reads_as_year_month}
+use Rattle.ixdtf.specs.table.LineNames.ClockLine.{hour_start}
 use Rattle.ixdtf.specs.table.LineNames.OffsetLine.{after_zulu}
-use Rattle.ixdtf.specs.table.Lines.{line_of, follow_of, always}
-use Rattle.ixdtf.specs.table.Before.{BeforeCore, BeforeTime, BeforeOffset}
+use Rattle.ixdtf.specs.table.Lines.{line_of, always}
+use Rattle.ixdtf.specs.table.Lines.Line.{line}
+use Rattle.ixdtf.specs.table.Lines.Ending.{ok}
+use Rattle.ixdtf.specs.table.Before.{DateAndSeparator, BeforeDate, AtCoreEnd, ReadsAsTime, InTimeAlone, BeforeCore, BeforeTime, BeforeOffset}
 use Rattle.ixdtf.specs.table.Rows.{Row, Place, Stops, front_of}
 use Rattle.ixdtf.specs.table.Rows.Place.{end, other, bad, anywhere}
-use Rattle.ixdtf.specs.reading.Looks.{Read, ◌>>=◌, row_of, look_at}
-use Rattle.ixdtf.specs.reading.Times.{OpenTime, line_after, clock_at}
-use Rattle.ixdtf.specs.reading.Cores.{ClosedCore, core_look, core_end_at, with_offset, offset_core_at, after_time_at, time_core_at, after_date_at, date_time_core_at, core_at}
-use Rattle.ixdtf.proofs.parts.Looks.{peek_end, peek_goes, peek_other, peek_stops}
+use Rattle.ixdtf.specs.reading.Looks.{Read, ◌>>=◌, row_of, look_at, next_by}
+use Rattle.ixdtf.specs.reading.Months.{year_month_at, month_day_at}
+use Rattle.ixdtf.specs.reading.Times.{OpenTime, line_after, hour_from, clock_at}
+use Rattle.ixdtf.specs.reading.Cores.{ClosedCore, core_look, core_end_at, with_offset, offset_core_at, after_time_at, time_core_at, after_date_at}
+use Rattle.ixdtf.specs.reading.Cores.{date_time_core_at, date_alone_at, lone_time_at, marked_time_at, marked_core_at, unfronted, time_alone_core_at, core_at}
+use Rattle.ixdtf.proofs.parts.Looks.{Leads, RowsRead, peek_end, peek_goes, peek_other, peek_stops}
+use Rattle.ixdtf.proofs.parts.Fronts.{CoreEnds, no_front_after, month_day_stops, year_month_stops, unfronted_goes}
 use Rattle.ixdtf.proofs.to_reading.Dates.{IsInside, date_takes, date_row_read}
-use Rattle.ixdtf.proofs.to_reading.Times.{closed_at_end, Closed, StopsAfter}
+use Rattle.ixdtf.proofs.to_reading.Months.{year_month_takes, month_day_takes, year_month_date_row, year_month_row, month_day_row}
+use Rattle.ixdtf.proofs.to_reading.Times.{closed_at_end, Closed, IsLater}
+use Rattle.ixdtf.proofs.to_reading.ClockRows.{RowsBehind, Refuses, TimeLead, hour_start_row, clock_lead, over_time, start_rows, later_rows}
 use Rattle.ixdtf.proofs.to_reading.ClockRows.{over_clock, clock_rows}
-
--- the end, or a bracket: what a core may stand before
-abbrev pub CoreEnds : Text → Type 0
-CoreEnds rest = (rest ≡ []) ⊎ ((more : Text) × (rest ≡ Plain 91 ∷ more))
 
 -- a letter that goes on in no time
 abbrev OutsideTimes : ℕ → Type 0
@@ -65,6 +73,16 @@ closed_at_core_end : (clock : Clock) (shape : TimeShape) (rest : Text) → CoreE
 closed_at_core_end clock shape rest (inl is) = rw is (closed_at_end clock shape)
 closed_at_core_end clock shape rest (inr h) = rw h.1 (closed_before clock shape 91 h.0 ends_outside)
 
+-- a line of dates that a year-month has stands at its start
+year_month_first : (l : DateLine) (prior : Text) → BeforeDate year_month l prior → (prior ≡ []) × BeforeDate year_month l []
+year_month_first after_year prior b = absurd b
+year_month_first after_hyphened_month prior b = absurd b
+year_month_first after_plain_month prior b = absurd b
+year_month_first day_digits prior b = absurd b
+year_month_first day_range prior b = absurd b
+year_month_first after_date prior b = absurd b
+year_month_first l prior b = (b, refl)
+
 module _ {E : Type 0} (fault : Row → E) where
   -- ---- the end of a core
 
@@ -72,21 +90,31 @@ module _ {E : Type 0} (fault : Row → E) where
   abbrev pub Closes : Core → Text → Read E ClosedCore → Type 0
   Closes core rest read = (rest ≡ [] → read ≡ Ok ((core, false), [])) × ((more : Text) → rest ≡ Plain 91 ∷ more → read ≡ Ok ((core, true), more))
 
-  end_closes : (name : LineName) (core : Core) (rest : Text) → Closes core rest (core_end_at fault name core rest)
+  -- the end of what was read closes the core
+  end_closes : (name : LineName) (core : Core) (rest : Text) (read : Read E ClosedCore) → read ≡ core_end_at fault name core rest → Closes core rest read
   unfolding core_end_at
-  end_closes name core rest = (λ is. rw (is, peek_end (core_look fault name)) refl, λ more is. rw (is, peek_goes (core_look fault name) 91 more refl) refl)
+  end_closes name core rest read same =
+      rw same (λ is. rw (is, peek_end (core_look fault name)) refl, λ more is. rw (is, peek_goes (core_look fault name) 91 more refl) refl)
 
-  end_other : (name : LineName) (core : Core) (c : ℕ) (rest : Text) → IsFalse (opening c) → core_end_at fault name core (Plain c ∷ rest) ≡ Err (fault (row_of name other InvalidEnd))
+  end_other : (name : LineName) (core : Core) (c : ℕ) (rest : Text) → IsFalse (opening c)
+      → core_end_at fault name core (Plain c ∷ rest) ≡ Err (fault (row_of name other InvalidEnd))
   unfolding core_end_at
   end_other name core c rest out = rw (peek_other (core_look fault name) c rest out) refl
 
+  -- each row of what may follow a core
+  end_rows : (name : LineName) (core : Core) (shown : Shape) (place : Place) (e : Fault) (rest : Text)
+      → Stops (line shown opening ok (always InvalidEnd)) place e rest
+      → core_end_at fault name core rest ≡ Err (fault (row_of name place e))
+  unfolding core_end_at
+  end_rows name core shown place e rest at = rw (peek_stops fault name shown opening (always InvalidEnd) place e rest at) refl
+
   -- ---- a time and what follows it, after what leads to them
 
-  module _ (date : Option DateRecord) (whole_at : Text → Read E ClosedCore) (prior : Text) (lead : (body : Text) → whole_at (prior ++ body) ≡ (clock_at fault clocks.Time body >>= λ time. after_time_at fault date time.0 time.1)) where
+  module _ (date : Option DateRecord) where
     abbrev after_time : OpenTime × Text → Read E ClosedCore
     after_time time = after_time_at fault date time.0 time.1
 
-    time_refuses : (shape : TimeShape) (t : TimeRecord) (place : Place) (e : Fault) (rest : Text) → Closed clocks.Time shape rest → StopsAfter (follow_of true clocks.Time) place e rest → after_time ((shape, t), rest) ≡ Err (fault (row_of (line_after clocks.Time shape) place e))
+    time_refuses : Refuses fault true clocks.Time after_time
     unfolding after_time_at look_at
     time_refuses shape t end e rest closed s = absurd (grind (arith, s.1))
     time_refuses shape t other e rest closed s =
@@ -96,71 +124,120 @@ module _ {E : Type 0} (fault : Row → E) where
     time_refuses shape t bad e rest closed s = absurd s
     time_refuses shape t anywhere e rest closed s = absurd s
 
-    time_rows : (l : ClockLine) (place : Place) (e : Fault) (front rest : Text) → front_of (line_of true (of_clock clocks.Time l)) front → Stops (line_of true (of_clock clocks.Time l)) place e rest → whole_at (prior ++ (front ++ rest)) ≡ Err (fault (row_of (of_clock clocks.Time l) place e))
-    time_rows l place e front rest f at = clock_rows fault true clocks.Time whole_at after_time prior lead time_refuses l place e front rest f at
-
     -- after an offset
     abbrev after_offset : TimeRecord → ℕ → OpenTime × Text → Read E ClosedCore
-    after_offset time c offset = core_end_at fault (line_after clocks.Offset offset.0.0) (with_offset date time (offset_of c (writes_seconds offset.0.0) offset.0.1)) offset.1
+    after_offset time c offset =
+        core_end_at fault (line_after clocks.Offset offset.0.0) (with_offset date time (offset_of c (writes_seconds offset.0.0) offset.0.1)) offset.1
 
-    offset_refuses : (time : TimeRecord) (c : ℕ) (shape : TimeShape) (t : TimeRecord) (place : Place) (e : Fault) (rest : Text) → Closed clocks.Offset shape rest → StopsAfter (follow_of true clocks.Offset) place e rest → after_offset time c ((shape, t), rest) ≡ Err (fault (row_of (line_after clocks.Offset shape) place e))
+    offset_refuses : (time : TimeRecord) (c : ℕ) → Refuses fault true clocks.Offset (after_offset time c)
     offset_refuses time c shape t end e rest closed s = absurd (grind (arith, s.1))
     offset_refuses time c shape t other e rest closed s = rw (s.2, s.4) (end_other (line_after clocks.Offset shape) _ s.0 s.1 s.3)
     offset_refuses time c shape t bad e rest closed s = absurd s
     offset_refuses time c shape t anywhere e rest closed s = absurd s
 
-    -- a time was read
-    module _ (ts : Text) (shape : TimeShape) (t : TimeRecord) (x : ClockOf clocks.Time shape ts t) where
-      timed_over : (rest : Text) → Closed clocks.Time shape rest → whole_at (prior ++ (ts ++ rest)) ≡ after_time ((shape, t), rest)
-      timed_over rest closed = over_clock fault true clocks.Time whole_at after_time prior lead shape ts t rest x closed
+    module _ (whole_at : Text → Read E ClosedCore) (prior : Text) (lead : TimeLead fault clocks.Time whole_at after_time prior) where
+      -- a time was read
+      module _ (ts : Text) (shape : TimeShape) (t : TimeRecord) (x : ClockOf clocks.Time shape ts t) where
+        timed_over : (rest : Text) → Closed clocks.Time shape rest → whole_at (prior ++ (ts ++ rest)) ≡ after_time ((shape, t), rest)
+        timed_over rest closed = over_time fault clocks.Time whole_at after_time prior lead shape ts t rest x closed
 
-      offset_lead : (c : ℕ) → IsTrue (sign c) → (body : Text) → whole_at (((prior ++ ts) ++ (Plain c ∷ [])) ++ body) ≡ (clock_at fault clocks.Offset body >>= after_offset t c)
-      unfolding after_time_at offset_core_at look_at
-      offset_lead c h body = ap whole_at (simp append_assoc) ∙ timed_over (Plain c ∷ body) (closed_before clocks.Time shape c body (sign_outside c h)) ∙ rw h refl
+        -- what stands before an offset's body
+        abbrev signed : ℕ → Text
+        signed c = (prior ++ ts) ++ (Plain c ∷ [])
 
-      zulu_over : (c : ℕ) → IsTrue (zulu c) → (rest : Text) → whole_at ((prior ++ ts) ++ (Plain c ∷ rest)) ≡ core_end_at fault (of_offset after_zulu) (core_of date (Some t) (Some Z)) rest
-      unfolding after_time_at look_at
-      zulu_over c h rest =
-          let no_sign : IsFalse (sign c) = grind (arith, nat_tests, h) in
-          ap whole_at (simp append_assoc) ∙ timed_over (Plain c ∷ rest) (closed_before clocks.Time shape c rest (zulu_outside c h)) ∙ rw (no_sign, h) refl
+        offset_lead : (c : ℕ) → IsTrue (sign c) → (body : Text) → whole_at (signed c ++ body) ≡ (clock_at fault clocks.Offset body >>= after_offset t c)
+        unfolding after_time_at offset_core_at look_at
+        offset_lead c h body =
+            ap whole_at (simp append_assoc) ∙ timed_over (Plain c ∷ body) (closed_before clocks.Time shape c body (sign_outside c h)) ∙ rw h refl
 
-      plain_over : (rest : Text) → CoreEnds rest → whole_at (prior ++ (ts ++ rest)) ≡ core_end_at fault (line_after clocks.Time shape) (core_of date (Some t) None) rest
-      unfolding after_time_at look_at
-      plain_over rest (inl is) = timed_over rest (closed_at_core_end clocks.Time shape rest (inl is)) ∙ rw is refl
-      plain_over rest (inr h) = timed_over rest (closed_at_core_end clocks.Time shape rest (inr h)) ∙ rw h.1 refl
+        zulu_over : (c : ℕ) → IsTrue (zulu c) → (rest : Text)
+            → whole_at ((prior ++ ts) ++ (Plain c ∷ rest)) ≡ core_end_at fault (of_offset after_zulu) (core_of date (Some t) (Some Z)) rest
+        unfolding after_time_at look_at
+        zulu_over c h rest =
+            let no_sign : IsFalse (sign c) = grind (arith, nat_tests, h) in
+            ap whole_at (simp append_assoc) ∙ timed_over (Plain c ∷ rest) (closed_before clocks.Time shape c rest (zulu_outside c h)) ∙ rw (no_sign, h) refl
 
-      offset_rows : (c : ℕ) → IsTrue (sign c) → (l : ClockLine) (place : Place) (e : Fault) (front rest : Text) → front_of (line_of true (of_clock clocks.Offset l)) front → Stops (line_of true (of_clock clocks.Offset l)) place e rest → whole_at (((prior ++ ts) ++ (Plain c ∷ [])) ++ (front ++ rest)) ≡ Err (fault (row_of (of_clock clocks.Offset l) place e))
-      offset_rows c h l place e front rest f at =
-          clock_rows fault true clocks.Offset whole_at (after_offset t c) ((prior ++ ts) ++ (Plain c ∷ [])) (offset_lead c h) (offset_refuses t c) l place e front rest f at
+        plain_over : (rest : Text) → CoreEnds rest
+            → whole_at (prior ++ (ts ++ rest)) ≡ core_end_at fault (line_after clocks.Time shape) (core_of date (Some t) None) rest
+        unfolding after_time_at look_at
+        plain_over rest (inl is) = timed_over rest (closed_at_core_end clocks.Time shape rest (inl is)) ∙ rw is refl
+        plain_over rest (inr h) = timed_over rest (closed_at_core_end clocks.Time shape rest (inr h)) ∙ rw h.1 refl
 
-      zulu_row : (place : Place) (e : Fault) (front rest : Text) → one zulu front → Stops (line_of true (of_offset after_zulu)) place e rest → whole_at ((prior ++ ts) ++ (front ++ rest)) ≡ Err (fault (row_of (of_offset after_zulu) place e))
-      unfolding core_end_at
-      zulu_row place e front rest f at = rw f.1 (zulu_over f.0 f.2 rest ∙ rw (peek_stops fault (of_offset after_zulu) (one zulu) opening (always InvalidEnd) place e rest at) refl)
+        offset_rows : (c : ℕ) → IsTrue (sign c) → (l : ClockLine) → RowsBehind fault true whole_at (signed c) (of_clock clocks.Offset l)
+        offset_rows c h = clock_rows fault true clocks.Offset whole_at (after_offset t c) (signed c) (offset_lead c h) (offset_refuses t c)
 
-      -- a time, and an offset or `Z` where there is one, before the end or a bracket
-      timed_takes : (offsets : Text) (offset : Option UtcOffsetRecordOrZ) (rest : Text) → OptionalOffset offsets offset → CoreEnds rest → (name : LineName) × (whole_at (prior ++ (ts ++ (offsets ++ rest))) ≡ core_end_at fault name (core_of date (Some t) offset) rest)
-      timed_takes offsets None rest none ends = rw none (line_after clocks.Time shape, plain_over rest ends)
-      timed_takes offsets (Some o) rest (inl h) ends =
-          rw (h.2, h.1.value, h.1.is) (
-            line_after clocks.Offset h.1.shape,
-            ap whole_at (simp append_assoc)
-                ∙ over_clock fault true clocks.Offset whole_at (after_offset t h.1.c) ((prior ++ ts) ++ (Plain h.1.c ∷ []))
-                (offset_lead h.1.c h.1.sign) h.1.shape h.1.body h.1.time rest h.1.clock (closed_at_core_end clocks.Offset h.1.shape rest ends),
-          )
-      timed_takes offsets (Some o) rest (inr h) ends =
-          rw (h.1, h.0.1) (of_offset after_zulu, ap whole_at (simp append_assoc) ∙ zulu_over h.0.0 h.0.2 rest)
+        zulu_row : RowsBehind fault true whole_at (prior ++ ts) (of_offset after_zulu)
+        zulu_row place e front rest f at =
+            rw f.1 (zulu_over f.0 f.2 rest ∙ end_rows (of_offset after_zulu) (core_of date (Some t) (Some Z)) (one zulu) place e rest at)
+
+        -- a time, and an offset or `Z` where there is one, before the end or a bracket
+        timed_takes : (offsets : Text) (offset : Option UtcOffsetRecordOrZ) (rest : Text) → OptionalOffset offsets offset → CoreEnds rest
+            → (name : LineName) × (whole_at (prior ++ (ts ++ (offsets ++ rest))) ≡ core_end_at fault name (core_of date (Some t) offset) rest)
+        timed_takes offsets None rest none ends = rw none (line_after clocks.Time shape, plain_over rest ends)
+        timed_takes offsets (Some o) rest (inl h) ends =
+            rw (h.2, h.1.value, h.1.is) (
+              line_after clocks.Offset h.1.shape,
+              ap whole_at (simp append_assoc)
+                  ∙ over_clock fault true clocks.Offset whole_at (after_offset t h.1.c) (signed h.1.c)
+                  (offset_lead h.1.c h.1.sign) h.1.shape h.1.body h.1.time rest h.1.clock (closed_at_core_end clocks.Offset h.1.shape rest ends),
+            )
+        timed_takes offsets (Some o) rest (inr h) ends =
+            rw (h.1, h.0.1) (of_offset after_zulu, ap whole_at (simp append_assoc) ∙ zulu_over h.0.0 h.0.2 rest)
+
+  -- ---- the same behind anything that leads to a time, with the date in it
+
+  module _ (before : Shape) (date_in : (prior : Text) → before prior → Option DateRecord) (whole_at : Text → Read E ClosedCore)
+      (leads : (prior : Text) (b : before prior) → TimeLead fault clocks.Time whole_at (after_time (date_in prior b)) prior) where
+    -- the row of the line at which the time starts
+    first_rows : (prior : Text) (b : before prior) (name : LineName) → RowsRead fault true (leads prior b).start name
+        → RowsBehind fault true whole_at prior name
+    first_rows prior b = start_rows fault clocks.Time whole_at (after_time (date_in prior b)) prior (leads prior b) true
+
+    time_rows : (l : ClockLine) → IsLater l → (prior : Text) → before prior → RowsBehind fault true whole_at prior (of_clock clocks.Time l)
+    time_rows l is_later prior b =
+        later_rows fault clocks.Time whole_at (after_time (date_in prior b)) prior (leads prior b) true (time_refuses (date_in prior b)) l is_later
+
+    time_offset_rows : (l : ClockLine) (prior : Text) → ((before then some IsTime) then one sign) prior
+        → RowsBehind fault true whole_at prior (of_clock clocks.Offset l)
+    time_offset_rows l prior b place e front rest f at =
+        let timed = b.3 in
+        let time = timed.4 in
+        rw (b.2, timed.2, b.4.1)
+        (offset_rows (date_in timed.0 timed.3) whole_at timed.0 (leads timed.0 timed.3) timed.1 time.1.0 time.0 time.1.1 b.4.0 b.4.2 l place e front rest f at)
+
+    time_zulu_row : (prior : Text) → (before then some IsTime) prior → RowsBehind fault true whole_at prior (of_offset after_zulu)
+    time_zulu_row prior b place e front rest f at =
+        let time = b.4 in
+        rw b.2 (zulu_row (date_in b.0 b.3) whole_at b.0 (leads b.0 b.3) b.1 time.1.0 time.0 time.1.1 place e front rest f at)
+
+    -- a time, and an offset where there is one
+    timed_closes : (prior ts offsets : Text) (b : before prior) (t : TimeRecord) (offset : Option UtcOffsetRecordOrZ) (rest : Text)
+        → IsTime ts t → OptionalOffset offsets offset → CoreEnds rest
+        → Closes (core_of (date_in prior b) (Some t) offset) rest (whole_at ((prior ++ (ts ++ offsets)) ++ rest))
+    timed_closes prior ts offsets b t offset rest time o ends =
+        let timed = timed_takes (date_in prior b) whole_at prior (leads prior b) ts time.0 t time.1 offsets offset rest o ends in
+        end_closes timed.0 _ rest _ (ap whole_at (simp append_assoc) ∙ timed.1)
 
   -- ---- dates and times
 
-  date_time_lead : (ds separator : Text) (date : DateRecord) → IsDate ds date → one date_time_separator separator → (body : Text) → date_time_core_at fault ((ds ++ separator) ++ body) ≡ (clock_at fault clocks.Time body >>= λ time. after_time_at fault (Some date) time.0 time.1)
+  abbrev date_before : (prior : Text) → DateAndSeparator prior → Option DateRecord
+  date_before prior b = Some b.3.0
+
+  over_date : (prior : Text) (b : DateAndSeparator prior) (body : Text)
+      → date_time_core_at fault (prior ++ body) ≡ (clock_at fault clocks.Time body >>= after_time (date_before prior b))
   unfolding date_time_core_at after_date_at time_core_at look_at
-  date_time_lead ds separator date d s body = rw (append_assoc, date_takes fault ds date (separator ++ body) d, s.1, s.2) refl
+  over_date prior b body = let separator = b.4 in rw (b.2, append_assoc, date_takes fault b.0 b.3.0 (b.1 ++ body) b.3.1, separator.1, separator.2) refl
 
-  date_row : (l : DateLine) → IsInside l → (place : Place) (e : Fault) (front rest : Text) → front_of (line_of true (of_date l)) front → Stops (line_of true (of_date l)) place e rest → date_time_core_at fault (front ++ rest) ≡ Err (fault (row_of (of_date l) place e))
+  abbrev date_time_lead : (prior : Text) (b : DateAndSeparator prior)
+      → TimeLead fault clocks.Time (date_time_core_at fault) (after_time (date_before prior b)) prior
+  date_time_lead prior b = clock_lead fault clocks.Time (date_time_core_at fault) (after_time (date_before prior b)) prior (over_date prior b)
+
+  -- the row of a line in a date
+  date_rows : (l : DateLine) → IsInside l → RowsRead fault true (date_time_core_at fault) (of_date l)
   unfolding date_time_core_at
-  date_row l is place e front rest f at = rw (date_row_read fault true l is place e front rest f at) refl
+  date_rows l is place e front rest f at = rw (date_row_read fault true l is place e front rest f at) refl
 
-  after_date_row : (place : Place) (e : Fault) (front rest : Text) → some IsDate front → Stops (line_of true (of_date after_date)) place e rest → date_time_core_at fault (front ++ rest) ≡ Err (fault (row_of (of_date after_date) place e))
+  after_date_row : RowsRead fault true (date_time_core_at fault) (of_date after_date)
   unfolding date_time_core_at after_date_at look_at
   after_date_row end e front rest f at = absurd (grind (arith, at.1))
   after_date_row other e front rest f at =
@@ -169,44 +246,181 @@ module _ {E : Type 0} (fault : Row → E) where
   after_date_row bad e front rest f at = rw (date_takes fault front f.0 rest f.1, at.1, at.2) refl
   after_date_row anywhere e front rest f at = absurd at
 
-  date_alone : (ds : Text) (date : DateRecord) (rest : Text) → IsDate ds date → CoreEnds rest → date_time_core_at fault (ds ++ rest) ≡ core_end_at fault (of_date after_date) (core_of (Some date) None None) rest
+  no_time : (ds : Text) (date : DateRecord) (rest : Text) → IsDate ds date → CoreEnds rest
+      → date_time_core_at fault (ds ++ rest) ≡ core_end_at fault (of_date after_date) (core_of (Some date) None None) rest
   unfolding date_time_core_at after_date_at look_at
-  date_alone ds date rest d (inl is) = rw (date_takes fault ds date rest d, is) refl
-  date_alone ds date rest d (inr h) = rw (date_takes fault ds date rest d, h.1) refl
+  no_time ds date rest d (inl is) = rw (date_takes fault ds date rest d, is) refl
+  no_time ds date rest d (inr h) = rw (date_takes fault ds date rest d, h.1) refl
 
-  -- the end of what was read closes the core
-  closes_at : (name : LineName) (core : Core) (text rest : Text) → date_time_core_at fault text ≡ core_end_at fault name core rest → Closes core rest (date_time_core_at fault text)
-  closes_at name core text rest is = rw is (end_closes name core rest)
-
-  date_time_takes : (front : Text) (core : Core) (rest : Text) → IsDateTimeCore front core → CoreEnds rest → Closes core rest (date_time_core_at fault (front ++ rest))
-  date_time_takes front core rest (inl d) ends = rw d.2 (closes_at (of_date after_date) _ (front ++ rest) rest (date_alone front d.0 rest d.1 ends))
+  date_time_takes : (front : Text) (core : Core) (rest : Text) → IsDateTimeCore front core → CoreEnds rest
+      → Closes core rest (date_time_core_at fault (front ++ rest))
+  date_time_takes front core rest (inl d) ends = rw d.2 (end_closes (of_date after_date) _ rest _ (no_time front d.0 rest d.1 ends))
   date_time_takes front core rest (inr d) ends =
-      let timed = timed_takes (Some d.date) (date_time_core_at fault) (d.dates ++ d.separator) (date_time_lead d.dates d.separator d.date d.is_date d.separates) d.times d.is_time.0 d.time d.is_time.1 d.offsets d.offset rest d.is_offset ends in
-      rw (d.is, d.has) (closes_at timed.0 _ _ rest (ap (date_time_core_at fault) (simp append_assoc) ∙ timed.1))
+      let before : DateAndSeparator (d.dates ++ d.separator) = (d.dates, d.separator, refl, (d.date, d.is_date), d.separates) in
+      rw (d.is, d.has, ← append_assoc d.dates d.separator (d.times ++ d.offsets))
+      (timed_closes DateAndSeparator date_before (date_time_core_at fault) date_time_lead (d.dates ++ d.separator) d.times d.offsets before d.time d.offset rest
+      d.is_time d.is_offset ends)
+
+  -- ---- a date of a part, alone
+
+  module _ (part : Text → DateRecord → Type 0) (name : LineName) (part_at : Text → Read E DateRecord)
+      (takes : (front : Text) (date : DateRecord) (rest : Text) → part front date → part_at (front ++ rest) ≡ Ok (date, rest)) where
+    alone_takes : (front : Text) (core : Core) (rest : Text) → DateAlone part front core → Closes core rest (date_alone_at fault name (part_at (front ++ rest)))
+    alone_takes front core rest d = rw d.2 (end_closes name (core_of (Some d.0) None None) rest _ (rw (takes front d.0 rest d.1) refl))
+
+    -- each row of what may follow it
+    after_alone_rows : (place : Place) (e : Fault) (front rest : Text) → some part front → Stops (line (some part) opening ok (always InvalidEnd)) place e rest
+        → date_alone_at fault name (part_at (front ++ rest)) ≡ Err (fault (row_of name place e))
+    after_alone_rows place e front rest f at = rw (takes front f.0 rest f.1) (end_rows name (core_of (Some f.0) None None) (some part) place e rest at)
+
+  -- a fault in the date is returned
+  in_alone : (name : LineName) (read : Read E DateRecord) (e : E) → read ≡ Err e → date_alone_at fault name read ≡ Err e
+  in_alone name read e h = rw h refl
+
+  -- ---- times that stand alone
+
+  abbrev no_date : (prior : Text) → TimeMark prior → Option DateRecord
+  no_date prior mark = None
+
+  lone_starts : (c : ℕ) → IsTrue (digit c) → Leads (marked_time_at fault) (Plain c ∷ []) (hour_from fault clocks.Time c)
+  unfolding marked_time_at lone_time_at look_at next_by
+  lone_starts c d = record { over = λ rest. let no_letter : IsFalse (time_letter c) = grind (arith, nat_tests, d) in rw (no_letter, d) refl }
+
+  over_letter : (prior : Text) → one time_letter prior → (body : Text)
+      → marked_core_at fault (prior ++ body) ≡ (clock_at fault clocks.Time body >>= after_time None)
+  unfolding marked_core_at marked_time_at look_at
+  over_letter prior h body = rw (h.1, h.2) refl
+
+  over_nothing : (prior : Text) → prior ≡ [] → (body : Text) → marked_core_at fault (prior ++ body) ≡ (marked_time_at fault body >>= after_time None)
+  unfolding marked_core_at
+  over_nothing prior none body = rw none refl
+
+  -- behind a letter a time starts with its hour, and else in its own way
+  abbrev mark_lead : (prior : Text) → TimeMark prior → TimeLead fault clocks.Time (marked_core_at fault) (after_time None) prior
+  mark_lead prior (inl none) = record { start = marked_time_at fault; starts = lone_starts; over = over_nothing prior none }
+  mark_lead prior (inr letter) = clock_lead fault clocks.Time (marked_core_at fault) (after_time None) prior (over_letter prior letter)
+
+  time_start_row : RowsRead fault true (marked_time_at fault) (of_time time_start)
+  unfolding marked_time_at lone_time_at look_at next_by
+  time_start_row end e front rest f at = rw (f, at.0) (grind (arith, at.1))
+  time_start_row other e front rest f at =
+      let parts : IsFalse (digit at.0) × IsFalse (time_letter at.0) = or_parts _ _ at.3 in rw (f, at.2, parts.0, parts.1, at.4) refl
+  time_start_row bad e front rest f at = rw (f, at.0, at.1, at.2) refl
+  time_start_row anywhere e front rest f at = absurd at
+
+  marked_takes : (front : Text) (core : Core) (rest : Text) → MarkedTime front core → CoreEnds rest → Closes core rest (marked_core_at fault (front ++ rest))
+  marked_takes front core rest d ends =
+      rw (d.is, d.has)
+      (timed_closes TimeMark no_date (marked_core_at fault) mark_lead d.marks d.times d.offsets d.mark d.time d.offset rest d.is_time d.is_offset ends)
+
+  -- a fault in the time comes before the test of its front
+  in_marked : (name : LineName) (prior : Text) → RowsBehind fault true (marked_core_at fault) prior name
+      → RowsBehind fault true (time_alone_core_at fault) prior name
+  unfolding time_alone_core_at
+  in_marked name prior h place e front rest f at = rw (h place e front rest f at) refl
+
+  -- a time without such a front is read
+  unfronted_takes : (text : Text) (x : ClosedCore × Text) → HasNoDateFront text → marked_core_at fault text ≡ Ok x → time_alone_core_at fault text ≡ Ok x
+  unfolding time_alone_core_at
+  unfronted_takes text x none h = rw h (unfronted_goes text fault (Ok x) none)
+
+  core_ends : (rest : Text) → AtCoreEnd rest → CoreEnds rest
+  core_ends rest (inl is) = inl is
+  core_ends rest (inr h) = let bracket : h.3.0 ≡ 91 = eqb-true h.3.0 91 h.3.2 in inr (h.1, rw (h.2, h.3.1, bracket) refl)
+
+  -- a time is read as a whole, and then the test of its front refuses it
+  front_refuses : (text : Text) (e : E) → ReadsAsTime text → ((x : ClosedCore × Text) → unfronted fault text (Ok x) ≡ Err e)
+      → time_alone_core_at fault text ≡ Err e
+  unfolding time_alone_core_at
+  front_refuses text e h refuses =
+      go (core_ends h.1 h.4) (subst (λ (t : Text). Closes h.3.0 h.1 (marked_core_at fault t)) (sym h.2) (marked_takes h.0 h.3.0 h.1 h.3.1 (core_ends h.1 h.4)))
+    where
+      go : CoreEnds h.1 → Closes h.3.0 h.1 (marked_core_at fault text) → time_alone_core_at fault text ≡ Err e
+      go (inl is) closes = rw (closes.0 is) (refuses ((h.3.0, false), []))
+      go (inr bracket) closes = rw (closes.1 bracket.0 bracket.1) (refuses ((h.3.0, true), bracket.0))
+
+  -- the rows of a time's lines but those of its clock
+  time_line_rows : (l : TimeLine) (place : Place) (e : Fault) (prior front rest : Text) → InTimeAlone l prior (front ++ rest)
+      → front_of (line_of true (of_time l)) front → Stops (line_of true (of_time l)) place e rest
+      → time_alone_core_at fault (prior ++ (front ++ rest)) ≡ Err (fault (row_of (of_time l) place e))
+  time_line_rows time_start place e prior front rest b f at =
+      in_marked (of_time time_start) prior
+      (first_rows TimeMark no_date (marked_core_at fault) mark_lead prior (inl b) (of_time time_start) time_start_row) place e front rest f at
+  time_line_rows time_reads_as_month_day anywhere e prior front rest b f at =
+      rw (b.0, at) (front_refuses (front ++ rest) _ b.1 (λ x. month_day_stops (front ++ rest) fault (Ok x) (front, rest, refl, f, tt)))
+  time_line_rows time_reads_as_month_day place e prior front rest b f at = absurd at
+  time_line_rows time_reads_as_year_month anywhere e prior front rest b f at =
+      rw (b.0, at) (front_refuses (front ++ rest) _ b.1 (λ x. year_month_stops (front ++ rest) fault (Ok x) (front, rest, refl, f, tt) b.2))
+  time_line_rows time_reads_as_year_month place e prior front rest b f at = absurd at
 
   -- ---- a core of any kind
 
   -- a core is read where the end or a bracket follows it
-  pub core_takes : (kind : CoreKind) (front : Text) (core : Core) (rest : Text) → IsCore kind front core → CoreEnds rest → Closes core rest (core_at fault kind (front ++ rest))
+  pub core_takes : (kind : CoreKind) (front : Text) (core : Core) (rest : Text) → IsCore kind front core → CoreEnds rest
+      → Closes core rest (core_at fault kind (front ++ rest))
   core_takes date_time front core rest d ends = date_time_takes front core rest d ends
+  core_takes year_month front core rest d ends =
+      alone_takes IsYearMonth (of_year_month after_year_month) (year_month_at fault) (year_month_takes fault) front core rest d
+  core_takes month_day front core rest d ends =
+      alone_takes (IsMonthDay least_day) (of_month_day after_month_day) (month_day_at fault) (month_day_takes fault) front core rest d
+  core_takes time_alone front core rest d ends =
+      let closes = marked_takes front core rest d.0 ends in
+      let none = no_front_after front rest ends d.1 in
+      ((λ is. unfronted_takes (front ++ rest) _ none (closes.0 is)), λ more is. unfronted_takes (front ++ rest) _ none (closes.1 more is))
 
   -- each row of a core's lines is returned
-  pub core_line_rows : (kind : CoreKind) (l : CoreLine) (place : Place) (e : Fault) (prior front rest : Text) → BeforeCore kind l prior (front ++ rest) → front_of (line_of true (of_core l)) front → Stops (line_of true (of_core l)) place e rest → core_at fault kind (prior ++ (front ++ rest)) ≡ Err (fault (row_of (of_core l) place e))
+  pub core_line_rows : (kind : CoreKind) (l : CoreLine) (place : Place) (e : Fault) (prior front rest : Text) → BeforeCore kind l prior (front ++ rest)
+      → front_of (line_of true (of_core l)) front → Stops (line_of true (of_core l)) place e rest
+      → core_at fault kind (prior ++ (front ++ rest)) ≡ Err (fault (row_of (of_core l) place e))
   core_line_rows date_time (dates after_date) place e prior front rest b f at = rw b (after_date_row place e front rest f at)
-  core_line_rows date_time (dates l) place e prior front rest b f at = rw b (date_row l tt place e front rest f at)
+  core_line_rows date_time (dates l) place e prior front rest b f at = rw b (date_rows l tt place e front rest f at)
+  core_line_rows date_time (year_months l) place e prior front rest b f at = absurd b
+  core_line_rows date_time (month_days l) place e prior front rest b f at = absurd b
+  core_line_rows date_time (times l) place e prior front rest b f at = absurd b
+  core_line_rows year_month (dates l) place e prior front rest b f at =
+      let first = year_month_first l prior b in
+      rw first.0 (in_alone (of_year_month after_year_month) _ _ (year_month_date_row fault l first.1 place e front rest f at))
+  core_line_rows year_month (year_months after_year_in_year_month) place e prior front rest b f at =
+      rw b (in_alone (of_year_month after_year_month) _ _ (year_month_row fault place e front rest f at))
+  core_line_rows year_month (year_months after_year_month) place e prior front rest b f at =
+      rw b (after_alone_rows IsYearMonth (of_year_month after_year_month) (year_month_at fault) (year_month_takes fault) place e front rest f at)
+  core_line_rows year_month (month_days l) place e prior front rest b f at = absurd b
+  core_line_rows year_month (times l) place e prior front rest b f at = absurd b
+  core_line_rows month_day (month_days after_month_day) place e prior front rest b f at =
+      rw b (after_alone_rows (IsMonthDay least_day) (of_month_day after_month_day) (month_day_at fault) (month_day_takes fault) place e front rest f at)
+  core_line_rows month_day (month_days l) place e prior front rest b f at =
+      rw b (in_alone (of_month_day after_month_day) _ _ (month_day_row fault l tt place e front rest f at))
+  core_line_rows month_day (dates l) place e prior front rest b f at = absurd b
+  core_line_rows month_day (year_months l) place e prior front rest b f at = absurd b
+  core_line_rows month_day (times l) place e prior front rest b f at = absurd b
+  core_line_rows time_alone (times l) place e prior front rest b f at = time_line_rows l place e prior front rest b f at
+  core_line_rows time_alone (dates l) place e prior front rest b f at = absurd b
+  core_line_rows time_alone (year_months l) place e prior front rest b f at = absurd b
+  core_line_rows time_alone (month_days l) place e prior front rest b f at = absurd b
 
-  pub core_time_rows : (kind : CoreKind) (l : ClockLine) (place : Place) (e : Fault) (prior front rest : Text) → BeforeTime kind prior → front_of (line_of true (of_clock clocks.Time l)) front → Stops (line_of true (of_clock clocks.Time l)) place e rest → core_at fault kind (prior ++ (front ++ rest)) ≡ Err (fault (row_of (of_clock clocks.Time l) place e))
-  core_time_rows date_time l place e prior front rest b f at = rw b.2 (time_rows (Some b.3.0) (date_time_core_at fault) (b.0 ++ b.1) (date_time_lead b.0 b.1 b.3.0 b.3.1 b.4) l place e front rest f at)
+  pub core_time_rows : (kind : CoreKind) (l : ClockLine) (prior : Text) → BeforeTime kind l prior
+      → RowsBehind fault true (core_at fault kind) prior (of_clock clocks.Time l)
+  core_time_rows date_time hour_start prior b =
+      first_rows DateAndSeparator date_before (date_time_core_at fault) date_time_lead prior b (of_clock clocks.Time hour_start)
+      (hour_start_row fault clocks.Time true)
+  core_time_rows date_time l prior b = time_rows DateAndSeparator date_before (date_time_core_at fault) date_time_lead l tt prior b
+  core_time_rows year_month l prior b = absurd b
+  core_time_rows month_day l prior b = absurd b
+  core_time_rows time_alone hour_start prior b =
+      in_marked (of_clock clocks.Time hour_start) prior
+      (first_rows TimeMark no_date (marked_core_at fault) mark_lead prior (inr b) (of_clock clocks.Time hour_start) (hour_start_row fault clocks.Time true))
+  core_time_rows time_alone l prior b = in_marked (of_clock clocks.Time l) prior (time_rows TimeMark no_date (marked_core_at fault) mark_lead l tt prior b)
 
-  pub core_offset_rows : (kind : CoreKind) (l : ClockLine) (place : Place) (e : Fault) (prior front rest : Text) → (BeforeOffset kind then one sign) prior → front_of (line_of true (of_clock clocks.Offset l)) front → Stops (line_of true (of_clock clocks.Offset l)) place e rest → core_at fault kind (prior ++ (front ++ rest)) ≡ Err (fault (row_of (of_clock clocks.Offset l) place e))
-  core_offset_rows date_time l place e prior front rest b f at =
-      let dated = b.3.3 in
-      let time = b.3.4 in
-      rw (b.2, b.3.2, dated.2, b.4.1)
-      (offset_rows (Some dated.3.0) (date_time_core_at fault) (dated.0 ++ dated.1) (date_time_lead dated.0 dated.1 dated.3.0 dated.3.1 dated.4) b.3.1 time.1.0 time.0 time.1.1 b.4.0 b.4.2 l place e front rest f at)
+  pub core_offset_rows : (kind : CoreKind) (l : ClockLine) (prior : Text) → (BeforeOffset kind then one sign) prior
+      → RowsBehind fault true (core_at fault kind) prior (of_clock clocks.Offset l)
+  core_offset_rows date_time l prior b = time_offset_rows DateAndSeparator date_before (date_time_core_at fault) date_time_lead l prior b
+  core_offset_rows year_month l prior b = absurd b.3
+  core_offset_rows month_day l prior b = absurd b.3
+  core_offset_rows time_alone l prior b =
+      in_marked (of_clock clocks.Offset l) prior (time_offset_rows TimeMark no_date (marked_core_at fault) mark_lead l prior b)
 
-  pub core_zulu_row : (kind : CoreKind) (place : Place) (e : Fault) (prior front rest : Text) → BeforeOffset kind prior → one zulu front → Stops (line_of true (of_offset after_zulu)) place e rest → core_at fault kind (prior ++ (front ++ rest)) ≡ Err (fault (row_of (of_offset after_zulu) place e))
-  core_zulu_row date_time place e prior front rest b f at =
-      let dated = b.3 in
-      let time = b.4 in
-      rw (b.2, dated.2) (zulu_row (Some dated.3.0) (date_time_core_at fault) (dated.0 ++ dated.1) (date_time_lead dated.0 dated.1 dated.3.0 dated.3.1 dated.4) b.1 time.1.0 time.0 time.1.1 place e front rest f at)
+  pub core_zulu_row : (kind : CoreKind) (prior : Text) → BeforeOffset kind prior → RowsBehind fault true (core_at fault kind) prior (of_offset after_zulu)
+  core_zulu_row date_time prior b = time_zulu_row DateAndSeparator date_before (date_time_core_at fault) date_time_lead prior b
+  core_zulu_row year_month prior b = absurd b
+  core_zulu_row month_day prior b = absurd b
+  core_zulu_row time_alone prior b = in_marked (of_offset after_zulu) prior (time_zulu_row TimeMark no_date (marked_core_at fault) mark_lead prior b)

@@ -14,8 +14,9 @@ use Rattle.ixdtf.specs.table.Faults.{Fault}
 use Rattle.ixdtf.specs.table.Faults.Fault.{TimeHour, TimeMinuteSecond}
 use Rattle.ixdtf.specs.language.Times.{TimeShape, ClockOf, PlainMinuteText, ColonMinuteText, SecondText, greatest_second, has_seconds}
 use Rattle.ixdtf.specs.language.Times.TimeShape.{hours, plain_minutes, colon_minutes, seconds, fractions}
+use Rattle.ixdtf.specs.table.LineNames.{ClockLine}
 use Rattle.ixdtf.specs.table.LineNames.LineName.{of_clock}
-use Rattle.ixdtf.specs.table.LineNames.ClockLine.{hour_digit, hour_range, minute_digits, minute_range, second_digits, second_range, fraction_start}
+use Rattle.ixdtf.specs.table.LineNames.ClockLine.{hour_start, hour_digit, hour_range, minute_digits, minute_range, second_digits, second_range, fraction_start}
 use Rattle.ixdtf.specs.table.Lines.{Follow, line_of, follow_of, seconds_after, second_fault, after_minute, Past, ColonOrDigit}
 use Rattle.ixdtf.specs.table.Lines.Line.{line}
 use Rattle.ixdtf.specs.table.Lines.Ending.{error}
@@ -50,6 +51,11 @@ Closed clock plain_minutes rest = NotNext (seconds_after clock digit) rest × No
 Closed clock colon_minutes rest = NotNext (seconds_after clock colon) rest × NotNext (colon or digit) rest
 Closed clock seconds rest = NotNext decimal_mark rest
 Closed clock fractions rest = NotNext digit rest
+
+-- the lines after the first digit of an hour
+abbrev pub IsLater : ClockLine → Type 0
+IsLater hour_start = ⊥
+IsLater _ = Unit {0}
 
 -- what stands after a whole time where the row of its line fits, but at Bad and at what goes wrong in the time
 abbrev pub StopsAfter : Follow → Place → Fault → Text → Type 0
