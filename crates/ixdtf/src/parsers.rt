@@ -6,7 +6,8 @@
 
 ghost use Rattle.std.specs.Prelude.{◌≡◌, ◌↔◌, ◌+◌, ◌≤◌, [], map, Ok, None, OnOk, OnErr, IfErr, IsFalse};
 ghost use Rattle.ixdtf.specs.table.Faults.{fault_of, never_comes};
-ghost use Rattle.ixdtf.specs.language.Readers.{parse as reader_parse, parse_year_month as reader_parse_year_month, parse_month_day as reader_parse_month_day, parse_time as reader_parse_time};
+ghost use Rattle.ixdtf.specs.language.Readers.{parse as reader_parse, parse_year_month as reader_parse_year_month};
+ghost use Rattle.ixdtf.specs.language.Readers.{parse_month_day as reader_parse_month_day, parse_time as reader_parse_time};
 ghost use Rattle.ixdtf.specs.language.Readers.Reader.{bracketed};
 ghost use Rattle.ixdtf.specs.language.Languages.{Parsed};
 ghost use Rattle.ixdtf.specs.Handlers.{Handled, PlainRecord, PlainFault};
@@ -26,8 +27,8 @@ mod time;
 mod timezone;
 mod zones;
 
-use self::cores::{Cores, LoneTimes, MonthDays, YearMonths};
 pub(crate) use self::cores::DateTimes;
+use self::cores::{Cores, LoneTimes, MonthDays, YearMonths};
 use self::texts::parse_text;
 pub use self::zones::TimeZoneParser;
 use crate::cursor::Cursor;

@@ -78,7 +78,8 @@ module _ {M : Type 1} (𝓤 : Ura M) (𝓛 : Logic 𝓤) (𝓜 : Model 𝓤 𝓛
     (g₀ : encoding.Ghosts T'.Denot U.Denot) (d₀ : Dict) (gₛ : sealed.Ghosts T'.Denot) (dₛ : Dict) (g₁ : eq.Ghosts U.Denot) (d₁ : Dict)
     (g₂ : debug.Ghosts U.Denot) (d₂ : Dict) (g₃ : clone.Ghosts U.Denot) (d₃ d₄ : Dict) (g : R.F-FnMut.Ghosts T' U F) (d d' d'' : Dict) (P : Lfts 5 → Type 0)
     (b₀ : encoding_bound.Met 𝓛 𝓜 𝓡 𝓡.env T' U g₀ d₀ gₛ dₛ g₁ d₁ g₂ d₂ g₃ d₃) (bₛ : sealed_bound.Met 𝓛 𝓜 𝓡 𝓡.env T' gₛ dₛ)
-    (b₁ : eq_bound.Met 𝓛 𝓜 𝓡 𝓡.env U g₁ d₁) (b₂ : debug_bound.Met 𝓛 𝓜 𝓡 𝓡.env U g₂ d₂) (b₃ : clone_bound.Met 𝓛 𝓜 𝓡 𝓡.env U g₃ d₃) (b₄ : Glue.Met 𝓛 𝓜 𝓡 𝓡.env U d₄)
+    (b₁ : eq_bound.Met 𝓛 𝓜 𝓡 𝓡.env U g₁ d₁) (b₂ : debug_bound.Met 𝓛 𝓜 𝓡 𝓡.env U g₂ d₂)
+    (b₃ : clone_bound.Met 𝓛 𝓜 𝓡 𝓡.env U g₃ d₃) (b₄ : Glue.Met 𝓛 𝓜 𝓡 𝓡.env U d₄)
     (b : (κs : Lfts 5) → P κs → GM.Met 𝓛 𝓜 𝓡 𝓡.env κs.1.0 T' U E K.row F g d × GM.Lawful T' U E K.row F g)
     (b' : (κs : Lfts 5) → P κs → GO.Met 𝓛 𝓜 𝓡 𝓡.env κs.1.0 T' U E K.row F (Members.once g) d') (b'' : Glue.Met 𝓛 𝓜 𝓡 𝓡.env F d'') where
   abbrev 𝓣 : Tables 𝓤 𝓛.H
@@ -143,7 +144,8 @@ module _ {M : Type 1} (𝓤 : Ura M) (𝓛 : Logic 𝓤) (𝓜 : Model 𝓤 𝓛
         b'')
 
     -- so does the form, which hands on to it
-    pub form : Asks → Gives → Wired 𝓡.env G_symbol.code → raised_bound.Met 𝓛 𝓜 𝓡 𝓡.env E raises.ghosts raises.dict → cores_bound.Met 𝓛 𝓜 𝓡 𝓡.env K.row K.ghosts K.dict
+    pub form : Asks → Gives → Wired 𝓡.env G_symbol.code → raised_bound.Met 𝓛 𝓜 𝓡 𝓡.env E raises.ghosts raises.dict
+        → cores_bound.Met 𝓛 𝓜 𝓡 𝓡.env K.row K.ghosts K.dict
         → (h : Handing) (here : Callee) → ((κs : Lfts 5) → h.result ≡ layout (Got (at κs) 0 1 T' U)) → run ≡ 𝓣.C h.callee
         → Closed 𝓤 𝓛.H 𝓣.C 𝓣.Λ here (handing_on h (layout F)) → Triple 𝓤 (𝓣.C here) (triple_of 𝓛 S c)
     form asks gives wired raised cored h here result_is calls closed =

@@ -16,22 +16,22 @@ returns-in_err-read-clause-replied g c =
 -- a core, and the end
 pub returns-then-not-branch-clause-replied : goal.returns-then-not-branch-clause-replied
 returns-then-not-branch-clause-replied g c =
-    let read : core_at error_of g.C.Cores.kind (map g.T.EncodingType.letter c.args.cursor.now.rest) ≡ Ok ((core_in c.parse_core-read.new.found, false), map g.T.EncodingType.letter c.parse_core-read.new.cursor.rest) = rw (c.take-here.ensures.same, c.if-not-branch.true) at c.in_ok-read.ensures.core in
+    let read = rw (c.take-here.ensures.same, c.if-not-branch.true) at c.in_ok-read.ensures.core in
     placed_alone _ _ _ _ _ _ (no_brackets g.T.EncodingType.number c.parse_core-read.new.found (c.in_ok-read.ensures.kept.0 ∙ c.requires.no_zone) (c.in_ok-read.ensures.kept.1 ∙ c.requires.no_calendar)) g.C.Cores.kind _ read
 
 pub returns-then-not-branch-clause-empty : goal.returns-then-not-branch-clause-empty
 returns-then-not-branch-clause-empty g c =
-    let read : core_at error_of g.C.Cores.kind (map g.T.EncodingType.letter c.args.cursor.now.rest) ≡ Ok ((core_in c.parse_core-read.new.found, false), map g.T.EncodingType.letter c.parse_core-read.new.cursor.rest) = rw (c.take-here.ensures.same, c.if-not-branch.true) at c.in_ok-read.ensures.core in
+    let read = rw (c.take-here.ensures.same, c.if-not-branch.true) at c.in_ok-read.ensures.core in
     no_units g.T.EncodingType.letter _ (core_ends_text g.C.Cores.kind _ _ _ read)
 
 -- a core, and brackets
 pub returns-clause-replied : goal.returns-clause-replied
 returns-clause-replied g c =
-    let read : core_at error_of g.C.Cores.kind (map g.T.EncodingType.letter c.args.cursor.now.rest) ≡ Ok ((core_in c.parse_core-read.new.found, true), map g.T.EncodingType.letter c.parse_core-read.new.cursor.rest) = rw (c.take-here.ensures.same, c.if-not-branch.false) at c.in_ok-read.ensures.core in
+    let read = rw (c.take-here.ensures.same, c.if-not-branch.false) at c.in_ok-read.ensures.core in
     c.parse_brackets.ensures.replied g.C.Cores.kind _ read
 
 -- the first bracket is looked through once more than it is read
 pub returns-clause-looks : goal.returns-clause-looks
 returns-clause-looks g c =
-    let read : core_at error_of g.C.Cores.kind (map g.T.EncodingType.letter c.args.cursor.now.rest) ≡ Ok ((core_in c.parse_core-read.new.found, true), map g.T.EncodingType.letter c.parse_core-read.new.cursor.rest) = rw (c.take-here.ensures.same, c.if-not-branch.false) at c.in_ok-read.ensures.core in
+    let read = rw (c.take-here.ensures.same, c.if-not-branch.false) at c.in_ok-read.ensures.core in
     omega (arith, core_shortens g.C.Cores.kind g.T.EncodingType.letter _ _ _ read, rw c.take-here.ensures.same at c.in_ok-read.ensures.looks, c.parse_brackets.ensures.looks)

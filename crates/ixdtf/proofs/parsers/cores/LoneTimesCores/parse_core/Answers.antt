@@ -15,28 +15,36 @@ returns-in_err-byte-clause-core g c =
 pub returns-in-Some-clause-core : goal.returns-in-Some-clause-core
 returns-in-Some-clause-core g c =
     let marked = marked_is _ c.in-Some.byte (rw c.in-Some.is at c.in_ok-byte.ensures.letter) (sym c.if-is_time_designator.ensures) in
-    reads_as _ _ c.step.new.self c.args.cursor.now _ c.parse_lone_time.result _ _ (marked ∙ rw (c.step.ensures.letters, c.look.ensures.rest) refl) c.parse_lone_time.ensures.core
+    let same = marked ∙ rw (c.step.ensures.letters, c.look.ensures.rest) refl in
+    reads_as _ _ c.step.new.self c.args.cursor.now _ c.parse_lone_time.result _ _ same c.parse_lone_time.ensures.core
 
 -- neither
 pub returns-in_err-more-in_default-clause-core : goal.returns-in_err-more-in_default-clause-core
 returns-in_err-more-in_default-clause-core g c =
     let p = err_from_is_err_and c.from_residual-in_err-more-in_default.result c.from_residual-in_err-more-in_default.ensures.1 in
     let other : next_is time_letter c.in_ok-byte.field-0 ≡ false = elim c.in_default.branch [
-      in_default-via-in-Some+else-is_time_designator w ↦ rw w.in-Some.is (sym w.if-is_time_designator.ensures)
-    | in_default-via-in_default w ↦ rw w.in_default.is refl ] in
+      | in_default-via-in-Some+else-is_time_designator w ↦ rw w.in-Some.is (sym w.if-is_time_designator.ensures)
+      | in_default-via-in_default w ↦ rw w.in_default.is refl
+    ] in
     rw (p.1, p.2) (unmarked_is _ _ c.in_ok-byte.ensures.letter other ∙ rw (← c.look.ensures.rest, c.in_err-more-in_default.ensures.core) refl)
 
 pub returns-in_err-check_front-in_default-clause-core : goal.returns-in_err-check_front-in_default-clause-core
 returns-in_err-check_front-in_default-clause-core g c =
     let p = err_from_is_err_and c.from_residual-in_err-check_front-in_default.result c.from_residual-in_err-check_front-in_default.ensures.1 in
     let other : next_is time_letter c.in_ok-byte.field-0 ≡ false = elim c.in_default.branch [
-      in_default-via-in-Some+else-is_time_designator w ↦ rw w.in-Some.is (sym w.if-is_time_designator.ensures)
-    | in_default-via-in_default w ↦ rw w.in_default.is refl ] in
-    rw (p.1, p.2) (unmarked_is _ _ c.in_ok-byte.ensures.letter other ∙ rw (← c.look.ensures.rest, c.in_ok-more-in_default.ensures.core) (rw (c.look.ensures.rest, ← c.rest-start.ensures) (c.in_err-check_front-in_default.ensures.front _ _)))
+      | in_default-via-in-Some+else-is_time_designator w ↦ rw w.in-Some.is (sym w.if-is_time_designator.ensures)
+      | in_default-via-in_default w ↦ rw w.in_default.is refl
+    ] in
+    let front = c.in_err-check_front-in_default.ensures.front _ _ in
+    rw (p.1, p.2) (unmarked_is _ _ c.in_ok-byte.ensures.letter other
+    ∙ rw (← c.look.ensures.rest, c.in_ok-more-in_default.ensures.core) (rw (c.look.ensures.rest, ← c.rest-start.ensures) front))
 
 pub returns-in_ok-check_front-in_default-clause-core : goal.returns-in_ok-check_front-in_default-clause-core
 returns-in_ok-check_front-in_default-clause-core g c =
     let other : next_is time_letter c.in_ok-byte.field-0 ≡ false = elim c.in_default.branch [
-      in_default-via-in-Some+else-is_time_designator w ↦ rw w.in-Some.is (sym w.if-is_time_designator.ensures)
-    | in_default-via-in_default w ↦ rw w.in_default.is refl ] in
-    unmarked_is _ _ c.in_ok-byte.ensures.letter other ∙ rw (← c.look.ensures.rest, c.in_ok-more-in_default.ensures.core) (rw (c.look.ensures.rest, ← c.rest-start.ensures, ← c.check_front.ensures.rest) (c.in_ok-check_front-in_default.ensures.front _ _))
+      | in_default-via-in-Some+else-is_time_designator w ↦ rw w.in-Some.is (sym w.if-is_time_designator.ensures)
+      | in_default-via-in_default w ↦ rw w.in_default.is refl
+    ] in
+    let front = c.in_ok-check_front-in_default.ensures.front _ _ in
+    unmarked_is _ _ c.in_ok-byte.ensures.letter other
+    ∙ rw (← c.look.ensures.rest, c.in_ok-more-in_default.ensures.core) (rw (c.look.ensures.rest, ← c.rest-start.ensures, ← c.check_front.ensures.rest) front)
