@@ -1,5 +1,6 @@
 -- Forms of the clauses of private functions, and what the code's own types stand for. No public clause cites one.
 use Rattle.std.specs.Prelude.{◌≡◌, ℕ, Bool, IsTrue, IsFalse, ◌+◌, ◌≤◌, map, length, Option, Some, None, Result, Ok, Err, ◌∷◌, if◌then◌else◌}
+use Rattle.ixdtf.specs.declared.records.DateRecord.{DateRecord}
 use Rattle.ixdtf.specs.declared.records.IxdtfParseRecord.{IxdtfParseRecord}
 use Rattle.ixdtf.specs.declared.stop.Stop.{Stop}
 use Rattle.ixdtf.specs.declared.stop.Stop.TheVariants as stops
@@ -123,9 +124,9 @@ digit_seen other (Err e) = Err e
 abbrev pub more_digits_at : ℕ → Text → Read Fault FractionParts
 more_digits_at first text = digit_run faults.NonAsciiCodePoint text >>= λ more. Ok (fraction_of (Plain first ∷ more.0), more.1)
 
--- a time that stands alone, behind its letter where it has one, and its offset
-unfoldable pub lone_core_at : Text → Read Fault ClosedCore
-lone_core_at text = clock_at error_of clocks.Time text >>= λ time. after_time_at error_of None time.0 time.1
+-- a time, and an offset where there is one, behind a date or none
+unfoldable pub timed_core_at : Option DateRecord → Text → Read Fault ClosedCore
+timed_core_at date text = clock_at error_of clocks.Time text >>= λ time. after_time_at error_of date time.0 time.1
 
 -- ---- the code's own types
 

@@ -5,7 +5,7 @@ ghost use Rattle.ixdtf.specs.language.Letters.{Text};
 ghost use Rattle.ixdtf.specs.language.Cores.{Core};
 ghost use Rattle.ixdtf.specs.language.Readers.{CoreKind};
 ghost use Rattle.ixdtf.specs.table.LineNames.{LineName};
-ghost use Rattle.ixdtf.specs.reading.Clauses.{Reads, Spends, Yields, core_in, KeepsBrackets, open_time_of, lone_core_at};
+ghost use Rattle.ixdtf.specs.reading.Clauses.{Reads, Spends, Yields, core_in, KeepsBrackets, open_time_of, timed_core_at};
 ghost use Rattle.ixdtf.specs.reading.Looks.{error_of};
 ghost use Rattle.ixdtf.specs.reading.Cores.{ClosedCore, core_end_at, offset_core_at, after_time_at, after_date_at, unfronted, core_at};
 
@@ -115,10 +115,10 @@ impl Cores for LoneTimes {
         match cursor.look()? {
             Some(byte) if is_time_designator(byte) => {
                 cursor.step();
-                parse_lone_time(cursor, found)
+                parse_timed(cursor, found)
             }
             _ => {
-                let more = parse_lone_time(cursor, found)?;
+                let more = parse_timed(cursor, found)?;
                 check_front(cursor, start)?;
                 Ok(more)
             }
@@ -130,7 +130,7 @@ impl Cores for LoneTimes {
 
 /// Reads what stands after a date.
 #[inline(always)]
-#[tactic(auto, unfolding(crate::specs::reading::Cores::after_date_at, crate::specs::reading::Cores::time_core_at))]
+#[tactic(auto, unfolding(crate::specs::reading::Cores::after_date_at, crate::specs::reading::Cores::time_core_at, crate::specs::reading::Clauses::timed_core_at))]
 fn parse_after_date<'a, T: EncodingType>(
     cursor: &mut Cursor<'a, T>,
     date: DateRecord,
@@ -151,9 +151,7 @@ fn parse_after_date<'a, T: EncodingType>(
     match cursor.look()? {
         Some(byte) if is_date_time_separator(byte) => {
             cursor.step();
-            let mut time = TimeRecord::default();
-            let shape = parse_time(cursor, &mut time)?;
-            parse_after_time(cursor, shape, time, found)
+            parse_timed(cursor, found)
         }
         _ => close_core(cursor),
     }
@@ -161,18 +159,17 @@ fn parse_after_date<'a, T: EncodingType>(
 
 // ==== Times ====
 
-/// Reads a time, and an offset or `Z` where there is one, into a record in which no date stands.
+/// Reads a time, and an offset or `Z` where there is one, behind the date that stands in the record, or none.
 #[inline(always)]
-#[tactic(auto, unfolding(crate::specs::reading::Clauses::lone_core_at))]
-fn parse_lone_time<'a, T: EncodingType>(
+#[tactic(auto, unfolding(crate::specs::reading::Clauses::timed_core_at))]
+fn parse_timed<'a, T: EncodingType>(
     cursor: &mut Cursor<'a, T>,
     found: &mut IxdtfParseRecord<'a, T>,
 ) -> Result<bool, Stop>
-    requires no_date { found.old.date ≡ None }
     requires no_time { found.old.time ≡ None }
     requires no_offset { found.old.offset ≡ None }
     ensures core { Reads T.letter (λ more. (core_in found.new, more)) cursor.old result cursor.new
-        lone_core_at }
+        (timed_core_at found.old.date) }
     ensures kept { KeepsBrackets found.old found.new }
     ensures looks { Spends 20 cursor.old cursor.new }
 {

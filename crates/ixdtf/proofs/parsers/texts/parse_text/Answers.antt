@@ -1,8 +1,5 @@
-use Rattle.std.proofs.Common.{◌≡◌, map, Ok, false, true, ◌∙◌, arith}
+use Rattle.std.proofs.Common.{◌∙◌, arith}
 use Rattle.std.proofs.lemmas.Result.{err_from_is_err_and}
-use Rattle.ixdtf.specs.reading.Looks.{error_of}
-use Rattle.ixdtf.specs.reading.Cores.{core_at}
-use Rattle.ixdtf.specs.reading.Clauses.{core_in}
 use Rattle.ixdtf.proofs.code.Units.{no_units}
 use Rattle.ixdtf.proofs.code.Tail.{core_shortens, core_ends_text, core_refused}
 use Rattle.ixdtf.proofs.code.Placed.{no_brackets, placed_alone}
@@ -17,7 +14,9 @@ returns-in_err-read-clause-replied g c =
 pub returns-then-not-branch-clause-replied : goal.returns-then-not-branch-clause-replied
 returns-then-not-branch-clause-replied g c =
     let read = rw (c.take-here.ensures.same, c.if-not-branch.true) at c.in_ok-read.ensures.core in
-    placed_alone _ _ _ _ _ _ (no_brackets g.T.EncodingType.number c.parse_core-read.new.found (c.in_ok-read.ensures.kept.0 ∙ c.requires.no_zone) (c.in_ok-read.ensures.kept.1 ∙ c.requires.no_calendar)) g.C.Cores.kind _ read
+    let kept = c.in_ok-read.ensures.kept in
+    let none = no_brackets g.T.EncodingType.number c.parse_core-read.new.found (kept.0 ∙ c.requires.no_zone) (kept.1 ∙ c.requires.no_calendar) in
+    placed_alone _ _ _ _ _ _ none g.C.Cores.kind _ read
 
 pub returns-then-not-branch-clause-empty : goal.returns-then-not-branch-clause-empty
 returns-then-not-branch-clause-empty g c =
@@ -34,4 +33,5 @@ returns-clause-replied g c =
 pub returns-clause-looks : goal.returns-clause-looks
 returns-clause-looks g c =
     let read = rw (c.take-here.ensures.same, c.if-not-branch.false) at c.in_ok-read.ensures.core in
-    omega (arith, core_shortens g.C.Cores.kind g.T.EncodingType.letter _ _ _ read, rw c.take-here.ensures.same at c.in_ok-read.ensures.looks, c.parse_brackets.ensures.looks)
+    let looks = rw c.take-here.ensures.same at c.in_ok-read.ensures.looks in
+    omega (arith, core_shortens g.C.Cores.kind g.T.EncodingType.letter _ _ _ read, looks, c.parse_brackets.ensures.looks)
