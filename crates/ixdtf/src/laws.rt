@@ -14,7 +14,7 @@ ghost use Rattle.ixdtf.specs.language.Fractions.{exact_nanoseconds_of, nanosecon
 ghost use Rattle.ixdtf.specs.Views.{returned, returned_by, zone_of, note_of, parsed_of, most_looks};
 
 use crate::encoding::EncodingType;
-use crate::parsers::IxdtfParser;
+use crate::parsers::{DateTimes, IxdtfParser};
 use crate::records::{
     Annotation, DateRecord, Fraction, FullPrecisionOffset, IxdtfParseRecord, MinutePrecisionOffset,
     Sign, TimeRecord, TimeZoneAnnotation, TimeZoneRecord, UtcOffsetRecord, UtcOffsetRecordOrZ,
@@ -153,5 +153,5 @@ where
     ensures looks { parser.new.looks ≤ parser.old.looks + most_looks parser.old.rest }
     ensures counted { parser.old.looks ≤ parser.new.looks }
 {
-    parser.read_as::<E, F>(handler)
+    parser.read_as::<E, DateTimes, F>(handler)
 }
