@@ -8,8 +8,10 @@ pub mod FixedDate
 pub mod FixedTime
 pub mod FractionLoop
 pub mod GrowingDigits
+pub mod HandledForms
 pub mod HandsOn
 pub mod LetterLoops
+pub mod LoneTimes
 pub mod NameLoop
 pub mod Nanoseconds
 pub mod OneMoreReply

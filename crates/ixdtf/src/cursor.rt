@@ -52,15 +52,6 @@ impl<'a, T: EncodingType> Cursor<'a, T> {
         self.rest
     }
 
-    /// Goes back to an earlier rest. The looks that were made stay counted.
-    #[inline(always)]
-    pub fn go_back(&mut self, rest: &'a [T::CodeUnit])
-        ensures rest { self.new.rest ≡ map T.number rest.now }
-        ensures looks { self.new.looks ≡ self.old.looks }
-    {
-        self.rest = rest;
-    }
-
     /// A cursor of its own at the same place, with the looks that were made: this one keeps its rest, and no count. So a
     /// reader and its loops work on a value that nothing else sees, and put it back at their end.
     #[inline(always)]
@@ -70,6 +61,19 @@ impl<'a, T: EncodingType> Cursor<'a, T> {
     {
         Cursor {
             rest: self.rest,
+            looks: std::mem::replace(&mut self.looks, Looks::none()),
+        }
+    }
+
+    /// A cursor of its own at a rest that was kept, with the looks that were made: this one keeps its rest, and no count.
+    #[inline(always)]
+    pub fn at(&mut self, rest: &'a [T::CodeUnit]) -> Self
+        ensures there { result.rest ≡ map T.number rest.now }
+        ensures looks { result.looks ≡ self.old.looks }
+        ensures rest { self.new.rest ≡ self.old.rest }
+    {
+        Cursor {
+            rest,
             looks: std::mem::replace(&mut self.looks, Looks::none()),
         }
     }

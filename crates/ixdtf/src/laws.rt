@@ -14,7 +14,7 @@ ghost use Rattle.ixdtf.specs.language.Fractions.{exact_nanoseconds_of, nanosecon
 ghost use Rattle.ixdtf.specs.Views.{returned, returned_by, zone_of, note_of, parsed_of, most_looks};
 
 use crate::encoding::EncodingType;
-use crate::parsers::IxdtfParser;
+use crate::parsers::{DateTimes, IxdtfParser};
 use crate::records::{
     Annotation, DateRecord, Fraction, FullPrecisionOffset, IxdtfParseRecord, MinutePrecisionOffset,
     Sign, TimeRecord, TimeZoneAnnotation, TimeZoneRecord, UtcOffsetRecord, UtcOffsetRecordOrZ,
@@ -45,8 +45,8 @@ pub fn exact_nanoseconds_are_the_truncated_ones(fraction: &Fraction)
     let _ = fraction.to_nanoseconds();
 }
 
-/// Equality of slices of units, of each record and of errors is equality of what a contract sees of them, slices by the numbers
-/// of their units and locations by their bytes; and so it is reflexive, symmetric and transitive, in every encoding.
+/// Equality of slices of units, of each record and of errors is equality of what a contract sees of them, slices by the
+/// numbers of their units and locations by their bytes; and so it is reflexive, symmetric and transitive, in every encoding.
 pub fn equality_is_of_what_is_seen<'a, T: EncodingType>()
 where
     T::CodeUnit: 'a,
@@ -153,5 +153,5 @@ where
     ensures looks { parser.new.looks ≤ parser.old.looks + most_looks parser.old.rest }
     ensures counted { parser.old.looks ≤ parser.new.looks }
 {
-    parser.read_as::<E, F>(handler)
+    parser.read_as::<E, DateTimes, F>(handler)
 }

@@ -1,8 +1,8 @@
 //! A reader of the Internet Extended Date/Time Format (RFC 9557), proved.
 //!
 //! At this stage [`parsers::IxdtfParser::parse`] reads a date, or a date and a time with its offset, and what stands in
-//! brackets after it, of 8-bit or of 16-bit units: the forms of RFC 3339, the shorter ones that ISO 8601 has, and `suffix` of RFC 9557,
-//! section 4.1, which is a time zone and annotations of a key and a value, as `[u-ca=hebrew]`.
+//! brackets after it, of 8-bit or of 16-bit units: the forms of RFC 3339, the shorter ones that ISO 8601 has, and
+//! `suffix` of RFC 9557, section 4.1, which is a time zone and annotations of a key and a value, as `[u-ca=hebrew]`.
 //! [`parsers::IxdtfParser::parse_with_annotation_handler`] asks the caller about each annotation.
 //! [`parsers::TimeZoneParser`] reads a text that is an offset, a time zone or the name of one alone.
 //!

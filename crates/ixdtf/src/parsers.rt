@@ -6,7 +6,9 @@
 
 ghost use Rattle.std.specs.Prelude.{◌≡◌, ◌↔◌, ◌+◌, ◌≤◌, [], map, Ok, None, OnOk, OnErr, IfErr, IsFalse};
 ghost use Rattle.ixdtf.specs.table.Faults.{fault_of, never_comes};
-ghost use Rattle.ixdtf.specs.language.Readers.{parse as reader_parse};
+ghost use Rattle.ixdtf.specs.language.Readers.{parse as reader_parse, parse_year_month as reader_parse_year_month};
+ghost use Rattle.ixdtf.specs.language.Readers.{parse_month_day as reader_parse_month_day, parse_time as reader_parse_time};
+ghost use Rattle.ixdtf.specs.language.Readers.Reader.{bracketed};
 ghost use Rattle.ixdtf.specs.language.Languages.{Parsed};
 ghost use Rattle.ixdtf.specs.Handlers.{Handled, PlainRecord, PlainFault};
 ghost use Rattle.ixdtf.specs.Views.{Unread, returned, returned_by, parsed_of, most_looks};
@@ -25,6 +27,8 @@ mod time;
 mod timezone;
 mod zones;
 
+pub(crate) use self::cores::DateTimes;
+use self::cores::{Cores, LoneTimes, MonthDays, YearMonths};
 use self::texts::parse_text;
 pub use self::zones::TimeZoneParser;
 use crate::cursor::Cursor;
@@ -169,7 +173,7 @@ impl<'a, T: EncodingType> IxdtfParser<'a, T> {
         ensures counted { self.old.looks ≤ self.new.looks }
     {
         let mut found = IxdtfParseRecord::default();
-        match self.read_into(|annotation| Some(annotation), &mut found) {
+        match self.read_into::<DateTimes, _>(|annotation| Some(annotation), &mut found) {
             Ok(()) => Ok(found),
             Err(stop) => return Err(stop.error()),
         }
@@ -221,19 +225,278 @@ impl<'a, T: EncodingType> IxdtfParser<'a, T> {
         // The count of looks never goes down.
         ensures counted { self.old.looks ≤ self.new.looks }
     {
-        self.read_as::<ParseError, F>(handler)
+        self.read_as::<ParseError, DateTimes, F>(handler)
     }
 
-    /// Reads as [`parse_with_annotation_handler`](Self::parse_with_annotation_handler) does, with an error that a stop gives.
-    #[inline(always)]
-    pub(crate) fn read_as<E: Raised, F>(&mut self, handler: F) -> Result<IxdtfParseRecord<'a, T>, E>
+    /// Reads all that is still to be read, as a year and a month (ISO 8601; `DateSpecYearMonth` of the Temporal grammar), and
+    /// then, in brackets, what [`parse`](Self::parse) reads there.
+    ///
+    /// A year and a month are `2020-11` or `202011`, where the year is as in [`parse`](Self::parse). The record has `date`,
+    /// whose day is 1, and `tz` and `calendar` as that of [`parse`](Self::parse).
+    ///
+    /// ```text
+    /// 2020-11             Ok: 1 November 2020
+    /// +00202011           Ok: 1 November 2020
+    /// 202011[u-ca=hebrew] Ok: 1 November 2020, the calendar hebrew
+    /// 2020                Err(AbruptEnd { location: "digit" })
+    /// 2020-13             Err(InvalidMonthRange)
+    /// 2020-11-08          Err(InvalidEnd)
+    /// ```
+    ///
+    /// After `Ok` nothing is left to be read. After an error all that was still to be read still is.
+    ///
+    /// # Errors
+    ///
+    /// The first part that is wrong decides. Brackets have the errors that they have in [`parse`](Self::parse). Before them:
+    ///
+    /// - `AbruptEnd` where a digit has to follow, and where the source ends after a year (at `digit`);
+    /// - `DateYear`, `DateExtendedYear` and `DateMonth` where another letter stands in the place of a digit of the year, the
+    ///   year with a sign and the month;
+    /// - `InvalidMonthRange` where the month is not from 1 to 12, and `DateExtendedYear` for the year `-000000`;
+    /// - `InvalidEnd` at any other letter after the month;
+    /// - `NonAsciiCodePoint` at a unit that stands for no letter, which no 8-bit unit does.
+    pub fn parse_year_month(&mut self) -> ParserResult<IxdtfParseRecord<'a, T>>
+        // `Ok` exactly with the record that the text gives, where each pair replies for itself.
+        ensures ok { (p : Parsed) → (returned (parsed_of T.number) result ≡ Ok p) ↔
+            PlainRecord reader_parse_year_month (map T.letter self.old.rest) p }
+        // `Err` only with a fault that it gives so.
+        ensures err { IfErr result
+            (λ e. PlainFault reader_parse_year_month (map T.letter self.old.rest) (fault_of e)) }
+
+        // None of the errors that no reader gives.
+        ensures comes { IfErr result (λ e. IsFalse (never_comes (fault_of e))) }
+
+        ensures empty { OnOk result (self.new.rest ≡ []) }
+        ensures unchanged { OnErr result (self.new.rest ≡ self.old.rest) }
+        ensures looks { self.new.looks ≤ self.old.looks + most_looks self.old.rest }
+        // The count of looks never goes down.
+        ensures counted { self.old.looks ≤ self.new.looks }
+    {
+        let mut found = IxdtfParseRecord::default();
+        match self.read_into::<YearMonths, _>(|annotation| Some(annotation), &mut found) {
+            Ok(()) => Ok(found),
+            Err(stop) => return Err(stop.error()),
+        }
+    }
+
+    /// Reads as [`parse_year_month`](Self::parse_year_month) does, and asks the handler as
+    /// [`parse_with_annotation_handler`](Self::parse_with_annotation_handler) does.
+    ///
+    /// # Errors
+    ///
+    /// Those of [`parse_year_month`](Self::parse_year_month), where `CriticalDuplicateCalendar` and `UnrecognizedCritical` come for
+    /// the replies alone.
+    pub fn parse_year_month_with_annotation_handler<F>(
+        &mut self,
+        handler: F,
+    ) -> ParserResult<IxdtfParseRecord<'a, T>>
     where
         F: FnMut(Annotation<'a, T>) -> Option<Annotation<'a, T>>,
         // The handler may be called at any time, in any state that it reached, on any annotation.
         requires callable { F.IsAlwaysCallable handler }
         // For the one chain of its calls: `Ok` exactly with the record, and `Err` only with a fault, that the text and the
         // replies give.
-        ensures handled { Handled T.number F.step handler reader_parse (map T.letter self.old.rest)
+        ensures handled { Handled T.number F.step handler reader_parse_year_month (map T.letter self.old.rest)
+            (returned (parsed_of T.number) result) }
+
+        // None of the errors that no reader gives.
+        ensures comes { IfErr result (λ e. IsFalse (never_comes (fault_of e))) }
+
+        ensures empty { OnOk result (self.new.rest ≡ []) }
+        ensures unchanged { OnErr result (self.new.rest ≡ self.old.rest) }
+        ensures looks { self.new.looks ≤ self.old.looks + most_looks self.old.rest }
+        // The count of looks never goes down.
+        ensures counted { self.old.looks ≤ self.new.looks }
+    {
+        self.read_as::<ParseError, YearMonths, F>(handler)
+    }
+
+    /// Reads all that is still to be read, as a month and a day (ISO 8601; `DateSpecMonthDay` of the Temporal grammar), and
+    /// then, in brackets, what [`parse`](Self::parse) reads there.
+    ///
+    /// A month and a day are `11-07`, `1107`, `--11-07` or `--1107`. The day is from 0 to the greatest that the month has in
+    /// any year, which is 29 for February. The record has `date`, whose year is 0, and `tz` and `calendar` as that of
+    /// [`parse`](Self::parse).
+    ///
+    /// ```text
+    /// 11-07               Ok: 7 November of the year 0
+    /// --1107[+04:00]      Ok: 7 November of the year 0, the zone plus 4 hours
+    /// 02-29               Ok: 29 February of the year 0
+    /// 11-00               Ok: day 0 of November of the year 0
+    /// 02-30               Err(InvalidMonthDay)
+    /// -11-07              Err(MonthDayHyphen)
+    /// -                   Err(AbruptEnd { location: "MonthDay" })
+    /// ```
+    ///
+    /// After `Ok` nothing is left to be read. After an error all that was still to be read still is.
+    ///
+    /// # Errors
+    ///
+    /// The first part that is wrong decides. Brackets have the errors that they have in [`parse`](Self::parse). Before them:
+    ///
+    /// - `AbruptEnd` where there is nothing or one hyphen alone (at `MonthDay`), and where a digit has to follow (at `digit`);
+    /// - `MonthDayHyphen` where another letter than a second hyphen follows the first;
+    /// - `DateMonth` and `DateDay` where another letter stands in the place of a digit of the month and the day;
+    /// - `InvalidMonthRange` where the month is not from 1 to 12;
+    /// - `InvalidMonthDay` where the month has the day in no year;
+    /// - `InvalidEnd` at any other letter after the day;
+    /// - `NonAsciiCodePoint` at a unit that stands for no letter, which no 8-bit unit does.
+    pub fn parse_month_day(&mut self) -> ParserResult<IxdtfParseRecord<'a, T>>
+        // `Ok` exactly with the record that the text gives, where each pair replies for itself.
+        ensures ok { (p : Parsed) → (returned (parsed_of T.number) result ≡ Ok p) ↔
+            PlainRecord reader_parse_month_day (map T.letter self.old.rest) p }
+        // `Err` only with a fault that it gives so.
+        ensures err { IfErr result
+            (λ e. PlainFault reader_parse_month_day (map T.letter self.old.rest) (fault_of e)) }
+
+        // None of the errors that no reader gives.
+        ensures comes { IfErr result (λ e. IsFalse (never_comes (fault_of e))) }
+
+        ensures empty { OnOk result (self.new.rest ≡ []) }
+        ensures unchanged { OnErr result (self.new.rest ≡ self.old.rest) }
+        ensures looks { self.new.looks ≤ self.old.looks + most_looks self.old.rest }
+        // The count of looks never goes down.
+        ensures counted { self.old.looks ≤ self.new.looks }
+    {
+        let mut found = IxdtfParseRecord::default();
+        match self.read_into::<MonthDays, _>(|annotation| Some(annotation), &mut found) {
+            Ok(()) => Ok(found),
+            Err(stop) => return Err(stop.error()),
+        }
+    }
+
+    /// Reads as [`parse_month_day`](Self::parse_month_day) does, and asks the handler as
+    /// [`parse_with_annotation_handler`](Self::parse_with_annotation_handler) does.
+    ///
+    /// # Errors
+    ///
+    /// Those of [`parse_month_day`](Self::parse_month_day), where `CriticalDuplicateCalendar` and `UnrecognizedCritical` come for
+    /// the replies alone.
+    pub fn parse_month_day_with_annotation_handler<F>(
+        &mut self,
+        handler: F,
+    ) -> ParserResult<IxdtfParseRecord<'a, T>>
+    where
+        F: FnMut(Annotation<'a, T>) -> Option<Annotation<'a, T>>,
+        // The handler may be called at any time, in any state that it reached, on any annotation.
+        requires callable { F.IsAlwaysCallable handler }
+        // For the one chain of its calls: `Ok` exactly with the record, and `Err` only with a fault, that the text and the
+        // replies give.
+        ensures handled { Handled T.number F.step handler reader_parse_month_day (map T.letter self.old.rest)
+            (returned (parsed_of T.number) result) }
+
+        // None of the errors that no reader gives.
+        ensures comes { IfErr result (λ e. IsFalse (never_comes (fault_of e))) }
+
+        ensures empty { OnOk result (self.new.rest ≡ []) }
+        ensures unchanged { OnErr result (self.new.rest ≡ self.old.rest) }
+        ensures looks { self.new.looks ≤ self.old.looks + most_looks self.old.rest }
+        // The count of looks never goes down.
+        ensures counted { self.old.looks ≤ self.new.looks }
+    {
+        self.read_as::<ParseError, MonthDays, F>(handler)
+    }
+
+    /// Reads all that is still to be read, as a time (RFC 3339, section 5.6, and ISO 8601's forms of it), and then, in
+    /// brackets, what [`parse`](Self::parse) reads there.
+    ///
+    /// `T` or `t` may stand before the time. The time is as in [`parse`](Self::parse), and so is what may stand after it, `Z`,
+    /// `z` or an offset. A text that begins as [`parse_month_day`](Self::parse_month_day) or
+    /// [`parse_year_month`](Self::parse_year_month) reads, as `1214Z` does, is refused unless it begins with `T` or `t`. The
+    /// record has `time`, `offset` where it stands, and `tz` and `calendar` as that of [`parse`](Self::parse).
+    ///
+    /// ```text
+    /// 12:30:45.25         Ok: 12:30:45 and a fraction of two digits, 25
+    /// T1200               Ok: 12:00:00
+    /// 2021-13             Ok: 20:21:00, minus 13 hours
+    /// 1200                Err(AmbiguousTimeMonthDay)
+    /// 1214Z               Err(AmbiguousTimeMonthDay)
+    /// 2021-12             Err(AmbiguousTimeYearMonth)
+    /// 202112[UTC]         Err(AmbiguousTimeYearMonth)
+    /// 20240801            Err(InvalidEnd)
+    /// T19:12-089          Err(AbruptEnd { location: "digit" })
+    /// ```
+    ///
+    /// After `Ok` nothing is left to be read. After an error all that was still to be read still is.
+    ///
+    /// # Errors
+    ///
+    /// The first part that is wrong decides. Brackets have the errors that they have in [`parse`](Self::parse), and a time and
+    /// an offset have those that they have there, the time at the start of the text too. Beside them:
+    ///
+    /// - `AmbiguousTimeMonthDay` where a text that does not begin with `T` or `t` begins as a month and a day do, and
+    ///   `AmbiguousTimeYearMonth` where it begins as a year and a month do, and not as a month and a day; both only where the
+    ///   source ends after the time and its offset, or `[` follows, and before anything in a bracket is looked at.
+    pub fn parse_time(&mut self) -> ParserResult<IxdtfParseRecord<'a, T>>
+        // `Ok` exactly with the record that the text gives, where each pair replies for itself.
+        ensures ok { (p : Parsed) → (returned (parsed_of T.number) result ≡ Ok p) ↔
+            PlainRecord reader_parse_time (map T.letter self.old.rest) p }
+        // `Err` only with a fault that it gives so.
+        ensures err { IfErr result
+            (λ e. PlainFault reader_parse_time (map T.letter self.old.rest) (fault_of e)) }
+
+        // None of the errors that no reader gives.
+        ensures comes { IfErr result (λ e. IsFalse (never_comes (fault_of e))) }
+
+        ensures empty { OnOk result (self.new.rest ≡ []) }
+        ensures unchanged { OnErr result (self.new.rest ≡ self.old.rest) }
+        ensures looks { self.new.looks ≤ self.old.looks + most_looks self.old.rest }
+        // The count of looks never goes down.
+        ensures counted { self.old.looks ≤ self.new.looks }
+    {
+        let mut found = IxdtfParseRecord::default();
+        match self.read_into::<LoneTimes, _>(|annotation| Some(annotation), &mut found) {
+            Ok(()) => Ok(found),
+            Err(stop) => return Err(stop.error()),
+        }
+    }
+
+    /// Reads as [`parse_time`](Self::parse_time) does, and asks the handler as
+    /// [`parse_with_annotation_handler`](Self::parse_with_annotation_handler) does.
+    ///
+    /// # Errors
+    ///
+    /// Those of [`parse_time`](Self::parse_time), where `CriticalDuplicateCalendar` and `UnrecognizedCritical` come for
+    /// the replies alone.
+    pub fn parse_time_with_annotation_handler<F>(
+        &mut self,
+        handler: F,
+    ) -> ParserResult<IxdtfParseRecord<'a, T>>
+    where
+        F: FnMut(Annotation<'a, T>) -> Option<Annotation<'a, T>>,
+        // The handler may be called at any time, in any state that it reached, on any annotation.
+        requires callable { F.IsAlwaysCallable handler }
+        // For the one chain of its calls: `Ok` exactly with the record, and `Err` only with a fault, that the text and the
+        // replies give.
+        ensures handled { Handled T.number F.step handler reader_parse_time (map T.letter self.old.rest)
+            (returned (parsed_of T.number) result) }
+
+        // None of the errors that no reader gives.
+        ensures comes { IfErr result (λ e. IsFalse (never_comes (fault_of e))) }
+
+        ensures empty { OnOk result (self.new.rest ≡ []) }
+        ensures unchanged { OnErr result (self.new.rest ≡ self.old.rest) }
+        ensures looks { self.new.looks ≤ self.old.looks + most_looks self.old.rest }
+        // The count of looks never goes down.
+        ensures counted { self.old.looks ≤ self.new.looks }
+    {
+        self.read_as::<ParseError, LoneTimes, F>(handler)
+    }
+
+    /// Reads a text with a core of the kind, as [`parse_with_annotation_handler`](Self::parse_with_annotation_handler) does, with
+    /// an error that a stop gives.
+    #[inline(always)]
+    pub(crate) fn read_as<E: Raised, C: Cores, F>(
+        &mut self,
+        handler: F,
+    ) -> Result<IxdtfParseRecord<'a, T>, E>
+    where
+        F: FnMut(Annotation<'a, T>) -> Option<Annotation<'a, T>>,
+        // The handler may be called at any time, in any state that it reached, on any annotation.
+        requires callable { F.IsAlwaysCallable handler }
+        // For the one chain of its calls: `Ok` exactly with the record, and `Err` only with a fault, that the text and the
+        // replies give.
+        ensures handled { Handled T.number F.step handler (bracketed C.kind) (map T.letter self.old.rest)
             (returned_by E.fault (parsed_of T.number) result) }
 
         // None of the errors that no reader gives.
@@ -246,7 +509,7 @@ impl<'a, T: EncodingType> IxdtfParser<'a, T> {
         ensures counted { self.old.looks ≤ self.new.looks }
     {
         let mut found = IxdtfParseRecord::default();
-        match self.read_into(handler, &mut found) {
+        match self.read_into::<C, F>(handler, &mut found) {
             Ok(()) => Ok(found),
             Err(stop) => return Err(E::of_stop(stop)),
         }
@@ -258,7 +521,7 @@ impl<'a, T: EncodingType> IxdtfParser<'a, T> {
     /// Each public reader of records calls this one, and returns by itself in each arm: where a reader hands on what another
     /// returned, or its arms meet before it returns, the whole record is copied once more.
     #[inline(always)]
-    fn read_into<F>(
+    fn read_into<C: Cores, F>(
         &mut self,
         mut handler: F,
         found: &mut IxdtfParseRecord<'a, T>,
@@ -266,11 +529,12 @@ impl<'a, T: EncodingType> IxdtfParser<'a, T> {
     where
         F: FnMut(Annotation<'a, T>) -> Option<Annotation<'a, T>>,
         requires callable { F.IsAlwaysCallable handler }
+        requires no_date { found.old.date ≡ None }
         requires no_time { found.old.time ≡ None }
         requires no_offset { found.old.offset ≡ None }
         requires no_zone { found.old.tz ≡ None }
         requires no_calendar { found.old.calendar ≡ None }
-        ensures handled { Handled T.number F.step handler reader_parse (map T.letter self.old.rest)
+        ensures handled { Handled T.number F.step handler (bracketed C.kind) (map T.letter self.old.rest)
             (yielded (λ _. parsed_of T.number found.new) result) }
         ensures comes { IfErr result (λ stop. IsFalse (never_comes (fault_of_stop stop))) }
         ensures empty { OnOk result (self.new.rest ≡ []) }
@@ -279,7 +543,7 @@ impl<'a, T: EncodingType> IxdtfParser<'a, T> {
         ensures counted { self.old.looks ≤ self.new.looks }
     {
         let mut here = self.cursor.take();
-        match parse_text::<T, F>(&mut here, &mut handler, found) {
+        match parse_text::<T, C, F>(&mut here, &mut handler, found) {
             Ok(()) => {
                 self.cursor = here;
                 Ok(())

@@ -9,3 +9,4 @@ pub mod FirstBracket
 pub mod Pairs
 pub mod Replies
 pub mod Handlers
+pub mod Widths

@@ -1,6 +1,6 @@
 -- `ParseError` as the error of a function that is generic in its error.
 use lib.Dec.{T}
-use Prim.Native.Nat.{ℕ}
+use Prim.Native.Nat.{ℕ, suc}
 use mir.Syntax.{Ty}
 use mir.Raw.{raw as bare}
 use mir.Val.{Val, has_ty, WT}
@@ -49,8 +49,8 @@ pub E_laws : Laws E
 E_laws = arg_laws written no ParseError.the_row error_laws.the_row_laws refl
 
 -- the claim under which such a function has its bound, from that under which its caller has it
-abbrev pub Under : (Lfts 5 → Type 0) → Lfts 6 → Type 0
-Under P κs = (τs : Lfts 5) × P τs × (τs.1.0 ≡ κs.1.0)
+abbrev pub Under : (n : ℕ) → (Lfts 5 → Type 0) → Lfts (suc (suc n)) → Type 0
+Under n P κs = (τs : Lfts 5) × P τs × (τs.1.0 ≡ κs.1.0)
 
 -- a record, of an encoding and its units by their numbers among the types, or this error
 module _ (at : NamedLft) (i j : ℕ) (T' U : RattleType) where

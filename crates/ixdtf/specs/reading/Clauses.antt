@@ -1,5 +1,6 @@
 -- Forms of the clauses of private functions, and what the code's own types stand for. No public clause cites one.
 use Rattle.std.specs.Prelude.{◌≡◌, ℕ, Bool, IsTrue, IsFalse, ◌+◌, ◌≤◌, map, length, Option, Some, None, Result, Ok, Err, ◌∷◌, if◌then◌else◌}
+use Rattle.ixdtf.specs.declared.records.DateRecord.{DateRecord}
 use Rattle.ixdtf.specs.declared.records.IxdtfParseRecord.{IxdtfParseRecord}
 use Rattle.ixdtf.specs.declared.stop.Stop.{Stop}
 use Rattle.ixdtf.specs.declared.stop.Stop.TheVariants as stops
@@ -22,8 +23,9 @@ use Rattle.ixdtf.specs.table.Faults.{Fault as faults}
 use Rattle.ixdtf.specs.table.Lines.{always, abrupt_digit, abrupt_date, abrupt_month_day, abrupt_bracket, abrupt_offset, abrupt_zone}
 use Rattle.ixdtf.specs.Views.{Unread, note_of}
 use Rattle.ixdtf.specs.Handlers.{pair_of}
-use Rattle.ixdtf.specs.reading.Looks.{Read, Look, ◌>>=◌, digit_run}
-use Rattle.ixdtf.specs.reading.Times.{OpenTime}
+use Rattle.ixdtf.specs.reading.Looks.{Read, Look, ◌>>=◌, error_of, digit_run}
+use Rattle.ixdtf.specs.reading.Times.{OpenTime, clock_at}
+use Rattle.ixdtf.specs.reading.Cores.{ClosedCore, after_time_at}
 use Rattle.ixdtf.specs.reading.Brackets.{Bracket, zoned, paired}
 
 -- the fault of the error that a stop is
@@ -121,6 +123,10 @@ digit_seen other (Err e) = Err e
 -- the other digits of a fraction, and the fraction
 abbrev pub more_digits_at : ℕ → Text → Read Fault FractionParts
 more_digits_at first text = digit_run faults.NonAsciiCodePoint text >>= λ more. Ok (fraction_of (Plain first ∷ more.0), more.1)
+
+-- a time, and an offset where there is one, behind a date or none
+unfoldable pub timed_core_at : Option DateRecord → Text → Read Fault ClosedCore
+timed_core_at date text = clock_at error_of clocks.Time text >>= λ time. after_time_at error_of date time.0 time.1
 
 -- ---- the code's own types
 

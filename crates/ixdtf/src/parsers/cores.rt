@@ -1,44 +1,136 @@
 //! Reading cores, which are what stands before the brackets of a text, into a record.
 
-ghost use Rattle.std.specs.Prelude.{◌≡◌, ◌+◌, ◌≤◌, map, length, Some, None};
+ghost use Rattle.std.specs.Prelude.{◌≡◌, ◌+◌, ◌≤◌, List, map, length, Ok, Some, None};
+ghost use Rattle.ixdtf.specs.language.Letters.{Text};
 ghost use Rattle.ixdtf.specs.language.Cores.{Core};
+ghost use Rattle.ixdtf.specs.language.Readers.{CoreKind};
 ghost use Rattle.ixdtf.specs.table.LineNames.{LineName};
-ghost use Rattle.ixdtf.specs.reading.Clauses.{Reads, Spends, core_in, KeepsBrackets, open_time_of};
+ghost use Rattle.ixdtf.specs.reading.Clauses.{Reads, Spends, Yields, core_in, KeepsBrackets, open_time_of, timed_core_at};
 ghost use Rattle.ixdtf.specs.reading.Looks.{error_of};
-ghost use Rattle.ixdtf.specs.reading.Cores.{core_end_at, offset_core_at, after_time_at, after_date_at, date_time_core_at};
+ghost use Rattle.ixdtf.specs.reading.Cores.{ClosedCore, core_end_at, offset_core_at, after_time_at, after_date_at, unfronted, core_at};
 
 use crate::cursor::Cursor;
 use crate::encoding::EncodingType;
 use crate::parsers::dates::parse_date;
 use crate::parsers::grammar::{
-    is_annotation_open, is_ascii_sign, is_date_time_separator, is_utc_designator,
+    is_annotation_open, is_ascii_sign, is_date_time_separator, is_time_designator,
+    is_utc_designator,
 };
+use crate::parsers::months::{parse_month_day_date, parse_year_month_date};
 use crate::parsers::offsets::offset_from;
 use crate::parsers::time::{Clock, Shape, parse_clock, parse_time};
 use crate::records::{DateRecord, IxdtfParseRecord, TimeRecord, UtcOffsetRecordOrZ};
 use crate::stop::Stop;
 
-/// Reads a date, and a time and an offset where there are, and returns whether a bracket follows, whose `[` is taken off.
-#[inline(always)]
-#[tactic(auto, unfolding(crate::specs::reading::Cores::date_time_core_at))]
-pub fn parse_core<'a, T: EncodingType>(
-    cursor: &mut Cursor<'a, T>,
-    found: &mut IxdtfParseRecord<'a, T>,
-) -> Result<bool, Stop>
-    requires no_time { found.old.time ≡ None }
-    requires no_offset { found.old.offset ≡ None }
-    ensures core { Reads T.letter (λ more. (core_in found.new, more)) cursor.old result cursor.new
-        (date_time_core_at error_of) }
-    ensures kept { KeepsBrackets found.old found.new }
-    ensures looks { Spends 37 cursor.old cursor.new }
-{
-    let date = parse_date(cursor)?;
-    parse_after_date(cursor, date, found)
+/// Cores of one kind. What reads whole texts is generic in it, so that nothing asks for the kind when it runs.
+pub trait Cores {
+    /// Their kind.
+    ghost kind: { CoreKind };
+
+    /// Reads a core into a record in which nothing stands yet, and returns whether a bracket follows, whose `[` is taken off.
+    fn parse_core<'a, T: EncodingType>(
+        cursor: &mut Cursor<'a, T>,
+        found: &mut IxdtfParseRecord<'a, T>,
+    ) -> Result<bool, Stop>
+        requires no_date { found.old.date ≡ None }
+        requires no_time { found.old.time ≡ None }
+        requires no_offset { found.old.offset ≡ None }
+        ensures core { Reads T.letter (λ more. (core_in found.new, more)) cursor.old result
+            cursor.new (core_at error_of kind) }
+        ensures kept { KeepsBrackets found.old found.new }
+        ensures looks { Spends 40 cursor.old cursor.new };
 }
+
+/// A date, and a time and an offset where there are.
+pub struct DateTimes;
+
+impl Cores for DateTimes {
+    ghost use Rattle.ixdtf.specs.language.Readers.CoreKind.{date_time};
+
+    ghost kind = { date_time };
+
+    #[inline(always)]
+    #[tactic(auto, unfolding(crate::specs::reading::Cores::date_time_core_at))]
+    fn parse_core<'a, T: EncodingType>(
+        cursor: &mut Cursor<'a, T>,
+        found: &mut IxdtfParseRecord<'a, T>,
+    ) -> Result<bool, Stop> {
+        let date = parse_date(cursor)?;
+        parse_after_date(cursor, date, found)
+    }
+}
+
+/// A year and a month, of which the record has the first day.
+pub struct YearMonths;
+
+impl Cores for YearMonths {
+    ghost use Rattle.ixdtf.specs.language.Readers.CoreKind.{year_month};
+
+    ghost kind = { year_month };
+
+    #[inline(always)]
+    fn parse_core<'a, T: EncodingType>(
+        cursor: &mut Cursor<'a, T>,
+        found: &mut IxdtfParseRecord<'a, T>,
+    ) -> Result<bool, Stop> {
+        let date = parse_year_month_date(cursor)?;
+        found.date = Some(date);
+        close_core(cursor)
+    }
+}
+
+/// A month and a day, of which the record has the year 0.
+pub struct MonthDays;
+
+impl Cores for MonthDays {
+    ghost use Rattle.ixdtf.specs.language.Readers.CoreKind.{month_day};
+
+    ghost kind = { month_day };
+
+    #[inline(always)]
+    fn parse_core<'a, T: EncodingType>(
+        cursor: &mut Cursor<'a, T>,
+        found: &mut IxdtfParseRecord<'a, T>,
+    ) -> Result<bool, Stop> {
+        let date = parse_month_day_date(cursor)?;
+        found.date = Some(date);
+        close_core(cursor)
+    }
+}
+
+/// A time, and an offset where there is one.
+pub struct LoneTimes;
+
+impl Cores for LoneTimes {
+    ghost use Rattle.ixdtf.specs.language.Readers.CoreKind.{time_alone};
+
+    ghost kind = { time_alone };
+
+    #[inline(always)]
+    fn parse_core<'a, T: EncodingType>(
+        cursor: &mut Cursor<'a, T>,
+        found: &mut IxdtfParseRecord<'a, T>,
+    ) -> Result<bool, Stop> {
+        let start = cursor.rest();
+        match cursor.look()? {
+            Some(byte) if is_time_designator(byte) => {
+                cursor.step();
+                parse_timed(cursor, found)
+            }
+            _ => {
+                let more = parse_timed(cursor, found)?;
+                check_front(cursor, start)?;
+                Ok(more)
+            }
+        }
+    }
+}
+
+// ==== Dates and times ====
 
 /// Reads what stands after a date.
 #[inline(always)]
-#[tactic(auto, unfolding(crate::specs::reading::Cores::after_date_at, crate::specs::reading::Cores::time_core_at))]
+#[tactic(auto, unfolding(crate::specs::reading::Cores::after_date_at, crate::specs::reading::Cores::time_core_at, crate::specs::reading::Clauses::timed_core_at))]
 fn parse_after_date<'a, T: EncodingType>(
     cursor: &mut Cursor<'a, T>,
     date: DateRecord,
@@ -59,12 +151,57 @@ fn parse_after_date<'a, T: EncodingType>(
     match cursor.look()? {
         Some(byte) if is_date_time_separator(byte) => {
             cursor.step();
-            let mut time = TimeRecord::default();
-            let shape = parse_time(cursor, &mut time)?;
-            parse_after_time(cursor, shape, time, found)
+            parse_timed(cursor, found)
         }
         _ => close_core(cursor),
     }
+}
+
+// ==== Times ====
+
+/// Reads a time, and an offset or `Z` where there is one, behind the date that stands in the record, or none.
+#[inline(always)]
+#[tactic(auto, unfolding(crate::specs::reading::Clauses::timed_core_at))]
+fn parse_timed<'a, T: EncodingType>(
+    cursor: &mut Cursor<'a, T>,
+    found: &mut IxdtfParseRecord<'a, T>,
+) -> Result<bool, Stop>
+    requires no_time { found.old.time ≡ None }
+    requires no_offset { found.old.offset ≡ None }
+    ensures core { Reads T.letter (λ more. (core_in found.new, more)) cursor.old result cursor.new
+        (timed_core_at found.old.date) }
+    ensures kept { KeepsBrackets found.old found.new }
+    ensures looks { Spends 20 cursor.old cursor.new }
+{
+    let mut time = TimeRecord::default();
+    let shape = parse_time(cursor, &mut time)?;
+    parse_after_time(cursor, shape, time, found)
+}
+
+/// Refuses a time whose text began as a month-day or as a year-month does. The cursor stays, and counts the looks that are
+/// made at the start.
+#[inline(always)]
+fn check_front<'a, T: EncodingType>(
+    cursor: &mut Cursor<'a, T>,
+    start: &'a [T::CodeUnit],
+) -> Result<(), Stop>
+    ensures front { (core : ClosedCore) (rest : Text) → Yields (λ _. (core, rest)) result
+        (unfronted error_of (map T.letter (map T.number start.now)) (Ok (core, rest))) }
+    ensures rest { cursor.new.rest ≡ cursor.old.rest }
+    ensures looks { Spends 17 cursor.old cursor.new }
+{
+    let mut front = cursor.at(start);
+    let month_day = parse_month_day_date(&mut front).is_ok();
+    let mut again = front.at(start);
+    let year_month = parse_year_month_date(&mut again).is_ok();
+    cursor.count(again);
+    if month_day {
+        return Err(Stop::AmbiguousTimeMonthDay);
+    }
+    if year_month {
+        return Err(Stop::AmbiguousTimeYearMonth);
+    }
+    Ok(())
 }
 
 /// Reads an offset or `Z` after a time, where there is one.

@@ -1,7 +1,6 @@
 //! Reading whole texts: a core, a first bracket and the brackets after it.
 
 ghost use Rattle.std.specs.Prelude.{◌≡◌, ◌+◌, ◌*◌, ◌≤◌, [], true, map, length, OnOk, None, option_map};
-ghost use Rattle.ixdtf.specs.language.Readers.CoreKind.{date_time};
 ghost use Rattle.ixdtf.specs.language.Readers.Reader.{bracketed};
 ghost use Rattle.ixdtf.specs.language.Languages.{parsed_with};
 ghost use Rattle.ixdtf.specs.Handlers.{with_calendar, calendar_value, pair_of};
@@ -14,16 +13,16 @@ use crate::cursor::Cursor;
 use crate::encoding::EncodingType;
 use crate::parsers::annotations::parse_annotations;
 use crate::parsers::brackets::{Bracket, parse_first_bracket};
-use crate::parsers::cores::parse_core;
+use crate::parsers::cores::Cores;
 use crate::records::{Annotation, IxdtfParseRecord};
 use crate::stop::Stop;
 
-/// Reads a date, a time and an offset where there are, and the brackets after them to the end, into a record in which
-/// nothing stands yet. The handler is asked about each annotation of a key and a value.
+/// Reads a core of the kind, and the brackets after it to the end, into a record in which nothing stands yet. The handler
+/// is asked about each annotation of a key and a value.
 ///
 /// It is not inlined, so that the parts of the record are written once, and where the caller has it.
 #[inline(never)]
-pub fn parse_text<'a, T: EncodingType, F>(
+pub fn parse_text<'a, T: EncodingType, C: Cores, F>(
     cursor: &mut Cursor<'a, T>,
     handler: &mut F,
     found: &mut IxdtfParseRecord<'a, T>,
@@ -31,18 +30,19 @@ pub fn parse_text<'a, T: EncodingType, F>(
 where
     F: FnMut(Annotation<'a, T>) -> Option<Annotation<'a, T>>,
     requires callable { F.IsAlwaysCallable handler.old }
+    requires no_date { found.old.date ≡ None }
     requires no_time { found.old.time ≡ None }
     requires no_offset { found.old.offset ≡ None }
     requires no_zone { found.old.tz ≡ None }
     requires no_calendar { found.old.calendar ≡ None }
-    ensures replied { TextRead T.number F.step handler.old handler.new (bracketed date_time)
+    ensures replied { TextRead T.number F.step handler.old handler.new (bracketed C.kind)
         (map T.letter cursor.old.rest) (yielded (λ _. parsed_of T.number found.new) result) }
     ensures empty { OnOk result (cursor.new.rest ≡ []) }
     ensures looks { cursor.new.looks ≤ cursor.old.looks + most_looks cursor.old.rest }
     ensures counted { cursor.old.looks ≤ cursor.new.looks }
 {
     let mut here = cursor.take();
-    let read = parse_core(&mut here, found);
+    let read = C::parse_core(&mut here, found);
     *cursor = here;
     if !read? {
         return Ok(());

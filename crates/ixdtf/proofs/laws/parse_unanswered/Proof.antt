@@ -16,7 +16,7 @@ pub parse_unanswered_spec : {M : Type 1} → stated.statement M
 unfolding tables_of
 parse_unanswered_spec {M} 𝓤 𝓛 𝓜 𝓡 wired T' F U LT LF LU g₀ d₀ gₛ dₛ g₁ d₁ g₂ d₂ g₃ d₃ g d d' d'' d₄ P b₀ bₛ b₁ b₂ b₃ b b' b'' b₄ =
     let 𝓣 : Tables 𝓤 𝓛.H = tables_of 𝓤 𝓛.H 𝓜 (tables 𝓤 𝓛.H 𝓜 𝓡 𝓡.env) in
-    let Q = Under P in
+    let Q = Under 4 P in
     -- the error names no lifetime, so its token may be any
     let f : Lfts 5 → Lfts 6 = λ τs. (τs.0, (τs.1.0, (τs.1.1.0, (τs.1.0, (τs.1.1.1.0, (τs.1.1.1.1.0, tt)))))) in
     let S = R.signature T' F U g₀ d₀ gₛ dₛ g₁ d₁ g₂ d₂ g₃ d₃ g d d' d'' d₄ P in

@@ -1,0 +1,51 @@
+-- Texts in 16-bit units and in 8-bit units, computed: the letters of units, and what the texts give.
+use Rattle.std.proofs.Common.{◌≡◌, ℕ, List, [], ◌∷◌, ◌++◌, map, codes, false, None, pos, refl}
+use Rattle.ixdtf.specs.language.Letters.{Text, byte_letter, wide_letter}
+use Rattle.ixdtf.specs.language.Letters.Letter.{Plain, Bad}
+use Rattle.ixdtf.specs.language.Readers.{parse}
+use Rattle.ixdtf.specs.language.Readers.Reader.{parse_iana_identifier}
+use Rattle.ixdtf.specs.table.Faults.Fault.{NonAsciiCodePoint, InvalidEnd, InvalidMonthRange, IanaChar, AnnotationValueChar}
+use Rattle.ixdtf.specs.table.LineNames.LineName.{of_zone, of_pair, of_bracket}
+use Rattle.ixdtf.specs.table.LineNames.{of_date}
+use Rattle.ixdtf.specs.table.LineNames.DateLine.{year_start, month_range, after_date}
+use Rattle.ixdtf.specs.table.LineNames.ZoneLine.{in_zone_name}
+use Rattle.ixdtf.specs.table.LineNames.PairLine.{value_start}
+use Rattle.ixdtf.specs.table.LineNames.BracketLine.{first_bracket_scan}
+use Rattle.ixdtf.specs.table.Rows.Place.{other, bad, anywhere}
+use Rattle.ixdtf.specs.reading.Dates.{date_of}
+use Rattle.ixdtf_tests.proofs.Helpers.{all_readings, zone_named, with, Compute, stops}
+
+abbrev wide : List ℕ → Text
+wide units = map wide_letter units
+
+abbrev narrow : List ℕ → Text
+narrow units = map byte_letter units
+
+-- a 16-bit unit is its letter from 1 to 126 alone
+wide_units : wide (0 ∷ 1 ∷ 50 ∷ 126 ∷ 127 ∷ 128 ∷ 306 ∷ 65535 ∷ []) ≡ Bad ∷ Plain 1 ∷ Plain 50 ∷ Plain 126 ∷ Bad ∷ Bad ∷ Bad ∷ Bad ∷ []
+wide_units = refl
+
+wide_texts : Compute parse (
+    (wide (codes "2020-04-08[America/Chicago]"), with (date_of (pos 2020) 4 8) None None (zone_named false (codes "America/Chicago")))
+    ∷ (wide (codes "2020-01-01[cet!" ++ 233 ∷ codes "]"), stops (of_bracket first_bracket_scan) bad NonAsciiCodePoint)
+    ∷ (wide (codes "2020-01-01[A!" ++ 233 ∷ codes "]"), stops (of_zone in_zone_name) other IanaChar)
+    ∷ (wide (codes "2020-01-01[a=!" ++ 233 ∷ codes "]"), stops (of_pair value_start) other AnnotationValueChar)
+    ∷ (wide (codes "2020-13-01" ++ 233 ∷ []), stops (of_date month_range) anywhere InvalidMonthRange)
+    ∷ (wide (codes "2020-01-01" ++ 233 ∷ []), stops (of_date after_date) bad NonAsciiCodePoint)
+    ∷ (wide (codes "2020-01-01" ++ 127 ∷ []), stops (of_date after_date) bad NonAsciiCodePoint)
+    ∷ (wide (306 ∷ codes "020-01-01"), stops (of_date year_start) bad NonAsciiCodePoint)
+    ∷ [])
+unfolding all_readings
+wide_texts = refl
+
+-- in 8-bit units a byte past the letters is a letter of no class
+narrow_texts : Compute parse (
+    (narrow (codes "2020-01-01[cet!" ++ 128 ∷ codes "]"), stops (of_zone in_zone_name) other IanaChar)
+    ∷ (narrow (codes "2020-01-01" ++ 195 ∷ 169 ∷ []), stops (of_date after_date) other InvalidEnd)
+    ∷ [])
+unfolding all_readings
+narrow_texts = refl
+
+wide_names : Compute parse_iana_identifier ((wide (codes "UTC" ++ 233 ∷ []), stops (of_zone in_zone_name) bad NonAsciiCodePoint) ∷ [])
+unfolding all_readings
+wide_names = refl
