@@ -18,7 +18,7 @@ use Rattle.ixdtf_lines.specs.Lines.{newline}
 use Rattle.ixdtf_lines.specs.Run.{AreAnswers}
 use Rattle.ixdtf_lines.specs.Word.{name_of, reader_of, IsNoWord}
 use Rattle.ixdtf_lines.specs.declared.word.Word.{Word}
-use Rattle.ixdtf_lines.specs.declared.word.Word.TheVariants.{Parse, Offset, Zone, Iana}
+use Rattle.ixdtf_lines.specs.declared.word.Word.TheVariants.{Parse, YearMonth, MonthDay, Time, Offset, Zone, Iana}
 
 -- ---- each text has an outcome
 
@@ -60,20 +60,27 @@ outcome_answer reader text = elim (each_outcome reader (letters text)) [
   | inr p ↦ (error_answer_of p.0, inr (p.0, p.1, refl))
 ]
 
-word_or_none : (name : List ℕ) → ((word : Word) × (name ≡ name_of word)) ⊎ IsNoWord name
-word_or_none name = elim (same_bytes name (name_of Parse)) [
-  | inl is ↦ inl (Parse, is)
-  | inr a ↦ elim (same_bytes name (name_of Offset)) [
-    | inl is ↦ inl (Offset, is)
-    | inr b ↦ elim (same_bytes name (name_of Zone)) [
-      | inl is ↦ inl (Zone, is)
-      | inr c ↦ elim (same_bytes name (name_of Iana)) [
-        | inl is ↦ inl (Iana, is)
-        | inr d ↦ inr (elim [ Parse ↦ a | Offset ↦ b | Zone ↦ c | Iana ↦ d ])
-      ]
-    ]
-  ]
+-- none of these words has the name
+abbrev NoneOf : List ℕ → List Word → Type 0
+NoneOf name [] = Unit {0}
+NoneOf name (word ∷ words) = (name ≢ name_of word) × NoneOf name words
+
+word_among : (name : List ℕ) (words : List Word) → ((word : Word) × (name ≡ name_of word)) ⊎ NoneOf name words
+word_among name [] = inr tt
+word_among name (word ∷ words) = elim (same_bytes name (name_of word)) [
+  | inl is ↦ inl (word, is)
+  | inr other ↦ elim (word_among name words) [ inl p ↦ inl p | inr none ↦ inr (other, none) ]
 ]
+
+abbrev all_words : List Word
+all_words = Parse ∷ YearMonth ∷ MonthDay ∷ Time ∷ Offset ∷ Zone ∷ Iana ∷ []
+
+no_word : (name : List ℕ) → NoneOf name all_words → IsNoWord name
+no_word name (a, (b, (c, (d, (e, (f, (g, end))))))) =
+    elim [ Parse ↦ a | YearMonth ↦ b | MonthDay ↦ c | Time ↦ d | Offset ↦ e | Zone ↦ f | Iana ↦ g ]
+
+word_or_none : (name : List ℕ) → ((word : Word) × (name ≡ name_of word)) ⊎ IsNoWord name
+word_or_none name = elim (word_among name all_words) [ inl p ↦ inl p | inr none ↦ inr (no_word name none) ]
 
 reader_answer : (name text : List ℕ) → (answer : List ℕ) × IsReaderAnswer name text answer
 reader_answer name text = elim (word_or_none name) [

@@ -1,4 +1,6 @@
-use super::{AT_BRACKET, AT_DIGIT, Reader, Record, check_refused, dated, fraction_of, short, timed};
+use super::{
+    AT_BRACKET, AT_DIGIT, Reader, Record, check_refused, dated, fraction_of, short, timed,
+};
 use ixdtf::ParseError;
 use ixdtf::parsers::IxdtfParser;
 use ixdtf::records::{Sign, TimeRecord, TimeZoneAnnotation, TimeZoneRecord, UtcOffsetRecordOrZ};
@@ -15,11 +17,7 @@ fn alone(time: Option<TimeRecord>, offset: Option<UtcOffsetRecordOrZ>) -> Record
 }
 
 fn west(hour: u8, minute: u8) -> Option<UtcOffsetRecordOrZ> {
-    Some(UtcOffsetRecordOrZ::Offset(short(
-        Sign::Negative,
-        hour,
-        minute,
-    )))
+    Some(UtcOffsetRecordOrZ::Offset(short(Sign::Negative, hour, minute)))
 }
 
 #[test]

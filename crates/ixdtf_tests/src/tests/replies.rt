@@ -181,10 +181,12 @@ fn handled(
         Form::Parse => {
             parser.parse_with_annotation_handler(|annotation| listener.reply(annotation))
         }
-        Form::YearMonth => parser
-            .parse_year_month_with_annotation_handler(|annotation| listener.reply(annotation)),
-        Form::MonthDay => parser
-            .parse_month_day_with_annotation_handler(|annotation| listener.reply(annotation)),
+        Form::YearMonth => parser.parse_year_month_with_annotation_handler(
+            |annotation| listener.reply(annotation),
+        ),
+        Form::MonthDay => parser.parse_month_day_with_annotation_handler(
+            |annotation| listener.reply(annotation),
+        ),
         Form::Time => {
             parser.parse_time_with_annotation_handler(|annotation| listener.reply(annotation))
         }
@@ -208,10 +210,12 @@ fn heeds_wide(
         Form::Parse => {
             parser.parse_with_annotation_handler(|annotation| listener.reply(annotation))
         }
-        Form::YearMonth => parser
-            .parse_year_month_with_annotation_handler(|annotation| listener.reply(annotation)),
-        Form::MonthDay => parser
-            .parse_month_day_with_annotation_handler(|annotation| listener.reply(annotation)),
+        Form::YearMonth => parser.parse_year_month_with_annotation_handler(
+            |annotation| listener.reply(annotation),
+        ),
+        Form::MonthDay => parser.parse_month_day_with_annotation_handler(
+            |annotation| listener.reply(annotation),
+        ),
         Form::Time => {
             parser.parse_time_with_annotation_handler(|annotation| listener.reply(annotation))
         }
@@ -524,7 +528,10 @@ fn heeds_handlers_of_wide_texts(rt: HostRuntime) {
         ),
     ];
     for (text, kind, calls, error, calendar) in rows {
-        assert!(rt; heeds_wide(Form::Parse, text, kind, calls, error, calendar), "at {text}");
+        assert!(rt;
+            heeds_wide(Form::Parse, text, kind, calls, error, calendar),
+            "at {text}"
+        );
     }
 }
 
@@ -568,7 +575,10 @@ fn heeds_handlers_in_each_form(rt: HostRuntime) {
             "[fgdci=a0sa-2l4s][!u-ca=FaoGG7-GO1GM-OUkuE][u-ca=FXVm-lFpcT-I-q97pX][!u-ca=iso8601][uh_ixs5qm=K4xwC-Hxl2-ivW5]",
             Some((2020, 1, 1)),
             None,
-            Some((false, TimeZoneRecord::Offset(minutes(Sign::Negative, 16, 0)))),
+            Some((
+                false,
+                TimeZoneRecord::Offset(minutes(Sign::Negative, 16, 0)),
+            )),
             None,
         ),
         (
@@ -893,32 +903,203 @@ fn asks_as_far_as_the_first_refusal_in_each_form(rt: HostRuntime) {
 
 #[test]
 fn heeds_handlers_of_wide_texts_in_each_form(rt: HostRuntime) {
-    let rows: [(Form, &'static str, Kind, &'static str, Option<ParseError>, Option<&'static str>); 23] = [
-        (Form::YearMonth, "+00202001[o1][!u-ca=A][!s1wfZh=1][u-caa=a-b]", Kind::TurnsCritical, "[!u-ca=A]", Some(ParseError::AnnotationKeyChar), None),
-        (Form::Time, "12:00:00+01[!-22][!u-ca=a0sa-2l4s][!_v9ofa6fa=b][s6eaq2hh=wY]", Kind::MakesCritical, "[!u-ca=a0sa-2l4s][!_v9ofa6fa=b]", Some(ParseError::UnrecognizedCritical), None),
-        (Form::YearMonth, "2020-01[foo=a-b][u-ca=iso8601][_=ZjPsF3][u-ca=fm-wToEpf-y-05OR\u{13d}2][!u-ca=A]", Kind::RepliesNone, "[foo=a-b][u-ca=iso8601][_=ZjPsF3]", Some(ParseError::NonAsciiCodePoint), None),
-        (Form::MonthDay, "--0229[u-ca=rz44]", Kind::RepliesAnother, "[u-ca=rz44]", None, Some("a")),
-        (Form::YearMonth, "+00202001[u-c\u{132}a=hebrew]", Kind::RepliesNone, "", Some(ParseError::NonAsciiCodePoint), None),
-        (Form::YearMonth, "+00202001[u-cb=japanese[!u-ca=3Kd]", Kind::RepliesAnother, "", Some(ParseError::AnnotationValueChar), None),
-        (Form::Time, "1200[u-caa=pUqb1z][_f=A][cvdn3=b][!", Kind::TurnsCritical, "", Some(ParseError::AmbiguousTimeMonthDay), None),
-        (Form::Time, "T12[u-ca=japanese][a=a-b]", Kind::RepliesNone, "[u-ca=japanese][a=a-b]", None, None),
-        (Form::MonthDay, "11-07[!GFtI8pE/0FKB][u-ca=O-tOg\u{15b}fi6]", Kind::MakesCritical, "", Some(ParseError::NonAsciiCodePoint), None),
-        (Form::Time, "12:00:00+01[u-ca=b][!u-ca=G0-he3][u-ca=E]", Kind::RepliesAnother, "[u-ca=b][!u-ca=G0-he3]", Some(ParseError::CriticalDuplicateCalendar), None),
-        (Form::MonthDay, "--0229[u-ca=I8e0Ny-", Kind::RepliesNone, "", Some(ParseError::AnnotationValueCharPostHyphen), None),
-        (Form::YearMonth, "2020-01[u-ca=iso8601][ondv9=t-6-jvo8-DJG58", Kind::RepliesAnother, "[u-ca=iso8601]", Some(ParseError::AnnotationClose), None),
-        (Form::Time, "T12[x-y=buDYAD-vaR-P8Qz][zhbcf=gregory][u-ca=iso8601]\u{121}[u-ca=iso8601][!po-dtr=qOWsW-6sLMW-58PDWQ-VnRuMg]", Kind::HandsBack, "[x-y=buDYAD-vaR-P8Qz][zhbcf=gregory][u-ca=iso8601]", Some(ParseError::NonAsciiCodePoint), None),
-        (Form::MonthDay, "--0229[u-ca=1][u-ca=hnL-c7FsJ-v2eFk-baJ1Ai]\u{15d}", Kind::TurnsCritical, "[u-ca=1][u-ca=hnL-c7FsJ-v2eFk-baJ1Ai]", Some(ParseError::CriticalDuplicateCalendar), None),
-        (Form::YearMonth, "2020-01[u-ca=iso8601][!u", Kind::RepliesAnother, "[u-ca=iso8601]", Some(ParseError::AnnotationKeyValueSeparator), None),
-        (Form::MonthDay, "--0229[u-ca=4o-bOYK][u-ca=Ed\u{e9}]", Kind::HandsBack, "[u-ca=4o-bOYK]", Some(ParseError::NonAsciiCodePoint), None),
-        (Form::MonthDay, "--0229[!America/New_York][!answer-to-universe=b][u-cb=1][u-ca=HYmeY4-QAOv-1ufy][!_=GWi-d1g-9][u-ca=japanese][!", Kind::RepliesAnother, "[!answer-to-universe=b][u-cb=1][u-ca=HYmeY4-QAOv-1ufy][!_=GWi-d1g-9]", Some(ParseError::UnrecognizedCritical), None),
-        (Form::YearMonth, "+00202001[u-\u{80}ca=a-b]", Kind::HandsBack, "", Some(ParseError::NonAsciiCodePoint), None),
-        (Form::YearMonth, "+00202001[u-ca=p34ug][!f-1a2b=japanese][_=japane1se]", Kind::HandsBack, "[u-ca=p34ug][!f-1a2b=japanese]", Some(ParseError::UnrecognizedCritical), None),
-        (Form::Time, "12:00:00+01[!u-cb=1][u-ca=LUnY-xN][!u-ca=b][u_ca=a][u-ca=p1-x-ZkQCD]", Kind::RepliesAnother, "[!u-cb=1][u-ca=LUnY-xN][!u-ca=b][u_ca=a][u-ca=p1-x-ZkQCD]", None, Some("a")),
-        (Form::Time, "1200[uHEe/6s][foo=b-WXYB8Q][u-ca=PSg8-3y3ai-M-MiXa4O][u-ca=AJ0kh-Z-d][!u-c=nM]", Kind::MakesCritical, "", Some(ParseError::AmbiguousTimeMonthDay), None),
-        (Form::YearMonth, "2020-01[!mbpxmqurx=a][u-ca=evRyBU-ahbf]", Kind::RepliesNone, "[!mbpxmqurx=a][u-ca=evRyBU-ahbf]", None, None),
-        (Form::Time, "12:00:00+01[u\u{7fff}-ca=japanese][u-ca=ZZMN-ieDCE-9usg]", Kind::RepliesNone, "", Some(ParseError::NonAsciiCodePoint), None),
+    let rows: [(
+        Form,
+        &'static str,
+        Kind,
+        &'static str,
+        Option<ParseError>,
+        Option<&'static str>,
+    ); 23] = [
+        (
+            Form::YearMonth,
+            "+00202001[o1][!u-ca=A][!s1wfZh=1][u-caa=a-b]",
+            Kind::TurnsCritical,
+            "[!u-ca=A]",
+            Some(ParseError::AnnotationKeyChar),
+            None,
+        ),
+        (
+            Form::Time,
+            "12:00:00+01[!-22][!u-ca=a0sa-2l4s][!_v9ofa6fa=b][s6eaq2hh=wY]",
+            Kind::MakesCritical,
+            "[!u-ca=a0sa-2l4s][!_v9ofa6fa=b]",
+            Some(ParseError::UnrecognizedCritical),
+            None,
+        ),
+        (
+            Form::YearMonth,
+            "2020-01[foo=a-b][u-ca=iso8601][_=ZjPsF3][u-ca=fm-wToEpf-y-05OR\u{13d}2][!u-ca=A]",
+            Kind::RepliesNone,
+            "[foo=a-b][u-ca=iso8601][_=ZjPsF3]",
+            Some(ParseError::NonAsciiCodePoint),
+            None,
+        ),
+        (
+            Form::MonthDay,
+            "--0229[u-ca=rz44]",
+            Kind::RepliesAnother,
+            "[u-ca=rz44]",
+            None,
+            Some("a"),
+        ),
+        (
+            Form::YearMonth,
+            "+00202001[u-c\u{132}a=hebrew]",
+            Kind::RepliesNone,
+            "",
+            Some(ParseError::NonAsciiCodePoint),
+            None,
+        ),
+        (
+            Form::YearMonth,
+            "+00202001[u-cb=japanese[!u-ca=3Kd]",
+            Kind::RepliesAnother,
+            "",
+            Some(ParseError::AnnotationValueChar),
+            None,
+        ),
+        (
+            Form::Time,
+            "1200[u-caa=pUqb1z][_f=A][cvdn3=b][!",
+            Kind::TurnsCritical,
+            "",
+            Some(ParseError::AmbiguousTimeMonthDay),
+            None,
+        ),
+        (
+            Form::Time,
+            "T12[u-ca=japanese][a=a-b]",
+            Kind::RepliesNone,
+            "[u-ca=japanese][a=a-b]",
+            None,
+            None,
+        ),
+        (
+            Form::MonthDay,
+            "11-07[!GFtI8pE/0FKB][u-ca=O-tOg\u{15b}fi6]",
+            Kind::MakesCritical,
+            "",
+            Some(ParseError::NonAsciiCodePoint),
+            None,
+        ),
+        (
+            Form::Time,
+            "12:00:00+01[u-ca=b][!u-ca=G0-he3][u-ca=E]",
+            Kind::RepliesAnother,
+            "[u-ca=b][!u-ca=G0-he3]",
+            Some(ParseError::CriticalDuplicateCalendar),
+            None,
+        ),
+        (
+            Form::MonthDay,
+            "--0229[u-ca=I8e0Ny-",
+            Kind::RepliesNone,
+            "",
+            Some(ParseError::AnnotationValueCharPostHyphen),
+            None,
+        ),
+        (
+            Form::YearMonth,
+            "2020-01[u-ca=iso8601][ondv9=t-6-jvo8-DJG58",
+            Kind::RepliesAnother,
+            "[u-ca=iso8601]",
+            Some(ParseError::AnnotationClose),
+            None,
+        ),
+        (
+            Form::Time,
+            "T12[x-y=buDYAD-vaR-P8Qz][zhbcf=gregory][u-ca=iso8601]\u{121}[u-ca=iso8601][!po-dtr=qOWsW-6sLMW-58PDWQ-VnRuMg]",
+            Kind::HandsBack,
+            "[x-y=buDYAD-vaR-P8Qz][zhbcf=gregory][u-ca=iso8601]",
+            Some(ParseError::NonAsciiCodePoint),
+            None,
+        ),
+        (
+            Form::MonthDay,
+            "--0229[u-ca=1][u-ca=hnL-c7FsJ-v2eFk-baJ1Ai]\u{15d}",
+            Kind::TurnsCritical,
+            "[u-ca=1][u-ca=hnL-c7FsJ-v2eFk-baJ1Ai]",
+            Some(ParseError::CriticalDuplicateCalendar),
+            None,
+        ),
+        (
+            Form::YearMonth,
+            "2020-01[u-ca=iso8601][!u",
+            Kind::RepliesAnother,
+            "[u-ca=iso8601]",
+            Some(ParseError::AnnotationKeyValueSeparator),
+            None,
+        ),
+        (
+            Form::MonthDay,
+            "--0229[u-ca=4o-bOYK][u-ca=Ed\u{e9}]",
+            Kind::HandsBack,
+            "[u-ca=4o-bOYK]",
+            Some(ParseError::NonAsciiCodePoint),
+            None,
+        ),
+        (
+            Form::MonthDay,
+            "--0229[!America/New_York][!answer-to-universe=b][u-cb=1][u-ca=HYmeY4-QAOv-1ufy][!_=GWi-d1g-9][u-ca=japanese][!",
+            Kind::RepliesAnother,
+            "[!answer-to-universe=b][u-cb=1][u-ca=HYmeY4-QAOv-1ufy][!_=GWi-d1g-9]",
+            Some(ParseError::UnrecognizedCritical),
+            None,
+        ),
+        (
+            Form::YearMonth,
+            "+00202001[u-\u{80}ca=a-b]",
+            Kind::HandsBack,
+            "",
+            Some(ParseError::NonAsciiCodePoint),
+            None,
+        ),
+        (
+            Form::YearMonth,
+            "+00202001[u-ca=p34ug][!f-1a2b=japanese][_=japane1se]",
+            Kind::HandsBack,
+            "[u-ca=p34ug][!f-1a2b=japanese]",
+            Some(ParseError::UnrecognizedCritical),
+            None,
+        ),
+        (
+            Form::Time,
+            "12:00:00+01[!u-cb=1][u-ca=LUnY-xN][!u-ca=b][u_ca=a][u-ca=p1-x-ZkQCD]",
+            Kind::RepliesAnother,
+            "[!u-cb=1][u-ca=LUnY-xN][!u-ca=b][u_ca=a][u-ca=p1-x-ZkQCD]",
+            None,
+            Some("a"),
+        ),
+        (
+            Form::Time,
+            "1200[uHEe/6s][foo=b-WXYB8Q][u-ca=PSg8-3y3ai-M-MiXa4O][u-ca=AJ0kh-Z-d][!u-c=nM]",
+            Kind::MakesCritical,
+            "",
+            Some(ParseError::AmbiguousTimeMonthDay),
+            None,
+        ),
+        (
+            Form::YearMonth,
+            "2020-01[!mbpxmqurx=a][u-ca=evRyBU-ahbf]",
+            Kind::RepliesNone,
+            "[!mbpxmqurx=a][u-ca=evRyBU-ahbf]",
+            None,
+            None,
+        ),
+        (
+            Form::Time,
+            "12:00:00+01[u\u{7fff}-ca=japanese][u-ca=ZZMN-ieDCE-9usg]",
+            Kind::RepliesNone,
+            "",
+            Some(ParseError::NonAsciiCodePoint),
+            None,
+        ),
     ];
     for (form, text, kind, calls, error, calendar) in rows {
-        assert!(rt; heeds_wide(form, text, kind, calls, error, calendar), "at {text}");
+        assert!(rt;
+            heeds_wide(form, text, kind, calls, error, calendar),
+            "at {text}"
+        );
     }
 }

@@ -1,9 +1,7 @@
 //! Year-months, month-days and times alone in 16-bit units.
 
 use super::wide::{Wide, has_names, refusal};
-use super::{
-    AT_DIGIT, AT_MONTH_DAY, Reader, fraction_of, minutes, short, timed,
-};
+use super::{AT_DIGIT, AT_MONTH_DAY, Reader, fraction_of, long, minutes, short, timed};
 use ixdtf::ParseError;
 use ixdtf::parsers::IxdtfParser;
 use ixdtf::records::{
@@ -102,15 +100,39 @@ fn refuses_units_that_stand_for_no_letter_in_parts(rt: HostRuntime) {
 #[test]
 fn refuses_what_stands_before_such_a_unit_in_parts(rt: HostRuntime) {
     let rows = [
-        (Reader::Time, "123100[-23:2][o21ziuxa=sF0k4g-4\u{204d}6l-xLH]", ParseError::AmbiguousTimeMonthDay),
+        (
+            Reader::Time,
+            "123100[-23:2][o21ziuxa=sF0k4g-4\u{204d}6l-xLH]",
+            ParseError::AmbiguousTimeMonthDay,
+        ),
         (Reader::Time, "T013", AT_DIGIT),
-        (Reader::YearMonth, "-10s9234\u{138}01", ParseError::DateExtendedYear),
+        (
+            Reader::YearMonth,
+            "-10s9234\u{138}01",
+            ParseError::DateExtendedYear,
+        ),
         (Reader::MonthDay, "0 ", ParseError::DateMonth),
-        (Reader::YearMonth, "-0100Y\u{15d}012", ParseError::DateExtendedYear),
-        (Reader::Time, "23z[u!ca=6X\u{132}-IjD-RukG][st=gregory]", ParseError::AnnotationKeyChar),
+        (
+            Reader::YearMonth,
+            "-0100Y\u{15d}012",
+            ParseError::DateExtendedYear,
+        ),
+        (
+            Reader::Time,
+            "23z[u!ca=6X\u{132}-IjD-RukG][st=gregory]",
+            ParseError::AnnotationKeyChar,
+        ),
         (Reader::Time, "1]3-32\u{ff}", ParseError::TimeHour),
-        (Reader::YearMonth, "1900-02[xGF/_n8][-answer-to-universe=a0sa-2l4s][u--=iso8601][rvw=NuV-Hr-h-Qhwwj][u-ca=4i6qFf\u{7fff}]", ParseError::AnnotationKeyLeadingChar),
-        (Reader::MonthDay, "-A-07\u{15b}2", ParseError::MonthDayHyphen),
+        (
+            Reader::YearMonth,
+            "1900-02[xGF/_n8][-answer-to-universe=a0sa-2l4s][u--=iso8601][rvw=NuV-Hr-h-Qhwwj][u-ca=4i6qFf\u{7fff}]",
+            ParseError::AnnotationKeyLeadingChar,
+        ),
+        (
+            Reader::MonthDay,
+            "-A-07\u{15b}2",
+            ParseError::MonthDayHyphen,
+        ),
         (Reader::Time, "28\u{132}", ParseError::TimeHour),
         (Reader::YearMonth, "", AT_DIGIT),
         (Reader::Time, "00:0 0:00.1", ParseError::TimeMinuteSecond),
@@ -120,35 +142,115 @@ fn refuses_what_stands_before_such_a_unit_in_parts(rt: HostRuntime) {
         (Reader::Time, "T4T22:3\u{0}6", ParseError::TimeHour),
         (Reader::YearMonth, "100M1-\u{ff30}5", ParseError::DateYear),
         (Reader::Time, "22:", AT_DIGIT),
-        (Reader::YearMonth, "+00001-02[u-ca=lr-787l-tD-1][u-ca=h3\u{80}zWOY-P]", ParseError::DateExtendedYear),
-        (Reader::Time, "1331-01[u-ca=1][u-c=japanese]", ParseError::AmbiguousTimeYearMonth),
+        (
+            Reader::YearMonth,
+            "+00001-02[u-ca=lr-787l-tD-1][u-ca=h3\u{80}zWOY-P]",
+            ParseError::DateExtendedYear,
+        ),
+        (
+            Reader::Time,
+            "1331-01[u-ca=1][u-c=japanese]",
+            ParseError::AmbiguousTimeYearMonth,
+        ),
         (Reader::Time, "22:M4+0029", ParseError::TimeMinuteSecond),
-        (Reader::YearMonth, "-0W0400-10[x-y]", ParseError::DateExtendedYear),
-        (Reader::MonthDay, "--0499[America/New_York][u-ca=6KnGs-vSa6O1-pZDz\u{15d}n-hQk9Yv][nqzj8n=A]", ParseError::InvalidMonthDay),
-        (Reader::Time, "10:15:22,11za[u-ca=14]", ParseError::InvalidEnd),
-        (Reader::Time, "82[u-ca=hB-n3-\u{130}h-T5Btq][x-y=hebrew][u-ca=A]", ParseError::TimeHour),
-        (Reader::MonthDay, "01-14[+006:59][!-ca=Fso-lSo-NK-bDPv7][a=V]", ParseError::TimeMinuteSecond),
-        (Reader::MonthDay, "00\u{15b}\u{ff34}", ParseError::InvalidMonthRange),
+        (
+            Reader::YearMonth,
+            "-0W0400-10[x-y]",
+            ParseError::DateExtendedYear,
+        ),
+        (
+            Reader::MonthDay,
+            "--0499[America/New_York][u-ca=6KnGs-vSa6O1-pZDz\u{15d}n-hQk9Yv][nqzj8n=A]",
+            ParseError::InvalidMonthDay,
+        ),
+        (
+            Reader::Time,
+            "10:15:22,11za[u-ca=14]",
+            ParseError::InvalidEnd,
+        ),
+        (
+            Reader::Time,
+            "82[u-ca=hB-n3-\u{130}h-T5Btq][x-y=hebrew][u-ca=A]",
+            ParseError::TimeHour,
+        ),
+        (
+            Reader::MonthDay,
+            "01-14[+006:59][!-ca=Fso-lSo-NK-bDPv7][a=V]",
+            ParseError::TimeMinuteSecond,
+        ),
+        (
+            Reader::MonthDay,
+            "00\u{15b}\u{ff34}",
+            ParseError::InvalidMonthRange,
+        ),
         (Reader::Time, "110159", ParseError::AmbiguousTimeMonthDay),
         (Reader::YearMonth, "230-10", ParseError::DateYear),
         (Reader::YearMonth, "+999999-0d", ParseError::DateMonth),
-        (Reader::YearMonth, "1131-12[f-1a2b=3-M-JIv-z]Hu-ca=PoI][v=7Hoj-CW-ylk][answer-to-universe=lI-U-9-wzQ8]", ParseError::InvalidEnd),
-        (Reader::Time, "T220412[!foo=6Rb-w9sjvS-W][wcovs=iiWocJ-80q-2dEEu-4zAhGD][u7nf_w=japanese]", ParseError::UnrecognizedCritical),
+        (
+            Reader::YearMonth,
+            "1131-12[f-1a2b=3-M-JIv-z]Hu-ca=PoI][v=7Hoj-CW-ylk][answer-to-universe=lI-U-9-wzQ8]",
+            ParseError::InvalidEnd,
+        ),
+        (
+            Reader::Time,
+            "T220412[!foo=6Rb-w9sjvS-W][wcovs=iiWocJ-80q-2dEEu-4zAhGD][u7nf_w=japanese]",
+            ParseError::UnrecognizedCritical,
+        ),
         (Reader::YearMonth, "-0010002[!O/H/D]", ParseError::DateMonth),
         (Reader::MonthDay, "0531[-1200", ParseError::AnnotationClose),
         (Reader::YearMonth, "", AT_DIGIT),
         (Reader::Time, "", AT_DIGIT),
         (Reader::MonthDay, "", AT_MONTH_DAY),
-        (Reader::YearMonth, "2020-01[cet!][\u{7f}", ParseError::IanaChar),
-        (Reader::YearMonth, "2020-01[!a=b]\u{15d}", ParseError::UnrecognizedCritical),
-        (Reader::YearMonth, "2020-01[zZ ][\u{0}", ParseError::IanaChar),
-        (Reader::YearMonth, "2020-01[!cet!][\u{7f}", ParseError::IanaChar),
-        (Reader::MonthDay, "--0101[!a/=\u{100}]", ParseError::AnnotationKeyChar),
-        (Reader::MonthDay, "--0101[!a/][\u{e9}", ParseError::IanaCharPostSeparator),
-        (Reader::Time, "120000[!a!\u{15d}]", ParseError::AmbiguousTimeMonthDay),
-        (Reader::Time, "120000[!a/=\u{e9}]", ParseError::AmbiguousTimeMonthDay),
-        (Reader::Time, "120000[!_][\u{7f}", ParseError::AmbiguousTimeMonthDay),
-        (Reader::Time, "120000[!u-ca=\u{0}]", ParseError::AmbiguousTimeMonthDay),
+        (
+            Reader::YearMonth,
+            "2020-01[cet!][\u{7f}",
+            ParseError::IanaChar,
+        ),
+        (
+            Reader::YearMonth,
+            "2020-01[!a=b]\u{15d}",
+            ParseError::UnrecognizedCritical,
+        ),
+        (
+            Reader::YearMonth,
+            "2020-01[zZ ][\u{0}",
+            ParseError::IanaChar,
+        ),
+        (
+            Reader::YearMonth,
+            "2020-01[!cet!][\u{7f}",
+            ParseError::IanaChar,
+        ),
+        (
+            Reader::MonthDay,
+            "--0101[!a/=\u{100}]",
+            ParseError::AnnotationKeyChar,
+        ),
+        (
+            Reader::MonthDay,
+            "--0101[!a/][\u{e9}",
+            ParseError::IanaCharPostSeparator,
+        ),
+        (
+            Reader::Time,
+            "120000[!a!\u{15d}]",
+            ParseError::AmbiguousTimeMonthDay,
+        ),
+        (
+            Reader::Time,
+            "120000[!a/=\u{e9}]",
+            ParseError::AmbiguousTimeMonthDay,
+        ),
+        (
+            Reader::Time,
+            "120000[!_][\u{7f}",
+            ParseError::AmbiguousTimeMonthDay,
+        ),
+        (
+            Reader::Time,
+            "120000[!u-ca=\u{0}]",
+            ParseError::AmbiguousTimeMonthDay,
+        ),
     ];
     for (reader, text, error) in rows {
         assert_eq!(rt; refusal(reader, text), Some(error), "at {text}");
@@ -157,20 +259,68 @@ fn refuses_what_stands_before_such_a_unit_in_parts(rt: HostRuntime) {
 
 #[test]
 fn reads_wide_year_months_and_month_days(rt: HostRuntime) {
-    let rows: [(Reader, &'static str, (i32, u8, u8), Option<(bool, &'static str)>, Option<&'static str>); 13] = [
+    let rows: [(
+        Reader,
+        &'static str,
+        (i32, u8, u8),
+        Option<(bool, &'static str)>,
+        Option<&'static str>,
+    ); 13] = [
         (Reader::MonthDay, "0422", (0, 4, 22), None, None),
         (Reader::YearMonth, "201704", (2017, 4, 1), None, None),
-        (Reader::MonthDay, "--11-30[u-ca=fVY][u-ca=1][o6q4v=gregory]", (0, 11, 30), None, Some("fVY")),
-        (Reader::MonthDay, "11-22[!u-ca=h8a2][a_t=iso861]", (0, 11, 22), None, Some("h8a2")),
+        (
+            Reader::MonthDay,
+            "--11-30[u-ca=fVY][u-ca=1][o6q4v=gregory]",
+            (0, 11, 30),
+            None,
+            Some("fVY"),
+        ),
+        (
+            Reader::MonthDay,
+            "11-22[!u-ca=h8a2][a_t=iso861]",
+            (0, 11, 22),
+            None,
+            Some("h8a2"),
+        ),
         (Reader::MonthDay, "12-22", (0, 12, 22), None, None),
-        (Reader::YearMonth, "095901[yka][u-ca=a]", (959, 1, 1), Some((false, "yka")), Some("a")),
-        (Reader::YearMonth, "113012[u-ca=tFPHtZu-CkFXU-a-QF8K]", (1130, 12, 1), None, Some("tFPHtZu-CkFXU-a-QF8K")),
+        (
+            Reader::YearMonth,
+            "095901[yka][u-ca=a]",
+            (959, 1, 1),
+            Some((false, "yka")),
+            Some("a"),
+        ),
+        (
+            Reader::YearMonth,
+            "113012[u-ca=tFPHtZu-CkFXU-a-QF8K]",
+            (1130, 12, 1),
+            None,
+            Some("tFPHtZu-CkFXU-a-QF8K"),
+        ),
         (Reader::MonthDay, "1110", (0, 11, 10), None, None),
-        (Reader::YearMonth, "-404737-02[yq=a0sa-2l4s][u-ca=BjyFzs6]", (-404737, 2, 1), None, Some("BjyFzs6")),
+        (
+            Reader::YearMonth,
+            "-404737-02[yq=a0sa-2l4s][u-ca=BjyFzs6]",
+            (-404737, 2, 1),
+            None,
+            Some("BjyFzs6"),
+        ),
         (Reader::MonthDay, "0229", (0, 2, 29), None, None),
-        (Reader::YearMonth, "200002[!GS/94PY][onteh87yc=a0sa-2l4s][u-ca=1][f92=a0sa-2l4s]", (2000, 2, 1), Some((true, "GS/94PY")), Some("1")),
+        (
+            Reader::YearMonth,
+            "200002[!GS/94PY][onteh87yc=a0sa-2l4s][u-ca=1][f92=a0sa-2l4s]",
+            (2000, 2, 1),
+            Some((true, "GS/94PY")),
+            Some("1"),
+        ),
         (Reader::MonthDay, "--0100", (0, 1, 0), None, None),
-        (Reader::YearMonth, "190007[u-ca=8E][u-ca=A]", (1900, 7, 1), None, Some("8E")),
+        (
+            Reader::YearMonth,
+            "190007[u-ca=8E][u-ca=A]",
+            (1900, 7, 1),
+            None,
+            Some("8E"),
+        ),
     ];
     for (reader, text, (year, month, day), zone, calendar) in rows {
         let wide = Wide::new(text);
@@ -186,7 +336,10 @@ fn reads_wide_year_months_and_month_days(rt: HostRuntime) {
                     Some(DateRecord { year, month, day }),
                     "at {text}"
                 );
-                assert!(rt; record.time.is_none() && has_names(&record, zone, calendar), "at {text}");
+                assert!(rt;
+                    record.time.is_none() && has_names(&record, zone, calendar),
+                    "at {text}"
+                );
             }
             Err(error) => assert!(rt; false, "{error} at {text}"),
         }
@@ -195,31 +348,246 @@ fn reads_wide_year_months_and_month_days(rt: HostRuntime) {
 
 #[test]
 fn reads_wide_times_alone(rt: HostRuntime) {
-    let rows: [(&'static str, Option<TimeRecord>, Option<UtcOffsetRecordOrZ>, Option<(bool, &'static str)>, Option<&'static str>); 24] = [
-        ("t00:00:60.2340226860+01:00:00", timed(0, 0, 60, fraction_of("+00:00:00.2340226860")), Some(UtcOffsetRecordOrZ::Offset(long(minutes(Sign::Positive, 1, 0), 0, None))), None, None),
-        ("0132Z", timed(1, 32, 0, None), Some(UtcOffsetRecordOrZ::Z), None, None),
-        ("t01Z[u-ca=cFVGA][nva1_yk=B7PLpO-l]", timed(1, 0, 0, None), Some(UtcOffsetRecordOrZ::Z), None, Some("cFVGA")),
+    let rows: [(
+        &'static str,
+        Option<TimeRecord>,
+        Option<UtcOffsetRecordOrZ>,
+        Option<(bool, &'static str)>,
+        Option<&'static str>,
+    ); 24] = [
+        (
+            "t00:00:60.2340226860+01:00:00",
+            timed(0, 0, 60, fraction_of("+00:00:00.2340226860")),
+            Some(UtcOffsetRecordOrZ::Offset(long(minutes(Sign::Positive, 1, 0), 0, None))),
+            None,
+            None,
+        ),
+        (
+            "0132Z",
+            timed(1, 32, 0, None),
+            Some(UtcOffsetRecordOrZ::Z),
+            None,
+            None,
+        ),
+        (
+            "t01Z[u-ca=cFVGA][nva1_yk=B7PLpO-l]",
+            timed(1, 0, 0, None),
+            Some(UtcOffsetRecordOrZ::Z),
+            None,
+            Some("cFVGA"),
+        ),
         ("1232", timed(12, 32, 0, None), None, None, None),
-        ("t085700,538399978506048661632158084960", timed(8, 57, 0, fraction_of("+00:00:00.538399978506048661632158084960")), None, None, None),
+        (
+            "t085700,538399978506048661632158084960",
+            timed(
+                8,
+                57,
+                0,
+                fraction_of("+00:00:00.538399978506048661632158084960"),
+            ),
+            None,
+            None,
+            None,
+        ),
         ("T130042", timed(13, 0, 42, None), None, None, None),
-        ("01:59[E.ope/London][u-caa=X95m-m]", timed(1, 59, 0, None), None, Some((false, "E.ope/London")), None),
-        ("01[!k][u-ca=a0sa-2l4s][u-caa=b][il9rs1v=a][lyax67ac=a0sa-2l4s]", timed(1, 0, 0, None), None, Some((true, "k")), Some("a0sa-2l4s")),
-        ("1046-22:26[u-ca=hebrew][u-ca=t-8NkJ4]", timed(10, 46, 0, None), Some(UtcOffsetRecordOrZ::Offset(short(Sign::Negative, 22, 26))), None, Some("hebrew")),
-        ("12:00:00,123456789", timed(12, 0, 0, fraction_of("+00:00:00.123456789")), None, None, None),
-        ("12:00:00.9999999999", timed(12, 0, 0, fraction_of("+00:00:00.9999999999")), None, None, None),
-        ("12:00:00,12345678912", timed(12, 0, 0, fraction_of("+00:00:00.12345678912")), None, None, None),
-        ("12:00:00.999999999999999999999999999", timed(12, 0, 0, fraction_of("+00:00:00.999999999999999999999999999")), None, None, None),
-        ("12:00:00.123456789123456789123456789", timed(12, 0, 0, fraction_of("+00:00:00.123456789123456789123456789")), None, None, None),
-        ("12:00:00,1234567891234567891234567891", timed(12, 0, 0, fraction_of("+00:00:00.1234567891234567891234567891")), None, None, None),
-        ("12:00:00.99999999999999999999999999999", timed(12, 0, 0, fraction_of("+00:00:00.99999999999999999999999999999")), None, None, None),
-        ("12:00:00.9999999999999999999999999999999999999", timed(12, 0, 0, fraction_of("+00:00:00.9999999999999999999999999999999999999")), None, None, None),
-        ("12:00:00.1234567891234567891234567891234567891", timed(12, 0, 0, fraction_of("+00:00:00.1234567891234567891234567891234567891")), None, None, None),
-        ("12:00:00,9999999999999999999999999999999999999999999999999999999999999999999999999999999999999999999999999999999999999999999999999999999999999999999999999999999999999999999999999999999999999999999999999999999999999999999999999999999999999999999999999999999999999", timed(12, 0, 0, fraction_of("+00:00:00.9999999999999999999999999999999999999999999999999999999999999999999999999999999999999999999999999999999999999999999999999999999999999999999999999999999999999999999999999999999999999999999999999999999999999999999999999999999999999999999999999999999999999")), None, None, None),
-        ("12:00:00.12345678912345678912345678912345678912345678912345678912345678912345678912345678912345678912345678912345678912345678912345678912345678912345678912345678912345678912345678912345678912345678912345678912345678912345678912345678912345678912345678912345678912", timed(12, 0, 0, fraction_of("+00:00:00.12345678912345678912345678912345678912345678912345678912345678912345678912345678912345678912345678912345678912345678912345678912345678912345678912345678912345678912345678912345678912345678912345678912345678912345678912345678912345678912345678912345678912")), None, None, None),
-        ("12:00:00.123456789123456789123456789123456789123456789123456789123456789123456789123456789123456789123456789123456789123456789123456789123456789123456789123456789123456789123456789123456789123456789123456789123456789123456789123456789123456789123456789123456789123", timed(12, 0, 0, fraction_of("+00:00:00.123456789123456789123456789123456789123456789123456789123456789123456789123456789123456789123456789123456789123456789123456789123456789123456789123456789123456789123456789123456789123456789123456789123456789123456789123456789123456789123456789123456789123")), None, None, None),
-        ("12:00:00.9999999999999999999999999999999999999999999999999999999999999999999999999999999999999999999999999999999999999999999999999999999999999999999999999999999999999999999999999999999999999999999999999999999999999999999999999999999999999999999999999999999999999999", timed(12, 0, 0, fraction_of("+00:00:00.9999999999999999999999999999999999999999999999999999999999999999999999999999999999999999999999999999999999999999999999999999999999999999999999999999999999999999999999999999999999999999999999999999999999999999999999999999999999999999999999999999999999999999")), None, None, None),
-        ("12:00:00.99999999999999999999999999999999999999999999999999999999999999999999999999999999999999999999999999999999999999999999999999999999999999999999999999999999999999999999999999999999999999999999999999999999999999999999999999999999999999999999999999999999999999999", timed(12, 0, 0, fraction_of("+00:00:00.99999999999999999999999999999999999999999999999999999999999999999999999999999999999999999999999999999999999999999999999999999999999999999999999999999999999999999999999999999999999999999999999999999999999999999999999999999999999999999999999999999999999999999")), None, None, None),
-        ("12:00:00,123456789123456789123456789123456789123456789123456789123456789123456789123456789123456789123456789123456789123456789123456789123456789123456789123456789123456789123456789123456789123456789123456789123456789123456789123456789123456789123456789123456789123456789123456789123456789123456789123456789123", timed(12, 0, 0, fraction_of("+00:00:00.123456789123456789123456789123456789123456789123456789123456789123456789123456789123456789123456789123456789123456789123456789123456789123456789123456789123456789123456789123456789123456789123456789123456789123456789123456789123456789123456789123456789123456789123456789123456789123456789123456789123")), None, None, None),
+        (
+            "01:59[E.ope/London][u-caa=X95m-m]",
+            timed(1, 59, 0, None),
+            None,
+            Some((false, "E.ope/London")),
+            None,
+        ),
+        (
+            "01[!k][u-ca=a0sa-2l4s][u-caa=b][il9rs1v=a][lyax67ac=a0sa-2l4s]",
+            timed(1, 0, 0, None),
+            None,
+            Some((true, "k")),
+            Some("a0sa-2l4s"),
+        ),
+        (
+            "1046-22:26[u-ca=hebrew][u-ca=t-8NkJ4]",
+            timed(10, 46, 0, None),
+            Some(UtcOffsetRecordOrZ::Offset(short(Sign::Negative, 22, 26))),
+            None,
+            Some("hebrew"),
+        ),
+        (
+            "12:00:00,123456789",
+            timed(12, 0, 0, fraction_of("+00:00:00.123456789")),
+            None,
+            None,
+            None,
+        ),
+        (
+            "12:00:00.9999999999",
+            timed(12, 0, 0, fraction_of("+00:00:00.9999999999")),
+            None,
+            None,
+            None,
+        ),
+        (
+            "12:00:00,12345678912",
+            timed(12, 0, 0, fraction_of("+00:00:00.12345678912")),
+            None,
+            None,
+            None,
+        ),
+        (
+            "12:00:00.999999999999999999999999999",
+            timed(
+                12,
+                0,
+                0,
+                fraction_of("+00:00:00.999999999999999999999999999"),
+            ),
+            None,
+            None,
+            None,
+        ),
+        (
+            "12:00:00.123456789123456789123456789",
+            timed(
+                12,
+                0,
+                0,
+                fraction_of("+00:00:00.123456789123456789123456789"),
+            ),
+            None,
+            None,
+            None,
+        ),
+        (
+            "12:00:00,1234567891234567891234567891",
+            timed(
+                12,
+                0,
+                0,
+                fraction_of("+00:00:00.1234567891234567891234567891"),
+            ),
+            None,
+            None,
+            None,
+        ),
+        (
+            "12:00:00.99999999999999999999999999999",
+            timed(
+                12,
+                0,
+                0,
+                fraction_of("+00:00:00.99999999999999999999999999999"),
+            ),
+            None,
+            None,
+            None,
+        ),
+        (
+            "12:00:00.9999999999999999999999999999999999999",
+            timed(
+                12,
+                0,
+                0,
+                fraction_of("+00:00:00.9999999999999999999999999999999999999"),
+            ),
+            None,
+            None,
+            None,
+        ),
+        (
+            "12:00:00.1234567891234567891234567891234567891",
+            timed(
+                12,
+                0,
+                0,
+                fraction_of("+00:00:00.1234567891234567891234567891234567891"),
+            ),
+            None,
+            None,
+            None,
+        ),
+        (
+            "12:00:00,9999999999999999999999999999999999999999999999999999999999999999999999999999999999999999999999999999999999999999999999999999999999999999999999999999999999999999999999999999999999999999999999999999999999999999999999999999999999999999999999999999999999999",
+            timed(
+                12,
+                0,
+                0,
+                fraction_of(
+                    "+00:00:00.9999999999999999999999999999999999999999999999999999999999999999999999999999999999999999999999999999999999999999999999999999999999999999999999999999999999999999999999999999999999999999999999999999999999999999999999999999999999999999999999999999999999999",
+                ),
+            ),
+            None,
+            None,
+            None,
+        ),
+        (
+            "12:00:00.12345678912345678912345678912345678912345678912345678912345678912345678912345678912345678912345678912345678912345678912345678912345678912345678912345678912345678912345678912345678912345678912345678912345678912345678912345678912345678912345678912345678912",
+            timed(
+                12,
+                0,
+                0,
+                fraction_of(
+                    "+00:00:00.12345678912345678912345678912345678912345678912345678912345678912345678912345678912345678912345678912345678912345678912345678912345678912345678912345678912345678912345678912345678912345678912345678912345678912345678912345678912345678912345678912345678912",
+                ),
+            ),
+            None,
+            None,
+            None,
+        ),
+        (
+            "12:00:00.123456789123456789123456789123456789123456789123456789123456789123456789123456789123456789123456789123456789123456789123456789123456789123456789123456789123456789123456789123456789123456789123456789123456789123456789123456789123456789123456789123456789123",
+            timed(
+                12,
+                0,
+                0,
+                fraction_of(
+                    "+00:00:00.123456789123456789123456789123456789123456789123456789123456789123456789123456789123456789123456789123456789123456789123456789123456789123456789123456789123456789123456789123456789123456789123456789123456789123456789123456789123456789123456789123456789123",
+                ),
+            ),
+            None,
+            None,
+            None,
+        ),
+        (
+            "12:00:00.9999999999999999999999999999999999999999999999999999999999999999999999999999999999999999999999999999999999999999999999999999999999999999999999999999999999999999999999999999999999999999999999999999999999999999999999999999999999999999999999999999999999999999",
+            timed(
+                12,
+                0,
+                0,
+                fraction_of(
+                    "+00:00:00.9999999999999999999999999999999999999999999999999999999999999999999999999999999999999999999999999999999999999999999999999999999999999999999999999999999999999999999999999999999999999999999999999999999999999999999999999999999999999999999999999999999999999999",
+                ),
+            ),
+            None,
+            None,
+            None,
+        ),
+        (
+            "12:00:00.99999999999999999999999999999999999999999999999999999999999999999999999999999999999999999999999999999999999999999999999999999999999999999999999999999999999999999999999999999999999999999999999999999999999999999999999999999999999999999999999999999999999999999",
+            timed(
+                12,
+                0,
+                0,
+                fraction_of(
+                    "+00:00:00.99999999999999999999999999999999999999999999999999999999999999999999999999999999999999999999999999999999999999999999999999999999999999999999999999999999999999999999999999999999999999999999999999999999999999999999999999999999999999999999999999999999999999999",
+                ),
+            ),
+            None,
+            None,
+            None,
+        ),
+        (
+            "12:00:00,123456789123456789123456789123456789123456789123456789123456789123456789123456789123456789123456789123456789123456789123456789123456789123456789123456789123456789123456789123456789123456789123456789123456789123456789123456789123456789123456789123456789123456789123456789123456789123456789123456789123",
+            timed(
+                12,
+                0,
+                0,
+                fraction_of(
+                    "+00:00:00.123456789123456789123456789123456789123456789123456789123456789123456789123456789123456789123456789123456789123456789123456789123456789123456789123456789123456789123456789123456789123456789123456789123456789123456789123456789123456789123456789123456789123456789123456789123456789123456789123456789123",
+                ),
+            ),
+            None,
+            None,
+            None,
+        ),
     ];
     for (text, time, offset, zone, calendar) in rows {
         let wide = Wide::new(text);
@@ -238,7 +606,13 @@ fn reads_wide_times_alone(rt: HostRuntime) {
 #[test]
 fn reads_offsets_in_brackets_after_wide_parts(rt: HostRuntime) {
     let rows = [
-        (Reader::YearMonth, "+000400-02[-01:01]", Sign::Negative, 1, 1),
+        (
+            Reader::YearMonth,
+            "+000400-02[-01:01]",
+            Sign::Negative,
+            1,
+            1,
+        ),
         (
             Reader::MonthDay,
             "0201[+13][u-ca=6rV-ZsH-FKH-U7zf][unr-m=iso8601]",
