@@ -221,11 +221,11 @@ pub fn take_hyphen<'a, T: EncodingType>(
 {
     match cursor.look()? {
         None => Err(at_end),
+        Some(byte) if byte.is_ascii_digit() => Ok(false),
         Some(byte) if is_hyphen(byte) => {
             cursor.step();
             Ok(true)
         }
-        Some(byte) if byte.is_ascii_digit() => Ok(false),
         Some(_) => Err(other),
     }
 }
@@ -276,15 +276,20 @@ fn take_separator<'a, T: EncodingType>(
         (mark_at error_of (line_after_month hyphened) hyphen) }
     ensures looks { Spends 1 cursor.old cursor.new }
 {
-    match cursor.look()? {
-        Some(byte) if is_hyphen(byte) && hyphened => {
-            cursor.step();
-            Ok(())
-        }
-        Some(byte) if is_hyphen(byte) => Err(Stop::DateSeparator),
-        _ if hyphened => Err(Stop::DateSeparator),
+    let next = cursor.look()?;
+    if hyphened {
+        return match next {
+            Some(byte) if is_hyphen(byte) => {
+                cursor.step();
+                Ok(())
+            }
+            _ => Err(Stop::DateSeparator),
+        };
+    }
+    match next {
         None => Err(Stop::AbruptDigit),
         Some(byte) if byte.is_ascii_digit() => Ok(()),
+        Some(byte) if is_hyphen(byte) => Err(Stop::DateSeparator),
         Some(_) => Err(Stop::DateDay),
     }
 }
