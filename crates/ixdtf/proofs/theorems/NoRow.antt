@@ -9,12 +9,14 @@ use Rattle.ixdtf.specs.table.Faults.Fault.{UnrecognizedCritical, CriticalDuplica
 use Rattle.ixdtf.specs.language.Brackets.{Pair}
 use Rattle.ixdtf.specs.language.Readers.{Reader, has_brackets}
 use Rattle.ixdtf.specs.table.LineNames.{LineName}
-use Rattle.ixdtf.specs.table.LineNames.DateLine.{year_start, year_digits, extended_year_digits, minus_zero_year, after_year, month_digits, month_range, after_hyphened_month, after_plain_month, day_digits, day_range, after_date}
+use Rattle.ixdtf.specs.table.LineNames.DateLine.{year_start, year_digits, extended_year_digits, minus_zero_year, after_year, month_digits}
+use Rattle.ixdtf.specs.table.LineNames.DateLine.{month_range, after_hyphened_month, after_plain_month, day_digits, day_range, after_date}
 use Rattle.ixdtf.specs.table.LineNames.YearMonthLine.{after_year_in_year_month, after_year_month}
 use Rattle.ixdtf.specs.table.LineNames.MonthDayLine.{month_day_start, month_day_hyphen, month_day_month_digits, month_day_month_range}
 use Rattle.ixdtf.specs.table.LineNames.MonthDayLine.{after_month_day_month, month_day_day_digits, month_day_range, after_month_day}
 use Rattle.ixdtf.specs.table.LineNames.TimeLine.{time_start, time_reads_as_month_day, time_reads_as_year_month}
-use Rattle.ixdtf.specs.table.LineNames.ClockLine.{hour_start, hour_digit, hour_range, after_hour, minute_digits, minute_range, after_plain_minute, after_colon_minute, second_digits, second_range, after_second, fraction_start, after_fraction}
+use Rattle.ixdtf.specs.table.LineNames.ClockLine.{hour_start, hour_digit, hour_range, after_hour, minute_digits, minute_range, after_plain_minute}
+use Rattle.ixdtf.specs.table.LineNames.ClockLine.{after_colon_minute, second_digits, second_range, after_second, fraction_start, after_fraction}
 use Rattle.ixdtf.specs.table.LineNames.OffsetLine.{offset_start, after_zulu}
 use Rattle.ixdtf.specs.table.LineNames.ZoneLine.{identifier_start, zone_name_start, in_zone_name, after_zone_slash}
 use Rattle.ixdtf.specs.table.LineNames.BracketLine.{first_bracket_start, first_critical_start, first_bracket_scan, after_bracket}
@@ -108,8 +110,10 @@ line_has brackets (of_clock clock hour_range) = refl
 line_has brackets (of_clock clock after_hour) = let f = follow_has brackets clock in (f.0, λ c. f.1)
 line_has brackets (of_clock clock minute_digits) = (refl, λ c. refl)
 line_has brackets (of_clock clock minute_range) = refl
-line_has brackets (of_clock clock after_plain_minute) = let f = follow_has brackets clock in (f.0, λ c. either_has (colon c || digit c) (mixed clock) (follow_of brackets clock).at_other (mixed_has clock) f.1)
-line_has brackets (of_clock clock after_colon_minute) = let f = follow_has brackets clock in (f.0, λ c. either_has (colon c || digit c) (mixed clock) (follow_of brackets clock).at_other (mixed_has clock) f.1)
+line_has brackets (of_clock clock after_plain_minute) =
+    let f = follow_has brackets clock in (f.0, λ c. either_has (colon c || digit c) (mixed clock) (follow_of brackets clock).at_other (mixed_has clock) f.1)
+line_has brackets (of_clock clock after_colon_minute) =
+    let f = follow_has brackets clock in (f.0, λ c. either_has (colon c || digit c) (mixed clock) (follow_of brackets clock).at_other (mixed_has clock) f.1)
 line_has brackets (of_clock clock second_digits) = (refl, λ c. second_has clock)
 line_has brackets (of_clock clock second_range) = second_has clock
 line_has brackets (of_clock clock after_second) = let f = follow_has brackets clock in (f.0, λ c. f.1)
@@ -161,7 +165,8 @@ pub fault_comes : (reader : Reader) (text : Text) (pairs : List Pair) (fault : F
 fault_comes reader text pairs fault h = (or_parts _ _ (row_has reader text pairs fault h)).0
 
 -- a fault that a text has is no refusal of a reply
-pub row_is_no_refusal : (reader : Reader) (text : Text) (pairs : List Pair) (fault : Fault) → HasFault reader text pairs fault → (fault ≢ UnrecognizedCritical) × (fault ≢ CriticalDuplicateCalendar)
+pub row_is_no_refusal : (reader : Reader) (text : Text) (pairs : List Pair) (fault : Fault) → HasFault reader text pairs fault
+    → (fault ≢ UnrecognizedCritical) × (fault ≢ CriticalDuplicateCalendar)
 row_is_no_refusal reader text pairs fault h =
     let known = (or_parts _ _ (row_has reader text pairs fault h)).1 in (
       (λ is. let wrong : true ≡ false = sym (ap refuses is) ∙ known in absurd cc),

@@ -138,18 +138,20 @@ module _ {E : Type 0} (fault : Row → E) (kind : CoreKind) (text : Text) (is_co
     time_text : text ≡ (prior ++ h.0) ++ rest
     time_text = is ∙ rw h.1 (simp append_assoc)
 
+    signed : (s : ℕ) → IsTrue (sign s) → (BeforeOffset kind then one sign) ((prior ++ h.0) ++ (Plain s ∷ []))
+    signed s signs = (prior ++ h.0, Plain s ∷ [], refl, timed, (s, refl, signs))
+
     -- an offset was read after its sign
     after_offset_read : (s : ℕ) (more : Text) → rest ≡ Plain s ∷ more → IsTrue (sign s) → (o : OpenTime) (left : Text) → TimeFront clocks.Offset more o left
         → Reads (core_end_at fault (line_after clocks.Offset o.0) (with_offset date x.1 (offset_of s (writes_seconds o.0) o.1)) left)
     after_offset_read s more next signs o left g =
         let offset : UtcOffsetRecord = offset_of s (writes_seconds o.0) o.1 in
-        let signed : (BeforeOffset kind then one sign) ((prior ++ h.0) ++ (Plain s ∷ [])) = (prior ++ h.0, Plain s ∷ [], refl, timed, (s, refl, signs)) in
         let is_offset : IsOffset (Plain s ∷ g.0) offset =
         record { c = s; body = g.0; shape = o.0; time = o.1; is = refl; sign = signs; clock = g.2; value = refl } in
         end_read (line_after clocks.Offset o.0) (with_offset date x.1 offset) (prior ++ (h.0 ++ (Plain s ∷ g.0))) left
         (is_text (Plain s ∷ g.0) left (next ∙ rw g.1 refl))
         (has_core (Plain s ∷ g.0) (Some (Offset offset)) (inl (offset, is_offset, refl)))
-        (λ c after ends out. lift (later clocks.Offset) (bracketed kind) _ text _ more (time_text ∙ rw next (simp append_assoc)) (λ l. (signed, refl))
+        (λ c after ends out. lift (later clocks.Offset) (bracketed kind) _ text _ more (time_text ∙ rw next (simp append_assoc)) (λ l. (signed s signs, refl))
         (clock_stops fault true clocks.Offset more o other InvalidEnd left g (c, after, ends, out, refl)))
         (λ after ends. absurd (closed_not_bad clocks.Offset o.0 left after g.3 ends))
 
@@ -159,7 +161,7 @@ module _ {E : Type 0} (fault : Row → E) (kind : CoreKind) (text : Text) (is_co
     offset_read s more next signs = then_read fault (clock_at fault clocks.Offset more) _ _ _ _ _ (clock_read fault true clocks.Offset more)
         (λ o left g. after_offset_read s more next signs o left g)
         (λ row f. lift (of_clock clocks.Offset) (bracketed kind) row text ((prior ++ h.0) ++ (Plain s ∷ [])) more (time_text ∙ rw next (simp append_assoc))
-        (λ l. ((prior ++ h.0, Plain s ∷ [], refl, timed, (s, refl, signs)), refl)) f)
+        (λ l. (signed s signs, refl)) f)
 
     -- `Z` or `z`
     zulu_read : (z : ℕ) (more : Text) → rest ≡ Plain z ∷ more → IsTrue (zulu z)
@@ -247,12 +249,8 @@ module _ {E : Type 0} (fault : Row → E) (text : Text) where
   unfolding after_date_at
   after_date_read date rest h = next_read (fault (row_of (of_date after_date) bad NonAsciiCodePoint)) date_time_separator _ _ fault rest
       (CoreFront date_time text) (λ row. FitsCore date_time text row)
-      (λ more next. (
-        row_of (of_date after_date) bad NonAsciiCodePoint,
-        refl,
-        after_date_fits bad NonAsciiCodePoint h.0 rest h.1 (date, h.2)
-            (more, next, refl),
-      ))
+      (λ more next. let row_fits = after_date_fits bad NonAsciiCodePoint h.0 rest h.1 (date, h.2) (more, next, refl) in
+      (row_of (of_date after_date) bad NonAsciiCodePoint, refl, row_fits))
       (λ c more next separates. time_core_read h.0 (Plain c ∷ []) more date (further text h.0 rest (Plain c ∷ []) more h.1 next) h.2 (c, refl, separates))
       (λ closed. no_time_read date rest h closed)
 

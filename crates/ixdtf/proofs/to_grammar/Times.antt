@@ -99,74 +99,54 @@ module _ {E : Type 0} (fault : Row → E) where
     -- ---- the lines at which a time may stop
 
     module _ (front rest : Text) (is : text ≡ front ++ rest) where
+      -- the row of the line, which fits here
+      at_line : (l : ClockLine) (is_later : IsLater l) (place : Place) (e : Fault) → front_of (line_of brackets (of_clock clock l)) front
+          → Stops (line_of brackets (of_clock clock l)) place e rest → Stopped fault (fault (row_of (of_clock clock l) place e)) Fitting
+      at_line l is_later place e shown at = (row_of (of_clock clock l) place e, refl, fits l is_later place e front rest is shown at)
+
       -- at Bad
       open_bad : (shape : TimeShape) (t : TimeRecord) (more : Text) → ClockOf clock shape front t → rest ≡ Bad ∷ more
           → Stopped fault (bad_after fault clock shape) Fitting
-      open_bad hours t more x next =
-          (row_of (of_clock clock after_hour) bad NonAsciiCodePoint, refl, fits after_hour tt bad NonAsciiCodePoint front rest is (t, x) (more, next, refl))
-      open_bad plain_minutes t more x next = (
-        row_of (of_clock clock after_plain_minute) bad NonAsciiCodePoint,
-        refl,
-        fits after_plain_minute tt bad NonAsciiCodePoint front rest is (t, x)
-            (more, next, refl),
-      )
-      open_bad colon_minutes t more x next = (
-        row_of (of_clock clock after_colon_minute) bad NonAsciiCodePoint,
-        refl,
-        fits after_colon_minute tt bad NonAsciiCodePoint front rest is (t, x)
-            (more, next, refl),
-      )
-      open_bad seconds t more x next =
-          (row_of (of_clock clock after_second) bad NonAsciiCodePoint, refl, fits after_second tt bad NonAsciiCodePoint front rest is (t, x) (more, next, refl))
-      open_bad fractions t more x next = (
-        row_of (of_clock clock after_fraction) bad NonAsciiCodePoint,
-        refl,
-        fits after_fraction tt bad NonAsciiCodePoint front rest is (t, x)
-            (more, next, refl),
-      )
+      open_bad hours t more x next = at_line after_hour tt bad NonAsciiCodePoint (t, x) (more, next, refl)
+      open_bad plain_minutes t more x next = at_line after_plain_minute tt bad NonAsciiCodePoint (t, x) (more, next, refl)
+      open_bad colon_minutes t more x next = at_line after_colon_minute tt bad NonAsciiCodePoint (t, x) (more, next, refl)
+      open_bad seconds t more x next = at_line after_second tt bad NonAsciiCodePoint (t, x) (more, next, refl)
+      open_bad fractions t more x next = at_line after_fraction tt bad NonAsciiCodePoint (t, x) (more, next, refl)
 
       -- at a colon or a digit that does not go on
       plain_mixed_read : (t : TimeRecord) (c : ℕ) (more : Text) → PlainMinuteText front t → rest ≡ Plain c ∷ more → IsFalse (seconds_after clock digit c)
           → IsTrue ((colon or digit) c) → Stopped fault (mixed_after fault clock plain_minutes) Fitting
-      plain_mixed_read t c more x next out h = (
-        row_of (of_clock clock after_plain_minute) other (mixed clock),
-        refl,
-        fits after_plain_minute tt other (mixed clock) front rest is (t, x)
-            (c, more, next, or_from _ _ out (mixed_no_follow brackets clock c h), rw h refl),
-      )
+      plain_mixed_read t c more x next out h =
+          at_line after_plain_minute tt other (mixed clock) (t, x) (c, more, next, or_from _ _ out (mixed_no_follow brackets clock c h), rw h refl)
 
       colon_mixed_read : (t : TimeRecord) (c : ℕ) (more : Text) → ColonMinuteText front t → rest ≡ Plain c ∷ more → IsFalse (seconds_after clock colon c)
           → IsTrue ((colon or digit) c) → Stopped fault (mixed_after fault clock colon_minutes) Fitting
-      colon_mixed_read t c more x next out h = (
-        row_of (of_clock clock after_colon_minute) other (mixed clock),
-        refl,
-        fits after_colon_minute tt other (mixed clock) front rest is (t, x)
-            (c, more, next, or_from _ _ out (mixed_no_follow brackets clock c h), rw h refl),
-      )
+      colon_mixed_read t c more x next out h =
+          at_line after_colon_minute tt other (mixed clock) (t, x) (c, more, next, or_from _ _ out (mixed_no_follow brackets clock c h), rw h refl)
 
       -- at the end, where it is an error
       open_end : (shape : TimeShape) (t : TimeRecord) (e : Fault) → ClockOf clock shape front t → rest ≡ [] → (follow_of brackets clock).at_end ≡ error e
           → Fitting (row_of (line_after clock shape) end e)
-      open_end hours t e x next ends = ((after_hour, tt), refl, (front, rest, is, (t, x), (next, ends)))
-      open_end plain_minutes t e x next ends = ((after_plain_minute, tt), refl, (front, rest, is, (t, x), (next, ends)))
-      open_end colon_minutes t e x next ends = ((after_colon_minute, tt), refl, (front, rest, is, (t, x), (next, ends)))
-      open_end seconds t e x next ends = ((after_second, tt), refl, (front, rest, is, (t, x), (next, ends)))
-      open_end fractions t e x next ends = ((after_fraction, tt), refl, (front, rest, is, (t, x), (next, ends)))
+      open_end hours t e x next ends = fits after_hour tt end e front rest is (t, x) (next, ends)
+      open_end plain_minutes t e x next ends = fits after_plain_minute tt end e front rest is (t, x) (next, ends)
+      open_end colon_minutes t e x next ends = fits after_colon_minute tt end e front rest is (t, x) (next, ends)
+      open_end seconds t e x next ends = fits after_second tt end e front rest is (t, x) (next, ends)
+      open_end fractions t e x next ends = fits after_fraction tt end e front rest is (t, x) (next, ends)
 
       -- at a letter that may not follow
       open_other : (shape : TimeShape) (t : TimeRecord) (c : ℕ) (more : Text) (e : Fault) → ClockOf clock shape front t → rest ≡ Plain c ∷ more
           → IsFalse ((follow_of brackets clock).letters c) → e ≡ (follow_of brackets clock).at_other → Closed clock shape (Plain c ∷ more)
           → Fitting (row_of (line_after clock shape) other e)
       open_other hours t c more e x next out same closed =
-          ((after_hour, tt), refl, (front, rest, is, (t, x), (c, more, next, or_from _ _ (or_from _ _ closed.0 closed.1) out, same)))
+          fits after_hour tt other e front rest is (t, x) (c, more, next, or_from _ _ (or_from _ _ closed.0 closed.1) out, same)
       open_other plain_minutes t c more e x next out same closed =
-          ((after_plain_minute, tt), refl, (front, rest, is, (t, x), (c, more, next, or_from _ _ closed.0 out, rw closed.1 same)))
+          fits after_plain_minute tt other e front rest is (t, x) (c, more, next, or_from _ _ closed.0 out, rw closed.1 same)
       open_other colon_minutes t c more e x next out same closed =
-          ((after_colon_minute, tt), refl, (front, rest, is, (t, x), (c, more, next, or_from _ _ closed.0 out, rw closed.1 same)))
+          fits after_colon_minute tt other e front rest is (t, x) (c, more, next, or_from _ _ closed.0 out, rw closed.1 same)
       open_other seconds t c more e x next out same closed =
-          ((after_second, tt), refl, (front, rest, is, (t, x), (c, more, next, or_from _ _ closed out, same)))
+          fits after_second tt other e front rest is (t, x) (c, more, next, or_from _ _ closed out, same)
       open_other fractions t c more e x next out same closed =
-          ((after_fraction, tt), refl, (front, rest, is, (t, x), (c, more, next, or_from _ _ closed out, same)))
+          fits after_fraction tt other e front rest is (t, x) (c, more, next, or_from _ _ closed out, same)
 
     -- what is known of reading a time, or a part of it
     abbrev Reads : Read E OpenTime → Type 0

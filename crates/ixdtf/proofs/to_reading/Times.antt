@@ -1,5 +1,6 @@
 -- A time is read as far as it goes, wherever it starts, and each row of a time's lines is returned.
-use Rattle.std.proofs.Common.{◌≡◌, ℕ, ◌<◌, ◌⊎◌, Bool, true, false, IsTrue, IsFalse, [], ◌∷◌, ◌++◌, Ok, Err, Option, Some, None, refl, sym, ap, ◌∙◌, inl, inr, arith, append-nil, nat_le}
+use Rattle.std.proofs.Common.{◌≡◌, ℕ, ◌<◌, ◌⊎◌, Bool, true, false, IsTrue, IsFalse, [], ◌∷◌, ◌++◌, Ok, Err, Option, Some, None, refl, sym, ap, ◌∙◌}
+use Rattle.std.proofs.Common.{inl, inr, arith, append-nil, nat_le}
 use Rattle.std.proofs.lemmas.Bool.{le-leb, lt-leb, or_parts}
 use Rattle.std.proofs.lemmas.Bool.Decides.{nat_tests}
 use Rattle.ixdtf.specs.language.Times.{Clock}
@@ -23,8 +24,11 @@ use Rattle.ixdtf.specs.table.Lines.Ending.{error}
 use Rattle.ixdtf.specs.table.Rows.{Row, Place, Stops, front_of}
 use Rattle.ixdtf.specs.table.Rows.Place.{end, other, bad, anywhere}
 use Rattle.ixdtf.specs.reading.Looks.{Read, ◌>>=◌, row_of, look_at, in_range}
-use Rattle.ixdtf.specs.reading.Times.{OpenTime, time_of, line_after, bad_after, mixed_after, fraction_at, after_second_at, colon_second_at, plain_second_at, after_colon_minute_at, after_plain_minute_at, colon_minute_at, plain_minute_at, after_hour_at, hour_from}
-use Rattle.ixdtf.proofs.parts.Looks.{Leads, ◌before◌, Yields, ◌upto◌, Halts, ◌till◌, RowsRead, whole_row, goes, stops, digits_go, digits_stop, one_as_digits, NotNext, run_takes, run_bad}
+use Rattle.ixdtf.specs.reading.Times.{OpenTime, time_of, line_after, bad_after, mixed_after, fraction_at, after_second_at, colon_second_at}
+use Rattle.ixdtf.specs.reading.Times.{plain_second_at, after_colon_minute_at, after_plain_minute_at, colon_minute_at, plain_minute_at, after_hour_at}
+use Rattle.ixdtf.specs.reading.Times.{hour_from}
+use Rattle.ixdtf.proofs.parts.Looks.{Leads, ◌before◌, Yields, ◌upto◌, Halts, ◌till◌, RowsRead, whole_row, goes, stops, digits_go, digits_stop}
+use Rattle.ixdtf.proofs.parts.Looks.{one_as_digits, NotNext, run_takes, run_bad}
 
 digit_no_colon : (c : ℕ) → IsTrue (digit c) → IsFalse (colon c)
 digit_no_colon c h = grind (arith, nat_tests)

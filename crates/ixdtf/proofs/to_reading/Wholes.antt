@@ -154,12 +154,15 @@ module _ {E : Type 0} (fault : List Pair → Row → E) (kind : CoreKind) where
 
   pub whole_row : (name : LineName) (pairs : List Pair) (place : Place) (e : Fault) (prior front rest : Text) → BeforeBracketed kind name pairs prior (front ++ rest) → front_of (line_of true name) front → Stops (line_of true name) place e rest → whole_at (prior ++ (front ++ rest)) ≡ Err (fault pairs (row_of name place e))
   whole_row (of_core l) pairs place e prior front rest b f at = in_core _ _ pairs b.1 (core_line_rows (fault []) kind l place e prior front rest b.0 f at)
-  whole_row (of_clock clocks.Time l) pairs place e prior front rest b f at = in_core _ _ pairs b.1 (core_time_rows (fault []) kind l prior b.0 place e front rest f at)
-  whole_row (of_clock clocks.Offset l) pairs place e prior front rest b f at = in_core _ _ pairs b.1 (core_offset_rows (fault []) kind l prior b.0 place e front rest f at)
+  whole_row (of_clock clocks.Time l) pairs place e prior front rest b f at =
+      in_core _ _ pairs b.1 (core_time_rows (fault []) kind l prior b.0 place e front rest f at)
+  whole_row (of_clock clocks.Offset l) pairs place e prior front rest b f at =
+      in_core _ _ pairs b.1 (core_offset_rows (fault []) kind l prior b.0 place e front rest f at)
   whole_row (of_clock clocks.MinuteOffset l) pairs place e prior front rest (b, none) f at =
       opened_row (of_clock clocks.MinuteOffset l) place e pairs b.3.0 (b.3.1 ++ b.1) front rest prior none (b.2 ∙ rw b.3.2 (simp append_assoc)) b.3.3 (b.3.1, b.1, refl, b.3.4, b.4) f at
   whole_row (of_offset offset_start) pairs place e prior front rest b f at = absurd b.0
-  whole_row (of_offset after_zulu) pairs place e prior front rest b f at = in_core _ _ pairs b.1 (core_zulu_row (fault []) kind prior b.0 place e front rest f at)
+  whole_row (of_offset after_zulu) pairs place e prior front rest b f at =
+      in_core _ _ pairs b.1 (core_zulu_row (fault []) kind prior b.0 place e front rest f at)
   whole_row (of_zone identifier_start) pairs place e prior front rest b f at = absurd b
   whole_row (of_zone zone_name_start) pairs place e prior front rest b f at = absurd b
   whole_row (of_zone in_zone_name) pairs place e prior front rest (b, none) f at =
