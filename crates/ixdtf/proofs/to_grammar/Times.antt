@@ -246,8 +246,8 @@ module _ {E : Type 0} (fault : Row → E) where
 
     -- the number of a minute or a second: its digits and its range each have a line
     module _ (at_digits at_range : (l : ClockLine) × IsLater l) (greatest : ℕ) (e : Fault) (asks : LooksForDigit (line_of true (later clock at_digits)))
-      (same : line_of true (later clock at_digits) ≡ line_of brackets (later clock at_digits))
-      (whole : (t : Text) → Stops (line_of brackets (later clock at_range)) anywhere e t) where
+        (same : line_of true (later clock at_digits) ≡ line_of brackets (later clock at_digits))
+        (whole : (t : Text) → Stops (line_of brackets (later clock at_range)) anywhere e t) where
       number_read : (colons : Bool) (front rest : Text) → text ≡ front ++ (marks colons ++ rest) → Starts colons rest
           → ((ds : Text) → Begun colons ds → front_of (line_of brackets (later clock at_digits)) (front ++ (marks colons ++ ds)))
           → ((ds : Text) → Past greatest ds → front_of (line_of brackets (later clock at_range)) (front ++ (marks colons ++ ds)))

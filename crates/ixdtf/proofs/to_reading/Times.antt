@@ -55,7 +55,7 @@ module _ {E : Type 0} (fault : Row → E) (name : LineName) (asks : LooksForDigi
 
 -- at a digit, which stays, a reading goes on as another
 module _ {E A : Type 0}
-  (start stage : Text → Read E A) (same : (c : ℕ) (rest : Text) → IsTrue (digit c) → start (Plain c ∷ rest) ≡ stage (Plain c ∷ rest)) where
+    (start stage : Text → Read E A) (same : (c : ℕ) (rest : Text) → IsTrue (digit c) → start (Plain c ∷ rest) ≡ stage (Plain c ∷ rest)) where
   same_over : (n : ℕ) (ds rest : Text) → digits (suc n) ds → start (ds ++ rest) ≡ stage (ds ++ rest)
   same_over n ds rest d = rw d.2 (same d.0 (d.1 ++ rest) d.3)
 
@@ -111,7 +111,7 @@ with_fraction h m s r = r >>= λ fraction. Ok ((fractions, time_of h m s (Some f
 
 -- Reading that starts a time: over a first digit it leads to the hour.
 module _ {E : Type 0} (fault : Row → E) (clock : Clock)
-  (start : Text → Read E OpenTime) (starts : (c : ℕ) → IsTrue (digit c) → Leads start (Plain c ∷ []) (hour_from fault clock c)) where
+    (start : Text → Read E OpenTime) (starts : (c : ℕ) → IsTrue (digit c) → Leads start (Plain c ∷ []) (hour_from fault clock c)) where
   over_hour : (hs : Text) (h : ℕ) → UpTo 23 hs h → Leads start hs (after_hour_at fault clock h)
   unfolding hour_from
   over_hour hs h u =
