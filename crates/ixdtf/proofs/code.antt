@@ -1,6 +1,12 @@
 -- What the functions of the code use.
 pub mod Chains
 pub mod DigitClasses
+pub mod DurationFractions
+pub mod DurationGroups
+pub mod DurationLetters
+pub mod DurationLoops
+pub mod DurationNumbers
+pub mod DurationSteps
 pub mod EqualRecords
 pub mod EqualUnits
 pub mod FirstPass

@@ -1,4 +1,6 @@
 -- What readings are made of.
+pub mod CoreLetters
+pub mod DurationRuns
 pub mod Fronts
 pub mod LookAhead
 pub mod Looks

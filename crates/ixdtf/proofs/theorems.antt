@@ -1,6 +1,11 @@
 -- What follows for every text.
+pub mod CoreEnds
+pub mod CoreSizes
+pub mod Disjoint
 pub mod Handled
 pub mod NoRow
 pub mod OneOutcome
+pub mod OnlyOutcome
 pub mod Rfc3339
 pub mod PlainOutcomes
+pub mod OnePlainOutcome

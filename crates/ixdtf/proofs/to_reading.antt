@@ -2,6 +2,7 @@
 pub mod ClockRows
 pub mod Cores
 pub mod Dates
+pub mod Durations
 pub mod FirstBracket
 pub mod Months
 pub mod MorePairs

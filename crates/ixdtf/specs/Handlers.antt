@@ -1,21 +1,21 @@
 -- Handlers: what the replies to the pairs of a text make of it.
-use Rattle.std.specs.Prelude.{◌≡◌, ◌≢◌, ◌↔◌, ◌⊎◌, ℕ, Bool, IsTrue, nat_eq, List, [], ◌∷◌, ◌++◌}
+use Rattle.std.specs.Prelude.{◌≡◌, ◌≢◌, ◌↔◌, ◌⊎◌, ℕ, Bool, IsTrue, IsFalse, nat_eq, List, [], ◌∷◌, ◌++◌}
 use Rattle.std.specs.Prelude.{map, find, filter_map, codes, Option, Some, None, option_map, Result, Ok, Err}
 use Rattle.std.specs.Cmp.Lexicographic.{pointwise}
 use Rattle.std.specs.List.{FoldsTo}
 use Rattle.ixdtf.specs.declared.records.Annotation.{Annotation}
 use Rattle.ixdtf.specs.language.Letters.{Text}
-use Rattle.ixdtf.specs.table.Faults.{Fault}
+use Rattle.ixdtf.specs.table.Faults.{Fault, is_refusal}
 use Rattle.ixdtf.specs.table.Faults.Fault.{UnrecognizedCritical, CriticalDuplicateCalendar}
 use Rattle.ixdtf.specs.language.Brackets.{Pair}
 use Rattle.ixdtf.specs.language.Readers.{Reader}
 use Rattle.ixdtf.specs.language.Languages.{Parsed, Derives}
-use Rattle.ixdtf.specs.table.Outcomes.{HasFault}
+use Rattle.ixdtf.specs.table.Outcomes.{HasFault, OnlyFault}
 use Rattle.ixdtf.specs.language.Languages.Found.{parsed}
 
 -- ---- replies
 
--- an reply: an annotation, or none
+-- a reply: an annotation, or none
 abbrev pub Reply : Type 0
 Reply = Option Pair
 
@@ -30,7 +30,7 @@ is_calendar pair = pointwise nat_eq pair.key calendar_key
 abbrev pub first_calendar : List Reply → Option Pair
 first_calendar replies = find is_calendar (filter_map (λ reply. reply) replies)
 
--- an reply is refused with the fault, where this is the first calendar among the replies before it
+-- a reply is refused with the fault, where this is the first calendar among the replies before it
 abbrev pub RefusedBeside : Option Pair → Reply → Fault → Type 0
 RefusedBeside first None fault = ⊥
 RefusedBeside first (Some pair) UnrecognizedCritical = IsTrue pair.critical × (pair.key ≢ calendar_key)
@@ -39,7 +39,7 @@ RefusedBeside (Some first) (Some pair) CriticalDuplicateCalendar =
     (pair.key ≡ calendar_key) × (pair.value ≢ first.value) × (IsTrue first.critical ⊎ IsTrue pair.critical)
 RefusedBeside first (Some pair) fault = ⊥
 
--- after these replies, an reply is refused with the fault
+-- after these replies, a reply is refused with the fault
 abbrev pub IsRefused : List Reply → Reply → Fault → Type 0
 IsRefused earlier reply fault = RefusedBeside (first_calendar earlier) reply fault
 
@@ -82,6 +82,12 @@ abbrev pub GivesFault : Reader → Text → List Pair → List Reply → Fault �
 GivesFault reader text pairs replies fault =
     (HasFront reader text pairs × LastRefused replies fault) ⊎ (HasFault reader text pairs fault × NoneRefused replies)
 
+-- The text with these pairs and these replies gives the fault, and no other: one of refused replies is that of the last
+-- reply, behind a front that is derived, and any other is the only one that the text has, and no reply is refused.
+pub record GivesOnlyFault (reader : Reader) (text : Text) (pairs : List Pair) (replies : List Reply) (fault : Fault) : Type 0 where
+  pub of_reply : IsTrue (is_refusal fault) → HasFront reader text pairs × LastRefused replies fault
+  pub of_text : IsFalse (is_refusal fault) → OnlyFault reader text pairs fault × NoneRefused replies
+
 -- ---- a handler
 
 -- an annotation by the numbers of its units
@@ -118,6 +124,12 @@ pub record Handled {T U F : Type 0} (number : U → ℕ) (step : Step T U F)
   pub ok : (found : Parsed) → (result ≡ Ok found) ↔ GivesRecord reader text (handed number calls) (replies_of number calls) found
   pub err : (fault : Fault) → result ≡ Err fault → GivesFault reader text (handed number calls) (replies_of number calls) fault
 
+-- For one chain of calls: all of `Handled`, and `Err` only with the one fault that the text and the replies give.
+pub record HandledOnly {T U F : Type 0} (number : U → ℕ) (step : Step T U F)
+    (handler : F) (reader : Reader) (text : Text) (result : Result Parsed Fault) : Type 0 where
+  pub handled : Handled number step handler reader text result
+  pub only : (fault : Fault) → result ≡ Err fault → GivesOnlyFault reader text (handed number handled.calls) (replies_of number handled.calls) fault
+
 -- ---- without a handler
 
 -- each pair is its own reply
@@ -131,3 +143,7 @@ PlainRecord reader text found = (pairs : List Pair) × GivesRecord reader text p
 -- the text, whose pairs reply for themselves, gives the fault
 abbrev pub PlainFault : Reader → Text → Fault → Type 0
 PlainFault reader text fault = (pairs : List Pair) × GivesFault reader text pairs (own_replies pairs) fault
+
+-- the text, whose pairs reply for themselves, gives the fault, and no other
+abbrev pub PlainOnlyFault : Reader → Text → Fault → Type 0
+PlainOnlyFault reader text fault = (pairs : List Pair) × GivesOnlyFault reader text pairs (own_replies pairs) fault

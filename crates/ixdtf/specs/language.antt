@@ -3,6 +3,7 @@ pub mod Brackets
 pub mod Cores
 pub mod Dates
 pub mod Digits
+pub mod Durations
 pub mod Fractions
 pub mod Languages
 pub mod Letters

@@ -4,6 +4,8 @@ pub mod Chains
 pub mod Clauses
 pub mod Cores
 pub mod Dates
+pub mod DurationClauses
+pub mod Durations
 pub mod FixedPlaces
 pub mod Looks
 pub mod Months

@@ -8,16 +8,20 @@ ghost use Rattle.std.specs.Prelude.{◌≡◌, ◌≢◌, ◌+◌, ◌≤◌, []
 ghost use Rattle.ixdtf.specs.table.Faults.{fault_of, never_comes};
 ghost use Rattle.ixdtf.specs.table.Faults.Fault.{CriticalDuplicateCalendar, UnrecognizedCritical};
 ghost use Rattle.ixdtf.specs.language.Readers.{parse as reader_parse};
-ghost use Rattle.ixdtf.specs.Handlers.{Handled, pair_of};
-ghost use Rattle.ixdtf.specs.Laws.{EveryDateTimeIsRead, EveryNameIsAnIdentifier, ClonesAreEqual, IsEqualityBy};
+ghost use Rattle.ixdtf.specs.Handlers.{Handled, HandledOnly, pair_of};
+ghost use Rattle.ixdtf.specs.Laws.{EveryDateTimeIsRead, EveryNameIsAnIdentifier, LanguagesDisjoint, InNoOther};
+ghost use Rattle.ixdtf.specs.Laws.{ClonesAreEqual, IsEqualityBy};
+ghost use Rattle.ixdtf.specs.Widths.{OnePlainOutcome, SameWhereShared, FaultWhereNotShared};
+ghost use Rattle.ixdtf.specs.table.Outcomes.{OneOutcome, NoRowFits};
 ghost use Rattle.ixdtf.specs.language.Fractions.{exact_nanoseconds_of, nanoseconds_of};
 ghost use Rattle.ixdtf.specs.Views.{returned, returned_by, zone_of, note_of, parsed_of, most_looks};
 
 use crate::encoding::EncodingType;
 use crate::parsers::{DateTimes, IxdtfParser};
 use crate::records::{
-    Annotation, DateRecord, Fraction, FullPrecisionOffset, IxdtfParseRecord, MinutePrecisionOffset,
-    Sign, TimeRecord, TimeZoneAnnotation, TimeZoneRecord, UtcOffsetRecord, UtcOffsetRecordOrZ,
+    Annotation, DateDurationRecord, DateRecord, DurationParseRecord, Fraction, FullPrecisionOffset,
+    IxdtfParseRecord, MinutePrecisionOffset, Sign, TimeDurationRecord, TimeRecord,
+    TimeZoneAnnotation, TimeZoneRecord, UtcOffsetRecord, UtcOffsetRecordOrZ,
 };
 use crate::stop::Raised;
 use crate::{ParseError, ParserResult};
@@ -36,6 +40,40 @@ pub fn every_rfc3339_date_time_is_read()
 /// the text as `Name` of the same units.
 pub fn every_name_is_an_identifier()
     ensures { EveryNameIsAnIdentifier }
+{}
+
+/// Each text has exactly one outcome in each reader: either one value is derived from it, or one row of the fault table
+/// (`docs/FAULTS.md`) fits it. Never both, never neither, and never two values or two rows.
+///
+/// The annotations are part of the outcome: those of the text where a value is derived, and else those that stand whole
+/// before the row. What a handler replies to them is not: where a reply is refused, a reader refuses a text from which a
+/// value is derived.
+///
+/// What this says of a call that returned stands in the contract of each reader, as `no_row` and `only`.
+pub fn one_outcome()
+    ensures { OneOutcome }
+{}
+
+/// No text is read by two of the five readers of dates, times and durations: [`IxdtfParser::parse`],
+/// [`IxdtfParser::parse_year_month`], [`IxdtfParser::parse_month_day`], [`IxdtfParser::parse_time`] and
+/// [`IsoDurationParser::parse`](crate::parsers::IsoDurationParser::parse).
+///
+/// The law speaks of what is derived from a text, and so of the readers with a handler too, whatever it replies. What it says
+/// of a call that returned `Ok` stands in the contract of each of these readers, as `alone`.
+pub fn languages_disjoint()
+    ensures { LanguagesDisjoint }
+{}
+
+/// What 16-bit units and 8-bit units of the same numbers give, in each reader without a handler.
+///
+/// - A text has exactly one outcome there: what is read, with each slice by the numbers of its units, or an error.
+/// - On numbers from 1 to 126 the two widths have the same outcome.
+/// - With any other number 16-bit units have an error: `NonAsciiCodePoint`, or the one that 8-bit units have where 128 stands
+///   in the place of each such number.
+pub fn widths_agree()
+    ensures one { OnePlainOutcome }
+    ensures same { SameWhereShared }
+    ensures fault { FaultWhereNotShared }
 {}
 
 /// Where [`Fraction::to_nanoseconds`] returns `Some`, [`Fraction::to_truncated_nanoseconds`] returns the same number.
@@ -67,6 +105,9 @@ where
     ensures full_offset { IsEqualityBy (λ it. it) ⟦<FullPrecisionOffset as PartialEq>⟧.eq }
     ensures offset { IsEqualityBy (λ it. it) ⟦<UtcOffsetRecord as PartialEq>⟧.eq }
     ensures offset_or_z { IsEqualityBy (λ it. it) ⟦<UtcOffsetRecordOrZ as PartialEq>⟧.eq }
+    ensures duration { IsEqualityBy (λ it. it) ⟦<DurationParseRecord as PartialEq>⟧.eq }
+    ensures date_duration { IsEqualityBy (λ it. it) ⟦<DateDurationRecord as PartialEq>⟧.eq }
+    ensures time_duration { IsEqualityBy (λ it. it) ⟦<TimeDurationRecord as PartialEq>⟧.eq }
     ensures error { IsEqualityBy fault_of ⟦<ParseError as PartialEq>⟧.eq }
 {}
 
@@ -96,6 +137,12 @@ where
         ⟦<UtcOffsetRecord as Clone>⟧.is_infallible }
     ensures offset_or_z { ClonesAreEqual ⟦<UtcOffsetRecordOrZ as Clone>⟧.is_clone
         ⟦<UtcOffsetRecordOrZ as Clone>⟧.is_infallible }
+    ensures duration { ClonesAreEqual ⟦<DurationParseRecord as Clone>⟧.is_clone
+        ⟦<DurationParseRecord as Clone>⟧.is_infallible }
+    ensures date_duration { ClonesAreEqual ⟦<DateDurationRecord as Clone>⟧.is_clone
+        ⟦<DateDurationRecord as Clone>⟧.is_infallible }
+    ensures time_duration { ClonesAreEqual ⟦<TimeDurationRecord as Clone>⟧.is_clone
+        ⟦<TimeDurationRecord as Clone>⟧.is_infallible }
     ensures error { ClonesAreEqual ⟦<ParseError as Clone>⟧.is_clone
         ⟦<ParseError as Clone>⟧.is_infallible }
 {}
@@ -120,6 +167,10 @@ where
     ensures duplicate { IfErr result (λ e. fault_of e ≢ CriticalDuplicateCalendar) }
 
     ensures handled { Handled T.number F.step handler reader_parse (map T.letter parser.old.rest)
+        (returned (parsed_of T.number) result) }
+    ensures no_row { OnOk result (NoRowFits reader_parse (map T.letter parser.old.rest)) }
+    ensures alone { OnOk result (InNoOther reader_parse (map T.letter parser.old.rest)) }
+    ensures only { HandledOnly T.number F.step handler reader_parse (map T.letter parser.old.rest)
         (returned (parsed_of T.number) result) }
     ensures comes { IfErr result (λ e. IsFalse (never_comes (fault_of e))) }
     ensures empty { OnOk result (parser.new.rest ≡ []) }
@@ -146,6 +197,10 @@ where
     ensures duplicate { IfErr result (λ e. E.fault e ≢ CriticalDuplicateCalendar) }
 
     ensures handled { Handled T.number F.step handler reader_parse (map T.letter parser.old.rest)
+        (returned_by E.fault (parsed_of T.number) result) }
+    ensures no_row { OnOk result (NoRowFits reader_parse (map T.letter parser.old.rest)) }
+    ensures alone { OnOk result (InNoOther reader_parse (map T.letter parser.old.rest)) }
+    ensures only { HandledOnly T.number F.step handler reader_parse (map T.letter parser.old.rest)
         (returned_by E.fault (parsed_of T.number) result) }
     ensures comes { IfErr result (λ e. IsFalse (never_comes (E.fault e))) }
     ensures empty { OnOk result (parser.new.rest ≡ []) }

@@ -1,11 +1,12 @@
 //! A reader of the Internet Extended Date/Time Format (RFC 9557), proved.
 //!
-//! At this stage [`parsers::IxdtfParser::parse`] reads a date, or a date and a time with its offset, and what stands in
+//! [`parsers::IxdtfParser::parse`] reads a date, or a date and a time with its offset, and what stands in
 //! brackets after it, of 8-bit or of 16-bit units: the forms of RFC 3339, the shorter ones that ISO 8601 has, and
 //! `suffix` of RFC 9557, section 4.1, which is a time zone and annotations of a key and a value, as `[u-ca=hebrew]`.
 //! `parse_year_month`, `parse_month_day` and `parse_time` of the same parser read a year and a month, a month and a day, and a
 //! time alone, with the same brackets. Each has a form `.._with_annotation_handler`, which asks the caller about each annotation.
-//! [`parsers::TimeZoneParser`] reads a text that is an offset, a time zone or the name of one alone.
+//! [`parsers::TimeZoneParser`] reads a text that is an offset, a time zone or the name of one alone, and
+//! [`parsers::IsoDurationParser`] one that is a duration, as `P1Y2M3DT4H`.
 //!
 //! Each reader accepts every text of the grammar and no other, but for those with a reply to an annotation that is refused.
 //! It refuses any other text with an error that the fault table has for it, or with that of the refused reply. It takes no
@@ -26,6 +27,7 @@ pub mod encoding;
 mod error;
 pub mod laws;
 mod looks;
+mod packed;
 pub mod parsers;
 pub mod records;
 mod stop;

@@ -1,4 +1,5 @@
-//! The readers: [`IxdtfParser`] of dates and times, and [`TimeZoneParser`] of offsets and zones alone.
+//! The readers: [`IxdtfParser`] of dates and times, [`TimeZoneParser`] of offsets and zones alone, and [`IsoDurationParser`]
+//! of durations.
 //!
 //! A reader takes the whole of its source or refuses it: `Ok` comes exactly where the grammar (`docs/GRAMMAR.md`) has the
 //! source and no reply to an annotation is refused, and an error only where a row of the fault table (`docs/FAULTS.md`) with
@@ -6,11 +7,13 @@
 
 ghost use Rattle.std.specs.Prelude.{◌≡◌, ◌↔◌, ◌+◌, ◌≤◌, [], map, Ok, None, OnOk, OnErr, IfErr, IsFalse};
 ghost use Rattle.ixdtf.specs.table.Faults.{fault_of, never_comes};
+ghost use Rattle.ixdtf.specs.table.Outcomes.{NoRowFits};
 ghost use Rattle.ixdtf.specs.language.Readers.{parse as reader_parse, parse_year_month as reader_parse_year_month};
 ghost use Rattle.ixdtf.specs.language.Readers.{parse_month_day as reader_parse_month_day, parse_time as reader_parse_time};
 ghost use Rattle.ixdtf.specs.language.Readers.Reader.{bracketed};
 ghost use Rattle.ixdtf.specs.language.Languages.{Parsed};
-ghost use Rattle.ixdtf.specs.Handlers.{Handled, PlainRecord, PlainFault};
+ghost use Rattle.ixdtf.specs.Handlers.{Handled, HandledOnly, PlainRecord, PlainFault, PlainOnlyFault};
+ghost use Rattle.ixdtf.specs.Laws.{InNoOther};
 ghost use Rattle.ixdtf.specs.Views.{Unread, returned, returned_by, parsed_of, most_looks};
 ghost use Rattle.ixdtf.specs.reading.Clauses.{yielded, fault_of_stop};
 
@@ -18,6 +21,7 @@ mod annotations;
 mod brackets;
 mod cores;
 mod dates;
+mod duration;
 mod grammar;
 mod letters;
 mod months;
@@ -29,6 +33,7 @@ mod zones;
 
 pub(crate) use self::cores::DateTimes;
 use self::cores::{Cores, LoneTimes, MonthDays, YearMonths};
+pub use self::duration::IsoDurationParser;
 use self::texts::parse_text;
 pub use self::zones::TimeZoneParser;
 use crate::cursor::Cursor;
@@ -155,6 +160,7 @@ impl<'a, T: EncodingType> IxdtfParser<'a, T> {
     ///   two is critical; nothing after this annotation counts then;
     /// - `InvalidEnd` at any other letter after a date, a time, an offset or a bracket;
     /// - `NonAsciiCodePoint` at a unit that stands for no letter, which no 8-bit unit does.
+    #[inline(always)]
     pub fn parse(&mut self) -> ParserResult<IxdtfParseRecord<'a, T>>
         // `Ok` exactly with the record that the text gives, where each pair replies for itself.
         ensures ok { (p : Parsed) → (returned (parsed_of T.number) result ≡ Ok p) ↔
@@ -162,6 +168,13 @@ impl<'a, T: EncodingType> IxdtfParser<'a, T> {
         // `Err` only with a fault that it gives so.
         ensures err { IfErr result
             (λ e. PlainFault reader_parse (map T.letter self.old.rest) (fault_of e)) }
+
+        // `Ok` only where no row of the fault table fits, and where no other reader of dates, times and durations has the text.
+        ensures no_row { OnOk result (NoRowFits reader_parse (map T.letter self.old.rest)) }
+        ensures alone { OnOk result (InNoOther reader_parse (map T.letter self.old.rest)) }
+        // `Err` only with the one fault that it gives: that of the last pair, which is refused, or of the only row that fits.
+        ensures only { IfErr result
+            (λ e. PlainOnlyFault reader_parse (map T.letter self.old.rest) (fault_of e)) }
 
         // None of the errors that no reader gives.
         ensures comes { IfErr result (λ e. IsFalse (never_comes (fault_of e))) }
@@ -216,6 +229,14 @@ impl<'a, T: EncodingType> IxdtfParser<'a, T> {
         ensures handled { Handled T.number F.step handler reader_parse (map T.letter self.old.rest)
             (returned (parsed_of T.number) result) }
 
+        // `Ok` only where no row of the fault table fits, and where no other reader of dates, times and durations has the text.
+        ensures no_row { OnOk result (NoRowFits reader_parse (map T.letter self.old.rest)) }
+        ensures alone { OnOk result (InNoOther reader_parse (map T.letter self.old.rest)) }
+        // For the one chain of its calls: all that `handled` says, and `Err` only with the one fault that the text and the
+        // replies give.
+        ensures only { HandledOnly T.number F.step handler reader_parse (map T.letter self.old.rest)
+            (returned (parsed_of T.number) result) }
+
         // None of the errors that no reader gives.
         ensures comes { IfErr result (λ e. IsFalse (never_comes (fault_of e))) }
 
@@ -255,6 +276,7 @@ impl<'a, T: EncodingType> IxdtfParser<'a, T> {
     /// - `InvalidMonthRange` where the month is not from 1 to 12, and `DateExtendedYear` for the year `-000000`;
     /// - `InvalidEnd` at any other letter after the month;
     /// - `NonAsciiCodePoint` at a unit that stands for no letter, which no 8-bit unit does.
+    #[inline(always)]
     pub fn parse_year_month(&mut self) -> ParserResult<IxdtfParseRecord<'a, T>>
         // `Ok` exactly with the record that the text gives, where each pair replies for itself.
         ensures ok { (p : Parsed) → (returned (parsed_of T.number) result ≡ Ok p) ↔
@@ -262,6 +284,13 @@ impl<'a, T: EncodingType> IxdtfParser<'a, T> {
         // `Err` only with a fault that it gives so.
         ensures err { IfErr result
             (λ e. PlainFault reader_parse_year_month (map T.letter self.old.rest) (fault_of e)) }
+
+        // `Ok` only where no row of the fault table fits, and where no other reader of dates, times and durations has the text.
+        ensures no_row { OnOk result (NoRowFits reader_parse_year_month (map T.letter self.old.rest)) }
+        ensures alone { OnOk result (InNoOther reader_parse_year_month (map T.letter self.old.rest)) }
+        // `Err` only with the one fault that it gives: that of the last pair, which is refused, or of the only row that fits.
+        ensures only { IfErr result
+            (λ e. PlainOnlyFault reader_parse_year_month (map T.letter self.old.rest) (fault_of e)) }
 
         // None of the errors that no reader gives.
         ensures comes { IfErr result (λ e. IsFalse (never_comes (fault_of e))) }
@@ -297,6 +326,14 @@ impl<'a, T: EncodingType> IxdtfParser<'a, T> {
         // For the one chain of its calls: `Ok` exactly with the record, and `Err` only with a fault, that the text and the
         // replies give.
         ensures handled { Handled T.number F.step handler reader_parse_year_month (map T.letter self.old.rest)
+            (returned (parsed_of T.number) result) }
+
+        // `Ok` only where no row of the fault table fits, and where no other reader of dates, times and durations has the text.
+        ensures no_row { OnOk result (NoRowFits reader_parse_year_month (map T.letter self.old.rest)) }
+        ensures alone { OnOk result (InNoOther reader_parse_year_month (map T.letter self.old.rest)) }
+        // For the one chain of its calls: all that `handled` says, and `Err` only with the one fault that the text and the
+        // replies give.
+        ensures only { HandledOnly T.number F.step handler reader_parse_year_month (map T.letter self.old.rest)
             (returned (parsed_of T.number) result) }
 
         // None of the errors that no reader gives.
@@ -341,6 +378,7 @@ impl<'a, T: EncodingType> IxdtfParser<'a, T> {
     /// - `InvalidMonthDay` where the month has the day in no year;
     /// - `InvalidEnd` at any other letter after the day;
     /// - `NonAsciiCodePoint` at a unit that stands for no letter, which no 8-bit unit does.
+    #[inline(always)]
     pub fn parse_month_day(&mut self) -> ParserResult<IxdtfParseRecord<'a, T>>
         // `Ok` exactly with the record that the text gives, where each pair replies for itself.
         ensures ok { (p : Parsed) → (returned (parsed_of T.number) result ≡ Ok p) ↔
@@ -348,6 +386,13 @@ impl<'a, T: EncodingType> IxdtfParser<'a, T> {
         // `Err` only with a fault that it gives so.
         ensures err { IfErr result
             (λ e. PlainFault reader_parse_month_day (map T.letter self.old.rest) (fault_of e)) }
+
+        // `Ok` only where no row of the fault table fits, and where no other reader of dates, times and durations has the text.
+        ensures no_row { OnOk result (NoRowFits reader_parse_month_day (map T.letter self.old.rest)) }
+        ensures alone { OnOk result (InNoOther reader_parse_month_day (map T.letter self.old.rest)) }
+        // `Err` only with the one fault that it gives: that of the last pair, which is refused, or of the only row that fits.
+        ensures only { IfErr result
+            (λ e. PlainOnlyFault reader_parse_month_day (map T.letter self.old.rest) (fault_of e)) }
 
         // None of the errors that no reader gives.
         ensures comes { IfErr result (λ e. IsFalse (never_comes (fault_of e))) }
@@ -383,6 +428,14 @@ impl<'a, T: EncodingType> IxdtfParser<'a, T> {
         // For the one chain of its calls: `Ok` exactly with the record, and `Err` only with a fault, that the text and the
         // replies give.
         ensures handled { Handled T.number F.step handler reader_parse_month_day (map T.letter self.old.rest)
+            (returned (parsed_of T.number) result) }
+
+        // `Ok` only where no row of the fault table fits, and where no other reader of dates, times and durations has the text.
+        ensures no_row { OnOk result (NoRowFits reader_parse_month_day (map T.letter self.old.rest)) }
+        ensures alone { OnOk result (InNoOther reader_parse_month_day (map T.letter self.old.rest)) }
+        // For the one chain of its calls: all that `handled` says, and `Err` only with the one fault that the text and the
+        // replies give.
+        ensures only { HandledOnly T.number F.step handler reader_parse_month_day (map T.letter self.old.rest)
             (returned (parsed_of T.number) result) }
 
         // None of the errors that no reader gives.
@@ -427,6 +480,7 @@ impl<'a, T: EncodingType> IxdtfParser<'a, T> {
     /// - `AmbiguousTimeMonthDay` where a text that does not begin with `T` or `t` begins as a month and a day do, and
     ///   `AmbiguousTimeYearMonth` where it begins as a year and a month do, and not as a month and a day; both only where the
     ///   source ends after the time and its offset, or `[` follows, and before anything in a bracket is looked at.
+    #[inline(always)]
     pub fn parse_time(&mut self) -> ParserResult<IxdtfParseRecord<'a, T>>
         // `Ok` exactly with the record that the text gives, where each pair replies for itself.
         ensures ok { (p : Parsed) → (returned (parsed_of T.number) result ≡ Ok p) ↔
@@ -434,6 +488,13 @@ impl<'a, T: EncodingType> IxdtfParser<'a, T> {
         // `Err` only with a fault that it gives so.
         ensures err { IfErr result
             (λ e. PlainFault reader_parse_time (map T.letter self.old.rest) (fault_of e)) }
+
+        // `Ok` only where no row of the fault table fits, and where no other reader of dates, times and durations has the text.
+        ensures no_row { OnOk result (NoRowFits reader_parse_time (map T.letter self.old.rest)) }
+        ensures alone { OnOk result (InNoOther reader_parse_time (map T.letter self.old.rest)) }
+        // `Err` only with the one fault that it gives: that of the last pair, which is refused, or of the only row that fits.
+        ensures only { IfErr result
+            (λ e. PlainOnlyFault reader_parse_time (map T.letter self.old.rest) (fault_of e)) }
 
         // None of the errors that no reader gives.
         ensures comes { IfErr result (λ e. IsFalse (never_comes (fault_of e))) }
@@ -471,6 +532,14 @@ impl<'a, T: EncodingType> IxdtfParser<'a, T> {
         ensures handled { Handled T.number F.step handler reader_parse_time (map T.letter self.old.rest)
             (returned (parsed_of T.number) result) }
 
+        // `Ok` only where no row of the fault table fits, and where no other reader of dates, times and durations has the text.
+        ensures no_row { OnOk result (NoRowFits reader_parse_time (map T.letter self.old.rest)) }
+        ensures alone { OnOk result (InNoOther reader_parse_time (map T.letter self.old.rest)) }
+        // For the one chain of its calls: all that `handled` says, and `Err` only with the one fault that the text and the
+        // replies give.
+        ensures only { HandledOnly T.number F.step handler reader_parse_time (map T.letter self.old.rest)
+            (returned (parsed_of T.number) result) }
+
         // None of the errors that no reader gives.
         ensures comes { IfErr result (λ e. IsFalse (never_comes (fault_of e))) }
 
@@ -497,6 +566,14 @@ impl<'a, T: EncodingType> IxdtfParser<'a, T> {
         // For the one chain of its calls: `Ok` exactly with the record, and `Err` only with a fault, that the text and the
         // replies give.
         ensures handled { Handled T.number F.step handler (bracketed C.kind) (map T.letter self.old.rest)
+            (returned_by E.fault (parsed_of T.number) result) }
+
+        // `Ok` only where no row of the fault table fits, and where no other reader of dates, times and durations has the text.
+        ensures no_row { OnOk result (NoRowFits (bracketed C.kind) (map T.letter self.old.rest)) }
+        ensures alone { OnOk result (InNoOther (bracketed C.kind) (map T.letter self.old.rest)) }
+        // For the one chain of its calls: all that `handled` says, and `Err` only with the one fault that the text and the
+        // replies give.
+        ensures only { HandledOnly T.number F.step handler (bracketed C.kind) (map T.letter self.old.rest)
             (returned_by E.fault (parsed_of T.number) result) }
 
         // None of the errors that no reader gives.

@@ -1,9 +1,10 @@
-//! The records that the readers return: dates, times, offsets, time zones and fractions of a second.
+//! The records that the readers return: dates, times, offsets, time zones, durations and fractions.
 
 ghost use Rattle.std.specs.Prelude.{◌≡◌, ◌+◌, ◌-◌, ◌*◌, ◌<◌, ◌≤◌, ◌^◌, min, IfSome};
 ghost use Rattle.ixdtf.specs.language.Fractions.{FractionParts, exact_nanoseconds_of, nanoseconds_of};
 
 use crate::encoding::EncodingType;
+use crate::packed::PackedNumber;
 use std::marker::Model;
 
 /// What a reader found in a text: each part that stood there, and `None` for each part that did not.
@@ -275,14 +276,74 @@ impl UtcOffsetRecordOrZ {
     }
 }
 
-/// A fraction of a second (`time-secfrac` of RFC 3339, section 5.6): the digits behind a `.` or a `,`.
+/// A duration (`Duration` of the Temporal grammar; ISO 8601, section 5.5.2), in the units that it was written in: no unit
+/// is carried over to another.
+#[derive(Clone, Copy, Debug, PartialEq)]
+pub struct DurationParseRecord {
+    /// `Negative` exactly where the text begins with a `-`. The sign is that of the whole duration.
+    pub sign: Sign,
+    /// The years, months, weeks and days (`DurationDate`), or `None` where `T` stands right behind `P`.
+    pub date: Option<DateDurationRecord>,
+    /// The hours, minutes and seconds (`DurationTime`), or `None` where there is no `T`.
+    pub time: Option<TimeDurationRecord>,
+}
+
+/// The date units of a duration (`DurationDate` of the Temporal grammar; ISO 8601, section 5.5.2). A unit that the text
+/// leaves out is zero, and of a unit that it repeats this is the last number.
+#[derive(Clone, Copy, Debug, Default, PartialEq)]
+pub struct DateDurationRecord {
+    /// The years (`Y`).
+    pub years: u32,
+    /// The months (`M`).
+    pub months: u32,
+    /// The weeks (`W`).
+    pub weeks: u32,
+    /// The days (`D`).
+    pub days: u64,
+}
+
+/// The time units of a duration (`DurationTime` of the Temporal grammar; ISO 8601, section 5.5.2), by the last unit that
+/// stands in the text. A unit that the text leaves out is zero, and of a unit that it repeats this is the last number.
+#[derive(Clone, Copy, Debug, PartialEq)]
+pub enum TimeDurationRecord {
+    /// The last unit is hours.
+    Hours {
+        /// The hours (`H`).
+        hours: u64,
+        /// The part of an hour beyond `hours`, or `None` where no digits follow.
+        fraction: Option<Fraction>,
+    },
+    /// The last unit is minutes.
+    Minutes {
+        /// The hours (`H`).
+        hours: u64,
+        /// The minutes (`M`).
+        minutes: u64,
+        /// The part of a minute beyond `minutes`, or `None` where no digits follow.
+        fraction: Option<Fraction>,
+    },
+    /// The last unit is seconds.
+    Seconds {
+        /// The hours (`H`).
+        hours: u64,
+        /// The minutes (`M`).
+        minutes: u64,
+        /// The seconds (`S`).
+        seconds: u64,
+        /// The part of a second beyond `seconds`, or `None` where no digits follow.
+        fraction: Option<Fraction>,
+    },
+}
+
+/// A fraction of a second (`time-secfrac` of RFC 3339, section 5.6), or of the last unit of a duration: the digits behind a
+/// `.` or a `,`. Of an hour or a minute, what its calls name nanoseconds are billionths of it.
 ///
 /// It keeps how many digits there were, up to 255, and the number of the first 18 of them, or of all where there are
 /// fewer. So `.1` and `.10` are two fractions, and digits behind the eighteenth are only counted.
 #[derive(Clone, Copy, Debug, PartialEq)]
 pub struct Fraction {
     digits: u8,
-    value: u64,
+    value: PackedNumber,
 }
 
 impl Model for Fraction {
@@ -295,6 +356,9 @@ impl Model for Fraction {
     ghost inverse = { λ p. record { digits = p.count; value = p.value } };
 }
 
+// A time and an offset have a fraction each, and a record with both is copied without a call while it is short.
+const _: () = prove!(size_of::<Fraction>() == 9);
+
 impl Fraction {
     /// The fraction of one digit, an ASCII byte.
     pub(crate) fn start(digit: u8) -> Fraction
@@ -303,7 +367,7 @@ impl Fraction {
     {
         Fraction {
             digits: 1,
-            value: u64::from(digit - b'0'),
+            value: PackedNumber::of(u64::from(digit - b'0')),
         }
     }
 
@@ -314,10 +378,11 @@ impl Fraction {
         ensures grows { self.count < 18 → result.value ≡ self.value * 10 + (digit - 48) }
         ensures stays { 18 ≤ self.count → result.value ≡ self.value }
     {
+        let value = self.value.number();
         Fraction {
             digits: self.digits.saturating_add(1),
             value: if self.digits < 18 {
-                self.value * 10 + u64::from(digit - b'0')
+                PackedNumber::of(value * 10 + u64::from(digit - b'0'))
             } else {
                 self.value
             },
@@ -343,10 +408,11 @@ impl Fraction {
         ensures value { result ≡ nanoseconds_of self.now }
         ensures small { result < 10 ^ 9 }
     {
+        let value = self.value.number();
         if self.digits <= 9 {
-            (self.value * 10u64.pow(u32::from(9 - self.digits))) as u32
+            (value * 10u64.pow(u32::from(9 - self.digits))) as u32
         } else {
-            (self.value / 10u64.pow(u32::from(self.digits.min(18) - 9))) as u32
+            (value / 10u64.pow(u32::from(self.digits.min(18) - 9))) as u32
         }
     }
 }

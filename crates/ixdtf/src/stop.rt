@@ -48,12 +48,21 @@ pub enum Stop {
     InvalidMonthDay,
     AmbiguousTimeMonthDay,
     AmbiguousTimeYearMonth,
+    AbruptDurationStart,
+    AbruptDurationDesignator,
+    AbruptDuration,
+    AbruptDateDesignator,
+    AbruptTimeDesignator,
+    DurationDisgnator,
+    DurationValueExceededRange,
+    DateDurationPartOrder,
+    TimeDurationPartOrder,
+    TimeDurationDesignator,
 }
 
 impl Stop {
-    /// The error of it.
-    #[cold]
-    #[inline(never)]
+    /// The error of it. It is inlined, so that a reader of records makes no call for it.
+    #[inline(always)]
     #[rattlefmt::skip]
     pub fn error(self) -> ParseError
         ensures { fault_of result ≡ fault_of_stop self }
@@ -97,6 +106,16 @@ impl Stop {
             Stop::InvalidMonthDay => ParseError::InvalidMonthDay,
             Stop::AmbiguousTimeMonthDay => ParseError::AmbiguousTimeMonthDay,
             Stop::AmbiguousTimeYearMonth => ParseError::AmbiguousTimeYearMonth,
+            Stop::AbruptDurationStart => ParseError::AbruptEnd { location: "DurationStart" },
+            Stop::AbruptDurationDesignator => ParseError::AbruptEnd { location: "DurationDesignator" },
+            Stop::AbruptDuration => ParseError::AbruptEnd { location: "Duration" },
+            Stop::AbruptDateDesignator => ParseError::AbruptEnd { location: "DateDurationDesignator" },
+            Stop::AbruptTimeDesignator => ParseError::AbruptEnd { location: "TimeDurationDesignator" },
+            Stop::DurationDisgnator => ParseError::DurationDisgnator,
+            Stop::DurationValueExceededRange => ParseError::DurationValueExceededRange,
+            Stop::DateDurationPartOrder => ParseError::DateDurationPartOrder,
+            Stop::TimeDurationPartOrder => ParseError::TimeDurationPartOrder,
+            Stop::TimeDurationDesignator => ParseError::TimeDurationDesignator,
         }
     }
 }
@@ -121,7 +140,9 @@ impl Raised for ParseError {
 
     ghost fault = { fault_of };
 
-    #[inline(always)]
+    /// The error of the stop. It is not inlined, so that a loop over a name keeps to itself.
+    #[cold]
+    #[inline(never)]
     fn of_stop(stop: Stop) -> ParseError {
         stop.error()
     }

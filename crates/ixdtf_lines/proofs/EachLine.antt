@@ -4,10 +4,10 @@ use Rattle.std.proofs.lemmas.Slice.Eq.{bytes_eq-Decides}
 use Rattle.std.specs.Bool.{MatchBool}
 use Rattle.std.specs.Str.{bytes_eq}
 use Rattle.ixdtf.specs.language.Languages.{Found}
-use Rattle.ixdtf.specs.language.Languages.Found.{parsed, shifted, identified, named}
+use Rattle.ixdtf.specs.language.Languages.Found.{parsed, shifted, identified, named, lasting}
 use Rattle.ixdtf.specs.language.Letters.{Text}
 use Rattle.ixdtf.specs.language.Readers.{Reader}
-use Rattle.ixdtf.specs.language.Readers.Reader.{bracketed, parse_offset, parse_identifier, parse_iana_identifier}
+use Rattle.ixdtf.specs.language.Readers.Reader.{bracketed, parse_offset, parse_identifier, parse_iana_identifier, parse_duration}
 use Rattle.ixdtf.specs.table.Faults.{Fault}
 use Rattle.ixdtf.specs.table.Outcomes.{Outcome, Holds}
 use Rattle.ixdtf.specs.table.Outcomes.Outcome.{derived, refused}
@@ -18,7 +18,7 @@ use Rattle.ixdtf_lines.specs.Lines.{newline}
 use Rattle.ixdtf_lines.specs.Run.{AreAnswers}
 use Rattle.ixdtf_lines.specs.Word.{name_of, reader_of, IsNoWord}
 use Rattle.ixdtf_lines.specs.declared.word.Word.{Word}
-use Rattle.ixdtf_lines.specs.declared.word.Word.TheVariants.{Parse, YearMonth, MonthDay, Time, Offset, Zone, Iana}
+use Rattle.ixdtf_lines.specs.declared.word.Word.TheVariants.{Parse, YearMonth, MonthDay, Time, Offset, Zone, Iana, Duration}
 
 -- ---- each text has an outcome
 
@@ -30,6 +30,7 @@ offset_outcome text (derived (parsed read) pairs) d = absurd d
 offset_outcome text (derived (shifted offset) pairs) d = inl (shifted offset, (d.0, refl))
 offset_outcome text (derived (identified zone) pairs) d = absurd d
 offset_outcome text (derived (named name) pairs) d = absurd d
+offset_outcome text (derived (lasting duration) pairs) d = absurd d
 offset_outcome text (refused row pairs) fits = inr (row.error, (row, rw fits.3.1 at fits, refl))
 
 zone_outcome : (text : Text) (x : Outcome) → Holds parse_identifier text x → HasOutcome parse_identifier text
@@ -37,6 +38,7 @@ zone_outcome text (derived (parsed read) pairs) d = absurd d
 zone_outcome text (derived (shifted offset) pairs) d = absurd d
 zone_outcome text (derived (identified zone) pairs) d = inl (identified zone, (d.0, refl))
 zone_outcome text (derived (named name) pairs) d = absurd d
+zone_outcome text (derived (lasting duration) pairs) d = absurd d
 zone_outcome text (refused row pairs) fits = inr (row.error, (row, rw fits.3.1 at fits, refl))
 
 name_outcome : (text : Text) (x : Outcome) → Holds parse_iana_identifier text x → HasOutcome parse_iana_identifier text
@@ -44,13 +46,23 @@ name_outcome text (derived (parsed read) pairs) d = absurd d
 name_outcome text (derived (shifted offset) pairs) d = absurd d
 name_outcome text (derived (identified zone) pairs) d = absurd d
 name_outcome text (derived (named name) pairs) d = inl (named name, (d.0, refl))
+name_outcome text (derived (lasting duration) pairs) d = absurd d
 name_outcome text (refused row pairs) fits = inr (row.error, (row, rw fits.3.1 at fits, refl))
+
+duration_outcome : (text : Text) (x : Outcome) → Holds parse_duration text x → HasOutcome parse_duration text
+duration_outcome text (derived (parsed read) pairs) d = absurd d
+duration_outcome text (derived (shifted offset) pairs) d = absurd d
+duration_outcome text (derived (identified zone) pairs) d = absurd d
+duration_outcome text (derived (named name) pairs) d = absurd d
+duration_outcome text (derived (lasting duration) pairs) d = inl (lasting duration, (d.0, refl))
+duration_outcome text (refused row pairs) fits = inr (row.error, (row, rw fits.3.1 at fits, refl))
 
 each_outcome : (reader : Reader) (text : Text) → HasOutcome reader text
 each_outcome (bracketed kind) text = elim (plain_outcome kind text) [ inl p ↦ inl (parsed p.0, p.1) | inr p ↦ inr (p.0, p.1) ]
 each_outcome parse_offset text = let one = one_outcome parse_offset text in offset_outcome text one.0 one.1
 each_outcome parse_identifier text = let one = one_outcome parse_identifier text in zone_outcome text one.0 one.1
 each_outcome parse_iana_identifier text = let one = one_outcome parse_iana_identifier text in name_outcome text one.0 one.1
+each_outcome parse_duration text = let one = one_outcome parse_duration text in duration_outcome text one.0 one.1
 
 -- ---- each line has an answer
 
@@ -73,11 +85,11 @@ word_among name (word ∷ words) = elim (same_bytes name (name_of word)) [
 ]
 
 abbrev all_words : List Word
-all_words = Parse ∷ YearMonth ∷ MonthDay ∷ Time ∷ Offset ∷ Zone ∷ Iana ∷ []
+all_words = Parse ∷ YearMonth ∷ MonthDay ∷ Time ∷ Offset ∷ Zone ∷ Iana ∷ Duration ∷ []
 
 no_word : (name : List ℕ) → NoneOf name all_words → IsNoWord name
-no_word name (a, (b, (c, (d, (e, (f, (g, end))))))) =
-    elim [ Parse ↦ a | YearMonth ↦ b | MonthDay ↦ c | Time ↦ d | Offset ↦ e | Zone ↦ f | Iana ↦ g ]
+no_word name (a, (b, (c, (d, (e, (f, (g, (h, end)))))))) =
+    elim [ Parse ↦ a | YearMonth ↦ b | MonthDay ↦ c | Time ↦ d | Offset ↦ e | Zone ↦ f | Iana ↦ g | Duration ↦ h ]
 
 word_or_none : (name : List ℕ) → ((word : Word) × (name ≡ name_of word)) ⊎ IsNoWord name
 word_or_none name = elim (word_among name all_words) [ inl p ↦ inl p | inr none ↦ inr (no_word name none) ]

@@ -6,10 +6,10 @@ use Rattle.ixdtf.specs.table.Faults.{Fault}
 use Rattle.ixdtf.specs.Handlers.{PlainRecord, PlainFault}
 use Rattle.ixdtf.specs.language.Languages.{Found, Derives}
 use Rattle.ixdtf.specs.table.Outcomes.{HasFault}
-use Rattle.ixdtf.specs.language.Languages.Found.{parsed, shifted, identified, named}
+use Rattle.ixdtf.specs.language.Languages.Found.{parsed, shifted, identified, named, lasting}
 use Rattle.ixdtf.specs.language.Letters.{Text, byte_letter}
 use Rattle.ixdtf.specs.language.Readers.{Reader}
-use Rattle.ixdtf.specs.language.Readers.Reader.{bracketed, parse_offset, parse_identifier, parse_iana_identifier}
+use Rattle.ixdtf.specs.language.Readers.Reader.{bracketed, parse_offset, parse_identifier, parse_iana_identifier, parse_duration}
 use Rattle.ixdtf_lines.specs.Fields.{fields_of}
 use Rattle.ixdtf_lines.specs.Word.{name_of, reader_of, IsNoWord}
 use Rattle.ixdtf_lines.specs.declared.word.Word.{Word}
@@ -46,9 +46,11 @@ Gives (bracketed kind) text (parsed found) = PlainRecord (bracketed kind) text f
 Gives (bracketed kind) text (shifted offset) = ⊥
 Gives (bracketed kind) text (identified zone) = ⊥
 Gives (bracketed kind) text (named name) = ⊥
+Gives (bracketed kind) text (lasting duration) = ⊥
 Gives parse_offset text found = Derives parse_offset text found []
 Gives parse_identifier text found = Derives parse_identifier text found []
 Gives parse_iana_identifier text found = Derives parse_iana_identifier text found []
+Gives parse_duration text found = Derives parse_duration text found []
 
 -- the reader refuses the text with the fault: one with brackets with one that the text gives, where each pair is its own reply, and
 -- each other reader with one that the text has, with no pairs
@@ -57,6 +59,7 @@ Refuses (bracketed kind) text fault = PlainFault (bracketed kind) text fault
 Refuses parse_offset text fault = HasFault parse_offset text [] fault
 Refuses parse_identifier text fault = HasFault parse_identifier text [] fault
 Refuses parse_iana_identifier text fault = HasFault parse_iana_identifier text [] fault
+Refuses parse_duration text fault = HasFault parse_duration text [] fault
 
 -- the answer of a reader, to which the text gives a value, or which refuses the text
 abbrev pub IsOutcome : Reader → List ℕ → List ℕ → Type 0

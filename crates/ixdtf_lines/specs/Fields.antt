@@ -1,11 +1,15 @@
 -- The fields of what a reader derives, each after a space.
 use Rattle.std.specs.Prelude.{ℕ, Bool, true, false, List, [], ◌∷◌, ◌++◌, map, Option, Some, None, codes}
 use Rattle.std.specs.Fmt.{decimal, signed_decimal}
+use Rattle.ixdtf.specs.declared.records.DateDurationRecord.{DateDurationRecord}
 use Rattle.ixdtf.specs.declared.records.DateRecord.{DateRecord}
+use Rattle.ixdtf.specs.declared.records.DurationParseRecord.{DurationParseRecord}
 use Rattle.ixdtf.specs.declared.records.FullPrecisionOffset.{FullPrecisionOffset}
 use Rattle.ixdtf.specs.declared.records.MinutePrecisionOffset.{MinutePrecisionOffset}
 use Rattle.ixdtf.specs.declared.records.Sign.{Sign}
 use Rattle.ixdtf.specs.declared.records.Sign.TheVariants.{Negative, Positive}
+use Rattle.ixdtf.specs.declared.records.TimeDurationRecord.{TimeDurationRecord}
+use Rattle.ixdtf.specs.declared.records.TimeDurationRecord.TheVariants.{Hours, Minutes, Seconds}
 use Rattle.ixdtf.specs.declared.records.TimeRecord.{TimeRecord}
 use Rattle.ixdtf.specs.declared.records.UtcOffsetRecord.{UtcOffsetRecord}
 use Rattle.ixdtf.specs.declared.records.UtcOffsetRecord.TheVariants as offsets
@@ -17,7 +21,7 @@ use Rattle.ixdtf.specs.language.Brackets.{ZoneNote}
 use Rattle.ixdtf.specs.language.Letters.{Letter}
 use Rattle.ixdtf.specs.language.Letters.Letter.{Plain, Bad}
 use Rattle.ixdtf.specs.language.Languages.{Parsed, Found}
-use Rattle.ixdtf.specs.language.Languages.Found.{parsed, shifted, identified, named}
+use Rattle.ixdtf.specs.language.Languages.Found.{parsed, shifted, identified, named, lasting}
 use Rattle.ixdtf.specs.language.ZoneNames.{Zone}
 use Rattle.ixdtf.specs.language.ZoneNames.Zone.{Name, Offset}
 
@@ -134,9 +138,48 @@ abbrev pub record_fields_of : Parsed → List ℕ
 record_fields_of found =
     date_field_of found.date ++ (time_field_of found.time ++ (offset_field_of found.offset ++ (zone_field_of found.zone ++ calendar_field_of found.calendar)))
 
+-- the sign of a duration, which always stands
+abbrev pub sign_field_of : Sign → List ℕ
+sign_field_of sign = codes " sign=" ++ sign_text_of sign
+
+-- years, months, weeks and days of a duration
+abbrev pub date_duration_text_of : DateDurationRecord → List ℕ
+date_duration_text_of date =
+    codes " date=" ++ (decimal date.years ++ comma ∷ (decimal date.months ++ comma ∷ (decimal date.weeks ++ comma ∷ decimal date.days)))
+
+abbrev pub date_duration_field_of : Option DateDurationRecord → List ℕ
+date_duration_field_of None = []
+date_duration_field_of (Some date) = date_duration_text_of date
+
+-- the hours of a duration, and the minutes and seconds that it has
+abbrev pub time_numbers_of : TimeDurationRecord → List ℕ
+time_numbers_of (Hours hours fraction) = codes " time=" ++ decimal hours
+time_numbers_of (Minutes hours minutes fraction) = codes " time=" ++ (decimal hours ++ comma ∷ decimal minutes)
+time_numbers_of (Seconds hours minutes seconds fraction) =
+    codes " time=" ++ (decimal hours ++ comma ∷ (decimal minutes ++ comma ∷ decimal seconds))
+
+-- the fraction of the last of these numbers
+abbrev pub last_fraction_of : TimeDurationRecord → Option FractionParts
+last_fraction_of (Hours hours fraction) = fraction
+last_fraction_of (Minutes hours minutes fraction) = fraction
+last_fraction_of (Seconds hours minutes seconds fraction) = fraction
+
+-- the time of a duration, with its fraction
+abbrev pub time_duration_text_of : TimeDurationRecord → List ℕ
+time_duration_text_of time = time_numbers_of time ++ fraction_text_of (last_fraction_of time)
+
+abbrev pub time_duration_field_of : Option TimeDurationRecord → List ℕ
+time_duration_field_of None = []
+time_duration_field_of (Some time) = time_duration_text_of time
+
+-- the sign of a duration, and its date and its time, where it has them
+abbrev pub duration_text_of : DurationParseRecord → List ℕ
+duration_text_of duration = sign_field_of duration.sign ++ (date_duration_field_of duration.date ++ time_duration_field_of duration.time)
+
 -- the fields of what a reader derives
 abbrev pub fields_of : Found → List ℕ
 fields_of (parsed found) = record_fields_of found
 fields_of (shifted offset) = offset_text_of offset
 fields_of (identified zone) = zone_text_of false zone
 fields_of (named name) = zone_text_of false (Name name)
+fields_of (lasting duration) = duration_text_of duration

@@ -5,6 +5,8 @@ ghost use Rattle.ixdtf_lines.specs.Fields.{fields_of, record_fields_of, date_fie
 ghost use Rattle.ixdtf_lines.specs.Fields.{fraction_text_of, sign_text_of, minute_offset_text_of, second_text_of};
 ghost use Rattle.ixdtf_lines.specs.Fields.{full_offset_text_of, offset_text_of, offset_field_of};
 ghost use Rattle.ixdtf_lines.specs.Fields.{zone_label_of, zone_text_of, zone_field_of, calendar_field_of};
+ghost use Rattle.ixdtf_lines.specs.Fields.{sign_field_of, date_duration_field_of, time_numbers_of, last_fraction_of};
+ghost use Rattle.ixdtf_lines.specs.Fields.{time_duration_text_of, time_duration_field_of, duration_text_of};
 ghost use Rattle.ixdtf_lines.specs.Found.{found_of};
 ghost use Rattle.ixdtf_lines.specs.Output.{Puts};
 
@@ -14,8 +16,9 @@ use crate::number::{Decimal, nine_digits, sign_of};
 use crate::output::Output;
 use ixdtf::encoding::Utf8;
 use ixdtf::records::{
-    DateRecord, Fraction, FullPrecisionOffset, IxdtfParseRecord, MinutePrecisionOffset, Sign,
-    TimeRecord, TimeZoneAnnotation, TimeZoneRecord, UtcOffsetRecord, UtcOffsetRecordOrZ,
+    DateDurationRecord, DateRecord, DurationParseRecord, Fraction, FullPrecisionOffset,
+    IxdtfParseRecord, MinutePrecisionOffset, Sign, TimeDurationRecord, TimeRecord,
+    TimeZoneAnnotation, TimeZoneRecord, UtcOffsetRecord, UtcOffsetRecordOrZ,
 };
 use std::io::Write;
 
@@ -29,6 +32,7 @@ impl<W: Write> Output<'_, W> {
             Found::Offset(offset) => self.put_offset(*offset),
             Found::Zone(zone) => self.put_zone(false, zone),
             Found::Name(name) => self.put_zone(false, &TimeZoneRecord::Name(name)),
+            Found::Duration(duration) => self.put_duration(*duration),
         }
     }
 
@@ -206,6 +210,117 @@ impl<W: Write> Output<'_, W> {
             None => Ok(()),
             Some(bytes) => self.put_all(&[b" calendar=".as_slice(), bytes]),
         }
+    }
+
+    /// Puts the sign of a duration, and its date and its time, where it has them.
+    fn put_duration(&mut self, duration: DurationParseRecord) -> Result<(), RunError>
+        ensures { Puts W.contents self.old self.new result (duration_text_of duration) }
+    {
+        let date = duration.date;
+        let time = duration.time;
+        self.put_sign_field(duration.sign)?;
+        self.put_date_duration_field(date)?;
+        self.put_time_duration_field(time)
+    }
+
+    /// Puts the sign of a duration.
+    fn put_sign_field(&mut self, sign: Sign) -> Result<(), RunError>
+        ensures { Puts W.contents self.old self.new result (sign_field_of sign) }
+    {
+        self.put_all(&[b" sign=".as_slice(), mark_of(sign)])
+    }
+
+    /// Puts the years, months, weeks and days of a duration, where it has a date.
+    fn put_date_duration_field(&mut self, date: Option<DateDurationRecord>) -> Result<(), RunError>
+        ensures { Puts W.contents self.old self.new result (date_duration_field_of date) }
+    {
+        let Some(date) = date else {
+            return Ok(());
+        };
+        let years = Decimal::new(u64::from(date.years));
+        let months = Decimal::new(u64::from(date.months));
+        let weeks = Decimal::new(u64::from(date.weeks));
+        let days = Decimal::new(date.days);
+        self.put_all(&[
+            b" date=".as_slice(),
+            years.as_slice(),
+            b",".as_slice(),
+            months.as_slice(),
+            b",".as_slice(),
+            weeks.as_slice(),
+            b",".as_slice(),
+            days.as_slice(),
+        ])
+    }
+
+    /// Puts the time of a duration, where it has one.
+    fn put_time_duration_field(&mut self, time: Option<TimeDurationRecord>) -> Result<(), RunError>
+        ensures { Puts W.contents self.old self.new result (time_duration_field_of time) }
+    {
+        match time {
+            None => Ok(()),
+            Some(time) => self.put_time_duration(time),
+        }
+    }
+
+    /// Puts the time of a duration, with the fraction after its last number.
+    fn put_time_duration(&mut self, time: TimeDurationRecord) -> Result<(), RunError>
+        ensures { Puts W.contents self.old self.new result (time_duration_text_of time) }
+    {
+        let fraction = last_fraction(&time);
+        self.put_time_numbers(&time)?;
+        self.put_fraction(fraction)
+    }
+
+    /// Puts the hours of a duration, and the minutes and seconds that it has.
+    fn put_time_numbers(&mut self, time: &TimeDurationRecord) -> Result<(), RunError>
+        ensures { Puts W.contents self.old self.new result (time_numbers_of time.now) }
+    {
+        match time {
+            TimeDurationRecord::Hours { hours, .. } => {
+                let hours = Decimal::new(*hours);
+                self.put_all(&[b" time=".as_slice(), hours.as_slice()])
+            }
+            TimeDurationRecord::Minutes { hours, minutes, .. } => {
+                let hours = Decimal::new(*hours);
+                let minutes = Decimal::new(*minutes);
+                self.put_all(&[
+                    b" time=".as_slice(),
+                    hours.as_slice(),
+                    b",".as_slice(),
+                    minutes.as_slice(),
+                ])
+            }
+            TimeDurationRecord::Seconds {
+                hours,
+                minutes,
+                seconds,
+                ..
+            } => {
+                let hours = Decimal::new(*hours);
+                let minutes = Decimal::new(*minutes);
+                let seconds = Decimal::new(*seconds);
+                self.put_all(&[
+                    b" time=".as_slice(),
+                    hours.as_slice(),
+                    b",".as_slice(),
+                    minutes.as_slice(),
+                    b",".as_slice(),
+                    seconds.as_slice(),
+                ])
+            }
+        }
+    }
+}
+
+/// The fraction of the last number of a duration's time.
+fn last_fraction(time: &TimeDurationRecord) -> Option<Fraction>
+    ensures { result ≡ last_fraction_of time.now }
+{
+    match time {
+        TimeDurationRecord::Hours { fraction, .. } => *fraction,
+        TimeDurationRecord::Minutes { fraction, .. } => *fraction,
+        TimeDurationRecord::Seconds { fraction, .. } => *fraction,
     }
 }
 

@@ -8,8 +8,8 @@ ghost use Rattle.ixdtf_lines.specs.Word.{reader_of};
 use crate::word::Word;
 use ixdtf::ParserResult;
 use ixdtf::encoding::Utf8;
-use ixdtf::parsers::{IxdtfParser, TimeZoneParser};
-use ixdtf::records::{IxdtfParseRecord, TimeZoneRecord, UtcOffsetRecord};
+use ixdtf::parsers::{IsoDurationParser, IxdtfParser, TimeZoneParser};
+use ixdtf::records::{DurationParseRecord, IxdtfParseRecord, TimeZoneRecord, UtcOffsetRecord};
 
 /// What a reader found in a text.
 #[derive(Drop)]
@@ -22,6 +22,8 @@ pub enum Found<'a> {
     Zone(TimeZoneRecord<'a, Utf8>),
     /// The bytes of a time zone's name.
     Name(&'a [u8]),
+    /// A duration.
+    Duration(DurationParseRecord),
 }
 
 /// What the reader of the word finds in the text.
@@ -58,6 +60,10 @@ pub fn read(word: Word, text: &[u8]) -> ParserResult<Found<'_>>
         },
         Word::Iana => match TimeZoneParser::from_utf8(text).parse_iana_identifier() {
             Ok(name) => Ok(Found::Name(name)),
+            Err(error) => Err(error),
+        },
+        Word::Duration => match IsoDurationParser::<Utf8>::from_utf8(text).parse() {
+            Ok(duration) => Ok(Found::Duration(duration)),
             Err(error) => Err(error),
         },
     }

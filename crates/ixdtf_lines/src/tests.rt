@@ -224,6 +224,38 @@ fn answers_calendars(rt: HostRuntime) -> Result<(), Fail> {
 }
 
 #[test]
+fn answers_durations(rt: HostRuntime) -> Result<(), Fail> {
+    check_run(
+        &rt,
+        rt.alloc(),
+        b"duration -P1Y3wT0,5H\nduration p1y1m1dt1h1m1s\nduration PT5M\nduration P4294967295W\nduration +PT1H1.123456789123M\n",
+        b"ok sign=- date=1,0,3,0 time=0.500000000\nok sign=+ date=1,1,0,1 time=1,1,1\nok sign=+ time=0,5\nok sign=+ date=0,0,4294967295,0\nok sign=+ time=1,1.123456789\n",
+    )?;
+    check_run(
+        &rt,
+        rt.alloc(),
+        b"duration -P4294967295Y4294967295M4294967295W18446744073709551615DT18446744073709551615H18446744073709551615M18446744073709551615.0000000019S\n",
+        b"ok sign=- date=4294967295,4294967295,4294967295,18446744073709551615 time=18446744073709551615,18446744073709551615,18446744073709551615.000000001\n",
+    )
+}
+
+#[test]
+fn refuses_durations(rt: HostRuntime) -> Result<(), Fail> {
+    check_run(
+        &rt,
+        rt.alloc(),
+        b"duration \nduration -\nduration P\nduration P1\nduration PT1.5\nduration 1Y\nduration PX\n",
+        b"error Parsing ended abruptly while parsing DurationStart\nerror Parsing ended abruptly while parsing DurationDesignator\nerror Parsing ended abruptly while parsing Duration\nerror Parsing ended abruptly while parsing DateDurationDesignator\nerror Parsing ended abruptly while parsing TimeDurationDesignator\nerror Invalid duration designator.\nerror Unexpected character found after parsing was completed.\n",
+    )?;
+    check_run(
+        &rt,
+        rt.alloc(),
+        b"duration P4294967296Y\nduration P1D1Y\nduration PT1M1H\nduration P1YT\nduration PT1.H\n",
+        b"error Provided Duration field value exceeds supported range.\nerror Invalid date duration part order.\nerror Invalid time duration part order.\nerror Invalid time duration designator.\nerror Invalid character while parsing fraction part value.\n",
+    )
+}
+
+#[test]
 fn answers_each_line(rt: HostRuntime) -> Result<(), Fail> {
     check_run(&rt, rt.alloc(), LINES, ANSWERS)
 }
@@ -246,7 +278,8 @@ fn answers_unknown_words(rt: HostRuntime) -> Result<(), Fail> {
     check_run(&rt, rt.alloc(), b"iana", unknown)?;
     check_run(&rt, rt.alloc(), b"Zone UTC", unknown)?;
     check_run(&rt, rt.alloc(), b"offsets +05:00", unknown)?;
-    check_run(&rt, rt.alloc(), b"of +05:00", unknown)
+    check_run(&rt, rt.alloc(), b"of +05:00", unknown)?;
+    check_run(&rt, rt.alloc(), b"durations P1Y", unknown)
 }
 
 #[test]

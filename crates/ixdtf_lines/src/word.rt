@@ -18,6 +18,8 @@ pub enum Word {
     Zone,
     /// `iana`: a time zone by name.
     Iana,
+    /// `duration`: a duration.
+    Duration,
 }
 
 impl Word {
@@ -39,6 +41,8 @@ impl Word {
             Some(Word::Zone)
         } else if name == b"iana".as_slice() {
             Some(Word::Iana)
+        } else if name == b"duration".as_slice() {
+            Some(Word::Duration)
         } else {
             None
         }

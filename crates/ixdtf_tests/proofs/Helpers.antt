@@ -31,6 +31,8 @@ use Rattle.ixdtf.specs.reading.Pairs.{key_run, value_run, pairs_at, pair_reading
 use Rattle.ixdtf.specs.reading.Brackets.{sight_at, name_or_pair_at, bracket_readings}
 use Rattle.ixdtf.specs.reading.Cores.{core_end_at, offset_core_at, after_time_at, time_core_at, after_date_at, date_time_core_at}
 use Rattle.ixdtf.specs.reading.Cores.{lone_time_at, marked_time_at, marked_core_at, time_alone_core_at}
+use Rattle.ixdtf.specs.language.Durations.{greatest_value}
+use Rattle.ixdtf.specs.reading.Durations.{step as duration_step, run as duration_run}
 use Rattle.ixdtf.specs.reading.Wholes.{bracketed_at, annotated_at, bracketed_text_at, outcome}
 
 -- unfolding this unfolds every reading
@@ -38,6 +40,7 @@ unfoldable pub all_readings : ℕ
 unfolding date_readings month_readings time_readings zone_readings pair_readings bracket_readings
     core_end_at offset_core_at after_time_at time_core_at after_date_at date_time_core_at
     lone_time_at marked_time_at marked_core_at time_alone_core_at
+    greatest_value duration_step duration_run
     look_at number_by name_run key_run value_run pairs_at sight_at name_or_pair_at bracketed_at annotated_at bracketed_text_at
 all_readings = 0
 

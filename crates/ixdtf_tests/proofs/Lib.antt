@@ -5,6 +5,7 @@ pub mod Times
 pub mod Offsets
 pub mod LoneTimes
 pub mod Zones
+pub mod Durations
 pub mod FirstBracket
 pub mod Pairs
 pub mod Replies

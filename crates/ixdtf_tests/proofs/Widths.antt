@@ -3,14 +3,16 @@ use Rattle.std.proofs.Common.{◌≡◌, ℕ, List, [], ◌∷◌, ◌++◌, map
 use Rattle.ixdtf.specs.language.Letters.{Text, byte_letter, wide_letter}
 use Rattle.ixdtf.specs.language.Letters.Letter.{Plain, Bad}
 use Rattle.ixdtf.specs.language.Readers.{parse}
-use Rattle.ixdtf.specs.language.Readers.Reader.{parse_iana_identifier}
-use Rattle.ixdtf.specs.table.Faults.Fault.{NonAsciiCodePoint, InvalidEnd, InvalidMonthRange, IanaChar, AnnotationValueChar}
-use Rattle.ixdtf.specs.table.LineNames.LineName.{of_zone, of_pair, of_bracket}
+use Rattle.ixdtf.specs.language.Durations.Half.{time}
+use Rattle.ixdtf.specs.language.Readers.Reader.{parse_iana_identifier, parse_duration}
+use Rattle.ixdtf.specs.table.Faults.Fault.{NonAsciiCodePoint, InvalidEnd, InvalidMonthRange, IanaChar, AnnotationValueChar, DurationValueExceededRange}
+use Rattle.ixdtf.specs.table.LineNames.LineName.{of_zone, of_pair, of_bracket, of_duration}
 use Rattle.ixdtf.specs.table.LineNames.{of_date}
 use Rattle.ixdtf.specs.table.LineNames.DateLine.{year_start, month_range, after_date}
 use Rattle.ixdtf.specs.table.LineNames.ZoneLine.{in_zone_name}
 use Rattle.ixdtf.specs.table.LineNames.PairLine.{value_start}
 use Rattle.ixdtf.specs.table.LineNames.BracketLine.{first_bracket_scan}
+use Rattle.ixdtf.specs.table.LineNames.DurationLine.{after_date_groups, group_value_range, after_fraction_group}
 use Rattle.ixdtf.specs.table.Rows.Place.{other, bad, anywhere}
 use Rattle.ixdtf.specs.reading.Dates.{date_of}
 use Rattle.ixdtf_tests.proofs.Helpers.{all_readings, zone_named, with, Compute, stops}
@@ -49,3 +51,11 @@ narrow_texts = refl
 wide_names : Compute parse_iana_identifier ((wide (codes "UTC" ++ 233 ∷ []), stops (of_zone in_zone_name) bad NonAsciiCodePoint) ∷ [])
 unfolding all_readings
 wide_names = refl
+
+wide_durations : Compute parse_duration (
+    (wide (codes "P1Y" ++ 128 ∷ []), stops (of_duration after_date_groups) bad NonAsciiCodePoint)
+    ∷ (wide (codes "PT1.5H" ++ 128 ∷ []), stops (of_duration after_fraction_group) bad NonAsciiCodePoint)
+    ∷ (wide (codes "PT99999999999999999999" ++ 128 ∷ []), stops (of_duration (group_value_range time)) anywhere DurationValueExceededRange)
+    ∷ [])
+unfolding all_readings
+wide_durations = refl

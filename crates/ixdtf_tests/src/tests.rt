@@ -3,24 +3,28 @@
 mod brackets;
 mod calling;
 mod dates;
+mod durations;
 mod encodings;
 mod errors;
 mod handlers;
+mod languages;
 mod laws;
 mod lone_times;
 mod months;
 mod offsets;
 mod records;
 mod replies;
+mod replies_in_parts;
 mod surface;
 mod times;
 mod wide;
 mod wide_parts;
+mod widths;
 mod zones;
 
 use ixdtf::ParseError;
 use ixdtf::encoding::Utf8;
-use ixdtf::parsers::{IxdtfParser, TimeZoneParser};
+use ixdtf::parsers::{IsoDurationParser, IxdtfParser, TimeZoneParser};
 use ixdtf::records::{
     DateRecord, Fraction, FullPrecisionOffset, IxdtfParseRecord, MinutePrecisionOffset, Sign,
     TimeRecord, UtcOffsetRecord, UtcOffsetRecordOrZ,
@@ -104,7 +108,7 @@ fn fraction_of(text: &'static str) -> Option<Fraction> {
 }
 
 /// A reader of a text.
-#[derive(Clone, Copy)]
+#[derive(Clone, Copy, Debug)]
 enum Reader {
     /// `IxdtfParser::parse`.
     Parse,
@@ -120,6 +124,8 @@ enum Reader {
     Identifier,
     /// `TimeZoneParser::parse_iana_identifier`.
     IanaIdentifier,
+    /// `IsoDurationParser::parse`.
+    Duration,
 }
 
 /// The reader refuses each text with the error beside it.
@@ -152,6 +158,10 @@ fn check_refused(rt: &impl Abort, reader: Reader, rows: &[(&'static str, ParseEr
             }
             Reader::IanaIdentifier => {
                 let found = TimeZoneParser::from_str(text).parse_iana_identifier();
+                assert_eq!(rt; found, Err(*error), "at {text}");
+            }
+            Reader::Duration => {
+                let found = IsoDurationParser::from_str(text).parse();
                 assert_eq!(rt; found, Err(*error), "at {text}");
             }
         }

@@ -1,5 +1,5 @@
 -- When records are equal: where they are seen as one.
-use Rattle.std.proofs.Common.{◌≡◌, ◌↔◌, ℕ, Bool, true, false, ◌&&◌, IsTrue, map, Some, None, option_map, refl, sym, ap, ◌∙◌}
+use Rattle.std.proofs.Common.{◌≡◌, ◌↔◌, ℕ, Bool, true, false, ◌&&◌, IsTrue, map, Option, Some, None, option_map, refl, sym, ap, ◌∙◌}
 use Rattle.std.specs.Bool.{one_answer}
 use Rattle.std.specs.Cmp.{first_so, second_so}
 use Rattle.std.specs.Cmp.Derive.{both_true}
@@ -10,6 +10,9 @@ use Rattle.ixdtf.specs.declared.records.UtcOffsetRecordOrZ.{UtcOffsetRecordOrZ}
 use Rattle.ixdtf.specs.declared.records.UtcOffsetRecordOrZ.TheVariants as offsets_or_z
 use Rattle.ixdtf.specs.declared.records.TimeZoneRecord.{TimeZoneRecord}
 use Rattle.ixdtf.specs.declared.records.TimeZoneRecord.TheVariants as zones
+use Rattle.ixdtf.specs.declared.records.TimeDurationRecord.{TimeDurationRecord}
+use Rattle.ixdtf.specs.declared.records.TimeDurationRecord.TheVariants as time_durations
+use Rattle.ixdtf.specs.language.Fractions.{FractionParts}
 use Rattle.ixdtf.specs.Laws.{IsEqualityBy}
 use Rattle.ixdtf.specs.Views.{zone_of}
 use Rattle.ixdtf.specs.language.ZoneNames.Zone.{Name, Offset}
@@ -112,3 +115,45 @@ module _ {eq : UtcOffsetRecordOrZ → UtcOffsetRecordOrZ → Bool} where
   offsets_or_z_exact of shifts offsets_or_z.Z offsets_or_z.Z = (λ t. refl, λ e. of.itself)
   offsets_or_z_exact of shifts (offsets_or_z.Offset o) offsets_or_z.Z = apart (of.before o) (λ e. cc)
   offsets_or_z_exact of shifts offsets_or_z.Z (offsets_or_z.Offset o) = apart (of.after o) (λ e. cc)
+
+-- a value of one of three variants, by what is in it
+pub record OfThree {K X Y Z : Type 0} (eq : K → K → Bool) (first : X → K) (second : Y → K) (third : Z → K) (eq_first : X → X → Bool) (eq_second : Y → Y → Bool) (eq_third : Z → Z → Bool) : Type 0 where
+  pub firsts : (x y : X) → eq (first x) (first y) ≡ eq_first x y
+  pub seconds : (x y : Y) → eq (second x) (second y) ≡ eq_second x y
+  pub thirds : (x y : Z) → eq (third x) (third y) ≡ eq_third x y
+  pub first_second : (x : X) (y : Y) → eq (first x) (second y) ≡ false
+  pub first_third : (x : X) (y : Z) → eq (first x) (third y) ≡ false
+  pub second_first : (x : Y) (y : X) → eq (second x) (first y) ≡ false
+  pub second_third : (x : Y) (y : Z) → eq (second x) (third y) ≡ false
+  pub third_first : (x : Z) (y : X) → eq (third x) (first y) ≡ false
+  pub third_second : (x : Z) (y : Y) → eq (third x) (second y) ≡ false
+
+-- what stands in the time groups of a duration
+abbrev pub InHours : Type 0
+InHours = ℕ × Option FractionParts
+
+abbrev pub hours_of : InHours → TimeDurationRecord
+hours_of p = time_durations.Hours p.0 p.1
+
+abbrev pub minutes_of : ℕ × InHours → TimeDurationRecord
+minutes_of p = time_durations.Minutes p.0 p.1.0 p.1.1
+
+abbrev pub seconds_of : ℕ × (ℕ × InHours) → TimeDurationRecord
+seconds_of p = time_durations.Seconds p.0 p.1.0 p.1.1.0 p.1.1.1
+
+-- the time groups of a duration
+module _ {eq : TimeDurationRecord → TimeDurationRecord → Bool} where
+  pub time_durations_exact : {E : _ → _ → Bool} {F : _ → _ → Bool} {G : _ → _ → Bool} →
+      OfThree eq hours_of minutes_of seconds_of E F G → Exact (λ p. p) E → Exact (λ p. p) F → Exact (λ p. p) G → Exact (λ o. o) eq
+  time_durations_exact of hours minutes seconds (time_durations.Hours h f) (time_durations.Hours i g) =
+      moved (of.firsts (h, f) (i, g)) (λ t. ap hours_of ((hours (h, f) (i, g)).0 t), λ e. (hours (h, f) (i, g)).1 cc)
+  time_durations_exact of hours minutes seconds (time_durations.Minutes h m f) (time_durations.Minutes i n g) =
+      moved (of.seconds (h, (m, f)) (i, (n, g))) (λ t. ap minutes_of ((minutes (h, (m, f)) (i, (n, g))).0 t), λ e. (minutes (h, (m, f)) (i, (n, g))).1 cc)
+  time_durations_exact of hours minutes seconds (time_durations.Seconds h m s f) (time_durations.Seconds i n u g) =
+      moved (of.thirds (h, (m, (s, f))) (i, (n, (u, g)))) (λ t. ap seconds_of ((seconds (h, (m, (s, f))) (i, (n, (u, g)))).0 t), λ e. (seconds (h, (m, (s, f))) (i, (n, (u, g)))).1 cc)
+  time_durations_exact of hours minutes seconds (time_durations.Hours h f) (time_durations.Minutes i n g) = apart (of.first_second (h, f) (i, (n, g))) (λ e. cc)
+  time_durations_exact of hours minutes seconds (time_durations.Hours h f) (time_durations.Seconds i n u g) = apart (of.first_third (h, f) (i, (n, (u, g)))) (λ e. cc)
+  time_durations_exact of hours minutes seconds (time_durations.Minutes h m f) (time_durations.Hours i g) = apart (of.second_first (h, (m, f)) (i, g)) (λ e. cc)
+  time_durations_exact of hours minutes seconds (time_durations.Minutes h m f) (time_durations.Seconds i n u g) = apart (of.second_third (h, (m, f)) (i, (n, (u, g)))) (λ e. cc)
+  time_durations_exact of hours minutes seconds (time_durations.Seconds h m s f) (time_durations.Hours i g) = apart (of.third_first (h, (m, (s, f))) (i, g)) (λ e. cc)
+  time_durations_exact of hours minutes seconds (time_durations.Seconds h m s f) (time_durations.Minutes i n g) = apart (of.third_second (h, (m, (s, f))) (i, (n, g))) (λ e. cc)

@@ -8,15 +8,17 @@ use Rattle.ixdtf.specs.Views.{Unread, returned, returned_by}
 use Rattle.ixdtf.specs.reading.Clauses.{Reads, Settles, fault_of_stop}
 use Rattle.ixdtf.specs.language.Brackets.{Pair}
 use Rattle.ixdtf.specs.language.Readers.{Reader}
-use Rattle.ixdtf.specs.language.Readers.Reader.{bracketed, parse_offset, parse_identifier, parse_iana_identifier}
+use Rattle.ixdtf.specs.language.Readers.Reader.{bracketed, parse_offset, parse_identifier, parse_iana_identifier, parse_duration}
 use Rattle.ixdtf.specs.table.Rows.{Row, Fits}
 use Rattle.ixdtf.specs.language.Languages.{Found, Derives}
-use Rattle.ixdtf.specs.table.Outcomes.{HasFault}
+use Rattle.ixdtf.specs.table.Outcomes.{HasFault, NoRowFits, OnlyFault}
+use Rattle.ixdtf.specs.Laws.{IsTextReader, InNoOther}
 use Rattle.ixdtf.specs.reading.Looks.{Read}
 use Rattle.ixdtf.specs.reading.Wholes.{finding, read_at}
 use Rattle.ixdtf.proofs.to_grammar.Wholes.{OnWhole, whole_read}
 use Rattle.ixdtf.proofs.to_reading.Wholes.{takes}
 use Rattle.ixdtf.proofs.theorems.NoRow.{fault_comes}
+use Rattle.ixdtf.proofs.theorems.OnlyOutcome.{Accepted, accepted, only_fault}
 use Rattle.ixdtf.proofs.code.Units.{no_units}
 
 abbrev done : {A : Type 0} → A → Result A Fault
@@ -41,6 +43,7 @@ ReadsNoPairs (bracketed kind) = ⊥
 ReadsNoPairs parse_offset = Unit {0}
 ReadsNoPairs parse_identifier = Unit {0}
 ReadsNoPairs parse_iana_identifier = Unit {0}
+ReadsNoPairs parse_duration = Unit {0}
 
 -- no pairs stand before its rows
 no_pairs : (reader : Reader) (row : Row) (pairs : List Pair) (text : Text) → ReadsNoPairs reader → Fits reader row pairs text → Fits reader row [] text
@@ -48,6 +51,7 @@ no_pairs (bracketed kind) row pairs text none f = absurd none
 no_pairs parse_offset row pairs text none f = rw f.3.1 at f
 no_pairs parse_identifier row pairs text none f = rw f.3.1 at f
 no_pairs parse_iana_identifier row pairs text none f = rw f.3.1 at f
+no_pairs parse_duration row pairs text none f = rw f.3.1 at f
 
 -- What a reader returned at a text: a kind of what readers find, told apart from each other of the kind.
 module _ {A : Type 0} (reader : Reader) (found : A → Found) (same : (x y : A) → found x ≡ found y → x ≡ y) (text : Text) (reading : Read Fault A) (reads : read_at error_after reader text ≡ finding found reading) where
@@ -68,6 +72,10 @@ module _ {A : Type 0} (reader : Reader) (found : A → Found) (same : (x y : A) 
     λ d. ap done (same x y (ap (λ (p : (Found × List Pair) × Text). p.0.0) (done_is ((found x, []), rest) ((found y, []), []) (sym (reads ∙ ap (finding found) is) ∙ takes error_after reader text (found y) [] d)))),
   )
 
+  -- what that says of the text
+  accepted_where_read : (x : A) (rest : Text) → reading ≡ Ok (x, rest) → Accepted reader text
+  accepted_where_read x rest is = accepted reader text (found x, [], (returned_here (Ok (x, rest)) is).1)
+
   -- nothing is derived where reading returned a fault
   err_where_refused : (fault : Fault) → reading ≡ Err fault → (y : A) → (failed fault ≡ done y → Derives reader text (found y) []) × (Derives reader text (found y) [] → failed fault ≡ done y)
   err_where_refused fault is y = (
@@ -86,13 +94,19 @@ module _ {U A : Type 0} (letter : ℕ → Letter) (view : U → A) (reader : Rea
     pub ok : (y : A) → (returned view result ≡ Ok y → Derives reader (map letter old.rest) (found y) []) × (Derives reader (map letter old.rest) (found y) [] → returned view result ≡ Ok y)
     pub err : IfErr result (λ e. HasFault reader (map letter old.rest) [] (fault_of e))
     pub comes : IfErr result (λ e. IsFalse (never_comes (fault_of e)))
+    pub no_row : OnOk result (NoRowFits reader (map letter old.rest))
+    pub alone : IsTextReader reader → OnOk result (InNoOther reader (map letter old.rest))
+    pub only : IfErr result (λ e. OnlyFault reader (map letter old.rest) [] (fault_of e))
     pub empty : (left : List ℕ) → OnOk result (left ≡ new.rest) → OnOk result (left ≡ [])
 
   pub exact : (read : Result U Stop) (result : Result U ParseError) → Reads letter view old read new reading → Settles fault_of read result → Exact result
-  exact (Ok x) (Ok y) h s = record {
+  exact (Ok x) (Ok y) h s = let read = accepted_where_read reader found same (map letter old.rest) _ reads (view x) (map letter new.rest) h in record {
     ok = rw s (ok_where_derived reader found same (map letter old.rest) _ reads (view x) (map letter new.rest) h);
     err = tt;
     comes = tt;
+    no_row = read.no_row;
+    alone = read.alone;
+    only = tt;
     empty = λ left is. is ∙ no_units letter new.rest (nothing_left reader found same (map letter old.rest) _ reads (view x) (map letter new.rest) h);
   }
   exact (Ok x) (Err e) h s = absurd s
@@ -101,6 +115,9 @@ module _ {U A : Type 0} (letter : ℕ → Letter) (view : U → A) (reader : Rea
     ok = rw s (err_where_refused reader found same (map letter old.rest) _ reads (fault_of_stop stop) h);
     err = fits;
     comes = fault_comes reader (map letter old.rest) [] (fault_of e) fits;
+    no_row = tt;
+    alone = λ is. tt;
+    only = only_fault reader (map letter old.rest) [] (fault_of e) fits;
     empty = λ left is. tt;
   }
 

@@ -1,15 +1,12 @@
 -- The test of a time's front: reading a month-day, or a year-month, from the start of a text succeeds exactly where one
 -- stands in front, and where a core stands before the end or a bracket, it is one in front of the core.
-use Rattle.std.proofs.Common.{◌≡◌, ℕ, zero, suc, Bool, false, IsTrue, IsFalse, ◌⊎◌, ℤ, [], ◌∷◌, ◌++◌, Ok, Err, refl, sym, ap, ◌∙◌, subst, inl}
-use Rattle.std.proofs.Common.{inr, arith, append_assoc}
+use Rattle.std.proofs.Common.{◌≡◌, Bool, false, IsTrue, IsFalse, ◌++◌, Ok, Err, refl, ap, ◌∙◌}
+use Rattle.std.proofs.Common.{append_assoc}
 use Rattle.std.proofs.lemmas.Bool.{both_ways, false_from_ne_true}
-use Rattle.std.proofs.lemmas.Bool.Decides.{nat_tests}
 use Rattle.ixdtf.specs.declared.records.DateRecord.{DateRecord}
-use Rattle.ixdtf.specs.language.Letters.{Letter, Text, hyphen, opening}
-use Rattle.ixdtf.specs.language.Letters.Letter.{Plain, Bad}
-use Rattle.ixdtf.specs.language.Shapes.{Shape, one, digits, some}
-use Rattle.ixdtf.specs.language.Dates.{Year}
-use Rattle.ixdtf.specs.language.Months.{OptionalHyphen, Marks, IsYearMonth, IsMonthDay, least_day}
+use Rattle.ixdtf.specs.language.Letters.{Text}
+use Rattle.ixdtf.specs.language.Shapes.{Shape, some}
+use Rattle.ixdtf.specs.language.Months.{IsYearMonth, IsMonthDay, least_day}
 use Rattle.ixdtf.specs.language.Cores.{HasFront, HasNoDateFront}
 use Rattle.ixdtf.specs.table.Faults.{Fault}
 use Rattle.ixdtf.specs.table.Faults.Fault.{AmbiguousTimeMonthDay, AmbiguousTimeYearMonth}
@@ -20,6 +17,7 @@ use Rattle.ixdtf.specs.table.Rows.Place.{anywhere}
 use Rattle.ixdtf.specs.reading.Looks.{Read, row_of, error_of}
 use Rattle.ixdtf.specs.reading.Months.{year_month_at, month_day_at, is_read, month_day_begins, year_month_begins}
 use Rattle.ixdtf.specs.reading.Cores.{unfronted}
+use Rattle.ixdtf.proofs.parts.CoreLetters.{AllInside, CoreEnds, in_core, in_month_day, in_year_month}
 use Rattle.ixdtf.proofs.parts.Looks.{OnRead, read_if}
 use Rattle.ixdtf.proofs.to_reading.Months.{year_month_takes, month_day_takes}
 use Rattle.ixdtf.proofs.to_grammar.Months.{FrontIs, year_month_read, month_day_read}
@@ -54,84 +52,25 @@ year_month_begins_exact text = exact IsYearMonth text (year_month_at error_of te
 
 -- ---- fronts of a core, and of the text with what stands after the core
 
--- the end, or a bracket: what a core may stand before
-abbrev pub CoreEnds : Text → Type 0
-CoreEnds rest = (rest ≡ []) ⊎ ((more : Text) × (rest ≡ Plain 91 ∷ more))
-
--- the letter is no `[`
-abbrev NoOpening : Letter → Type 0
-NoOpening (Plain c) = IsFalse (opening c)
-NoOpening Bad = Unit {0}
-
--- no `[` anywhere
-abbrev Unopened : Shape
-Unopened [] = Unit {0}
-Unopened (c ∷ rest) = NoOpening c × Unopened rest
-
-not_at_end : (c : Letter) (more rest : Text) → NoOpening c → CoreEnds rest → rest ≡ c ∷ more → ⊥
-not_at_end c more rest none (inl h) is = let cells : [] ≡ c ∷ more = sym h ∙ is in absurd cc
-not_at_end c more rest none (inr h) is =
-    let cells : c ∷ more ≡ Plain 91 ∷ h.0 = sym is ∙ h.1 in
-    let same : c ≡ Plain 91 = cc in
-    both_ways (opening 91) (subst NoOpening same none) refl
-
--- a front that has no `[` is one of the core
-in_core : (front after cores rest : Text) → Unopened front → CoreEnds rest → cores ++ rest ≡ front ++ after → (more : Text) × (cores ≡ front ++ more)
-in_core [] after cores rest none ends is = (cores, refl)
-in_core (c ∷ front) after [] rest none ends is = absurd (not_at_end c (front ++ after) rest none.0 ends is)
-in_core (c ∷ front) after (d ∷ cores) rest none ends is =
-    let heads : d ≡ c = cc in
-    let tails : cores ++ rest ≡ front ++ after = cc in
-    let inner = in_core front after cores rest none.1 ends tails in
-    (inner.0, λ i. heads i ∷ inner.1 i)
-
-unopened_append : (a b : Text) → Unopened a → Unopened b → Unopened (a ++ b)
-unopened_append [] b f g = g
-unopened_append (c ∷ a) b f g = (f.0, unopened_append a b f.1 g)
-
-unopened_digits : (n : ℕ) (text : Text) → digits n text → Unopened text
-unopened_digits zero text h = rw h tt
-unopened_digits (suc n) text h = let no_opening : IsFalse (opening h.0) = grind (arith, nat_tests, h.3) in rw h.2 (no_opening, unopened_digits n h.1 h.4)
-
-unopened_hyphen : (text : Text) → one hyphen text → Unopened text
-unopened_hyphen text h = let no_opening : IsFalse (opening h.0) = grind (arith, nat_tests, h.2) in rw h.1 (no_opening, tt)
-
-unopened_hyphens : (text : Text) → OptionalHyphen text → Unopened text
-unopened_hyphens text (inl none) = rw none tt
-unopened_hyphens text (inr h) = unopened_hyphen text h
-
-unopened_marks : (text : Text) → Marks text → Unopened text
-unopened_marks text (inl none) = rw none tt
-unopened_marks text (inr h) = rw h.2 (unopened_append h.0 h.1 (unopened_hyphen h.0 h.3) (unopened_hyphen h.1 h.4))
-
-unopened_year : (text : Text) (year : ℤ) → Year text year → Unopened text
-unopened_year text year (inl h) = unopened_digits 4 text h.0
-unopened_year text year (inr h) =
-    let no_opening : IsFalse (opening h.c) = grind (arith, nat_tests, h.sign) in rw h.is (no_opening, unopened_digits 6 h.ds h.digits)
-
-unopened_year_month : (text : Text) → some IsYearMonth text → Unopened text
-unopened_year_month text (date, h) =
-    rw h.is (unopened_append h.years _ (unopened_year h.years date.year h.year)
-    (unopened_append h.hyphens _ (unopened_hyphens h.hyphens h.hyphen) (unopened_digits 2 h.months h.month.0.0)))
-
-unopened_month_day : (text : Text) → some (IsMonthDay least_day) text → Unopened text
-unopened_month_day text (date, (h, in_month)) =
-    rw h.is (unopened_append h.marks _ (unopened_marks h.marks h.mark) (unopened_append h.months _ (unopened_digits 2 h.months h.month.0.0)
-    (unopened_append h.hyphens _ (unopened_hyphens h.hyphens h.hyphen) (unopened_digits 2 h.days h.day.0))))
-
-front_in_core : (shape : Shape) → ((text : Text) → shape text → Unopened text) → (cores rest : Text) → CoreEnds rest → HasFront shape (cores ++ rest)
+front_in_core : (shape : Shape) → ((text : Text) → shape text → AllInside text) → (cores rest : Text) → CoreEnds rest → HasFront shape (cores ++ rest)
     → HasFront shape cores
-front_in_core shape unopened cores rest ends h = let more = in_core h.0 h.1 cores rest (unopened h.0 h.3) ends h.2 in (h.0, more.0, more.1, h.3, tt)
+front_in_core shape inside cores rest ends h = let more = in_core h.0 h.1 cores rest (inside h.0 h.3) ends h.2 in (h.0, more.0, more.1, h.3, tt)
 
 -- what stands after a core makes no front of the text
 pub no_front_after : (cores rest : Text) → CoreEnds rest → HasNoDateFront cores → HasNoDateFront (cores ++ rest)
 no_front_after cores rest ends none = (
-  (λ h. none.0 (front_in_core (some (IsMonthDay least_day)) unopened_month_day cores rest ends h)),
-  λ h. none.1 (front_in_core (some IsYearMonth) unopened_year_month cores rest ends h),
+  (λ h. none.0 (front_in_core (some (IsMonthDay least_day)) (λ t front. in_month_day t front.0 front.1.0) cores rest ends h)),
+  λ h. none.1 (front_in_core (some IsYearMonth) (λ t front. in_year_month t front.0 front.1) cores rest ends h),
 )
 
 longer_front : (shape : Shape) (cores rest : Text) → HasFront shape cores → HasFront shape (cores ++ rest)
 longer_front shape cores rest h = (h.0, h.1 ++ rest, ap (λ (t : Text). t ++ rest) h.2 ∙ append_assoc h.0 h.1 rest, h.3, tt)
+
+-- a month-day in front of a core and what stands after it is one whatever stands after
+pub month_day_front_stays : (cores rest other_rest : Text) → CoreEnds rest → HasFront (some (IsMonthDay least_day)) (cores ++ rest)
+    → HasFront (some (IsMonthDay least_day)) (cores ++ other_rest)
+month_day_front_stays cores rest other_rest ends h =
+    longer_front (some (IsMonthDay least_day)) cores other_rest (front_in_core (some (IsMonthDay least_day)) (λ t front. in_month_day t front.0 front.1.0) cores rest ends h)
 
 -- a front of the core is one of the text
 pub no_front_of : (cores rest : Text) → HasNoDateFront (cores ++ rest) → HasNoDateFront cores

@@ -18,7 +18,7 @@ use Rattle.ixdtf.specs.language.Brackets.{Pair}
 use Rattle.ixdtf.specs.language.Readers.{Reader, has_brackets}
 use Rattle.ixdtf.specs.table.LineNames.{LineName}
 use Rattle.ixdtf.specs.language.Readers.Reader.{parse_offset, parse_identifier, parse_iana_identifier}
-use Rattle.ixdtf.specs.table.LineNames.LineName.{of_core, of_clock, of_offset, of_zone, of_bracket, of_pair}
+use Rattle.ixdtf.specs.table.LineNames.LineName.{of_core, of_clock, of_offset, of_zone, of_bracket, of_pair, of_duration}
 use Rattle.ixdtf.specs.table.LineNames.OffsetLine.{offset_start, after_zulu}
 use Rattle.ixdtf.specs.table.LineNames.ZoneLine.{identifier_start, zone_name_start, in_zone_name, after_zone_slash}
 use Rattle.ixdtf.specs.table.Lines.{table, line_of, follow_of, zone_other}
@@ -129,6 +129,7 @@ module _ {E : Type 0} (fault : Row → E) where
   offset_rows (of_zone l) pairs place e prior front rest b f at = absurd b.0
   offset_rows (of_bracket l) pairs place e prior front rest b f at = absurd b.0
   offset_rows (of_pair l) pairs place e prior front rest b f at = absurd b.0
+  offset_rows (of_duration l) pairs place e prior front rest b f at = absurd b.0
 
   pub offset_read : (text : Text) → OnRead fault (offset_at fault text) (λ offset rest. (rest ≡ []) × IsOffset text offset) (λ row. Fits parse_offset row [] text)
   unfolding offset_at
@@ -208,6 +209,7 @@ module _ {E : Type 0} (fault : Row → E) where
   iana_identifier_rows (of_core l) pairs place e prior front rest b f at = absurd b.0
   iana_identifier_rows (of_bracket l) pairs place e prior front rest b f at = absurd b.0
   iana_identifier_rows (of_pair l) pairs place e prior front rest b f at = absurd b.0
+  iana_identifier_rows (of_duration l) pairs place e prior front rest b f at = absurd b.0
 
   pub iana_identifier_read : (text : Text) → OnRead fault (iana_identifier_at fault text) (λ name rest. (rest ≡ []) × IsZoneName text name) (λ row. Fits parse_iana_identifier row [] text)
   unfolding iana_identifier_at
@@ -258,6 +260,7 @@ module _ {E : Type 0} (fault : Row → E) where
   identifier_rows (of_core l) pairs place e prior front rest b f at = absurd b.0
   identifier_rows (of_bracket l) pairs place e prior front rest b f at = absurd b.0
   identifier_rows (of_pair l) pairs place e prior front rest b f at = absurd b.0
+  identifier_rows (of_duration l) pairs place e prior front rest b f at = absurd b.0
 
   -- an offset that was read is a zone
   offset_is_zone : (text : Text) (zone : Zone) → IsSigned clocks.MinuteOffset zone_record text zone → IsZone text zone

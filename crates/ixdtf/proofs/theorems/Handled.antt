@@ -9,28 +9,21 @@ use Rattle.ixdtf.specs.table.Faults.{Fault, never_comes}
 use Rattle.ixdtf.specs.table.Faults.Fault.{UnrecognizedCritical, CriticalDuplicateCalendar}
 use Rattle.ixdtf.specs.language.Brackets.{Pair}
 use Rattle.ixdtf.specs.language.Readers.{Reader}
-use Rattle.ixdtf.specs.table.Rows.{Row, Fits}
 use Rattle.ixdtf.specs.language.Languages.{Parsed, Derives}
 use Rattle.ixdtf.specs.language.Languages.Found.{parsed}
-use Rattle.ixdtf.specs.table.Outcomes.Outcome.{derived, refused}
+use Rattle.ixdtf.specs.table.Outcomes.Outcome.{derived}
 use Rattle.ixdtf.specs.Handlers.{Reply, first_calendar, RefusedBeside, NoneRefused, calendar_value, with_calendar, GivesRecord, GivesFault, pair_of, Calls, handed, replies_of, Step, IsChain, own_replies, Handled, PlainRecord, PlainFault}
 use Rattle.ixdtf.specs.reading.Chains.{TextGives, TextRead}
-use Rattle.ixdtf.proofs.theorems.OneOutcome.{same_outcome, derived_begins}
+use Rattle.ixdtf.proofs.theorems.OneOutcome.{same_outcome, no_row_fits, derived_begins}
 use Rattle.ixdtf.proofs.code.OneMoreReply.{refused_last, refused_split}
 use Rattle.ixdtf.proofs.theorems.NoRow.{fault_comes, row_is_no_refusal}
 
 -- a text is derived in one way
-derived_once : (reader : Reader) (text : Text) (x y : Parsed) (xs ys : List Pair) → Derives reader text (parsed x) xs → Derives reader text (parsed y) ys → (x ≡ y) × (xs ≡ ys)
+pub derived_once : (reader : Reader) (text : Text) (x y : Parsed) (xs ys : List Pair) → Derives reader text (parsed x) xs → Derives reader text (parsed y) ys → (x ≡ y) × (xs ≡ ys)
 derived_once reader text x y xs ys dx dy =
     let same : derived (parsed x) xs ≡ derived (parsed y) ys = same_outcome reader text (derived (parsed x) xs) (derived (parsed y) ys) dx dy in
     let found : parsed x ≡ parsed y = cc in
     (cc, cc)
-
--- a text that is derived has no row
-derived_no_row : (reader : Reader) (text : Text) (x : Parsed) (xs ys : List Pair) (row : Row) → Derives reader text (parsed x) xs → Fits reader row ys text → ⊥
-derived_no_row reader text x xs ys row dx fits =
-    let same : derived (parsed x) xs ≡ refused row ys = same_outcome reader text (derived (parsed x) xs) (refused row ys) dx fits in
-    cc
 
 -- one record for the same replies
 record_once : (reader : Reader) (text : Text) (xs ys : List Pair) (replies : List Reply) (x y : Parsed) → GivesRecord reader text xs replies x → GivesRecord reader text ys replies y → x ≡ y
@@ -41,7 +34,7 @@ record_once reader text xs ys replies x y gx gy =
 no_record_and_fault : (reader : Reader) (text : Text) (pairs : List Pair) (replies : List Reply) (found : Parsed) (fault : Fault) → GivesRecord reader text pairs replies found → ¬ (GivesFault reader text pairs replies fault)
 no_record_and_fault reader text pairs replies found fault gives other = elim other [
   | inl p ↦ refused_last replies [] fault p.1 (subst NoneRefused (sym (append-nil replies)) gives.accepted)
-  | inr p ↦ derived_no_row reader text gives.read pairs pairs p.0.0 gives.whole p.0.1
+  | inr p ↦ no_row_fits reader text (parsed gives.read, pairs, gives.whole) p.0.0 pairs p.0.1
 ]
 
 -- as many replies as calls, each of them none
@@ -113,7 +106,7 @@ module _ {T U F : Type 0} (number : U → ℕ) (step : Step T U F) (handler : F)
         ap own_replies others.1 ∙ map-append (λ pair. Some pair) (handed number h.calls) others.0
         ∙ ap (λ replies. replies ++ own_replies others.0) (sym (replies_own own h.calls handler h.last h.chain)) in
         absurd (refused_last (replies_of number h.calls) (own_replies others.0) fault p.1 (subst NoneRefused all gives.accepted))
-    | inr p ↦ absurd (derived_no_row reader text gives.read pairs (handed number h.calls) p.0.0 gives.whole p.0.1)
+    | inr p ↦ absurd (no_row_fits reader text (parsed gives.read, pairs, gives.whole) p.0.0 (handed number h.calls) p.0.1)
   ]
 
   -- what the plain form promises

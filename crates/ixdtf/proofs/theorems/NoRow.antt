@@ -4,7 +4,9 @@ use Rattle.ixdtf.specs.language.Letters.{Text}
 use Rattle.ixdtf.specs.language.Letters.{hyphen, colon, digit, closing}
 use Rattle.ixdtf.specs.language.Times.{Clock}
 use Rattle.ixdtf.specs.language.Times.{Clock as clocks}
-use Rattle.ixdtf.specs.table.Faults.{Fault, never_comes}
+use Rattle.ixdtf.specs.language.Durations.{Half}
+use Rattle.ixdtf.specs.language.Durations.{Half as halves}
+use Rattle.ixdtf.specs.table.Faults.{Fault, never_comes, is_refusal}
 use Rattle.ixdtf.specs.table.Faults.Fault.{UnrecognizedCritical, CriticalDuplicateCalendar, DateSeparator, DateDay, InvalidEnd, IanaChar}
 use Rattle.ixdtf.specs.language.Brackets.{Pair}
 use Rattle.ixdtf.specs.language.Readers.{Reader, has_brackets}
@@ -21,9 +23,12 @@ use Rattle.ixdtf.specs.table.LineNames.OffsetLine.{offset_start, after_zulu}
 use Rattle.ixdtf.specs.table.LineNames.ZoneLine.{identifier_start, zone_name_start, in_zone_name, after_zone_slash}
 use Rattle.ixdtf.specs.table.LineNames.BracketLine.{first_bracket_start, first_critical_start, first_bracket_scan, after_bracket}
 use Rattle.ixdtf.specs.table.LineNames.PairLine.{key_start, critical_key_start, in_key, value_start, in_value, after_value_hyphen}
+use Rattle.ixdtf.specs.table.LineNames.DurationLine.{duration_start, after_duration_sign, after_duration_designator, after_date_groups}
+use Rattle.ixdtf.specs.table.LineNames.DurationLine.{after_time_designator, group_digits, group_value_range, unit_order, date_unit_range}
+use Rattle.ixdtf.specs.table.LineNames.DurationLine.{group_fraction_start, group_fraction_digits, after_time_groups, after_fraction_group}
 use Rattle.ixdtf.specs.table.LineNames.{of_date, of_year_month, of_month_day, of_time}
-use Rattle.ixdtf.specs.table.LineNames.LineName.{of_clock, of_offset, of_zone, of_bracket, of_pair}
-use Rattle.ixdtf.specs.table.Lines.{Line, Ending, Follow, follow_of, mixed, second_fault, zone_line, line_of, table}
+use Rattle.ixdtf.specs.table.LineNames.LineName.{of_clock, of_offset, of_zone, of_bracket, of_pair, of_duration}
+use Rattle.ixdtf.specs.table.Lines.{Line, Ending, Follow, follow_of, mixed, second_fault, zone_line, no_designator, order_fault, line_of, table}
 use Rattle.ixdtf.specs.table.Lines.Line.{line, scanned, whole}
 use Rattle.ixdtf.specs.table.Lines.Ending.{ok, error}
 use Rattle.ixdtf.specs.table.Rows.{Place, Stops}
@@ -31,14 +36,8 @@ use Rattle.ixdtf.specs.table.Rows.Place.{end, other, bad, anywhere}
 use Rattle.ixdtf.specs.table.Outcomes.{HasFault}
 use Rattle.std.proofs.lemmas.Bool.{or_parts}
 
--- the errors of refused replies
-abbrev refuses : Fault → Bool
-refuses UnrecognizedCritical = true
-refuses CriticalDuplicateCalendar = true
-refuses fault = false
-
 abbrev no_row : Fault → Bool
-no_row fault = never_comes fault || refuses fault
+no_row fault = never_comes fault || is_refusal fault
 
 abbrev EndHas : Ending → Type 0
 EndHas ok = Unit {0}
@@ -77,6 +76,14 @@ second_has clocks.MinuteOffset = refl
 zone_has : (brackets : Bool) → LineHas (zone_line brackets in_zone_name)
 zone_has true = (refl, λ c. refl)
 zone_has false = (tt, λ c. either_has (closing c) InvalidEnd IanaChar refl refl)
+
+designator_has : (half : Half) → IsFalse (no_row (no_designator half))
+designator_has halves.date = refl
+designator_has halves.time = refl
+
+order_has : (half : Half) → IsFalse (no_row (order_fault half))
+order_has halves.date = refl
+order_has halves.time = refl
 
 line_has : (brackets : Bool) (name : LineName) → LineHas (line_of brackets name)
 line_has brackets (of_date year_start) = (refl, λ c. refl)
@@ -135,6 +142,19 @@ line_has brackets (of_pair in_key) = (refl, λ c. refl)
 line_has brackets (of_pair value_start) = (refl, λ c. refl)
 line_has brackets (of_pair in_value) = (refl, λ c. refl)
 line_has brackets (of_pair after_value_hyphen) = (refl, λ c. refl)
+line_has brackets (of_duration duration_start) = (refl, λ c. refl)
+line_has brackets (of_duration after_duration_sign) = (refl, λ c. refl)
+line_has brackets (of_duration after_duration_designator) = (refl, λ c. refl)
+line_has brackets (of_duration after_date_groups) = (tt, λ c. refl)
+line_has brackets (of_duration after_time_designator) = (refl, λ c. refl)
+line_has brackets (of_duration (group_digits half)) = let has = designator_has half in (has, λ c. has)
+line_has brackets (of_duration (group_value_range half)) = refl
+line_has brackets (of_duration (unit_order half)) = order_has half
+line_has brackets (of_duration date_unit_range) = refl
+line_has brackets (of_duration group_fraction_start) = (refl, λ c. refl)
+line_has brackets (of_duration group_fraction_digits) = (refl, λ c. refl)
+line_has brackets (of_duration after_time_groups) = (tt, λ c. refl)
+line_has brackets (of_duration after_fraction_group) = (tt, λ c. refl)
 
 end_has : (at_end : Ending) (fault : Fault) → EndHas at_end → at_end ≡ error fault → IsFalse (no_row fault)
 end_has ok fault has is = absurd cc
@@ -165,10 +185,13 @@ pub fault_comes : (reader : Reader) (text : Text) (pairs : List Pair) (fault : F
 fault_comes reader text pairs fault h = (or_parts _ _ (row_has reader text pairs fault h)).0
 
 -- a fault that a text has is no refusal of a reply
+pub fault_refuses_none : (reader : Reader) (text : Text) (pairs : List Pair) (fault : Fault) → HasFault reader text pairs fault → IsFalse (is_refusal fault)
+fault_refuses_none reader text pairs fault h = (or_parts _ _ (row_has reader text pairs fault h)).1
+
 pub row_is_no_refusal : (reader : Reader) (text : Text) (pairs : List Pair) (fault : Fault) → HasFault reader text pairs fault
     → (fault ≢ UnrecognizedCritical) × (fault ≢ CriticalDuplicateCalendar)
 row_is_no_refusal reader text pairs fault h =
-    let known = (or_parts _ _ (row_has reader text pairs fault h)).1 in (
-      (λ is. let wrong : true ≡ false = sym (ap refuses is) ∙ known in absurd cc),
-      λ is. let wrong : true ≡ false = sym (ap refuses is) ∙ known in absurd cc,
+    let known = fault_refuses_none reader text pairs fault h in (
+      (λ is. let wrong : true ≡ false = sym (ap is_refusal is) ∙ known in absurd cc),
+      λ is. let wrong : true ≡ false = sym (ap is_refusal is) ∙ known in absurd cc,
     )

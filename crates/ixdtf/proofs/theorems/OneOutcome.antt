@@ -6,11 +6,12 @@ use Rattle.ixdtf.specs.language.Brackets.{ZoneNote}
 use Rattle.ixdtf.specs.language.Brackets.{Pair}
 use Rattle.ixdtf.specs.language.Cores.{Core}
 use Rattle.ixdtf.specs.language.Readers.{Reader}
-use Rattle.ixdtf.specs.language.Readers.Reader.{bracketed, parse_offset, parse_identifier, parse_iana_identifier}
+use Rattle.ixdtf.specs.language.Readers.Reader.{bracketed, parse_offset, parse_identifier, parse_iana_identifier, parse_duration}
 use Rattle.ixdtf.specs.language.Languages.{Parsed, parsed_with, Found, Derives}
-use Rattle.ixdtf.specs.table.Outcomes.{HasFault, Outcome, Holds, OneOutcome}
+use Rattle.ixdtf.specs.table.Outcomes.{HasFault, NoRowFits, Outcome, Holds, OneOutcome}
 use Rattle.ixdtf.specs.language.Languages.Found.{parsed}
 use Rattle.ixdtf.specs.table.Outcomes.Outcome.{derived, refused}
+use Rattle.ixdtf.specs.Laws.{InLanguage}
 use Rattle.ixdtf.specs.reading.Looks.{Read, ◌>>=◌}
 use Rattle.ixdtf.specs.reading.Pairs.{pairs_at}
 use Rattle.ixdtf.specs.reading.Wholes.{bracketed_text_at, with_pairs, read_at, RowBehind, row_behind, outcome_of, outcome}
@@ -36,6 +37,10 @@ one_outcome reader text = (outcome reader text, outcome_holds reader text, decid
 
 pub same_outcome : (reader : Reader) (text : Text) (x y : Outcome) → Holds reader text x → Holds reader text y → x ≡ y
 same_outcome reader text x y h g = decides reader text x h ∙ sym (decides reader text y g)
+
+-- where something is derived from a text, no row fits it
+pub no_row_fits : (reader : Reader) (text : Text) → InLanguage reader text → NoRowFits reader text
+no_row_fits reader text h row pairs fits = let same : derived h.0 h.1 ≡ refused row pairs = same_outcome reader text (derived h.0 h.1) (refused row pairs) h.2 fits in absurd cc
 
 -- the pairs are the first of all
 abbrev pub Begins : List Pair → List Pair → Type 0
@@ -67,6 +72,7 @@ front_begins (bracketed kind) front rest read pairs d = go (brackets_of d.bracke
 front_begins parse_offset front rest read pairs d = absurd d
 front_begins parse_identifier front rest read pairs d = absurd d
 front_begins parse_iana_identifier front rest read pairs d = absurd d
+front_begins parse_duration front rest read pairs d = absurd d
 
 -- the pairs of a front that is derived begin those of the text, whether it is derived or has a fault
 pub derived_begins : (reader : Reader) (front rest : Text) (read whole : Parsed) (pairs all : List Pair) → Derives reader front (parsed read) pairs → Derives reader (front ++ rest) (parsed whole) all → Begins pairs all

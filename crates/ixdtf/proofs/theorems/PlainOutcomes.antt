@@ -7,7 +7,7 @@ use Rattle.ixdtf.specs.Handlers.{calendar_key, first_calendar, calendar_value, w
 use Rattle.ixdtf.specs.language.Brackets.{Pair, ZoneNote, ArePairs, IsTail}
 use Rattle.ixdtf.specs.language.Cores.{Core, IsCore}
 use Rattle.ixdtf.specs.language.Languages.{Parsed, parsed_with}
-use Rattle.ixdtf.specs.language.Languages.Found.{parsed, shifted, identified, named}
+use Rattle.ixdtf.specs.language.Languages.Found.{parsed, shifted, identified, named, lasting}
 use Rattle.ixdtf.specs.language.Letters.{Text}
 use Rattle.ixdtf.specs.language.Readers.{CoreKind}
 use Rattle.ixdtf.specs.language.Readers.Reader.{bracketed}
@@ -16,7 +16,7 @@ use Rattle.ixdtf.specs.table.Faults.{Fault}
 use Rattle.ixdtf.specs.table.Faults.Fault.{UnrecognizedCritical, CriticalDuplicateCalendar}
 use Rattle.ixdtf.specs.table.LineNames.{LineName}
 use Rattle.ixdtf.specs.table.LineNames.BracketLine.{first_bracket_start, first_critical_start, first_bracket_scan, after_bracket}
-use Rattle.ixdtf.specs.table.LineNames.LineName.{of_core, of_clock, of_offset, of_zone, of_bracket, of_pair}
+use Rattle.ixdtf.specs.table.LineNames.LineName.{of_core, of_clock, of_offset, of_zone, of_bracket, of_pair, of_duration}
 use Rattle.ixdtf.specs.table.LineNames.ZoneLine.{identifier_start, zone_name_start, in_zone_name, after_zone_slash}
 use Rattle.ixdtf.specs.table.LineNames.PairLine.{key_start, critical_key_start, in_key, value_start, in_value, after_value_hyphen}
 use Rattle.ixdtf.specs.table.Before.{Bracketed, BeforeKey, BeforeBracketed}
@@ -149,6 +149,7 @@ before_row kind (of_pair in_key) pairs before rest h = before_key kind pairs bef
 before_row kind (of_pair value_start) pairs before rest h = before_key kind pairs before rest h
 before_row kind (of_pair in_value) pairs before rest h = before_key kind pairs before rest h
 before_row kind (of_pair after_value_hyphen) pairs before rest h = before_key kind pairs before rest h
+before_row kind (of_duration name) pairs before rest h = absurd h
 
 -- replies that have a last one are some
 some_pair : (xs ys : List Pair) (fault : Fault) → LastRefused (own_replies xs) fault → xs ++ ys ≡ [] → ⊥
@@ -166,10 +167,10 @@ row_front kind row pairs xs ys text fault fits is last = elim (before_row kind r
 
 -- ---- each text has an outcome, where each pair is its own reply
 
-abbrev pub PlainOutcome : CoreKind → Text → Type 0
-PlainOutcome kind text = ((found : Parsed) × PlainRecord (bracketed kind) text found) ⊎ ((fault : Fault) × PlainFault (bracketed kind) text fault)
+abbrev pub RecordOrFault : CoreKind → Text → Type 0
+RecordOrFault kind text = ((found : Parsed) × PlainRecord (bracketed kind) text found) ⊎ ((fault : Fault) × PlainFault (bracketed kind) text fault)
 
-plain_of : (kind : CoreKind) (text : Text) (x : Outcome) → Holds (bracketed kind) text x → PlainOutcome kind text
+plain_of : (kind : CoreKind) (text : Text) (x : Outcome) → Holds (bracketed kind) text x → RecordOrFault kind text
 plain_of kind text (derived (parsed read) pairs) d = elim (all_or_stopped [] pairs NoneRefused-nothing) [
   | inl none ↦ inl (with_calendar read (calendar_value (first_calendar (own_replies pairs))), (pairs, record { read = read; whole = d; accepted = none; has = refl }))
   | inr p ↦
@@ -180,6 +181,7 @@ plain_of kind text (derived (parsed read) pairs) d = elim (all_or_stopped [] pai
 plain_of kind text (derived (shifted offset) pairs) d = absurd d
 plain_of kind text (derived (identified zone) pairs) d = absurd d
 plain_of kind text (derived (named name) pairs) d = absurd d
+plain_of kind text (derived (lasting duration) pairs) d = absurd d
 plain_of kind text (refused row pairs) fits = elim (all_or_stopped [] pairs NoneRefused-nothing) [
   | inl none ↦ inr (row.error, (pairs, inr ((row, fits, refl), none)))
   | inr p ↦
@@ -187,5 +189,5 @@ plain_of kind text (refused row pairs) fits = elim (all_or_stopped [] pairs None
       inr (fault, (front, inl (row_front kind row pairs front back text fault fits is last, last)))
 ]
 
-pub plain_outcome : (kind : CoreKind) (text : Text) → PlainOutcome kind text
+pub plain_outcome : (kind : CoreKind) (text : Text) → RecordOrFault kind text
 plain_outcome kind text = let one = one_outcome (bracketed kind) text in plain_of kind text one.0 one.1

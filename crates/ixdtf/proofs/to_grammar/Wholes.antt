@@ -8,17 +8,18 @@ use Rattle.ixdtf.specs.language.Brackets.{Pair, ArePairs, IsTail}
 use Rattle.ixdtf.specs.language.Cores.{Core, IsCore}
 use Rattle.ixdtf.specs.language.Readers.{Reader, CoreKind}
 use Rattle.ixdtf.specs.table.LineNames.{LineName}
-use Rattle.ixdtf.specs.language.Readers.Reader.{bracketed, parse_offset, parse_identifier, parse_iana_identifier}
-use Rattle.ixdtf.specs.table.LineNames.LineName.{of_core, of_clock, of_offset, of_zone, of_bracket, of_pair}
+use Rattle.ixdtf.specs.language.Readers.Reader.{bracketed, parse_offset, parse_identifier, parse_iana_identifier, parse_duration}
+use Rattle.ixdtf.specs.table.LineNames.LineName.{of_core, of_clock, of_offset, of_zone, of_bracket, of_pair, of_duration}
 use Rattle.ixdtf.specs.table.LineNames.ZoneLine.{identifier_start, zone_name_start, in_zone_name, after_zone_slash}
 use Rattle.ixdtf.specs.table.LineNames.BracketLine.{first_bracket_start, first_critical_start, first_bracket_scan, after_bracket}
 use Rattle.ixdtf.specs.table.LineNames.PairLine.{key_start, critical_key_start, in_key, value_start, in_value, after_value_hyphen}
 use Rattle.ixdtf.specs.table.Before.{Before, Bracketed}
 use Rattle.ixdtf.specs.table.Rows.{Row, Fits}
 use Rattle.ixdtf.specs.language.Languages.{Parsed, parsed_with, IsBracketed, Found, Derives}
-use Rattle.ixdtf.specs.language.Languages.Found.{shifted, identified, named}
+use Rattle.ixdtf.specs.language.Languages.Found.{shifted, identified, named, lasting}
 use Rattle.ixdtf.specs.reading.Looks.{Read, ◌>>=◌, error_of}
 use Rattle.ixdtf.specs.reading.Pairs.{pairs_at}
+use Rattle.ixdtf.specs.reading.Durations.{duration_at}
 use Rattle.ixdtf.specs.reading.Zones.{offset_at, identifier_at, iana_identifier_at}
 use Rattle.ixdtf.specs.reading.Brackets.{Bracket, zoned, paired, zone_in, pairs_in, bracket_at}
 use Rattle.ixdtf.specs.reading.Cores.{ClosedCore, core_at}
@@ -30,6 +31,7 @@ use Rattle.ixdtf.proofs.to_grammar.FirstBracket.{InBracket, FitsAfterCore, IsBra
 use Rattle.ixdtf.proofs.to_reading.FirstBracket.{bracket_takes}
 use Rattle.ixdtf.proofs.to_grammar.MorePairs.{OnPairs, pairs_read}
 use Rattle.ixdtf.proofs.parts.ZonesAlone.{offset_read, identifier_read, iana_identifier_read}
+use Rattle.ixdtf.proofs.to_grammar.Durations.{duration_read}
 
 -- what stands before a line of a first bracket, where a core stands before it
 in_first : (kind : CoreKind) (name : LineName) (cores prior rest : Text) → some (IsCore kind) cores → InBracket name prior rest → Before (bracketed kind) name [] (cores ++ prior) rest
@@ -52,6 +54,7 @@ in_first kind (of_pair in_key) cores prior rest core b = inl ((cores, prior, ref
 in_first kind (of_pair value_start) cores prior rest core b = inl ((cores, prior, refl, core, b.0), b.1, refl)
 in_first kind (of_pair in_value) cores prior rest core b = inl ((cores, prior, refl, core, b.0), b.1, refl)
 in_first kind (of_pair after_value_hyphen) cores prior rest core b = inl ((cores, prior, refl, core, b.0), b.1, refl)
+in_first kind (of_duration name) cores prior rest core b = absurd b
 
 -- the row fits the text, where it fits what stands after the core
 pub after_core : (kind : CoreKind) (row : Row) (text cores body : Text) → text ≡ cores ++ body → some (IsCore kind) cores → FitsAfterCore row body → Fits (bracketed kind) row [] text
@@ -73,6 +76,7 @@ in_later kind (of_pair in_key) pairs whole prior rest h b = inr (whole, prior, r
 in_later kind (of_pair value_start) pairs whole prior rest h b = inr (whole, prior, refl, h, b)
 in_later kind (of_pair in_value) pairs whole prior rest h b = inr (whole, prior, refl, h, b)
 in_later kind (of_pair after_value_hyphen) pairs whole prior rest h b = inr (whole, prior, refl, h, b)
+in_later kind (of_duration name) pairs whole prior rest h b = absurd b
 
 pub after_brackets : (kind : CoreKind) (row : Row) (pairs : List Pair) (text whole rest : Text) → text ≡ whole ++ rest → Bracketed kind pairs whole → FitsAfterBrackets row rest → Fits (bracketed kind) row pairs text
 after_brackets kind row pairs text whole rest is h f = (whole ++ f.0, f.1, is ∙ rw f.2 (simp append_assoc), in_later kind row.name pairs whole f.0 f.1 h f.3, f.4)
@@ -150,3 +154,4 @@ module _ {E : Type 0} (fault : List Pair → Row → E) where
   whole_read parse_offset text = found_read parse_offset text shifted (offset_at (fault []) text) _ (offset_read (fault []) text) (λ x d. (d, refl))
   whole_read parse_identifier text = found_read parse_identifier text identified (identifier_at (fault []) text) _ (identifier_read (fault []) text) (λ x d. (d, refl))
   whole_read parse_iana_identifier text = found_read parse_iana_identifier text named (iana_identifier_at (fault []) text) _ (iana_identifier_read (fault []) text) (λ x d. (d, refl))
+  whole_read parse_duration text = found_read parse_duration text lasting (duration_at (fault []) text) _ (duration_read (fault []) text) (λ x d. (d, refl))

@@ -1,7 +1,7 @@
 -- A core is read, with the end or the bracket after it, and each row of a core's lines is returned.
 use Rattle.std.proofs.Common.{◌≡◌, ℕ, true, false, IsTrue, IsFalse, [], ◌∷◌, ◌++◌, Ok, Err, Option, Some, None, refl, sym, ap, ◌∙◌, subst, inl, inr, ◌||◌}
 use Rattle.std.proofs.Common.{arith, append_assoc}
-use Rattle.std.proofs.lemmas.Bool.{or_parts, eqb-true}
+use Rattle.std.proofs.lemmas.Bool.{or_parts}
 use Rattle.std.proofs.lemmas.Bool.Decides.{nat_tests}
 use Rattle.ixdtf.specs.declared.records.DateRecord.{DateRecord}
 use Rattle.ixdtf.specs.declared.records.TimeRecord.{TimeRecord}
@@ -33,7 +33,7 @@ use Rattle.ixdtf.specs.table.LineNames.OffsetLine.{after_zulu}
 use Rattle.ixdtf.specs.table.Lines.{line_of, always}
 use Rattle.ixdtf.specs.table.Lines.Line.{line}
 use Rattle.ixdtf.specs.table.Lines.Ending.{ok}
-use Rattle.ixdtf.specs.table.Before.{DateAndSeparator, BeforeDate, AtCoreEnd, ReadsAsTime, InTimeAlone, BeforeCore, BeforeTime, BeforeOffset}
+use Rattle.ixdtf.specs.table.Before.{DateAndSeparator, BeforeDate, ReadsAsTime, InTimeAlone, BeforeCore, BeforeTime, BeforeOffset}
 use Rattle.ixdtf.specs.table.Rows.{Row, Place, Stops, front_of}
 use Rattle.ixdtf.specs.table.Rows.Place.{end, other, bad, anywhere}
 use Rattle.ixdtf.specs.reading.Looks.{Read, ◌>>=◌, row_of, look_at, next_by}
@@ -42,7 +42,8 @@ use Rattle.ixdtf.specs.reading.Times.{OpenTime, line_after, hour_from, clock_at}
 use Rattle.ixdtf.specs.reading.Cores.{ClosedCore, core_look, core_end_at, with_offset, offset_core_at, after_time_at, time_core_at, after_date_at}
 use Rattle.ixdtf.specs.reading.Cores.{date_time_core_at, date_alone_at, lone_time_at, marked_time_at, marked_core_at, unfronted, time_alone_core_at, core_at}
 use Rattle.ixdtf.proofs.parts.Looks.{Leads, RowsRead, peek_end, peek_goes, peek_other, peek_stops}
-use Rattle.ixdtf.proofs.parts.Fronts.{CoreEnds, no_front_after, month_day_stops, year_month_stops, unfronted_goes}
+use Rattle.ixdtf.proofs.parts.CoreLetters.{CoreEnds, core_ends}
+use Rattle.ixdtf.proofs.parts.Fronts.{no_front_after, month_day_stops, year_month_stops, unfronted_goes}
 use Rattle.ixdtf.proofs.to_reading.Dates.{IsInside, date_takes, date_row_read}
 use Rattle.ixdtf.proofs.to_reading.Months.{year_month_takes, month_day_takes, year_month_date_row, year_month_row, month_day_row}
 use Rattle.ixdtf.proofs.to_reading.Times.{closed_at_end, Closed, IsLater}
@@ -323,10 +324,6 @@ module _ {E : Type 0} (fault : Row → E) where
   unfronted_takes : (text : Text) (x : ClosedCore × Text) → HasNoDateFront text → marked_core_at fault text ≡ Ok x → time_alone_core_at fault text ≡ Ok x
   unfolding time_alone_core_at
   unfronted_takes text x none h = rw h (unfronted_goes text fault (Ok x) none)
-
-  core_ends : (rest : Text) → AtCoreEnd rest → CoreEnds rest
-  core_ends rest (inl is) = inl is
-  core_ends rest (inr h) = let bracket : h.3.0 ≡ 91 = eqb-true h.3.0 91 h.3.2 in inr (h.1, rw (h.2, h.3.1, bracket) refl)
 
   -- a time is read as a whole, and then the test of its front refuses it
   front_refuses : (text : Text) (e : E) → ReadsAsTime text → ((x : ClosedCore × Text) → unfronted fault text (Ok x) ≡ Err e)

@@ -17,7 +17,7 @@ use Rattle.ixdtf.specs.language.ZoneNames.Zone.{Offset}
 use Rattle.ixdtf.specs.language.Brackets.{Opens, zone_only_lead, ReadsAsName}
 use Rattle.ixdtf.specs.language.Brackets.{ReadsAsPair}
 use Rattle.ixdtf.specs.table.LineNames.{ClockLine, PairLine, LineName}
-use Rattle.ixdtf.specs.table.LineNames.LineName.{of_core, of_clock, of_offset, of_zone, of_bracket, of_pair}
+use Rattle.ixdtf.specs.table.LineNames.LineName.{of_core, of_clock, of_offset, of_zone, of_bracket, of_pair, of_duration}
 use Rattle.ixdtf.specs.table.LineNames.ZoneLine.{identifier_start, zone_name_start, in_zone_name, after_zone_slash}
 use Rattle.ixdtf.specs.table.LineNames.BracketLine.{first_bracket_start, first_critical_start, first_bracket_scan, after_bracket}
 use Rattle.ixdtf.specs.table.LineNames.PairLine.{key_start, critical_key_start, in_key, value_start, in_value, after_value_hyphen}
@@ -276,6 +276,7 @@ module _ {E : Type 0} (fault : Row → E) where
   pub bracket_rows : (name : LineName) (place : Place) (e : Fault) (before front rest : Text) → InBracket name before (front ++ rest) → front_of (line_of true name) front → Stops (line_of true name) place e rest
       → (inner : Text) × (before ++ (front ++ rest) ≡ Plain 91 ∷ inner) × (bracket_at fault inner ≡ Err (fault (row_of name place e)))
   bracket_rows (of_core l) place e start front rest b f at = absurd b
+  bracket_rows (of_duration l) place e start front rest b f at = absurd b
   bracket_rows (of_clock clocks.Time l) place e start front rest b f at = absurd b
   bracket_rows (of_clock clocks.Offset l) place e start front rest b f at = absurd b
   bracket_rows (of_clock clocks.MinuteOffset l) place e start front rest b f at = clock_row l place e start front rest b f at

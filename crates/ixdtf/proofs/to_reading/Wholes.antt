@@ -10,8 +10,8 @@ use Rattle.ixdtf.specs.language.Brackets.{Pair, ArePairs, IsTail, ReadsAsPair}
 use Rattle.ixdtf.specs.language.Cores.{Core, IsCore}
 use Rattle.ixdtf.specs.language.Readers.{Reader, CoreKind}
 use Rattle.ixdtf.specs.table.LineNames.{LineName}
-use Rattle.ixdtf.specs.language.Readers.Reader.{bracketed, parse_offset, parse_identifier, parse_iana_identifier}
-use Rattle.ixdtf.specs.table.LineNames.LineName.{of_core, of_clock, of_offset, of_zone, of_bracket, of_pair}
+use Rattle.ixdtf.specs.language.Readers.Reader.{bracketed, parse_offset, parse_identifier, parse_iana_identifier, parse_duration}
+use Rattle.ixdtf.specs.table.LineNames.LineName.{of_core, of_clock, of_offset, of_zone, of_bracket, of_pair, of_duration}
 use Rattle.ixdtf.specs.table.LineNames.OffsetLine.{offset_start, after_zulu}
 use Rattle.ixdtf.specs.table.LineNames.ZoneLine.{identifier_start, zone_name_start, in_zone_name, after_zone_slash}
 use Rattle.ixdtf.specs.table.LineNames.BracketLine.{first_bracket_start, first_critical_start, first_bracket_scan, after_bracket}
@@ -20,7 +20,7 @@ use Rattle.ixdtf.specs.table.Lines.{line_of}
 use Rattle.ixdtf.specs.table.Before.{BeforeBracketed, Bracketed, BeforeKey}
 use Rattle.ixdtf.specs.table.Rows.{Row, Place, Stops, Fits, front_of}
 use Rattle.ixdtf.specs.language.Languages.{Parsed, parsed_with, IsBracketed, Found, Derives}
-use Rattle.ixdtf.specs.language.Languages.Found.{parsed, shifted, identified, named}
+use Rattle.ixdtf.specs.language.Languages.Found.{parsed, shifted, identified, named, lasting}
 use Rattle.ixdtf.specs.reading.Looks.{Read, ◌>>=◌, row_of}
 use Rattle.ixdtf.specs.reading.Pairs.{pairs_at}
 use Rattle.ixdtf.specs.reading.Brackets.{Bracket, zoned, paired, zone_in, pairs_in, bracket_at}
@@ -32,6 +32,7 @@ use Rattle.ixdtf.proofs.to_grammar.FirstBracket.{InBracket, IsBracket}
 use Rattle.ixdtf.proofs.to_reading.FirstBracket.{bracket_takes, bracket_rows}
 use Rattle.ixdtf.proofs.to_reading.MorePairs.{over_pairs, pairs_end, pairs_row}
 use Rattle.ixdtf.proofs.parts.ZonesAlone.{offset_takes, offset_rows as offset_reader_rows, identifier_takes, identifier_rows, iana_identifier_takes, iana_identifier_rows}
+use Rattle.ixdtf.proofs.to_reading.Durations.{duration_takes, duration_rows}
 
 -- one bracket or more, as reading takes them: a first one, and pairs
 pub record Brackets (text : Text) (zone : Option ZoneNote) (pairs : List Pair) : Type 0 where
@@ -180,6 +181,7 @@ module _ {E : Type 0} (fault : List Pair → Row → E) (kind : CoreKind) where
   whole_row (of_pair value_start) pairs place e prior front rest b f at = key_row (of_pair value_start) place e pairs prior front rest (λ t o. o) (λ t left o r. (o, r)) b f at
   whole_row (of_pair in_value) pairs place e prior front rest b f at = key_row (of_pair in_value) place e pairs prior front rest (λ t o. o) (λ t left o r. (o, r)) b f at
   whole_row (of_pair after_value_hyphen) pairs place e prior front rest b f at = key_row (of_pair after_value_hyphen) place e pairs prior front rest (λ t o. o) (λ t left o r. (o, r)) b f at
+  whole_row (of_duration l) pairs place e prior front rest b f at = absurd b
 
 module _ {E : Type 0} (fault : List Pair → Row → E) where
   -- ---- each reader
@@ -190,18 +192,27 @@ module _ {E : Type 0} (fault : List Pair → Row → E) where
   takes (bracketed kind) text (shifted offset) pairs d = absurd d
   takes (bracketed kind) text (identified zone) pairs d = absurd d
   takes (bracketed kind) text (named name) pairs d = absurd d
+  takes (bracketed kind) text (lasting duration) pairs d = absurd d
   takes parse_offset text (shifted offset) pairs d = rw (offset_takes (fault []) text offset d.0, d.1) refl
   takes parse_offset text (parsed found) pairs d = absurd d
   takes parse_offset text (identified zone) pairs d = absurd d
   takes parse_offset text (named name) pairs d = absurd d
+  takes parse_offset text (lasting duration) pairs d = absurd d
   takes parse_identifier text (identified zone) pairs d = rw (identifier_takes (fault []) text zone d.0, d.1) refl
   takes parse_identifier text (parsed found) pairs d = absurd d
   takes parse_identifier text (shifted offset) pairs d = absurd d
   takes parse_identifier text (named name) pairs d = absurd d
+  takes parse_identifier text (lasting duration) pairs d = absurd d
   takes parse_iana_identifier text (named name) pairs d = rw (iana_identifier_takes (fault []) text name d.0, d.1) refl
   takes parse_iana_identifier text (parsed found) pairs d = absurd d
   takes parse_iana_identifier text (shifted offset) pairs d = absurd d
   takes parse_iana_identifier text (identified zone) pairs d = absurd d
+  takes parse_iana_identifier text (lasting duration) pairs d = absurd d
+  takes parse_duration text (lasting duration) pairs d = rw (duration_takes (fault []) text duration d.0, d.1) refl
+  takes parse_duration text (parsed found) pairs d = absurd d
+  takes parse_duration text (shifted offset) pairs d = absurd d
+  takes parse_duration text (identified zone) pairs d = absurd d
+  takes parse_duration text (named name) pairs d = absurd d
 
   -- a row that fits is returned
   pub row_read : (reader : Reader) (text : Text) (row : Row) (pairs : List Pair) → Fits reader row pairs text → read_at fault reader text ≡ Err (fault pairs row)
@@ -209,3 +220,4 @@ module _ {E : Type 0} (fault : List Pair → Row → E) where
   row_read parse_offset text row pairs f = rw (f.3.1, f.2, f.4.2, offset_reader_rows (fault []) row.name pairs row.place row.error f.0 f.4.0 f.4.1 f.3 f.4.3 f.4.4) refl
   row_read parse_identifier text row pairs f = rw (f.3.1, f.2, f.4.2, identifier_rows (fault []) row.name pairs row.place row.error f.0 f.4.0 f.4.1 f.3 f.4.3 f.4.4) refl
   row_read parse_iana_identifier text row pairs f = rw (f.3.1, f.2, f.4.2, iana_identifier_rows (fault []) row.name pairs row.place row.error f.0 f.4.0 f.4.1 f.3 f.4.3 f.4.4) refl
+  row_read parse_duration text row pairs f = rw (f.3.1, f.2, f.4.2, duration_rows (fault []) row.name pairs row.place row.error f.0 f.4.0 f.4.1 f.3 f.4.3 f.4.4) refl

@@ -4,13 +4,15 @@ use Rattle.ixdtf.specs.declared.records.DateRecord.{DateRecord}
 use Rattle.ixdtf.specs.declared.records.TimeRecord.{TimeRecord}
 use Rattle.ixdtf.specs.declared.records.UtcOffsetRecord.{UtcOffsetRecord}
 use Rattle.ixdtf.specs.declared.records.UtcOffsetRecordOrZ.{UtcOffsetRecordOrZ}
+use Rattle.ixdtf.specs.declared.records.DurationParseRecord.{DurationParseRecord}
 use Rattle.ixdtf.specs.language.Letters.{Text}
 use Rattle.ixdtf.specs.language.Offsets.{IsOffset}
 use Rattle.ixdtf.specs.language.ZoneNames.{Zone, IsZoneName, IsZone}
 use Rattle.ixdtf.specs.language.Brackets.{ZoneNote, Pair, IsTail}
 use Rattle.ixdtf.specs.language.Cores.{Core, IsCore}
+use Rattle.ixdtf.specs.language.Durations.{IsDuration}
 use Rattle.ixdtf.specs.language.Readers.{Reader, CoreKind}
-use Rattle.ixdtf.specs.language.Readers.Reader.{bracketed, parse_offset, parse_identifier, parse_iana_identifier}
+use Rattle.ixdtf.specs.language.Readers.Reader.{bracketed, parse_offset, parse_identifier, parse_iana_identifier, parse_duration}
 
 -- what is derived from a text with brackets, with names by the numbers of their units
 pub record Parsed : Type 0 where
@@ -41,6 +43,7 @@ pub data Found : Type 0 where
   shifted : UtcOffsetRecord → Found
   identified : Zone → Found
   named : List ℕ → Found
+  lasting : DurationParseRecord → Found
 
 -- the language of a reader: which texts stand for what, with which pairs
 abbrev pub Derives : Reader → Text → Found → List Pair → Type 0
@@ -48,15 +51,24 @@ Derives (bracketed kind) text (parsed found) pairs = IsBracketed kind text found
 Derives (bracketed kind) text (shifted offset) pairs = ⊥
 Derives (bracketed kind) text (identified zone) pairs = ⊥
 Derives (bracketed kind) text (named units) pairs = ⊥
+Derives (bracketed kind) text (lasting duration) pairs = ⊥
 Derives parse_offset text (shifted offset) pairs = IsOffset text offset × (pairs ≡ [])
 Derives parse_offset text (parsed found) pairs = ⊥
 Derives parse_offset text (identified zone) pairs = ⊥
 Derives parse_offset text (named units) pairs = ⊥
+Derives parse_offset text (lasting duration) pairs = ⊥
 Derives parse_identifier text (identified zone) pairs = IsZone text zone × (pairs ≡ [])
 Derives parse_identifier text (parsed found) pairs = ⊥
 Derives parse_identifier text (shifted offset) pairs = ⊥
 Derives parse_identifier text (named units) pairs = ⊥
+Derives parse_identifier text (lasting duration) pairs = ⊥
 Derives parse_iana_identifier text (named units) pairs = IsZoneName text units × (pairs ≡ [])
 Derives parse_iana_identifier text (parsed found) pairs = ⊥
 Derives parse_iana_identifier text (shifted offset) pairs = ⊥
 Derives parse_iana_identifier text (identified zone) pairs = ⊥
+Derives parse_iana_identifier text (lasting duration) pairs = ⊥
+Derives parse_duration text (lasting duration) pairs = IsDuration text duration × (pairs ≡ [])
+Derives parse_duration text (parsed found) pairs = ⊥
+Derives parse_duration text (shifted offset) pairs = ⊥
+Derives parse_duration text (identified zone) pairs = ⊥
+Derives parse_duration text (named units) pairs = ⊥

@@ -131,3 +131,35 @@ key_char = key_lead or digit or hyphen
 -- what stands in a value (`value-char`)
 abbrev pub value_char : Class
 value_char = upper or lower or digit
+
+-- `P` or `p`, which begins a duration (ISO 8601 section 5.5.2)
+abbrev pub duration_designator : Class
+duration_designator c = nat_eq c 80 || nat_eq c 112
+
+-- `Y` or `y`
+abbrev pub year_letter : Class
+year_letter c = nat_eq c 89 || nat_eq c 121
+
+-- `M` or `m`, of months
+abbrev pub month_letter : Class
+month_letter c = nat_eq c 77 || nat_eq c 109
+
+-- `W` or `w`
+abbrev pub week_letter : Class
+week_letter c = nat_eq c 87 || nat_eq c 119
+
+-- `D` or `d`
+abbrev pub day_letter : Class
+day_letter c = nat_eq c 68 || nat_eq c 100
+
+-- `H` or `h`
+abbrev pub hour_letter : Class
+hour_letter c = nat_eq c 72 || nat_eq c 104
+
+-- `M` or `m`, of minutes
+abbrev pub minute_letter : Class
+minute_letter c = nat_eq c 77 || nat_eq c 109
+
+-- `S` or `s`
+abbrev pub second_letter : Class
+second_letter c = nat_eq c 83 || nat_eq c 115

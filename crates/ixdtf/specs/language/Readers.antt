@@ -5,10 +5,10 @@ use Rattle.std.specs.Prelude.{Bool, true, false}
 pub data CoreKind : Type 0 where
   date_time year_month month_day time_alone : CoreKind
 
--- the readers: of a core and the brackets after it, of an offset, of a time zone, and of the name of one
+-- the readers: of a core and the brackets after it, of an offset, of a time zone, of the name of one, and of a duration
 pub data Reader : Type 0 where
   bracketed : CoreKind → Reader
-  parse_offset parse_identifier parse_iana_identifier : Reader
+  parse_offset parse_identifier parse_iana_identifier parse_duration : Reader
 
 abbrev pub parse : Reader
 parse = bracketed date_time
@@ -28,3 +28,4 @@ has_brackets (bracketed kind) = true
 has_brackets parse_offset = false
 has_brackets parse_identifier = false
 has_brackets parse_iana_identifier = false
+has_brackets parse_duration = false

@@ -10,7 +10,7 @@ use Rattle.ixdtf.specs.language.Readers.{Reader, CoreKind}
 use Rattle.ixdtf.specs.language.Readers.Reader.{bracketed}
 use Rattle.ixdtf.specs.table.Faults.{Fault}
 use Rattle.ixdtf.specs.table.LineNames.{LineName, PairLine}
-use Rattle.ixdtf.specs.table.LineNames.LineName.{of_core, of_clock, of_offset, of_zone, of_bracket, of_pair}
+use Rattle.ixdtf.specs.table.LineNames.LineName.{of_core, of_clock, of_offset, of_zone, of_bracket, of_pair, of_duration}
 use Rattle.ixdtf.specs.table.LineNames.BracketLine.{first_bracket_start, first_critical_start, first_bracket_scan, after_bracket}
 use Rattle.ixdtf.specs.table.LineNames.PairLine.{key_start, critical_key_start, in_key, value_start, in_value, after_value_hyphen}
 use Rattle.ixdtf.specs.table.Rows.{Row, FitsHere}
@@ -38,6 +38,7 @@ AfterBrackets (of_core line) before = ⊥
 AfterBrackets (of_clock clock line) before = ⊥
 AfterBrackets (of_offset line) before = ⊥
 AfterBrackets (of_zone line) before = ⊥
+AfterBrackets (of_duration line) before = ⊥
 
 -- the row fits what stands after whole brackets
 abbrev pub FitsAfterBrackets : Row → Text → Type 0

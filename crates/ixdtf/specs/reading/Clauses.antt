@@ -21,6 +21,7 @@ use Rattle.ixdtf.specs.language.Cores.{Core, core_of}
 use Rattle.ixdtf.specs.table.Faults.{Fault}
 use Rattle.ixdtf.specs.table.Faults.{Fault as faults}
 use Rattle.ixdtf.specs.table.Lines.{always, abrupt_digit, abrupt_date, abrupt_month_day, abrupt_bracket, abrupt_offset, abrupt_zone}
+use Rattle.ixdtf.specs.table.Lines.{abrupt_duration_start, abrupt_duration_designator, abrupt_duration, abrupt_date_designator, abrupt_time_designator}
 use Rattle.ixdtf.specs.Views.{Unread, note_of}
 use Rattle.ixdtf.specs.Handlers.{pair_of}
 use Rattle.ixdtf.specs.reading.Looks.{Read, Look, ◌>>=◌, error_of, digit_run}
@@ -68,6 +69,16 @@ fault_of_stop stops.MonthDayHyphen = faults.MonthDayHyphen
 fault_of_stop stops.InvalidMonthDay = faults.InvalidMonthDay
 fault_of_stop stops.AmbiguousTimeMonthDay = faults.AmbiguousTimeMonthDay
 fault_of_stop stops.AmbiguousTimeYearMonth = faults.AmbiguousTimeYearMonth
+fault_of_stop stops.AbruptDurationStart = abrupt_duration_start
+fault_of_stop stops.AbruptDurationDesignator = abrupt_duration_designator
+fault_of_stop stops.AbruptDuration = abrupt_duration
+fault_of_stop stops.AbruptDateDesignator = abrupt_date_designator
+fault_of_stop stops.AbruptTimeDesignator = abrupt_time_designator
+fault_of_stop stops.DurationDisgnator = faults.DurationDisgnator
+fault_of_stop stops.DurationValueExceededRange = faults.DurationValueExceededRange
+fault_of_stop stops.DateDurationPartOrder = faults.DateDurationPartOrder
+fault_of_stop stops.TimeDurationPartOrder = faults.TimeDurationPartOrder
+fault_of_stop stops.TimeDurationDesignator = faults.TimeDurationDesignator
 
 -- what a private function returned, with its value seen by a view, and its stop by its fault
 abbrev pub yielded : {X Y : Type 0} → (X → Y) → Result X Stop → Result Y Fault

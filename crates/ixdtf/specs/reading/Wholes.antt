@@ -4,13 +4,14 @@ use Rattle.ixdtf.specs.language.Letters.{Text}
 use Rattle.ixdtf.specs.language.Cores.{Core}
 use Rattle.ixdtf.specs.language.Brackets.{Pair}
 use Rattle.ixdtf.specs.language.Readers.{Reader, CoreKind}
-use Rattle.ixdtf.specs.language.Readers.Reader.{bracketed, parse_offset, parse_identifier, parse_iana_identifier}
+use Rattle.ixdtf.specs.language.Readers.Reader.{bracketed, parse_offset, parse_identifier, parse_iana_identifier, parse_duration}
 use Rattle.ixdtf.specs.table.Rows.{Row}
 use Rattle.ixdtf.specs.language.Languages.{Parsed, parsed_with, Found}
 use Rattle.ixdtf.specs.table.Outcomes.{Outcome}
-use Rattle.ixdtf.specs.language.Languages.Found.{parsed, shifted, identified, named}
+use Rattle.ixdtf.specs.language.Languages.Found.{parsed, shifted, identified, named, lasting}
 use Rattle.ixdtf.specs.table.Outcomes.Outcome.{derived, refused}
 use Rattle.ixdtf.specs.reading.Looks.{Read, ◌>>=◌}
+use Rattle.ixdtf.specs.reading.Durations.{duration_at}
 use Rattle.ixdtf.specs.reading.Zones.{offset_at, identifier_at, iana_identifier_at}
 use Rattle.ixdtf.specs.reading.Pairs.{pairs_at}
 use Rattle.ixdtf.specs.reading.Cores.{ClosedCore, core_at}
@@ -53,6 +54,7 @@ read_at fault (bracketed kind) text = with_pairs (bracketed_text_at fault kind t
 read_at fault parse_offset text = finding shifted (offset_at (fault []) text)
 read_at fault parse_identifier text = finding identified (identifier_at (fault []) text)
 read_at fault parse_iana_identifier text = finding named (iana_identifier_at (fault []) text)
+read_at fault parse_duration text = finding lasting (duration_at (fault []) text)
 
 -- a row, with the pairs before it
 abbrev pub RowBehind : Type 0

@@ -10,7 +10,7 @@ use Rattle.ixdtf.specs.language.Brackets.{ZoneNote, Opens, ReadsAsName, ReadsAsP
 use Rattle.ixdtf.specs.language.Cores.{TimeMark, MarkedTime, HasFront, IsCore}
 use Rattle.ixdtf.specs.language.Readers.{Reader, CoreKind}
 use Rattle.ixdtf.specs.language.Readers.CoreKind.{date_time, year_month, month_day, time_alone}
-use Rattle.ixdtf.specs.language.Readers.Reader.{bracketed, parse_offset, parse_identifier, parse_iana_identifier}
+use Rattle.ixdtf.specs.language.Readers.Reader.{bracketed, parse_offset, parse_identifier, parse_iana_identifier, parse_duration}
 use Rattle.ixdtf.specs.table.LineNames.{DateLine, TimeLine, CoreLine, ClockLine, OffsetLine, LineName}
 use Rattle.ixdtf.specs.table.LineNames.DateLine.{year_start, year_digits, extended_year_digits, minus_zero_year, after_year, month_digits}
 use Rattle.ixdtf.specs.table.LineNames.DateLine.{month_range, after_hyphened_month, after_plain_month, day_digits, day_range, after_date}
@@ -22,7 +22,7 @@ use Rattle.ixdtf.specs.table.LineNames.OffsetLine.{offset_start, after_zulu}
 use Rattle.ixdtf.specs.table.LineNames.ZoneLine.{identifier_start, zone_name_start, in_zone_name, after_zone_slash}
 use Rattle.ixdtf.specs.table.LineNames.BracketLine.{first_bracket_start, first_critical_start, first_bracket_scan, after_bracket}
 use Rattle.ixdtf.specs.table.LineNames.PairLine.{key_start, critical_key_start, in_key, value_start, in_value, after_value_hyphen}
-use Rattle.ixdtf.specs.table.LineNames.LineName.{of_core, of_clock, of_offset, of_zone, of_bracket, of_pair}
+use Rattle.ixdtf.specs.table.LineNames.LineName.{of_core, of_clock, of_offset, of_zone, of_bracket, of_pair, of_duration}
 
 -- ---- lines of cores
 
@@ -169,6 +169,7 @@ BeforeBracketed kind (of_pair in_key) pairs before rest = BeforeKey kind pairs b
 BeforeBracketed kind (of_pair value_start) pairs before rest = BeforeKey kind pairs before rest
 BeforeBracketed kind (of_pair in_value) pairs before rest = BeforeKey kind pairs before rest
 BeforeBracketed kind (of_pair after_value_hyphen) pairs before rest = BeforeKey kind pairs before rest
+BeforeBracketed kind (of_duration line) pairs before rest = ⊥
 
 -- ---- lines of readers without brackets
 
@@ -182,6 +183,7 @@ InOffset (of_core line) before = ⊥
 InOffset (of_zone line) before = ⊥
 InOffset (of_bracket line) before = ⊥
 InOffset (of_pair line) before = ⊥
+InOffset (of_duration line) before = ⊥
 
 abbrev pub InIdentifier : LineName → Shape
 InIdentifier (of_zone identifier_start) before = nothing before
@@ -195,6 +197,7 @@ InIdentifier (of_core line) before = ⊥
 InIdentifier (of_offset line) before = ⊥
 InIdentifier (of_bracket line) before = ⊥
 InIdentifier (of_pair line) before = ⊥
+InIdentifier (of_duration line) before = ⊥
 
 abbrev pub InIanaIdentifier : LineName → Shape
 InIanaIdentifier (of_zone zone_name_start) before = nothing before
@@ -206,6 +209,16 @@ InIanaIdentifier (of_clock clock line) before = ⊥
 InIanaIdentifier (of_offset line) before = ⊥
 InIanaIdentifier (of_bracket line) before = ⊥
 InIanaIdentifier (of_pair line) before = ⊥
+InIanaIdentifier (of_duration line) before = ⊥
+
+abbrev pub InDuration : LineName → Shape
+InDuration (of_duration line) before = nothing before
+InDuration (of_core line) before = ⊥
+InDuration (of_clock clock line) before = ⊥
+InDuration (of_offset line) before = ⊥
+InDuration (of_zone line) before = ⊥
+InDuration (of_bracket line) before = ⊥
+InDuration (of_pair line) before = ⊥
 
 -- ---- lines of any reader
 
@@ -215,3 +228,4 @@ Before (bracketed kind) line pairs before rest = BeforeBracketed kind line pairs
 Before parse_offset line pairs before rest = InOffset line before × (pairs ≡ [])
 Before parse_identifier line pairs before rest = InIdentifier line before × (pairs ≡ [])
 Before parse_iana_identifier line pairs before rest = InIanaIdentifier line before × (pairs ≡ [])
+Before parse_duration line pairs before rest = InDuration line before × (pairs ≡ [])

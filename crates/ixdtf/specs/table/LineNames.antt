@@ -1,5 +1,6 @@
 -- The names of the lines of the fault table.
 use Rattle.ixdtf.specs.language.Times.{Clock}
+use Rattle.ixdtf.specs.language.Durations.{Half}
 
 -- the lines of dates
 pub data DateLine : Type 0 where
@@ -49,6 +50,13 @@ pub data BracketLine : Type 0 where
 pub data PairLine : Type 0 where
   key_start critical_key_start in_key value_start in_value after_value_hyphen : PairLine
 
+-- the lines of durations
+pub data DurationLine : Type 0 where
+  duration_start after_duration_sign after_duration_designator : DurationLine
+  after_date_groups after_time_designator after_time_groups after_fraction_group : DurationLine
+  group_digits group_value_range unit_order : Half → DurationLine
+  date_unit_range group_fraction_start group_fraction_digits : DurationLine
+
 -- the lines, by the part that they speak of
 pub data LineName : Type 0 where
   of_core : CoreLine → LineName
@@ -57,6 +65,7 @@ pub data LineName : Type 0 where
   of_zone : ZoneLine → LineName
   of_bracket : BracketLine → LineName
   of_pair : PairLine → LineName
+  of_duration : DurationLine → LineName
 
 -- a line of dates
 pattern abbrev pub of_date : DateLine → LineName

@@ -2,7 +2,7 @@
 use Rattle.std.specs.Prelude.{◌≡◌, ◌⊎◌, IsTrue, ℕ, ◌<◌, ◌&&◌, ◌||◌, Bool, codes, if◌then◌else◌}
 use Rattle.ixdtf.specs.declared.records.DateRecord.{DateRecord}
 use Rattle.ixdtf.specs.language.Letters.{Text, Class, ◌or◌, none, digit, sign, hyphen, colon, decimal_mark, date_time_separator, zulu, opening, closing, time_letter}
-use Rattle.ixdtf.specs.language.Letters.{exclamation, equals, slash, zone_lead, zone_char, key_lead, key_char, value_char}
+use Rattle.ixdtf.specs.language.Letters.{exclamation, equals, slash, zone_lead, zone_char, key_lead, key_char, value_char, duration_designator}
 use Rattle.ixdtf.specs.language.Shapes.{Shape, nothing, one, ◌then◌, ◌either◌, digits, fewer_digits_than, some, many}
 use Rattle.ixdtf.specs.language.Digits.{decimal, UpTo}
 use Rattle.ixdtf.specs.table.Faults.{Fault}
@@ -10,6 +10,7 @@ use Rattle.ixdtf.specs.table.Faults.Fault.{AbruptEnd, InvalidEnd, InvalidMonthRa
 use Rattle.ixdtf.specs.table.Faults.Fault.{DateSeparator, TimeHour, TimeMinuteSecond, TimeSecond, TimeSeparator, FractionPart, UtcTimeSeparator}
 use Rattle.ixdtf.specs.table.Faults.Fault.{InvalidMinutePrecisionOffset, OffsetNeedsSign, TzLeadingChar, IanaChar, IanaCharPostSeparator, AnnotationClose}
 use Rattle.ixdtf.specs.table.Faults.Fault.{AnnotationKeyLeadingChar, AnnotationKeyChar, AnnotationKeyValueSeparator, AnnotationValueChar}
+use Rattle.ixdtf.specs.table.Faults.Fault.{DurationDisgnator, DurationValueExceededRange, DateDurationPartOrder, TimeDurationPartOrder, TimeDurationDesignator}
 use Rattle.ixdtf.specs.table.Faults.Fault.{AnnotationValueCharPostHyphen, MonthDayHyphen, InvalidMonthDay, AmbiguousTimeMonthDay, AmbiguousTimeYearMonth}
 use Rattle.ixdtf.specs.language.Dates.{Year, Month, DateShape, IsDayOfMonth, IsDate}
 use Rattle.ixdtf.specs.language.Months.{Marks, OptionalHyphen, IsYearMonth, MonthDayShape, IsDayOfSomeYear, IsMonthDay, least_day}
@@ -19,7 +20,11 @@ use Rattle.ixdtf.specs.language.Times.TimeShape.{hours, plain_minutes, colon_min
 use Rattle.ixdtf.specs.language.ZoneNames.{ZoneName}
 use Rattle.ixdtf.specs.language.Brackets.{passed, Key, Value}
 use Rattle.ixdtf.specs.language.Readers.{Reader, has_brackets}
-use Rattle.ixdtf.specs.table.LineNames.{DateLine, YearMonthLine, MonthDayLine, TimeLine, CoreLine, ClockLine, OffsetLine, ZoneLine, BracketLine, PairLine, LineName}
+use Rattle.ixdtf.specs.language.Fractions.{SomeDigits}
+use Rattle.ixdtf.specs.language.Durations.{Half, Number, SignedDesignator, designator}
+use Rattle.ixdtf.specs.language.Durations.{Half as halves}
+use Rattle.ixdtf.specs.table.DurationFronts.{InContext, AfterDateGroups, AfterTimeDesignator, AfterTimeGroups, ValuePast, OutOfOrder, UnitPast, LastGroup, group_mark}
+use Rattle.ixdtf.specs.table.LineNames.{DateLine, YearMonthLine, MonthDayLine, TimeLine, CoreLine, ClockLine, OffsetLine, ZoneLine, BracketLine, PairLine, DurationLine, LineName}
 use Rattle.ixdtf.specs.table.LineNames.DateLine.{year_start, year_digits, extended_year_digits, minus_zero_year, after_year, month_digits, month_range}
 use Rattle.ixdtf.specs.table.LineNames.DateLine.{after_hyphened_month, after_plain_month, day_digits, day_range, after_date}
 use Rattle.ixdtf.specs.table.LineNames.YearMonthLine.{after_year_in_year_month, after_year_month}
@@ -33,7 +38,10 @@ use Rattle.ixdtf.specs.table.LineNames.OffsetLine.{offset_start, after_zulu}
 use Rattle.ixdtf.specs.table.LineNames.ZoneLine.{identifier_start, zone_name_start, in_zone_name, after_zone_slash}
 use Rattle.ixdtf.specs.table.LineNames.BracketLine.{first_bracket_start, first_critical_start, first_bracket_scan, after_bracket}
 use Rattle.ixdtf.specs.table.LineNames.PairLine.{key_start, critical_key_start, in_key, value_start, in_value, after_value_hyphen}
-use Rattle.ixdtf.specs.table.LineNames.LineName.{of_core, of_clock, of_offset, of_zone, of_bracket, of_pair}
+use Rattle.ixdtf.specs.table.LineNames.DurationLine.{duration_start, after_duration_sign, after_duration_designator, after_date_groups}
+use Rattle.ixdtf.specs.table.LineNames.DurationLine.{after_time_designator, group_digits, group_value_range, unit_order, date_unit_range}
+use Rattle.ixdtf.specs.table.LineNames.DurationLine.{group_fraction_start, group_fraction_digits, after_time_groups, after_fraction_group}
+use Rattle.ixdtf.specs.table.LineNames.LineName.{of_core, of_clock, of_offset, of_zone, of_bracket, of_pair, of_duration}
 
 -- what the end of the text is after a front: no fault, or an error
 pub data Ending : Type 0 where
@@ -69,6 +77,21 @@ abrupt_zone = AbruptEnd (codes "TimeZoneAnnotation")
 
 abbrev pub abrupt_bracket : Fault
 abrupt_bracket = AbruptEnd (codes "AmbiguousAnnotation")
+
+abbrev pub abrupt_duration_start : Fault
+abrupt_duration_start = AbruptEnd (codes "DurationStart")
+
+abbrev pub abrupt_duration_designator : Fault
+abrupt_duration_designator = AbruptEnd (codes "DurationDesignator")
+
+abbrev pub abrupt_duration : Fault
+abrupt_duration = AbruptEnd (codes "Duration")
+
+abbrev pub abrupt_date_designator : Fault
+abrupt_date_designator = AbruptEnd (codes "DateDurationDesignator")
+
+abbrev pub abrupt_time_designator : Fault
+abrupt_time_designator = AbruptEnd (codes "TimeDurationDesignator")
 
 -- ---- shapes of fronts
 
@@ -319,6 +342,50 @@ pair_line in_value = line (Key then one equals then Value) (value_char or hyphen
 pair_line after_value_hyphen =
     line (Key then one equals then Value then one hyphen) value_char (error AnnotationValueCharPostHyphen) (always AnnotationValueCharPostHyphen)
 
+-- ---- durations
+
+-- the error where a group has no letter of its half
+abbrev pub no_designator : Half → Fault
+no_designator halves.date = abrupt_date_designator
+no_designator halves.time = abrupt_time_designator
+
+-- the error of a group out of order
+abbrev pub order_fault : Half → Fault
+order_fault halves.date = DateDurationPartOrder
+order_fault halves.time = TimeDurationPartOrder
+
+abbrev pub duration_line : DurationLine → Line
+-- no sign and no `P` yet
+duration_line duration_start = line nothing (sign or duration_designator) (error abrupt_duration_start) (always DurationDisgnator)
+-- a sign
+duration_line after_duration_sign = line (one sign) duration_designator (error abrupt_duration_designator) (always DurationDisgnator)
+-- `P`
+duration_line after_duration_designator = line (some SignedDesignator) (digit or time_letter) (error abrupt_duration) (always InvalidEnd)
+-- date groups
+duration_line after_date_groups = line AfterDateGroups (digit or time_letter) ok (always InvalidEnd)
+-- `T`
+duration_line after_time_designator = line AfterTimeDesignator digit (error TimeDurationDesignator) (always TimeDurationDesignator)
+-- the digits of a group
+duration_line (group_digits half) =
+    line (InContext half (λ context. some Number)) (digit or designator half or group_mark half) (error (no_designator half)) (always (no_designator half))
+-- digits whose number is too great for any unit
+duration_line (group_value_range half) = whole (InContext half (λ context. ValuePast)) DurationValueExceededRange
+-- a group behind one of a shorter unit
+duration_line (unit_order half) = whole (InContext half (OutOfOrder half)) (order_fault half)
+-- a group in order whose number is too great for its unit
+duration_line date_unit_range = whole (InContext halves.date UnitPast) DurationValueExceededRange
+-- a number of times and a decimal mark
+duration_line group_fraction_start =
+    line (InContext halves.time (λ context. some Number then one decimal_mark)) digit (error FractionPart) (always FractionPart)
+-- a number of times, a decimal mark and digits
+duration_line group_fraction_digits =
+    line (InContext halves.time (λ context. some Number then one decimal_mark then SomeDigits)) (digit or designator halves.time)
+    (error abrupt_time_designator) (always abrupt_time_designator)
+-- time groups without fractions
+duration_line after_time_groups = line AfterTimeGroups digit ok (always InvalidEnd)
+-- time groups, the last with a fraction
+duration_line after_fraction_group = line (InContext halves.time LastGroup) none ok (always InvalidEnd)
+
 -- ---- the table of a reader
 
 -- what may follow a time or an offset where brackets may follow what the reader reads
@@ -342,6 +409,7 @@ line_of brackets (of_offset name) = offset_line name
 line_of brackets (of_zone name) = zone_line brackets name
 line_of brackets (of_bracket name) = bracket_line name
 line_of brackets (of_pair name) = pair_line name
+line_of brackets (of_duration name) = duration_line name
 
 abbrev pub table : Reader → LineName → Line
 table reader name = line_of (has_brackets reader) name

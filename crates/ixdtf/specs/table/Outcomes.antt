@@ -11,6 +11,19 @@ use Rattle.ixdtf.specs.table.Rows.{Row, Fits}
 abbrev pub HasFault : Reader → Text → List Pair → Fault → Type 0
 HasFault reader text pairs fault = (row : Row) × Fits reader row pairs text × (row.error ≡ fault)
 
+-- no row fits the text
+abbrev pub NoRowFits : Reader → Text → Type 0
+NoRowFits reader text = (row : Row) (pairs : List Pair) → ¬ (Fits reader row pairs text)
+
+-- A row with the error fits, with these whole pairs before it. No other row fits, nor this one with other pairs, and nothing
+-- is derived.
+pub record OnlyFault (reader : Reader) (text : Text) (pairs : List Pair) (fault : Fault) : Type 0 where
+  pub row : Row
+  pub fits : Fits reader row pairs text
+  pub has : row.error ≡ fault
+  pub only : (other : Row) (before : List Pair) → Fits reader other before text → (other ≡ row) × (before ≡ pairs)
+  pub underived : (found : Found) (all : List Pair) → ¬ (Derives reader text found all)
+
 -- an outcome: what is derived, or a row of the fault table, with the pairs of the text or of the row's front
 pub data Outcome : Type 0 where
   derived : Found → List Pair → Outcome

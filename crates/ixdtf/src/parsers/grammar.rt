@@ -1,7 +1,7 @@
 //! The classes of letters that the readers tell apart.
 
 ghost use Rattle.std.specs.Prelude.{◌≡◌, ◌<◌, ◌∷◌, [], IsTrue};
-ghost use Rattle.ixdtf.specs.language.Letters.{digit, sign, hyphen, colon, decimal_mark, date_time_separator, time_letter, zulu, opening, closing, exclamation, equals, slash, zone_lead, zone_char, key_lead, key_char, value_char};
+ghost use Rattle.ixdtf.specs.language.Letters.{digit, sign, hyphen, colon, decimal_mark, date_time_separator, time_letter, duration_designator, zulu, opening, closing, exclamation, equals, slash, zone_lead, zone_char, key_lead, key_char, value_char};
 ghost use Rattle.ixdtf.specs.language.Letters.Letter.{Plain};
 ghost use Rattle.ixdtf.specs.language.Digits.{decimal};
 
@@ -72,6 +72,14 @@ pub fn is_time_designator(byte: u8) -> bool
     ensures { result ≡ time_letter byte }
 {
     byte == b'T' || byte == b't'
+}
+
+/// `P` or `p`.
+#[inline(always)]
+pub fn is_duration_designator(byte: u8) -> bool
+    ensures { result ≡ duration_designator byte }
+{
+    byte == b'P' || byte == b'p'
 }
 
 /// `Z` or `z`.

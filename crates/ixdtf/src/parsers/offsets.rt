@@ -20,7 +20,7 @@ use crate::stop::Stop;
 
 /// The sign of a `+` or a `-`.
 #[inline(always)]
-fn sign_from(byte: u8) -> Sign
+pub fn sign_from(byte: u8) -> Sign
     ensures { result ≡ sign_of byte }
 {
     if is_hyphen(byte) {

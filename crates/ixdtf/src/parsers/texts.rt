@@ -19,9 +19,6 @@ use crate::stop::Stop;
 
 /// Reads a core of the kind, and the brackets after it to the end, into a record in which nothing stands yet. The handler
 /// is asked about each annotation of a key and a value.
-///
-/// It is not inlined, so that the parts of the record are written once, and where the caller has it.
-#[inline(never)]
 pub fn parse_text<'a, T: EncodingType, C: Cores, F>(
     cursor: &mut Cursor<'a, T>,
     handler: &mut F,

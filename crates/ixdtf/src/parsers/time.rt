@@ -385,7 +385,7 @@ fn parse_after_second<'a, T: EncodingType>(
 
 /// Reads the digits of a fraction after its decimal mark: `FractionPart` where there is none.
 #[inline(always)]
-fn parse_fraction<'a, T: EncodingType>(
+pub fn parse_fraction<'a, T: EncodingType>(
     cursor: &mut Cursor<'a, T>,
     clock: Clock,
 ) -> Result<Fraction, Stop>

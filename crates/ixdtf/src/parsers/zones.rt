@@ -3,7 +3,7 @@
 ghost use Rattle.std.specs.Prelude.{◌≡◌, ◌↔◌, ℕ, ◌+◌, ◌≤◌, List, [], map, Ok, OnOk, OnErr, IfErr, IsFalse};
 ghost use Rattle.ixdtf.specs.declared.records.UtcOffsetRecord.{UtcOffsetRecord};
 ghost use Rattle.ixdtf.specs.table.Faults.{fault_of, never_comes};
-ghost use Rattle.ixdtf.specs.table.Outcomes.{HasFault};
+ghost use Rattle.ixdtf.specs.table.Outcomes.{HasFault, NoRowFits, OnlyFault};
 ghost use Rattle.ixdtf.specs.language.Readers.Reader.{parse_offset, parse_identifier, parse_iana_identifier};
 ghost use Rattle.ixdtf.specs.language.ZoneNames.{Zone};
 ghost use Rattle.ixdtf.specs.language.Languages.{shifted, identified, named, Derives};
@@ -104,6 +104,12 @@ impl<'a, T: EncodingType> TimeZoneParser<'a, T> {
         ensures err { IfErr result
             (λ e. HasFault parse_identifier (map T.letter self.old.rest) [] (fault_of e)) }
 
+        // `Ok` only where no row fits.
+        ensures no_row { OnOk result (NoRowFits parse_identifier (map T.letter self.old.rest)) }
+        // `Err` only where no other row fits, and nothing is derived.
+        ensures only { IfErr result
+            (λ e. OnlyFault parse_identifier (map T.letter self.old.rest) [] (fault_of e)) }
+
         // None of the errors that no reader gives.
         ensures comes { IfErr result (λ e. IsFalse (never_comes (fault_of e))) }
 
@@ -153,6 +159,12 @@ impl<'a, T: EncodingType> TimeZoneParser<'a, T> {
         ensures err { IfErr result
             (λ e. HasFault parse_offset (map T.letter self.old.rest) [] (fault_of e)) }
 
+        // `Ok` only where no row fits.
+        ensures no_row { OnOk result (NoRowFits parse_offset (map T.letter self.old.rest)) }
+        // `Err` only where no other row fits, and nothing is derived.
+        ensures only { IfErr result
+            (λ e. OnlyFault parse_offset (map T.letter self.old.rest) [] (fault_of e)) }
+
         // None of the errors that no reader gives.
         ensures comes { IfErr result (λ e. IsFalse (never_comes (fault_of e))) }
 
@@ -193,6 +205,12 @@ impl<'a, T: EncodingType> TimeZoneParser<'a, T> {
         // `Err` only where a row of the fault table with this error fits.
         ensures err { IfErr result
             (λ e. HasFault parse_iana_identifier (map T.letter self.old.rest) [] (fault_of e)) }
+
+        // `Ok` only where no row fits.
+        ensures no_row { OnOk result (NoRowFits parse_iana_identifier (map T.letter self.old.rest)) }
+        // `Err` only where no other row fits, and nothing is derived.
+        ensures only { IfErr result
+            (λ e. OnlyFault parse_iana_identifier (map T.letter self.old.rest) [] (fault_of e)) }
 
         // None of the errors that no reader gives.
         ensures comes { IfErr result (λ e. IsFalse (never_comes (fault_of e))) }

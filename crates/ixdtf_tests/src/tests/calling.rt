@@ -3,7 +3,7 @@
 use ixdtf::ParseError::{self, AbruptEnd, InvalidDayRange, InvalidMonthRange};
 use ixdtf::ParserResult;
 use ixdtf::encoding::Utf8;
-use ixdtf::parsers::{IxdtfParser, TimeZoneParser};
+use ixdtf::parsers::{IsoDurationParser, IxdtfParser, TimeZoneParser};
 use ixdtf::records::{Annotation, Sign, TimeZoneRecord};
 use std::test::Fail;
 
@@ -69,6 +69,18 @@ fn name_of<'a>(text: &'a str) -> ParserResult<&'a [u8]> {
     parser.parse_iana_identifier()
 }
 
+// The sign, the weeks and the days of a duration such as `-P2W3D`.
+fn days_of(text: &str) -> ParserResult<Option<(Sign, u32, u64)>> {
+    let mut parser = IsoDurationParser::from_str(text);
+    match parser.parse() {
+        Ok(duration) => {
+            let sign = duration.sign;
+            Ok(duration.date.map(|date| (sign, date.weeks, date.days)))
+        }
+        Err(error) => Err(error),
+    }
+}
+
 #[test]
 fn calls_each_reader(rt: HostRuntime) -> Result<(), Fail> {
     assert_eq!(rt; date_of("2024-03-02T08:48:00Z")?, Some((2024, 3, 2)));
@@ -80,6 +92,8 @@ fn calls_each_reader(rt: HostRuntime) -> Result<(), Fail> {
     assert!(rt; has_a_name("America/New_York")?);
     assert!(rt; !has_a_name("-05:00")?);
     assert_eq!(rt; name_of("Europe/Berlin")?, b"Europe/Berlin".as_slice());
+    assert_eq!(rt; days_of("-P2W3DT4H")?, Some((Sign::Negative, 2, 3)));
+    assert_eq!(rt; days_of("PT4H")?, None);
     Ok(())
 }
 

@@ -5,10 +5,11 @@ use ixdtf::laws::{
     clones_are_equal, equality_is_of_what_is_seen, every_name_is_an_identifier,
     every_rfc3339_date_time_is_read, exact_nanoseconds_are_the_truncated_ones, parse_unanswered,
 };
-use ixdtf::parsers::{IxdtfParser, TimeZoneParser};
+use ixdtf::parsers::{IsoDurationParser, IxdtfParser, TimeZoneParser};
 use ixdtf::records::{
-    Annotation, DateRecord, Fraction, FullPrecisionOffset, IxdtfParseRecord, MinutePrecisionOffset,
-    Sign, TimeRecord, TimeZoneAnnotation, TimeZoneRecord, UtcOffsetRecord, UtcOffsetRecordOrZ,
+    Annotation, DateDurationRecord, DateRecord, DurationParseRecord, Fraction, FullPrecisionOffset,
+    IxdtfParseRecord, MinutePrecisionOffset, Sign, TimeDurationRecord, TimeRecord,
+    TimeZoneAnnotation, TimeZoneRecord, UtcOffsetRecord, UtcOffsetRecordOrZ,
 };
 use ixdtf::{ParseError, ParserResult};
 use std::error::Error;
@@ -35,6 +36,7 @@ fn has_traits<T: EncodingType>() {
     is_cloned::<TimeZoneRecord<'static, Utf8>>();
     is_shown::<IxdtfParser<'static, Utf16>>();
     is_shown::<TimeZoneParser<'static, Utf8>>();
+    is_shown::<IsoDurationParser<'static, Utf16>>();
     is_cloned::<T::CodeUnit>();
 }
 
@@ -55,6 +57,10 @@ fn has_every_trait() {
     is_copied::<UtcOffsetRecord>();
     is_copied::<UtcOffsetRecordOrZ>();
     is_copied::<Fraction>();
+    is_copied::<DurationParseRecord>();
+    is_copied::<DateDurationRecord>();
+    is_default::<DateDurationRecord>();
+    is_copied::<TimeDurationRecord>();
 }
 
 // Whether the calls of an encoding are there, and see no letter, no part and no calendar in nothing.
@@ -130,5 +136,38 @@ fn has_every_reader(rt: HostRuntime) {
     let nothing = TimeZoneParser::from_str("").parse_identifier();
     assert!(rt; nothing.is_err());
     let wide = TimeZoneParser::from_utf16(&empty).parse_offset();
+    assert!(rt; wide.is_err());
+}
+
+// The records of a duration, with all that they have by its name.
+fn longest_duration() -> DurationParseRecord {
+    DurationParseRecord {
+        sign: Sign::Negative,
+        date: Some(DateDurationRecord {
+            years: 1,
+            months: 2,
+            weeks: 3,
+            days: 4,
+        }),
+        time: Some(TimeDurationRecord::Seconds {
+            hours: 5,
+            minutes: 6,
+            seconds: 7,
+            fraction: None,
+        }),
+    }
+}
+
+#[test]
+fn has_the_reader_of_durations(rt: HostRuntime) {
+    let empty: [u16; 0] = [];
+    let mut text: IsoDurationParser<'_, Utf8> = IsoDurationParser::new(b"-P1Y2M3W4DT5H6M7S");
+    let longest = text.parse();
+    assert_eq!(rt; longest, Ok(longest_duration()));
+    let nothing = IsoDurationParser::from_str("").parse();
+    assert!(rt; nothing.is_err());
+    let bytes = IsoDurationParser::<Utf8>::from_utf8(b"").parse();
+    assert!(rt; bytes.is_err());
+    let wide = IsoDurationParser::<Utf16>::from_utf8(&empty).parse();
     assert!(rt; wide.is_err());
 }

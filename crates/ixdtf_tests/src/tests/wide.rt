@@ -5,13 +5,13 @@ use super::{
 };
 use ixdtf::ParseError;
 use ixdtf::encoding::{EncodingType, Utf8, Utf16};
-use ixdtf::parsers::{IxdtfParser, TimeZoneParser};
+use ixdtf::parsers::{IsoDurationParser, IxdtfParser, TimeZoneParser};
 use ixdtf::records::{
     Annotation, DateRecord, IxdtfParseRecord, Sign, TimeRecord, TimeZoneAnnotation, TimeZoneRecord,
     UtcOffsetRecordOrZ,
 };
 
-/// A text in 16-bit units, each character in one unit.
+/// A text in 16-bit units, each character or each byte in one unit.
 #[derive(Drop)]
 pub(super) struct Wide {
     units: [u16; 512],
@@ -19,15 +19,27 @@ pub(super) struct Wide {
 }
 
 impl Wide {
-    pub(super) fn new(text: &str) -> Wide {
-        let mut wide = Wide {
+    fn empty() -> Wide {
+        Wide {
             units: [0; 512],
             length: 0,
-        };
+        }
+    }
+
+    pub(super) fn new(text: &str) -> Wide {
+        let mut wide = Wide::empty();
         for letter in text.chars() {
             if let Ok(unit) = u16::try_from(u32::from(letter)) {
                 wide.push(unit);
             }
+        }
+        wide
+    }
+
+    pub(super) fn of_bytes(bytes: &[u8]) -> Wide {
+        let mut wide = Wide::empty();
+        for byte in bytes {
+            wide.push(u16::from(*byte));
         }
         wide
     }
@@ -78,6 +90,10 @@ pub(super) fn refusal(reader: Reader, text: &'static str) -> Option<ParseError> 
         },
         Reader::IanaIdentifier => match TimeZoneParser::from_utf16(units).parse_iana_identifier() {
             Ok(_name) => None,
+            Err(error) => Some(error),
+        },
+        Reader::Duration => match IsoDurationParser::<Utf16>::from_utf8(units).parse() {
+            Ok(_duration) => None,
             Err(error) => Some(error),
         },
     }

@@ -1,7 +1,7 @@
 use Rattle.std.proofs.Common.{rules, refl}
 use Rattle.std.specs.Cmp.{booleans_Decides, unsigned_Decides}
 use Rattle.ixdtf.specs.table.ErrorEquality.{same_error-Decides}
-use Rattle.ixdtf.proofs.code.EqualRecords.{by_exact, on_part, on_both, on_option, on_plain_option, put_together, zones_exact, offsets_exact, offsets_or_z_exact}
+use Rattle.ixdtf.proofs.code.EqualRecords.{by_exact, on_part, on_both, on_option, on_plain_option, put_together, zones_exact, offsets_exact, offsets_or_z_exact, time_durations_exact}
 use Rattle.ixdtf.proofs.code.EqualUnits.{equal_lists}
 use Rattle.ixdtf.proofs.laws.equality_is_of_what_is_seen.Goals as goal
 
@@ -72,6 +72,38 @@ returns-clause-record g c =
     (λ r. (r.date, (r.time, (r.offset, (r.zone, r.calendar))))) (λ parts. refl) (
     on_both (on_part (λ r. r.date) date) (on_both (on_part (λ r. r.time) time) (on_both (on_part (λ r. r.offset) offset) (
     on_both (on_part (λ r. r.tz) zone) (on_part (λ r. r.calendar) calendar))))))
+
+pub returns-clause-sign : goal.returns-clause-sign
+returns-clause-sign g c = by_exact (λ a b. search rules)
+
+pub returns-clause-date_duration : goal.returns-clause-date_duration
+returns-clause-date_duration g c = by_exact (λ a b. search rules)
+
+pub returns-clause-time_duration : goal.returns-clause-time_duration
+returns-clause-time_duration g c =
+    let fraction = on_plain_option (returns-clause-fraction g c).exact in
+    let hours = on_both (on_part (λ p. p.0) unsigned_Decides) (on_part (λ p. p.1) fraction) in
+    let minutes = on_both (on_part (λ p. p.0) unsigned_Decides) (on_part (λ p. p.1) hours) in
+    let seconds = on_both (on_part (λ p. p.0) unsigned_Decides) (on_part (λ p. p.1) minutes) in
+    by_exact (time_durations_exact (record {
+      firsts = λ p q. refl;
+      seconds = λ p q. refl;
+      thirds = λ p q. refl;
+      first_second = λ p q. refl;
+      first_third = λ p q. refl;
+      second_first = λ p q. refl;
+      second_third = λ p q. refl;
+      third_first = λ p q. refl;
+      third_second = λ p q. refl;
+    }) hours minutes seconds)
+
+pub returns-clause-duration : goal.returns-clause-duration
+returns-clause-duration g c =
+    let sign = (returns-clause-sign g c).exact in
+    let date = on_plain_option (returns-clause-date_duration g c).exact in
+    let time = on_plain_option (returns-clause-time_duration g c).exact in
+    by_exact (put_together (λ parts. record { sign = parts.0; date = parts.1.0; time = parts.1.1 }) (λ d. (d.sign, (d.date, d.time))) (λ parts. refl) (
+    on_both (on_part (λ d. d.sign) sign) (on_both (on_part (λ d. d.date) date) (on_part (λ d. d.time) time))))
 
 pub returns-clause-error : goal.returns-clause-error
 returns-clause-error g c = by_exact same_error-Decides

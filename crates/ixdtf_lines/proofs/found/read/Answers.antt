@@ -2,9 +2,9 @@
 use Rattle.std.proofs.Common.{refl, map}
 use Rattle.ixdtf.specs.Views.{parsed_of, zone_of}
 use Rattle.ixdtf.specs.table.Faults.{fault_of}
-use Rattle.ixdtf.specs.language.Languages.Found.{parsed, shifted, identified, named}
+use Rattle.ixdtf.specs.language.Languages.Found.{parsed, shifted, identified, named, lasting}
 use Rattle.ixdtf.specs.language.Readers.{parse, parse_year_month, parse_month_day, parse_time}
-use Rattle.ixdtf.specs.language.Readers.Reader.{parse_offset, parse_identifier, parse_iana_identifier}
+use Rattle.ixdtf.specs.language.Readers.Reader.{parse_offset, parse_identifier, parse_iana_identifier, parse_duration}
 use Rattle.ixdtf_lines.proofs.AnswerLemmas.{Gives-text, Refuses-text}
 use Rattle.ixdtf_lines.proofs.found.read.Goals as goal
 
@@ -70,3 +70,12 @@ returns-in-Ok-parse_iana_identifier-clause-ok c =
 pub returns-in-Err-parse_iana_identifier-clause-err : goal.returns-in-Err-parse_iana_identifier-clause-err
 returns-in-Err-parse_iana_identifier-clause-err c =
     rw c.in-Iana.is (Refuses-text parse_iana_identifier c.args.text.now _ (fault_of c.in-Err-parse_iana_identifier.error) c.from_utf8-in-Iana.ensures.rest c.in-Err-parse_iana_identifier.ensures.err)
+
+pub returns-in-Ok-parse-clause-ok : goal.returns-in-Ok-parse-clause-ok
+returns-in-Ok-parse-clause-ok c =
+    let found = c.in-Ok-parse.duration in
+    rw c.in-Duration.is (Gives-text parse_duration c.args.text.now _ (lasting found) c.from_utf8-in-Duration.ensures.rest ((c.in-Ok-parse.ensures.ok found).0 refl))
+
+pub returns-in-Err-parse-clause-err : goal.returns-in-Err-parse-clause-err
+returns-in-Err-parse-clause-err c =
+    rw c.in-Duration.is (Refuses-text parse_duration c.args.text.now _ (fault_of c.in-Err-parse.error) c.from_utf8-in-Duration.ensures.rest c.in-Err-parse.ensures.err)

@@ -3,10 +3,10 @@ use Rattle.std.proofs.Common.{◌+◌, arith}
 use Rattle.ixdtf.proofs.code.Nanoseconds.{one_more, eighteen}
 use Rattle.ixdtf.proofs.records.Fraction.with_digit.Goals as goal
 
-pub overflow_mul-result : goal.overflow_mul-result
-overflow_mul-result c =
-    omega (arith, one_more c.self.inside.digits c.self.inside.value 0 c.if-self-lt18.true c.self.invariant.1 (omega arith), eighteen (c.self.inside.digits + 1))
+pub overflow_mul-value : goal.overflow_mul-value
+overflow_mul-value c =
+    omega (arith, c.number-value.ensures, one_more c.self.inside.digits c.self.inside.value 0 c.if-self-lt18.true c.self.invariant.1 (omega arith), eighteen (c.self.inside.digits + 1))
 
-pub overflow_add-result : goal.overflow_add-result
-overflow_add-result c =
-    omega (arith, one_more c.self.inside.digits c.self.inside.value c.from.result c.if-self-lt18.true c.self.invariant.1 (omega arith), eighteen (c.self.inside.digits + 1))
+pub overflow_add-value : goal.overflow_add-value
+overflow_add-value c =
+    omega (arith, c.number-value.ensures, one_more c.self.inside.digits c.self.inside.value c.from.result c.if-self-lt18.true c.self.invariant.1 (omega arith), eighteen (c.self.inside.digits + 1))

@@ -10,5 +10,11 @@ returns-clause-ok g c = rw (← c.self.view_is, ← c.take-here.ensures.same) ((
 pub returns-clause-err : goal.returns-clause-err
 returns-clause-err g c = rw (← c.self.view_is, ← c.take-here.ensures.same) ((exact _ _ parse_identifier identified (λ x y e. cc) tt _ c.take-here.result c.parse_identifier_text-read.new.cursor refl _ _ c.parse_identifier_text-read.ensures.zone c.settle.ensures.settled).err)
 
+pub returns-clause-no_row : goal.returns-clause-no_row
+returns-clause-no_row g c = rw (← c.self.view_is, ← c.take-here.ensures.same) ((exact _ _ parse_identifier identified (λ x y e. cc) tt _ c.take-here.result c.parse_identifier_text-read.new.cursor refl _ _ c.parse_identifier_text-read.ensures.zone c.settle.ensures.settled).no_row)
+
+pub returns-clause-only : goal.returns-clause-only
+returns-clause-only g c = rw (← c.self.view_is, ← c.take-here.ensures.same) ((exact _ _ parse_identifier identified (λ x y e. cc) tt _ c.take-here.result c.parse_identifier_text-read.new.cursor refl _ _ c.parse_identifier_text-read.ensures.zone c.settle.ensures.settled).only)
+
 pub returns-clause-empty : goal.returns-clause-empty
 returns-clause-empty g c = (exact _ _ parse_identifier identified (λ x y e. cc) tt _ c.take-here.result c.parse_identifier_text-read.new.cursor refl _ _ c.parse_identifier_text-read.ensures.zone c.settle.ensures.settled).empty _ c.settle.ensures.ended

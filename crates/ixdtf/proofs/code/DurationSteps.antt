@@ -1,0 +1,173 @@
+-- Reading a duration from a state on, by what the first look finds.
+use Rattle.std.proofs.Common.{◌≡◌, ℕ, true, false, List, [], ◌∷◌, drop, map, Some, None, Result, Ok, Err, refl, ap, ◌∙◌, arith, nat_le}
+use Rattle.std.proofs.lemmas.Bool.Decides.{nat_tests}
+use Rattle.ixdtf.specs.declared.records.Sign.{Sign}
+use Rattle.ixdtf.specs.declared.records.Sign.TheVariants.{Positive}
+use Rattle.ixdtf.specs.declared.stop.Stop.{Stop}
+use Rattle.ixdtf.specs.declared.records.DurationParseRecord.{DurationParseRecord}
+use Rattle.ixdtf.specs.Views.{Unread}
+use Rattle.ixdtf.specs.language.Letters.{Letter, Text, digit, sign, duration_designator, time_letter}
+use Rattle.ixdtf.specs.language.Letters.Letter.{Plain, Bad}
+use Rattle.ixdtf.specs.language.Digits.{decimal}
+use Rattle.ixdtf.specs.language.Offsets.{sign_of}
+use Rattle.ixdtf.specs.language.Durations.{Group, greatest_value, duration_of}
+use Rattle.ixdtf.specs.table.Faults.{Fault}
+use Rattle.ixdtf.specs.table.Faults.Fault.{NonAsciiCodePoint, InvalidEnd, DurationDisgnator, TimeDurationDesignator}
+use Rattle.ixdtf.specs.table.Lines.{abrupt_duration_start, abrupt_duration_designator, abrupt_duration}
+use Rattle.ixdtf.specs.table.DurationFronts.{Context}
+use Rattle.ixdtf.specs.table.DurationFronts.Context.{in_dates, in_times}
+use Rattle.ixdtf.specs.reading.Looks.{Read, error_of, look_at}
+use Rattle.ixdtf.specs.reading.Durations.{State, state_look, step, run, duration_at}
+use Rattle.ixdtf.specs.reading.Durations.State.{started, signed, between, in_number, at_mark, in_fraction, ended}
+use Rattle.ixdtf.specs.reading.Clauses.{Reads}
+use Rattle.ixdtf.specs.reading.DurationClauses.{run_from, Leads}
+
+-- a look found this letter first
+pub first_is : (text : Text) (c : ℕ) → look_at NonAsciiCodePoint text ≡ Ok (Some c) → text ≡ Plain c ∷ drop 1 text
+unfolding look_at
+first_is [] c e = absurd cc
+first_is (Plain n ∷ more) c e = ap (λ (m : ℕ). Plain m ∷ more) cc
+first_is (Bad ∷ more) c e = absurd cc
+
+-- a look found no letter
+pub nothing_is : (text : Text) → look_at NonAsciiCodePoint text ≡ Ok None → text ≡ []
+unfolding look_at
+nothing_is [] e = refl
+nothing_is (Plain n ∷ more) e = absurd cc
+nothing_is (Bad ∷ more) e = absurd cc
+
+at_bad_is : (s : State) → (state_look error_of s).at_bad ≡ NonAsciiCodePoint
+at_bad_is started = refl
+at_bad_is (signed s) = refl
+at_bad_is (between (in_dates s [])) = refl
+at_bad_is (between (in_dates s (g ∷ dates))) = refl
+at_bad_is (between (in_times s dates [])) = refl
+at_bad_is (between (in_times s dates (g ∷ times))) = refl
+at_bad_is (in_number context ds) = refl
+at_bad_is (at_mark s dates times ds) = refl
+at_bad_is (in_fraction s dates times ds fs) = refl
+at_bad_is (ended s dates times g) = refl
+
+-- a look failed
+pub fails : (s : State) (text : Text) (fault : Fault) → look_at NonAsciiCodePoint text ≡ Err fault → run_from s text ≡ Err fault
+unfolding look_at run
+fails s [] fault e = absurd cc
+fails s (Plain n ∷ more) fault e = absurd cc
+fails s (Bad ∷ more) fault e = let same : NonAsciiCodePoint ≡ fault = cc in rw (at_bad_is s, same) refl
+
+module _ (text : Text) where
+  -- there is no letter
+  module _ (none : look_at NonAsciiCodePoint text ≡ Ok None) where
+    pub start_at_end : run_from started text ≡ Err abrupt_duration_start
+    unfolding run
+    start_at_end = rw (nothing_is text none) refl
+
+    pub signed_at_end : (s : Sign) → run_from (signed s) text ≡ Err abrupt_duration_designator
+    unfolding run
+    signed_at_end s = rw (nothing_is text none) refl
+
+    pub opened_at_end : (s : Sign) → run_from (between (in_dates s [])) text ≡ Err abrupt_duration
+    unfolding run
+    opened_at_end s = rw (nothing_is text none) refl
+
+    pub times_at_end : (s : Sign) (dates : _) → run_from (between (in_times s dates [])) text ≡ Err TimeDurationDesignator
+    unfolding run
+    times_at_end s dates = rw (nothing_is text none) refl
+
+    pub dates_end : (s : Sign) (g : Group) (dates : _) → run_from (between (in_dates s (g ∷ dates))) text ≡ Ok (duration_of s (g ∷ dates) [], text)
+    unfolding run
+    dates_end s g dates = rw (nothing_is text none) refl
+
+    pub times_end : (s : Sign) (dates : _) (g : Group) (times : _) → run_from (between (in_times s dates (g ∷ times))) text ≡ Ok (duration_of s dates (g ∷ times), text)
+    unfolding run
+    times_end s dates g times = rw (nothing_is text none) refl
+
+    pub fraction_end : (s : Sign) (dates times : _) (g : Group) → run_from (ended s dates times g) text ≡ Ok (duration_of s dates (g ∷ times), text)
+    unfolding run
+    fraction_end s dates times g = rw (nothing_is text none) refl
+
+  -- this letter is first
+  module _ (c : ℕ) (first : look_at NonAsciiCodePoint text ≡ Ok (Some c)) where
+    pub start_at_sign : sign c ≡ true → run_from started text ≡ run_from (signed (sign_of c)) (drop 1 text)
+    unfolding run step
+    start_at_sign is = rw (first_is text c first, is) refl
+
+    pub start_at_designator : sign c ≡ false → duration_designator c ≡ true → run_from started text ≡ run_from (between (in_dates Positive [])) (drop 1 text)
+    unfolding run step
+    start_at_designator miss is = rw (first_is text c first, miss, is) refl
+
+    pub start_at_other : sign c ≡ false → duration_designator c ≡ false → run_from started text ≡ Err DurationDisgnator
+    unfolding run
+    start_at_other miss nor = rw (first_is text c first, miss, nor) refl
+
+    pub signed_at_designator : (s : Sign) → duration_designator c ≡ true → run_from (signed s) text ≡ run_from (between (in_dates s [])) (drop 1 text)
+    unfolding run step
+    signed_at_designator s is = rw (first_is text c first, is) refl
+
+    pub signed_at_other : (s : Sign) → duration_designator c ≡ false → run_from (signed s) text ≡ Err DurationDisgnator
+    unfolding run
+    signed_at_other s miss = rw (first_is text c first, miss) refl
+
+    no_digit : time_letter c ≡ true → digit c ≡ false
+    no_digit is = grind (arith, nat_tests)
+
+    -- a `T` after `P` or after date groups
+    pub dates_at_mark : (s : Sign) (dates : _) → time_letter c ≡ true → run_from (between (in_dates s dates)) text ≡ run_from (between (in_times s dates [])) (drop 1 text)
+    unfolding run step
+    dates_at_mark s [] is = rw (first_is text c first, no_digit is, is) refl
+    dates_at_mark s (g ∷ dates) is = rw (first_is text c first, no_digit is, is) refl
+
+    pub dates_at_other : (s : Sign) (dates : _) → digit c ≡ false → time_letter c ≡ false → run_from (between (in_dates s dates)) text ≡ Err InvalidEnd
+    unfolding run
+    dates_at_other s [] miss nor = rw (first_is text c first, miss, nor) refl
+    dates_at_other s (g ∷ dates) miss nor = rw (first_is text c first, miss, nor) refl
+
+    pub times_at_other : (s : Sign) (dates : _) → digit c ≡ false → run_from (between (in_times s dates [])) text ≡ Err TimeDurationDesignator
+    unfolding run
+    times_at_other s dates miss = rw (first_is text c first, miss) refl
+
+    pub more_times_at_other : (s : Sign) (dates : _) (g : Group) (times : _) → digit c ≡ false → run_from (between (in_times s dates (g ∷ times))) text ≡ Err InvalidEnd
+    unfolding run
+    more_times_at_other s dates g times miss = rw (first_is text c first, miss) refl
+
+    pub fraction_at_other : (s : Sign) (dates times : _) (g : Group) → run_from (ended s dates times g) text ≡ Err InvalidEnd
+    unfolding run
+    fraction_at_other s dates times g = rw (first_is text c first) refl
+
+    one_digit : digit c ≡ true → nat_le (decimal (Plain c ∷ [])) greatest_value ≡ true
+    unfolding greatest_value
+    one_digit is = grind (arith, nat_tests)
+
+    -- a group begins at a digit
+    pub at_digit : (context : Context) → digit c ≡ true → run_from (between context) text ≡ run_from (in_number context (Plain c ∷ [])) (drop 1 text)
+    unfolding run step
+    at_digit (in_dates s []) is = rw (first_is text c first, is, one_digit is) refl
+    at_digit (in_dates s (g ∷ dates)) is = rw (first_is text c first, is, one_digit is) refl
+    at_digit (in_times s dates []) is = rw (first_is text c first, is, one_digit is) refl
+    at_digit (in_times s dates (g ∷ times)) is = rw (first_is text c first, is, one_digit is) refl
+
+-- a group begins, and its first digit was taken off
+pub to_digit : (text next : Text) (c : ℕ) → look_at NonAsciiCodePoint text ≡ Ok (Some c) → digit c ≡ true → next ≡ drop 1 text
+    → (context : Context) → run_from (between context) text ≡ run_from (in_number context (Plain c ∷ [])) next
+to_digit text next c first is moved context = at_digit text c first context is ∙ rw moved refl
+
+-- a `T` stands behind `P` or behind date groups, and was taken off
+pub to_mark : (text next : Text) (c : ℕ) → look_at NonAsciiCodePoint text ≡ Ok (Some c) → time_letter c ≡ true → next ≡ drop 1 text
+    → (s : Sign) (dates : List Group) → run_from (between (in_dates s dates)) text ≡ run_from (between (in_times s dates [])) next
+to_mark text next c first is moved s dates = dates_at_mark text c first s dates is ∙ rw moved refl
+
+-- what a function reads of a duration from a state is a whole duration, where reading goes from the start to there
+pub reads_all : (letter : ℕ → Letter) (here : State) (old mid new : Unread) (result : Result DurationParseRecord Stop)
+    → run_from started (map letter old.rest) ≡ run_from here (map letter mid.rest) → Leads letter here mid result new (λ d text. Ok (d, text))
+    → Reads letter (λ d. d) old result new (duration_at error_of)
+reads_all letter here old mid new (Ok x) e is = e ∙ is
+reads_all letter here old mid new (Err stop) e is = e ∙ is
+
+-- what a function reads from one state is what it reads from another, where reading goes from there to here
+pub leads_on : {X : Type 0} (letter : ℕ → Letter) (from here : State) (old mid new : Unread) (result : Result X Stop) (next : X → Text → Read Fault DurationParseRecord)
+    → run_from from (map letter old.rest) ≡ run_from here (map letter mid.rest) → Leads letter here mid result new next → Leads letter from old result new next
+leads_on letter from here old mid new (Ok x) next e is = e ∙ is
+leads_on letter from here old mid new (Err stop) next e is = e ∙ is
+
+-- what stands between the parts of a duration
+pub ruleset openings = (fails, start_at_end, signed_at_end, start_at_sign, start_at_designator, start_at_other, signed_at_designator, signed_at_other)

@@ -1,0 +1,5 @@
+use Rattle.ixdtf.proofs.theorems.Disjoint.{languages_disjoint}
+use Rattle.ixdtf.proofs.laws.languages_disjoint.Goals as goal
+
+pub returns : goal.returns
+returns c = languages_disjoint

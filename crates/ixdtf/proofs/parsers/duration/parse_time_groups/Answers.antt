@@ -1,0 +1,58 @@
+use Rattle.std.proofs.Common.{◌≡◌, ℕ, suc, ◌≤◌, List, length, map, drop, None, Some, Ok, true, sym, ap, ◌∙◌, arith}
+use Rattle.std.proofs.lemmas.Result.{err_from_is_err_and}
+use Rattle.ixdtf.specs.language.Letters.{digit}
+use Rattle.ixdtf.specs.table.Faults.Fault.{NonAsciiCodePoint}
+use Rattle.ixdtf.specs.reading.Looks.{look_at}
+use Rattle.ixdtf.proofs.code.FractionLoop.{shrinks}
+use Rattle.ixdtf.proofs.code.DurationLoops.{begins_is, begins_none, time_added_on, times_go_on, times_stop, times_break, times_end_with}
+use Rattle.ixdtf.proofs.parsers.duration.parse_time_groups.Goals as goal
+
+-- the look failed
+pub returns-in_err-look-clause-times : goal.returns-in_err-look-clause-times
+returns-in_err-look-clause-times g c s dates =
+    let p = err_from_is_err_and c.from_residual-in_err-look.result c.from_residual-in_err-look.ensures.1 in
+    let read = time_added_on _ _ _ _ _ c.loop-group.invariant.far _ (map g.T.EncodingType.letter c.parse_time_group.new.cursor.rest) c.in-Ok.ensures.group _ c.in_ok-add-in-Ok.ensures.added c.in_ok-add-in-Ok.ensures.last c.in_ok-add-in-Ok.ensures.fraction in
+    rw (p.1, p.2) (times_break _ _ _ _ read _ c.in_err-look.ensures.letter s dates)
+
+-- the text ends
+pub returns-in-None-clause-times : goal.returns-in-None-clause-times
+returns-in-None-clause-times g c s dates =
+    let read = time_added_on _ _ _ _ _ c.loop-group.invariant.far _ (map g.T.EncodingType.letter c.parse_time_group.new.cursor.rest) c.in-Ok.ensures.group _ c.in_ok-add-in-Ok.ensures.added c.in_ok-add-in-Ok.ensures.last c.in_ok-add-in-Ok.ensures.fraction in
+    let none : look_at NonAsciiCodePoint (map g.T.EncodingType.letter c.parse_time_group.new.cursor.rest) ≡ Ok None = cc (c.in_ok-look.ensures.letter, c.in-None.is) in
+    rw c.in_ok-look.ensures.rest (times_end_with _ _ _ _ read _ none c.record.ensures s dates)
+
+-- one more group
+pub loop-group-smaller : goal.loop-group-smaller
+loop-group-smaller g c =
+    let begins = begins_is c.add.new.self.fraction c.in-Some.byte (sym c.if-goes_on.ensures) in
+    let without = begins.0 in
+    let paid = c.in-Ok.ensures.paid (sym c.in_ok-add-in-Ok.ensures.fraction ∙ without) in
+    let found : look_at NonAsciiCodePoint (map g.T.EncodingType.letter c.parse_time_group.new.cursor.rest) ≡ Ok (Some c.in-Some.byte) = cc (c.in_ok-look.ensures.letter, c.in-Some.is) in
+    let moved : c.step.new.self.rest ≡ drop 1 c.parse_time_group.new.cursor.rest = c.step.ensures.rest ∙ ap (λ (t : List ℕ). drop 1 t) c.in_ok-look.ensures.rest in
+    let smaller : suc (length c.step.new.self.rest) ≤ length c.loop-group.cursor.rest = omega (arith, shrinks g.T.EncodingType.letter _ _ _ found moved, paid) in
+    smaller
+
+pub loop-group-preserved : goal.loop-group-preserved
+loop-group-preserved g c =
+    let read = time_added_on _ _ _ _ _ c.loop-group.invariant.far _ (map g.T.EncodingType.letter c.parse_time_group.new.cursor.rest) c.in-Ok.ensures.group _ c.in_ok-add-in-Ok.ensures.added c.in_ok-add-in-Ok.ensures.last c.in_ok-add-in-Ok.ensures.fraction in
+    let begins = begins_is c.add.new.self.fraction c.in-Some.byte (sym c.if-goes_on.ensures) in
+    let without = begins.0 in
+    let paid = c.in-Ok.ensures.paid (sym c.in_ok-add-in-Ok.ensures.fraction ∙ without) in
+    let found : look_at NonAsciiCodePoint (map g.T.EncodingType.letter c.parse_time_group.new.cursor.rest) ≡ Ok (Some c.in-Some.byte) = cc (c.in_ok-look.ensures.letter, c.in-Some.is) in
+    let is = begins.1 in
+    let moved : c.step.new.self.rest ≡ drop 1 c.parse_time_group.new.cursor.rest = c.step.ensures.rest ∙ ap (λ (t : List ℕ). drop 1 t) c.in_ok-look.ensures.rest in
+    let left : map g.T.EncodingType.letter c.step.new.self.rest ≡ drop 1 (map g.T.EncodingType.letter c.parse_time_group.new.cursor.rest) = c.step.ensures.letters ∙ ap (λ (t : List ℕ). drop 1 (map g.T.EncodingType.letter t)) c.in_ok-look.ensures.rest in
+    record {
+      far = times_go_on _ _ _ _ read _ _ found is without left;
+      is_digit = is;
+      looks = omega (arith, shrinks g.T.EncodingType.letter _ _ _ found moved, paid, c.loop-group.invariant.looks, c.in_ok-look.ensures.looks, c.step.ensures.looks);
+      counted = omega (arith, paid, c.loop-group.invariant.counted, c.in_ok-look.ensures.looks, c.step.ensures.looks);
+    }
+
+-- another letter follows, or any after a fraction
+pub returns-in-Some-2-clause-times : goal.returns-in-Some-2-clause-times
+returns-in-Some-2-clause-times g c s dates =
+    let read = time_added_on _ _ _ _ _ c.loop-group.invariant.far _ (map g.T.EncodingType.letter c.parse_time_group.new.cursor.rest) c.in-Ok.ensures.group _ c.in_ok-add-in-Ok.ensures.added c.in_ok-add-in-Ok.ensures.last c.in_ok-add-in-Ok.ensures.fraction in
+    let found : look_at NonAsciiCodePoint (map g.T.EncodingType.letter c.parse_time_group.new.cursor.rest) ≡ Ok (Some c.in-Some.byte) = cc (c.in_ok-look.ensures.letter, c.in-Some.is) in
+    let never : digit c.in-Some.byte ≡ true → c.add.new.self.fraction ≡ None → ⊥ = begins_none _ _ (sym c.if-goes_on.ensures) in
+    times_stop _ _ _ _ read _ found never s dates

@@ -1,0 +1,176 @@
+-- No text is in the languages of two of the readers of dates, times and durations.
+use Rattle.std.proofs.Common.{◌≡◌, List, [], ◌∷◌, ◌++◌, refl, sym, ap, ◌∙◌, subst, inl, inr, arith, append_assoc, append-nil}
+use Rattle.ixdtf.specs.declared.records.DateRecord.{DateRecord}
+use Rattle.ixdtf.specs.language.Letters.{Text}
+use Rattle.ixdtf.specs.language.Letters.Letter.{Plain}
+use Rattle.ixdtf.specs.language.Shapes.{Shape, some}
+use Rattle.ixdtf.specs.language.Dates.{DateShape}
+use Rattle.ixdtf.specs.language.Months.{IsYearMonth, IsMonthDay, least_day}
+use Rattle.ixdtf.specs.language.Brackets.{Pair}
+use Rattle.ixdtf.specs.language.Cores.{Core, IsDateTimeCore, HasFront, IsCore}
+use Rattle.ixdtf.specs.language.Durations.{IsDuration}
+use Rattle.ixdtf.specs.language.Readers.{Reader, CoreKind}
+use Rattle.ixdtf.specs.language.Readers.CoreKind.{date_time, year_month, month_day, time_alone}
+use Rattle.ixdtf.specs.language.Readers.Reader.{bracketed, parse_offset, parse_identifier, parse_iana_identifier, parse_duration}
+use Rattle.ixdtf.specs.language.Languages.{Parsed, IsBracketed}
+use Rattle.ixdtf.specs.language.Languages.Found.{parsed, shifted, identified, named, lasting}
+use Rattle.ixdtf.specs.Laws.{IsTextReader, InLanguage, LanguagesDisjoint, InNoOther}
+use Rattle.ixdtf.proofs.parts.CoreLetters.{same_core, no_duration}
+use Rattle.ixdtf.proofs.theorems.CoreEnds.{tail_ends, core_inside}
+use Rattle.ixdtf.proofs.theorems.CoreSizes.{date_time_size, year_month_size, month_day_size, at_least, longer}
+
+-- ---- fronts of cores
+
+-- the first of a month
+abbrev month_of : DateRecord → DateRecord
+month_of date = record { year = date.year; month = date.month; day = 1 }
+
+-- a date begins with a year-month
+date_front : (text more : Text) (date : DateRecord) → DateShape text date → HasFront (some IsYearMonth) (text ++ more)
+date_front text more date (inl h) = (
+  h.years ++ h.months,
+  h.days ++ more,
+  rw h.is (simp append_assoc),
+  (month_of date, record { years = h.years; hyphens = []; months = h.months; is = refl; year = h.year; hyphen = inl refl; month = h.month; first_day = refl }),
+  tt,
+)
+date_front text more date (inr h) = (
+  h.years ++ (Plain 45 ∷ h.months),
+  Plain 45 ∷ (h.days ++ more),
+  rw h.is (simp append_assoc),
+  (
+    month_of date,
+    record { years = h.years; hyphens = Plain 45 ∷ []; months = h.months; is = refl; year = h.year; hyphen = inr (45, refl, refl); month = h.month; first_day = refl },
+  ),
+  tt,
+)
+
+date_time_front : (text : Text) (core : Core) → IsDateTimeCore text core → HasFront (some IsYearMonth) text
+date_time_front text core (inl h) = subst (HasFront (some IsYearMonth)) (append-nil text) (date_front text [] h.0 h.1.0)
+date_time_front text core (inr h) = subst (HasFront (some IsYearMonth)) (sym h.is) (date_front h.dates _ h.date h.is_date.0)
+
+-- a text is a front of itself
+itself : (shape : Shape) (text : Text) → shape text → HasFront shape text
+itself shape text h = (text, [], sym (append-nil text), h, tt)
+
+-- ---- pairs of readers with brackets
+
+-- a core of the kind, and brackets
+abbrev Whole : CoreKind → Text → Type 0
+Whole kind text = (found : Parsed) × (pairs : List Pair) × IsBracketed kind text found pairs
+
+abbrev Apart : CoreKind → CoreKind → Type 0
+Apart first second = (text : Text) → Whole first text → Whole second text → ⊥
+
+-- where no text is a core of both kinds, none is one with brackets behind it
+cores_apart : (first second : CoreKind) → ((cores : Text) (core other : Core) → IsCore first cores core → IsCore second cores other → ⊥) → Apart first second
+cores_apart first second clash text (found, pairs, h) (others, marks, k) =
+    let inside = core_inside first h.cores h.core h.is_core in
+    let ends = tail_ends h.brackets h.zone pairs h.is_tail in
+    let inside_too = core_inside second k.cores k.core k.is_core in
+    let ends_too = tail_ends k.brackets k.zone marks k.is_tail in
+    let same : h.cores ≡ k.cores = same_core h.cores k.cores h.brackets k.brackets inside inside_too ends ends_too (sym h.is ∙ k.is) in
+    clash h.cores h.core k.core h.is_core (subst (λ (t : Text). IsCore second t k.core) (sym same) k.is_core)
+
+date_times_and_year_months : Apart date_time year_month
+date_times_and_year_months = cores_apart date_time year_month λ t core other h k.
+    longer t 8 11 6 7 9 10 (omega arith) (omega arith) (date_time_size t core h) (year_month_size t k.0 k.1)
+
+date_times_and_month_days : Apart date_time month_day
+date_times_and_month_days = cores_apart date_time month_day λ t core other h k.
+    longer t 8 11 4 5 6 7 (omega arith) (omega arith) (date_time_size t core h) (month_day_size t k.0 k.1.0)
+
+year_months_and_month_days : Apart year_month month_day
+year_months_and_month_days = cores_apart year_month month_day λ t core other h k.
+    longer t 6 9 4 5 6 7 (omega arith) (omega arith) (at_least t 6 7 9 10 6 9 (omega arith) (omega arith) (year_month_size t h.0 h.1)) (month_day_size t k.0 k.1.0)
+
+date_times_and_times : Apart date_time time_alone
+date_times_and_times = cores_apart date_time time_alone λ t core other h k. k.1.1 (date_time_front t core h)
+
+year_months_and_times : Apart year_month time_alone
+year_months_and_times = cores_apart year_month time_alone λ t core other h k. k.1.1 (itself (some IsYearMonth) t (h.0, h.1))
+
+month_days_and_times : Apart month_day time_alone
+month_days_and_times = cores_apart month_day time_alone λ t core other h k. k.1.0 (itself (some (IsMonthDay least_day)) t (h.0, h.1))
+
+same_kind : (first second : CoreKind) (text : Text) → Whole first text → Whole second text → first ≡ second
+same_kind date_time date_time text h k = refl
+same_kind date_time year_month text h k = absurd (date_times_and_year_months text h k)
+same_kind date_time month_day text h k = absurd (date_times_and_month_days text h k)
+same_kind date_time time_alone text h k = absurd (date_times_and_times text h k)
+same_kind year_month date_time text h k = absurd (date_times_and_year_months text k h)
+same_kind year_month year_month text h k = refl
+same_kind year_month month_day text h k = absurd (year_months_and_month_days text h k)
+same_kind year_month time_alone text h k = absurd (year_months_and_times text h k)
+same_kind month_day date_time text h k = absurd (date_times_and_month_days text k h)
+same_kind month_day year_month text h k = absurd (year_months_and_month_days text k h)
+same_kind month_day month_day text h k = refl
+same_kind month_day time_alone text h k = absurd (month_days_and_times text h k)
+same_kind time_alone date_time text h k = absurd (date_times_and_times text k h)
+same_kind time_alone year_month text h k = absurd (year_months_and_times text k h)
+same_kind time_alone month_day text h k = absurd (month_days_and_times text k h)
+same_kind time_alone time_alone text h k = refl
+
+-- ---- durations
+
+abbrev NoDuration : CoreKind → Type 0
+NoDuration kind = (text : Text) → Whole kind text → some IsDuration text → ⊥
+
+-- a core before the end or a bracket does not begin as a duration
+whole_no_duration : (kind : CoreKind) → NoDuration kind
+whole_no_duration kind text (found, pairs, h) (duration, d) =
+    let ends = tail_ends h.brackets h.zone pairs h.is_tail in
+    no_duration h.cores h.brackets d.start (d.date_text ++ d.time_text) d.sign (core_inside kind h.cores h.core h.is_core) ends d.is_start (sym h.is ∙ d.is)
+
+date_times_and_durations : NoDuration date_time
+date_times_and_durations = whole_no_duration date_time
+
+year_months_and_durations : NoDuration year_month
+year_months_and_durations = whole_no_duration year_month
+
+month_days_and_durations : NoDuration month_day
+month_days_and_durations = whole_no_duration month_day
+
+times_and_durations : NoDuration time_alone
+times_and_durations = whole_no_duration time_alone
+
+never_both : (kind : CoreKind) → NoDuration kind
+never_both date_time = date_times_and_durations
+never_both year_month = year_months_and_durations
+never_both month_day = month_days_and_durations
+never_both time_alone = times_and_durations
+
+-- ---- all of the readers
+
+whole_of : (kind : CoreKind) (text : Text) → InLanguage (bracketed kind) text → Whole kind text
+whole_of kind text (parsed found, pairs, h) = (found, pairs, h)
+whole_of kind text (shifted offset, pairs, h) = absurd h
+whole_of kind text (identified zone, pairs, h) = absurd h
+whole_of kind text (named units, pairs, h) = absurd h
+whole_of kind text (lasting duration, pairs, h) = absurd h
+
+duration_of : (text : Text) → InLanguage parse_duration text → some IsDuration text
+duration_of text (parsed found, pairs, h) = absurd h
+duration_of text (shifted offset, pairs, h) = absurd h
+duration_of text (identified zone, pairs, h) = absurd h
+duration_of text (named units, pairs, h) = absurd h
+duration_of text (lasting duration, pairs, h) = (duration, h.0)
+
+pub languages_disjoint : LanguagesDisjoint
+languages_disjoint text (bracketed first) (bracketed second) is too h k = ap bracketed (same_kind first second text (whole_of first text h) (whole_of second text k))
+languages_disjoint text (bracketed first) parse_duration is too h k = absurd (never_both first text (whole_of first text h) (duration_of text k))
+languages_disjoint text (bracketed first) parse_offset is too h k = absurd too
+languages_disjoint text (bracketed first) parse_identifier is too h k = absurd too
+languages_disjoint text (bracketed first) parse_iana_identifier is too h k = absurd too
+languages_disjoint text parse_duration (bracketed second) is too h k = absurd (never_both second text (whole_of second text k) (duration_of text h))
+languages_disjoint text parse_duration parse_duration is too h k = refl
+languages_disjoint text parse_duration parse_offset is too h k = absurd too
+languages_disjoint text parse_duration parse_identifier is too h k = absurd too
+languages_disjoint text parse_duration parse_iana_identifier is too h k = absurd too
+languages_disjoint text parse_offset second is too h k = absurd is
+languages_disjoint text parse_identifier second is too h k = absurd is
+languages_disjoint text parse_iana_identifier second is too h k = absurd is
+
+-- what is in the language of one of the readers is in no other
+pub in_no_other : (reader : Reader) (text : Text) → IsTextReader reader → InLanguage reader text → InNoOther reader text
+in_no_other reader text is h other too differ k = differ (languages_disjoint text reader other is too h k)

@@ -1,0 +1,69 @@
+//! Numbers that stand at any address.
+
+ghost use Rattle.std.specs.Prelude.{◌≡◌, ℕ, nat_eq};
+ghost use Rattle.std.specs.Cmp.Rules.{comparing};
+ghost use Rattle.std.proofs.Common.{rules};
+
+use std::fmt;
+use std::marker::Model;
+
+/// A number below 2 to the 64th, as its eight bytes, the lowest first. It stands at any address, so a record that has one
+/// has no unused bytes before it.
+#[derive(Clone, Copy)]
+pub struct PackedNumber {
+    bytes: [u8; 8],
+}
+
+impl Model for PackedNumber {
+    ghost use Rattle.std.specs.Prelude.{◌≡◌, ℕ};
+    ghost use Rattle.std.specs.Int.{w64, to_le_bytes, from_le_bytes};
+
+    ghost Value = { ℕ };
+
+    ghost view = { λ n. from_le_bytes w64 n.bytes };
+
+    ghost invariant = { λ n. to_le_bytes w64 (from_le_bytes w64 n.bytes) ≡ n.bytes };
+
+    ghost inverse = { λ n. record { bytes = to_le_bytes w64 n } };
+
+    ghost inverse_ok = { λ n whole i. record { bytes = whole i } };
+}
+
+impl PackedNumber {
+    /// The number, packed.
+    #[inline(always)]
+    pub fn of(number: u64) -> PackedNumber
+        ensures { result ≡ number }
+    {
+        PackedNumber {
+            bytes: number.to_le_bytes(),
+        }
+    }
+
+    /// The number.
+    #[inline(always)]
+    pub fn number(self) -> u64
+        ensures { result ≡ self }
+    {
+        u64::from_le_bytes(self.bytes)
+    }
+}
+
+impl PartialEq for PackedNumber {
+    ghost eq = { nat_eq };
+
+    ghost laws = { Prim.search (comparing, rules) };
+
+    /// Whether the numbers are equal.
+    #[inline(always)]
+    fn eq(&self, other: &PackedNumber) -> bool {
+        self.number() == other.number()
+    }
+}
+
+impl fmt::Debug for PackedNumber {
+    /// Writes the number, as it writes a number that is not packed.
+    fn fmt<W: fmt::Write>(&self, f: &mut fmt::Formatter<W>) -> fmt::Result {
+        fmt::Debug::fmt(&self.number(), f)
+    }
+}

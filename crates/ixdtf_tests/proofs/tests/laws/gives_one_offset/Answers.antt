@@ -1,0 +1,48 @@
+use Rattle.std.proofs.Common.{◌≡◌, ℕ, List, refl, sym, ◌∙◌, subst, All, IsTrue}
+use Rattle.ixdtf.specs.Widths.{PlainOutcome, HasPlain, OnePlainOutcome, SameWhereShared, is_shared, wide_text, byte_text}
+use Rattle.ixdtf.specs.Widths.PlainOutcome.{read_as, faulted}
+use Rattle.ixdtf.specs.language.Languages.Found.{shifted}
+use Rattle.ixdtf.specs.language.Readers.Reader.{parse_offset}
+use Rattle.ixdtf.specs.table.Faults.{fault_of}
+use Rattle.ixdtf_tests.proofs.tests.laws.gives_one_offset.Goals as goal
+
+-- the outcomes of the two widths are one
+one_outcome : OnePlainOutcome → SameWhereShared → (bytes units : List ℕ) → All (λ n. IsTrue (is_shared n)) bytes → units ≡ bytes
+    → (narrow wide : PlainOutcome) → HasPlain parse_offset (byte_text bytes) narrow → HasPlain parse_offset (wide_text units) wide → narrow ≡ wide
+one_outcome one same bytes units shared is narrow wide h g =
+    let only = one parse_offset (wide_text bytes) in
+    only.2 narrow ((same parse_offset bytes shared narrow).1 h) ∙ sym (only.2 wide (subst (λ t. HasPlain parse_offset (wide_text t) wide) is g))
+
+pub returns-in-Ok-narrow : goal.returns-in-Ok-narrow
+returns-in-Ok-narrow c shared is =
+    let narrow = (c.in-Ok-narrow.ensures.ok c.in-Ok-narrow.offset).0 refl in
+    let wide = (c.in-Ok.ensures.ok c.in-Ok.wide).0 refl in
+    let outcomes = one_outcome c.widths_agree.ensures.one c.widths_agree.ensures.same c.args.bytes.now c.args.units.now shared is
+    (read_as (shifted c.in-Ok-narrow.offset)) (read_as (shifted c.in-Ok.wide))
+    (rw (← c.from_utf8.ensures.rest) narrow) (rw (← c.from_utf16.ensures.rest) wide) in
+    let same : c.in-Ok-narrow.offset ≡ c.in-Ok.wide = cc in
+    c.eq.ensures ∙ (c.equality_is_of_what_is_seen.ensures.offset.exact c.in-Ok-narrow.offset c.in-Ok.wide).1 same
+
+pub returns-in-Err-narrow : goal.returns-in-Err-narrow
+returns-in-Err-narrow c shared is =
+    let wide = (c.in-Ok.ensures.ok c.in-Ok.wide).0 refl in
+    let outcomes = one_outcome c.widths_agree.ensures.one c.widths_agree.ensures.same c.args.bytes.now c.args.units.now shared is
+    (faulted (fault_of c.in-Err-narrow.field-0)) (read_as (shifted c.in-Ok.wide))
+    (rw (← c.from_utf8.ensures.rest) c.in-Err-narrow.ensures.err) (rw (← c.from_utf16.ensures.rest) wide) in
+    absurd cc
+
+pub returns-in-Ok-narrow-2 : goal.returns-in-Ok-narrow-2
+returns-in-Ok-narrow-2 c shared is =
+    let narrow = (c.in-Ok-narrow-2.ensures.ok c.in-Ok-narrow-2.field-0).0 refl in
+    let outcomes = one_outcome c.widths_agree.ensures.one c.widths_agree.ensures.same c.args.bytes.now c.args.units.now shared is
+    (read_as (shifted c.in-Ok-narrow-2.field-0)) (faulted (fault_of c.in-Err.wide))
+    (rw (← c.from_utf8.ensures.rest) narrow) (rw (← c.from_utf16.ensures.rest) c.in-Err.ensures.err) in
+    absurd cc
+
+pub returns-in-Err-narrow-2 : goal.returns-in-Err-narrow-2
+returns-in-Err-narrow-2 c shared is =
+    let outcomes = one_outcome c.widths_agree.ensures.one c.widths_agree.ensures.same c.args.bytes.now c.args.units.now shared is
+    (faulted (fault_of c.in-Err-narrow-2.error)) (faulted (fault_of c.in-Err.wide))
+    (rw (← c.from_utf8.ensures.rest) c.in-Err-narrow-2.ensures.err) (rw (← c.from_utf16.ensures.rest) c.in-Err.ensures.err) in
+    let same : fault_of c.in-Err-narrow-2.error ≡ fault_of c.in-Err.wide = cc in
+    c.eq-in-Err-narrow-2.ensures.equal.1 same

@@ -1,0 +1,255 @@
+//! Texts in both widths: the same numbers from 1 to 126 give the same in each reader, and where another number stands among
+//! 16-bit units, the error is `NonAsciiCodePoint`, or that of 8-bit units with 128 in its place.
+
+use super::Reader;
+use super::wide::{Wide, refusal};
+use ixdtf::encoding::{Utf8, Utf16};
+use ixdtf::parsers::{IsoDurationParser, IxdtfParser, TimeZoneParser};
+use ixdtf::records::{IxdtfParseRecord, TimeZoneRecord};
+use ixdtf::{ParseError, ParserResult};
+
+const READERS: [Reader; 8] = [
+    Reader::Parse,
+    Reader::YearMonth,
+    Reader::MonthDay,
+    Reader::Time,
+    Reader::Offset,
+    Reader::Identifier,
+    Reader::IanaIdentifier,
+    Reader::Duration,
+];
+
+// Texts of units from 1 to 126. Most are of one reader, and the others refuse them in both widths alike.
+const SHARED: [&'static str; 67] = [
+    "",
+    "2024-03-02T08:48:00-05:00[America/New_York]",
+    "2024-03-02T08:48:00Z[!America/New_York]",
+    "2020",
+    "2020-01",
+    "202001",
+    "+000000-02-29",
+    "-000400-02-29",
+    "-000100-02-29",
+    "-000000-11-08",
+    "+10000001108",
+    "2020-01-01[cet",
+    "2020-01-01[",
+    "2020-04-08[Amer",
+    "2020-01-01[A=b]",
+    "2020-01-01[]",
+    "2020-04-08[America/ Chicago)",
+    "2021-01-29 02:12:48+01:00:00[u][u-ca=iso8601]",
+    "2020-01-01[u-ca=a][u-ca=b][!u-ca=a]",
+    "2020-01-01[u-ca=a][!u-ca=b]",
+    "2020-01-01[u-ca=a][Europe/London]",
+    "2020-01-01[a=b][u]",
+    "2020-01-01[a=b][!c=d][e=f]",
+    "2020-01-01[a=b][c=d]junk",
+    "2020-01-01[x=y]",
+    "2024-03-02T08:48:00-05:00[u-ca=iso8601][!answer-to-universe=fortytwo]",
+    "1208-10",
+    "1200",
+    "121430",
+    "1214Z",
+    "2021-12",
+    "202112[UTC]",
+    "20240801",
+    "T19:12-089",
+    "2021-13",
+    "T1200",
+    "--1107[+04:00]",
+    "11-00",
+    "02-30",
+    "-11-07",
+    "-",
+    "15:23:30.1234567898765432101234567890987654321",
+    "15:23:30.12345678",
+    "15:23:30.123456789123456789123456789123456789123456789123456789123456789123456789123456789123456789123456789123456789123456789123456789123456789123456789123456789123456789123456789123456789123456789123456789123456789123456789123456789123456789123456789123456789123456789123456789123456789123456789123456789123",
+    "P18446744073709551615D",
+    "P18446744073709551616D",
+    "P4294967296Y",
+    "P99999999999999999999X",
+    "P4294967296X",
+    "P1Y2Y",
+    "P1D1Y",
+    "PT0.5H1M",
+    "PX",
+    "PT1.H",
+    "P1YT",
+    "PT1H1.123456789123M",
+    "2020-01-01T23:59:60",
+    "2024-08-24T14:00:00-05:00:60",
+    "2024-08-24T14:00:00-05:0060",
+    "2024-08-24T14:00:00-5:00",
+    "2024-08-24T14:00:00-05:00[-05:00.1]",
+    "+00:00:00",
+    "+00:00.1",
+    "-05:00",
+    "-01:02:03.25",
+    "UTC",
+    "Etc/GMT+8",
+];
+
+// Texts with a unit that stands for no letter in 16 bits, and the same with 128 in its place.
+const MASKED: [(&'static str, &'static [u8]); 11] = [
+    ("2020-01-01[cet!\u{e9}]", b"2020-01-01[cet!\x80]"),
+    ("2020-13-01\u{e9}", b"2020-13-01\x80"),
+    ("2020-01-01\u{e9}", b"2020-01-01\x80"),
+    ("2020-01-01\u{7f}", b"2020-01-01\x80"),
+    ("\u{132}020-01-01", b"\x80020-01-01"),
+    ("2020-01-01[A!\u{e9}]", b"2020-01-01[A!\x80]"),
+    ("2020-01-01[a=!\u{e9}]", b"2020-01-01[a=!\x80]"),
+    ("UTC\u{e9}", b"UTC\x80"),
+    ("P1Y\u{80}", b"P1Y\x80"),
+    ("PT1.5H\u{80}", b"PT1.5H\x80"),
+    ("1200\u{e9}", b"1200\x80"),
+];
+
+// Whether two slices have the same numbers.
+fn same_numbers(bytes: &[u8], units: &[u16]) -> bool {
+    Wide::of_bytes(bytes).units() == units
+}
+
+// Whether two zones are the same offset, or names of the same numbers.
+fn same_zone(narrow: &TimeZoneRecord<'_, Utf8>, wide: &TimeZoneRecord<'_, Utf16>) -> bool {
+    match (narrow, wide) {
+        (TimeZoneRecord::Name(bytes), TimeZoneRecord::Name(units)) => same_numbers(bytes, units),
+        (TimeZoneRecord::Offset(first), TimeZoneRecord::Offset(second)) => first == second,
+        _ => false,
+    }
+}
+
+// Whether two records are the same, slices by the numbers of their units.
+fn same_record(narrow: &IxdtfParseRecord<'_, Utf8>, wide: &IxdtfParseRecord<'_, Utf16>) -> bool {
+    let zones = match (&narrow.tz, &wide.tz) {
+        (None, None) => true,
+        (Some(first), Some(second)) => {
+            first.critical == second.critical && same_zone(&first.tz, &second.tz)
+        }
+        _ => false,
+    };
+    let calendars = match (narrow.calendar, wide.calendar) {
+        (None, None) => true,
+        (Some(bytes), Some(units)) => same_numbers(bytes, units),
+        _ => false,
+    };
+    let cores = narrow.date == wide.date
+        && narrow.time == wide.time
+        && narrow.offset == wide.offset;
+    cores && zones && calendars
+}
+
+// Whether two results of a reader with brackets are the same.
+fn same_result(
+    narrow: &ParserResult<IxdtfParseRecord<'_, Utf8>>,
+    wide: &ParserResult<IxdtfParseRecord<'_, Utf16>>,
+) -> bool {
+    match (narrow, wide) {
+        (Ok(first), Ok(second)) => same_record(first, second),
+        (Err(first), Err(second)) => first == second,
+        _ => false,
+    }
+}
+
+// Whether the reader gives the same for the bytes and for 16-bit units of the same numbers.
+fn reads_alike(reader: Reader, bytes: &[u8]) -> bool {
+    let numbers = Wide::of_bytes(bytes);
+    let units = numbers.units();
+    let mut narrow = IxdtfParser::from_utf8(bytes);
+    let mut wide = IxdtfParser::from_utf16(units);
+    let mut narrow_zone = TimeZoneParser::from_utf8(bytes);
+    let mut wide_zone = TimeZoneParser::from_utf16(units);
+    match reader {
+        Reader::Parse => same_result(&narrow.parse(), &wide.parse()),
+        Reader::YearMonth => same_result(&narrow.parse_year_month(), &wide.parse_year_month()),
+        Reader::MonthDay => same_result(&narrow.parse_month_day(), &wide.parse_month_day()),
+        Reader::Time => same_result(&narrow.parse_time(), &wide.parse_time()),
+        Reader::Offset => narrow_zone.parse_offset() == wide_zone.parse_offset(),
+        Reader::Identifier => {
+            match (
+                &narrow_zone.parse_identifier(),
+                &wide_zone.parse_identifier(),
+            ) {
+                (Ok(first), Ok(second)) => same_zone(first, second),
+                (Err(first), Err(second)) => first == second,
+                _ => false,
+            }
+        }
+        Reader::IanaIdentifier => {
+            match (
+                &narrow_zone.parse_iana_identifier(),
+                &wide_zone.parse_iana_identifier(),
+            ) {
+                (Ok(bytes), Ok(name)) => same_numbers(bytes, name),
+                (Err(first), Err(second)) => first == second,
+                _ => false,
+            }
+        }
+        Reader::Duration => {
+            let first = IsoDurationParser::<Utf8>::from_utf8(bytes).parse();
+            first == IsoDurationParser::<Utf16>::from_utf8(units).parse()
+        }
+    }
+}
+
+#[test]
+fn reads_alike_in_both_widths(rt: HostRuntime) {
+    for text in SHARED {
+        for reader in READERS {
+            assert!(rt;
+                reads_alike(reader, text.as_bytes()),
+                "{reader:?} at {text}"
+            );
+        }
+    }
+}
+
+// The error of a text of bytes, where it is refused.
+fn byte_refusal(reader: Reader, bytes: &'static [u8]) -> Option<ParseError> {
+    match reader {
+        Reader::Parse => match IxdtfParser::from_utf8(bytes).parse() {
+            Ok(_record) => None,
+            Err(error) => Some(error),
+        },
+        Reader::YearMonth => match IxdtfParser::from_utf8(bytes).parse_year_month() {
+            Ok(_record) => None,
+            Err(error) => Some(error),
+        },
+        Reader::MonthDay => match IxdtfParser::from_utf8(bytes).parse_month_day() {
+            Ok(_record) => None,
+            Err(error) => Some(error),
+        },
+        Reader::Time => match IxdtfParser::from_utf8(bytes).parse_time() {
+            Ok(_record) => None,
+            Err(error) => Some(error),
+        },
+        Reader::Offset => match TimeZoneParser::from_utf8(bytes).parse_offset() {
+            Ok(_offset) => None,
+            Err(error) => Some(error),
+        },
+        Reader::Identifier => match TimeZoneParser::from_utf8(bytes).parse_identifier() {
+            Ok(_zone) => None,
+            Err(error) => Some(error),
+        },
+        Reader::IanaIdentifier => match TimeZoneParser::from_utf8(bytes).parse_iana_identifier() {
+            Ok(_name) => None,
+            Err(error) => Some(error),
+        },
+        Reader::Duration => match IsoDurationParser::<Utf8>::from_utf8(bytes).parse() {
+            Ok(_duration) => None,
+            Err(error) => Some(error),
+        },
+    }
+}
+
+#[test]
+fn refuses_such_a_unit_or_as_its_mask(rt: HostRuntime) {
+    for (text, mask) in MASKED {
+        for reader in READERS {
+            let found = refusal(reader, text);
+            let is_bad = found == Some(ParseError::NonAsciiCodePoint);
+            let is_masked = found.is_some() && found == byte_refusal(reader, mask);
+            assert!(rt; is_bad || is_masked, "{reader:?} at {text}");
+        }
+    }
+}
