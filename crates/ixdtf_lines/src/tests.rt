@@ -112,6 +112,13 @@ const LINES: &[u8] =
 const ANSWERS: &[u8] =
     b"ok date=2020,11,8\nerror unknown reader\nok offset=-5,0,30.500000000\nerror Parsed day value not in a valid range.\nok tz=Europe/Berlin\nerror Parsing ended abruptly while parsing Date\nerror unknown reader\nok date=-400,2,29\n";
 
+// The lines of the stored run, and what it writes.
+const STORED_LINES: &[u8] =
+    b"parse 2021-01-29 02:12:48+01:00:00[u][u-ca=iso8601]\nduration -P1Y3wT0,5H\nzone +05:30\ntime 1200\nparse \nhello\n";
+
+const STORED_ANSWERS: &[u8] =
+    b"ok date=2021,1,29 time=2,12,48 offset=+1,0,0 tz=u calendar=iso8601\nok sign=- date=1,0,3,0 time=0.500000000\nok tz=+5,30\nerror Time is ambiguous with MonthDay\nerror Parsing ended abruptly while parsing digit\nerror unknown reader\n";
+
 const TWO_LINES: &[u8] = b"parse 2020-01-01\nparse 2020-01-02\n";
 
 const TWO_ANSWERS: &[u8] = b"ok date=2020,1,1\nok date=2020,1,2\n";
@@ -352,6 +359,8 @@ fn stops_at_a_read_that_fails(rt: HostRuntime) {
     check_reader(&rt, 17, 1, FIRST_ANSWER);
     check_reader(&rt, 20, 1, FIRST_ANSWER);
     check_reader(&rt, 1, 16, b"");
+    check_reader(&rt, 1, 17, FIRST_ANSWER);
+    check_reader(&rt, 1, 20, FIRST_ANSWER);
     check_reader(&rt, 512, 1, TWO_ANSWERS);
 }
 
@@ -369,17 +378,20 @@ fn reads_no_more_after_a_read_that_fails(rt: HostRuntime) {
 #[test]
 fn answers_the_lines_before_each_fault(rt: HostRuntime) {
     for good_reads in 0..LINES.len() + 1 {
-        check_fault(&rt, good_reads);
+        check_fault(&rt, LINES, ANSWERS, good_reads);
+    }
+    for good_reads in 0..STORED_LINES.len() + 1 {
+        check_fault(&rt, STORED_LINES, STORED_ANSWERS, good_reads);
     }
 }
 
 /// With one byte a read, a run that stops after so many reads has the answers to the lines that ended.
-fn check_fault(rt: &impl Abort, good_reads: usize) {
-    let mut reader = FaultyReader::new(LINES, 1, good_reads);
+fn check_fault(rt: &impl Abort, lines: &[u8], answers: &[u8], good_reads: usize) {
+    let mut reader = FaultyReader::new(lines, 1, good_reads);
     let mut writer = FaultyWriter::new();
     let outcome = run(&mut reader, &mut writer);
     assert_eq!(rt; outcome, Err(RunError::Read));
-    let ended = LINES
+    let ended = lines
         .iter()
         .take(good_reads)
         .filter(|byte| **byte == b'\n')
@@ -390,16 +402,18 @@ fn check_fault(rt: &impl Abort, good_reads: usize) {
         .filter(|byte| **byte == b'\n')
         .count();
     assert_eq!(rt; answered, ended);
-    assert!(rt; ANSWERS.starts_with(writer.written()));
+    assert!(rt; answers.starts_with(writer.written()));
 }
 
 #[test]
 fn reads_to_the_end_byte_by_byte(rt: HostRuntime) {
-    let mut reader = FaultyReader::new(LINES, 1, LINES.len() + 1);
-    let mut writer = FaultyWriter::new();
-    let outcome = run(&mut reader, &mut writer);
-    assert_eq!(rt; outcome, Ok(()));
-    assert_eq!(rt; writer.written(), ANSWERS);
+    for (lines, answers) in [(LINES, ANSWERS), (STORED_LINES, STORED_ANSWERS)] {
+        let mut reader = FaultyReader::new(lines, 1, lines.len().saturating_add(1));
+        let mut writer = FaultyWriter::new();
+        let outcome = run(&mut reader, &mut writer);
+        assert_eq!(rt; outcome, Ok(()));
+        assert_eq!(rt; writer.written(), answers);
+    }
 }
 
 /// What a run on the two lines leaves in the writer.

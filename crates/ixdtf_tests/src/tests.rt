@@ -8,9 +8,11 @@ mod encodings;
 mod errors;
 mod handlers;
 mod languages;
+mod large;
 mod laws;
 mod lone_times;
 mod months;
+mod odd;
 mod offsets;
 mod records;
 mod replies;
@@ -100,7 +102,7 @@ fn timed(hour: u8, minute: u8, second: u8, fraction: Option<Fraction>) -> Option
 }
 
 /// The fraction of the second of an offset, such as `+00:00:00.25`.
-fn fraction_of(text: &'static str) -> Option<Fraction> {
+fn fraction_of(text: &str) -> Option<Fraction> {
     match TimeZoneParser::from_str(text).parse_offset() {
         Ok(offset) => offset.fraction(),
         Err(_) => None,

@@ -152,7 +152,7 @@ fn same_result(
 }
 
 // Whether the reader gives the same for the bytes and for 16-bit units of the same numbers.
-fn reads_alike(reader: Reader, bytes: &[u8]) -> bool {
+pub(super) fn reads_alike(reader: Reader, bytes: &[u8]) -> bool {
     let numbers = Wide::of_bytes(bytes);
     let units = numbers.units();
     let mut narrow = IxdtfParser::from_utf8(bytes);
