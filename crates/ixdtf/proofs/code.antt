@@ -10,8 +10,8 @@ pub mod DurationSteps
 pub mod EqualRecords
 pub mod EqualUnits
 pub mod FirstPass
-pub mod FixedDate
-pub mod FixedTime
+pub mod FixedCores
+pub mod FixedPlaces
 pub mod FractionLoop
 pub mod GrowingDigits
 pub mod HandledForms

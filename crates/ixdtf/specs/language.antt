@@ -4,6 +4,7 @@ pub mod Cores
 pub mod Dates
 pub mod Digits
 pub mod Durations
+pub mod FixedPlaces
 pub mod Fractions
 pub mod Languages
 pub mod Letters

@@ -5,12 +5,13 @@
 
 #![tactic(auto, unfolding(crate::specs::reading::Looks::look_readings))]
 
-ghost use Rattle.std.specs.Prelude.{◌≡◌, ℕ, ◌+◌, ◌-◌, ◌<◌, ◌≤◌, ◌∷◌, List, [], map, length, drop, Ok, Some, None, IfOk, IfSome, OnOk, OnErr, IsTrue};
+ghost use Rattle.std.specs.Prelude.{◌≡◌, ℕ, ◌+◌, ◌-◌, ◌<◌, ◌≤◌, ◌∷◌, List, [], map, length, drop, Ok, Some, None, IfOk, IfSome, OnOk, OnErr, IsTrue, nat_eq};
 ghost use Rattle.ixdtf.specs.language.Letters.{digit};
 ghost use Rattle.ixdtf.specs.language.Letters.Letter.{Plain};
 ghost use Rattle.ixdtf.specs.table.Faults.{NonAsciiCodePoint};
 ghost use Rattle.ixdtf.specs.Views.{Unread, ascii_at};
 ghost use Rattle.ixdtf.specs.reading.Clauses.{Reads, Settles, Spends, Yields, fault_of_stop, digit_seen, end_look};
+ghost use Rattle.ixdtf.specs.reading.FixedPlaces.{letter_place};
 ghost use Rattle.ixdtf.specs.reading.Looks.{look_at, next_by, peek_by, digit_look, digits_by};
 
 use crate::encoding::EncodingType;
@@ -218,12 +219,12 @@ impl<'a, T: EncodingType> Cursor<'a, T> {
         self.rest = &self.rest[count..];
     }
 
-    /// The digit at a fixed place of the rest, as an ASCII byte, or `None` where no digit stands there.
+    /// The digit at a fixed place of the rest, as an ASCII byte, or `None` where none stands there.
     #[inline(always)]
+    #[tactic(auto, using(crate::proofs::code::FixedPlaces::place_looked))]
     pub fn fixed_digit(&mut self, index: usize) -> Option<u8>
+        ensures there { result ≡ letter_place digit index (map T.letter self.old.rest) }
         ensures digit { IfSome result (λ byte. IsTrue (digit byte)) }
-        ensures there { IfSome result
-            (λ byte. ascii_at T.letter index self.old.rest ≡ Ok (Some byte)) }
         ensures rest { self.new.rest ≡ self.old.rest }
         ensures looks { self.new.looks ≡ self.old.looks + 1 }
     {
@@ -235,9 +236,10 @@ impl<'a, T: EncodingType> Cursor<'a, T> {
 
     /// The letter, where it stands at a fixed place of the rest, or `None`.
     #[inline(always)]
+    #[tactic(auto, using(crate::proofs::code::FixedPlaces::place_looked))]
     pub fn fixed_letter(&mut self, index: usize, letter: u8) -> Option<u8>
-        ensures there { IfSome result
-            (λ _. ascii_at T.letter index self.old.rest ≡ Ok (Some letter)) }
+        ensures there { result ≡
+            letter_place (λ c. nat_eq c letter) index (map T.letter self.old.rest) }
         ensures rest { self.new.rest ≡ self.old.rest }
         ensures looks { self.new.looks ≡ self.old.looks + 1 }
     {

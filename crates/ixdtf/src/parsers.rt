@@ -22,6 +22,7 @@ mod brackets;
 mod cores;
 mod dates;
 mod duration;
+mod fixed;
 mod grammar;
 mod letters;
 mod months;

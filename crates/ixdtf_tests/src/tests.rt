@@ -6,6 +6,7 @@ mod dates;
 mod durations;
 mod encodings;
 mod errors;
+mod fixed_places;
 mod handlers;
 mod languages;
 mod large;

@@ -18,7 +18,7 @@ use Rattle.ixdtf.specs.table.DurationFronts.{Context}
 use Rattle.ixdtf.specs.table.DurationFronts.Context.{in_dates, in_times}
 use Rattle.ixdtf.specs.reading.Looks.{Read, error_of, look_at}
 use Rattle.ixdtf.specs.reading.Durations.{State, state_look, step, run, duration_at}
-use Rattle.ixdtf.specs.reading.Durations.State.{started, signed, between, in_number, at_mark, in_fraction, ended}
+use Rattle.ixdtf.specs.reading.Durations.State.{started, signed, between, in_number, ended}
 use Rattle.ixdtf.specs.reading.Clauses.{Reads}
 use Rattle.ixdtf.specs.reading.DurationClauses.{run_from, Leads}
 
@@ -37,16 +37,9 @@ nothing_is (Plain n ∷ more) e = absurd cc
 nothing_is (Bad ∷ more) e = absurd cc
 
 at_bad_is : (s : State) → (state_look error_of s).at_bad ≡ NonAsciiCodePoint
-at_bad_is started = refl
-at_bad_is (signed s) = refl
 at_bad_is (between (in_dates s [])) = refl
-at_bad_is (between (in_dates s (g ∷ dates))) = refl
 at_bad_is (between (in_times s dates [])) = refl
-at_bad_is (between (in_times s dates (g ∷ times))) = refl
-at_bad_is (in_number context ds) = refl
-at_bad_is (at_mark s dates times ds) = refl
-at_bad_is (in_fraction s dates times ds fs) = refl
-at_bad_is (ended s dates times g) = refl
+at_bad_is s = refl
 
 -- a look failed
 pub fails : (s : State) (text : Text) (fault : Fault) → look_at NonAsciiCodePoint text ≡ Err fault → run_from s text ≡ Err fault

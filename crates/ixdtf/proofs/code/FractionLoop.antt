@@ -1,5 +1,5 @@
 -- The digits of a fraction, taken off one by one.
-use Rattle.std.proofs.Common.{◌≡◌, ℕ, ◌+◌, true, false, List, [], ◌∷◌, ◌++◌, length, map, drop, Some, None, Ok, Err, refl, sym, ap, ◌∙◌, arith, append_assoc, append-nil}
+use Rattle.std.proofs.Common.{◌≡◌, ℕ, ◌+◌, true, false, List, [], ◌∷◌, ◌++◌, length, map, drop, Option, Some, None, Ok, Err, refl, sym, ap, ◌∙◌, arith, append_assoc, append-nil}
 use Rattle.ixdtf.specs.language.Letters.{Letter, Text}
 use Rattle.ixdtf.specs.language.Letters.Letter.{Plain, Bad}
 use Rattle.ixdtf.specs.language.Letters.{digit}
@@ -83,8 +83,22 @@ fails first whole (Bad ∷ rest) fraction fault far e = let same : NonAsciiCodeP
     fault_is : Fault → Read Fault FractionParts
     fault_is f = Err f
 
--- a step shortens the units where a look found a letter
-pub shrinks : (letter : ℕ → Letter) (rest next : List ℕ) (c : ℕ) → look_at NonAsciiCodePoint (map letter rest) ≡ Ok (Some c) → next ≡ drop 1 rest → length next + 1 ≡ length rest
+-- a look found this letter first, and a step took it off
+pub record Taken (letter : ℕ → Letter) (rest next : List ℕ) (c : ℕ) : Type 0 where
+  pub found : look_at NonAsciiCodePoint (map letter rest) ≡ Ok (Some c)
+  pub moved : next ≡ drop 1 rest
+  pub left : map letter next ≡ drop 1 (map letter rest)
+  pub shorter : length next + 1 ≡ length rest
+
+-- as the code takes it: what the look found, what it left, and what the step left
+pub taken : {letter : ℕ → Letter} {rest looked next : List ℕ} {seen : Option ℕ} {c : ℕ}
+    → look_at NonAsciiCodePoint (map letter rest) ≡ Ok seen → seen ≡ Some c → looked ≡ rest → next ≡ drop 1 looked → Taken letter rest next c
 unfolding look_at
-shrinks letter [] next c e moved = absurd cc
-shrinks letter (u ∷ us) next c e moved = omega (arith, ap (λ (t : List ℕ). length t) moved)
+taken {letter} {rest} {looked} {next} {seen} {c} sees is stays steps =
+    let found : look_at NonAsciiCodePoint (map letter rest) ≡ Ok (Some c) = cc in
+    let moved : next ≡ drop 1 rest = steps ∙ ap (λ (t : List ℕ). drop 1 t) stays in
+    from_units rest found moved
+  where
+    from_units : (rest : List ℕ) → look_at NonAsciiCodePoint (map letter rest) ≡ Ok (Some c) → next ≡ drop 1 rest → Taken letter rest next c
+    from_units [] found moved = absurd cc
+    from_units (u ∷ us) found moved = record { found = found; moved = moved; left = ap (map letter) moved; shorter = omega (arith, ap (λ (t : List ℕ). length t) moved) }

@@ -23,7 +23,6 @@ use denote.Param.Members as Members
 use denote.Signature.{Signature, types_at}
 use denote.Triple.Impl.{implements, insides_in, with_fact}
 use denote.Triple.Carry.{insides}
-use denote.Triple.Entry.{Res}
 use denote.Triple.Spec.{Spec, SpecAt, triple_of}
 use denote.Triple.Statement.{Triple}
 use denote.Triple.Table.{run_framed}
@@ -39,8 +38,9 @@ use Rattle.ixdtf.specs.declared.encoding.private.Sealed as sealed
 use Rattle.ixdtf.specs.contracts.encoding.private.Sealed.TheBound as sealed_bound
 use Rattle.ixdtf.specs.declared.parsers.cores.Cores as cores
 use Rattle.ixdtf.specs.contracts.parsers.cores.Cores.TheBound as cores_bound
-use Rattle.ixdtf.specs.contracts.stop.Raised.TheBound as raised_bound
 use Rattle.ixdtf.specs.contracts.stop.ParseErrorRaised.TheImpl as raises
+use Rattle.ixdtf.proofs.stop.ParseErrorRaised.TheImpl.Met as raises_met
+use Rattle.ixdtf.proofs.stop.ParseErrorRaised.of_stop.Symbol as raise_symbol
 use Rattle.ixdtf.specs.contracts.parsers.IxdtfParser
 use Rattle.ixdtf.specs.contracts.parsers.IxdtfParser.parse_with_annotation_handler as R
 use Rattle.ixdtf.specs.contracts.parsers.IxdtfParser.read_as as G
@@ -112,43 +112,43 @@ module _ {M : Type 1} (𝓤 : Ura M) (𝓛 : Logic 𝓤) (𝓜 : Model 𝓤 𝓛
   run = 𝓡.run (𝓡.env (G_key.name (bounded (a_type ∷ a_type ∷ a_type ∷ a_type ∷ a_type ∷ []) (T', (U, (E, (K.row, (F, tt)))))
       (dcons d₀ (dcons dₛ (dcons d₁ (dcons d₂ (dcons d₃ (dcons d₄ (dcons raises.dict (dcons K.dict (dcons d (dcons d' (dcons d'' dnil))))))))))))))
 
-  module _ (c : Spec 𝓤 S) where
-    abbrev Asks : Type 1
-    Asks = (τs : Lfts 5) (a : Denots (types_at S.params τs)) (x : (c τs a).ghost) → ent 𝓤 ((c τs a).requires x)
-        (insides 𝓤 3 τs.1.1 (T'.lives, (U.lives, (F.lives, tt))) (sep 𝓤 (fact 𝓤 (P τs)) (asked τs a)))
+  -- the contract of the form: what `read_as` ensures, where the handler may be called
+  abbrev c : Spec 𝓤 S
+  c τs a = record {
+    ghost = Unit {0};
+    requires = λ x. insides 𝓤 3 τs.1.1 (T'.lives, (U.lives, (F.lives, tt))) (sep 𝓤 (fact 𝓤 (P τs)) (asked τs a));
+    ensures = λ x r. (k (f τs) a).ensures tt r;
+  }
 
-    abbrev Gives : Type 1
-    Gives = (τs : Lfts 5) (a : Denots (types_at S.params τs)) (x : (c τs a).ghost) (r : Res S τs) → ent 𝓤 ((k (f τs) a).ensures tt r) ((c τs a).ensures x r)
+  abbrev c' : (τs : Lfts 5) (a : Denots (types_at S'.params (f τs))) → SpecAt 𝓤 S' (f τs)
+  c' τs a = record { ghost = (c τs a).ghost; requires = (c τs a).requires; ensures = (c τs a).ensures }
 
-    abbrev c' : (τs : Lfts 5) (a : Denots (types_at S'.params (f τs))) → SpecAt 𝓤 S' (f τs)
-    c' τs a = record { ghost = (c τs a).ghost; requires = (c τs a).requires; ensures = (c τs a).ensures }
+  -- `read_as` meets the contract of the form
+  met : Wired 𝓡.env G_symbol.code → Wired 𝓡.env raise_symbol.code
+      → cores_bound.Met 𝓛 𝓜 𝓡 𝓡.env K.row K.ghosts K.dict → Triple 𝓤 run (triple_of 𝓛 S c)
+  met wired raised cored =
+      implements 𝓛 S' 5 S.outlives f _ (run_framed 𝓤 𝓛.H 𝓜 𝓡 _) k c' 3 (λ τs. τs.1.1) (λ τs. (T'.lives, (U.lives, (F.lives, tt))))
+      ((0, tt), ((1, tt), ((2, tt), ((3, tt), ((1, tt), ((1, tt), ((4, tt), tt))))))) (λ τs a x. sep 𝓤 (fact 𝓤 (P τs)) (asked τs a)) (λ τs a x. id⊢ 𝓤 _)
+      (λ τs h. ((⊑_refl τs.0, (⊑_refl τs.1.0, (⊑_refl τs.1.1.0, (⊑_refl τs.1.1.1.0, (⊑_refl τs.1.0, (⊑_refl τs.1.0, (⊑_refl τs.1.1.1.1.0, tt))))))), h.0))
+      (λ τs a x. tt)
+      (λ τs h a x. fact_use 𝓤 (P τs) (fst∗ 𝓤 (fact 𝓤 (P τs)) (asked τs a)) (λ p.
+      via 𝓤 (sep 𝓤 (fact 𝓤 (Q (f τs))) (asked τs a))
+      (via 𝓤 (asked τs a) (snd∗ 𝓤 (fact 𝓤 (P τs)) (asked τs a)) (with_fact 𝓤 (Q (f τs)) (asked τs a) (τs, p, refl)))
+      (insides_in 𝓤 5 (τs.1.1.0, (τs.1.1.1.0, (τs.1.0, (τs.1.0, (τs.1.1.1.1.0, tt))))) (T'.lives, (U.lives, (E.lives, (K.row.lives, (F.lives, tt)))))
+      (sep 𝓤 (fact 𝓤 (Q (f τs))) (asked τs a)) (h.1.0, (h.1.1.0, (⊑_static τs.1.0, (K.static τs.1.0, (h.1.1.1.0, tt))))))))
+      (λ τs a x r. id⊢ 𝓤 _)
+      (G_met.met 𝓤 𝓛 𝓜 𝓡 wired T' U E K.row F LT LU E_laws K.laws LF g₀ d₀ gₛ dₛ g₁ d₁ g₂ d₂ g₃ d₃ d₄ raises.ghosts raises.dict K.ghosts K.dict g d d' d'' Q
+      b₀ bₛ b₁ b₂ b₃ b₄ (raises_met.passed 𝓡.env raised M 𝓤 𝓛 𝓜 𝓡) cored
+      (λ κs p. subst (λ (β : Lft). GM.Met 𝓛 𝓜 𝓡 𝓡.env β T' U E K.row F g d × GM.Lawful T' U E K.row F g) p.2 (b p.0 p.1))
+      (λ κs p. subst (λ (β : Lft). GO.Met 𝓛 𝓜 𝓡 𝓡.env β T' U E K.row F (Members.once g) d') p.2 (b' p.0 p.1))
+      b'')
 
-    -- `read_as` meets the contract of the form
-    met : Asks → Gives → Wired 𝓡.env G_symbol.code → raised_bound.Met 𝓛 𝓜 𝓡 𝓡.env E raises.ghosts raises.dict
-        → cores_bound.Met 𝓛 𝓜 𝓡 𝓡.env K.row K.ghosts K.dict → Triple 𝓤 run (triple_of 𝓛 S c)
-    met asks gives wired raised cored =
-        implements 𝓛 S' 5 S.outlives f _ (run_framed 𝓤 𝓛.H 𝓜 𝓡 _) k c' 3 (λ τs. τs.1.1) (λ τs. (T'.lives, (U.lives, (F.lives, tt))))
-        ((0, tt), ((1, tt), ((2, tt), ((3, tt), ((1, tt), ((1, tt), ((4, tt), tt))))))) (λ τs a x. sep 𝓤 (fact 𝓤 (P τs)) (asked τs a)) asks
-        (λ τs h. ((⊑_refl τs.0, (⊑_refl τs.1.0, (⊑_refl τs.1.1.0, (⊑_refl τs.1.1.1.0, (⊑_refl τs.1.0, (⊑_refl τs.1.0, (⊑_refl τs.1.1.1.1.0, tt))))))), h.0))
-        (λ τs a x. tt)
-        (λ τs h a x. fact_use 𝓤 (P τs) (fst∗ 𝓤 (fact 𝓤 (P τs)) (asked τs a)) (λ p.
-        via 𝓤 (sep 𝓤 (fact 𝓤 (Q (f τs))) (asked τs a))
-        (via 𝓤 (asked τs a) (snd∗ 𝓤 (fact 𝓤 (P τs)) (asked τs a)) (with_fact 𝓤 (Q (f τs)) (asked τs a) (τs, p, refl)))
-        (insides_in 𝓤 5 (τs.1.1.0, (τs.1.1.1.0, (τs.1.0, (τs.1.0, (τs.1.1.1.1.0, tt))))) (T'.lives, (U.lives, (E.lives, (K.row.lives, (F.lives, tt)))))
-        (sep 𝓤 (fact 𝓤 (Q (f τs))) (asked τs a)) (h.1.0, (h.1.1.0, (⊑_static τs.1.0, (K.static τs.1.0, (h.1.1.1.0, tt))))))))
-        gives
-        (G_met.met 𝓤 𝓛 𝓜 𝓡 wired T' U E K.row F LT LU E_laws K.laws LF g₀ d₀ gₛ dₛ g₁ d₁ g₂ d₂ g₃ d₃ d₄ raises.ghosts raises.dict K.ghosts K.dict g d d' d'' Q
-        b₀ bₛ b₁ b₂ b₃ b₄ raised cored
-        (λ κs p. subst (λ (β : Lft). GM.Met 𝓛 𝓜 𝓡 𝓡.env β T' U E K.row F g d × GM.Lawful T' U E K.row F g) p.2 (b p.0 p.1))
-        (λ κs p. subst (λ (β : Lft). GO.Met 𝓛 𝓜 𝓡 𝓡.env β T' U E K.row F (Members.once g) d') p.2 (b' p.0 p.1))
-        b'')
-
-    -- so does the form, which hands on to it
-    pub form : Asks → Gives → Wired 𝓡.env G_symbol.code → raised_bound.Met 𝓛 𝓜 𝓡 𝓡.env E raises.ghosts raises.dict
-        → cores_bound.Met 𝓛 𝓜 𝓡 𝓡.env K.row K.ghosts K.dict
-        → (h : Handing) (here : Callee) → ((κs : Lfts 5) → h.result ≡ layout (Got (at κs) 0 1 T' U)) → run ≡ 𝓣.C h.callee
-        → Closed 𝓤 𝓛.H 𝓣.C 𝓣.Λ here (handing_on h (layout F)) → Triple 𝓤 (𝓣.C here) (triple_of 𝓛 S c)
-    form asks gives wired raised cored h here result_is calls closed =
-        hands_on S.outlives (λ κs. IxdtfParser.the_row (at κs) (param 0 T') (param 1 U) g₀ g₁ g₂ g₃) 2 F (λ κs. Got (at κs) 0 1 T' U) 𝓛 𝓣 c LF h here
-        (λ κs x r is. subst (λ (t : Ty). T (has_ty t r) × WT r) (sym (result_is κs)) (lands (at κs) 0 1 T' U LT LU 𝓛 x r is)) closed
-        (subst (λ (ran : Fun 𝓤). Triple 𝓤 ran (triple_of 𝓛 S c)) calls (met asks gives wired raised cored))
+  -- so does the form, which hands on to it
+  pub form : Wired 𝓡.env G_symbol.code → Wired 𝓡.env raise_symbol.code
+      → cores_bound.Met 𝓛 𝓜 𝓡 𝓡.env K.row K.ghosts K.dict
+      → (h : Handing) (here : Callee) → ((κs : Lfts 5) → h.result ≡ layout (Got (at κs) 0 1 T' U)) → run ≡ 𝓣.C h.callee
+      → Closed 𝓤 𝓛.H 𝓣.C 𝓣.Λ here (handing_on h (layout F)) → Triple 𝓤 (𝓣.C here) (triple_of 𝓛 S c)
+  form wired raised cored h here result_is calls closed =
+      hands_on S.outlives (λ κs. IxdtfParser.the_row (at κs) (param 0 T') (param 1 U) g₀ g₁ g₂ g₃) 2 F (λ κs. Got (at κs) 0 1 T' U) 𝓛 𝓣 c LF h here
+      (λ κs x r is. subst (λ (t : Ty). T (has_ty t r) × WT r) (sym (result_is κs)) (lands (at κs) 0 1 T' U LT LU 𝓛 x r is)) closed
+      (subst (λ (ran : Fun 𝓤). Triple 𝓤 ran (triple_of 𝓛 S c)) calls (met wired raised cored))

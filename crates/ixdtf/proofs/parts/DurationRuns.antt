@@ -16,7 +16,7 @@ use Rattle.ixdtf.specs.table.Rows.{Row, Place, Stops}
 use Rattle.ixdtf.specs.table.Rows.Place.{end, other, bad, anywhere}
 use Rattle.ixdtf.specs.reading.Looks.{Read, ◌>>=◌, row_of, look_of}
 use Rattle.ixdtf.specs.reading.Durations.{State, line_of_state, step, finished, at_end, run}
-use Rattle.ixdtf.specs.reading.Durations.State.{started, signed, between, in_number, at_mark, in_fraction, ended}
+use Rattle.ixdtf.specs.reading.Durations.State.{between}
 use Rattle.ixdtf.proofs.parts.Looks.{Leads, Halts, Goes}
 use Rattle.ixdtf.proofs.code.GrowingDigits.{decimal_snoc}
 
@@ -70,16 +70,9 @@ Asks (scanned front e) = ⊥
 Asks (whole front e) = ⊥
 
 pub state_asks : (s : State) → Asks (duration_line (line_of_state s))
-state_asks started = tt
-state_asks (signed s) = tt
 state_asks (between (in_dates s [])) = tt
-state_asks (between (in_dates s (g ∷ earlier))) = tt
 state_asks (between (in_times s dates [])) = tt
-state_asks (between (in_times s dates (g ∷ earlier))) = tt
-state_asks (in_number context ds) = tt
-state_asks (at_mark s dates times ds) = tt
-state_asks (in_fraction s dates times ds fs) = tt
-state_asks (ended s dates times g) = tt
+state_asks s = tt
 
 module _ {E : Type 0} (fault : Row → E) where
   -- ---- a letter that goes on

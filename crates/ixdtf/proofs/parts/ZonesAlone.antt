@@ -18,8 +18,8 @@ use Rattle.ixdtf.specs.language.Brackets.{Pair}
 use Rattle.ixdtf.specs.language.Readers.{Reader, has_brackets}
 use Rattle.ixdtf.specs.table.LineNames.{LineName}
 use Rattle.ixdtf.specs.language.Readers.Reader.{parse_offset, parse_identifier, parse_iana_identifier}
-use Rattle.ixdtf.specs.table.LineNames.LineName.{of_core, of_clock, of_offset, of_zone, of_bracket, of_pair, of_duration}
-use Rattle.ixdtf.specs.table.LineNames.OffsetLine.{offset_start, after_zulu}
+use Rattle.ixdtf.specs.table.LineNames.LineName.{of_clock, of_offset, of_zone}
+use Rattle.ixdtf.specs.table.LineNames.OffsetLine.{offset_start}
 use Rattle.ixdtf.specs.table.LineNames.ZoneLine.{identifier_start, zone_name_start, in_zone_name, after_zone_slash}
 use Rattle.ixdtf.specs.table.Lines.{table, line_of, follow_of, zone_other}
 use Rattle.ixdtf.specs.table.Before.{Before}
@@ -121,15 +121,8 @@ module _ {E : Type 0} (fault : Row → E) where
 
   pub offset_rows : ReadsAllRows parse_offset (offset_at fault)
   offset_rows (of_offset offset_start) pairs place e prior front rest b f at = rw (b.0, f) (offset_start_row place e rest at)
-  offset_rows (of_offset after_zulu) pairs place e prior front rest b f at = absurd b.0
   offset_rows (of_clock clocks.Offset l) pairs place e prior front rest b f at = rw b.0.1 (clock_rows fault false clocks.Offset (offset_at fault) (signed_after clocks.Offset offset_record b.0.0) (Plain b.0.0 ∷ []) (offset_lead b.0.0 b.0.2) (signed_refuses clocks.Offset offset_record b.0.0) l place e front rest f at)
-  offset_rows (of_clock clocks.Time l) pairs place e prior front rest b f at = absurd b.0
-  offset_rows (of_clock clocks.MinuteOffset l) pairs place e prior front rest b f at = absurd b.0
-  offset_rows (of_core l) pairs place e prior front rest b f at = absurd b.0
-  offset_rows (of_zone l) pairs place e prior front rest b f at = absurd b.0
-  offset_rows (of_bracket l) pairs place e prior front rest b f at = absurd b.0
-  offset_rows (of_pair l) pairs place e prior front rest b f at = absurd b.0
-  offset_rows (of_duration l) pairs place e prior front rest b f at = absurd b.0
+  offset_rows name pairs place e prior front rest b f at = absurd b.0
 
   pub offset_read : (text : Text) → OnRead fault (offset_at fault text) (λ offset rest. (rest ≡ []) × IsOffset text offset) (λ row. Fits parse_offset row [] text)
   unfolding offset_at
@@ -203,13 +196,7 @@ module _ {E : Type 0} (fault : Row → E) where
   iana_identifier_rows (of_zone after_zone_slash) pairs place e prior front rest b f at =
       let name : iana_identifier_at fault (front ++ rest) ≡ name_alone_at fault (front ++ rest) = rw (f.2, append_assoc) (iana_lead f.0 (f.1 ++ rest) f.3) in
       rw b.0 (name ∙ alone_slash_row place e front rest f at)
-  iana_identifier_rows (of_zone identifier_start) pairs place e prior front rest b f at = absurd b.0
-  iana_identifier_rows (of_offset l) pairs place e prior front rest b f at = absurd b.0
-  iana_identifier_rows (of_clock clock l) pairs place e prior front rest b f at = absurd b.0
-  iana_identifier_rows (of_core l) pairs place e prior front rest b f at = absurd b.0
-  iana_identifier_rows (of_bracket l) pairs place e prior front rest b f at = absurd b.0
-  iana_identifier_rows (of_pair l) pairs place e prior front rest b f at = absurd b.0
-  iana_identifier_rows (of_duration l) pairs place e prior front rest b f at = absurd b.0
+  iana_identifier_rows name pairs place e prior front rest b f at = absurd b.0
 
   pub iana_identifier_read : (text : Text) → OnRead fault (iana_identifier_at fault text) (λ name rest. (rest ≡ []) × IsZoneName text name) (λ row. Fits parse_iana_identifier row [] text)
   unfolding iana_identifier_at
@@ -252,15 +239,8 @@ module _ {E : Type 0} (fault : Row → E) where
   identifier_rows (of_zone after_zone_slash) pairs place e prior front rest b f at =
       let name : identifier_at fault (front ++ rest) ≡ as_zone (name_alone_at fault (front ++ rest)) = rw (f.2, append_assoc) (zone_name_lead f.0 (f.1 ++ rest) f.3) in
       rw b.0 (name ∙ rw (alone_slash_row place e front rest f at) refl)
-  identifier_rows (of_zone zone_name_start) pairs place e prior front rest b f at = absurd b.0
   identifier_rows (of_clock clocks.MinuteOffset l) pairs place e prior front rest b f at = rw b.0.1 (clock_rows fault false clocks.MinuteOffset (identifier_at fault) (signed_after clocks.MinuteOffset zone_record b.0.0) (Plain b.0.0 ∷ []) (zone_sign_lead b.0.0 b.0.2) (signed_refuses clocks.MinuteOffset zone_record b.0.0) l place e front rest f at)
-  identifier_rows (of_clock clocks.Time l) pairs place e prior front rest b f at = absurd b.0
-  identifier_rows (of_clock clocks.Offset l) pairs place e prior front rest b f at = absurd b.0
-  identifier_rows (of_offset l) pairs place e prior front rest b f at = absurd b.0
-  identifier_rows (of_core l) pairs place e prior front rest b f at = absurd b.0
-  identifier_rows (of_bracket l) pairs place e prior front rest b f at = absurd b.0
-  identifier_rows (of_pair l) pairs place e prior front rest b f at = absurd b.0
-  identifier_rows (of_duration l) pairs place e prior front rest b f at = absurd b.0
+  identifier_rows name pairs place e prior front rest b f at = absurd b.0
 
   -- an offset that was read is a zone
   offset_is_zone : (text : Text) (zone : Zone) → IsSigned clocks.MinuteOffset zone_record text zone → IsZone text zone

@@ -13,7 +13,7 @@ use Rattle.ixdtf.specs.language.Readers.{Reader, CoreKind}
 use Rattle.ixdtf.specs.language.Readers.CoreKind.{date_time, year_month, month_day, time_alone}
 use Rattle.ixdtf.specs.language.Readers.Reader.{bracketed, parse_offset, parse_identifier, parse_iana_identifier, parse_duration}
 use Rattle.ixdtf.specs.language.Languages.{Parsed, IsBracketed}
-use Rattle.ixdtf.specs.language.Languages.Found.{parsed, shifted, identified, named, lasting}
+use Rattle.ixdtf.specs.language.Languages.Found.{parsed, lasting}
 use Rattle.ixdtf.specs.Laws.{IsTextReader, InLanguage, LanguagesDisjoint, InNoOther}
 use Rattle.ixdtf.proofs.parts.CoreLetters.{same_core, no_duration}
 use Rattle.ixdtf.proofs.theorems.CoreEnds.{tail_ends, core_inside}
@@ -144,32 +144,21 @@ never_both time_alone = times_and_durations
 
 whole_of : (kind : CoreKind) (text : Text) → InLanguage (bracketed kind) text → Whole kind text
 whole_of kind text (parsed found, pairs, h) = (found, pairs, h)
-whole_of kind text (shifted offset, pairs, h) = absurd h
-whole_of kind text (identified zone, pairs, h) = absurd h
-whole_of kind text (named units, pairs, h) = absurd h
-whole_of kind text (lasting duration, pairs, h) = absurd h
+whole_of kind text (found, pairs, h) = absurd h
 
 duration_of : (text : Text) → InLanguage parse_duration text → some IsDuration text
-duration_of text (parsed found, pairs, h) = absurd h
-duration_of text (shifted offset, pairs, h) = absurd h
-duration_of text (identified zone, pairs, h) = absurd h
-duration_of text (named units, pairs, h) = absurd h
 duration_of text (lasting duration, pairs, h) = (duration, h.0)
+duration_of text (found, pairs, h) = absurd h
 
 pub languages_disjoint : LanguagesDisjoint
 languages_disjoint text (bracketed first) (bracketed second) is too h k = ap bracketed (same_kind first second text (whole_of first text h) (whole_of second text k))
 languages_disjoint text (bracketed first) parse_duration is too h k = absurd (never_both first text (whole_of first text h) (duration_of text k))
-languages_disjoint text (bracketed first) parse_offset is too h k = absurd too
-languages_disjoint text (bracketed first) parse_identifier is too h k = absurd too
-languages_disjoint text (bracketed first) parse_iana_identifier is too h k = absurd too
 languages_disjoint text parse_duration (bracketed second) is too h k = absurd (never_both second text (whole_of second text k) (duration_of text h))
 languages_disjoint text parse_duration parse_duration is too h k = refl
-languages_disjoint text parse_duration parse_offset is too h k = absurd too
-languages_disjoint text parse_duration parse_identifier is too h k = absurd too
-languages_disjoint text parse_duration parse_iana_identifier is too h k = absurd too
 languages_disjoint text parse_offset second is too h k = absurd is
 languages_disjoint text parse_identifier second is too h k = absurd is
 languages_disjoint text parse_iana_identifier second is too h k = absurd is
+languages_disjoint text first second is too h k = absurd too
 
 -- what is in the language of one of the readers is in no other
 pub in_no_other : (reader : Reader) (text : Text) → IsTextReader reader → InLanguage reader text → InNoOther reader text

@@ -11,21 +11,21 @@ use Rattle.ixdtf.specs.table.Faults.Fault.{UnrecognizedCritical, CriticalDuplica
 use Rattle.ixdtf.specs.language.Brackets.{Pair}
 use Rattle.ixdtf.specs.language.Readers.{Reader, has_brackets}
 use Rattle.ixdtf.specs.table.LineNames.{LineName}
-use Rattle.ixdtf.specs.table.LineNames.DateLine.{year_start, year_digits, extended_year_digits, minus_zero_year, after_year, month_digits}
-use Rattle.ixdtf.specs.table.LineNames.DateLine.{month_range, after_hyphened_month, after_plain_month, day_digits, day_range, after_date}
-use Rattle.ixdtf.specs.table.LineNames.YearMonthLine.{after_year_in_year_month, after_year_month}
-use Rattle.ixdtf.specs.table.LineNames.MonthDayLine.{month_day_start, month_day_hyphen, month_day_month_digits, month_day_month_range}
-use Rattle.ixdtf.specs.table.LineNames.MonthDayLine.{after_month_day_month, month_day_day_digits, month_day_range, after_month_day}
-use Rattle.ixdtf.specs.table.LineNames.TimeLine.{time_start, time_reads_as_month_day, time_reads_as_year_month}
-use Rattle.ixdtf.specs.table.LineNames.ClockLine.{hour_start, hour_digit, hour_range, after_hour, minute_digits, minute_range, after_plain_minute}
-use Rattle.ixdtf.specs.table.LineNames.ClockLine.{after_colon_minute, second_digits, second_range, after_second, fraction_start, after_fraction}
-use Rattle.ixdtf.specs.table.LineNames.OffsetLine.{offset_start, after_zulu}
-use Rattle.ixdtf.specs.table.LineNames.ZoneLine.{identifier_start, zone_name_start, in_zone_name, after_zone_slash}
-use Rattle.ixdtf.specs.table.LineNames.BracketLine.{first_bracket_start, first_critical_start, first_bracket_scan, after_bracket}
-use Rattle.ixdtf.specs.table.LineNames.PairLine.{key_start, critical_key_start, in_key, value_start, in_value, after_value_hyphen}
-use Rattle.ixdtf.specs.table.LineNames.DurationLine.{duration_start, after_duration_sign, after_duration_designator, after_date_groups}
-use Rattle.ixdtf.specs.table.LineNames.DurationLine.{after_time_designator, group_digits, group_value_range, unit_order, date_unit_range}
-use Rattle.ixdtf.specs.table.LineNames.DurationLine.{group_fraction_start, group_fraction_digits, after_time_groups, after_fraction_group}
+use Rattle.ixdtf.specs.table.LineNames.DateLine.{minus_zero_year}
+use Rattle.ixdtf.specs.table.LineNames.DateLine.{month_range, after_plain_month, day_range, after_date}
+use Rattle.ixdtf.specs.table.LineNames.YearMonthLine.{after_year_month}
+use Rattle.ixdtf.specs.table.LineNames.MonthDayLine.{month_day_month_range}
+use Rattle.ixdtf.specs.table.LineNames.MonthDayLine.{month_day_range, after_month_day}
+use Rattle.ixdtf.specs.table.LineNames.TimeLine.{time_reads_as_month_day, time_reads_as_year_month}
+use Rattle.ixdtf.specs.table.LineNames.ClockLine.{hour_range, after_hour, minute_range, after_plain_minute}
+use Rattle.ixdtf.specs.table.LineNames.ClockLine.{after_colon_minute, second_digits, second_range, after_second, after_fraction}
+use Rattle.ixdtf.specs.table.LineNames.OffsetLine.{after_zulu}
+use Rattle.ixdtf.specs.table.LineNames.ZoneLine.{in_zone_name}
+use Rattle.ixdtf.specs.table.LineNames.BracketLine.{first_bracket_scan, after_bracket}
+use Rattle.ixdtf.specs.table.LineNames.PairLine.{key_start}
+use Rattle.ixdtf.specs.table.LineNames.DurationLine.{after_date_groups}
+use Rattle.ixdtf.specs.table.LineNames.DurationLine.{group_digits, group_value_range, unit_order, date_unit_range}
+use Rattle.ixdtf.specs.table.LineNames.DurationLine.{after_time_groups, after_fraction_group}
 use Rattle.ixdtf.specs.table.LineNames.{of_date, of_year_month, of_month_day, of_time}
 use Rattle.ixdtf.specs.table.LineNames.LineName.{of_clock, of_offset, of_zone, of_bracket, of_pair, of_duration}
 use Rattle.ixdtf.specs.table.Lines.{Line, Ending, Follow, follow_of, mixed, second_fault, zone_line, no_designator, order_fault, line_of, table}
@@ -58,103 +58,58 @@ abbrev FollowHas : Follow → Type 0
 FollowHas follow = EndHas follow.at_end × IsFalse (no_row follow.at_other)
 
 follow_has : (brackets : Bool) (clock : Clock) → FollowHas (follow_of brackets clock)
-follow_has true clocks.Time = (tt, refl)
-follow_has true clocks.Offset = (tt, refl)
 follow_has true clocks.MinuteOffset = (refl, refl)
-follow_has false clock = (tt, refl)
+follow_has brackets clock = (tt, refl)
 
-mixed_has : (clock : Clock) → IsFalse (no_row (mixed clock))
-mixed_has clocks.Time = refl
-mixed_has clocks.Offset = refl
-mixed_has clocks.MinuteOffset = refl
-
-second_has : (clock : Clock) → IsFalse (no_row (second_fault clock))
-second_has clocks.Time = refl
-second_has clocks.Offset = refl
-second_has clocks.MinuteOffset = refl
+clock_has : (clock : Clock) → IsFalse (no_row (mixed clock)) × IsFalse (no_row (second_fault clock))
+clock_has clocks.Time = (refl, refl)
+clock_has clocks.Offset = (refl, refl)
+clock_has clocks.MinuteOffset = (refl, refl)
 
 zone_has : (brackets : Bool) → LineHas (zone_line brackets in_zone_name)
 zone_has true = (refl, λ c. refl)
 zone_has false = (tt, λ c. either_has (closing c) InvalidEnd IanaChar refl refl)
 
-designator_has : (half : Half) → IsFalse (no_row (no_designator half))
-designator_has halves.date = refl
-designator_has halves.time = refl
-
-order_has : (half : Half) → IsFalse (no_row (order_fault half))
-order_has halves.date = refl
-order_has halves.time = refl
+half_has : (half : Half) → IsFalse (no_row (no_designator half)) × IsFalse (no_row (order_fault half))
+half_has halves.date = (refl, refl)
+half_has halves.time = (refl, refl)
 
 line_has : (brackets : Bool) (name : LineName) → LineHas (line_of brackets name)
-line_has brackets (of_date year_start) = (refl, λ c. refl)
-line_has brackets (of_date year_digits) = (refl, λ c. refl)
-line_has brackets (of_date extended_year_digits) = (refl, λ c. refl)
 line_has brackets (of_date minus_zero_year) = refl
-line_has brackets (of_date after_year) = (refl, λ c. refl)
-line_has brackets (of_date month_digits) = (refl, λ c. refl)
 line_has brackets (of_date month_range) = refl
-line_has brackets (of_date after_hyphened_month) = (refl, λ c. refl)
 line_has brackets (of_date after_plain_month) = (refl, λ c. either_has (hyphen c) DateSeparator DateDay refl refl)
-line_has brackets (of_date day_digits) = (refl, λ c. refl)
 line_has brackets (of_date day_range) = refl
 line_has brackets (of_date after_date) = (tt, λ c. refl)
-line_has brackets (of_year_month after_year_in_year_month) = (refl, λ c. refl)
 line_has brackets (of_year_month after_year_month) = (tt, λ c. refl)
-line_has brackets (of_month_day month_day_start) = (refl, λ c. refl)
-line_has brackets (of_month_day month_day_hyphen) = (refl, λ c. refl)
-line_has brackets (of_month_day month_day_month_digits) = (refl, λ c. refl)
 line_has brackets (of_month_day month_day_month_range) = refl
-line_has brackets (of_month_day after_month_day_month) = (refl, λ c. refl)
-line_has brackets (of_month_day month_day_day_digits) = (refl, λ c. refl)
 line_has brackets (of_month_day month_day_range) = refl
 line_has brackets (of_month_day after_month_day) = (tt, λ c. refl)
-line_has brackets (of_time time_start) = (refl, λ c. refl)
 line_has brackets (of_time time_reads_as_month_day) = refl
 line_has brackets (of_time time_reads_as_year_month) = refl
-line_has brackets (of_clock clock hour_start) = (refl, λ c. refl)
-line_has brackets (of_clock clock hour_digit) = (refl, λ c. refl)
 line_has brackets (of_clock clock hour_range) = refl
 line_has brackets (of_clock clock after_hour) = let f = follow_has brackets clock in (f.0, λ c. f.1)
-line_has brackets (of_clock clock minute_digits) = (refl, λ c. refl)
 line_has brackets (of_clock clock minute_range) = refl
 line_has brackets (of_clock clock after_plain_minute) =
-    let f = follow_has brackets clock in (f.0, λ c. either_has (colon c || digit c) (mixed clock) (follow_of brackets clock).at_other (mixed_has clock) f.1)
+    let f = follow_has brackets clock in (f.0, λ c. either_has (colon c || digit c) (mixed clock) (follow_of brackets clock).at_other (clock_has clock).0 f.1)
 line_has brackets (of_clock clock after_colon_minute) =
-    let f = follow_has brackets clock in (f.0, λ c. either_has (colon c || digit c) (mixed clock) (follow_of brackets clock).at_other (mixed_has clock) f.1)
-line_has brackets (of_clock clock second_digits) = (refl, λ c. second_has clock)
-line_has brackets (of_clock clock second_range) = second_has clock
+    let f = follow_has brackets clock in (f.0, λ c. either_has (colon c || digit c) (mixed clock) (follow_of brackets clock).at_other (clock_has clock).0 f.1)
+line_has brackets (of_clock clock second_digits) = (refl, λ c. (clock_has clock).1)
+line_has brackets (of_clock clock second_range) = (clock_has clock).1
 line_has brackets (of_clock clock after_second) = let f = follow_has brackets clock in (f.0, λ c. f.1)
-line_has brackets (of_clock clock fraction_start) = (refl, λ c. refl)
 line_has brackets (of_clock clock after_fraction) = let f = follow_has brackets clock in (f.0, λ c. f.1)
-line_has brackets (of_offset offset_start) = (refl, λ c. refl)
 line_has brackets (of_offset after_zulu) = (tt, λ c. refl)
-line_has brackets (of_zone identifier_start) = (refl, λ c. refl)
-line_has brackets (of_zone zone_name_start) = (refl, λ c. refl)
 line_has brackets (of_zone in_zone_name) = zone_has brackets
-line_has brackets (of_zone after_zone_slash) = (refl, λ c. refl)
-line_has brackets (of_bracket first_bracket_start) = (refl, λ c. refl)
-line_has brackets (of_bracket first_critical_start) = (refl, λ c. refl)
 line_has brackets (of_bracket first_bracket_scan) = refl
 line_has brackets (of_bracket after_bracket) = (tt, λ c. refl)
 line_has brackets (of_pair key_start) = (refl, λ c. refl)
-line_has brackets (of_pair critical_key_start) = (refl, λ c. refl)
-line_has brackets (of_pair in_key) = (refl, λ c. refl)
-line_has brackets (of_pair value_start) = (refl, λ c. refl)
-line_has brackets (of_pair in_value) = (refl, λ c. refl)
-line_has brackets (of_pair after_value_hyphen) = (refl, λ c. refl)
-line_has brackets (of_duration duration_start) = (refl, λ c. refl)
-line_has brackets (of_duration after_duration_sign) = (refl, λ c. refl)
-line_has brackets (of_duration after_duration_designator) = (refl, λ c. refl)
 line_has brackets (of_duration after_date_groups) = (tt, λ c. refl)
-line_has brackets (of_duration after_time_designator) = (refl, λ c. refl)
-line_has brackets (of_duration (group_digits half)) = let has = designator_has half in (has, λ c. has)
+line_has brackets (of_duration (group_digits half)) = let has = (half_has half).0 in (has, λ c. has)
 line_has brackets (of_duration (group_value_range half)) = refl
-line_has brackets (of_duration (unit_order half)) = order_has half
+line_has brackets (of_duration (unit_order half)) = (half_has half).1
 line_has brackets (of_duration date_unit_range) = refl
-line_has brackets (of_duration group_fraction_start) = (refl, λ c. refl)
-line_has brackets (of_duration group_fraction_digits) = (refl, λ c. refl)
 line_has brackets (of_duration after_time_groups) = (tt, λ c. refl)
 line_has brackets (of_duration after_fraction_group) = (tt, λ c. refl)
+line_has brackets name = (refl, λ c. refl)
 
 end_has : (at_end : Ending) (fault : Fault) → EndHas at_end → at_end ≡ error fault → IsFalse (no_row fault)
 end_has ok fault has is = absurd cc
@@ -164,15 +119,10 @@ stop_has : (l : Line) (place : Place) (fault : Fault) (rest : Text) → LineHas 
 stop_has (line front goes_on at_end at_other) end fault rest has h = end_has at_end fault has.0 h.1
 stop_has (line front goes_on at_end at_other) other fault rest has h = ap no_row h.4 ∙ has.1 h.0
 stop_has (line front goes_on at_end at_other) bad fault rest has h = ap no_row h.2
-stop_has (line front goes_on at_end at_other) anywhere fault rest has h = absurd h
 stop_has (scanned front e) end fault rest has h = ap no_row h.1 ∙ has
-stop_has (scanned front e) other fault rest has h = absurd h
 stop_has (scanned front e) bad fault rest has h = ap no_row h.2
-stop_has (scanned front e) anywhere fault rest has h = absurd h
-stop_has (whole front e) end fault rest has h = absurd h
-stop_has (whole front e) other fault rest has h = absurd h
-stop_has (whole front e) bad fault rest has h = absurd h
 stop_has (whole front e) anywhere fault rest has h = ap no_row h ∙ has
+stop_has l place fault rest has h = absurd h
 
 row_has : (reader : Reader) (text : Text) (pairs : List Pair) (fault : Fault) → HasFault reader text pairs fault → IsFalse (no_row fault)
 row_has reader text pairs fault h =

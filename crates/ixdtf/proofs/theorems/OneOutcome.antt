@@ -6,7 +6,7 @@ use Rattle.ixdtf.specs.language.Brackets.{ZoneNote}
 use Rattle.ixdtf.specs.language.Brackets.{Pair}
 use Rattle.ixdtf.specs.language.Cores.{Core}
 use Rattle.ixdtf.specs.language.Readers.{Reader}
-use Rattle.ixdtf.specs.language.Readers.Reader.{bracketed, parse_offset, parse_identifier, parse_iana_identifier, parse_duration}
+use Rattle.ixdtf.specs.language.Readers.Reader.{bracketed}
 use Rattle.ixdtf.specs.language.Languages.{Parsed, parsed_with, Found, Derives}
 use Rattle.ixdtf.specs.table.Outcomes.{HasFault, NoRowFits, Outcome, Holds, OneOutcome}
 use Rattle.ixdtf.specs.language.Languages.Found.{parsed}
@@ -69,10 +69,7 @@ front_begins (bracketed kind) front rest read pairs d = go (brackets_of d.bracke
         let over = over_brackets row_behind kind d.cores d.brackets rest d.core d.zone pairs d.is_core h in
         let is : bracketed_text_at row_behind kind (front ++ rest) ≡ (pairs_at row_behind over.0 pairs rest >>= λ all. Ok ((parsed_with d.core d.zone, all.0), all.1)) = ap (bracketed_text_at row_behind kind) (rw d.is (simp append_assoc)) ∙ over.2 in
         subst (λ (r : Read RowBehind (Parsed × List Pair)). OnBegins pairs (with_pairs r)) (sym is) (more_begins d.core d.zone pairs rest (pairs_at row_behind over.0 pairs rest) (pairs_read row_behind over.0 pairs rest over.1))
-front_begins parse_offset front rest read pairs d = absurd d
-front_begins parse_identifier front rest read pairs d = absurd d
-front_begins parse_iana_identifier front rest read pairs d = absurd d
-front_begins parse_duration front rest read pairs d = absurd d
+front_begins reader front rest read pairs d = absurd d
 
 -- the pairs of a front that is derived begin those of the text, whether it is derived or has a fault
 pub derived_begins : (reader : Reader) (front rest : Text) (read whole : Parsed) (pairs all : List Pair) → Derives reader front (parsed read) pairs → Derives reader (front ++ rest) (parsed whole) all → Begins pairs all

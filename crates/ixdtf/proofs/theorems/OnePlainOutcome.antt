@@ -17,6 +17,7 @@ use Rattle.ixdtf.specs.table.LineNames.{LineName}
 use Rattle.ixdtf.specs.table.Outcomes.{HasFault, Outcome, Holds}
 use Rattle.ixdtf.specs.table.Outcomes.Outcome.{derived, refused}
 use Rattle.ixdtf.specs.table.Rows.{Row, Fits}
+use Rattle.ixdtf.proofs.code.ReadersWithoutPairs.{ReadsNoPairs}
 use Rattle.ixdtf.proofs.code.OneMoreReply.{refused_last, refused_split}
 use Rattle.ixdtf.proofs.theorems.Handled.{derived_once}
 use Rattle.ixdtf.proofs.theorems.OneOutcome.{one_outcome, same_outcome, no_row_fits, derived_begins, fault_begins}
@@ -108,23 +109,16 @@ module _ (kind : CoreKind) (text : Text) where
         ap (λ p. read_as (parsed p)) gives.has ∙ ap (λ p. record_at p pairs) reads ∙ ap (record_at read) alls,
         subst (λ ps. NoneRefused (own_replies ps)) alls gives.accepted,
       )
-  when_derived read all d (read_as (shifted offset)) h = absurd h
-  when_derived read all d (read_as (identified zone)) h = absurd h
-  when_derived read all d (read_as (named units)) h = absurd h
-  when_derived read all d (read_as (lasting duration)) h = absurd h
   when_derived read all d (faulted fault) (pairs, inl h) =
       let front = h.0 in
       let more = derived_begins (bracketed kind) front.0 front.1 front.3 read pairs all front.4 (subst (λ t. Derives (bracketed kind) t (parsed read) all) front.2 d) in
       inr (pairs, more.0, fault, refl, more.1, h.1)
   when_derived read all d (faulted fault) (pairs, inr h) = absurd (no_row_fits (bracketed kind) text (parsed read, all, d) h.0.0 pairs h.0.1)
+  when_derived read all d (read_as found) h = absurd h
 
   -- where a row fits
   when_refused : (row : Row) (all : List Pair) → Fits (bracketed kind) row all text → (x : PlainOutcome) → HasWithPairs kind text x → Settled all (faulted row.error) x
   when_refused row all f (read_as (parsed found)) (pairs, gives) = absurd (no_row_fits (bracketed kind) text (parsed gives.read, pairs, gives.whole) row all f)
-  when_refused row all f (read_as (shifted offset)) h = absurd h
-  when_refused row all f (read_as (identified zone)) h = absurd h
-  when_refused row all f (read_as (named units)) h = absurd h
-  when_refused row all f (read_as (lasting duration)) h = absurd h
   when_refused row all f (faulted fault) (pairs, inl h) =
       let front = h.0 in
       let more = fault_begins (bracketed kind) front.0 front.1 front.3 pairs all row.error front.4 (subst (λ t. HasFault (bracketed kind) t all row.error) front.2 (row, f, refl)) in
@@ -134,14 +128,12 @@ module _ (kind : CoreKind) (text : Text) where
       let rows : h.0.0 ≡ row = cc in
       let alls : pairs ≡ all = cc in
       inl (ap faulted (sym h.0.2 ∙ ap (λ (r : Row). r.error) rows), subst (λ ps. NoneRefused (own_replies ps)) alls h.1)
+  when_refused row all f (read_as found) h = absurd h
 
   with_pairs_once : (outcome : Outcome) → Holds (bracketed kind) text outcome → (x y : PlainOutcome) → HasWithPairs kind text x → HasWithPairs kind text y → x ≡ y
   with_pairs_once (derived (parsed read) all) h x y p q = settled_once all (record_at read all) x y (when_derived read all h x p) (when_derived read all h y q)
-  with_pairs_once (derived (shifted offset) all) h x y p q = absurd h
-  with_pairs_once (derived (identified zone) all) h x y p q = absurd h
-  with_pairs_once (derived (named units) all) h x y p q = absurd h
-  with_pairs_once (derived (lasting duration) all) h x y p q = absurd h
   with_pairs_once (refused row all) h x y p q = settled_once all (faulted row.error) x y (when_refused row all h x p) (when_refused row all h y q)
+  with_pairs_once (derived found all) h x y p q = absurd h
 
 -- ---- readers without brackets
 
@@ -165,33 +157,13 @@ module _ (reader : Reader) (text : Text) where
   alone_gives no_pairs none_stand (refused row pairs) h =
       (faulted row.error, (row, subst (λ ps. Fits reader row ps text) (none_stand row.name pairs h.0 h.1 h.3) h, refl))
 
-offset_alone : (text : Text) (found : Found) (pairs : List Pair) → Derives parse_offset text found pairs → pairs ≡ []
-offset_alone text (shifted offset) pairs h = h.1
-offset_alone text (parsed found) pairs h = absurd h
-offset_alone text (identified zone) pairs h = absurd h
-offset_alone text (named units) pairs h = absurd h
-offset_alone text (lasting duration) pairs h = absurd h
-
-identifier_alone : (text : Text) (found : Found) (pairs : List Pair) → Derives parse_identifier text found pairs → pairs ≡ []
-identifier_alone text (identified zone) pairs h = h.1
-identifier_alone text (parsed found) pairs h = absurd h
-identifier_alone text (shifted offset) pairs h = absurd h
-identifier_alone text (named units) pairs h = absurd h
-identifier_alone text (lasting duration) pairs h = absurd h
-
-iana_alone : (text : Text) (found : Found) (pairs : List Pair) → Derives parse_iana_identifier text found pairs → pairs ≡ []
-iana_alone text (named units) pairs h = h.1
-iana_alone text (parsed found) pairs h = absurd h
-iana_alone text (shifted offset) pairs h = absurd h
-iana_alone text (identified zone) pairs h = absurd h
-iana_alone text (lasting duration) pairs h = absurd h
-
-duration_alone : (text : Text) (found : Found) (pairs : List Pair) → Derives parse_duration text found pairs → pairs ≡ []
-duration_alone text (lasting duration) pairs h = h.1
-duration_alone text (parsed found) pairs h = absurd h
-duration_alone text (shifted offset) pairs h = absurd h
-duration_alone text (identified zone) pairs h = absurd h
-duration_alone text (named units) pairs h = absurd h
+derived_alone : (reader : Reader) (text : Text) (found : Found) (pairs : List Pair) → ReadsNoPairs reader → Derives reader text found pairs → pairs ≡ []
+derived_alone (bracketed kind) text found pairs none h = absurd none
+derived_alone parse_offset text (shifted offset) pairs none h = h.1
+derived_alone parse_identifier text (identified zone) pairs none h = h.1
+derived_alone parse_iana_identifier text (named units) pairs none h = h.1
+derived_alone parse_duration text (lasting duration) pairs none h = h.1
+derived_alone reader text found pairs none h = absurd h
 
 -- ---- any reader
 
@@ -203,21 +175,11 @@ with_pairs_outcome kind text = elim (record_or_fault kind text) [
 
 pub plain_outcome : (reader : Reader) (text : Text) → (x : PlainOutcome) × HasPlain reader text x
 plain_outcome (bracketed kind) text = with_pairs_outcome kind text
-plain_outcome parse_offset text =
-    let one = one_outcome parse_offset text in alone_gives parse_offset text (offset_alone text) (λ name pairs before rest h. h.1) one.0 one.1
-plain_outcome parse_identifier text =
-    let one = one_outcome parse_identifier text in alone_gives parse_identifier text (identifier_alone text) (λ name pairs before rest h. h.1) one.0 one.1
-plain_outcome parse_iana_identifier text =
-    let one = one_outcome parse_iana_identifier text in alone_gives parse_iana_identifier text (iana_alone text) (λ name pairs before rest h. h.1) one.0 one.1
-plain_outcome parse_duration text =
-    let one = one_outcome parse_duration text in alone_gives parse_duration text (duration_alone text) (λ name pairs before rest h. h.1) one.0 one.1
+plain_outcome reader text = let one = one_outcome reader text in alone_gives reader text (λ found pairs h. derived_alone reader text found pairs tt h) (λ name pairs before rest h. h.1) one.0 one.1
 
 plain_once : (reader : Reader) (text : Text) (x y : PlainOutcome) → HasPlain reader text x → HasPlain reader text y → x ≡ y
 plain_once (bracketed kind) text x y p q = let one = one_outcome (bracketed kind) text in with_pairs_once kind text one.0 one.1 x y p q
-plain_once parse_offset text x y p q = alone_once parse_offset text x y p q
-plain_once parse_identifier text x y p q = alone_once parse_identifier text x y p q
-plain_once parse_iana_identifier text x y p q = alone_once parse_iana_identifier text x y p q
-plain_once parse_duration text x y p q = alone_once parse_duration text x y p q
+plain_once reader text x y p q = alone_once reader text x y p q
 
 pub one_plain_outcome : OnePlainOutcome
 one_plain_outcome reader text = let outcome = plain_outcome reader text in (outcome.0, outcome.1, λ x h. plain_once reader text x outcome.0 h outcome.1)

@@ -1,5 +1,5 @@
 -- What the one outcome of a text says of what a reader returned: beside a value no row fits, and a row that fits is the only one.
-use Rattle.std.proofs.Common.{◌≡◌, ℕ, true, false, List, Result, Ok, Err, sym, ap, ◌∙◌, inl, inr}
+use Rattle.std.proofs.Common.{◌≡◌, ◌↔◌, ℕ, true, false, List, Result, Ok, Err, OnOk, IfErr, refl, sym, ap, ◌∙◌, inl, inr}
 use Rattle.ixdtf.specs.language.Letters.{Text}
 use Rattle.ixdtf.specs.language.Brackets.{Pair}
 use Rattle.ixdtf.specs.language.Readers.{Reader}
@@ -7,14 +7,14 @@ use Rattle.ixdtf.specs.language.Languages.{Parsed}
 use Rattle.ixdtf.specs.language.Languages.Found.{parsed}
 use Rattle.ixdtf.specs.table.Faults.{Fault, is_refusal}
 use Rattle.ixdtf.specs.table.Outcomes.{HasFault, NoRowFits, OnlyFault}
-use Rattle.ixdtf.specs.table.Outcomes.Outcome.{derived, refused}
-use Rattle.ixdtf.specs.Handlers.{Reply, GivesFault, GivesOnlyFault, Step, Handled, HandledOnly, handed, replies_of, own_replies, PlainOnlyFault}
+use Rattle.ixdtf.specs.table.Outcomes.Outcome.{refused}
+use Rattle.ixdtf.specs.Handlers.{Reply, GivesFault, GivesOnlyFault, Step, Handled, HandledOnly, handed, replies_of, own_replies, PlainRecord, PlainFault, PlainOnlyFault}
 use Rattle.ixdtf.specs.Laws.{IsTextReader, InLanguage, InNoOther}
 use Rattle.ixdtf.proofs.code.OneMoreReply.{refused_split}
 use Rattle.ixdtf.proofs.theorems.OneOutcome.{same_outcome, no_row_fits}
 use Rattle.ixdtf.proofs.theorems.NoRow.{fault_refuses_none}
 use Rattle.ixdtf.proofs.theorems.Disjoint.{in_no_other}
-use Rattle.ixdtf.proofs.theorems.Handled.{OwnReplies, plain_err}
+use Rattle.ixdtf.proofs.theorems.Handled.{OwnReplies, plain_ok, plain_err}
 
 -- what holds besides where something is derived from the text
 pub record Accepted (reader : Reader) (text : Text) : Type 0 where
@@ -65,7 +65,28 @@ module _ {T U F : Type 0} (number : U → ℕ) (step : Step T U F) (handler : F)
     only = λ fault is. gives_only reader text (handed number h.calls) (replies_of number h.calls) fault (h.err fault is);
   }
 
-  -- what the plain form promises besides
-  pub plain_only : OwnReplies step → Handled number step handler reader text result → (fault : Fault) → result ≡ Err fault → PlainOnlyFault reader text fault
-  plain_only own h fault is =
-      let gives = plain_err number step handler reader text result own h fault is in (gives.0, gives_only reader text gives.0 (own_replies gives.0) fault gives.1)
+-- what the plain form promises
+pub record Plain (reader : Reader) (text : Text) (result : Result Parsed Fault) : Type 0 where
+  pub ok : (found : Parsed) → (result ≡ Ok found) ↔ PlainRecord reader text found
+  pub err : IfErr result (λ fault. PlainFault reader text fault)
+  pub no_row : OnOk result (NoRowFits reader text)
+  pub alone : OnOk result (IsTextReader reader → InNoOther reader text)
+  pub only : IfErr result (λ fault. PlainOnlyFault reader text fault)
+
+-- so does a handler's form whose handler hands each annotation back
+pub plain : {T U F : Type 0} {number : U → ℕ} {step : Step T U F} {handler : F} {reader : Reader} {text : Text} {result : Result Parsed Fault}
+    → Handled number step handler reader text result → OwnReplies step → Plain reader text result
+plain {number = number} {step = step} {handler = handler} {reader = reader} {text = text} {result = Ok found} h own = let whole = handled_accepted number step handler reader text (Ok found) h found refl in record {
+  ok = plain_ok number step handler reader text (Ok found) own h;
+  err = tt;
+  no_row = whole.no_row;
+  alone = whole.alone;
+  only = tt;
+}
+plain {number = number} {step = step} {handler = handler} {reader = reader} {text = text} {result = Err fault} h own = let gives = plain_err number step handler reader text (Err fault) own h fault refl in record {
+  ok = plain_ok number step handler reader text (Err fault) own h;
+  err = gives;
+  no_row = tt;
+  alone = tt;
+  only = (gives.0, gives_only reader text gives.0 (own_replies gives.0) fault gives.1);
+}

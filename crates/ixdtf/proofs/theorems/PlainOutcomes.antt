@@ -7,17 +7,17 @@ use Rattle.ixdtf.specs.Handlers.{calendar_key, first_calendar, calendar_value, w
 use Rattle.ixdtf.specs.language.Brackets.{Pair, ZoneNote, ArePairs, IsTail}
 use Rattle.ixdtf.specs.language.Cores.{Core, IsCore}
 use Rattle.ixdtf.specs.language.Languages.{Parsed, parsed_with}
-use Rattle.ixdtf.specs.language.Languages.Found.{parsed, shifted, identified, named, lasting}
+use Rattle.ixdtf.specs.language.Languages.Found.{parsed}
 use Rattle.ixdtf.specs.language.Letters.{Text}
 use Rattle.ixdtf.specs.language.Readers.{CoreKind}
 use Rattle.ixdtf.specs.language.Readers.Reader.{bracketed}
-use Rattle.ixdtf.specs.language.Times.Clock.{Time, Offset, MinuteOffset}
+use Rattle.ixdtf.specs.language.Times.Clock.{Time}
 use Rattle.ixdtf.specs.table.Faults.{Fault}
 use Rattle.ixdtf.specs.table.Faults.Fault.{UnrecognizedCritical, CriticalDuplicateCalendar}
 use Rattle.ixdtf.specs.table.LineNames.{LineName}
-use Rattle.ixdtf.specs.table.LineNames.BracketLine.{first_bracket_start, first_critical_start, first_bracket_scan, after_bracket}
-use Rattle.ixdtf.specs.table.LineNames.LineName.{of_core, of_clock, of_offset, of_zone, of_bracket, of_pair, of_duration}
-use Rattle.ixdtf.specs.table.LineNames.ZoneLine.{identifier_start, zone_name_start, in_zone_name, after_zone_slash}
+use Rattle.ixdtf.specs.table.LineNames.BracketLine.{after_bracket}
+use Rattle.ixdtf.specs.table.LineNames.LineName.{of_clock, of_zone, of_bracket, of_pair, of_duration}
+use Rattle.ixdtf.specs.table.LineNames.ZoneLine.{identifier_start, zone_name_start}
 use Rattle.ixdtf.specs.table.LineNames.PairLine.{key_start, critical_key_start, in_key, value_start, in_value, after_value_hyphen}
 use Rattle.ixdtf.specs.table.Before.{Bracketed, BeforeKey, BeforeBracketed}
 use Rattle.ixdtf.specs.table.Outcomes.{Outcome, Holds}
@@ -130,18 +130,9 @@ before_key kind pairs before rest h = elim h [
 ]
 
 before_row : (kind : CoreKind) (name : LineName) (pairs : List Pair) (before rest : Text) → BeforeBracketed kind name pairs before rest → NoneOrBracketed kind pairs before
-before_row kind (of_core name) pairs before rest h = inl h.1
 before_row kind (of_clock Time name) pairs before rest h = inl h.1
-before_row kind (of_clock Offset name) pairs before rest h = inl h.1
-before_row kind (of_clock MinuteOffset name) pairs before rest h = inl h.1
-before_row kind (of_offset name) pairs before rest h = inl h.1
 before_row kind (of_zone identifier_start) pairs before rest h = absurd h
 before_row kind (of_zone zone_name_start) pairs before rest h = absurd h
-before_row kind (of_zone in_zone_name) pairs before rest h = inl h.1
-before_row kind (of_zone after_zone_slash) pairs before rest h = inl h.1
-before_row kind (of_bracket first_bracket_start) pairs before rest h = inl h.1
-before_row kind (of_bracket first_critical_start) pairs before rest h = inl h.1
-before_row kind (of_bracket first_bracket_scan) pairs before rest h = inl h.1
 before_row kind (of_bracket after_bracket) pairs before rest h = whole_bracketed kind pairs before h
 before_row kind (of_pair key_start) pairs before rest h = whole_bracketed kind pairs before h
 before_row kind (of_pair critical_key_start) pairs before rest h = whole_bracketed kind pairs before h
@@ -150,6 +141,7 @@ before_row kind (of_pair value_start) pairs before rest h = before_key kind pair
 before_row kind (of_pair in_value) pairs before rest h = before_key kind pairs before rest h
 before_row kind (of_pair after_value_hyphen) pairs before rest h = before_key kind pairs before rest h
 before_row kind (of_duration name) pairs before rest h = absurd h
+before_row kind name pairs before rest h = inl h.1
 
 -- replies that have a last one are some
 some_pair : (xs ys : List Pair) (fault : Fault) → LastRefused (own_replies xs) fault → xs ++ ys ≡ [] → ⊥
@@ -178,10 +170,7 @@ plain_of kind text (derived (parsed read) pairs) d = elim (all_or_stopped [] pai
       let has : HasFront (bracketed kind) ((d.cores ++ d.brackets) ++ []) front = whole_front kind d.cores d.brackets [] d.core d.zone front back d.is_core (subst (IsTail d.brackets d.zone) is d.is_tail) in
       inr (fault, (front, inl (subst (λ (t : Text). HasFront (bracketed kind) t front) (append-nil _ ∙ sym d.is) has, last)))
 ]
-plain_of kind text (derived (shifted offset) pairs) d = absurd d
-plain_of kind text (derived (identified zone) pairs) d = absurd d
-plain_of kind text (derived (named name) pairs) d = absurd d
-plain_of kind text (derived (lasting duration) pairs) d = absurd d
+plain_of kind text (derived found pairs) d = absurd d
 plain_of kind text (refused row pairs) fits = elim (all_or_stopped [] pairs NoneRefused-nothing) [
   | inl none ↦ inr (row.error, (pairs, inr ((row, fits, refl), none)))
   | inr p ↦

@@ -9,8 +9,8 @@ use Rattle.ixdtf.specs.language.Cores.{Core, IsCore}
 use Rattle.ixdtf.specs.language.Readers.{Reader, CoreKind}
 use Rattle.ixdtf.specs.table.LineNames.{LineName}
 use Rattle.ixdtf.specs.language.Readers.Reader.{bracketed, parse_offset, parse_identifier, parse_iana_identifier, parse_duration}
-use Rattle.ixdtf.specs.table.LineNames.LineName.{of_core, of_clock, of_offset, of_zone, of_bracket, of_pair, of_duration}
-use Rattle.ixdtf.specs.table.LineNames.ZoneLine.{identifier_start, zone_name_start, in_zone_name, after_zone_slash}
+use Rattle.ixdtf.specs.table.LineNames.LineName.{of_clock, of_zone, of_bracket, of_pair}
+use Rattle.ixdtf.specs.table.LineNames.ZoneLine.{in_zone_name, after_zone_slash}
 use Rattle.ixdtf.specs.table.LineNames.BracketLine.{first_bracket_start, first_critical_start, first_bracket_scan, after_bracket}
 use Rattle.ixdtf.specs.table.LineNames.PairLine.{key_start, critical_key_start, in_key, value_start, in_value, after_value_hyphen}
 use Rattle.ixdtf.specs.table.Before.{Before, Bracketed}
@@ -35,26 +35,17 @@ use Rattle.ixdtf.proofs.to_grammar.Durations.{duration_read}
 
 -- what stands before a line of a first bracket, where a core stands before it
 in_first : (kind : CoreKind) (name : LineName) (cores prior rest : Text) → some (IsCore kind) cores → InBracket name prior rest → Before (bracketed kind) name [] (cores ++ prior) rest
-in_first kind (of_core name) cores prior rest core b = absurd b
-in_first kind (of_clock clocks.Time name) cores prior rest core b = absurd b
-in_first kind (of_clock clocks.Offset name) cores prior rest core b = absurd b
 in_first kind (of_clock clocks.MinuteOffset name) cores prior rest core b = ((cores ++ b.0, b.1, rw b.2 (simp append_assoc), (cores, b.0, refl, core, b.3), b.4), refl)
-in_first kind (of_offset name) cores prior rest core b = absurd b
-in_first kind (of_zone identifier_start) cores prior rest core b = absurd b
-in_first kind (of_zone zone_name_start) cores prior rest core b = absurd b
 in_first kind (of_zone in_zone_name) cores prior rest core b = (((cores, prior, refl, core, b.0), b.1), refl)
 in_first kind (of_zone after_zone_slash) cores prior rest core b = (((cores, prior, refl, core, b.0), b.1), refl)
 in_first kind (of_bracket first_bracket_start) cores prior rest core b = rw (b, append-nil) (core, refl)
 in_first kind (of_bracket first_critical_start) cores prior rest core b = rw (b, append-nil) (core, refl)
 in_first kind (of_bracket first_bracket_scan) cores prior rest core b = ((cores, prior, refl, core, b), refl)
-in_first kind (of_bracket after_bracket) cores prior rest core b = absurd b
-in_first kind (of_pair key_start) cores prior rest core b = absurd b
-in_first kind (of_pair critical_key_start) cores prior rest core b = absurd b
 in_first kind (of_pair in_key) cores prior rest core b = inl ((cores, prior, refl, core, b.0), b.1, refl)
 in_first kind (of_pair value_start) cores prior rest core b = inl ((cores, prior, refl, core, b.0), b.1, refl)
 in_first kind (of_pair in_value) cores prior rest core b = inl ((cores, prior, refl, core, b.0), b.1, refl)
 in_first kind (of_pair after_value_hyphen) cores prior rest core b = inl ((cores, prior, refl, core, b.0), b.1, refl)
-in_first kind (of_duration name) cores prior rest core b = absurd b
+in_first kind name cores prior rest core b = absurd b
 
 -- the row fits the text, where it fits what stands after the core
 pub after_core : (kind : CoreKind) (row : Row) (text cores body : Text) → text ≡ cores ++ body → some (IsCore kind) cores → FitsAfterCore row body → Fits (bracketed kind) row [] text
@@ -62,13 +53,6 @@ after_core kind row text cores body is core f = (cores ++ f.0, f.1, is ∙ rw f.
 
 -- the same where whole brackets stand before the line
 in_later : (kind : CoreKind) (name : LineName) (pairs : List Pair) (whole prior rest : Text) → Bracketed kind pairs whole → AfterBrackets name prior → Before (bracketed kind) name pairs (whole ++ prior) rest
-in_later kind (of_core name) pairs whole prior rest h b = absurd b
-in_later kind (of_clock clock name) pairs whole prior rest h b = absurd b
-in_later kind (of_offset name) pairs whole prior rest h b = absurd b
-in_later kind (of_zone name) pairs whole prior rest h b = absurd b
-in_later kind (of_bracket first_bracket_start) pairs whole prior rest h b = absurd b
-in_later kind (of_bracket first_critical_start) pairs whole prior rest h b = absurd b
-in_later kind (of_bracket first_bracket_scan) pairs whole prior rest h b = absurd b
 in_later kind (of_bracket after_bracket) pairs whole prior rest h b = rw (b, append-nil whole) h
 in_later kind (of_pair key_start) pairs whole prior rest h b = rw (b, append-nil whole) h
 in_later kind (of_pair critical_key_start) pairs whole prior rest h b = rw (b, append-nil whole) h
@@ -76,7 +60,7 @@ in_later kind (of_pair in_key) pairs whole prior rest h b = inr (whole, prior, r
 in_later kind (of_pair value_start) pairs whole prior rest h b = inr (whole, prior, refl, h, b)
 in_later kind (of_pair in_value) pairs whole prior rest h b = inr (whole, prior, refl, h, b)
 in_later kind (of_pair after_value_hyphen) pairs whole prior rest h b = inr (whole, prior, refl, h, b)
-in_later kind (of_duration name) pairs whole prior rest h b = absurd b
+in_later kind name pairs whole prior rest h b = absurd b
 
 pub after_brackets : (kind : CoreKind) (row : Row) (pairs : List Pair) (text whole rest : Text) → text ≡ whole ++ rest → Bracketed kind pairs whole → FitsAfterBrackets row rest → Fits (bracketed kind) row pairs text
 after_brackets kind row pairs text whole rest is h f = (whole ++ f.0, f.1, is ∙ rw f.2 (simp append_assoc), in_later kind row.name pairs whole f.0 f.1 h f.3, f.4)

@@ -371,9 +371,6 @@ module _ {E : Type 0} (fault : Row → E) where
       → core_at fault kind (prior ++ (front ++ rest)) ≡ Err (fault (row_of (of_core l) place e))
   core_line_rows date_time (dates after_date) place e prior front rest b f at = rw b (after_date_row place e front rest f at)
   core_line_rows date_time (dates l) place e prior front rest b f at = rw b (date_rows l tt place e front rest f at)
-  core_line_rows date_time (year_months l) place e prior front rest b f at = absurd b
-  core_line_rows date_time (month_days l) place e prior front rest b f at = absurd b
-  core_line_rows date_time (times l) place e prior front rest b f at = absurd b
   core_line_rows year_month (dates l) place e prior front rest b f at =
       let first = year_month_first l prior b in
       rw first.0 (in_alone (of_year_month after_year_month) _ _ (year_month_date_row fault l first.1 place e front rest f at))
@@ -381,19 +378,12 @@ module _ {E : Type 0} (fault : Row → E) where
       rw b (in_alone (of_year_month after_year_month) _ _ (year_month_row fault place e front rest f at))
   core_line_rows year_month (year_months after_year_month) place e prior front rest b f at =
       rw b (after_alone_rows IsYearMonth (of_year_month after_year_month) (year_month_at fault) (year_month_takes fault) place e front rest f at)
-  core_line_rows year_month (month_days l) place e prior front rest b f at = absurd b
-  core_line_rows year_month (times l) place e prior front rest b f at = absurd b
   core_line_rows month_day (month_days after_month_day) place e prior front rest b f at =
       rw b (after_alone_rows (IsMonthDay least_day) (of_month_day after_month_day) (month_day_at fault) (month_day_takes fault) place e front rest f at)
   core_line_rows month_day (month_days l) place e prior front rest b f at =
       rw b (in_alone (of_month_day after_month_day) _ _ (month_day_row fault l tt place e front rest f at))
-  core_line_rows month_day (dates l) place e prior front rest b f at = absurd b
-  core_line_rows month_day (year_months l) place e prior front rest b f at = absurd b
-  core_line_rows month_day (times l) place e prior front rest b f at = absurd b
   core_line_rows time_alone (times l) place e prior front rest b f at = time_line_rows l place e prior front rest b f at
-  core_line_rows time_alone (dates l) place e prior front rest b f at = absurd b
-  core_line_rows time_alone (year_months l) place e prior front rest b f at = absurd b
-  core_line_rows time_alone (month_days l) place e prior front rest b f at = absurd b
+  core_line_rows kind l place e prior front rest b f at = absurd b
 
   pub core_time_rows : (kind : CoreKind) (l : ClockLine) (prior : Text) → BeforeTime kind l prior
       → RowsBehind fault true (core_at fault kind) prior (of_clock clocks.Time l)

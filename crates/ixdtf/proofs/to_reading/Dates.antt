@@ -45,29 +45,27 @@ pub hyphens_are : (hs : Text) → OptionalHyphen hs → (b : Bool) × (hs ≡ hy
 hyphens_are hs (inl h) = (false, h)
 hyphens_are hs (inr h) = (true, hyphen_is hs h)
 
+-- whether the number of two digits is that of a month
+pub month_is : {ds : Text} {m : ℕ} → Month ds m → (nat_le 1 (decimal ds) && nat_le (decimal ds) 12) ≡ true
+month_is {ds} {m} h = rw (sym h.0.1) (and_from _ _ (le-leb 1 m h.1) (le-leb m 12 h.2))
+
+pub month_is_none : (ds : Text) → (decimal ds ≡ 0) ⊎ (12 < decimal ds) → (nat_le 1 (decimal ds) && nat_le (decimal ds) 12) ≡ false
+month_is_none ds h = grind (arith, nat_tests)
+
 module _ {E : Type 0} (fault : Row → E) where
   -- ---- a year and a month
-
-  month_fits : (ds : Text) (m : ℕ) (rest : Text) → Month ds m → month_in_range fault (ds, rest) ≡ Ok (m, rest)
-  unfolding month_in_range
-  month_fits ds m rest h =
-      let test : (nat_le 1 (decimal ds) && nat_le (decimal ds) 12) ≡ true = rw (sym h.0.1) (and_from _ _ (le-leb 1 m h.1) (le-leb m 12 h.2)) in
-      rw (test, h.0.1) refl
-
-  month_refused : (ds rest : Text) → (decimal ds ≡ 0) ⊎ (12 < decimal ds) → month_in_range fault (ds, rest) ≡ Err (fault no_month)
-  unfolding month_in_range
-  month_refused ds rest h = let test : (nat_le 1 (decimal ds) && nat_le (decimal ds) 12) ≡ false = grind (arith, nat_tests) in rw test refl
 
   -- the year stops at this line
   module _ (name : LineName) (asks : LooksForHyphen (line_of true name)) where
     month_takes : (b : Bool) (ms : Text) (m : ℕ) (rest : Text) → Month ms m → month_at fault name ((hyphens_of b ++ ms) ++ rest) ≡ Ok ((m, b), rest)
-    unfolding month_by
+    unfolding month_by month_in_range
     month_takes b ms m rest h =
         rw (
           append_assoc,
           hyphen_over fault name b (ms ++ rest) asks (digits_start b 1 ms rest h.0.0),
           digits_go fault (of_date month_digits) (λ c. refl) 2 ms rest h.0.0,
-          month_fits ms m rest h,
+          month_is h,
+          h.0.1,
         ) refl
 
     month_stops : (b : Bool) (ds rest : Text) (place : Place) (e : Fault) → Begun b ds → Stops (date_line month_digits) place e rest
@@ -81,13 +79,13 @@ module _ {E : Type 0} (fault : Row → E) where
         ) refl
 
     month_out : (b : Bool) (ds rest : Text) → NoMonth ds → month_at fault name ((hyphens_of b ++ ds) ++ rest) ≡ Err (fault no_month)
-    unfolding month_by
+    unfolding month_by month_in_range
     month_out b ds rest h =
         rw (
           append_assoc,
           hyphen_over fault name b (ds ++ rest) asks (digits_start b 1 ds rest h.0),
           digits_go fault (of_date month_digits) (λ c. refl) 2 ds rest h.0,
-          month_refused ds rest h.1,
+          month_is_none ds h.1,
         ) refl
 
     -- a year and a month, and what is read with them from there
@@ -137,12 +135,7 @@ module _ {E : Type 0} (fault : Row → E) where
         year_and_month_row minus_zero_year h = year_rows (of_date minus_zero_year) (minus_zero_year_row fault brackets)
         year_and_month_row month_digits h = month_digits_row
         year_and_month_row month_range h = month_range_row
-        year_and_month_row after_year h = absurd h
-        year_and_month_row after_hyphened_month h = absurd h
-        year_and_month_row after_plain_month h = absurd h
-        year_and_month_row day_digits h = absurd h
-        year_and_month_row day_range h = absurd h
-        year_and_month_row after_date h = absurd h
+        year_and_month_row l h = absurd h
 
   -- ---- the day after them
 

@@ -20,13 +20,13 @@ use Rattle.ixdtf.specs.table.LineNames.{LineName, DurationLine}
 use Rattle.ixdtf.specs.table.LineNames.DurationLine.{duration_start, after_duration_sign, after_duration_designator, after_date_groups}
 use Rattle.ixdtf.specs.table.LineNames.DurationLine.{after_time_designator, group_digits, group_value_range, unit_order, date_unit_range}
 use Rattle.ixdtf.specs.table.LineNames.DurationLine.{group_fraction_start, group_fraction_digits, after_time_groups, after_fraction_group}
-use Rattle.ixdtf.specs.table.LineNames.LineName.{of_core, of_clock, of_offset, of_zone, of_bracket, of_pair, of_duration}
+use Rattle.ixdtf.specs.table.LineNames.LineName.{of_duration}
 use Rattle.ixdtf.specs.table.DurationFronts.{Context, half_of, groups_of, IsContext, OutOfOrder, UnitPast}
 use Rattle.ixdtf.specs.table.DurationFronts.Context.{in_dates, in_times}
 use Rattle.ixdtf.specs.table.Lines.{duration_line, table}
 use Rattle.ixdtf.specs.table.Before.{Before}
 use Rattle.ixdtf.specs.table.Rows.{Row, Place, Stops, front_of}
-use Rattle.ixdtf.specs.table.Rows.Place.{end, other, bad, anywhere}
+use Rattle.ixdtf.specs.table.Rows.Place.{anywhere}
 use Rattle.ixdtf.specs.reading.Looks.{row_of}
 use Rattle.ixdtf.specs.reading.Durations.{State, line_of_state, add, plain_group, fraction_group, value_past, unit_past, out_of_order, in_its_order, add_group, end_group}
 use Rattle.ixdtf.specs.reading.Durations.{step, run, duration_at}
@@ -265,15 +265,6 @@ module _ {E : Type 0} (fault : Row → E) where
       rw (f.4, at, ← f.3, past.2) ((over_context f.1 f.0 f.5 till value_stops f.0 past.0 past.1 rest (rw past.2 at (some_all f.2 past.3)) past.4 (rw past.2 at past.5)).halts)
   line_rows (unit_order half) anywhere e front rest f at = rw (f.4, at) ((over_context f.1 f.0 f.5 till order_stops half f.0 f.2 rest f.3 f.6).halts)
   line_rows date_unit_range anywhere e front rest f at = rw (f.4, at) ((over_context f.1 f.0 f.5 till unit_stops f.0 f.2 rest f.3 f.6).halts)
-  line_rows (group_value_range half) end e front rest f at = absurd at
-  line_rows (group_value_range half) other e front rest f at = absurd at
-  line_rows (group_value_range half) bad e front rest f at = absurd at
-  line_rows (unit_order half) end e front rest f at = absurd at
-  line_rows (unit_order half) other e front rest f at = absurd at
-  line_rows (unit_order half) bad e front rest f at = absurd at
-  line_rows date_unit_range end e front rest f at = absurd at
-  line_rows date_unit_range other e front rest f at = absurd at
-  line_rows date_unit_range bad e front rest f at = absurd at
   line_rows duration_start place e front rest f at = state_row duration_start place e front rest tt f at
   line_rows after_duration_sign place e front rest f at = state_row after_duration_sign place e front rest tt f at
   line_rows after_duration_designator place e front rest f at = state_row after_duration_designator place e front rest tt f at
@@ -284,16 +275,12 @@ module _ {E : Type 0} (fault : Row → E) where
   line_rows group_fraction_digits place e front rest f at = state_row group_fraction_digits place e front rest tt f at
   line_rows after_time_groups place e front rest f at = state_row after_time_groups place e front rest tt f at
   line_rows after_fraction_group place e front rest f at = state_row after_fraction_group place e front rest tt f at
+  line_rows name place e front rest f at = absurd at
 
   -- each row of the reader's lines is returned
   pub duration_rows : (name : LineName) (pairs : List Pair) (place : Place) (e : Fault) (prior front rest : Text) → Before parse_duration name pairs prior (front ++ rest) → front_of (table parse_duration name) front → Stops (table parse_duration name) place e rest → duration_at fault (prior ++ (front ++ rest)) ≡ Err (fault (row_of name place e))
   duration_rows (of_duration l) pairs place e prior front rest b f at = rw b.0 (line_rows l place e front rest f at)
-  duration_rows (of_core l) pairs place e prior front rest b f at = absurd b.0
-  duration_rows (of_clock clock l) pairs place e prior front rest b f at = absurd b.0
-  duration_rows (of_offset l) pairs place e prior front rest b f at = absurd b.0
-  duration_rows (of_zone l) pairs place e prior front rest b f at = absurd b.0
-  duration_rows (of_bracket l) pairs place e prior front rest b f at = absurd b.0
-  duration_rows (of_pair l) pairs place e prior front rest b f at = absurd b.0
+  duration_rows name pairs place e prior front rest b f at = absurd b.0
 
   -- ---- durations
 

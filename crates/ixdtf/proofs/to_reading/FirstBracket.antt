@@ -17,10 +17,10 @@ use Rattle.ixdtf.specs.language.ZoneNames.Zone.{Offset}
 use Rattle.ixdtf.specs.language.Brackets.{Opens, zone_only_lead, ReadsAsName}
 use Rattle.ixdtf.specs.language.Brackets.{ReadsAsPair}
 use Rattle.ixdtf.specs.table.LineNames.{ClockLine, PairLine, LineName}
-use Rattle.ixdtf.specs.table.LineNames.LineName.{of_core, of_clock, of_offset, of_zone, of_bracket, of_pair, of_duration}
-use Rattle.ixdtf.specs.table.LineNames.ZoneLine.{identifier_start, zone_name_start, in_zone_name, after_zone_slash}
-use Rattle.ixdtf.specs.table.LineNames.BracketLine.{first_bracket_start, first_critical_start, first_bracket_scan, after_bracket}
-use Rattle.ixdtf.specs.table.LineNames.PairLine.{key_start, critical_key_start, in_key, value_start, in_value, after_value_hyphen}
+use Rattle.ixdtf.specs.table.LineNames.LineName.{of_clock, of_zone, of_bracket, of_pair}
+use Rattle.ixdtf.specs.table.LineNames.ZoneLine.{in_zone_name, after_zone_slash}
+use Rattle.ixdtf.specs.table.LineNames.BracketLine.{first_bracket_start, first_critical_start, first_bracket_scan}
+use Rattle.ixdtf.specs.table.LineNames.PairLine.{in_key, value_start, in_value, after_value_hyphen}
 use Rattle.ixdtf.specs.table.Lines.{line_of, zone_letters, bracket_line, LetterOfKey}
 use Rattle.ixdtf.specs.table.Rows.{Row, Place, Stops, front_of}
 use Rattle.ixdtf.specs.table.Rows.Place.{end, other, bad, anywhere}
@@ -275,23 +275,14 @@ module _ {E : Type 0} (fault : Row → E) where
   -- each row inside a first bracket is returned, after its `[`
   pub bracket_rows : (name : LineName) (place : Place) (e : Fault) (before front rest : Text) → InBracket name before (front ++ rest) → front_of (line_of true name) front → Stops (line_of true name) place e rest
       → (inner : Text) × (before ++ (front ++ rest) ≡ Plain 91 ∷ inner) × (bracket_at fault inner ≡ Err (fault (row_of name place e)))
-  bracket_rows (of_core l) place e start front rest b f at = absurd b
-  bracket_rows (of_duration l) place e start front rest b f at = absurd b
-  bracket_rows (of_clock clocks.Time l) place e start front rest b f at = absurd b
-  bracket_rows (of_clock clocks.Offset l) place e start front rest b f at = absurd b
   bracket_rows (of_clock clocks.MinuteOffset l) place e start front rest b f at = clock_row l place e start front rest b f at
-  bracket_rows (of_offset l) place e start front rest b f at = absurd b
-  bracket_rows (of_zone identifier_start) place e start front rest b f at = absurd b
-  bracket_rows (of_zone zone_name_start) place e start front rest b f at = absurd b
   bracket_rows (of_zone in_zone_name) place e start front rest b f at = stops_as_name start (front ++ rest) b.0.0 _ b.0.1 b.1 (in_name_row place e front rest f at)
   bracket_rows (of_zone after_zone_slash) place e start front rest b f at = stops_as_name start (front ++ rest) b.0.0 _ b.0.1 b.1 (name_halts (front ++ rest) _ (slash_row fault true place e front rest f at))
   bracket_rows (of_bracket first_bracket_start) place e start front rest b f at = rw b (start_row place e front rest f at)
   bracket_rows (of_bracket first_critical_start) place e start front rest b f at = rw b (critical_row place e front rest f at)
   bracket_rows (of_bracket first_bracket_scan) place e start front rest b f at = scan_row start b.0 place e front rest b.1 f at
-  bracket_rows (of_bracket after_bracket) place e start front rest b f at = absurd b
-  bracket_rows (of_pair key_start) place e start front rest b f at = absurd b
-  bracket_rows (of_pair critical_key_start) place e start front rest b f at = absurd b
   bracket_rows (of_pair in_key) place e start front rest b f at = pair_row in_key place e start front rest tt b f at
   bracket_rows (of_pair value_start) place e start front rest b f at = pair_row value_start place e start front rest tt b f at
   bracket_rows (of_pair in_value) place e start front rest b f at = pair_row in_value place e start front rest tt b f at
   bracket_rows (of_pair after_value_hyphen) place e start front rest b f at = pair_row after_value_hyphen place e start front rest tt b f at
+  bracket_rows name place e start front rest b f at = absurd b

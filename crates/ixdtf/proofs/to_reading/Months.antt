@@ -1,13 +1,12 @@
 -- A year-month and a month-day give their record and the rest, and each row of their lines is returned.
-use Rattle.std.proofs.Common.{◌≡◌, ℕ, ◌<◌, ◌⊎◌, Bool, true, false, IsTrue, [], ◌∷◌, ◌++◌, Ok, Err, refl, sym, ap, ◌∙◌, inl, inr, arith, append_assoc, ℤ, pos}
-use Rattle.std.proofs.Common.{nat_le, ◌&&◌}
+use Rattle.std.proofs.Common.{◌≡◌, ℕ, Bool, true, false, IsTrue, [], ◌∷◌, ◌++◌, Ok, Err, refl, sym, ap, ◌∙◌, inl, inr, append_assoc, ℤ, pos}
+use Rattle.std.proofs.Common.{nat_le}
 use Rattle.std.proofs.lemmas.Bool.{and_parts, and_from, leb-true, le-leb, false_from_ne_true}
-use Rattle.std.proofs.lemmas.Bool.Decides.{nat_tests}
 use Rattle.ixdtf.specs.declared.records.DateRecord.{DateRecord}
 use Rattle.ixdtf.specs.language.Letters.{Text, digit, hyphen}
 use Rattle.ixdtf.specs.language.Letters.Letter.{Plain}
 use Rattle.ixdtf.specs.language.Shapes.{one, ◌then◌, ◌either◌}
-use Rattle.ixdtf.specs.language.Digits.{decimal, TwoDigits}
+use Rattle.ixdtf.specs.language.Digits.{TwoDigits}
 use Rattle.ixdtf.specs.language.Dates.{Month}
 use Rattle.ixdtf.specs.language.Months.{Marks, OptionalHyphen, IsYearMonth, MonthDayShape, IsDayOfSomeYear, IsMonthDay, greatest_day, least_day}
 use Rattle.ixdtf.specs.language.Readers.CoreKind.{year_month}
@@ -26,7 +25,7 @@ use Rattle.ixdtf.specs.reading.Dates.{date_of}
 use Rattle.ixdtf.specs.reading.Months.{year_month_at, marks_at, lone_month_in_range, lone_day_in_range, lone_day_at, month_day_at}
 use Rattle.ixdtf.proofs.parts.Looks.{Leads, ◌before◌, Halts, ◌till◌, RowsRead, whole_row, digits_go}
 use Rattle.ixdtf.proofs.parts.Marks.{hyphens_of, Starts, Begun, hyphen_is, begun_starts, digits_start, hyphen_over, mark_over, mark_stops, digits_stop_after}
-use Rattle.ixdtf.proofs.to_reading.Dates.{hyphens_are, over_year, over_month, year_stops, year_and_month_row}
+use Rattle.ixdtf.proofs.to_reading.Dates.{hyphens_are, month_is, month_is_none, over_year, over_month, year_stops, year_and_month_row}
 
 -- ---- year-months
 
@@ -94,16 +93,6 @@ IsInMonthDay after_month_day = ⊥
 IsInMonthDay _ = Unit {0}
 
 module _ {E : Type 0} (fault : Row → E) where
-  month_fits : (ds : Text) (m : ℕ) (rest : Text) → Month ds m → lone_month_in_range fault (ds, rest) ≡ Ok (m, rest)
-  unfolding lone_month_in_range
-  month_fits ds m rest h =
-      let test : (nat_le 1 (decimal ds) && nat_le (decimal ds) 12) ≡ true = rw (sym h.0.1) (and_from _ _ (le-leb 1 m h.1) (le-leb m 12 h.2)) in
-      rw (test, h.0.1) refl
-
-  month_refused : (ds rest : Text) → (decimal ds ≡ 0) ⊎ (12 < decimal ds) → lone_month_in_range fault (ds, rest) ≡ Err (fault no_lone_month)
-  unfolding lone_month_in_range
-  month_refused ds rest h = let test : (nat_le 1 (decimal ds) && nat_le (decimal ds) 12) ≡ false = grind (arith, nat_tests) in rw test refl
-
   day_fits : (m d : ℕ) (rest : Text) → IsDayOfSomeYear least_day (date_of (pos 0) m d) → lone_day_in_range fault m d rest ≡ Ok (date_of (pos 0) m d, rest)
   unfolding lone_day_in_range
   day_fits m d rest h = rw (and_from _ _ (le-leb least_day d h.0) (le-leb d _ h.1)) refl
@@ -126,14 +115,15 @@ module _ {E : Type 0} (fault : Row → E) where
   over_marks false text starts = rw (hyphen_over fault (of_month_day month_day_start) false text (λ c. refl) starts) refl
 
   over_lone_month : (b : Bool) (ms : Text) (m : ℕ) → Month ms m → Leads (month_day_at fault) (marks_of b ++ ms) (lone_day_at fault m)
-  unfolding month_day_at
+  unfolding month_day_at lone_month_in_range
   over_lone_month b ms m h = record {
     over = λ rest.
         rw (
           append_assoc,
           over_marks b (ms ++ rest) (digits_start b 1 ms rest h.0.0),
           digits_go fault (of_month_day month_day_month_digits) (λ c. refl) 2 ms rest h.0.0,
-          month_fits ms m rest h,
+          month_is h,
+          h.0.1,
         ) refl;
   }
 
@@ -148,13 +138,13 @@ module _ {E : Type 0} (fault : Row → E) where
       ) refl
 
   month_out : (b : Bool) (ds rest : Text) → NoMonth ds → month_day_at fault ((marks_of b ++ ds) ++ rest) ≡ Err (fault no_lone_month)
-  unfolding month_day_at
+  unfolding month_day_at lone_month_in_range
   month_out b ds rest h =
       rw (
         append_assoc,
         over_marks b (ds ++ rest) (digits_start b 1 ds rest h.0),
         digits_go fault (of_month_day month_day_month_digits) (λ c. refl) 2 ds rest h.0,
-        month_refused ds rest h.1,
+        month_is_none ds h.1,
       ) refl
 
   over_lone_day : (m : ℕ) (b : Bool) (ds : Text) (d : ℕ) → TwoDigits ds d → Leads (lone_day_at fault m) (hyphens_of b ++ ds) (lone_day_in_range fault m d)

@@ -9,8 +9,8 @@ use Rattle.ixdtf.specs.table.Faults.{Fault}
 use Rattle.ixdtf.specs.table.Faults.Fault.{InvalidEnd}
 use Rattle.ixdtf.specs.language.Brackets.{Pair, ArePairs}
 use Rattle.ixdtf.specs.table.LineNames.{LineName}
-use Rattle.ixdtf.specs.table.LineNames.LineName.{of_core, of_clock, of_offset, of_zone, of_bracket, of_pair, of_duration}
-use Rattle.ixdtf.specs.table.LineNames.BracketLine.{first_bracket_start, first_critical_start, first_bracket_scan, after_bracket}
+use Rattle.ixdtf.specs.table.LineNames.LineName.{of_bracket, of_pair}
+use Rattle.ixdtf.specs.table.LineNames.BracketLine.{after_bracket}
 use Rattle.ixdtf.specs.table.Lines.{line_of, always}
 use Rattle.ixdtf.specs.table.Rows.{Row, Place, Stops, front_of}
 use Rattle.ixdtf.specs.reading.Looks.{row_of, look_at_line}
@@ -46,14 +46,7 @@ module _ {E : Type 0} (fault : Row → E) where
   next_row (of_pair l) place e prior front rest b f at =
       let row = later_pair_rows fault l place e prior front rest b f at in
       ap (next_pair_at fault) row.1 ∙ next_halts row.0 _ row.2
-  next_row (of_core l) place e prior front rest b f at = absurd b
-  next_row (of_duration l) place e prior front rest b f at = absurd b
-  next_row (of_clock clock l) place e prior front rest b f at = absurd b
-  next_row (of_offset l) place e prior front rest b f at = absurd b
-  next_row (of_zone l) place e prior front rest b f at = absurd b
-  next_row (of_bracket first_bracket_start) place e prior front rest b f at = absurd b
-  next_row (of_bracket first_critical_start) place e prior front rest b f at = absurd b
-  next_row (of_bracket first_bracket_scan) place e prior front rest b f at = absurd b
+  next_row name place e prior front rest b f at = absurd b
 
 module _ {E : Type 0} (fault : List Pair → Row → E) where
   -- one more pair

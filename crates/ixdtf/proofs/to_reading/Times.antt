@@ -158,7 +158,7 @@ module _ {E : Type 0} (fault : Row → E) (clock : Clock)
   over_second h m ss s u =
       record { over = λ rest. rw (number_goes fault (of_clock clock second_digits) (λ c. refl) (greatest_second clock) (second_past clock) ss rest s u) refl }
 
-  over_seconds : (text : Text) (t : TimeRecord) → SecondText clock text t → Leads start text (after_second_at fault clock t.hour t.minute t.second)
+  pub over_seconds : (text : Text) (t : TimeRecord) → SecondText clock text t → Leads start text (after_second_at fault clock t.hour t.minute t.second)
   over_seconds text t (inl x) =
       rw x.is (over_hour _ _ x.hour before over_plain_minute _ _ _ x.minute
       before leads_as _ _ (at_second_digit _ _ x.may) 1 _ x.second.0 (over_second _ _ _ _ x.second))

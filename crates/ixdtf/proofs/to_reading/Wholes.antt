@@ -11,9 +11,9 @@ use Rattle.ixdtf.specs.language.Cores.{Core, IsCore}
 use Rattle.ixdtf.specs.language.Readers.{Reader, CoreKind}
 use Rattle.ixdtf.specs.table.LineNames.{LineName}
 use Rattle.ixdtf.specs.language.Readers.Reader.{bracketed, parse_offset, parse_identifier, parse_iana_identifier, parse_duration}
-use Rattle.ixdtf.specs.table.LineNames.LineName.{of_core, of_clock, of_offset, of_zone, of_bracket, of_pair, of_duration}
+use Rattle.ixdtf.specs.table.LineNames.LineName.{of_core, of_clock, of_offset, of_zone, of_bracket, of_pair}
 use Rattle.ixdtf.specs.table.LineNames.OffsetLine.{offset_start, after_zulu}
-use Rattle.ixdtf.specs.table.LineNames.ZoneLine.{identifier_start, zone_name_start, in_zone_name, after_zone_slash}
+use Rattle.ixdtf.specs.table.LineNames.ZoneLine.{in_zone_name, after_zone_slash}
 use Rattle.ixdtf.specs.table.LineNames.BracketLine.{first_bracket_start, first_critical_start, first_bracket_scan, after_bracket}
 use Rattle.ixdtf.specs.table.LineNames.PairLine.{key_start, critical_key_start, in_key, value_start, in_value, after_value_hyphen}
 use Rattle.ixdtf.specs.table.Lines.{line_of}
@@ -164,8 +164,6 @@ module _ {E : Type 0} (fault : List Pair → Row → E) (kind : CoreKind) where
   whole_row (of_offset offset_start) pairs place e prior front rest b f at = absurd b.0
   whole_row (of_offset after_zulu) pairs place e prior front rest b f at =
       in_core _ _ pairs b.1 (core_zulu_row (fault []) kind prior b.0 place e front rest f at)
-  whole_row (of_zone identifier_start) pairs place e prior front rest b f at = absurd b
-  whole_row (of_zone zone_name_start) pairs place e prior front rest b f at = absurd b
   whole_row (of_zone in_zone_name) pairs place e prior front rest (b, none) f at =
       opened_row (of_zone in_zone_name) place e pairs b.0.0 b.0.1 front rest prior none b.0.2 b.0.3 (b.0.4, b.1) f at
   whole_row (of_zone after_zone_slash) pairs place e prior front rest (b, none) f at =
@@ -181,7 +179,7 @@ module _ {E : Type 0} (fault : List Pair → Row → E) (kind : CoreKind) where
   whole_row (of_pair value_start) pairs place e prior front rest b f at = key_row (of_pair value_start) place e pairs prior front rest (λ t o. o) (λ t left o r. (o, r)) b f at
   whole_row (of_pair in_value) pairs place e prior front rest b f at = key_row (of_pair in_value) place e pairs prior front rest (λ t o. o) (λ t left o r. (o, r)) b f at
   whole_row (of_pair after_value_hyphen) pairs place e prior front rest b f at = key_row (of_pair after_value_hyphen) place e pairs prior front rest (λ t o. o) (λ t left o r. (o, r)) b f at
-  whole_row (of_duration l) pairs place e prior front rest b f at = absurd b
+  whole_row name pairs place e prior front rest b f at = absurd b
 
 module _ {E : Type 0} (fault : List Pair → Row → E) where
   -- ---- each reader
@@ -189,30 +187,11 @@ module _ {E : Type 0} (fault : List Pair → Row → E) where
   -- what is derived is returned, and nothing is left
   pub takes : (reader : Reader) (text : Text) (found : Found) (pairs : List Pair) → Derives reader text found pairs → read_at fault reader text ≡ Ok ((found, pairs), [])
   takes (bracketed kind) text (parsed found) pairs d = rw (whole_takes fault kind text found pairs d) refl
-  takes (bracketed kind) text (shifted offset) pairs d = absurd d
-  takes (bracketed kind) text (identified zone) pairs d = absurd d
-  takes (bracketed kind) text (named name) pairs d = absurd d
-  takes (bracketed kind) text (lasting duration) pairs d = absurd d
   takes parse_offset text (shifted offset) pairs d = rw (offset_takes (fault []) text offset d.0, d.1) refl
-  takes parse_offset text (parsed found) pairs d = absurd d
-  takes parse_offset text (identified zone) pairs d = absurd d
-  takes parse_offset text (named name) pairs d = absurd d
-  takes parse_offset text (lasting duration) pairs d = absurd d
   takes parse_identifier text (identified zone) pairs d = rw (identifier_takes (fault []) text zone d.0, d.1) refl
-  takes parse_identifier text (parsed found) pairs d = absurd d
-  takes parse_identifier text (shifted offset) pairs d = absurd d
-  takes parse_identifier text (named name) pairs d = absurd d
-  takes parse_identifier text (lasting duration) pairs d = absurd d
   takes parse_iana_identifier text (named name) pairs d = rw (iana_identifier_takes (fault []) text name d.0, d.1) refl
-  takes parse_iana_identifier text (parsed found) pairs d = absurd d
-  takes parse_iana_identifier text (shifted offset) pairs d = absurd d
-  takes parse_iana_identifier text (identified zone) pairs d = absurd d
-  takes parse_iana_identifier text (lasting duration) pairs d = absurd d
   takes parse_duration text (lasting duration) pairs d = rw (duration_takes (fault []) text duration d.0, d.1) refl
-  takes parse_duration text (parsed found) pairs d = absurd d
-  takes parse_duration text (shifted offset) pairs d = absurd d
-  takes parse_duration text (identified zone) pairs d = absurd d
-  takes parse_duration text (named name) pairs d = absurd d
+  takes reader text found pairs d = absurd d
 
   -- a row that fits is returned
   pub row_read : (reader : Reader) (text : Text) (row : Row) (pairs : List Pair) → Fits reader row pairs text → read_at fault reader text ≡ Err (fault pairs row)

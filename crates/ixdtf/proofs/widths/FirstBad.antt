@@ -109,12 +109,7 @@ stops_move (line front goes_on at_end at_other) end fault rest other_rest sees h
 stops_move (line front goes_on at_end at_other) other fault rest other_rest sees h =
     let next = subst (λ t. Sees t other_rest) h.2 sees in inr (h.0, next.0, next.1, h.3, h.4)
 stops_move (line front goes_on at_end at_other) bad fault rest other_rest sees h = inl h.2
-stops_move (line front goes_on at_end at_other) anywhere fault rest other_rest sees h = absurd h
 stops_move (scanned front e) end fault rest other_rest sees h = absurd (subst (λ t. Sees t other_rest) h.0 sees)
-stops_move (scanned front e) other fault rest other_rest sees h = absurd h
 stops_move (scanned front e) bad fault rest other_rest sees h = inl h.2
-stops_move (scanned front e) anywhere fault rest other_rest sees h = absurd h
-stops_move (whole front e) end fault rest other_rest sees h = absurd h
-stops_move (whole front e) other fault rest other_rest sees h = absurd h
-stops_move (whole front e) bad fault rest other_rest sees h = absurd h
 stops_move (whole front e) anywhere fault rest other_rest sees h = inr h
+stops_move l place fault rest other_rest sees h = absurd h

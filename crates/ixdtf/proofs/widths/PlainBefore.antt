@@ -15,12 +15,10 @@ use Rattle.ixdtf.specs.table.Before.{BeforeTime, BeforeOffset, BeforeOffsetLine,
 use Rattle.ixdtf.specs.table.Before.{InOffset, InIdentifier, InIanaIdentifier, InDuration, Before}
 use Rattle.ixdtf.specs.table.Faults.Fault.{NonAsciiCodePoint}
 use Rattle.ixdtf.specs.table.LineNames.{DateLine, TimeLine, CoreLine, ClockLine, OffsetLine, LineName}
-use Rattle.ixdtf.specs.table.LineNames.DateLine.{year_start, year_digits, extended_year_digits, minus_zero_year, after_year, month_digits, month_range}
-use Rattle.ixdtf.specs.table.LineNames.DateLine.{after_hyphened_month, after_plain_month, day_digits, day_range, after_date}
+use Rattle.ixdtf.specs.table.LineNames.DateLine.{year_start, year_digits, extended_year_digits, minus_zero_year, month_digits, month_range}
 use Rattle.ixdtf.specs.table.LineNames.TimeLine.{time_start, time_reads_as_month_day, time_reads_as_year_month}
 use Rattle.ixdtf.specs.table.LineNames.CoreLine.{dates, year_months, month_days, times}
-use Rattle.ixdtf.specs.table.LineNames.ClockLine.{hour_start, hour_digit, hour_range, after_hour, minute_digits, minute_range, after_plain_minute}
-use Rattle.ixdtf.specs.table.LineNames.ClockLine.{after_colon_minute, second_digits, second_range, after_second, fraction_start, after_fraction}
+use Rattle.ixdtf.specs.table.LineNames.ClockLine.{hour_start}
 use Rattle.ixdtf.specs.table.LineNames.OffsetLine.{offset_start, after_zulu}
 use Rattle.ixdtf.specs.table.LineNames.ZoneLine.{identifier_start, zone_name_start, in_zone_name, after_zone_slash}
 use Rattle.ixdtf.specs.table.LineNames.BracketLine.{first_bracket_start, first_critical_start, first_bracket_scan, after_bracket}
@@ -40,43 +38,22 @@ use Rattle.ixdtf.proofs.widths.PlainLines.{plain_line}
 
 before_date : (kind : CoreKind) (line : DateLine) → PlainShape (BeforeDate kind line)
 before_date date_time year_start = plain_nothing
-before_date date_time year_digits = plain_nothing
-before_date date_time extended_year_digits = plain_nothing
-before_date date_time minus_zero_year = plain_nothing
-before_date date_time after_year = plain_nothing
-before_date date_time month_digits = plain_nothing
-before_date date_time month_range = plain_nothing
-before_date date_time after_hyphened_month = plain_nothing
-before_date date_time after_plain_month = plain_nothing
-before_date date_time day_digits = plain_nothing
-before_date date_time day_range = plain_nothing
-before_date date_time after_date = plain_nothing
+before_date date_time line = plain_nothing
 before_date year_month year_start = plain_nothing
 before_date year_month year_digits = plain_nothing
 before_date year_month extended_year_digits = plain_nothing
 before_date year_month minus_zero_year = plain_nothing
-before_date year_month after_year = plain_nowhere
 before_date year_month month_digits = plain_nothing
 before_date year_month month_range = plain_nothing
-before_date year_month after_hyphened_month = plain_nowhere
-before_date year_month after_plain_month = plain_nowhere
-before_date year_month day_digits = plain_nowhere
-before_date year_month day_range = plain_nowhere
-before_date year_month after_date = plain_nowhere
-before_date month_day line = plain_nowhere
-before_date time_alone line = plain_nowhere
+before_date kind line = plain_nowhere
 
 before_year_month : (kind : CoreKind) → PlainShape (BeforeYearMonth kind)
 before_year_month year_month = plain_nothing
-before_year_month date_time = plain_nowhere
-before_year_month month_day = plain_nowhere
-before_year_month time_alone = plain_nowhere
+before_year_month kind = plain_nowhere
 
 before_month_day : (kind : CoreKind) → PlainShape (BeforeMonthDay kind)
 before_month_day month_day = plain_nothing
-before_month_day date_time = plain_nowhere
-before_month_day year_month = plain_nowhere
-before_month_day time_alone = plain_nowhere
+before_month_day kind = plain_nowhere
 
 moves_core_end : Moves AtCoreEnd
 moves_core_end = moves_either moves_nothing (moves_then plain_one moves_anything)
@@ -103,9 +80,7 @@ in_time_alone time_reads_as_year_month = record {
 
 before_time_alone : (kind : CoreKind) (line : TimeLine) → Stands (λ before rest. BeforeTimeAlone kind line before rest)
 before_time_alone time_alone line = in_time_alone line
-before_time_alone date_time line = never
-before_time_alone year_month line = never
-before_time_alone month_day line = never
+before_time_alone kind line = never
 
 before_core : (kind : CoreKind) (line : CoreLine) → Stands (λ before rest. BeforeCore kind line before rest)
 before_core kind (dates line) = alone (before_date kind line)
@@ -123,18 +98,7 @@ before_time date_time line = plain_start
 before_time year_month line = plain_nowhere
 before_time month_day line = plain_nowhere
 before_time time_alone hour_start = plain_one
-before_time time_alone hour_digit = plain_mark
-before_time time_alone hour_range = plain_mark
-before_time time_alone after_hour = plain_mark
-before_time time_alone minute_digits = plain_mark
-before_time time_alone minute_range = plain_mark
-before_time time_alone after_plain_minute = plain_mark
-before_time time_alone after_colon_minute = plain_mark
-before_time time_alone second_digits = plain_mark
-before_time time_alone second_range = plain_mark
-before_time time_alone after_second = plain_mark
-before_time time_alone fraction_start = plain_mark
-before_time time_alone after_fraction = plain_mark
+before_time time_alone line = plain_mark
 
 before_offset : (kind : CoreKind) → PlainShape (BeforeOffset kind)
 before_offset date_time = plain_start and_then plain_some time_plain
@@ -192,50 +156,25 @@ before_bracketed kind (of_duration line) pairs = never
 
 in_offset : (name : LineName) → PlainShape (InOffset name)
 in_offset (of_offset offset_start) = plain_nothing
-in_offset (of_offset after_zulu) = plain_nowhere
 in_offset (of_clock Offset line) = plain_one
-in_offset (of_clock Time line) = plain_nowhere
-in_offset (of_clock MinuteOffset line) = plain_nowhere
-in_offset (of_core line) = plain_nowhere
-in_offset (of_zone line) = plain_nowhere
-in_offset (of_bracket line) = plain_nowhere
-in_offset (of_pair line) = plain_nowhere
-in_offset (of_duration line) = plain_nowhere
+in_offset name = plain_nowhere
 
 in_identifier : (name : LineName) → PlainShape (InIdentifier name)
 in_identifier (of_zone identifier_start) = plain_nothing
-in_identifier (of_zone zone_name_start) = plain_nowhere
 in_identifier (of_zone in_zone_name) = plain_nothing
 in_identifier (of_zone after_zone_slash) = plain_nothing
 in_identifier (of_clock MinuteOffset line) = plain_one
-in_identifier (of_clock Time line) = plain_nowhere
-in_identifier (of_clock Offset line) = plain_nowhere
-in_identifier (of_core line) = plain_nowhere
-in_identifier (of_offset line) = plain_nowhere
-in_identifier (of_bracket line) = plain_nowhere
-in_identifier (of_pair line) = plain_nowhere
-in_identifier (of_duration line) = plain_nowhere
+in_identifier name = plain_nowhere
 
 in_iana_identifier : (name : LineName) → PlainShape (InIanaIdentifier name)
 in_iana_identifier (of_zone zone_name_start) = plain_nothing
-in_iana_identifier (of_zone identifier_start) = plain_nowhere
 in_iana_identifier (of_zone in_zone_name) = plain_nothing
 in_iana_identifier (of_zone after_zone_slash) = plain_nothing
-in_iana_identifier (of_core line) = plain_nowhere
-in_iana_identifier (of_clock clock line) = plain_nowhere
-in_iana_identifier (of_offset line) = plain_nowhere
-in_iana_identifier (of_bracket line) = plain_nowhere
-in_iana_identifier (of_pair line) = plain_nowhere
-in_iana_identifier (of_duration line) = plain_nowhere
+in_iana_identifier name = plain_nowhere
 
 in_duration : (name : LineName) → PlainShape (InDuration name)
 in_duration (of_duration line) = plain_nothing
-in_duration (of_core line) = plain_nowhere
-in_duration (of_clock clock line) = plain_nowhere
-in_duration (of_offset line) = plain_nowhere
-in_duration (of_zone line) = plain_nowhere
-in_duration (of_bracket line) = plain_nowhere
-in_duration (of_pair line) = plain_nowhere
+in_duration name = plain_nowhere
 
 -- ---- rows
 

@@ -49,30 +49,11 @@ mask_sees (n ∷ numbers) h = by_first (is_shared n) refl (λ is. mask_sees numb
 derived_plain : (reader : Reader) (text : Text) (found : Found) (pairs : List Pair) → Derives reader text found pairs → IsPlain text
 derived_plain (bracketed kind) text (parsed found) pairs h =
     rw h.is (plain_append h.cores h.brackets (core_plain kind h.cores h.core h.is_core) (tail_plain h.brackets h.zone pairs h.is_tail))
-derived_plain (bracketed kind) text (shifted offset) pairs h = absurd h
-derived_plain (bracketed kind) text (identified zone) pairs h = absurd h
-derived_plain (bracketed kind) text (named units) pairs h = absurd h
-derived_plain (bracketed kind) text (lasting duration) pairs h = absurd h
 derived_plain parse_offset text (shifted offset) pairs h = signed_plain _ _ text offset h.0
-derived_plain parse_offset text (parsed found) pairs h = absurd h
-derived_plain parse_offset text (identified zone) pairs h = absurd h
-derived_plain parse_offset text (named units) pairs h = absurd h
-derived_plain parse_offset text (lasting duration) pairs h = absurd h
 derived_plain parse_identifier text (identified zone) pairs h = zone_plain text zone h.0
-derived_plain parse_identifier text (parsed found) pairs h = absurd h
-derived_plain parse_identifier text (shifted offset) pairs h = absurd h
-derived_plain parse_identifier text (named units) pairs h = absurd h
-derived_plain parse_identifier text (lasting duration) pairs h = absurd h
 derived_plain parse_iana_identifier text (named units) pairs h = plain_name.plain text h.0.0
-derived_plain parse_iana_identifier text (parsed found) pairs h = absurd h
-derived_plain parse_iana_identifier text (shifted offset) pairs h = absurd h
-derived_plain parse_iana_identifier text (identified zone) pairs h = absurd h
-derived_plain parse_iana_identifier text (lasting duration) pairs h = absurd h
 derived_plain parse_duration text (lasting duration) pairs h = duration_plain text duration h.0
-derived_plain parse_duration text (parsed found) pairs h = absurd h
-derived_plain parse_duration text (shifted offset) pairs h = absurd h
-derived_plain parse_duration text (identified zone) pairs h = absurd h
-derived_plain parse_duration text (named units) pairs h = absurd h
+derived_plain reader text found pairs h = absurd h
 
 fault_moves : (reader : Reader) (text other_text : Text) → Sees text other_text → (pairs : List Pair) (fault : Fault) → HasFault reader text pairs fault
     → (fault ≡ NonAsciiCodePoint) ⊎ HasFault reader other_text pairs fault
@@ -102,11 +83,8 @@ module _ (text other_text : Text) (sees : Sees text other_text) where
   with_pairs_moves : (kind : CoreKind) (outcome : PlainOutcome) → HasWithPairs kind text outcome → IsFault outcome (HasWithPairs kind other_text outcome)
   with_pairs_moves kind (read_as (parsed found)) h =
       absurd (plain_sees_nothing text other_text (derived_plain (bracketed kind) text (parsed h.1.read) h.0 h.1.whole) sees)
-  with_pairs_moves kind (read_as (shifted offset)) h = absurd h
-  with_pairs_moves kind (read_as (identified zone)) h = absurd h
-  with_pairs_moves kind (read_as (named units)) h = absurd h
-  with_pairs_moves kind (read_as (lasting duration)) h = absurd h
   with_pairs_moves kind (faulted fault) h = (fault, refl, plain_fault_moves (bracketed kind) text other_text sees fault h)
+  with_pairs_moves kind (read_as found) h = absurd h
 
   alone_moves : (reader : Reader) (outcome : PlainOutcome) → HasAlone reader text outcome → IsFault outcome (HasAlone reader other_text outcome)
   alone_moves reader (read_as found) h = absurd (plain_sees_nothing text other_text (derived_plain reader text found [] h) sees)
@@ -115,10 +93,7 @@ module _ (text other_text : Text) (sees : Sees text other_text) where
   -- What a text with Bad gives: the fault of Bad, or what each text with the same letters before the first Bad gives.
   outcome_moves : (reader : Reader) (outcome : PlainOutcome) → HasPlain reader text outcome → IsFault outcome (HasPlain reader other_text outcome)
   outcome_moves (bracketed kind) outcome h = with_pairs_moves kind outcome h
-  outcome_moves parse_offset outcome h = alone_moves parse_offset outcome h
-  outcome_moves parse_identifier outcome h = alone_moves parse_identifier outcome h
-  outcome_moves parse_iana_identifier outcome h = alone_moves parse_iana_identifier outcome h
-  outcome_moves parse_duration outcome h = alone_moves parse_duration outcome h
+  outcome_moves reader outcome h = alone_moves reader outcome h
 
 -- ---- the law
 

@@ -8,6 +8,7 @@ use Rattle.ixdtf.specs.declared.parsers.time.Clock.{Clock as CodeClock}
 use Rattle.ixdtf.specs.declared.parsers.time.Clock.TheVariants as code_clocks
 use Rattle.ixdtf.specs.declared.parsers.time.Shape.{Shape as CodeShape}
 use Rattle.ixdtf.specs.declared.parsers.time.Shape.TheVariants as code_shapes
+use Rattle.ixdtf.specs.declared.parsers.fixed.WholeTime.{WholeTime}
 use Rattle.ixdtf.specs.declared.records.TimeRecord.{TimeRecord}
 use Rattle.ixdtf.specs.declared.parsers.brackets.Bracket.{Bracket as CodeBracket}
 use Rattle.ixdtf.specs.declared.parsers.brackets.Bracket.TheVariants as brackets
@@ -25,8 +26,10 @@ use Rattle.ixdtf.specs.table.Lines.{abrupt_duration_start, abrupt_duration_desig
 use Rattle.ixdtf.specs.Views.{Unread, note_of}
 use Rattle.ixdtf.specs.Handlers.{pair_of}
 use Rattle.ixdtf.specs.reading.Looks.{Read, Look, ◌>>=◌, error_of, digit_run}
-use Rattle.ixdtf.specs.reading.Times.{OpenTime, clock_at}
-use Rattle.ixdtf.specs.reading.Cores.{ClosedCore, after_time_at}
+use Rattle.ixdtf.specs.reading.Times.{OpenTime, time_of, clock_at}
+use Rattle.ixdtf.specs.reading.Cores.{ClosedCore, core_end_at, after_time_at}
+use Rattle.ixdtf.specs.table.LineNames.{of_date}
+use Rattle.ixdtf.specs.table.LineNames.DateLine.{after_date}
 use Rattle.ixdtf.specs.reading.Brackets.{Bracket, zoned, paired}
 
 -- the fault of the error that a stop is
@@ -95,6 +98,11 @@ abbrev pub Reads : {X Y : Type 0} → (ℕ → Letter) → (X → Y) → Unread 
 Reads letter view old (Ok x) new reading = reading (map letter old.rest) ≡ Ok (view x, map letter new.rest)
 Reads letter view old (Err e) new reading = reading (map letter old.rest) ≡ Err (fault_of_stop e)
 
+-- what reading gives of the letters that were still to be read is what it gives from where a function left them, or its stop
+abbrev pub GoesOn : {X Y : Type 0} → (ℕ → Letter) → Unread → Result X Stop → Unread → (Text → Read Fault Y) → (X → Text → Read Fault Y) → Type 0
+GoesOn letter old (Ok x) new reading further = reading (map letter old.rest) ≡ further x (map letter new.rest)
+GoesOn letter old (Err e) new reading further = reading (map letter old.rest) ≡ Err (fault_of_stop e)
+
 -- what a public function returned is what a private one did, with the error of its stop
 abbrev pub Settles : {X E : Type 0} → (E → Fault) → Result X Stop → Result X E → Type 0
 Settles named (Ok x) (Ok y) = y ≡ x
@@ -153,9 +161,18 @@ shape_of code_shapes.ColonMinutes = shapes.colon_minutes
 shape_of code_shapes.Seconds = shapes.seconds
 shape_of code_shapes.Fractions = shapes.fractions
 
+-- a time that ends with its second
+abbrev pub time_to_second : WholeTime → TimeRecord
+time_to_second time = time_of time.hour time.minute time.second None
+
 -- a time that was written, and how far
 abbrev pub open_time_of : TimeRecord → CodeShape → OpenTime
 open_time_of time shape = (shape_of shape, time)
+
+-- what is read behind a date, with a time behind it or without
+abbrev pub after_date_time_at : Option DateRecord → TimeRecord → Option CodeShape → Text → Read Fault ClosedCore
+after_date_time_at date time None text = core_end_at error_of (of_date after_date) (core_of date None None) text
+after_date_time_at date time (Some shape) text = after_time_at error_of date (open_time_of time shape) text
 
 -- the core that stands in a record
 abbrev pub core_in : {T U : Type 0} → IxdtfParseRecord T U → Core

@@ -26,7 +26,7 @@ use Rattle.ixdtf.specs.table.Rows.Place.{end, other, bad, anywhere}
 use Rattle.ixdtf.specs.reading.Looks.{Read, Look, ◌>>=◌, row_of, next_by, peek_by, on_next}
 use Rattle.ixdtf.specs.reading.Dates.{date_at}
 use Rattle.ixdtf.specs.reading.Months.{year_month_at, month_day_at, month_day_begins, year_month_begins}
-use Rattle.ixdtf.specs.reading.Times.{OpenTime, line_after, bad_after, hour_from, clock_at}
+use Rattle.ixdtf.specs.reading.Times.{OpenTime, line_after, bad_after, after_second_at, hour_from, clock_at}
 
 -- the look for the first digit of a time that stands alone and begins without `T` or `t`
 abbrev pub hour_look : {E : Type 0} → (Row → E) → Look E
@@ -77,6 +77,12 @@ after_time_at fault date time text = on_next (bad_after fault clocks.Time time.0
 unfoldable pub time_core_at : {E : Type 0} → (Row → E) → DateRecord → Text → Read E ClosedCore
 time_core_at fault date text = do
   time ← clock_at fault clocks.Time text
+  after_time_at fault (Some date) time.0 time.1
+
+-- the same, after a date, a separator and a time to its second
+unfoldable pub whole_time_core_at : {E : Type 0} → (Row → E) → DateRecord → ℕ → ℕ → ℕ → Text → Read E ClosedCore
+whole_time_core_at fault date hour minute second text = do
+  time ← after_second_at fault clocks.Time hour minute second text
   after_time_at fault (Some date) time.0 time.1
 
 -- what stands after a date
@@ -133,3 +139,8 @@ core_at fault date_time text = date_time_core_at fault text
 core_at fault year_month text = date_alone_at fault (of_year_month after_year_month) (year_month_at fault text)
 core_at fault month_day text = date_alone_at fault (of_month_day after_month_day) (month_day_at fault text)
 core_at fault time_alone text = time_alone_core_at fault text
+
+-- opening this opens the readings of a date and of what stands behind it, up to the end of its time
+unfoldable pub date_time_readings : ℕ
+unfolding date_time_core_at whole_time_core_at after_date_at time_core_at
+date_time_readings = 0

@@ -1,24 +1,72 @@
--- What is read of a date or a time whose letters fit: its ranges, and what follows.
-use Rattle.std.specs.Prelude.{ℕ, Err, nat_le, ◌&&◌, if◌then◌else◌}
+-- Reading at fixed places: each place is looked at in turn, and nothing is read where one does not fit.
+use Rattle.std.specs.Prelude.{ℕ, Bool, pos, [], ◌∷◌, ◌+◌, ◌*◌, drop, Option, Some, None, Err, nat_le, ◌&&◌, if◌then◌else◌}
 use Rattle.ixdtf.specs.declared.records.DateRecord.{DateRecord}
-use Rattle.ixdtf.specs.language.Letters.{Text}
-use Rattle.ixdtf.specs.language.Times.{Clock as clocks}
+use Rattle.ixdtf.specs.declared.records.TimeRecord.{TimeRecord}
+use Rattle.ixdtf.specs.language.Letters.{Text, Class, digit, hyphen, colon, date_time_separator}
+use Rattle.ixdtf.specs.language.Letters.Letter.{Plain, Bad}
+use Rattle.ixdtf.specs.language.Digits.{decimal}
+use Rattle.ixdtf.specs.language.Dates.{month_length}
 use Rattle.ixdtf.specs.table.Faults.{Fault}
-use Rattle.ixdtf.specs.table.Faults.Fault.{InvalidMonthRange, TimeHour, TimeMinuteSecond, TimeSecond}
+use Rattle.ixdtf.specs.table.Faults.Fault.{InvalidMonthRange}
 use Rattle.ixdtf.specs.reading.Looks.{Read, error_of}
-use Rattle.ixdtf.specs.reading.Dates.{day_in_range}
-use Rattle.ixdtf.specs.reading.Times.{OpenTime, after_second_at}
+use Rattle.ixdtf.specs.reading.Dates.{date_of, day_in_range}
+use Rattle.ixdtf.specs.reading.Times.{time_of}
+
+-- from what was found to what is found with it
+infixl 10 ◌>>?◌
+abbrev pub ◌>>?◌ : {A B : Type 0} → Option A → (A → Option B) → Option B
+None >>? go = None
+(Some x) >>? go = go x
+
+-- the first letter, where it is of the class
+abbrev pub first_in : Class → Text → Option ℕ
+first_in class [] = None
+first_in class (Bad ∷ rest) = None
+first_in class (Plain c ∷ rest) = if class c then Some c else None
+
+-- the letter at a place, where it is of the class
+abbrev pub letter_place : Class → ℕ → Text → Option ℕ
+letter_place class place text = first_in class (drop place text)
+
+-- the number of two digits at a place and the next
+unfoldable pub number_place : ℕ → Text → Option ℕ
+number_place place text =
+    letter_place digit place text >>? λ tens. letter_place digit (place + 1) text >>? λ ones. Some (decimal (Plain tens ∷ Plain ones ∷ []))
+
+-- the date at the first ten places, whatever its month and its day
+unfoldable pub date_place : Text → Option DateRecord
+date_place text =
+    number_place 0 text >>? λ century. number_place 2 text >>? λ year. letter_place hyphen 4 text >>? λ _.
+    number_place 5 text >>? λ month. letter_place hyphen 7 text >>? λ _. number_place 8 text >>? λ day.
+    Some (date_of (pos (100 * century + year)) month day)
+
+-- the time at the eight places after a date and a separator, whatever its numbers
+unfoldable pub time_place : Text → Option TimeRecord
+time_place text =
+    number_place 11 text >>? λ hour. letter_place colon 13 text >>? λ _. number_place 14 text >>? λ minute.
+    letter_place colon 16 text >>? λ _. number_place 17 text >>? λ second. Some (time_of hour minute second None)
 
 -- the date with the text after it, where its month and its day are in range
 abbrev pub ranged : DateRecord → Text → Read Fault DateRecord
 ranged date rest =
     if nat_le 1 date.month && nat_le date.month 12 then day_in_range error_of date rest else Err InvalidMonthRange
 
--- the time with a fraction after it, where its hour, its minute and its second are in range
-abbrev pub ranged_time : ℕ → ℕ → ℕ → Text → Read Fault OpenTime
-ranged_time hour minute second rest =
-    if nat_le hour 23 then
-    (if nat_le minute 59 then
-    (if nat_le second 60 then after_second_at error_of clocks.Time hour minute second rest else Err TimeSecond)
-    else Err TimeMinuteSecond)
-    else Err TimeHour
+-- whether the month is one and has the day
+abbrev pub date_in_range : DateRecord → Bool
+date_in_range date =
+    nat_le 1 date.month && nat_le date.month 12 && nat_le 1 date.day && nat_le date.day (month_length date.year date.month)
+
+-- whether the numbers are at most the greatest of their places
+abbrev pub time_in_range : TimeRecord → Bool
+time_in_range time = nat_le time.hour 23 && nat_le time.minute 59 && nat_le time.second 60
+
+-- the date and the time, where their numbers are in range
+unfoldable pub date_time_place : Text → Option (DateRecord × TimeRecord)
+date_time_place text =
+    date_place text >>? λ date. letter_place date_time_separator 10 text >>? λ _. time_place text >>? λ time.
+    if date_in_range date && time_in_range time then Some (date, time) else None
+
+-- opening this opens the readings of parts at fixed places
+unfoldable pub fixed_readings : ℕ
+unfolding number_place date_place time_place date_time_place
+fixed_readings = 0

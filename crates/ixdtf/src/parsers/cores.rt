@@ -3,22 +3,25 @@
 ghost use Rattle.std.specs.Prelude.{◌≡◌, ◌+◌, ◌≤◌, List, map, length, Ok, Some, None};
 ghost use Rattle.ixdtf.specs.language.Letters.{Text};
 ghost use Rattle.ixdtf.specs.language.Cores.{Core};
+ghost use Rattle.ixdtf.specs.language.Times.{TimeShape};
 ghost use Rattle.ixdtf.specs.language.Readers.{CoreKind};
+ghost use Rattle.ixdtf.specs.language.Readers.CoreKind.{date_time};
 ghost use Rattle.ixdtf.specs.table.LineNames.{LineName};
-ghost use Rattle.ixdtf.specs.reading.Clauses.{Reads, Spends, Yields, core_in, KeepsBrackets, open_time_of, timed_core_at};
+ghost use Rattle.ixdtf.specs.reading.Clauses.{GoesOn, after_date_time_at, Reads, Spends, Yields, core_in, KeepsBrackets, open_time_of, timed_core_at};
 ghost use Rattle.ixdtf.specs.reading.Looks.{error_of};
-ghost use Rattle.ixdtf.specs.reading.Cores.{ClosedCore, core_end_at, offset_core_at, after_time_at, after_date_at, unfronted, core_at};
+ghost use Rattle.ixdtf.specs.reading.Cores.{ClosedCore, core_end_at, offset_core_at, after_time_at, whole_time_core_at, after_date_at, unfronted, core_at};
 
 use crate::cursor::Cursor;
 use crate::encoding::EncodingType;
 use crate::parsers::dates::parse_date;
+use crate::parsers::fixed::fixed_date_time;
 use crate::parsers::grammar::{
     is_annotation_open, is_ascii_sign, is_date_time_separator, is_time_designator,
     is_utc_designator,
 };
 use crate::parsers::months::{parse_month_day_date, parse_year_month_date};
 use crate::parsers::offsets::offset_from;
-use crate::parsers::time::{Clock, Shape, parse_clock, parse_time};
+use crate::parsers::time::{Clock, Shape, parse_after_second, parse_clock};
 use crate::records::{DateRecord, IxdtfParseRecord, TimeRecord, UtcOffsetRecordOrZ};
 use crate::stop::Stop;
 
@@ -38,7 +41,7 @@ pub trait Cores {
         ensures core { Reads T.letter (λ more. (core_in found.new, more)) cursor.old result
             cursor.new (core_at error_of kind) }
         ensures kept { KeepsBrackets found.old found.new }
-        ensures looks { Spends 40 cursor.old cursor.new };
+        ensures looks { Spends (length cursor.old.rest + 30) cursor.old cursor.new };
 }
 
 /// A date, and a time and an offset where there are.
@@ -50,13 +53,15 @@ impl Cores for DateTimes {
     ghost kind = { date_time };
 
     #[inline(always)]
-    #[tactic(auto, unfolding(crate::specs::reading::Cores::date_time_core_at))]
     fn parse_core<'a, T: EncodingType>(
         cursor: &mut Cursor<'a, T>,
         found: &mut IxdtfParseRecord<'a, T>,
     ) -> Result<bool, Stop> {
-        let date = parse_date(cursor)?;
-        parse_after_date(cursor, date, found)
+        let mut time = TimeRecord::default();
+        match parse_date_time(cursor, &mut time, found)? {
+            Some(_) => parse_after_time(cursor, time, found),
+            None => close_core(cursor),
+        }
     }
 }
 
@@ -128,32 +133,52 @@ impl Cores for LoneTimes {
 
 // ==== Dates and times ====
 
-/// Reads what stands after a date.
+/// Reads a date into the record, and a time where a separator follows, and returns how far the time was written.
 #[inline(always)]
-#[tactic(auto, unfolding(crate::specs::reading::Cores::after_date_at, crate::specs::reading::Cores::time_core_at, crate::specs::reading::Clauses::timed_core_at))]
-fn parse_after_date<'a, T: EncodingType>(
+#[tactic(auto, using(crate::proofs::code::FixedCores::fixed_core), unfolding(crate::specs::reading::Cores::date_time_readings))]
+fn parse_date_time<'a, T: EncodingType>(
     cursor: &mut Cursor<'a, T>,
-    date: DateRecord,
+    time: &mut TimeRecord,
     found: &mut IxdtfParseRecord<'a, T>,
-) -> Result<bool, Stop>
+) -> Result<Option<Shape>, Stop>
     requires no_time { found.old.time ≡ None }
     requires no_offset { found.old.offset ≡ None }
-    ensures core { Reads T.letter (λ more. (core_in found.new, more)) cursor.old result cursor.new
-        (after_date_at error_of date) }
+    ensures date_time { GoesOn T.letter cursor.old result cursor.new
+        (core_at error_of date_time) (after_date_time_at found.new.date time.new) }
+    ensures time { found.new.time ≡ None }
+    ensures offset { found.new.offset ≡ None }
     ensures kept { KeepsBrackets found.old found.new }
-    ensures looks { Spends 21 cursor.old cursor.new }
+    ensures looks { Spends (length cursor.old.rest + 22) cursor.old cursor.new }
 {
-    found.date = Some(DateRecord {
-        year: date.year,
-        month: date.month,
-        day: date.day,
-    });
-    match cursor.look()? {
-        Some(byte) if is_date_time_separator(byte) => {
-            cursor.step();
-            parse_timed(cursor, found)
+    match fixed_date_time(cursor) {
+        Some((date, whole)) => {
+            found.date = Some(date);
+            let shape = parse_after_second(
+                cursor,
+                Clock::Time,
+                whole.hour,
+                whole.minute,
+                whole.second,
+                time,
+            )?;
+            Ok(Some(shape))
         }
-        _ => close_core(cursor),
+        None => {
+            let date = parse_date(cursor)?;
+            found.date = Some(DateRecord {
+                year: date.year,
+                month: date.month,
+                day: date.day,
+            });
+            match cursor.look()? {
+                Some(byte) if is_date_time_separator(byte) => {
+                    cursor.step();
+                    let shape = parse_clock(cursor, Clock::Time, time)?;
+                    Ok(Some(shape))
+                }
+                _ => Ok(None),
+            }
+        }
     }
 }
 
@@ -171,11 +196,11 @@ fn parse_timed<'a, T: EncodingType>(
     ensures core { Reads T.letter (λ more. (core_in found.new, more)) cursor.old result cursor.new
         (timed_core_at found.old.date) }
     ensures kept { KeepsBrackets found.old found.new }
-    ensures looks { Spends 20 cursor.old cursor.new }
+    ensures looks { Spends 12 cursor.old cursor.new }
 {
     let mut time = TimeRecord::default();
-    let shape = parse_time(cursor, &mut time)?;
-    parse_after_time(cursor, shape, time, found)
+    parse_clock(cursor, Clock::Time, &mut time)?;
+    parse_after_time(cursor, time, found)
 }
 
 /// Refuses a time whose text began as a month-day or as a year-month does. The cursor stays, and counts the looks that are
@@ -209,13 +234,13 @@ fn check_front<'a, T: EncodingType>(
 #[tactic(auto, unfolding(crate::specs::reading::Cores::after_time_at, crate::specs::reading::Cores::offset_core_at))]
 fn parse_after_time<'a, T: EncodingType>(
     cursor: &mut Cursor<'a, T>,
-    shape: Shape,
     time: TimeRecord,
     found: &mut IxdtfParseRecord<'a, T>,
 ) -> Result<bool, Stop>
     requires no_offset { found.old.offset ≡ None }
-    ensures core { Reads T.letter (λ more. (core_in found.new, more)) cursor.old result cursor.new
-        (after_time_at error_of found.old.date (open_time_of time shape)) }
+    ensures core { (shape : TimeShape) →
+        Reads T.letter (λ more. (core_in found.new, more)) cursor.old result cursor.new
+        (after_time_at error_of found.old.date (shape, time)) }
     ensures kept { KeepsBrackets found.old found.new }
     ensures looks { Spends 7 cursor.old cursor.new }
 {

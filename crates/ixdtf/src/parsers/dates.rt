@@ -15,19 +15,24 @@ ghost use Rattle.ixdtf.specs.reading.Dates.{date_of, year_at, plain_year_at, ext
 
 use crate::cursor::Cursor;
 use crate::encoding::EncodingType;
+use crate::parsers::fixed::fixed_date;
 use crate::parsers::grammar::{digits_value, is_ascii_sign, is_hyphen};
 use crate::records::DateRecord;
 use crate::stop::Stop;
 
 /// Reads a date: at fixed places where these fit, and else part by part.
 #[inline(always)]
+#[tactic(auto, using(crate::proofs::code::FixedPlaces::date_is_read))]
 pub fn parse_date<'a, T: EncodingType>(cursor: &mut Cursor<'a, T>) -> Result<DateRecord, Stop>
     ensures date { Reads T.letter (λ date. date) cursor.old result cursor.new
         (date_at error_of) }
     ensures looks { Spends 16 cursor.old cursor.new }
 {
     match fixed_date(cursor) {
-        Some(date) => check_ranges(date),
+        Some(date) => {
+            cursor.skip(10);
+            check_ranges(date)
+        }
         None => parse_any_date(cursor),
     }
 }
@@ -42,38 +47,6 @@ fn parse_any_date<'a, T: EncodingType>(cursor: &mut Cursor<'a, T>) -> Result<Dat
     let year = parse_date_year(cursor)?;
     let (month, hyphened) = parse_month(cursor, Stop::AbruptDate)?;
     parse_day(cursor, year, month, hyphened)
-}
-
-// ==== Fixed places ====
-
-/// The date of `YYYY-MM-DD`, whose letters are taken off, or `None`, with the rest unchanged, at the first place that does
-/// not fit. Its ranges are not checked.
-#[inline(always)]
-fn fixed_date<'a, T: EncodingType>(cursor: &mut Cursor<'a, T>) -> Option<DateRecord>
-    ensures some { IfSome result (λ date. date_at error_of (map T.letter cursor.old.rest) ≡
-        ranged date (map T.letter cursor.new.rest)) }
-    ensures none { result ≡ None → cursor.new.rest ≡ cursor.old.rest }
-    ensures looks { Spends 10 cursor.old cursor.new }
-{
-    if cursor.rest().len() < 10 {
-        return None;
-    }
-    let thousands = cursor.fixed_digit(0)?;
-    let hundreds = cursor.fixed_digit(1)?;
-    let tens = cursor.fixed_digit(2)?;
-    let ones = cursor.fixed_digit(3)?;
-    cursor.fixed_letter(4, b'-')?;
-    let month_tens = cursor.fixed_digit(5)?;
-    let month_ones = cursor.fixed_digit(6)?;
-    cursor.fixed_letter(7, b'-')?;
-    let day_tens = cursor.fixed_digit(8)?;
-    let day_ones = cursor.fixed_digit(9)?;
-    cursor.skip(10);
-    Some(DateRecord {
-        year: year_of(thousands, hundreds, tens, ones),
-        month: digits_value(month_tens, month_ones),
-        day: digits_value(day_tens, day_ones),
-    })
 }
 
 /// The date, where its month is one and has the day.

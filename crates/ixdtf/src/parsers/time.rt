@@ -8,7 +8,6 @@ ghost use Rattle.ixdtf.specs.language.Times.{Clock as clocks, greatest_second, w
 ghost use Rattle.ixdtf.specs.table.Lines.{mixed, second_fault, seconds_after};
 ghost use Rattle.ixdtf.specs.reading.Clauses.{Reads, Spends, Checks, more_digits_at, fault_of_stop, clock_of, shape_of, open_time_of};
 ghost use Rattle.ixdtf.specs.reading.Looks.{error_of, digit_look, number_by};
-ghost use Rattle.ixdtf.specs.reading.FixedPlaces.{ranged_time};
 ghost use Rattle.ixdtf.specs.reading.Times.{time_of, second_start, clock_at, after_hour_at, minute_at, after_minute_at, second_at, after_second_at, fraction_at};
 
 use crate::cursor::Cursor;
@@ -123,76 +122,6 @@ fn next_number<'a, T: EncodingType>(
 {
     let (tens, ones) = cursor.two_digits(stop)?;
     check_most(digits_value(tens, ones), greatest, stop)
-}
-
-/// The hour, the minute and the second of a time at fixed places.
-#[derive(Clone, Copy)]
-struct FixedTime {
-    hour: u8,
-    minute: u8,
-    second: u8,
-}
-
-/// Reads a time of day: at fixed places where these fit, and else part by part.
-#[inline(always)]
-pub fn parse_time<'a, T: EncodingType>(
-    cursor: &mut Cursor<'a, T>,
-    time: &mut TimeRecord,
-) -> Result<Shape, Stop>
-    ensures time { Reads T.letter (open_time_of time.new) cursor.old result cursor.new
-        (clock_at error_of clocks.Time) }
-    ensures looks { Spends 13 cursor.old cursor.new }
-{
-    match fixed_time(cursor) {
-        Some(fixed) => parse_after_fixed_time(cursor, fixed, time),
-        None => parse_clock(cursor, Clock::Time, time),
-    }
-}
-
-/// The numbers of `HH:MM:SS`, whose letters are taken off, or `None`, with the rest unchanged, at the first place that does
-/// not fit. Their ranges are not checked.
-#[inline(always)]
-fn fixed_time<'a, T: EncodingType>(cursor: &mut Cursor<'a, T>) -> Option<FixedTime>
-    ensures some { IfSome result (λ fixed.
-        clock_at error_of clocks.Time (map T.letter cursor.old.rest) ≡
-        ranged_time fixed.hour fixed.minute fixed.second (map T.letter cursor.new.rest)) }
-    ensures none { result ≡ None → cursor.new.rest ≡ cursor.old.rest }
-    ensures looks { Spends 8 cursor.old cursor.new }
-{
-    if cursor.rest().len() < 8 {
-        return None;
-    }
-    let hour_tens = cursor.fixed_digit(0)?;
-    let hour_ones = cursor.fixed_digit(1)?;
-    cursor.fixed_letter(2, b':')?;
-    let minute_tens = cursor.fixed_digit(3)?;
-    let minute_ones = cursor.fixed_digit(4)?;
-    cursor.fixed_letter(5, b':')?;
-    let second_tens = cursor.fixed_digit(6)?;
-    let second_ones = cursor.fixed_digit(7)?;
-    cursor.skip(8);
-    Some(FixedTime {
-        hour: digits_value(hour_tens, hour_ones),
-        minute: digits_value(minute_tens, minute_ones),
-        second: digits_value(second_tens, second_ones),
-    })
-}
-
-/// Checks the ranges of a time at fixed places, and reads a fraction after it, where there is one.
-#[inline(always)]
-fn parse_after_fixed_time<'a, T: EncodingType>(
-    cursor: &mut Cursor<'a, T>,
-    fixed: FixedTime,
-    time: &mut TimeRecord,
-) -> Result<Shape, Stop>
-    ensures time { Reads T.letter (open_time_of time.new) cursor.old result cursor.new
-        (ranged_time fixed.hour fixed.minute fixed.second) }
-    ensures looks { Spends 3 cursor.old cursor.new }
-{
-    let hour = check_most(fixed.hour, 23, Stop::TimeHour)?;
-    let minute = check_most(fixed.minute, 59, Stop::TimeMinuteSecond)?;
-    let second = check_most(fixed.second, 60, Stop::TimeSecond)?;
-    parse_after_second(cursor, Clock::Time, hour, minute, second, time)
 }
 
 /// Reads a time, as far as it goes.
@@ -357,7 +286,7 @@ fn parse_second<'a, T: EncodingType>(
 
 /// Reads a fraction after a second, where there is one.
 #[inline(always)]
-fn parse_after_second<'a, T: EncodingType>(
+pub fn parse_after_second<'a, T: EncodingType>(
     cursor: &mut Cursor<'a, T>,
     clock: Clock,
     hour: u8,

@@ -1,23 +1,16 @@
 -- The function only hands its arguments on to `read_as`, at the plain error and cores of its kind. Assumes `Logic`.
-use Rattle.ixdtf.proofs.code.HandledForms.{tables_of, refl, id⊢, ⊑_static, Kind, kind_of, form}
+use Rattle.ixdtf.proofs.code.HandledForms.{tables_of, refl, ⊑_static, kind_of, form}
 use Rattle.ixdtf.specs.contracts.parsers.cores.LoneTimes
 use Rattle.ixdtf.proofs.parsers.cores.LoneTimes.TheLaws as cores_laws
 use Rattle.ixdtf.specs.contracts.parsers.cores.LoneTimesCores.TheImpl as cores
 use Rattle.ixdtf.proofs.parsers.cores.LoneTimesCores.TheImpl.Met as cores_met
-use Rattle.ixdtf.proofs.stop.ParseErrorRaised.TheImpl.Met as raises_met
-use Rattle.ixdtf.specs.contracts.parsers.IxdtfParser.parse_time_with_annotation_handler as R
 use Rattle.ixdtf.proofs.parsers.IxdtfParser.parse_time_with_annotation_handler.Statement as stated
 use Rattle.ixdtf.proofs.parsers.IxdtfParser.parse_time_with_annotation_handler.Code as code
-
-abbrev kind : Kind
-kind = kind_of LoneTimes.the_row cores_laws.the_row_laws refl cores.ghosts cores.dict ⊑_static
 
 pub parse_time_with_annotation_handler_spec : {M : Type 1} → stated.statement M
 unfolding tables_of
 parse_time_with_annotation_handler_spec {M} 𝓤 𝓛 𝓜 𝓡 wired T' U F LT LU LF g₀ d₀ gₛ dₛ g₁ d₁ g₂ d₂ g₃ d₃ d₄ g d d' d'' P b₀ bₛ b₁ b₂ b₃ b₄ b b' b'' =
-    form 𝓤 𝓛 𝓜 𝓡 kind T' U F LT LU LF g₀ d₀ gₛ dₛ g₁ d₁ g₂ d₂ g₃ d₃ d₄ g d d' d'' P b₀ bₛ b₁ b₂ b₃ b₄ b b' b''
-    (R.spec T' U F g₀ d₀ gₛ dₛ g₁ d₁ g₂ d₂ g₃ d₃ d₄ g d d' d'' P 𝓛 𝓜.mem 𝓡.returns) (λ τs a x. id⊢ 𝓤 _) (λ τs a x r. id⊢ 𝓤 _)
-    (code.calls-ixdtf::parsers::IxdtfParser::read_as 𝓡.env wired)
-    (raises_met.passed 𝓡.env (code.calls-ixdtf::stop::ParseErrorRaised::of_stop 𝓡.env wired) M 𝓤 𝓛 𝓜 𝓡)
+    form 𝓤 𝓛 𝓜 𝓡 (kind_of LoneTimes.the_row cores_laws.the_row_laws refl cores.ghosts cores.dict ⊑_static) T' U F LT LU LF g₀ d₀ gₛ dₛ g₁ d₁ g₂ d₂ g₃ d₃ d₄ g d d' d'' P b₀ bₛ b₁ b₂ b₃ b₄ b b' b''
+    (code.calls-ixdtf::parsers::IxdtfParser::read_as 𝓡.env wired) (code.calls-ixdtf::stop::ParseErrorRaised::of_stop 𝓡.env wired)
     (cores_met.passed 𝓡.env (code.calls-ixdtf::parsers::cores::LoneTimesCores::parse_core 𝓡.env wired) M 𝓤 𝓛 𝓜 𝓡)
     _ _ (λ κs. refl) refl (code.unfolded 𝓤 𝓛.H 𝓜 𝓡 wired (T', (U, (F, tt))) d₀ dₛ d₁ d₂ d₃ d₄ d d' d'')

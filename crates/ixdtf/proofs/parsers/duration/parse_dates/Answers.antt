@@ -1,9 +1,9 @@
-use Rattle.std.proofs.Common.{◌≡◌, ℕ, suc, ◌≤◌, List, length, map, drop, Some, None, Ok, true, false, refl, ap, ◌∙◌, arith, rules}
+use Rattle.std.proofs.Common.{◌≡◌, ℕ, List, map, drop, Some, None, Ok, true, false, refl, ap, ◌∙◌, arith, rules}
 use Rattle.std.proofs.lemmas.Result.{err_from_is_err_and}
 use Rattle.ixdtf.specs.language.Letters.{digit, time_letter}
 use Rattle.ixdtf.specs.table.Faults.Fault.{NonAsciiCodePoint}
 use Rattle.ixdtf.specs.reading.Looks.{look_at}
-use Rattle.ixdtf.proofs.code.FractionLoop.{shrinks}
+use Rattle.ixdtf.proofs.code.FractionLoop.{taken}
 use Rattle.ixdtf.proofs.code.DurationLoops.{date_added_on, dates_go_on, dates_stop, dates_break, dates_timed, dates_alone}
 use Rattle.ixdtf.proofs.parsers.duration.parse_dates.Goals as goal
 
@@ -24,22 +24,17 @@ returns-in-None-clause-dates g c =
 -- one more group
 pub loop-group-smaller : goal.loop-group-smaller
 loop-group-smaller g c =
-    let found : look_at NonAsciiCodePoint (map g.T.EncodingType.letter c.parse_date_group.new.cursor.rest) ≡ Ok (Some c.in-Some.byte) = cc (c.in_ok-look.ensures.letter, c.in-Some.is) in
-    let moved : c.step.new.self.rest ≡ drop 1 c.parse_date_group.new.cursor.rest = c.step.ensures.rest ∙ ap (λ (t : List ℕ). drop 1 t) c.in_ok-look.ensures.rest in
-    let smaller : suc (length c.step.new.self.rest) ≤ length c.loop-group.cursor.rest = omega (arith, shrinks g.T.EncodingType.letter _ _ _ found moved, c.in_ok-group.ensures.paid) in
-    smaller
+    let off = taken {letter = g.T.EncodingType.letter} c.in_ok-look.ensures.letter c.in-Some.is c.in_ok-look.ensures.rest c.step.ensures.rest in
+    omega (arith, c.in_ok-group.ensures.paid)
 
 pub loop-group-preserved : goal.loop-group-preserved
 loop-group-preserved g c =
     let read = date_added_on _ _ _ _ _ c.loop-group.invariant.far _ (map g.T.EncodingType.letter c.parse_date_group.new.cursor.rest) c.in_ok-group.ensures.group _ c.in_ok-add.ensures in
-    let found : look_at NonAsciiCodePoint (map g.T.EncodingType.letter c.parse_date_group.new.cursor.rest) ≡ Ok (Some c.in-Some.byte) = cc (c.in_ok-look.ensures.letter, c.in-Some.is) in
-    let is : digit c.in-Some.byte ≡ true = search rules in
-    let moved : c.step.new.self.rest ≡ drop 1 c.parse_date_group.new.cursor.rest = c.step.ensures.rest ∙ ap (λ (t : List ℕ). drop 1 t) c.in_ok-look.ensures.rest in
-    let left : map g.T.EncodingType.letter c.step.new.self.rest ≡ drop 1 (map g.T.EncodingType.letter c.parse_date_group.new.cursor.rest) = c.step.ensures.letters ∙ ap (λ (t : List ℕ). drop 1 (map g.T.EncodingType.letter t)) c.in_ok-look.ensures.rest in
+    let off = taken {letter = g.T.EncodingType.letter} c.in_ok-look.ensures.letter c.in-Some.is c.in_ok-look.ensures.rest c.step.ensures.rest in
     record {
-      far = dates_go_on _ _ _ _ read _ _ found is left;
-      is_digit = is;
-      looks = omega (arith, shrinks g.T.EncodingType.letter _ _ _ found moved, c.in_ok-group.ensures.paid, c.loop-group.invariant.looks, c.in_ok-look.ensures.looks, c.step.ensures.looks);
+      far = dates_go_on _ _ _ _ read _ _ off.found (search rules) off.left;
+      is_digit = search rules;
+      looks = omega (arith, c.in_ok-group.ensures.paid, c.loop-group.invariant.looks, c.in_ok-look.ensures.looks, c.step.ensures.looks);
       counted = omega (arith, c.in_ok-group.ensures.paid, c.loop-group.invariant.counted, c.in_ok-look.ensures.looks, c.step.ensures.looks);
     }
 

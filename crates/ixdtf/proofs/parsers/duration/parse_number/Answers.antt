@@ -1,11 +1,11 @@
-use Rattle.std.proofs.Common.{◌≡◌, ℕ, List, map, drop, Some, None, Ok, true, false, refl, ap, ◌∙◌, arith, rules}
+use Rattle.std.proofs.Common.{◌≡◌, map, Some, None, Ok, true, false, refl, ◌∙◌, arith, rules}
 use Rattle.std.proofs.lemmas.Result.{err_from_is_err_and}
 use Rattle.std.proofs.lemmas.Bool.Decides.{nat_tests}
 use Rattle.ixdtf.specs.language.Letters.{digit}
 use Rattle.ixdtf.specs.language.Durations.{greatest_value}
 use Rattle.ixdtf.specs.table.Faults.Fault.{NonAsciiCodePoint}
 use Rattle.ixdtf.specs.reading.Looks.{look_at}
-use Rattle.ixdtf.proofs.code.FractionLoop.{shrinks}
+use Rattle.ixdtf.proofs.code.FractionLoop.{taken}
 use Rattle.ixdtf.proofs.code.DurationNumbers.{begins, goes_on, passes, stops, ends, breaks}
 use Rattle.ixdtf.proofs.parsers.duration.parse_number.Goals as goal
 
@@ -27,20 +27,18 @@ returns-in_err-byte-clause-number g c =
 -- the letter is no digit
 pub returns-then-not-is_ascii_digit-clause-number : goal.returns-then-not-is_ascii_digit-clause-number
 returns-then-not-is_ascii_digit-clause-number g c =
-    let found : look_at NonAsciiCodePoint (map g.T.EncodingType.letter c.loop-byte.cursor.rest) ≡ Ok (Some c.in-Some.byte) = cc (c.in_ok-byte.ensures.letter, c.in-Some.is) in
+    let off = taken {letter = g.T.EncodingType.letter} c.in_ok-byte.ensures.letter c.in-Some.is c.in_ok-byte.ensures.rest c.step.ensures.rest in
     let other : digit c.in-Some.byte ≡ false = search rules in
-    let left : map g.T.EncodingType.letter c.step.new.self.rest ≡ drop 1 (map g.T.EncodingType.letter c.loop-byte.cursor.rest) = c.step.ensures.letters ∙ ap (λ (t : List ℕ). drop 1 (map g.T.EncodingType.letter t)) c.in_ok-byte.ensures.rest in
     let far = c.loop-byte.invariant.far in
-    record { ds = far.ds; value = far.number; other = other; leads = stops _ _ _ _ far _ found _ left }
+    record { ds = far.ds; value = far.number; other = other; leads = stops _ _ _ _ far _ off.found _ off.left }
 
 pub returns-then-not-is_ascii_digit-clause-small : goal.returns-then-not-is_ascii_digit-clause-small
 returns-then-not-is_ascii_digit-clause-small g c = c.loop-byte.invariant.small
 
 pub returns-then-not-is_ascii_digit-clause-paid : goal.returns-then-not-is_ascii_digit-clause-paid
 returns-then-not-is_ascii_digit-clause-paid g c =
-    let found : look_at NonAsciiCodePoint (map g.T.EncodingType.letter c.loop-byte.cursor.rest) ≡ Ok (Some c.in-Some.byte) = cc (c.in_ok-byte.ensures.letter, c.in-Some.is) in
-    let moved : c.step.new.self.rest ≡ drop 1 c.loop-byte.cursor.rest = c.step.ensures.rest ∙ ap (λ (t : List ℕ). drop 1 t) c.in_ok-byte.ensures.rest in (
-      omega (arith, shrinks g.T.EncodingType.letter _ _ _ found moved, c.loop-byte.invariant.looks),
+    let off = taken {letter = g.T.EncodingType.letter} c.in_ok-byte.ensures.letter c.in-Some.is c.in_ok-byte.ensures.rest c.step.ensures.rest in (
+      omega (arith, c.loop-byte.invariant.looks),
       omega (arith, c.loop-byte.invariant.counted, c.in_ok-byte.ensures.looks, c.step.ensures.looks),
     )
 
@@ -54,20 +52,16 @@ returns-in_err-value-clause-number g c =
 
 pub loop-byte-smaller : goal.loop-byte-smaller
 loop-byte-smaller g c =
-    let found : look_at NonAsciiCodePoint (map g.T.EncodingType.letter c.loop-byte.cursor.rest) ≡ Ok (Some c.in-Some.byte) = cc (c.in_ok-byte.ensures.letter, c.in-Some.is) in
-    let moved : c.step.new.self.rest ≡ drop 1 c.loop-byte.cursor.rest = c.step.ensures.rest ∙ ap (λ (t : List ℕ). drop 1 t) c.in_ok-byte.ensures.rest in
-    omega (arith, shrinks g.T.EncodingType.letter _ _ _ found moved)
+    let off = taken {letter = g.T.EncodingType.letter} c.in_ok-byte.ensures.letter c.in-Some.is c.in_ok-byte.ensures.rest c.step.ensures.rest in
+    omega arith
 
 pub loop-byte-preserved : goal.loop-byte-preserved
 loop-byte-preserved g c =
-    let found : look_at NonAsciiCodePoint (map g.T.EncodingType.letter c.loop-byte.cursor.rest) ≡ Ok (Some c.in-Some.byte) = cc (c.in_ok-byte.ensures.letter, c.in-Some.is) in
-    let is : digit c.in-Some.byte ≡ true = search rules in
-    let moved : c.step.new.self.rest ≡ drop 1 c.loop-byte.cursor.rest = c.step.ensures.rest ∙ ap (λ (t : List ℕ). drop 1 t) c.in_ok-byte.ensures.rest in
-    let left : map g.T.EncodingType.letter c.step.new.self.rest ≡ drop 1 (map g.T.EncodingType.letter c.loop-byte.cursor.rest) = c.step.ensures.letters ∙ ap (λ (t : List ℕ). drop 1 (map g.T.EncodingType.letter t)) c.in_ok-byte.ensures.rest in
+    let off = taken {letter = g.T.EncodingType.letter} c.in_ok-byte.ensures.letter c.in-Some.is c.in_ok-byte.ensures.rest c.step.ensures.rest in
     record {
-      far = goes_on _ _ _ _ c.loop-byte.invariant.far _ found is _ _ left c.in_ok-value.ensures.0 c.in_ok-value.ensures.1;
+      far = goes_on _ _ _ _ c.loop-byte.invariant.far _ off.found (search rules) _ _ off.left c.in_ok-value.ensures.0 c.in_ok-value.ensures.1;
       small = rw c.in_ok-value.ensures.0 c.in_ok-value.ensures.1;
-      looks = omega (arith, shrinks g.T.EncodingType.letter _ _ _ found moved, c.loop-byte.invariant.looks);
+      looks = omega (arith, c.loop-byte.invariant.looks);
       counted = omega (arith, c.loop-byte.invariant.counted, c.in_ok-byte.ensures.looks, c.step.ensures.looks);
     }
 

@@ -1,9 +1,9 @@
-use Rattle.std.proofs.Common.{◌≡◌, ℕ, suc, ◌≤◌, List, length, map, drop, None, Some, Ok, true, sym, ap, ◌∙◌, arith}
+use Rattle.std.proofs.Common.{◌≡◌, map, None, Some, Ok, true, sym, ◌∙◌, arith}
 use Rattle.std.proofs.lemmas.Result.{err_from_is_err_and}
 use Rattle.ixdtf.specs.language.Letters.{digit}
 use Rattle.ixdtf.specs.table.Faults.Fault.{NonAsciiCodePoint}
 use Rattle.ixdtf.specs.reading.Looks.{look_at}
-use Rattle.ixdtf.proofs.code.FractionLoop.{shrinks}
+use Rattle.ixdtf.proofs.code.FractionLoop.{taken}
 use Rattle.ixdtf.proofs.code.DurationLoops.{begins_is, begins_none, time_added_on, times_go_on, times_stop, times_break, times_end_with}
 use Rattle.ixdtf.proofs.parsers.duration.parse_time_groups.Goals as goal
 
@@ -27,10 +27,8 @@ loop-group-smaller g c =
     let begins = begins_is c.add.new.self.fraction c.in-Some.byte (sym c.if-goes_on.ensures) in
     let without = begins.0 in
     let paid = c.in-Ok.ensures.paid (sym c.in_ok-add-in-Ok.ensures.fraction ∙ without) in
-    let found : look_at NonAsciiCodePoint (map g.T.EncodingType.letter c.parse_time_group.new.cursor.rest) ≡ Ok (Some c.in-Some.byte) = cc (c.in_ok-look.ensures.letter, c.in-Some.is) in
-    let moved : c.step.new.self.rest ≡ drop 1 c.parse_time_group.new.cursor.rest = c.step.ensures.rest ∙ ap (λ (t : List ℕ). drop 1 t) c.in_ok-look.ensures.rest in
-    let smaller : suc (length c.step.new.self.rest) ≤ length c.loop-group.cursor.rest = omega (arith, shrinks g.T.EncodingType.letter _ _ _ found moved, paid) in
-    smaller
+    let off = taken {letter = g.T.EncodingType.letter} c.in_ok-look.ensures.letter c.in-Some.is c.in_ok-look.ensures.rest c.step.ensures.rest in
+    omega (arith, paid)
 
 pub loop-group-preserved : goal.loop-group-preserved
 loop-group-preserved g c =
@@ -38,14 +36,12 @@ loop-group-preserved g c =
     let begins = begins_is c.add.new.self.fraction c.in-Some.byte (sym c.if-goes_on.ensures) in
     let without = begins.0 in
     let paid = c.in-Ok.ensures.paid (sym c.in_ok-add-in-Ok.ensures.fraction ∙ without) in
-    let found : look_at NonAsciiCodePoint (map g.T.EncodingType.letter c.parse_time_group.new.cursor.rest) ≡ Ok (Some c.in-Some.byte) = cc (c.in_ok-look.ensures.letter, c.in-Some.is) in
+    let off = taken {letter = g.T.EncodingType.letter} c.in_ok-look.ensures.letter c.in-Some.is c.in_ok-look.ensures.rest c.step.ensures.rest in
     let is = begins.1 in
-    let moved : c.step.new.self.rest ≡ drop 1 c.parse_time_group.new.cursor.rest = c.step.ensures.rest ∙ ap (λ (t : List ℕ). drop 1 t) c.in_ok-look.ensures.rest in
-    let left : map g.T.EncodingType.letter c.step.new.self.rest ≡ drop 1 (map g.T.EncodingType.letter c.parse_time_group.new.cursor.rest) = c.step.ensures.letters ∙ ap (λ (t : List ℕ). drop 1 (map g.T.EncodingType.letter t)) c.in_ok-look.ensures.rest in
     record {
-      far = times_go_on _ _ _ _ read _ _ found is without left;
+      far = times_go_on _ _ _ _ read _ _ off.found is without off.left;
       is_digit = is;
-      looks = omega (arith, shrinks g.T.EncodingType.letter _ _ _ found moved, paid, c.loop-group.invariant.looks, c.in_ok-look.ensures.looks, c.step.ensures.looks);
+      looks = omega (arith, paid, c.loop-group.invariant.looks, c.in_ok-look.ensures.looks, c.step.ensures.looks);
       counted = omega (arith, paid, c.loop-group.invariant.counted, c.in_ok-look.ensures.looks, c.step.ensures.looks);
     }
 

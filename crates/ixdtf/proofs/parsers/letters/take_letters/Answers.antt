@@ -1,8 +1,8 @@
-use Rattle.std.proofs.Common.{◌≡◌, ℕ, List, map, drop, Option, Some, None, Ok, IsSome, refl, ap, ◌∙◌, arith, rules}
+use Rattle.std.proofs.Common.{◌≡◌, ℕ, map, Option, Some, None, Ok, IsSome, refl, ◌∙◌, arith, rules}
 use Rattle.std.proofs.lemmas.Result.{err_from_is_err_and}
 use Rattle.ixdtf.specs.table.Faults.Fault.{NonAsciiCodePoint}
 use Rattle.ixdtf.specs.reading.Looks.{look_at}
-use Rattle.ixdtf.proofs.code.FractionLoop.{shrinks}
+use Rattle.ixdtf.proofs.code.FractionLoop.{taken}
 use Rattle.ixdtf.proofs.code.LetterLoops.{begins, goes_on, stays, ends, fails, front_is}
 use Rattle.ixdtf.proofs.parsers.letters.take_letters.Goals as goal
 use Rattle.ixdtf.proofs.parsers.letters.take_letters.Goals.{in-Err, in-Ok-None, in-Ok-Some+in-None}
@@ -12,22 +12,20 @@ loop-stop-init g c = rw c.take-here.ensures.same record { start = c.rest-start.e
 
 pub loop-stop-smaller : goal.loop-stop-smaller
 loop-stop-smaller g c =
-    let found : look_at NonAsciiCodePoint (map g.T.EncodingType.letter c.loop-stop.here.rest) ≡ Ok (Some c.in-Ok-Some.byte) = search rules in
-    let moved : c.step.new.self.rest ≡ drop 1 c.loop-stop.here.rest = c.step.ensures.rest ∙ ap (λ (t : List ℕ). drop 1 t) c.look.ensures.rest in
-    omega (arith, shrinks g.T.EncodingType.letter _ _ _ found moved)
+    let off = taken {letter = g.T.EncodingType.letter} c.in-Ok-Some.ensures.letter c.in-Ok-Some.field-0-is c.look.ensures.rest c.step.ensures.rest in
+    omega arith
 
 pub loop-stop-preserved : goal.loop-stop-preserved
 loop-stop-preserved g c =
-    let found : look_at NonAsciiCodePoint (map g.T.EncodingType.letter c.loop-stop.here.rest) ≡ Ok (Some c.in-Ok-Some.byte) = search rules in
-    let moved : c.step.new.self.rest ≡ drop 1 c.loop-stop.here.rest = c.step.ensures.rest ∙ ap (λ (t : List ℕ). drop 1 t) c.look.ensures.rest in
+    let off = taken {letter = g.T.EncodingType.letter} c.in-Ok-Some.ensures.letter c.in-Ok-Some.field-0-is c.look.ensures.rest c.step.ensures.rest in
     let next : g.S.Letters.after c.loop-stop.state c.in-Ok-Some.byte ≡ Some c.in-Some.next = search rules in
     let invariant = c.loop-stop.invariant in
     record {
       start = invariant.start;
-      far = goes_on _ g.T.EncodingType.letter g.met.T.EncodingType.faithful _ _ _ _ invariant.far _ _ _ found next moved;
-      looks = omega (arith, shrinks g.T.EncodingType.letter _ _ _ found moved);
+      far = goes_on _ g.T.EncodingType.letter g.met.T.EncodingType.faithful _ _ _ _ invariant.far _ _ _ off.found next off.moved;
+      looks = omega arith;
       counted = omega arith;
-      shorter = omega (arith, shrinks g.T.EncodingType.letter _ _ _ found moved);
+      shorter = omega arith;
     }
 
 -- the look failed
@@ -71,9 +69,7 @@ pub returns-clause-stays : goal.returns-clause-stays
 returns-clause-stays g c some = elim c.match-look.branch [
   | in-Err w ↦ cc (w.found-is, c.in_ok-next.was)
   | in-Ok-None w ↦ absurd (nothing_next _ (search rules) some)
-  | in-Ok-Some+in-None w ↦
-      let found : look_at NonAsciiCodePoint (map g.T.EncodingType.letter c.loop-stop.here.rest) ≡ Ok (Some w.in-Ok-Some.byte) = search rules in
-      rw c.look.ensures.rest (shrinks g.T.EncodingType.letter _ _ _ found refl)
+  | in-Ok-Some+in-None w ↦ rw c.look.ensures.rest (taken {letter = g.T.EncodingType.letter} w.in-Ok-Some.ensures.letter w.in-Ok-Some.field-0-is refl refl).shorter
 ]
   where
     nothing_next : (next : Option ℕ) → next ≡ None → IsSome next → ⊥
