@@ -51,7 +51,8 @@ pub trait EncodingType: private::Sealed {
         ensures { IsTrue result ↔ (map number key.now ≡ codes "u-ca") };
 
     /// A plain letter is its unit's number.
-    ghost faithful: { (unit letter_number : ℕ) → letter unit ≡ Plain letter_number → letter_number ≡ unit };
+    ghost faithful: { (unit letter_number : ℕ) →
+        letter unit ≡ Plain letter_number → letter_number ≡ unit };
 
     /// Units with one number are one unit.
     ghost injective: { (a b : Self.CodeUnit) → number a ≡ number b → a ≡ b };

@@ -287,11 +287,14 @@ impl<'a, T: EncodingType> IxdtfParser<'a, T> {
             (λ e. PlainFault reader_parse_year_month (map T.letter self.old.rest) (fault_of e)) }
 
         // `Ok` only where no row of the fault table fits, and where no other reader of dates, times and durations has the text.
-        ensures no_row { OnOk result (NoRowFits reader_parse_year_month (map T.letter self.old.rest)) }
-        ensures alone { OnOk result (InNoOther reader_parse_year_month (map T.letter self.old.rest)) }
+        ensures no_row { OnOk result
+            (NoRowFits reader_parse_year_month (map T.letter self.old.rest)) }
+        ensures alone { OnOk result
+            (InNoOther reader_parse_year_month (map T.letter self.old.rest)) }
         // `Err` only with the one fault that it gives: that of the last pair, which is refused, or of the only row that fits.
         ensures only { IfErr result
-            (λ e. PlainOnlyFault reader_parse_year_month (map T.letter self.old.rest) (fault_of e)) }
+            (λ e. PlainOnlyFault reader_parse_year_month (map T.letter self.old.rest)
+            (fault_of e)) }
 
         // None of the errors that no reader gives.
         ensures comes { IfErr result (λ e. IsFalse (never_comes (fault_of e))) }
@@ -326,15 +329,19 @@ impl<'a, T: EncodingType> IxdtfParser<'a, T> {
         requires callable { F.IsAlwaysCallable handler }
         // For the one chain of its calls: `Ok` exactly with the record, and `Err` only with a fault, that the text and the
         // replies give.
-        ensures handled { Handled T.number F.step handler reader_parse_year_month (map T.letter self.old.rest)
+        ensures handled { Handled T.number F.step handler reader_parse_year_month
+            (map T.letter self.old.rest)
             (returned (parsed_of T.number) result) }
 
         // `Ok` only where no row of the fault table fits, and where no other reader of dates, times and durations has the text.
-        ensures no_row { OnOk result (NoRowFits reader_parse_year_month (map T.letter self.old.rest)) }
-        ensures alone { OnOk result (InNoOther reader_parse_year_month (map T.letter self.old.rest)) }
+        ensures no_row { OnOk result
+            (NoRowFits reader_parse_year_month (map T.letter self.old.rest)) }
+        ensures alone { OnOk result
+            (InNoOther reader_parse_year_month (map T.letter self.old.rest)) }
         // For the one chain of its calls: all that `handled` says, and `Err` only with the one fault that the text and the
         // replies give.
-        ensures only { HandledOnly T.number F.step handler reader_parse_year_month (map T.letter self.old.rest)
+        ensures only { HandledOnly T.number F.step handler reader_parse_year_month
+            (map T.letter self.old.rest)
             (returned (parsed_of T.number) result) }
 
         // None of the errors that no reader gives.
@@ -389,8 +396,10 @@ impl<'a, T: EncodingType> IxdtfParser<'a, T> {
             (λ e. PlainFault reader_parse_month_day (map T.letter self.old.rest) (fault_of e)) }
 
         // `Ok` only where no row of the fault table fits, and where no other reader of dates, times and durations has the text.
-        ensures no_row { OnOk result (NoRowFits reader_parse_month_day (map T.letter self.old.rest)) }
-        ensures alone { OnOk result (InNoOther reader_parse_month_day (map T.letter self.old.rest)) }
+        ensures no_row { OnOk result
+            (NoRowFits reader_parse_month_day (map T.letter self.old.rest)) }
+        ensures alone { OnOk result
+            (InNoOther reader_parse_month_day (map T.letter self.old.rest)) }
         // `Err` only with the one fault that it gives: that of the last pair, which is refused, or of the only row that fits.
         ensures only { IfErr result
             (λ e. PlainOnlyFault reader_parse_month_day (map T.letter self.old.rest) (fault_of e)) }
@@ -428,15 +437,19 @@ impl<'a, T: EncodingType> IxdtfParser<'a, T> {
         requires callable { F.IsAlwaysCallable handler }
         // For the one chain of its calls: `Ok` exactly with the record, and `Err` only with a fault, that the text and the
         // replies give.
-        ensures handled { Handled T.number F.step handler reader_parse_month_day (map T.letter self.old.rest)
+        ensures handled { Handled T.number F.step handler reader_parse_month_day
+            (map T.letter self.old.rest)
             (returned (parsed_of T.number) result) }
 
         // `Ok` only where no row of the fault table fits, and where no other reader of dates, times and durations has the text.
-        ensures no_row { OnOk result (NoRowFits reader_parse_month_day (map T.letter self.old.rest)) }
-        ensures alone { OnOk result (InNoOther reader_parse_month_day (map T.letter self.old.rest)) }
+        ensures no_row { OnOk result
+            (NoRowFits reader_parse_month_day (map T.letter self.old.rest)) }
+        ensures alone { OnOk result
+            (InNoOther reader_parse_month_day (map T.letter self.old.rest)) }
         // For the one chain of its calls: all that `handled` says, and `Err` only with the one fault that the text and the
         // replies give.
-        ensures only { HandledOnly T.number F.step handler reader_parse_month_day (map T.letter self.old.rest)
+        ensures only { HandledOnly T.number F.step handler reader_parse_month_day
+            (map T.letter self.old.rest)
             (returned (parsed_of T.number) result) }
 
         // None of the errors that no reader gives.
@@ -530,7 +543,8 @@ impl<'a, T: EncodingType> IxdtfParser<'a, T> {
         requires callable { F.IsAlwaysCallable handler }
         // For the one chain of its calls: `Ok` exactly with the record, and `Err` only with a fault, that the text and the
         // replies give.
-        ensures handled { Handled T.number F.step handler reader_parse_time (map T.letter self.old.rest)
+        ensures handled { Handled T.number F.step handler reader_parse_time
+            (map T.letter self.old.rest)
             (returned (parsed_of T.number) result) }
 
         // `Ok` only where no row of the fault table fits, and where no other reader of dates, times and durations has the text.
@@ -538,7 +552,8 @@ impl<'a, T: EncodingType> IxdtfParser<'a, T> {
         ensures alone { OnOk result (InNoOther reader_parse_time (map T.letter self.old.rest)) }
         // For the one chain of its calls: all that `handled` says, and `Err` only with the one fault that the text and the
         // replies give.
-        ensures only { HandledOnly T.number F.step handler reader_parse_time (map T.letter self.old.rest)
+        ensures only { HandledOnly T.number F.step handler reader_parse_time
+            (map T.letter self.old.rest)
             (returned (parsed_of T.number) result) }
 
         // None of the errors that no reader gives.
@@ -566,7 +581,8 @@ impl<'a, T: EncodingType> IxdtfParser<'a, T> {
         requires callable { F.IsAlwaysCallable handler }
         // For the one chain of its calls: `Ok` exactly with the record, and `Err` only with a fault, that the text and the
         // replies give.
-        ensures handled { Handled T.number F.step handler (bracketed C.kind) (map T.letter self.old.rest)
+        ensures handled { Handled T.number F.step handler (bracketed C.kind)
+            (map T.letter self.old.rest)
             (returned_by E.fault (parsed_of T.number) result) }
 
         // `Ok` only where no row of the fault table fits, and where no other reader of dates, times and durations has the text.
@@ -574,7 +590,8 @@ impl<'a, T: EncodingType> IxdtfParser<'a, T> {
         ensures alone { OnOk result (InNoOther (bracketed C.kind) (map T.letter self.old.rest)) }
         // For the one chain of its calls: all that `handled` says, and `Err` only with the one fault that the text and the
         // replies give.
-        ensures only { HandledOnly T.number F.step handler (bracketed C.kind) (map T.letter self.old.rest)
+        ensures only { HandledOnly T.number F.step handler (bracketed C.kind)
+            (map T.letter self.old.rest)
             (returned_by E.fault (parsed_of T.number) result) }
 
         // None of the errors that no reader gives.
@@ -612,7 +629,8 @@ impl<'a, T: EncodingType> IxdtfParser<'a, T> {
         requires no_offset { found.old.offset ≡ None }
         requires no_zone { found.old.tz ≡ None }
         requires no_calendar { found.old.calendar ≡ None }
-        ensures handled { Handled T.number F.step handler (bracketed C.kind) (map T.letter self.old.rest)
+        ensures handled { Handled T.number F.step handler (bracketed C.kind)
+            (map T.letter self.old.rest)
             (yielded (λ _. parsed_of T.number found.new) result) }
         ensures comes { IfErr result (λ stop. IsFalse (never_comes (fault_of_stop stop))) }
         ensures empty { OnOk result (self.new.rest ≡ []) }

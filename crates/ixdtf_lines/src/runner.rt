@@ -116,7 +116,8 @@ fn end_line<W: Write>(output: &mut Output<'_, W>, line: &mut Line) -> Result<(),
     ensures same { output.new.writer.ghost_name ≡ output.old.writer.ghost_name }
     ensures answers { (start : Option (List ℕ)) (read : List ℕ)
         → Stands W.contents start output.old line.old read
-        → MatchResult result (λ _. Stands W.contents start output.new line.new (read ++ newline ∷ []))
+        → MatchResult result
+        (λ _. Stands W.contents start output.new line.new (read ++ newline ∷ []))
         (Fails start (written W.contents output.new) (ended_lines_of (read ++ newline ∷ []))) }
 {
     output.put_answer(&answer_to(line))?;

@@ -207,7 +207,8 @@ impl<'a, T: EncodingType> TimeZoneParser<'a, T> {
             (λ e. HasFault parse_iana_identifier (map T.letter self.old.rest) [] (fault_of e)) }
 
         // `Ok` only where no row fits.
-        ensures no_row { OnOk result (NoRowFits parse_iana_identifier (map T.letter self.old.rest)) }
+        ensures no_row { OnOk result
+            (NoRowFits parse_iana_identifier (map T.letter self.old.rest)) }
         // `Err` only where no other row fits, and nothing is derived.
         ensures only { IfErr result
             (λ e. OnlyFault parse_iana_identifier (map T.letter self.old.rest) [] (fault_of e)) }
