@@ -21,13 +21,17 @@ pub enum ParseError {
     NonAsciiCodePoint,
     /// No reader returns it.
     ParseFloat,
-    /// The text ends where more has to follow. The location is `digit` where a digit has to follow, `Date` right after a
-    /// year, and `AmbiguousAnnotation` after the `[` or `[!` of a first bracket, or in a first bracket that begins with a
-    /// small letter or `_` and has no `=` and no `]`. Where there is nothing at all it is `time-numoffset` from `parse_offset`
-    /// and `TimeZoneAnnotation` from `parse_identifier`.
+    /// The text ends where more has to follow. The location is `digit` where a digit has to follow, `Date` right after the
+    /// year of a date, and `AmbiguousAnnotation` after the `[` or `[!` of a first bracket, or in a first bracket that begins
+    /// with a small letter or `_` and has no `=` and no `]`. Where there is nothing at all it is `time-numoffset` from
+    /// `parse_offset` and `TimeZoneAnnotation` from `parse_identifier`, and from `parse_month_day` it is `MonthDay` there and
+    /// after one hyphen. In a duration it is `DurationStart` where there is nothing at all, `DurationDesignator` after a sign,
+    /// `Duration` after the `P`, and `DateDurationDesignator` and `TimeDurationDesignator` in a number before its unit, where
+    /// another letter than a unit has these errors too.
     AbruptEnd { location: &'static str },
-    /// A letter stands after a whole date, time, offset or bracket, and the text does not go on with it. In a text that is a
-    /// name alone, a `]` after the name has this error.
+    /// A letter stands after a whole date, year and month, month and day, time, offset, bracket or duration, and the text does
+    /// not go on with it. In a text that is a name alone, a `]` after the name has this error, and in a duration a letter
+    /// after the `P` that is neither a digit nor a `T`.
     InvalidEnd,
     /// The two digits of a month are not 01 to 12.
     InvalidMonthRange,
@@ -37,15 +41,18 @@ pub enum ParseError {
     DateYear,
     /// Another letter stands among the six digits of a year with a sign, or the year is `-000000`.
     DateExtendedYear,
-    /// Neither a hyphen nor a digit stands after a year, or another letter stands in the place of a month's digit.
+    /// Neither a hyphen nor a digit stands after a year, another letter stands in the place of a month's digit, or a month and
+    /// a day begin with neither a digit nor a hyphen.
     DateMonth,
-    /// Another letter stands in the place of a day's digit.
+    /// Another letter stands in the place of a day's digit, or neither a hyphen nor a digit stands after the month of a month
+    /// and a day.
     DateDay,
     /// No reader returns it.
     DateUnexpectedEnd,
     /// No reader returns it.
     TimeRequired,
-    /// Another letter stands in the place of an hour's digit, or the hour is past 23, in a time or in an offset.
+    /// Another letter stands in the place of an hour's digit, or the hour is past 23, in a time or in an offset; or a time that
+    /// stands alone begins with neither a digit nor a `T`.
     TimeHour,
     /// Another letter stands in the place of a minute's digit, or the minute is past 59, in a time or in an offset. The same
     /// for an offset's second.
@@ -101,23 +108,23 @@ pub enum ParseError {
     UtcTimeSeparator,
     /// A text that is an offset alone begins with another letter than a sign.
     OffsetNeedsSign,
-    /// One hyphen stands before a month and a day, where there may be two or none. For month-days, which no reader takes yet.
+    /// One hyphen stands before a month and a day, where there may be two or none.
     MonthDayHyphen,
-    /// No `P` begins a duration. For durations, which no reader takes yet.
+    /// Another letter stands where the `P` of a duration has to, or its sign.
     DurationDisgnator,
-    /// A number of a duration is too large. For durations, which no reader takes yet.
+    /// A number of a duration is 2 to the 64th or more, or that of its years, months or weeks 2 to the 32nd or more.
     DurationValueExceededRange,
-    /// The years, months, weeks and days of a duration are not in this order. For durations, which no reader takes yet.
+    /// The years, months, weeks and days of a duration are not in this order.
     DateDurationPartOrder,
-    /// The hours, minutes and seconds of a duration are not in this order. For durations, which no reader takes yet.
+    /// The hours, minutes and seconds of a duration are not in this order.
     TimeDurationPartOrder,
-    /// No digit follows the `T` of a duration. For durations, which no reader takes yet.
+    /// No digit follows the `T` of a duration. The end of the text there has this error too.
     TimeDurationDesignator,
-    /// A time without a date begins as a month and a day do. For times without a date, which no reader takes yet.
+    /// A time that stands alone, with its offset, begins as a month and a day do.
     AmbiguousTimeMonthDay,
-    /// A time without a date begins as a year and a month do. For times without a date, which no reader takes yet.
+    /// A time that stands alone, with its offset, begins as a year and a month do, and not as a month and a day.
     AmbiguousTimeYearMonth,
-    /// The day of a month-day is past the last day of its month. For month-days, which no reader takes yet.
+    /// The day of a month and a day is past the last day of its month, where February has 29.
     InvalidMonthDay,
 }
 
