@@ -15,7 +15,7 @@ ghost use Rattle.ixdtf.specs.language.Languages.{Parsed};
 ghost use Rattle.ixdtf.specs.Handlers.{Handled, HandledOnly, PlainRecord, PlainFault, PlainOnlyFault};
 ghost use Rattle.ixdtf.specs.Laws.{InNoOther};
 ghost use Rattle.ixdtf.specs.Views.{Unread, returned, returned_by, parsed_of, most_looks};
-ghost use Rattle.ixdtf.specs.reading.Clauses.{yielded, fault_of_stop};
+ghost use Rattle.ixdtf.specs.reading.Clauses.{PlainForm, yielded, fault_of_stop};
 
 mod annotations;
 mod brackets;
@@ -187,7 +187,7 @@ impl<'a, T: EncodingType> IxdtfParser<'a, T> {
         ensures counted { self.old.looks ≤ self.new.looks }
     {
         let mut found = IxdtfParseRecord::default();
-        match self.read_into::<DateTimes, _>(|annotation| Some(annotation), &mut found) {
+        match self.read_plain::<DateTimes>(&mut found) {
             Ok(()) => Ok(found),
             Err(stop) => return Err(stop.error()),
         }
@@ -306,7 +306,7 @@ impl<'a, T: EncodingType> IxdtfParser<'a, T> {
         ensures counted { self.old.looks ≤ self.new.looks }
     {
         let mut found = IxdtfParseRecord::default();
-        match self.read_into::<YearMonths, _>(|annotation| Some(annotation), &mut found) {
+        match self.read_plain::<YearMonths>(&mut found) {
             Ok(()) => Ok(found),
             Err(stop) => return Err(stop.error()),
         }
@@ -414,7 +414,7 @@ impl<'a, T: EncodingType> IxdtfParser<'a, T> {
         ensures counted { self.old.looks ≤ self.new.looks }
     {
         let mut found = IxdtfParseRecord::default();
-        match self.read_into::<MonthDays, _>(|annotation| Some(annotation), &mut found) {
+        match self.read_plain::<MonthDays>(&mut found) {
             Ok(()) => Ok(found),
             Err(stop) => return Err(stop.error()),
         }
@@ -520,7 +520,7 @@ impl<'a, T: EncodingType> IxdtfParser<'a, T> {
         ensures counted { self.old.looks ≤ self.new.looks }
     {
         let mut found = IxdtfParseRecord::default();
-        match self.read_into::<LoneTimes, _>(|annotation| Some(annotation), &mut found) {
+        match self.read_plain::<LoneTimes>(&mut found) {
             Ok(()) => Ok(found),
             Err(stop) => return Err(stop.error()),
         }
@@ -608,6 +608,25 @@ impl<'a, T: EncodingType> IxdtfParser<'a, T> {
             Ok(()) => Ok(found),
             Err(stop) => return Err(E::of_stop(stop)),
         }
+    }
+
+    /// Reads as [`read_into`](Self::read_into) does, with a handler that hands each annotation back.
+    #[inline(always)]
+    fn read_plain<C: Cores>(&mut self, found: &mut IxdtfParseRecord<'a, T>) -> Result<(), Stop>
+        requires no_date { found.old.date ≡ None }
+        requires no_time { found.old.time ≡ None }
+        requires no_offset { found.old.offset ≡ None }
+        requires no_zone { found.old.tz ≡ None }
+        requires no_calendar { found.old.calendar ≡ None }
+        ensures plain { PlainForm (bracketed C.kind) (map T.letter self.old.rest)
+            (yielded (λ _. parsed_of T.number found.new) result) }
+        ensures comes { IfErr result (λ stop. IsFalse (never_comes (fault_of_stop stop))) }
+        ensures empty { OnOk result (self.new.rest ≡ []) }
+        ensures unchanged { OnErr result (self.new.rest ≡ self.old.rest) }
+        ensures looks { self.new.looks ≤ self.old.looks + most_looks self.old.rest }
+        ensures counted { self.old.looks ≤ self.new.looks }
+    {
+        self.read_into::<C, _>(|annotation| Some(annotation), found)
     }
 
     /// Reads all that is still to be read into a record in which nothing stands yet. After an error what was still to be

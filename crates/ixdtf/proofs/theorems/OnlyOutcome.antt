@@ -10,6 +10,7 @@ use Rattle.ixdtf.specs.table.Outcomes.{HasFault, NoRowFits, OnlyFault}
 use Rattle.ixdtf.specs.table.Outcomes.Outcome.{refused}
 use Rattle.ixdtf.specs.Handlers.{Reply, GivesFault, GivesOnlyFault, Step, Handled, HandledOnly, handed, replies_of, own_replies, PlainRecord, PlainFault, PlainOnlyFault}
 use Rattle.ixdtf.specs.Laws.{IsTextReader, InLanguage, InNoOther}
+use Rattle.ixdtf.specs.reading.Clauses.{PlainForm}
 use Rattle.ixdtf.proofs.code.OneMoreReply.{refused_split}
 use Rattle.ixdtf.proofs.theorems.OneOutcome.{same_outcome, no_row_fits}
 use Rattle.ixdtf.proofs.theorems.NoRow.{fault_refuses_none}
@@ -65,17 +66,9 @@ module _ {T U F : Type 0} (number : U → ℕ) (step : Step T U F) (handler : F)
     only = λ fault is. gives_only reader text (handed number h.calls) (replies_of number h.calls) fault (h.err fault is);
   }
 
--- what the plain form promises
-pub record Plain (reader : Reader) (text : Text) (result : Result Parsed Fault) : Type 0 where
-  pub ok : (found : Parsed) → (result ≡ Ok found) ↔ PlainRecord reader text found
-  pub err : IfErr result (λ fault. PlainFault reader text fault)
-  pub no_row : OnOk result (NoRowFits reader text)
-  pub alone : OnOk result (IsTextReader reader → InNoOther reader text)
-  pub only : IfErr result (λ fault. PlainOnlyFault reader text fault)
-
--- so does a handler's form whose handler hands each annotation back
+-- what a form without a handler promises, where the handler hands each annotation back
 pub plain : {T U F : Type 0} {number : U → ℕ} {step : Step T U F} {handler : F} {reader : Reader} {text : Text} {result : Result Parsed Fault}
-    → Handled number step handler reader text result → OwnReplies step → Plain reader text result
+    → Handled number step handler reader text result → OwnReplies step → PlainForm reader text result
 plain {number = number} {step = step} {handler = handler} {reader = reader} {text = text} {result = Ok found} h own = let whole = handled_accepted number step handler reader text (Ok found) h found refl in record {
   ok = plain_ok number step handler reader text (Ok found) own h;
   err = tt;

@@ -1,5 +1,5 @@
 -- Forms of the clauses of private functions, and what the code's own types stand for. No public clause cites one.
-use Rattle.std.specs.Prelude.{◌≡◌, ℕ, Bool, IsTrue, IsFalse, ◌+◌, ◌≤◌, map, length, Option, Some, None, Result, Ok, Err, ◌∷◌, if◌then◌else◌}
+use Rattle.std.specs.Prelude.{◌≡◌, ◌↔◌, ℕ, Bool, IsTrue, IsFalse, OnOk, IfErr, ◌+◌, ◌≤◌, map, length, Option, Some, None, Result, Ok, Err, ◌∷◌, if◌then◌else◌}
 use Rattle.ixdtf.specs.declared.records.DateRecord.{DateRecord}
 use Rattle.ixdtf.specs.declared.records.IxdtfParseRecord.{IxdtfParseRecord}
 use Rattle.ixdtf.specs.declared.stop.Stop.{Stop}
@@ -19,12 +19,16 @@ use Rattle.ixdtf.specs.language.Times.{Clock, TimeShape}
 use Rattle.ixdtf.specs.language.Times.{Clock as clocks}
 use Rattle.ixdtf.specs.language.Times.{TimeShape as shapes}
 use Rattle.ixdtf.specs.language.Cores.{Core, core_of}
+use Rattle.ixdtf.specs.language.Readers.{Reader}
+use Rattle.ixdtf.specs.language.Languages.{Parsed}
 use Rattle.ixdtf.specs.table.Faults.{Fault}
 use Rattle.ixdtf.specs.table.Faults.{Fault as faults}
+use Rattle.ixdtf.specs.table.Outcomes.{NoRowFits}
 use Rattle.ixdtf.specs.table.Lines.{always, abrupt_digit, abrupt_date, abrupt_month_day, abrupt_bracket, abrupt_offset, abrupt_zone}
 use Rattle.ixdtf.specs.table.Lines.{abrupt_duration_start, abrupt_duration_designator, abrupt_duration, abrupt_date_designator, abrupt_time_designator}
 use Rattle.ixdtf.specs.Views.{Unread, note_of}
-use Rattle.ixdtf.specs.Handlers.{pair_of}
+use Rattle.ixdtf.specs.Handlers.{pair_of, PlainRecord, PlainFault, PlainOnlyFault}
+use Rattle.ixdtf.specs.Laws.{IsTextReader, InNoOther}
 use Rattle.ixdtf.specs.reading.Looks.{Read, Look, ◌>>=◌, error_of, digit_run}
 use Rattle.ixdtf.specs.reading.Times.{OpenTime, time_of, clock_at}
 use Rattle.ixdtf.specs.reading.Cores.{ClosedCore, core_end_at, after_time_at}
@@ -113,6 +117,14 @@ Settles named (Err stop) (Err e) = named e ≡ fault_of_stop stop
 -- looks at letters that are then taken are paid for by the letters; so many looks more were made at most, and none is lost
 abbrev pub Spends : ℕ → Unread → Unread → Type 0
 Spends more old new = (new.looks + length new.rest ≤ old.looks + length old.rest + more) × (old.looks ≤ new.looks)
+
+-- what a form without a handler promises, where each pair replies for itself
+pub record PlainForm (reader : Reader) (text : Text) (result : Result Parsed Fault) : Type 0 where
+  pub ok : (found : Parsed) → (result ≡ Ok found) ↔ PlainRecord reader text found
+  pub err : IfErr result (λ fault. PlainFault reader text fault)
+  pub no_row : OnOk result (NoRowFits reader text)
+  pub alone : OnOk result (IsTextReader reader → InNoOther reader text)
+  pub only : IfErr result (λ fault. PlainOnlyFault reader text fault)
 
 -- a test held of a number that was handed back, or else the stop came
 abbrev pub Checks : {X Y : Type 0} → (X → Y) → Result X Stop → Y → Bool → Fault → Type 0
