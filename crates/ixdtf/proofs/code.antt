@@ -9,6 +9,7 @@ pub mod DurationNumbers
 pub mod DurationSteps
 pub mod EqualRecords
 pub mod EqualUnits
+pub mod FirstLetter
 pub mod FirstPass
 pub mod FixedCores
 pub mod FixedPlaces
@@ -30,3 +31,4 @@ pub mod Tail
 pub mod TwoDigits
 pub mod Units
 pub mod WalkNames
+pub mod YearDigits

@@ -10,7 +10,7 @@ ghost use Rattle.ixdtf.specs.language.Letters.{digit};
 ghost use Rattle.ixdtf.specs.language.Letters.Letter.{Plain};
 ghost use Rattle.ixdtf.specs.table.Faults.{NonAsciiCodePoint};
 ghost use Rattle.ixdtf.specs.Views.{Unread, ascii_at};
-ghost use Rattle.ixdtf.specs.reading.Clauses.{Reads, Settles, Spends, Yields, fault_of_stop, digit_seen, end_look};
+ghost use Rattle.ixdtf.specs.reading.Clauses.{Reads, Settles, Spends, SpendsOr, Yields, fault_of_stop, digit_seen, end_look};
 ghost use Rattle.ixdtf.specs.reading.FixedPlaces.{letter_place};
 ghost use Rattle.ixdtf.specs.reading.Looks.{look_at, next_by, peek_by, digit_look, digits_by};
 
@@ -51,6 +51,14 @@ impl<'a, T: EncodingType> Cursor<'a, T> {
         ensures { map T.number result.now ≡ self.now.rest }
     {
         self.rest
+    }
+
+    /// How many units are still to be read.
+    #[inline(always)]
+    pub fn remaining(&self) -> usize
+        ensures { result ≡ length self.now.rest }
+    {
+        self.rest.len()
     }
 
     /// A cursor of its own at the same place, with the looks that were made: this one keeps its rest, and no count. So a
@@ -157,9 +165,8 @@ impl<'a, T: EncodingType> Cursor<'a, T> {
         ensures digit { Reads T.letter (λ byte. byte) self.old result self.new
             (next_by (digit_look (fault_of_stop other))) }
         ensures is_digit { IfOk result (λ byte. IsTrue (digit byte)) }
-        ensures looks { Spends 1 self.old self.new }
+        ensures looks { SpendsOr 1 0 self.old result self.new }
         ensures few { self.new.looks ≤ self.old.looks + 1 }
-        ensures paid { OnOk result (Spends 0 self.old self.new) }
     {
         match self.look()? {
             None => Err(Stop::AbruptDigit),
@@ -194,9 +201,8 @@ impl<'a, T: EncodingType> Cursor<'a, T> {
             self.old result self.new
             (digits_by (digit_look (fault_of_stop other)) 2) }
         ensures are_digits { IfOk result (λ ds. IsTrue (digit ds.0) × IsTrue (digit ds.1)) }
-        ensures looks { Spends 2 self.old self.new }
+        ensures looks { SpendsOr 2 0 self.old result self.new }
         ensures few { self.new.looks ≤ self.old.looks + 2 }
-        ensures paid { OnOk result (Spends 0 self.old self.new) }
     {
         if self.rest.len() < 2 {
             self.digit_at(0, other)?;

@@ -11,20 +11,32 @@ use Rattle.ixdtf_tests.proofs.Helpers.{all_readings, date, Example, Compute, end
 
 -- ---- each row of the lines of dates, in `parse`
 
-abbrev date_lines : List LineName
-date_lines =
-    map of_date (year_start ∷ year_digits ∷ extended_year_digits ∷ minus_zero_year ∷ after_year ∷ month_digits ∷ month_range
-    ∷ after_hyphened_month ∷ after_plain_month ∷ day_digits ∷ day_range ∷ after_date ∷ [])
+-- the lines of years, and their rows
+abbrev pub year_lines : List LineName
+year_lines = map of_date (year_start ∷ year_digits ∷ extended_year_digits ∷ minus_zero_year ∷ [])
 
-abbrev date_rows : List Example
-date_rows =
+abbrev pub year_rows : List Example
+year_rows =
     three (of_date year_start) [] abrupt_digit (codes "x") DateYear
     ++ three (of_date year_digits) (codes "202") abrupt_digit (codes "x") DateYear
     ++ three (of_date extended_year_digits) (codes "+00202") abrupt_digit (codes "x") DateExtendedYear
     ++ one (of_date minus_zero_year) (codes "-000000") DateExtendedYear
-    ++ three (of_date after_year) (codes "2020") abrupt_date (codes "x") DateMonth
-    ++ three (of_date month_digits) (codes "2020-") abrupt_digit (codes "x") DateMonth
+
+-- the rows of months
+abbrev pub month_rows : List Example
+month_rows =
+    three (of_date month_digits) (codes "2020-") abrupt_digit (codes "x") DateMonth
     ++ one (of_date month_range) (codes "2020-13") InvalidMonthRange
+
+abbrev date_lines : List LineName
+date_lines =
+    year_lines ++ map of_date (after_year ∷ month_digits ∷ month_range ∷ after_hyphened_month ∷ after_plain_month ∷ day_digits ∷ day_range ∷ after_date ∷ [])
+
+abbrev date_rows : List Example
+date_rows =
+    year_rows
+    ++ three (of_date after_year) (codes "2020") abrupt_date (codes "x") DateMonth
+    ++ month_rows
     ++ three (of_date after_hyphened_month) (codes "2020-01") DateSeparator (codes "x") DateSeparator
     ++ three (of_date after_plain_month) (codes "202001") abrupt_digit (codes "x") DateDay
     ++ three (of_date day_digits) (codes "2020-01-") abrupt_digit (codes "x") DateDay

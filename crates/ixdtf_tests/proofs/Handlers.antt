@@ -17,7 +17,7 @@ use Rattle.ixdtf.specs.reading.Looks.{row_of}
 use Rattle.ixdtf.specs.reading.Dates.{date_of}
 use Rattle.ixdtf.specs.reading.Times.{time_of}
 use Rattle.ixdtf_tests.proofs.Helpers.{all_readings, text_of, new_years_day, tagged, zone_named}
-use Rattle.ixdtf_tests.proofs.Replies.{all_accepted, gives, stops_with, refuses, plain_record, differ}
+use Rattle.ixdtf_tests.proofs.Replies.{all_accepted, last_refused, gives, stops_with, refuses, plain_record, differ}
 
 -- a calendar
 abbrev calendar : Bool → List ℕ → Pair
@@ -57,33 +57,19 @@ no_calendar_in_uppercase = refl
 -- ---- which reply is refused
 
 critical_calendar_after_another : LastRefused (own_replies (calendar false (codes "a") ∷ calendar true (codes "b") ∷ [])) CriticalDuplicateCalendar
-critical_calendar_after_another = record {
-  earlier = own_replies (calendar false (codes "a") ∷ []);
-  reply = Some (calendar true (codes "b"));
-  split = refl;
-  none = all_accepted _ refl;
-  refused = (refl, differ _ _ refl, inr refl);
-}
+critical_calendar_after_another =
+    last_refused (own_replies (calendar false (codes "a") ∷ [])) (Some (calendar true (codes "b"))) CriticalDuplicateCalendar refl (refl, differ _ _ refl, inr refl)
 
 -- the first of the two is critical
 calendar_after_a_critical_one : LastRefused (own_replies (calendar true (codes "a") ∷ calendar false (codes "b") ∷ [])) CriticalDuplicateCalendar
-calendar_after_a_critical_one = record {
-  earlier = own_replies (calendar true (codes "a") ∷ []);
-  reply = Some (calendar false (codes "b"));
-  split = refl;
-  none = all_accepted _ refl;
-  refused = (refl, differ _ _ refl, inl refl);
-}
+calendar_after_a_critical_one =
+    last_refused (own_replies (calendar true (codes "a") ∷ [])) (Some (calendar false (codes "b"))) CriticalDuplicateCalendar refl (refl, differ _ _ refl, inl refl)
 
 -- A calendar is compared with the first one: `b` again is refused after `a` and `b`.
 compared_with_the_first : LastRefused (own_replies (calendar false (codes "a") ∷ calendar false (codes "b") ∷ calendar true (codes "b") ∷ [])) CriticalDuplicateCalendar
-compared_with_the_first = record {
-  earlier = own_replies (calendar false (codes "a") ∷ calendar false (codes "b") ∷ []);
-  reply = Some (calendar true (codes "b"));
-  split = refl;
-  none = all_accepted _ refl;
-  refused = (refl, differ _ _ refl, inr refl);
-}
+compared_with_the_first =
+    last_refused (own_replies (calendar false (codes "a") ∷ calendar false (codes "b") ∷ [])) (Some (calendar true (codes "b"))) CriticalDuplicateCalendar
+    refl (refl, differ _ _ refl, inr refl)
 
 -- No reply is refused for what is passed over.
 none_is_never_refused : NoneRefused (Some (calendar false (codes "a")) ∷ None ∷ None ∷ Some (calendar true (codes "a")) ∷ [])

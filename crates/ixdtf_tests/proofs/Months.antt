@@ -3,9 +3,9 @@ use Rattle.std.proofs.Common.{ℕ, List, [], ◌∷◌, ◌++◌, map, codes, �
 use Rattle.ixdtf.specs.declared.records.Sign.TheVariants.{Positive}
 use Rattle.ixdtf.specs.language.ZoneNames.Zone.{Offset}
 use Rattle.ixdtf.specs.language.Readers.{parse_year_month, parse_month_day}
-use Rattle.ixdtf.specs.table.Faults.Fault.{InvalidEnd, InvalidMonthRange, InvalidMonthDay, DateYear, DateExtendedYear, DateMonth, DateDay, MonthDayHyphen}
+use Rattle.ixdtf.specs.table.Faults.Fault.{InvalidEnd, InvalidMonthRange, InvalidMonthDay, DateMonth, DateDay, MonthDayHyphen}
 use Rattle.ixdtf.specs.table.LineNames.{LineName, of_date, of_year_month, of_month_day}
-use Rattle.ixdtf.specs.table.LineNames.DateLine.{year_start, year_digits, extended_year_digits, minus_zero_year, month_digits, month_range}
+use Rattle.ixdtf.specs.table.LineNames.DateLine.{month_digits, month_range}
 use Rattle.ixdtf.specs.table.LineNames.YearMonthLine.{after_year_in_year_month, after_year_month}
 use Rattle.ixdtf.specs.table.LineNames.MonthDayLine.{month_day_start, month_day_hyphen, month_day_month_digits, month_day_month_range}
 use Rattle.ixdtf.specs.table.LineNames.MonthDayLine.{after_month_day_month, month_day_day_digits, month_day_range, after_month_day}
@@ -13,6 +13,7 @@ use Rattle.ixdtf.specs.table.Lines.{abrupt_digit, abrupt_month_day}
 use Rattle.ixdtf.specs.table.Rows.Place.{anywhere}
 use Rattle.ixdtf.specs.table.Outcomes.{Outcome}
 use Rattle.ixdtf.specs.reading.Dates.{date_of}
+use Rattle.ixdtf_tests.proofs.Dates.{year_lines, year_rows, month_rows}
 use Rattle.ixdtf_tests.proofs.Helpers.{all_readings, and_bad, date, with, Example, Compute, gives, ends, goes_off, meets_bad, stands, stops}
 use Rattle.ixdtf_tests.proofs.Helpers.{one, two, three, ShowEachRow}
 
@@ -20,17 +21,12 @@ use Rattle.ixdtf_tests.proofs.Helpers.{one, two, three, ShowEachRow}
 
 abbrev year_month_lines : List LineName
 year_month_lines =
-    map of_date (year_start ∷ year_digits ∷ extended_year_digits ∷ minus_zero_year ∷ month_digits ∷ month_range ∷ [])
-    ++ map of_year_month (after_year_in_year_month ∷ after_year_month ∷ [])
+    year_lines ++ map of_date (month_digits ∷ month_range ∷ []) ++ map of_year_month (after_year_in_year_month ∷ after_year_month ∷ [])
 
 abbrev year_month_rows : List Example
 year_month_rows =
-    three (of_date year_start) [] abrupt_digit (codes "x") DateYear
-    ++ three (of_date year_digits) (codes "202") abrupt_digit (codes "x") DateYear
-    ++ three (of_date extended_year_digits) (codes "+00202") abrupt_digit (codes "x") DateExtendedYear
-    ++ one (of_date minus_zero_year) (codes "-000000") DateExtendedYear
-    ++ three (of_date month_digits) (codes "2020-") abrupt_digit (codes "x") DateMonth
-    ++ one (of_date month_range) (codes "2020-13") InvalidMonthRange
+    year_rows
+    ++ month_rows
     ++ three (of_year_month after_year_in_year_month) (codes "2020") abrupt_digit (codes "x") DateMonth
     ++ two (of_year_month after_year_month) (codes "2020-01") (codes "x") InvalidEnd
 

@@ -22,6 +22,7 @@ use Rattle.ixdtf.specs.table.Rows.Place.{anywhere}
 use Rattle.ixdtf.specs.table.Outcomes.{Outcome}
 use Rattle.ixdtf.specs.table.Outcomes.Outcome.{derived}
 use Rattle.ixdtf.specs.reading.Times.{time_of}
+use Rattle.ixdtf_tests.proofs.Times.{minute_lines, clock_lines}
 use Rattle.ixdtf_tests.proofs.Helpers.{all_readings, and_bad, morning, new_years_day, with, Example, Compute, gives, ends, goes_off, meets_bad, stands, stops, one, two, three, ShowEachRow}
 
 -- the lines of an offset, and of one without seconds
@@ -38,27 +39,33 @@ at units = codes "2020-01-01T00:00+" ++ units
 -- ---- each row of the lines of offsets, in `parse`
 
 abbrev pub full_lines : List LineName
-full_lines =
-    map of_full (hour_start ∷ hour_digit ∷ hour_range ∷ after_hour ∷ minute_digits ∷ minute_range ∷ after_plain_minute
-    ∷ after_colon_minute ∷ second_digits ∷ second_range ∷ after_second ∷ fraction_start ∷ after_fraction ∷ [])
+full_lines = map of_full clock_lines
+
+-- The rows of hours and minutes, after what stands before an offset: with a sign and a zero, and a letter that ends the offset.
+abbrev minute_rows : (ClockLine → LineName) → List ℕ → List ℕ → List ℕ → List Example
+minute_rows of_line before zero letter =
+    three (of_line hour_start) (before ++ codes "+") abrupt_digit (codes "x") TimeHour
+    ++ three (of_line hour_digit) (before ++ zero) abrupt_digit (codes ":") TimeHour
+    ++ one (of_line hour_range) (before ++ codes "+24") TimeHour
+    ++ two (of_line after_hour) (before ++ codes "+05") letter InvalidEnd
+    ++ three (of_line minute_digits) (before ++ codes "+05:") abrupt_digit (codes "x") TimeMinuteSecond
+    ++ one (of_line minute_range) (before ++ codes "+05:60") TimeMinuteSecond
+    ++ two (of_line after_plain_minute) (before ++ codes "+0530") letter InvalidEnd
+    ++ two (of_line after_colon_minute) (before ++ codes "+05:30") letter InvalidEnd
+
+-- with the rows of seconds
+abbrev second_rows : List ℕ → List ℕ → List ℕ → List Example
+second_rows before zero letter =
+    minute_rows of_full before zero letter
+    ++ three (of_full second_digits) (before ++ codes "+05:30:") abrupt_digit (codes "x") TimeMinuteSecond
+    ++ one (of_full second_range) (before ++ codes "+05:30:60") TimeMinuteSecond
+    ++ two (of_full after_second) (before ++ codes "+05:30:00") letter InvalidEnd
+    ++ three (of_full fraction_start) (before ++ codes "+05:30:00.") FractionPart (codes "x") FractionPart
+    ++ two (of_full after_fraction) (before ++ codes "+05:30:00.5") letter InvalidEnd
 
 -- after what stands before an offset
 abbrev pub full_rows : List ℕ → List Example
-full_rows before =
-    three (of_full hour_start) (before ++ codes "+") abrupt_digit (codes "x") TimeHour
-    ++ three (of_full hour_digit) (before ++ codes "+0") abrupt_digit (codes ":") TimeHour
-    ++ one (of_full hour_range) (before ++ codes "+24") TimeHour
-    ++ two (of_full after_hour) (before ++ codes "+05") (codes "x") InvalidEnd
-    ++ three (of_full minute_digits) (before ++ codes "+05:") abrupt_digit (codes "x") TimeMinuteSecond
-    ++ one (of_full minute_range) (before ++ codes "+05:60") TimeMinuteSecond
-    ++ two (of_full after_plain_minute) (before ++ codes "+0530") (codes "x") InvalidEnd
-    ++ two (of_full after_colon_minute) (before ++ codes "+05:30") (codes "x") InvalidEnd
-    ++ three (of_full second_digits) (before ++ codes "+05:30:") abrupt_digit (codes "x") TimeMinuteSecond
-    ++ one (of_full second_range) (before ++ codes "+05:30:60") TimeMinuteSecond
-    ++ two (of_full after_second) (before ++ codes "+05:30:00") (codes "x") InvalidEnd
-    ++ three (of_full fraction_start) (before ++ codes "+05:30:00.") FractionPart (codes "x") FractionPart
-    ++ two (of_full after_fraction) (before ++ codes "+05:30:00.5") (codes "x") InvalidEnd
-    ++ two (of_offset after_zulu) (before ++ codes "Z") (codes "x") InvalidEnd
+full_rows before = second_rows before (codes "+0") (codes "x") ++ two (of_offset after_zulu) (before ++ codes "Z") (codes "x") InvalidEnd
 
 each_row_after_times : ShowEachRow parse (full_lines ++ (of_offset after_zulu ∷ [])) (full_rows (codes "2020-01-01T00:00"))
 unfolding all_readings
@@ -69,19 +76,7 @@ each_row_after_times = (refl, refl)
 abbrev rows_alone : List Example
 rows_alone =
     three (of_offset offset_start) [] abrupt_offset (codes "0") OffsetNeedsSign
-    ++ three (of_full hour_start) (codes "+") abrupt_digit (codes "x") TimeHour
-    ++ three (of_full hour_digit) (codes "-0") abrupt_digit (codes ":") TimeHour
-    ++ one (of_full hour_range) (codes "+24") TimeHour
-    ++ two (of_full after_hour) (codes "+05") (codes "[") InvalidEnd
-    ++ three (of_full minute_digits) (codes "+05:") abrupt_digit (codes "x") TimeMinuteSecond
-    ++ one (of_full minute_range) (codes "+05:60") TimeMinuteSecond
-    ++ two (of_full after_plain_minute) (codes "+0530") (codes "[") InvalidEnd
-    ++ two (of_full after_colon_minute) (codes "+05:30") (codes "[") InvalidEnd
-    ++ three (of_full second_digits) (codes "+05:30:") abrupt_digit (codes "x") TimeMinuteSecond
-    ++ one (of_full second_range) (codes "+05:30:60") TimeMinuteSecond
-    ++ two (of_full after_second) (codes "+05:30:00") (codes "[") InvalidEnd
-    ++ three (of_full fraction_start) (codes "+05:30:00.") FractionPart (codes "x") FractionPart
-    ++ two (of_full after_fraction) (codes "+05:30:00.5") (codes "[") InvalidEnd
+    ++ second_rows [] (codes "-0") (codes "[")
 
 each_row_alone : ShowEachRow parse_offset (of_offset offset_start ∷ full_lines) rows_alone
 unfolding all_readings
@@ -92,9 +87,7 @@ each_row_alone = (refl, refl)
 -- No text comes to `second_digits`, `second_range`, `after_second`, `fraction_start` or `after_fraction` of such an offset:
 -- their rows fit no text.
 abbrev short_lines : List LineName
-short_lines =
-    map of_short (hour_start ∷ hour_digit ∷ hour_range ∷ after_hour ∷ minute_digits ∷ minute_range ∷ after_plain_minute
-    ∷ after_colon_minute ∷ [])
+short_lines = map of_short minute_lines
 
 -- an offset in a bracket, after the sign
 abbrev inside : List ℕ → List ℕ
@@ -116,15 +109,7 @@ unfolding all_readings
 each_row_in_brackets = (refl, refl)
 
 abbrev rows_of_zones : List Example
-rows_of_zones =
-    three (of_short hour_start) (codes "+") abrupt_digit (codes "x") TimeHour
-    ++ three (of_short hour_digit) (codes "-0") abrupt_digit (codes ":") TimeHour
-    ++ one (of_short hour_range) (codes "+24") TimeHour
-    ++ two (of_short after_hour) (codes "+05") (codes "]") InvalidEnd
-    ++ three (of_short minute_digits) (codes "+05:") abrupt_digit (codes "x") TimeMinuteSecond
-    ++ one (of_short minute_range) (codes "+05:60") TimeMinuteSecond
-    ++ two (of_short after_plain_minute) (codes "+0530") (codes "]") InvalidEnd
-    ++ two (of_short after_colon_minute) (codes "+05:30") (codes "]") InvalidEnd
+rows_of_zones = minute_rows of_short [] (codes "-0") (codes "]")
 
 each_row_of_zones : ShowEachRow parse_identifier short_lines rows_of_zones
 unfolding all_readings

@@ -3,7 +3,7 @@ use Rattle.std.proofs.Common.{◌≡◌, ◌≢◌, ◌⊎◌, ℕ, nat_eq, Bool
 use Rattle.std.specs.Cmp.Lexicographic.{pointwise, same_text}
 use Rattle.std.proofs.lemmas.Cmp.{nat_list_eq_equiv}
 use Rattle.std.proofs.lemmas.Bool.{and_parts, false_from_ne_true}
-use Rattle.ixdtf.specs.Handlers.{Reply, calendar_key, is_calendar, first_calendar, RefusedBeside, NoneRefused, calendar_value, with_calendar, GivesRecord, GivesFault, own_replies, PlainRecord}
+use Rattle.ixdtf.specs.Handlers.{Reply, calendar_key, is_calendar, first_calendar, RefusedBeside, NoneRefused, LastRefused, calendar_value, with_calendar, GivesRecord, GivesFault, own_replies, PlainRecord}
 use Rattle.ixdtf.specs.language.Letters.{Text}
 use Rattle.ixdtf.specs.language.Brackets.{Pair}
 use Rattle.ixdtf.specs.language.Readers.{Reader, parse}
@@ -79,6 +79,12 @@ none_refused earlier (reply ∷ later) none e =
 pub all_accepted : (replies : List Reply) → accepted [] replies ≡ true → NoneRefused replies
 all_accepted replies e = none_refused [] replies NoneRefused-nothing e
 
+-- The last of replies is refused, where the test accepts those before it.
+pub last_refused : (earlier : List Reply) (reply : Reply) (fault : Fault) → accepted [] earlier ≡ true → RefusedBeside (first_calendar earlier) reply fault
+    → LastRefused (earlier ++ reply ∷ []) fault
+last_refused earlier reply fault none is_refused =
+    record { earlier = earlier; reply = reply; split = refl; none = all_accepted earlier none; refused = is_refused }
+
 -- ---- the outcome of a text holds
 
 holds : (reader : Reader) (text : Text) (x : Outcome) → outcome reader text ≡ x → Holds reader text x
@@ -105,7 +111,7 @@ pub refuses : (front rest : List ℕ) (read : Parsed) (pairs : List Pair) (earli
     → GivesFault parse (text_of front ++ text_of rest) pairs (earlier ++ reply ∷ []) fault
 refuses front rest read pairs earlier reply fault is none is_refused = inl (
   (text_of front, text_of rest, refl, read, holds parse (text_of front) (derived (parsed read) pairs) is),
-  record { earlier = earlier; reply = reply; split = refl; none = all_accepted earlier none; refused = is_refused },
+  last_refused earlier reply fault none is_refused,
 )
 
 -- The pairs reply for themselves.

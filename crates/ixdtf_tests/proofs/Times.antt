@@ -15,6 +15,14 @@ use Rattle.ixdtf_tests.proofs.Helpers.{all_readings, and_bad, new_year, with, Ex
 abbrev pub of_clock_time : ClockLine → LineName
 of_clock_time line = of_clock Time line
 
+-- the lines of hours and minutes, and all lines of a clock
+abbrev pub minute_lines : List ClockLine
+minute_lines =
+    hour_start ∷ hour_digit ∷ hour_range ∷ after_hour ∷ minute_digits ∷ minute_range ∷ after_plain_minute ∷ after_colon_minute ∷ []
+
+abbrev pub clock_lines : List ClockLine
+clock_lines = minute_lines ++ second_digits ∷ second_range ∷ after_second ∷ fraction_start ∷ after_fraction ∷ []
+
 -- a time on 1 January 2020
 abbrev at : List ℕ → List ℕ
 at units = codes "2020-01-01T" ++ units
@@ -22,9 +30,7 @@ at units = codes "2020-01-01T" ++ units
 -- ---- each row of the lines of times, in `parse`
 
 abbrev pub time_lines : List LineName
-time_lines =
-    map of_clock_time (hour_start ∷ hour_digit ∷ hour_range ∷ after_hour ∷ minute_digits ∷ minute_range ∷ after_plain_minute
-    ∷ after_colon_minute ∷ second_digits ∷ second_range ∷ after_second ∷ fraction_start ∷ after_fraction ∷ [])
+time_lines = map of_clock_time clock_lines
 
 -- after what stands before a time
 abbrev pub time_rows : List ℕ → List Example

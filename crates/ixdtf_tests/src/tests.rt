@@ -16,61 +16,130 @@ mod months;
 mod odd;
 mod offsets;
 mod records;
+mod refused;
 mod replies;
 mod replies_in_parts;
 mod surface;
 mod times;
 mod wide;
 mod wide_parts;
+mod wide_refused;
 mod widths;
 mod zones;
 
-use ixdtf::ParseError;
-use ixdtf::encoding::Utf8;
+use ixdtf::ParseError::{self, AbruptEnd};
+use ixdtf::ParserResult;
+use ixdtf::encoding::{EncodingType, Utf8, Utf16};
 use ixdtf::parsers::{IsoDurationParser, IxdtfParser, TimeZoneParser};
 use ixdtf::records::{
-    DateRecord, Fraction, FullPrecisionOffset, IxdtfParseRecord, MinutePrecisionOffset, Sign,
-    TimeRecord, UtcOffsetRecord, UtcOffsetRecordOrZ,
+    DateRecord, DurationParseRecord, Fraction, FullPrecisionOffset, IxdtfParseRecord,
+    MinutePrecisionOffset, Sign, TimeRecord, TimeZoneAnnotation, TimeZoneRecord, UtcOffsetRecord,
+    UtcOffsetRecordOrZ,
 };
 use std::process::Abort;
 
-const AT_DIGIT: ParseError = ParseError::AbruptEnd { location: "digit" };
+const AT_DIGIT: ParseError = AbruptEnd { location: "digit" };
 
-const AT_DATE: ParseError = ParseError::AbruptEnd { location: "Date" };
+const AT_DATE: ParseError = AbruptEnd { location: "Date" };
 
-const AT_MONTH_DAY: ParseError = ParseError::AbruptEnd {
+const AT_MONTH_DAY: ParseError = AbruptEnd {
     location: "MonthDay",
 };
 
-const AT_OFFSET: ParseError = ParseError::AbruptEnd {
+const AT_OFFSET: ParseError = AbruptEnd {
     location: "time-numoffset",
 };
 
-const AT_ZONE: ParseError = ParseError::AbruptEnd {
+const AT_ZONE: ParseError = AbruptEnd {
     location: "TimeZoneAnnotation",
 };
 
-const AT_BRACKET: ParseError = ParseError::AbruptEnd {
+const AT_BRACKET: ParseError = AbruptEnd {
     location: "AmbiguousAnnotation",
+};
+
+const AT_START: ParseError = AbruptEnd {
+    location: "DurationStart",
+};
+
+const AT_DESIGNATOR: ParseError = AbruptEnd {
+    location: "DurationDesignator",
+};
+
+const AT_DURATION: ParseError = AbruptEnd {
+    location: "Duration",
+};
+
+const AT_DATE_DESIGNATOR: ParseError = AbruptEnd {
+    location: "DateDurationDesignator",
+};
+
+const AT_TIME_DESIGNATOR: ParseError = AbruptEnd {
+    location: "TimeDurationDesignator",
 };
 
 type Record = IxdtfParseRecord<'static, Utf8>;
 
-fn dated(year: i32, month: u8, day: u8, time: Option<TimeRecord>) -> Record {
-    IxdtfParseRecord {
-        date: Some(DateRecord { year, month, day }),
+/// The parts of a text, with a zone by its `!` and its name.
+fn parts(
+    date: Option<(i32, u8, u8)>,
+    time: Option<TimeRecord>,
+    offset: Option<UtcOffsetRecordOrZ>,
+    zone: Option<(bool, &'static str)>,
+    calendar: Option<&'static str>,
+) -> Record {
+    Record {
+        date: date.map(|(year, month, day)| DateRecord { year, month, day }),
         time,
-        offset: None,
-        tz: None,
-        calendar: None,
+        offset,
+        tz: zone.map(|(critical, name)| TimeZoneAnnotation {
+            critical,
+            tz: named(name),
+        }),
+        calendar: calendar.map(|name| name.as_bytes()),
     }
 }
 
+fn dated(year: i32, month: u8, day: u8, time: Option<TimeRecord>) -> Record {
+    parts(Some((year, month, day)), time, None, None, None)
+}
+
+// A time without a date.
+fn alone(time: Option<TimeRecord>, offset: Option<UtcOffsetRecordOrZ>) -> Record {
+    parts(None, time, offset, None, None)
+}
+
 // 2 March 2024 at 8:48.
-fn morning(offset: Option<UtcOffsetRecordOrZ>) -> Record {
-    let mut record = dated(2024, 3, 2, timed(8, 48, 0, None));
-    record.offset = offset;
+fn morning(
+    offset: Option<UtcOffsetRecordOrZ>,
+    zone: Option<(bool, &'static str)>,
+    calendar: Option<&'static str>,
+) -> Record {
+    parts(
+        Some((2024, 3, 2)),
+        timed(8, 48, 0, None),
+        offset,
+        zone,
+        calendar,
+    )
+}
+
+/// The parts of a text whose zone is an offset.
+fn shifted(
+    date: (i32, u8, u8),
+    time: Option<TimeRecord>,
+    offset: Option<UtcOffsetRecordOrZ>,
+    critical: bool,
+    zone: MinutePrecisionOffset,
+) -> Record {
+    let mut record = parts(Some(date), time, offset, None, None);
+    let tz = TimeZoneRecord::Offset(zone);
+    record.tz = Some(TimeZoneAnnotation { critical, tz });
     record
+}
+
+fn named(name: &'static str) -> TimeZoneRecord<'static, Utf8> {
+    TimeZoneRecord::Name(name.as_bytes())
 }
 
 fn minutes(sign: Sign, hour: u8, minute: u8) -> MinutePrecisionOffset {
@@ -131,42 +200,139 @@ enum Reader {
     Duration,
 }
 
+/// What a reader found in a text.
+#[derive(Drop)]
+#[derive_where(Debug, PartialEq)]
+enum Found<'a, T: EncodingType> {
+    /// The parts of a text with brackets.
+    Parts(IxdtfParseRecord<'a, T>),
+    /// An offset from UTC.
+    Offset(UtcOffsetRecord),
+    /// A time zone, by name or by offset.
+    Zone(TimeZoneRecord<'a, T>),
+    /// The units of a time zone's name.
+    Name(&'a [T::CodeUnit]),
+    /// A duration.
+    Duration(DurationParseRecord),
+}
+
+/// The parsers of one text.
+#[derive(Drop)]
+struct Parsers<'a, T: EncodingType> {
+    dates: IxdtfParser<'a, T>,
+    zones: TimeZoneParser<'a, T>,
+    durations: IsoDurationParser<'a, T>,
+}
+
+impl<'a> Parsers<'a, Utf8> {
+    fn from_str(text: &'a str) -> Parsers<'a, Utf8> {
+        Parsers {
+            dates: IxdtfParser::from_str(text),
+            zones: TimeZoneParser::from_str(text),
+            durations: IsoDurationParser::from_str(text),
+        }
+    }
+
+    fn from_utf8(bytes: &'a [u8]) -> Parsers<'a, Utf8> {
+        Parsers {
+            dates: IxdtfParser::from_utf8(bytes),
+            zones: TimeZoneParser::from_utf8(bytes),
+            durations: IsoDurationParser::<Utf8>::from_utf8(bytes),
+        }
+    }
+}
+
+impl<'a> Parsers<'a, Utf16> {
+    fn from_utf16(units: &'a [u16]) -> Parsers<'a, Utf16> {
+        Parsers {
+            dates: IxdtfParser::from_utf16(units),
+            zones: TimeZoneParser::from_utf16(units),
+            durations: IsoDurationParser::<Utf16>::from_utf8(units),
+        }
+    }
+}
+
+impl<'a, T: EncodingType> Parsers<'a, T> {
+    fn new(units: &'a [T::CodeUnit]) -> Parsers<'a, T> {
+        Parsers {
+            dates: IxdtfParser::new(units),
+            zones: TimeZoneParser::new(units),
+            durations: IsoDurationParser::new(units),
+        }
+    }
+
+    fn read(&mut self, reader: Reader) -> ParserResult<Found<'a, T>> {
+        let parts = match reader {
+            Reader::Parse => self.dates.parse(),
+            Reader::YearMonth => self.dates.parse_year_month(),
+            Reader::MonthDay => self.dates.parse_month_day(),
+            Reader::Time => self.dates.parse_time(),
+            Reader::Offset => {
+                return match self.zones.parse_offset() {
+                    Ok(offset) => Ok(Found::Offset(offset)),
+                    Err(error) => Err(error),
+                };
+            }
+            Reader::Identifier => {
+                return match self.zones.parse_identifier() {
+                    Ok(zone) => Ok(Found::Zone(zone)),
+                    Err(error) => Err(error),
+                };
+            }
+            Reader::IanaIdentifier => {
+                return match self.zones.parse_iana_identifier() {
+                    Ok(name) => Ok(Found::Name(name)),
+                    Err(error) => Err(error),
+                };
+            }
+            Reader::Duration => {
+                return match self.durations.parse() {
+                    Ok(duration) => Ok(Found::Duration(duration)),
+                    Err(error) => Err(error),
+                };
+            }
+        };
+        match parts {
+            Ok(parts) => Ok(Found::Parts(parts)),
+            Err(error) => Err(error),
+        }
+    }
+}
+
+/// One reader after the other gives this, with the same parsers.
+fn check_in_turn(
+    rt: &impl Abort,
+    text: &'static str,
+    steps: &[(Reader, ParserResult<Found<'static, Utf8>>)],
+) {
+    let mut parsers = Parsers::from_str(text);
+    for (reader, wanted) in steps {
+        let found = parsers.read(*reader);
+        assert!(rt; found == *wanted, "{reader:?} at {text}");
+    }
+}
+
+/// The reader gives this for the text.
+fn check_found(
+    rt: &impl Abort,
+    reader: Reader,
+    text: &'static str,
+    wanted: &ParserResult<Found<'static, Utf8>>,
+) {
+    let found = Parsers::from_str(text).read(reader);
+    assert!(rt; found == *wanted, "{reader:?} at {text}");
+}
+
+/// `IxdtfParser::parse` gives this for the text.
+fn check_parsed(rt: &impl Abort, text: &'static str, wanted: &ParserResult<Record>) {
+    let found = IxdtfParser::from_str(text).parse();
+    assert!(rt; found == *wanted, "at {text}");
+}
+
 /// The reader refuses each text with the error beside it.
 fn check_refused(rt: &impl Abort, reader: Reader, rows: &[(&'static str, ParseError)]) {
     for (text, error) in rows {
-        match reader {
-            Reader::Parse => {
-                let found = IxdtfParser::from_str(text).parse();
-                assert_eq!(rt; found, Err(*error), "at {text}");
-            }
-            Reader::YearMonth => {
-                let found = IxdtfParser::from_str(text).parse_year_month();
-                assert_eq!(rt; found, Err(*error), "at {text}");
-            }
-            Reader::MonthDay => {
-                let found = IxdtfParser::from_str(text).parse_month_day();
-                assert_eq!(rt; found, Err(*error), "at {text}");
-            }
-            Reader::Time => {
-                let found = IxdtfParser::from_str(text).parse_time();
-                assert_eq!(rt; found, Err(*error), "at {text}");
-            }
-            Reader::Offset => {
-                let found = TimeZoneParser::from_str(text).parse_offset();
-                assert_eq!(rt; found, Err(*error), "at {text}");
-            }
-            Reader::Identifier => {
-                let found = TimeZoneParser::from_str(text).parse_identifier();
-                assert_eq!(rt; found, Err(*error), "at {text}");
-            }
-            Reader::IanaIdentifier => {
-                let found = TimeZoneParser::from_str(text).parse_iana_identifier();
-                assert_eq!(rt; found, Err(*error), "at {text}");
-            }
-            Reader::Duration => {
-                let found = IsoDurationParser::from_str(text).parse();
-                assert_eq!(rt; found, Err(*error), "at {text}");
-            }
-        }
+        let found = Parsers::from_str(text).read(reader);
+        assert_eq!(rt; found, Err(*error), "{reader:?} at {text}");
     }
 }

@@ -1,5 +1,5 @@
 -- What the loop over the pairs keeps, and what follows at its ends.
-use Rattle.std.proofs.Common.{◌≡◌, ℕ, List, [], ◌∷◌, ◌++◌, Option, None, Result, Ok, Err, refl, sym, ◌∙◌, ap, subst, inl, inr, append_assoc, option_map}
+use Rattle.std.proofs.Common.{◌≡◌, ℕ, List, [], ◌∷◌, ◌++◌, Option, None, Result, Ok, Err, refl, sym, ◌∙◌, ap, inl, inr, append_assoc, option_map}
 use Rattle.std.proofs.lemmas.List.{map-append, append-nil}
 use Rattle.std.proofs.SliceLists.{chained_more}
 use Rattle.std.specs.Option.{option_or}
@@ -36,6 +36,10 @@ upto_more text pairs rest bracket after pair h is last =
 -- ---- the loop over the pairs
 
 module _ {T U F : Type 0} (number : U → ℕ) (step : Step T U F) (handler : F) (first : List Pair) (text : Text) where
+  -- the pair that a reply names, if any
+  abbrev reply_of : Option (Annotation T U) → Option Pair
+  reply_of reply = option_map (pair_of number) reply
+
   -- the calls so far left this state, this rest of the text, and this calendar
   pub record SoFar (state : F) (rest : Text) (calendar : Option Pair) : Type 0 where
     pub calls : Calls T U
@@ -70,29 +74,29 @@ module _ {T U F : Type 0} (number : U → ℕ) (step : Step T U F) (handler : F)
 
     one_handed : handed number one_call ≡ first ++ []
     unfolding one_call
-    one_handed = ap (λ p. p ∷ []) same ∙ sym (append-nil (pair ∷ [])) ∙ ap (λ pairs. pairs ++ []) (sym alone)
+    one_handed = ap (λ p. p ∷ []) same ∙ sym (append-nil _) ∙ ap (λ pairs. pairs ++ []) (sym alone)
 
-    one_reply : replies_of number one_call ≡ option_map (pair_of number) reply ∷ []
+    one_reply : replies_of number one_call ≡ reply_of reply ∷ []
     unfolding one_call
     one_reply = refl
 
-    pub so_far_first : (kept : Option Pair) → ((fault : Fault) → ¬ (RefusedBeside None (option_map (pair_of number) reply) fault))
-        → kept ≡ option_or None (first_calendar (option_map (pair_of number) reply ∷ [])) → SoFar next text kept
+    pub so_far_first : (kept : Option Pair) → ((fault : Fault) → ¬ (RefusedBeside None (reply_of reply) fault))
+        → kept ≡ option_or None (first_calendar (reply_of reply ∷ [])) → SoFar next text kept
     so_far_first kept accepted is = record {
       calls = one_call;
       chain = one_chain;
       more = [];
       all = one_handed;
       upto = ([], refl, refl);
-      accepted = subst NoneRefused (sym one_reply) (NoneRefused-more [] (option_map (pair_of number) reply) NoneRefused-nothing accepted);
-      kept = is ∙ sym (first_calendar-more [] (option_map (pair_of number) reply)) ∙ ap first_calendar (sym one_reply);
+      accepted = rw one_reply (NoneRefused-more [] (reply_of reply) NoneRefused-nothing accepted);
+      kept = is ∙ sym (first_calendar-more [] (reply_of reply)) ∙ ap first_calendar (sym one_reply);
     }
 
-    pub read_first_refused : (fault : Fault) → RefusedBeside None (option_map (pair_of number) reply) fault → PairsRead number step handler next first text (Err fault)
+    pub read_first_refused : (fault : Fault) → RefusedBeside None (reply_of reply) fault → PairsRead number step handler next first text (Err fault)
     read_first_refused fault refused =
         let last : LastRefused (replies_of number one_call) fault = record {
           earlier = [];
-          reply = option_map (pair_of number) reply;
+          reply = reply_of reply;
           split = one_reply;
           none = NoneRefused-nothing;
           refused = refused;
@@ -114,9 +118,9 @@ module _ {T U F : Type 0} (number : U → ℕ) (step : Step T U F) (handler : F)
     unfolding more_calls
     more_handed = map-append (λ call. pair_of number call.0) so_far.calls ((annotation, reply) ∷ [])
         ∙ ap (λ pairs. pairs ++ pair_of number annotation ∷ []) so_far.all
-        ∙ append_assoc first so_far.more (pair_of number annotation ∷ [])
+        ∙ append_assoc first so_far.more _
 
-    more_replies : replies_of number more_calls ≡ replies_of number so_far.calls ++ option_map (pair_of number) reply ∷ []
+    more_replies : replies_of number more_calls ≡ replies_of number so_far.calls ++ reply_of reply ∷ []
     unfolding more_calls
     more_replies = map-append (λ call. option_map (pair_of number) call.1) so_far.calls ((annotation, reply) ∷ [])
 
@@ -124,30 +128,30 @@ module _ {T U F : Type 0} (number : U → ℕ) (step : Step T U F) (handler : F)
     more_upto = upto_more text so_far.more rest bracket after (pair_of number annotation) so_far.upto read is_pair
 
     -- its reply is not refused
-    pub so_far_more : (kept : Option Pair) → ((fault : Fault) → ¬ (RefusedBeside calendar (option_map (pair_of number) reply) fault))
-        → kept ≡ option_or calendar (first_calendar (option_map (pair_of number) reply ∷ [])) → SoFar next after kept
+    pub so_far_more : (kept : Option Pair) → ((fault : Fault) → ¬ (RefusedBeside calendar (reply_of reply) fault))
+        → kept ≡ option_or calendar (first_calendar (reply_of reply ∷ [])) → SoFar next after kept
     so_far_more kept accepted is = record {
       calls = more_calls;
       chain = more_chain;
       more = so_far.more ++ pair_of number annotation ∷ [];
       all = more_handed;
       upto = more_upto;
-      accepted = subst NoneRefused (sym more_replies)
-          (NoneRefused-more (replies_of number so_far.calls) (option_map (pair_of number) reply) so_far.accepted
-          (λ fault. subst (λ c. ¬ (RefusedBeside c (option_map (pair_of number) reply) fault)) so_far.kept (accepted fault)));
-      kept = is ∙ ap (λ c. option_or c (first_calendar (option_map (pair_of number) reply ∷ []))) so_far.kept
-          ∙ sym (first_calendar-more (replies_of number so_far.calls) (option_map (pair_of number) reply)) ∙ ap first_calendar (sym more_replies);
+      accepted = rw more_replies
+          (NoneRefused-more (replies_of number so_far.calls) (reply_of reply) so_far.accepted
+          (λ fault. rw (← so_far.kept) (accepted fault)));
+      kept = is ∙ ap (λ c. option_or c (first_calendar (reply_of reply ∷ []))) so_far.kept
+          ∙ sym (first_calendar-more (replies_of number so_far.calls) (reply_of reply)) ∙ ap first_calendar (sym more_replies);
     }
 
     -- its reply is refused
-    pub read_refused : (fault : Fault) → RefusedBeside calendar (option_map (pair_of number) reply) fault → PairsRead number step handler next first text (Err fault)
+    pub read_refused : (fault : Fault) → RefusedBeside calendar (reply_of reply) fault → PairsRead number step handler next first text (Err fault)
     read_refused fault refused =
         let last : LastRefused (replies_of number more_calls) fault = record {
           earlier = replies_of number so_far.calls;
-          reply = option_map (pair_of number) reply;
+          reply = reply_of reply;
           split = more_replies;
           none = so_far.accepted;
-          refused = subst (λ c. RefusedBeside c (option_map (pair_of number) reply) fault) so_far.kept refused;
+          refused = rw (← so_far.kept) refused;
         } in
         record { calls = more_calls; chain = more_chain; more = so_far.more ++ pair_of number annotation ∷ []; all = more_handed; gives = (after, more_upto, inl last) }
 
@@ -161,7 +165,7 @@ module _ {T U F : Type 0} (number : U → ℕ) (step : Step T U F) (handler : F)
         chain = so_far.chain;
         more = so_far.more;
         all = so_far.all;
-        gives = (subst (λ t. ArePairs t so_far.more) whole front.2, so_far.accepted, so_far.kept);
+        gives = (rw (← whole) front.2, so_far.accepted, so_far.kept);
       }
 
   -- a row fits what is left
@@ -203,7 +207,7 @@ module _ (kind : CoreKind) (text cores bracket rest : Text) (core : Core) (b : B
   fits_text : (more : List Pair) (left : Text) (row : Row) → PairsUpTo rest more left → FitsAfterBrackets row left → Fits (bracketed kind) row (pairs_in b ++ more) text
   fits_text more left row upto_left fits =
       let front = upto_left.0 in
-      after_brackets kind row (pairs_in b ++ more) text (cores ++ (bracket ++ front)) left (split_of front left upto_left.1)
+      after_brackets kind row _ text _ left (split_of front left upto_left.1)
       (cores, bracket ++ front, refl, (core, is_core), zone_in b, tail_of b bracket front more is_bracket upto_left.2, bracket_stands bracket front b is_bracket) fits
 
   module _ {T U F : Type 0} (number : U → ℕ) (step : Step T U F) (handler last : F) where
@@ -214,8 +218,8 @@ module _ (kind : CoreKind) (text cores bracket rest : Text) (core : Core) (b : B
       chain = h.chain;
       gives = record {
         read = parsed_with core (zone_in b);
-        whole = subst (IsBracketed kind text (parsed_with core (zone_in b))) (sym h.all)
-            (subst (λ t. IsBracketed kind t (parsed_with core (zone_in b)) (pairs_in b ++ h.more)) (sym is) (whole_of rest h.more h.gives.0));
+        whole = rw h.all
+            (rw is (whole_of rest h.more h.gives.0));
         accepted = h.gives.1;
         has = ap (λ c. with_calendar (parsed_with core (zone_in b)) (calendar_value c)) h.gives.2;
       };
@@ -228,7 +232,7 @@ module _ (kind : CoreKind) (text cores bracket rest : Text) (core : Core) (b : B
           | inl last_refused ↦ inl ((cores ++ (bracket ++ front.0), left, split_of front.0 left front.1, parsed_with core (zone_in b), whole_of front.0 h.more front.2), last_refused)
           | inr p ↦ inr ((p.0.0, fits_text h.more left p.0.0 front p.0.1, p.0.2), p.1)
         ] in
-        record { calls = h.calls; chain = h.chain; gives = subst (λ pairs. GivesFault (bracketed kind) text pairs (replies_of number h.calls) fault) (sym h.all) gives }
+        record { calls = h.calls; chain = h.chain; gives = rw h.all gives }
 
 -- ---- a text without a call
 

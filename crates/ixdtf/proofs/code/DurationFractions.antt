@@ -1,5 +1,5 @@
 -- The fraction of a group, and the letter after it.
-use Rattle.std.proofs.Common.{◌≡◌, ℕ, Bool, true, false, [], ◌∷◌, ◌++◌, List, drop, Some, None, Ok, Err, refl, sym, ap, subst, ◌∙◌, append_assoc, append-nil}
+use Rattle.std.proofs.Common.{◌≡◌, ℕ, Bool, true, false, [], ◌∷◌, ◌++◌, List, drop, Some, None, Ok, Err, refl, sym, ap, ◌∙◌, append_assoc, append-nil}
 use Rattle.ixdtf.specs.declared.records.Sign.{Sign}
 use Rattle.ixdtf.specs.declared.records.DurationParseRecord.{DurationParseRecord}
 use Rattle.ixdtf.specs.declared.parsers.duration.TimeUnit.{TimeUnit}
@@ -18,7 +18,8 @@ use Rattle.ixdtf.specs.reading.Times.{fraction_at}
 use Rattle.ixdtf.specs.reading.Durations.{step, run, fraction_group}
 use Rattle.ixdtf.specs.reading.Durations.State.{at_mark, in_fraction, ended}
 use Rattle.ixdtf.specs.reading.DurationClauses.{run_from, run_where, unit_seen, time_unit_of, time_group_of, time_group_fits}
-use Rattle.ixdtf.proofs.code.DurationSteps.{first_is, nothing_is, fails}
+use Rattle.ixdtf.proofs.code.DurationSteps.{fails}
+use Rattle.ixdtf.proofs.code.FirstLetter.{first_is, nothing_is}
 use Rattle.ixdtf.proofs.code.DurationLetters.{by_test, by_no_test, end_step}
 
 ok_is : {A : Type 0} (x y : A × Text) → ◌≡◌ {A = Read Fault A} (Ok x) (Ok y) → x ≡ y
@@ -33,7 +34,7 @@ module _ (s : Sign) (dates times : List Group) (ds : Text) where
   after_digits fs read = read >>= λ more. run_from (in_fraction s dates times ds (fs ++ more.0)) more.1
 
   one_more : (fs : Text) (c : ℕ) (read : Read Fault Text) → after_digits (fs ++ (Plain c ∷ [])) read ≡ after_digits fs (read >>= λ more. Ok (Plain c ∷ more.0, more.1))
-  one_more fs c (Ok more) = ap (λ (t : Text). run_from (in_fraction s dates times ds t) more.1) (append_assoc fs (Plain c ∷ []) more.0)
+  one_more fs c (Ok more) = ap (λ t. run_from (in_fraction s dates times ds t) more.1) (append_assoc fs (Plain c ∷ []) more.0)
   one_more fs c (Err e) = refl
 
   over_digits : (fs text : Text) → run_from (in_fraction s dates times ds fs) text ≡ after_digits fs (digits_of text)
@@ -46,7 +47,7 @@ module _ (s : Sign) (dates times : List Group) (ds : Text) where
       go true is over = rw is (over ∙ one_more fs c (digits_of rest))
       go false is over =
           let stop : digits_of (Plain c ∷ rest) ≡ Ok ([], Plain c ∷ rest) = rw is refl in
-          ap (λ (t : Text). run_from (in_fraction s dates times ds t) (Plain c ∷ rest)) (sym (append-nil fs)) ∙ ap (after_digits fs) (sym stop)
+          ap (λ t. run_from (in_fraction s dates times ds t) (Plain c ∷ rest)) (sym (append-nil fs)) ∙ ap (after_digits fs) (sym stop)
 
 -- where digits end no digit follows
 abbrev NoDigitNext : Text → Type 0
@@ -54,14 +55,16 @@ NoDigitNext text = (c : ℕ) → look_at NonAsciiCodePoint text ≡ Ok (Some c) 
 
 digits_end : (text more rest : Text) → digits_of text ≡ Ok (more, rest) → NoDigitNext rest
 unfolding digit_run look_at
-digits_end [] more rest is = let none : [] ≡ rest = ap (λ (p : Text × Text). p.1) (ok_is ([], []) (more, rest) is) in subst NoDigitNext none (λ c found. absurd cc)
+digits_end [] more rest is = let none : [] ≡ rest = ap (λ p. p.1) (ok_is ([], []) (more, rest) is) in rw (← none) (λ c found. absurd cc)
 digits_end (Bad ∷ text) more rest is = absurd cc
-digits_end (Plain d ∷ text) more rest is = go (digit d) refl (digits_of text) refl (λ more' left. digits_end text more' left)
+digits_end (Plain d ∷ text) more rest is = go (digit d) refl _ refl (λ more' left. digits_end text more' left)
   where
     go : (b : Bool) → digit d ≡ b → (read : Read Fault Text) → digits_of text ≡ read → ((more' left : Text) → digits_of text ≡ Ok (more', left) → NoDigitNext left) → NoDigitNext rest
-    go true e (Ok x) reads ends = let same : x.1 ≡ rest = ap (λ (p : Text × Text). p.1) (ok_is (Plain d ∷ x.0, x.1) (more, rest) (rw (e, reads) at is)) in subst NoDigitNext same (ends x.0 x.1 reads)
+    go true e (Ok x) reads ends = let same : x.1 ≡ rest = ap (λ p. p.1) (ok_is (Plain d ∷ x.0, x.1) (more, rest) (rw (e, reads) at is)) in
+        rw (← same) (ends x.0 x.1 reads)
     go true e (Err x) reads ends = absurd (let never = rw (e, reads) at is in cc)
-    go false e x reads ends = λ c found. let here : Plain d ∷ text ≡ rest = ap (λ (p : Text × Text). p.1) (ok_is ([], Plain d ∷ text) (more, rest) (rw e at is)) in let first = rw (← here) at found in let same : d ≡ c = cc in rw (← same) e
+    go false e x reads ends = λ c found. let here : Plain d ∷ text ≡ rest = ap (λ p. p.1) (ok_is ([], Plain d ∷ text) (more, rest) (rw e at is)) in
+        let first = rw (← here) at found in let same : d ≡ c = cc in rw (← same) e
 
 -- reading, after a decimal mark, goes over the digits of this fraction
 pub record IsFractionOver (text : Text) (fraction : FractionParts) (rest : Text) : Type 0 where
@@ -80,12 +83,12 @@ unfolding run step
 first_over c rest (Err e) reads is fraction left at = absurd cc
 first_over c rest (Ok more) reads is fraction left at =
     let both : ◌≡◌ {A = FractionParts × Text} (fraction_of (Plain c ∷ more.0), more.1) (fraction, left) = ok_is (fraction_of (Plain c ∷ more.0), more.1) (fraction, left) at in
-    let same : more.1 ≡ left = ap (λ (p : FractionParts × Text). p.1) both in
+    let same : more.1 ≡ left = ap (λ p. p.1) both in
     record {
       fs = Plain c ∷ more.0;
-      is = sym (ap (λ (p : FractionParts × Text). p.0) both);
-      no_digit = subst NoDigitNext same (digits_end rest more.0 more.1 reads);
-      leads = λ s dates times ds. rw (is, over_digits s dates times ds (Plain c ∷ []) rest, reads, same) refl;
+      is = sym (ap (λ p. p.0) both);
+      no_digit = rw (← same) (digits_end rest more.0 more.1 reads);
+      leads = λ s dates times ds. rw (is, over_digits s dates times ds _ rest, reads, same) refl;
     }
 
 -- a fraction that was read
@@ -96,7 +99,7 @@ fraction_over (Bad ∷ text) fraction rest at = absurd cc
 fraction_over (Plain c ∷ text) fraction rest at = go (digit c) refl
   where
     go : (b : Bool) → digit c ≡ b → IsFractionOver (Plain c ∷ text) fraction rest
-    go true is = first_over c text (digits_of text) refl is fraction rest (rw is at at)
+    go true is = first_over c text _ refl is fraction rest (rw is at at)
     go false is = absurd (let never = rw is at at in cc)
 
 -- a fraction that was refused
@@ -112,33 +115,39 @@ fraction_fails (Plain c ∷ text) fault at s dates times ds = go (digit c) refl
     digits_fail (Err e) is = let same : e ≡ fault = cc in rw same refl
 
     go : (b : Bool) → digit c ≡ b → run_from (at_mark s dates times ds) (Plain c ∷ text) ≡ Err fault
-    go true is = rw (is, over_digits s dates times ds (Plain c ∷ []) text) (digits_fail (digits_of text) (rw is at at))
+    go true is = rw (is, over_digits s dates times ds _ text) (digits_fail (digits_of text) (rw is at at))
     go false is = let same : FractionPart ≡ fault = cc (rw is at at) in rw (is, same) refl
 
 -- ---- the letter after a fraction
 
 module _ (text : Text) (fraction : FractionParts) (rest : Text) (over : IsFractionOver text fraction rest) (s : Sign) (dates times : List Group) (ds : Text) where
-  pub no_letter : look_at NonAsciiCodePoint rest ≡ Ok None → run_from (at_mark s dates times ds) text ≡ Err abrupt_time_designator
+  -- what is read from the decimal mark on
+  abbrev from_mark : Read Fault DurationParseRecord
+  from_mark = run_from (at_mark s dates times ds) text
+
+  abbrev group : ℕ → TimeUnit → Group
+  group value unit = time_group_of (record { unit = unit; value = value; fraction = Some fraction })
+
+  pub no_letter : look_at NonAsciiCodePoint rest ≡ Ok None → from_mark ≡ Err abrupt_time_designator
   unfolding run
   no_letter none = over.leads s dates times ds ∙ rw (nothing_is rest none) refl
 
-  pub breaks : (fault : Fault) → look_at NonAsciiCodePoint rest ≡ Err fault → run_from (at_mark s dates times ds) text ≡ Err fault
+  pub breaks : (fault : Fault) → look_at NonAsciiCodePoint rest ≡ Err fault → from_mark ≡ Err fault
   breaks fault bad = over.leads s dates times ds ∙ fails _ rest fault bad
 
   module _ (c : ℕ) (found : look_at NonAsciiCodePoint rest ≡ Ok (Some c)) where
-    pub ends_none : (fault : Fault) → unit_seen time c ≡ Err fault → run_from (at_mark s dates times ds) text ≡ Err fault
+    pub ends_none : (fault : Fault) → unit_seen time c ≡ Err fault → from_mark ≡ Err fault
     unfolding run
     ends_none fault seen =
         let p = by_no_test _ _ _ _ seen in
         over.leads s dates times ds ∙ rw (first_is rest c found, over.no_digit c found, p.0, p.1) refl
 
     group_is : (value : ℕ) (unit : TimeUnit) → value ≡ decimal ds → unit_of time c ≡ time_unit_of unit
-        → ◌≡◌ {A = Group} (fraction_group ds over.fs c) (time_group_of (record { unit = unit; value = value; fraction = Some fraction }))
+        → ◌≡◌ {A = Group} (fraction_group ds over.fs c) (group value unit)
     group_is value unit number is i = record { unit = is i; value = sym number i; fraction = Some (sym over.is i) }
 
     pub ends_group : (value : ℕ) (unit : TimeUnit) (new : Text) → value ≡ decimal ds → unit_seen time c ≡ Ok (time_unit_of unit) → new ≡ drop 1 rest
-        → run_from (at_mark s dates times ds) text
-        ≡ run_where (time_group_fits times (time_group_of (record { unit = unit; value = value; fraction = Some fraction }))) (ended s dates times (time_group_of (record { unit = unit; value = value; fraction = Some fraction }))) new
+        → from_mark ≡ run_where (time_group_fits times (group value unit)) (ended s dates times (group value unit)) new
     unfolding run step
     ends_group value unit new number seen moved =
         let p = by_test _ _ _ _ seen in

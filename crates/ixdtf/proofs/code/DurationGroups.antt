@@ -1,6 +1,6 @@
 -- Groups of a duration, and one more behind them.
-use Rattle.std.proofs.Common.{◌≡◌, ℕ, ◌≤◌, ◌<◌, true, false, ◌∷◌, List, Ok, refl, ◌∙◌, arith, nat_le, ◌&&◌, if◌then◌else◌}
-use Rattle.std.proofs.lemmas.Bool.{le-leb, lt-leb}
+use Rattle.std.proofs.Common.{◌≡◌, ℕ, ◌≤◌, true, ◌∷◌, List, Ok, refl, ◌∙◌, arith, nat_le, ◌&&◌, if◌then◌else◌}
+use Rattle.std.proofs.lemmas.Bool.{le-leb}
 use Rattle.std.proofs.lemmas.Bool.Decides.{nat_tests}
 use Rattle.ixdtf.specs.declared.records.DateDurationRecord.{DateDurationRecord}
 use Rattle.ixdtf.specs.declared.parsers.duration.DateUnit.{DateUnit}
@@ -14,12 +14,9 @@ absorbs : (p q u : ℕ) → p ≤ q → (nat_le q u && nat_le p u) ≡ nat_le q 
 absorbs p q u h = grind (arith, nat_tests)
 
 module _ {U : Type 0} (named : U → DurationUnit) (last : DurationUnit) (groups : List Group) (rises : RisesTo named last groups) (unit : U) where
-  -- a unit may follow, or may not
+  -- a unit may follow
   pub follows : place last ≤ place (named unit) → in_order groups (named unit) ≡ true
   follows high = rises unit ∙ le-leb _ _ high
-
-  pub falls : place (named unit) < place last → in_order groups (named unit) ≡ false
-  falls low = rises unit ∙ lt-leb _ _ low
 
   -- groups with one of the unit behind them
   pub rises_on : (g : Group) → g.unit ≡ named unit → place last ≤ place (named unit) → RisesTo named (named unit) (g ∷ groups)

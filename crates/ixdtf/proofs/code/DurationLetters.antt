@@ -1,7 +1,8 @@
 -- The letter after the digits of a group, and the groups that it ends.
-use Rattle.std.proofs.Common.{◌≡◌, ℕ, Bool, true, false, [], ◌∷◌, List, Option, Some, None, IsSome, IfOk, Result, Ok, Err, map, refl, sym, ◌∙◌, arith, nat_le, if◌then◌else◌}
+use Rattle.std.proofs.Common.{◌≡◌, ℕ, Bool, true, false, [], ◌∷◌, List, None, IsSome, IfOk, Result, Ok, Err, map, refl, sym, ◌∙◌, arith, nat_le, if◌then◌else◌}
 use Rattle.std.proofs.lemmas.Bool.Decides.{nat_tests}
 use Rattle.ixdtf.specs.declared.records.Sign.{Sign}
+use Rattle.ixdtf.specs.declared.records.DurationParseRecord.{DurationParseRecord}
 use Rattle.ixdtf.specs.declared.stop.Stop.{Stop}
 use Rattle.ixdtf.specs.declared.parsers.duration.TimeGroup.{TimeGroup}
 use Rattle.ixdtf.specs.declared.parsers.duration.Number.{Number}
@@ -10,12 +11,12 @@ use Rattle.ixdtf.specs.declared.parsers.duration.TimeUnit.{TimeUnit}
 use Rattle.ixdtf.specs.declared.parsers.duration.TimeUnit.TheVariants as time_units
 use Rattle.ixdtf.specs.language.Letters.{Letter, Text, digit, decimal_mark}
 use Rattle.ixdtf.specs.language.Letters.Letter.{Plain}
-use Rattle.ixdtf.specs.language.Fractions.{FractionParts}
 use Rattle.ixdtf.specs.language.Durations.{Half, DurationUnit, Group, designator, unit_of, greatest, greatest_value, in_order}
 use Rattle.ixdtf.specs.language.Durations.Half.{date, time}
 use Rattle.ixdtf.specs.table.Faults.{Fault}
+use Rattle.ixdtf.specs.table.DurationFronts.{Context}
 use Rattle.ixdtf.specs.table.DurationFronts.Context.{in_dates, in_times}
-use Rattle.ixdtf.specs.reading.Looks.{◌>>=◌, error_of}
+use Rattle.ixdtf.specs.reading.Looks.{Read, ◌>>=◌, error_of}
 use Rattle.ixdtf.specs.reading.Durations.{State, add_group, end_group, step, run, plain_group}
 use Rattle.ixdtf.specs.reading.Durations.State.{between, in_number, at_mark, ended}
 use Rattle.ixdtf.specs.reading.DurationClauses.{run_from, run_where, IsNumber, date_unit_of, time_unit_of, date_group_of, time_group_of, unit_seen, date_group_fits, time_group_fits}
@@ -70,42 +71,51 @@ pub end_step : (s : Sign) (dates times : List Group) (h g : Group) (text : Text)
 end_step s dates times h g text is = rw is (one_test (in_order times g.unit) _ _ text)
 
 module _ (letter : ℕ → Letter) (first : ℕ) (old : List ℕ) (number : Number) (new : List ℕ) (reads : IsNumber letter first old number new) where
+  -- what is read from the first digit on
+  abbrev from_first : Context → Read Fault DurationParseRecord
+  from_first context = run_from (in_number context (Plain first ∷ [])) (map letter old)
+
+  -- a group of the number
+  abbrev date_group : DateUnit → Group
+  date_group unit = date_group_of (record { unit = unit; value = number.value })
+
+  abbrev time_group : TimeUnit → Group
+  time_group unit = time_group_of (record { unit = unit; value = number.value; fraction = None })
+
   no_digit : digit number.next ≡ false
   no_digit = reads.other
 
   -- a letter that ends no group
-  pub ends_no_date : (s : Sign) (dates : List Group) (fault : Fault) → unit_seen date number.next ≡ Err fault
-      → run_from (in_number (in_dates s dates) (Plain first ∷ [])) (map letter old) ≡ Err fault
+  pub ends_no_date : (s : Sign) (dates : List Group) (fault : Fault) → unit_seen date number.next ≡ Err fault → from_first (in_dates s dates) ≡ Err fault
   unfolding run
   ends_no_date s dates fault seen =
       let p = by_no_test _ _ _ _ seen in
-      reads.leads (in_dates s dates) ∙ rw (no_digit, p.0, p.1) refl
+      reads.leads _ ∙ rw (no_digit, p.0, p.1) refl
 
   pub ends_no_time : (s : Sign) (dates times : List Group) (fault : Fault) → decimal_mark number.next ≡ false → unit_seen time number.next ≡ Err fault
-      → run_from (in_number (in_times s dates times) (Plain first ∷ [])) (map letter old) ≡ Err fault
+      → from_first (in_times s dates times) ≡ Err fault
   unfolding run
   ends_no_time s dates times fault miss seen =
       let p = by_no_test _ _ _ _ seen in
-      reads.leads (in_times s dates times) ∙ rw (no_digit, p.0, miss, p.1) refl
+      reads.leads _ ∙ rw (no_digit, p.0, miss, p.1) refl
 
   group_is : (half : Half) (unit : DurationUnit) → unit_of half number.next ≡ unit → ◌≡◌ {A = Group} (plain_group half reads.ds number.next) (record { unit = unit; value = number.value; fraction = None })
   group_is half unit is i = record { unit = is i; value = sym reads.value i; fraction = None }
 
-  pub ends_date : (s : Sign) (dates : List Group) (unit : DateUnit) → unit_seen date number.next ≡ Ok (date_unit_of unit)
-      → run_from (in_number (in_dates s dates) (Plain first ∷ [])) (map letter old)
-      ≡ run_where (date_group_fits dates (date_group_of (record { unit = unit; value = number.value }))) (between (in_dates s (date_group_of (record { unit = unit; value = number.value }) ∷ dates))) (map letter new)
+  pub ends_date : (s : Sign) (dates : List Group) (unit : DateUnit) → unit_seen date number.next ≡ Ok (date_unit_of unit) → from_first (in_dates s dates)
+      ≡ run_where (date_group_fits dates (date_group unit)) (between (in_dates s (date_group unit ∷ dates))) (map letter new)
   unfolding run step
   ends_date s dates unit seen =
       let p = by_test _ _ _ _ seen in
-      reads.leads (in_dates s dates) ∙ rw (no_digit, p.0) (date_step s dates _ _ (map letter new) (group_is date (date_unit_of unit) p.1))
+      reads.leads _ ∙ rw (no_digit, p.0) (date_step s dates _ _ (map letter new) (group_is date (date_unit_of unit) p.1))
 
-  pub ends_time : (s : Sign) (dates times : List Group) (unit : TimeUnit) → unit_seen time number.next ≡ Ok (time_unit_of unit) → nat_le number.value greatest_value ≡ true
-      → run_from (in_number (in_times s dates times) (Plain first ∷ [])) (map letter old)
-      ≡ run_where (time_group_fits times (time_group_of (record { unit = unit; value = number.value; fraction = None }))) (between (in_times s dates (time_group_of (record { unit = unit; value = number.value; fraction = None }) ∷ times))) (map letter new)
+  pub ends_time : (s : Sign) (dates times : List Group) (unit : TimeUnit) → unit_seen time number.next ≡ Ok (time_unit_of unit)
+      → nat_le number.value greatest_value ≡ true → from_first (in_times s dates times)
+      ≡ run_where (time_group_fits times (time_group unit)) (between (in_times s dates (time_group unit ∷ times))) (map letter new)
   unfolding run step
   ends_time s dates times unit seen small =
       let p = by_test _ _ _ _ seen in
-      reads.leads (in_times s dates times) ∙ rw (no_digit, p.0) (time_step s dates times _ _ (map letter new) (group_is time (time_unit_of unit) p.1) (in_range unit))
+      reads.leads _ ∙ rw (no_digit, p.0) (time_step s dates times _ _ (map letter new) (group_is time (time_unit_of unit) p.1) (in_range unit))
     where
       in_range : (unit : TimeUnit) → nat_le number.value (greatest (time_unit_of unit)) ≡ true
       in_range time_units.Hours = small
@@ -114,15 +124,11 @@ module _ (letter : ℕ → Letter) (first : ℕ) (old : List ℕ) (number : Numb
 
   -- a decimal mark
   pub at_decimal_mark : (s : Sign) (dates times : List Group) → decimal_mark number.next ≡ true
-      → run_from (in_number (in_times s dates times) (Plain first ∷ [])) (map letter old) ≡ run_from (at_mark s dates times reads.ds) (map letter new)
+      → from_first (in_times s dates times) ≡ run_from (at_mark s dates times reads.ds) (map letter new)
   unfolding run step
-  at_decimal_mark s dates times is = reads.leads (in_times s dates times) ∙ rw (no_digit, mark_no_designator _ is, is) refl
+  at_decimal_mark s dates times is = reads.leads _ ∙ rw (no_digit, mark_no_designator _ is, is) refl
 
 -- a group that has a fraction is not one without
 pub has_fraction : (result : Result TimeGroup Stop) (otherwise : Type 0) → IfOk result (λ g. IsSome g.fraction) → IfOk result (λ g. g.fraction ≡ None → otherwise)
 has_fraction (Err stop) otherwise some = tt
-has_fraction (Ok g) otherwise some = λ none. absurd (nothing g.fraction none some)
-  where
-    nothing : (fraction : Option FractionParts) → fraction ≡ None → IsSome fraction → ⊥
-    nothing None is some = cc
-    nothing (Some f) is some = cc
+has_fraction (Ok g) otherwise some = λ none. let never = rw none at some in absurd cc

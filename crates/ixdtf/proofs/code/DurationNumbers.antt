@@ -13,7 +13,8 @@ use Rattle.ixdtf.specs.reading.Durations.{step, run}
 use Rattle.ixdtf.specs.reading.Durations.State.{in_number}
 use Rattle.ixdtf.specs.reading.DurationClauses.{run_from}
 use Rattle.ixdtf.proofs.code.GrowingDigits.{decimal_snoc}
-use Rattle.ixdtf.proofs.code.DurationSteps.{first_is, nothing_is, fails}
+use Rattle.ixdtf.proofs.code.DurationSteps.{fails}
+use Rattle.ixdtf.proofs.code.FirstLetter.{first_is, nothing_is}
 
 -- So far digits of this number were taken off, and the rest is still to be read.
 pub record IsSoFar (first : ℕ) (whole rest : Text) (value : ℕ) : Type 0 where
@@ -52,4 +53,4 @@ module _ (first : ℕ) (whole rest : Text) (value : ℕ) (far : IsSoFar first wh
   ends none context = far.leads context ∙ rw (nothing_is rest none) refl
 
   pub breaks : (fault : Fault) → look_at NonAsciiCodePoint rest ≡ Err fault → (context : Context) → run_from (in_number context (Plain first ∷ [])) whole ≡ Err fault
-  breaks fault bad context = far.leads context ∙ fails (in_number context far.ds) rest fault bad
+  breaks fault bad context = far.leads context ∙ fails _ rest fault bad

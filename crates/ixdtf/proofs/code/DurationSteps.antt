@@ -1,5 +1,5 @@
 -- Reading a duration from a state on, by what the first look finds.
-use Rattle.std.proofs.Common.{◌≡◌, ℕ, true, false, List, [], ◌∷◌, drop, map, Some, None, Result, Ok, Err, refl, ap, ◌∙◌, arith, nat_le}
+use Rattle.std.proofs.Common.{◌≡◌, ℕ, true, false, List, [], ◌∷◌, drop, map, Some, None, Result, Ok, Err, refl, ◌∙◌, arith, nat_le}
 use Rattle.std.proofs.lemmas.Bool.Decides.{nat_tests}
 use Rattle.ixdtf.specs.declared.records.Sign.{Sign}
 use Rattle.ixdtf.specs.declared.records.Sign.TheVariants.{Positive}
@@ -17,24 +17,10 @@ use Rattle.ixdtf.specs.table.Lines.{abrupt_duration_start, abrupt_duration_desig
 use Rattle.ixdtf.specs.table.DurationFronts.{Context}
 use Rattle.ixdtf.specs.table.DurationFronts.Context.{in_dates, in_times}
 use Rattle.ixdtf.specs.reading.Looks.{Read, error_of, look_at}
-use Rattle.ixdtf.specs.reading.Durations.{State, state_look, step, run, duration_at}
+use Rattle.ixdtf.specs.reading.Durations.{State, state_look, step, run}
 use Rattle.ixdtf.specs.reading.Durations.State.{started, signed, between, in_number, ended}
-use Rattle.ixdtf.specs.reading.Clauses.{Reads}
 use Rattle.ixdtf.specs.reading.DurationClauses.{run_from, Leads}
-
--- a look found this letter first
-pub first_is : (text : Text) (c : ℕ) → look_at NonAsciiCodePoint text ≡ Ok (Some c) → text ≡ Plain c ∷ drop 1 text
-unfolding look_at
-first_is [] c e = absurd cc
-first_is (Plain n ∷ more) c e = ap (λ (m : ℕ). Plain m ∷ more) cc
-first_is (Bad ∷ more) c e = absurd cc
-
--- a look found no letter
-pub nothing_is : (text : Text) → look_at NonAsciiCodePoint text ≡ Ok None → text ≡ []
-unfolding look_at
-nothing_is [] e = refl
-nothing_is (Plain n ∷ more) e = absurd cc
-nothing_is (Bad ∷ more) e = absurd cc
+use Rattle.ixdtf.proofs.code.FirstLetter.{first_is, nothing_is}
 
 at_bad_is : (s : State) → (state_look error_of s).at_bad ≡ NonAsciiCodePoint
 at_bad_is (between (in_dates s [])) = refl
@@ -44,9 +30,8 @@ at_bad_is s = refl
 -- a look failed
 pub fails : (s : State) (text : Text) (fault : Fault) → look_at NonAsciiCodePoint text ≡ Err fault → run_from s text ≡ Err fault
 unfolding look_at run
-fails s [] fault e = absurd cc
-fails s (Plain n ∷ more) fault e = absurd cc
 fails s (Bad ∷ more) fault e = let same : NonAsciiCodePoint ≡ fault = cc in rw (at_bad_is s, same) refl
+fails s text fault e = absurd cc
 
 module _ (text : Text) where
   -- there is no letter
@@ -148,13 +133,6 @@ to_digit text next c first is moved context = at_digit text c first context is �
 pub to_mark : (text next : Text) (c : ℕ) → look_at NonAsciiCodePoint text ≡ Ok (Some c) → time_letter c ≡ true → next ≡ drop 1 text
     → (s : Sign) (dates : List Group) → run_from (between (in_dates s dates)) text ≡ run_from (between (in_times s dates [])) next
 to_mark text next c first is moved s dates = dates_at_mark text c first s dates is ∙ rw moved refl
-
--- what a function reads of a duration from a state is a whole duration, where reading goes from the start to there
-pub reads_all : (letter : ℕ → Letter) (here : State) (old mid new : Unread) (result : Result DurationParseRecord Stop)
-    → run_from started (map letter old.rest) ≡ run_from here (map letter mid.rest) → Leads letter here mid result new (λ d text. Ok (d, text))
-    → Reads letter (λ d. d) old result new (duration_at error_of)
-reads_all letter here old mid new (Ok x) e is = e ∙ is
-reads_all letter here old mid new (Err stop) e is = e ∙ is
 
 -- what a function reads from one state is what it reads from another, where reading goes from there to here
 pub leads_on : {X : Type 0} (letter : ℕ → Letter) (from here : State) (old mid new : Unread) (result : Result X Stop) (next : X → Text → Read Fault DurationParseRecord)

@@ -28,5 +28,5 @@ fixed_core text date time rest f =
     let after = Plain f.separator ∷ (f.times ++ rest) in
     let dated = date_takes error_of f.dates date after (fixed_is_date f.dates date f.is_date) in
     let timed : clock_at error_of Time (f.times ++ rest) ≡ after_second_at error_of Time time.hour time.minute time.second rest =
-    (over_seconds error_of Time (clock_at error_of Time) (clock_starts error_of Time) f.times time (inr f.is_time.0)).over rest in
-    ap (date_time_core_at error_of) f.is ∙ rw dated (over_separator date f.separator (f.times ++ rest) f.separates ∙ rw timed refl)
+    (over_seconds error_of Time _ (clock_starts error_of Time) f.times time (inr f.is_time.0)).over rest in
+    ap (date_time_core_at error_of) f.is ∙ rw dated (over_separator date f.separator _ f.separates ∙ rw timed refl)

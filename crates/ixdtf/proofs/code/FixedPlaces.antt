@@ -1,6 +1,6 @@
 -- A date and a time at fixed places: what is found there is what the grammar has, and is read so.
 use Rattle.std.proofs.Common.{subst, ◌≡◌, ℕ, zero, suc, ◌+◌, ◌-◌, ◌*◌, ◌<◌, ◌≤◌, Bool, true, false, IsTrue, List, [], ◌∷◌, ◌++◌, map, drop, length, Option, Some, None, Result, Ok, Err, refl, sym, ap, ◌∙◌, nat_le, ◌&&◌, if◌then◌else◌, ℤ, pos, arith}
-use Rattle.std.proofs.lemmas.Bool.{and_parts, and_from, le-leb, leb-true}
+use Rattle.std.proofs.lemmas.Bool.{and_parts, and_from, le-leb}
 use Rattle.std.proofs.lemmas.Bool.Decides.{nat_tests}
 use Rattle.std.proofs.lemmas.List.{length-drop}
 use Rattle.ixdtf.specs.declared.records.DateRecord.{DateRecord}
@@ -8,6 +8,7 @@ use Rattle.ixdtf.specs.declared.records.TimeRecord.{TimeRecord}
 use Rattle.ixdtf.specs.language.Letters.{Letter, Text, Class, digit, hyphen, colon, date_time_separator}
 use Rattle.ixdtf.specs.language.Letters.Letter.{Plain, Bad}
 use Rattle.ixdtf.specs.language.Digits.{decimal, TwoDigits}
+use Rattle.ixdtf.specs.language.Shapes.{digits}
 use Rattle.ixdtf.specs.language.Dates.{PlainYear, IsDayOfMonth, month_length}
 use Rattle.ixdtf.specs.language.FixedPlaces.{FixedDateTime}
 use Rattle.ixdtf.specs.table.Faults.{Fault}
@@ -20,7 +21,7 @@ use Rattle.ixdtf.specs.table.Faults.Fault.{InvalidMonthRange}
 use Rattle.ixdtf.specs.table.LineNames.{of_date}
 use Rattle.ixdtf.specs.table.LineNames.DateLine.{after_year}
 use Rattle.ixdtf.specs.reading.Looks.{Read, ◌>>=◌, error_of, look_at, next_by, mark_by, digits_by}
-use Rattle.ixdtf.proofs.parts.Looks.{in_turn}
+use Rattle.ixdtf.proofs.parts.Looks.{in_turn, onto}
 use Rattle.ixdtf.proofs.code.DigitClasses.{digit_no_sign}
 use Rattle.ixdtf.specs.reading.FixedPlaces.{ranged, ◌>>?◌, first_in, letter_place, number_place, date_place, time_place, date_in_range, time_in_range, date_time_place}
 
@@ -48,17 +49,17 @@ then_some : {A B : Type 0} {Goal : Type 0} (o : Option A) (go : A → Option B) 
 then_some None go y e next = absurd cc
 then_some (Some x) go y e next = next x refl e
 
+-- what passed a test
+then_passed : {A : Type 0} (t : Bool) (x y : A) → (if t then Some x else None) ≡ Some y → IsTrue t × (x ≡ y)
+then_passed true x y e = (refl, cc)
+then_passed false x y e = absurd cc
+
 -- the letter at a place, and the text after it
 letter_found : (class : Class) (place : ℕ) (text : Text) (c : ℕ) → letter_place class place text ≡ Some c → (drop place text ≡ Plain c ∷ drop (suc place) text) × IsTrue (class c)
-letter_found class zero [] c e = absurd cc
-letter_found class zero (Bad ∷ rest) c e = absurd cc
-letter_found class zero (Plain n ∷ rest) c e = by_test (class n) refl e
-  where
-    by_test : (b : Bool) → class n ≡ b → (if b then Some n else None) ≡ Some c → (Plain n ∷ rest ≡ Plain c ∷ rest) × IsTrue (class c)
-    by_test true is e = let same : n ≡ c = cc in (ap (λ (m : ℕ). Plain m ∷ rest) same, ap class (sym same) ∙ is)
-    by_test false is e = absurd cc
-letter_found class (suc place) [] c e = absurd cc
+letter_found class zero (Plain n ∷ rest) c e =
+    let (held, same) = then_passed (class n) n c e in (ap (λ m. Plain m ∷ rest) same, ap class (sym same) ∙ held)
 letter_found class (suc place) (x ∷ rest) c e = letter_found class place rest c e
+letter_found class place text c e = absurd cc
 
 -- two digits at a place and the next, and the text after them
 record Number (place : ℕ) (text : Text) (n : ℕ) : Type 0 where
@@ -74,8 +75,8 @@ number_of_letters : (place : ℕ) (text : Text) (n a b : ℕ) → letter_place d
 number_of_letters place text n a b ea eb is =
     let next : suc place ≡ place + 1 = omega arith in
     let first = letter_found digit place text a ea in
-    let second = letter_found digit (suc place) text b (ap (λ (p : ℕ). letter_place digit p text) next ∙ eb) in
-    record { a = a; b = b; is = first.0 ∙ ap (λ (t : Text). Plain a ∷ t) second.0; is_a = first.1; is_b = second.1; value = sym is }
+    let second = letter_found digit (suc place) text b (ap (λ p. letter_place digit p text) next ∙ eb) in
+    record { a = a; b = b; is = first.0 ∙ onto a second.0; is_a = first.1; is_b = second.1; value = sym is }
 
 number_found : (place : ℕ) (text : Text) (n : ℕ) → number_place place text ≡ Some n → Number place text n
 unfolding number_place
@@ -95,7 +96,7 @@ mark_found : (class : Class) (mark place : ℕ) (text : Text) (c : ℕ) → ((n 
     → drop place text ≡ Plain mark ∷ drop (suc place) text
 mark_found class mark place text c only e =
     let found = letter_found class place text c e in
-    found.0 ∙ ap (λ (n : ℕ). Plain n ∷ drop (suc place) text) (only c found.1)
+    found.0 ∙ ap (λ n. Plain n ∷ drop (suc place) text) (only c found.1)
 
 abbrev century_and_year : (a b c d : ℕ) → Type 0
 century_and_year a b c d = 100 * decimal (Plain a ∷ Plain b ∷ []) + decimal (Plain c ∷ Plain d ∷ []) ≡ decimal (Plain a ∷ Plain b ∷ Plain c ∷ Plain d ∷ [])
@@ -120,7 +121,7 @@ two_digits : {place : ℕ} {text : Text} {n m : ℕ} (number : Number place text
 two_digits number same = ((number.a, Plain number.b ∷ [], refl, number.is_a, (number.b, [], refl, number.is_b, refl)), sym same ∙ number.value)
 
 over_two : {place : ℕ} {text rest : Text} {n : ℕ} (number : Number place text n) → drop (suc (suc place)) text ≡ rest → drop place text ≡ two number ++ rest
-over_two number is = number.is ∙ ap (λ (t : Text). two number ++ t) is
+over_two number is = number.is ∙ ap (λ t. two number ++ t) is
 
 date_of_numbers : (text : Text) (date : DateRecord) (century year month day : ℕ)
     → (c : Number 0 text century) → (y : Number 2 text year) → drop 4 text ≡ Plain 45 ∷ drop 5 text
@@ -130,13 +131,13 @@ date_of_numbers text date century year month day c y first m second d is = recor
   years = Plain c.a ∷ Plain c.b ∷ Plain y.a ∷ Plain y.b ∷ [];
   months = two m;
   days = two d;
-  is = over_two c (over_two y (first ∙ ap (λ (t : Text). Plain 45 ∷ t) (over_two m (second ∙ ap (λ (t : Text). Plain 45 ∷ t) (over_two d refl)))));
+  is = over_two c (over_two y (first ∙ onto 45 (over_two m (second ∙ onto 45 (over_two d refl)))));
   year = (
     (c.a, _, refl, c.is_a, (c.b, _, refl, c.is_b, (y.a, _, refl, y.is_a, (y.b, [], refl, y.is_b, refl)))),
-    sym (ap (λ (x : DateRecord). x.year) is) ∙ ap (λ (n : ℕ). pos n) (rw (c.value, y.value) (year_is c.a c.b y.a y.b)),
+    sym (ap (λ x. x.year) is) ∙ ap (λ n. pos n) (rw (c.value, y.value) (year_is c.a c.b y.a y.b)),
   );
-  month = two_digits m (ap (λ (x : DateRecord). x.month) is);
-  day = two_digits d (ap (λ (x : DateRecord). x.day) is);
+  month = two_digits m (ap (λ x. x.month) is);
+  day = two_digits d (ap (λ x. x.day) is);
 }
 
 date_found : (text : Text) (date : DateRecord) → date_place text ≡ Some date → DateLetters text date
@@ -170,11 +171,11 @@ time_of_numbers text time hour minute second h first m last s is = record {
   hours = two h;
   minutes = two m;
   seconds = two s;
-  is = over_two h (first ∙ ap (λ (t : Text). Plain 58 ∷ t) (over_two m (last ∙ ap (λ (t : Text). Plain 58 ∷ t) (over_two s refl))));
-  hour = two_digits h (ap (λ (x : TimeRecord). x.hour) is);
-  minute = two_digits m (ap (λ (x : TimeRecord). x.minute) is);
-  second = two_digits s (ap (λ (x : TimeRecord). x.second) is);
-  no_fraction = sym (ap (λ (x : TimeRecord). x.fraction) is);
+  is = over_two h (first ∙ onto 58 (over_two m (last ∙ onto 58 (over_two s refl))));
+  hour = two_digits h (ap (λ x. x.hour) is);
+  minute = two_digits m (ap (λ x. x.minute) is);
+  second = two_digits s (ap (λ x. x.second) is);
+  no_fraction = sym (ap (λ x. x.fraction) is);
 }
 
 time_found : (text : Text) (time : TimeRecord) → time_place text ≡ Some time → TimeLetters text time
@@ -190,16 +191,11 @@ time_found text time e =
 
 date_ranges : (date : DateRecord) → IsTrue (date_in_range date) → (1 ≤ date.month) × (date.month ≤ 12) × (1 ≤ date.day) × (date.day ≤ month_length date.year date.month)
 date_ranges date h =
-    let day = and_parts _ _ h in
-    let from_one = and_parts _ _ day.0 in
-    let month = and_parts _ _ from_one.0 in
-    (leb-true _ _ month.0, leb-true _ _ month.1, leb-true _ _ from_one.1, leb-true _ _ day.1)
+    (grind (arith, nat_tests), grind (arith, nat_tests), grind (arith, nat_tests), grind (arith, nat_tests))
 
 time_ranges : (time : TimeRecord) → IsTrue (time_in_range time) → (time.hour ≤ 23) × (time.minute ≤ 59) × (time.second ≤ 60)
 time_ranges time h =
-    let second = and_parts _ _ h in
-    let hour = and_parts _ _ second.0 in
-    (leb-true _ _ hour.0, leb-true _ _ hour.1, leb-true _ _ second.1)
+    (grind (arith, nat_tests), grind (arith, nat_tests), grind (arith, nat_tests))
 
 of_letters : (text : Text) (date : DateRecord) (c : ℕ) (time : TimeRecord) → DateLetters text date → (drop 10 text ≡ Plain c ∷ drop 11 text) × IsTrue (date_time_separator c) → TimeLetters text time
     → IsTrue (date_in_range date) → IsTrue (time_in_range time) → FixedDateTime text date time (drop 19 text)
@@ -210,7 +206,7 @@ of_letters text date c time d separator t in_date in_time =
       dates = d.years ++ (Plain 45 ∷ (d.months ++ (Plain 45 ∷ d.days)));
       separator = c;
       times = t.hours ++ (Plain 58 ∷ (t.minutes ++ (Plain 58 ∷ t.seconds)));
-      is = d.is ∙ ap (λ (more : Text). (d.years ++ (Plain 45 ∷ (d.months ++ (Plain 45 ∷ d.days)))) ++ more) (separator.0 ∙ ap (λ (more : Text). Plain c ∷ more) t.is);
+      is = d.is ∙ ap (λ more. (d.years ++ (Plain 45 ∷ (d.months ++ (Plain 45 ∷ d.days)))) ++ more) (separator.0 ∙ ap (λ more. Plain c ∷ more) t.is);
       is_date = record { years = d.years; months = d.months; days = d.days; is = refl; year = d.year; month = (d.month, dates.0, dates.1); day = d.day; in_month = (dates.2, dates.3) };
       separates = separator.1;
       is_time = (
@@ -228,11 +224,6 @@ of_letters text date c time d separator t in_date in_time =
       );
     }
 
--- what passed a test
-then_passed : {A : Type 0} (t : Bool) (x y : A) → (if t then Some x else None) ≡ Some y → IsTrue t × (x ≡ y)
-then_passed true x y e = (refl, cc)
-then_passed false x y e = absurd cc
-
 -- what is found is a date and a time of the grammar, in the first nineteen letters
 pub date_time_found : (text : Text) (found : DateRecord × TimeRecord) → date_time_place text ≡ Some found → FixedDateTime text found.0 found.1 (drop 19 text)
 unfolding date_time_place
@@ -242,10 +233,23 @@ date_time_found text found e =
     then_some (time_place text) _ found e1 λ time f2 e2.
     let passed = then_passed (date_in_range date && time_in_range time) (date, time) found e2 in
     let ranges = and_parts _ _ passed.0 in
-    subst (λ (x : DateRecord × TimeRecord). FixedDateTime text x.0 x.1 (drop 19 text)) passed.1
+    rw (← passed.1)
     (of_letters text date c time (date_found text date f0) (letter_found date_time_separator 10 text c f1) (time_found text time f2) ranges.0 ranges.1)
 
 -- ---- nothing is missed
+
+-- two digits and four, as letters, and the numbers that they are
+two_are : (text : Text) (h : digits 2 text) → text ≡ Plain h.0 ∷ Plain h.4.0 ∷ []
+two_are text h = rw (h.2, h.4.2, h.4.4) refl
+
+four_are : (text : Text) (h : digits 4 text) → text ≡ Plain h.0 ∷ Plain h.4.0 ∷ Plain h.4.4.0 ∷ Plain h.4.4.4.0 ∷ []
+four_are text h = rw (h.2, h.4.2, h.4.4.2, h.4.4.4.2, h.4.4.4.4) refl
+
+number_of : (text : Text) (n : ℕ) (h : TwoDigits text n) → decimal (Plain h.0.0 ∷ Plain h.0.4.0 ∷ []) ≡ n
+number_of text n h = ap decimal (sym (two_are text h.0)) ∙ sym h.1
+
+year_of : (text : Text) (year : ℤ) (h : PlainYear text year) → pos (decimal (Plain h.0.0 ∷ Plain h.0.4.0 ∷ Plain h.0.4.4.0 ∷ Plain h.0.4.4.4.0 ∷ [])) ≡ year
+year_of text year h = ap (λ t. pos (decimal t)) (sym (four_are text h.0)) ∙ sym h.1
 
 module _ (a b c d m n p q s h i j k u v : ℕ) (rest : Text) where
   abbrev date_there : DateRecord
@@ -272,7 +276,7 @@ same_time : (time : TimeRecord) (hour minute second : ℕ) → hour ≡ time.hou
 same_time time hour minute second h m s f = λ i. record { hour = h i; minute = m i; second = s i; fraction = f i }
 
 is_in_range : (date : DateRecord) → (1 ≤ date.month) × (date.month ≤ 12) → IsDayOfMonth date → IsTrue (date_in_range date)
-is_in_range date month day = and_from _ _ (and_from _ _ (and_from _ _ (le-leb 1 _ month.0) (le-leb _ 12 month.1)) (le-leb 1 _ day.0)) (le-leb _ _ day.1)
+is_in_range date month day = grind (arith, nat_tests)
 
 -- a date and a time of the grammar in the first nineteen letters are found
 pub date_time_stands : (text : Text) (date : DateRecord) (time : TimeRecord) (rest : Text) → FixedDateTime text date time rest → date_time_place text ≡ Some (date, time)
@@ -280,22 +284,17 @@ date_time_stands text date time rest f =
     let y = f.is_date.year.0 in
     let m = f.is_date.month.0.0 in
     let d = f.is_date.day.0 in
-    let h = f.is_time.0.hour.0 in
-    let n = f.is_time.0.minute.0 in
-    let x = f.is_time.0.second.0 in
+    let t = f.is_time.0 in
+    let h = t.hour.0 in
+    let n = t.minute.0 in
+    let x = t.second.0 in
     let whole : text ≡ text_there y.0 y.4.0 y.4.4.0 y.4.4.4.0 m.0 m.4.0 d.0 d.4.0 f.separator h.0 h.4.0 n.0 n.4.0 x.0 x.4.0 rest =
-    f.is ∙ rw (f.is_date.is, f.is_time.0.is, y.2, y.4.2, y.4.4.2, y.4.4.4.2, y.4.4.4.4, m.2, m.4.2, m.4.4, d.2, d.4.2, d.4.4, h.2, h.4.2, h.4.4, n.2, n.4.2, n.4.4, x.2, x.4.2, x.4.4) refl in
-    let year = sym (f.is_date.year.1 ∙ rw (y.2, y.4.2, y.4.4.2, y.4.4.4.2, y.4.4.4.4) refl) in
-    let month = sym (f.is_date.month.0.1 ∙ rw (m.2, m.4.2, m.4.4) refl) in
-    let day = sym (f.is_date.day.1 ∙ rw (d.2, d.4.2, d.4.4) refl) in
-    let hour = sym (f.is_time.0.hour.1 ∙ rw (h.2, h.4.2, h.4.4) refl) in
-    let minute = sym (f.is_time.0.minute.1 ∙ rw (n.2, n.4.2, n.4.4) refl) in
-    let second = sym (f.is_time.0.second.1 ∙ rw (x.2, x.4.2, x.4.4) refl) in
-    let is_date = same_date date _ _ _ year month day in
-    let is_time = same_time time _ _ _ hour minute second (sym f.is_time.1) in
-    let in_date = subst (λ (r : DateRecord). IsTrue (date_in_range r)) (sym is_date) (is_in_range date (f.is_date.month.1, f.is_date.month.2) f.is_date.in_month) in
-    let in_time = subst (λ (r : TimeRecord). IsTrue (time_in_range r)) (sym is_time) (
-    and_from _ _ (and_from _ _ (le-leb _ 23 f.is_time.0.hour.2) (le-leb _ 59 f.is_time.0.minute.2)) (le-leb _ 60 f.is_time.0.second.2)) in
+    f.is ∙ rw (f.is_date.is, t.is, four_are _ y, two_are _ m, two_are _ d, two_are _ h, two_are _ n, two_are _ x) refl in
+    let is_date = same_date date _ _ _ (year_of _ _ f.is_date.year) (number_of _ _ f.is_date.month.0) (number_of _ _ f.is_date.day) in
+    let is_time = same_time time _ _ _ (number_of _ _ (h, t.hour.1)) (number_of _ _ (n, t.minute.1)) (number_of _ _ (x, t.second.1)) (sym f.is_time.1) in
+    let in_date = subst (λ r. IsTrue (date_in_range r)) (sym is_date) (is_in_range date (f.is_date.month.1, f.is_date.month.2) f.is_date.in_month) in
+    let in_time = subst (λ r. IsTrue (time_in_range r)) (sym is_time) (
+    and_from _ _ (and_from _ _ (le-leb _ 23 t.hour.2) (le-leb _ 59 t.minute.2)) (le-leb _ 60 t.second.2)) in
     ap date_time_place whole
     ∙ there _ _ _ _ _ _ _ _ _ _ _ _ _ _ _ rest y.3 y.4.3 y.4.4.3 y.4.4.4.3 m.3 m.4.3 d.3 d.4.3 f.separates h.3 h.4.3 n.3 n.4.3 x.3 x.4.3 in_date in_time
     ∙ (λ i. Some (is_date i, is_time i))
@@ -333,11 +332,8 @@ letters_read years months days date more year month day =
     let y = year.0 in
     let m = month.0 in
     let d = day.0 in
-    let is_year : pos (decimal (Plain y.0 ∷ Plain y.4.0 ∷ Plain y.4.4.0 ∷ Plain y.4.4.4.0 ∷ [])) ≡ date.year = sym (year.1 ∙ rw (y.2, y.4.2, y.4.4.2, y.4.4.4.2, y.4.4.4.4) refl) in
-    let is_month : decimal (Plain m.0 ∷ Plain m.4.0 ∷ []) ≡ date.month = sym (month.1 ∙ rw (m.2, m.4.2, m.4.4) refl) in
-    let is_day : decimal (Plain d.0 ∷ Plain d.4.0 ∷ []) ≡ date.day = sym (day.1 ∙ rw (d.2, d.4.2, d.4.4) refl) in
-    rw (y.2, y.4.2, y.4.4.2, y.4.4.4.2, y.4.4.4.4, m.2, m.4.2, m.4.4, d.2, d.4.2, d.4.4) (fixed_read _ _ _ _ _ _ _ _ more y.3 y.4.3 y.4.4.3 y.4.4.4.3 m.3 m.4.3 d.3 d.4.3)
-    ∙ ap (λ (r : DateRecord). ranged r more) (same_date date _ _ _ is_year is_month is_day)
+    rw (four_are _ y, two_are _ m, two_are _ d) (fixed_read _ _ _ _ _ _ _ _ more y.3 y.4.3 y.4.4.3 y.4.4.4.3 m.3 m.4.3 d.3 d.4.3)
+    ∙ ap (λ r. ranged r more) (same_date date _ _ _ (year_of _ _ year) (number_of _ _ month) (number_of _ _ day))
 
 -- a date that is found is the one that is read, where its numbers are in range
 pub date_is_read : (text : Text) (date : DateRecord) → date_place text ≡ Some date → date_at error_of text ≡ ranged date (drop 10 text)
@@ -358,7 +354,7 @@ long_enough text found e =
     then_some (letter_place colon 16 text) _ time e5 λ last f6 e6.
     then_some (number_place 17 text) _ time e6 λ second f7 e7.
     let number = number_found 17 text second f7 in
-    let size : length (drop 17 text) ≡ suc (suc (length (drop 19 text))) = ap (λ (t : Text). length t) number.is in
+    let size : length (drop 17 text) ≡ suc (suc (length (drop 19 text))) = ap (λ t. length t) number.is in
     let left : length (drop 17 text) ≡ length text - 17 = length-drop 17 text in
     omega (arith)
 

@@ -8,6 +8,7 @@ use Rattle.ixdtf.specs.table.Faults.Fault.{NonAsciiCodePoint}
 use Rattle.ixdtf.specs.language.Fractions.{FractionParts, fraction_of}
 use Rattle.ixdtf.specs.reading.Looks.{Read, ◌>>=◌, look_at, digit_run}
 use Rattle.ixdtf.specs.reading.Clauses.{more_digits_at}
+use Rattle.ixdtf.proofs.code.FirstLetter.{first_is, nothing_is}
 use Rattle.ixdtf.proofs.code.GrowingDigits.{Grown, fraction_grows}
 
 -- digits that were read, with more in front of them
@@ -19,7 +20,7 @@ with_nothing (Ok more) = refl
 with_nothing (Err e) = refl
 
 with_both : (a b : Text) (read : Read Fault Text) → with_front a (with_front b read) ≡ with_front (a ++ b) read
-with_both a b (Ok more) = ap (λ (t : Text). Ok (t, more.1)) (sym (append_assoc a b more.0))
+with_both a b (Ok more) = ap (λ t. Ok (t, more.1)) (sym (append_assoc a b more.0))
 with_both a b (Err e) = refl
 
 abbrev run_of : Text → Read Fault Text
@@ -33,13 +34,6 @@ run_other : (c : ℕ) (rest : Text) → digit c ≡ false → run_of (Plain c �
 unfolding digit_run
 run_other c rest is = rw is refl
 
--- a look found this letter first
-first_is : (text : Text) (c : ℕ) → look_at NonAsciiCodePoint text ≡ Ok (Some c) → (more : Text) × (text ≡ Plain c ∷ more)
-unfolding look_at
-first_is [] c e = absurd cc
-first_is (Plain n ∷ more) c e = (more, ap (λ (m : ℕ). Plain m ∷ more) cc)
-first_is (Bad ∷ more) c e = absurd cc
-
 -- So far digits were taken off: the fraction is theirs, and the rest is still to be read.
 pub record IsSoFar (first : ℕ) (whole rest : Text) (fraction : FractionParts) : Type 0 where
   pub ds : Text
@@ -47,41 +41,30 @@ pub record IsSoFar (first : ℕ) (whole rest : Text) (fraction : FractionParts) 
   pub value : fraction ≡ fraction_of (Plain first ∷ ds)
 
 pub begins : (first : ℕ) (whole : Text) (fraction : FractionParts) → fraction ≡ fraction_of (Plain first ∷ []) → IsSoFar first whole whole fraction
-begins first whole fraction is = record { ds = []; read = sym (with_nothing (run_of whole)); value = is }
+begins first whole fraction is = record { ds = []; read = sym (with_nothing _); value = is }
 
 pub goes_on : (first : ℕ) (whole rest next : Text) (before after : FractionParts) (c : ℕ) → IsSoFar first whole rest before → look_at NonAsciiCodePoint rest ≡ Ok (Some c) → digit c ≡ true → next ≡ drop 1 rest → Grown before after c → IsSoFar first whole next after
-goes_on first whole rest next before after c far e is moved grown =
-    let here = first_is rest c e in
-    let left : next ≡ here.0 = moved ∙ ap (λ (t : Text). drop 1 t) here.1 in
-    record {
-      ds = far.ds ++ (Plain c ∷ []);
-      read = far.read ∙ ap (λ (t : Text). with_front far.ds (run_of t)) here.1 ∙ ap (with_front far.ds) (run_more c here.0 is)
-          ∙ with_both far.ds (Plain c ∷ []) (run_of here.0) ∙ ap (λ (t : Text). with_front (far.ds ++ (Plain c ∷ [])) (run_of t)) (sym left);
-      value = fraction_grows (Plain first ∷ far.ds) before after c far.value grown;
-    }
+goes_on first whole rest next before after c far e is moved grown = record {
+  ds = far.ds ++ (Plain c ∷ []);
+  read = far.read ∙ ap (λ t. with_front far.ds (run_of t)) (first_is rest c e) ∙ ap (with_front far.ds) (run_more c _ is)
+      ∙ with_both far.ds (Plain c ∷ []) _ ∙ ap (λ t. with_front (far.ds ++ (Plain c ∷ [])) (run_of t)) (sym moved);
+  value = fraction_grows (Plain first ∷ far.ds) before after c far.value grown;
+}
 
 ends : (first : ℕ) (whole rest : Text) (fraction : FractionParts) → IsSoFar first whole rest fraction → run_of rest ≡ Ok ([], rest) → more_digits_at first whole ≡ Ok (fraction, rest)
 ends first whole rest fraction far over = rw (far.read, over, append-nil far.ds, far.value) refl
 
 pub ends_at_other : (first : ℕ) (whole rest : Text) (fraction : FractionParts) (c : ℕ) → IsSoFar first whole rest fraction → look_at NonAsciiCodePoint rest ≡ Ok (Some c) → digit c ≡ false → more_digits_at first whole ≡ Ok (fraction, rest)
-ends_at_other first whole rest fraction c far e is =
-    let here = first_is rest c e in
-    ends first whole rest fraction far (rw here.1 (run_other c here.0 is))
+ends_at_other first whole rest fraction c far e is = ends first whole rest fraction far (rw (first_is rest c e) (run_other c _ is))
 
 pub ends_at_end : (first : ℕ) (whole rest : Text) (fraction : FractionParts) → IsSoFar first whole rest fraction → look_at NonAsciiCodePoint rest ≡ Ok None → more_digits_at first whole ≡ Ok (fraction, rest)
-unfolding look_at digit_run
-ends_at_end first whole [] fraction far e = ends first whole [] fraction far refl
-ends_at_end first whole (Plain n ∷ rest) fraction far e = absurd cc
-ends_at_end first whole (Bad ∷ rest) fraction far e = absurd cc
+unfolding digit_run
+ends_at_end first whole rest fraction far e = ends first whole rest fraction far (rw (nothing_is rest e) refl)
 
 pub fails : (first : ℕ) (whole rest : Text) (fraction : FractionParts) (fault : Fault) → IsSoFar first whole rest fraction → look_at NonAsciiCodePoint rest ≡ Err fault → more_digits_at first whole ≡ Err fault
 unfolding look_at digit_run
-fails first whole [] fraction fault far e = absurd cc
-fails first whole (Plain n ∷ rest) fraction fault far e = absurd cc
-fails first whole (Bad ∷ rest) fraction fault far e = let same : NonAsciiCodePoint ≡ fault = cc in rw far.read (ap (λ (f : Fault). fault_is f) same)
-  where
-    fault_is : Fault → Read Fault FractionParts
-    fault_is f = Err f
+fails first whole (Bad ∷ rest) fraction fault far e = let same : NonAsciiCodePoint ≡ fault = cc in rw (far.read, same) refl
+fails first whole rest fraction fault far e = absurd cc
 
 -- a look found this letter first, and a step took it off
 pub record Taken (letter : ℕ → Letter) (rest next : List ℕ) (c : ℕ) : Type 0 where
@@ -96,9 +79,9 @@ pub taken : {letter : ℕ → Letter} {rest looked next : List ℕ} {seen : Opti
 unfolding look_at
 taken {letter} {rest} {looked} {next} {seen} {c} sees is stays steps =
     let found : look_at NonAsciiCodePoint (map letter rest) ≡ Ok (Some c) = cc in
-    let moved : next ≡ drop 1 rest = steps ∙ ap (λ (t : List ℕ). drop 1 t) stays in
+    let moved : next ≡ drop 1 rest = steps ∙ ap (λ t. drop 1 t) stays in
     from_units rest found moved
   where
     from_units : (rest : List ℕ) → look_at NonAsciiCodePoint (map letter rest) ≡ Ok (Some c) → next ≡ drop 1 rest → Taken letter rest next c
     from_units [] found moved = absurd cc
-    from_units (u ∷ us) found moved = record { found = found; moved = moved; left = ap (map letter) moved; shorter = omega (arith, ap (λ (t : List ℕ). length t) moved) }
+    from_units (u ∷ us) found moved = record { found = found; moved = moved; left = ap (map letter) moved; shorter = omega (arith, ap (λ t. length t) moved) }

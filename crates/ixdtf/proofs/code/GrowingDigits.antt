@@ -21,12 +21,12 @@ length_snoc ds c = omega (arith, length-append ds (c ∷ []))
 
 value_grows : (ds : Text) (c : ℕ) → length ds < 18 → value_of (ds ++ (Plain c ∷ [])) ≡ value_of ds * 10 + (c - 48)
 value_grows ds c short =
-    let whole : take 18 (ds ++ (Plain c ∷ [])) ≡ ds ++ (Plain c ∷ []) = take_all 18 (ds ++ (Plain c ∷ [])) (omega (arith, length_snoc ds (Plain c))) in
+    let whole : take 18 (ds ++ (Plain c ∷ [])) ≡ ds ++ (Plain c ∷ []) = take_all 18 _ (omega (arith, length_snoc ds (Plain c))) in
     let all : take 18 ds ≡ ds = take_all 18 ds (omega arith) in
     rw (whole, all) (decimal_snoc ds (Plain c))
 
 value_stays : (ds : Text) (c : ℕ) → 18 ≤ length ds → value_of (ds ++ (Plain c ∷ [])) ≡ value_of ds
-value_stays ds c long = rw (take-append-le 18 ds (Plain c ∷ []) long) refl
+value_stays ds c long = rw (take-append-le 18 ds _ long) refl
 
 -- what one more digit makes of a fraction
 pub record Grown (before after : FractionParts) (c : ℕ) : Type 0 where
@@ -40,9 +40,9 @@ same_fraction f g p q = λ i. record { count = p i; value = q i }
 -- the fraction of digits and one more
 pub fraction_grows : (ds : Text) (before after : FractionParts) (c : ℕ) → before ≡ fraction_of ds → Grown before after c → after ≡ fraction_of (ds ++ (Plain c ∷ []))
 fraction_grows ds before after c is g =
-    let count : before.count ≡ min (length ds) 255 = ap (λ (f : FractionParts). f.count) is in
-    let value : before.value ≡ value_of ds = ap (λ (f : FractionParts). f.value) is in
-    same_fraction after (fraction_of (ds ++ (Plain c ∷ []))) (omega (arith, length_snoc ds (Plain c), g.count, count)) (by_length (nat_le 18 (length ds)) refl count value)
+    let count : before.count ≡ min (length ds) 255 = ap (λ f. f.count) is in
+    let value : before.value ≡ value_of ds = ap (λ f. f.value) is in
+    same_fraction after _ (omega (arith, length_snoc ds (Plain c), g.count, count)) (by_length (nat_le 18 (length ds)) refl count value)
   where
     by_length : (b : Bool) → nat_le 18 (length ds) ≡ b → before.count ≡ min (length ds) 255 → before.value ≡ value_of ds → after.value ≡ value_of (ds ++ (Plain c ∷ []))
     by_length true h count value = let long = leb-true _ _ h in g.stays (omega arith) ∙ value ∙ rw (value_stays ds c long) refl

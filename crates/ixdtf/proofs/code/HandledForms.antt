@@ -1,5 +1,5 @@
 -- A form with a handler only hands its arguments on to `read_as`, at the plain error and its kind of cores. Assumes `Logic`.
-use mir.Syntax.{Ty, Dict, Callee, a_type, dcons, dnil, named}
+use mir.Syntax.{Dict, Callee, a_type, dcons, dnil, named}
 use mir.Raw.{raw as bare}
 use seplogic.Ra.Ura.{Ura}
 pub use base.Logic.{SProp, ent, sep, via, id⊢, fst∗, snd∗}
@@ -53,8 +53,6 @@ use Rattle.ixdtf.proofs.code.HandsOn.{Handing, handing_on, hands_on}
 use Rattle.ixdtf.proofs.code.PlainErrors.{E, E_laws, Under, Got, lands}
 pub use mathlib.Core.Path.{◌≡◌, refl, sym, subst}
 use mathlib.Core.List.{[], ◌∷◌}
-use lib.Dec.{T}
-use mir.Val.{has_ty, WT}
 
 -- a kind of cores, as such a function passes it
 pub record Kind : Type 2 where
@@ -150,5 +148,5 @@ module _ {M : Type 1} (𝓤 : Ura M) (𝓛 : Logic 𝓤) (𝓜 : Model 𝓤 𝓛
       → Closed 𝓤 𝓛.H 𝓣.C 𝓣.Λ here (handing_on h (layout F)) → Triple 𝓤 (𝓣.C here) (triple_of 𝓛 S c)
   form wired raised cored h here result_is calls closed =
       hands_on S.outlives (λ κs. IxdtfParser.the_row (at κs) (param 0 T') (param 1 U) g₀ g₁ g₂ g₃) 2 F (λ κs. Got (at κs) 0 1 T' U) 𝓛 𝓣 c LF h here
-      (λ κs x r is. subst (λ (t : Ty). T (has_ty t r) × WT r) (sym (result_is κs)) (lands (at κs) 0 1 T' U LT LU 𝓛 x r is)) closed
-      (subst (λ (ran : Fun 𝓤). Triple 𝓤 ran (triple_of 𝓛 S c)) calls (met wired raised cored))
+      (λ κs x r is. rw (result_is κs) (lands (at κs) 0 1 T' U LT LU 𝓛 x r is)) closed
+      (rw (← calls) (met wired raised cored))

@@ -80,7 +80,7 @@ module _ (bounds : List (Outlives 5)) (Held : Lfts 5 → RattleType) (number : �
         let Here : RattleType = Got z.0.0 in
         let p : Val = vptr a.0.ref_ptr.0 a.0.ref_ptr.1 in
         fact_use 𝓤 (Are Rs (Ises Rs) a vss) (via 𝓤 (sem 𝓛 (owns Rs a vss)) (via 𝓤 entry (fst∗ 𝓤 entry ((c z.0.0 a).requires z.1)) (snd∗ 𝓤 (alive 𝓛 handing z.0.0 z.0.1) (sem 𝓛 (owns Rs a vss)))) (owns_show 𝓛 Rs (Ises Rs) (showss 𝓛 Rs) a vss)) (λ are.
-        subst (λ (us : List Val). Goes us vss.1.0) (sym are.0.0)
+        subst (λ us. Goes us vss.1.0) (sym are.0.0)
         (one_value (layout F) (λ xs. Goes (p ∷ []) xs) vss.1.0 (((param_laws number F L).lawful 𝓛).typed a.1.0 vss.1.0 are.1.0) (λ w gw.
         let y : C.Ghost = At (p ∷ []) (w ∷ []) in
         qed 𝓛 (raw (C.pre y) ∷ []) ∵ enter ! 𝓣.C 𝓣.Λ body (p ∷ w ∷ []) _ $
@@ -89,7 +89,7 @@ module _ (bounds : List (Outlives 5)) (Held : Lfts 5 → RattleType) (number : �
         calls_at ! (fm_of 𝓤 𝓛.H 𝓛.laws 𝓣) C met y (and_then ! (get ! refl) (and_then ! (get ! refl) (no_more !))) (λ r.
         let own : Here.Denot → SProp 𝓤 = λ x. sem 𝓛 (Here.own_val x (r ∷ [])) in
         let after : Here.Denot → SProp 𝓤 = λ x. sep 𝓤 (sep 𝓤 (alive 𝓛 handing z.0.0 z.0.1) (own x)) ((c z.0.0 a).ensures z.1 x) in
-        use1 𝓛 (later (some (λ (x : Here.Denot). (raw (alive 𝓛 handing z.0.0 z.0.1) ⊛ ‵ (Here.own_val x (r ∷ []))) ⊛ raw ((c z.0.0 a).ensures z.1 x)))) (id⊢ 𝓤 (C.post y r)) $
+        use1 𝓛 (later (some (λ x. (raw (alive 𝓛 handing z.0.0 z.0.1) ⊛ ‵ (Here.own_val x (r ∷ []))) ⊛ raw ((c z.0.0 a).ensures z.1 x)))) (id⊢ 𝓤 (C.post y r)) $
         await ! tt $ pick ! (λ x. split ! $ split ! $ move ! (1 ∷ []) $
         peeks ! Here (Is Here) (shows 𝓛 Here) x (r ∷ []) (λ is.
         lands_as ! refl refl (lands z.0.0 x r is) $

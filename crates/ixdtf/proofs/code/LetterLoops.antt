@@ -8,6 +8,7 @@ use Rattle.ixdtf.specs.table.Faults.Fault.{NonAsciiCodePoint}
 use Rattle.ixdtf.specs.reading.Looks.{Read, ◌>>=◌, look_at}
 use Rattle.ixdtf.specs.reading.Zones.{with_letter}
 use Rattle.ixdtf.specs.reading.Runs.{Taken, one_more, nothing_taken, on_letter, letters_by}
+use Rattle.ixdtf.proofs.code.FirstLetter.{nothing_is}
 
 -- letters that were taken off, with more in front of them
 abbrev pub with_letters : {S : Type 0} → List ℕ → Read Fault (Taken S) → Read Fault (Taken S)
@@ -19,7 +20,7 @@ with_none (Ok x) = refl
 with_none (Err e) = refl
 
 with_one_more : {S : Type 0} (front : List ℕ) (c : ℕ) (read : Read Fault (Taken S)) → with_letters front (one_more c read) ≡ with_letters (front ++ (c ∷ [])) read
-with_one_more front c (Ok x) = ap (λ (t : List ℕ). Ok (record { letters = t; state = x.0.state; next = x.0.next }, x.1)) (sym (append_assoc front (c ∷ []) x.0.letters))
+with_one_more front c (Ok x) = ap (λ t. Ok (record { letters = t; state = x.0.state; next = x.0.next }, x.1)) (sym (append_assoc front (c ∷ []) x.0.letters))
 with_one_more front c (Err e) = refl
 
 -- a look found this letter first
@@ -31,7 +32,7 @@ first_is letter faithful (u ∷ more) c e = go (letter u) refl e
     go : (l : Letter) → letter u ≡ l → look_at NonAsciiCodePoint (l ∷ map letter more) ≡ Ok (Some c) → (rest : List ℕ) × (u ∷ more ≡ c ∷ rest) × (letter u ∷ map letter more ≡ Plain c ∷ map letter rest)
     go (Plain n) is e =
         let same : n ≡ c = cc in
-        (more, ap (λ (m : ℕ). m ∷ more) (sym (faithful u c (is ∙ ap (λ (m : ℕ). Plain m) same))), ap (λ (l : Letter). l ∷ map letter more) (is ∙ ap (λ (m : ℕ). Plain m) same))
+        (more, ap (λ m. m ∷ more) (sym (faithful u c (is ∙ ap (λ m. Plain m) same))), ap (λ l. l ∷ map letter more) (is ∙ ap (λ m. Plain m) same))
     go Bad is e = absurd cc
 
 module _ {S : Type 0} (after : S → ℕ → Option S) where
@@ -47,19 +48,13 @@ module _ {S : Type 0} (after : S → ℕ → Option S) where
   run_stays state c rest is = rw is refl
 
   run_ends : (state : S) (text : Text) → look_at NonAsciiCodePoint text ≡ Ok None → run state text ≡ Ok (record { letters = []; state = state; next = None }, text)
-  unfolding look_at letters_by
-  run_ends state [] e = refl
-  run_ends state (Plain n ∷ more) e = absurd cc
-  run_ends state (Bad ∷ more) e = absurd cc
+  unfolding letters_by
+  run_ends state text e = rw (nothing_is text e) refl
 
   run_fails : (state : S) (text : Text) (fault : Fault) → look_at NonAsciiCodePoint text ≡ Err fault → run state text ≡ Err fault
   unfolding look_at letters_by
-  run_fails state [] fault e = absurd cc
-  run_fails state (Plain n ∷ more) fault e = absurd cc
-  run_fails state (Bad ∷ more) fault e = let same : NonAsciiCodePoint ≡ fault = cc in ap (λ (f : Fault). fault_is f) same
-    where
-      fault_is : Fault → Read Fault (Taken S)
-      fault_is f = Err f
+  run_fails state (Bad ∷ more) fault e = let same : NonAsciiCodePoint ≡ fault = cc in rw same refl
+  run_fails state text fault e = absurd cc
 
   -- So far these letters were taken off, and the others are still to be read.
   pub record IsSoFar (letter : ℕ → Letter) (start : S) (whole rest : List ℕ) (state : S) : Type 0 where
@@ -75,19 +70,20 @@ module _ {S : Type 0} (after : S → ℕ → Option S) where
     pub goes_on : (left : List ℕ) (next : S) (c : ℕ) → look_at NonAsciiCodePoint (map letter rest) ≡ Ok (Some c) → after state c ≡ Some next → left ≡ drop 1 rest → IsSoFar letter start whole left next
     goes_on left next c e is moved =
         let here = first_is letter faithful rest c e in
-        let same : left ≡ here.0 = moved ∙ ap (λ (t : List ℕ). drop 1 t) here.1 in
+        let same : left ≡ here.0 = moved ∙ ap (λ t. drop 1 t) here.1 in
         record {
           taken = far.taken ++ (c ∷ []);
           units = far.units ∙ rw (here.1, same) (sym (append_assoc far.taken (c ∷ []) here.0));
-          read = far.read ∙ ap (λ (t : Text). with_letters far.taken (run state t)) here.2 ∙ ap (with_letters far.taken) (run_more state next c (map letter here.0) is)
-              ∙ with_one_more far.taken c (run next (map letter here.0)) ∙ ap (λ (t : List ℕ). with_letters (far.taken ++ (c ∷ [])) (run next (map letter t))) (sym same);
+          read = far.read ∙ ap (λ t. with_letters far.taken (run state t)) here.2 ∙ ap (with_letters far.taken) (run_more state next c (map letter here.0) is)
+              ∙ with_one_more far.taken c (run next (map letter here.0)) ∙ ap (λ t. with_letters (far.taken ++ (c ∷ [])) (run next (map letter t))) (sym same);
         }
 
     -- the letter does not go on
     pub stays : (c : ℕ) → look_at NonAsciiCodePoint (map letter rest) ≡ Ok (Some c) → after state c ≡ None → run start (map letter whole) ≡ Ok (record { letters = far.taken; state = state; next = Some c }, map letter rest)
     stays c e is =
         let here = first_is letter faithful rest c e in
-        far.read ∙ ap (λ (t : Text). with_letters far.taken (run state t)) here.2 ∙ ap (with_letters far.taken) (run_stays state c (map letter here.0) is) ∙ rw (append-nil far.taken, here.2) refl
+        far.read ∙ ap (λ t. with_letters far.taken (run state t)) here.2 ∙ ap (with_letters far.taken) (run_stays state c (map letter here.0) is)
+        ∙ rw (append-nil far.taken, here.2) refl
 
     -- there is no letter
     pub ends : look_at NonAsciiCodePoint (map letter rest) ≡ Ok None → run start (map letter whole) ≡ Ok (record { letters = far.taken; state = state; next = None }, map letter rest)
@@ -99,8 +95,9 @@ module _ {S : Type 0} (after : S → ℕ → Option S) where
 -- the units that were taken off are the front of those before
 pub front_is : {U : Type 0} (number : U → ℕ) (start after : List U) (taken rest whole : List ℕ) → map number start ≡ whole → whole ≡ taken ++ rest → map number after ≡ rest → map number (take (length start - length after) start) ≡ taken
 front_is number start after taken rest whole all split left =
-    let count : length start - length after ≡ length taken = omega (arith, sym (length-map start number), sym (length-map after number), ap (λ (t : List ℕ). length t) all, ap (λ (t : List ℕ). length t) split, ap (λ (t : List ℕ). length t) left, length-append taken rest) in
-    rw count (sym (take-map number (length taken) start) ∙ rw (all, split) (take-append-le (length taken) taken rest (omega arith) ∙ take_all (length taken) taken (omega arith)))
+    let count : length start - length after ≡ length taken =
+    omega (arith, length-map start number, length-map after number, ap length all, ap length split, ap length left, length-append taken rest) in
+    rw count (sym (take-map number _ start) ∙ rw (all, split) (take-append-le _ taken rest (omega arith) ∙ take_all _ taken (omega arith)))
 
 -- ---- readings that begin with letters
 
@@ -132,7 +129,7 @@ module _ {S : Type 0} (after : S → ℕ → Option S) (close : S → Option ℕ
   closed_on : (state : S) (c : ℕ) (rest : Text) (reading : S → Text → Read Fault (List ℕ)) → IsRun reading → ((next : S) → reading next rest ≡ closed_run next rest) → (next : Option S) → after state c ≡ next
       → reading state (Plain c ∷ rest) ≡ (on_letter next (λ n. one_more c (letters_by after n rest)) (Ok (nothing_taken state (Some c), Plain c ∷ rest)) >>= λ x. closed x.0.letters (close x.0.state x.0.next x.1))
   closed_on state c rest reading is same None e = is.at_other state c rest e
-  closed_on state c rest reading is same (Some next) e = is.at_letter state next c rest e ∙ ap (λ (read : Read Fault (List ℕ)). with_letter c read) (same next) ∙ closed_more c (letters_by after next rest)
+  closed_on state c rest reading is same (Some next) e = is.at_letter state next c rest e ∙ ap (λ read. with_letter c read) (same next) ∙ closed_more c _
 
   run_is : (reading : S → Text → Read Fault (List ℕ)) → IsRun reading → (state : S) (text : Text) → reading state text ≡ closed_run state text
   unfolding letters_by

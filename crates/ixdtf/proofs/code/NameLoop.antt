@@ -30,12 +30,12 @@ unfolding name_run
 name_is_run = record {
   at_end = λ letters. stops_so letters.may_end [];
   at_bad = λ letters rest. refl;
-  at_other = λ letters c rest is. other c letters.may_end rest (zone_char c) refl (slash c && letters.may_end) refl is;
-  at_letter = λ letters next c rest is. more c letters.may_end next rest (zone_char c) refl (slash c && letters.may_end) refl is;
+  at_other = λ letters c rest is. other c letters.may_end rest _ refl _ refl is;
+  at_letter = λ letters next c rest is. more c letters.may_end next rest _ refl _ refl is;
 }
   where
     after : Option Bool → Option NameLetters
-    after step = option_map (λ (may_end : Bool). record { may_end = may_end }) step
+    after step = option_map (λ may_end. record { may_end = may_end }) step
 
     other : (c : ℕ) (may_end : Bool) (rest : Text) (b : Bool) → zone_char c ≡ b → (d : Bool) → (slash c && may_end) ≡ d → after (if b then Some true else (if d then Some false else None)) ≡ None → name_run error_of may_end (Plain c ∷ rest) ≡ closed [] (name_ends may_end (Plain c ∷ rest))
     other c may_end rest true p d q e = absurd cc
@@ -48,13 +48,10 @@ name_is_run = record {
     more c may_end next rest false p false q e = absurd cc
 
 pub name_failed : (text : Text) (fault : Fault) → letters_by name_after (record { may_end = true }) text ≡ Err fault → name_run error_of true text ≡ Err fault
-name_failed text fault e = run_failed name_after name_close reading name_is_run (record { may_end = true }) text fault e
+name_failed text fault e = run_failed _ _ _ name_is_run (record { may_end = true }) text fault e
 
 pub name_ended : (text rest : Text) (taken : Taken NameLetters) → letters_by name_after (record { may_end = true }) text ≡ Ok (taken, rest) → taken.state.may_end ≡ true → name_run error_of true text ≡ Ok (taken.letters, rest)
-name_ended text rest taken e is = run_closes name_after name_close reading name_is_run (record { may_end = true }) text rest taken e ∙ rw is refl
+name_ended text rest taken e is = run_closes _ _ _ name_is_run (record { may_end = true }) text rest taken e ∙ rw is refl
 
 pub name_refused : (text rest : Text) (taken : Taken NameLetters) → letters_by name_after (record { may_end = true }) text ≡ Ok (taken, rest) → taken.state.may_end ≡ false → name_run error_of true text ≡ Err IanaCharPostSeparator
-name_refused text rest taken e is = run_closes name_after name_close reading name_is_run (record { may_end = true }) text rest taken e ∙ rw is refl
-
--- the names that the code takes off
-pub ruleset names = (name_failed, name_ended, name_refused)
+name_refused text rest taken e is = run_closes _ _ _ name_is_run (record { may_end = true }) text rest taken e ∙ rw is refl

@@ -22,7 +22,7 @@ length-padded (suc count) number = omega (arith, length-padded count number)
 -- the number of two texts, one after the other
 pub decimal-append : (a b : Text) → decimal (a ++ b) ≡ decimal a * 10 ^ length b + decimal b
 decimal-append [] b = omega arith
-decimal-append (c ∷ a) b = rw (length-append a b, pow-add 10 (length a) (length b), decimal-append a b) (omega arith)
+decimal-append (c ∷ a) b = rw (length-append a b, pow-add 10 _ _, decimal-append a b) (omega arith)
 
 -- divided by a power of ten, and then by another
 divided_twice : (i j number : ℕ) → number / 10 ^ (i + j) ≡ number / 10 ^ i / 10 ^ j
@@ -43,7 +43,7 @@ decimal-padded (suc first) left (suc count) number e =
     let enough : first ≤ length (padded_digits count number) = omega (arith, length-padded count number) in
     let power : number / 10 ^ count ≡ number / 10 ^ left / 10 ^ first = ap (λ k. number / 10 ^ k) split ∙ divided_twice left first number in
     let tail : decimal (take first (padded_digits count number)) ≡ number / 10 ^ left % 10 ^ first = decimal-padded first left count number (omega arith) in
-    rw (length-take-le first (padded_digits count number) enough, tail, power) (digit_in_front first (number / 10 ^ left))
+    rw (length-take-le first _ enough, tail, power) (digit_in_front first (number / 10 ^ left))
 
 -- the first digits of zero are zero
 pub decimal-zeros : (first count : ℕ) → first ≤ count → decimal (take first (padded_digits count 0)) ≡ 0
@@ -53,7 +53,7 @@ decimal-zeros first count h =
 -- the number of all padded digits of a number that fits
 pub decimal-whole : (count number : ℕ) → number < 10 ^ count → decimal (padded_digits count number) ≡ number
 decimal-whole count number fits =
-    let all : take count (padded_digits count number) ≡ padded_digits count number = take_all count (padded_digits count number) (omega (arith, length-padded count number)) in
+    let all : take count (padded_digits count number) ≡ padded_digits count number = take_all count _ (omega (arith, length-padded count number)) in
     sym (ap decimal all) ∙ decimal-padded count 0 count number (omega arith) ∙ rw div-one (mod-eq_of_lt fits)
 
 -- fewer digits than are wanted: zeros fill the number on the right
@@ -65,7 +65,7 @@ filled wanted count more number e fits =
     let none : decimal (take more zeros) ≡ 0 = decimal-zeros more wanted (omega arith) in
     ap (λ k. decimal (take k (digits ++ zeros))) room ∙
     ap decimal (take-append-add digits zeros more) ∙
-    decimal-append digits (take more zeros) ∙
+    decimal-append digits _ ∙
     rw (length-take-le more zeros enough, none, decimal-whole count number fits) (omega arith)
 
 -- without its last digits a number has the others
@@ -111,7 +111,7 @@ pub nanoseconds-many : (count value power : ℕ) → 9 < count → value < 10 ^ 
 nanoseconds-many count value power many fits is_power =
     let more : min count 18 ≡ 9 + (min count 18 - 9) = omega arith in
     rw is_power (record {
-      value = sym (cut 9 (min count 18 - 9) (min count 18) value (padded_digits 9 0) more fits);
+      value = sym (cut 9 (min count 18 - 9) (min count 18) value _ more fits);
       small = many-small (min count 18 - 9) 9 (min count 18) value more fits;
     })
 

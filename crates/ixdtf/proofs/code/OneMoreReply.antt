@@ -1,5 +1,5 @@
 -- One more reply at the end of a list of replies.
-use Rattle.std.proofs.Common.{◌≡◌, ◌⊎◌, List, [], ◌∷◌, ◌++◌, Option, Some, None, refl, ◌∙◌, ap, subst, inl, inr, append_assoc}
+use Rattle.std.proofs.Common.{◌≡◌, ◌⊎◌, List, [], ◌∷◌, ◌++◌, Option, Some, None, refl, ◌∙◌, ap, inl, inr, append_assoc}
 use Rattle.std.specs.Prelude.{find, filter_map}
 use Rattle.std.specs.Option.{option_or}
 use Rattle.std.proofs.lemmas.List.Elements.{filter_map-append}
@@ -41,7 +41,7 @@ pub NoneRefused-more : (replies : List Reply) (reply : Reply) → NoneRefused re
 NoneRefused-more replies reply accepted more = record {
   none = λ earlier later x fault split refused.
       elim (split_more replies reply earlier later x split) [
-        | inl p ↦ more fault (subst (λ a. IsRefused replies a fault) p.1 (subst (λ b. IsRefused b x fault) p.0 refused))
+        | inl p ↦ more fault (rw (← p.1) (rw (← p.0) refused))
         | inr p ↦ accepted.none earlier p.0 x fault p.1 refused
       ];
 }
@@ -49,7 +49,7 @@ NoneRefused-more replies reply accepted more = record {
 -- where the last reply is refused, not every reply stands, nor with more replies behind
 pub refused_last : (replies more : List Reply) (fault : Fault) → LastRefused replies fault → ¬ (NoneRefused (replies ++ more))
 refused_last replies more fault last none =
-    none.none last.earlier more last.reply fault (ap (λ all. all ++ more) last.split ∙ append_assoc last.earlier (last.reply ∷ []) more) last.refused
+    none.none last.earlier more last.reply fault (ap (λ all. all ++ more) last.split ∙ append_assoc last.earlier _ more) last.refused
 
 -- ---- one reply
 

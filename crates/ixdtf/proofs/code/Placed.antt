@@ -1,17 +1,16 @@
 -- What was read of a whole text, by the record that it was written into.
-use Rattle.std.proofs.Common.{◌≡◌, ℕ, true, false, List, Option, None, Ok, Err, sym, subst}
+use Rattle.std.proofs.Common.{◌≡◌, ℕ, true, false, List, Option, None, Ok, Err}
 use Rattle.ixdtf.specs.declared.records.IxdtfParseRecord.{IxdtfParseRecord}
 use Rattle.ixdtf.specs.language.Letters.{Text}
 use Rattle.ixdtf.specs.language.Cores.{Core}
 use Rattle.ixdtf.specs.language.Brackets.{Pair}
 use Rattle.ixdtf.specs.language.Languages.{Parsed, parsed_with}
-use Rattle.ixdtf.specs.language.Readers.Reader.{bracketed}
 use Rattle.ixdtf.specs.table.Faults.{Fault}
 use Rattle.ixdtf.specs.Handlers.{Step, with_calendar, calendar_value}
 use Rattle.ixdtf.specs.Views.{parsed_of}
 use Rattle.ixdtf.specs.reading.Looks.{error_of}
 use Rattle.ixdtf.specs.reading.Brackets.{Bracket, zone_in, pairs_in, bracket_at}
-use Rattle.ixdtf.specs.reading.Chains.{PairsRead, TextRead, TextReadAfter}
+use Rattle.ixdtf.specs.reading.Chains.{PairsRead, TextReadAfter}
 use Rattle.ixdtf.specs.reading.Clauses.{core_in}
 use Rattle.ixdtf.proofs.code.Tail.{core_alone, first_read}
 
@@ -21,16 +20,16 @@ no_brackets number found p q = cc
 
 module _ {T U F : Type 0} (number : U → ℕ) (step : Step T U F) (handler : F) where
   pub placed_alone : (core : Core) (rest : Text) (found : Parsed) → found ≡ with_calendar (parsed_with core None) None → TextReadAfter number step handler handler core false rest (Ok found)
-  placed_alone core rest found is kind text read = subst (λ p. TextRead number step handler handler (bracketed kind) text (Ok p)) (sym is) (core_alone number step handler core rest kind text read)
+  placed_alone core rest found is kind text read = rw is (core_alone number step handler core rest kind text read)
 
   pub placed : (core : Core) (inner : Text) (last : F) (bracket : Bracket) (first : List Pair) (rest : Text) (calendar : Option Pair) (found : Parsed)
       → bracket_at error_of inner ≡ Ok (bracket, rest) → first ≡ pairs_in bracket → PairsRead number step handler last first rest (Ok calendar)
       → found ≡ with_calendar (parsed_with core (zone_in bracket)) (calendar_value calendar) → TextReadAfter number step handler last core true inner (Ok found)
   placed core inner last bracket first rest calendar found is same pairs has kind text read =
-      subst (λ p. TextRead number step handler last (bracketed kind) text (Ok p)) (sym has)
-      (first_read number step handler core inner last bracket rest (Ok calendar) is (subst (λ ps. PairsRead number step handler last ps rest (Ok calendar)) same pairs) kind text read)
+      rw has
+      (first_read number step handler core inner last bracket rest (Ok calendar) is (rw (← same) pairs) kind text read)
 
   pub placed_fault : (core : Core) (inner : Text) (last : F) (bracket : Bracket) (first : List Pair) (rest : Text) (fault : Fault)
       → bracket_at error_of inner ≡ Ok (bracket, rest) → first ≡ pairs_in bracket → PairsRead number step handler last first rest (Err fault) → TextReadAfter number step handler last core true inner (Err fault)
   placed_fault core inner last bracket first rest fault is same pairs =
-      first_read number step handler core inner last bracket rest (Err fault) is (subst (λ ps. PairsRead number step handler last ps rest (Err fault)) same pairs)
+      first_read number step handler core inner last bracket rest (Err fault) is (rw (← same) pairs)

@@ -1,5 +1,5 @@
 -- The clauses of a reader that reads no pairs, from what its reading returns.
-use Rattle.std.proofs.Common.{refl, ◌≡◌, ℕ, List, [], map, Result, Ok, Err, sym, ap, ◌∙◌, subst, IfErr, OnOk, IsFalse}
+use Rattle.std.proofs.Common.{refl, ◌≡◌, ℕ, List, [], map, Result, Ok, Err, sym, ap, ◌∙◌, IfErr, OnOk, IsFalse}
 use Rattle.ixdtf.specs.language.Letters.{Letter, Text}
 use Rattle.ixdtf.specs.table.Faults.{Fault, fault_of, never_comes}
 use Rattle.ixdtf.specs.declared.stop.Stop.{Stop}
@@ -59,7 +59,7 @@ module _ {A : Type 0} (reader : Reader) (found : A → Found) (same : (x y : A) 
   Returned read = OnWhole error_after reader text read
 
   returned_here : (read : Read Fault A) → reading ≡ read → Returned (finding found read)
-  returned_here read is = subst Returned (reads ∙ ap (finding found) is) (whole_read error_after reader text)
+  returned_here read is = rw (← (reads ∙ ap (finding found) is)) (whole_read error_after reader text)
 
   -- all of the text was read
   nothing_left : (x : A) (rest : Text) → reading ≡ Ok (x, rest) → rest ≡ []
@@ -68,8 +68,10 @@ module _ {A : Type 0} (reader : Reader) (found : A → Found) (same : (x y : A) 
   -- `Ok` exactly where it is derived
   ok_where_derived : (x : A) (rest : Text) → reading ≡ Ok (x, rest) → (y : A) → (done x ≡ done y → Derives reader text (found y) []) × (Derives reader text (found y) [] → done x ≡ done y)
   ok_where_derived x rest is y = (
-    λ e. subst (λ z. Derives reader text (found z) []) (done_is x y e) (returned_here (Ok (x, rest)) is).1,
-    λ d. ap done (same x y (ap (λ (p : (Found × List Pair) × Text). p.0.0) (done_is ((found x, []), rest) ((found y, []), []) (sym (reads ∙ ap (finding found) is) ∙ takes error_after reader text (found y) [] d)))),
+    λ e. rw (← (done_is x y e)) (returned_here (Ok (x, rest)) is).1,
+    λ d.
+        let read = done_is ((found x, []), rest) ((found y, []), []) (sym (reads ∙ ap (finding found) is) ∙ takes error_after reader text (found y) [] d) in
+        ap done (same x y (ap (λ p. p.0.0) read)),
   )
 
   -- what that says of the text
@@ -85,7 +87,7 @@ module _ {A : Type 0} (reader : Reader) (found : A → Found) (same : (x y : A) 
 
   -- a fault is the error of a row that fits
   err_where_fits : (fault : Fault) → reading ≡ Err fault → ReadsNoPairs reader → HasFault reader text [] fault
-  err_where_fits fault is none = let row = returned_here (Err fault) is in (row.1, no_pairs reader row.1 row.0 text none row.3, sym row.2)
+  err_where_fits fault is none = let row = returned_here _ is in (row.1, no_pairs reader row.1 row.0 text none row.3, sym row.2)
 
 -- What a public reader returned, where its private one read so and its cursor settled with that.
 module _ {U A : Type 0} (letter : ℕ → Letter) (view : U → A) (reader : Reader) (found : A → Found) (same : (x y : A) → found x ≡ found y → x ≡ y) (none : ReadsNoPairs reader) (reading : Text → Read Fault A) (old new : Unread) (reads : read_at error_after reader (map letter old.rest) ≡ finding found (reading (map letter old.rest))) where
@@ -100,7 +102,7 @@ module _ {U A : Type 0} (letter : ℕ → Letter) (view : U → A) (reader : Rea
     pub empty : (left : List ℕ) → OnOk result (left ≡ new.rest) → OnOk result (left ≡ [])
 
   pub exact : (read : Result U Stop) (result : Result U ParseError) → Reads letter view old read new reading → Settles fault_of read result → Exact result
-  exact (Ok x) (Ok y) h s = let read = accepted_where_read reader found same (map letter old.rest) _ reads (view x) (map letter new.rest) h in record {
+  exact (Ok x) (Ok y) h s = let read = accepted_where_read reader found same _ _ reads (view x) _ h in record {
     ok = rw s (ok_where_derived reader found same (map letter old.rest) _ reads (view x) (map letter new.rest) h);
     err = tt;
     comes = tt;
@@ -114,10 +116,10 @@ module _ {U A : Type 0} (letter : ℕ → Letter) (view : U → A) (reader : Rea
   exact (Err stop) (Err e) h s = let fits : HasFault reader (map letter old.rest) [] (fault_of e) = rw s (err_where_fits reader found same (map letter old.rest) _ reads (fault_of_stop stop) h none) in record {
     ok = rw s (err_where_refused reader found same (map letter old.rest) _ reads (fault_of_stop stop) h);
     err = fits;
-    comes = fault_comes reader (map letter old.rest) [] (fault_of e) fits;
+    comes = fault_comes reader _ [] (fault_of e) fits;
     no_row = tt;
     alone = λ is. tt;
-    only = only_fault reader (map letter old.rest) [] (fault_of e) fits;
+    only = only_fault reader _ [] (fault_of e) fits;
     empty = λ left is. tt;
   }
 

@@ -41,7 +41,7 @@ not_at_end c more rest none (inl h) is = let cells : [] ≡ c ∷ more = sym h �
 not_at_end c more rest none (inr h) is =
     let cells : c ∷ more ≡ Plain 91 ∷ h.0 = sym is ∙ h.1 in
     let same : c ≡ Plain 91 = cc in
-    both_ways (outside 91) (subst Inside same none) refl
+    both_ways _ (subst Inside same none) refl
 
 -- a front with none of these letters is one of the core
 pub in_core : (front after cores rest : Text) → AllInside front → CoreEnds rest → cores ++ rest ≡ front ++ after → (more : Text) × (cores ≡ front ++ more)

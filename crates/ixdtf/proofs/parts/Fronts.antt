@@ -43,11 +43,11 @@ exact part text (Ok x) stopped gives takes = (λ h. (gives.0, x.1, gives.1, (x.0
 exact part text (Err e) stopped gives takes = (λ h. absurd (both_ways false refl h), λ h. ap is_read (takes h.0 h.3.0 h.1 h.2 h.3.1))
 
 pub month_day_begins_exact : (text : Text) → Exact (month_day_begins text) (HasFront (some (IsMonthDay least_day)) text)
-month_day_begins_exact text = exact (IsMonthDay least_day) text (month_day_at error_of text) _ (month_day_read error_of text)
+month_day_begins_exact text = exact _ text _ _ (month_day_read error_of text)
     (λ front date rest is h. ap (month_day_at error_of) is ∙ month_day_takes error_of front date rest h)
 
 pub year_month_begins_exact : (text : Text) → Exact (year_month_begins text) (HasFront (some IsYearMonth) text)
-year_month_begins_exact text = exact IsYearMonth text (year_month_at error_of text) _ (year_month_read error_of text)
+year_month_begins_exact text = exact IsYearMonth text _ _ (year_month_read error_of text)
     (λ front date rest is h. ap (year_month_at error_of) is ∙ year_month_takes error_of front date rest h)
 
 -- ---- fronts of a core, and of the text with what stands after the core
@@ -59,18 +59,18 @@ front_in_core shape inside cores rest ends h = let more = in_core h.0 h.1 cores 
 -- what stands after a core makes no front of the text
 pub no_front_after : (cores rest : Text) → CoreEnds rest → HasNoDateFront cores → HasNoDateFront (cores ++ rest)
 no_front_after cores rest ends none = (
-  (λ h. none.0 (front_in_core (some (IsMonthDay least_day)) (λ t front. in_month_day t front.0 front.1.0) cores rest ends h)),
-  λ h. none.1 (front_in_core (some IsYearMonth) (λ t front. in_year_month t front.0 front.1) cores rest ends h),
+  (λ h. none.0 (front_in_core _ (λ t front. in_month_day t front.0 front.1.0) cores rest ends h)),
+  λ h. none.1 (front_in_core _ (λ t front. in_year_month t front.0 front.1) cores rest ends h),
 )
 
 longer_front : (shape : Shape) (cores rest : Text) → HasFront shape cores → HasFront shape (cores ++ rest)
-longer_front shape cores rest h = (h.0, h.1 ++ rest, ap (λ (t : Text). t ++ rest) h.2 ∙ append_assoc h.0 h.1 rest, h.3, tt)
+longer_front shape cores rest h = (h.0, h.1 ++ rest, ap (λ t. t ++ rest) h.2 ∙ append_assoc h.0 h.1 rest, h.3, tt)
 
 -- a month-day in front of a core and what stands after it is one whatever stands after
 pub month_day_front_stays : (cores rest other_rest : Text) → CoreEnds rest → HasFront (some (IsMonthDay least_day)) (cores ++ rest)
     → HasFront (some (IsMonthDay least_day)) (cores ++ other_rest)
 month_day_front_stays cores rest other_rest ends h =
-    longer_front (some (IsMonthDay least_day)) cores other_rest (front_in_core (some (IsMonthDay least_day)) (λ t front. in_month_day t front.0 front.1.0) cores rest ends h)
+    longer_front _ cores other_rest (front_in_core _ (λ t front. in_month_day t front.0 front.1.0) cores rest ends h)
 
 -- a front of the core is one of the text
 pub no_front_of : (cores rest : Text) → HasNoDateFront (cores ++ rest) → HasNoDateFront cores
@@ -98,22 +98,22 @@ module _ (text : Text) where
     month_day_stops h = rw ((month_day_begins_exact text).1 h) refl
 
     pub year_month_stops : YearMonthBegins → ¬ MonthDayBegins → unfronted fault text read ≡ Err (fault year_month_front)
-    year_month_stops h none = rw (not_there (month_day_begins text) _ (month_day_begins_exact text) none, (year_month_begins_exact text).1 h) refl
+    year_month_stops h none = rw (not_there _ _ (month_day_begins_exact text) none, (year_month_begins_exact text).1 h) refl
 
     -- without such a front reading goes on
     pub unfronted_goes : HasNoDateFront text → unfronted fault text read ≡ read
     unfronted_goes none =
-        let no_month_day = not_there (month_day_begins text) _ (month_day_begins_exact text) none.0 in
-        let no_year_month = not_there (year_month_begins text) _ (year_month_begins_exact text) none.1 in
+        let no_month_day = not_there _ _ (month_day_begins_exact text) none.0 in
+        let no_year_month = not_there _ _ (year_month_begins_exact text) none.1 in
         rw (no_month_day, no_year_month) refl
 
     -- and back
     pub unfronted_read : (found : A → Text → Type 0) (stopped : Row → Type 0) → (MonthDayBegins → stopped month_day_front)
         → (YearMonthBegins → ¬ MonthDayBegins → stopped year_month_front) → (HasNoDateFront text → OnRead fault read found stopped)
         → OnRead fault (unfronted fault text read) found stopped
-    unfronted_read found stopped at_month_day at_year_month goes = read_if fault (month_day_begins text) _ _ found stopped
+    unfronted_read found stopped at_month_day at_year_month goes = read_if fault _ _ _ found stopped
         (λ yes. (month_day_front, refl, at_month_day ((month_day_begins_exact text).0 yes)))
-        (λ fails. let none = none_there (month_day_begins text) _ (month_day_begins_exact text) fails in
-        read_if fault (year_month_begins text) _ _ found stopped
+        (λ fails. let none = none_there _ _ (month_day_begins_exact text) fails in
+        read_if fault _ _ _ found stopped
         (λ yes. (year_month_front, refl, at_year_month ((year_month_begins_exact text).0 yes) none))
         (λ neither. goes (none, none_there (year_month_begins text) _ (year_month_begins_exact text) neither)))

@@ -50,12 +50,12 @@ module _ {E : Type 0} (fault : Row → E) where
 
   over_joined : (parts : List Text) (text rest : Text) → Joined (one passed) parts text → sight_at fault (text ++ rest) ≡ sight_at fault rest
   over_joined [] text rest h = rw h refl
-  over_joined (part ∷ parts) text rest h = rw (h.1, h.2.1) (over_letter h.2.0 (h.0 ++ rest) h.2.2 ∙ over_joined parts h.0 rest h.3)
+  over_joined (part ∷ parts) text rest h = rw (h.1, h.2.1) (over_letter h.2.0 _ h.2.2 ∙ over_joined parts h.0 rest h.3)
 
   -- the letters of the line of the sight
   pub over_scanned : (text rest : Text) → LetterOfKey text → sight_at fault (text ++ rest) ≡ sight_at fault rest
   over_scanned text rest h =
-      rw (h.2, h.3.1) (over_letter h.3.0 (h.1 ++ rest) (key_lead_passed h.3.0 h.3.2) ∙ over_joined h.4.0 h.1 rest h.4.1)
+      rw (h.2, h.3.1) (over_letter h.3.0 _ (key_lead_passed h.3.0 h.3.2) ∙ over_joined h.4.0 h.1 rest h.4.1)
 
   pub sight_stops : (place : Place) (e : Fault) (rest : Text) → Stops (bracket_line first_bracket_scan) place e rest → sight_at fault rest ≡ Err (fault (row_of (of_bracket first_bracket_scan) place e))
   unfolding sight_at
@@ -111,12 +111,12 @@ module _ {E : Type 0} (fault : Row → E) where
   unfolding sight_at
   sight_read [] = ([], [], refl, ([], refl), end, abrupt_bracket, refl, (refl, refl))
   sight_read (Bad ∷ rest) = ([], Bad ∷ rest, refl, ([], refl), bad, NonAsciiCodePoint, refl, (rest, refl, refl))
-  sight_read (Plain c ∷ rest) = at_letter (equals c) (closing c) refl refl (sight_read rest)
+  sight_read (Plain c ∷ rest) = at_letter _ _ refl refl (sight_read rest)
     where
       at_letter : (b d : Bool) → equals c ≡ b → closing c ≡ d → OnSight fault rest (sight_at fault rest) → OnSight fault (Plain c ∷ rest) (if b then Ok true else (if d then Ok false else sight_at fault rest))
       at_letter true d is_equals is_closing more = ([], Plain c ∷ rest, refl, ([], refl), (Plain c ∷ [], rest, refl, (c, refl, is_equals), tt))
       at_letter false true no_equals is_closing more = ([], Plain c ∷ rest, refl, ([], refl), (Plain c ∷ [], rest, refl, (c, refl, is_closing), tt))
-      at_letter false false no_equals no_closing more = seen_more c rest (neither_passed c no_equals no_closing) (sight_at fault rest) more
+      at_letter false false no_equals no_closing more = seen_more c rest (neither_passed c no_equals no_closing) _ more
 
 -- ---- names read as names
 

@@ -1,5 +1,6 @@
 -- One look at a line: a letter that goes on is read further, a row that fits is returned; and back.
-use Rattle.std.proofs.Common.{◌≡◌, ℕ, zero, suc, ◌<◌, ◌⊎◌, Bool, true, false, IsTrue, IsFalse, [], ◌∷◌, ◌++◌, Ok, Err, Option, Some, None, refl, sym, ap, ◌∙◌, subst, inl, inr, arith, append_assoc, if◌then◌else◌}
+use Rattle.std.proofs.Common.{◌≡◌, ℕ, zero, suc, ◌<◌, ◌⊎◌, Bool, true, false, IsTrue, IsFalse, [], ◌∷◌, ◌++◌, Ok, Err, Option, Some, None, refl, sym, ap, ◌∙◌}
+use Rattle.std.proofs.Common.{inl, inr, arith, append_assoc, if◌then◌else◌}
 use Rattle.ixdtf.specs.language.Letters.{Text, Class, digit}
 use Rattle.ixdtf.specs.language.Letters.Letter.{Plain, Bad}
 use Rattle.ixdtf.specs.language.Shapes.{Shape, one, digits}
@@ -23,6 +24,11 @@ Stopped fault e stopped = (row : Row) × (e ≡ fault row) × stopped row
 abbrev pub OnRead : {E A : Type 0} → (Row → E) → Read E A → (A → Text → Type 0) → (Row → Type 0) → Type 0
 OnRead fault (Ok x) found stopped = found x.0 x.1
 OnRead fault (Err e) found stopped = (row : Row) × (e ≡ fault row) × stopped row
+
+-- ---- texts
+
+pub onto : (c : ℕ) {t u : Text} → t ≡ u → Plain c ∷ t ≡ Plain c ∷ u
+onto c e = ap (λ t. Plain c ∷ t) e
 
 -- ---- from reading to reading
 
@@ -51,7 +57,7 @@ pub record Leads {E A : Type 0} (start : Text → Read E A) (front : Text) (stag
 
 infixr 30 ◌before◌
 pub ◌before◌ : {E A : Type 0} {start middle stage : Text → Read E A} {first second : Text} → Leads start first middle → Leads middle second stage → Leads start (first ++ second) stage
-(to before from) = record { over = λ rest. rw append_assoc (to.over (_ ++ rest) ∙ from.over rest) }
+(to before from) = record { over = λ rest. rw append_assoc (to.over _ ∙ from.over rest) }
 
 -- reading returns so, over a front and at a rest
 pub record Yields {E A : Type 0} (start : Text → Read E A) (front rest : Text) (given : Read E A) : Type 0 where
@@ -59,7 +65,7 @@ pub record Yields {E A : Type 0} (start : Text → Read E A) (front rest : Text)
 
 infixr 30 ◌upto◌
 pub ◌upto◌ : {E A : Type 0} {start middle : Text → Read E A} {first second rest : Text} {given : Read E A} → Leads start first middle → Yields middle second rest given → Yields start (first ++ second) rest given
-◌upto◌ {second} {rest} to from = record { yields = rw append_assoc (to.over (second ++ rest) ∙ from.yields) }
+◌upto◌ {second} {rest} to from = record { yields = rw append_assoc (to.over _ ∙ from.yields) }
 
 -- reading halts at a fault, over a front and at a rest
 pub record Halts {E A : Type 0} (start : Text → Read E A) (front rest : Text) (e : E) : Type 0 where
@@ -67,7 +73,7 @@ pub record Halts {E A : Type 0} (start : Text → Read E A) (front rest : Text) 
 
 infixr 30 ◌till◌
 pub ◌till◌ : {E A : Type 0} {start middle : Text → Read E A} {first second rest : Text} {e : E} → Leads start first middle → Halts middle second rest e → Halts start (first ++ second) rest e
-◌till◌ {second} {rest} to from = record { halts = rw append_assoc (to.over (second ++ rest) ∙ from.halts) }
+◌till◌ {second} {rest} to from = record { halts = rw append_assoc (to.over _ ∙ from.halts) }
 
 -- ---- rows
 
@@ -83,16 +89,13 @@ IsWhole (whole front e) = Unit {0}
 -- a whole line has one row
 pub whole_row : {E A : Type 0} (fault : Row → E) (brackets : Bool) (read : Text → Read E A) (name : LineName) → IsWhole (line_of brackets name) → ((e : Fault) (front rest : Text) → front_of (line_of brackets name) front → Stops (line_of brackets name) anywhere e rest → read (front ++ rest) ≡ Err (fault (row_of name anywhere e))) → RowsRead fault brackets read name
 whole_row fault brackets read name is h place e front rest f at =
-    subst (λ p. read (front ++ rest) ≡ Err (fault (row_of name p e))) (sym (one_row (line_of brackets name) is place at))
-    (h e front rest f (subst (λ p. Stops (line_of brackets name) p e rest) (one_row (line_of brackets name) is place at) at))
+    rw (one_row (line_of brackets name) is place at)
+    (h e front rest f (rw (← (one_row (line_of brackets name) is place at)) at))
   where
     one_row : (l : Line) → IsWhole l → (p : Place) → Stops l p e rest → p ≡ anywhere
-    one_row (line f g n o) is p at = absurd is
-    one_row (scanned f d) is p at = absurd is
-    one_row (whole f d) is end at = absurd at
-    one_row (whole f d) is other at = absurd at
-    one_row (whole f d) is bad at = absurd at
     one_row (whole f d) is anywhere at = refl
+    one_row (whole f d) is p at = absurd at
+    one_row other_line is p at = absurd is
 
 -- the row is of a line of a part, and fits here
 abbrev pub FitsIn : {L : Type 0} → (L → LineName) → Bool → Row → Text → Type 0
@@ -100,11 +103,11 @@ FitsIn {L} part brackets row text = (l : L) × (row.name ≡ part l) × FitsHere
 
 pub fits_in : {L : Type 0} (part : L → LineName) (brackets : Bool) (l : L) (row : Row) (text front rest : Text) → row.name ≡ part l → text ≡ front ++ rest → front_of (line_of brackets (part l)) front → Stops (line_of brackets (part l)) row.place row.error rest → FitsIn part brackets row text
 fits_in part brackets l row text front rest is split shape stops =
-    (l, is, subst (λ (n : LineName). (f x : Text) × (text ≡ f ++ x) × front_of (line_of brackets n) f × Stops (line_of brackets n) row.place row.error x) (sym is) (front, rest, split, shape, stops))
+    (l, is, rw is (front, rest, split, shape, stops))
 
 -- the row fits the text, where it fits what stands after the parts before it
 pub lift : {L : Type 0} (part : L → LineName) (reader : Reader) (row : Row) (text prior body : Text) → text ≡ prior ++ body → ((l : L) → Before reader (part l) [] prior body) → FitsIn part (has_brackets reader) row body → Fits reader row [] text
-lift part reader row text prior body is at h = (prior, body, is, subst (λ n. Before reader n [] prior body) (sym h.1) (at h.0), h.2)
+lift part reader row text prior body is at h = (prior, body, is, rw h.1 (at h.0), h.2)
 
 -- the row of a whole line
 pub fits_whole_in : {E L : Type 0} (fault : Row → E) (part : L → LineName) (brackets : Bool) (l : L) (e : Fault) (text front rest : Text) → text ≡ front ++ rest → front_of (line_of brackets (part l)) front → Stops (line_of brackets (part l)) anywhere e rest → Stopped fault (fault (row_of (part l) anywhere e)) (λ row. FitsIn part brackets row text)
@@ -160,60 +163,48 @@ module _ {E : Type 0} (fault : Row → E) (name : LineName) (front : Shape) (goe
 
 module _ {E : Type 0} (fault : Row → E) (name : LineName) where
   pub goes : (c : ℕ) (rest : Text) → Looks (line_of true name) → Goes (line_of true name) c → letter_at fault name (Plain c ∷ rest) ≡ Ok (c, rest)
-  goes c rest looks h = go (line_of true name) looks h
+  goes c rest looks h = go _ looks h
     where
       go : (l : Line) → Looks l → Goes l c → next_by (look_of fault name l) (Plain c ∷ rest) ≡ Ok (c, rest)
       go (line front goes_on (error e) at_other) looks h = letter_goes fault name front goes_on e at_other c rest h
-      go (line front goes_on ok at_other) looks h = absurd looks
-      go (scanned front e) looks h = absurd looks
-      go (whole front e) looks h = absurd looks
+      go other_line looks h = absurd looks
 
   pub stops : (place : Place) (e : Fault) (rest : Text) → Looks (line_of true name) → Stops (line_of true name) place e rest → letter_at fault name rest ≡ Err (fault (row_of name place e))
-  stops place d rest looks h = go (line_of true name) looks h
+  stops place d rest looks h = go _ looks h
     where
       go : (l : Line) → Looks l → Stops l place d rest → next_by (look_of fault name l) rest ≡ Err (fault (row_of name place d))
       go (line front goes_on (error e) at_other) looks h = letter_stops fault name front goes_on e at_other place d rest h
-      go (line front goes_on ok at_other) looks h = absurd looks
-      go (scanned front e) looks h = absurd looks
-      go (whole front e) looks h = absurd looks
+      go other_line looks h = absurd looks
 
   pub read_letter : (text : Text) → Looks (line_of true name) → OnRead fault (letter_at fault name text) (λ c rest. (text ≡ Plain c ∷ rest) × Goes (line_of true name) c) (StopsHere name text)
-  read_letter text looks = go (line_of true name) looks
+  read_letter text looks = go _ looks
     where
       go : (l : Line) → Looks l → OnRead fault (next_by (look_of fault name l) text) (λ c rest. (text ≡ Plain c ∷ rest) × Goes l c) (λ row. (row.name ≡ name) × Stops l row.place row.error text)
       go (line front goes_on (error e) at_other) looks = letter_read fault name front goes_on e at_other text
-      go (line front goes_on ok at_other) looks = absurd looks
-      go (scanned front e) looks = absurd looks
-      go (whole front e) looks = absurd looks
+      go other_line looks = absurd looks
 
   pub digit_goes : (l : Line) (c : ℕ) → LooksForDigit l → IsTrue (digit c) → Goes l c
   digit_goes (line front goes_on (error e) at_other) c same h = same c ∙ h
-  digit_goes (line front goes_on ok at_other) c same h = absurd same
-  digit_goes (scanned front e) c same h = absurd same
-  digit_goes (whole front e) c same h = absurd same
+  digit_goes other_line c same h = absurd same
 
   goes_digit : (l : Line) (c : ℕ) → LooksForDigit l → Goes l c → IsTrue (digit c)
   goes_digit (line front goes_on (error e) at_other) c same h = sym (same c) ∙ h
-  goes_digit (line front goes_on ok at_other) c same h = absurd same
-  goes_digit (scanned front e) c same h = absurd same
-  goes_digit (whole front e) c same h = absurd same
+  goes_digit other_line c same h = absurd same
 
   pub digit_looks : (l : Line) → LooksForDigit l → Looks l
   digit_looks (line front goes_on (error e) at_other) same = tt
-  digit_looks (line front goes_on ok at_other) same = absurd same
-  digit_looks (scanned front e) same = absurd same
-  digit_looks (whole front e) same = absurd same
+  digit_looks other_line same = absurd same
 
   module _ (asks : LooksForDigit (line_of true name)) where
     looks : Looks (line_of true name)
-    looks = digit_looks (line_of true name) asks
+    looks = digit_looks _ asks
 
     pub digits_go : (n : ℕ) (ds rest : Text) → digits n ds → digits_at fault name n (ds ++ rest) ≡ Ok (ds, rest)
     unfolding digits_by
     digits_go zero ds rest h = rw h refl
     digits_go (suc n) ds rest h =
         rw h.2
-        (rw (goes h.0 (h.1 ++ rest) looks (digit_goes (line_of true name) h.0 asks h.3), digits_go n h.1 rest h.4) refl)
+        (rw (goes h.0 _ looks (digit_goes (line_of true name) h.0 asks h.3), digits_go n h.1 rest h.4) refl)
 
     pub digits_stop : (n k : ℕ) (ds rest : Text) (place : Place) (e : Fault) → k < n → digits k ds → Stops (line_of true name) place e rest → digits_at fault name n (ds ++ rest) ≡ Err (fault (row_of name place e))
     unfolding digits_by
@@ -221,7 +212,7 @@ module _ {E : Type 0} (fault : Row → E) (name : LineName) where
     digits_stop (suc n) zero ds rest place e less h at = rw (h, stops place e rest looks at) refl
     digits_stop (suc n) (suc k) ds rest place e less h at =
         rw h.2
-        (rw (goes h.0 (h.1 ++ rest) looks (digit_goes (line_of true name) h.0 asks h.3), digits_stop n k h.1 rest place e (omega arith) h.4 at) refl)
+        (rw (goes h.0 _ looks (digit_goes (line_of true name) h.0 asks h.3), digits_stop n k h.1 rest place e (omega arith) h.4 at) refl)
 
     pub digits_read : (n : ℕ) (text : Text) → OnRead fault (digits_at fault name n text) (λ ds rest. (text ≡ ds ++ rest) × digits n ds) (DigitsStop name n text)
     unfolding digits_by
@@ -229,8 +220,8 @@ module _ {E : Type 0} (fault : Row → E) (name : LineName) where
     digits_read (suc n) text =
         then_read fault (letter_at fault name text) _ _ _ _ _ (read_letter text looks)
         (λ c rest h. then_read fault (digits_at fault name n rest) _ _ _ _ _ (digits_read n rest)
-        (λ ds more g. (h.0 ∙ ap (λ t. Plain c ∷ t) g.0, (c, ds, refl, goes_digit (line_of true name) c asks h.1, g.1)))
-        (λ r g. (suc g.0, omega (arith, g.1), Plain c ∷ g.2, g.3, h.0 ∙ ap (λ t. Plain c ∷ t) g.4, (c, g.2, refl, goes_digit (line_of true name) c asks h.1, g.5), g.6)))
+        (λ ds more g. (h.0 ∙ onto c g.0, (c, ds, refl, goes_digit (line_of true name) c asks h.1, g.1)))
+        (λ r g. (suc g.0, omega (arith, g.1), Plain c ∷ g.2, g.3, h.0 ∙ onto c g.4, (c, g.2, refl, goes_digit (line_of true name) c asks h.1, g.5), g.6)))
         (λ r h. (zero, omega arith, [], text, refl, refl, h))
 
 -- where one digit is wanted, the row fits at once
@@ -291,7 +282,7 @@ module _ {E : Type 0} (fault : Row → E) (name : LineName) (front : Shape) (goe
   peek_stops anywhere e rest h = absurd h
 
   pub peek_line_read : (text : Text) → OnRead fault (peek_by (look_of fault name ends) text) (Peeked goes_on text) (λ row. (row.name ≡ name) × Stops ends row.place row.error text)
-  peek_line_read text = peek_read (look_of fault name ends) fault text _
+  peek_line_read text = peek_read _ fault text _
       (λ c rest next out. (row_of name other (at_other c), refl, (refl, (c, rest, next, out, refl))))
       (λ rest next. (row_of name bad NonAsciiCodePoint, refl, (refl, (rest, next, refl))))
 
@@ -329,8 +320,8 @@ module _ {E : Type 0} (at_bad : E) where
   run_bad (suc n) ds rest h = rw h.2 (rw (h.3, run_bad n h.1 rest h.4) refl)
 
   more_run : (c : ℕ) (rest : Text) → IsTrue (digit c) → (r : Read E Text) → OnRun at_bad rest r → OnRun at_bad (Plain c ∷ rest) (r >>= λ more. Ok (Plain c ∷ more.0, more.1))
-  more_run c rest d (Ok x) h = (ap (λ t. Plain c ∷ t) h.0, (suc h.1.0, (c, x.0, refl, d, h.1.1)), h.2)
-  more_run c rest d (Err e) h = (h.0, Plain c ∷ h.1, h.2, ap (λ t. Plain c ∷ t) h.3, suc h.4, (c, h.1, refl, d, h.5))
+  more_run c rest d (Ok x) h = (onto c h.0, (suc h.1.0, (c, x.0, refl, d, h.1.1)), h.2)
+  more_run c rest d (Err e) h = (h.0, Plain c ∷ h.1, h.2, onto c h.3, suc h.4, (c, h.1, refl, d, h.5))
 
   pub run_read : (text : Text) → OnRun at_bad text (digit_run at_bad text)
   unfolding digit_run
@@ -339,7 +330,7 @@ module _ {E : Type 0} (at_bad : E) where
   run_read (Plain c ∷ rest) = go (digit c) refl (run_read rest)
     where
       go : (b : Bool) → digit c ≡ b → OnRun at_bad rest (digit_run at_bad rest) → OnRun at_bad (Plain c ∷ rest) (if b then (digit_run at_bad rest >>= λ more. Ok (Plain c ∷ more.0, more.1)) else Ok ([], Plain c ∷ rest))
-      go true h more = more_run c rest h (digit_run at_bad rest) more
+      go true h more = more_run c rest h _ more
       go false h more = (refl, (zero, refl), h)
 
 -- ---- texts
@@ -347,6 +338,3 @@ module _ {E : Type 0} (at_bad : E) where
 -- a longer front
 pub further : (text front rest second more : Text) → text ≡ front ++ rest → rest ≡ second ++ more → text ≡ (front ++ second) ++ more
 further text front rest second more is next = rw append_assoc (is ∙ ap (λ t. front ++ t) next)
-
-pub onto : (c : ℕ) {t u : Text} → t ≡ u → Plain c ∷ t ≡ Plain c ∷ u
-onto c e = ap (λ t. Plain c ∷ t) e

@@ -1,7 +1,7 @@
 -- A hyphen that may stand before digits: where one stands it is taken off, and where a digit stands it stays; and back.
 use Rattle.std.proofs.Common.{◌≡◌, ℕ, zero, suc, ◌<◌, ◌⊎◌, Bool, true, false, IsTrue, IsFalse, [], ◌∷◌, ◌++◌, Ok, Err, refl, sym, ◌∙◌, inl, inr, arith}
 use Rattle.std.proofs.Common.{if◌then◌else◌}
-use Rattle.std.proofs.lemmas.Bool.{eqb-true}
+use Rattle.std.proofs.lemmas.Bool.{both_ways, eqb-true}
 use Rattle.std.proofs.lemmas.Bool.Decides.{nat_tests}
 use Rattle.ixdtf.specs.language.Letters.{Text, ◌or◌, digit, hyphen}
 use Rattle.ixdtf.specs.language.Letters.Letter.{Plain}
@@ -75,21 +75,15 @@ digits_start false n ds rest h = (h.0, h.1 ++ rest, rw h.2 refl, h.3)
 
 pub hyphen_looks : (l : Line) → LooksForHyphen l → Looks l
 hyphen_looks (line front goes_on (error e) at_other) same = tt
-hyphen_looks (line front goes_on ok at_other) same = absurd same
-hyphen_looks (scanned front e) same = absurd same
-hyphen_looks (whole front e) same = absurd same
+hyphen_looks other_line same = absurd same
 
 goes_so : (l : Line) (c : ℕ) → LooksForHyphen l → IsTrue ((hyphen or digit) c) → Goes l c
 goes_so (line front goes_on (error e) at_other) c same h = same c ∙ h
-goes_so (line front goes_on ok at_other) c same h = absurd same
-goes_so (scanned front e) c same h = absurd same
-goes_so (whole front e) c same h = absurd same
+goes_so other_line c same h = absurd same
 
 went_so : (l : Line) (c : ℕ) → LooksForHyphen l → Goes l c → IsTrue ((hyphen or digit) c)
 went_so (line front goes_on (error e) at_other) c same h = sym (same c) ∙ h
-went_so (line front goes_on ok at_other) c same h = absurd same
-went_so (scanned front e) c same h = absurd same
-went_so (whole front e) c same h = absurd same
+went_so other_line c same h = absurd same
 
 goes_over : (l : Line) (b : Bool) → LooksForHyphen l → GoesOver l b
 goes_over l true asks = goes_so l 45 asks refl
@@ -101,17 +95,10 @@ no_stop : (l : Line) (c : ℕ) (place : Place) (e : Fault) (text rest : Text) �
     → Stops l place e text → ⊥
 no_stop (line front goes_on (error d) at_other) c end e text rest same is h at = absurd cc
 no_stop (line front goes_on (error d) at_other) c other e text rest same is h at =
-    let letter : c ≡ at.0 = cc in
-    both (goes_on c) (same c ∙ h) (rw letter at.3)
-  where
-    both : (b : Bool) → b ≡ true → b ≡ false → ⊥
-    both true goes_on stays = absurd cc
-    both false goes_on stays = absurd cc
+    let letter : c ≡ at.0 = cc in both_ways (goes_on c) (rw letter at.3) (same c ∙ h)
 no_stop (line front goes_on (error d) at_other) c bad e text rest same is h at = absurd cc
 no_stop (line front goes_on (error d) at_other) c anywhere e text rest same is h at = at
-no_stop (line front goes_on ok at_other) c place e text rest same is h at = absurd same
-no_stop (scanned front d) c place e text rest same is h at = absurd same
-no_stop (whole front d) c place e text rest same is h at = absurd same
+no_stop other_line c place e text rest same is h at = absurd same
 
 -- where two digits are wanted and the first stands, the row fits after it
 pub stops_after : (b : Bool) (name : LineName) (text : Text) (row : Row) → LooksForDigit (line_of true name) → Starts b text → DigitsStop name 2 text row
@@ -122,7 +109,7 @@ stops_after b name text row asks starts g = go b g.0 g.1 g.5 starts
     go true zero less h starts = (g.2, g.3, g.4, inl h, g.6)
     go true (suc zero) less h starts = (g.2, g.3, g.4, inr (h.0, rw h.4 at h.2, h.3), g.6)
     go false zero less h starts =
-        absurd (no_stop (line_of true name) starts.0 row.place row.error g.3 starts.1 asks (sym (rw h at g.4) ∙ starts.2) starts.3 g.6.1)
+        absurd (no_stop _ starts.0 row.place row.error g.3 starts.1 asks (sym (rw h at g.4) ∙ starts.2) starts.3 g.6.1)
     go false (suc zero) less h starts = (g.2, g.3, g.4, (h.0, rw h.4 at h.2, h.3), g.6)
     go b (suc (suc k)) less h starts = absurd (omega arith)
 
@@ -163,7 +150,7 @@ module _ {E : Type 0} (fault : Row → E) (name : LineName) where
   -- a hyphen or none, where the line goes on with a hyphen or a digit
   pub hyphen_read : (text : Text) → LooksForHyphen (line_of true name)
       → OnRead fault (mark_at fault name hyphen text) (λ b rest. (text ≡ hyphens_of b ++ rest) × Starts b rest) (StopsHere name text)
-  hyphen_read text asks = read_weaker fault (mark_at fault name hyphen text) _ _ _ _ (mark_read text (hyphen_looks (line_of true name) asks)) by_mark
+  hyphen_read text asks = read_weaker fault _ _ _ _ _ (mark_read text (hyphen_looks (line_of true name) asks)) by_mark
       (λ row h. h)
     where
       by_mark : (b : Bool) (rest : Text) → Stood text b rest → (text ≡ hyphens_of b ++ rest) × Starts b rest

@@ -1,5 +1,5 @@
 -- A year is read exactly: a year gives its number and the rest, a row of a year's lines is returned; and back.
-use Rattle.std.proofs.Common.{◌≡◌, ◌≢◌, ℕ, Bool, true, false, IsTrue, IsFalse, [], ◌∷◌, ◌++◌, Ok, refl, ap, ◌∙◌, inl, inr, arith, ℤ, nat_eq, ◌&&◌}
+use Rattle.std.proofs.Common.{◌≡◌, ◌≢◌, ℕ, Bool, true, false, IsTrue, IsFalse, [], ◌∷◌, ◌++◌, Ok, refl, ◌∙◌, inl, inr, arith, ℤ, nat_eq, ◌&&◌}
 use Rattle.std.proofs.lemmas.Bool.{and_parts, and_from, both_ways, eqb-true, eq-eqb, ne_eqb}
 use Rattle.std.proofs.lemmas.Bool.Decides.{nat_tests}
 use Rattle.ixdtf.specs.language.Letters.{Text}
@@ -16,14 +16,15 @@ use Rattle.ixdtf.specs.table.Before.{BeforeDate}
 use Rattle.ixdtf.specs.table.Rows.{Row}
 use Rattle.ixdtf.specs.reading.Looks.{letter_at, digits_at}
 use Rattle.ixdtf.specs.reading.Dates.{year_at, plain_year_at, extended_year_at}
-use Rattle.ixdtf.proofs.parts.Looks.{OnRead, RowsRead, whole_row, FitsIn, fits_in, fits_whole_in, then_read, read_if, goes, stops, read_letter, digits_go, digits_stop, digits_read}
+use Rattle.ixdtf.proofs.parts.Looks.{OnRead, RowsRead, whole_row, FitsIn, fits_in, fits_whole_in, then_read, read_if, goes, stops, read_letter, digits_go}
+use Rattle.ixdtf.proofs.parts.Looks.{digits_stop, digits_read, onto}
 
 -- a digit is no sign
 digit_no_sign : (c : ℕ) → IsTrue (digit c) → IsFalse (sign c)
 digit_no_sign c h = grind (arith, nat_tests)
 
 no_minus_zero : (c n : ℕ) → (IsTrue (hyphen c) → n ≢ 0) → IsFalse (hyphen c && nat_eq n 0)
-no_minus_zero c n h = go (hyphen c) refl
+no_minus_zero c n h = go _ refl
   where
     go : (b : Bool) → hyphen c ≡ b → IsFalse (b && nat_eq n 0)
     go true is = ne_eqb n 0 (h is)
@@ -65,7 +66,7 @@ module _ {E : Type 0} (fault : Row → E) where
   module _ (brackets : Bool) where
     pub year_start_row : RowsRead fault brackets (year_at fault) (of_date year_start)
     unfolding year_at
-    year_start_row place e front rest f at = rw f (rw (stops fault (of_date year_start) place e rest tt at) refl)
+    year_start_row place e front rest f at = rw f (rw (stops fault _ place e rest tt at) refl)
 
     pub year_digits_row : RowsRead fault brackets (year_at fault) (of_date year_digits)
     unfolding plain_year_at
@@ -88,17 +89,24 @@ module _ {E : Type 0} (fault : Row → E) where
     plain_read : (text : Text) (c : ℕ) (rest : Text) → text ≡ Plain c ∷ rest → IsTrue (digit c) → OnRead fault (plain_year_at fault c rest) (YearFront text) (λ row. FitsIn in_year_or_month brackets row text)
     unfolding plain_year_at
     plain_read text c rest is h = then_read fault (digits_at fault (of_date year_digits) 3 rest) _ _ _ _ _ (digits_read fault (of_date year_digits) (λ d. refl) 3 rest)
-        (λ ds more g. (Plain c ∷ ds, is ∙ ap (λ t. Plain c ∷ t) g.0, inl ((c, ds, refl, h, g.1), refl)))
-        (λ r g. fits_in in_year_or_month brackets (year_digits, refl) r text (Plain c ∷ g.2) g.3 g.6.0 (is ∙ ap (λ t. Plain c ∷ t) g.4) (Plain c ∷ [], g.2, refl, (c, refl, h), (g.0, g.1, g.5)) g.6.1)
+        (λ ds more g. (Plain c ∷ ds, is ∙ onto c g.0, inl ((c, ds, refl, h, g.1), refl)))
+        (λ r g. fits_in in_year_or_month brackets (year_digits, refl) r text _ g.3 g.6.0 (is ∙ onto c g.4)
+        (Plain c ∷ [], g.2, refl, (c, refl, h), (g.0, g.1, g.5)) g.6.1)
 
     extended_read : (text : Text) (c : ℕ) (rest : Text) → text ≡ Plain c ∷ rest → IsTrue (sign c) → OnRead fault (extended_year_at fault c rest) (YearFront text) (λ row. FitsIn in_year_or_month brackets row text)
     unfolding extended_year_at
     extended_read text c rest is h = then_read fault (digits_at fault (of_date extended_year_digits) 6 rest) _ _ _ _ _ (digits_read fault (of_date extended_year_digits) (λ d. refl) 6 rest)
-        (λ ds more g. read_if fault (hyphen c && nat_eq (decimal ds) 0) _ _ _ _
+        (λ ds more g. read_if fault _ _ _ _ _
         (λ zero_year. let both : IsTrue (hyphen c) × IsTrue (nat_eq (decimal ds) 0) = and_parts _ _ zero_year in
-        fits_whole_in fault in_year_or_month brackets (minus_zero_year, refl) DateExtendedYear text (Plain c ∷ ds) more (is ∙ ap (λ t. Plain c ∷ t) g.0) (Plain c ∷ [], ds, refl, (c, refl, both.0), (g.1, eqb-true _ 0 both.1)) refl)
-        (λ not_zero. (Plain c ∷ ds, is ∙ ap (λ t. Plain c ∷ t) g.0, inr (record { c = c; ds = ds; is = refl; sign = h; digits = g.1; no_minus_zero = λ minus same. both_ways _ not_zero (and_from _ _ minus (eq-eqb _ 0 same)); value = refl }))))
-        (λ r g. fits_in in_year_or_month brackets (extended_year_digits, refl) r text (Plain c ∷ g.2) g.3 g.6.0 (is ∙ ap (λ t. Plain c ∷ t) g.4) (Plain c ∷ [], g.2, refl, (c, refl, h), (g.0, g.1, g.5)) g.6.1)
+        fits_whole_in fault in_year_or_month brackets (minus_zero_year, refl) DateExtendedYear text _ more (is ∙ onto c g.0)
+        (Plain c ∷ [], ds, refl, (c, refl, both.0), (g.1, eqb-true _ 0 both.1)) refl)
+        (λ not_zero. (
+          Plain c ∷ ds,
+          is ∙ onto c g.0,
+          inr (record { c = c; ds = ds; is = refl; sign = h; digits = g.1; no_minus_zero = λ minus same. both_ways _ not_zero (and_from _ _ minus (eq-eqb _ 0 same)); value = refl }),
+        )))
+        (λ r g. fits_in in_year_or_month brackets (extended_year_digits, refl) r text _ g.3 g.6.0 (is ∙ onto c g.4)
+        (Plain c ∷ [], g.2, refl, (c, refl, h), (g.0, g.1, g.5)) g.6.1)
 
     pub year_read : (text : Text) → OnRead fault (year_at fault text) (YearFront text) (λ row. FitsIn in_year_or_month brackets row text)
     unfolding year_at

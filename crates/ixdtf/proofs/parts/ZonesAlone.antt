@@ -21,7 +21,7 @@ use Rattle.ixdtf.specs.language.Readers.Reader.{parse_offset, parse_identifier, 
 use Rattle.ixdtf.specs.table.LineNames.LineName.{of_clock, of_offset, of_zone}
 use Rattle.ixdtf.specs.table.LineNames.OffsetLine.{offset_start}
 use Rattle.ixdtf.specs.table.LineNames.ZoneLine.{identifier_start, zone_name_start, in_zone_name, after_zone_slash}
-use Rattle.ixdtf.specs.table.Lines.{table, line_of, follow_of, zone_other}
+use Rattle.ixdtf.specs.table.Lines.{table, line_of, follow_of}
 use Rattle.ixdtf.specs.table.Before.{Before}
 use Rattle.ixdtf.specs.table.Rows.{Row, Place, Stops, Fits, front_of}
 use Rattle.ixdtf.specs.table.Rows.Place.{end, other, bad, anywhere}
@@ -41,7 +41,7 @@ lead_no_sign c h = grind (arith, h, nat_tests)
 
 -- what begins a zone and is no sign begins a name
 no_sign_lead : (c : ℕ) → IsTrue ((zone_lead or sign) c) → IsFalse (sign c) → IsTrue (zone_lead c)
-no_sign_lead c h unsigned = at (or_cases (zone_lead c) (sign c) h)
+no_sign_lead c h unsigned = at (or_cases _ (sign c) h)
   where
     at : (IsTrue (zone_lead c)) ⊎ (IsTrue (sign c)) → IsTrue (zone_lead c)
     at (inl g) = g
@@ -53,7 +53,7 @@ first_letter text h = (h.3.0, h.1, rw (h.2, h.3.1) refl, h.3.2)
 
 -- the same for the row where a name stops
 lift_name : (reader : Reader) (row : Row) (c : ℕ) (text more : Text) → text ≡ Plain c ∷ more → IsTrue (zone_lead c) → Before reader (of_zone in_zone_name) [] [] text → Before reader (of_zone after_zone_slash) [] [] text → FitsIn of_zone (has_brackets reader) row text → Fits reader row [] text
-lift_name reader row c text more is lead inside slashed f = ([], text, refl, at (name_lines (has_brackets reader) row c text more is lead f), f.2)
+lift_name reader row c text more is lead inside slashed f = ([], text, refl, at (name_lines _ row c text more is lead f), f.2)
   where
     at : (row.name ≡ of_zone in_zone_name) ⊎ (row.name ≡ of_zone after_zone_slash) → Before reader row.name [] [] text
     at (inl h) = rw h inside
@@ -91,8 +91,8 @@ module _ {E : Type 0} (fault : Row → E) where
 
     signed_alone_read : (c : ℕ) (body : Text) → IsTrue (sign c) → OnRead fault (signed_alone_at fault clock record_of c body) (λ found rest. (rest ≡ []) × IsSigned clock record_of (Plain c ∷ body) found) (λ row. FitsIn (of_clock clock) false row body)
     unfolding signed_alone_at
-    signed_alone_read c body signed = then_read fault (clock_at fault clock body) _ _ _ _ _ (clock_read fault false clock body)
-        (λ x left g. then_read fault (peek_by (follow_look fault false clock x) left) _ _ _ _ _ (clock_peek_read fault false clock body x left g refl)
+    signed_alone_read c body signed = then_read fault _ _ _ _ _ _ (clock_read fault false clock body)
+        (λ x left g. then_read fault _ _ _ _ _ _ (clock_peek_read fault false clock body x left g refl)
         (λ next last k. at_next x left g next last k)
         (λ r k. k))
         (λ r g. g)
@@ -110,17 +110,14 @@ module _ {E : Type 0} (fault : Row → E) where
   -- a sign leads to a time
   offset_lead : LeadsToTime clocks.Offset offset_record (offset_at fault)
   unfolding offset_at signed_alone_at
-  offset_lead c h body = rw (goes fault (of_offset offset_start) c body tt h) refl
+  offset_lead c h body = rw (goes fault _ c body tt h) refl
 
   pub offset_takes : (text : Text) (offset : UtcOffsetRecord) → IsOffset text offset → offset_at fault text ≡ Ok (offset, [])
-  offset_takes = signed_takes clocks.Offset offset_record (offset_at fault) offset_lead
-
-  offset_start_row : (place : Place) (e : Fault) (rest : Text) → Stops (table parse_offset (of_offset offset_start)) place e rest → offset_at fault rest ≡ Err (fault (row_of (of_offset offset_start) place e))
-  unfolding offset_at
-  offset_start_row place e rest at = rw (stops fault (of_offset offset_start) place e rest tt at) refl
+  offset_takes = signed_takes clocks.Offset offset_record _ offset_lead
 
   pub offset_rows : ReadsAllRows parse_offset (offset_at fault)
-  offset_rows (of_offset offset_start) pairs place e prior front rest b f at = rw (b.0, f) (offset_start_row place e rest at)
+  unfolding offset_at
+  offset_rows (of_offset offset_start) pairs place e prior front rest b f at = rw (b.0, f, stops fault (of_offset offset_start) place e rest tt at) refl
   offset_rows (of_clock clocks.Offset l) pairs place e prior front rest b f at = rw b.0.1 (clock_rows fault false clocks.Offset (offset_at fault) (signed_after clocks.Offset offset_record b.0.0) (Plain b.0.0 ∷ []) (offset_lead b.0.0 b.0.2) (signed_refuses clocks.Offset offset_record b.0.0) l place e front rest f at)
   offset_rows name pairs place e prior front rest b f at = absurd b.0
 
@@ -140,7 +137,7 @@ module _ {E : Type 0} (fault : Row → E) where
 
   alone_takes : (text : Text) (name : List ℕ) → IsZoneName text name → name_alone_at fault text ≡ Ok (name, [])
   unfolding name_alone_at
-  alone_takes text name h = rw (← append-nil text, name_takes fault text name [] h.0 h.1 (tt, tt), peek_end (name_look fault false none)) refl
+  alone_takes text name h = rw (← append-nil text, name_takes fault text name [] h.0 h.1 (tt, tt), peek_end _) refl
 
   -- the row after a name, and the row after its slash
   alone_row : (place : Place) (e : Fault) (front rest : Text) → ZoneName front → Stops (line_of false (of_zone in_zone_name)) place e rest → name_alone_at fault (front ++ rest) ≡ Err (fault (row_of (of_zone in_zone_name) place e))
@@ -164,11 +161,11 @@ module _ {E : Type 0} (fault : Row → E) where
   -- from its first letter on
   alone_read : (c : ℕ) (text more : Text) → text ≡ Plain c ∷ more → IsTrue (zone_lead c) → OnRead fault (name_alone_at fault text) (λ name rest. (rest ≡ []) × IsZoneName text name) (λ row. FitsIn of_zone false row text)
   unfolding name_alone_at
-  alone_read c text more is lead = then_read fault (name_run fault true text) _ _ _ _ _ (name_read fault false c text more is lead)
-      (λ name rest h. then_read fault (peek_by (name_look fault false none) rest) _ _ _ _ _
-      (peek_read (name_look fault false none) fault rest (λ row. FitsIn of_zone false row text)
+  alone_read c text more is lead = then_read fault _ _ _ _ _ _ (name_read fault false c text more is lead)
+      (λ name rest h. then_read fault _ _ _ _ _ _
+      (peek_read _ fault rest (λ row. FitsIn of_zone false row text)
       (λ d left next out. let apart : NotNext zone_char (Plain d ∷ left) × NotNext slash (Plain d ∷ left) = rw next at h.4 in
-      (row_of (of_zone in_zone_name) other (zone_other false d), refl, name_stops_here fault false other (zone_other false d) text h.0 rest h.1 h.2 (d, left, next, or_from _ _ apart.0 apart.1, refl)))
+      (row_of _ other _, refl, name_stops_here fault false other _ text h.0 rest h.1 h.2 (d, left, next, or_from _ _ apart.0 apart.1, refl)))
       (λ left next. absurd ((rw next at h.4).0)))
       (λ next left g. at_next name rest h next left g)
       (λ r g. g))
@@ -181,17 +178,15 @@ module _ {E : Type 0} (fault : Row → E) where
   -- a name is read from its first letter on
   iana_lead : (text rest : Text) → ZoneName text → iana_identifier_at fault (text ++ rest) ≡ name_alone_at fault (text ++ rest)
   unfolding iana_identifier_at
-  iana_lead text rest h = let first = first_letter text h in rw first.2 (rw (goes fault (of_zone zone_name_start) first.0 (first.1 ++ rest) tt first.3) refl)
+  iana_lead text rest h = let first = first_letter text h in rw first.2 (rw (goes fault _ first.0 _ tt first.3) refl)
 
   pub iana_identifier_takes : (text : Text) (name : List ℕ) → IsZoneName text name → iana_identifier_at fault text ≡ Ok (name, [])
   iana_identifier_takes text name h = ap (iana_identifier_at fault) (sym (append-nil text)) ∙ iana_lead text [] h.0 ∙ ap (name_alone_at fault) (append-nil text) ∙ alone_takes text name h
 
-  iana_start_row : (place : Place) (e : Fault) (rest : Text) → Stops (table parse_iana_identifier (of_zone zone_name_start)) place e rest → iana_identifier_at fault rest ≡ Err (fault (row_of (of_zone zone_name_start) place e))
-  unfolding iana_identifier_at
-  iana_start_row place e rest at = rw (stops fault (of_zone zone_name_start) place e rest tt at) refl
-
   pub iana_identifier_rows : ReadsAllRows parse_iana_identifier (iana_identifier_at fault)
-  iana_identifier_rows (of_zone zone_name_start) pairs place e prior front rest b f at = rw (b.0, f) (iana_start_row place e rest at)
+  unfolding iana_identifier_at
+  iana_identifier_rows (of_zone zone_name_start) pairs place e prior front rest b f at =
+      rw (b.0, f, stops fault (of_zone zone_name_start) place e rest tt at) refl
   iana_identifier_rows (of_zone in_zone_name) pairs place e prior front rest b f at = rw b.0 (iana_lead front rest f ∙ alone_row place e front rest f at)
   iana_identifier_rows (of_zone after_zone_slash) pairs place e prior front rest b f at =
       let name : iana_identifier_at fault (front ++ rest) ≡ name_alone_at fault (front ++ rest) = rw (f.2, append_assoc) (iana_lead f.0 (f.1 ++ rest) f.3) in
@@ -215,11 +210,12 @@ module _ {E : Type 0} (fault : Row → E) where
   -- a sign leads to a time, and the first letter of a name to a name
   zone_sign_lead : LeadsToTime clocks.MinuteOffset zone_record (identifier_at fault)
   unfolding identifier_at signed_alone_at
-  zone_sign_lead c h body = rw (goes fault (of_zone identifier_start) c body tt (or_right _ _ h), h) refl
+  zone_sign_lead c h body = rw (goes fault _ c body tt (or_right _ _ h), h) refl
 
   zone_name_lead : (text rest : Text) → ZoneName text → identifier_at fault (text ++ rest) ≡ as_zone (name_alone_at fault (text ++ rest))
   unfolding identifier_at
-  zone_name_lead text rest h = let first = first_letter text h in rw first.2 (rw (goes fault (of_zone identifier_start) first.0 (first.1 ++ rest) tt (or_left _ _ first.3), lead_no_sign first.0 first.3) refl)
+  zone_name_lead text rest h = let first = first_letter text h in
+      rw first.2 (rw (goes fault _ first.0 _ tt (or_left _ _ first.3), lead_no_sign first.0 first.3) refl)
 
   -- the offset of a zone, as the zone
   zone_of_offset : (text : Text) (zone : Zone) (offset : MinutePrecisionOffset) → IsMinuteOffset text offset → zone ≡ Offset offset → IsSigned clocks.MinuteOffset zone_record text zone
@@ -229,12 +225,9 @@ module _ {E : Type 0} (fault : Row → E) where
   identifier_takes text zone (inl h) = rw h.2 (ap (identifier_at fault) (sym (append-nil text)) ∙ zone_name_lead text [] h.1.0 ∙ ap (λ t. as_zone (name_alone_at fault t)) (append-nil text) ∙ rw (alone_takes text h.0 h.1) refl)
   identifier_takes text zone (inr (offset, h, is)) = signed_takes clocks.MinuteOffset zone_record (identifier_at fault) zone_sign_lead text zone (zone_of_offset text zone offset h is)
 
-  zone_start_row : (place : Place) (e : Fault) (rest : Text) → Stops (table parse_identifier (of_zone identifier_start)) place e rest → identifier_at fault rest ≡ Err (fault (row_of (of_zone identifier_start) place e))
-  unfolding identifier_at
-  zone_start_row place e rest at = rw (stops fault (of_zone identifier_start) place e rest tt at) refl
-
   pub identifier_rows : ReadsAllRows parse_identifier (identifier_at fault)
-  identifier_rows (of_zone identifier_start) pairs place e prior front rest b f at = rw (b.0, f) (zone_start_row place e rest at)
+  unfolding identifier_at
+  identifier_rows (of_zone identifier_start) pairs place e prior front rest b f at = rw (b.0, f, stops fault (of_zone identifier_start) place e rest tt at) refl
   identifier_rows (of_zone in_zone_name) pairs place e prior front rest b f at = rw b.0 (zone_name_lead front rest f ∙ rw (alone_row place e front rest f at) refl)
   identifier_rows (of_zone after_zone_slash) pairs place e prior front rest b f at =
       let name : identifier_at fault (front ++ rest) ≡ as_zone (name_alone_at fault (front ++ rest)) = rw (f.2, append_assoc) (zone_name_lead f.0 (f.1 ++ rest) f.3) in

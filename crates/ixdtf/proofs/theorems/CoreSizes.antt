@@ -63,14 +63,10 @@ widen text a b c d a' b' c' d' p q r s (inr h) = inr (h.0, omega (arith, h.1, r)
 
 pub year_month_size : (text : Text) (date : DateRecord) → IsYearMonth text date → Sized 6 7 9 10 text
 year_month_size text date h =
-    let months : length h.months ≡ 2 = digits_long 2 h.months h.month.0.0 in
-    let hyphens : length h.hyphens ≤ 1 = hyphens_long h.hyphens h.hyphen in
     let after : Text = h.hyphens ++ h.months in
-    let rest : length after ≡ length h.hyphens + length h.months = length-append h.hyphens h.months in
-    let least : 2 ≤ length after = omega (arith, months, rest) in
-    let most : length after ≤ 3 = omega (arith, months, hyphens, rest) in
-    rw h.is (widen (h.years ++ after) _ _ _ _ 6 7 9 10 (omega (arith, least)) (omega (arith, most)) (omega (arith, least)) (omega (arith, most))
-    (year_size h.years after date.year h.year))
+    let rest : length after ≡ length h.hyphens + 2 = omega (arith, length-append h.hyphens h.months, digits_long 2 _ h.month.0.0) in
+    let hyphens : length h.hyphens ≤ 1 = hyphens_long h.hyphens h.hyphen in
+    rw h.is (widen (h.years ++ after) _ _ _ _ 6 7 9 10 (omega arith) (omega arith) (omega arith) (omega arith) (year_size h.years after date.year h.year))
 
 pub at_least : (text : Text) (a b c d a' c' : ℕ) → a' ≤ a → c' ≤ c → Sized a b c d text → AtLeast a' c' text
 at_least text a b c d a' c' p q (inl h) = inl (h.0, omega (arith, h.1, p))
@@ -81,19 +77,16 @@ year_and_more : (years after more : Text) (year : ℤ) → Year years year → 4
 year_and_more years after more year h least =
     let rest : 4 ≤ length (after ++ more) = omega (arith, length-append after more, least) in
     rw (append_assoc years after more)
-    (at_least (years ++ (after ++ more)) _ _ _ _ 8 11 (omega (arith, rest)) (omega (arith, rest)) (year_size years (after ++ more) year h))
+    (at_least _ _ _ _ _ 8 11 (omega (arith, rest)) (omega (arith, rest)) (year_size years (after ++ more) year h))
 
 -- a date, with what stands behind it
 date_size : (text more : Text) (date : DateRecord) → DateShape text date → AtLeast 8 11 (text ++ more)
 date_size text more date (inl h) =
-    let months : length h.months ≡ 2 = digits_long 2 h.months h.month.0.0 in
-    let days : length h.days ≡ 2 = digits_long 2 h.days h.day.0 in
-    rw h.is (year_and_more h.years (h.months ++ h.days) more date.year h.year (omega (arith, length-append h.months h.days, months, days)))
+    rw h.is (year_and_more h.years (h.months ++ h.days) more date.year h.year
+    (omega (arith, length-append h.months h.days, digits_long 2 _ h.month.0.0, digits_long 2 _ h.day.0)))
 date_size text more date (inr h) =
-    let months : length h.months ≡ 2 = digits_long 2 h.months h.month.0.0 in
-    let days : length h.days ≡ 2 = digits_long 2 h.days h.day.0 in
-    let after : Text = Plain 45 ∷ (h.months ++ (Plain 45 ∷ h.days)) in
-    rw h.is (year_and_more h.years after more date.year h.year (omega (arith, length-append h.months (Plain 45 ∷ h.days), months, days)))
+    rw h.is (year_and_more h.years (Plain 45 ∷ (h.months ++ (Plain 45 ∷ h.days))) more date.year h.year
+    (omega (arith, length-append h.months (Plain 45 ∷ h.days), digits_long 2 _ h.month.0.0, digits_long 2 _ h.day.0)))
 
 pub date_time_size : (text : Text) (core : Core) → IsDateTimeCore text core → AtLeast 8 11 text
 date_time_size text core (inl h) = rw (← append-nil text) (date_size text [] h.0 h.1.0)
@@ -108,17 +101,14 @@ month_day_size text date h = rw h.is (by_marks h.marks h.mark)
     after : Text
     after = h.months ++ (h.hyphens ++ h.days)
 
+    long : length after ≡ 4 + length h.hyphens
+    long = omega (arith, length-append h.months (h.hyphens ++ h.days), length-append h.hyphens h.days, digits_long 2 _ h.month.0.0, digits_long 2 _ h.day.0)
+
     least : 4 ≤ length after
-    least =
-        let months = digits_long 2 h.months h.month.0.0 in
-        let days = digits_long 2 h.days h.day.0 in
-        omega (arith, length-append h.months (h.hyphens ++ h.days), length-append h.hyphens h.days, months, days)
+    least = omega (arith, long)
 
     most : length after ≤ 5
-    most =
-        let months = digits_long 2 h.months h.month.0.0 in
-        let days = digits_long 2 h.days h.day.0 in
-        omega (arith, length-append h.months (h.hyphens ++ h.days), length-append h.hyphens h.days, months, days, hyphens_long h.hyphens h.hyphen)
+    most = omega (arith, long, hyphens_long h.hyphens h.hyphen)
 
     by_marks : (marks : Text) → Marks marks → Sized 4 5 6 7 (marks ++ after)
     by_marks marks (inl none) = rw none (inl (digits_begin 1 h.months (h.hyphens ++ h.days) h.month.0.0, least, most))

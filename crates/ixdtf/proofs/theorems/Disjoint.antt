@@ -1,5 +1,5 @@
 -- No text is in the languages of two of the readers of dates, times and durations.
-use Rattle.std.proofs.Common.{◌≡◌, List, [], ◌∷◌, ◌++◌, refl, sym, ap, ◌∙◌, subst, inl, inr, arith, append_assoc, append-nil}
+use Rattle.std.proofs.Common.{◌≡◌, List, [], ◌∷◌, ◌++◌, refl, sym, ap, ◌∙◌, inl, inr, arith, append_assoc, append-nil}
 use Rattle.ixdtf.specs.declared.records.DateRecord.{DateRecord}
 use Rattle.ixdtf.specs.language.Letters.{Text}
 use Rattle.ixdtf.specs.language.Letters.Letter.{Plain}
@@ -46,8 +46,8 @@ date_front text more date (inr h) = (
 )
 
 date_time_front : (text : Text) (core : Core) → IsDateTimeCore text core → HasFront (some IsYearMonth) text
-date_time_front text core (inl h) = subst (HasFront (some IsYearMonth)) (append-nil text) (date_front text [] h.0 h.1.0)
-date_time_front text core (inr h) = subst (HasFront (some IsYearMonth)) (sym h.is) (date_front h.dates _ h.date h.is_date.0)
+date_time_front text core (inl h) = rw (← (append-nil text)) (date_front text [] h.0 h.1.0)
+date_time_front text core (inr h) = rw h.is (date_front h.dates _ h.date h.is_date.0)
 
 -- a text is a front of itself
 itself : (shape : Shape) (text : Text) → shape text → HasFront shape text
@@ -70,7 +70,7 @@ cores_apart first second clash text (found, pairs, h) (others, marks, k) =
     let inside_too = core_inside second k.cores k.core k.is_core in
     let ends_too = tail_ends k.brackets k.zone marks k.is_tail in
     let same : h.cores ≡ k.cores = same_core h.cores k.cores h.brackets k.brackets inside inside_too ends ends_too (sym h.is ∙ k.is) in
-    clash h.cores h.core k.core h.is_core (subst (λ (t : Text). IsCore second t k.core) (sym same) k.is_core)
+    clash h.cores h.core k.core h.is_core (rw same k.is_core)
 
 date_times_and_year_months : Apart date_time year_month
 date_times_and_year_months = cores_apart date_time year_month λ t core other h k.
@@ -113,32 +113,11 @@ same_kind time_alone time_alone text h k = refl
 
 -- ---- durations
 
-abbrev NoDuration : CoreKind → Type 0
-NoDuration kind = (text : Text) → Whole kind text → some IsDuration text → ⊥
-
 -- a core before the end or a bracket does not begin as a duration
-whole_no_duration : (kind : CoreKind) → NoDuration kind
+whole_no_duration : (kind : CoreKind) (text : Text) → Whole kind text → some IsDuration text → ⊥
 whole_no_duration kind text (found, pairs, h) (duration, d) =
     let ends = tail_ends h.brackets h.zone pairs h.is_tail in
-    no_duration h.cores h.brackets d.start (d.date_text ++ d.time_text) d.sign (core_inside kind h.cores h.core h.is_core) ends d.is_start (sym h.is ∙ d.is)
-
-date_times_and_durations : NoDuration date_time
-date_times_and_durations = whole_no_duration date_time
-
-year_months_and_durations : NoDuration year_month
-year_months_and_durations = whole_no_duration year_month
-
-month_days_and_durations : NoDuration month_day
-month_days_and_durations = whole_no_duration month_day
-
-times_and_durations : NoDuration time_alone
-times_and_durations = whole_no_duration time_alone
-
-never_both : (kind : CoreKind) → NoDuration kind
-never_both date_time = date_times_and_durations
-never_both year_month = year_months_and_durations
-never_both month_day = month_days_and_durations
-never_both time_alone = times_and_durations
+    no_duration h.cores h.brackets d.start _ d.sign (core_inside kind h.cores h.core h.is_core) ends d.is_start (sym h.is ∙ d.is)
 
 -- ---- all of the readers
 
@@ -152,8 +131,8 @@ duration_of text (found, pairs, h) = absurd h
 
 pub languages_disjoint : LanguagesDisjoint
 languages_disjoint text (bracketed first) (bracketed second) is too h k = ap bracketed (same_kind first second text (whole_of first text h) (whole_of second text k))
-languages_disjoint text (bracketed first) parse_duration is too h k = absurd (never_both first text (whole_of first text h) (duration_of text k))
-languages_disjoint text parse_duration (bracketed second) is too h k = absurd (never_both second text (whole_of second text k) (duration_of text h))
+languages_disjoint text (bracketed first) parse_duration is too h k = absurd (whole_no_duration first text (whole_of first text h) (duration_of text k))
+languages_disjoint text parse_duration (bracketed second) is too h k = absurd (whole_no_duration second text (whole_of second text k) (duration_of text h))
 languages_disjoint text parse_duration parse_duration is too h k = refl
 languages_disjoint text parse_offset second is too h k = absurd is
 languages_disjoint text parse_identifier second is too h k = absurd is

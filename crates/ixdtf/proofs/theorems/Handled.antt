@@ -21,19 +21,19 @@ use Rattle.ixdtf.proofs.theorems.NoRow.{fault_comes, row_is_no_refusal}
 -- a text is derived in one way
 pub derived_once : (reader : Reader) (text : Text) (x y : Parsed) (xs ys : List Pair) → Derives reader text (parsed x) xs → Derives reader text (parsed y) ys → (x ≡ y) × (xs ≡ ys)
 derived_once reader text x y xs ys dx dy =
-    let same : derived (parsed x) xs ≡ derived (parsed y) ys = same_outcome reader text (derived (parsed x) xs) (derived (parsed y) ys) dx dy in
+    let same : derived (parsed x) xs ≡ derived (parsed y) ys = same_outcome reader text _ _ dx dy in
     let found : parsed x ≡ parsed y = cc in
     (cc, cc)
 
 -- one record for the same replies
 record_once : (reader : Reader) (text : Text) (xs ys : List Pair) (replies : List Reply) (x y : Parsed) → GivesRecord reader text xs replies x → GivesRecord reader text ys replies y → x ≡ y
 record_once reader text xs ys replies x y gx gy =
-    gx.has ∙ ap (λ read. with_calendar read (calendar_value (first_calendar replies))) (derived_once reader text gx.read gy.read xs ys gx.whole gy.whole).0 ∙ sym gy.has
+    gx.has ∙ ap (λ read. with_calendar read _) (derived_once reader text gx.read gy.read xs ys gx.whole gy.whole).0 ∙ sym gy.has
 
 -- no record and fault for the same replies
 no_record_and_fault : (reader : Reader) (text : Text) (pairs : List Pair) (replies : List Reply) (found : Parsed) (fault : Fault) → GivesRecord reader text pairs replies found → ¬ (GivesFault reader text pairs replies fault)
 no_record_and_fault reader text pairs replies found fault gives other = elim other [
-  | inl p ↦ refused_last replies [] fault p.1 (subst NoneRefused (sym (append-nil replies)) gives.accepted)
+  | inl p ↦ refused_last replies [] fault p.1 (rw (append-nil replies) gives.accepted)
   | inr p ↦ no_row_fits reader text (parsed gives.read, pairs, gives.whole) p.0.0 pairs p.0.1
 ]
 
@@ -62,7 +62,7 @@ NoReplies {T} {U} {F} step = (state : F) (annotation : Annotation T U) (reply : 
 module _ {T U F : Type 0} (number : U → ℕ) (step : Step T U F) (handler : F) (reader : Reader) (text : Text) (result : Result Parsed Fault) where
   only_ok : (reply : Result Parsed Fault) (pairs : List Pair) (replies : List Reply) → TextGives reader text pairs replies reply → (found : Parsed) → (reply ≡ Ok found) ↔ GivesRecord reader text pairs replies found
   only_ok (Ok read) pairs replies gives found = (
-    (λ is. let same : read ≡ found = cc in subst (GivesRecord reader text pairs replies) same gives),
+    (λ is. let same : read ≡ found = cc in rw (← same) gives),
     λ other. ap Ok (record_once reader text pairs pairs replies read found gives other),
   )
   only_ok (Err fault) pairs replies gives found = (
@@ -72,7 +72,7 @@ module _ {T U F : Type 0} (number : U → ℕ) (step : Step T U F) (handler : F)
 
   only_err : (reply : Result Parsed Fault) (pairs : List Pair) (replies : List Reply) → TextGives reader text pairs replies reply → (fault : Fault) → reply ≡ Err fault → GivesFault reader text pairs replies fault
   only_err (Ok read) pairs replies gives fault is = absurd cc
-  only_err (Err e) pairs replies gives fault is = let same : e ≡ fault = cc in subst (GivesFault reader text pairs replies) same gives
+  only_err (Err e) pairs replies gives fault is = let same : e ≡ fault = cc in rw (← same) gives
 
   -- what a handler's form promises
   pub handled : (last : F) → TextRead number step handler last reader text result → Handled number step handler reader text result
@@ -80,8 +80,8 @@ module _ {T U F : Type 0} (number : U → ℕ) (step : Step T U F) (handler : F)
     calls = text_read.calls;
     last = last;
     chain = text_read.chain;
-    ok = only_ok result (handed number text_read.calls) (replies_of number text_read.calls) text_read.gives;
-    err = only_err result (handed number text_read.calls) (replies_of number text_read.calls) text_read.gives;
+    ok = only_ok result _ _ text_read.gives;
+    err = only_err result _ _ text_read.gives;
   }
 
   -- each call's reply is the pair that it was handed
@@ -95,18 +95,18 @@ module _ {T U F : Type 0} (number : U → ℕ) (step : Step T U F) (handler : F)
   only_plain : OwnReplies step → (reply : Result Parsed Fault) → (h : Handled number step handler reader text reply) → (found : Parsed) → PlainRecord reader text found → reply ≡ Ok found
   only_plain own (Ok read) h found (pairs, gives) =
       let mine = (h.ok read).0 refl in
-      let same = (derived_once reader text gives.read mine.read pairs (handed number h.calls) gives.whole mine.whole).1 in
-      (h.ok found).1 (subst (λ replies. GivesRecord reader text (handed number h.calls) replies found) (sym (replies_own own h.calls handler h.last h.chain))
-      (subst (λ ps. GivesRecord reader text ps (own_replies ps) found) same gives))
+      let same = (derived_once reader text gives.read mine.read pairs _ gives.whole mine.whole).1 in
+      (h.ok found).1 (rw (replies_own own h.calls handler h.last h.chain)
+      (rw (← same) gives))
   only_plain own (Err fault) h found (pairs, gives) = elim (h.err fault refl) [
     | inl p ↦
         let front = p.0 in
-        let others = derived_begins reader front.0 front.1 front.3 gives.read (handed number h.calls) pairs front.4 (subst (λ t. Derives reader t (parsed gives.read) pairs) front.2 gives.whole) in
+        let others = derived_begins reader front.0 front.1 front.3 gives.read (handed number h.calls) pairs front.4 (rw (← front.2) gives.whole) in
         let all : own_replies pairs ≡ replies_of number h.calls ++ own_replies others.0 =
-        ap own_replies others.1 ∙ map-append (λ pair. Some pair) (handed number h.calls) others.0
+        ap own_replies others.1 ∙ map-append (λ pair. Some pair) _ others.0
         ∙ ap (λ replies. replies ++ own_replies others.0) (sym (replies_own own h.calls handler h.last h.chain)) in
-        absurd (refused_last (replies_of number h.calls) (own_replies others.0) fault p.1 (subst NoneRefused all gives.accepted))
-    | inr p ↦ absurd (no_row_fits reader text (parsed gives.read, pairs, gives.whole) p.0.0 (handed number h.calls) p.0.1)
+        absurd (refused_last _ _ fault p.1 (subst NoneRefused all gives.accepted))
+    | inr p ↦ absurd (no_row_fits reader text (parsed gives.read, pairs, gives.whole) p.0.0 _ p.0.1)
   ]
 
   -- what the plain form promises
@@ -114,7 +114,7 @@ module _ {T U F : Type 0} (number : U → ℕ) (step : Step T U F) (handler : F)
   plain_ok own h found = (
     (λ is. (
       handed number h.calls,
-      subst (λ replies. GivesRecord reader text (handed number h.calls) replies found) (replies_own own h.calls handler h.last h.chain) ((h.ok found).0 is),
+      rw (← (replies_own own h.calls handler h.last h.chain)) ((h.ok found).0 is),
     )),
     only_plain own result h found,
   )
@@ -122,7 +122,7 @@ module _ {T U F : Type 0} (number : U → ℕ) (step : Step T U F) (handler : F)
   pub plain_err : OwnReplies step → Handled number step handler reader text result → (fault : Fault) → result ≡ Err fault → PlainFault reader text fault
   plain_err own h fault is = (
     handed number h.calls,
-    subst (λ replies. GivesFault reader text (handed number h.calls) replies fault) (replies_own own h.calls handler h.last h.chain) (h.err fault is),
+    rw (← (replies_own own h.calls handler h.last h.chain)) (h.err fault is),
   )
 
   -- each call's reply is none
@@ -147,7 +147,7 @@ module _ {T U F : Type 0} (number : U → ℕ) (step : Step T U F) (handler : F)
         let last = p.1 in
         let absent = each_is_none h.calls last.earlier [] last.reply (sym (replies_none none h.calls handler h.last h.chain) ∙ last.split) in
         absurd (subst (λ reply. RefusedBeside (first_calendar last.earlier) reply fault) absent last.refused)
-    | inr p ↦ row_is_no_refusal reader text (handed number h.calls) fault p.0
+    | inr p ↦ row_is_no_refusal reader text _ fault p.0
   ]
 
   -- the error of a handler's form is one that comes
@@ -157,7 +157,7 @@ module _ {T U F : Type 0} (number : U → ℕ) (step : Step T U F) (handler : F)
       | inl same ↦ ap never_comes same.0
       | inr same ↦ ap never_comes same.0
     ]
-    | inr p ↦ fault_comes reader text (handed number h.calls) fault p.0
+    | inr p ↦ fault_comes reader text _ fault p.0
   ]
 
 -- ---- a handler that replies none

@@ -1,7 +1,7 @@
 -- The errors that no row of the fault table has: those that never come, and those of refused replies.
 use Rattle.std.proofs.Common.{◌≡◌, ℕ, Bool, true, false, ◌||◌, cond, IsFalse, List, refl, sym, ap, ◌∙◌, ◌≢◌}
 use Rattle.ixdtf.specs.language.Letters.{Text}
-use Rattle.ixdtf.specs.language.Letters.{hyphen, colon, digit, closing}
+use Rattle.ixdtf.specs.language.Letters.{hyphen, colon, digit}
 use Rattle.ixdtf.specs.language.Times.{Clock}
 use Rattle.ixdtf.specs.language.Times.{Clock as clocks}
 use Rattle.ixdtf.specs.language.Durations.{Half}
@@ -28,13 +28,13 @@ use Rattle.ixdtf.specs.table.LineNames.DurationLine.{group_digits, group_value_r
 use Rattle.ixdtf.specs.table.LineNames.DurationLine.{after_time_groups, after_fraction_group}
 use Rattle.ixdtf.specs.table.LineNames.{of_date, of_year_month, of_month_day, of_time}
 use Rattle.ixdtf.specs.table.LineNames.LineName.{of_clock, of_offset, of_zone, of_bracket, of_pair, of_duration}
-use Rattle.ixdtf.specs.table.Lines.{Line, Ending, Follow, follow_of, mixed, second_fault, zone_line, no_designator, order_fault, line_of, table}
+use Rattle.ixdtf.specs.table.Lines.{Line, Ending, Follow, follow_of, mixed, second_fault, zone_line, no_designator, order_fault, line_of}
 use Rattle.ixdtf.specs.table.Lines.Line.{line, scanned, whole}
 use Rattle.ixdtf.specs.table.Lines.Ending.{ok, error}
 use Rattle.ixdtf.specs.table.Rows.{Place, Stops}
 use Rattle.ixdtf.specs.table.Rows.Place.{end, other, bad, anywhere}
 use Rattle.ixdtf.specs.table.Outcomes.{HasFault}
-use Rattle.std.proofs.lemmas.Bool.{or_parts}
+use Rattle.std.proofs.lemmas.Bool.{both_ways, or_parts}
 
 abbrev no_row : Fault → Bool
 no_row fault = never_comes fault || is_refusal fault
@@ -68,7 +68,7 @@ clock_has clocks.MinuteOffset = (refl, refl)
 
 zone_has : (brackets : Bool) → LineHas (zone_line brackets in_zone_name)
 zone_has true = (refl, λ c. refl)
-zone_has false = (tt, λ c. either_has (closing c) InvalidEnd IanaChar refl refl)
+zone_has false = (tt, λ c. either_has _ InvalidEnd IanaChar refl refl)
 
 half_has : (half : Half) → IsFalse (no_row (no_designator half)) × IsFalse (no_row (order_fault half))
 half_has halves.date = (refl, refl)
@@ -128,7 +128,7 @@ row_has : (reader : Reader) (text : Text) (pairs : List Pair) (fault : Fault) �
 row_has reader text pairs fault h =
     let row = h.0 in
     let here = h.1.4 in
-    ap no_row (sym h.2) ∙ stop_has (table reader row.name) row.place row.error here.1 (line_has (has_brackets reader) row.name) here.4
+    ap no_row (sym h.2) ∙ stop_has _ row.place row.error here.1 (line_has (has_brackets reader) row.name) here.4
 
 -- a fault that a text has is one that comes
 pub fault_comes : (reader : Reader) (text : Text) (pairs : List Pair) (fault : Fault) → HasFault reader text pairs fault → IsFalse (never_comes fault)
@@ -141,7 +141,5 @@ fault_refuses_none reader text pairs fault h = (or_parts _ _ (row_has reader tex
 pub row_is_no_refusal : (reader : Reader) (text : Text) (pairs : List Pair) (fault : Fault) → HasFault reader text pairs fault
     → (fault ≢ UnrecognizedCritical) × (fault ≢ CriticalDuplicateCalendar)
 row_is_no_refusal reader text pairs fault h =
-    let known = fault_refuses_none reader text pairs fault h in (
-      (λ is. let wrong : true ≡ false = sym (ap is_refusal is) ∙ known in absurd cc),
-      λ is. let wrong : true ≡ false = sym (ap is_refusal is) ∙ known in absurd cc,
-    )
+    let never : ¬ (is_refusal fault ≡ true) = both_ways _ (fault_refuses_none reader text pairs fault h) in
+    (λ is. never (ap is_refusal is), λ is. never (ap is_refusal is))

@@ -26,7 +26,7 @@ decides reader text (refused row pairs) h = sym (ap outcome_of (row_read row_beh
 
 -- what reading returns holds
 outcome_holds : (reader : Reader) (text : Text) → Holds reader text (outcome reader text)
-outcome_holds reader text = go (read_at row_behind reader text) (whole_read row_behind reader text)
+outcome_holds reader text = go _ (whole_read row_behind reader text)
   where
     go : (r : Read RowBehind (Found × List Pair)) → OnWhole row_behind reader text r → Holds reader text (outcome_of r)
     go (Ok x) h = h.1
@@ -40,7 +40,7 @@ same_outcome reader text x y h g = decides reader text x h ∙ sym (decides read
 
 -- where something is derived from a text, no row fits it
 pub no_row_fits : (reader : Reader) (text : Text) → InLanguage reader text → NoRowFits reader text
-no_row_fits reader text h row pairs fits = let same : derived h.0 h.1 ≡ refused row pairs = same_outcome reader text (derived h.0 h.1) (refused row pairs) h.2 fits in absurd cc
+no_row_fits reader text h row pairs fits = let same : derived h.0 h.1 ≡ refused row pairs = same_outcome reader text _ _ h.2 fits in absurd cc
 
 -- the pairs are the first of all
 abbrev pub Begins : List Pair → List Pair → Type 0
@@ -57,7 +57,7 @@ none_begins (Err stop) = (stop.0, refl)
 
 more_begins : (core : Core) (first_zone : Option ZoneNote) (pairs : List Pair) (rest : Text) (r : Read RowBehind (List Pair)) → OnPairs row_behind pairs rest r → OnBegins pairs (with_pairs (r >>= λ all. Ok ((parsed_with core first_zone, all.0), all.1)))
 more_begins core first_zone pairs rest (Ok x) h = (h.1, h.2)
-more_begins core first_zone pairs rest (Err stop) h = (h.0, ap (λ (s : RowBehind). s.0) h.4)
+more_begins core first_zone pairs rest (Err stop) h = (h.0, ap (λ s. s.0) h.4)
 
 -- reading goes over the front to the pairs after it
 front_begins : (reader : Reader) (front rest : Text) (read : Parsed) (pairs : List Pair) → Derives reader front (parsed read) pairs → OnBegins pairs (read_at row_behind reader (front ++ rest))
@@ -68,7 +68,7 @@ front_begins (bracketed kind) front rest read pairs d = go (brackets_of d.bracke
     go (inr h) =
         let over = over_brackets row_behind kind d.cores d.brackets rest d.core d.zone pairs d.is_core h in
         let is : bracketed_text_at row_behind kind (front ++ rest) ≡ (pairs_at row_behind over.0 pairs rest >>= λ all. Ok ((parsed_with d.core d.zone, all.0), all.1)) = ap (bracketed_text_at row_behind kind) (rw d.is (simp append_assoc)) ∙ over.2 in
-        subst (λ (r : Read RowBehind (Parsed × List Pair)). OnBegins pairs (with_pairs r)) (sym is) (more_begins d.core d.zone pairs rest (pairs_at row_behind over.0 pairs rest) (pairs_read row_behind over.0 pairs rest over.1))
+        rw is (more_begins d.core d.zone pairs rest _ (pairs_read row_behind over.0 pairs rest over.1))
 front_begins reader front rest read pairs d = absurd d
 
 -- the pairs of a front that is derived begin those of the text, whether it is derived or has a fault

@@ -14,7 +14,7 @@ use Rattle.ixdtf.specs.table.Before.{Before}
 use Rattle.ixdtf.specs.table.Faults.{Fault}
 use Rattle.ixdtf.specs.table.Faults.Fault.{UnrecognizedCritical, CriticalDuplicateCalendar}
 use Rattle.ixdtf.specs.table.LineNames.{LineName}
-use Rattle.ixdtf.specs.table.Outcomes.{HasFault, Outcome, Holds}
+use Rattle.ixdtf.specs.table.Outcomes.{Outcome, Holds}
 use Rattle.ixdtf.specs.table.Outcomes.Outcome.{derived, refused}
 use Rattle.ixdtf.specs.table.Rows.{Row, Fits}
 use Rattle.ixdtf.proofs.code.ReadersWithoutPairs.{ReadsNoPairs}
@@ -61,7 +61,7 @@ two_places {A} (x ∷ xs) ys (x' ∷ xs') ys' a b e =
 first_refused : (all earlier later earlier' later' : List Reply) (a b : Reply) (x y : Fault) → all ≡ earlier ++ a ∷ later → all ≡ earlier' ++ b ∷ later'
     → NoneRefused earlier → NoneRefused earlier' → IsRefused earlier a x → IsRefused earlier' b y → x ≡ y
 first_refused all earlier later earlier' later' a b x y is is' none none' h g = elim (two_places earlier later earlier' later' a b (sym is ∙ is')) [
-  | inl p ↦ refused_once (first_calendar earlier') b x y (subst (λ c. IsRefused earlier' c x) p.1 (subst (λ e. IsRefused e a x) p.0 h)) g
+  | inl p ↦ refused_once _ b x y (rw (← p.1) (rw (← p.0) h)) g
   | inr (inl p) ↦ absurd (none'.none earlier p.0 a x p.1 h)
   | inr (inr p) ↦ absurd (none.none earlier' p.0 b y p.1 g)
 ]
@@ -76,17 +76,17 @@ own_split : (all first more : List Pair) (fault : Fault) → all ≡ first ++ mo
     → own_replies all ≡ last.earlier ++ last.reply ∷ own_replies more
 own_split all first more fault is last =
     ap own_replies is ∙ map-append (λ pair. Some pair) first more ∙ ap (λ replies. replies ++ own_replies more) last.split
-    ∙ append_assoc last.earlier (last.reply ∷ []) (own_replies more)
+    ∙ append_assoc last.earlier _ _
 
 early_once : (all : List Pair) (x y : PlainOutcome) → Early all x → Early all y → x ≡ y
 early_once all x y (first, more, fault, x_is, is, last) (first', more', fault', y_is, is', last') =
-    let same = first_refused (own_replies all) last.earlier (own_replies more) last'.earlier (own_replies more') last.reply last'.reply fault fault'
+    let same = first_refused _ last.earlier _ last'.earlier _ last.reply last'.reply fault fault'
     (own_split all first more fault is last) (own_split all first' more' fault' is' last') last.none last'.none last.refused last'.refused in
     x_is ∙ ap faulted same ∙ sym y_is
 
 early_refused : (all : List Pair) (x : PlainOutcome) → Early all x → ¬ (NoneRefused (own_replies all))
 early_refused all x (first, more, fault, x_is, is, last) none =
-    refused_last (own_replies first) (own_replies more) fault last (subst NoneRefused (ap own_replies is ∙ map-append (λ pair. Some pair) first more) none)
+    refused_last _ _ fault last (subst NoneRefused (ap own_replies is ∙ map-append (λ pair. Some pair) first more) none)
 
 abbrev Settled : List Pair → PlainOutcome → PlainOutcome → Type 0
 Settled all whole outcome = ((outcome ≡ whole) × NoneRefused (own_replies all)) ⊎ Early all outcome
@@ -107,11 +107,11 @@ module _ (kind : CoreKind) (text : Text) where
       let (reads, alls) = derived_once (bracketed kind) text gives.read read pairs all gives.whole d in
       inl (
         ap (λ p. read_as (parsed p)) gives.has ∙ ap (λ p. record_at p pairs) reads ∙ ap (record_at read) alls,
-        subst (λ ps. NoneRefused (own_replies ps)) alls gives.accepted,
+        rw (← alls) gives.accepted,
       )
   when_derived read all d (faulted fault) (pairs, inl h) =
       let front = h.0 in
-      let more = derived_begins (bracketed kind) front.0 front.1 front.3 read pairs all front.4 (subst (λ t. Derives (bracketed kind) t (parsed read) all) front.2 d) in
+      let more = derived_begins (bracketed kind) front.0 front.1 front.3 read pairs all front.4 (rw (← front.2) d) in
       inr (pairs, more.0, fault, refl, more.1, h.1)
   when_derived read all d (faulted fault) (pairs, inr h) = absurd (no_row_fits (bracketed kind) text (parsed read, all, d) h.0.0 pairs h.0.1)
   when_derived read all d (read_as found) h = absurd h
@@ -121,18 +121,18 @@ module _ (kind : CoreKind) (text : Text) where
   when_refused row all f (read_as (parsed found)) (pairs, gives) = absurd (no_row_fits (bracketed kind) text (parsed gives.read, pairs, gives.whole) row all f)
   when_refused row all f (faulted fault) (pairs, inl h) =
       let front = h.0 in
-      let more = fault_begins (bracketed kind) front.0 front.1 front.3 pairs all row.error front.4 (subst (λ t. HasFault (bracketed kind) t all row.error) front.2 (row, f, refl)) in
+      let more = fault_begins (bracketed kind) front.0 front.1 front.3 pairs all row.error front.4 (rw (← front.2) (row, f, refl)) in
       inr (pairs, more.0, fault, refl, more.1, h.1)
   when_refused row all f (faulted fault) (pairs, inr h) =
       let same : refused h.0.0 pairs ≡ refused row all = same_outcome (bracketed kind) text (refused h.0.0 pairs) (refused row all) h.0.1 f in
       let rows : h.0.0 ≡ row = cc in
       let alls : pairs ≡ all = cc in
-      inl (ap faulted (sym h.0.2 ∙ ap (λ (r : Row). r.error) rows), subst (λ ps. NoneRefused (own_replies ps)) alls h.1)
+      inl (ap faulted (sym h.0.2 ∙ ap (λ r. r.error) rows), rw (← alls) h.1)
   when_refused row all f (read_as found) h = absurd h
 
   with_pairs_once : (outcome : Outcome) → Holds (bracketed kind) text outcome → (x y : PlainOutcome) → HasWithPairs kind text x → HasWithPairs kind text y → x ≡ y
-  with_pairs_once (derived (parsed read) all) h x y p q = settled_once all (record_at read all) x y (when_derived read all h x p) (when_derived read all h y q)
-  with_pairs_once (refused row all) h x y p q = settled_once all (faulted row.error) x y (when_refused row all h x p) (when_refused row all h y q)
+  with_pairs_once (derived (parsed read) all) h x y p q = settled_once all _ x y (when_derived read all h x p) (when_derived read all h y q)
+  with_pairs_once (refused row all) h x y p q = settled_once all _ x y (when_refused row all h x p) (when_refused row all h y q)
   with_pairs_once (derived found all) h x y p q = absurd h
 
 -- ---- readers without brackets
@@ -148,14 +148,14 @@ module _ (reader : Reader) (text : Text) where
   alone_once (faulted fault) (faulted fault') p q =
       let same : refused p.0 [] ≡ refused q.0 [] = same_outcome reader text (refused p.0 []) (refused q.0 []) p.1 q.1 in
       let rows : p.0 ≡ q.0 = cc in
-      ap faulted (sym p.2 ∙ ap (λ (r : Row). r.error) rows ∙ q.2)
+      ap faulted (sym p.2 ∙ ap (λ r. r.error) rows ∙ q.2)
 
   alone_gives : ((found : Found) (pairs : List Pair) → Derives reader text found pairs → pairs ≡ [])
       → ((name : LineName) (pairs : List Pair) (before rest : Text) → Before reader name pairs before rest → pairs ≡ [])
       → (outcome : Outcome) → Holds reader text outcome → (x : PlainOutcome) × HasAlone reader text x
-  alone_gives no_pairs none_stand (derived found pairs) h = (read_as found, subst (Derives reader text found) (no_pairs found pairs h) h)
+  alone_gives no_pairs none_stand (derived found pairs) h = (read_as found, rw (← (no_pairs found pairs h)) h)
   alone_gives no_pairs none_stand (refused row pairs) h =
-      (faulted row.error, (row, subst (λ ps. Fits reader row ps text) (none_stand row.name pairs h.0 h.1 h.3) h, refl))
+      (faulted row.error, (row, rw (← (none_stand row.name pairs h.0 h.1 h.3)) h, refl))
 
 derived_alone : (reader : Reader) (text : Text) (found : Found) (pairs : List Pair) → ReadsNoPairs reader → Derives reader text found pairs → pairs ≡ []
 derived_alone (bracketed kind) text found pairs none h = absurd none

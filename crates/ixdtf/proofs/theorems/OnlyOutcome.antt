@@ -1,5 +1,6 @@
 -- What the one outcome of a text says of what a reader returned: beside a value no row fits, and a row that fits is the only one.
-use Rattle.std.proofs.Common.{◌≡◌, ◌↔◌, ℕ, true, false, List, Result, Ok, Err, OnOk, IfErr, refl, sym, ap, ◌∙◌, inl, inr}
+use Rattle.std.proofs.Common.{◌≡◌, ◌↔◌, ℕ, List, Result, Ok, Err, OnOk, IfErr, refl, ap, inl, inr}
+use Rattle.std.proofs.lemmas.Bool.{both_ways}
 use Rattle.ixdtf.specs.language.Letters.{Text}
 use Rattle.ixdtf.specs.language.Brackets.{Pair}
 use Rattle.ixdtf.specs.language.Readers.{Reader}
@@ -8,7 +9,7 @@ use Rattle.ixdtf.specs.language.Languages.Found.{parsed}
 use Rattle.ixdtf.specs.table.Faults.{Fault, is_refusal}
 use Rattle.ixdtf.specs.table.Outcomes.{HasFault, NoRowFits, OnlyFault}
 use Rattle.ixdtf.specs.table.Outcomes.Outcome.{refused}
-use Rattle.ixdtf.specs.Handlers.{Reply, GivesFault, GivesOnlyFault, Step, Handled, HandledOnly, handed, replies_of, own_replies, PlainRecord, PlainFault, PlainOnlyFault}
+use Rattle.ixdtf.specs.Handlers.{Reply, GivesFault, GivesOnlyFault, Step, Handled, HandledOnly, handed, PlainRecord, PlainFault, PlainOnlyFault}
 use Rattle.ixdtf.specs.Laws.{IsTextReader, InLanguage, InNoOther}
 use Rattle.ixdtf.specs.reading.Clauses.{PlainForm}
 use Rattle.ixdtf.proofs.code.OneMoreReply.{refused_split}
@@ -34,7 +35,7 @@ only_fault reader text pairs fault h = record {
   row = h.0;
   fits = h.1;
   has = h.2;
-  only = λ other before fits. let same : refused other before ≡ refused h.0 pairs = same_outcome reader text (refused other before) (refused h.0 pairs) fits h.1 in (cc, cc);
+  only = λ other before fits. let same : refused other before ≡ refused h.0 pairs = same_outcome reader text _ _ fits h.1 in (cc, cc);
   underived = λ found all whole. no_row_fits reader text (found, all, whole) h.0 pairs h.1;
 }
 
@@ -43,12 +44,12 @@ pub gives_only : (reader : Reader) (text : Text) (pairs : List Pair) (replies : 
 gives_only reader text pairs replies fault (inl p) = record {
   of_reply = λ is. p;
   of_text = λ is. elim (refused_split _ _ fault p.1.refused) [
-    | inl same ↦ let wrong : true ≡ false = sym (ap is_refusal same.0) ∙ is in absurd cc
-    | inr same ↦ let wrong : true ≡ false = sym (ap is_refusal same.0) ∙ is in absurd cc
+    | inl same ↦ absurd (both_ways _ is (ap is_refusal same.0))
+    | inr same ↦ absurd (both_ways _ is (ap is_refusal same.0))
   ];
 }
 gives_only reader text pairs replies fault (inr p) = record {
-  of_reply = λ is. let wrong : true ≡ false = sym is ∙ fault_refuses_none reader text pairs fault p.0 in absurd cc;
+  of_reply = λ is. absurd (both_ways _ (fault_refuses_none reader text pairs fault p.0) is);
   of_text = λ is. (only_fault reader text pairs fault p.0, p.1);
 }
 
@@ -63,23 +64,25 @@ module _ {T U F : Type 0} (number : U → ℕ) (step : Step T U F) (handler : F)
   pub handled_only : Handled number step handler reader text result → HandledOnly number step handler reader text result
   handled_only h = record {
     handled = h;
-    only = λ fault is. gives_only reader text (handed number h.calls) (replies_of number h.calls) fault (h.err fault is);
+    only = λ fault is. gives_only reader text _ _ fault (h.err fault is);
   }
 
 -- what a form without a handler promises, where the handler hands each annotation back
 pub plain : {T U F : Type 0} {number : U → ℕ} {step : Step T U F} {handler : F} {reader : Reader} {text : Text} {result : Result Parsed Fault}
     → Handled number step handler reader text result → OwnReplies step → PlainForm reader text result
-plain {number = number} {step = step} {handler = handler} {reader = reader} {text = text} {result = Ok found} h own = let whole = handled_accepted number step handler reader text (Ok found) h found refl in record {
-  ok = plain_ok number step handler reader text (Ok found) own h;
-  err = tt;
-  no_row = whole.no_row;
-  alone = whole.alone;
-  only = tt;
-}
-plain {number = number} {step = step} {handler = handler} {reader = reader} {text = text} {result = Err fault} h own = let gives = plain_err number step handler reader text (Err fault) own h fault refl in record {
-  ok = plain_ok number step handler reader text (Err fault) own h;
-  err = gives;
-  no_row = tt;
-  alone = tt;
-  only = (gives.0, gives_only reader text gives.0 (own_replies gives.0) fault gives.1);
-}
+plain {number = number} {step = step} {handler = handler} {reader = reader} {text = text} {result = Ok found} h own = let whole =
+    handled_accepted number step handler reader text _ h found refl in record {
+      ok = plain_ok number step handler reader text _ own h;
+      err = tt;
+      no_row = whole.no_row;
+      alone = whole.alone;
+      only = tt;
+    }
+plain {number = number} {step = step} {handler = handler} {reader = reader} {text = text} {result = Err fault} h own = let gives =
+    plain_err number step handler reader text _ own h fault refl in record {
+      ok = plain_ok number step handler reader text _ own h;
+      err = gives;
+      no_row = tt;
+      alone = tt;
+      only = (gives.0, gives_only reader text gives.0 _ fault gives.1);
+    }

@@ -1,8 +1,8 @@
 -- Each text has an outcome where each pair is its own reply: a record, or a fault.
-use Rattle.std.proofs.Common.{◌≡◌, ◌≢◌, ◌⊎◌, ℕ, Bool, true, false, List, [], ◌∷◌, ◌++◌, Option, Some, None, IsTrue, refl, sym, ap, subst, ◌∙◌, inl, inr, append_assoc, true≢false}
+use Rattle.std.proofs.Common.{◌≡◌, ◌≢◌, ◌⊎◌, ℕ, Bool, true, false, List, [], ◌∷◌, ◌++◌, Option, Some, None, IsTrue, refl, sym, ap, ◌∙◌, inl, inr, append_assoc}
+use Rattle.std.proofs.Common.{true≢false}
 use Rattle.std.proofs.lemmas.List.{append-nil, map-append}
 use Rattle.std.proofs.lemmas.Slice.Eq.{bytes_eq-Decides}
-use Rattle.std.specs.Str.{bytes_eq}
 use Rattle.ixdtf.specs.Handlers.{calendar_key, first_calendar, calendar_value, with_calendar, own_replies, RefusedBeside, NoneRefused, LastRefused, HasFront, PlainRecord, PlainFault}
 use Rattle.ixdtf.specs.language.Brackets.{Pair, ZoneNote, ArePairs, IsTail}
 use Rattle.ixdtf.specs.language.Cores.{Core, IsCore}
@@ -18,7 +18,7 @@ use Rattle.ixdtf.specs.table.LineNames.{LineName}
 use Rattle.ixdtf.specs.table.LineNames.BracketLine.{after_bracket}
 use Rattle.ixdtf.specs.table.LineNames.LineName.{of_clock, of_zone, of_bracket, of_pair, of_duration}
 use Rattle.ixdtf.specs.table.LineNames.ZoneLine.{identifier_start, zone_name_start}
-use Rattle.ixdtf.specs.table.LineNames.PairLine.{key_start, critical_key_start, in_key, value_start, in_value, after_value_hyphen}
+use Rattle.ixdtf.specs.table.LineNames.PairLine.{key_start, critical_key_start}
 use Rattle.ixdtf.specs.table.Before.{Bracketed, BeforeKey, BeforeBracketed}
 use Rattle.ixdtf.specs.table.Outcomes.{Outcome, Holds}
 use Rattle.ixdtf.specs.table.Outcomes.Outcome.{derived, refused}
@@ -29,7 +29,7 @@ use Rattle.ixdtf.proofs.theorems.OneOutcome.{one_outcome}
 -- ---- a refused reply, or none
 
 pub same_bytes : (xs ys : List ℕ) → (xs ≡ ys) ⊎ (xs ≢ ys)
-same_bytes xs ys = go (bytes_eq xs ys) (bytes_eq-Decides xs ys)
+same_bytes xs ys = go _ (bytes_eq-Decides xs ys)
   where
     go : (test : Bool) → (test ≡ true → xs ≡ ys) × (xs ≡ ys → test ≡ true) → (xs ≡ ys) ⊎ (xs ≢ ys)
     go true p = inl (p.0 refl)
@@ -61,7 +61,7 @@ at_calendar (Some first) pair is = elim (same_bytes pair.value first.value) [
 ]
 
 decided : (calendar : Option Pair) (pair : Pair) → Decided calendar pair
-decided calendar pair = elim (same_bytes pair.key (calendar_key)) [
+decided calendar pair = elim (same_bytes pair.key _) [
   | inl is ↦ at_calendar calendar pair is
   | inr other ↦ elim (holds_or_not pair.critical) [
     | inl is_so ↦ inl (UnrecognizedCritical, (is_so, other))
@@ -77,10 +77,10 @@ abbrev AllOrStopped : List Pair → Type 0
 AllOrStopped pairs = NoneRefused (own_replies pairs) ⊎ Stopped pairs
 
 one_more : (taken : List Pair) (pair : Pair) → own_replies taken ++ Some pair ∷ [] ≡ own_replies (taken ++ pair ∷ [])
-one_more taken pair = sym (map-append (λ p. Some p) taken (pair ∷ []))
+one_more taken pair = sym (map-append (λ p. Some p) taken _)
 
 all_or_stopped : (taken pairs : List Pair) → NoneRefused (own_replies taken) → AllOrStopped (taken ++ pairs)
-all_or_stopped taken [] none = inl (subst (λ t. NoneRefused (own_replies t)) (sym (append-nil taken)) none)
+all_or_stopped taken [] none = inl (rw (append-nil taken) none)
 all_or_stopped taken (pair ∷ pairs) none = elim (decided (first_calendar (own_replies taken)) pair) [
   | inl p ↦ inr (
     taken ++ pair ∷ [],
@@ -89,8 +89,8 @@ all_or_stopped taken (pair ∷ pairs) none = elim (decided (first_calendar (own_
     p.0,
     record { earlier = own_replies taken; reply = Some pair; split = sym (one_more taken pair); none = none; refused = p.1 },
   )
-  | inr never ↦ subst AllOrStopped (append_assoc taken (pair ∷ []) pairs)
-      (all_or_stopped (taken ++ pair ∷ []) pairs (subst NoneRefused (one_more taken pair) (NoneRefused-more (own_replies taken) (Some pair) none never)))
+  | inr never ↦ rw (← (append_assoc taken (pair ∷ []) pairs))
+      (all_or_stopped (taken ++ pair ∷ []) pairs (rw (← (one_more taken pair)) (NoneRefused-more (own_replies taken) (Some pair) none never)))
 ]
 
 -- ---- fronts of a text, with fewer pairs
@@ -99,7 +99,7 @@ pairs_front : (text : Text) (xs ys : List Pair) → ArePairs text (xs ++ ys) →
 pairs_front text [] ys h = ([], text, refl, refl)
 pairs_front text (x ∷ xs) ys (first, rest, is, one, others) =
     let (a, b, split, are) = pairs_front rest xs ys others in
-    (first ++ a, b, is ∙ ap (λ (t : Text). first ++ t) split ∙ sym (append_assoc first a b), (first, a, refl, one, are))
+    (first ++ a, b, is ∙ ap (λ t. first ++ t) split ∙ sym (append_assoc first a b), (first, a, refl, one, are))
 
 regrouped : (cores brackets first rest a b more : Text) → brackets ≡ first ++ rest → rest ≡ a ++ b
     → (cores ++ brackets) ++ more ≡ (cores ++ (first ++ a)) ++ (b ++ more)
@@ -124,10 +124,8 @@ whole_bracketed : (kind : CoreKind) (pairs : List Pair) (before : Text) → Brac
 whole_bracketed kind pairs before h = inr (before, [], sym (append-nil before), h)
 
 before_key : (kind : CoreKind) (pairs : List Pair) (before rest : Text) → BeforeKey kind pairs before rest → NoneOrBracketed kind pairs before
-before_key kind pairs before rest h = elim h [
-  | inl p ↦ inl p.2
-  | inr p ↦ inr (p.0, p.1, p.2, p.3)
-]
+before_key kind pairs before rest (inl p) = inl p.2
+before_key kind pairs before rest (inr p) = inr (p.0, p.1, p.2, p.3)
 
 before_row : (kind : CoreKind) (name : LineName) (pairs : List Pair) (before rest : Text) → BeforeBracketed kind name pairs before rest → NoneOrBracketed kind pairs before
 before_row kind (of_clock Time name) pairs before rest h = inl h.1
@@ -136,10 +134,7 @@ before_row kind (of_zone zone_name_start) pairs before rest h = absurd h
 before_row kind (of_bracket after_bracket) pairs before rest h = whole_bracketed kind pairs before h
 before_row kind (of_pair key_start) pairs before rest h = whole_bracketed kind pairs before h
 before_row kind (of_pair critical_key_start) pairs before rest h = whole_bracketed kind pairs before h
-before_row kind (of_pair in_key) pairs before rest h = before_key kind pairs before rest h
-before_row kind (of_pair value_start) pairs before rest h = before_key kind pairs before rest h
-before_row kind (of_pair in_value) pairs before rest h = before_key kind pairs before rest h
-before_row kind (of_pair after_value_hyphen) pairs before rest h = before_key kind pairs before rest h
+before_row kind (of_pair line) pairs before rest h = before_key kind pairs before rest h
 before_row kind (of_duration name) pairs before rest h = absurd h
 before_row kind name pairs before rest h = inl h.1
 
@@ -153,8 +148,9 @@ row_front kind row pairs xs ys text fault fits is last = elim (before_row kind r
   | inl none ↦ absurd (some_pair xs ys fault last (sym is ∙ none))
   | inr p ↦
       let (front, more, split, (cores, brackets, whole, (core, is_core), zone, tail, some)) = p in
-      subst (λ (t : Text). HasFront (bracketed kind) t xs) (sym (fits.2 ∙ ap (λ (t : Text). t ++ fits.1) (split ∙ ap (λ (t : Text). t ++ more) whole) ∙ append_assoc (cores ++ brackets) more fits.1))
-      (whole_front kind cores brackets (more ++ fits.1) core zone xs ys is_core (subst (IsTail brackets zone) is tail))
+      let is_text = fits.2 ∙ ap (λ t. t ++ fits.1) (split ∙ ap (λ t. t ++ more) whole) ∙ append_assoc (cores ++ brackets) more fits.1 in
+      rw is_text
+      (whole_front kind cores brackets _ core zone xs ys is_core (rw (← is) tail))
 ]
 
 -- ---- each text has an outcome, where each pair is its own reply
@@ -167,8 +163,9 @@ plain_of kind text (derived (parsed read) pairs) d = elim (all_or_stopped [] pai
   | inl none ↦ inl (with_calendar read (calendar_value (first_calendar (own_replies pairs))), (pairs, record { read = read; whole = d; accepted = none; has = refl }))
   | inr p ↦
       let (front, back, is, fault, last) = p in
-      let has : HasFront (bracketed kind) ((d.cores ++ d.brackets) ++ []) front = whole_front kind d.cores d.brackets [] d.core d.zone front back d.is_core (subst (IsTail d.brackets d.zone) is d.is_tail) in
-      inr (fault, (front, inl (subst (λ (t : Text). HasFront (bracketed kind) t front) (append-nil _ ∙ sym d.is) has, last)))
+      let has : HasFront (bracketed kind) ((d.cores ++ d.brackets) ++ []) front =
+      whole_front kind d.cores d.brackets [] d.core d.zone front back d.is_core (rw (← is) d.is_tail) in
+      inr (fault, (front, inl (rw (← (append-nil _ ∙ sym d.is)) has, last)))
 ]
 plain_of kind text (derived found pairs) d = absurd d
 plain_of kind text (refused row pairs) fits = elim (all_or_stopped [] pairs NoneRefused-nothing) [

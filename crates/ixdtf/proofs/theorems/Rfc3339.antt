@@ -40,7 +40,7 @@ is_time : (whole part : Text) → WholeTime whole → (nothing either SecondFrac
 is_time whole part t (inl none) = (time_of t.3.0 t.4.4.3.0 t.4.4.4.4.0 None, (seconds, rw (none, append-nil whole) (whole_time whole t None, refl)))
 is_time whole part t (inr f) =
     let fraction : FractionParts = fraction_of f.0 in (
-      time_of t.3.0 t.4.4.3.0 t.4.4.4.4.0 (Some fraction),
+      time_of t.3.0 t.4.4.3.0 t.4.4.4.4.0 _,
       (
         fractions,
         record {
@@ -48,7 +48,7 @@ is_time whole part t (inr f) =
           part = part;
           fraction = fraction;
           is = refl;
-          second = whole_time whole t (Some fraction);
+          second = whole_time whole t _;
           shape = record { mark = 46; ds = f.0; is = f.2; marks = refl; some = (f.1, f.3); value = refl };
           value = refl;
         },
@@ -61,7 +61,7 @@ is_offset text (inr o) =
     let sign = o.3 in
     let body = o.4 in
     let time : TimeRecord = time_of body.3.0 body.4.4.0 0 None in (
-      Offset (offset_of sign.0 false time),
+      Offset _,
       inl (
         offset_of sign.0 false time,
         record {
@@ -86,7 +86,7 @@ rfc_3339_derives text d =
     let after = d.4.4 in
     let time = is_time after.0 after.4.0 after.3 after.4.3 in
     let offset = is_offset after.4.1 after.4.4 in
-    let core = core_of (Some date.0) (Some time.0) (Some offset.0) in (
+    let core = core_of _ _ _ in (
       parsed_with core None,
       record {
         cores = text;

@@ -1,63 +1,34 @@
 -- What reading a core returns is a core, with the end or a bracket after it, or a row that fits.
-use Rattle.std.proofs.Common.{◌≡◌, ℕ, Bool, true, false, IsTrue, IsFalse, [], ◌∷◌, ◌++◌, Ok, Option, Some, None, is_some, refl, sym, ap, ◌∙◌, subst}
-use Rattle.std.proofs.Common.{inl, inr, append_assoc, append-nil}
-use Rattle.std.proofs.lemmas.Bool.{or_from, eqb-true}
-use Rattle.ixdtf.specs.declared.records.DateRecord.{DateRecord}
-use Rattle.ixdtf.specs.declared.records.TimeRecord.{TimeRecord}
-use Rattle.ixdtf.specs.declared.records.UtcOffsetRecord.{UtcOffsetRecord}
-use Rattle.ixdtf.specs.declared.records.UtcOffsetRecordOrZ.{UtcOffsetRecordOrZ}
-use Rattle.ixdtf.specs.declared.records.UtcOffsetRecordOrZ.TheVariants.{Offset, Z}
-use Rattle.ixdtf.specs.language.Letters.{Text, Class, digit, sign, zulu, opening, time_letter, date_time_separator}
-use Rattle.ixdtf.specs.language.Letters.Letter.{Plain, Bad}
-use Rattle.ixdtf.specs.language.Shapes.{Shape, one, some, ◌then◌}
-use Rattle.ixdtf.specs.language.Dates.{IsDate}
-use Rattle.ixdtf.specs.language.Months.{IsYearMonth, IsMonthDay, least_day}
-use Rattle.ixdtf.specs.language.Times.{Clock, TimeShape, IsTime, writes_seconds}
-use Rattle.ixdtf.specs.language.Times.{Clock as clocks}
-use Rattle.ixdtf.specs.language.Times.TimeShape.{hours, plain_minutes, colon_minutes, seconds, fractions}
-use Rattle.ixdtf.specs.language.Offsets.{IsOffset, offset_of}
+use Rattle.std.proofs.Common.{◌≡◌, ℕ, Bool, true, false, IsTrue, IsFalse, [], ◌∷◌, ◌++◌, Ok, Option, Some, None, is_some, refl, sym, ap, ◌∙◌, subst, inl, inr}
+use Rattle.std.proofs.{Common.{append_assoc, append-nil}, lemmas.{Bool.{or_from, eqb-true}}}
+use Rattle.ixdtf.specs.declared.records.{DateRecord.DateRecord, TimeRecord.TimeRecord, UtcOffsetRecord.UtcOffsetRecord}
+use Rattle.ixdtf.specs.declared.records.UtcOffsetRecordOrZ.{UtcOffsetRecordOrZ, TheVariants.{Offset, Z}}
+use Rattle.ixdtf.specs.language.Letters.{Text, Class, digit, sign, zulu, opening, time_letter, date_time_separator, Letter.{Plain, Bad}}
+use Rattle.ixdtf.specs.language.{Shapes.{Shape, one, some, ◌then◌}, Dates.IsDate, Months.{IsYearMonth, IsMonthDay, least_day}}
+use Rattle.ixdtf.specs.language.{Times.{Clock, TimeShape, IsTime, writes_seconds, TimeShape.{seconds, fractions}}, Offsets.{IsOffset, offset_of}}
 use Rattle.ixdtf.specs.language.Cores.{Core, core_of, OptionalOffset, DateAlone, IsDateTimeCore, TimeMark, MarkedTime, HasNoDateFront, IsCore}
-use Rattle.ixdtf.specs.language.Readers.{CoreKind}
-use Rattle.ixdtf.specs.language.Readers.CoreKind.{date_time, year_month, month_day, time_alone}
-use Rattle.ixdtf.specs.language.Readers.Reader.{bracketed}
-use Rattle.ixdtf.specs.table.Faults.{Fault}
-use Rattle.ixdtf.specs.table.Faults.Fault.{NonAsciiCodePoint, InvalidEnd, TimeHour}
-use Rattle.ixdtf.specs.table.LineNames.{DateLine, ClockLine, LineName}
-use Rattle.ixdtf.specs.table.LineNames.{of_date, of_year_month, of_month_day, of_time}
-use Rattle.ixdtf.specs.table.LineNames.LineName.{of_clock, of_offset}
-use Rattle.ixdtf.specs.table.LineNames.DateLine.{year_start, after_date}
-use Rattle.ixdtf.specs.table.LineNames.YearMonthLine.{after_year_month}
-use Rattle.ixdtf.specs.table.LineNames.MonthDayLine.{after_month_day}
-use Rattle.ixdtf.specs.table.LineNames.TimeLine.{time_start}
-use Rattle.ixdtf.specs.table.LineNames.ClockLine.{hour_start}
-use Rattle.ixdtf.specs.table.LineNames.OffsetLine.{after_zulu}
-use Rattle.ixdtf.specs.table.Lines.{line_of, abrupt_digit, always}
-use Rattle.ixdtf.specs.table.Lines.Line.{line}
-use Rattle.ixdtf.specs.table.Lines.Ending.{ok}
+use Rattle.ixdtf.specs.language.Readers.{CoreKind, CoreKind.{date_time, year_month, month_day, time_alone}, Reader.bracketed}
+use Rattle.ixdtf.specs.table.{Faults.{Fault, Fault.{NonAsciiCodePoint, InvalidEnd, TimeHour}}, LineNames.{DateLine, ClockLine, LineName, of_date}}
+use Rattle.ixdtf.specs.table.LineNames.{of_year_month, of_month_day, of_time, LineName.{of_clock, of_offset}, DateLine.{year_start, after_date}}
+use Rattle.ixdtf.specs.table.LineNames.{YearMonthLine.after_year_month, MonthDayLine.after_month_day, TimeLine.time_start, ClockLine.hour_start}
+use Rattle.ixdtf.specs.table.{LineNames.OffsetLine.after_zulu, Lines.{line_of, abrupt_digit, always, Line.line, Ending.ok}}
 use Rattle.ixdtf.specs.table.Before.{BeforeDate, BeforeTime, BeforeOffset, DateAndSeparator, AtCoreEnd, ReadsAsTime}
-use Rattle.ixdtf.specs.table.Rows.{Row, Place, Stops, Fits}
-use Rattle.ixdtf.specs.table.Rows.Place.{end, other, bad}
-use Rattle.ixdtf.specs.reading.Looks.{Read, row_of, look_at, next_by, peek_by}
-use Rattle.ixdtf.specs.reading.Dates.{date_at}
-use Rattle.ixdtf.specs.reading.Months.{year_month_at, month_day_at}
-use Rattle.ixdtf.specs.reading.Times.{OpenTime, line_after, bad_after, hour_from, clock_at}
-use Rattle.ixdtf.specs.reading.Cores.{ClosedCore, core_look, core_end_at, with_offset, offset_core_at, after_time_at, time_core_at, after_date_at}
-use Rattle.ixdtf.specs.reading.Cores.{date_time_core_at, date_alone_at, hour_look, lone_time_at, marked_time_at, marked_core_at, unfronted}
-use Rattle.ixdtf.specs.reading.Cores.{time_alone_core_at, core_at}
-use Rattle.ixdtf.proofs.parts.Fronts.{no_front_of, unfronted_read}
-use Rattle.ixdtf.proofs.parts.Looks.{Stopped, OnRead, then_read, read_weaker, read_if, lift, NotNext, next_read, Peeked, peek_read, further}
+use Rattle.ixdtf.specs.table.Rows.{Row, Place, Stops, Fits, Place.{end, other, bad}}
+use Rattle.ixdtf.specs.reading.{Looks.{Read, row_of, look_at, next_by}, Months.{year_month_at, month_day_at}, Times.{OpenTime, line_after, bad_after}}
+use Rattle.ixdtf.specs.reading.{Times.{hour_from, clock_at}, Cores.{ClosedCore, core_look, core_end_at, with_offset, offset_core_at, after_time_at}}
+use Rattle.ixdtf.specs.reading.Cores.{time_core_at, after_date_at, date_time_core_at, date_alone_at, hour_look, lone_time_at, marked_time_at, marked_core_at}
+use Rattle.ixdtf.specs.reading.Cores.{unfronted, time_alone_core_at, core_at}
+use Rattle.ixdtf.proofs.parts.{Fronts.{no_front_of, unfronted_read}, Looks.{Stopped, OnRead, then_read, read_weaker, read_if, lift, NotNext, next_read, Peeked}}
+use Rattle.ixdtf.proofs.parts.Looks.{peek_read, further}
 use Rattle.ixdtf.proofs.to_reading.Times.{Closed, IsLater}
-use Rattle.ixdtf.proofs.to_grammar.Dates.{DateFront, date_read}
-use Rattle.ixdtf.proofs.to_grammar.Months.{FrontIs, year_month_read, month_day_read}
+use Rattle.ixdtf.proofs.to_grammar.{Dates.{DateFront, date_read}, Months.{FrontIs, year_month_read, month_day_read}}
 use Rattle.ixdtf.proofs.to_grammar.Times.{later, TimeFront, hour_read, clock_read, clock_stops}
 
 -- Bad does not stand where a time is closed
 closed_not_bad : (clock : Clock) (shape : TimeShape) (rest more : Text) → Closed clock shape rest → rest ≡ Bad ∷ more → ⊥
-closed_not_bad clock hours rest more closed is = (rw is at closed).0
-closed_not_bad clock plain_minutes rest more closed is = (rw is at closed).0
-closed_not_bad clock colon_minutes rest more closed is = (rw is at closed).0
 closed_not_bad clock seconds rest more closed is = rw is at closed
 closed_not_bad clock fractions rest more closed is = rw is at closed
+closed_not_bad clock minutes rest more closed is = (rw is at closed).0
 
 not_bad : (class : Class) (rest more : Text) → NotNext class rest → rest ≡ Bad ∷ more → ⊥
 not_bad class rest more closed is = rw is at closed
@@ -84,7 +55,7 @@ FitsCore kind text row = Fits (bracketed kind) row [] text
 module _ {E : Type 0} (fault : Row → E) (kind : CoreKind) (text : Text) where
   -- what is known of reading a core, or a thing like a core
   abbrev ReadsAs : (Text → Core → Type 0) → Read E ClosedCore → Type 0
-  ReadsAs is_core read = OnRead fault read (FrontOf is_core text) (λ row. FitsCore kind text row)
+  ReadsAs is_core read = OnRead fault read (FrontOf is_core text) (FitsCore kind text)
 
   abbrev pub ReadsCore : Read E ClosedCore → Type 0
   ReadsCore read = ReadsAs (IsCore kind) read
@@ -104,11 +75,11 @@ module _ {E : Type 0} (fault : Row → E) (kind : CoreKind) (text : Text) (is_co
     end_read : ((c : ℕ) (more : Text) → rest ≡ Plain c ∷ more → IsFalse (opening c) → FitsCore kind text (row_of name other InvalidEnd))
         → ((more : Text) → rest ≡ Bad ∷ more → FitsCore kind text (row_of name bad NonAsciiCodePoint)) → Reads (core_end_at fault name core rest)
     unfolding core_end_at
-    end_read at_other at_bad = then_read fault (peek_by (core_look fault name) rest) _ _ _ _ _
-        (peek_read (core_look fault name) fault rest (λ row. FitsCore kind text row)
+    end_read at_other at_bad = then_read fault _ _ _ _ _ _
+        (peek_read (core_look fault name) fault rest (FitsCore kind text)
         (λ c more next out. (row_of name other InvalidEnd, refl, at_other c more next out))
         (λ more next. (row_of name bad NonAsciiCodePoint, refl, at_bad more next)))
-        (λ next more h. at_next next more h)
+        at_next
         (λ row f. f)
 
     -- the same, where nothing but a bracket may follow at the line
@@ -124,7 +95,7 @@ module _ {E : Type 0} (fault : Row → E) (kind : CoreKind) (text : Text) (is_co
       (core_of_parts : (ts offsets : Text) (t : TimeRecord) (offset : Option UtcOffsetRecordOrZ) → IsTime ts t → OptionalOffset offsets offset
       → is_core (prior ++ (ts ++ offsets)) (core_of date (Some t) offset))
       (before_offset : (ts : Text) (t : TimeRecord) → IsTime ts t → BeforeOffset kind (prior ++ ts)) (x : OpenTime) (rest : Text)
-      (h : TimeFront clocks.Time body x rest) where
+      (h : TimeFront Clock.Time body x rest) where
     is_text : (offsets left : Text) → rest ≡ offsets ++ left → text ≡ (prior ++ (h.0 ++ offsets)) ++ left
     is_text offsets left next = is ∙ rw (h.1, next) (simp append_assoc)
 
@@ -142,25 +113,25 @@ module _ {E : Type 0} (fault : Row → E) (kind : CoreKind) (text : Text) (is_co
     signed s signs = (prior ++ h.0, Plain s ∷ [], refl, timed, (s, refl, signs))
 
     -- an offset was read after its sign
-    after_offset_read : (s : ℕ) (more : Text) → rest ≡ Plain s ∷ more → IsTrue (sign s) → (o : OpenTime) (left : Text) → TimeFront clocks.Offset more o left
-        → Reads (core_end_at fault (line_after clocks.Offset o.0) (with_offset date x.1 (offset_of s (writes_seconds o.0) o.1)) left)
+    after_offset_read : (s : ℕ) (more : Text) → rest ≡ Plain s ∷ more → IsTrue (sign s) → (o : OpenTime) (left : Text) → TimeFront Clock.Offset more o left
+        → Reads (core_end_at fault (line_after Clock.Offset o.0) (with_offset date x.1 (offset_of s (writes_seconds o.0) o.1)) left)
     after_offset_read s more next signs o left g =
         let offset : UtcOffsetRecord = offset_of s (writes_seconds o.0) o.1 in
         let is_offset : IsOffset (Plain s ∷ g.0) offset =
         record { c = s; body = g.0; shape = o.0; time = o.1; is = refl; sign = signs; clock = g.2; value = refl } in
-        end_read (line_after clocks.Offset o.0) (with_offset date x.1 offset) (prior ++ (h.0 ++ (Plain s ∷ g.0))) left
-        (is_text (Plain s ∷ g.0) left (next ∙ rw g.1 refl))
+        end_read (line_after Clock.Offset o.0) (with_offset date x.1 offset) (prior ++ (h.0 ++ (Plain s ∷ g.0))) left
+        (is_text (Plain s ∷ g.0) left (next ∙ rw g.1))
         (has_core (Plain s ∷ g.0) (Some (Offset offset)) (inl (offset, is_offset, refl)))
-        (λ c after ends out. lift (later clocks.Offset) (bracketed kind) _ text _ more (time_text ∙ rw next (simp append_assoc)) (λ l. (signed s signs, refl))
-        (clock_stops fault true clocks.Offset more o other InvalidEnd left g (c, after, ends, out, refl)))
-        (λ after ends. absurd (closed_not_bad clocks.Offset o.0 left after g.3 ends))
+        (λ c after ends out. lift (later Clock.Offset) (bracketed kind) _ text _ more (time_text ∙ rw next (simp append_assoc)) (λ l. (signed s signs, refl))
+        (clock_stops fault true Clock.Offset more o other InvalidEnd left g (c, after, ends, out, refl)))
+        (λ after ends. absurd (closed_not_bad Clock.Offset o.0 left after g.3 ends))
 
     -- an offset after its sign
     offset_read : (s : ℕ) (more : Text) → rest ≡ Plain s ∷ more → IsTrue (sign s) → Reads (offset_core_at fault date x.1 s more)
     unfolding offset_core_at
-    offset_read s more next signs = then_read fault (clock_at fault clocks.Offset more) _ _ _ _ _ (clock_read fault true clocks.Offset more)
-        (λ o left g. after_offset_read s more next signs o left g)
-        (λ row f. lift (of_clock clocks.Offset) (bracketed kind) row text ((prior ++ h.0) ++ (Plain s ∷ [])) more (time_text ∙ rw next (simp append_assoc))
+    offset_read s more next signs = then_read fault _ _ _ _ _ _ (clock_read fault true Clock.Offset more)
+        (after_offset_read s more next signs)
+        (λ row f. lift (of_clock Clock.Offset) (bracketed kind) row text ((prior ++ h.0) ++ (Plain s ∷ [])) more (time_text ∙ rw next (simp append_assoc))
         (λ l. (signed s signs, refl)) f)
 
     -- `Z` or `z`
@@ -170,31 +141,30 @@ module _ {E : Type 0} (fault : Row → E) (kind : CoreKind) (text : Text) (is_co
         (is_text (Plain z ∷ []) more next)
         (has_core (Plain z ∷ []) (Some Z) (inr ((z, refl, is_zulu), refl)))
         (one zulu)
-        (λ place e at. (prior ++ h.0, Plain z ∷ more, time_text ∙ rw next refl, (timed, refl), (Plain z ∷ [], more, refl, (z, refl, is_zulu), at)))
+        (λ place e at. (prior ++ h.0, Plain z ∷ more, time_text ∙ rw next, (timed, refl), (Plain z ∷ [], more, refl, (z, refl, is_zulu), at)))
 
     -- nothing of an offset
-    no_offset_read : NotNext sign rest → NotNext zulu rest → Reads (core_end_at fault (line_after clocks.Time x.0) (core_of date (Some x.1) None) rest)
-    no_offset_read no_sign no_zulu = end_read (line_after clocks.Time x.0) (core_of date (Some x.1) None) (prior ++ (h.0 ++ [])) rest
+    no_offset_read : NotNext sign rest → NotNext zulu rest → Reads (core_end_at fault (line_after Clock.Time x.0) (core_of date (Some x.1) None) rest)
+    no_offset_read no_sign no_zulu = end_read (line_after Clock.Time x.0) (core_of date (Some x.1) None) (prior ++ (h.0 ++ [])) rest
         (is_text [] rest refl)
         (has_core [] None refl)
         (λ c after ends out. let stops = or_from _ _ (or_from _ _ (not_next sign rest c after no_sign ends) (not_next zulu rest c after no_zulu ends)) out in
-        lift (later clocks.Time) (bracketed kind) _ text prior body is (λ l. (stands l.0 l.1, refl))
-        (clock_stops fault true clocks.Time body x other InvalidEnd rest h (c, after, ends, stops, refl)))
+        lift (later Clock.Time) (bracketed kind) _ text prior body is (λ l. (stands l.0 l.1, refl))
+        (clock_stops fault true Clock.Time body x other InvalidEnd rest h (c, after, ends, stops, refl)))
         (λ after ends. absurd (not_bad sign rest after no_sign ends))
 
     after_time_read : Reads (after_time_at fault date x rest)
     unfolding after_time_at
     after_time_read =
-        let at_bad : (more : Text) → rest ≡ Bad ∷ more → ⊥ = λ more next. closed_not_bad clocks.Time x.0 rest more h.3 next in
-        next_read (bad_after fault clocks.Time x.0) sign _ _ fault rest (FrontOf is_core text) (λ row. FitsCore kind text row)
+        let at_bad : (more : Text) → rest ≡ Bad ∷ more → ⊥ = λ more next. closed_not_bad Clock.Time x.0 rest more h.3 next in
+        next_read (bad_after fault Clock.Time x.0) sign _ _ fault rest _ _
         (λ more next. absurd (at_bad more next))
-        (λ s more next signs. offset_read s more next signs)
-        (λ no_sign. next_read (bad_after fault clocks.Time x.0) zulu
-        (λ z more. core_end_at fault (of_offset after_zulu) (core_of date (Some x.1) (Some Z)) more) _ fault rest
-        (FrontOf is_core text) (λ row. FitsCore kind text row)
+        offset_read
+        (λ no_sign. next_read (bad_after fault Clock.Time x.0) zulu
+        (λ z more. core_end_at fault (of_offset after_zulu) (core_of date (Some x.1) (Some Z)) more) _ fault rest _ _
         (λ more next. absurd (at_bad more next))
-        (λ z more next is_zulu. zulu_read z more next is_zulu)
-        (λ no_zulu. no_offset_read no_sign no_zulu))
+        zulu_read
+        (no_offset_read no_sign))
 
 -- ---- dates and times
 
@@ -210,7 +180,7 @@ module _ {E : Type 0} (fault : Row → E) (text : Text) where
   unfolding time_core_at
   time_core_read ds separator body date is is_date separates =
       let before : DateAndSeparator (ds ++ separator) = (ds, separator, refl, (date, is_date), separates) in
-      then_read fault (clock_at fault clocks.Time body) _ _ _ _ _ (clock_read fault true clocks.Time body)
+      then_read fault _ _ _ _ _ _ (clock_read fault true Clock.Time body)
       (after_time_read fault date_time text IsDateTimeCore (Some date) (ds ++ separator) body is (λ l later_line. before)
       (λ ts offsets t offset is_time o. inr (record {
         dates = ds;
@@ -228,7 +198,7 @@ module _ {E : Type 0} (fault : Row → E) (text : Text) where
         has = refl;
       }))
       (λ ts t is_time. (ds ++ separator, ts, refl, before, (t, is_time))))
-      (λ row f. lift (of_clock clocks.Time) (bracketed date_time) row text (ds ++ separator) body is (λ l. (before, refl)) f)
+      (λ row f. lift (of_clock Clock.Time) (bracketed date_time) row text (ds ++ separator) body is (λ l. (before, refl)) f)
 
   -- the row of what follows a date
   after_date_fits : (place : Place) (e : Fault) (front rest : Text) → text ≡ front ++ rest → some IsDate front
@@ -247,17 +217,16 @@ module _ {E : Type 0} (fault : Row → E) (text : Text) where
 
   after_date_read : (date : DateRecord) (rest : Text) → DateFront text date rest → ReadsCore fault date_time text (after_date_at fault date rest)
   unfolding after_date_at
-  after_date_read date rest h = next_read (fault (row_of (of_date after_date) bad NonAsciiCodePoint)) date_time_separator _ _ fault rest
-      (CoreFront date_time text) (λ row. FitsCore date_time text row)
+  after_date_read date rest h = next_read (fault (row_of (of_date after_date) bad NonAsciiCodePoint)) date_time_separator _ _ fault rest _ _
       (λ more next. let row_fits = after_date_fits bad NonAsciiCodePoint h.0 rest h.1 (date, h.2) (more, next, refl) in
       (row_of (of_date after_date) bad NonAsciiCodePoint, refl, row_fits))
       (λ c more next separates. time_core_read h.0 (Plain c ∷ []) more date (further text h.0 rest (Plain c ∷ []) more h.1 next) h.2 (c, refl, separates))
-      (λ closed. no_time_read date rest h closed)
+      (no_time_read date rest h)
 
   date_time_read : ReadsCore fault date_time text (date_time_core_at fault text)
   unfolding date_time_core_at
-  date_time_read = then_read fault (date_at fault text) _ _ _ _ _ (date_read fault true text)
-      (λ date rest h. after_date_read date rest h)
+  date_time_read = then_read fault _ _ _ _ _ _ (date_read fault true text)
+      after_date_read
       (λ row f. lift of_date (bracketed date_time) row text [] text refl (λ l. (before_date l, refl)) f)
 
 -- ---- a date of a part, alone
@@ -270,7 +239,7 @@ module _ {E : Type 0} (fault : Row → E) (kind : CoreKind) (text : Text) (part 
       → FitsCore kind text (row_of name place e)
 
   alone_read : AfterFits → (read : Read E DateRecord)
-      → OnRead fault read (FrontIs part text) (λ row. FitsCore kind text row)
+      → OnRead fault read (FrontIs part text) (FitsCore kind text)
       → ReadsAs fault kind text (DateAlone part) (date_alone_at fault name read)
   alone_read fits read gives = then_read fault read _ _ _ _ _ gives
       (λ date rest h. closing_read fault kind text (DateAlone part) name (core_of (Some date) None None) h.0 rest h.1 (date, h.2, refl) (some part)
@@ -297,39 +266,38 @@ split_ends text front false rest is = ([], is.0 ∙ sym (append-nil front), inl 
 
 -- what reading a time gave, behind `T` or `t` or neither
 abbrev MarkedFront : Text → OpenTime → Text → Type 0
-MarkedFront text x rest = (marks body : Text) × (text ≡ marks ++ body) × TimeMark marks × TimeFront clocks.Time body x rest
+MarkedFront text x rest = (marks body : Text) × (text ≡ marks ++ body) × TimeMark marks × TimeFront Clock.Time body x rest
 
 module _ {E : Type 0} (fault : Row → E) (text : Text) where
   start_stops : (place : Place) (e : Fault) → Stops (line_of true (of_time time_start)) place e text
-      → Stopped fault (fault (row_of (of_time time_start) place e)) (λ row. FitsCore time_alone text row)
+      → Stopped fault (fault (row_of (of_time time_start) place e)) (FitsCore time_alone text)
   start_stops place e at = (row_of (of_time time_start) place e, refl, ([], text, refl, (refl, refl), ([], text, refl, refl, at)))
 
   hour_digit_read : (body : Text) → text ≡ body → NotNext time_letter body
-      → OnRead fault (next_by (hour_look fault) body) (λ c rest. (text ≡ Plain c ∷ rest) × IsTrue (digit c)) (λ row. FitsCore time_alone text row)
+      → OnRead fault (next_by (hour_look fault) body) (λ c rest. (text ≡ Plain c ∷ rest) × IsTrue (digit c)) (FitsCore time_alone text)
   unfolding next_by look_at
   hour_digit_read [] is closed = start_stops end abrupt_digit (is, refl)
   hour_digit_read (Bad ∷ rest) is closed = absurd closed
   hour_digit_read (Plain c ∷ rest) is closed =
       read_if fault (digit c) _ _ _ _ (λ d. (is, d)) (λ out. start_stops other TimeHour (c, rest, is, or_from _ _ out closed, refl))
 
-  lone_time_read : NotNext time_letter text → OnRead fault (lone_time_at fault text) (MarkedFront text) (λ row. FitsCore time_alone text row)
+  lone_time_read : NotNext time_letter text → OnRead fault (lone_time_at fault text) (MarkedFront text) (FitsCore time_alone text)
   unfolding lone_time_at
   lone_time_read closed = then_read fault (next_by (hour_look fault) text) _ _ _ _ _ (hour_digit_read text refl closed)
-      (λ c rest h. read_weaker fault (hour_from fault clocks.Time c rest) _ _ _ _ (hour_read fault true clocks.Time text c rest h.1 h.0)
+      (λ c rest h. read_weaker fault (hour_from fault Clock.Time c rest) _ _ _ _ (hour_read fault true Clock.Time text c rest h.1 h.0)
       (λ x left g. ([], text, refl, inl refl, g))
-      (λ row f. lift (later clocks.Time) (bracketed time_alone) row text [] text refl (λ l. (marked_line l.0 [] l.1 (inl refl), refl)) f))
+      (λ row f. lift (later Clock.Time) (bracketed time_alone) row text [] text refl (λ l. (marked_line l.0 [] l.1 (inl refl), refl)) f))
       (λ row f. f)
 
-  marked_time_read : OnRead fault (marked_time_at fault text) (MarkedFront text) (λ row. FitsCore time_alone text row)
+  marked_time_read : OnRead fault (marked_time_at fault text) (MarkedFront text) (FitsCore time_alone text)
   unfolding marked_time_at
-  marked_time_read = next_read (fault (row_of (of_time time_start) bad NonAsciiCodePoint)) time_letter _ _ fault text
-      (MarkedFront text) (λ row. FitsCore time_alone text row)
+  marked_time_read = next_read (fault (row_of (of_time time_start) bad NonAsciiCodePoint)) time_letter _ _ fault text (MarkedFront text) _
       (λ more next. start_stops bad NonAsciiCodePoint (more, next, refl))
-      (λ c rest next letter. read_weaker fault (clock_at fault clocks.Time rest) _ _ _ _ (clock_read fault true clocks.Time rest)
+      (λ c rest next letter. read_weaker fault (clock_at fault Clock.Time rest) _ _ _ _ (clock_read fault true Clock.Time rest)
       (λ x left g. (Plain c ∷ [], rest, next, inr (c, refl, letter), g))
-      (λ row f. lift (of_clock clocks.Time) (bracketed time_alone) row text (Plain c ∷ []) rest next
+      (λ row f. lift (of_clock Clock.Time) (bracketed time_alone) row text (Plain c ∷ []) rest next
       (λ l. (lettered_line l (Plain c ∷ []) (c, refl, letter), refl)) f))
-      (λ closed. lone_time_read closed)
+      lone_time_read
 
   marked_core_read : ReadsAs fault time_alone text MarkedTime (marked_core_at fault text)
   unfolding marked_core_at
@@ -356,14 +324,14 @@ module _ {E : Type 0} (fault : Row → E) (text : Text) where
   tested_read x rest h =
       let ends = split_ends text h.0 x.1 rest h.1 in
       let time : ReadsAsTime text = (h.0, ends.0, ends.1, (x.0, h.2), ends.2) in
-      unfronted_read text fault (Ok (x, rest)) (CoreFront time_alone text) (λ row. FitsCore time_alone text row)
+      unfronted_read text fault (Ok (x, rest)) (CoreFront time_alone text) (FitsCore time_alone text)
       (λ begins. ([], text, refl, ((refl, time), refl), (begins.0, begins.1, begins.2, begins.3, refl)))
       (λ begins none. ([], text, refl, ((refl, time, none), refl), (begins.0, begins.1, begins.2, begins.3, refl)))
       (λ none. (h.0, h.1, (h.2, no_front_of h.0 ends.0 (subst HasNoDateFront ends.1 none))))
 
   time_alone_read : ReadsCore fault time_alone text (time_alone_core_at fault text)
   unfolding time_alone_core_at
-  time_alone_read = then_read fault (marked_core_at fault text) _ _ _ _ _ marked_core_read (λ x rest h. tested_read x rest h) (λ row f. f)
+  time_alone_read = then_read fault (marked_core_at fault text) _ _ _ _ _ marked_core_read tested_read (λ row f. f)
 
   -- a core of any kind
   pub core_read : (kind : CoreKind) → ReadsCore fault kind text (core_at fault kind text)

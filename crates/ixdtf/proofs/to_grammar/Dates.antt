@@ -1,20 +1,14 @@
 -- What reading a date returns is a date, or is a row that fits.
-use Rattle.std.proofs.Common.{◌≡◌, ℕ, ◌<◌, ◌≤◌, ◌⊎◌, Bool, true, false, IsTrue, [], ◌∷◌, ◌++◌, refl, ◌∙◌, inl, inr, arith, append_assoc, ℤ, nat_le, ◌&&◌}
-use Rattle.std.proofs.lemmas.Bool.{and_parts, and_from, both_ways, leb-true, le-leb}
-use Rattle.std.proofs.lemmas.Bool.Decides.{nat_tests}
+use Rattle.std.proofs.Common.{◌≡◌, ℕ, ◌<◌, ◌≤◌, ◌⊎◌, Bool, true, false, [], ◌∷◌, ◌++◌, refl, ◌∙◌, inl, inr, arith, append_assoc, ℤ, nat_le, ◌&&◌}
+use Rattle.std.proofs.lemmas.{Bool.{and_parts, and_from, both_ways, leb-true, le-leb}, Bool.Decides.nat_tests}
 use Rattle.ixdtf.specs.declared.records.DateRecord.{DateRecord}
-use Rattle.ixdtf.specs.language.Letters.{Text, hyphen}
-use Rattle.ixdtf.specs.language.Letters.Letter.{Plain}
-use Rattle.ixdtf.specs.language.Shapes.{◌either◌, fewer_digits_than}
-use Rattle.ixdtf.specs.language.Digits.{decimal, TwoDigits}
-use Rattle.ixdtf.specs.table.Faults.Fault.{InvalidDayRange}
+use Rattle.ixdtf.specs.language.{Letters.{Text, hyphen, Letter.Plain}, Shapes.{◌either◌, fewer_digits_than}, Digits.{decimal, TwoDigits}}
 use Rattle.ixdtf.specs.language.Dates.{Year, Month, DateShape, IsDate, month_length}
-use Rattle.ixdtf.specs.table.LineNames.{LineName, of_date}
-use Rattle.ixdtf.specs.table.LineNames.DateLine.{after_year, month_digits, month_range, after_hyphened_month, after_plain_month, day_digits, day_range}
-use Rattle.ixdtf.specs.table.Lines.{line_of, HyphenOrDigit, NoMonth, PlainDay, HyphenedDay}
-use Rattle.ixdtf.specs.table.Rows.{Row}
-use Rattle.ixdtf.specs.reading.Looks.{Read, ◌>>=◌, digits_at, mark_at}
-use Rattle.ixdtf.specs.reading.Dates.{date_of, month_in_range, month_by, month_at, line_after_month, day_in_range, day_at, year_at, date_at}
+use Rattle.ixdtf.specs.table.{Faults.Fault.InvalidDayRange, LineNames.{LineName, of_date, DateLine.{after_year, month_digits, month_range}}}
+use Rattle.ixdtf.specs.table.LineNames.{DateLine.{after_hyphened_month, after_plain_month, day_digits, day_range}}
+use Rattle.ixdtf.specs.table.{Lines.{line_of, HyphenOrDigit, NoMonth, PlainDay, HyphenedDay}, Rows.Row}
+use Rattle.ixdtf.specs.reading.{Looks.{Read, ◌>>=◌, digits_at, mark_at}, Dates.{date_of, month_in_range, month_by, month_at, line_after_month, day_in_range}}
+use Rattle.ixdtf.specs.reading.Dates.{day_at, year_at, date_at}
 use Rattle.ixdtf.proofs.parts.Looks.{OnRead, FitsIn, StopsHere, fits_in, fits_whole_in, then_read, read_weaker, read_if, digits_read, one_as_digits, further}
 use Rattle.ixdtf.proofs.parts.Marks.{hyphens_of, Starts, Begun, LooksForHyphen, Stood, optional, mark_read, hyphen_read, stops_after}
 use Rattle.ixdtf.proofs.parts.Years.{in_year_or_month, year_read}
@@ -26,7 +20,7 @@ DateFront text date rest = (front : Text) × (text ≡ front ++ rest) × IsDate 
 
 -- what stands of a month, by whether a hyphen does
 begins_month : (b : Bool) (ds : Text) → Begun b ds → HyphenOrDigit (hyphens_of b ++ ds)
-begins_month true ds (inl h) = inl (45, rw h refl, refl)
+begins_month true ds (inl h) = inl (45, rw h, refl)
 begins_month true ds (inr h) = inr (inl (Plain 45 ∷ [], ds, refl, (45, refl, refl), h))
 begins_month false ds h = inr (inr h)
 
@@ -70,7 +64,7 @@ module _ {E : Type 0} (fault : Row → E) where
   in_month : (ds rest : Text) → OnRead fault (month_in_range fault (ds, rest)) (λ m more. (more ≡ rest) × (m ≡ decimal ds) × (1 ≤ m) × (m ≤ 12)) (NoMonthRow ds)
   unfolding month_in_range
   in_month ds rest = read_if fault (nat_le 1 (decimal ds) && nat_le (decimal ds) 12) _ _ _ _
-      (λ test. let both : IsTrue (nat_le 1 (decimal ds)) × IsTrue (nat_le (decimal ds) 12) = and_parts _ _ test in
+      (λ test. let both = and_parts (nat_le 1 (decimal ds)) (nat_le (decimal ds) 12) test in
       (refl, refl, leb-true _ _ both.0, leb-true _ _ both.1))
       (λ test. (no_month, refl, (refl, grind (arith, nat_tests))))
 
@@ -91,7 +85,7 @@ module _ {E : Type 0} (fault : Row → E) where
     month_read text = then_read fault (mark_at fault name hyphen text) _ _ _ _ _ (hyphen_read fault name text asks)
         (λ b rest h. then_read fault (digits_at fault (of_date month_digits) 2 rest) _ _ _ _ _ (digits_read fault (of_date month_digits) (λ c. refl) 2 rest)
         (λ ds more g. then_read fault (month_in_range fault (ds, more)) _ _ _ _ _ (in_month ds more)
-        (λ m left k. (ds, further text (hyphens_of b) rest ds left h.0 (g.0 ∙ rw k.0 refl), ((g.1, k.1), k.2, k.3)))
+        (λ m left k. (ds, further text (hyphens_of b) rest ds left h.0 (g.0 ∙ rw k.0), ((g.1, k.1), k.2, k.3)))
         (λ r k. inr (b, ds, more, further text (hyphens_of b) rest ds more h.0 g.0, inr ((g.1, k.1), k.0))))
         (λ r g. let t = stops_after b (of_date month_digits) rest r (λ c. refl) h.1 g in
         inr (b, t.0, t.1, further text (hyphens_of b) rest t.0 t.1 h.0 t.2, inl (t.3, t.4))))
@@ -144,13 +138,13 @@ module _ {E : Type 0} (fault : Row → E) where
   separator_read : (b : Bool) (text : Text)
       → OnRead fault (mark_at fault (line_after_month b) hyphen text) (λ s rest. (text ≡ hyphens_of b ++ rest) × Starts b rest)
       (StopsHere (line_after_month b) text)
-  separator_read true text = read_weaker fault (mark_at fault (of_date after_hyphened_month) hyphen text) _ _ _ _
+  separator_read true text = read_weaker fault _ _ _ _ _
       (mark_read fault (of_date after_hyphened_month) text tt) by_mark (λ row h. h)
     where
       by_mark : (s : Bool) (rest : Text) → Stood fault (of_date after_hyphened_month) text s rest → (text ≡ hyphens_of true ++ rest) × Starts true rest
       by_mark true rest h = (h.0, tt)
       by_mark false rest h = absurd (both_ways _ h.5 h.4)
-  separator_read false text = read_weaker fault (mark_at fault (of_date after_plain_month) hyphen text) _ _ _ _
+  separator_read false text = read_weaker fault _ _ _ _ _
       (mark_read fault (of_date after_plain_month) text tt) by_mark (λ row h. h)
     where
       by_mark : (s : Bool) (rest : Text) → Stood fault (of_date after_plain_month) text s rest → (text ≡ hyphens_of false ++ rest) × Starts false rest
@@ -165,7 +159,7 @@ module _ {E : Type 0} (fault : Row → E) where
     day_read : (text front rest : Text) (date : DateRecord) → text ≡ front ++ rest → DateShape front date → Reads text (day_in_range fault date rest)
     unfolding day_in_range
     day_read text front rest date is shape = read_if fault (nat_le 1 date.day && nat_le date.day (month_length date.year date.month)) _ _ _ _
-        (λ test. let both : IsTrue (nat_le 1 date.day) × IsTrue (nat_le date.day (month_length date.year date.month)) = and_parts _ _ test in
+        (λ test. let both = and_parts (nat_le 1 date.day) (nat_le date.day (month_length date.year date.month)) test in
         (front, is, (shape, (leb-true _ _ both.0, leb-true _ _ both.1))))
         (λ test. fits_whole_in fault of_date brackets day_range InvalidDayRange text front rest is
         (date, (shape, λ good. both_ways _ test (and_from _ _ (le-leb 1 date.day good.0) (le-leb date.day _ good.1)))) refl)

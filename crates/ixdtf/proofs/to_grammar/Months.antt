@@ -1,30 +1,18 @@
 -- What reading a year-month or a month-day returns is one, or is a row that fits.
-use Rattle.std.proofs.Common.{◌≡◌, ℕ, ◌<◌, ◌≤◌, ◌⊎◌, Bool, true, false, IsTrue, [], ◌∷◌, ◌++◌, Ok, refl, ◌∙◌, inl, inr, arith, append_assoc, pos, nat_le, ◌&&◌}
-use Rattle.std.proofs.Common.{if◌then◌else◌}
-use Rattle.std.proofs.lemmas.Bool.{and_parts, and_from, both_ways, leb-true, le-leb}
-use Rattle.std.proofs.lemmas.Bool.Decides.{nat_tests}
+use Rattle.std.proofs.Common.{◌≡◌, ℕ, ◌<◌, ◌≤◌, ◌⊎◌, Bool, true, false, [], ◌∷◌, ◌++◌, Ok, refl, ◌∙◌, inl, inr, arith, append_assoc, pos, nat_le, ◌&&◌}
+use Rattle.std.proofs.{Common.if◌then◌else◌, lemmas.{Bool.{and_parts, and_from, both_ways, leb-true, le-leb}, Bool.Decides.nat_tests}}
 use Rattle.ixdtf.specs.declared.records.DateRecord.{DateRecord}
-use Rattle.ixdtf.specs.language.Letters.{Text, digit, hyphen}
-use Rattle.ixdtf.specs.language.Letters.Letter.{Plain}
-use Rattle.ixdtf.specs.language.Shapes.{one, ◌then◌, ◌either◌, digits}
-use Rattle.ixdtf.specs.language.Digits.{decimal, TwoDigits}
-use Rattle.ixdtf.specs.language.Dates.{Month}
+use Rattle.ixdtf.specs.language.{Letters.{Text, digit, hyphen, Letter.Plain}, Shapes.{one, ◌then◌, ◌either◌, digits}, Digits.{decimal, TwoDigits}, Dates.Month}
 use Rattle.ixdtf.specs.language.Months.{Marks, OptionalHyphen, IsYearMonth, MonthDayShape, IsMonthDay, greatest_day, least_day}
-use Rattle.ixdtf.specs.language.Readers.CoreKind.{year_month, month_day}
-use Rattle.ixdtf.specs.language.Readers.Reader.{bracketed}
-use Rattle.ixdtf.specs.table.Faults.Fault.{InvalidMonthDay}
-use Rattle.ixdtf.specs.table.LineNames.{of_year_month, of_month_day}
-use Rattle.ixdtf.specs.table.LineNames.YearMonthLine.{after_year_in_year_month}
-use Rattle.ixdtf.specs.table.LineNames.MonthDayLine.{month_day_start, month_day_hyphen, month_day_month_digits, month_day_month_range}
-use Rattle.ixdtf.specs.table.LineNames.MonthDayLine.{after_month_day_month, month_day_day_digits, month_day_range}
-use Rattle.ixdtf.specs.table.Lines.{MonthDayMonthDigits}
+use Rattle.ixdtf.specs.language.Readers.{CoreKind.{year_month, month_day}, Reader.bracketed}
+use Rattle.ixdtf.specs.table.{Faults.Fault.InvalidMonthDay, LineNames.{of_year_month, of_month_day, YearMonthLine.after_year_in_year_month}}
+use Rattle.ixdtf.specs.table.LineNames.{MonthDayLine.{month_day_start, month_day_hyphen, month_day_month_digits, month_day_month_range}}
+use Rattle.ixdtf.specs.table.{LineNames.{MonthDayLine.{after_month_day_month, month_day_day_digits, month_day_range}}, Lines.MonthDayMonthDigits}
 use Rattle.ixdtf.specs.table.Rows.{Row, Fits}
-use Rattle.ixdtf.specs.reading.Looks.{Read, digits_at, mark_at}
-use Rattle.ixdtf.specs.reading.Dates.{date_of}
-use Rattle.ixdtf.specs.reading.Months.{year_month_at, marks_at, lone_month_in_range, lone_day_in_range, lone_day_at, month_day_at}
+use Rattle.ixdtf.specs.reading.{Looks.{Read, digits_at, mark_at}, Dates.date_of, Months.{year_month_at, marks_at, lone_month_in_range, lone_day_in_range}}
+use Rattle.ixdtf.specs.reading.Months.{lone_day_at, month_day_at}
 use Rattle.ixdtf.proofs.parts.Looks.{OnRead, FitsIn, fits_in, fits_whole_in, lift, then_read, read_weaker, read_if, digits_read, further}
-use Rattle.ixdtf.proofs.parts.Marks.{hyphens_of, Starts, Begun, Stood, optional, mark_read, hyphen_read, stops_after}
-use Rattle.ixdtf.proofs.parts.Years.{in_year_or_month}
+use Rattle.ixdtf.proofs.parts.{Marks.{hyphens_of, Starts, Begun, Stood, optional, mark_read, hyphen_read, stops_after}, Years.in_year_or_month}
 use Rattle.ixdtf.proofs.to_reading.Months.{no_lone_month, marks_of}
 use Rattle.ixdtf.proofs.to_grammar.Dates.{from_year_read}
 
@@ -42,16 +30,7 @@ year_month_read fault text = from_year_read fault (of_year_month after_year_in_y
     (λ ys y b ms m rest is year month. (
       ys ++ (hyphens_of b ++ ms),
       is,
-      record {
-        years = ys;
-        hyphens = hyphens_of b;
-        months = ms;
-        is = refl;
-        year = year;
-        hyphen = optional b;
-        month = month;
-        first_day = refl;
-      },
+      record { years = ys; hyphens = hyphens_of b; months = ms; is = refl; year = year; hyphen = optional b; month = month; first_day = refl },
     ))
     (λ row h. lift in_year_or_month (bracketed year_month) row text [] text refl (λ l. (l.1, refl)) h)
     (λ ys y rest row is year h. lift of_year_month (bracketed year_month) row text [] text refl (λ l. (refl, refl))
@@ -65,13 +44,13 @@ some_marks false = inl refl
 
 -- what stands of a month, by whether two hyphens do
 begins_month : (b : Bool) (ds : Text) → Begun b ds → MonthDayMonthDigits (marks_of b ++ ds)
-begins_month true ds (inl h) = inl (Plain 45 ∷ [], Plain 45 ∷ [], rw h refl, (45, refl, refl), (45, refl, refl))
+begins_month true ds (inl h) = inl (Plain 45 ∷ [], Plain 45 ∷ [], rw h, (45, refl, refl), (45, refl, refl))
 begins_month true ds (inr h) = inr (marks_of true, ds, refl, some_marks true, h)
 begins_month false ds h = inr ([], ds, refl, inl refl, h)
 
 -- what stands of a day, by whether a hyphen does
 begins_day : (b : Bool) (ds : Text) → Begun b ds → (one hyphen either (OptionalHyphen then one digit)) (hyphens_of b ++ ds)
-begins_day true ds (inl h) = inl (45, rw h refl, refl)
+begins_day true ds (inl h) = inl (45, rw h, refl)
 begins_day true ds (inr h) = inr (hyphens_of true, ds, refl, optional true, h)
 begins_day false ds h = inr ([], ds, refl, inl refl, h)
 
@@ -88,7 +67,7 @@ module _ {E : Type 0} (fault : Row → E) where
       (NoMonthRow ds)
   unfolding lone_month_in_range
   in_month ds rest = read_if fault (nat_le 1 (decimal ds) && nat_le (decimal ds) 12) _ _ _ _
-      (λ test. let both : IsTrue (nat_le 1 (decimal ds)) × IsTrue (nat_le (decimal ds) 12) = and_parts _ _ test in
+      (λ test. let both = and_parts (nat_le 1 (decimal ds)) (nat_le (decimal ds) 12) test in
       (refl, refl, leb-true _ _ both.0, leb-true _ _ both.1))
       (λ test. (no_lone_month, refl, (refl, grind (arith, nat_tests))))
 
@@ -102,13 +81,13 @@ module _ {E : Type 0} (fault : Row → E) where
       where
         by_second : (rest : Text) → text ≡ Plain 45 ∷ rest → (b : Bool) (more : Text) → Stood fault (of_month_day month_day_hyphen) rest b more
             → (text ≡ marks_of b ++ more) × Starts b more
-        by_second rest is true more h = (is ∙ rw h.0 refl, tt)
+        by_second rest is true more h = (is ∙ rw h.0, tt)
         by_second rest is false more h = absurd (both_ways _ h.5 h.4)
 
         by_first : (b : Bool) (rest : Text) → text ≡ hyphens_of b ++ rest → Starts b rest
             → OnRead fault (if b then mark_at fault (of_month_day month_day_hyphen) hyphen rest else Ok (b, rest))
             (λ b rest. (text ≡ marks_of b ++ rest) × Starts b rest) (λ row. FitsIn of_month_day true row text)
-        by_first true rest is starts = read_weaker fault (mark_at fault (of_month_day month_day_hyphen) hyphen rest) _ _ _ _
+        by_first true rest is starts = read_weaker fault _ _ _ _ _
             (mark_read fault (of_month_day month_day_hyphen) rest tt) (by_second rest is)
             (λ r h. fits_in of_month_day true month_day_hyphen r text (Plain 45 ∷ []) rest h.0 is (45, refl, refl) h.1)
         by_first false rest is starts = (is, starts)
@@ -117,7 +96,7 @@ module _ {E : Type 0} (fault : Row → E) where
         → Reads text (lone_day_in_range fault month day rest)
     unfolding lone_day_in_range
     day_read front rest month day is shape = read_if fault (nat_le least_day day && nat_le day (greatest_day month)) _ _ _ _
-        (λ test. let both : IsTrue (nat_le least_day day) × IsTrue (nat_le day (greatest_day month)) = and_parts _ _ test in
+        (λ test. let both = and_parts (nat_le least_day day) (nat_le day (greatest_day month)) test in
         (front, is, (shape, (leb-true _ _ both.0, leb-true _ _ both.1))))
         (λ test. fits_whole_in fault of_month_day true month_day_range InvalidMonthDay text front rest is
         (date_of (pos 0) month day, (shape, λ good. both_ways _ test (and_from _ _ (le-leb least_day day good.0) (le-leb day _ good.1)))) refl)
@@ -172,7 +151,7 @@ module _ {E : Type 0} (fault : Row → E) where
         (λ b rest h. then_read fault (digits_at fault (of_month_day month_day_month_digits) 2 rest) _ _ _ _ _
         (digits_read fault (of_month_day month_day_month_digits) (λ c. refl) 2 rest)
         (λ ds more g. then_read fault (lone_month_in_range fault (ds, more)) _ _ _ _ _ (in_month ds more)
-        (λ m left k. after_month_read b ds m ((g.1, k.1), k.2, k.3) left (further text (marks_of b) rest ds left h.0 (g.0 ∙ rw k.0 refl)))
+        (λ m left k. after_month_read b ds m ((g.1, k.1), k.2, k.3) left (further text (marks_of b) rest ds left h.0 (g.0 ∙ rw k.0)))
         (λ r k. month_row b ds more r (further text (marks_of b) rest ds more h.0 g.0) g.1 k))
         (λ r g. let t = stops_after b (of_month_day month_day_month_digits) rest r (λ c. refl) h.1 g in
         fits_in of_month_day true month_day_month_digits r text (marks_of b ++ t.0) t.1 t.4.0 (further text (marks_of b) rest t.0 t.1 h.0 t.2)

@@ -1,36 +1,24 @@
 -- What reading a time returns is a time as far as it goes, or a row that fits.
 use Rattle.std.proofs.Common.{◌≡◌, ℕ, ◌<◌, ◌≤◌, ◌⊎◌, IsTrue, IsFalse, [], ◌∷◌, ◌++◌, Ok, Err, Option, Some, None, refl, ◌∙◌, subst, inl, inr, arith}
-use Rattle.std.proofs.Common.{append_assoc, nat_le, Bool, true, false, if◌then◌else◌}
-use Rattle.std.proofs.lemmas.Bool.{eqb-true, leb-true, leb-false, and_parts, or_from}
+use Rattle.std.proofs.{Common.{append_assoc, nat_le, Bool, true, false, if◌then◌else◌}, lemmas.{Bool.{eqb-true, leb-true, leb-false, and_parts, or_from}}}
 use Rattle.std.proofs.lemmas.Bool.Decides.{nat_tests}
-use Rattle.ixdtf.specs.language.Times.{Clock}
-use Rattle.ixdtf.specs.language.Times.Clock.{Time, Offset, MinuteOffset}
 use Rattle.ixdtf.specs.declared.records.TimeRecord.{TimeRecord}
-use Rattle.ixdtf.specs.language.Letters.{Text}
-use Rattle.ixdtf.specs.language.Letters.Letter.{Plain, Bad}
-use Rattle.ixdtf.specs.language.Letters.{◌or◌, digit, colon, decimal_mark}
-use Rattle.ixdtf.specs.language.Shapes.{Shape, some, one, fewer_digits_than, ◌then◌, ◌either◌}
-use Rattle.ixdtf.specs.language.Digits.{decimal, UpTo}
+use Rattle.ixdtf.specs.language.Times.{Clock, TimeShape, ClockOf, PlainMinuteText, ColonMinuteText, SecondText, greatest_second, has_seconds, Clock.Time}
+use Rattle.ixdtf.specs.language.{Times.{TimeShape.{hours, plain_minutes, colon_minutes, seconds, fractions}}, Letters.{Text, ◌or◌, digit, colon, decimal_mark}}
+use Rattle.ixdtf.specs.language.{Letters.{Letter.{Plain, Bad}}, Shapes.{Shape, some, one, fewer_digits_than, ◌then◌, ◌either◌}, Digits.{decimal, UpTo}}
 use Rattle.ixdtf.specs.language.Fractions.{FractionParts, SomeDigits, fraction_of}
-use Rattle.ixdtf.specs.table.Faults.{Fault}
-use Rattle.ixdtf.specs.table.Faults.Fault.{NonAsciiCodePoint, TimeHour, TimeMinuteSecond}
-use Rattle.ixdtf.specs.language.Times.{TimeShape, ClockOf, PlainMinuteText, ColonMinuteText, SecondText, greatest_second, has_seconds}
-use Rattle.ixdtf.specs.language.Times.TimeShape.{hours, plain_minutes, colon_minutes, seconds, fractions}
-use Rattle.ixdtf.specs.table.LineNames.{ClockLine, LineName}
-use Rattle.ixdtf.specs.table.LineNames.LineName.{of_clock}
-use Rattle.ixdtf.specs.table.LineNames.ClockLine.{hour_start, hour_digit, hour_range, after_hour, minute_digits, minute_range, after_plain_minute}
-use Rattle.ixdtf.specs.table.LineNames.ClockLine.{after_colon_minute, second_digits, second_range, after_second, fraction_start, after_fraction}
-use Rattle.ixdtf.specs.table.Lines.{line_of, follow_of, seconds_after, second_fault, mixed, ColonOrDigit, Past}
-use Rattle.ixdtf.specs.table.Lines.Ending.{ok, error}
-use Rattle.ixdtf.specs.table.Rows.{Row, Place, Stops, front_of}
-use Rattle.ixdtf.specs.table.Rows.Place.{end, other, bad, anywhere}
-use Rattle.ixdtf.specs.reading.Looks.{Read, ◌>>=◌, row_of, letter_at, look_at, next_by, digits_at, peek_by, in_range, number_by, digit_run}
-use Rattle.ixdtf.specs.reading.Times.{OpenTime, time_of, line_after, bad_after, mixed_after, hour_past, minute_past, second_past, minutes_shape, second_start}
+use Rattle.ixdtf.specs.table.{Faults.{Fault, Fault.{NonAsciiCodePoint, TimeHour, TimeMinuteSecond}}, LineNames.{ClockLine, LineName, LineName.of_clock}}
+use Rattle.ixdtf.specs.table.LineNames.{ClockLine.{hour_start, hour_digit, hour_range, after_hour, minute_digits, minute_range, after_plain_minute}}
+use Rattle.ixdtf.specs.table.LineNames.{ClockLine.{after_colon_minute, second_digits, second_range, after_second, fraction_start, after_fraction}}
+use Rattle.ixdtf.specs.table.Lines.{line_of, follow_of, seconds_after, second_fault, mixed, ColonOrDigit, Past, Ending.{ok, error}}
+use Rattle.ixdtf.specs.table.Rows.{Row, Place, Stops, front_of, Place.{end, other, bad, anywhere}}
+use Rattle.ixdtf.specs.reading.{Looks.{Read, ◌>>=◌, row_of, letter_at, look_at, next_by, digits_at, peek_by, in_range, number_by, digit_run}, Times.OpenTime}
+use Rattle.ixdtf.specs.reading.Times.{time_of, line_after, bad_after, mixed_after, hour_past, minute_past, second_past, minutes_shape, second_start}
 use Rattle.ixdtf.specs.reading.Times.{number_at, fraction_at, after_second_at, second_at, after_minute_at, minute_at, after_hour_at, hour_from, clock_at}
 use Rattle.ixdtf.specs.reading.Zones.{follow_look}
-use Rattle.ixdtf.proofs.parts.Looks.{Stopped, OnRead, OnRun, FitsIn, fits_in, then_read, read_weaker, read_if, no_digit, none_or_one, LooksForDigit, DigitsStop}
-use Rattle.ixdtf.proofs.parts.Looks.{goes, stops, digit_goes, digit_looks, read_letter, digits_read}
-use Rattle.ixdtf.proofs.parts.Looks.{Peeked, peek_read, next_read, run_read, further, onto, NotNext}
+use Rattle.ixdtf.proofs.parts.Looks.{Stopped, OnRead, OnRun, FitsIn, fits_in, then_read, read_weaker, read_if, no_digit, none_or_one, LooksForDigit}
+use Rattle.ixdtf.proofs.parts.Looks.{DigitsStop, goes, stops, digit_goes, digit_looks, read_letter, digits_read, Peeked, peek_read, next_read, run_read}
+use Rattle.ixdtf.proofs.parts.Looks.{further, onto, NotNext}
 use Rattle.ixdtf.proofs.to_reading.Times.{Closed, IsLater, StopsAfter, closed_minutes, with_fraction}
 
 -- what reading a time gave
@@ -44,8 +32,7 @@ later clock l = of_clock clock l.0
 -- a colon or a digit does not follow a time
 mixed_no_follow : (brackets : Bool) (clock : Clock) (c : ℕ) → IsTrue ((colon or digit) c) → IsFalse ((follow_of brackets clock).letters c)
 mixed_no_follow true Time c h = grind (arith, h, nat_tests)
-mixed_no_follow true Offset c h = grind (arith, h, nat_tests)
-mixed_no_follow true MinuteOffset c h = grind (arith, h, nat_tests)
+mixed_no_follow true clock c h = grind (arith, h, nat_tests)
 mixed_no_follow false clock c h = refl
 
 -- what stands before the digits of a minute and of a second, with colons and without
@@ -64,7 +51,7 @@ Begun true = fewer_digits_than 2
 Begun false = one digit
 
 after_colon : (ds : Text) → (ds ≡ []) ⊎ one digit ds → ColonOrDigit (Plain 58 ∷ ds)
-after_colon ds (inl h) = inl (58, rw h refl, refl)
+after_colon ds (inl h) = inl (58, rw h, refl)
 after_colon ds (inr h) = inr (inl (Plain 58 ∷ [], ds, refl, (58, refl, refl), h))
 
 a_mark : (colons : Bool) → (marks colons ≡ []) ⊎ one colon (marks colons)
@@ -174,9 +161,9 @@ module _ {E : Type 0} (fault : Row → E) where
           → IsFalse (seconds_after clock (second_start colons) c) → IsTrue ((colon or digit) c)
           → Stopped fault (mixed_after fault clock (minutes_shape colons)) Fitting
       mixed_read true t c more x next out h =
-          at_line after_colon_minute tt other (mixed clock) (t, x) (c, more, next, or_from _ _ out (mixed_no_follow brackets clock c h), rw h refl)
+          at_line after_colon_minute tt other (mixed clock) (t, x) (c, more, next, or_from _ _ out (mixed_no_follow brackets clock c h), rw h)
       mixed_read false t c more x next out h =
-          at_line after_plain_minute tt other (mixed clock) (t, x) (c, more, next, or_from _ _ out (mixed_no_follow brackets clock c h), rw h refl)
+          at_line after_plain_minute tt other (mixed clock) (t, x) (c, more, next, or_from _ _ out (mixed_no_follow brackets clock c h), rw h)
 
       -- at the end, where it is an error
       open_end : (shape : TimeShape) (t : TimeRecord) (e : Fault) → ClockOf clock shape front t → rest ≡ [] → (follow_of brackets clock).at_end ≡ error e
@@ -226,7 +213,7 @@ module _ {E : Type 0} (fault : Row → E) where
       fraction_read rest is =
           then_read fault (letter_at fault (of_clock clock fraction_start) rest) _ _ _ _ _ (read_letter fault (of_clock clock fraction_start) rest tt)
           (λ d left g. rw g.0
-          (more_digits_read d left (is ∙ rw g.0 refl) g.1 (digit_run (bad_after fault clock fractions) left) (run_read (bad_after fault clock fractions) left)))
+          (more_digits_read d left (is ∙ rw g.0) g.1 (digit_run (bad_after fault clock fractions) left) (run_read (bad_after fault clock fractions) left)))
           (λ r g. fits_in (later clock) brackets (fraction_start, tt) r text (front ++ (Plain c ∷ [])) rest g.0
           (further text front _ (Plain c ∷ []) rest is refl) (front, _, refl, (time_of h m s None, (x, refl)), (c, refl, mark)) g.1)
 
@@ -241,7 +228,7 @@ module _ {E : Type 0} (fault : Row → E) where
     unfolding after_second_at
     after_second_read h m s front rest is x = next_read (bad_after fault clock seconds) decimal_mark _ _ fault rest (TimeFront clock text) Fitting
         (λ more next. open_bad front rest is seconds (time_of h m s None) more (x, refl) next)
-        (λ c more next mark. with_fraction_read h m s c front x mark more (is ∙ rw next refl))
+        (λ c more next mark. with_fraction_read h m s c front x mark more (is ∙ rw next))
         (λ closed. (front, is, (x, refl), closed))
 
     -- the number of a minute or a second: its digits and its range each have a line
@@ -278,7 +265,7 @@ module _ {E : Type 0} (fault : Row → E) where
         → IsTrue (seconds_after clock (second_start colons) c) → ClockOf clock (minutes_shape colons) front (time_of h m 0 None)
         → Reads (second_at fault clock h m (if colons then more else rest))
     second_from true h m c front rest more is next mark x =
-        let parts = and_parts _ _ mark in second_read true h m front more parts.0 (is ∙ rw (next, eqb-true c 58 parts.1) refl) tt x
+        let parts = and_parts _ _ mark in second_read true h m front more parts.0 (is ∙ rw (next, eqb-true c 58 parts.1)) tt x
     second_from false h m c front rest more is next mark x =
         let parts = and_parts _ _ mark in second_read false h m front rest parts.0 is (c, more, next, parts.1) x
 
@@ -312,7 +299,7 @@ module _ {E : Type 0} (fault : Row → E) where
         let hour : ClockOf clock hours front (time_of h 0 0 None) = record { hour = x; no_minute = refl; no_second = refl; no_fraction = refl } in
         next_read (bad_after fault clock hours) colon _ _ fault rest (TimeFront clock text) Fitting
         (λ more next. open_bad front rest is hours (time_of h 0 0 None) more hour next)
-        (λ c more next mark. minute_read true h front more (is ∙ rw (next, eqb-true c 58 mark) refl) tt x)
+        (λ c more next mark. minute_read true h front more (is ∙ rw (next, eqb-true c 58 mark)) tt x)
         (λ no_colon. next_read (bad_after fault clock hours) digit _ _ fault rest (TimeFront clock text) Fitting
         (λ more next. open_bad front rest is hours (time_of h 0 0 None) more hour next)
         (λ c more next d. minute_read false h front rest is (c, more, next, d) x)
@@ -324,8 +311,8 @@ module _ {E : Type 0} (fault : Row → E) where
         then_read fault (digits_at fault (of_clock clock hour_digit) 1 rest) _ _ _ _ _ (digits_read fault (of_clock clock hour_digit) (λ c. refl) 1 rest)
         (λ ds more g. then_read fault (in_range 23 (fault (hour_past clock)) (Plain c ∷ ds, more)) _ _ _ _ _
         (range_read 23 (hour_past clock) (Plain c ∷ ds) more)
-        (λ h left u. after_hour_read h (Plain c ∷ ds) left (is ∙ rw (g.0, u.0) refl) ((c, ds, refl, d, g.1), u.1, u.2))
-        (λ r u. rw u.0 (fits hour_range tt anywhere TimeHour (Plain c ∷ ds) more (is ∙ rw g.0 refl) ((c, ds, refl, d, g.1), u.1) refl)))
+        (λ h left u. after_hour_read h (Plain c ∷ ds) left (is ∙ rw (g.0, u.0)) ((c, ds, refl, d, g.1), u.1, u.2))
+        (λ r u. rw u.0 (fits hour_range tt anywhere TimeHour (Plain c ∷ ds) more (is ∙ rw g.0) ((c, ds, refl, d, g.1), u.1) refl)))
         (λ r g. let at = no_digit (of_clock clock hour_digit) rest r g in
         fits_in (later clock) brackets (hour_digit, tt) r text (Plain c ∷ []) rest at.0 is (c, refl, d) at.1)
 
@@ -343,8 +330,7 @@ module _ {E : Type 0} (fault : Row → E) where
         → StopsAfter (follow_of brackets clock) place e rest → Fitting (row_of (line_after clock x.0) place e)
     clock_stops x end e rest h at = open_end h.0 rest h.1 x.0 x.1 e h.2 at.0 at.1
     clock_stops x other e rest h at = open_other h.0 rest h.1 x.0 x.1 at.0 at.1 e h.2 at.2 at.3 at.4 (rw at.2 at h.3)
-    clock_stops x bad e rest h at = absurd at
-    clock_stops x anywhere e rest h at = absurd at
+    clock_stops x place e rest h at = absurd at
 
     -- at a letter that may not follow
     other_read : (x : OpenTime) (rest : Text) → TimeFront clock text x rest → (c : ℕ) (more : Text) → rest ≡ Plain c ∷ more

@@ -1,27 +1,16 @@
 -- A reading that has gone over what stands before a time or an offset, and goes on after it, returns each row of their lines.
 use Rattle.std.proofs.Common.{◌≡◌, ℕ, IsTrue, [], ◌∷◌, ◌++◌, Err, refl, ◌∙◌, inl, inr, arith, Bool}
-use Rattle.ixdtf.specs.language.Times.{Clock}
 use Rattle.ixdtf.specs.declared.records.TimeRecord.{TimeRecord}
-use Rattle.ixdtf.specs.language.Letters.{Text}
-use Rattle.ixdtf.specs.language.Letters.Letter.{Plain}
-use Rattle.ixdtf.specs.language.Letters.{digit}
-use Rattle.ixdtf.specs.table.Faults.{Fault}
-use Rattle.ixdtf.specs.language.Times.{TimeShape, ClockOf}
-use Rattle.ixdtf.specs.language.Times.TimeShape.{hours, plain_minutes, colon_minutes, seconds, fractions}
-use Rattle.ixdtf.specs.table.LineNames.{ClockLine, LineName}
-use Rattle.ixdtf.specs.table.LineNames.LineName.{of_clock}
-use Rattle.ixdtf.specs.table.LineNames.ClockLine.{hour_start, hour_digit, hour_range, after_hour, minute_digits, minute_range, after_plain_minute}
-use Rattle.ixdtf.specs.table.LineNames.ClockLine.{after_colon_minute, second_digits, second_range, after_second, fraction_start, after_fraction}
-use Rattle.ixdtf.specs.table.Lines.{line_of, follow_of}
-use Rattle.ixdtf.specs.table.Lines.Ending.{ok}
-use Rattle.ixdtf.specs.table.Rows.{Row, Place, Stops}
-use Rattle.ixdtf.specs.table.Rows.Place.{end, other, bad, anywhere}
-use Rattle.ixdtf.specs.reading.Looks.{Read, ◌>>=◌, row_of, look_at, peek_by, next_by}
-use Rattle.ixdtf.specs.reading.Times.{OpenTime, line_after, hour_from, clock_at}
-use Rattle.ixdtf.specs.reading.Zones.{follow_look}
+use Rattle.ixdtf.specs.language.{Shapes.some, Times.{Clock, TimeShape, ClockOf, TimeShape.{hours, plain_minutes, colon_minutes, seconds, fractions}}}
+use Rattle.ixdtf.specs.language.Letters.{Text, digit, Letter.Plain}
+use Rattle.ixdtf.specs.table.{Faults.Fault, LineNames.{ClockLine, LineName, LineName.of_clock, ClockLine.{hour_start, hour_digit, hour_range, after_hour}}}
+use Rattle.ixdtf.specs.table.LineNames.{ClockLine.{minute_digits, minute_range, after_plain_minute, after_colon_minute, second_digits, second_range}}
+use Rattle.ixdtf.specs.table.{LineNames.{ClockLine.{after_second, fraction_start, after_fraction}}, Lines.{line_of, follow_of, Ending.ok}}
+use Rattle.ixdtf.specs.table.Rows.{Row, Place, Stops, Place.{end, other}}
+use Rattle.ixdtf.specs.reading.{Looks.{Read, ◌>>=◌, row_of, look_at, peek_by, next_by}, Times.{OpenTime, line_after, hour_from, clock_at}, Zones.follow_look}
 use Rattle.ixdtf.proofs.parts.Looks.{Leads, RowsRead, goes, stops, peek_other}
-use Rattle.ixdtf.proofs.to_reading.Times.{Closed, IsLater, StopsAfter, OpenRow, time_takes, open_row, hour_digit_row, hour_range_row}
-use Rattle.ixdtf.proofs.to_reading.Times.{minute_digits_row, minute_range_row, second_digits_row, second_range_row, fraction_start_row}
+use Rattle.ixdtf.proofs.to_reading.Times.{Closed, IsLater, StopsAfter, OpenRow, time_takes, open_row, hour_digit_row, hour_range_row, minute_digits_row}
+use Rattle.ixdtf.proofs.to_reading.Times.{minute_range_row, second_digits_row, second_range_row, fraction_start_row}
 
 -- each row of the line is returned, behind what stands before it
 abbrev pub RowsBehind : {E A : Type 0} → (Row → E) → Bool → (Text → Read E A) → Text → LineName → Type 0
@@ -49,7 +38,7 @@ module _ {E : Type 0} (fault : Row → E) (clock : Clock) where
 
   pub hour_start_row : (brackets : Bool) → RowsRead fault brackets (clock_at fault clock) (of_clock clock hour_start)
   unfolding clock_at
-  hour_start_row brackets place e front rest f at = rw (f, stops fault (of_clock clock hour_start) place e rest tt at) refl
+  hour_start_row brackets place e front rest f at = rw (f, stops fault (of_clock clock hour_start) place e rest tt at)
 
   abbrev pub clock_lead : {A : Type 0} (whole_at : Text → Read E A) (after : OpenTime × Text → Read E A) (prior : Text)
       → ((body : Text) → whole_at (prior ++ body) ≡ (clock_at fault clock body >>= after)) → TimeLead fault clock whole_at after prior
@@ -62,11 +51,11 @@ module _ {E A : Type 0} (fault : Row → E) (clock : Clock) (whole_at : Text →
   -- a time is read as far as it goes
   pub over_time : (shape : TimeShape) (ts : Text) (t : TimeRecord) (rest : Text) → ClockOf clock shape ts t → Closed clock shape rest
       → whole_at (prior ++ (ts ++ rest)) ≡ after ((shape, t), rest)
-  over_time shape ts t rest x closed = lead.over (ts ++ rest) ∙ rw (time_takes fault clock lead.start lead.starts shape ts t rest x closed) refl
+  over_time shape ts t rest x closed = lead.over (ts ++ rest) ∙ rw (time_takes fault clock lead.start lead.starts shape ts t rest x closed)
 
   -- a fault in the time is returned
   in_time : (body : Text) (e : E) → lead.start body ≡ Err e → whole_at (prior ++ body) ≡ Err e
-  in_time body e h = lead.over body ∙ rw h refl
+  in_time body e h = lead.over body ∙ rw h
 
   module _ (brackets : Bool) where
     -- a row of the start is returned
@@ -74,10 +63,10 @@ module _ {E A : Type 0} (fault : Row → E) (clock : Clock) (whole_at : Text →
     start_rows name h place e front rest f at = in_time (front ++ rest) _ (h place e front rest f at)
 
     module _ (refuses : Refuses fault brackets clock after) where
-      open_rows : (shape : TimeShape) (place : Place) (e : Fault) (front rest : Text) (t : TimeRecord) → ClockOf clock shape front t
+      open_rows : (shape : TimeShape) (place : Place) (e : Fault) (front rest : Text) → some (ClockOf clock shape) front
           → Stops (line_of brackets (line_after clock shape)) place e rest
           → whole_at (prior ++ (front ++ rest)) ≡ Err (fault (row_of (line_after clock shape) place e))
-      open_rows shape place e front rest t x at = by_row (open_row fault clock lead.start lead.starts brackets shape place e front rest t x at)
+      open_rows shape place e front rest (t, x) at = by_row (open_row fault clock lead.start lead.starts brackets shape place e front rest t x at)
         where
           by_row : OpenRow fault clock lead.start lead.starts brackets shape place e front rest
               → whole_at (prior ++ (front ++ rest)) ≡ Err (fault (row_of (line_after clock shape) place e))
@@ -87,18 +76,18 @@ module _ {E A : Type 0} (fault : Row → E) (clock : Clock) (whole_at : Text →
       -- every row of a time's lines but that of the first digit
       pub later_rows : (l : ClockLine) → IsLater l → RowsBehind fault brackets whole_at prior (of_clock clock l)
       later_rows hour_start is_later = absurd is_later
-      later_rows hour_digit is_later = start_rows (of_clock clock hour_digit) (hour_digit_row fault clock lead.start lead.starts brackets)
-      later_rows hour_range is_later = start_rows (of_clock clock hour_range) (hour_range_row fault clock lead.start lead.starts brackets)
-      later_rows after_hour is_later = λ place e front rest f at. open_rows hours place e front rest f.0 f.1 at
-      later_rows minute_digits is_later = start_rows (of_clock clock minute_digits) (minute_digits_row fault clock lead.start lead.starts brackets)
-      later_rows minute_range is_later = start_rows (of_clock clock minute_range) (minute_range_row fault clock lead.start lead.starts brackets)
-      later_rows after_plain_minute is_later = λ place e front rest f at. open_rows plain_minutes place e front rest f.0 f.1 at
-      later_rows after_colon_minute is_later = λ place e front rest f at. open_rows colon_minutes place e front rest f.0 f.1 at
-      later_rows second_digits is_later = start_rows (of_clock clock second_digits) (second_digits_row fault clock lead.start lead.starts brackets)
-      later_rows second_range is_later = start_rows (of_clock clock second_range) (second_range_row fault clock lead.start lead.starts brackets)
-      later_rows after_second is_later = λ place e front rest f at. open_rows seconds place e front rest f.0 f.1 at
-      later_rows fraction_start is_later = start_rows (of_clock clock fraction_start) (fraction_start_row fault clock lead.start lead.starts brackets)
-      later_rows after_fraction is_later = λ place e front rest f at. open_rows fractions place e front rest f.0 f.1 at
+      later_rows hour_digit is_later = start_rows _ (hour_digit_row fault clock lead.start lead.starts brackets)
+      later_rows hour_range is_later = start_rows _ (hour_range_row fault clock lead.start lead.starts brackets)
+      later_rows after_hour is_later = open_rows hours
+      later_rows minute_digits is_later = start_rows _ (minute_digits_row fault clock lead.start lead.starts brackets)
+      later_rows minute_range is_later = start_rows _ (minute_range_row fault clock lead.start lead.starts brackets)
+      later_rows after_plain_minute is_later = open_rows plain_minutes
+      later_rows after_colon_minute is_later = open_rows colon_minutes
+      later_rows second_digits is_later = start_rows _ (second_digits_row fault clock lead.start lead.starts brackets)
+      later_rows second_range is_later = start_rows _ (second_range_row fault clock lead.start lead.starts brackets)
+      later_rows after_second is_later = open_rows seconds
+      later_rows fraction_start is_later = start_rows _ (fraction_start_row fault clock lead.start lead.starts brackets)
+      later_rows after_fraction is_later = open_rows fractions
 
 -- ---- a reading that goes on after a time which starts with its hour
 
@@ -125,13 +114,11 @@ module _ {E : Type 0} (fault : Row → E) (brackets : Bool) (clock : Clock) wher
       → peek_by (follow_look fault brackets clock x) rest ≡ Err (fault (row_of (line_after clock x.0) place e))
   peek_stops_after x end e rest ends at = absurd (grind (arith, ends, at.1))
   peek_stops_after x other e rest ends at = rw (at.2, at.4) (peek_other (follow_look fault brackets clock x) at.0 at.1 at.3)
-  peek_stops_after x bad e rest ends at = absurd at
-  peek_stops_after x anywhere e rest ends at = absurd at
+  peek_stops_after x place e rest ends at = absurd at
 
   pub next_stops_after : (x : OpenTime) (place : Place) (e : Fault) (rest : Text) → StopsAfter (follow_of brackets clock) place e rest
       → next_by (follow_look fault brackets clock x) rest ≡ Err (fault (row_of (line_after clock x.0) place e))
   unfolding next_by look_at
-  next_stops_after x end e rest at = rw (at.0, at.1) refl
-  next_stops_after x other e rest at = rw (at.2, at.3, at.4) refl
-  next_stops_after x bad e rest at = absurd at
-  next_stops_after x anywhere e rest at = absurd at
+  next_stops_after x end e rest at = rw (at.0, at.1)
+  next_stops_after x other e rest at = rw (at.2, at.3, at.4)
+  next_stops_after x place e rest at = absurd at

@@ -1,30 +1,18 @@
 -- A date gives its record and the rest, and each row of a date's lines is returned.
-use Rattle.std.proofs.Common.{◌≡◌, ℕ, ◌<◌, ◌⊎◌, Bool, true, false, IsTrue, [], ◌++◌, Ok, Err, refl, sym, ap, ◌∙◌, inl, inr, arith, append_assoc, ℤ, nat_le}
-use Rattle.std.proofs.Common.{◌&&◌}
-use Rattle.std.proofs.lemmas.Bool.{and_parts, and_from, leb-true, le-leb, false_from_ne_true}
-use Rattle.std.proofs.lemmas.Bool.Decides.{nat_tests}
+use Rattle.std.proofs.Common.{◌≡◌, ℕ, ◌<◌, ◌⊎◌, Bool, true, false, [], ◌++◌, Ok, Err, refl, sym, ap, ◌∙◌, inl, inr, arith, append_assoc, ℤ, nat_le, ◌&&◌}
+use Rattle.std.proofs.lemmas.{Bool.{and_parts, and_from, leb-true, le-leb, false_from_ne_true}, Bool.Decides.nat_tests}
 use Rattle.ixdtf.specs.declared.records.DateRecord.{DateRecord}
-use Rattle.ixdtf.specs.language.Letters.{Text, hyphen}
-use Rattle.ixdtf.specs.language.Digits.{decimal, TwoDigits}
-use Rattle.ixdtf.specs.language.Months.{OptionalHyphen}
-use Rattle.ixdtf.specs.table.Faults.{Fault}
-use Rattle.ixdtf.specs.table.Faults.Fault.{InvalidMonthRange, InvalidDayRange}
-use Rattle.ixdtf.specs.language.Dates.{Year, Month, DateShape, IsDayOfMonth, IsDate, month_length}
-use Rattle.ixdtf.specs.language.Readers.CoreKind.{year_month}
-use Rattle.ixdtf.specs.table.LineNames.{DateLine, LineName}
-use Rattle.ixdtf.specs.table.LineNames.{of_date}
-use Rattle.ixdtf.specs.table.LineNames.DateLine.{year_start, year_digits, extended_year_digits, minus_zero_year, after_year, month_digits, month_range}
-use Rattle.ixdtf.specs.table.LineNames.DateLine.{after_hyphened_month, after_plain_month, day_digits, day_range, after_date}
-use Rattle.ixdtf.specs.table.Lines.{line_of, date_line, HyphenOrDigit, NoMonth}
-use Rattle.ixdtf.specs.table.Before.{BeforeDate}
-use Rattle.ixdtf.specs.table.Rows.{Row, Place, Stops}
-use Rattle.ixdtf.specs.table.Rows.Place.{anywhere}
-use Rattle.ixdtf.specs.reading.Looks.{Read, ◌>>=◌, row_of, mark_at}
-use Rattle.ixdtf.specs.reading.Dates.{date_of, year_at, month_in_range, month_by, month_at, line_after_month, day_in_range, day_at, date_at}
-use Rattle.ixdtf.proofs.parts.Looks.{Leads, ◌before◌, Halts, ◌till◌, RowsRead, whole_row, digits_go, none_or_one}
-use Rattle.ixdtf.proofs.parts.Marks.{hyphens_of, Starts, Begun, LooksForHyphen, hyphen_is, begun_starts, digits_start, hyphen_looks, hyphen_over, mark_over}
-use Rattle.ixdtf.proofs.parts.Marks.{mark_stops, digits_stop_after}
-use Rattle.ixdtf.proofs.parts.Years.{year_takes, year_start_row, year_digits_row, extended_year_digits_row, minus_zero_year_row}
+use Rattle.ixdtf.specs.language.{Letters.{Text, hyphen}, Digits.{decimal, TwoDigits}, Months.OptionalHyphen, Dates.{Year, Month, DateShape, IsDayOfMonth}}
+use Rattle.ixdtf.specs.language.{Dates.{IsDate, month_length}, Readers.CoreKind.year_month}
+use Rattle.ixdtf.specs.table.{Faults.{Fault, Fault.{InvalidMonthRange, InvalidDayRange}}, LineNames.{DateLine, LineName, of_date, DateLine.year_start}}
+use Rattle.ixdtf.specs.table.LineNames.{DateLine.{year_digits, extended_year_digits, minus_zero_year, after_year, month_digits, month_range}}
+use Rattle.ixdtf.specs.table.LineNames.{DateLine.{after_hyphened_month, after_plain_month, day_digits, day_range, after_date}}
+use Rattle.ixdtf.specs.table.{Lines.{line_of, date_line, HyphenOrDigit, NoMonth}, Before.BeforeDate, Rows.{Row, Place, Stops, Place.anywhere}}
+use Rattle.ixdtf.specs.reading.{Looks.{Read, ◌>>=◌, row_of, mark_at}, Dates.{date_of, year_at, month_in_range, month_by, month_at, line_after_month}}
+use Rattle.ixdtf.specs.reading.Dates.{day_in_range, day_at, date_at}
+use Rattle.ixdtf.proofs.parts.{Looks.{Leads, ◌before◌, Halts, ◌till◌, RowsRead, whole_row, digits_go, none_or_one}, Marks.{hyphens_of, Starts, Begun}}
+use Rattle.ixdtf.proofs.parts.Marks.{LooksForHyphen, hyphen_is, begun_starts, digits_start, hyphen_looks, hyphen_over, mark_over, mark_stops}
+use Rattle.ixdtf.proofs.parts.{Marks.digits_stop_after, Years.{year_takes, year_start_row, year_digits_row, extended_year_digits_row, minus_zero_year_row}}
 
 -- the lines that a date's own reading returns
 abbrev pub IsInside : DateLine → Type 0
@@ -105,11 +93,11 @@ module _ {E : Type 0} (fault : Row → E) where
       pub year_stops : (ys : Text) (y : ℤ) (place : Place) (e : Fault) (rest : Text) → Year ys y → Stops (line_of true name) place e rest
           → from_year (ys ++ rest) ≡ Err (fault (row_of name place e))
       unfolding month_by
-      year_stops ys y place e rest h at = (over_year ys y h).over rest ∙ rw (mark_stops fault name place e rest (hyphen_looks (line_of true name) asks) at) refl
+      year_stops ys y place e rest h at = (over_year ys y h).over rest ∙ rw (mark_stops fault name place e rest (hyphen_looks (line_of true name) asks) at)
 
       module _ (brackets : Bool) where
         year_rows : (l : LineName) → RowsRead fault brackets (year_at fault) l → RowsRead fault brackets from_year l
-        year_rows l h place e front rest f at = rw (h place e front rest f at) refl
+        year_rows l h place e front rest f at = rw (h place e front rest f at)
 
         month_digits_row : RowsRead fault brackets from_year (of_date month_digits)
         month_digits_row place e front rest f at =
@@ -141,13 +129,13 @@ module _ {E : Type 0} (fault : Row → E) where
 
   day_fits : (date : DateRecord) (rest : Text) → IsDayOfMonth date → day_in_range fault date rest ≡ Ok (date, rest)
   unfolding day_in_range
-  day_fits date rest h = rw (and_from _ _ (le-leb 1 date.day h.0) (le-leb date.day _ h.1)) refl
+  day_fits date rest h = rw (and_from _ _ (le-leb 1 date.day h.0) (le-leb date.day _ h.1))
 
   day_refused : (date : DateRecord) (rest : Text) → ¬ (IsDayOfMonth date)
       → day_in_range fault date rest ≡ Err (fault (row_of (of_date day_range) anywhere InvalidDayRange))
   unfolding day_in_range
   day_refused date rest h = rw (false_from_ne_true _ (λ test. h (
-      let both : IsTrue (nat_le 1 date.day) × IsTrue (nat_le date.day (month_length date.year date.month)) = and_parts _ _ test in
+      let both = and_parts (nat_le 1 date.day) (nat_le date.day (month_length date.year date.month)) test in
       (leb-true _ _ both.0, leb-true _ _ both.1)))) refl
 
   over_separator : (b : Bool) (text : Text) → Starts b text → mark_at fault (line_after_month b) hyphen (hyphens_of b ++ text) ≡ Ok (b, text)
@@ -212,12 +200,12 @@ module _ {E : Type 0} (fault : Row → E) where
     unfolding day_at
     after_hyphened_month_row place e front rest f at =
         rw (f.2, f.4.2, hyphen_is f.4.0 f.4.3)
-        ((to_year _ _ f.3.1 before to_month _ true _ _ f.4.4.1).over rest ∙ rw (mark_stops fault (of_date after_hyphened_month) place e rest tt at) refl)
+        ((to_year _ _ f.3.1 before to_month _ true _ _ f.4.4.1).over rest ∙ rw (mark_stops fault (of_date after_hyphened_month) place e rest tt at))
 
     after_plain_month_row : RowsRead fault brackets (date_at fault) (of_date after_plain_month)
     unfolding day_at
     after_plain_month_row place e front rest f at =
-        rw f.2 ((to_year _ _ f.3.1 before to_month _ false _ _ f.4.1).over rest ∙ rw (mark_stops fault (of_date after_plain_month) place e rest tt at) refl)
+        rw f.2 ((to_year _ _ f.3.1 before to_month _ false _ _ f.4.1).over rest ∙ rw (mark_stops fault (of_date after_plain_month) place e rest tt at))
 
     day_digits_row : RowsRead fault brackets (date_at fault) (of_date day_digits)
     day_digits_row place e front rest (inl f) at =
@@ -233,15 +221,10 @@ module _ {E : Type 0} (fault : Row → E) where
 
     -- every row of a date but those after it
     pub date_row_read : (l : DateLine) → IsInside l → RowsRead fault brackets (date_at fault) (of_date l)
-    date_row_read year_start h = year_or_month_row year_start refl
-    date_row_read year_digits h = year_or_month_row year_digits refl
-    date_row_read extended_year_digits h = year_or_month_row extended_year_digits refl
-    date_row_read minus_zero_year h = year_or_month_row minus_zero_year refl
     date_row_read after_year h = after_year_row
-    date_row_read month_digits h = year_or_month_row month_digits refl
-    date_row_read month_range h = year_or_month_row month_range refl
     date_row_read after_hyphened_month h = after_hyphened_month_row
     date_row_read after_plain_month h = after_plain_month_row
     date_row_read day_digits h = day_digits_row
     date_row_read day_range h = day_range_row
     date_row_read after_date h = absurd h
+    date_row_read l h = year_or_month_row l refl

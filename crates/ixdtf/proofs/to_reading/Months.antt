@@ -1,30 +1,19 @@
 -- A year-month and a month-day give their record and the rest, and each row of their lines is returned.
-use Rattle.std.proofs.Common.{◌≡◌, ℕ, Bool, true, false, IsTrue, [], ◌∷◌, ◌++◌, Ok, Err, refl, sym, ap, ◌∙◌, inl, inr, append_assoc, ℤ, pos}
-use Rattle.std.proofs.Common.{nat_le}
-use Rattle.std.proofs.lemmas.Bool.{and_parts, and_from, leb-true, le-leb, false_from_ne_true}
+use Rattle.std.proofs.Common.{◌≡◌, ℕ, Bool, true, false, [], ◌∷◌, ◌++◌, Ok, Err, refl, sym, ap, ◌∙◌, inl, inr, append_assoc, ℤ, pos, nat_le}
+use Rattle.std.proofs.lemmas.{Bool.{and_parts, and_from, leb-true, le-leb, false_from_ne_true}}
 use Rattle.ixdtf.specs.declared.records.DateRecord.{DateRecord}
-use Rattle.ixdtf.specs.language.Letters.{Text, digit, hyphen}
-use Rattle.ixdtf.specs.language.Letters.Letter.{Plain}
-use Rattle.ixdtf.specs.language.Shapes.{one, ◌then◌, ◌either◌}
-use Rattle.ixdtf.specs.language.Digits.{TwoDigits}
-use Rattle.ixdtf.specs.language.Dates.{Month}
+use Rattle.ixdtf.specs.language.{Letters.{Text, digit, hyphen, Letter.Plain}, Shapes.{one, ◌then◌, ◌either◌}, Digits.TwoDigits, Dates.Month}
 use Rattle.ixdtf.specs.language.Months.{Marks, OptionalHyphen, IsYearMonth, MonthDayShape, IsDayOfSomeYear, IsMonthDay, greatest_day, least_day}
 use Rattle.ixdtf.specs.language.Readers.CoreKind.{year_month}
-use Rattle.ixdtf.specs.table.Faults.{Fault}
-use Rattle.ixdtf.specs.table.Faults.Fault.{InvalidMonthRange, InvalidMonthDay}
-use Rattle.ixdtf.specs.table.LineNames.{DateLine, MonthDayLine, of_date, of_year_month, of_month_day}
-use Rattle.ixdtf.specs.table.LineNames.YearMonthLine.{after_year_in_year_month}
-use Rattle.ixdtf.specs.table.LineNames.MonthDayLine.{month_day_start, month_day_hyphen, month_day_month_digits, month_day_month_range}
-use Rattle.ixdtf.specs.table.LineNames.MonthDayLine.{after_month_day_month, month_day_day_digits, month_day_range, after_month_day}
-use Rattle.ixdtf.specs.table.Lines.{month_day_line, MonthDayMonthDigits, NoMonth}
-use Rattle.ixdtf.specs.table.Before.{BeforeDate}
-use Rattle.ixdtf.specs.table.Rows.{Row, Place, Stops}
-use Rattle.ixdtf.specs.table.Rows.Place.{anywhere}
-use Rattle.ixdtf.specs.reading.Looks.{Read, row_of}
-use Rattle.ixdtf.specs.reading.Dates.{date_of}
-use Rattle.ixdtf.specs.reading.Months.{year_month_at, marks_at, lone_month_in_range, lone_day_in_range, lone_day_at, month_day_at}
-use Rattle.ixdtf.proofs.parts.Looks.{Leads, ◌before◌, Halts, ◌till◌, RowsRead, whole_row, digits_go}
-use Rattle.ixdtf.proofs.parts.Marks.{hyphens_of, Starts, Begun, hyphen_is, begun_starts, digits_start, hyphen_over, mark_over, mark_stops, digits_stop_after}
+use Rattle.ixdtf.specs.table.{Faults.{Fault, Fault.{InvalidMonthRange, InvalidMonthDay}}, LineNames.{DateLine, MonthDayLine, of_date, of_year_month}}
+use Rattle.ixdtf.specs.table.LineNames.{of_month_day, YearMonthLine.after_year_in_year_month, MonthDayLine.{month_day_start, month_day_hyphen}}
+use Rattle.ixdtf.specs.table.LineNames.{MonthDayLine.{month_day_month_digits, month_day_month_range, after_month_day_month, month_day_day_digits}}
+use Rattle.ixdtf.specs.table.{LineNames.{MonthDayLine.{month_day_range, after_month_day}}, Lines.{month_day_line, MonthDayMonthDigits, NoMonth}}
+use Rattle.ixdtf.specs.table.{Before.BeforeDate, Rows.{Row, Place, Stops, Place.anywhere}}
+use Rattle.ixdtf.specs.reading.{Looks.{Read, row_of}, Dates.date_of, Months.{year_month_at, marks_at, lone_month_in_range, lone_day_in_range, lone_day_at}}
+use Rattle.ixdtf.specs.reading.Months.{month_day_at}
+use Rattle.ixdtf.proofs.parts.{Looks.{Leads, ◌before◌, Halts, ◌till◌, RowsRead, whole_row, digits_go}, Marks.{hyphens_of, Starts, Begun, hyphen_is}}
+use Rattle.ixdtf.proofs.parts.Marks.{begun_starts, digits_start, hyphen_over, mark_over, mark_stops, digits_stop_after}
 use Rattle.ixdtf.proofs.to_reading.Dates.{hyphens_are, month_is, month_is_none, over_year, over_month, year_stops, year_and_month_row}
 
 -- ---- year-months
@@ -67,7 +56,7 @@ marks_of true = Plain 45 ∷ (Plain 45 ∷ [])
 marks_of false = []
 
 two_marks : (t : Text) → (one hyphen then one hyphen) t → t ≡ marks_of true
-two_marks t h = h.2 ∙ rw (hyphen_is h.0 h.3, hyphen_is h.1 h.4) refl
+two_marks t h = h.2 ∙ rw (hyphen_is h.0 h.3, hyphen_is h.1 h.4)
 
 marks_are : (t : Text) → Marks t → (b : Bool) × (t ≡ marks_of b)
 marks_are t (inl h) = (false, h)
@@ -95,13 +84,13 @@ IsInMonthDay _ = Unit {0}
 module _ {E : Type 0} (fault : Row → E) where
   day_fits : (m d : ℕ) (rest : Text) → IsDayOfSomeYear least_day (date_of (pos 0) m d) → lone_day_in_range fault m d rest ≡ Ok (date_of (pos 0) m d, rest)
   unfolding lone_day_in_range
-  day_fits m d rest h = rw (and_from _ _ (le-leb least_day d h.0) (le-leb d _ h.1)) refl
+  day_fits m d rest h = rw (and_from _ _ (le-leb least_day d h.0) (le-leb d _ h.1))
 
   day_refused : (m d : ℕ) (rest : Text) → ¬ (IsDayOfSomeYear least_day (date_of (pos 0) m d))
       → lone_day_in_range fault m d rest ≡ Err (fault (row_of (of_month_day month_day_range) anywhere InvalidMonthDay))
   unfolding lone_day_in_range
   day_refused m d rest h = rw (false_from_ne_true _ (λ test. h (
-      let both : IsTrue (nat_le least_day d) × IsTrue (nat_le d (greatest_day m)) = and_parts _ _ test in
+      let both = and_parts (nat_le least_day d) (nat_le d (greatest_day m)) test in
       (leb-true _ _ both.0, leb-true _ _ both.1)))) refl
 
   -- ---- from stage to stage
@@ -112,7 +101,7 @@ module _ {E : Type 0} (fault : Row → E) where
     hyphen_over fault (of_month_day month_day_start) true (Plain 45 ∷ text) (λ c. refl) tt,
     mark_over fault (of_month_day month_day_hyphen) true text tt refl tt,
   ) refl
-  over_marks false text starts = rw (hyphen_over fault (of_month_day month_day_start) false text (λ c. refl) starts) refl
+  over_marks false text starts = rw (hyphen_over fault (of_month_day month_day_start) false text (λ c. refl) starts)
 
   over_lone_month : (b : Bool) (ms : Text) (m : ℕ) → Month ms m → Leads (month_day_at fault) (marks_of b ++ ms) (lone_day_at fault m)
   unfolding month_day_at lone_month_in_range
@@ -185,7 +174,7 @@ module _ {E : Type 0} (fault : Row → E) where
 
   start_row : RowsRead fault true (month_day_at fault) (of_month_day month_day_start)
   unfolding month_day_at marks_at
-  start_row place e front rest f at = rw (f, mark_stops fault (of_month_day month_day_start) place e rest tt at) refl
+  start_row place e front rest f at = rw (f, mark_stops fault (of_month_day month_day_start) place e rest tt at)
 
   hyphen_row : RowsRead fault true (month_day_at fault) (of_month_day month_day_hyphen)
   unfolding month_day_at marks_at
@@ -208,7 +197,7 @@ module _ {E : Type 0} (fault : Row → E) where
   unfolding lone_day_at
   after_month_row place e front rest f at =
       let t = marks_are f.0 f.3 in
-      rw (f.2, t.1) ((over_lone_month t.0 f.1 f.4.0 f.4.1).over rest ∙ rw (mark_stops fault (of_month_day after_month_day_month) place e rest tt at) refl)
+      rw (f.2, t.1) ((over_lone_month t.0 f.1 f.4.0 f.4.1).over rest ∙ rw (mark_stops fault (of_month_day after_month_day_month) place e rest tt at))
 
   day_digits_row : RowsRead fault true (month_day_at fault) (of_month_day month_day_day_digits)
   day_digits_row place e front rest f at =

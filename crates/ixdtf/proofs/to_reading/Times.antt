@@ -1,30 +1,17 @@
 -- A time is read as far as it goes, wherever it starts, and each row of a time's lines is returned.
-use Rattle.std.proofs.Common.{◌≡◌, ℕ, suc, ◌<◌, ◌⊎◌, Bool, true, false, IsTrue, IsFalse, [], ◌∷◌, ◌++◌, Ok, Err, Option, Some, None, refl, sym, ap, ◌∙◌}
-use Rattle.std.proofs.Common.{inl, inr, arith, append-nil, nat_le}
-use Rattle.std.proofs.lemmas.Bool.{le-leb, lt-leb, or_parts}
-use Rattle.std.proofs.lemmas.Bool.Decides.{nat_tests}
-use Rattle.ixdtf.specs.language.Times.{Clock}
+use Rattle.std.proofs.Common.{◌≡◌, ℕ, suc, ◌<◌, ◌⊎◌, Bool, true, false, IsTrue, IsFalse, [], ◌∷◌, ◌++◌, Ok, Err, Option, Some, None, refl, sym, ap, ◌∙◌, inl}
+use Rattle.std.proofs.{Common.{inr, arith, append-nil, nat_le}, lemmas.{Bool.{le-leb, lt-leb, or_parts}, Bool.Decides.nat_tests}}
 use Rattle.ixdtf.specs.declared.records.TimeRecord.{TimeRecord}
-use Rattle.ixdtf.specs.language.Letters.{Text}
-use Rattle.ixdtf.specs.language.Letters.Letter.{Plain, Bad}
-use Rattle.ixdtf.specs.language.Letters.{Class, ◌or◌, digit, colon, decimal_mark}
-use Rattle.ixdtf.specs.language.Shapes.{Shape, some, digits, one}
-use Rattle.ixdtf.specs.language.Digits.{decimal, UpTo}
-use Rattle.ixdtf.specs.language.Fractions.{FractionParts, fraction_of}
-use Rattle.ixdtf.specs.table.Faults.{Fault}
-use Rattle.ixdtf.specs.language.Times.{TimeShape, ClockOf, SecondText, greatest_second, has_seconds}
-use Rattle.ixdtf.specs.language.Times.TimeShape.{hours, plain_minutes, colon_minutes, seconds, fractions}
-use Rattle.ixdtf.specs.table.LineNames.{ClockLine, LineName}
-use Rattle.ixdtf.specs.table.LineNames.LineName.{of_clock}
-use Rattle.ixdtf.specs.table.LineNames.ClockLine.{hour_start, hour_digit, hour_range, minute_digits, minute_range, second_digits, second_range, fraction_start}
-use Rattle.ixdtf.specs.table.Lines.{Follow, line_of, follow_of, seconds_after, after_minute, Past, ColonOrDigit}
-use Rattle.ixdtf.specs.table.Lines.Line.{line}
-use Rattle.ixdtf.specs.table.Lines.Ending.{error}
-use Rattle.ixdtf.specs.table.Rows.{Row, Place, Stops, front_of}
-use Rattle.ixdtf.specs.table.Rows.Place.{end, other, bad, anywhere}
-use Rattle.ixdtf.specs.reading.Looks.{Read, ◌>>=◌, row_of, look_at, in_range, number_by}
-use Rattle.ixdtf.specs.reading.Times.{OpenTime, time_of, line_after, bad_after, mixed_after, hour_past, minute_past, second_past, minutes_shape, second_start}
-use Rattle.ixdtf.specs.reading.Times.{number_at, fraction_at, after_second_at, second_at, after_minute_at, minute_at, after_hour_at, hour_from}
+use Rattle.ixdtf.specs.language.Times.{Clock, TimeShape, ClockOf, SecondText, greatest_second, has_seconds, TimeShape.{hours, plain_minutes, colon_minutes}}
+use Rattle.ixdtf.specs.language.{Times.{TimeShape.{seconds, fractions}}, Letters.{Text, Class, ◌or◌, digit, colon, decimal_mark, Letter.{Plain, Bad}}}
+use Rattle.ixdtf.specs.language.{Shapes.{Shape, some, digits, one}, Digits.{decimal, UpTo}, Fractions.{FractionParts, fraction_of}}
+use Rattle.ixdtf.specs.table.{Faults.Fault, LineNames.{ClockLine, LineName, LineName.of_clock, ClockLine.{hour_start, hour_digit, hour_range, minute_digits}}}
+use Rattle.ixdtf.specs.table.LineNames.{ClockLine.{minute_range, second_digits, second_range, fraction_start}}
+use Rattle.ixdtf.specs.table.Lines.{Follow, line_of, follow_of, seconds_after, after_minute, Past, ColonOrDigit, Line.line, Ending.error}
+use Rattle.ixdtf.specs.table.Rows.{Row, Place, Stops, front_of, Place.{end, other, bad, anywhere}}
+use Rattle.ixdtf.specs.reading.{Looks.{Read, ◌>>=◌, row_of, look_at, in_range, number_by}, Times.{OpenTime, time_of, line_after, bad_after, mixed_after}}
+use Rattle.ixdtf.specs.reading.Times.{hour_past, minute_past, second_past, minutes_shape, second_start, number_at, fraction_at, after_second_at, second_at}
+use Rattle.ixdtf.specs.reading.Times.{after_minute_at, minute_at, after_hour_at, hour_from}
 use Rattle.ixdtf.proofs.parts.Looks.{Leads, ◌before◌, Yields, ◌upto◌, Halts, ◌till◌, RowsRead, whole_row, LooksForDigit, goes, stops, digits_go, digits_stop}
 use Rattle.ixdtf.proofs.parts.Looks.{one_as_digits, NotNext, run_takes, run_bad}
 
@@ -33,25 +20,25 @@ digit_no_colon c h = grind (arith, nat_tests)
 
 range_fits : {E : Type 0} (greatest n : ℕ) (e : E) (ds rest : Text) → UpTo greatest ds n → in_range greatest e (ds, rest) ≡ Ok (n, rest)
 unfolding in_range
-range_fits greatest n e ds rest h = let test : nat_le (decimal ds) greatest ≡ true = rw (sym h.1) (le-leb n greatest h.2) in rw (test, h.1) refl
+range_fits greatest n e ds rest h = let test : nat_le (decimal ds) greatest ≡ true = rw (sym h.1) (le-leb n greatest h.2) in rw (test, h.1)
 
 range_refused : {E : Type 0} (greatest : ℕ) (e : E) (ds rest : Text) → greatest < decimal ds → in_range greatest e (ds, rest) ≡ Err e
 unfolding in_range
-range_refused greatest e ds rest h = rw (lt-leb (decimal ds) greatest h) refl
+range_refused greatest e ds rest h = rw (lt-leb (decimal ds) greatest h)
 
 module _ {E : Type 0} (fault : Row → E) (name : LineName) (asks : LooksForDigit (line_of true name)) (greatest : ℕ) (past : Row) where
   number_goes : (ds rest : Text) (n : ℕ) → UpTo greatest ds n → number_at fault name greatest past (ds ++ rest) ≡ Ok (n, rest)
   unfolding number_by
-  number_goes ds rest n u = rw (digits_go fault name asks 2 ds rest u.0, range_fits greatest n (fault past) ds rest u) refl
+  number_goes ds rest n u = rw (digits_go fault name asks 2 ds rest u.0, range_fits greatest n (fault past) ds rest u)
 
   number_stops : (k : ℕ) (ds rest : Text) (place : Place) (e : Fault) → k < 2 → digits k ds → Stops (line_of true name) place e rest
       → number_at fault name greatest past (ds ++ rest) ≡ Err (fault (row_of name place e))
   unfolding number_by
-  number_stops k ds rest place e less d at = rw (digits_stop fault name asks 2 k ds rest place e less d at) refl
+  number_stops k ds rest place e less d at = rw (digits_stop fault name asks 2 k ds rest place e less d at)
 
   number_too_great : (ds rest : Text) → Past greatest ds → number_at fault name greatest past (ds ++ rest) ≡ Err (fault past)
   unfolding number_by
-  number_too_great ds rest p = rw (digits_go fault name asks 2 ds rest p.0, range_refused greatest (fault past) ds rest p.1) refl
+  number_too_great ds rest p = rw (digits_go fault name asks 2 ds rest p.0, range_refused greatest (fault past) ds rest p.1)
 
 -- at a digit, which stays, a reading goes on as another
 module _ {E A : Type 0}
@@ -70,7 +57,7 @@ same_time : (t : TimeRecord) (h m s : ℕ) (f : Option FractionParts) → h ≡ 
 same_time t h m s f p q r u = λ i. record { hour = p i; minute = q i; second = r i; fraction = u i }
 
 some_same : (a b : Text) (n : FractionParts) (o : Option FractionParts) → n ≡ fraction_of a → a ≡ b → o ≡ Some n → Some (fraction_of b) ≡ o
-some_same a b n o p q r = rw (r, p, q) refl
+some_same a b n o p q r = rw (r, p, q)
 
 -- the text does not go on as a time of the shape does, and Bad does not stand next
 abbrev pub Closed : Clock → TimeShape → Text → Type 0
@@ -99,11 +86,9 @@ StopsAfter follow anywhere e rest = ⊥
 
 -- the text's end closes a time of each shape
 pub closed_at_end : (clock : Clock) (shape : TimeShape) → Closed clock shape []
-closed_at_end clock hours = (tt, tt)
-closed_at_end clock plain_minutes = (tt, tt)
-closed_at_end clock colon_minutes = (tt, tt)
 closed_at_end clock seconds = tt
 closed_at_end clock fractions = tt
+closed_at_end clock minutes = (tt, tt)
 
 -- a time with the fraction that was read
 abbrev pub with_fraction : {E : Type 0} → ℕ → ℕ → ℕ → Read E FractionParts → Read E OpenTime
@@ -119,7 +104,7 @@ module _ {E : Type 0} (fault : Row → E) (clock : Clock)
       record {
         over = λ rest. rw g.2 ((starts g.0 g.3).over (g.1 ++ rest)
             ∙ rw (digits_go fault (of_clock clock hour_digit) (λ c. refl) 1 g.1 rest g.4)
-            (rw (range_fits 23 h (fault (hour_past clock)) (Plain g.0 ∷ g.1) rest (rw g.2 at u)) refl));
+            (rw (range_fits 23 h (fault (hour_past clock)) (Plain g.0 ∷ g.1) rest (rw g.2 at u))));
       }
 
   over_colon : (h : ℕ) (t : Text) → one colon t → Leads (after_hour_at fault clock h) t (minute_at fault clock true h)
@@ -128,7 +113,7 @@ module _ {E : Type 0} (fault : Row → E) (clock : Clock)
 
   at_minute_digit : (h c : ℕ) (rest : Text) → IsTrue (digit c) → after_hour_at fault clock h (Plain c ∷ rest) ≡ minute_at fault clock false h (Plain c ∷ rest)
   unfolding after_hour_at look_at
-  at_minute_digit h c rest d = rw (digit_no_colon c d, d) refl
+  at_minute_digit h c rest d = rw (digit_no_colon c d, d)
 
   over_minute : (colons : Bool) (h : ℕ) (ms : Text) (m : ℕ) → UpTo 59 ms m → Leads (minute_at fault clock colons h) ms (after_minute_at fault clock colons h m)
   unfolding minute_at
@@ -151,7 +136,7 @@ module _ {E : Type 0} (fault : Row → E) (clock : Clock)
   at_second_digit : (h m : ℕ) → IsTrue (has_seconds clock) → (c : ℕ) (rest : Text) → IsTrue (digit c)
       → after_minute_at fault clock false h m (Plain c ∷ rest) ≡ second_at fault clock h m (Plain c ∷ rest)
   unfolding after_minute_at look_at
-  at_second_digit h m may c rest d = rw (may, d) refl
+  at_second_digit h m may c rest d = rw (may, d)
 
   over_second : (h m : ℕ) (ss : Text) (s : ℕ) → UpTo (greatest_second clock) ss s → Leads (second_at fault clock h m) ss (after_second_at fault clock h m s)
   unfolding second_at
@@ -186,20 +171,20 @@ module _ {E : Type 0} (fault : Row → E) (clock : Clock)
   unfolding after_hour_at look_at
   stays_at_hour h [] closed = refl
   stays_at_hour h (Bad ∷ rest) closed = absurd closed.0
-  stays_at_hour h (Plain c ∷ rest) closed = rw (closed.0, closed.1) refl
+  stays_at_hour h (Plain c ∷ rest) closed = rw (closed.0, closed.1)
 
   stays_at_minute : (colons : Bool) (h m : ℕ) (rest : Text) → NotNext (seconds_after clock (second_start colons)) rest → NotNext (colon or digit) rest
       → after_minute_at fault clock colons h m rest ≡ Ok ((minutes_shape colons, time_of h m 0 None), rest)
   unfolding after_minute_at look_at
   stays_at_minute colons h m [] no_second closed = refl
   stays_at_minute colons h m (Bad ∷ rest) no_second closed = absurd closed
-  stays_at_minute colons h m (Plain c ∷ rest) no_second closed = rw (no_second, closed) refl
+  stays_at_minute colons h m (Plain c ∷ rest) no_second closed = rw (no_second, closed)
 
   stays_at_second : (h m s : ℕ) (rest : Text) → Closed clock seconds rest → after_second_at fault clock h m s rest ≡ Ok ((seconds, time_of h m s None), rest)
   unfolding after_second_at look_at
   stays_at_second h m s [] closed = refl
   stays_at_second h m s (Bad ∷ rest) closed = absurd closed
-  stays_at_second h m s (Plain c ∷ rest) closed = rw closed refl
+  stays_at_second h m s (Plain c ∷ rest) closed = rw closed
 
   -- a time is read as far as it goes
   pub time_takes : (shape : TimeShape) (text : Text) (t : TimeRecord) (rest : Text) → ClockOf clock shape text t → Closed clock shape rest
@@ -229,14 +214,14 @@ module _ {E : Type 0} (fault : Row → E) (clock : Clock)
     pub hour_digit_row : RowsRead fault brackets start (of_clock clock hour_digit)
     unfolding hour_from
     hour_digit_row place e front rest f at =
-        rw f.1 ((starts f.0 f.2).over rest ∙ rw (digits_stop fault (of_clock clock hour_digit) (λ c. refl) 1 0 [] rest place e (omega arith) refl at) refl)
+        rw f.1 ((starts f.0 f.2).over rest ∙ rw (digits_stop fault (of_clock clock hour_digit) (λ c. refl) 1 0 [] rest place e (omega arith) refl at))
 
     pub hour_range_row : RowsRead fault brackets start (of_clock clock hour_range)
     unfolding hour_from
     hour_range_row = whole_row fault brackets start (of_clock clock hour_range) tt λ e front rest f at.
         let g = f.0 in
         rw (g.2, at) ((starts g.0 g.3).over (g.1 ++ rest)
-        ∙ rw (digits_go fault (of_clock clock hour_digit) (λ c. refl) 1 g.1 rest g.4) (rw (range_refused 23 _ (Plain g.0 ∷ g.1) rest (rw g.2 at f.1)) refl))
+        ∙ rw (digits_go fault (of_clock clock hour_digit) (λ c. refl) 1 g.1 rest g.4) (rw (range_refused 23 _ (Plain g.0 ∷ g.1) rest (rw g.2 at f.1))))
 
     minute_stops : (colons : Bool) (h k : ℕ) (ds rest : Text) (place : Place) (e : Fault) → k < 2 → digits k ds
         → Stops (line_of brackets (of_clock clock minute_digits)) place e rest
@@ -304,7 +289,7 @@ module _ {E : Type 0} (fault : Row → E) (clock : Clock)
     unfolding fraction_at fraction_stage
     fraction_start_row place e front rest f at =
         rw f.2 ((over_seconds f.0 f.3.0 f.3.1.0 before over_mark _ _ _ f.1 f.4).over rest
-        ∙ rw (stops fault (of_clock clock fraction_start) place e rest tt at) refl)
+        ∙ rw (stops fault (of_clock clock fraction_start) place e rest tt at))
 
   -- ---- the lines at which a time may stop
 
@@ -334,7 +319,7 @@ module _ {E : Type 0} (fault : Row → E) (clock : Clock)
       → IsFalse (seconds_after clock (second_start colons) c) → IsTrue ((colon or digit) c)
       → start (text ++ (Plain c ∷ rest)) ≡ Err (mixed_after fault clock (minutes_shape colons))
   unfolding after_minute_at look_at
-  minute_mixed colons text t c rest x out is = (over_minutes colons text t x).over (Plain c ∷ rest) ∙ rw (out, is) refl
+  minute_mixed colons text t c rest x out is = (over_minutes colons text t x).over (Plain c ∷ rest) ∙ rw (out, is)
 
   module _ (brackets : Bool) where
     abbrev follow : Follow

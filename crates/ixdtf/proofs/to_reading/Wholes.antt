@@ -1,38 +1,22 @@
 -- What is derived is returned, and each row that fits: what holds of a text decides what reading returns.
-use Rattle.std.proofs.Common.{◌≡◌, ℕ, suc, ◌<◌, ◌⊎◌, List, [], ◌∷◌, ◌++◌, length, Ok, Err, Option, Some, None, refl, sym, ap, ◌∙◌, inl, inr, arith, append_assoc, append-nil, true}
-use Rattle.ixdtf.specs.language.Times.{Clock as clocks}
-use Rattle.ixdtf.specs.language.Letters.{Text}
-use Rattle.ixdtf.specs.language.Letters.Letter.{Plain}
-use Rattle.ixdtf.specs.language.Shapes.{some}
-use Rattle.ixdtf.specs.table.Faults.{Fault}
-use Rattle.ixdtf.specs.language.Brackets.{ZoneNote, Opens}
-use Rattle.ixdtf.specs.language.Brackets.{Pair, ArePairs, IsTail, ReadsAsPair}
-use Rattle.ixdtf.specs.language.Cores.{Core, IsCore}
-use Rattle.ixdtf.specs.language.Readers.{Reader, CoreKind}
-use Rattle.ixdtf.specs.table.LineNames.{LineName}
-use Rattle.ixdtf.specs.language.Readers.Reader.{bracketed, parse_offset, parse_identifier, parse_iana_identifier, parse_duration}
-use Rattle.ixdtf.specs.table.LineNames.LineName.{of_core, of_clock, of_offset, of_zone, of_bracket, of_pair}
-use Rattle.ixdtf.specs.table.LineNames.OffsetLine.{offset_start, after_zulu}
-use Rattle.ixdtf.specs.table.LineNames.ZoneLine.{in_zone_name, after_zone_slash}
-use Rattle.ixdtf.specs.table.LineNames.BracketLine.{first_bracket_start, first_critical_start, first_bracket_scan, after_bracket}
-use Rattle.ixdtf.specs.table.LineNames.PairLine.{key_start, critical_key_start, in_key, value_start, in_value, after_value_hyphen}
-use Rattle.ixdtf.specs.table.Lines.{line_of}
-use Rattle.ixdtf.specs.table.Before.{BeforeBracketed, Bracketed, BeforeKey}
-use Rattle.ixdtf.specs.table.Rows.{Row, Place, Stops, Fits, front_of}
-use Rattle.ixdtf.specs.language.Languages.{Parsed, parsed_with, IsBracketed, Found, Derives}
-use Rattle.ixdtf.specs.language.Languages.Found.{parsed, shifted, identified, named, lasting}
-use Rattle.ixdtf.specs.reading.Looks.{Read, ◌>>=◌, row_of}
-use Rattle.ixdtf.specs.reading.Pairs.{pairs_at}
-use Rattle.ixdtf.specs.reading.Brackets.{Bracket, zoned, paired, zone_in, pairs_in, bracket_at}
-use Rattle.ixdtf.specs.reading.Cores.{core_at}
-use Rattle.ixdtf.specs.reading.Wholes.{bracketed_at, annotated_at, bracketed_text_at, read_at}
-use Rattle.ixdtf.specs.reading.Chains.{AfterBrackets}
+use Rattle.std.proofs.Common.{◌≡◌, ℕ, suc, ◌<◌, ◌⊎◌, List, [], ◌∷◌, ◌++◌, length, Ok, Err, Option, Some, None, refl, sym, ap, ◌∙◌, inl, inr, arith}
+use Rattle.std.proofs.Common.{append_assoc, append-nil, true}
+use Rattle.ixdtf.specs.language.{Times.Clock, Letters.{Text, Letter.Plain}, Shapes.some, Brackets.{ZoneNote, Opens, Pair, ArePairs, IsTail, ReadsAsPair}}
+use Rattle.ixdtf.specs.language.{Cores.{Core, IsCore}, Readers.{Reader, CoreKind, Reader.{bracketed, parse_offset, parse_identifier, parse_iana_identifier}}}
+use Rattle.ixdtf.specs.language.{Readers.Reader.parse_duration, Languages.{Parsed, parsed_with, IsBracketed, Found, Derives, Found.{parsed, shifted}}}
+use Rattle.ixdtf.specs.language.Languages.{Found.{identified, named, lasting}}
+use Rattle.ixdtf.specs.table.{Faults.Fault, LineNames.{LineName, LineName.{of_core, of_clock, of_offset, of_zone, of_bracket, of_pair}}}
+use Rattle.ixdtf.specs.table.LineNames.{OffsetLine.{offset_start, after_zulu}, ZoneLine.{in_zone_name, after_zone_slash}, BracketLine.first_bracket_start}
+use Rattle.ixdtf.specs.table.LineNames.{BracketLine.{first_critical_start, first_bracket_scan, after_bracket}, PairLine.{key_start, critical_key_start}}
+use Rattle.ixdtf.specs.table.{Lines.line_of, Before.{BeforeBracketed, Bracketed, BeforeKey}, Rows.{Row, Place, Stops, Fits, front_of}}
+use Rattle.ixdtf.specs.reading.{Looks.{Read, ◌>>=◌, row_of}, Pairs.pairs_at, Brackets.{Bracket, zoned, paired, zone_in, pairs_in, bracket_at}, Cores.core_at}
+use Rattle.ixdtf.specs.reading.{Wholes.{bracketed_at, annotated_at, bracketed_text_at, read_at}, Chains.AfterBrackets}
 use Rattle.ixdtf.proofs.to_reading.Cores.{core_takes, core_line_rows, core_time_rows, core_offset_rows, core_zulu_row}
-use Rattle.ixdtf.proofs.to_grammar.FirstBracket.{InBracket, IsBracket}
-use Rattle.ixdtf.proofs.to_reading.FirstBracket.{bracket_takes, bracket_rows}
-use Rattle.ixdtf.proofs.to_reading.MorePairs.{over_pairs, pairs_end, pairs_row}
-use Rattle.ixdtf.proofs.parts.ZonesAlone.{offset_takes, offset_rows as offset_reader_rows, identifier_takes, identifier_rows, iana_identifier_takes, iana_identifier_rows}
+use Rattle.ixdtf.proofs.to_reading.{FirstBracket.{bracket_takes, bracket_rows}, MorePairs.{over_pairs, pairs_end, pairs_row}}
 use Rattle.ixdtf.proofs.to_reading.Durations.{duration_takes, duration_rows}
+use Rattle.ixdtf.proofs.to_grammar.FirstBracket.{InBracket, IsBracket}
+use Rattle.ixdtf.proofs.parts.ZonesAlone.{offset_takes, offset_rows as offset_reader_rows, identifier_takes, identifier_rows, iana_identifier_takes}
+use Rattle.ixdtf.proofs.parts.ZonesAlone.{iana_identifier_rows}
 
 -- one bracket or more, as reading takes them: a first one, and pairs
 pub record Brackets (text : Text) (zone : Option ZoneNote) (pairs : List Pair) : Type 0 where
@@ -53,9 +37,11 @@ pub record NoBrackets (text : Text) (zone : Option ZoneNote) (pairs : List Pair)
   pub pairs_are : pairs ≡ []
 
 pub brackets_of : (text : Text) (zone : Option ZoneNote) (pairs : List Pair) → IsTail text zone pairs → NoBrackets text zone pairs ⊎ Brackets text zone pairs
-brackets_of text None [] h = inl (record { is = h.2 ∙ rw (h.3, h.4) refl; zone_is = refl; pairs_are = refl })
-brackets_of text None (pair ∷ pairs) h = inr (record { bracket = paired pair; first = h.4.0; rest = h.4.1; more = pairs; is = h.2 ∙ rw h.3 h.4.2; is_bracket = h.4.3; zone_is = refl; are_pairs = h.4.4; pairs_are = refl })
-brackets_of text (Some note) pairs h = inr (record { bracket = zoned note; first = h.0; rest = h.1; more = pairs; is = h.2; is_bracket = h.3; zone_is = refl; are_pairs = h.4; pairs_are = refl })
+brackets_of text None [] h = inl (record { is = h.2 ∙ rw (h.3, h.4); zone_is = refl; pairs_are = refl })
+brackets_of text None (pair ∷ pairs) h =
+    inr (record { bracket = paired pair; first = h.4.0; rest = h.4.1; more = pairs; is = h.2 ∙ rw h.3 h.4.2; is_bracket = h.4.3; zone_is = refl; are_pairs = h.4.4; pairs_are = refl })
+brackets_of text (Some note) pairs h =
+    inr (record { bracket = zoned note; first = h.0; rest = h.1; more = pairs; is = h.2; is_bracket = h.3; zone_is = refl; are_pairs = h.4; pairs_are = refl })
 
 module _ {E : Type 0} (fault : List Pair → Row → E) (kind : CoreKind) where
   -- ---- a core and what stands after it
@@ -65,102 +51,117 @@ module _ {E : Type 0} (fault : List Pair → Row → E) (kind : CoreKind) where
 
   core_alone : (cores : Text) (core : Core) → IsCore kind cores core → whole_at cores ≡ Ok ((parsed_with core None, []), [])
   unfolding bracketed_text_at
-  core_alone cores core d = rw (← append-nil cores, (core_takes (fault []) kind cores core [] d (inl refl)).0 refl) refl
+  core_alone cores core d = rw (← append-nil cores, (core_takes (fault []) kind cores core [] d (inl refl)).0 refl)
 
-  bracket_lead : (cores : Text) (core : Core) (inner : Text) → IsCore kind cores core → whole_at (cores ++ (Plain 91 ∷ inner)) ≡ annotated_at fault core inner
+  after_opening : (cores : Text) (core : Core) (body inner : Text) → body ≡ Plain 91 ∷ inner → IsCore kind cores core
+      → whole_at (cores ++ body) ≡ annotated_at fault core inner
   unfolding bracketed_text_at
-  bracket_lead cores core inner d = rw ((core_takes (fault []) kind cores core (Plain 91 ∷ inner) d (inr (inner, refl))).1 inner refl) refl
-
-  after_opening : (cores : Text) (core : Core) (body inner : Text) → body ≡ Plain 91 ∷ inner → IsCore kind cores core → whole_at (cores ++ body) ≡ annotated_at fault core inner
-  after_opening cores core body inner is d = ap (λ (t : Text). whole_at (cores ++ t)) is ∙ bracket_lead cores core inner d
+  after_opening cores core body inner is d = rw (is, (core_takes (fault []) kind cores core (Plain 91 ∷ inner) d (inr (inner, refl))).1 inner refl)
 
   -- what is returned where these pairs were read after a core and a zone
   abbrev with_core : Core → Option ZoneNote → List Pair × Text → Read E (Parsed × List Pair)
   with_core core zone pairs = Ok ((parsed_with core zone, pairs.0), pairs.1)
 
-  after_first : (core : Core) (bracket : Bracket) (inner rest : Text) → bracket_at (fault []) inner ≡ Ok (bracket, rest) → annotated_at fault core inner ≡ (pairs_at fault (suc (length rest)) (pairs_in bracket) rest >>= with_core core (zone_in bracket))
+  after_first : (core : Core) (bracket : Bracket) (inner rest : Text) → bracket_at (fault []) inner ≡ Ok (bracket, rest)
+      → annotated_at fault core inner ≡ (pairs_at fault (suc (length rest)) (pairs_in bracket) rest >>= with_core core (zone_in bracket))
   unfolding annotated_at bracketed_at
-  after_first core bracket inner rest read = rw read refl
+  after_first core bracket inner rest read = rw read
 
   -- reading goes over whole brackets to the pairs after them, with fuel left for the rest
-  pub over_brackets : (cores brackets rest : Text) (core : Core) (zone : Option ZoneNote) (pairs : List Pair) → IsCore kind cores core → Brackets brackets zone pairs → (m : ℕ) × (length rest < m) × (whole_at (cores ++ (brackets ++ rest)) ≡ (pairs_at fault m pairs rest >>= with_core core zone))
+  pub over_brackets : (cores brackets rest : Text) (core : Core) (zone : Option ZoneNote) (pairs : List Pair) → IsCore kind cores core
+      → Brackets brackets zone pairs → (m : ℕ) × (length rest < m)
+      × (whole_at (cores ++ (brackets ++ rest)) ≡ (pairs_at fault m pairs rest >>= with_core core zone))
   over_brackets cores brackets rest core zone pairs d h =
       let read = bracket_takes (fault []) h.first (h.rest ++ rest) h.bracket h.is_bracket in
       let over = over_pairs fault h.more h.rest rest (pairs_in h.bracket) (suc (length (h.rest ++ rest))) h.are_pairs (omega arith) in
-      let whole : brackets ++ rest ≡ Plain 91 ∷ (read.0 ++ (h.rest ++ rest)) = ap (λ (t : Text). t ++ rest) h.is ∙ append_assoc h.first h.rest rest ∙ ap (λ (t : Text). t ++ (h.rest ++ rest)) read.1 in (
+      let whole : brackets ++ rest ≡ Plain 91 ∷ (read.0 ++ (h.rest ++ rest)) = ap (λ t. t ++ rest) h.is ∙ append_assoc h.first h.rest rest
+      ∙ ap (λ t. t ++ (h.rest ++ rest)) read.1 in (
         over.0,
         over.1,
         after_opening cores core (brackets ++ rest) (read.0 ++ (h.rest ++ rest)) whole d
             ∙ after_first core h.bracket (read.0 ++ (h.rest ++ rest)) (h.rest ++ rest) read.2
-            ∙ ap (λ (r : Read E (List Pair)). r >>= with_core core (zone_in h.bracket)) over.2
-            ∙ ap (λ (z : Option ZoneNote). pairs_at fault over.0 (pairs_in h.bracket ++ h.more) rest >>= with_core core z) (sym h.zone_is)
-            ∙ ap (λ (ps : List Pair). pairs_at fault over.0 ps rest >>= with_core core zone) (sym h.pairs_are),
+            ∙ ap (λ r. r >>= with_core core (zone_in h.bracket)) over.2
+            ∙ ap (λ z. pairs_at fault over.0 (pairs_in h.bracket ++ h.more) rest >>= with_core core z) (sym h.zone_is)
+            ∙ ap (λ ps. pairs_at fault over.0 ps rest >>= with_core core zone) (sym h.pairs_are),
       )
 
   -- ---- what is derived
 
-  brackets_takes : (cores brackets : Text) (core : Core) (first_zone : Option ZoneNote) (pairs : List Pair) → IsCore kind cores core → NoBrackets brackets first_zone pairs ⊎ Brackets brackets first_zone pairs → whole_at (cores ++ brackets) ≡ Ok ((parsed_with core first_zone, pairs), [])
+  brackets_takes : (cores brackets : Text) (core : Core) (first_zone : Option ZoneNote) (pairs : List Pair) → IsCore kind cores core
+      → NoBrackets brackets first_zone pairs ⊎ Brackets brackets first_zone pairs → whole_at (cores ++ brackets) ≡ Ok ((parsed_with core first_zone, pairs), [])
   brackets_takes cores brackets core first_zone pairs d (inl h) = rw (h.is, h.zone_is, h.pairs_are, append-nil cores) (core_alone cores core d)
   brackets_takes cores brackets core first_zone pairs d (inr h) =
       let over = over_brackets cores brackets [] core first_zone pairs d h in
-      ap (λ (t : Text). whole_at (cores ++ t)) (sym (append-nil brackets)) ∙ over.2 ∙ rw (pairs_end fault over.0 pairs over.1) refl
+      ap (λ t. whole_at (cores ++ t)) (sym (append-nil brackets)) ∙ over.2 ∙ rw (pairs_end fault over.0 pairs over.1)
 
   pub whole_takes : (text : Text) (found : Parsed) (pairs : List Pair) → IsBracketed kind text found pairs → whole_at text ≡ Ok ((found, pairs), [])
-  whole_takes text found pairs d = rw (d.is, d.has) (brackets_takes d.cores d.brackets d.core d.zone pairs d.is_core (brackets_of d.brackets d.zone pairs d.is_tail))
+  whole_takes text found pairs d =
+      rw (d.is, d.has) (brackets_takes d.cores d.brackets d.core d.zone pairs d.is_core (brackets_of d.brackets d.zone pairs d.is_tail))
 
   -- ---- each row
 
-  inner_row : (cores : Text) (core : Core) → IsCore kind cores core → (name : LineName) (place : Place) (e : Fault) (prior front rest : Text) → InBracket name prior (front ++ rest) → front_of (line_of true name) front → Stops (line_of true name) place e rest → whole_at (cores ++ (prior ++ (front ++ rest))) ≡ Err (fault [] (row_of name place e))
+  inner_row : (cores : Text) (core : Core) → IsCore kind cores core → (name : LineName) (place : Place) (e : Fault) (prior front rest : Text)
+      → InBracket name prior (front ++ rest) → front_of (line_of true name) front → Stops (line_of true name) place e rest
+      → whole_at (cores ++ (prior ++ (front ++ rest))) ≡ Err (fault [] (row_of name place e))
   unfolding annotated_at
   inner_row cores core d name place e prior front rest b f at =
       let row = bracket_rows (fault []) name place e prior front rest b f at in
-      after_opening cores core (prior ++ (front ++ rest)) row.0 row.1 d ∙ rw row.2 refl
+      after_opening cores core (prior ++ (front ++ rest)) row.0 row.1 d ∙ rw row.2
 
   -- a row after `[` or `[!`, and what stands before the two
-  opened_row : (name : LineName) (place : Place) (e : Fault) (pairs : List Pair) (cores prior front rest before_all : Text) → pairs ≡ [] → before_all ≡ cores ++ prior → some (IsCore kind) cores → InBracket name prior (front ++ rest) → front_of (line_of true name) front → Stops (line_of true name) place e rest → whole_at (before_all ++ (front ++ rest)) ≡ Err (fault pairs (row_of name place e))
+  opened_row : (name : LineName) (place : Place) (e : Fault) (pairs : List Pair) (cores prior front rest before_all : Text) → pairs ≡ []
+      → before_all ≡ cores ++ prior → some (IsCore kind) cores → InBracket name prior (front ++ rest) → front_of (line_of true name) front
+      → Stops (line_of true name) place e rest → whole_at (before_all ++ (front ++ rest)) ≡ Err (fault pairs (row_of name place e))
   opened_row name place e pairs cores prior front rest before_all none is core b f at =
       rw (is, none) (ap (whole_at) (simp append_assoc) ∙ inner_row cores core.0 core.1 name place e prior front rest b f at)
 
   -- a row after whole brackets
-  pairs_in_row : (name : LineName) (place : Place) (e : Fault) (cores brackets prior front rest : Text) (core : Core) (zone : Option ZoneNote) (pairs : List Pair) → IsCore kind cores core → Brackets brackets zone pairs → AfterBrackets name prior → front_of (line_of true name) front → Stops (line_of true name) place e rest → whole_at (cores ++ (brackets ++ (prior ++ (front ++ rest)))) ≡ Err (fault pairs (row_of name place e))
+  pairs_in_row : (name : LineName) (place : Place) (e : Fault) (cores brackets prior front rest : Text) (core : Core) (zone : Option ZoneNote)
+      (pairs : List Pair) → IsCore kind cores core → Brackets brackets zone pairs → AfterBrackets name prior → front_of (line_of true name) front
+      → Stops (line_of true name) place e rest → whole_at (cores ++ (brackets ++ (prior ++ (front ++ rest)))) ≡ Err (fault pairs (row_of name place e))
   pairs_in_row name place e cores brackets prior front rest core zone pairs d h b f at =
       let over = over_brackets cores brackets (prior ++ (front ++ rest)) core zone pairs d h in
-      over.2 ∙ rw (pairs_row fault name place e prior front rest pairs over.0 b f at over.1) refl
+      over.2 ∙ rw (pairs_row fault name place e prior front rest pairs over.0 b f at over.1)
 
-  bracketed_row : (name : LineName) (place : Place) (e : Fault) (pairs : List Pair) (prior opens front rest : Text) → Bracketed kind pairs prior → AfterBrackets name opens → front_of (line_of true name) front → Stops (line_of true name) place e rest → whole_at (prior ++ (opens ++ (front ++ rest))) ≡ Err (fault pairs (row_of name place e))
+  bracketed_row : (name : LineName) (place : Place) (e : Fault) (pairs : List Pair) (prior opens front rest : Text) → Bracketed kind pairs prior
+      → AfterBrackets name opens → front_of (line_of true name) front → Stops (line_of true name) place e rest
+      → whole_at (prior ++ (opens ++ (front ++ rest))) ≡ Err (fault pairs (row_of name place e))
   bracketed_row name place e pairs prior opens front rest b a f at = go (brackets_of b.1 b.4 pairs b.5)
     where
       go : NoBrackets b.1 b.4 pairs ⊎ Brackets b.1 b.4 pairs → whole_at (prior ++ (opens ++ (front ++ rest))) ≡ Err (fault pairs (row_of name place e))
       go (inl h) = absurd (b.6 h.is)
-      go (inr h) = ap (whole_at) (ap (λ (t : Text). t ++ (opens ++ (front ++ rest))) b.2 ∙ append_assoc b.0 b.1 (opens ++ (front ++ rest))) ∙ pairs_in_row name place e b.0 b.1 opens front rest b.3.0 b.4 pairs b.3.1 h a f at
+      go (inr h) =
+          ap (whole_at) (ap (λ t. t ++ (opens ++ (front ++ rest))) b.2 ∙ append_assoc b.0 b.1 (opens ++ (front ++ rest)))
+          ∙ pairs_in_row name place e b.0 b.1 opens front rest b.3.0 b.4 pairs b.3.1 h a f at
 
   -- a row behind the opening of a bracket with a key
-  key_row : (name : LineName) (place : Place) (e : Fault) (pairs : List Pair) (prior front rest : Text) → ((opens : Text) → some Opens opens → AfterBrackets name opens) → ((opens left : Text) → some Opens opens → ReadsAsPair left → InBracket name opens left) → BeforeKey kind pairs prior (front ++ rest) → front_of (line_of true name) front → Stops (line_of true name) place e rest → whole_at (prior ++ (front ++ rest)) ≡ Err (fault pairs (row_of name place e))
-  key_row name place e pairs prior front rest later first (inl b) f at = opened_row name place e pairs b.0.0 b.0.1 front rest prior b.2 b.0.2 b.0.3 (first b.0.1 (front ++ rest) b.0.4 b.1) f at
+  key_row : (name : LineName) (place : Place) (e : Fault) (pairs : List Pair) (prior front rest : Text)
+      → ((opens : Text) → some Opens opens → AfterBrackets name opens) → ((opens left : Text) → some Opens opens → ReadsAsPair left → InBracket name opens left)
+      → BeforeKey kind pairs prior (front ++ rest) → front_of (line_of true name) front → Stops (line_of true name) place e rest
+      → whole_at (prior ++ (front ++ rest)) ≡ Err (fault pairs (row_of name place e))
+  key_row name place e pairs prior front rest later first (inl b) f at =
+      opened_row name place e pairs b.0.0 b.0.1 front rest prior b.2 b.0.2 b.0.3 (first b.0.1 (front ++ rest) b.0.4 b.1) f at
   key_row name place e pairs prior front rest later first (inr b) f at =
-      ap (whole_at) (ap (λ (t : Text). t ++ (front ++ rest)) b.2 ∙ append_assoc b.0 b.1 (front ++ rest)) ∙ bracketed_row name place e pairs b.0 b.1 front rest b.3 (later b.1 b.4) f at
-
-  -- a row before which no pairs stand
-  no_pairs : (text : Text) (row : Row) (pairs : List Pair) → pairs ≡ [] → whole_at text ≡ Err (fault [] row) → whole_at text ≡ Err (fault pairs row)
-  no_pairs text row pairs none is = rw none is
+      ap (whole_at) (ap (λ t. t ++ (front ++ rest)) b.2 ∙ append_assoc b.0 b.1 (front ++ rest))
+      ∙ bracketed_row name place e pairs b.0 b.1 front rest b.3 (later b.1 b.4) f at
 
   -- a row of a core's lines
-  core_row : (text : Text) (e : E) → core_at (fault []) kind text ≡ Err e → whole_at text ≡ Err e
+  in_core : (text : Text) (row : Row) (pairs : List Pair) → pairs ≡ [] → core_at (fault []) kind text ≡ Err (fault [] row)
+      → whole_at text ≡ Err (fault pairs row)
   unfolding bracketed_text_at
-  core_row text e h = rw h refl
+  in_core text row pairs none h = rw (none, h)
 
-  -- the same, before which no pairs stand
-  in_core : (text : Text) (row : Row) (pairs : List Pair) → pairs ≡ [] → core_at (fault []) kind text ≡ Err (fault [] row) → whole_at text ≡ Err (fault pairs row)
-  in_core text row pairs none h = no_pairs text row pairs none (core_row text (fault [] row) h)
-
-  pub whole_row : (name : LineName) (pairs : List Pair) (place : Place) (e : Fault) (prior front rest : Text) → BeforeBracketed kind name pairs prior (front ++ rest) → front_of (line_of true name) front → Stops (line_of true name) place e rest → whole_at (prior ++ (front ++ rest)) ≡ Err (fault pairs (row_of name place e))
+  pub whole_row : (name : LineName) (pairs : List Pair) (place : Place) (e : Fault) (prior front rest : Text)
+      → BeforeBracketed kind name pairs prior (front ++ rest) → front_of (line_of true name) front → Stops (line_of true name) place e rest
+      → whole_at (prior ++ (front ++ rest)) ≡ Err (fault pairs (row_of name place e))
   whole_row (of_core l) pairs place e prior front rest b f at = in_core _ _ pairs b.1 (core_line_rows (fault []) kind l place e prior front rest b.0 f at)
-  whole_row (of_clock clocks.Time l) pairs place e prior front rest b f at =
+  whole_row (of_clock Clock.Time l) pairs place e prior front rest b f at =
       in_core _ _ pairs b.1 (core_time_rows (fault []) kind l prior b.0 place e front rest f at)
-  whole_row (of_clock clocks.Offset l) pairs place e prior front rest b f at =
+  whole_row (of_clock Clock.Offset l) pairs place e prior front rest b f at =
       in_core _ _ pairs b.1 (core_offset_rows (fault []) kind l prior b.0 place e front rest f at)
-  whole_row (of_clock clocks.MinuteOffset l) pairs place e prior front rest (b, none) f at =
-      opened_row (of_clock clocks.MinuteOffset l) place e pairs b.3.0 (b.3.1 ++ b.1) front rest prior none (b.2 ∙ rw b.3.2 (simp append_assoc)) b.3.3 (b.3.1, b.1, refl, b.3.4, b.4) f at
+  whole_row (of_clock Clock.MinuteOffset l) pairs place e prior front rest (b, none) f at =
+      opened_row (of_clock Clock.MinuteOffset l) place e pairs b.3.0 (b.3.1 ++ b.1) front rest prior none (b.2 ∙ rw b.3.2 (simp append_assoc)) b.3.3
+      (b.3.1, b.1, refl, b.3.4, b.4) f at
   whole_row (of_offset offset_start) pairs place e prior front rest b f at = absurd b.0
   whole_row (of_offset after_zulu) pairs place e prior front rest b f at =
       in_core _ _ pairs b.1 (core_zulu_row (fault []) kind prior b.0 place e front rest f at)
@@ -168,35 +169,42 @@ module _ {E : Type 0} (fault : List Pair → Row → E) (kind : CoreKind) where
       opened_row (of_zone in_zone_name) place e pairs b.0.0 b.0.1 front rest prior none b.0.2 b.0.3 (b.0.4, b.1) f at
   whole_row (of_zone after_zone_slash) pairs place e prior front rest (b, none) f at =
       opened_row (of_zone after_zone_slash) place e pairs b.0.0 b.0.1 front rest prior none b.0.2 b.0.3 (b.0.4, b.1) f at
-  whole_row (of_bracket first_bracket_start) pairs place e prior front rest (b, none) f at = no_pairs _ _ pairs none (inner_row prior b.0 b.1 (of_bracket first_bracket_start) place e [] front rest refl f at)
-  whole_row (of_bracket first_critical_start) pairs place e prior front rest (b, none) f at = no_pairs _ _ pairs none (inner_row prior b.0 b.1 (of_bracket first_critical_start) place e [] front rest refl f at)
+  whole_row (of_bracket first_bracket_start) pairs place e prior front rest (b, none) f at =
+      rw none (inner_row prior b.0 b.1 (of_bracket first_bracket_start) place e [] front rest refl f at)
+  whole_row (of_bracket first_critical_start) pairs place e prior front rest (b, none) f at =
+      rw none (inner_row prior b.0 b.1 (of_bracket first_critical_start) place e [] front rest refl f at)
   whole_row (of_bracket first_bracket_scan) pairs place e prior front rest (b, none) f at =
       opened_row (of_bracket first_bracket_scan) place e pairs b.0 b.1 front rest prior none b.2 b.3 b.4 f at
-  whole_row (of_bracket after_bracket) pairs place e prior front rest b f at = bracketed_row (of_bracket after_bracket) place e pairs prior [] front rest b refl f at
+  whole_row (of_bracket after_bracket) pairs place e prior front rest b f at =
+      bracketed_row (of_bracket after_bracket) place e pairs prior [] front rest b refl f at
   whole_row (of_pair key_start) pairs place e prior front rest b f at = bracketed_row (of_pair key_start) place e pairs prior [] front rest b refl f at
-  whole_row (of_pair critical_key_start) pairs place e prior front rest b f at = bracketed_row (of_pair critical_key_start) place e pairs prior [] front rest b refl f at
-  whole_row (of_pair in_key) pairs place e prior front rest b f at = key_row (of_pair in_key) place e pairs prior front rest (λ t o. o) (λ t left o r. (o, r)) b f at
-  whole_row (of_pair value_start) pairs place e prior front rest b f at = key_row (of_pair value_start) place e pairs prior front rest (λ t o. o) (λ t left o r. (o, r)) b f at
-  whole_row (of_pair in_value) pairs place e prior front rest b f at = key_row (of_pair in_value) place e pairs prior front rest (λ t o. o) (λ t left o r. (o, r)) b f at
-  whole_row (of_pair after_value_hyphen) pairs place e prior front rest b f at = key_row (of_pair after_value_hyphen) place e pairs prior front rest (λ t o. o) (λ t left o r. (o, r)) b f at
+  whole_row (of_pair critical_key_start) pairs place e prior front rest b f at =
+      bracketed_row (of_pair critical_key_start) place e pairs prior [] front rest b refl f at
+  whole_row (of_pair l) pairs place e prior front rest b f at = key_row (of_pair l) place e pairs prior front rest (λ t o. o) (λ t left o r. (o, r)) b f at
   whole_row name pairs place e prior front rest b f at = absurd b
 
 module _ {E : Type 0} (fault : List Pair → Row → E) where
   -- ---- each reader
 
   -- what is derived is returned, and nothing is left
-  pub takes : (reader : Reader) (text : Text) (found : Found) (pairs : List Pair) → Derives reader text found pairs → read_at fault reader text ≡ Ok ((found, pairs), [])
-  takes (bracketed kind) text (parsed found) pairs d = rw (whole_takes fault kind text found pairs d) refl
-  takes parse_offset text (shifted offset) pairs d = rw (offset_takes (fault []) text offset d.0, d.1) refl
-  takes parse_identifier text (identified zone) pairs d = rw (identifier_takes (fault []) text zone d.0, d.1) refl
-  takes parse_iana_identifier text (named name) pairs d = rw (iana_identifier_takes (fault []) text name d.0, d.1) refl
-  takes parse_duration text (lasting duration) pairs d = rw (duration_takes (fault []) text duration d.0, d.1) refl
+  pub takes : (reader : Reader) (text : Text) (found : Found) (pairs : List Pair) → Derives reader text found pairs
+      → read_at fault reader text ≡ Ok ((found, pairs), [])
+  takes (bracketed kind) text (parsed found) pairs d = rw (whole_takes fault kind text found pairs d)
+  takes parse_offset text (shifted offset) pairs d = rw (offset_takes (fault []) text offset d.0, d.1)
+  takes parse_identifier text (identified zone) pairs d = rw (identifier_takes (fault []) text zone d.0, d.1)
+  takes parse_iana_identifier text (named name) pairs d = rw (iana_identifier_takes (fault []) text name d.0, d.1)
+  takes parse_duration text (lasting duration) pairs d = rw (duration_takes (fault []) text duration d.0, d.1)
   takes reader text found pairs d = absurd d
 
   -- a row that fits is returned
-  pub row_read : (reader : Reader) (text : Text) (row : Row) (pairs : List Pair) → Fits reader row pairs text → read_at fault reader text ≡ Err (fault pairs row)
-  row_read (bracketed kind) text row pairs f = rw (f.2, f.4.2, whole_row fault kind row.name pairs row.place row.error f.0 f.4.0 f.4.1 (rw f.4.2 at f.3) f.4.3 f.4.4) refl
-  row_read parse_offset text row pairs f = rw (f.3.1, f.2, f.4.2, offset_reader_rows (fault []) row.name pairs row.place row.error f.0 f.4.0 f.4.1 f.3 f.4.3 f.4.4) refl
-  row_read parse_identifier text row pairs f = rw (f.3.1, f.2, f.4.2, identifier_rows (fault []) row.name pairs row.place row.error f.0 f.4.0 f.4.1 f.3 f.4.3 f.4.4) refl
-  row_read parse_iana_identifier text row pairs f = rw (f.3.1, f.2, f.4.2, iana_identifier_rows (fault []) row.name pairs row.place row.error f.0 f.4.0 f.4.1 f.3 f.4.3 f.4.4) refl
-  row_read parse_duration text row pairs f = rw (f.3.1, f.2, f.4.2, duration_rows (fault []) row.name pairs row.place row.error f.0 f.4.0 f.4.1 f.3 f.4.3 f.4.4) refl
+  pub row_read : (reader : Reader) (text : Text) (row : Row) (pairs : List Pair) → Fits reader row pairs text
+      → read_at fault reader text ≡ Err (fault pairs row)
+  row_read (bracketed kind) text row pairs f =
+      rw (f.2, f.4.2, whole_row fault kind row.name pairs row.place row.error f.0 f.4.0 f.4.1 (rw f.4.2 at f.3) f.4.3 f.4.4)
+  row_read parse_offset text row pairs f =
+      rw (f.3.1, f.2, f.4.2, offset_reader_rows (fault []) row.name pairs row.place row.error f.0 f.4.0 f.4.1 f.3 f.4.3 f.4.4)
+  row_read parse_identifier text row pairs f =
+      rw (f.3.1, f.2, f.4.2, identifier_rows (fault []) row.name pairs row.place row.error f.0 f.4.0 f.4.1 f.3 f.4.3 f.4.4)
+  row_read parse_iana_identifier text row pairs f =
+      rw (f.3.1, f.2, f.4.2, iana_identifier_rows (fault []) row.name pairs row.place row.error f.0 f.4.0 f.4.1 f.3 f.4.3 f.4.4)
+  row_read parse_duration text row pairs f = rw (f.3.1, f.2, f.4.2, duration_rows (fault []) row.name pairs row.place row.error f.0 f.4.0 f.4.1 f.3 f.4.3 f.4.4)

@@ -1,21 +1,10 @@
 -- A zone name is read as far as it goes, and each row of a name's lines is returned.
-use Rattle.std.proofs.Common.{◌≡◌, ℕ, true, false, IsTrue, IsFalse, ◌⊎◌, List, [], ◌∷◌, ◌++◌, map, Ok, Err, refl, sym, ap, ◌∙◌, inl, inr, arith, append_assoc, Bool}
-use Rattle.std.proofs.lemmas.Bool.{or_parts, and_right, eqb-true}
-use Rattle.ixdtf.specs.language.Letters.{Text}
-use Rattle.ixdtf.specs.language.Letters.Letter.{Plain, Bad}
-use Rattle.ixdtf.specs.language.Letters.{zone_lead, zone_char, slash}
-use Rattle.ixdtf.specs.language.Shapes.{Joined}
-use Rattle.ixdtf.specs.table.Faults.{Fault}
-use Rattle.ixdtf.specs.table.Faults.Fault.{NonAsciiCodePoint}
-use Rattle.ixdtf.specs.language.ZoneNames.{NameItem, ZoneName}
-use Rattle.ixdtf.specs.table.LineNames.LineName.{of_zone}
-use Rattle.ixdtf.specs.table.LineNames.ZoneLine.{in_zone_name, after_zone_slash}
-use Rattle.ixdtf.specs.table.Lines.{line_of, zone_letters, zone_end, zone_other}
-use Rattle.ixdtf.specs.table.Lines.Ending.{error}
-use Rattle.ixdtf.specs.table.Rows.{Row, Place, Stops}
-use Rattle.ixdtf.specs.table.Rows.Place.{end, other, bad, anywhere}
-use Rattle.ixdtf.specs.reading.Looks.{Read, row_of}
-use Rattle.ixdtf.specs.reading.Zones.{with_letter, name_run}
+use Rattle.std.proofs.Common.{◌≡◌, ℕ, true, false, IsTrue, IsFalse, ◌⊎◌, List, [], ◌∷◌, ◌++◌, map, Ok, Err, refl, sym, ap, ◌∙◌, inl, inr, arith, append_assoc}
+use Rattle.std.proofs.{Common.Bool, lemmas.{Bool.{or_parts, and_right, eqb-true}}}
+use Rattle.ixdtf.specs.language.{Letters.{Text, zone_lead, zone_char, slash, Letter.{Plain, Bad}}, Shapes.Joined, ZoneNames.{NameItem, ZoneName}}
+use Rattle.ixdtf.specs.table.{Faults.{Fault, Fault.NonAsciiCodePoint}, LineNames.{LineName.of_zone, ZoneLine.{in_zone_name, after_zone_slash}}}
+use Rattle.ixdtf.specs.table.{Lines.{line_of, zone_letters, zone_end, zone_other, Ending.error}, Rows.{Row, Place, Stops, Place.{end, other, bad, anywhere}}}
+use Rattle.ixdtf.specs.reading.{Looks.{Read, row_of}, Zones.{with_letter, name_run}}
 use Rattle.ixdtf.proofs.parts.Looks.{RowsRead, NotNext}
 
 -- a name does not go on, and Bad does not stand next
@@ -31,10 +20,10 @@ StopsName brackets anywhere e rest = ⊥
 
 -- a slash does not go on as a letter of a name, and what a name begins with does
 slash_no_char : (c : ℕ) → IsTrue (slash c) → IsFalse (zone_char c)
-slash_no_char c h = rw (eqb-true c 47 h) refl
+slash_no_char c h = rw (eqb-true c 47 h)
 
 pub lead_char : (c : ℕ) → IsTrue (zone_lead c) → IsTrue (zone_char c)
-lead_char c h = rw h refl
+lead_char c h = rw h
 
 -- what stops a name in some brackets is no letter of it
 no_letter : (brackets : Bool) (c : ℕ) → IsFalse (zone_letters brackets c) → IsFalse (zone_char c) × IsFalse (slash c)
@@ -54,11 +43,11 @@ with_letters (c ∷ cs) r = with_letter c (with_letters cs r)
 
 pub letters_err : {E : Type 0} (cs : List ℕ) (e : E) → with_letters cs (Err e) ≡ Err e
 letters_err [] e = refl
-letters_err (c ∷ cs) e = rw (letters_err cs e) refl
+letters_err (c ∷ cs) e = rw (letters_err cs e)
 
 pub letters_ok : {E : Type 0} (cs : List ℕ) (rest : Text) → with_letters {E = E} cs (Ok ([], rest)) ≡ Ok (cs, rest)
 letters_ok [] rest = refl
-letters_ok {E} (c ∷ cs) rest = rw (letters_ok {E = E} cs rest) refl
+letters_ok {E} (c ∷ cs) rest = rw (letters_ok {E = E} cs rest)
 
 module _ {E : Type 0} (fault : Row → E) where
   -- the text is letters that are read over
@@ -67,14 +56,14 @@ module _ {E : Type 0} (fault : Row → E) where
 
   over_char : (c : ℕ) (text : Text) → IsTrue (zone_char c) → IsOver text → IsOver (Plain c ∷ text)
   unfolding name_run
-  over_char c text h o = (c ∷ o.0, ap (λ t. Plain c ∷ t) o.1, λ rest. rw (h, o.2 rest) refl)
+  over_char c text h o = (c ∷ o.0, ap (λ t. Plain c ∷ t) o.1, λ rest. rw (h, o.2 rest))
 
   over_slash : (c d : ℕ) (text : Text) → IsTrue (slash c) → IsTrue (zone_char d) → IsOver text → IsOver (Plain c ∷ (Plain d ∷ text))
   unfolding name_run
-  over_slash c d text h g o = (c ∷ (d ∷ o.0), ap (λ t. Plain c ∷ (Plain d ∷ t)) o.1, λ rest. rw (slash_no_char c h, h) (rw (g, o.2 rest) refl))
+  over_slash c d text h g o = (c ∷ (d ∷ o.0), ap (λ t. Plain c ∷ (Plain d ∷ t)) o.1, λ rest. rw (slash_no_char c h, h) (rw (g, o.2 rest)))
 
   over_items : (parts : List Text) (text : Text) → Joined NameItem parts text → IsOver text
-  over_items [] text h = ([], h, λ rest. rw h refl)
+  over_items [] text h = ([], h, λ rest. rw h)
   over_items (part ∷ parts) text h = rw h.1 (item h.2 (over_items parts h.0 h.3))
     where
       item : {part : Text} → NameItem part → {more : Text} → IsOver more → IsOver (part ++ more)
@@ -88,13 +77,14 @@ module _ {E : Type 0} (fault : Row → E) where
   unfolding name_run
   ends_here [] h = refl
   ends_here (Bad ∷ rest) h = absurd h.0
-  ends_here (Plain c ∷ rest) h = rw h.0 (rw h.1 refl)
+  ends_here (Plain c ∷ rest) h = rw h.0 (rw h.1)
 
   -- a name is read as far as it goes
-  pub name_takes : (text : Text) (name : List ℕ) (rest : Text) → ZoneName text → text ≡ map Plain name → NameEnds rest → name_run fault true (text ++ rest) ≡ Ok (name, rest)
+  pub name_takes : (text : Text) (name : List ℕ) (rest : Text) → ZoneName text → text ≡ map Plain name → NameEnds rest
+      → name_run fault true (text ++ rest) ≡ Ok (name, rest)
   name_takes text name rest h is closed =
       let o = over_name text h in
-      rw (o.2 rest, ends_here rest closed, letters_ok {E = E} o.0 rest, plain_faithful o.0 name (sym o.1 ∙ is)) refl
+      rw (o.2 rest, ends_here rest closed, letters_ok {E = E} o.0 rest, plain_faithful o.0 name (sym o.1 ∙ is))
 
   -- a fault after a name is returned
   after_name : (front rest : Text) (e : E) → ZoneName front → name_run fault true rest ≡ Err e → name_run fault true (front ++ rest) ≡ Err e
@@ -114,16 +104,18 @@ module _ {E : Type 0} (fault : Row → E) where
     name_row bad e front rest h at = inl (rw (at.1, at.2) (after_name front (Bad ∷ at.0) _ h (bad_here at.0)))
     name_row anywhere e front rest h at = absurd at
 
-    after_slash : (place : Place) (e : Fault) (rest : Text) → Stops (line_of brackets (of_zone after_zone_slash)) place e rest → name_run fault false rest ≡ Err (fault (row_of (of_zone after_zone_slash) place e))
+    after_slash : (place : Place) (e : Fault) (rest : Text) → Stops (line_of brackets (of_zone after_zone_slash)) place e rest
+        → name_run fault false rest ≡ Err (fault (row_of (of_zone after_zone_slash) place e))
     unfolding name_run
     after_slash end e rest at = rw at.0 (grind (arith, at.1))
-    after_slash other e rest at = rw (at.2, at.4) (rw (at.3, and_right (slash at.0) false refl) refl)
-    after_slash bad e rest at = rw (at.1, at.2) refl
+    after_slash other e rest at = rw (at.2, at.4) (rw (at.3, and_right (slash at.0) false refl))
+    after_slash bad e rest at = rw (at.1, at.2)
     after_slash anywhere e rest at = absurd at
 
     over_end : (c : ℕ) (rest : Text) (e : E) → IsTrue (slash c) → name_run fault false rest ≡ Err e → name_run fault true (Plain c ∷ rest) ≡ Err e
     unfolding name_run
-    over_end c rest e h is = rw (slash_no_char c h, h) (rw is refl)
+    over_end c rest e h is = rw (slash_no_char c h, h) (rw is)
 
     pub slash_row : RowsRead fault brackets (name_run fault true) (of_zone after_zone_slash)
-    slash_row place e front rest f at = rw (f.2, f.4.1, append_assoc) (after_name f.0 (Plain f.4.0 ∷ rest) _ f.3 (over_end f.4.0 rest _ f.4.2 (after_slash place e rest at)))
+    slash_row place e front rest f at =
+        rw (f.2, f.4.1, append_assoc) (after_name f.0 (Plain f.4.0 ∷ rest) _ f.3 (over_end f.4.0 rest _ f.4.2 (after_slash place e rest at)))

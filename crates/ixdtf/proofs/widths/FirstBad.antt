@@ -46,7 +46,7 @@ moves_nothing = record { moved = λ text other_text sees h. absurd (subst (λ t.
 pub moves_then : {a b : Shape} → PlainShape a → Moves b → Moves (a then b)
 moves_then x y = record {
   moved = λ text other_text sees h.
-      let next = sees_after h.0 h.1 other_text (x.plain h.0 h.3) (subst (λ t. Sees t other_text) h.2 sees) in
+      let next = sees_after h.0 h.1 other_text (x.plain h.0 h.3) (rw (← h.2) sees) in
       (h.0, next.0, next.1, h.3, y.moved h.1 next.0 next.2 h.4);
 }
 

@@ -1,6 +1,6 @@
 -- What stands before a line is plain, and what is asked of the rest is asked of letters before the first Bad alone. So a row
 -- that fits a text with Bad in it is a row of Bad, or fits each text with the same letters before the first Bad.
-use Rattle.std.proofs.Common.{◌≡◌, ◌⊎◌, List, subst, inl, inr}
+use Rattle.std.proofs.Common.{◌≡◌, ◌⊎◌, List, inl, inr}
 use Rattle.ixdtf.specs.language.Letters.{Text}
 use Rattle.ixdtf.specs.language.Shapes.{some}
 use Rattle.ixdtf.specs.language.Times.Clock.{Time, Offset, MinuteOffset}
@@ -20,11 +20,10 @@ use Rattle.ixdtf.specs.table.LineNames.TimeLine.{time_start, time_reads_as_month
 use Rattle.ixdtf.specs.table.LineNames.CoreLine.{dates, year_months, month_days, times}
 use Rattle.ixdtf.specs.table.LineNames.ClockLine.{hour_start}
 use Rattle.ixdtf.specs.table.LineNames.OffsetLine.{offset_start, after_zulu}
-use Rattle.ixdtf.specs.table.LineNames.ZoneLine.{identifier_start, zone_name_start, in_zone_name, after_zone_slash}
+use Rattle.ixdtf.specs.table.LineNames.ZoneLine.{identifier_start, zone_name_start}
 use Rattle.ixdtf.specs.table.LineNames.BracketLine.{first_bracket_start, first_critical_start, first_bracket_scan, after_bracket}
-use Rattle.ixdtf.specs.table.LineNames.PairLine.{key_start, critical_key_start, in_key, value_start, in_value, after_value_hyphen}
+use Rattle.ixdtf.specs.table.LineNames.PairLine.{key_start, critical_key_start}
 use Rattle.ixdtf.specs.table.LineNames.LineName.{of_core, of_clock, of_offset, of_zone, of_bracket, of_pair, of_duration}
-use Rattle.ixdtf.specs.table.Lines.{table}
 use Rattle.ixdtf.specs.table.Rows.{Row, Fits}
 use Rattle.ixdtf.proofs.parts.CoreLetters.{core_ends}
 use Rattle.ixdtf.proofs.parts.Fronts.{month_day_front_stays}
@@ -65,9 +64,9 @@ moves_time = moves_then (plain_some marked_plain) moves_core_end
 month_day_front_back : (rest other_rest : Text) → Sees rest other_rest → ReadsAsTime rest → HasFront (some (IsMonthDay least_day)) other_rest
     → HasFront (some (IsMonthDay least_day)) rest
 month_day_front_back rest other_rest sees (marked, after, is, time, ends) front =
-    let next = sees_after marked after other_rest ((plain_some marked_plain).plain marked time) (subst (λ t. Sees t other_rest) is sees) in
+    let next = sees_after marked after other_rest ((plain_some marked_plain).plain marked time) (rw (← is) sees) in
     let ends_there = core_ends next.0 (moves_core_end.moved after next.0 next.2 ends) in
-    rw is (month_day_front_stays marked next.0 after ends_there (subst (HasFront (some (IsMonthDay least_day))) next.1 front))
+    rw is (month_day_front_stays marked next.0 after ends_there (rw (← next.1) front))
 
 in_time_alone : (line : TimeLine) → Stands (λ before rest. InTimeAlone line before rest)
 in_time_alone time_start = alone plain_nothing
@@ -95,16 +94,14 @@ plain_start = plain_some date_plain and_then plain_one
 
 before_time : (kind : CoreKind) (line : ClockLine) → PlainShape (BeforeTime kind line)
 before_time date_time line = plain_start
-before_time year_month line = plain_nowhere
-before_time month_day line = plain_nowhere
 before_time time_alone hour_start = plain_one
 before_time time_alone line = plain_mark
+before_time kind line = plain_nowhere
 
 before_offset : (kind : CoreKind) → PlainShape (BeforeOffset kind)
 before_offset date_time = plain_start and_then plain_some time_plain
-before_offset year_month = plain_nowhere
-before_offset month_day = plain_nowhere
 before_offset time_alone = plain_mark and_then plain_some time_plain
+before_offset kind = plain_nowhere
 
 before_offset_line : (kind : CoreKind) (line : OffsetLine) → PlainShape (BeforeOffsetLine kind line)
 before_offset_line kind offset_start = plain_nowhere
@@ -138,18 +135,14 @@ before_bracketed kind (of_clock MinuteOffset line) pairs = besides (alone (plain
 before_bracketed kind (of_offset line) pairs = besides (alone (before_offset_line kind line))
 before_bracketed kind (of_zone identifier_start) pairs = never
 before_bracketed kind (of_zone zone_name_start) pairs = never
-before_bracketed kind (of_zone in_zone_name) pairs = besides (ahead (plain_opened kind) moves_name)
-before_bracketed kind (of_zone after_zone_slash) pairs = besides (ahead (plain_opened kind) moves_name)
+before_bracketed kind (of_zone line) pairs = besides (ahead (plain_opened kind) moves_name)
 before_bracketed kind (of_bracket first_bracket_start) pairs = besides (alone (plain_core kind))
 before_bracketed kind (of_bracket first_critical_start) pairs = besides (alone (plain_core kind))
 before_bracketed kind (of_bracket first_bracket_scan) pairs = besides (alone (plain_opened kind))
 before_bracketed kind (of_bracket after_bracket) pairs = alone (plain_bracketed kind pairs)
 before_bracketed kind (of_pair key_start) pairs = alone (plain_bracketed kind pairs)
 before_bracketed kind (of_pair critical_key_start) pairs = alone (plain_bracketed kind pairs)
-before_bracketed kind (of_pair in_key) pairs = before_key kind pairs
-before_bracketed kind (of_pair value_start) pairs = before_key kind pairs
-before_bracketed kind (of_pair in_value) pairs = before_key kind pairs
-before_bracketed kind (of_pair after_value_hyphen) pairs = before_key kind pairs
+before_bracketed kind (of_pair line) pairs = before_key kind pairs
 before_bracketed kind (of_duration line) pairs = never
 
 -- ---- lines of readers without brackets
@@ -160,16 +153,14 @@ in_offset (of_clock Offset line) = plain_one
 in_offset name = plain_nowhere
 
 in_identifier : (name : LineName) → PlainShape (InIdentifier name)
-in_identifier (of_zone identifier_start) = plain_nothing
-in_identifier (of_zone in_zone_name) = plain_nothing
-in_identifier (of_zone after_zone_slash) = plain_nothing
+in_identifier (of_zone zone_name_start) = plain_nowhere
+in_identifier (of_zone line) = plain_nothing
 in_identifier (of_clock MinuteOffset line) = plain_one
 in_identifier name = plain_nowhere
 
 in_iana_identifier : (name : LineName) → PlainShape (InIanaIdentifier name)
-in_iana_identifier (of_zone zone_name_start) = plain_nothing
-in_iana_identifier (of_zone in_zone_name) = plain_nothing
-in_iana_identifier (of_zone after_zone_slash) = plain_nothing
+in_iana_identifier (of_zone identifier_start) = plain_nowhere
+in_iana_identifier (of_zone line) = plain_nothing
 in_iana_identifier name = plain_nowhere
 
 in_duration : (name : LineName) → PlainShape (InDuration name)
@@ -189,9 +180,9 @@ before_line parse_duration name pairs = besides (alone (in_duration name))
 pub fits_move : (reader : Reader) (row : Row) (pairs : List Pair) (text other_text : Text) → Sees text other_text → Fits reader row pairs text
     → (row.error ≡ NonAsciiCodePoint) ⊎ Fits reader row pairs other_text
 fits_move reader row pairs text other_text sees (before, rest, is, b, (front, stop, splits, f, at)) =
-    let next = sees_after before rest other_text ((before_line reader row.name pairs).plain before rest b) (subst (λ t. Sees t other_text) is sees) in
-    let last = sees_after front stop next.0 ((plain_line (has_brackets reader) row.name).plain front f) (subst (λ t. Sees t next.0) splits next.2) in
-    elim (stops_move (table reader row.name) row.place row.error stop last.0 last.2 at) [
+    let next = sees_after before rest other_text ((before_line reader row.name pairs).plain before rest b) (rw (← is) sees) in
+    let last = sees_after front stop next.0 ((plain_line (has_brackets reader) row.name).plain front f) (rw (← splits) next.2) in
+    elim (stops_move _ row.place row.error stop last.0 last.2 at) [
       | inl e ↦ inl e
       | inr moved ↦ inr (before, next.0, next.1, (before_line reader row.name pairs).moved before rest next.0 next.2 b, (front, last.0, last.1, f, moved))
     ]

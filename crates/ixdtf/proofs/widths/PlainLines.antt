@@ -23,7 +23,7 @@ use Rattle.ixdtf.specs.table.LineNames.DurationLine.{after_time_designator, grou
 use Rattle.ixdtf.specs.table.LineNames.DurationLine.{group_fraction_start, group_fraction_digits, after_time_groups, after_fraction_group}
 use Rattle.ixdtf.specs.table.LineNames.LineName.{of_core, of_clock, of_offset, of_zone, of_bracket, of_pair, of_duration}
 use Rattle.ixdtf.specs.table.Lines.{Follow, date_line, year_month_line, month_day_line, time_line, core_line, clock_line, offset_line, zone_line, bracket_line, pair_line, duration_line}
-use Rattle.ixdtf.specs.table.Lines.{Hour, follow_of, line_of}
+use Rattle.ixdtf.specs.table.Lines.{Hour, line_of}
 use Rattle.ixdtf.specs.table.Rows.{front_of}
 use Rattle.ixdtf.proofs.widths.PlainTexts.{PlainShape, plain_nothing, plain_one, ◌and_then◌, ◌or_else◌, plain_digits, plain_fewer, plain_some_digits, plain_many}
 use Rattle.ixdtf.proofs.widths.PlainTexts.{plain_with, plain_where, plain_some, year_plain, month_plain, date_shape_plain, date_plain, plain_hyphen, plain_marks}
@@ -152,7 +152,7 @@ plain_duration_line after_fraction_group = plain_in_context plain_last_group
 
 pub plain_line : (brackets : Bool) (name : LineName) → PlainShape (front_of (line_of brackets name))
 plain_line brackets (of_core name) = plain_core_line name
-plain_line brackets (of_clock clock name) = plain_clock_line (follow_of brackets clock) clock name
+plain_line brackets (of_clock clock name) = plain_clock_line _ clock name
 plain_line brackets (of_offset name) = plain_offset_line name
 plain_line brackets (of_zone name) = plain_zone_line brackets name
 plain_line brackets (of_bracket name) = plain_bracket_line name

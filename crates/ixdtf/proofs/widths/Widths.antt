@@ -36,7 +36,7 @@ same_letters (n ∷ numbers) all =
 -- the mask has the letters before the first number that is not shared
 mask_sees : (numbers : List ℕ) → IsTrue (list_any (λ n. not (is_shared n)) numbers) → Sees (wide_text numbers) (byte_text (mask numbers))
 mask_sees [] h = absurd cc
-mask_sees (n ∷ numbers) h = by_first (is_shared n) refl (λ is. mask_sees numbers (rw is at h))
+mask_sees (n ∷ numbers) h = by_first _ refl (λ is. mask_sees numbers (rw is at h))
   where
     by_first : (b : Bool) → is_shared n ≡ b → (is_shared n ≡ true → Sees (wide_text numbers) (byte_text (mask numbers)))
         → Sees (wide_letter n ∷ wide_text numbers) (Plain (if is_shared n then n else 128) ∷ byte_text (mask numbers))
@@ -67,8 +67,8 @@ plain_fault_moves : (reader : Reader) (text other_text : Text) → Sees text oth
     → (fault ≡ NonAsciiCodePoint) ⊎ PlainFault reader other_text fault
 plain_fault_moves reader text other_text sees fault (pairs, inl h) =
     let front = h.0 in
-    let plain = derived_plain reader front.0 (parsed front.3) pairs front.4 in
-    let next = sees_after front.0 front.1 other_text plain (subst (λ t. Sees t other_text) front.2 sees) in
+    let plain = derived_plain reader front.0 _ pairs front.4 in
+    let next = sees_after front.0 front.1 other_text plain (rw (← front.2) sees) in
     inr (pairs, inl ((front.0, next.0, next.1, front.3, front.4), h.1))
 plain_fault_moves reader text other_text sees fault (pairs, inr h) = elim (fault_moves reader text other_text sees pairs fault h.0) [
   | inl e ↦ inl e
@@ -103,14 +103,14 @@ same_where_shared reader numbers all outcome =
     (subst (λ t. HasPlain reader t outcome) same, subst (λ t. HasPlain reader t outcome) (sym same))
 
 some_not_shared : (numbers : List ℕ) → Any (λ n. IsFalse (is_shared n)) numbers → IsTrue (list_any (λ n. not (is_shared n)) numbers)
-some_not_shared numbers h = list_any-from_Any (λ n. not (is_shared n)) numbers (h.0, h.1, h.2, h.3, ap not h.4)
+some_not_shared numbers h = list_any-from_Any (λ n. not _) numbers (h.0, h.1, h.2, h.3, ap not h.4)
 
 pub fault_where_not_shared : FaultWhereNotShared
 fault_where_not_shared reader numbers some =
-    let outcome = plain_outcome reader (wide_text numbers) in
+    let outcome = plain_outcome reader _ in
     let sees = mask_sees numbers (some_not_shared numbers some) in
-    let moved = outcome_moves (wide_text numbers) (byte_text (mask numbers)) sees reader outcome.0 outcome.1 in (
+    let moved = outcome_moves _ _ sees reader outcome.0 outcome.1 in (
       moved.0,
-      subst (HasPlain reader (wide_text numbers)) moved.1 outcome.1,
-      subst (λ o. (moved.0 ≡ NonAsciiCodePoint) ⊎ HasPlain reader (byte_text (mask numbers)) o) moved.1 moved.2,
+      rw (← moved.1) outcome.1,
+      rw (← moved.1) moved.2,
     )

@@ -118,6 +118,15 @@ Settles named (Err stop) (Err e) = named e ≡ fault_of_stop stop
 abbrev pub Spends : ℕ → Unread → Unread → Type 0
 Spends more old new = (new.looks + length new.rest ≤ old.looks + length old.rest + more) × (old.looks ≤ new.looks)
 
+-- so many looks more than the letters pay for, and no more than so many in all
+abbrev pub SpendsInAll : ℕ → ℕ → Unread → Unread → Type 0
+SpendsInAll more all old new = Spends more old new × (new.looks ≤ old.looks + all)
+
+-- so many looks more than the letters pay for, and so many where nothing stopped
+abbrev pub SpendsOr : {X : Type 0} → ℕ → ℕ → Unread → Result X Stop → Unread → Type 0
+SpendsOr more found old (Ok x) new = Spends found old new
+SpendsOr more found old (Err e) new = Spends more old new
+
 -- what a form without a handler promises, where each pair replies for itself
 pub record PlainForm (reader : Reader) (text : Text) (result : Result Parsed Fault) : Type 0 where
   pub ok : (found : Parsed) → (result ≡ Ok found) ↔ PlainRecord reader text found

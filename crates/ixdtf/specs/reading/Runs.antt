@@ -1,13 +1,18 @@
 -- Letters that are taken off one by one, by where reading of them is.
-use Rattle.std.specs.Prelude.{ℕ, List, [], ◌∷◌, map, Option, Some, None, option_map, Ok, Err}
+use Rattle.std.specs.Prelude.{ℕ, List, [], ◌∷◌, map, Option, Some, None, option_map, Ok, Err, if◌then◌else◌}
+use Rattle.ixdtf.specs.declared.parsers.annotations.KeyLetters.{KeyLetters}
+use Rattle.ixdtf.specs.declared.parsers.annotations.ValueState.{ValueState}
+use Rattle.ixdtf.specs.declared.parsers.brackets.BracketLetters.{BracketLetters}
 use Rattle.ixdtf.specs.declared.parsers.timezone.NameLetters.{NameLetters}
 use Rattle.ixdtf.specs.declared.parsers.letters.Taken.{Taken as CodeTaken}
-use Rattle.ixdtf.specs.language.Letters.{Text}
+use Rattle.ixdtf.specs.language.Letters.{Text, key_char}
 use Rattle.ixdtf.specs.language.Letters.Letter.{Plain, Bad}
+use Rattle.ixdtf.specs.language.Brackets.{passed}
 use Rattle.ixdtf.specs.table.Faults.{Fault}
 use Rattle.ixdtf.specs.table.Faults.Fault.{NonAsciiCodePoint}
 use Rattle.ixdtf.specs.reading.Looks.{Read}
 use Rattle.ixdtf.specs.reading.Zones.{name_step}
+use Rattle.ixdtf.specs.reading.Pairs.{value_step, value_goes_on}
 
 -- the letters that were taken off, where reading is after them, and the letter that does not go on
 pub record Taken (S : Type 0) : Type 0 where
@@ -41,3 +46,14 @@ taken_of number taken = record { letters = map number taken.units.now; state = t
 -- where reading of a name is after a letter
 abbrev pub name_after : NameLetters → ℕ → Option NameLetters
 name_after letters c = option_map (λ may_end. record { may_end = may_end }) (name_step c letters.may_end)
+
+-- where reading of a key is after a letter, and of a value
+abbrev pub key_after : KeyLetters → ℕ → Option KeyLetters
+key_after letters c = if key_char c then Some letters else None
+
+abbrev pub value_after : ValueState → ℕ → Option ValueState
+value_after state c = value_goes_on (value_step state c)
+
+-- where reading of a first bracket is after a letter before an `=` or a `]`
+abbrev pub bracket_after : BracketLetters → ℕ → Option BracketLetters
+bracket_after letters c = if passed c then Some letters else None

@@ -2,14 +2,14 @@
 
 #![tactic(auto, unfolding(crate::specs::reading::Pairs::pair_readings))]
 
-ghost use Rattle.std.specs.Prelude.{◌≡◌, ◌+◌, ◌≤◌, ◌<◌, ◌*◌, ◌↔◌, [], ◌∷◌, map, length, option_map, Some, None, IsTrue, OnOk, IfOk, IfErr, IsSome, if◌then◌else◌};
+ghost use Rattle.std.specs.Prelude.{◌≡◌, ◌+◌, ◌≤◌, ◌<◌, ◌*◌, ◌↔◌, [], ◌∷◌, map, length, option_map, IsTrue, OnOk, IfOk, IfErr, IsSome};
 ghost use Rattle.std.specs.Option.{option_or};
 ghost use Rattle.ixdtf.specs.declared.parsers.annotations.ValueState.TheVariants.{AtStart};
-ghost use Rattle.ixdtf.specs.language.Letters.{key_char};
 ghost use Rattle.ixdtf.specs.table.Faults.{Fault};
-ghost use Rattle.ixdtf.specs.reading.Clauses.{Reads, Spends, fault_of_stop, yielded};
+ghost use Rattle.ixdtf.specs.reading.Clauses.{Reads, Spends, SpendsOr, fault_of_stop, yielded};
 ghost use Rattle.ixdtf.specs.reading.Looks.{error_of};
-ghost use Rattle.ixdtf.specs.reading.Pairs.{key_run, value_run, value_step, value_goes_on, value_end, value_other, pair_at, critical_pair_at, later_pair_at, next_pair_at};
+ghost use Rattle.ixdtf.specs.reading.Runs.{key_after, value_after};
+ghost use Rattle.ixdtf.specs.reading.Pairs.{key_run, value_run, value_step, value_end, value_other, pair_at, critical_pair_at, later_pair_at, next_pair_at};
 ghost use Rattle.ixdtf.specs.Handlers.{RefusedBeside, first_calendar, pair_of};
 ghost use Rattle.ixdtf.specs.reading.Chains.{PairsRead, first_pairs};
 
@@ -30,28 +30,22 @@ use crate::stop::Stop;
 pub struct KeyLetters;
 
 impl Letters for KeyLetters {
-    ghost after = { λ letters c. if key_char c then Some letters else None };
+    ghost after = { key_after };
 
     #[inline(always)]
     fn go_on(self, byte: u8) -> Option<Self> {
-        if is_a_key_char(byte) {
-            Some(self)
-        } else {
-            None
-        }
+        is_a_key_char(byte).then_some(self)
     }
 }
 
 /// Reads a key from its first letter on, and the `=` after it, and returns the key's units.
 #[inline(always)]
-#[tactic(auto, using(crate::proofs::code::PairLoops::keys))]
 pub fn parse_annotation_key<'a, T: EncodingType>(
     cursor: &mut Cursor<'a, T>,
 ) -> Result<&'a [T::CodeUnit], Stop>
     ensures key { Reads T.letter (λ units. map T.number units.now) cursor.old result cursor.new
         (key_run error_of) }
-    ensures looks { Spends 1 cursor.old cursor.new }
-    ensures paid { OnOk result (Spends 0 cursor.old cursor.new) }
+    ensures looks { SpendsOr 1 0 cursor.old result cursor.new }
     ensures shorter { OnOk result (length cursor.new.rest < length cursor.old.rest) }
 {
     let key = take_letters(cursor, KeyLetters)?;
@@ -126,7 +120,7 @@ impl ValueState {
 }
 
 impl Letters for ValueState {
-    ghost after = { λ state c. value_goes_on (value_step state c) };
+    ghost after = { value_after };
 
     #[inline(always)]
     fn go_on(self, byte: u8) -> Option<Self> {
@@ -145,8 +139,7 @@ pub fn parse_annotation_value<'a, T: EncodingType>(
 ) -> Result<&'a [T::CodeUnit], Stop>
     ensures value { Reads T.letter (λ units. map T.number units.now) cursor.old result cursor.new
         (value_run error_of AtStart) }
-    ensures looks { Spends 1 cursor.old cursor.new }
-    ensures paid { OnOk result (Spends 0 cursor.old cursor.new) }
+    ensures looks { SpendsOr 1 0 cursor.old result cursor.new }
     ensures shorter { OnOk result (length cursor.new.rest < length cursor.old.rest) }
 {
     let value = take_letters(cursor, ValueState::AtStart)?;
@@ -172,8 +165,7 @@ fn parse_pair<'a, T: EncodingType>(
 ) -> Result<Annotation<'a, T>, Stop>
     ensures pair { Reads T.letter (pair_of T.number) cursor.old result cursor.new
         (pair_at error_of critical) }
-    ensures looks { Spends 2 cursor.old cursor.new }
-    ensures paid { OnOk result (Spends 0 cursor.old cursor.new) }
+    ensures looks { SpendsOr 2 0 cursor.old result cursor.new }
     ensures shorter { OnOk result (2 + length cursor.new.rest ≤ length cursor.old.rest) }
 {
     let key = parse_annotation_key(cursor)?;
@@ -192,8 +184,7 @@ fn parse_later_pair<'a, T: EncodingType>(
 ) -> Result<Annotation<'a, T>, Stop>
     ensures pair { Reads T.letter (pair_of T.number) cursor.old result cursor.new
         (later_pair_at error_of) }
-    ensures looks { Spends 4 cursor.old cursor.new }
-    ensures paid { OnOk result (Spends 2 cursor.old cursor.new) }
+    ensures looks { SpendsOr 4 2 cursor.old result cursor.new }
     ensures shorter { OnOk result (2 + length cursor.new.rest ≤ length cursor.old.rest) }
 {
     match cursor.look()? {
@@ -213,8 +204,7 @@ fn parse_critical_pair<'a, T: EncodingType>(
 ) -> Result<Annotation<'a, T>, Stop>
     ensures pair { Reads T.letter (pair_of T.number) cursor.old result cursor.new
         (critical_pair_at error_of) }
-    ensures looks { Spends 3 cursor.old cursor.new }
-    ensures paid { OnOk result (Spends 1 cursor.old cursor.new) }
+    ensures looks { SpendsOr 3 1 cursor.old result cursor.new }
     ensures shorter { OnOk result (2 + length cursor.new.rest ≤ length cursor.old.rest) }
 {
     match cursor.look()? {
@@ -323,9 +313,7 @@ where
         (first_pairs (option_map (pair_of T.number) first.entry))
         (map T.letter cursor.old.rest) (yielded (option_map (pair_of T.number)) result) }
     ensures empty { OnOk result (cursor.new.rest ≡ []) }
-    ensures looks { cursor.new.looks + length cursor.new.rest ≤
-        cursor.old.looks + 2 * length cursor.old.rest + 7 }
-    ensures counted { cursor.old.looks ≤ cursor.new.looks }
+    ensures looks { Spends (length cursor.old.rest + 7) cursor.old cursor.new }
 {
     let mut calendar = None;
     if let Some(annotation) = first {

@@ -2,9 +2,9 @@
 
 #![tactic(auto, unfolding(crate::specs::reading::Brackets::bracket_readings))]
 
-ghost use Rattle.std.specs.Prelude.{◌≡◌, Some, None, map, if◌then◌else◌};
+ghost use Rattle.std.specs.Prelude.{◌≡◌, map};
 ghost use Rattle.ixdtf.specs.language.Letters.{equals, closing};
-ghost use Rattle.ixdtf.specs.language.Brackets.{passed};
+ghost use Rattle.ixdtf.specs.reading.Runs.{bracket_after};
 ghost use Rattle.ixdtf.specs.reading.Clauses.{Reads, Spends, bracket_of, fault_of_stop};
 ghost use Rattle.ixdtf.specs.reading.Looks.{error_of};
 ghost use Rattle.ixdtf.specs.reading.Brackets.{refusal, name_fault, next_is, sight_at, name_or_pair_at, inside_at, critical_bracket_at, bracket_at};
@@ -28,24 +28,11 @@ pub enum Bracket<'a, T: EncodingType> {
     Pair(Annotation<'a, T>),
 }
 
-/// Reads a first bracket after its `[`, by a cursor of its own.
+/// Reads a first bracket after its `[`.
 #[inline(always)]
 pub fn parse_first_bracket<'a, T: EncodingType>(
     cursor: &mut Cursor<'a, T>,
 ) -> Result<Bracket<'a, T>, Stop>
-    ensures bracket { Reads T.letter (bracket_of T.number) cursor.old result cursor.new
-        (bracket_at error_of) }
-    ensures looks { Spends 16 cursor.old cursor.new }
-{
-    let mut here = cursor.take();
-    let read = parse_bracket(&mut here);
-    *cursor = here;
-    read
-}
-
-/// Reads a first bracket after its `[`.
-#[inline(always)]
-fn parse_bracket<'a, T: EncodingType>(cursor: &mut Cursor<'a, T>) -> Result<Bracket<'a, T>, Stop>
     ensures bracket { Reads T.letter (bracket_of T.number) cursor.old result cursor.new
         (bracket_at error_of) }
     ensures looks { Spends 16 cursor.old cursor.new }
@@ -159,15 +146,12 @@ fn parse_name_or_pair<'a, T: EncodingType>(
 pub struct BracketLetters;
 
 impl Letters for BracketLetters {
-    ghost after = { λ letters c. if passed c then Some letters else None };
+    ghost after = { bracket_after };
 
     #[inline(always)]
     fn go_on(self, byte: u8) -> Option<Self> {
-        if is_annotation_key_value_separator(byte) || is_annotation_close(byte) {
-            None
-        } else {
-            Some(self)
-        }
+        let passed = !is_annotation_key_value_separator(byte) && !is_annotation_close(byte);
+        passed.then_some(self)
     }
 }
 

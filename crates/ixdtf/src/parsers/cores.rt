@@ -135,7 +135,7 @@ impl Cores for LoneTimes {
 
 /// Reads a date into the record, and a time where a separator follows, and returns how far the time was written.
 #[inline(always)]
-#[tactic(auto, using(crate::proofs::code::FixedCores::fixed_core), unfolding(crate::specs::reading::Cores::date_time_readings))]
+#[tactic(auto, unfolding(crate::specs::reading::Cores::date_time_readings))]
 fn parse_date_time<'a, T: EncodingType>(
     cursor: &mut Cursor<'a, T>,
     time: &mut TimeRecord,

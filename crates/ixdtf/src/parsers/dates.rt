@@ -2,13 +2,11 @@
 
 #![tactic(auto, unfolding(crate::specs::reading::Dates::date_readings))]
 
-ghost use Rattle.std.specs.Prelude.{◌≡◌, ◌∷◌, [], ◌&&◌, ◌+◌, ◌*◌, ◌-◌, ◌<◌, ◌≤◌, map, nat_le, length, pos, None, IsTrue, IfOk, IfSome, OnOk};
+ghost use Rattle.std.specs.Prelude.{◌≡◌, ◌&&◌, ◌+◌, ◌*◌, ◌-◌, ◌<◌, ◌≤◌, map, nat_le, length, None, IsTrue, IfOk, IfSome, OnOk};
 ghost use Rattle.ixdtf.specs.language.Letters.{Text, digit, hyphen};
-ghost use Rattle.ixdtf.specs.language.Letters.Letter.{Plain};
-ghost use Rattle.ixdtf.specs.language.Digits.{decimal};
 ghost use Rattle.ixdtf.specs.language.Dates.{is_leap, month_length};
 ghost use Rattle.ixdtf.specs.table.Faults.Fault.{DateExtendedYear, DateMonth, InvalidMonthRange, InvalidDayRange};
-ghost use Rattle.ixdtf.specs.reading.Clauses.{Reads, Spends, Checks, Yields, fault_of_stop, hyphen_look};
+ghost use Rattle.ixdtf.specs.reading.Clauses.{Reads, Spends, SpendsInAll, SpendsOr, Checks, Yields, fault_of_stop, hyphen_look};
 ghost use Rattle.ixdtf.specs.reading.FixedPlaces.{ranged};
 ghost use Rattle.ixdtf.specs.reading.Looks.{error_of, number_of, digits_by, digit_look, mark_by, mark_at};
 ghost use Rattle.ixdtf.specs.reading.Dates.{date_of, year_at, plain_year_at, extended_year_at, date_at, month_by, day_at, line_after_month};
@@ -62,12 +60,11 @@ fn check_ranges(date: DateRecord) -> Result<DateRecord, Stop>
 
 /// Reads a year: four digits, or a sign and six digits.
 #[inline(always)]
-#[tactic(auto, using(crate::proofs::code::DigitClasses::digit_no_sign), unfolding(crate::specs::reading::Dates::date_readings))]
+#[tactic(auto, using(crate::proofs::code::DigitClasses::digit_no_sign), unfolding(crate::specs::reading::Dates::year_at, crate::specs::reading::Looks::next_by))]
 pub fn parse_date_year<'a, T: EncodingType>(cursor: &mut Cursor<'a, T>) -> Result<i32, Stop>
     ensures year { Reads T.letter (λ year. year) cursor.old result cursor.new
         (year_at error_of) }
-    ensures looks { Spends 2 cursor.old cursor.new }
-    ensures few { cursor.new.looks ≤ cursor.old.looks + 7 }
+    ensures looks { SpendsInAll 2 7 cursor.old cursor.new }
 {
     match cursor.look()? {
         None => Err(Stop::AbruptDigit),
@@ -92,29 +89,10 @@ fn parse_plain_year<'a, T: EncodingType>(
     requires digit { IsTrue (digit thousands) }
     ensures year { Reads T.letter (λ year. year) cursor.old result cursor.new
         (plain_year_at error_of thousands) }
-    ensures looks { Spends 1 cursor.old cursor.new }
-    ensures few { cursor.new.looks ≤ cursor.old.looks + 3 }
+    ensures looks { SpendsInAll 1 3 cursor.old cursor.new }
 {
-    let hundreds = cursor.next_digit(Stop::DateYear)?;
-    let tens = cursor.next_digit(Stop::DateYear)?;
-    let ones = cursor.next_digit(Stop::DateYear)?;
-    Ok(year_of(thousands, hundreds, tens, ones))
-}
-
-/// The number of a year's four digits.
-#[inline(always)]
-fn year_of(thousands: u8, hundreds: u8, tens: u8, ones: u8) -> i32
-    requires thousands { IsTrue (digit thousands) }
-    requires hundreds { IsTrue (digit hundreds) }
-    requires tens { IsTrue (digit tens) }
-    requires ones { IsTrue (digit ones) }
-    ensures { result ≡
-        pos (decimal (Plain thousands ∷ Plain hundreds ∷ Plain tens ∷ Plain ones ∷ [])) }
-{
-    1000 * i32::from(thousands - b'0')
-        + 100 * i32::from(hundreds - b'0')
-        + 10 * i32::from(tens - b'0')
-        + i32::from(ones - b'0')
+    let ones = parse_three_digits(cursor, Stop::DateYear)?;
+    Ok((1000 * u32::from(thousands - b'0') + ones) as i32)
 }
 
 /// Reads the six digits of a year with a sign, by a cursor of its own.
@@ -125,8 +103,7 @@ fn parse_extended_year<'a, T: EncodingType>(
 ) -> Result<i32, Stop>
     ensures year { Reads T.letter (λ year. year) cursor.old result cursor.new
         (extended_year_at error_of sign) }
-    ensures looks { Spends 1 cursor.old cursor.new }
-    ensures few { cursor.new.looks ≤ cursor.old.looks + 6 }
+    ensures looks { SpendsInAll 1 6 cursor.old cursor.new }
 {
     let mut here = cursor.take();
     let read = parse_signed_year(&mut here, sign);
@@ -139,8 +116,7 @@ fn parse_extended_year<'a, T: EncodingType>(
 fn parse_signed_year<'a, T: EncodingType>(cursor: &mut Cursor<'a, T>, sign: u8) -> Result<i32, Stop>
     ensures year { Reads T.letter (λ year. year) cursor.old result cursor.new
         (extended_year_at error_of sign) }
-    ensures looks { Spends 1 cursor.old cursor.new }
-    ensures few { cursor.new.looks ≤ cursor.old.looks + 6 }
+    ensures looks { SpendsInAll 1 6 cursor.old cursor.new }
 {
     let value = parse_six_digits(cursor)?;
     if !is_hyphen(sign) {
@@ -154,27 +130,36 @@ fn parse_signed_year<'a, T: EncodingType>(cursor: &mut Cursor<'a, T>, sign: u8) 
 
 /// Reads six digits, and returns their number.
 #[inline(always)]
+#[tactic(auto, using(crate::proofs::code::YearDigits::six_digits))]
 fn parse_six_digits<'a, T: EncodingType>(cursor: &mut Cursor<'a, T>) -> Result<u32, Stop>
     ensures number { Reads T.letter (λ number. number) cursor.old result cursor.new
         (λ text. number_of (digits_by (digit_look DateExtendedYear) 6 text)) }
     ensures small { IfOk result (λ number. number < 1000000) }
-    ensures looks { Spends 1 cursor.old cursor.new }
-    ensures few { cursor.new.looks ≤ cursor.old.looks + 6 }
+    ensures looks { SpendsInAll 1 6 cursor.old cursor.new }
 {
-    let first = cursor.next_digit(Stop::DateExtendedYear)?;
-    let second = cursor.next_digit(Stop::DateExtendedYear)?;
-    let third = cursor.next_digit(Stop::DateExtendedYear)?;
-    let fourth = cursor.next_digit(Stop::DateExtendedYear)?;
-    let fifth = cursor.next_digit(Stop::DateExtendedYear)?;
-    let sixth = cursor.next_digit(Stop::DateExtendedYear)?;
-    Ok(
-        100_000 * u32::from(first - b'0')
-            + 10_000 * u32::from(second - b'0')
-            + 1000 * u32::from(third - b'0')
-            + 100 * u32::from(fourth - b'0')
-            + 10 * u32::from(fifth - b'0')
-            + u32::from(sixth - b'0'),
-    )
+    let thousands = parse_three_digits(cursor, Stop::DateExtendedYear)?;
+    let ones = parse_three_digits(cursor, Stop::DateExtendedYear)?;
+    Ok(1000 * thousands + ones)
+}
+
+/// Reads three digits, and returns their number. Another letter is this stop.
+#[inline(always)]
+#[tactic(auto, unfolding(crate::specs::reading::Looks::digits_by))]
+fn parse_three_digits<'a, T: EncodingType>(
+    cursor: &mut Cursor<'a, T>,
+    other: Stop,
+) -> Result<u32, Stop>
+    ensures number { Reads T.letter (λ number. number) cursor.old result cursor.new
+        (λ text. number_of (digits_by (digit_look (fault_of_stop other)) 3 text)) }
+    ensures small { IfOk result (λ number. number < 1000) }
+    ensures looks { Spends 1 cursor.old cursor.new }
+    ensures few { cursor.new.looks ≤ cursor.old.looks + 3 }
+    ensures paid { OnOk result (Spends 0 cursor.old cursor.new) }
+{
+    let hundreds = cursor.next_digit(other)?;
+    let tens = cursor.next_digit(other)?;
+    let ones = cursor.next_digit(other)?;
+    Ok(100 * u32::from(hundreds - b'0') + 10 * u32::from(tens - b'0') + u32::from(ones - b'0'))
 }
 
 // ==== Months and days ====
@@ -189,8 +174,7 @@ pub fn take_hyphen<'a, T: EncodingType>(
 ) -> Result<bool, Stop>
     ensures hyphen { Reads T.letter (λ stands. stands) cursor.old result cursor.new
         (mark_by (hyphen_look (fault_of_stop at_end) (fault_of_stop other)) hyphen) }
-    ensures looks { Spends 1 cursor.old cursor.new }
-    ensures few { cursor.new.looks ≤ cursor.old.looks + 1 }
+    ensures looks { SpendsInAll 1 1 cursor.old cursor.new }
 {
     match cursor.look()? {
         None => Err(at_end),
@@ -212,8 +196,7 @@ pub fn parse_month<'a, T: EncodingType>(
 ) -> Result<(u8, bool), Stop>
     ensures month { Reads T.letter (λ month. month) cursor.old result cursor.new
         (month_by error_of (hyphen_look (fault_of_stop at_end) DateMonth)) }
-    ensures looks { Spends 3 cursor.old cursor.new }
-    ensures paid { OnOk result (Spends 1 cursor.old cursor.new) }
+    ensures looks { SpendsOr 3 1 cursor.old result cursor.new }
     ensures few { cursor.new.looks ≤ cursor.old.looks + 3 }
 {
     let hyphened = take_hyphen(cursor, at_end, Stop::DateMonth)?;

@@ -17,7 +17,7 @@ ghost use Rattle.ixdtf.specs.table.Outcomes.{HasFault, NoRowFits, OnlyFault};
 ghost use Rattle.ixdtf.specs.Laws.{InNoOther};
 ghost use Rattle.ixdtf.specs.Views.{Unread, returned, most_looks};
 ghost use Rattle.ixdtf.specs.reading.Looks.{error_of};
-ghost use Rattle.ixdtf.specs.reading.Clauses.{Reads, Spends, Checks, Yields, fault_of_stop};
+ghost use Rattle.ixdtf.specs.reading.Clauses.{Reads, Spends, SpendsOr, Checks, Yields, fault_of_stop};
 ghost use Rattle.ixdtf.specs.reading.Durations.{duration_at};
 ghost use Rattle.ixdtf.specs.reading.Durations.State.{started, signed, between, in_number, at_mark};
 ghost use Rattle.ixdtf.specs.reading.DurationClauses.{run_from, Leads, ReadsNumber, AreDates, HasDates, HasTimes, AddsDate, AddsTime};
@@ -194,8 +194,7 @@ fn parse_number<'a, T: EncodingType>(
     requires digit { IsTrue (digit first) }
     ensures number { ReadsNumber T.letter first (fault_of_stop end) cursor.old result cursor.new }
     ensures small { IfOk result (λ number. IsTrue (nat_le number.value greatest_value)) }
-    ensures looks { Spends 1 cursor.old cursor.new }
-    ensures paid { OnOk result (Spends 0 cursor.old cursor.new) }
+    ensures looks { SpendsOr 1 0 cursor.old result cursor.new }
 {
     let mut value = u64::from(first - b'0');
     while let Some(byte) = cursor.look()? {
@@ -322,8 +321,7 @@ fn parse_date_group<'a, T: EncodingType>(
     ensures group { (s : Sign) (dates : List Group) →
         Leads T.letter (in_number (in_dates s dates) (Plain first ∷ []))
         cursor.old result cursor.new (after_date_group s dates) }
-    ensures looks { Spends 1 cursor.old cursor.new }
-    ensures paid { OnOk result (Spends 0 cursor.old cursor.new) }
+    ensures looks { SpendsOr 1 0 cursor.old result cursor.new }
 {
     let number = parse_number(cursor, first, Stop::AbruptDateDesignator)?;
     let unit = DateUnit::of_letter(number.next)?;

@@ -50,7 +50,7 @@ pub fn fixed_date_time<'a, T: EncodingType>(
 
 /// The same, with nothing taken off.
 #[inline(always)]
-#[tactic(auto, using(crate::proofs::code::FixedPlaces::too_short), unfolding(crate::specs::reading::FixedPlaces::fixed_readings))]
+#[tactic(auto, unfolding(crate::specs::reading::FixedPlaces::date_time_place))]
 fn find_date_time<'a, T: EncodingType>(
     cursor: &mut Cursor<'a, T>,
 ) -> Option<(DateRecord, WholeTime)>
@@ -62,7 +62,7 @@ fn find_date_time<'a, T: EncodingType>(
     ensures short { length cursor.old.rest < 19 → cursor.new.looks ≡ cursor.old.looks }
     ensures counted { cursor.old.looks ≤ cursor.new.looks }
 {
-    if cursor.rest().len() < 19 {
+    if cursor.remaining() < 19 {
         return None;
     }
     let date = fixed_date(cursor)?;
@@ -83,7 +83,7 @@ pub fn fixed_date<'a, T: EncodingType>(cursor: &mut Cursor<'a, T>) -> Option<Dat
     ensures few { cursor.new.looks ≤ cursor.old.looks + 10 }
     ensures counted { cursor.old.looks ≤ cursor.new.looks }
 {
-    if cursor.rest().len() < 10 {
+    if cursor.remaining() < 10 {
         return None;
     }
     let century = fixed_number(cursor, 0)?;

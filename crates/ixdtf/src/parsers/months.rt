@@ -5,10 +5,10 @@
 ghost use Rattle.std.specs.Prelude.{◌+◌, ◌≤◌, ◌&&◌, nat_le, pos};
 ghost use Rattle.ixdtf.specs.language.Months.{greatest_day, least_day};
 ghost use Rattle.ixdtf.specs.table.Faults.Fault.{InvalidMonthDay};
-ghost use Rattle.ixdtf.specs.reading.Clauses.{Reads, Spends, Checks};
+ghost use Rattle.ixdtf.specs.reading.Clauses.{Reads, Checks, SpendsInAll};
 ghost use Rattle.ixdtf.specs.reading.Looks.{error_of};
 ghost use Rattle.ixdtf.specs.reading.Dates.{date_of};
-ghost use Rattle.ixdtf.specs.reading.Months.{year_month_at, marks_at, month_day_at, lone_day_at};
+ghost use Rattle.ixdtf.specs.reading.Months.{year_month_at, marks_at, month_day_at};
 
 use crate::cursor::Cursor;
 use crate::encoding::EncodingType;
@@ -26,8 +26,7 @@ pub fn parse_year_month_date<'a, T: EncodingType>(
 ) -> Result<DateRecord, Stop>
     ensures date { Reads T.letter (λ date. date) cursor.old result cursor.new
         (year_month_at error_of) }
-    ensures looks { Spends 5 cursor.old cursor.new }
-    ensures few { cursor.new.looks ≤ cursor.old.looks + 10 }
+    ensures looks { SpendsInAll 5 10 cursor.old cursor.new }
 {
     let year = parse_date_year(cursor)?;
     let (month, _) = parse_month(cursor, Stop::AbruptDigit)?;
@@ -45,13 +44,14 @@ pub fn parse_month_day_date<'a, T: EncodingType>(
 ) -> Result<DateRecord, Stop>
     ensures date { Reads T.letter (λ date. date) cursor.old result cursor.new
         (month_day_at error_of) }
-    ensures looks { Spends 7 cursor.old cursor.new }
-    ensures few { cursor.new.looks ≤ cursor.old.looks + 7 }
+    ensures looks { SpendsInAll 7 7 cursor.old cursor.new }
 {
     take_marks(cursor)?;
     let (tens, ones) = cursor.two_digits(Stop::DateMonth)?;
     let month = check_month(digits_value(tens, ones))?;
-    parse_lone_day(cursor, month)
+    take_hyphen(cursor, Stop::AbruptDigit, Stop::DateDay)?;
+    let (tens, ones) = cursor.two_digits(Stop::DateDay)?;
+    check_month_day(month, digits_value(tens, ones))
 }
 
 /// Takes two hyphens off, where the text does not begin with a digit.
@@ -59,8 +59,7 @@ pub fn parse_month_day_date<'a, T: EncodingType>(
 fn take_marks<'a, T: EncodingType>(cursor: &mut Cursor<'a, T>) -> Result<bool, Stop>
     ensures marks { Reads T.letter (λ stand. stand) cursor.old result cursor.new
         (marks_at error_of) }
-    ensures looks { Spends 2 cursor.old cursor.new }
-    ensures few { cursor.new.looks ≤ cursor.old.looks + 2 }
+    ensures looks { SpendsInAll 2 2 cursor.old cursor.new }
 {
     if !take_hyphen(cursor, Stop::AbruptMonthDay, Stop::DateMonth)? {
         return Ok(false);
@@ -73,22 +72,6 @@ fn take_marks<'a, T: EncodingType>(cursor: &mut Cursor<'a, T>) -> Result<bool, S
         }
         Some(_) => Err(Stop::MonthDayHyphen),
     }
-}
-
-/// Reads the day after a month of no year, with or without a hyphen before it.
-#[inline(always)]
-fn parse_lone_day<'a, T: EncodingType>(
-    cursor: &mut Cursor<'a, T>,
-    month: u8,
-) -> Result<DateRecord, Stop>
-    ensures date { Reads T.letter (λ date. date) cursor.old result cursor.new
-        (lone_day_at error_of month) }
-    ensures looks { Spends 3 cursor.old cursor.new }
-    ensures few { cursor.new.looks ≤ cursor.old.looks + 3 }
-{
-    take_hyphen(cursor, Stop::AbruptDigit, Stop::DateDay)?;
-    let (tens, ones) = cursor.two_digits(Stop::DateDay)?;
-    check_month_day(month, digits_value(tens, ones))
 }
 
 /// The month-day, where its month has the day in some year. Day 0 is taken too.

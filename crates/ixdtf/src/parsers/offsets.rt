@@ -7,7 +7,7 @@ ghost use Rattle.ixdtf.specs.language.Offsets.{sign_of, minutes_of, offset_of};
 ghost use Rattle.ixdtf.specs.language.Times.{writes_seconds};
 ghost use Rattle.ixdtf.specs.reading.Clauses.{Reads, Spends, shape_of};
 ghost use Rattle.ixdtf.specs.reading.Looks.{error_of};
-ghost use Rattle.ixdtf.specs.reading.Zones.{offset_at, offset_alone_at};
+ghost use Rattle.ixdtf.specs.reading.Zones.{offset_at};
 
 use crate::cursor::Cursor;
 use crate::encoding::EncodingType;
@@ -60,22 +60,6 @@ pub fn offset_from(sign: u8, shape: Shape, time: TimeRecord) -> UtcOffsetRecord
     })
 }
 
-/// Reads an offset after its sign, and wants the end.
-#[inline(always)]
-fn parse_offset_alone<'a, T: EncodingType>(
-    cursor: &mut Cursor<'a, T>,
-    sign: u8,
-) -> Result<UtcOffsetRecord, Stop>
-    ensures offset { Reads T.letter (λ offset. offset) cursor.old result cursor.new
-        (offset_alone_at error_of sign) }
-    ensures looks { Spends 14 cursor.old cursor.new }
-{
-    let mut time = TimeRecord::default();
-    let shape = parse_clock(cursor, Clock::Offset, &mut time)?;
-    cursor.close()?;
-    Ok(offset_from(sign, shape, time))
-}
-
 /// Reads an offset, and wants the end.
 #[inline(always)]
 pub fn parse_offset_text<'a, T: EncodingType>(
@@ -89,7 +73,10 @@ pub fn parse_offset_text<'a, T: EncodingType>(
         None => Err(Stop::AbruptOffset),
         Some(byte) if is_ascii_sign(byte) => {
             cursor.step();
-            parse_offset_alone(cursor, byte)
+            let mut time = TimeRecord::default();
+            let shape = parse_clock(cursor, Clock::Offset, &mut time)?;
+            cursor.close()?;
+            Ok(offset_from(byte, shape, time))
         }
         Some(_) => Err(Stop::OffsetNeedsSign),
     }

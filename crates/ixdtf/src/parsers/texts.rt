@@ -7,7 +7,7 @@ ghost use Rattle.ixdtf.specs.Handlers.{with_calendar, calendar_value, pair_of};
 ghost use Rattle.ixdtf.specs.Views.{parsed_of, most_looks};
 ghost use Rattle.ixdtf.specs.reading.Brackets.{zone_in, pairs_in};
 ghost use Rattle.ixdtf.specs.reading.Chains.{TextRead, TextReadAfter, first_pairs};
-ghost use Rattle.ixdtf.specs.reading.Clauses.{yielded, core_in, bracket_of};
+ghost use Rattle.ixdtf.specs.reading.Clauses.{Spends, yielded, core_in, bracket_of};
 
 use crate::cursor::Cursor;
 use crate::encoding::EncodingType;
@@ -47,7 +47,7 @@ where
     parse_brackets(cursor, handler, found)
 }
 
-/// Reads the brackets after a core and the first `[`, to the end.
+/// Reads the brackets after a core and the first `[`, to the end: a first one, and the pairs after it.
 #[inline(never)]
 fn parse_brackets<'a, T: EncodingType, F>(
     cursor: &mut Cursor<'a, T>,
@@ -62,37 +62,16 @@ where
     ensures replied { TextReadAfter T.number F.step handler.old handler.new (core_in found.old) true
         (map T.letter cursor.old.rest) (yielded (λ _. parsed_of T.number found.new) result) }
     ensures empty { OnOk result (cursor.new.rest ≡ []) }
-    ensures looks { cursor.new.looks ≤ cursor.old.looks + 3 * length cursor.old.rest + 24 }
-    ensures counted { cursor.old.looks ≤ cursor.new.looks }
+    ensures looks { Spends (2 * length cursor.old.rest + 24) cursor.old cursor.new }
 {
     let mut here = cursor.take();
-    let read = parse_suffix::<T, F>(&mut here, handler, found);
+    let bracket = parse_first_bracket(&mut here);
     *cursor = here;
-    read
-}
-
-/// Reads a first bracket, and the pairs after it to the end.
-#[inline(always)]
-fn parse_suffix<'a, T: EncodingType, F>(
-    cursor: &mut Cursor<'a, T>,
-    handler: &mut F,
-    found: &mut IxdtfParseRecord<'a, T>,
-) -> Result<(), Stop>
-where
-    F: FnMut(Annotation<'a, T>) -> Option<Annotation<'a, T>>,
-    requires callable { F.IsAlwaysCallable handler.old }
-    requires no_zone { found.old.tz ≡ None }
-    requires no_calendar { found.old.calendar ≡ None }
-    ensures replied { TextReadAfter T.number F.step handler.old handler.new (core_in found.old) true
-        (map T.letter cursor.old.rest) (yielded (λ _. parsed_of T.number found.new) result) }
-    ensures empty { OnOk result (cursor.new.rest ≡ []) }
-    ensures looks { cursor.new.looks ≤ cursor.old.looks + 3 * length cursor.old.rest + 24 }
-    ensures counted { cursor.old.looks ≤ cursor.new.looks }
-{
-    let bracket = parse_first_bracket(cursor)?;
-    let first = place_bracket(bracket, found);
-    let calendar = parse_annotations::<T, F>(cursor, first, handler)?;
-    place_calendar(calendar, found);
+    let first = place_bracket(bracket?, found);
+    let mut here = cursor.take();
+    let calendar = parse_annotations::<T, F>(&mut here, first, handler);
+    *cursor = here;
+    place_calendar(calendar?, found);
     Ok(())
 }
 

@@ -6,9 +6,9 @@ ghost use Rattle.std.specs.Prelude.{◌≡◌, ◌+◌, ◌≤◌, map, nat_le, 
 ghost use Rattle.ixdtf.specs.language.Letters.{digit};
 ghost use Rattle.ixdtf.specs.language.Times.{Clock as clocks, greatest_second, writes_seconds};
 ghost use Rattle.ixdtf.specs.table.Lines.{mixed, second_fault, seconds_after};
-ghost use Rattle.ixdtf.specs.reading.Clauses.{Reads, Spends, Checks, more_digits_at, fault_of_stop, clock_of, shape_of, open_time_of};
+ghost use Rattle.ixdtf.specs.reading.Clauses.{Reads, Spends, SpendsOr, Checks, more_digits_at, fault_of_stop, clock_of, shape_of, open_time_of};
 ghost use Rattle.ixdtf.specs.reading.Looks.{error_of, digit_look, number_by};
-ghost use Rattle.ixdtf.specs.reading.Times.{time_of, second_start, clock_at, after_hour_at, minute_at, after_minute_at, second_at, after_second_at, fraction_at};
+ghost use Rattle.ixdtf.specs.reading.Times.{time_of, second_start, clock_at, minute_at, second_at, after_second_at, fraction_at};
 
 use crate::cursor::Cursor;
 use crate::encoding::EncodingType;
@@ -117,8 +117,7 @@ fn next_number<'a, T: EncodingType>(
 ) -> Result<u8, Stop>
     ensures number { Reads T.letter (λ number. number) cursor.old result cursor.new
         (number_by (digit_look (fault_of_stop stop)) greatest (fault_of_stop stop)) }
-    ensures looks { Spends 2 cursor.old cursor.new }
-    ensures paid { OnOk result (Spends 0 cursor.old cursor.new) }
+    ensures looks { SpendsOr 2 0 cursor.old result cursor.new }
 {
     let (tens, ones) = cursor.two_digits(stop)?;
     check_most(digits_value(tens, ones), greatest, stop)
@@ -138,21 +137,6 @@ pub fn parse_clock<'a, T: EncodingType>(
     let tens = cursor.next_digit(Stop::TimeHour)?;
     let ones = cursor.next_digit(Stop::TimeHour)?;
     let hour = check_most(digits_value(tens, ones), 23, Stop::TimeHour)?;
-    parse_after_hour(cursor, clock, hour, time)
-}
-
-/// Reads what of a time stands after its hour.
-#[inline(always)]
-fn parse_after_hour<'a, T: EncodingType>(
-    cursor: &mut Cursor<'a, T>,
-    clock: Clock,
-    hour: u8,
-    time: &mut TimeRecord,
-) -> Result<Shape, Stop>
-    ensures time { Reads T.letter (open_time_of time.new) cursor.old result cursor.new
-        (after_hour_at error_of (clock_of clock) hour) }
-    ensures looks { Spends 5 cursor.old cursor.new }
-{
     match cursor.look()? {
         Some(byte) if is_time_separator(byte) => {
             cursor.step();
@@ -201,7 +185,8 @@ fn parse_plain_rest<'a, T: EncodingType>(
     parse_minute(cursor, clock, false, hour, time)
 }
 
-/// Reads the minute, where its colon is taken off if colons are written, and what of the time stands after it.
+/// Reads the minute, where its colon is taken off if colons are written, and what of the time stands after it. A colon and
+/// a digit go on there as they did before the minute, where seconds may be, and are errors else.
 #[inline(always)]
 fn parse_minute<'a, T: EncodingType>(
     cursor: &mut Cursor<'a, T>,
@@ -215,24 +200,6 @@ fn parse_minute<'a, T: EncodingType>(
     ensures looks { Spends 4 cursor.old cursor.new }
 {
     let minute = next_number(cursor, 59, Stop::TimeMinuteSecond)?;
-    parse_after_minute(cursor, clock, colons, hour, minute, time)
-}
-
-/// Reads what of a time stands after `Hour : Min`, or after `Hour Min`. A colon and a digit go on there as they did before
-/// the minute, where seconds may be, and are errors else.
-#[inline(always)]
-fn parse_after_minute<'a, T: EncodingType>(
-    cursor: &mut Cursor<'a, T>,
-    clock: Clock,
-    colons: bool,
-    hour: u8,
-    minute: u8,
-    time: &mut TimeRecord,
-) -> Result<Shape, Stop>
-    ensures time { Reads T.letter (open_time_of time.new) cursor.old result cursor.new
-        (after_minute_at error_of (clock_of clock) colons hour minute) }
-    ensures looks { Spends 4 cursor.old cursor.new }
-{
     match cursor.look()? {
         Some(byte) if clock.starts_second(colons, byte) => {
             if colons {
@@ -258,8 +225,7 @@ fn next_second<'a, T: EncodingType>(cursor: &mut Cursor<'a, T>, clock: Clock) ->
     ensures second { Reads T.letter (λ number. number) cursor.old result cursor.new
         (number_by (digit_look (second_fault (clock_of clock)))
         (greatest_second (clock_of clock)) (second_fault (clock_of clock))) }
-    ensures looks { Spends 2 cursor.old cursor.new }
-    ensures paid { OnOk result (Spends 0 cursor.old cursor.new) }
+    ensures looks { SpendsOr 2 0 cursor.old result cursor.new }
 {
     match clock {
         Clock::Time => next_number(cursor, 60, Stop::TimeSecond),

@@ -6,7 +6,7 @@ ghost use Rattle.std.specs.Prelude.{◌≡◌, ◌+◌, ◌≤◌, map, length, 
 ghost use Rattle.ixdtf.specs.Views.{zone_of};
 ghost use Rattle.ixdtf.specs.reading.Clauses.{Reads, Spends, fault_of_stop, closing_look};
 ghost use Rattle.ixdtf.specs.reading.Looks.{error_of, next_by};
-ghost use Rattle.ixdtf.specs.reading.Zones.{name_run, name_alone_at, iana_identifier_at, minute_offset_alone_at, identifier_at};
+ghost use Rattle.ixdtf.specs.reading.Zones.{name_run, name_alone_at, iana_identifier_at, identifier_at};
 ghost use Rattle.ixdtf.specs.reading.Runs.{name_after};
 ghost use Rattle.ixdtf.specs.reading.Brackets.{name_in_bracket_at, offset_in_bracket_at};
 
@@ -46,7 +46,6 @@ impl Letters for NameLetters {
 
 /// Reads a name as far as it goes, from its first letter on, and returns its units.
 #[inline(always)]
-#[tactic(auto, using(crate::proofs::code::NameLoop::names))]
 pub fn parse_tz_name<'a, T: EncodingType>(
     cursor: &mut Cursor<'a, T>,
 ) -> Result<&'a [T::CodeUnit], Stop>
@@ -91,22 +90,6 @@ pub fn parse_iana_identifier_text<'a, T: EncodingType>(
     }
 }
 
-/// Reads an offset without seconds after its sign, and wants the end.
-#[inline(always)]
-fn parse_minute_offset_alone<'a, T: EncodingType>(
-    cursor: &mut Cursor<'a, T>,
-    sign: u8,
-) -> Result<TimeZoneRecord<'a, T>, Stop>
-    ensures offset { Reads T.letter (zone_of T.number) cursor.old result cursor.new
-        (minute_offset_alone_at error_of sign) }
-    ensures looks { Spends 14 cursor.old cursor.new }
-{
-    let mut time = TimeRecord::default();
-    parse_clock(cursor, Clock::MinuteOffset, &mut time)?;
-    cursor.close()?;
-    Ok(TimeZoneRecord::Offset(minute_offset(sign, time)))
-}
-
 /// Reads a name, or an offset without seconds, and wants the end.
 pub fn parse_identifier_text<'a, T: EncodingType>(
     cursor: &mut Cursor<'a, T>,
@@ -119,7 +102,10 @@ pub fn parse_identifier_text<'a, T: EncodingType>(
         None => Err(Stop::AbruptZone),
         Some(byte) if is_ascii_sign(byte) => {
             cursor.step();
-            parse_minute_offset_alone(cursor, byte)
+            let mut time = TimeRecord::default();
+            parse_clock(cursor, Clock::MinuteOffset, &mut time)?;
+            cursor.close()?;
+            Ok(TimeZoneRecord::Offset(minute_offset(byte, time)))
         }
         Some(byte) if is_tz_leading_char(byte) => {
             let name = parse_name_alone(cursor)?;

@@ -181,7 +181,10 @@ impl From<ParseError> for Refused {
 }
 
 // With an error of the caller's choice.
-fn calendar_or<'a, E: From<ParseError>, F>(text: &'a str, handler: F) -> Result<Option<&'a [u8]>, E>
+pub(super) fn calendar_or<'a, E: From<ParseError>, F>(
+    text: &'a str,
+    handler: F,
+) -> Result<Option<&'a [u8]>, E>
 where
     F: FnMut(Annotation<'a, Utf8>) -> Option<Annotation<'a, Utf8>>,
     requires callable { F.IsAlwaysCallable handler }

@@ -1,31 +1,12 @@
-use super::wide::{Wide, refusal};
-use super::{Reader, check_refused, fraction_of};
+use super::wide::{Wide, check_wide_found};
+use super::{AT_START, Found, Reader, check_found, check_in_turn, fraction_of};
 use ixdtf::ParseError;
 use ixdtf::encoding::{Utf8, Utf16};
 use ixdtf::parsers::IsoDurationParser;
 use ixdtf::records::{DateDurationRecord, DurationParseRecord, Fraction, Sign, TimeDurationRecord};
+use std::process::Abort;
 
-const AT_START: ParseError = ParseError::AbruptEnd {
-    location: "DurationStart",
-};
-
-const AT_DESIGNATOR: ParseError = ParseError::AbruptEnd {
-    location: "DurationDesignator",
-};
-
-const AT_DURATION: ParseError = ParseError::AbruptEnd {
-    location: "Duration",
-};
-
-const AT_DATE_DESIGNATOR: ParseError = ParseError::AbruptEnd {
-    location: "DateDurationDesignator",
-};
-
-const AT_TIME_DESIGNATOR: ParseError = ParseError::AbruptEnd {
-    location: "TimeDurationDesignator",
-};
-
-fn lasts(
+pub(super) fn lasts(
     sign: Sign,
     date: Option<DateDurationRecord>,
     time: Option<TimeDurationRecord>,
@@ -33,7 +14,7 @@ fn lasts(
     DurationParseRecord { sign, date, time }
 }
 
-fn dated(years: u32, months: u32, weeks: u32, days: u64) -> Option<DateDurationRecord> {
+pub(super) fn dated(years: u32, months: u32, weeks: u32, days: u64) -> Option<DateDurationRecord> {
     Some(DateDurationRecord {
         years,
         months,
@@ -42,7 +23,7 @@ fn dated(years: u32, months: u32, weeks: u32, days: u64) -> Option<DateDurationR
     })
 }
 
-fn hours(hours: u64, fraction: Option<Fraction>) -> Option<TimeDurationRecord> {
+pub(super) fn hours(hours: u64, fraction: Option<Fraction>) -> Option<TimeDurationRecord> {
     Some(TimeDurationRecord::Hours { hours, fraction })
 }
 
@@ -66,6 +47,17 @@ fn seconds(
         seconds,
         fraction,
     })
+}
+
+fn check_lasts(
+    rt: &impl Abort,
+    text: &'static str,
+    sign: Sign,
+    date: Option<DateDurationRecord>,
+    time: Option<TimeDurationRecord>,
+) {
+    let wanted = Found::Duration(lasts(sign, date, time));
+    check_found(rt, Reader::Duration, text, &Ok(wanted));
 }
 
 // ==== Texts ====
@@ -102,8 +94,7 @@ fn reads_dates_of_durations(rt: HostRuntime) {
         ),
     ];
     for (text, sign, date) in rows {
-        let found = IsoDurationParser::from_str(text).parse();
-        assert_eq!(rt; found, Ok(lasts(sign, date, None)), "at {text}");
+        check_lasts(&rt, text, sign, date, None);
     }
 }
 
@@ -133,8 +124,7 @@ fn reads_times_of_durations(rt: HostRuntime) {
         ),
     ];
     for (text, time) in rows {
-        let found = IsoDurationParser::from_str(text).parse();
-        assert_eq!(rt; found, Ok(lasts(Sign::Positive, None, time)), "at {text}");
+        check_lasts(&rt, text, Sign::Positive, None, time);
     }
 }
 
@@ -160,8 +150,7 @@ fn reads_fractions_of_durations(rt: HostRuntime) {
         ),
     ];
     for (text, time) in rows {
-        let found = IsoDurationParser::from_str(text).parse();
-        assert_eq!(rt; found, Ok(lasts(Sign::Positive, None, time)), "at {text}");
+        check_lasts(&rt, text, Sign::Positive, None, time);
     }
 }
 
@@ -194,115 +183,29 @@ fn reads_dates_and_times_of_durations(rt: HostRuntime) {
         ),
     ];
     for (text, sign, date, time) in rows {
-        let found = IsoDurationParser::from_str(text).parse();
-        assert_eq!(rt; found, Ok(lasts(sign, date, time)), "at {text}");
+        check_lasts(&rt, text, sign, date, time);
     }
-}
-
-#[test]
-fn refuses_durations(rt: HostRuntime) {
-    let rows = [
-        ("", AT_START),
-        ("x", ParseError::DurationDisgnator),
-        ("1Y", ParseError::DurationDisgnator),
-        ("-", AT_DESIGNATOR),
-        ("+T1H", ParseError::DurationDisgnator),
-        ("--P1Y", ParseError::DurationDisgnator),
-        ("P", AT_DURATION),
-        ("-p", AT_DURATION),
-        ("PX", ParseError::InvalidEnd),
-        ("P-1Y", ParseError::InvalidEnd),
-        ("P1YX", ParseError::InvalidEnd),
-        ("P1Y ", ParseError::InvalidEnd),
-        ("P1Y[u-ca=iso8601]", ParseError::InvalidEnd),
-        ("+PT", ParseError::TimeDurationDesignator),
-        ("-PT", ParseError::TimeDurationDesignator),
-        ("P1YT", ParseError::TimeDurationDesignator),
-        ("P1YTX", ParseError::TimeDurationDesignator),
-        ("PT1HT1M", ParseError::InvalidEnd),
-        ("PT1HX", ParseError::InvalidEnd),
-        ("P1Yé", ParseError::InvalidEnd),
-    ];
-    check_refused(&rt, Reader::Duration, &rows);
-}
-
-#[test]
-fn refuses_numbers_of_durations(rt: HostRuntime) {
-    let rows = [
-        ("P1", AT_DATE_DESIGNATOR),
-        ("P1H", AT_DATE_DESIGNATOR),
-        ("P1T1H", AT_DATE_DESIGNATOR),
-        ("P1Y1M1W0,5D", AT_DATE_DESIGNATOR),
-        ("P4294967296X", AT_DATE_DESIGNATOR),
-        ("PT1", AT_TIME_DESIGNATOR),
-        ("PT1Y", AT_TIME_DESIGNATOR),
-        ("PT1.5", AT_TIME_DESIGNATOR),
-        ("PT1.5X", AT_TIME_DESIGNATOR),
-        ("PT1.5.5S", AT_TIME_DESIGNATOR),
-        ("PT1.", ParseError::FractionPart),
-        ("PT1.H", ParseError::FractionPart),
-        ("P4294967296Y", ParseError::DurationValueExceededRange),
-        ("P4294967296m", ParseError::DurationValueExceededRange),
-        ("P1Y4294967296W", ParseError::DurationValueExceededRange),
-        ("P1Y4294967296Y", ParseError::DurationValueExceededRange),
-        (
-            "P18446744073709551616D",
-            ParseError::DurationValueExceededRange,
-        ),
-        (
-            "P99999999999999999999X",
-            ParseError::DurationValueExceededRange,
-        ),
-        (
-            "PT18446744073709551616S",
-            ParseError::DurationValueExceededRange,
-        ),
-        (
-            "P1YT1000000000000000000000000000000000000000H",
-            ParseError::DurationValueExceededRange,
-        ),
-    ];
-    check_refused(&rt, Reader::Duration, &rows);
-}
-
-#[test]
-fn refuses_orders_of_durations(rt: HostRuntime) {
-    let rows = [
-        ("P1D1Y", ParseError::DateDurationPartOrder),
-        ("P1W1M", ParseError::DateDurationPartOrder),
-        ("P1Y1M1Y", ParseError::DateDurationPartOrder),
-        ("P1D4294967296Y", ParseError::DateDurationPartOrder),
-        ("P1D1Y1", ParseError::DateDurationPartOrder),
-        ("PT1S1M", ParseError::TimeDurationPartOrder),
-        ("PT1M1H", ParseError::TimeDurationPartOrder),
-        ("PT1M1.5H", ParseError::TimeDurationPartOrder),
-        ("PT0.5H1M", ParseError::InvalidEnd),
-        ("PT0.5M1H", ParseError::InvalidEnd),
-        ("PT0.5H1", ParseError::InvalidEnd),
-        ("PT0.5H1H", ParseError::InvalidEnd),
-        ("P1Y1M1W1DT1H0.5M0.5S", ParseError::InvalidEnd),
-    ];
-    check_refused(&rt, Reader::Duration, &rows);
 }
 
 // ==== Calls ====
 
 #[test]
 fn keeps_a_duration_that_it_refused(rt: HostRuntime) {
-    let mut parser = IsoDurationParser::from_str("P1D1Y");
-    for _ in 0..2 {
-        let found = parser.parse();
-        assert_eq!(rt; found, Err(ParseError::DateDurationPartOrder));
-    }
+    let steps = [
+        (Reader::Duration, Err(ParseError::DateDurationPartOrder)),
+        (Reader::Duration, Err(ParseError::DateDurationPartOrder)),
+    ];
+    check_in_turn(&rt, "P1D1Y", &steps);
 }
 
 #[test]
 fn reads_a_duration_once(rt: HostRuntime) {
-    let mut parser = IsoDurationParser::from_str("P1Y");
-    let found = parser.parse();
-    assert_eq!(rt; found, Ok(lasts(Sign::Positive, dated(1, 0, 0, 0), None)));
-    let again = parser.parse();
-    assert_eq!(rt; again, Err(AT_START));
+    let year = Found::Duration(lasts(Sign::Positive, dated(1, 0, 0, 0), None));
+    let steps = [
+        (Reader::Duration, Ok(year)),
+        (Reader::Duration, Err(AT_START)),
+    ];
+    check_in_turn(&rt, "P1Y", &steps);
 }
 
 #[test]
@@ -413,9 +316,8 @@ fn reads_durations_of_wide_units(rt: HostRuntime) {
         ),
     ];
     for (text, sign, date, time) in rows {
-        let wide = Wide::new(text);
-        let found = IsoDurationParser::<Utf16>::from_utf8(wide.units()).parse();
-        assert_eq!(rt; found, Ok(lasts(sign, date, time)), "at {text}");
+        let wanted = Found::Duration(lasts(sign, date, time));
+        check_wide_found(&rt, Reader::Duration, text, &Ok(wanted));
     }
 }
 
@@ -425,68 +327,4 @@ fn makes_duration_parsers_of_wide_units(rt: HostRuntime) {
     let mut parser: IsoDurationParser<'_, Utf16> = IsoDurationParser::new(wide.units());
     let found = parser.parse();
     assert_eq!(rt; found, Ok(lasts(Sign::Positive, dated(1, 0, 0, 0), None)));
-}
-
-#[test]
-fn refuses_units_that_stand_for_no_letter_in_durations(rt: HostRuntime) {
-    let rows = [
-        "\u{80}",
-        "-\u{e9}",
-        "P\u{7f}",
-        "P1\u{0}",
-        "P1Y\u{80}",
-        "P1Y\u{150}1M",
-        "PT\u{ffff}",
-        "PT1\u{13d}",
-        "PT1.\u{132}",
-        "PT1.5\u{100}",
-        "PT1H\u{100}",
-        "PT1.5H\u{80}",
-        "p2M1W0W1dt5.53789490712052\u{ffff}5862293658523542H",
-        "\u{ff21}",
-        "P1\u{7fff}2Y12M0D",
-        "P0y5y2Y0M699613W2d\u{7fff}12H",
-        "P0Y\u{ff}9328y12M1wt1H1m",
-        "P12y12\u{100}W",
-        "p12D\u{132}",
-        "P5y000000000\u{80}938953172d0mt10.7395757100M",
-        "\u{132}P\u{2035}Y5,",
-        "+pT12\u{ff}0S",
-    ];
-    for text in rows {
-        let found = refusal(Reader::Duration, text);
-        assert_eq!(rt; found, Some(ParseError::NonAsciiCodePoint), "at {text}");
-    }
-}
-
-#[test]
-fn refuses_durations_of_wide_units(rt: HostRuntime) {
-    let rows = [
-        ("", AT_START),
-        ("P1D1Y\u{80}", ParseError::DateDurationPartOrder),
-        ("P4294967296Y\u{80}", ParseError::DurationValueExceededRange),
-        (
-            "P99999999999999999999\u{80}",
-            ParseError::DurationValueExceededRange,
-        ),
-        ("PT1M1.5H\u{80}", ParseError::TimeDurationPartOrder),
-        ("PT0.5H1\u{80}", ParseError::InvalidEnd),
-        ("PT1.H", ParseError::FractionPart),
-        ("+p!.\u{ff00}0y2W", ParseError::InvalidEnd),
-        (
-            "+WP2Y4\u{7fff}2553M5W12D\u{12d}T1M",
-            ParseError::DurationDisgnator,
-        ),
-        ("p2Y2M5DT12M12.0000z0000S", AT_TIME_DESIGNATOR),
-        ("P0M5MT0H2.112894705818:", AT_TIME_DESIGNATOR),
-        (
-            "p59M2w18446744073709551616dT0000000000000000000000000000005s",
-            ParseError::DurationValueExceededRange,
-        ),
-        ("P1M1dT5H1", AT_TIME_DESIGNATOR),
-    ];
-    for (text, error) in rows {
-        let found = refusal(Reader::Duration, text);
-        assert_eq!(rt; found, Some(error), "at {text}");
-    }
 }

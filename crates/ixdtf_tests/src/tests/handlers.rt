@@ -1,3 +1,4 @@
+use super::calling::calendar_or;
 use super::{AT_DIGIT, dated, morning, short};
 use ixdtf::encoding::Utf8;
 use ixdtf::laws::parse_unanswered;
@@ -108,8 +109,7 @@ fn passes_over_the_answer_to_the_universe(rt: HostRuntime) {
     let mut parser = IxdtfParser::from_str(text);
     let found = parser.parse_with_annotation_handler(|annotation| seen.reply(annotation));
     let offset = UtcOffsetRecordOrZ::Offset(short(Sign::Negative, 5, 0));
-    let mut record = morning(Some(offset));
-    record.calendar = Some(b"iso8601");
+    let record = morning(Some(offset), None, Some("iso8601"));
     assert_eq!(rt; found, Ok(record));
     assert!(rt; seen.second_is_known && seen.calls == 2);
 }
@@ -127,25 +127,11 @@ fn keeps_pairs_that_it_refused(rt: HostRuntime) {
     assert_eq!(rt; fourth, Err(AT_DIGIT));
 }
 
-// The calendar of a text with the handler of a caller, of whatever type it is. An error is handed on, as any error that it
-// becomes.
-fn calendar_of<'a, E: From<ParseError>, F>(text: &'a str, handler: F) -> Result<Option<&'a [u8]>, E>
-where
-    F: FnMut(Annotation<'a, Utf8>) -> Option<Annotation<'a, Utf8>>,
-    requires callable { F.IsAlwaysCallable handler }
-{
-    let mut parser = IxdtfParser::from_str(text);
-    match parser.parse_with_annotation_handler(handler) {
-        Ok(record) => Ok(record.calendar),
-        Err(error) => Err(E::from(error)),
-    }
-}
-
 #[test]
 fn takes_the_handler_of_a_caller(rt: HostRuntime) {
     let text = "2020-01-01[u-ca=a][!c=d]";
     let mut calls = 0u32;
-    let found = calendar_of::<ParseError, _>(text, |annotation| {
+    let found = calendar_or::<ParseError, _>(text, |annotation| {
         calls = calls.saturating_add(1);
         if annotation.critical {
             None
@@ -155,7 +141,7 @@ fn takes_the_handler_of_a_caller(rt: HostRuntime) {
     });
     assert_eq!(rt; found, Ok(Some(b"a".as_slice())));
     assert_eq!(rt; calls, 2);
-    let refused = calendar_of::<ParseError, _>(text, |annotation| Some(annotation));
+    let refused = calendar_or::<ParseError, _>(text, |annotation| Some(annotation));
     assert_eq!(rt; refused, Err(ParseError::UnrecognizedCritical));
 }
 

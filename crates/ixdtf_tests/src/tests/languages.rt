@@ -1,107 +1,105 @@
 //! Texts under the five readers of dates, times and durations. At most one of them reads a text; its call is the last one.
 
-use super::{AT_DATE, AT_DIGIT, Reader, check_refused, dated, timed};
-use ixdtf::ParseError;
-use ixdtf::parsers::{IsoDurationParser, IxdtfParser};
-use ixdtf::records::{DurationParseRecord, IxdtfParseRecord, Sign, TimeDurationRecord};
+use super::durations::{hours, lasts};
+use super::{AT_DATE, AT_DIGIT, Found, Reader, alone, check_in_turn, dated, timed};
+use ixdtf::ParseError::{
+    AmbiguousTimeMonthDay, AmbiguousTimeYearMonth, DateDay, DateMonth, DateSeparator, DateYear,
+    DurationDisgnator, InvalidEnd, InvalidMonthRange, MonthDayHyphen, TimeHour,
+};
+use ixdtf::records::Sign;
 
 #[test]
 fn reads_a_plain_date_as_a_date(rt: HostRuntime) {
-    let mut parser = IxdtfParser::from_str("20201108");
-    assert_eq!(rt; parser.parse_year_month(), Err(ParseError::InvalidEnd));
-    assert_eq!(rt;
-        parser.parse_month_day(),
-        Err(ParseError::InvalidMonthRange)
-    );
-    assert_eq!(rt; parser.parse_time(), Err(ParseError::InvalidEnd));
-    assert_eq!(rt; parser.parse(), Ok(dated(2020, 11, 8, None)));
+    let steps = [
+        (Reader::YearMonth, Err(InvalidEnd)),
+        (Reader::MonthDay, Err(InvalidMonthRange)),
+        (Reader::Time, Err(InvalidEnd)),
+        (Reader::Duration, Err(DurationDisgnator)),
+        (Reader::Parse, Ok(Found::Parts(dated(2020, 11, 8, None)))),
+    ];
+    check_in_turn(&rt, "20201108", &steps);
 }
 
 #[test]
 fn reads_a_year_and_a_month_as_a_year_month(rt: HostRuntime) {
-    let mut parser = IxdtfParser::from_str("2021-12");
-    assert_eq!(rt; parser.parse(), Err(ParseError::DateSeparator));
-    assert_eq!(rt;
-        parser.parse_month_day(),
-        Err(ParseError::InvalidMonthRange)
-    );
-    assert_eq!(rt;
-        parser.parse_time(),
-        Err(ParseError::AmbiguousTimeYearMonth)
-    );
-    assert_eq!(rt; parser.parse_year_month(), Ok(dated(2021, 12, 1, None)));
+    let steps = [
+        (Reader::Parse, Err(DateSeparator)),
+        (Reader::MonthDay, Err(InvalidMonthRange)),
+        (Reader::Time, Err(AmbiguousTimeYearMonth)),
+        (Reader::Duration, Err(DurationDisgnator)),
+        (
+            Reader::YearMonth,
+            Ok(Found::Parts(dated(2021, 12, 1, None))),
+        ),
+    ];
+    check_in_turn(&rt, "2021-12", &steps);
 }
 
 #[test]
 fn reads_a_year_that_begins_as_a_month_day_as_a_year_month(rt: HostRuntime) {
-    let mut parser = IxdtfParser::from_str("1208-10");
-    assert_eq!(rt; parser.parse(), Err(ParseError::DateSeparator));
-    assert_eq!(rt; parser.parse_month_day(), Err(ParseError::InvalidEnd));
-    assert_eq!(rt; parser.parse_time(), Err(ParseError::AmbiguousTimeMonthDay));
-    assert_eq!(rt; parser.parse_year_month(), Ok(dated(1208, 10, 1, None)));
+    let steps = [
+        (Reader::Parse, Err(DateSeparator)),
+        (Reader::MonthDay, Err(InvalidEnd)),
+        (Reader::Time, Err(AmbiguousTimeMonthDay)),
+        (Reader::Duration, Err(DurationDisgnator)),
+        (
+            Reader::YearMonth,
+            Ok(Found::Parts(dated(1208, 10, 1, None))),
+        ),
+    ];
+    check_in_turn(&rt, "1208-10", &steps);
 }
 
 #[test]
 fn reads_a_month_and_a_day_as_a_month_day(rt: HostRuntime) {
-    let mut parser = IxdtfParser::from_str("11-07");
-    assert_eq!(rt; parser.parse(), Err(ParseError::DateYear));
-    assert_eq!(rt; parser.parse_year_month(), Err(ParseError::DateYear));
-    assert_eq!(rt; parser.parse_time(), Err(ParseError::AmbiguousTimeMonthDay));
-    assert_eq!(rt; parser.parse_month_day(), Ok(dated(0, 11, 7, None)));
+    let steps = [
+        (Reader::Parse, Err(DateYear)),
+        (Reader::YearMonth, Err(DateYear)),
+        (Reader::Time, Err(AmbiguousTimeMonthDay)),
+        (Reader::Duration, Err(DurationDisgnator)),
+        (Reader::MonthDay, Ok(Found::Parts(dated(0, 11, 7, None)))),
+    ];
+    check_in_turn(&rt, "11-07", &steps);
 }
 
 #[test]
 fn reads_an_hour_and_a_minute_as_a_time(rt: HostRuntime) {
-    let mut parser = IxdtfParser::from_str("12:00");
-    assert_eq!(rt; parser.parse(), Err(ParseError::DateYear));
-    assert_eq!(rt; parser.parse_year_month(), Err(ParseError::DateYear));
-    assert_eq!(rt; parser.parse_month_day(), Err(ParseError::DateDay));
-    let noon = IxdtfParseRecord {
-        date: None,
-        time: timed(12, 0, 0, None),
-        offset: None,
-        tz: None,
-        calendar: None,
-    };
-    assert_eq!(rt; parser.parse_time(), Ok(noon));
+    let steps = [
+        (Reader::Parse, Err(DateYear)),
+        (Reader::YearMonth, Err(DateYear)),
+        (Reader::MonthDay, Err(DateDay)),
+        (Reader::Duration, Err(DurationDisgnator)),
+        (
+            Reader::Time,
+            Ok(Found::Parts(alone(timed(12, 0, 0, None), None))),
+        ),
+    ];
+    check_in_turn(&rt, "12:00", &steps);
 }
 
 #[test]
 fn reads_a_duration_as_a_duration(rt: HostRuntime) {
-    let mut parser = IxdtfParser::from_str("PT1H");
-    assert_eq!(rt; parser.parse(), Err(ParseError::DateYear));
-    assert_eq!(rt; parser.parse_year_month(), Err(ParseError::DateYear));
-    assert_eq!(rt; parser.parse_month_day(), Err(ParseError::DateMonth));
-    assert_eq!(rt; parser.parse_time(), Err(ParseError::TimeHour));
-    let hour = DurationParseRecord {
-        sign: Sign::Positive,
-        date: None,
-        time: Some(TimeDurationRecord::Hours {
-            hours: 1,
-            fraction: None,
-        }),
-    };
-    assert_eq!(rt; IsoDurationParser::from_str("PT1H").parse(), Ok(hour));
+    let steps = [
+        (Reader::Parse, Err(DateYear)),
+        (Reader::YearMonth, Err(DateYear)),
+        (Reader::MonthDay, Err(DateMonth)),
+        (Reader::Time, Err(TimeHour)),
+        (
+            Reader::Duration,
+            Ok(Found::Duration(lasts(Sign::Positive, None, hours(1, None)))),
+        ),
+    ];
+    check_in_turn(&rt, "PT1H", &steps);
 }
 
 #[test]
 fn reads_six_digits_behind_a_sign_as_nothing(rt: HostRuntime) {
-    let mut parser = IxdtfParser::from_str("-000001");
-    assert_eq!(rt; parser.parse(), Err(AT_DATE));
-    assert_eq!(rt; parser.parse_year_month(), Err(AT_DIGIT));
-    assert_eq!(rt; parser.parse_month_day(), Err(ParseError::MonthDayHyphen));
-    assert_eq!(rt; parser.parse_time(), Err(ParseError::TimeHour));
-}
-
-#[test]
-fn reads_none_of_the_others_as_a_duration(rt: HostRuntime) {
-    let rows = [
-        ("20201108", ParseError::DurationDisgnator),
-        ("2021-12", ParseError::DurationDisgnator),
-        ("1208-10", ParseError::DurationDisgnator),
-        ("11-07", ParseError::DurationDisgnator),
-        ("12:00", ParseError::DurationDisgnator),
-        ("-000001", ParseError::DurationDisgnator),
+    let steps = [
+        (Reader::Parse, Err(AT_DATE)),
+        (Reader::YearMonth, Err(AT_DIGIT)),
+        (Reader::MonthDay, Err(MonthDayHyphen)),
+        (Reader::Time, Err(TimeHour)),
+        (Reader::Duration, Err(DurationDisgnator)),
     ];
-    check_refused(&rt, Reader::Duration, &rows);
+    check_in_turn(&rt, "-000001", &steps);
 }

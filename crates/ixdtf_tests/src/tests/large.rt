@@ -1,14 +1,12 @@
 //! Texts that are longer than any that is meant, and each 16-bit unit at each place of a text.
 
+use super::durations::{self, lasts};
 use super::widths::reads_alike;
 use super::{AT_BRACKET, Reader, dated, fraction_of, timed};
 use ixdtf::ParseError;
 use ixdtf::encoding::Utf8;
 use ixdtf::parsers::{IsoDurationParser, IxdtfParser};
-use ixdtf::records::{
-    Annotation, DateDurationRecord, DurationParseRecord, IxdtfParseRecord, Sign,
-    TimeZoneAnnotation, TimeZoneRecord,
-};
+use ixdtf::records::{Annotation, IxdtfParseRecord, Sign, TimeZoneAnnotation, TimeZoneRecord};
 use std::alloc::{AllocError, Global};
 use std::ops::Range;
 use std::process::Abort;
@@ -133,16 +131,7 @@ fn reads_long_durations(rt: HostRuntime) -> Result<(), Fail> {
     let zeros = repeated(rt.alloc(), "P", "0", 1_000_000, "1D")?;
     let groups = repeated(rt.alloc(), "P", "1Y", 100_000, "")?;
     for (text, years, days) in [(zeros.as_str(), 0, 1), (groups.as_str(), 1, 0)] {
-        let wanted = DurationParseRecord {
-            sign: Sign::Positive,
-            date: Some(DateDurationRecord {
-                years,
-                months: 0,
-                weeks: 0,
-                days,
-            }),
-            time: None,
-        };
+        let wanted = lasts(Sign::Positive, durations::dated(years, 0, 0, days), None);
         assert_eq!(rt; IsoDurationParser::from_str(text).parse(), Ok(wanted));
     }
     Ok(())

@@ -1,7 +1,5 @@
-use super::{AT_DIGIT, AT_MONTH_DAY, Reader, check_refused, dated, minutes};
-use ixdtf::ParseError;
-use ixdtf::parsers::IxdtfParser;
-use ixdtf::records::{Sign, TimeZoneAnnotation, TimeZoneRecord};
+use super::{Found, Reader, check_found, dated, minutes, shifted};
+use ixdtf::records::Sign;
 
 #[test]
 fn reads_year_months(rt: HostRuntime) {
@@ -14,32 +12,9 @@ fn reads_year_months(rt: HostRuntime) {
         ("+000000-02", 0, 2),
     ];
     for (text, year, month) in rows {
-        let found = IxdtfParser::from_str(text).parse_year_month();
-        assert_eq!(rt; found, Ok(dated(year, month, 1, None)), "at {text}");
+        let wanted = Found::Parts(dated(year, month, 1, None));
+        check_found(&rt, Reader::YearMonth, text, &Ok(wanted));
     }
-}
-
-#[test]
-fn refuses_year_months(rt: HostRuntime) {
-    let rows = [
-        ("", AT_DIGIT),
-        ("x", ParseError::DateYear),
-        ("20-11", ParseError::DateYear),
-        ("+", AT_DIGIT),
-        ("-P12Y", ParseError::DateExtendedYear),
-        ("-000000-11", ParseError::DateExtendedYear),
-        ("2020", AT_DIGIT),
-        ("2020-", AT_DIGIT),
-        ("2020x", ParseError::DateMonth),
-        ("-202011[!u-ca=iso8601]", ParseError::DateMonth),
-        ("2020-13", ParseError::InvalidMonthRange),
-        ("202000", ParseError::InvalidMonthRange),
-        ("2020-01-01", ParseError::InvalidEnd),
-        ("-00202011Z[Europe/Berlin]", ParseError::InvalidEnd),
-        ("2020-01[UTC", ParseError::AnnotationClose),
-        ("2020-01[!c=d]", ParseError::UnrecognizedCritical),
-    ];
-    check_refused(&rt, Reader::YearMonth, &rows);
 }
 
 #[test]
@@ -54,37 +29,10 @@ fn reads_month_days(rt: HostRuntime) {
         ("1231", 12, 31),
     ];
     for (text, month, day) in rows {
-        let found = IxdtfParser::from_str(text).parse_month_day();
-        assert_eq!(rt; found, Ok(dated(0, month, day, None)), "at {text}");
+        let wanted = Found::Parts(dated(0, month, day, None));
+        check_found(&rt, Reader::MonthDay, text, &Ok(wanted));
     }
-    let mut zoned = dated(0, 11, 7, None);
-    zoned.tz = Some(TimeZoneAnnotation {
-        critical: false,
-        tz: TimeZoneRecord::Offset(minutes(Sign::Positive, 4, 0)),
-    });
-    let found = IxdtfParser::from_str("--1107[+04:00]").parse_month_day();
-    assert_eq!(rt; found, Ok(zoned));
-}
-
-#[test]
-fn refuses_month_days(rt: HostRuntime) {
-    let rows = [
-        ("", AT_MONTH_DAY),
-        ("-", AT_MONTH_DAY),
-        ("x", ParseError::DateMonth),
-        ("-11-07", ParseError::MonthDayHyphen),
-        ("--", AT_DIGIT),
-        ("1-07", ParseError::DateMonth),
-        ("13-07", ParseError::InvalidMonthRange),
-        ("11", AT_DIGIT),
-        ("11/07", ParseError::DateDay),
-        ("11-", AT_DIGIT),
-        ("11-0x", ParseError::DateDay),
-        ("02-30", ParseError::InvalidMonthDay),
-        ("04-31", ParseError::InvalidMonthDay),
-        ("12-32", ParseError::InvalidMonthDay),
-        ("11-071", ParseError::InvalidEnd),
-        ("11-07[a=b", ParseError::AnnotationClose),
-    ];
-    check_refused(&rt, Reader::MonthDay, &rows);
+    let zone = minutes(Sign::Positive, 4, 0);
+    let wanted = Found::Parts(shifted((0, 11, 7), None, None, false, zone));
+    check_found(&rt, Reader::MonthDay, "--1107[+04:00]", &Ok(wanted));
 }

@@ -1,10 +1,13 @@
 //! Handlers with odd replies, and one parser through several readers.
 
-use super::{AT_DIGIT, AT_MONTH_DAY, AT_OFFSET, Record, dated};
+use super::{
+    AT_DIGIT, AT_MONTH_DAY, AT_OFFSET, Found, Reader, Record, check_in_turn, dated, named, parts,
+};
 use ixdtf::encoding::Utf8;
-use ixdtf::parsers::{IxdtfParser, TimeZoneParser};
-use ixdtf::records::{Annotation, TimeZoneRecord};
+use ixdtf::parsers::IxdtfParser;
+use ixdtf::records::Annotation;
 use ixdtf::{ParseError, ParserResult};
+use std::process::Abort;
 
 /// What a handler replies in the place of an annotation. None of it is of the source.
 #[derive(Clone, Copy)]
@@ -50,38 +53,41 @@ fn replied(odd: Odd) -> (ParserResult<Record>, usize) {
     (found, replier.calls)
 }
 
+// A text with two annotations gives this with such a handler, after so many calls.
+fn check_replied(rt: &impl Abort, odd: Odd, wanted: &ParserResult<Record>, wanted_calls: usize) {
+    let (found, calls) = replied(odd);
+    assert!(rt; found == *wanted);
+    assert_eq!(rt; calls, wanted_calls);
+}
+
 #[test]
 fn heeds_replies_of_no_source(rt: HostRuntime) {
-    let (found, calls) = replied(Odd::Calendar);
-    let mut record = dated(2020, 1, 1, None);
-    record.calendar = Some("foreign".as_bytes());
-    assert_eq!(rt; found, Ok(record));
-    assert_eq!(rt; calls, 2);
-    let (duplicate, calls) = replied(Odd::AnotherCalendar);
-    assert_eq!(rt; duplicate, Err(ParseError::CriticalDuplicateCalendar));
-    assert_eq!(rt; calls, 2);
-    let (critical, calls) = replied(Odd::EmptyKey);
-    assert_eq!(rt; critical, Err(ParseError::UnrecognizedCritical));
-    assert_eq!(rt; calls, 1);
+    let foreign = parts(Some((2020, 1, 1)), None, None, None, Some("foreign"));
+    let duplicate = Err(ParseError::CriticalDuplicateCalendar);
+    let critical = Err(ParseError::UnrecognizedCritical);
+    check_replied(&rt, Odd::Calendar, &Ok(foreign), 2);
+    check_replied(&rt, Odd::AnotherCalendar, &duplicate, 2);
+    check_replied(&rt, Odd::EmptyKey, &critical, 1);
 }
 
 #[test]
 fn leaves_no_date_to_the_next_reader(rt: HostRuntime) {
-    let mut parser = IxdtfParser::from_str("2020-01-01");
-    assert_eq!(rt; parser.parse(), Ok(dated(2020, 1, 1, None)));
-    assert_eq!(rt; parser.parse(), Err(AT_DIGIT));
-    assert_eq!(rt; parser.parse_month_day(), Err(AT_MONTH_DAY));
+    let date = Found::Parts(dated(2020, 1, 1, None));
+    let steps = [
+        (Reader::Parse, Ok(date)),
+        (Reader::Parse, Err(AT_DIGIT)),
+        (Reader::MonthDay, Err(AT_MONTH_DAY)),
+    ];
+    check_in_turn(&rt, "2020-01-01", &steps);
 }
 
 #[test]
 fn leaves_no_zone_to_the_next_reader(rt: HostRuntime) {
-    let mut parser = TimeZoneParser::from_str("UTC");
-    assert_eq!(rt; parser.parse_offset(), Err(ParseError::OffsetNeedsSign));
-    let zone = TimeZoneRecord::Name("UTC".as_bytes());
-    assert_eq!(rt; parser.parse_identifier(), Ok(zone));
-    assert_eq!(rt;
-        parser.parse_iana_identifier(),
-        Err(ParseError::TzLeadingChar)
-    );
-    assert_eq!(rt; parser.parse_offset(), Err(AT_OFFSET));
+    let steps = [
+        (Reader::Offset, Err(ParseError::OffsetNeedsSign)),
+        (Reader::Identifier, Ok(Found::Zone(named("UTC")))),
+        (Reader::IanaIdentifier, Err(ParseError::TzLeadingChar)),
+        (Reader::Offset, Err(AT_OFFSET)),
+    ];
+    check_in_turn(&rt, "UTC", &steps);
 }

@@ -1,9 +1,8 @@
 use super::{
-    AT_DIGIT, AT_OFFSET, Reader, check_refused, dated, fraction_of, long, minutes, morning, short,
-    timed,
+    AT_OFFSET, Found, Reader, check_found, check_in_turn, check_parsed, dated, fraction_of, long,
+    minutes, morning, short, timed,
 };
 use ixdtf::ParseError;
-use ixdtf::parsers::{IxdtfParser, TimeZoneParser};
 use ixdtf::records::{Sign, UtcOffsetRecordOrZ};
 
 #[test]
@@ -24,31 +23,8 @@ fn reads_offsets(rt: HostRuntime) {
         ("-05:00:30.123456789", long(five, 30, nine_digits)),
     ];
     for (text, offset) in rows {
-        let found = TimeZoneParser::from_str(text).parse_offset();
-        assert_eq!(rt; found, Ok(offset), "at {text}");
+        check_found(&rt, Reader::Offset, text, &Ok(Found::Offset(offset)));
     }
-}
-
-#[test]
-fn refuses_offsets(rt: HostRuntime) {
-    let rows = [
-        ("", AT_OFFSET),
-        ("+", AT_DIGIT),
-        ("+0", AT_DIGIT),
-        ("00:00", ParseError::OffsetNeedsSign),
-        ("Z", ParseError::OffsetNeedsSign),
-        ("+08:0000", ParseError::UtcTimeSeparator),
-        ("+0800:00", ParseError::UtcTimeSeparator),
-        ("+24", ParseError::TimeHour),
-        ("+08:60", ParseError::TimeMinuteSecond),
-        ("+08:00:60", ParseError::TimeMinuteSecond),
-        ("+08:00:5x", ParseError::TimeMinuteSecond),
-        ("+08:00:00.", ParseError::FractionPart),
-        ("+08:00[", ParseError::InvalidEnd),
-        ("+08:00:00[", ParseError::InvalidEnd),
-        ("+05.5", ParseError::InvalidEnd),
-    ];
-    check_refused(&rt, Reader::Offset, &rows);
 }
 
 #[test]
@@ -64,57 +40,40 @@ fn reads_offsets_after_times(rt: HostRuntime) {
         ),
     ];
     for (text, offset) in rows {
-        let record = morning(Some(UtcOffsetRecordOrZ::Offset(offset)));
-        let found = IxdtfParser::from_str(text).parse();
-        assert_eq!(rt; found, Ok(record), "at {text}");
+        check_parsed(
+            &rt,
+            text,
+            &Ok(morning(Some(UtcOffsetRecordOrZ::Offset(offset)), None, None)),
+        );
     }
 }
 
 #[test]
 fn reads_utc(rt: HostRuntime) {
-    let found = IxdtfParser::from_str("2020-01-01T00:00z").parse();
     let mut record = dated(2020, 1, 1, timed(0, 0, 0, None));
     record.offset = Some(UtcOffsetRecordOrZ::Z);
-    assert_eq!(rt; found, Ok(record));
+    check_parsed(&rt, "2020-01-01T00:00z", &Ok(record));
     let resolved = UtcOffsetRecordOrZ::Z.resolve_rfc_9557();
     assert_eq!(rt; resolved, short(Sign::Negative, 0, 0));
 }
 
 #[test]
 fn reads_the_offset_that_z_resolves_to(rt: HostRuntime) {
-    let found = IxdtfParser::from_str("2024-03-02T08:48:00-00:00").parse();
     let zulu = UtcOffsetRecordOrZ::Z.resolve_rfc_9557();
-    let record = morning(Some(UtcOffsetRecordOrZ::Offset(zulu)));
-    assert_eq!(rt; found, Ok(record));
-}
-
-#[test]
-fn refuses_offsets_after_times(rt: HostRuntime) {
-    let rows = [
-        ("2020-01-01+05:00", ParseError::InvalidEnd),
-        ("2020-01-01Z", ParseError::InvalidEnd),
-        ("2020-01-01T00:00:00+", AT_DIGIT),
-        ("2020-01-01T00:00:00Zx", ParseError::InvalidEnd),
-        ("2020-01-01T00:00:00+01:00Z", ParseError::InvalidEnd),
-        ("2024-08-24T14:00:00-05:00:60", ParseError::TimeMinuteSecond),
-        ("2024-08-24T14:00:00-050060", ParseError::TimeMinuteSecond),
-        ("2024-08-24T14:00:00-05:0060", ParseError::UtcTimeSeparator),
-        ("2024-08-24T14:00:00-5:00", ParseError::TimeHour),
-        (
-            "2024-08-24T14:00:00-05:00[-05:00.1]",
-            ParseError::AnnotationClose,
-        ),
-    ];
-    check_refused(&rt, Reader::Parse, &rows);
+    let record = morning(Some(UtcOffsetRecordOrZ::Offset(zulu)), None, None);
+    check_parsed(&rt, "2024-03-02T08:48:00-00:00", &Ok(record));
 }
 
 #[test]
 fn reads_an_offset_once(rt: HostRuntime) {
-    let mut parser = TimeZoneParser::from_str("+01:00:30");
-    let zone = parser.parse_identifier();
-    assert_eq!(rt; zone, Err(ParseError::InvalidMinutePrecisionOffset));
-    let offset = parser.parse_offset();
-    assert_eq!(rt; offset, Ok(long(minutes(Sign::Positive, 1, 0), 30, None)));
-    let again = parser.parse_offset();
-    assert_eq!(rt; again, Err(AT_OFFSET));
+    let offset = long(minutes(Sign::Positive, 1, 0), 30, None);
+    let steps = [
+        (
+            Reader::Identifier,
+            Err(ParseError::InvalidMinutePrecisionOffset),
+        ),
+        (Reader::Offset, Ok(Found::Offset(offset))),
+        (Reader::Offset, Err(AT_OFFSET)),
+    ];
+    check_in_turn(&rt, "+01:00:30", &steps);
 }

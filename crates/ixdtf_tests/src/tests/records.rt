@@ -1,26 +1,22 @@
-use super::fraction_of;
+use super::{fraction_of, long, minutes, short};
 use ixdtf::encoding::{Utf8, Utf16};
 use ixdtf::records::{
-    DateRecord, FullPrecisionOffset, IxdtfParseRecord, MinutePrecisionOffset, Sign, TimeRecord,
-    TimeZoneAnnotation, TimeZoneRecord, UtcOffsetRecord, UtcOffsetRecordOrZ,
+    DateRecord, IxdtfParseRecord, MinutePrecisionOffset, Sign, TimeRecord, TimeZoneAnnotation,
+    TimeZoneRecord, UtcOffsetRecord, UtcOffsetRecordOrZ,
 };
-
-fn offset_of(sign: Sign, hour: u8, minute: u8) -> MinutePrecisionOffset {
-    MinutePrecisionOffset { sign, hour, minute }
-}
 
 // The offset -05:30.
 fn short_offset() -> UtcOffsetRecord {
-    UtcOffsetRecord::MinutePrecision(offset_of(Sign::Negative, 5, 30))
+    short(Sign::Negative, 5, 30)
 }
 
 // The offset -05:30:15.25.
 fn long_offset() -> UtcOffsetRecord {
-    UtcOffsetRecord::FullPrecisionOffset(FullPrecisionOffset {
-        minute_precision_offset: offset_of(Sign::Negative, 5, 30),
-        second: 15,
-        fraction: fraction_of("+00:00:00.25"),
-    })
+    long(
+        minutes(Sign::Negative, 5, 30),
+        15,
+        fraction_of("+00:00:00.25"),
+    )
 }
 
 // A text whose fraction has 255 digits, and one with 45 digits more.
@@ -109,13 +105,8 @@ fn records_have_defaults_and_clones(rt: HostRuntime) {
 
 #[test]
 fn offsets_differ_by_their_precision(rt: HostRuntime) {
-    let minutes = offset_of(Sign::Negative, 5, 30);
-    let short = UtcOffsetRecord::MinutePrecision(minutes);
-    let long = UtcOffsetRecord::FullPrecisionOffset(FullPrecisionOffset {
-        minute_precision_offset: minutes,
-        second: 0,
-        fraction: None,
-    });
+    let short = short_offset();
+    let long = long(minutes(Sign::Negative, 5, 30), 0, None);
     assert_ne!(rt; short, long);
     assert_ne!(rt; UtcOffsetRecordOrZ::Offset(short), UtcOffsetRecordOrZ::Z);
     assert!(rt; Sign::Negative as i8 == -1 && Sign::Positive as i8 == 1);
@@ -131,17 +122,13 @@ fn signs_come_from_bools(rt: HostRuntime) {
 fn zero_has_a_plus(rt: HostRuntime) {
     assert_eq!(rt;
         MinutePrecisionOffset::zero(),
-        offset_of(Sign::Positive, 0, 0)
+        minutes(Sign::Positive, 0, 0)
     );
 }
 
 #[test]
 fn zero_has_no_seconds(rt: HostRuntime) {
-    let zero = offset_of(Sign::Positive, 0, 0);
-    assert_eq!(rt;
-        UtcOffsetRecord::zero(),
-        UtcOffsetRecord::MinutePrecision(zero)
-    );
+    assert_eq!(rt; UtcOffsetRecord::zero(), short(Sign::Positive, 0, 0));
 }
 
 #[test]
@@ -184,9 +171,6 @@ fn long_offsets_have_a_fraction(rt: HostRuntime) {
 fn z_is_minus_zero(rt: HostRuntime) {
     let offset = UtcOffsetRecordOrZ::Offset(long_offset());
     assert_eq!(rt; offset.resolve_rfc_9557(), long_offset());
-    let unknown = offset_of(Sign::Negative, 0, 0);
-    assert_eq!(rt;
-        UtcOffsetRecordOrZ::Z.resolve_rfc_9557(),
-        UtcOffsetRecord::MinutePrecision(unknown)
-    );
+    let unknown = short(Sign::Negative, 0, 0);
+    assert_eq!(rt; UtcOffsetRecordOrZ::Z.resolve_rfc_9557(), unknown);
 }

@@ -1,9 +1,11 @@
-use super::wide::{Wide, has_names};
-use super::{AT_DIGIT, dated, fraction_of, timed};
+use super::wide::Wide;
+use super::widths::same_calendar;
+use super::{AT_DIGIT, Record, fraction_of, parts, timed};
 use ixdtf::encoding::{EncodingType, Utf8, Utf16};
 use ixdtf::parsers::IxdtfParser;
 use ixdtf::records::{Annotation, IxdtfParseRecord, TimeRecord, UtcOffsetRecordOrZ};
 use ixdtf::{ParseError, ParserResult};
+use std::process::Abort;
 
 /// What a handler replies.
 #[derive(Clone, Copy)]
@@ -165,16 +167,13 @@ pub(super) enum Form {
     Time,
 }
 
-// What a text gives with a handler, and whether these calls of it were made, in this order, and no more.
-pub(super) fn handled(
+// What the reader gives with the listener for its handler.
+fn heard<'a, T: Foreign + 'static>(
+    mut parser: IxdtfParser<'a, T>,
     form: Form,
-    text: &'static str,
-    kind: Kind,
-    calls: &'static str,
-) -> (ParserResult<IxdtfParseRecord<'static, Utf8>>, bool) {
-    let mut listener = Listener::new(kind);
-    let mut parser = IxdtfParser::from_str(text);
-    let found = match form {
+    listener: &mut Listener,
+) -> ParserResult<IxdtfParseRecord<'a, T>> {
+    match form {
         Form::Parse => {
             parser.parse_with_annotation_handler(|annotation| listener.reply(annotation))
         }
@@ -187,8 +186,33 @@ pub(super) fn handled(
         Form::Time => {
             parser.parse_time_with_annotation_handler(|annotation| listener.reply(annotation))
         }
-    };
+    }
+}
+
+// What a text gives with a handler, and whether these calls of it were made, in this order, and no more.
+pub(super) fn handled(
+    form: Form,
+    text: &'static str,
+    kind: Kind,
+    calls: &'static str,
+) -> (ParserResult<Record>, bool) {
+    let mut listener = Listener::new(kind);
+    let found = heard(IxdtfParser::from_str(text), form, &mut listener);
     (found, listener.has_heard(calls))
+}
+
+// A text gives this with a handler, after these calls of it, in this order, and no more.
+pub(super) fn check_handled(
+    rt: &impl Abort,
+    form: Form,
+    text: &'static str,
+    kind: Kind,
+    calls: &'static str,
+    wanted: &ParserResult<Record>,
+) {
+    let (found, as_listed) = handled(form, text, kind, calls);
+    assert!(rt; found == *wanted, "at {text}");
+    assert!(rt; as_listed, "at {text}");
 }
 
 // Whether a text in 16-bit units is refused with this error, or gives this calendar, after these calls.
@@ -202,23 +226,12 @@ pub(super) fn heeds_wide(
 ) -> bool {
     let mut listener = Listener::new(kind);
     let wide = Wide::new(text);
-    let mut parser = IxdtfParser::from_utf16(wide.units());
-    let found = match form {
-        Form::Parse => {
-            parser.parse_with_annotation_handler(|annotation| listener.reply(annotation))
-        }
-        Form::YearMonth => parser.parse_year_month_with_annotation_handler(
-            |annotation| listener.reply(annotation),
-        ),
-        Form::MonthDay => parser.parse_month_day_with_annotation_handler(
-            |annotation| listener.reply(annotation),
-        ),
-        Form::Time => {
-            parser.parse_time_with_annotation_handler(|annotation| listener.reply(annotation))
-        }
-    };
+    let found = heard(IxdtfParser::from_utf16(wide.units()), form, &mut listener);
     let as_wanted = match found {
-        Ok(record) => error.is_none() && has_names(&record, None, calendar),
+        Ok(record) => {
+            let name = calendar.map(|name| name.as_bytes());
+            error.is_none() && record.tz.is_none() && same_calendar(name, record.calendar)
+        }
         Err(found) => error == Some(found),
     };
     as_wanted && listener.has_heard(calls)
@@ -313,12 +326,8 @@ fn heeds_handlers(rt: HostRuntime) {
         ),
     ];
     for (text, kind, calls, time, offset, calendar) in rows {
-        let mut record = dated(2020, 1, 1, time);
-        record.offset = offset;
-        record.calendar = calendar.map(|name| name.as_bytes());
-        let (found, as_listed) = handled(Form::Parse, text, kind, calls);
-        assert_eq!(rt; found, Ok(record), "at {text}");
-        assert!(rt; as_listed, "at {text}");
+        let record = parts(Some((2020, 1, 1)), time, offset, None, calendar);
+        check_handled(&rt, Form::Parse, text, kind, calls, &Ok(record));
     }
 }
 
@@ -413,9 +422,7 @@ fn heeds_handlers_and_refuses(rt: HostRuntime) {
         ),
     ];
     for (text, kind, calls, error) in rows {
-        let (found, as_listed) = handled(Form::Parse, text, kind, calls);
-        assert_eq!(rt; found, Err(error), "at {text}");
-        assert!(rt; as_listed, "at {text}");
+        check_handled(&rt, Form::Parse, text, kind, calls, &Err(error));
     }
 }
 

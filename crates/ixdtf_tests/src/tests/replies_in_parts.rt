@@ -1,23 +1,9 @@
 //! Replies to the annotations of year-months, month-days and times alone.
 
-use super::replies::{Form, Kind, handled, heeds_wide};
-use super::{dated, minutes, short, timed};
+use super::replies::{Form, Kind, check_handled, handled, heeds_wide};
+use super::{minutes, parts, shifted, short, timed};
 use ixdtf::ParseError;
-use ixdtf::encoding::Utf8;
-use ixdtf::records::{
-    IxdtfParseRecord, Sign, TimeZoneAnnotation, TimeZoneRecord, UtcOffsetRecordOrZ,
-};
-
-// Noon, without a date.
-fn noon() -> IxdtfParseRecord<'static, Utf8> {
-    IxdtfParseRecord {
-        date: None,
-        time: timed(12, 0, 0, None),
-        offset: None,
-        tz: None,
-        calendar: None,
-    }
-}
+use ixdtf::records::{Sign, UtcOffsetRecordOrZ};
 
 #[test]
 fn heeds_handlers_in_each_form(rt: HostRuntime) {
@@ -154,32 +140,27 @@ fn heeds_handlers_in_each_form(rt: HostRuntime) {
         ),
     ];
     for (form, text, kind, calls, date, offset, zone, calendar) in rows {
-        let mut record = match date {
-            Some((year, month, day)) => dated(year, month, day, None),
-            None => noon(),
+        let time = match date {
+            Some(_) => None,
+            None => timed(12, 0, 0, None),
         };
-        record.offset = offset;
-        record.tz = zone.map(|(critical, name)| TimeZoneAnnotation {
-            critical,
-            tz: TimeZoneRecord::Name(name.as_bytes()),
-        });
-        record.calendar = calendar.map(|name| name.as_bytes());
-        let (found, as_listed) = handled(form, text, kind, calls);
-        assert_eq!(rt; found, Ok(record), "at {text}");
-        assert!(rt; as_listed, "at {text}");
+        let record = parts(date, time, offset, zone, calendar);
+        check_handled(&rt, form, text, kind, calls, &Ok(record));
     }
     let text =
         "+00202001[-16:00][fgdci=a0sa-2l4s][!u-ca=FaoGG7-GO1GM-OUkuE][u-ca=FXVm-lFpcT-I-q97pX][!u-ca=iso8601][uh_ixs5qm=K4xwC-Hxl2-ivW5]";
     let calls =
         "[fgdci=a0sa-2l4s][!u-ca=FaoGG7-GO1GM-OUkuE][u-ca=FXVm-lFpcT-I-q97pX][!u-ca=iso8601][uh_ixs5qm=K4xwC-Hxl2-ivW5]";
-    let mut west = dated(2020, 1, 1, None);
-    west.tz = Some(TimeZoneAnnotation {
-        critical: false,
-        tz: TimeZoneRecord::Offset(minutes(Sign::Negative, 16, 0)),
-    });
-    let (found, as_listed) = handled(Form::YearMonth, text, Kind::RepliesNone, calls);
-    assert_eq!(rt; found, Ok(west));
-    assert!(rt; as_listed);
+    let zone = minutes(Sign::Negative, 16, 0);
+    let west = shifted((2020, 1, 1), None, None, false, zone);
+    check_handled(
+        &rt,
+        Form::YearMonth,
+        text,
+        Kind::RepliesNone,
+        calls,
+        &Ok(west),
+    );
 }
 
 #[test]
@@ -362,9 +343,7 @@ fn heeds_handlers_and_refuses_in_each_form(rt: HostRuntime) {
         ),
     ];
     for (form, text, kind, calls, error) in rows {
-        let (found, as_listed) = handled(form, text, kind, calls);
-        assert_eq!(rt; found, Err(error), "at {text}");
-        assert!(rt; as_listed, "at {text}");
+        check_handled(&rt, form, text, kind, calls, &Err(error));
     }
 }
 
@@ -376,15 +355,20 @@ fn asks_as_far_as_the_first_refusal_in_each_form(rt: HostRuntime) {
         (Form::Time, "T12[a=b][!c=d][e=f]"),
     ];
     for (form, text) in rows {
-        let (refused, asked_twice) = handled(form, text, Kind::HandsBack, "[a=b][!c=d]");
-        assert_eq!(rt; refused, Err(ParseError::UnrecognizedCritical), "at {text}");
-        assert!(rt; asked_twice, "at {text}");
+        let critical = Err(ParseError::UnrecognizedCritical);
+        check_handled(&rt, form, text, Kind::HandsBack, "[a=b][!c=d]", &critical);
         let (found, asked_thrice) = handled(form, text, Kind::RepliesNone, "[a=b][!c=d][e=f]");
         assert!(rt; found.is_ok() && asked_thrice, "at {text}");
     }
-    let (refused, not_asked) = handled(Form::Time, "1200[a=b]", Kind::HandsBack, "");
-    assert_eq!(rt; refused, Err(ParseError::AmbiguousTimeMonthDay));
-    assert!(rt; not_asked);
+    let ambiguous = Err(ParseError::AmbiguousTimeMonthDay);
+    check_handled(
+        &rt,
+        Form::Time,
+        "1200[a=b]",
+        Kind::HandsBack,
+        "",
+        &ambiguous,
+    );
 }
 
 #[test]

@@ -1,6 +1,6 @@
-use super::{AT_DIGIT, Reader, check_refused, dated, fraction_of, timed};
-use ixdtf::ParseError;
-use ixdtf::parsers::IxdtfParser;
+use super::{
+    AT_DIGIT, Found, Parsers, Reader, check_in_turn, check_parsed, dated, fraction_of, timed,
+};
 
 #[test]
 fn reads_times(rt: HostRuntime) {
@@ -24,56 +24,42 @@ fn reads_times(rt: HostRuntime) {
         ),
     ];
     for (text, (year, month, day), time) in rows {
-        let found = IxdtfParser::from_str(text).parse();
-        assert_eq!(rt; found, Ok(dated(year, month, day, time)), "at {text}");
+        check_parsed(&rt, text, &Ok(dated(year, month, day, time)));
+    }
+}
+
+// The nanoseconds of the time of a text, without the digits after them.
+fn nanoseconds_of(reader: Reader, text: &'static str) -> Option<u32> {
+    match Parsers::from_str(text).read(reader) {
+        Ok(Found::Parts(record)) => Some(record.time?.fraction?.to_truncated_nanoseconds()),
+        _ => None,
     }
 }
 
 #[test]
 fn keeps_the_first_nanoseconds(rt: HostRuntime) {
-    let text = "2020-01-01T15:23:30.1234567898765432101234567890987654321";
-    let time = match IxdtfParser::from_str(text).parse() {
-        Ok(record) => record.time,
-        Err(_) => None,
-    };
-    let fraction = time.and_then(|time| time.fraction);
-    let nanoseconds = fraction.map(|fraction| fraction.to_truncated_nanoseconds());
-    assert_eq!(rt; nanoseconds, Some(123_456_789));
-}
-
-#[test]
-fn refuses_times(rt: HostRuntime) {
     let rows = [
-        ("2020-01-01T", AT_DIGIT),
-        ("2020-01-01Tx", ParseError::TimeHour),
-        ("2020-01-01T1", AT_DIGIT),
-        ("2020-01-01T1:", ParseError::TimeHour),
-        ("2020-01-01T12:x", ParseError::TimeMinuteSecond),
-        ("2020-01-01T1230x", ParseError::InvalidEnd),
-        ("2020-01-01T12:30x", ParseError::InvalidEnd),
-        ("2020-01-01T12:30:", AT_DIGIT),
-        ("2020-01-01T00:00:61", ParseError::TimeSecond),
-        ("2020-01-01T00:00:00.x", ParseError::FractionPart),
-        ("2020-01-01T00:00:00.5x", ParseError::InvalidEnd),
-        ("2020-01-01T001", AT_DIGIT),
-        ("2020-01-01T24", ParseError::TimeHour),
-        ("2020-01-01T01:60:61", ParseError::TimeMinuteSecond),
-        ("2020-01-01T01:001", ParseError::TimeSeparator),
-        ("2022-06-05 0434:22.000", ParseError::TimeSeparator),
-        ("2022-06-05 03422.000", ParseError::TimeSecond),
-        ("2020-01-01T00:00:00.", ParseError::FractionPart),
-        ("2020-01-01T01:01:001", ParseError::InvalidEnd),
-        ("2020-01-01T00:00:00x", ParseError::InvalidEnd),
+        (
+            Reader::Parse,
+            "2020-01-01T15:23:30.1234567898765432101234567890987654321",
+        ),
+        (
+            Reader::Time,
+            "15:23:30.1234567898765432101234567890987654321",
+        ),
     ];
-    check_refused(&rt, Reader::Parse, &rows);
+    for (reader, text) in rows {
+        assert_eq!(rt;
+            nanoseconds_of(reader, text),
+            Some(123_456_789),
+            "at {text}"
+        );
+    }
 }
 
 #[test]
 fn reads_a_text_once(rt: HostRuntime) {
-    let mut parser = IxdtfParser::from_str("2020-01-01T12");
-    assert_eq!(rt;
-        parser.parse(),
-        Ok(dated(2020, 1, 1, timed(12, 0, 0, None)))
-    );
-    assert_eq!(rt; parser.parse(), Err(AT_DIGIT));
+    let noon = Found::Parts(dated(2020, 1, 1, timed(12, 0, 0, None)));
+    let steps = [(Reader::Parse, Ok(noon)), (Reader::Parse, Err(AT_DIGIT))];
+    check_in_turn(&rt, "2020-01-01T12", &steps);
 }

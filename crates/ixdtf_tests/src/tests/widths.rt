@@ -1,10 +1,9 @@
 //! Texts in both widths: the same numbers from 1 to 126 give the same in each reader, and where another number stands among
 //! 16-bit units, the error is `NonAsciiCodePoint`, or that of 8-bit units with 128 in its place.
 
-use super::Reader;
 use super::wide::{Wide, refusal};
+use super::{Found, Parsers, Reader};
 use ixdtf::encoding::{Utf8, Utf16};
-use ixdtf::parsers::{IsoDurationParser, IxdtfParser, TimeZoneParser};
 use ixdtf::records::{IxdtfParseRecord, TimeZoneRecord};
 use ixdtf::{ParseError, ParserResult};
 
@@ -119,6 +118,15 @@ fn same_zone(narrow: &TimeZoneRecord<'_, Utf8>, wide: &TimeZoneRecord<'_, Utf16>
     }
 }
 
+// Whether two calendars are the same numbers, or neither is there.
+pub(super) fn same_calendar(narrow: Option<&[u8]>, wide: Option<&[u16]>) -> bool {
+    match (narrow, wide) {
+        (None, None) => true,
+        (Some(bytes), Some(units)) => same_numbers(bytes, units),
+        _ => false,
+    }
+}
+
 // Whether two records are the same, slices by the numbers of their units.
 fn same_record(narrow: &IxdtfParseRecord<'_, Utf8>, wide: &IxdtfParseRecord<'_, Utf16>) -> bool {
     let zones = match (&narrow.tz, &wide.tz) {
@@ -128,24 +136,31 @@ fn same_record(narrow: &IxdtfParseRecord<'_, Utf8>, wide: &IxdtfParseRecord<'_, 
         }
         _ => false,
     };
-    let calendars = match (narrow.calendar, wide.calendar) {
-        (None, None) => true,
-        (Some(bytes), Some(units)) => same_numbers(bytes, units),
-        _ => false,
-    };
     let cores = narrow.date == wide.date
         && narrow.time == wide.time
         && narrow.offset == wide.offset;
-    cores && zones && calendars
+    cores && zones && same_calendar(narrow.calendar, wide.calendar)
 }
 
-// Whether two results of a reader with brackets are the same.
-fn same_result(
-    narrow: &ParserResult<IxdtfParseRecord<'_, Utf8>>,
-    wide: &ParserResult<IxdtfParseRecord<'_, Utf16>>,
+// Whether a reader found the same in both widths.
+fn same_found(narrow: &Found<'_, Utf8>, wide: &Found<'_, Utf16>) -> bool {
+    match (narrow, wide) {
+        (Found::Parts(first), Found::Parts(second)) => same_record(first, second),
+        (Found::Offset(first), Found::Offset(second)) => first == second,
+        (Found::Zone(first), Found::Zone(second)) => same_zone(first, second),
+        (Found::Name(bytes), Found::Name(units)) => same_numbers(bytes, units),
+        (Found::Duration(first), Found::Duration(second)) => first == second,
+        _ => false,
+    }
+}
+
+// Whether a reader gave the same in both widths.
+pub(super) fn same_result(
+    narrow: &ParserResult<Found<'_, Utf8>>,
+    wide: &ParserResult<Found<'_, Utf16>>,
 ) -> bool {
     match (narrow, wide) {
-        (Ok(first), Ok(second)) => same_record(first, second),
+        (Ok(first), Ok(second)) => same_found(first, second),
         (Err(first), Err(second)) => first == second,
         _ => false,
     }
@@ -154,42 +169,9 @@ fn same_result(
 // Whether the reader gives the same for the bytes and for 16-bit units of the same numbers.
 pub(super) fn reads_alike(reader: Reader, bytes: &[u8]) -> bool {
     let numbers = Wide::of_bytes(bytes);
-    let units = numbers.units();
-    let mut narrow = IxdtfParser::from_utf8(bytes);
-    let mut wide = IxdtfParser::from_utf16(units);
-    let mut narrow_zone = TimeZoneParser::from_utf8(bytes);
-    let mut wide_zone = TimeZoneParser::from_utf16(units);
-    match reader {
-        Reader::Parse => same_result(&narrow.parse(), &wide.parse()),
-        Reader::YearMonth => same_result(&narrow.parse_year_month(), &wide.parse_year_month()),
-        Reader::MonthDay => same_result(&narrow.parse_month_day(), &wide.parse_month_day()),
-        Reader::Time => same_result(&narrow.parse_time(), &wide.parse_time()),
-        Reader::Offset => narrow_zone.parse_offset() == wide_zone.parse_offset(),
-        Reader::Identifier => {
-            match (
-                &narrow_zone.parse_identifier(),
-                &wide_zone.parse_identifier(),
-            ) {
-                (Ok(first), Ok(second)) => same_zone(first, second),
-                (Err(first), Err(second)) => first == second,
-                _ => false,
-            }
-        }
-        Reader::IanaIdentifier => {
-            match (
-                &narrow_zone.parse_iana_identifier(),
-                &wide_zone.parse_iana_identifier(),
-            ) {
-                (Ok(bytes), Ok(name)) => same_numbers(bytes, name),
-                (Err(first), Err(second)) => first == second,
-                _ => false,
-            }
-        }
-        Reader::Duration => {
-            let first = IsoDurationParser::<Utf8>::from_utf8(bytes).parse();
-            first == IsoDurationParser::<Utf16>::from_utf8(units).parse()
-        }
-    }
+    let narrow = Parsers::from_utf8(bytes).read(reader);
+    let wide = Parsers::from_utf16(numbers.units()).read(reader);
+    same_result(&narrow, &wide)
 }
 
 #[test]
@@ -206,39 +188,9 @@ fn reads_alike_in_both_widths(rt: HostRuntime) {
 
 // The error of a text of bytes, where it is refused.
 fn byte_refusal(reader: Reader, bytes: &'static [u8]) -> Option<ParseError> {
-    match reader {
-        Reader::Parse => match IxdtfParser::from_utf8(bytes).parse() {
-            Ok(_record) => None,
-            Err(error) => Some(error),
-        },
-        Reader::YearMonth => match IxdtfParser::from_utf8(bytes).parse_year_month() {
-            Ok(_record) => None,
-            Err(error) => Some(error),
-        },
-        Reader::MonthDay => match IxdtfParser::from_utf8(bytes).parse_month_day() {
-            Ok(_record) => None,
-            Err(error) => Some(error),
-        },
-        Reader::Time => match IxdtfParser::from_utf8(bytes).parse_time() {
-            Ok(_record) => None,
-            Err(error) => Some(error),
-        },
-        Reader::Offset => match TimeZoneParser::from_utf8(bytes).parse_offset() {
-            Ok(_offset) => None,
-            Err(error) => Some(error),
-        },
-        Reader::Identifier => match TimeZoneParser::from_utf8(bytes).parse_identifier() {
-            Ok(_zone) => None,
-            Err(error) => Some(error),
-        },
-        Reader::IanaIdentifier => match TimeZoneParser::from_utf8(bytes).parse_iana_identifier() {
-            Ok(_name) => None,
-            Err(error) => Some(error),
-        },
-        Reader::Duration => match IsoDurationParser::<Utf8>::from_utf8(bytes).parse() {
-            Ok(_duration) => None,
-            Err(error) => Some(error),
-        },
+    match Parsers::from_utf8(bytes).read(reader) {
+        Ok(_found) => None,
+        Err(error) => Some(error),
     }
 }
 

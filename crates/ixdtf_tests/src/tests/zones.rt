@@ -1,4 +1,4 @@
-use super::{AT_DIGIT, AT_ZONE, Reader, check_refused, minutes};
+use super::{AT_ZONE, Found, Reader, check_found, check_in_turn, minutes, named};
 use ixdtf::ParseError;
 use ixdtf::encoding::Utf8;
 use ixdtf::parsers::TimeZoneParser;
@@ -17,31 +17,14 @@ fn reads_names(rt: HostRuntime) {
         "a/-1",
     ];
     for name in rows {
-        let found = TimeZoneParser::from_str(name).parse_iana_identifier();
-        assert_eq!(rt; found, Ok(name.as_bytes()), "at {name}");
-        let zone = TimeZoneParser::from_str(name).parse_identifier();
-        assert_eq!(rt;
-            zone,
-            Ok(TimeZoneRecord::Name(name.as_bytes())),
-            "at {name}"
+        check_found(
+            &rt,
+            Reader::IanaIdentifier,
+            name,
+            &Ok(Found::Name(name.as_bytes())),
         );
+        check_found(&rt, Reader::Identifier, name, &Ok(Found::Zone(named(name))));
     }
-}
-
-#[test]
-fn refuses_names(rt: HostRuntime) {
-    let rows = [
-        ("", ParseError::TzLeadingChar),
-        ("+05:00", ParseError::TzLeadingChar),
-        ("1UTC", ParseError::TzLeadingChar),
-        ("é", ParseError::TzLeadingChar),
-        ("UTC!", ParseError::IanaChar),
-        ("UTC=x", ParseError::IanaChar),
-        ("America/", ParseError::IanaCharPostSeparator),
-        ("America//Chicago", ParseError::IanaCharPostSeparator),
-        ("UTC]", ParseError::InvalidEnd),
-    ];
-    check_refused(&rt, Reader::IanaIdentifier, &rows);
 }
 
 #[test]
@@ -52,60 +35,42 @@ fn reads_zones_that_are_offsets(rt: HostRuntime) {
         ("+08", minutes(Sign::Positive, 8, 0)),
     ];
     for (text, offset) in rows {
-        let found = TimeZoneParser::from_str(text).parse_identifier();
-        assert_eq!(rt; found, Ok(TimeZoneRecord::Offset(offset)), "at {text}");
+        let zone = TimeZoneRecord::Offset(offset);
+        check_found(&rt, Reader::Identifier, text, &Ok(Found::Zone(zone)));
     }
-}
-
-#[test]
-fn refuses_zones(rt: HostRuntime) {
-    let rows = [
-        ("", AT_ZONE),
-        ("1UTC", ParseError::TzLeadingChar),
-        ("UTC]", ParseError::InvalidEnd),
-        ("UTC!", ParseError::IanaChar),
-        ("America/", ParseError::IanaCharPostSeparator),
-        ("+0", AT_DIGIT),
-        ("+24:00", ParseError::TimeHour),
-        ("+00:60", ParseError::TimeMinuteSecond),
-        ("+00:00:00", ParseError::InvalidMinutePrecisionOffset),
-        ("+000000", ParseError::InvalidMinutePrecisionOffset),
-        ("+00:00.1", ParseError::InvalidEnd),
-        ("+00:00]", ParseError::InvalidEnd),
-    ];
-    check_refused(&rt, Reader::Identifier, &rows);
 }
 
 #[test]
 fn keeps_a_zone_that_it_refused(rt: HostRuntime) {
-    let mut parser = TimeZoneParser::from_str("Europe/");
     let slash = ParseError::IanaCharPostSeparator;
-    for _ in 0..2 {
-        let name = parser.parse_iana_identifier();
-        assert_eq!(rt; name, Err(slash));
-        let zone = parser.parse_identifier();
-        assert_eq!(rt; zone, Err(slash));
-        let offset = parser.parse_offset();
-        assert_eq!(rt; offset, Err(ParseError::OffsetNeedsSign));
-    }
+    let steps = [
+        (Reader::IanaIdentifier, Err(slash)),
+        (Reader::Identifier, Err(slash)),
+        (Reader::Offset, Err(ParseError::OffsetNeedsSign)),
+        (Reader::IanaIdentifier, Err(slash)),
+        (Reader::Identifier, Err(slash)),
+        (Reader::Offset, Err(ParseError::OffsetNeedsSign)),
+    ];
+    check_in_turn(&rt, "Europe/", &steps);
 }
 
 #[test]
 fn reads_a_zone_once(rt: HostRuntime) {
-    let mut parser = TimeZoneParser::from_str("UTC");
-    let zone = parser.parse_identifier();
-    assert_eq!(rt; zone, Ok(TimeZoneRecord::Name("UTC".as_bytes())));
-    let again = parser.parse_identifier();
-    assert_eq!(rt; again, Err(AT_ZONE));
+    let zone = Found::Zone(named("UTC"));
+    let steps = [
+        (Reader::Identifier, Ok(zone)),
+        (Reader::Identifier, Err(AT_ZONE)),
+    ];
+    check_in_turn(&rt, "UTC", &steps);
 }
 
 #[test]
 fn reads_a_name_once(rt: HostRuntime) {
-    let mut parser = TimeZoneParser::from_str("UTC");
-    let name = parser.parse_iana_identifier();
-    assert_eq!(rt; name, Ok("UTC".as_bytes()));
-    let again = parser.parse_iana_identifier();
-    assert_eq!(rt; again, Err(ParseError::TzLeadingChar));
+    let steps = [
+        (Reader::IanaIdentifier, Ok(Found::Name("UTC".as_bytes()))),
+        (Reader::IanaIdentifier, Err(ParseError::TzLeadingChar)),
+    ];
+    check_in_turn(&rt, "UTC", &steps);
 }
 
 #[test]

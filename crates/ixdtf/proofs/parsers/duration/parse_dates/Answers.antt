@@ -25,7 +25,7 @@ returns-in-None-clause-dates g c =
 pub loop-group-smaller : goal.loop-group-smaller
 loop-group-smaller g c =
     let off = taken {letter = g.T.EncodingType.letter} c.in_ok-look.ensures.letter c.in-Some.is c.in_ok-look.ensures.rest c.step.ensures.rest in
-    omega (arith, c.in_ok-group.ensures.paid)
+    omega (arith, c.in_ok-group.ensures.looks)
 
 pub loop-group-preserved : goal.loop-group-preserved
 loop-group-preserved g c =
@@ -34,8 +34,8 @@ loop-group-preserved g c =
     record {
       far = dates_go_on _ _ _ _ read _ _ off.found (search rules) off.left;
       is_digit = search rules;
-      looks = omega (arith, c.in_ok-group.ensures.paid, c.loop-group.invariant.looks, c.in_ok-look.ensures.looks, c.step.ensures.looks);
-      counted = omega (arith, c.in_ok-group.ensures.paid, c.loop-group.invariant.counted, c.in_ok-look.ensures.looks, c.step.ensures.looks);
+      looks = omega (arith, c.in_ok-group.ensures.looks, c.loop-group.invariant.looks, c.in_ok-look.ensures.looks, c.step.ensures.looks);
+      counted = omega (arith, c.in_ok-group.ensures.looks, c.loop-group.invariant.counted, c.in_ok-look.ensures.looks, c.step.ensures.looks);
     }
 
 -- a `T` follows

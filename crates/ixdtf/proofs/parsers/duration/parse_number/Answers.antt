@@ -35,8 +35,8 @@ returns-then-not-is_ascii_digit-clause-number g c =
 pub returns-then-not-is_ascii_digit-clause-small : goal.returns-then-not-is_ascii_digit-clause-small
 returns-then-not-is_ascii_digit-clause-small g c = c.loop-byte.invariant.small
 
-pub returns-then-not-is_ascii_digit-clause-paid : goal.returns-then-not-is_ascii_digit-clause-paid
-returns-then-not-is_ascii_digit-clause-paid g c =
+pub returns-then-not-is_ascii_digit-clause-looks : goal.returns-then-not-is_ascii_digit-clause-looks
+returns-then-not-is_ascii_digit-clause-looks g c =
     let off = taken {letter = g.T.EncodingType.letter} c.in_ok-byte.ensures.letter c.in-Some.is c.in_ok-byte.ensures.rest c.step.ensures.rest in (
       omega (arith, c.loop-byte.invariant.looks),
       omega (arith, c.loop-byte.invariant.counted, c.in_ok-byte.ensures.looks, c.step.ensures.looks),
