@@ -24,7 +24,7 @@ pub mod Nanoseconds
 pub mod OneMoreReply
 pub mod PairLoops
 pub mod Placed
-pub mod PlainErrors
+pub mod PublicErrors
 pub mod ReadersWithoutPairs
 pub mod Tables
 pub mod Tail

@@ -3,9 +3,11 @@ pub mod CoreEnds
 pub mod CoreSizes
 pub mod Disjoint
 pub mod Handled
+pub mod Hyphens
 pub mod NoRow
+pub mod Offsets
+pub mod OneChain
 pub mod OneOutcome
 pub mod OnlyOutcome
 pub mod Rfc3339
-pub mod PlainOutcomes
-pub mod OnePlainOutcome
+pub mod OneUnhandledOutcome

@@ -115,7 +115,7 @@ abbrev pub IsChain : {T U F : Type 0} → Step T U F → F → Calls T U → F �
 IsChain step handler calls last = FoldsTo (λ f call g. step f call.0 call.1 g) handler calls last
 
 -- For one chain of calls: `Ok` exactly with the record that the text and the replies give, `Err` only with a fault that
--- they give.
+-- they give, and that is the only one.
 pub record Handled {T U F : Type 0} (number : U → ℕ) (step : Step T U F)
     (handler : F) (reader : Reader) (text : Text) (result : Result Parsed Fault) : Type 0 where
   pub calls : Calls T U
@@ -123,12 +123,7 @@ pub record Handled {T U F : Type 0} (number : U → ℕ) (step : Step T U F)
   pub chain : IsChain step handler calls last
   pub ok : (found : Parsed) → (result ≡ Ok found) ↔ GivesRecord reader text (handed number calls) (replies_of number calls) found
   pub err : (fault : Fault) → result ≡ Err fault → GivesFault reader text (handed number calls) (replies_of number calls) fault
-
--- For one chain of calls: all of `Handled`, and `Err` only with the one fault that the text and the replies give.
-pub record HandledOnly {T U F : Type 0} (number : U → ℕ) (step : Step T U F)
-    (handler : F) (reader : Reader) (text : Text) (result : Result Parsed Fault) : Type 0 where
-  pub handled : Handled number step handler reader text result
-  pub only : (fault : Fault) → result ≡ Err fault → GivesOnlyFault reader text (handed number handled.calls) (replies_of number handled.calls) fault
+  pub only : (fault : Fault) → result ≡ Err fault → GivesOnlyFault reader text (handed number calls) (replies_of number calls) fault
 
 -- ---- without a handler
 
@@ -137,13 +132,13 @@ abbrev pub own_replies : List Pair → List Reply
 own_replies pairs = map (λ pair. Some pair) pairs
 
 -- the text, whose pairs reply for themselves, gives the record
-abbrev pub PlainRecord : Reader → Text → Parsed → Type 0
-PlainRecord reader text found = (pairs : List Pair) × GivesRecord reader text pairs (own_replies pairs) found
+abbrev pub UnhandledRecord : Reader → Text → Parsed → Type 0
+UnhandledRecord reader text found = (pairs : List Pair) × GivesRecord reader text pairs (own_replies pairs) found
 
 -- the text, whose pairs reply for themselves, gives the fault
-abbrev pub PlainFault : Reader → Text → Fault → Type 0
-PlainFault reader text fault = (pairs : List Pair) × GivesFault reader text pairs (own_replies pairs) fault
+abbrev pub UnhandledFault : Reader → Text → Fault → Type 0
+UnhandledFault reader text fault = (pairs : List Pair) × GivesFault reader text pairs (own_replies pairs) fault
 
 -- the text, whose pairs reply for themselves, gives the fault, and no other
-abbrev pub PlainOnlyFault : Reader → Text → Fault → Type 0
-PlainOnlyFault reader text fault = (pairs : List Pair) × GivesOnlyFault reader text pairs (own_replies pairs) fault
+abbrev pub UnhandledOnlyFault : Reader → Text → Fault → Type 0
+UnhandledOnlyFault reader text fault = (pairs : List Pair) × GivesOnlyFault reader text pairs (own_replies pairs) fault

@@ -1,13 +1,15 @@
 -- What public clauses see: a parser, a result, and the records that the code returns.
-use Rattle.std.specs.Prelude.{◌≡◌, ℕ, ◌+◌, ◌*◌, List, map, length, Option, Some, None, option_map, slice_get, Result, Ok, Err}
+use Rattle.std.specs.Prelude.{◌≡◌, ℕ, ◌+◌, ◌*◌, List, map, length, Option, Some, None, option_map, slice_get, Result, Ok, Err, OnOk, OnErr, IfErr, IsFalse, []}
+use Rattle.std.specs.Prelude.{◌≤◌}
 use Rattle.ixdtf.specs.declared.error.ParseError.{ParseError}
+use Rattle.ixdtf.specs.declared.parsers.profile.Profile.{Profile}
 use Rattle.ixdtf.specs.declared.records.TimeZoneRecord.{TimeZoneRecord}
 use Rattle.ixdtf.specs.declared.records.TimeZoneRecord.TheVariants as zones
 use Rattle.ixdtf.specs.declared.records.TimeZoneAnnotation.{TimeZoneAnnotation}
 use Rattle.ixdtf.specs.declared.records.IxdtfParseRecord.{IxdtfParseRecord}
 use Rattle.ixdtf.specs.language.Letters.{Letter}
 use Rattle.ixdtf.specs.language.Letters.Letter.{Plain, Bad}
-use Rattle.ixdtf.specs.table.Faults.{Fault, fault_of}
+use Rattle.ixdtf.specs.table.Faults.{Fault, fault_of, never_comes}
 use Rattle.ixdtf.specs.table.Faults.Fault.{NonAsciiCodePoint}
 use Rattle.ixdtf.specs.language.ZoneNames.{Zone}
 use Rattle.ixdtf.specs.language.Brackets.{ZoneNote}
@@ -18,6 +20,19 @@ use Rattle.ixdtf.specs.language.ZoneNames.Zone.{Name, Offset}
 pub record Unread : Type 0 where
   pub rest : List ℕ
   pub looks : ℕ
+
+-- what a parser that has a profile is to its callers: the same, and the profile
+pub record UnreadUnder : Type 0 where
+  pub rest : List ℕ
+  pub looks : ℕ
+  pub profile : Profile
+
+abbrev pub under : Profile → Unread → UnreadUnder
+under profile unread = record { rest = unread.rest; looks = unread.looks; profile = profile }
+
+-- what it has besides its profile
+abbrev pub unread_of : UnreadUnder → Unread
+unread_of parser = record { rest = parser.rest; looks = parser.looks }
 
 -- what a look finds: a letter's number, or nothing past the end
 abbrev pub looked : Option Letter → Result (Option ℕ) Fault
@@ -72,3 +87,12 @@ pub record IsEmptyRecord {T U : Type 0} (r : IxdtfParseRecord T U) : Type 0 wher
 -- the most looks that a reader makes at a text
 abbrev pub most_looks : List ℕ → ℕ
 most_looks rest = 4 * length rest + 64
+
+-- What a reader leaves behind, whose errors are seen by their faults: nothing to be read where it succeeds, and all of it where
+-- it refuses, with none of the errors that no reader gives; and a count of looks that did not go down, nor up by more than the most.
+pub record LeavesBehind {X E : Type 0} (fault : E → Fault) (old : Unread) (result : Result X E) (new : Unread) : Type 0 where
+  pub empty : OnOk result (new.rest ≡ [])
+  pub unchanged : OnErr result (new.rest ≡ old.rest)
+  pub comes : IfErr result (λ e. IsFalse (never_comes (fault e)))
+  pub looks : new.looks ≤ old.looks + most_looks old.rest
+  pub counted : old.looks ≤ new.looks

@@ -8,40 +8,40 @@ use Rattle.ixdtf.specs.language.Languages.Found.{parsed, shifted, identified, na
 use Rattle.ixdtf.specs.table.Faults.{Fault}
 use Rattle.ixdtf.specs.table.Faults.Fault.{NonAsciiCodePoint}
 use Rattle.ixdtf.specs.table.Outcomes.{HasFault, ExactlyOne}
-use Rattle.ixdtf.specs.Handlers.{PlainRecord, PlainFault}
+use Rattle.ixdtf.specs.Handlers.{UnhandledRecord, UnhandledFault}
 
 -- ---- outcomes without a handler
 
 -- what a reader without a handler returns: slices stand in it by the numbers of their units
-pub data PlainOutcome : Type 0 where
-  read_as : Found → PlainOutcome
-  faulted : Fault → PlainOutcome
+pub data UnhandledOutcome : Type 0 where
+  read_as : Found → UnhandledOutcome
+  faulted : Fault → UnhandledOutcome
 
 -- the text has the outcome in a reader with brackets, where each pair is its own reply
-abbrev pub HasWithPairs : CoreKind → Text → PlainOutcome → Type 0
-HasWithPairs kind text (read_as (parsed found)) = PlainRecord (bracketed kind) text found
+abbrev pub HasWithPairs : CoreKind → Text → UnhandledOutcome → Type 0
+HasWithPairs kind text (read_as (parsed found)) = UnhandledRecord (bracketed kind) text found
 HasWithPairs kind text (read_as (shifted offset)) = ⊥
 HasWithPairs kind text (read_as (identified zone)) = ⊥
 HasWithPairs kind text (read_as (named units)) = ⊥
 HasWithPairs kind text (read_as (lasting duration)) = ⊥
-HasWithPairs kind text (faulted fault) = PlainFault (bracketed kind) text fault
+HasWithPairs kind text (faulted fault) = UnhandledFault (bracketed kind) text fault
 
 -- the text has the outcome in a reader without brackets
-abbrev pub HasAlone : Reader → Text → PlainOutcome → Type 0
+abbrev pub HasAlone : Reader → Text → UnhandledOutcome → Type 0
 HasAlone reader text (read_as found) = Derives reader text found []
 HasAlone reader text (faulted fault) = HasFault reader text [] fault
 
 -- the text has the outcome in the reader
-abbrev pub HasPlain : Reader → Text → PlainOutcome → Type 0
-HasPlain (bracketed kind) text outcome = HasWithPairs kind text outcome
-HasPlain parse_offset text outcome = HasAlone parse_offset text outcome
-HasPlain parse_identifier text outcome = HasAlone parse_identifier text outcome
-HasPlain parse_iana_identifier text outcome = HasAlone parse_iana_identifier text outcome
-HasPlain parse_duration text outcome = HasAlone parse_duration text outcome
+abbrev pub HasUnhandledOutcome : Reader → Text → UnhandledOutcome → Type 0
+HasUnhandledOutcome (bracketed kind) text outcome = HasWithPairs kind text outcome
+HasUnhandledOutcome parse_offset text outcome = HasAlone parse_offset text outcome
+HasUnhandledOutcome parse_identifier text outcome = HasAlone parse_identifier text outcome
+HasUnhandledOutcome parse_iana_identifier text outcome = HasAlone parse_iana_identifier text outcome
+HasUnhandledOutcome (parse_duration profile) text outcome = HasAlone (parse_duration profile) text outcome
 
 -- each text has exactly one outcome in each reader without a handler
-abbrev pub OnePlainOutcome : Type 0
-OnePlainOutcome = (reader : Reader) (text : Text) → ExactlyOne (HasPlain reader text)
+abbrev pub OneUnhandledOutcome : Type 0
+OneUnhandledOutcome = (reader : Reader) (text : Text) → ExactlyOne (HasUnhandledOutcome reader text)
 
 -- ---- two widths
 
@@ -63,10 +63,10 @@ mask numbers = map (λ n. if is_shared n then n else 128) numbers
 -- On numbers from 1 to 126 the two readings have the same outcome.
 abbrev pub SameWhereShared : Type 0
 SameWhereShared = (reader : Reader) (numbers : List ℕ) → All (λ n. IsTrue (is_shared n)) numbers
-    → (outcome : PlainOutcome) → HasPlain reader (wide_text numbers) outcome ↔ HasPlain reader (byte_text numbers) outcome
+    → (outcome : UnhandledOutcome) → HasUnhandledOutcome reader (wide_text numbers) outcome ↔ HasUnhandledOutcome reader (byte_text numbers) outcome
 
 -- With another number the outcome of the 16-bit reading is a fault: `NonAsciiCodePoint`, or the outcome of the mask as 8-bit units.
 abbrev pub FaultWhereNotShared : Type 0
 FaultWhereNotShared = (reader : Reader) (numbers : List ℕ) → Any (λ n. IsFalse (is_shared n)) numbers
-    → (fault : Fault) × HasPlain reader (wide_text numbers) (faulted fault)
-    × ((fault ≡ NonAsciiCodePoint) ⊎ HasPlain reader (byte_text (mask numbers)) (faulted fault))
+    → (fault : Fault) × HasUnhandledOutcome reader (wide_text numbers) (faulted fault)
+    × ((fault ≡ NonAsciiCodePoint) ⊎ HasUnhandledOutcome reader (byte_text (mask numbers)) (faulted fault))

@@ -4,17 +4,18 @@
 //! from there on, at no cost where the law takes nothing and does nothing. [`parse_unanswered`] reads, and its contract is
 //! that of [`IxdtfParser::parse_with_annotation_handler`] with the law beside it.
 
-ghost use Rattle.std.specs.Prelude.{◌≡◌, ◌≢◌, ◌+◌, ◌≤◌, [], map, OnOk, OnErr, IfOk, IfErr, IfSome, IsFalse, None};
-ghost use Rattle.ixdtf.specs.table.Faults.{fault_of, never_comes};
+ghost use Rattle.std.specs.Prelude.{◌≡◌, ◌≢◌, map, OnOk, IfOk, IfErr, IfSome, None, pos};
+ghost use Rattle.ixdtf.specs.table.Faults.{fault_of};
 ghost use Rattle.ixdtf.specs.table.Faults.Fault.{CriticalDuplicateCalendar, UnrecognizedCritical};
 ghost use Rattle.ixdtf.specs.language.Readers.{parse as reader_parse};
-ghost use Rattle.ixdtf.specs.Handlers.{Handled, HandledOnly, pair_of};
+ghost use Rattle.ixdtf.specs.Handlers.{Handled, pair_of};
 ghost use Rattle.ixdtf.specs.Laws.{EveryDateTimeIsRead, EveryNameIsAnIdentifier, LanguagesDisjoint, InNoOther};
-ghost use Rattle.ixdtf.specs.Laws.{ClonesAreEqual, IsEqualityBy};
-ghost use Rattle.ixdtf.specs.Widths.{OnePlainOutcome, SameWhereShared, FaultWhereNotShared};
-ghost use Rattle.ixdtf.specs.table.Outcomes.{OneOutcome, NoRowFits};
+ghost use Rattle.ixdtf.specs.Laws.{OffsetsAgree, HyphensSayNothing, OneHyphenIsRefused, OneResult, OneChain};
+ghost use Rattle.ixdtf.specs.Laws.{DefaultIs, ClonesAreEqual, IsEqualityBy};
+ghost use Rattle.ixdtf.specs.Widths.{OneUnhandledOutcome, SameWhereShared, FaultWhereNotShared};
+ghost use Rattle.ixdtf.specs.table.Outcomes.{OneOutcome, FrontsBegin, NoRowFits};
 ghost use Rattle.ixdtf.specs.language.Fractions.{exact_nanoseconds_of, nanoseconds_of};
-ghost use Rattle.ixdtf.specs.Views.{returned, returned_by, zone_of, note_of, parsed_of, most_looks};
+ghost use Rattle.ixdtf.specs.Views.{unread_of, LeavesBehind, returned, returned_by, zone_of, note_of, parsed_of};
 
 use crate::encoding::EncodingType;
 use crate::parsers::{DateTimes, IxdtfParser};
@@ -42,6 +43,22 @@ pub fn every_name_is_an_identifier()
     ensures { EveryNameIsAnIdentifier }
 {}
 
+/// Where [`TimeZoneParser::parse_offset`](crate::parsers::TimeZoneParser::parse_offset) and
+/// [`TimeZoneParser::parse_identifier`](crate::parsers::TimeZoneParser::parse_identifier) both read a text, it is a sign, an
+/// hour and a minute, or a sign and an hour, and both return these: the one as `MinutePrecision`, the other as `Offset`.
+pub fn offsets_agree()
+    ensures { OffsetsAgree }
+{}
+
+/// The hyphens of a date, under [`IxdtfParser::parse`]. A date here is a year, a month from 01 to 12 and two digits of a day.
+///
+/// - `same`: a date without hyphens and the same date with both give the same, a record or an error, whatever follows.
+/// - `one`: with one hyphen alone the error is `DateSeparator`, whatever follows.
+pub fn hyphens_say_nothing()
+    ensures same { HyphensSayNothing }
+    ensures one { OneHyphenIsRefused }
+{}
+
 /// Each text has exactly one outcome in each reader: either one value is derived from it, or one row of the fault table
 /// (`docs/FAULTS.md`) fits it. Never both, never neither, and never two values or two rows.
 ///
@@ -49,12 +66,22 @@ pub fn every_name_is_an_identifier()
 /// before the row. What a handler replies to them is not: where a reply is refused, a reader refuses a text from which a
 /// value is derived.
 ///
+/// - `outcome`: this.
+/// - `begins`: the annotations of a front from which a value is derived are the first of the text's outcome, whether a value
+///   is derived from the text or a row fits it.
+/// - `chain`: a text, with these annotations and these replies to them, gives one result, a record or an error.
+/// - `replied`: whoever replies to each annotation by the annotations so far is asked about one list of them, and gets one
+///   result. There always is one.
+///
 /// What this says of a call that returned stands in the contract of each reader, as `no_row` and `only`.
 pub fn one_outcome()
-    ensures { OneOutcome }
+    ensures outcome { OneOutcome }
+    ensures begins { FrontsBegin }
+    ensures chain { OneResult }
+    ensures replied { OneChain }
 {}
 
-/// No text is read by two of the five readers of dates, times and durations: [`IxdtfParser::parse`],
+/// No text is read by two of the five readers of dates, times and durations under one profile: [`IxdtfParser::parse`],
 /// [`IxdtfParser::parse_year_month`], [`IxdtfParser::parse_month_day`], [`IxdtfParser::parse_time`] and
 /// [`IsoDurationParser::parse`](crate::parsers::IsoDurationParser::parse).
 ///
@@ -71,7 +98,7 @@ pub fn languages_disjoint()
 /// - With any other number 16-bit units have an error: `NonAsciiCodePoint`, or the one that 8-bit units have where 128 stands
 ///   in the place of each such number.
 pub fn widths_agree()
-    ensures one { OnePlainOutcome }
+    ensures one { OneUnhandledOutcome }
     ensures same { SameWhereShared }
     ensures fault { FaultWhereNotShared }
 {}
@@ -109,6 +136,17 @@ where
     ensures date_duration { IsEqualityBy (λ it. it) ⟦<DateDurationRecord as PartialEq>⟧.eq }
     ensures time_duration { IsEqualityBy (λ it. it) ⟦<TimeDurationRecord as PartialEq>⟧.eq }
     ensures error { IsEqualityBy fault_of ⟦<ParseError as PartialEq>⟧.eq }
+{}
+
+/// `default` of a date, of a time and of the date units of a duration is 0 in each field, and the time has no fraction. In
+/// the default [`IxdtfParseRecord`] nothing stands, as its own contract says.
+pub fn defaults_are_zero()
+    ensures date { DefaultIs ⟦<DateRecord as Default>⟧.is_default
+        (record { year = pos 0; month = 0; day = 0 }) }
+    ensures time { DefaultIs ⟦<TimeRecord as Default>⟧.is_default
+        (record { hour = 0; minute = 0; second = 0; fraction = None }) }
+    ensures date_duration { DefaultIs ⟦<DateDurationRecord as Default>⟧.is_default
+        (record { years = 0; months = 0; weeks = 0; days = 0 }) }
 {}
 
 /// `clone` of each record and of an error is `Ok`, and what it returns is the value, in every encoding.
@@ -169,14 +207,10 @@ where
     ensures handled { Handled T.number F.step handler reader_parse (map T.letter parser.old.rest)
         (returned (parsed_of T.number) result) }
     ensures no_row { OnOk result (NoRowFits reader_parse (map T.letter parser.old.rest)) }
-    ensures alone { OnOk result (InNoOther reader_parse (map T.letter parser.old.rest)) }
-    ensures only { HandledOnly T.number F.step handler reader_parse (map T.letter parser.old.rest)
-        (returned (parsed_of T.number) result) }
-    ensures comes { IfErr result (λ e. IsFalse (never_comes (fault_of e))) }
-    ensures empty { OnOk result (parser.new.rest ≡ []) }
-    ensures unchanged { OnErr result (parser.new.rest ≡ parser.old.rest) }
-    ensures looks { parser.new.looks ≤ parser.old.looks + most_looks parser.old.rest }
-    ensures counted { parser.old.looks ≤ parser.new.looks }
+    ensures alone { OnOk result (InNoOther parser.old.profile reader_parse
+        (map T.letter parser.old.rest)) }
+    ensures leaves { LeavesBehind fault_of (unread_of parser.old) result (unread_of parser.new) }
+    ensures profile { parser.new.profile ≡ parser.old.profile }
 {
     parse_unanswered_as::<T, ParseError, F>(parser, handler)
 }
@@ -199,14 +233,10 @@ where
     ensures handled { Handled T.number F.step handler reader_parse (map T.letter parser.old.rest)
         (returned_by E.fault (parsed_of T.number) result) }
     ensures no_row { OnOk result (NoRowFits reader_parse (map T.letter parser.old.rest)) }
-    ensures alone { OnOk result (InNoOther reader_parse (map T.letter parser.old.rest)) }
-    ensures only { HandledOnly T.number F.step handler reader_parse (map T.letter parser.old.rest)
-        (returned_by E.fault (parsed_of T.number) result) }
-    ensures comes { IfErr result (λ e. IsFalse (never_comes (E.fault e))) }
-    ensures empty { OnOk result (parser.new.rest ≡ []) }
-    ensures unchanged { OnErr result (parser.new.rest ≡ parser.old.rest) }
-    ensures looks { parser.new.looks ≤ parser.old.looks + most_looks parser.old.rest }
-    ensures counted { parser.old.looks ≤ parser.new.looks }
+    ensures alone { OnOk result (InNoOther parser.old.profile reader_parse
+        (map T.letter parser.old.rest)) }
+    ensures leaves { LeavesBehind E.fault (unread_of parser.old) result (unread_of parser.new) }
+    ensures profile { parser.new.profile ≡ parser.old.profile }
 {
     parser.read_as::<E, DateTimes, F>(handler)
 }

@@ -7,6 +7,7 @@
 //! time alone, with the same brackets. Each has a form `.._with_annotation_handler`, which asks the caller about each annotation.
 //! [`parsers::TimeZoneParser`] reads a text that is an offset, a time zone or the name of one alone, and
 //! [`parsers::IsoDurationParser`] one that is a duration, as `P1Y2M3DT4H`.
+//! [`parsers::Profile`] has a stricter reading of months with a day, of times and of durations.
 //!
 //! Each reader accepts every text of the grammar and no other, but for those with a reply to an annotation that is refused.
 //! It refuses any other text with an error that the fault table has for it, or with that of the refused reply. It takes no

@@ -5,17 +5,18 @@
 //! source and no reply to an annotation is refused, and an error only where a row of the fault table (`docs/FAULTS.md`) with
 //! this error fits the source, or a reply is refused with it.
 
-ghost use Rattle.std.specs.Prelude.{◌≡◌, ◌↔◌, ◌+◌, ◌≤◌, [], map, Ok, None, OnOk, OnErr, IfErr, IsFalse};
-ghost use Rattle.ixdtf.specs.table.Faults.{fault_of, never_comes};
+ghost use Rattle.std.specs.Prelude.{◌≡◌, ◌↔◌, map, Ok, OnOk, IfErr};
+ghost use Rattle.ixdtf.specs.table.Faults.{fault_of};
 ghost use Rattle.ixdtf.specs.table.Outcomes.{NoRowFits};
 ghost use Rattle.ixdtf.specs.language.Readers.{parse as reader_parse, parse_year_month as reader_parse_year_month};
 ghost use Rattle.ixdtf.specs.language.Readers.{parse_month_day as reader_parse_month_day, parse_time as reader_parse_time};
 ghost use Rattle.ixdtf.specs.language.Readers.Reader.{bracketed};
 ghost use Rattle.ixdtf.specs.language.Languages.{Parsed};
-ghost use Rattle.ixdtf.specs.Handlers.{Handled, HandledOnly, PlainRecord, PlainFault, PlainOnlyFault};
+ghost use Rattle.ixdtf.specs.Handlers.{Handled, UnhandledRecord, UnhandledFault, UnhandledOnlyFault};
 ghost use Rattle.ixdtf.specs.Laws.{InNoOther};
-ghost use Rattle.ixdtf.specs.Views.{Unread, returned, returned_by, parsed_of, most_looks};
-ghost use Rattle.ixdtf.specs.reading.Clauses.{PlainForm, yielded, fault_of_stop};
+ghost use Rattle.ixdtf.specs.Views.{UnreadUnder, under, unread_of, LeavesBehind, IsEmptyRecord, returned, returned_by, parsed_of};
+ghost use Rattle.ixdtf.specs.reading.Chains.{TextRead};
+ghost use Rattle.ixdtf.specs.reading.Clauses.{UnhandledForm, yielded, fault_of_stop};
 
 mod annotations;
 mod brackets;
@@ -27,6 +28,7 @@ mod grammar;
 mod letters;
 mod months;
 mod offsets;
+mod profile;
 mod texts;
 mod time;
 mod timezone;
@@ -35,6 +37,7 @@ mod zones;
 pub(crate) use self::cores::DateTimes;
 use self::cores::{Cores, LoneTimes, MonthDays, YearMonths};
 pub use self::duration::IsoDurationParser;
+pub use self::profile::Profile;
 use self::texts::parse_text;
 pub use self::zones::TimeZoneParser;
 use crate::cursor::Cursor;
@@ -46,18 +49,19 @@ use std::marker::Model;
 
 /// A reader of dates and times, with an offset, a time zone and annotations.
 ///
-/// It borrows its source, and is as large as the slice of units that are still to be read. A contract sees it as these
-/// units, by their numbers, and the count of looks that were made at them.
+/// It borrows its source, and is as large as the slice of units that are still to be read and its profile. A contract sees
+/// it as these units, by their numbers, the count of looks that were made at them, and the profile.
 #[derive(Drop)]
 #[derive_where(Debug)]
 pub struct IxdtfParser<'a, T: EncodingType> {
     cursor: Cursor<'a, T>,
+    profile: Profile,
 }
 
 impl<'a, T: EncodingType> Model for IxdtfParser<'a, T> {
-    ghost Value = { Unread };
+    ghost Value = { UnreadUnder };
 
-    ghost view = { λ p. p.cursor };
+    ghost view = { λ p. under p.profile p.cursor };
 }
 
 impl<'a> IxdtfParser<'a, Utf8> {
@@ -65,6 +69,7 @@ impl<'a> IxdtfParser<'a, Utf8> {
     pub fn from_str(source: &'a str) -> Self
         ensures rest { result.rest ≡ source.now }
         ensures looks { result.looks ≡ 0 }
+        ensures profile { result.profile ≡ Profile.Crate }
     {
         Self::new(source.as_bytes())
     }
@@ -73,6 +78,7 @@ impl<'a> IxdtfParser<'a, Utf8> {
     pub fn from_utf8(source: &'a [u8]) -> Self
         ensures rest { result.rest ≡ source.now }
         ensures looks { result.looks ≡ 0 }
+        ensures profile { result.profile ≡ Profile.Crate }
     {
         Self::new(source)
     }
@@ -83,6 +89,7 @@ impl<'a> IxdtfParser<'a, Utf16> {
     pub fn from_utf16(source: &'a [u16]) -> Self
         ensures rest { result.rest ≡ source.now }
         ensures looks { result.looks ≡ 0 }
+        ensures profile { result.profile ≡ Profile.Crate }
     {
         IxdtfParser::new(source)
     }
@@ -93,9 +100,24 @@ impl<'a, T: EncodingType> IxdtfParser<'a, T> {
     pub fn new(source: &'a [T::CodeUnit]) -> Self
         ensures rest { result.rest ≡ map T.number source.now }
         ensures looks { result.looks ≡ 0 }
+        ensures profile { result.profile ≡ Profile.Crate }
     {
         IxdtfParser {
             cursor: Cursor::new(source),
+            profile: Profile::Crate,
+        }
+    }
+
+    /// The parser with this profile, which decides what a month and a day are, also where a time is told from them. What is
+    /// still to be read stays.
+    pub fn with_profile(self, profile: Profile) -> Self
+        ensures profile { result.profile ≡ profile }
+        ensures rest { result.rest ≡ self.entry.rest }
+        ensures looks { result.looks ≡ self.entry.looks }
+    {
+        IxdtfParser {
+            cursor: self.cursor,
+            profile,
         }
     }
 
@@ -129,8 +151,8 @@ impl<'a, T: EncodingType> IxdtfParser<'a, T> {
     /// 2024-03-02[!a=b]          Err(UnrecognizedCritical)
     /// ```
     ///
-    /// After `Ok` nothing is left to be read. After an error all that was still to be read still is, so a second call returns
-    /// the same.
+    /// After `Ok` nothing is left to be read, so each later call is refused as one on the empty text is. After an error all
+    /// that was still to be read still is, so a second call returns the same.
     ///
     /// # Errors
     ///
@@ -165,29 +187,25 @@ impl<'a, T: EncodingType> IxdtfParser<'a, T> {
     pub fn parse(&mut self) -> ParserResult<IxdtfParseRecord<'a, T>>
         // `Ok` exactly with the record that the text gives, where each pair replies for itself.
         ensures ok { (p : Parsed) → (returned (parsed_of T.number) result ≡ Ok p) ↔
-            PlainRecord reader_parse (map T.letter self.old.rest) p }
+            UnhandledRecord reader_parse (map T.letter self.old.rest) p }
         // `Err` only with a fault that it gives so.
         ensures err { IfErr result
-            (λ e. PlainFault reader_parse (map T.letter self.old.rest) (fault_of e)) }
+            (λ e. UnhandledFault reader_parse (map T.letter self.old.rest) (fault_of e)) }
 
         // `Ok` only where no row of the fault table fits, and where no other reader of dates, times and durations has the text.
         ensures no_row { OnOk result (NoRowFits reader_parse (map T.letter self.old.rest)) }
-        ensures alone { OnOk result (InNoOther reader_parse (map T.letter self.old.rest)) }
+        ensures alone { OnOk result (InNoOther self.old.profile reader_parse
+            (map T.letter self.old.rest)) }
         // `Err` only with the one fault that it gives: that of the last pair, which is refused, or of the only row that fits.
         ensures only { IfErr result
-            (λ e. PlainOnlyFault reader_parse (map T.letter self.old.rest) (fault_of e)) }
+            (λ e. UnhandledOnlyFault reader_parse (map T.letter self.old.rest) (fault_of e)) }
 
-        // None of the errors that no reader gives.
-        ensures comes { IfErr result (λ e. IsFalse (never_comes (fault_of e))) }
-
-        ensures empty { OnOk result (self.new.rest ≡ []) }
-        ensures unchanged { OnErr result (self.new.rest ≡ self.old.rest) }
-        ensures looks { self.new.looks ≤ self.old.looks + most_looks self.old.rest }
-        // The count of looks never goes down.
-        ensures counted { self.old.looks ≤ self.new.looks }
+        // What it leaves: nothing to be read after `Ok`, and all of it after an error.
+        ensures leaves { LeavesBehind fault_of (unread_of self.old) result (unread_of self.new) }
+        ensures profile { self.new.profile ≡ self.old.profile }
     {
         let mut found = IxdtfParseRecord::default();
-        match self.read_plain::<DateTimes>(&mut found) {
+        match self.read_unhandled::<DateTimes>(&mut found) {
             Ok(()) => Ok(found),
             Err(stop) => return Err(stop.error()),
         }
@@ -210,8 +228,8 @@ impl<'a, T: EncodingType> IxdtfParser<'a, T> {
     /// holds borrows of several lifetimes, as a closure does that captures two variables, the proof of its caller wants a
     /// function between them, generic in the handler and in an error `E: From<ParseError>`.
     ///
-    /// After `Ok` nothing is left to be read. After an error what was still to be read still is. Calls that were made stay
-    /// made.
+    /// After `Ok` nothing is left to be read, so each later call is refused as one on the empty text is. After an error what
+    /// was still to be read still is. Calls that were made stay made.
     ///
     /// # Errors
     ///
@@ -225,27 +243,19 @@ impl<'a, T: EncodingType> IxdtfParser<'a, T> {
         F: FnMut(Annotation<'a, T>) -> Option<Annotation<'a, T>>,
         // The handler may be called at any time, in any state that it reached, on any annotation.
         requires callable { F.IsAlwaysCallable handler }
-        // For the one chain of its calls: `Ok` exactly with the record, and `Err` only with a fault, that the text and the
-        // replies give.
+        // For the one chain of its calls: `Ok` exactly with the record, and `Err` only with the one fault, that the text and
+        // the replies give.
         ensures handled { Handled T.number F.step handler reader_parse (map T.letter self.old.rest)
             (returned (parsed_of T.number) result) }
 
         // `Ok` only where no row of the fault table fits, and where no other reader of dates, times and durations has the text.
         ensures no_row { OnOk result (NoRowFits reader_parse (map T.letter self.old.rest)) }
-        ensures alone { OnOk result (InNoOther reader_parse (map T.letter self.old.rest)) }
-        // For the one chain of its calls: all that `handled` says, and `Err` only with the one fault that the text and the
-        // replies give.
-        ensures only { HandledOnly T.number F.step handler reader_parse (map T.letter self.old.rest)
-            (returned (parsed_of T.number) result) }
+        ensures alone { OnOk result (InNoOther self.old.profile reader_parse
+            (map T.letter self.old.rest)) }
 
-        // None of the errors that no reader gives.
-        ensures comes { IfErr result (λ e. IsFalse (never_comes (fault_of e))) }
-
-        ensures empty { OnOk result (self.new.rest ≡ []) }
-        ensures unchanged { OnErr result (self.new.rest ≡ self.old.rest) }
-        ensures looks { self.new.looks ≤ self.old.looks + most_looks self.old.rest }
-        // The count of looks never goes down.
-        ensures counted { self.old.looks ≤ self.new.looks }
+        // What it leaves: nothing to be read after `Ok`, and all of it after an error.
+        ensures leaves { LeavesBehind fault_of (unread_of self.old) result (unread_of self.new) }
+        ensures profile { self.new.profile ≡ self.old.profile }
     {
         self.read_as::<ParseError, DateTimes, F>(handler)
     }
@@ -265,7 +275,8 @@ impl<'a, T: EncodingType> IxdtfParser<'a, T> {
     /// 2020-11-08          Err(InvalidEnd)
     /// ```
     ///
-    /// After `Ok` nothing is left to be read. After an error all that was still to be read still is.
+    /// After `Ok` nothing is left to be read, so each later call is refused as one on the empty text is. After an error all
+    /// that was still to be read still is.
     ///
     /// # Errors
     ///
@@ -281,32 +292,29 @@ impl<'a, T: EncodingType> IxdtfParser<'a, T> {
     pub fn parse_year_month(&mut self) -> ParserResult<IxdtfParseRecord<'a, T>>
         // `Ok` exactly with the record that the text gives, where each pair replies for itself.
         ensures ok { (p : Parsed) → (returned (parsed_of T.number) result ≡ Ok p) ↔
-            PlainRecord reader_parse_year_month (map T.letter self.old.rest) p }
+            UnhandledRecord reader_parse_year_month (map T.letter self.old.rest) p }
         // `Err` only with a fault that it gives so.
         ensures err { IfErr result
-            (λ e. PlainFault reader_parse_year_month (map T.letter self.old.rest) (fault_of e)) }
+            (λ e. UnhandledFault reader_parse_year_month (map T.letter self.old.rest)
+            (fault_of e)) }
 
         // `Ok` only where no row of the fault table fits, and where no other reader of dates, times and durations has the text.
         ensures no_row { OnOk result
             (NoRowFits reader_parse_year_month (map T.letter self.old.rest)) }
         ensures alone { OnOk result
-            (InNoOther reader_parse_year_month (map T.letter self.old.rest)) }
+            (InNoOther self.old.profile reader_parse_year_month
+            (map T.letter self.old.rest)) }
         // `Err` only with the one fault that it gives: that of the last pair, which is refused, or of the only row that fits.
         ensures only { IfErr result
-            (λ e. PlainOnlyFault reader_parse_year_month (map T.letter self.old.rest)
+            (λ e. UnhandledOnlyFault reader_parse_year_month (map T.letter self.old.rest)
             (fault_of e)) }
 
-        // None of the errors that no reader gives.
-        ensures comes { IfErr result (λ e. IsFalse (never_comes (fault_of e))) }
-
-        ensures empty { OnOk result (self.new.rest ≡ []) }
-        ensures unchanged { OnErr result (self.new.rest ≡ self.old.rest) }
-        ensures looks { self.new.looks ≤ self.old.looks + most_looks self.old.rest }
-        // The count of looks never goes down.
-        ensures counted { self.old.looks ≤ self.new.looks }
+        // What it leaves: nothing to be read after `Ok`, and all of it after an error.
+        ensures leaves { LeavesBehind fault_of (unread_of self.old) result (unread_of self.new) }
+        ensures profile { self.new.profile ≡ self.old.profile }
     {
         let mut found = IxdtfParseRecord::default();
-        match self.read_plain::<YearMonths>(&mut found) {
+        match self.read_unhandled::<YearMonths>(&mut found) {
             Ok(()) => Ok(found),
             Err(stop) => return Err(stop.error()),
         }
@@ -327,8 +335,8 @@ impl<'a, T: EncodingType> IxdtfParser<'a, T> {
         F: FnMut(Annotation<'a, T>) -> Option<Annotation<'a, T>>,
         // The handler may be called at any time, in any state that it reached, on any annotation.
         requires callable { F.IsAlwaysCallable handler }
-        // For the one chain of its calls: `Ok` exactly with the record, and `Err` only with a fault, that the text and the
-        // replies give.
+        // For the one chain of its calls: `Ok` exactly with the record, and `Err` only with the one fault, that the text and
+        // the replies give.
         ensures handled { Handled T.number F.step handler reader_parse_year_month
             (map T.letter self.old.rest)
             (returned (parsed_of T.number) result) }
@@ -337,21 +345,12 @@ impl<'a, T: EncodingType> IxdtfParser<'a, T> {
         ensures no_row { OnOk result
             (NoRowFits reader_parse_year_month (map T.letter self.old.rest)) }
         ensures alone { OnOk result
-            (InNoOther reader_parse_year_month (map T.letter self.old.rest)) }
-        // For the one chain of its calls: all that `handled` says, and `Err` only with the one fault that the text and the
-        // replies give.
-        ensures only { HandledOnly T.number F.step handler reader_parse_year_month
-            (map T.letter self.old.rest)
-            (returned (parsed_of T.number) result) }
+            (InNoOther self.old.profile reader_parse_year_month
+            (map T.letter self.old.rest)) }
 
-        // None of the errors that no reader gives.
-        ensures comes { IfErr result (λ e. IsFalse (never_comes (fault_of e))) }
-
-        ensures empty { OnOk result (self.new.rest ≡ []) }
-        ensures unchanged { OnErr result (self.new.rest ≡ self.old.rest) }
-        ensures looks { self.new.looks ≤ self.old.looks + most_looks self.old.rest }
-        // The count of looks never goes down.
-        ensures counted { self.old.looks ≤ self.new.looks }
+        // What it leaves: nothing to be read after `Ok`, and all of it after an error.
+        ensures leaves { LeavesBehind fault_of (unread_of self.old) result (unread_of self.new) }
+        ensures profile { self.new.profile ≡ self.old.profile }
     {
         self.read_as::<ParseError, YearMonths, F>(handler)
     }
@@ -360,20 +359,21 @@ impl<'a, T: EncodingType> IxdtfParser<'a, T> {
     /// then, in brackets, what [`parse`](Self::parse) reads there.
     ///
     /// A month and a day are `11-07`, `1107`, `--11-07` or `--1107`. The day is from 0 to the greatest that the month has in
-    /// any year, which is 29 for February. The record has `date`, whose year is 0, and `tz` and `calendar` as that of
-    /// [`parse`](Self::parse).
+    /// any year, which is 29 for February; under [`Profile::Strict`] it is at least 1. The record has `date`, whose year is 0,
+    /// and `tz` and `calendar` as that of [`parse`](Self::parse).
     ///
     /// ```text
     /// 11-07               Ok: 7 November of the year 0
     /// --1107[+04:00]      Ok: 7 November of the year 0, the zone plus 4 hours
     /// 02-29               Ok: 29 February of the year 0
-    /// 11-00               Ok: day 0 of November of the year 0
+    /// 11-00               Ok: day 0 of November of the year 0; strictly Err(InvalidMonthDay)
     /// 02-30               Err(InvalidMonthDay)
     /// -11-07              Err(MonthDayHyphen)
     /// -                   Err(AbruptEnd { location: "MonthDay" })
     /// ```
     ///
-    /// After `Ok` nothing is left to be read. After an error all that was still to be read still is.
+    /// After `Ok` nothing is left to be read, so each later call is refused as one on the empty text is. After an error all
+    /// that was still to be read still is.
     ///
     /// # Errors
     ///
@@ -383,38 +383,39 @@ impl<'a, T: EncodingType> IxdtfParser<'a, T> {
     /// - `MonthDayHyphen` where another letter than a second hyphen follows the first;
     /// - `DateMonth` and `DateDay` where another letter stands in the place of a digit of the month and the day;
     /// - `InvalidMonthRange` where the month is not from 1 to 12;
-    /// - `InvalidMonthDay` where the month has the day in no year;
+    /// - `InvalidMonthDay` where the month has the day in no year, and for day 0 under [`Profile::Strict`];
     /// - `InvalidEnd` at any other letter after the day;
     /// - `NonAsciiCodePoint` at a unit that stands for no letter, which no 8-bit unit does.
     #[inline(always)]
     pub fn parse_month_day(&mut self) -> ParserResult<IxdtfParseRecord<'a, T>>
         // `Ok` exactly with the record that the text gives, where each pair replies for itself.
         ensures ok { (p : Parsed) → (returned (parsed_of T.number) result ≡ Ok p) ↔
-            PlainRecord reader_parse_month_day (map T.letter self.old.rest) p }
+            UnhandledRecord (reader_parse_month_day self.old.profile)
+            (map T.letter self.old.rest) p }
         // `Err` only with a fault that it gives so.
         ensures err { IfErr result
-            (λ e. PlainFault reader_parse_month_day (map T.letter self.old.rest) (fault_of e)) }
+            (λ e. UnhandledFault (reader_parse_month_day self.old.profile)
+            (map T.letter self.old.rest)
+            (fault_of e)) }
 
         // `Ok` only where no row of the fault table fits, and where no other reader of dates, times and durations has the text.
         ensures no_row { OnOk result
-            (NoRowFits reader_parse_month_day (map T.letter self.old.rest)) }
+            (NoRowFits (reader_parse_month_day self.old.profile)
+            (map T.letter self.old.rest)) }
         ensures alone { OnOk result
-            (InNoOther reader_parse_month_day (map T.letter self.old.rest)) }
+            (InNoOther self.old.profile (reader_parse_month_day self.old.profile)
+            (map T.letter self.old.rest)) }
         // `Err` only with the one fault that it gives: that of the last pair, which is refused, or of the only row that fits.
         ensures only { IfErr result
-            (λ e. PlainOnlyFault reader_parse_month_day (map T.letter self.old.rest) (fault_of e)) }
+            (λ e. UnhandledOnlyFault (reader_parse_month_day self.old.profile)
+            (map T.letter self.old.rest) (fault_of e)) }
 
-        // None of the errors that no reader gives.
-        ensures comes { IfErr result (λ e. IsFalse (never_comes (fault_of e))) }
-
-        ensures empty { OnOk result (self.new.rest ≡ []) }
-        ensures unchanged { OnErr result (self.new.rest ≡ self.old.rest) }
-        ensures looks { self.new.looks ≤ self.old.looks + most_looks self.old.rest }
-        // The count of looks never goes down.
-        ensures counted { self.old.looks ≤ self.new.looks }
+        // What it leaves: nothing to be read after `Ok`, and all of it after an error.
+        ensures leaves { LeavesBehind fault_of (unread_of self.old) result (unread_of self.new) }
+        ensures profile { self.new.profile ≡ self.old.profile }
     {
         let mut found = IxdtfParseRecord::default();
-        match self.read_plain::<MonthDays>(&mut found) {
+        match self.read_unhandled::<MonthDays>(&mut found) {
             Ok(()) => Ok(found),
             Err(stop) => return Err(stop.error()),
         }
@@ -435,31 +436,23 @@ impl<'a, T: EncodingType> IxdtfParser<'a, T> {
         F: FnMut(Annotation<'a, T>) -> Option<Annotation<'a, T>>,
         // The handler may be called at any time, in any state that it reached, on any annotation.
         requires callable { F.IsAlwaysCallable handler }
-        // For the one chain of its calls: `Ok` exactly with the record, and `Err` only with a fault, that the text and the
-        // replies give.
-        ensures handled { Handled T.number F.step handler reader_parse_month_day
+        // For the one chain of its calls: `Ok` exactly with the record, and `Err` only with the one fault, that the text and
+        // the replies give.
+        ensures handled { Handled T.number F.step handler (reader_parse_month_day self.old.profile)
             (map T.letter self.old.rest)
             (returned (parsed_of T.number) result) }
 
         // `Ok` only where no row of the fault table fits, and where no other reader of dates, times and durations has the text.
         ensures no_row { OnOk result
-            (NoRowFits reader_parse_month_day (map T.letter self.old.rest)) }
+            (NoRowFits (reader_parse_month_day self.old.profile)
+            (map T.letter self.old.rest)) }
         ensures alone { OnOk result
-            (InNoOther reader_parse_month_day (map T.letter self.old.rest)) }
-        // For the one chain of its calls: all that `handled` says, and `Err` only with the one fault that the text and the
-        // replies give.
-        ensures only { HandledOnly T.number F.step handler reader_parse_month_day
-            (map T.letter self.old.rest)
-            (returned (parsed_of T.number) result) }
+            (InNoOther self.old.profile (reader_parse_month_day self.old.profile)
+            (map T.letter self.old.rest)) }
 
-        // None of the errors that no reader gives.
-        ensures comes { IfErr result (λ e. IsFalse (never_comes (fault_of e))) }
-
-        ensures empty { OnOk result (self.new.rest ≡ []) }
-        ensures unchanged { OnErr result (self.new.rest ≡ self.old.rest) }
-        ensures looks { self.new.looks ≤ self.old.looks + most_looks self.old.rest }
-        // The count of looks never goes down.
-        ensures counted { self.old.looks ≤ self.new.looks }
+        // What it leaves: nothing to be read after `Ok`, and all of it after an error.
+        ensures leaves { LeavesBehind fault_of (unread_of self.old) result (unread_of self.new) }
+        ensures profile { self.new.profile ≡ self.old.profile }
     {
         self.read_as::<ParseError, MonthDays, F>(handler)
     }
@@ -469,14 +462,15 @@ impl<'a, T: EncodingType> IxdtfParser<'a, T> {
     ///
     /// `T` or `t` may stand before the time. The time is as in [`parse`](Self::parse), and so is what may stand after it, `Z`,
     /// `z` or an offset. A text that begins as [`parse_month_day`](Self::parse_month_day) or
-    /// [`parse_year_month`](Self::parse_year_month) reads, as `1214Z` does, is refused unless it begins with `T` or `t`. The
-    /// record has `time`, `offset` where it stands, and `tz` and `calendar` as that of [`parse`](Self::parse).
+    /// [`parse_year_month`](Self::parse_year_month) reads, as `1214Z` does, is refused unless it begins with `T` or `t`; what a
+    /// month and a day are depends on the profile. The record has `time`, `offset` where it stands, and `tz` and `calendar` as
+    /// that of [`parse`](Self::parse).
     ///
     /// ```text
     /// 12:30:45.25         Ok: 12:30:45 and a fraction of two digits, 25
     /// T1200               Ok: 12:00:00
     /// 2021-13             Ok: 20:21:00, minus 13 hours
-    /// 1200                Err(AmbiguousTimeMonthDay)
+    /// 1200                Err(AmbiguousTimeMonthDay); strictly Ok: 12:00:00
     /// 1214Z               Err(AmbiguousTimeMonthDay)
     /// 2021-12             Err(AmbiguousTimeYearMonth)
     /// 202112[UTC]         Err(AmbiguousTimeYearMonth)
@@ -484,7 +478,8 @@ impl<'a, T: EncodingType> IxdtfParser<'a, T> {
     /// T19:12-089          Err(AbruptEnd { location: "digit" })
     /// ```
     ///
-    /// After `Ok` nothing is left to be read. After an error all that was still to be read still is.
+    /// After `Ok` nothing is left to be read, so each later call is refused as one on the empty text is. After an error all
+    /// that was still to be read still is.
     ///
     /// # Errors
     ///
@@ -498,29 +493,29 @@ impl<'a, T: EncodingType> IxdtfParser<'a, T> {
     pub fn parse_time(&mut self) -> ParserResult<IxdtfParseRecord<'a, T>>
         // `Ok` exactly with the record that the text gives, where each pair replies for itself.
         ensures ok { (p : Parsed) → (returned (parsed_of T.number) result ≡ Ok p) ↔
-            PlainRecord reader_parse_time (map T.letter self.old.rest) p }
+            UnhandledRecord (reader_parse_time self.old.profile) (map T.letter self.old.rest) p }
         // `Err` only with a fault that it gives so.
         ensures err { IfErr result
-            (λ e. PlainFault reader_parse_time (map T.letter self.old.rest) (fault_of e)) }
+            (λ e. UnhandledFault (reader_parse_time self.old.profile) (map T.letter self.old.rest)
+            (fault_of e)) }
 
         // `Ok` only where no row of the fault table fits, and where no other reader of dates, times and durations has the text.
-        ensures no_row { OnOk result (NoRowFits reader_parse_time (map T.letter self.old.rest)) }
-        ensures alone { OnOk result (InNoOther reader_parse_time (map T.letter self.old.rest)) }
+        ensures no_row { OnOk result (NoRowFits (reader_parse_time self.old.profile)
+            (map T.letter self.old.rest)) }
+        ensures alone { OnOk result (InNoOther self.old.profile (reader_parse_time self.old.profile)
+            (map T.letter self.old.rest)) }
         // `Err` only with the one fault that it gives: that of the last pair, which is refused, or of the only row that fits.
         ensures only { IfErr result
-            (λ e. PlainOnlyFault reader_parse_time (map T.letter self.old.rest) (fault_of e)) }
+            (λ e. UnhandledOnlyFault (reader_parse_time self.old.profile)
+            (map T.letter self.old.rest)
+            (fault_of e)) }
 
-        // None of the errors that no reader gives.
-        ensures comes { IfErr result (λ e. IsFalse (never_comes (fault_of e))) }
-
-        ensures empty { OnOk result (self.new.rest ≡ []) }
-        ensures unchanged { OnErr result (self.new.rest ≡ self.old.rest) }
-        ensures looks { self.new.looks ≤ self.old.looks + most_looks self.old.rest }
-        // The count of looks never goes down.
-        ensures counted { self.old.looks ≤ self.new.looks }
+        // What it leaves: nothing to be read after `Ok`, and all of it after an error.
+        ensures leaves { LeavesBehind fault_of (unread_of self.old) result (unread_of self.new) }
+        ensures profile { self.new.profile ≡ self.old.profile }
     {
         let mut found = IxdtfParseRecord::default();
-        match self.read_plain::<LoneTimes>(&mut found) {
+        match self.read_unhandled::<LoneTimes>(&mut found) {
             Ok(()) => Ok(found),
             Err(stop) => return Err(stop.error()),
         }
@@ -541,29 +536,21 @@ impl<'a, T: EncodingType> IxdtfParser<'a, T> {
         F: FnMut(Annotation<'a, T>) -> Option<Annotation<'a, T>>,
         // The handler may be called at any time, in any state that it reached, on any annotation.
         requires callable { F.IsAlwaysCallable handler }
-        // For the one chain of its calls: `Ok` exactly with the record, and `Err` only with a fault, that the text and the
-        // replies give.
-        ensures handled { Handled T.number F.step handler reader_parse_time
+        // For the one chain of its calls: `Ok` exactly with the record, and `Err` only with the one fault, that the text and
+        // the replies give.
+        ensures handled { Handled T.number F.step handler (reader_parse_time self.old.profile)
             (map T.letter self.old.rest)
             (returned (parsed_of T.number) result) }
 
         // `Ok` only where no row of the fault table fits, and where no other reader of dates, times and durations has the text.
-        ensures no_row { OnOk result (NoRowFits reader_parse_time (map T.letter self.old.rest)) }
-        ensures alone { OnOk result (InNoOther reader_parse_time (map T.letter self.old.rest)) }
-        // For the one chain of its calls: all that `handled` says, and `Err` only with the one fault that the text and the
-        // replies give.
-        ensures only { HandledOnly T.number F.step handler reader_parse_time
-            (map T.letter self.old.rest)
-            (returned (parsed_of T.number) result) }
+        ensures no_row { OnOk result (NoRowFits (reader_parse_time self.old.profile)
+            (map T.letter self.old.rest)) }
+        ensures alone { OnOk result (InNoOther self.old.profile (reader_parse_time self.old.profile)
+            (map T.letter self.old.rest)) }
 
-        // None of the errors that no reader gives.
-        ensures comes { IfErr result (λ e. IsFalse (never_comes (fault_of e))) }
-
-        ensures empty { OnOk result (self.new.rest ≡ []) }
-        ensures unchanged { OnErr result (self.new.rest ≡ self.old.rest) }
-        ensures looks { self.new.looks ≤ self.old.looks + most_looks self.old.rest }
-        // The count of looks never goes down.
-        ensures counted { self.old.looks ≤ self.new.looks }
+        // What it leaves: nothing to be read after `Ok`, and all of it after an error.
+        ensures leaves { LeavesBehind fault_of (unread_of self.old) result (unread_of self.new) }
+        ensures profile { self.new.profile ≡ self.old.profile }
     {
         self.read_as::<ParseError, LoneTimes, F>(handler)
     }
@@ -573,38 +560,30 @@ impl<'a, T: EncodingType> IxdtfParser<'a, T> {
     #[inline(always)]
     pub(crate) fn read_as<E: Raised, C: Cores, F>(
         &mut self,
-        handler: F,
+        mut handler: F,
     ) -> Result<IxdtfParseRecord<'a, T>, E>
     where
         F: FnMut(Annotation<'a, T>) -> Option<Annotation<'a, T>>,
         // The handler may be called at any time, in any state that it reached, on any annotation.
         requires callable { F.IsAlwaysCallable handler }
-        // For the one chain of its calls: `Ok` exactly with the record, and `Err` only with a fault, that the text and the
-        // replies give.
-        ensures handled { Handled T.number F.step handler (bracketed C.kind)
+        // For the one chain of its calls: `Ok` exactly with the record, and `Err` only with the one fault, that the text and
+        // the replies give.
+        ensures handled { Handled T.number F.step handler (bracketed (C.kind self.old.profile))
             (map T.letter self.old.rest)
             (returned_by E.fault (parsed_of T.number) result) }
 
         // `Ok` only where no row of the fault table fits, and where no other reader of dates, times and durations has the text.
-        ensures no_row { OnOk result (NoRowFits (bracketed C.kind) (map T.letter self.old.rest)) }
-        ensures alone { OnOk result (InNoOther (bracketed C.kind) (map T.letter self.old.rest)) }
-        // For the one chain of its calls: all that `handled` says, and `Err` only with the one fault that the text and the
-        // replies give.
-        ensures only { HandledOnly T.number F.step handler (bracketed C.kind)
-            (map T.letter self.old.rest)
-            (returned_by E.fault (parsed_of T.number) result) }
+        ensures no_row { OnOk result (NoRowFits (bracketed (C.kind self.old.profile))
+            (map T.letter self.old.rest)) }
+        ensures alone { OnOk result (InNoOther self.old.profile
+            (bracketed (C.kind self.old.profile)) (map T.letter self.old.rest)) }
 
-        // None of the errors that no reader gives.
-        ensures comes { IfErr result (λ e. IsFalse (never_comes (E.fault e))) }
-
-        ensures empty { OnOk result (self.new.rest ≡ []) }
-        ensures unchanged { OnErr result (self.new.rest ≡ self.old.rest) }
-        ensures looks { self.new.looks ≤ self.old.looks + most_looks self.old.rest }
-        // The count of looks never goes down.
-        ensures counted { self.old.looks ≤ self.new.looks }
+        // What it leaves: nothing to be read after `Ok`, and all of it after an error.
+        ensures leaves { LeavesBehind E.fault (unread_of self.old) result (unread_of self.new) }
+        ensures profile { self.new.profile ≡ self.old.profile }
     {
         let mut found = IxdtfParseRecord::default();
-        match self.read_into::<C, F>(handler, &mut found) {
+        match self.read_into::<C, F>(&mut handler, &mut found) {
             Ok(()) => Ok(found),
             Err(stop) => return Err(E::of_stop(stop)),
         }
@@ -612,21 +591,15 @@ impl<'a, T: EncodingType> IxdtfParser<'a, T> {
 
     /// Reads as [`read_into`](Self::read_into) does, with a handler that hands each annotation back.
     #[inline(always)]
-    fn read_plain<C: Cores>(&mut self, found: &mut IxdtfParseRecord<'a, T>) -> Result<(), Stop>
-        requires no_date { found.old.date ≡ None }
-        requires no_time { found.old.time ≡ None }
-        requires no_offset { found.old.offset ≡ None }
-        requires no_zone { found.old.tz ≡ None }
-        requires no_calendar { found.old.calendar ≡ None }
-        ensures plain { PlainForm (bracketed C.kind) (map T.letter self.old.rest)
-            (yielded (λ _. parsed_of T.number found.new) result) }
-        ensures comes { IfErr result (λ stop. IsFalse (never_comes (fault_of_stop stop))) }
-        ensures empty { OnOk result (self.new.rest ≡ []) }
-        ensures unchanged { OnErr result (self.new.rest ≡ self.old.rest) }
-        ensures looks { self.new.looks ≤ self.old.looks + most_looks self.old.rest }
-        ensures counted { self.old.looks ≤ self.new.looks }
+    fn read_unhandled<C: Cores>(&mut self, found: &mut IxdtfParseRecord<'a, T>) -> Result<(), Stop>
+        requires { IsEmptyRecord found.old }
+        ensures unhandled { UnhandledForm (bracketed (C.kind self.old.profile))
+            (map T.letter self.old.rest) (yielded (λ _. parsed_of T.number found.new) result) }
+        ensures leaves { LeavesBehind fault_of_stop
+            (unread_of self.old) result (unread_of self.new) }
+        ensures profile { self.new.profile ≡ self.old.profile }
     {
-        self.read_into::<C, _>(|annotation| Some(annotation), found)
+        self.read_into::<C, _>(&mut |annotation| Some(annotation), found)
     }
 
     /// Reads all that is still to be read into a record in which nothing stands yet. After an error what was still to be
@@ -637,28 +610,22 @@ impl<'a, T: EncodingType> IxdtfParser<'a, T> {
     #[inline(always)]
     fn read_into<C: Cores, F>(
         &mut self,
-        mut handler: F,
+        handler: &mut F,
         found: &mut IxdtfParseRecord<'a, T>,
     ) -> Result<(), Stop>
     where
         F: FnMut(Annotation<'a, T>) -> Option<Annotation<'a, T>>,
-        requires callable { F.IsAlwaysCallable handler }
-        requires no_date { found.old.date ≡ None }
-        requires no_time { found.old.time ≡ None }
-        requires no_offset { found.old.offset ≡ None }
-        requires no_zone { found.old.tz ≡ None }
-        requires no_calendar { found.old.calendar ≡ None }
-        ensures handled { Handled T.number F.step handler (bracketed C.kind)
-            (map T.letter self.old.rest)
+        requires callable { F.IsAlwaysCallable handler.old }
+        requires empty { IsEmptyRecord found.old }
+        ensures replied { TextRead T.number F.step handler.old handler.new
+            (bracketed (C.kind self.old.profile)) (map T.letter self.old.rest)
             (yielded (λ _. parsed_of T.number found.new) result) }
-        ensures comes { IfErr result (λ stop. IsFalse (never_comes (fault_of_stop stop))) }
-        ensures empty { OnOk result (self.new.rest ≡ []) }
-        ensures unchanged { OnErr result (self.new.rest ≡ self.old.rest) }
-        ensures looks { self.new.looks ≤ self.old.looks + most_looks self.old.rest }
-        ensures counted { self.old.looks ≤ self.new.looks }
+        ensures leaves { LeavesBehind fault_of_stop
+            (unread_of self.old) result (unread_of self.new) }
+        ensures profile { self.new.profile ≡ self.old.profile }
     {
         let mut here = self.cursor.take();
-        match parse_text::<T, C, F>(&mut here, &mut handler, found) {
+        match parse_text::<T, C, F>(&mut here, self.profile, handler, found) {
             Ok(()) => {
                 self.cursor = here;
                 Ok(())

@@ -46,11 +46,12 @@ impl<'a, T: EncodingType> Default for IxdtfParseRecord<'a, T> {
 #[derive(Clone, Copy, Debug, Default, PartialEq)]
 pub struct DateRecord {
     /// The year: 0 to 9999 from four digits, or -999999 to 999999 from a sign and six digits. Year 0 is the year before
-    /// year 1.
+    /// year 1. It is 0 too where the text is a month and a day.
     pub year: i32,
     /// The month, 1 to 12.
     pub month: u8,
-    /// The day of the month, from 1.
+    /// The day of the month, from 1. Where the text is a month and a day it is from 0, and where the text is a year and a
+    /// month it is 1.
     pub day: u8,
 }
 
@@ -387,6 +388,24 @@ impl Fraction {
                 self.value
             },
         }
+    }
+
+    /// How many digits the fraction has, its leading and trailing zeros counted: 1 to 255.
+    pub fn digit_count(&self) -> u8
+        ensures count { result ≡ self.now.count }
+        ensures some { 1 ≤ result }
+    {
+        let Fraction { digits, .. } = *self;
+        digits
+    }
+
+    /// The number of the first 18 digits, or of all where there are fewer.
+    pub fn leading_value(&self) -> u64
+        ensures value { result ≡ self.now.value }
+        ensures fits { result < 10 ^ min self.now.count 18 }
+    {
+        let Fraction { value, .. } = *self;
+        value.number()
     }
 
     /// The nanoseconds of the fraction, or `None` where it has more than nine digits, also where those behind the ninth are

@@ -1,13 +1,16 @@
 -- The answer to a line with a space, and what a reader makes of its text.
-use Rattle.std.proofs.Common.{◌≡◌, ℕ, ◌+◌, ◌-◌, ◌<◌, ◌≤◌, Bool, List, length, take, drop, Option, Some, None, MatchOption, position, inl, inr, refl, sym, subst, arith}
-use Rattle.std.proofs.lemmas.Bool.{lt-ltb, le-ltb}
+use Rattle.std.proofs.Common.{◌≡◌, ℕ, ◌+◌, ◌-◌, ◌≤◌, Bool, List, length, take, drop, Option, Some, MatchOption, position, inl, inr, refl, sym, subst}
+use Rattle.std.proofs.Common.{arith}
+use Rattle.std.proofs.lemmas.Bool.{le-ltb}
 use Rattle.std.proofs.lemmas.List.{take_all, length-drop}
 use Rattle.std.specs.Bool.{MatchBool}
+use Rattle.ixdtf.specs.declared.parsers.profile.Profile.{Profile}
 use Rattle.ixdtf.specs.table.Faults.{Fault}
 use Rattle.ixdtf.specs.language.Languages.{Found}
 use Rattle.ixdtf.specs.language.Readers.{Reader}
-use Rattle.ixdtf_lines.specs.Answer.{line_limit, too_long, unknown_reader, is_space, letters, ok_answer_of, error_answer_of, Gives, Refuses, IsAnswer, IsReaderAnswer, IsOutcome}
-use Rattle.ixdtf_lines.specs.Word.{name_of, reader_of, IsNoWord}
+use Rattle.ixdtf_lines.specs.Answer.{line_limit, too_long, unknown_reader, is_space, letters, error_answer_of, Gives, Refuses, IsAnswer}
+use Rattle.ixdtf_lines.specs.Answer.{IsReaderAnswer, IsOutcome}
+use Rattle.ixdtf_lines.specs.Word.{name_of, reader_of}
 use Rattle.ixdtf_lines.specs.declared.word.Word.{Word}
 
 -- the answer, with the two tests as variables
@@ -24,7 +27,8 @@ IsAnswer-word line answer place short at is =
     (subst (λ o. MatchOption o (answer ≡ unknown_reader) (λ p. IsReaderAnswer (take p line) (drop (p + 1) line) answer)) at
     (subst (λ t. IsReaderAnswer (take place line) t answer) all is))
 
-pub IsReaderAnswer-word : (name text answer : List ℕ) (word : Word) → name ≡ name_of word → IsOutcome (reader_of word) text answer → IsReaderAnswer name text answer
+pub IsReaderAnswer-word : (name text answer : List ℕ) (word : Word) → name ≡ name_of word → IsOutcome (reader_of word) text answer
+    → IsReaderAnswer name text answer
 IsReaderAnswer-word name text answer word is outcome = inl (word, is, outcome)
 
 -- what a reader has to read, which is the text, gives it the value
@@ -32,8 +36,20 @@ pub Gives-text : (reader : Reader) (text rest : List ℕ) (found : Found) → re
 Gives-text reader text rest found same gives = subst (λ (t : List ℕ). Gives reader (letters t) found) same gives
 
 -- it is refused with the fault
-pub Refuses-text : (reader : Reader) (text rest : List ℕ) (fault : Fault) → rest ≡ text → Refuses reader (letters rest) fault → Refuses reader (letters text) fault
+pub Refuses-text : (reader : Reader) (text rest : List ℕ) (fault : Fault) → rest ≡ text → Refuses reader (letters rest) fault
+    → Refuses reader (letters text) fault
 Refuses-text reader text rest fault same has = subst (λ (t : List ℕ). Refuses reader (letters t) fault) same has
+
+-- the same of a reader that has a profile, under the parser's own
+pub Gives-under : (reader : Profile → Reader) (own wanted : Profile) (text rest : List ℕ) (found : Found) → own ≡ wanted → rest ≡ text
+    → Gives (reader own) (letters rest) found → Gives (reader wanted) (letters text) found
+Gives-under reader own wanted text rest found same_profile same gives =
+    subst (λ p. Gives (reader p) (letters text) found) same_profile (Gives-text (reader own) text rest found same gives)
+
+pub Refuses-under : (reader : Profile → Reader) (own wanted : Profile) (text rest : List ℕ) (fault : Fault) → own ≡ wanted → rest ≡ text
+    → Refuses (reader own) (letters rest) fault → Refuses (reader wanted) (letters text) fault
+Refuses-under reader own wanted text rest fault same_profile same has =
+    subst (λ p. Refuses (reader p) (letters text) fault) same_profile (Refuses-text (reader own) text rest fault same has)
 
 pub IsOutcome-error : (reader : Reader) (text : List ℕ) (fault : Fault) → Refuses reader (letters text) fault → IsOutcome reader text (error_answer_of fault)
 IsOutcome-error reader text fault has = inr (fault, has, refl)

@@ -1,68 +1,40 @@
 -- Each line has an answer.
-use Rattle.std.proofs.Common.{◌≡◌, ◌≢◌, ◌⊎◌, ℕ, ◌+◌, Bool, true, false, List, [], ◌∷◌, ◌++◌, length, take, drop, Option, Some, None, MatchOption, position, refl, sym, ap, subst, ◌∙◌, inl, inr, append_assoc, nat_lt, true≢false}
-use Rattle.std.proofs.lemmas.Slice.Eq.{bytes_eq-Decides}
+use Rattle.std.proofs.Common.{◌≡◌, ◌≢◌, ◌⊎◌, ℕ, ◌+◌, Bool, true, false, List, [], ◌∷◌, ◌++◌, length, take, drop, Option, Some, None, MatchOption, position}
+use Rattle.std.proofs.Common.{refl, sym, ap, subst, ◌∙◌, inl, inr, append_assoc, nat_lt}
 use Rattle.std.specs.Bool.{MatchBool}
-use Rattle.std.specs.Str.{bytes_eq}
 use Rattle.ixdtf.specs.language.Languages.{Found}
-use Rattle.ixdtf.specs.language.Languages.Found.{parsed, shifted, identified, named, lasting}
+use Rattle.ixdtf.specs.language.Languages.Found.{parsed}
 use Rattle.ixdtf.specs.language.Letters.{Text}
 use Rattle.ixdtf.specs.language.Readers.{Reader}
-use Rattle.ixdtf.specs.language.Readers.Reader.{bracketed, parse_offset, parse_identifier, parse_iana_identifier, parse_duration}
+use Rattle.ixdtf.specs.language.Readers.Reader.{bracketed}
 use Rattle.ixdtf.specs.table.Faults.{Fault}
-use Rattle.ixdtf.specs.table.Outcomes.{Outcome, Holds}
-use Rattle.ixdtf.specs.table.Outcomes.Outcome.{derived, refused}
-use Rattle.ixdtf.proofs.theorems.OneOutcome.{one_outcome}
-use Rattle.ixdtf.proofs.theorems.PlainOutcomes.{plain_outcome, same_bytes}
-use Rattle.ixdtf_lines.specs.Answer.{line_limit, too_long, unknown_reader, is_space, letters, ok_answer_of, error_answer_of, Gives, Refuses, IsOutcome, IsReaderAnswer, IsAnswer}
+use Rattle.ixdtf.specs.Widths.{UnhandledOutcome, HasUnhandledOutcome}
+use Rattle.ixdtf.specs.Widths.UnhandledOutcome.{read_as, faulted}
+use Rattle.ixdtf.proofs.theorems.OneChain.{same_bytes}
+use Rattle.ixdtf.proofs.theorems.OneUnhandledOutcome.{unhandled_outcome}
+use Rattle.ixdtf_lines.specs.Answer.{line_limit, too_long, unknown_reader, is_space, letters, ok_answer_of, error_answer_of, Gives, Refuses, IsOutcome}
+use Rattle.ixdtf_lines.specs.Answer.{IsReaderAnswer, IsAnswer}
 use Rattle.ixdtf_lines.specs.Lines.{newline}
 use Rattle.ixdtf_lines.specs.Run.{AreAnswers}
 use Rattle.ixdtf_lines.specs.Word.{name_of, reader_of, IsNoWord}
 use Rattle.ixdtf_lines.specs.declared.word.Word.{Word}
-use Rattle.ixdtf_lines.specs.declared.word.Word.TheVariants.{Parse, YearMonth, MonthDay, Time, Offset, Zone, Iana, Duration}
+use Rattle.ixdtf_lines.specs.declared.word.Word.TheVariants.{Parse, YearMonth, MonthDay, Time, Offset, Zone, Iana, Duration, StrictMonthDay, StrictTime}
+use Rattle.ixdtf_lines.specs.declared.word.Word.TheVariants.{StrictDuration}
 
 -- ---- each text has an outcome
 
 abbrev HasOutcome : Reader → Text → Type 0
 HasOutcome reader text = ((found : Found) × Gives reader text found) ⊎ ((fault : Fault) × Refuses reader text fault)
 
-offset_outcome : (text : Text) (x : Outcome) → Holds parse_offset text x → HasOutcome parse_offset text
-offset_outcome text (derived (parsed read) pairs) d = absurd d
-offset_outcome text (derived (shifted offset) pairs) d = inl (shifted offset, (d.0, refl))
-offset_outcome text (derived (identified zone) pairs) d = absurd d
-offset_outcome text (derived (named name) pairs) d = absurd d
-offset_outcome text (derived (lasting duration) pairs) d = absurd d
-offset_outcome text (refused row pairs) fits = inr (row.error, (row, rw fits.3.1 at fits, refl))
-
-zone_outcome : (text : Text) (x : Outcome) → Holds parse_identifier text x → HasOutcome parse_identifier text
-zone_outcome text (derived (parsed read) pairs) d = absurd d
-zone_outcome text (derived (shifted offset) pairs) d = absurd d
-zone_outcome text (derived (identified zone) pairs) d = inl (identified zone, (d.0, refl))
-zone_outcome text (derived (named name) pairs) d = absurd d
-zone_outcome text (derived (lasting duration) pairs) d = absurd d
-zone_outcome text (refused row pairs) fits = inr (row.error, (row, rw fits.3.1 at fits, refl))
-
-name_outcome : (text : Text) (x : Outcome) → Holds parse_iana_identifier text x → HasOutcome parse_iana_identifier text
-name_outcome text (derived (parsed read) pairs) d = absurd d
-name_outcome text (derived (shifted offset) pairs) d = absurd d
-name_outcome text (derived (identified zone) pairs) d = absurd d
-name_outcome text (derived (named name) pairs) d = inl (named name, (d.0, refl))
-name_outcome text (derived (lasting duration) pairs) d = absurd d
-name_outcome text (refused row pairs) fits = inr (row.error, (row, rw fits.3.1 at fits, refl))
-
-duration_outcome : (text : Text) (x : Outcome) → Holds parse_duration text x → HasOutcome parse_duration text
-duration_outcome text (derived (parsed read) pairs) d = absurd d
-duration_outcome text (derived (shifted offset) pairs) d = absurd d
-duration_outcome text (derived (identified zone) pairs) d = absurd d
-duration_outcome text (derived (named name) pairs) d = absurd d
-duration_outcome text (derived (lasting duration) pairs) d = inl (lasting duration, (d.0, refl))
-duration_outcome text (refused row pairs) fits = inr (row.error, (row, rw fits.3.1 at fits, refl))
+of_plain : (reader : Reader) (text : Text) (x : UnhandledOutcome) → HasUnhandledOutcome reader text x → HasOutcome reader text
+of_plain (bracketed kind) text (read_as (parsed found)) h = inl (parsed found, h)
+of_plain (bracketed kind) text (faulted fault) h = inr (fault, h)
+of_plain (bracketed kind) text (read_as found) h = absurd h
+of_plain reader text (read_as found) h = inl (found, h)
+of_plain reader text (faulted fault) h = inr (fault, h)
 
 each_outcome : (reader : Reader) (text : Text) → HasOutcome reader text
-each_outcome (bracketed kind) text = elim (plain_outcome kind text) [ inl p ↦ inl (parsed p.0, p.1) | inr p ↦ inr (p.0, p.1) ]
-each_outcome parse_offset text = let one = one_outcome parse_offset text in offset_outcome text one.0 one.1
-each_outcome parse_identifier text = let one = one_outcome parse_identifier text in zone_outcome text one.0 one.1
-each_outcome parse_iana_identifier text = let one = one_outcome parse_iana_identifier text in name_outcome text one.0 one.1
-each_outcome parse_duration text = let one = one_outcome parse_duration text in duration_outcome text one.0 one.1
+each_outcome reader text = let outcome = unhandled_outcome reader text in of_plain reader text outcome.0 outcome.1
 
 -- ---- each line has an answer
 
@@ -85,11 +57,22 @@ word_among name (word ∷ words) = elim (same_bytes name (name_of word)) [
 ]
 
 abbrev all_words : List Word
-all_words = Parse ∷ YearMonth ∷ MonthDay ∷ Time ∷ Offset ∷ Zone ∷ Iana ∷ Duration ∷ []
+all_words = Parse ∷ YearMonth ∷ MonthDay ∷ Time ∷ Offset ∷ Zone ∷ Iana ∷ Duration ∷ StrictMonthDay ∷ StrictTime ∷ StrictDuration ∷ []
 
 no_word : (name : List ℕ) → NoneOf name all_words → IsNoWord name
-no_word name (a, (b, (c, (d, (e, (f, (g, (h, end)))))))) =
-    elim [ Parse ↦ a | YearMonth ↦ b | MonthDay ↦ c | Time ↦ d | Offset ↦ e | Zone ↦ f | Iana ↦ g | Duration ↦ h ]
+no_word name (a, (b, (c, (d, (e, (f, (g, (h, (i, (j, (k, end))))))))))) = elim [
+  | Parse ↦ a
+  | YearMonth ↦ b
+  | MonthDay ↦ c
+  | Time ↦ d
+  | Offset ↦ e
+  | Zone ↦ f
+  | Iana ↦ g
+  | Duration ↦ h
+  | StrictMonthDay ↦ i
+  | StrictTime ↦ j
+  | StrictDuration ↦ k
+]
 
 word_or_none : (name : List ℕ) → ((word : Word) × (name ≡ name_of word)) ⊎ IsNoWord name
 word_or_none name = elim (word_among name all_words) [ inl p ↦ inl p | inr none ↦ inr (no_word name none) ]
@@ -118,7 +101,14 @@ all_answers (line ∷ lines) =
     (answer.0 ++ newline ∷ others.0, (answer.0, others.0, answer.1, refl, others.1))
 
 -- the answers to some lines, and then to others
-pub AreAnswers-append : (lines others : List (List ℕ)) (bytes more : List ℕ) → AreAnswers lines bytes → AreAnswers others more → AreAnswers (lines ++ others) (bytes ++ more)
+pub AreAnswers-append : (lines others : List (List ℕ)) (bytes more : List ℕ) → AreAnswers lines bytes → AreAnswers others more
+    → AreAnswers (lines ++ others) (bytes ++ more)
 AreAnswers-append [] others bytes more none rest = subst (λ (t : List ℕ). AreAnswers others (t ++ more)) (sym none) rest
-AreAnswers-append (line ∷ lines) others bytes more (answer, bytes_after, is, whole, after) rest =
-    (answer, bytes_after ++ more, is, ap (λ (t : List ℕ). t ++ more) whole ∙ append_assoc answer (newline ∷ bytes_after) more, AreAnswers-append lines others bytes_after more after rest)
+AreAnswers-append (line ∷ lines) others bytes more (answer, bytes_after, is, whole, after) rest = (
+  answer,
+  bytes_after ++ more,
+  is,
+  ap (λ (t : List ℕ). t ++ more) whole
+      ∙ append_assoc answer (newline ∷ bytes_after) more,
+  AreAnswers-append lines others bytes_after more after rest,
+)

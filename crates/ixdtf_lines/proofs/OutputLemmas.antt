@@ -1,5 +1,6 @@
 -- What calls, one after the other, do to what is written and to what waits.
-use Rattle.std.proofs.Common.{◌≡◌, ℕ, suc, ◌+◌, ◌-◌, ◌<◌, List, [], ◌∷◌, ◌++◌, length, take, drop, get_or, Option, Result, Ok, Err, IsErrAnd, Bor, sym, ap, subst, ◌∙◌, arith, append_assoc}
+use Rattle.std.proofs.Common.{◌≡◌, ℕ, suc, ◌+◌, ◌-◌, ◌<◌, List, [], ◌∷◌, ◌++◌, length, take, drop, get_or, Option, Result, Ok, Err, IsErrAnd, Bor, sym, ap}
+use Rattle.std.proofs.Common.{subst, ◌∙◌, arith, append_assoc}
 use Rattle.std.proofs.Math.Seq.{drop-cons}
 use Rattle.std.proofs.lemmas.Grind.{flat_map-append}
 use Rattle.std.proofs.KnownBytes.{Appends-trans}
@@ -24,16 +25,19 @@ wrote_more a b c bytes rest n (front, whole, appended) more =
 pub Sent-trans : {a b c : Option (List ℕ)} {u v taken : List ℕ} (bytes : List ℕ) → Sent a b u taken → Sent b c v (u ++ bytes) → Sent a c v (taken ++ bytes)
 Sent-trans {a = a} {b = b} {c = c} {u = u} {v = v} {taken = taken} bytes p q = record {
   front = p.front ++ q.front;
-  whole = ap (λ (t : List ℕ). t ++ bytes) p.whole ∙ append_assoc p.front u bytes ∙ ap (λ (t : List ℕ). p.front ++ t) q.whole ∙ sym (append_assoc p.front q.front v);
+  whole =
+      ap (λ (t : List ℕ). t ++ bytes) p.whole ∙ append_assoc p.front u bytes ∙ ap (λ (t : List ℕ). p.front ++ t) q.whole ∙ sym (append_assoc p.front q.front v);
   appended = Appends-trans a b c p.front q.front p.appended q.appended;
 }
 
 -- bytes were sent, and then a front of what waited of them and of further bytes
-pub Sent-front : {a b c : Option (List ℕ)} {u taken : List ℕ} (bytes : List ℕ) → Sent a b u taken → AppendsFront b c (u ++ bytes) → AppendsFront a c (taken ++ bytes)
+pub Sent-front : {a b c : Option (List ℕ)} {u taken : List ℕ} (bytes : List ℕ) → Sent a b u taken → AppendsFront b c (u ++ bytes)
+    → AppendsFront a c (taken ++ bytes)
 Sent-front {a = a} {b = b} {c = c} {u = u} bytes p q = record {
   front = p.front ++ q.front;
   rest = q.rest;
-  whole = ap (λ (t : List ℕ). t ++ bytes) p.whole ∙ append_assoc p.front u bytes ∙ ap (λ (t : List ℕ). p.front ++ t) q.whole ∙ sym (append_assoc p.front q.front q.rest);
+  whole = ap (λ (t : List ℕ). t ++ bytes) p.whole ∙ append_assoc p.front u bytes ∙ ap (λ (t : List ℕ). p.front ++ t) q.whole
+      ∙ sym (append_assoc p.front q.front q.rest);
   appended = Appends-trans a b c p.front q.front p.appended q.appended;
 }
 
@@ -56,7 +60,8 @@ AppendsFront-more ys p = record {
 
 -- nothing waits, and the bytes are written past the array
 pub Puts-through : {W : Type 0} {contents : W → Option (List ℕ)} {x y : Output W} {r : Result (Unit {0}) RunError} {bytes : List ℕ}
-    → y.writer.ghost_name ≡ x.writer.ghost_name → x.waiting ≡ [] → y.waiting ≡ [] → Writes (written contents x) (written contents y) r bytes → Puts contents x y r bytes
+    → y.writer.ghost_name ≡ x.writer.ghost_name → x.waiting ≡ [] → y.waiting ≡ [] → Writes (written contents x) (written contents y) r bytes
+    → Puts contents x y r bytes
 Puts-through {contents = contents} {x = x} {y = y} {r = Ok t} {bytes = bytes} same none still p = record {
   same = same;
   ok = subst (λ (t : List ℕ). Sent (written contents x) (written contents y) t (x.waiting ++ bytes)) (sym still)
@@ -90,7 +95,8 @@ Puts-exit {r = Ok t} ys same failed = absurd same
 Puts-exit {contents = contents} {x = x} {y = y} {r = Err e} {xs = xs} ys same failed = record {
   same = failed.same;
   ok = tt;
-  err = (same ∙ failed.err.0, subst (AppendsFront (written contents x) (written contents y)) (append_assoc x.waiting xs ys) (AppendsFront-more ys failed.err.1));
+  err =
+      (same ∙ failed.err.0, subst (AppendsFront (written contents x) (written contents y)) (append_assoc x.waiting xs ys) (AppendsFront-more ys failed.err.1));
 }
 
 joined-at : (pieces : List (Bor (List ℕ))) (i : ℕ) (d : Bor (List ℕ)) → i < length pieces
@@ -105,14 +111,16 @@ joined-next pieces i d inside = sym (ap joined (take_more pieces i d inside)
     ∙ flat_map-append _ (take i pieces) (get_or pieces i d ∷ []) ∙ ap (λ (t : List ℕ). joined (take i pieces) ++ t) (append-nil (get_or pieces i d).now))
 
 -- one more piece was put
-pub Puts-next : {W : Type 0} {contents : W → Option (List ℕ)} {x y z : Output W} {t : Unit {0}} {r : Result (Unit {0}) RunError} (pieces : List (Bor (List ℕ))) (i : ℕ) (d : Bor (List ℕ))
+pub Puts-next : {W : Type 0} {contents : W → Option (List ℕ)} {x y z : Output W} {t : Unit {0}} {r : Result (Unit {0}) RunError} (pieces : List (Bor (List ℕ)))
+    (i : ℕ) (d : Bor (List ℕ))
     → i < length pieces → Puts contents x y (Ok t) (joined (take i pieces)) → Puts contents y z r (get_or pieces i d).now
     → Puts contents x z r (joined (take (i + 1) pieces))
 Puts-next {contents = contents} {x = x} {z = z} {r = r} pieces i d inside before next =
     subst (Puts contents x z r) (joined-next pieces i d inside) (Puts-after before next)
 
 -- the exit of a `?` at a piece of a list, after the pieces before it
-pub Puts-piece : {W : Type 0} {contents : W → Option (List ℕ)} {x y z : Output W} {t : Unit {0}} {r : Result (Unit {0}) RunError} {e : RunError} (pieces : List (Bor (List ℕ))) (i : ℕ) (d : Bor (List ℕ))
+pub Puts-piece : {W : Type 0} {contents : W → Option (List ℕ)} {x y z : Output W} {t : Unit {0}} {r : Result (Unit {0}) RunError} {e : RunError}
+    (pieces : List (Bor (List ℕ))) (i : ℕ) (d : Bor (List ℕ))
     → i < length pieces → Puts contents x y (Ok t) (joined (take i pieces)) → IsErrAnd r (λ y. y ≡ e)
     → Puts contents y z (Err e) (get_or pieces i d).now → Puts contents x z r (joined pieces)
 Puts-piece {contents = contents} {x = x} {z = z} {r = r} pieces i d inside before same failed =

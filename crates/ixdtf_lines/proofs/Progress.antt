@@ -1,5 +1,6 @@
 -- The steps of a run.
-use Rattle.std.proofs.Common.{◌≡◌, ◌≢◌, ℕ, ◌+◌, ◌<◌, false, ◌==◌, List, [], ◌∷◌, ◌++◌, length, take, drop, get_or, Option, Result, Ok, Err, OnOk, MatchResult, refl, sym, ap, subst, ◌∙◌, append_assoc}
+use Rattle.std.proofs.Common.{◌≡◌, ◌≢◌, ℕ, ◌+◌, ◌<◌, false, ◌==◌, List, [], ◌∷◌, ◌++◌, length, take, drop, get_or, Option, Result, Ok, Err, OnOk, MatchResult}
+use Rattle.std.proofs.Common.{refl, sym, ap, subst, ◌∙◌, append_assoc}
 use Rattle.std.proofs.lemmas.List.{append-nil, take_more, take-append-drop}
 use Rattle.std.specs.Io.KnownBytes.{Appends}
 use Rattle.ixdtf_lines.specs.declared.line.Line.{Line}
@@ -55,7 +56,8 @@ WritesFront-append start now lines others p =
     record {
       written = p.written;
       rest = p.rest ++ bytes;
-      answers = subst (AreAnswers (lines ++ others)) (append_assoc p.written p.rest bytes) (AreAnswers-append lines others (p.written ++ p.rest) bytes p.answers answers);
+      answers = subst (AreAnswers (lines ++ others)) (append_assoc p.written p.rest bytes)
+          (AreAnswers-append lines others (p.written ++ p.rest) bytes p.answers answers);
       appended = p.appended;
     }
 
@@ -67,7 +69,8 @@ WritesFront-read start now read more front =
     subst (WritesFront start now) (sym others.1) (WritesFront-append start now (ended_lines_of read) others.0 front)
 
 -- a newline was read, and the answer to its line was taken
-pub Stands-newline : {W : Type 0} {contents : W → Option (List ℕ)} {start : Option (List ℕ)} {x y : Output W} {before after : Line} {read : List ℕ} (answer : List ℕ)
+pub Stands-newline : {W : Type 0} {contents : W → Option (List ℕ)} {start : Option (List ℕ)} {x y : Output W} {before after : Line} {read : List ℕ}
+    (answer : List ℕ)
     → Stands contents start x before read → IsAnswer (unended_of read) answer
     → Sent (written contents x) (written contents y) y.waiting (x.waiting ++ (answer ++ newline ∷ [])) → Holds after []
     → Stands contents start y after (read ++ newline ∷ [])
@@ -78,7 +81,8 @@ Stands-newline {contents = contents} {start = start} {y = y} {after = after} {re
 }
 
 -- a newline was read, and answering its line failed
-pub WritesFront-newline : {W : Type 0} {contents : W → Option (List ℕ)} {start new : Option (List ℕ)} {x : Output W} {line : Line} {read : List ℕ} (answer : List ℕ)
+pub WritesFront-newline : {W : Type 0} {contents : W → Option (List ℕ)} {start new : Option (List ℕ)} {x : Output W} {line : Line} {read : List ℕ}
+    (answer : List ℕ)
     → Stands contents start x line read → IsAnswer (unended_of read) answer → AppendsFront (written contents x) new (x.waiting ++ (answer ++ newline ∷ []))
     → WritesFront start new (ended_lines_of (read ++ newline ∷ []))
 WritesFront-newline {start = start} {new = new} {read = read} answer stands is front =
@@ -103,7 +107,8 @@ Takes-written {start = start} {now = now} none (written, are, appended) = record
 }
 
 -- what waits was handed on, or that failed
-pub handed_on : {W : Type 0} {contents : W → Option (List ℕ)} {start : Option (List ℕ)} {x y : Output W} {lines : List (List ℕ)} {r : Result (Unit {0}) RunError}
+pub handed_on : {W : Type 0} {contents : W → Option (List ℕ)} {start : Option (List ℕ)} {x y : Output W} {lines : List (List ℕ)}
+    {r : Result (Unit {0}) RunError}
     → TakesAnswers start (written contents x) x.waiting lines → OnOk r (y.waiting ≡ []) → Puts contents x y r []
     → MatchResult r (λ _. WritesAnswers start (written contents y) lines) (Fails start (written contents y) lines)
 handed_on {contents = contents} {start = start} {y = y} {r = Ok t} p none puts =
@@ -116,7 +121,8 @@ pub Stands-rests : {W : Type 0} {contents : W → Option (List ℕ)} {start : Op
 Stands-rests rests = record { pending = rests.pending; answered = Takes-written rests.none rests.answered }
 
 -- the same of a run that stands
-pub Rests-handed : {W : Type 0} {contents : W → Option (List ℕ)} {start : Option (List ℕ)} {x y : Output W} {line : Line} {read : List ℕ} {r : Result (Unit {0}) RunError}
+pub Rests-handed : {W : Type 0} {contents : W → Option (List ℕ)} {start : Option (List ℕ)} {x y : Output W} {line : Line} {read : List ℕ}
+    {r : Result (Unit {0}) RunError}
     → Stands contents start x line read → OnOk r (y.waiting ≡ []) → Puts contents x y r []
     → MatchResult r (λ _. Rests contents start y line read) (Fails start (written contents y) (ended_lines_of read))
 Rests-handed {r = Ok t} stands none puts = record { pending = stands.pending; none = none; answered = handed_on stands.answered none puts }
@@ -127,14 +133,16 @@ nonempty_last [] other = absurd (other refl)
 nonempty_last (byte ∷ bytes) other = refl
 
 -- the last line had no newline, and its answer was taken
-pub Takes-last : {W : Type 0} {contents : W → Option (List ℕ)} {start new : Option (List ℕ)} {x : Output W} {v : List ℕ} {line : Line} {read : List ℕ} (answer : List ℕ) → unended_of read ≢ []
+pub Takes-last : {W : Type 0} {contents : W → Option (List ℕ)} {start new : Option (List ℕ)} {x : Output W} {v : List ℕ} {line : Line} {read : List ℕ}
+    (answer : List ℕ) → unended_of read ≢ []
     → Rests contents start x line read → IsAnswer (unended_of read) answer → Sent (written contents x) new v (x.waiting ++ (answer ++ newline ∷ []))
     → TakesAnswers start new v (lines_of read)
 Takes-last {read = read} answer some rests is sent =
     rw (nonempty_last (unended_of read) some) (TakesAnswers-more (unended_of read) answer (Takes-written rests.none rests.answered) is sent)
 
 -- the last line had no newline, and answering it failed
-pub WritesFront-last : {W : Type 0} {contents : W → Option (List ℕ)} {start new : Option (List ℕ)} {x : Output W} {line : Line} {read : List ℕ} (answer : List ℕ) → unended_of read ≢ []
+pub WritesFront-last : {W : Type 0} {contents : W → Option (List ℕ)} {start new : Option (List ℕ)} {x : Output W} {line : Line} {read : List ℕ}
+    (answer : List ℕ) → unended_of read ≢ []
     → Rests contents start x line read → IsAnswer (unended_of read) answer → AppendsFront (written contents x) new (x.waiting ++ (answer ++ newline ∷ []))
     → WritesFront start new (lines_of read)
 WritesFront-last {read = read} answer some rests is front =

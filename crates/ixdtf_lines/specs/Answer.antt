@@ -3,7 +3,7 @@ use Rattle.std.specs.Prelude.{◌≡◌, ℕ, ◌+◌, Bool, ◌==◌, ◌⊎◌
 use Rattle.std.specs.Bool.{MatchBool}
 use Rattle.ixdtf.specs.table.ErrorTexts.{message_of}
 use Rattle.ixdtf.specs.table.Faults.{Fault}
-use Rattle.ixdtf.specs.Handlers.{PlainRecord, PlainFault}
+use Rattle.ixdtf.specs.Handlers.{UnhandledRecord, UnhandledFault}
 use Rattle.ixdtf.specs.language.Languages.{Found, Derives}
 use Rattle.ixdtf.specs.table.Outcomes.{HasFault}
 use Rattle.ixdtf.specs.language.Languages.Found.{parsed, shifted, identified, named, lasting}
@@ -42,7 +42,7 @@ error_answer_of fault = codes "error " ++ message_of fault
 -- the text gives the reader the value: to one with brackets a record, where each pair is its own reply, and to each other
 -- what it derives, with no pairs
 abbrev pub Gives : Reader → Text → Found → Type 0
-Gives (bracketed kind) text (parsed found) = PlainRecord (bracketed kind) text found
+Gives (bracketed kind) text (parsed found) = UnhandledRecord (bracketed kind) text found
 Gives (bracketed kind) text (shifted offset) = ⊥
 Gives (bracketed kind) text (identified zone) = ⊥
 Gives (bracketed kind) text (named name) = ⊥
@@ -50,16 +50,16 @@ Gives (bracketed kind) text (lasting duration) = ⊥
 Gives parse_offset text found = Derives parse_offset text found []
 Gives parse_identifier text found = Derives parse_identifier text found []
 Gives parse_iana_identifier text found = Derives parse_iana_identifier text found []
-Gives parse_duration text found = Derives parse_duration text found []
+Gives (parse_duration profile) text found = Derives (parse_duration profile) text found []
 
 -- the reader refuses the text with the fault: one with brackets with one that the text gives, where each pair is its own reply, and
 -- each other reader with one that the text has, with no pairs
 abbrev pub Refuses : Reader → Text → Fault → Type 0
-Refuses (bracketed kind) text fault = PlainFault (bracketed kind) text fault
+Refuses (bracketed kind) text fault = UnhandledFault (bracketed kind) text fault
 Refuses parse_offset text fault = HasFault parse_offset text [] fault
 Refuses parse_identifier text fault = HasFault parse_identifier text [] fault
 Refuses parse_iana_identifier text fault = HasFault parse_iana_identifier text [] fault
-Refuses parse_duration text fault = HasFault parse_duration text [] fault
+Refuses (parse_duration profile) text fault = HasFault (parse_duration profile) text [] fault
 
 -- the answer of a reader, to which the text gives a value, or which refuses the text
 abbrev pub IsOutcome : Reader → List ℕ → List ℕ → Type 0

@@ -1,5 +1,5 @@
 //! What the readers find.
-ghost use Rattle.std.specs.Prelude.{IfOk, IfErr};
+ghost use Rattle.std.specs.Prelude.{◌≡◌, IfOk, IfErr};
 ghost use Rattle.ixdtf.specs.table.Faults.{fault_of};
 ghost use Rattle.ixdtf_lines.specs.Answer.{letters, Gives, Refuses};
 ghost use Rattle.ixdtf_lines.specs.Found.{found_of};
@@ -8,7 +8,7 @@ ghost use Rattle.ixdtf_lines.specs.Word.{reader_of};
 use crate::word::Word;
 use ixdtf::ParserResult;
 use ixdtf::encoding::Utf8;
-use ixdtf::parsers::{IsoDurationParser, IxdtfParser, TimeZoneParser};
+use ixdtf::parsers::{IsoDurationParser, IxdtfParser, Profile, TimeZoneParser};
 use ixdtf::records::{DurationParseRecord, IxdtfParseRecord, TimeZoneRecord, UtcOffsetRecord};
 
 /// What a reader found in a text.
@@ -66,5 +66,33 @@ pub fn read(word: Word, text: &[u8]) -> ParserResult<Found<'_>>
             Ok(duration) => Ok(Found::Duration(duration)),
             Err(error) => Err(error),
         },
+        Word::StrictMonthDay => match strict(text).parse_month_day() {
+            Ok(parts) => Ok(Found::Record(parts)),
+            Err(error) => Err(error),
+        },
+        Word::StrictTime => match strict(text).parse_time() {
+            Ok(parts) => Ok(Found::Record(parts)),
+            Err(error) => Err(error),
+        },
+        Word::StrictDuration => match strict_duration(text).parse() {
+            Ok(duration) => Ok(Found::Duration(duration)),
+            Err(error) => Err(error),
+        },
     }
+}
+
+/// A parser of the text under the strict profile.
+fn strict(text: &[u8]) -> IxdtfParser<'_, Utf8>
+    ensures rest { result.rest ≡ text.now }
+    ensures profile { result.profile ≡ Profile.Strict }
+{
+    IxdtfParser::from_utf8(text).with_profile(Profile::Strict)
+}
+
+/// The same of a duration.
+fn strict_duration(text: &[u8]) -> IsoDurationParser<'_, Utf8>
+    ensures rest { result.rest ≡ text.now }
+    ensures profile { result.profile ≡ Profile.Strict }
+{
+    IsoDurationParser::<Utf8>::from_utf8(text).with_profile(Profile::Strict)
 }

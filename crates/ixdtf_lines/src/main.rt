@@ -36,8 +36,14 @@ fn main(rt: HostRuntime) -> ExitCode {
     }
 }
 
+/// What a line of the input is, for whoever gave arguments in its place.
+const USAGE: &str =
+    "usage: a line of standard input is a word, a space and a text, and the words are \
+    parse, year-month, month-day, time, offset, zone, iana, duration";
+
 fn refuse(rt: &impl Eprint) -> ExitCode {
     let _ = eprintln!(rt; "ixdtf_lines: takes no arguments");
+    let _ = eprintln!(rt; "{USAGE}");
     ExitCode::from(2)
 }
 

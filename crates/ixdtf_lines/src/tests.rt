@@ -5,7 +5,7 @@ use crate::arguments::arguments_allowed;
 use crate::error::RunError;
 use crate::number::{Decimal, nine_digits, sign_of};
 use crate::runner::run;
-use std::alloc::Global;
+use std::alloc::{AllocError, Global};
 use std::io;
 use std::io::{ErrorKind, Read, Write};
 use std::process::Abort;
@@ -106,18 +106,39 @@ impl Write for FaultyWriter {
     }
 }
 
-const LINES: &[u8] =
-    b"parse 20201108\nhello\noffset -05:00:30.5\nparse 2021-02-29\niana Europe/Berlin\nparse 2020\n\nparse -000400-02-29";
+/// Lines of four readers and of none, each with its answer.
+const LINES: [(&str, &str); 8] = [
+    ("parse 20201108", "ok date=2020,11,8"),
+    ("hello", "error unknown reader"),
+    ("offset -05:00:30.5", "ok offset=-5,0,30.500000000"),
+    (
+        "parse 2021-02-29",
+        "error Parsed day value not in a valid range.",
+    ),
+    ("iana Europe/Berlin", "ok tz=Europe/Berlin"),
+    (
+        "parse 2020",
+        "error Parsing ended abruptly while parsing Date",
+    ),
+    ("", "error unknown reader"),
+    ("parse -000400-02-29", "ok date=-400,2,29"),
+];
 
-const ANSWERS: &[u8] =
-    b"ok date=2020,11,8\nerror unknown reader\nok offset=-5,0,30.500000000\nerror Parsed day value not in a valid range.\nok tz=Europe/Berlin\nerror Parsing ended abruptly while parsing Date\nerror unknown reader\nok date=-400,2,29\n";
-
-// The lines of the stored run, and what it writes.
-const STORED_LINES: &[u8] =
-    b"parse 2021-01-29 02:12:48+01:00:00[u][u-ca=iso8601]\nduration -P1Y3wT0,5H\nzone +05:30\ntime 1200\nparse \nhello\n";
-
-const STORED_ANSWERS: &[u8] =
-    b"ok date=2021,1,29 time=2,12,48 offset=+1,0,0 tz=u calendar=iso8601\nok sign=- date=1,0,3,0 time=0.500000000\nok tz=+5,30\nerror Time is ambiguous with MonthDay\nerror Parsing ended abruptly while parsing digit\nerror unknown reader\n";
+/// The lines of the stored run, each with its answer.
+const STORED: [(&str, &str); 6] = [
+    (
+        "parse 2021-01-29 02:12:48+01:00:00[u][u-ca=iso8601]",
+        "ok date=2021,1,29 time=2,12,48 offset=+1,0,0 tz=u calendar=iso8601",
+    ),
+    (
+        "duration -P1Y3wT0,5H",
+        "ok sign=- date=1,0,3,0 time=0.500000000",
+    ),
+    ("zone +05:30", "ok tz=+5,30"),
+    ("time 1200", "error Time is ambiguous with MonthDay"),
+    ("parse ", "error Parsing ended abruptly while parsing digit"),
+    ("hello", "error unknown reader"),
+];
 
 const TWO_LINES: &[u8] = b"parse 2020-01-01\nparse 2020-01-02\n";
 
@@ -134,181 +155,382 @@ fn check_run(rt: &impl Abort, alloc: Global, input: &[u8], bytes: &[u8]) -> Resu
     Ok(())
 }
 
+/// Lines and their answers, each of which ends with a newline.
+#[derive(Drop)]
+struct Session {
+    lines: Vec<u8>,
+    answers: Vec<u8>,
+}
+
+impl Session {
+    fn new(alloc: Global, rows: &[(&str, &str)]) -> Result<Session, AllocError> {
+        let mut lines = Vec::new(alloc);
+        let mut answers = Vec::new(alloc);
+        for (line, answer) in rows {
+            lines.extend_from_slice(line.as_bytes())?;
+            lines.push(b'\n')?;
+            answers.extend_from_slice(answer.as_bytes())?;
+            answers.push(b'\n')?;
+        }
+        Ok(Session { lines, answers })
+    }
+}
+
+/// A run answers each line with what stands beside it.
+fn check_answers(rt: &impl Abort, alloc: Global, rows: &[(&str, &str)]) -> Result<(), Fail> {
+    let session = Session::new(alloc, rows)?;
+    check_run(
+        rt,
+        alloc,
+        session.lines.as_slice(),
+        session.answers.as_slice(),
+    )
+}
+
 #[test]
 fn answers_dates_and_times(rt: HostRuntime) -> Result<(), Fail> {
-    check_run(
+    check_answers(
         &rt,
         rt.alloc(),
-        b"parse 2024-03-02T08:48:00.25\nparse 20201108\nparse 2021-02-29\n",
-        b"ok date=2024,3,2 time=8,48,0.250000000\nok date=2020,11,8\nerror Parsed day value not in a valid range.\n",
-    )?;
-    check_run(
-        &rt,
-        rt.alloc(),
-        b"parse 2020-01-01T23:59:60\nparse +010000-11-08t05.000000001\nparse +010000-11-08t050607,0000000019\n",
-        b"ok date=2020,1,1 time=23,59,60\nerror Unexpected character found after parsing was completed.\nok date=10000,11,8 time=5,6,7.000000001\n",
+        &[
+            (
+                "parse 2024-03-02T08:48:00.25",
+                "ok date=2024,3,2 time=8,48,0.250000000",
+            ),
+            ("parse 20201108", "ok date=2020,11,8"),
+            (
+                "parse 2021-02-29",
+                "error Parsed day value not in a valid range.",
+            ),
+            (
+                "parse 2020-01-01T23:59:60",
+                "ok date=2020,1,1 time=23,59,60",
+            ),
+            (
+                "parse +010000-11-08t05.000000001",
+                "error Unexpected character found after parsing was completed.",
+            ),
+            (
+                "parse +010000-11-08t050607,0000000019",
+                "ok date=10000,11,8 time=5,6,7.000000001",
+            ),
+        ],
     )
 }
 
 #[test]
 fn answers_times_and_parts_of_dates(rt: HostRuntime) -> Result<(), Fail> {
-    check_run(
+    check_answers(
         &rt,
         rt.alloc(),
-        b"year-month +002020-11\nmonth-day 11-00\ntime 2021-13\ntime 0000-00\ntime 12\ntime T1200[UTC]\n",
-        b"ok date=2020,11,1\nok date=0,11,0\nok time=20,21,0 offset=-13,0\nok time=0,0,0 offset=-0,0\nok time=12,0,0\nok time=12,0,0 tz=UTC\n",
-    )?;
-    check_run(
-        &rt,
-        rt.alloc(),
-        b"time 1214[\ntime T1214[\ntime T19-12-08\ntime 1200\ntime 2021-12\n",
-        b"error Time is ambiguous with MonthDay\nerror Parsing ended abruptly while parsing AmbiguousAnnotation\nerror Unexpected character found after parsing was completed.\nerror Time is ambiguous with MonthDay\nerror Time is ambiguous with YearMonth\n",
+        &[
+            ("year-month +002020-11", "ok date=2020,11,1"),
+            ("month-day 11-00", "ok date=0,11,0"),
+            ("time 2021-13", "ok time=20,21,0 offset=-13,0"),
+            ("time 0000-00", "ok time=0,0,0 offset=-0,0"),
+            ("time 12", "ok time=12,0,0"),
+            ("time T1200[UTC]", "ok time=12,0,0 tz=UTC"),
+            ("time 1214[", "error Time is ambiguous with MonthDay"),
+            (
+                "time T1214[",
+                "error Parsing ended abruptly while parsing AmbiguousAnnotation",
+            ),
+            (
+                "time T19-12-08",
+                "error Unexpected character found after parsing was completed.",
+            ),
+            ("time 1200", "error Time is ambiguous with MonthDay"),
+            ("time 2021-12", "error Time is ambiguous with YearMonth"),
+        ],
     )
 }
 
 #[test]
 fn answers_offsets(rt: HostRuntime) -> Result<(), Fail> {
-    check_run(
+    check_answers(
         &rt,
         rt.alloc(),
-        b"offset -05:00:30.5\noffset +0530\noffset -00\noffset +010203\n",
-        b"ok offset=-5,0,30.500000000\nok offset=+5,30\nok offset=-0,0\nok offset=+1,2,3\n",
-    )?;
-    check_run(
-        &rt,
-        rt.alloc(),
-        b"offset 05:00\noffset Z\noffset \noffset -5:00\noffset +05:0060\noffset +05:00[u]\n",
-        b"error UTC offset needs a sign\nerror UTC offset needs a sign\nerror Parsing ended abruptly while parsing time-numoffset\nerror Invalid character while parsing hour value.\nerror Invalid time zone character after '/'.\nerror Unexpected character found after parsing was completed.\n",
+        &[
+            ("offset -05:00:30.5", "ok offset=-5,0,30.500000000"),
+            ("offset +0530", "ok offset=+5,30"),
+            ("offset -00", "ok offset=-0,0"),
+            ("offset +010203", "ok offset=+1,2,3"),
+            ("offset 05:00", "error UTC offset needs a sign"),
+            ("offset Z", "error UTC offset needs a sign"),
+            (
+                "offset ",
+                "error Parsing ended abruptly while parsing time-numoffset",
+            ),
+            (
+                "offset -5:00",
+                "error Invalid character while parsing hour value.",
+            ),
+            (
+                "offset +05:0060",
+                "error Invalid time zone character after '/'.",
+            ),
+            (
+                "offset +05:00[u]",
+                "error Unexpected character found after parsing was completed.",
+            ),
+        ],
     )
 }
 
 #[test]
 fn answers_zones(rt: HostRuntime) -> Result<(), Fail> {
-    check_run(
+    check_answers(
         &rt,
         rt.alloc(),
-        b"zone Europe/Berlin\nzone +05:30\nzone -00\niana Europe/Berlin\niana .Etc/GMT+1\n",
-        b"ok tz=Europe/Berlin\nok tz=+5,30\nok tz=-0,0\nok tz=Europe/Berlin\nok tz=.Etc/GMT+1\n",
-    )?;
-    check_run(
-        &rt,
-        rt.alloc(),
-        b"zone +04:30:15\nzone \niana +05:30\niana \niana UTC!\niana UTC]\n",
-        b"error Offset must be minute precision\nerror Parsing ended abruptly while parsing TimeZoneAnnotation\nerror Invalid time zone leading character.\nerror Invalid time zone leading character.\nerror Invalid IANA time zone character after '/'.\nerror Unexpected character found after parsing was completed.\n",
+        &[
+            ("zone Europe/Berlin", "ok tz=Europe/Berlin"),
+            ("zone +05:30", "ok tz=+5,30"),
+            ("zone -00", "ok tz=-0,0"),
+            ("iana Europe/Berlin", "ok tz=Europe/Berlin"),
+            ("iana .Etc/GMT+1", "ok tz=.Etc/GMT+1"),
+            ("zone +04:30:15", "error Offset must be minute precision"),
+            (
+                "zone ",
+                "error Parsing ended abruptly while parsing TimeZoneAnnotation",
+            ),
+            ("iana +05:30", "error Invalid time zone leading character."),
+            ("iana ", "error Invalid time zone leading character."),
+            (
+                "iana UTC!",
+                "error Invalid IANA time zone character after '/'.",
+            ),
+            (
+                "iana UTC]",
+                "error Unexpected character found after parsing was completed.",
+            ),
+        ],
     )
 }
 
 #[test]
 fn answers_dates_with_offsets_and_zones(rt: HostRuntime) -> Result<(), Fail> {
-    check_run(
+    check_answers(
         &rt,
         rt.alloc(),
-        b"parse 2020-01-01T00:00z\nparse 2020-01-01T00:00+23:59\nparse 2020-01-01T00:00:00-05:00:30.5\n",
-        b"ok date=2020,1,1 time=0,0,0 offset=Z\nok date=2020,1,1 time=0,0,0 offset=+23,59\nok date=2020,1,1 time=0,0,0 offset=-5,0,30.500000000\n",
-    )?;
-    check_run(
-        &rt,
-        rt.alloc(),
-        b"parse 2020-04-08[!America/Chicago]\nparse 2020-04-08[America/Chicago]\nparse 2020-04-08T12:30Z[!-0500]\nparse 2020-04-08[Amer\n",
-        b"ok date=2020,4,8 tz=!America/Chicago\nok date=2020,4,8 tz=America/Chicago\nok date=2020,4,8 time=12,30,0 offset=Z tz=!-5,0\nerror Invalid annotation close character.\n",
+        &[
+            (
+                "parse 2020-01-01T00:00z",
+                "ok date=2020,1,1 time=0,0,0 offset=Z",
+            ),
+            (
+                "parse 2020-01-01T00:00+23:59",
+                "ok date=2020,1,1 time=0,0,0 offset=+23,59",
+            ),
+            (
+                "parse 2020-01-01T00:00:00-05:00:30.5",
+                "ok date=2020,1,1 time=0,0,0 offset=-5,0,30.500000000",
+            ),
+            (
+                "parse 2020-04-08[!America/Chicago]",
+                "ok date=2020,4,8 tz=!America/Chicago",
+            ),
+            (
+                "parse 2020-04-08[America/Chicago]",
+                "ok date=2020,4,8 tz=America/Chicago",
+            ),
+            (
+                "parse 2020-04-08T12:30Z[!-0500]",
+                "ok date=2020,4,8 time=12,30,0 offset=Z tz=!-5,0",
+            ),
+            (
+                "parse 2020-04-08[Amer",
+                "error Invalid annotation close character.",
+            ),
+        ],
     )
 }
 
 #[test]
 fn answers_calendars(rt: HostRuntime) -> Result<(), Fail> {
+    check_answers(
+        &rt,
+        rt.alloc(),
+        &[
+            (
+                "parse 2020-01-01[u-ca=a][u-ca=b][!u-ca=a]",
+                "ok date=2020,1,1 calendar=a",
+            ),
+            (
+                "parse 11170129t19z[+2258][u-ca=Y2D01d-Bj-TtHL]",
+                "ok date=1117,1,29 time=19,0,0 offset=Z tz=+22,58 calendar=Y2D01d-Bj-TtHL",
+            ),
+            (
+                "parse -999999-12-07[-23][juab9k=FMRH][u-ca=gregory][u-ca=iso8601]",
+                "ok date=-999999,12,7 tz=-23,0 calendar=gregory",
+            ),
+            (
+                "parse -000400-01-31[LR][x-y=7Lu-WLdKXO]",
+                "ok date=-400,1,31 tz=LR",
+            ),
+            (
+                "parse 2020-01-01[u-ca=a-M",
+                "error Invalid annotation close character.",
+            ),
+            (
+                "parse +002020-02-29[-22:01][!u_ca=Cn31]",
+                "error Unrecognized annoation is marked as critical.",
+            ),
+            (
+                "parse 2020-01-01[u-ca=a][!u-ca=b]",
+                "error Duplicate calendars cannot be provided when one is critical.",
+            ),
+        ],
+    )
+}
+
+#[test]
+fn answers_strictly(rt: HostRuntime) -> Result<(), Fail> {
     check_run(
         &rt,
         rt.alloc(),
-        b"parse 2020-01-01[u-ca=a][u-ca=b][!u-ca=a]\nparse 11170129t19z[+2258][u-ca=Y2D01d-Bj-TtHL]\nparse -999999-12-07[-23][juab9k=FMRH][u-ca=gregory][u-ca=iso8601]\nparse -000400-01-31[LR][x-y=7Lu-WLdKXO]\n",
-        b"ok date=2020,1,1 calendar=a\nok date=1117,1,29 time=19,0,0 offset=Z tz=+22,58 calendar=Y2D01d-Bj-TtHL\nok date=-999999,12,7 tz=-23,0 calendar=gregory\nok date=-400,1,31 tz=LR\n",
-    )?;
-    check_run(
-        &rt,
-        rt.alloc(),
-        b"parse 2020-01-01[u-ca=a-M\nparse +002020-02-29[-22:01][!u_ca=Cn31]\nparse 2020-01-01[u-ca=a][!u-ca=b]\n",
-        b"error Invalid annotation close character.\nerror Unrecognized annoation is marked as critical.\nerror Duplicate calendars cannot be provided when one is critical.\n",
+        b"strict-time 1200\nstrict-month-day 11-00\nstrict-duration P1Y2Y\nstrict-duration PT1S2S\nstrict-month-day 11-07\nstrict-duration P1Y2M\n",
+        b"ok time=12,0,0\nerror MonthDay was not valid.\nerror Invalid date duration part order.\nerror Invalid time duration part order.\nok date=0,11,7\nok sign=+ date=1,2,0,0\n",
     )
 }
 
 #[test]
 fn answers_durations(rt: HostRuntime) -> Result<(), Fail> {
-    check_run(
+    check_answers(
         &rt,
         rt.alloc(),
-        b"duration -P1Y3wT0,5H\nduration p1y1m1dt1h1m1s\nduration PT5M\nduration P4294967295W\nduration +PT1H1.123456789123M\n",
-        b"ok sign=- date=1,0,3,0 time=0.500000000\nok sign=+ date=1,1,0,1 time=1,1,1\nok sign=+ time=0,5\nok sign=+ date=0,0,4294967295,0\nok sign=+ time=1,1.123456789\n",
-    )?;
-    check_run(
-        &rt,
-        rt.alloc(),
-        b"duration -P4294967295Y4294967295M4294967295W18446744073709551615DT18446744073709551615H18446744073709551615M18446744073709551615.0000000019S\n",
-        b"ok sign=- date=4294967295,4294967295,4294967295,18446744073709551615 time=18446744073709551615,18446744073709551615,18446744073709551615.000000001\n",
+        &[
+            (
+                "duration -P1Y3wT0,5H",
+                "ok sign=- date=1,0,3,0 time=0.500000000",
+            ),
+            (
+                "duration p1y1m1dt1h1m1s",
+                "ok sign=+ date=1,1,0,1 time=1,1,1",
+            ),
+            ("duration PT5M", "ok sign=+ time=0,5"),
+            ("duration P4294967295W", "ok sign=+ date=0,0,4294967295,0"),
+            (
+                "duration +PT1H1.123456789123M",
+                "ok sign=+ time=1,1.123456789",
+            ),
+            (
+                "duration -P4294967295Y4294967295M4294967295W18446744073709551615DT18446744073709551615H18446744073709551615M18446744073709551615.0000000019S",
+                "ok sign=- date=4294967295,4294967295,4294967295,18446744073709551615 time=18446744073709551615,18446744073709551615,18446744073709551615.000000001",
+            ),
+        ],
     )
 }
 
 #[test]
 fn refuses_durations(rt: HostRuntime) -> Result<(), Fail> {
-    check_run(
+    check_answers(
         &rt,
         rt.alloc(),
-        b"duration \nduration -\nduration P\nduration P1\nduration PT1.5\nduration 1Y\nduration PX\n",
-        b"error Parsing ended abruptly while parsing DurationStart\nerror Parsing ended abruptly while parsing DurationDesignator\nerror Parsing ended abruptly while parsing Duration\nerror Parsing ended abruptly while parsing DateDurationDesignator\nerror Parsing ended abruptly while parsing TimeDurationDesignator\nerror Invalid duration designator.\nerror Unexpected character found after parsing was completed.\n",
-    )?;
-    check_run(
-        &rt,
-        rt.alloc(),
-        b"duration P4294967296Y\nduration P1D1Y\nduration PT1M1H\nduration P1YT\nduration PT1.H\n",
-        b"error Provided Duration field value exceeds supported range.\nerror Invalid date duration part order.\nerror Invalid time duration part order.\nerror Invalid time duration designator.\nerror Invalid character while parsing fraction part value.\n",
+        &[
+            (
+                "duration ",
+                "error Parsing ended abruptly while parsing DurationStart",
+            ),
+            (
+                "duration -",
+                "error Parsing ended abruptly while parsing DurationDesignator",
+            ),
+            (
+                "duration P",
+                "error Parsing ended abruptly while parsing Duration",
+            ),
+            (
+                "duration P1",
+                "error Parsing ended abruptly while parsing DateDurationDesignator",
+            ),
+            (
+                "duration PT1.5",
+                "error Parsing ended abruptly while parsing TimeDurationDesignator",
+            ),
+            ("duration 1Y", "error Invalid duration designator."),
+            (
+                "duration PX",
+                "error Unexpected character found after parsing was completed.",
+            ),
+            (
+                "duration P4294967296Y",
+                "error Provided Duration field value exceeds supported range.",
+            ),
+            ("duration P1D1Y", "error Invalid date duration part order."),
+            ("duration PT1M1H", "error Invalid time duration part order."),
+            ("duration P1YT", "error Invalid time duration designator."),
+            (
+                "duration PT1.H",
+                "error Invalid character while parsing fraction part value.",
+            ),
+        ],
     )
 }
 
 #[test]
 fn answers_each_line(rt: HostRuntime) -> Result<(), Fail> {
-    check_run(&rt, rt.alloc(), LINES, ANSWERS)
+    check_answers(&rt, rt.alloc(), &LINES)?;
+    check_answers(&rt, rt.alloc(), &STORED)
 }
 
 #[test]
 fn answers_nothing_for_nothing(rt: HostRuntime) -> Result<(), Fail> {
-    check_run(&rt, rt.alloc(), b"", b"")?;
-    check_run(&rt, rt.alloc(), b"\n", b"error unknown reader\n")
+    check_answers(&rt, rt.alloc(), &[])?;
+    check_answers(&rt, rt.alloc(), &[("", "error unknown reader")])
 }
 
 #[test]
 fn answers_unknown_words(rt: HostRuntime) -> Result<(), Fail> {
-    let unknown = b"error unknown reader\n".as_slice();
-    check_run(&rt, rt.alloc(), b"hello", unknown)?;
-    check_run(&rt, rt.alloc(), b"parse", unknown)?;
-    check_run(&rt, rt.alloc(), b" parse 20201108", unknown)?;
-    check_run(&rt, rt.alloc(), b"Parse 20201108", unknown)?;
-    check_run(&rt, rt.alloc(), b"parse2 20201108", unknown)?;
-    check_run(&rt, rt.alloc(), b"parse\t20201108", unknown)?;
-    check_run(&rt, rt.alloc(), b"iana", unknown)?;
-    check_run(&rt, rt.alloc(), b"Zone UTC", unknown)?;
-    check_run(&rt, rt.alloc(), b"offsets +05:00", unknown)?;
-    check_run(&rt, rt.alloc(), b"of +05:00", unknown)?;
-    check_run(&rt, rt.alloc(), b"durations P1Y", unknown)
+    let lines = [
+        "hello",
+        "parse",
+        " parse 20201108",
+        "Parse 20201108",
+        "parse2 20201108",
+        "parse\t20201108",
+        "iana",
+        "Zone UTC",
+        "offsets +05:00",
+        "of +05:00",
+        "durations P1Y",
+    ];
+    for line in lines {
+        check_answers(&rt, rt.alloc(), &[(line, "error unknown reader")])?;
+    }
+    Ok(())
 }
 
 #[test]
 fn takes_all_after_the_first_space_as_text(rt: HostRuntime) -> Result<(), Fail> {
-    check_run(
+    check_answers(
         &rt,
         rt.alloc(),
-        b"parse ",
-        b"error Parsing ended abruptly while parsing digit\n",
-    )?;
-    check_run(
-        &rt,
-        rt.alloc(),
-        b"parse 2020-01-01 05",
-        b"ok date=2020,1,1 time=5,0,0\n",
-    )?;
-    check_run(
-        &rt,
-        rt.alloc(),
-        b"parse 20201108\r\n",
-        b"error Unexpected character found after parsing was completed.\n",
+        &[
+            ("parse ", "error Parsing ended abruptly while parsing digit"),
+            ("parse 2020-01-01 05", "ok date=2020,1,1 time=5,0,0"),
+            (
+                "parse 20201108\r",
+                "error Unexpected character found after parsing was completed.",
+            ),
+        ],
     )
+}
+
+#[test]
+fn answers_a_last_line_without_a_newline(rt: HostRuntime) -> Result<(), Fail> {
+    let rows = [
+        ("hello", "error unknown reader\n"),
+        ("parse", "error unknown reader\n"),
+        (
+            "parse ",
+            "error Parsing ended abruptly while parsing digit\n",
+        ),
+        ("parse 2020-01-01 05", "ok date=2020,1,1 time=5,0,0\n"),
+    ];
+    for (line, answer) in rows {
+        check_run(&rt, rt.alloc(), line.as_bytes(), answer.as_bytes())?;
+    }
+    Ok(())
 }
 
 #[test]
@@ -375,16 +597,6 @@ fn reads_no_more_after_a_read_that_fails(rt: HostRuntime) {
     assert_eq!(rt; writer.written(), b"".as_slice());
 }
 
-#[test]
-fn answers_the_lines_before_each_fault(rt: HostRuntime) {
-    for good_reads in 0..LINES.len() + 1 {
-        check_fault(&rt, LINES, ANSWERS, good_reads);
-    }
-    for good_reads in 0..STORED_LINES.len() + 1 {
-        check_fault(&rt, STORED_LINES, STORED_ANSWERS, good_reads);
-    }
-}
-
 /// With one byte a read, a run that stops after so many reads has the answers to the lines that ended.
 fn check_fault(rt: &impl Abort, lines: &[u8], answers: &[u8], good_reads: usize) {
     let mut reader = FaultyReader::new(lines, 1, good_reads);
@@ -405,15 +617,41 @@ fn check_fault(rt: &impl Abort, lines: &[u8], answers: &[u8], good_reads: usize)
     assert!(rt; answers.starts_with(writer.written()));
 }
 
-#[test]
-fn reads_to_the_end_byte_by_byte(rt: HostRuntime) {
-    for (lines, answers) in [(LINES, ANSWERS), (STORED_LINES, STORED_ANSWERS)] {
-        let mut reader = FaultyReader::new(lines, 1, lines.len().saturating_add(1));
-        let mut writer = FaultyWriter::new();
-        let outcome = run(&mut reader, &mut writer);
-        assert_eq!(rt; outcome, Ok(()));
-        assert_eq!(rt; writer.written(), answers);
+/// The same, whichever read fails.
+fn check_faults(rt: &impl Abort, lines: &[u8], answers: &[u8]) {
+    for good_reads in 0..=lines.len() {
+        check_fault(rt, lines, answers, good_reads);
     }
+}
+
+#[test]
+fn answers_the_lines_before_each_fault(rt: HostRuntime) -> Result<(), Fail> {
+    let session = Session::new(rt.alloc(), &LINES)?;
+    check_faults(&rt, session.lines.as_slice(), session.answers.as_slice());
+    let stored = Session::new(rt.alloc(), &STORED)?;
+    check_faults(&rt, stored.lines.as_slice(), stored.answers.as_slice());
+    Ok(())
+}
+
+/// With one byte a read, a run to the end writes the answers.
+fn check_bytes(rt: &impl Abort, lines: &[u8], answers: &[u8]) {
+    let mut reader = FaultyReader::new(lines, 1, lines.len().saturating_add(1));
+    let mut writer = FaultyWriter::new();
+    let outcome = run(&mut reader, &mut writer);
+    assert_eq!(rt; outcome, Ok(()));
+    assert_eq!(rt; writer.written(), answers);
+}
+
+#[test]
+fn reads_to_the_end_byte_by_byte(rt: HostRuntime) -> Result<(), Fail> {
+    let session = Session::new(rt.alloc(), &LINES)?;
+    check_bytes(&rt, session.lines.as_slice(), session.answers.as_slice());
+    if let Some((_newline, unended)) = session.lines.as_slice().split_last() {
+        check_bytes(&rt, unended, session.answers.as_slice());
+    }
+    let stored = Session::new(rt.alloc(), &STORED)?;
+    check_bytes(&rt, stored.lines.as_slice(), stored.answers.as_slice());
+    Ok(())
 }
 
 /// What a run on the two lines leaves in the writer.

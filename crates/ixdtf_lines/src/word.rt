@@ -20,6 +20,12 @@ pub enum Word {
     Iana,
     /// `duration`: a duration.
     Duration,
+    /// `strict-month-day`: as `month-day`, under the strict profile.
+    StrictMonthDay,
+    /// `strict-time`: as `time`, under the strict profile.
+    StrictTime,
+    /// `strict-duration`: as `duration`, under the strict profile.
+    StrictDuration,
 }
 
 impl Word {
@@ -43,6 +49,12 @@ impl Word {
             Some(Word::Iana)
         } else if name == b"duration".as_slice() {
             Some(Word::Duration)
+        } else if name == b"strict-month-day".as_slice() {
+            Some(Word::StrictMonthDay)
+        } else if name == b"strict-time".as_slice() {
+            Some(Word::StrictTime)
+        } else if name == b"strict-duration".as_slice() {
+            Some(Word::StrictDuration)
         } else {
             None
         }

@@ -11,10 +11,12 @@ use Rattle.ixdtf.specs.language.Cores.{Core, IsCore}
 use Rattle.ixdtf.specs.language.Readers.{Reader, CoreKind}
 use Rattle.ixdtf.specs.language.Readers.Reader.{bracketed}
 use Rattle.ixdtf.specs.table.Rows.{Row, Fits}
+use Rattle.ixdtf.specs.language.Languages.Derives.{as_parsed}
 use Rattle.ixdtf.specs.language.Languages.{Parsed, parsed_with, IsBracketed}
 use Rattle.ixdtf.specs.table.Outcomes.{HasFault}
 use Rattle.ixdtf.specs.reading.Brackets.{Bracket, zone_in, pairs_in}
-use Rattle.ixdtf.specs.Handlers.{first_calendar, RefusedBeside, NoneRefused, LastRefused, calendar_value, with_calendar, GivesFault, pair_of, Calls, handed, replies_of, Step, IsChain}
+use Rattle.ixdtf.specs.Handlers.{first_calendar, RefusedBeside, NoneRefused, LastRefused, calendar_value, with_calendar, GivesFault, pair_of, Calls, handed}
+use Rattle.ixdtf.specs.Handlers.{replies_of, Step, IsChain}
 use Rattle.ixdtf.specs.reading.Chains.{FitsAfterBrackets, PairsUpTo, PairsRead, TextRead}
 use Rattle.ixdtf.proofs.code.OneMoreReply.{first_calendar-more, NoneRefused-more, NoneRefused-nothing}
 use Rattle.ixdtf.proofs.to_grammar.FirstBracket.{IsBracket}
@@ -23,13 +25,15 @@ use Rattle.ixdtf.proofs.to_grammar.Wholes.{after_brackets, tail_of, bracket_stan
 -- ---- texts of pairs
 
 -- one more pair behind others
-pub pairs_more : (front : Text) (pairs : List Pair) (bracket : Text) (pair : Pair) → ArePairs front pairs → IsPair bracket pair → ArePairs (front ++ bracket) (pairs ++ pair ∷ [])
+pub pairs_more : (front : Text) (pairs : List Pair) (bracket : Text) (pair : Pair) → ArePairs front pairs → IsPair bracket pair
+    → ArePairs (front ++ bracket) (pairs ++ pair ∷ [])
 pairs_more front [] bracket pair is last = (bracket, [], ap (λ f. f ++ bracket) is ∙ sym (append-nil bracket), last, refl)
 pairs_more front (p ∷ pairs) bracket pair h last =
     (h.0, h.1 ++ bracket, ap (λ f. f ++ bracket) h.2 ∙ append_assoc h.0 h.1 bracket, h.3, pairs_more h.1 pairs bracket pair h.4 last)
 
 -- the same of a text as far as the rest
-upto_more : (text : Text) (pairs : List Pair) (rest bracket after : Text) (pair : Pair) → PairsUpTo text pairs rest → rest ≡ bracket ++ after → IsPair bracket pair → PairsUpTo text (pairs ++ pair ∷ []) after
+upto_more : (text : Text) (pairs : List Pair) (rest bracket after : Text) (pair : Pair) → PairsUpTo text pairs rest → rest ≡ bracket ++ after
+    → IsPair bracket pair → PairsUpTo text (pairs ++ pair ∷ []) after
 upto_more text pairs rest bracket after pair h is last =
     (h.0 ++ bracket, h.1 ∙ ap (λ r. h.0 ++ r) is ∙ sym (append_assoc h.0 bracket after), pairs_more h.0 pairs bracket pair h.2 last)
 
@@ -63,7 +67,7 @@ module _ {T U F : Type 0} (number : U → ℕ) (step : Step T U F) (handler : F)
   }
 
   -- a call on the first pair
-  module _ (annotation : Annotation T U) (reply : Option (Annotation T U)) (next : F) (pair : Pair)
+  module _ {annotation : Annotation T U} {reply : Option (Annotation T U)} {next : F} {pair : Pair}
       (alone : first ≡ pair ∷ []) (same : pair_of number annotation ≡ pair) (called : step handler annotation reply next) where
     one_call : Calls T U
     one_call = (annotation, reply) ∷ []
@@ -104,8 +108,9 @@ module _ {T U F : Type 0} (number : U → ℕ) (step : Step T U F) (handler : F)
         record { calls = one_call; chain = one_chain; more = []; all = one_handed; gives = (text, ([], refl, refl), inl last) }
 
   -- a call on one more pair
-  module _ (state : F) (rest : Text) (calendar : Option Pair) (annotation : Annotation T U) (bracket after : Text) (reply : Option (Annotation T U)) (next : F)
-      (so_far : SoFar state rest calendar) (is_pair : IsPair bracket (pair_of number annotation)) (read : rest ≡ bracket ++ after)
+  module _ {state : F} {rest : Text} {calendar : Option Pair} {annotation : Annotation T U} {bracket : Text} (after : Text)
+      {reply : Option (Annotation T U)} {next : F} (so_far : SoFar state rest calendar) (is_pair : IsPair bracket (pair_of number annotation))
+      (read : rest ≡ bracket ++ after)
       (called : step state annotation reply next) where
     more_calls : Calls T U
     more_calls = so_far.calls ++ (annotation, reply) ∷ []
@@ -153,11 +158,18 @@ module _ {T U F : Type 0} (number : U → ℕ) (step : Step T U F) (handler : F)
           none = so_far.accepted;
           refused = rw (← so_far.kept) refused;
         } in
-        record { calls = more_calls; chain = more_chain; more = so_far.more ++ pair_of number annotation ∷ []; all = more_handed; gives = (after, more_upto, inl last) }
+        record {
+          calls = more_calls;
+          chain = more_chain;
+          more = so_far.more ++ pair_of number annotation ∷ [];
+          all = more_handed;
+          gives = (after, more_upto, inl last);
+        }
 
   -- nothing is left of the text
-  pub read_whole : (state : F) (rest : Text) (calendar : Option Pair) → SoFar state rest calendar → rest ≡ [] → PairsRead number step handler state first text (Ok calendar)
-  read_whole state rest calendar so_far none =
+  pub read_whole : {state : F} {rest : Text} {calendar : Option Pair} → SoFar state rest calendar → rest ≡ []
+      → PairsRead number step handler state first text (Ok calendar)
+  read_whole so_far none =
       let front = so_far.upto in
       let whole : front.0 ≡ text = sym (front.1 ∙ ap (λ r. front.0 ++ r) none ∙ append-nil front.0) in
       record {
@@ -169,9 +181,10 @@ module _ {T U F : Type 0} (number : U → ℕ) (step : Step T U F) (handler : F)
       }
 
   -- a row fits what is left
-  pub read_fault : (state : F) (rest : Text) (calendar : Option Pair) → SoFar state rest calendar → (row : Row) (fault : Fault) → FitsAfterBrackets row rest → row.error ≡ fault
+  pub read_fault : {state : F} {rest : Text} {calendar : Option Pair} → SoFar state rest calendar → (row : Row) (fault : Fault) → FitsAfterBrackets row rest
+      → row.error ≡ fault
       → PairsRead number step handler state first text (Err fault)
-  read_fault state rest calendar so_far row fault fits is = record {
+  read_fault {rest} so_far row fault fits is = record {
     calls = so_far.calls;
     chain = so_far.chain;
     more = so_far.more;
@@ -186,9 +199,11 @@ abbrev pub text_result : Core → Bracket → Result (Option Pair) Fault → Res
 text_result core b (Ok calendar) = Ok (with_calendar (parsed_with core (zone_in b)) (calendar_value calendar))
 text_result core b (Err fault) = Err fault
 
-module _ (kind : CoreKind) (text cores bracket rest : Text) (core : Core) (b : Bracket) (is : text ≡ cores ++ (bracket ++ rest)) (is_core : IsCore kind cores core) (is_bracket : IsBracket bracket b) where
+module _ (kind : CoreKind) (text cores bracket rest : Text) (core : Core) (b : Bracket) (is : text ≡ cores ++ (bracket ++ rest))
+    (is_core : IsCore kind cores core) (is_bracket : IsBracket bracket b) where
   -- a core, a first bracket and more pairs
-  whole_of : (front : Text) (more : List Pair) → ArePairs front more → IsBracketed kind (cores ++ (bracket ++ front)) (parsed_with core (zone_in b)) (pairs_in b ++ more)
+  whole_of : (front : Text) (more : List Pair) → ArePairs front more
+      → IsBracketed kind (cores ++ (bracket ++ front)) (parsed_with core (zone_in b)) (pairs_in b ++ more)
   whole_of front more pairs = record {
     cores = cores;
     brackets = bracket ++ front;
@@ -204,22 +219,31 @@ module _ (kind : CoreKind) (text cores bracket rest : Text) (core : Core) (b : B
   split_of front left e = is ∙ rw e (simp append_assoc)
 
   -- a row that fits behind whole brackets fits the text
-  fits_text : (more : List Pair) (left : Text) (row : Row) → PairsUpTo rest more left → FitsAfterBrackets row left → Fits (bracketed kind) row (pairs_in b ++ more) text
+  fits_text : (more : List Pair) (left : Text) (row : Row) → PairsUpTo rest more left → FitsAfterBrackets row left
+      → Fits (bracketed kind) row (pairs_in b ++ more) text
   fits_text more left row upto_left fits =
       let front = upto_left.0 in
-      after_brackets kind row _ text _ left (split_of front left upto_left.1)
-      (cores, bracket ++ front, refl, (core, is_core), zone_in b, tail_of b bracket front more is_bracket upto_left.2, bracket_stands bracket front b is_bracket) fits
+      after_brackets kind row _ text _ left (split_of front left upto_left.1) (
+        cores,
+        bracket ++ front,
+        refl,
+        (core, is_core),
+        zone_in b,
+        tail_of b bracket front more is_bracket upto_left.2,
+        bracket_stands bracket front b is_bracket,
+      ) fits
 
   module _ {T U F : Type 0} (number : U → ℕ) (step : Step T U F) (handler last : F) where
     -- what the code returns for the pairs, for the whole text
-    pub text_read : (result : Result (Option Pair) Fault) → PairsRead number step handler last (pairs_in b) rest result → TextRead number step handler last (bracketed kind) text (text_result core b result)
+    pub text_read : (result : Result (Option Pair) Fault) → PairsRead number step handler last (pairs_in b) rest result
+        → TextRead number step handler last (bracketed kind) text (text_result core b result)
     text_read (Ok calendar) h = record {
       calls = h.calls;
       chain = h.chain;
       gives = record {
         read = parsed_with core (zone_in b);
         whole = rw h.all
-            (rw is (whole_of rest h.more h.gives.0));
+            (rw is (as_parsed (whole_of rest h.more h.gives.0)));
         accepted = h.gives.1;
         has = ap (λ c. with_calendar (parsed_with core (zone_in b)) (calendar_value c)) h.gives.2;
       };
@@ -229,7 +253,16 @@ module _ (kind : CoreKind) (text cores bracket rest : Text) (core : Core) (b : B
         let front = h.gives.1 in
         let gives : GivesFault (bracketed kind) text (pairs_in b ++ h.more) (replies_of number h.calls) fault =
         elim h.gives.2 [
-          | inl last_refused ↦ inl ((cores ++ (bracket ++ front.0), left, split_of front.0 left front.1, parsed_with core (zone_in b), whole_of front.0 h.more front.2), last_refused)
+          | inl last_refused ↦ inl (
+            (
+              cores ++ (bracket ++ front.0),
+              left,
+              split_of front.0 left front.1,
+              parsed_with core (zone_in b),
+              as_parsed (whole_of front.0 h.more front.2),
+            ),
+            last_refused,
+          )
           | inr p ↦ inr ((p.0.0, fits_text h.more left p.0.0 front p.0.1, p.0.2), p.1)
         ] in
         record { calls = h.calls; chain = h.chain; gives = rw h.all gives }
@@ -242,13 +275,14 @@ module _ {T U F : Type 0} (number : U → ℕ) (step : Step T U F) (handler : F)
   text_fault reader fault h = record { calls = []; chain = refl; gives = inr (h, NoneRefused-nothing) }
 
   -- a core alone
-  pub text_derived : (kind : CoreKind) (core : Core) → IsCore kind text core → TextRead number step handler handler (bracketed kind) text (Ok (with_calendar (parsed_with core None) None))
+  pub text_derived : (kind : CoreKind) (core : Core) → IsCore kind text core
+      → TextRead number step handler handler (bracketed kind) text (Ok (with_calendar (parsed_with core None) None))
   text_derived kind core is_core = record {
     calls = [];
     chain = refl;
     gives = record {
       read = parsed_with core None;
-      whole = record {
+      whole = as_parsed (record {
         cores = text;
         brackets = [];
         core = core;
@@ -257,7 +291,7 @@ module _ {T U F : Type 0} (number : U → ℕ) (step : Step T U F) (handler : F)
         is_core = is_core;
         is_tail = ([], [], refl, refl, refl);
         has = refl;
-      };
+      });
       accepted = NoneRefused-nothing;
       has = refl;
     };

@@ -1,5 +1,6 @@
 -- The digits of a number of a duration, taken off one by one.
 use Rattle.std.proofs.Common.{◌≡◌, ℕ, ◌+◌, ◌-◌, ◌*◌, true, false, [], ◌∷◌, ◌++◌, drop, Some, None, Ok, Err, refl, sym, ◌∙◌, nat_le}
+use Rattle.ixdtf.specs.declared.parsers.profile.Profile.{Profile}
 use Rattle.ixdtf.specs.language.Letters.{Text, digit}
 use Rattle.ixdtf.specs.language.Letters.Letter.{Plain}
 use Rattle.ixdtf.specs.language.Digits.{decimal}
@@ -20,10 +21,11 @@ use Rattle.ixdtf.proofs.code.FirstLetter.{first_is, nothing_is}
 pub record IsSoFar (first : ℕ) (whole rest : Text) (value : ℕ) : Type 0 where
   pub ds : Text
   pub number : value ≡ decimal ds
-  pub leads : (context : Context) → run_from (in_number context (Plain first ∷ [])) whole ≡ run_from (in_number context ds) rest
+  pub leads : (profile : Profile) (context : Context)
+      → run_from profile (in_number context (Plain first ∷ [])) whole ≡ run_from profile (in_number context ds) rest
 
 pub begins : (first : ℕ) (whole : Text) (value : ℕ) → value ≡ decimal (Plain first ∷ []) → IsSoFar first whole whole value
-begins first whole value is = record { ds = Plain first ∷ []; number = is; leads = λ context. refl }
+begins first whole value is = record { ds = Plain first ∷ []; number = is; leads = λ profile context. refl }
 
 module _ (first : ℕ) (whole rest : Text) (value : ℕ) (far : IsSoFar first whole rest value) where
   module _ (c : ℕ) (found : look_at NonAsciiCodePoint rest ≡ Ok (Some c)) where
@@ -31,26 +33,31 @@ module _ (first : ℕ) (whole rest : Text) (value : ℕ) (far : IsSoFar first wh
       grown : value * 10 + (c - 48) ≡ decimal (far.ds ++ (Plain c ∷ []))
       grown = sym (rw (decimal_snoc far.ds (Plain c), far.number) refl)
 
-      pub goes_on : (next : Text) (sum : ℕ) → next ≡ drop 1 rest → sum ≡ value * 10 + (c - 48) → nat_le (value * 10 + (c - 48)) greatest_value ≡ true → IsSoFar first whole next sum
+      pub goes_on : (next : Text) (sum : ℕ) → next ≡ drop 1 rest → sum ≡ value * 10 + (c - 48) → nat_le (value * 10 + (c - 48)) greatest_value ≡ true
+          → IsSoFar first whole next sum
       unfolding run step
       goes_on next sum moved sums small = record {
         ds = far.ds ++ (Plain c ∷ []);
         number = sums ∙ grown;
-        leads = λ context. far.leads context ∙ rw (first_is rest c found, is, ← grown, small, moved) refl;
+        leads = λ profile context. far.leads profile context ∙ rw (first_is rest c found, is, ← grown, small, moved) refl;
       }
 
       -- the number is past the greatest
-      pub passes : nat_le (value * 10 + (c - 48)) greatest_value ≡ false → (context : Context) → run_from (in_number context (Plain first ∷ [])) whole ≡ Err DurationValueExceededRange
+      pub passes : nat_le (value * 10 + (c - 48)) greatest_value ≡ false → (profile : Profile) (context : Context)
+          → run_from profile (in_number context (Plain first ∷ [])) whole ≡ Err DurationValueExceededRange
       unfolding run step
-      passes past context = far.leads context ∙ rw (first_is rest c found, is, ← grown, past) refl
+      passes past profile context = far.leads profile context ∙ rw (first_is rest c found, is, ← grown, past) refl
 
     -- the letter is no digit
-    pub stops : (next : Text) → next ≡ drop 1 rest → (context : Context) → run_from (in_number context (Plain first ∷ [])) whole ≡ run_from (in_number context far.ds) (Plain c ∷ next)
-    stops next moved context = far.leads context ∙ rw (first_is rest c found, moved) refl
+    pub stops : (next : Text) → next ≡ drop 1 rest → (profile : Profile) (context : Context)
+        → run_from profile (in_number context (Plain first ∷ [])) whole ≡ run_from profile (in_number context far.ds) (Plain c ∷ next)
+    stops next moved profile context = far.leads profile context ∙ rw (first_is rest c found, moved) refl
 
-  pub ends : look_at NonAsciiCodePoint rest ≡ Ok None → (context : Context) → run_from (in_number context (Plain first ∷ [])) whole ≡ Err (no_designator (half_of context))
+  pub ends : look_at NonAsciiCodePoint rest ≡ Ok None → (profile : Profile) (context : Context)
+      → run_from profile (in_number context (Plain first ∷ [])) whole ≡ Err (no_designator (half_of context))
   unfolding run
-  ends none context = far.leads context ∙ rw (nothing_is rest none) refl
+  ends none profile context = far.leads profile context ∙ rw (nothing_is rest none) refl
 
-  pub breaks : (fault : Fault) → look_at NonAsciiCodePoint rest ≡ Err fault → (context : Context) → run_from (in_number context (Plain first ∷ [])) whole ≡ Err fault
-  breaks fault bad context = far.leads context ∙ fails _ rest fault bad
+  pub breaks : (fault : Fault) → look_at NonAsciiCodePoint rest ≡ Err fault → (profile : Profile) (context : Context)
+      → run_from profile (in_number context (Plain first ∷ [])) whole ≡ Err fault
+  breaks fault bad profile context = far.leads profile context ∙ fails _ _ rest fault bad

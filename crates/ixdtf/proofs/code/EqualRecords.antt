@@ -57,11 +57,11 @@ on_option exact (Some x) None = (λ t. absurd cc, λ p. absurd cc)
 on_option exact (Some x) (Some y) = (λ t. ap Some ((exact x y).0 t), λ p. (exact x y).1 cc)
 
 -- of what may be there, seen as it is
-pub on_plain_option : {K : Type 0} {eq : K → K → Bool} → Exact (λ x. x) eq → Exact (λ o. o) (option_eq eq)
-on_plain_option exact None None = (λ t. refl, λ p. refl)
-on_plain_option exact None (Some y) = (λ t. absurd cc, λ p. absurd cc)
-on_plain_option exact (Some x) None = (λ t. absurd cc, λ p. absurd cc)
-on_plain_option exact (Some x) (Some y) = (λ t. ap Some ((exact x y).0 t), λ p. (exact x y).1 cc)
+pub on_option_itself : {K : Type 0} {eq : K → K → Bool} → Exact (λ x. x) eq → Exact (λ o. o) (option_eq eq)
+on_option_itself exact None None = (λ t. refl, λ p. refl)
+on_option_itself exact None (Some y) = (λ t. absurd cc, λ p. absurd cc)
+on_option_itself exact (Some x) None = (λ t. absurd cc, λ p. absurd cc)
+on_option_itself exact (Some x) (Some y) = (λ t. ap Some ((exact x y).0 t), λ p. (exact x y).1 cc)
 
 -- the test of two values is another one
 moved : {V : Type 0} {s t : Bool} {a b : V} → s ≡ t → IsTrue t ↔ (a ≡ b) → IsTrue s ↔ (a ≡ b)
@@ -117,7 +117,8 @@ module _ {eq : UtcOffsetRecordOrZ → UtcOffsetRecordOrZ → Bool} where
   offsets_or_z_exact of shifts offsets_or_z.Z (offsets_or_z.Offset o) = apart (of.after o) (λ e. cc)
 
 -- a value of one of three variants, by what is in it
-pub record OfThree {K X Y Z : Type 0} (eq : K → K → Bool) (first : X → K) (second : Y → K) (third : Z → K) (eq_first : X → X → Bool) (eq_second : Y → Y → Bool) (eq_third : Z → Z → Bool) : Type 0 where
+pub record OfThree {K X Y Z : Type 0} (eq : K → K → Bool) (first : X → K) (second : Y → K) (third : Z → K) (eq_first : X → X → Bool) (eq_second : Y → Y → Bool)
+    (eq_third : Z → Z → Bool) : Type 0 where
   pub firsts : (x y : X) → eq (first x) (first y) ≡ eq_first x y
   pub seconds : (x y : Y) → eq (second x) (second y) ≡ eq_second x y
   pub thirds : (x y : Z) → eq (third x) (third y) ≡ eq_third x y
@@ -150,10 +151,15 @@ module _ {eq : TimeDurationRecord → TimeDurationRecord → Bool} where
   time_durations_exact of hours minutes seconds (time_durations.Minutes h m f) (time_durations.Minutes i n g) =
       moved (of.seconds (h, (m, f)) (i, (n, g))) (λ t. ap minutes_of ((minutes (h, (m, f)) (i, (n, g))).0 t), λ e. (minutes (h, (m, f)) (i, (n, g))).1 cc)
   time_durations_exact of hours minutes seconds (time_durations.Seconds h m s f) (time_durations.Seconds i n u g) =
-      moved (of.thirds (h, (m, (s, f))) (i, (n, (u, g)))) (λ t. ap seconds_of ((seconds (h, (m, (s, f))) (i, (n, (u, g)))).0 t), λ e. (seconds (h, (m, (s, f))) (i, (n, (u, g)))).1 cc)
+      moved (of.thirds (h, (m, (s, f))) (i, (n, (u, g))))
+      (λ t. ap seconds_of ((seconds (h, (m, (s, f))) (i, (n, (u, g)))).0 t), λ e. (seconds (h, (m, (s, f))) (i, (n, (u, g)))).1 cc)
   time_durations_exact of hours minutes seconds (time_durations.Hours h f) (time_durations.Minutes i n g) = apart (of.first_second (h, f) (i, (n, g))) (λ e. cc)
-  time_durations_exact of hours minutes seconds (time_durations.Hours h f) (time_durations.Seconds i n u g) = apart (of.first_third (h, f) (i, (n, (u, g)))) (λ e. cc)
+  time_durations_exact of hours minutes seconds (time_durations.Hours h f) (time_durations.Seconds i n u g) =
+      apart (of.first_third (h, f) (i, (n, (u, g)))) (λ e. cc)
   time_durations_exact of hours minutes seconds (time_durations.Minutes h m f) (time_durations.Hours i g) = apart (of.second_first (h, (m, f)) (i, g)) (λ e. cc)
-  time_durations_exact of hours minutes seconds (time_durations.Minutes h m f) (time_durations.Seconds i n u g) = apart (of.second_third (h, (m, f)) (i, (n, (u, g)))) (λ e. cc)
-  time_durations_exact of hours minutes seconds (time_durations.Seconds h m s f) (time_durations.Hours i g) = apart (of.third_first (h, (m, (s, f))) (i, g)) (λ e. cc)
-  time_durations_exact of hours minutes seconds (time_durations.Seconds h m s f) (time_durations.Minutes i n g) = apart (of.third_second (h, (m, (s, f))) (i, (n, g))) (λ e. cc)
+  time_durations_exact of hours minutes seconds (time_durations.Minutes h m f) (time_durations.Seconds i n u g) =
+      apart (of.second_third (h, (m, f)) (i, (n, (u, g)))) (λ e. cc)
+  time_durations_exact of hours minutes seconds (time_durations.Seconds h m s f) (time_durations.Hours i g) =
+      apart (of.third_first (h, (m, (s, f))) (i, g)) (λ e. cc)
+  time_durations_exact of hours minutes seconds (time_durations.Seconds h m s f) (time_durations.Minutes i n g) =
+      apart (of.third_second (h, (m, (s, f))) (i, (n, g))) (λ e. cc)

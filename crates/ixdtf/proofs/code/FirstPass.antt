@@ -1,5 +1,6 @@
 -- One pass over a first bracket that begins as a key may: letters of a key, and then letters of a name.
-use Rattle.std.proofs.Common.{◌≡◌, ℕ, ◌&&◌, ◌||◌, not, Bool, true, false, IsTrue, List, [], ◌∷◌, ◌++◌, drop, Option, Some, None, option_map, Result, Ok, Err, refl, sym, ap, subst, ◌∙◌, arith, if◌then◌else◌}
+use Rattle.std.proofs.Common.{◌≡◌, ℕ, ◌&&◌, ◌||◌, not, Bool, true, false, IsTrue, List, [], ◌∷◌, ◌++◌, drop, Option, Some, None, option_map, Result, Ok, Err}
+use Rattle.std.proofs.Common.{refl, sym, ap, subst, ◌∙◌, arith, if◌then◌else◌}
 use Rattle.std.proofs.lemmas.Bool.{and_parts}
 use Rattle.std.proofs.lemmas.Bool.Decides.{nat_tests}
 use Rattle.ixdtf.specs.declared.parsers.annotations.KeyLetters.{KeyLetters}
@@ -10,7 +11,7 @@ use Rattle.ixdtf.specs.language.Letters.{Class, Text}
 use Rattle.ixdtf.specs.language.Letters.Letter.{Plain, Bad}
 use Rattle.ixdtf.specs.language.Letters.{equals, closing, slash, key_char, zone_char}
 use Rattle.ixdtf.specs.language.ZoneNames.Zone.{Name}
-use Rattle.ixdtf.specs.language.Brackets.{passed}
+use Rattle.ixdtf.specs.language.Brackets.{skipped}
 use Rattle.ixdtf.specs.table.Faults.{Fault}
 use Rattle.ixdtf.specs.table.Faults.Fault.{NonAsciiCodePoint, AnnotationKeyChar, IanaCharPostSeparator}
 use Rattle.ixdtf.specs.table.Lines.{abrupt_bracket}
@@ -22,7 +23,7 @@ use Rattle.ixdtf.specs.reading.Brackets.{Bracket, zoned, paired, noted, as_pair,
 use Rattle.ixdtf.proofs.code.FirstLetter.{first_is, nothing_is}
 use Rattle.ixdtf.proofs.code.NameLoop.{name_ended, name_refused}
 use Rattle.ixdtf.proofs.code.PairLoops.{key_closed, key_refused}
-use Rattle.ixdtf.proofs.parts.LookAhead.{over_letter, zone_char_passed, slash_passed, key_char_passed}
+use Rattle.ixdtf.proofs.parts.LookAhead.{over_letter, zone_char_skipped, slash_skipped, key_char_skipped}
 
 abbrev sight : Text → Result Bool Fault
 sight text = sight_at error_of text
@@ -42,7 +43,8 @@ module _ {S : Type 0} (after : S → ℕ → Option S) where
   shown_more c (Ok x) h = h
   shown_more c (Err e) h = tt
 
-  shown_on : (state : S) (c : ℕ) (rest : Text) (next : Option S) → after state c ≡ next → ((n : S) → Shown (letters_by after n rest)) → Shown (on_letter next (λ n. one_more c (letters_by after n rest)) (Ok (nothing_taken state (Some c), Plain c ∷ rest)))
+  shown_on : (state : S) (c : ℕ) (rest : Text) (next : Option S) → after state c ≡ next → ((n : S) → Shown (letters_by after n rest))
+      → Shown (on_letter next (λ n. one_more c (letters_by after n rest)) (Ok (nothing_taken state (Some c), Plain c ∷ rest)))
   unfolding look_at
   shown_on state c rest None e same = (refl, e)
   shown_on state c rest (Some next) e same = shown_more c _ (same next)
@@ -54,21 +56,25 @@ module _ {S : Type 0} (after : S → ℕ → Option S) where
   shown state (Plain c ∷ rest) = shown_on state c rest (after state c) refl (λ n. shown n rest)
 
   -- the letter that does not go on stands next
-  pub next_shown : (state : S) (text rest : Text) (taken : Taken S) → letters_by after state text ≡ Ok (taken, rest) → look_at NonAsciiCodePoint rest ≡ Ok taken.next
+  pub next_shown : (state : S) (text rest : Text) (taken : Taken S) → letters_by after state text ≡ Ok (taken, rest)
+      → look_at NonAsciiCodePoint rest ≡ Ok taken.next
   next_shown state text rest taken e = let h : Shown (Ok (taken, rest)) = subst (λ read. Shown read) e (shown state text) in h.0
 
-  pub next_stays : (state : S) (text rest : Text) (taken : Taken S) (c : ℕ) → letters_by after state text ≡ Ok (taken, rest) → taken.next ≡ Some c → after taken.state c ≡ None
+  pub next_stays : (state : S) (text rest : Text) (taken : Taken S) (c : ℕ) → letters_by after state text ≡ Ok (taken, rest) → taken.next ≡ Some c
+      → after taken.state c ≡ None
   next_stays state text rest taken c e is =
       let h : Shown (Ok (taken, rest)) = subst (λ read. Shown read) e (shown state text) in
       subst (λ next. Stays taken.state next) is h.1
 
-  module _ (over : (state next : S) (c : ℕ) → after state c ≡ Some next → IsTrue (passed c)) where
+  module _ (over : (state next : S) (c : ℕ) → after state c ≡ Some next → IsTrue (skipped c)) where
     sight_more : (c : ℕ) (read : Read Fault (Taken S)) → (read >>= λ x. sight x.1) ≡ (one_more c read >>= λ x. sight x.1)
     sight_more c (Ok x) = refl
     sight_more c (Err e) = refl
 
-    sight_on : (state : S) (c : ℕ) (rest : Text) → ((n : S) → sight rest ≡ (letters_by after n rest >>= λ x. sight x.1)) → (next : Option S) → after state c ≡ next
-        → sight (Plain c ∷ rest) ≡ (on_letter next (λ n. one_more c (letters_by after n rest)) (Ok (nothing_taken state (Some c), Plain c ∷ rest)) >>= λ x. sight x.1)
+    sight_on : (state : S) (c : ℕ) (rest : Text) → ((n : S) → sight rest ≡ (letters_by after n rest >>= λ x. sight x.1)) → (next : Option S)
+        → after state c ≡ next
+        → sight (Plain c ∷ rest) ≡ (on_letter next (λ n. one_more c (letters_by after n rest)) (Ok (nothing_taken state (Some c), Plain c ∷ rest))
+        >>= λ x. sight x.1)
     sight_on state c rest same None e = refl
     sight_on state c rest same (Some next) e = over_letter error_of c rest (over state next c e) ∙ same next ∙ sight_more c _
 
@@ -107,13 +113,15 @@ test_held false x y e = absurd cc
 
 -- ---- letters before an `=` or a `]`
 
-bracket_over : (state next : BracketLetters) (c : ℕ) → bracket_after state c ≡ Some next → IsTrue (passed c)
+bracket_over : (state next : BracketLetters) (c : ℕ) → bracket_after state c ≡ Some next → IsTrue (skipped c)
 bracket_over state next c e = test_held _ state next e
 
-pub bracket_failed : (letters : BracketLetters) (text : Text) (fault : Fault) → letters_by bracket_after letters text ≡ Err fault → sight_at error_of text ≡ Err fault
+pub bracket_failed : (letters : BracketLetters) (text : Text) (fault : Fault) → letters_by bracket_after letters text ≡ Err fault
+    → sight_at error_of text ≡ Err fault
 bracket_failed letters text fault e = sight_fails bracket_after bracket_over letters text fault e
 
-pub bracket_ended : (letters : BracketLetters) (text rest : Text) (taken : Taken BracketLetters) → letters_by bracket_after letters text ≡ Ok (taken, rest) → taken.next ≡ None → sight_at error_of text ≡ Err abrupt_bracket
+pub bracket_ended : (letters : BracketLetters) (text rest : Text) (taken : Taken BracketLetters) → letters_by bracket_after letters text ≡ Ok (taken, rest)
+    → taken.next ≡ None → sight_at error_of text ≡ Err abrupt_bracket
 bracket_ended letters text rest taken e is =
     sight_goes_on bracket_after bracket_over letters text rest taken e ∙ sight_at_end rest (next_shown bracket_after letters text rest taken e ∙ ap Ok is)
 
@@ -124,8 +132,9 @@ bracket_other letters c e is = go _ (rw is at e)
     go true e = refl
     go false e = absurd cc
 
-pub bracket_found : (letters : BracketLetters) (text rest : Text) (taken : Taken BracketLetters) (c : ℕ) → letters_by bracket_after letters text ≡ Ok (taken, rest) → taken.next ≡ Some c → sight_at error_of text ≡ Ok (equals c)
-bracket_found letters text rest taken c e is =
+pub bracket_sighted : (letters : BracketLetters) (text rest : Text) (taken : Taken BracketLetters) (c : ℕ)
+    → letters_by bracket_after letters text ≡ Ok (taken, rest) → taken.next ≡ Some c → sight_at error_of text ≡ Ok (equals c)
+bracket_sighted letters text rest taken c e is =
     sight_goes_on bracket_after bracket_over letters text rest taken e ∙ go _ refl
   where
     next : look_at NonAsciiCodePoint rest ≡ Ok (Some c)
@@ -136,21 +145,21 @@ bracket_found letters text rest taken c e is =
     go false p = rw p (sight_at_closing rest c next (bracket_other taken.state c (next_stays bracket_after letters text rest taken c e is) p))
 
 -- what stands before any `]`
-pub ruleset sights = (bracket_failed, bracket_ended, bracket_found)
+pub ruleset sights = (bracket_failed, bracket_ended, bracket_sighted)
 
 -- ---- letters of a key, and letters of a name after them
 
-key_over : (state next : KeyLetters) (c : ℕ) → key_after state c ≡ Some next → IsTrue (passed c)
-key_over state next c e = key_char_passed c (test_held (key_char c) state next e)
+key_over : (state next : KeyLetters) (c : ℕ) → key_after state c ≡ Some next → IsTrue (skipped c)
+key_over state next c e = key_char_skipped c (test_held (key_char c) state next e)
 
-name_over : (state next : NameLetters) (c : ℕ) → name_after state c ≡ Some next → IsTrue (passed c)
+name_over : (state next : NameLetters) (c : ℕ) → name_after state c ≡ Some next → IsTrue (skipped c)
 name_over state next c e = go _ refl (slash c) refl e
   where
     go : (b : Bool) → zone_char c ≡ b → (d : Bool) → slash c ≡ d
         → option_map (λ may_end. record { may_end = may_end }) (if b then Some true else (if d && state.may_end then Some false else None)) ≡ Some next
-        → IsTrue (passed c)
-    go true p d q e = zone_char_passed c p
-    go false p true q e = slash_passed c q
+        → IsTrue (skipped c)
+    go true p d q e = zone_char_skipped c p
+    go false p true q e = slash_skipped c q
     go false p false q e = absurd cc
 
 -- letters in front of a name
@@ -177,7 +186,9 @@ key_is_zone : (c : ℕ) → key_char c ≡ true → zone_char c ≡ true
 key_is_zone c is = grind (arith, nat_tests)
 
 keyed_on : (letters : KeyLetters) (c : ℕ) (rest : Text) → name_run error_of true rest ≡ keyed (letters_by key_after letters rest) → (b : Bool) → key_char c ≡ b
-    → name_run error_of true (Plain c ∷ rest) ≡ keyed (on_letter (if b then Some letters else None) (λ n. one_more c (letters_by key_after n rest)) (Ok (nothing_taken letters (Some c), Plain c ∷ rest)))
+    → name_run error_of true (Plain c ∷ rest)
+    ≡ keyed (on_letter (if b then Some letters else None) (λ n. one_more c (letters_by key_after n rest))
+    (Ok (nothing_taken letters (Some c), Plain c ∷ rest)))
 unfolding name_run
 keyed_on letters c rest same true e = rw (key_is_zone c e) (ap (λ read. with_letter c read) same ∙ keyed_more c (letters_by key_after letters rest))
 keyed_on letters c rest same false e = in_front_none _
@@ -275,11 +286,13 @@ module _ (critical : Bool) (letters : KeyLetters) (text : Text) where
           go None e other = let ended : Ok true ≡ Err abrupt_bracket = sym p ∙ sight_at_end rest (key_next _ e) in absurd cc
           go (Some c) e other = rw (key_refused letters text rest key c keys e other) refl
 
-      zone_refused : (more.state.may_end && next_is closing more.next) ≡ false → sight after ≡ Ok false → noted critical (as_zone (name_in_bracket_at error_of text)) ≡ Err (name_fault more.state.may_end)
+      zone_refused : (more.state.may_end && next_is closing more.next) ≡ false → sight after ≡ Ok false
+          → noted critical (as_zone (name_in_bracket_at error_of text)) ≡ Err (name_fault more.state.may_end)
       unfolding name_in_bracket_at next_by
       zone_refused is p = go more.state.may_end refl more.next refl is
         where
-          go : (b : Bool) → more.state.may_end ≡ b → (next : Option ℕ) → more.next ≡ next → (b && next_is closing next) ≡ false → noted critical (as_zone (name_in_bracket_at error_of text)) ≡ Err (name_fault more.state.may_end)
+          go : (b : Bool) → more.state.may_end ≡ b → (next : Option ℕ) → more.next ≡ next → (b && next_is closing next) ≡ false
+              → noted critical (as_zone (name_in_bracket_at error_of text)) ≡ Err (name_fault more.state.may_end)
           go false q next e test = rw (name_refused_so q, q) refl
           go true q None e test = let ended : Ok false ≡ Err abrupt_bracket = sym p ∙ sight_at_end after (more_next _ e) in absurd cc
           go true q (Some c) e test =

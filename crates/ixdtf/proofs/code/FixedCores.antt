@@ -15,9 +15,11 @@ use Rattle.ixdtf.proofs.to_reading.Times.{over_seconds}
 use Rattle.ixdtf.proofs.to_reading.ClockRows.{clock_starts}
 
 fixed_is_date : (text : Text) (date : DateRecord) → FixedDate text date → IsDate text date
-fixed_is_date text date d = (inr (record { years = d.years; months = d.months; days = d.days; is = d.is; year = inl d.year; month = d.month; day = d.day }), d.in_month)
+fixed_is_date text date d =
+    (inr (record { years = d.years; months = d.months; days = d.days; is = d.is; year = inl d.year; month = d.month; day = d.day }), d.in_month)
 
-over_separator : (date : DateRecord) (c : ℕ) (rest : Text) → IsTrue (date_time_separator c) → after_date_at error_of date (Plain c ∷ rest) ≡ time_core_at error_of date rest
+over_separator : (date : DateRecord) (c : ℕ) (rest : Text) → IsTrue (date_time_separator c)
+    → after_date_at error_of date (Plain c ∷ rest) ≡ time_core_at error_of date rest
 unfolding after_date_at look_at
 over_separator date c rest h = rw h refl
 
@@ -28,5 +30,5 @@ fixed_core text date time rest f =
     let after = Plain f.separator ∷ (f.times ++ rest) in
     let dated = date_takes error_of f.dates date after (fixed_is_date f.dates date f.is_date) in
     let timed : clock_at error_of Time (f.times ++ rest) ≡ after_second_at error_of Time time.hour time.minute time.second rest =
-    (over_seconds error_of Time _ (clock_starts error_of Time) f.times time (inr f.is_time.0)).over rest in
+    (over_seconds error_of Time _ (clock_starts error_of Time) f.times time (inr f.is_time)).over rest in
     ap (date_time_core_at error_of) f.is ∙ rw dated (over_separator date f.separator _ f.separates ∙ rw timed refl)

@@ -1,5 +1,6 @@
 -- A date and a time at fixed places: what is found there is what the grammar has, and is read so.
-use Rattle.std.proofs.Common.{subst, ◌≡◌, ℕ, zero, suc, ◌+◌, ◌-◌, ◌*◌, ◌<◌, ◌≤◌, Bool, true, false, IsTrue, List, [], ◌∷◌, ◌++◌, map, drop, length, Option, Some, None, Result, Ok, Err, refl, sym, ap, ◌∙◌, nat_le, ◌&&◌, if◌then◌else◌, ℤ, pos, arith}
+use Rattle.std.proofs.Common.{subst, ◌≡◌, ℕ, zero, suc, ◌+◌, ◌-◌, ◌*◌, ◌<◌, ◌≤◌, Bool, true, false, IsTrue, List, [], ◌∷◌, ◌++◌, map, drop, length, Option}
+use Rattle.std.proofs.Common.{Some, None, Result, Ok, Err, refl, sym, ap, ◌∙◌, nat_le, ◌&&◌, if◌then◌else◌, ℤ, pos, arith}
 use Rattle.std.proofs.lemmas.Bool.{and_parts, and_from, le-leb}
 use Rattle.std.proofs.lemmas.Bool.Decides.{nat_tests}
 use Rattle.std.proofs.lemmas.List.{length-drop}
@@ -9,13 +10,13 @@ use Rattle.ixdtf.specs.language.Letters.{Letter, Text, Class, digit, hyphen, col
 use Rattle.ixdtf.specs.language.Letters.Letter.{Plain, Bad}
 use Rattle.ixdtf.specs.language.Digits.{decimal, TwoDigits}
 use Rattle.ixdtf.specs.language.Shapes.{digits}
-use Rattle.ixdtf.specs.language.Dates.{PlainYear, IsDayOfMonth, month_length}
+use Rattle.ixdtf.specs.language.Dates.{FourDigitYear, IsDayOfMonth, month_length}
 use Rattle.ixdtf.specs.language.FixedPlaces.{FixedDateTime}
 use Rattle.ixdtf.specs.table.Faults.{Fault}
 use Rattle.ixdtf.specs.declared.stop.Stop.{Stop}
 use Rattle.ixdtf.specs.Views.{Unread, ascii_at, looked}
 use Rattle.ixdtf.specs.reading.Clauses.{Reads, Yields}
-use Rattle.ixdtf.specs.reading.Dates.{date_of, year_at, plain_year_at, month_in_range, month_by, month_at, day_in_range, day_at, date_at}
+use Rattle.ixdtf.specs.reading.Dates.{date_of, year_at, four_digit_year_at, month_in_range, month_by, month_at, day_in_range, day_at, date_at}
 use Rattle.ixdtf.specs.reading.Times.{time_of}
 use Rattle.ixdtf.specs.table.Faults.Fault.{InvalidMonthRange}
 use Rattle.ixdtf.specs.table.LineNames.{of_date}
@@ -23,21 +24,23 @@ use Rattle.ixdtf.specs.table.LineNames.DateLine.{after_year}
 use Rattle.ixdtf.specs.reading.Looks.{Read, ◌>>=◌, error_of, look_at, next_by, mark_by, digits_by}
 use Rattle.ixdtf.proofs.parts.Looks.{in_turn, onto}
 use Rattle.ixdtf.proofs.code.DigitClasses.{digit_no_sign}
-use Rattle.ixdtf.specs.reading.FixedPlaces.{ranged, ◌>>?◌, first_in, letter_place, number_place, date_place, time_place, date_in_range, time_in_range, date_time_place}
+use Rattle.ixdtf.specs.reading.FixedPlaces.{ranged, ◌>>?◌, first_in, letter_place, number_place, date_place, time_place, date_in_range, time_in_range}
+use Rattle.ixdtf.specs.reading.FixedPlaces.{date_time_place}
 
 -- the letter that a look found, where it is of the class
-abbrev pub found_by : Class → Result (Option ℕ) Fault → Option ℕ
-found_by class (Ok None) = None
-found_by class (Ok (Some c)) = if class c then Some c else None
-found_by class (Err e) = None
+abbrev pub class_at_place : Class → Result (Option ℕ) Fault → Option ℕ
+class_at_place class (Ok None) = None
+class_at_place class (Ok (Some c)) = if class c then Some c else None
+class_at_place class (Err e) = None
 
 -- what stands at a place of the letters is what a look at the place of the units finds
-pub place_looked : (letter : ℕ → Letter) (class : Class) (place : ℕ) (units : List ℕ) → letter_place class place (map letter units) ≡ found_by class (ascii_at letter place units)
+pub place_looked : (letter : ℕ → Letter) (class : Class) (place : ℕ) (units : List ℕ)
+    → letter_place class place (map letter units) ≡ class_at_place class (ascii_at letter place units)
 place_looked letter class zero [] = refl
 place_looked letter class (suc place) [] = refl
 place_looked letter class zero (u ∷ more) = go (letter u)
   where
-    go : (l : Letter) → first_in class (l ∷ map letter more) ≡ found_by class (looked (Some l))
+    go : (l : Letter) → first_in class (l ∷ map letter more) ≡ class_at_place class (looked (Some l))
     go (Plain n) = refl
     go Bad = refl
 place_looked letter class (suc place) (u ∷ more) = place_looked letter class place more
@@ -45,21 +48,23 @@ place_looked letter class (suc place) (u ∷ more) = place_looked letter class p
 -- ---- what stands where something was found
 
 -- a step from what was found
-then_some : {A B : Type 0} {Goal : Type 0} (o : Option A) (go : A → Option B) (y : B) → (o >>? go) ≡ Some y → ((x : A) → o ≡ Some x → go x ≡ Some y → Goal) → Goal
+then_some : {A B : Type 0} {Goal : Type 0} (o : Option A) (go : A → Option B) (y : B) → (o >>? go) ≡ Some y → ((x : A) → o ≡ Some x → go x ≡ Some y → Goal)
+    → Goal
 then_some None go y e next = absurd cc
 then_some (Some x) go y e next = next x refl e
 
 -- what passed a test
-then_passed : {A : Type 0} (t : Bool) (x y : A) → (if t then Some x else None) ≡ Some y → IsTrue t × (x ≡ y)
-then_passed true x y e = (refl, cc)
-then_passed false x y e = absurd cc
+then_held : {A : Type 0} (t : Bool) (x y : A) → (if t then Some x else None) ≡ Some y → IsTrue t × (x ≡ y)
+then_held true x y e = (refl, cc)
+then_held false x y e = absurd cc
 
 -- the letter at a place, and the text after it
-letter_found : (class : Class) (place : ℕ) (text : Text) (c : ℕ) → letter_place class place text ≡ Some c → (drop place text ≡ Plain c ∷ drop (suc place) text) × IsTrue (class c)
-letter_found class zero (Plain n ∷ rest) c e =
-    let (held, same) = then_passed (class n) n c e in (ap (λ m. Plain m ∷ rest) same, ap class (sym same) ∙ held)
-letter_found class (suc place) (x ∷ rest) c e = letter_found class place rest c e
-letter_found class place text c e = absurd cc
+letter_at_place : (class : Class) (place : ℕ) (text : Text) (c : ℕ) → letter_place class place text ≡ Some c
+    → (drop place text ≡ Plain c ∷ drop (suc place) text) × IsTrue (class c)
+letter_at_place class zero (Plain n ∷ rest) c e =
+    let (held, same) = then_held (class n) n c e in (ap (λ m. Plain m ∷ rest) same, ap class (sym same) ∙ held)
+letter_at_place class (suc place) (x ∷ rest) c e = letter_at_place class place rest c e
+letter_at_place class place text c e = absurd cc
 
 -- two digits at a place and the next, and the text after them
 record Number (place : ℕ) (text : Text) (n : ℕ) : Type 0 where
@@ -70,17 +75,18 @@ record Number (place : ℕ) (text : Text) (n : ℕ) : Type 0 where
   is_b : IsTrue (digit b)
   value : n ≡ decimal (Plain a ∷ Plain b ∷ [])
 
-number_of_letters : (place : ℕ) (text : Text) (n a b : ℕ) → letter_place digit place text ≡ Some a → letter_place digit (place + 1) text ≡ Some b → decimal (Plain a ∷ Plain b ∷ []) ≡ n
+number_of_letters : (place : ℕ) (text : Text) (n a b : ℕ) → letter_place digit place text ≡ Some a → letter_place digit (place + 1) text ≡ Some b
+    → decimal (Plain a ∷ Plain b ∷ []) ≡ n
     → Number place text n
 number_of_letters place text n a b ea eb is =
     let next : suc place ≡ place + 1 = omega arith in
-    let first = letter_found digit place text a ea in
-    let second = letter_found digit (suc place) text b (ap (λ p. letter_place digit p text) next ∙ eb) in
+    let first = letter_at_place digit place text a ea in
+    let second = letter_at_place digit (suc place) text b (ap (λ p. letter_place digit p text) next ∙ eb) in
     record { a = a; b = b; is = first.0 ∙ onto a second.0; is_a = first.1; is_b = second.1; value = sym is }
 
-number_found : (place : ℕ) (text : Text) (n : ℕ) → number_place place text ≡ Some n → Number place text n
+number_at_place : (place : ℕ) (text : Text) (n : ℕ) → number_place place text ≡ Some n → Number place text n
 unfolding number_place
-number_found place text n e =
+number_at_place place text n e =
     then_some (letter_place digit place text) _ n e λ a ea next.
     then_some (letter_place digit (place + 1) text) _ n next λ b eb last.
     number_of_letters place text n a b ea eb cc
@@ -92,10 +98,10 @@ colon_is : (c : ℕ) → IsTrue (colon c) → c ≡ 58
 colon_is c h = grind (arith, nat_tests)
 
 -- a mark at a place
-mark_found : (class : Class) (mark place : ℕ) (text : Text) (c : ℕ) → ((n : ℕ) → IsTrue (class n) → n ≡ mark) → letter_place class place text ≡ Some c
+mark_at_place : (class : Class) (mark place : ℕ) (text : Text) (c : ℕ) → ((n : ℕ) → IsTrue (class n) → n ≡ mark) → letter_place class place text ≡ Some c
     → drop place text ≡ Plain mark ∷ drop (suc place) text
-mark_found class mark place text c only e =
-    let found = letter_found class place text c e in
+mark_at_place class mark place text c only e =
+    let found = letter_at_place class place text c e in
     found.0 ∙ ap (λ n. Plain n ∷ drop (suc place) text) (only c found.1)
 
 abbrev century_and_year : (a b c d : ℕ) → Type 0
@@ -110,7 +116,7 @@ record DateLetters (text : Text) (date : DateRecord) : Type 0 where
   months : Text
   days : Text
   is : text ≡ (years ++ (Plain 45 ∷ (months ++ (Plain 45 ∷ days)))) ++ drop 10 text
-  year : PlainYear years date.year
+  year : FourDigitYear years date.year
   month : TwoDigits months date.month
   day : TwoDigits days date.day
 
@@ -140,18 +146,18 @@ date_of_numbers text date century year month day c y first m second d is = recor
   day = two_digits d (ap (λ x. x.day) is);
 }
 
-date_found : (text : Text) (date : DateRecord) → date_place text ≡ Some date → DateLetters text date
+date_at_place : (text : Text) (date : DateRecord) → date_place text ≡ Some date → DateLetters text date
 unfolding date_place
-date_found text date e =
+date_at_place text date e =
     then_some (number_place 0 text) _ date e λ century f0 e0.
     then_some (number_place 2 text) _ date e0 λ year f1 e1.
     then_some (letter_place hyphen 4 text) _ date e1 λ first f2 e2.
     then_some (number_place 5 text) _ date e2 λ month f3 e3.
     then_some (letter_place hyphen 7 text) _ date e3 λ second f4 e4.
     then_some (number_place 8 text) _ date e4 λ day f5 e5.
-    date_of_numbers text date century year month day (number_found 0 text century f0) (number_found 2 text year f1)
-    (mark_found hyphen 45 4 text first hyphen_is f2) (number_found 5 text month f3) (mark_found hyphen 45 7 text second hyphen_is f4)
-    (number_found 8 text day f5) cc
+    date_of_numbers text date century year month day (number_at_place 0 text century f0) (number_at_place 2 text year f1)
+    (mark_at_place hyphen 45 4 text first hyphen_is f2) (number_at_place 5 text month f3) (mark_at_place hyphen 45 7 text second hyphen_is f4)
+    (number_at_place 8 text day f5) cc
 
 -- the letters of a time whose numbers are any, after a date and a separator, and the text after them
 record TimeLetters (text : Text) (time : TimeRecord) : Type 0 where
@@ -178,18 +184,19 @@ time_of_numbers text time hour minute second h first m last s is = record {
   no_fraction = sym (ap (λ x. x.fraction) is);
 }
 
-time_found : (text : Text) (time : TimeRecord) → time_place text ≡ Some time → TimeLetters text time
+time_at_place : (text : Text) (time : TimeRecord) → time_place text ≡ Some time → TimeLetters text time
 unfolding time_place
-time_found text time e =
+time_at_place text time e =
     then_some (number_place 11 text) _ time e λ hour f0 e0.
     then_some (letter_place colon 13 text) _ time e0 λ first f1 e1.
     then_some (number_place 14 text) _ time e1 λ minute f2 e2.
     then_some (letter_place colon 16 text) _ time e2 λ last f3 e3.
     then_some (number_place 17 text) _ time e3 λ second f4 e4.
-    time_of_numbers text time hour minute second (number_found 11 text hour f0) (mark_found colon 58 13 text first colon_is f1)
-    (number_found 14 text minute f2) (mark_found colon 58 16 text last colon_is f3) (number_found 17 text second f4) cc
+    time_of_numbers text time hour minute second (number_at_place 11 text hour f0) (mark_at_place colon 58 13 text first colon_is f1)
+    (number_at_place 14 text minute f2) (mark_at_place colon 58 16 text last colon_is f3) (number_at_place 17 text second f4) cc
 
-date_ranges : (date : DateRecord) → IsTrue (date_in_range date) → (1 ≤ date.month) × (date.month ≤ 12) × (1 ≤ date.day) × (date.day ≤ month_length date.year date.month)
+date_ranges : (date : DateRecord) → IsTrue (date_in_range date)
+    → (1 ≤ date.month) × (date.month ≤ 12) × (1 ≤ date.day) × (date.day ≤ month_length date.year date.month)
 date_ranges date h =
     (grind (arith, nat_tests), grind (arith, nat_tests), grind (arith, nat_tests), grind (arith, nat_tests))
 
@@ -197,7 +204,8 @@ time_ranges : (time : TimeRecord) → IsTrue (time_in_range time) → (time.hour
 time_ranges time h =
     (grind (arith, nat_tests), grind (arith, nat_tests), grind (arith, nat_tests))
 
-of_letters : (text : Text) (date : DateRecord) (c : ℕ) (time : TimeRecord) → DateLetters text date → (drop 10 text ≡ Plain c ∷ drop 11 text) × IsTrue (date_time_separator c) → TimeLetters text time
+of_letters : (text : Text) (date : DateRecord) (c : ℕ) (time : TimeRecord) → DateLetters text date
+    → (drop 10 text ≡ Plain c ∷ drop 11 text) × IsTrue (date_time_separator c) → TimeLetters text time
     → IsTrue (date_in_range date) → IsTrue (time_in_range time) → FixedDateTime text date time (drop 19 text)
 of_letters text date c time d separator t in_date in_time =
     let dates = date_ranges date in_date in
@@ -207,34 +215,41 @@ of_letters text date c time d separator t in_date in_time =
       separator = c;
       times = t.hours ++ (Plain 58 ∷ (t.minutes ++ (Plain 58 ∷ t.seconds)));
       is = d.is ∙ ap (λ more. (d.years ++ (Plain 45 ∷ (d.months ++ (Plain 45 ∷ d.days)))) ++ more) (separator.0 ∙ ap (λ more. Plain c ∷ more) t.is);
-      is_date = record { years = d.years; months = d.months; days = d.days; is = refl; year = d.year; month = (d.month, dates.0, dates.1); day = d.day; in_month = (dates.2, dates.3) };
+      is_date = record {
+        years = d.years;
+        months = d.months;
+        days = d.days;
+        is = refl;
+        year = d.year;
+        month = (d.month, dates.0, dates.1);
+        day = d.day;
+        in_month = (dates.2, dates.3);
+      };
       separates = separator.1;
-      is_time = (
-        record {
-          hs = t.hours;
-          ms = t.minutes;
-          ss = t.seconds;
-          is = refl;
-          may = refl;
-          hour = (t.hour.0, t.hour.1, times.0);
-          minute = (t.minute.0, t.minute.1, times.1);
-          second = (t.second.0, t.second.1, times.2);
-        },
-        t.no_fraction,
-      );
+      is_time = record {
+        hs = t.hours;
+        ms = t.minutes;
+        ss = t.seconds;
+        is = refl;
+        may = refl;
+        hour = (t.hour.0, t.hour.1, times.0);
+        minute = (t.minute.0, t.minute.1, times.1);
+        second = (t.second.0, t.second.1, times.2);
+        no_fraction = t.no_fraction;
+      };
     }
 
 -- what is found is a date and a time of the grammar, in the first nineteen letters
-pub date_time_found : (text : Text) (found : DateRecord × TimeRecord) → date_time_place text ≡ Some found → FixedDateTime text found.0 found.1 (drop 19 text)
+pub date_time_at_place : (text : Text) (found : DateRecord × TimeRecord) → date_time_place text ≡ Some found → FixedDateTime text found.0 found.1 (drop 19 text)
 unfolding date_time_place
-date_time_found text found e =
+date_time_at_place text found e =
     then_some (date_place text) _ found e λ date f0 e0.
     then_some (letter_place date_time_separator 10 text) _ found e0 λ c f1 e1.
     then_some (time_place text) _ found e1 λ time f2 e2.
-    let passed = then_passed (date_in_range date && time_in_range time) (date, time) found e2 in
-    let ranges = and_parts _ _ passed.0 in
-    rw (← passed.1)
-    (of_letters text date c time (date_found text date f0) (letter_found date_time_separator 10 text c f1) (time_found text time f2) ranges.0 ranges.1)
+    let held = then_held (date_in_range date && time_in_range time) (date, time) found e2 in
+    let ranges = and_parts _ _ held.0 in
+    rw (← held.1)
+    (of_letters text date c time (date_at_place text date f0) (letter_at_place date_time_separator 10 text c f1) (time_at_place text time f2) ranges.0 ranges.1)
 
 -- ---- nothing is missed
 
@@ -248,7 +263,7 @@ four_are text h = rw (h.2, h.4.2, h.4.4.2, h.4.4.4.2, h.4.4.4.4) refl
 number_of : (text : Text) (n : ℕ) (h : TwoDigits text n) → decimal (Plain h.0.0 ∷ Plain h.0.4.0 ∷ []) ≡ n
 number_of text n h = ap decimal (sym (two_are text h.0)) ∙ sym h.1
 
-year_of : (text : Text) (year : ℤ) (h : PlainYear text year) → pos (decimal (Plain h.0.0 ∷ Plain h.0.4.0 ∷ Plain h.0.4.4.0 ∷ Plain h.0.4.4.4.0 ∷ [])) ≡ year
+year_of : (text : Text) (year : ℤ) (h : FourDigitYear text year) → pos (decimal (Plain h.0.0 ∷ Plain h.0.4.0 ∷ Plain h.0.4.4.0 ∷ Plain h.0.4.4.4.0 ∷ [])) ≡ year
 year_of text year h = ap (λ t. pos (decimal t)) (sym (four_are text h.0)) ∙ sym h.1
 
 module _ (a b c d m n p q s h i j k u v : ℕ) (rest : Text) where
@@ -272,26 +287,28 @@ module _ (a b c d m n p q s h i j k u v : ℕ) (rest : Text) where
 same_date : (date : DateRecord) (year : ℤ) (month day : ℕ) → year ≡ date.year → month ≡ date.month → day ≡ date.day → date_of year month day ≡ date
 same_date date year month day y m d = λ i. record { year = y i; month = m i; day = d i }
 
-same_time : (time : TimeRecord) (hour minute second : ℕ) → hour ≡ time.hour → minute ≡ time.minute → second ≡ time.second → None ≡ time.fraction → time_of hour minute second None ≡ time
+same_time : (time : TimeRecord) (hour minute second : ℕ) → hour ≡ time.hour → minute ≡ time.minute → second ≡ time.second → None ≡ time.fraction
+    → time_of hour minute second None ≡ time
 same_time time hour minute second h m s f = λ i. record { hour = h i; minute = m i; second = s i; fraction = f i }
 
 is_in_range : (date : DateRecord) → (1 ≤ date.month) × (date.month ≤ 12) → IsDayOfMonth date → IsTrue (date_in_range date)
 is_in_range date month day = grind (arith, nat_tests)
 
 -- a date and a time of the grammar in the first nineteen letters are found
-pub date_time_stands : (text : Text) (date : DateRecord) (time : TimeRecord) (rest : Text) → FixedDateTime text date time rest → date_time_place text ≡ Some (date, time)
+pub date_time_stands : (text : Text) (date : DateRecord) (time : TimeRecord) (rest : Text) → FixedDateTime text date time rest
+    → date_time_place text ≡ Some (date, time)
 date_time_stands text date time rest f =
     let y = f.is_date.year.0 in
     let m = f.is_date.month.0.0 in
     let d = f.is_date.day.0 in
-    let t = f.is_time.0 in
+    let t = f.is_time in
     let h = t.hour.0 in
     let n = t.minute.0 in
     let x = t.second.0 in
     let whole : text ≡ text_there y.0 y.4.0 y.4.4.0 y.4.4.4.0 m.0 m.4.0 d.0 d.4.0 f.separator h.0 h.4.0 n.0 n.4.0 x.0 x.4.0 rest =
     f.is ∙ rw (f.is_date.is, t.is, four_are _ y, two_are _ m, two_are _ d, two_are _ h, two_are _ n, two_are _ x) refl in
     let is_date = same_date date _ _ _ (year_of _ _ f.is_date.year) (number_of _ _ f.is_date.month.0) (number_of _ _ f.is_date.day) in
-    let is_time = same_time time _ _ _ (number_of _ _ (h, t.hour.1)) (number_of _ _ (n, t.minute.1)) (number_of _ _ (x, t.second.1)) (sym f.is_time.1) in
+    let is_time = same_time time _ _ _ (number_of _ _ (h, t.hour.1)) (number_of _ _ (n, t.minute.1)) (number_of _ _ (x, t.second.1)) (sym t.no_fraction) in
     let in_date = subst (λ r. IsTrue (date_in_range r)) (sym is_date) (is_in_range date (f.is_date.month.1, f.is_date.month.2) f.is_date.in_month) in
     let in_time = subst (λ r. IsTrue (time_in_range r)) (sym is_time) (
     and_from _ _ (and_from _ _ (le-leb _ 23 t.hour.2) (le-leb _ 59 t.minute.2)) (le-leb _ 60 t.second.2)) in
@@ -306,27 +323,32 @@ on_test : {A B : Type 0} (t : Bool) (x : A × Text) (f : Fault) (k : A × Text �
 on_test true x f k = refl
 on_test false x f k = refl
 
-day_read : (y : _) (month p q : ℕ) (more : Text) → IsTrue (digit p) → IsTrue (digit q) → day_at error_of y (month, true) (Plain 45 ∷ Plain p ∷ Plain q ∷ more) ≡ day_in_range error_of (date_of y month (decimal (Plain p ∷ Plain q ∷ []))) more
+day_read : (y : _) (month p q : ℕ) (more : Text) → IsTrue (digit p) → IsTrue (digit q)
+    → day_at error_of y (month, true) (Plain 45 ∷ Plain p ∷ Plain q ∷ more) ≡ day_in_range error_of (date_of y month (decimal (Plain p ∷ Plain q ∷ []))) more
 unfolding day_at mark_by digits_by next_by look_at
 day_read y month p q more ep eq = rw (ep, eq) refl
 
 month_read : (y : _) (m n p q : ℕ) (more : Text) → IsTrue (digit m) → IsTrue (digit n) → IsTrue (digit p) → IsTrue (digit q)
-    → (month_at error_of (of_date after_year) (Plain 45 ∷ Plain m ∷ Plain n ∷ Plain 45 ∷ Plain p ∷ Plain q ∷ more) >>= λ month. day_at error_of y month.0 month.1) ≡ ranged (date_of y (decimal (Plain m ∷ Plain n ∷ [])) (decimal (Plain p ∷ Plain q ∷ []))) more
+    → (month_at error_of (of_date after_year) (Plain 45 ∷ Plain m ∷ Plain n ∷ Plain 45 ∷ Plain p ∷ Plain q ∷ more)
+    >>= λ month. day_at error_of y month.0 month.1) ≡ ranged (date_of y (decimal (Plain m ∷ Plain n ∷ [])) (decimal (Plain p ∷ Plain q ∷ []))) more
 unfolding month_by mark_by month_in_range digits_by next_by look_at
 month_read y m n p q more em en ep eq =
     let month = decimal (Plain m ∷ Plain n ∷ []) in
     let test = nat_le 1 month && nat_le month 12 in
     let step = on_test test (month, Plain 45 ∷ Plain p ∷ Plain q ∷ more) InvalidMonthRange (λ x. day_at error_of y (x.0, true) x.1) in
-    rw (em, en) (in_turn (if test then Ok (month, Plain 45 ∷ Plain p ∷ Plain q ∷ more) else Err InvalidMonthRange) (λ x. Ok ((x.0, true), x.1)) (λ x. day_at error_of y x.0 x.1) ∙ step ∙ rw (day_read y month p q more ep eq) refl)
+    rw (em, en) (in_turn (if test then Ok (month, Plain 45 ∷ Plain p ∷ Plain q ∷ more) else Err InvalidMonthRange) (λ x. Ok ((x.0, true), x.1))
+    (λ x. day_at error_of y x.0 x.1) ∙ step ∙ rw (day_read y month p q more ep eq) refl)
 
-fixed_read : (a b c d m n p q : ℕ) (more : Text) → IsTrue (digit a) → IsTrue (digit b) → IsTrue (digit c) → IsTrue (digit d) → IsTrue (digit m) → IsTrue (digit n) → IsTrue (digit p) → IsTrue (digit q)
+fixed_read : (a b c d m n p q : ℕ) (more : Text) → IsTrue (digit a) → IsTrue (digit b) → IsTrue (digit c) → IsTrue (digit d) → IsTrue (digit m)
+    → IsTrue (digit n) → IsTrue (digit p) → IsTrue (digit q)
     → date_at error_of (Plain a ∷ Plain b ∷ Plain c ∷ Plain d ∷ Plain 45 ∷ Plain m ∷ Plain n ∷ Plain 45 ∷ Plain p ∷ Plain q ∷ more)
     ≡ ranged (date_of (pos (decimal (Plain a ∷ Plain b ∷ Plain c ∷ Plain d ∷ []))) (decimal (Plain m ∷ Plain n ∷ [])) (decimal (Plain p ∷ Plain q ∷ []))) more
-unfolding date_at year_at plain_year_at digits_by next_by look_at
+unfolding date_at year_at four_digit_year_at digits_by next_by look_at
 fixed_read a b c d m n p q more ea eb ec ed em en ep eq =
     rw (ea, digit_no_sign a ea, eb, ec, ed) (month_read (pos (decimal (Plain a ∷ Plain b ∷ Plain c ∷ Plain d ∷ []))) m n p q more em en ep eq)
 
-letters_read : (years months days : Text) (date : DateRecord) (more : Text) → PlainYear years date.year → TwoDigits months date.month → TwoDigits days date.day
+letters_read : (years months days : Text) (date : DateRecord) (more : Text) → FourDigitYear years date.year → TwoDigits months date.month
+    → TwoDigits days date.day
     → date_at error_of ((years ++ (Plain 45 ∷ (months ++ (Plain 45 ∷ days)))) ++ more) ≡ ranged date more
 letters_read years months days date more year month day =
     let y = year.0 in
@@ -338,7 +360,7 @@ letters_read years months days date more year month day =
 -- a date that is found is the one that is read, where its numbers are in range
 pub date_is_read : (text : Text) (date : DateRecord) → date_place text ≡ Some date → date_at error_of text ≡ ranged date (drop 10 text)
 date_is_read text date e =
-    let d = date_found text date e in
+    let d = date_at_place text date e in
     ap (date_at error_of) d.is ∙ letters_read d.years d.months d.days date (drop 10 text) d.year d.month d.day
 
 -- what is found has nineteen letters
@@ -353,7 +375,7 @@ long_enough text found e =
     then_some (number_place 14 text) _ time e4 λ minute f5 e5.
     then_some (letter_place colon 16 text) _ time e5 λ last f6 e6.
     then_some (number_place 17 text) _ time e6 λ second f7 e7.
-    let number = number_found 17 text second f7 in
+    let number = number_at_place 17 text second f7 in
     let size : length (drop 17 text) ≡ suc (suc (length (drop 19 text))) = ap (λ t. length t) number.is in
     let left : length (drop 17 text) ≡ length text - 17 = length-drop 17 text in
     omega (arith)
@@ -367,7 +389,8 @@ too_short text short = none (date_time_place text) refl
 
 -- and so is what the test of its numbers returns
 pub reads_ranged : (letter : ℕ → Letter) (old new : Unread) (result : Result DateRecord Stop) (date : DateRecord)
-    → date_at error_of (map letter old.rest) ≡ ranged date (map letter new.rest) → Yields (λ d. (d, map letter new.rest)) result (ranged date (map letter new.rest))
+    → date_at error_of (map letter old.rest) ≡ ranged date (map letter new.rest)
+    → Yields (λ d. (d, map letter new.rest)) result (ranged date (map letter new.rest))
     → Reads letter (λ d. d) old result new (date_at error_of)
 reads_ranged letter old new (Ok x) date read is = read ∙ is
 reads_ranged letter old new (Err stop) date read is = read ∙ is

@@ -1,5 +1,6 @@
 -- The digits of a fraction, taken off one by one.
-use Rattle.std.proofs.Common.{◌≡◌, ℕ, ◌+◌, true, false, List, [], ◌∷◌, ◌++◌, length, map, drop, Option, Some, None, Ok, Err, refl, sym, ap, ◌∙◌, arith, append_assoc, append-nil}
+use Rattle.std.proofs.Common.{◌≡◌, ℕ, ◌+◌, true, false, List, [], ◌∷◌, ◌++◌, length, map, drop, Option, Some, None, Ok, Err, refl, sym, ap, ◌∙◌, arith}
+use Rattle.std.proofs.Common.{append_assoc, append-nil}
 use Rattle.ixdtf.specs.language.Letters.{Letter, Text}
 use Rattle.ixdtf.specs.language.Letters.Letter.{Plain, Bad}
 use Rattle.ixdtf.specs.language.Letters.{digit}
@@ -43,7 +44,8 @@ pub record IsSoFar (first : ℕ) (whole rest : Text) (fraction : FractionParts) 
 pub begins : (first : ℕ) (whole : Text) (fraction : FractionParts) → fraction ≡ fraction_of (Plain first ∷ []) → IsSoFar first whole whole fraction
 begins first whole fraction is = record { ds = []; read = sym (with_nothing _); value = is }
 
-pub goes_on : (first : ℕ) (whole rest next : Text) (before after : FractionParts) (c : ℕ) → IsSoFar first whole rest before → look_at NonAsciiCodePoint rest ≡ Ok (Some c) → digit c ≡ true → next ≡ drop 1 rest → Grown before after c → IsSoFar first whole next after
+pub goes_on : (first : ℕ) (whole rest next : Text) (before after : FractionParts) (c : ℕ) → IsSoFar first whole rest
+    before → look_at NonAsciiCodePoint rest ≡ Ok (Some c) → digit c ≡ true → next ≡ drop 1 rest → Grown before after c → IsSoFar first whole next after
 goes_on first whole rest next before after c far e is moved grown = record {
   ds = far.ds ++ (Plain c ∷ []);
   read = far.read ∙ ap (λ t. with_front far.ds (run_of t)) (first_is rest c e) ∙ ap (with_front far.ds) (run_more c _ is)
@@ -51,37 +53,41 @@ goes_on first whole rest next before after c far e is moved grown = record {
   value = fraction_grows (Plain first ∷ far.ds) before after c far.value grown;
 }
 
-ends : (first : ℕ) (whole rest : Text) (fraction : FractionParts) → IsSoFar first whole rest fraction → run_of rest ≡ Ok ([], rest) → more_digits_at first whole ≡ Ok (fraction, rest)
+ends : (first : ℕ) (whole rest : Text) (fraction : FractionParts) → IsSoFar first whole rest fraction → run_of rest ≡ Ok ([], rest)
+    → more_digits_at first whole ≡ Ok (fraction, rest)
 ends first whole rest fraction far over = rw (far.read, over, append-nil far.ds, far.value) refl
 
-pub ends_at_other : (first : ℕ) (whole rest : Text) (fraction : FractionParts) (c : ℕ) → IsSoFar first whole rest fraction → look_at NonAsciiCodePoint rest ≡ Ok (Some c) → digit c ≡ false → more_digits_at first whole ≡ Ok (fraction, rest)
+pub ends_at_other : (first : ℕ) (whole rest : Text) (fraction : FractionParts) (c : ℕ) → IsSoFar first whole rest fraction
+    → look_at NonAsciiCodePoint rest ≡ Ok (Some c) → digit c ≡ false → more_digits_at first whole ≡ Ok (fraction, rest)
 ends_at_other first whole rest fraction c far e is = ends first whole rest fraction far (rw (first_is rest c e) (run_other c _ is))
 
-pub ends_at_end : (first : ℕ) (whole rest : Text) (fraction : FractionParts) → IsSoFar first whole rest fraction → look_at NonAsciiCodePoint rest ≡ Ok None → more_digits_at first whole ≡ Ok (fraction, rest)
+pub ends_at_end : (first : ℕ) (whole rest : Text) (fraction : FractionParts) → IsSoFar first whole rest fraction → look_at NonAsciiCodePoint rest ≡ Ok None
+    → more_digits_at first whole ≡ Ok (fraction, rest)
 unfolding digit_run
 ends_at_end first whole rest fraction far e = ends first whole rest fraction far (rw (nothing_is rest e) refl)
 
-pub fails : (first : ℕ) (whole rest : Text) (fraction : FractionParts) (fault : Fault) → IsSoFar first whole rest fraction → look_at NonAsciiCodePoint rest ≡ Err fault → more_digits_at first whole ≡ Err fault
+pub fails : (first : ℕ) (whole rest : Text) (fraction : FractionParts) (fault : Fault) → IsSoFar first whole rest fraction
+    → look_at NonAsciiCodePoint rest ≡ Err fault → more_digits_at first whole ≡ Err fault
 unfolding look_at digit_run
 fails first whole (Bad ∷ rest) fraction fault far e = let same : NonAsciiCodePoint ≡ fault = cc in rw (far.read, same) refl
 fails first whole rest fraction fault far e = absurd cc
 
 -- a look found this letter first, and a step took it off
-pub record Taken (letter : ℕ → Letter) (rest next : List ℕ) (c : ℕ) : Type 0 where
+pub record OneTaken (letter : ℕ → Letter) (rest next : List ℕ) (c : ℕ) : Type 0 where
   pub found : look_at NonAsciiCodePoint (map letter rest) ≡ Ok (Some c)
   pub moved : next ≡ drop 1 rest
   pub left : map letter next ≡ drop 1 (map letter rest)
   pub shorter : length next + 1 ≡ length rest
 
 -- as the code takes it: what the look found, what it left, and what the step left
-pub taken : {letter : ℕ → Letter} {rest looked next : List ℕ} {seen : Option ℕ} {c : ℕ}
-    → look_at NonAsciiCodePoint (map letter rest) ≡ Ok seen → seen ≡ Some c → looked ≡ rest → next ≡ drop 1 looked → Taken letter rest next c
+pub one_taken : {letter : ℕ → Letter} {rest looked next : List ℕ} {seen : Option ℕ} {c : ℕ}
+    → look_at NonAsciiCodePoint (map letter rest) ≡ Ok seen → seen ≡ Some c → looked ≡ rest → next ≡ drop 1 looked → OneTaken letter rest next c
 unfolding look_at
-taken {letter} {rest} {looked} {next} {seen} {c} sees is stays steps =
+one_taken {letter} {rest} {looked} {next} {seen} {c} sees is stays steps =
     let found : look_at NonAsciiCodePoint (map letter rest) ≡ Ok (Some c) = cc in
     let moved : next ≡ drop 1 rest = steps ∙ ap (λ t. drop 1 t) stays in
     from_units rest found moved
   where
-    from_units : (rest : List ℕ) → look_at NonAsciiCodePoint (map letter rest) ≡ Ok (Some c) → next ≡ drop 1 rest → Taken letter rest next c
+    from_units : (rest : List ℕ) → look_at NonAsciiCodePoint (map letter rest) ≡ Ok (Some c) → next ≡ drop 1 rest → OneTaken letter rest next c
     from_units [] found moved = absurd cc
     from_units (u ∷ us) found moved = record { found = found; moved = moved; left = ap (map letter) moved; shorter = omega (arith, ap (λ t. length t) moved) }

@@ -1,5 +1,6 @@
 -- The number of digits that grow at their end.
-use Rattle.std.proofs.Common.{◌≡◌, ℕ, suc, ◌+◌, ◌-◌, ◌*◌, ◌^◌, ◌≤◌, ◌<◌, Bool, true, false, [], ◌∷◌, ◌++◌, length, take, min, refl, ap, ◌∙◌, arith, take_all, nat_le}
+use Rattle.std.proofs.Common.{◌≡◌, ℕ, suc, ◌+◌, ◌-◌, ◌*◌, ◌^◌, ◌≤◌, ◌<◌, Bool, true, false, [], ◌∷◌, ◌++◌, length, take, min, refl, ap, ◌∙◌, arith, take_all}
+use Rattle.std.proofs.Common.{nat_le}
 use Rattle.std.proofs.lemmas.Bool.{leb-true}
 use Rattle.std.proofs.lemmas.Bool.Decides.{nat_tests}
 use Rattle.std.proofs.lemmas.List.{length-append, take-append-le}
@@ -38,13 +39,15 @@ same_fraction : (f g : FractionParts) → f.count ≡ g.count → f.value ≡ g.
 same_fraction f g p q = λ i. record { count = p i; value = q i }
 
 -- the fraction of digits and one more
-pub fraction_grows : (ds : Text) (before after : FractionParts) (c : ℕ) → before ≡ fraction_of ds → Grown before after c → after ≡ fraction_of (ds ++ (Plain c ∷ []))
+pub fraction_grows : (ds : Text) (before after : FractionParts) (c : ℕ) → before ≡ fraction_of ds → Grown before after c
+    → after ≡ fraction_of (ds ++ (Plain c ∷ []))
 fraction_grows ds before after c is g =
     let count : before.count ≡ min (length ds) 255 = ap (λ f. f.count) is in
     let value : before.value ≡ value_of ds = ap (λ f. f.value) is in
     same_fraction after _ (omega (arith, length_snoc ds (Plain c), g.count, count)) (by_length (nat_le 18 (length ds)) refl count value)
   where
-    by_length : (b : Bool) → nat_le 18 (length ds) ≡ b → before.count ≡ min (length ds) 255 → before.value ≡ value_of ds → after.value ≡ value_of (ds ++ (Plain c ∷ []))
+    by_length : (b : Bool) → nat_le 18 (length ds) ≡ b → before.count ≡ min (length ds) 255 → before.value ≡ value_of ds
+        → after.value ≡ value_of (ds ++ (Plain c ∷ []))
     by_length true h count value = let long = leb-true _ _ h in g.stays (omega arith) ∙ value ∙ rw (value_stays ds c long) refl
     by_length false h count value =
         let short : length ds < 18 = grind (arith, nat_tests, h) in

@@ -1,4 +1,4 @@
--- A form with a handler only hands its arguments on to `read_as`, at the plain error and its kind of cores. Assumes `Logic`.
+-- A form with a handler only hands its arguments on to `read_as`, at the public error and its kind of cores. Assumes `Logic`.
 use mir.Syntax.{Dict, Callee, a_type, dcons, dnil, named}
 use mir.Raw.{raw as bare}
 use seplogic.Ra.Ura.{Ura}
@@ -50,7 +50,7 @@ use Rattle.ixdtf.proofs.parsers.IxdtfParser.read_as.Met as G_met
 use Rattle.ixdtf.specs.contracts.parsers.IxdtfParser.read_as.Key as G_key
 use Rattle.ixdtf.proofs.parsers.IxdtfParser.read_as.Symbol as G_symbol
 use Rattle.ixdtf.proofs.code.HandsOn.{Handing, handing_on, hands_on}
-use Rattle.ixdtf.proofs.code.PlainErrors.{E, E_laws, Under, Got, lands}
+use Rattle.ixdtf.proofs.code.PublicErrors.{E, E_laws, Under, Got, lands}
 pub use mathlib.Core.Path.{◌≡◌, refl, sym, subst}
 use mathlib.Core.List.{[], ◌∷◌}
 

@@ -50,8 +50,10 @@ handing_on h second = record {
   ty_params = h.ty_params;
   givens = h.givens;
   params = 2;
-  locals = local h.result value_local ∷ local (ty_ref h.lifetime mut h.held) value_local ∷ local second value_local ∷ local (ty_ref h.again mut h.lent) value_local ∷ local second value_local ∷ [];
-  body = seq (assign (place 3 []) (addr_of (place 1 (deref h.at ∷ [])))) (seq (assign (place 4 []) (rv_opd (copy (place 2 [])))) (seq (call h.callee (copy (place 3 []) ∷ copy (place 4 []) ∷ []) (place 0 [])) return));
+  locals = local h.result value_local ∷ local (ty_ref h.lifetime mut h.held) value_local ∷ local second value_local ∷ local (ty_ref h.again mut h.lent)
+      value_local ∷ local second value_local ∷ [];
+  body = seq (assign (place 3 []) (addr_of (place 1 (deref h.at ∷ []))))
+      (seq (assign (place 4 []) (rv_opd (copy (place 2 [])))) (seq (call h.callee (copy (place 3 []) ∷ copy (place 4 []) ∷ []) (place 0 [])) return));
 }
 
 -- its signature: the reference and what it refers to, the other argument, by its number among the types, and the result
@@ -79,7 +81,9 @@ module _ (bounds : List (Outlives 5)) (Held : Lfts 5 → RattleType) (number : �
         let Goes : List Val → List Val → Type 1 = λ us xs. ent 𝓤 (C.pre (At us xs)) (WpFn 𝓤 𝓛.H 𝓣.C 𝓣.Λ body (us ++ (xs ++ [])) (C.post (At us xs))) in
         let Here : RattleType = Got z.0.0 in
         let p : Val = vptr a.0.ref_ptr.0 a.0.ref_ptr.1 in
-        fact_use 𝓤 (Are Rs (Ises Rs) a vss) (via 𝓤 (sem 𝓛 (owns Rs a vss)) (via 𝓤 entry (fst∗ 𝓤 entry ((c z.0.0 a).requires z.1)) (snd∗ 𝓤 (alive 𝓛 handing z.0.0 z.0.1) (sem 𝓛 (owns Rs a vss)))) (owns_show 𝓛 Rs (Ises Rs) (showss 𝓛 Rs) a vss)) (λ are.
+        fact_use 𝓤 (Are Rs (Ises Rs) a vss) (via 𝓤 (sem 𝓛 (owns Rs a vss))
+        (via 𝓤 entry (fst∗ 𝓤 entry ((c z.0.0 a).requires z.1)) (snd∗ 𝓤 (alive 𝓛 handing z.0.0 z.0.1) (sem 𝓛 (owns Rs a vss))))
+        (owns_show 𝓛 Rs (Ises Rs) (showss 𝓛 Rs) a vss)) (λ are.
         subst (λ us. Goes us vss.1.0) (sym are.0.0)
         (one_value (layout F) (λ xs. Goes (p ∷ []) xs) vss.1.0 (((param_laws number F L).lawful 𝓛).typed a.1.0 vss.1.0 are.1.0) (λ w gw.
         let y : C.Ghost = At (p ∷ []) (w ∷ []) in

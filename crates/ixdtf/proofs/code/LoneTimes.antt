@@ -1,6 +1,7 @@
 -- A time that stands alone, by what the first look at it finds.
 use Rattle.std.proofs.Common.{◌≡◌, ℕ, true, false, drop, map, Option, Some, None, Result, Ok, Err, refl, ◌∙◌, arith}
 use Rattle.std.proofs.lemmas.Bool.Decides.{nat_tests}
+use Rattle.ixdtf.specs.declared.parsers.profile.Profile.{Profile}
 use Rattle.ixdtf.specs.declared.records.DateRecord.{DateRecord}
 use Rattle.ixdtf.specs.declared.stop.Stop.{Stop}
 use Rattle.ixdtf.specs.Views.{Unread}
@@ -31,8 +32,8 @@ no_month_day c is = grind (arith, nat_tests)
 no_year : (c : ℕ) → time_letter c ≡ true → (digit or sign) c ≡ false
 no_year c is = grind (arith, nat_tests)
 
-module _ (text : Text) (c : ℕ) (first : look_at NonAsciiCodePoint text ≡ Ok (Some c)) (marked : time_letter c ≡ true) where
-  no_month_day_begins : month_day_begins text ≡ false
+module _ (profile : Profile) (text : Text) (c : ℕ) (first : look_at NonAsciiCodePoint text ≡ Ok (Some c)) (marked : time_letter c ≡ true) where
+  no_month_day_begins : month_day_begins profile text ≡ false
   unfolding month_day_at marks_at mark_by next_by
   no_month_day_begins = rw (first, no_month_day c marked) refl
 
@@ -41,18 +42,20 @@ module _ (text : Text) (c : ℕ) (first : look_at NonAsciiCodePoint text ≡ Ok 
   no_year_month_begins = rw (first, no_year c marked) refl
 
   -- a text that begins with `T` or `t` has no front
-  pub marked_is : (date : Option DateRecord) → date ≡ None → time_alone_core_at error_of text ≡ timed_core_at date (drop 1 text)
+  pub marked_is : (date : Option DateRecord) → date ≡ None → time_alone_core_at error_of profile text ≡ timed_core_at date (drop 1 text)
   unfolding time_alone_core_at marked_core_at marked_time_at timed_core_at
   marked_is date none = rw (none, first, marked, no_month_day_begins, no_year_month_begins) (ok_again (timed_core_at None (drop 1 text)))
 
 -- any other is read from its start, and then its front
-pub unmarked_is : (text : Text) (next : Option ℕ) → look_at NonAsciiCodePoint text ≡ Ok next → next_is time_letter next ≡ false
-    → (date : Option DateRecord) → date ≡ None → time_alone_core_at error_of text ≡ timed_core_at date text >>= λ core. unfronted error_of text (Ok core)
+pub unmarked_is : (profile : Profile) (text : Text) (next : Option ℕ) → look_at NonAsciiCodePoint text ≡ Ok next → next_is time_letter next ≡ false
+    → (date : Option DateRecord) → date ≡ None
+    → time_alone_core_at error_of profile text ≡ timed_core_at date text >>= λ core. unfronted error_of profile text (Ok core)
 unfolding time_alone_core_at marked_core_at marked_time_at lone_time_at timed_core_at clock_at
-unmarked_is text None first other date none = rw (none, first) refl
-unmarked_is text (Some c) first other date none = rw (none, first, other) refl
+unmarked_is profile text None first other date none = rw (none, first) refl
+unmarked_is profile text (Some c) first other date none = rw (none, first, other) refl
 
 -- where the first unit stands for no letter, nothing is read
-pub bad_is : (text : Text) (fault : Fault) → look_at NonAsciiCodePoint text ≡ Err fault → time_alone_core_at error_of text ≡ Err fault
+pub bad_is : (profile : Profile) (text : Text) (fault : Fault) → look_at NonAsciiCodePoint text ≡ Err fault
+    → time_alone_core_at error_of profile text ≡ Err fault
 unfolding time_alone_core_at marked_core_at marked_time_at
-bad_is text fault first = rw first refl
+bad_is profile text fault first = rw first refl

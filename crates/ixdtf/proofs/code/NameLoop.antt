@@ -37,12 +37,16 @@ name_is_run = record {
     after : Option Bool → Option NameLetters
     after step = option_map (λ may_end. record { may_end = may_end }) step
 
-    other : (c : ℕ) (may_end : Bool) (rest : Text) (b : Bool) → zone_char c ≡ b → (d : Bool) → (slash c && may_end) ≡ d → after (if b then Some true else (if d then Some false else None)) ≡ None → name_run error_of may_end (Plain c ∷ rest) ≡ closed [] (name_ends may_end (Plain c ∷ rest))
+    other : (c : ℕ) (may_end : Bool) (rest : Text) (b : Bool) → zone_char c ≡ b → (d : Bool) → (slash c && may_end) ≡ d
+        → after (if b then Some true else (if d then Some false else None)) ≡ None
+        → name_run error_of may_end (Plain c ∷ rest) ≡ closed [] (name_ends may_end (Plain c ∷ rest))
     other c may_end rest true p d q e = absurd cc
     other c may_end rest false p true q e = absurd cc
     other c may_end rest false p false q e = rw (p, q) (stops_so may_end (Plain c ∷ rest))
 
-    more : (c : ℕ) (may_end : Bool) (next : NameLetters) (rest : Text) (b : Bool) → zone_char c ≡ b → (d : Bool) → (slash c && may_end) ≡ d → after (if b then Some true else (if d then Some false else None)) ≡ Some next → name_run error_of may_end (Plain c ∷ rest) ≡ with_letter c (name_run error_of next.may_end rest)
+    more : (c : ℕ) (may_end : Bool) (next : NameLetters) (rest : Text) (b : Bool) → zone_char c ≡ b → (d : Bool) → (slash c && may_end) ≡ d
+        → after (if b then Some true else (if d then Some false else None)) ≡ Some next
+        → name_run error_of may_end (Plain c ∷ rest) ≡ with_letter c (name_run error_of next.may_end rest)
     more c may_end next rest true p d q e = let same : true ≡ next.may_end = cc in rw (p, ← same) refl
     more c may_end next rest false p true q e = let same : false ≡ next.may_end = cc in rw (p, q, ← same) refl
     more c may_end next rest false p false q e = absurd cc
@@ -50,8 +54,10 @@ name_is_run = record {
 pub name_failed : (text : Text) (fault : Fault) → letters_by name_after (record { may_end = true }) text ≡ Err fault → name_run error_of true text ≡ Err fault
 name_failed text fault e = run_failed _ _ _ name_is_run (record { may_end = true }) text fault e
 
-pub name_ended : (text rest : Text) (taken : Taken NameLetters) → letters_by name_after (record { may_end = true }) text ≡ Ok (taken, rest) → taken.state.may_end ≡ true → name_run error_of true text ≡ Ok (taken.letters, rest)
+pub name_ended : (text rest : Text) (taken : Taken NameLetters) → letters_by name_after (record { may_end = true }) text ≡ Ok (taken, rest)
+    → taken.state.may_end ≡ true → name_run error_of true text ≡ Ok (taken.letters, rest)
 name_ended text rest taken e is = run_closes _ _ _ name_is_run (record { may_end = true }) text rest taken e ∙ rw is refl
 
-pub name_refused : (text rest : Text) (taken : Taken NameLetters) → letters_by name_after (record { may_end = true }) text ≡ Ok (taken, rest) → taken.state.may_end ≡ false → name_run error_of true text ≡ Err IanaCharPostSeparator
+pub name_refused : (text rest : Text) (taken : Taken NameLetters) → letters_by name_after (record { may_end = true }) text ≡ Ok (taken, rest)
+    → taken.state.may_end ≡ false → name_run error_of true text ≡ Err IanaCharPostSeparator
 name_refused text rest taken e is = run_closes _ _ _ name_is_run (record { may_end = true }) text rest taken e ∙ rw is refl

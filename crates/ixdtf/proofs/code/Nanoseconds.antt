@@ -1,7 +1,9 @@
 -- The nanoseconds of a fraction: the number that its digits stand for, from its value.
-use Rattle.std.proofs.Common.{true, cond, nat_le, Some, None, ◌≡◌, ◌<◌, ◌≤◌, ℕ, zero, suc, ◌+◌, ◌-◌, ◌*◌, ◌/◌, ◌%◌, ◌^◌, min, [], ◌∷◌, ◌++◌, length, take, take_all, refl, sym, ap, ◌∙◌, arith}
+use Rattle.std.proofs.Common.{true, cond, nat_le, Some, None, ◌≡◌, ◌<◌, ◌≤◌, ℕ, zero, suc, ◌+◌, ◌-◌, ◌*◌, ◌/◌, ◌%◌, ◌^◌, min, [], ◌∷◌, ◌++◌, length, take}
+use Rattle.std.proofs.Common.{take_all, refl, sym, ap, ◌∙◌, arith}
 use Rattle.std.proofs.lemmas.Bool.Decides.{nat_tests}
-use Rattle.std.proofs.Math.Nat.{pow-succ', one-le-pow, pow-le-pow_right, div-one, mod-one, zero-div, zero-mod, mod-eq_of_lt, div-div-eq-div-mul, min-le_right, mul-lt-mul_of_pos_right}
+use Rattle.std.proofs.Math.Nat.{pow-succ', one-le-pow, pow-le-pow_right, div-one, mod-one, zero-div, zero-mod, mod-eq_of_lt, div-div-eq-div-mul, min-le_right}
+use Rattle.std.proofs.Math.Nat.{mul-lt-mul_of_pos_right}
 use Rattle.std.proofs.Math.Arith.{mod-mul}
 use Rattle.std.proofs.Math.Seq.{take-append-add}
 use Rattle.std.proofs.lemmas.Nat.{pow-add, div_below}
@@ -57,7 +59,8 @@ decimal-whole count number fits =
     sym (ap decimal all) ∙ decimal-padded count 0 count number (omega arith) ∙ rw div-one (mod-eq_of_lt fits)
 
 -- fewer digits than are wanted: zeros fill the number on the right
-pub filled : (wanted count more number : ℕ) → wanted ≡ count + more → number < 10 ^ count → decimal (take wanted (padded_digits count number ++ padded_digits wanted 0)) ≡ number * 10 ^ more
+pub filled : (wanted count more number : ℕ) → wanted ≡ count + more → number < 10 ^ count
+    → decimal (take wanted (padded_digits count number ++ padded_digits wanted 0)) ≡ number * 10 ^ more
 filled wanted count more number e fits =
     let digits = padded_digits count number in let zeros = padded_digits wanted 0 in
     let room : wanted ≡ length digits + more = omega (arith, length-padded count number) in
@@ -74,7 +77,8 @@ many-small left wanted count number e fits =
     div_below number (10 ^ left) (10 ^ wanted) (ten_pos left) (omega (arith, ap (λ k. 10 ^ k) e, pow-add 10 wanted left))
 
 -- more digits than are wanted: the last ones are divided off
-pub cut : (wanted left count number : ℕ) (after : Text) → count ≡ wanted + left → number < 10 ^ count → decimal (take wanted (padded_digits count number ++ after)) ≡ number / 10 ^ left
+pub cut : (wanted left count number : ℕ) (after : Text) → count ≡ wanted + left → number < 10 ^ count
+    → decimal (take wanted (padded_digits count number ++ after)) ≡ number / 10 ^ left
 cut wanted left count number after e fits =
     let digits = padded_digits count number in
     let enough : wanted ≤ length digits = omega (arith, length-padded count number) in
@@ -95,7 +99,8 @@ pub record AreNanoseconds (fraction : FractionParts) (nanoseconds : ℕ) : Type 
   pub small : nanoseconds < 10 ^ 9
 
 -- the nanoseconds of a fraction of at most nine digits
-pub nanoseconds-few : (count value power : ℕ) → count ≤ 9 → value < 10 ^ min count 18 → power ≡ 10 ^ (9 - count) → AreNanoseconds (record { count = count; value = value }) (value * power)
+pub nanoseconds-few : (count value power : ℕ) → count ≤ 9 → value < 10 ^ min count 18 → power ≡ 10 ^ (9 - count)
+    → AreNanoseconds (record { count = count; value = value }) (value * power)
 nanoseconds-few count value power few fits is_power =
     let places : min count 18 ≡ count = omega arith in
     let all : value < 10 ^ count = omega (arith, ap (λ k. 10 ^ k) places) in
@@ -107,7 +112,8 @@ nanoseconds-few count value power few fits is_power =
     })
 
 -- the nanoseconds of a fraction of more than nine digits
-pub nanoseconds-many : (count value power : ℕ) → 9 < count → value < 10 ^ min count 18 → power ≡ 10 ^ (min count 18 - 9) → AreNanoseconds (record { count = count; value = value }) (value / power)
+pub nanoseconds-many : (count value power : ℕ) → 9 < count → value < 10 ^ min count 18 → power ≡ 10 ^ (min count 18 - 9)
+    → AreNanoseconds (record { count = count; value = value }) (value / power)
 nanoseconds-many count value power many fits is_power =
     let more : min count 18 ≡ 9 + (min count 18 - 9) = omega arith in
     rw is_power (record {
@@ -116,7 +122,8 @@ nanoseconds-many count value power many fits is_power =
     })
 
 -- the nanoseconds of a fraction of at most nine digits are exact
-pub exact_few : (fraction : FractionParts) → fraction.count ≤ 9 → fraction.value < 10 ^ min fraction.count 18 → Some (nanoseconds_of fraction) ≡ exact_nanoseconds_of fraction
+pub exact_few : (fraction : FractionParts) → fraction.count ≤ 9 → fraction.value < 10 ^ min fraction.count 18
+    → Some (nanoseconds_of fraction) ≡ exact_nanoseconds_of fraction
 exact_few fraction few fits =
     let test : true ≡ nat_le fraction.count 9 = grind (arith, nat_tests, few) in
     let value = (nanoseconds-few fraction.count fraction.value _ few fits refl).value in

@@ -31,7 +31,8 @@ split_more {A} (z ∷ xs) a (y ∷ earlier) later x e =
 pub first_calendar-more : (replies : List Reply) (reply : Reply)
     → first_calendar (replies ++ reply ∷ []) ≡ option_or (first_calendar replies) (first_calendar (reply ∷ []))
 first_calendar-more replies reply =
-    ap (find is_calendar) (filter_map-append (λ a. a) replies (reply ∷ [])) ∙ find-append is_calendar (filter_map (λ a. a) replies) (filter_map (λ a. a) (reply ∷ []))
+    ap (find is_calendar) (filter_map-append (λ a. a) replies (reply ∷ []))
+    ∙ find-append is_calendar (filter_map (λ a. a) replies) (filter_map (λ a. a) (reply ∷ []))
 
 pub NoneRefused-nothing : NoneRefused []
 NoneRefused-nothing = record { none = λ earlier later reply fault split. absurd (nothing_split earlier later reply split) }
@@ -55,7 +56,8 @@ refused_last replies more fault last none =
 
 -- an reply is refused with one of two errors
 pub refused_split : (calendar : Option Pair) (reply : Reply) (fault : Fault) → RefusedBeside calendar reply fault
-    → ((fault ≡ UnrecognizedCritical) × RefusedBeside calendar reply UnrecognizedCritical) ⊎ ((fault ≡ CriticalDuplicateCalendar) × RefusedBeside calendar reply CriticalDuplicateCalendar)
+    → ((fault ≡ UnrecognizedCritical) × RefusedBeside calendar reply UnrecognizedCritical)
+    ⊎ ((fault ≡ CriticalDuplicateCalendar) × RefusedBeside calendar reply CriticalDuplicateCalendar)
 refused_split calendar None fault h = absurd h
 refused_split calendar (Some pair) UnrecognizedCritical h = inl (refl, h)
 refused_split None (Some pair) CriticalDuplicateCalendar h = absurd h
@@ -63,7 +65,8 @@ refused_split (Some first) (Some pair) CriticalDuplicateCalendar h = inr (refl, 
 refused_split calendar (Some pair) fault h = absurd h
 
 -- an reply that is refused with neither is not refused
-pub neither_refused : (calendar : Option Pair) (reply : Reply) → ¬ (RefusedBeside calendar reply UnrecognizedCritical) → ¬ (RefusedBeside calendar reply CriticalDuplicateCalendar)
+pub neither_refused : (calendar : Option Pair) (reply : Reply) → ¬ (RefusedBeside calendar reply UnrecognizedCritical)
+    → ¬ (RefusedBeside calendar reply CriticalDuplicateCalendar)
     → (fault : Fault) → ¬ (RefusedBeside calendar reply fault)
 neither_refused calendar reply a b fault h = elim (refused_split calendar reply fault h) [
   | inl p ↦ a p.1

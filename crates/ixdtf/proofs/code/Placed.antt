@@ -15,21 +15,21 @@ use Rattle.ixdtf.specs.reading.Clauses.{core_in}
 use Rattle.ixdtf.proofs.code.Tail.{core_alone, first_read}
 
 -- a record in which no brackets stand
-pub no_brackets : {T U : Type 0} (number : U → ℕ) (found : IxdtfParseRecord T U) → found.tz ≡ None → found.calendar ≡ None → parsed_of number found ≡ with_calendar (parsed_with (core_in found) None) None
+pub no_brackets : {T U : Type 0} (number : U → ℕ) (found : IxdtfParseRecord T U) → found.tz ≡ None → found.calendar ≡ None
+    → parsed_of number found ≡ with_calendar (parsed_with (core_in found) None) None
 no_brackets number found p q = cc
 
 module _ {T U F : Type 0} (number : U → ℕ) (step : Step T U F) (handler : F) where
-  pub placed_alone : (core : Core) (rest : Text) (found : Parsed) → found ≡ with_calendar (parsed_with core None) None → TextReadAfter number step handler handler core false rest (Ok found)
+  pub placed_alone : (core : Core) (rest : Text) (found : Parsed) → found ≡ with_calendar (parsed_with core None) None
+      → TextReadAfter number step handler handler core false rest (Ok found)
   placed_alone core rest found is kind text read = rw is (core_alone number step handler core rest kind text read)
 
-  pub placed : (core : Core) (inner : Text) (last : F) (bracket : Bracket) (first : List Pair) (rest : Text) (calendar : Option Pair) (found : Parsed)
+  pub placed : {core : Core} {inner : Text} {last : F} {bracket : Bracket} {first : List Pair} {rest : Text} {calendar : Option Pair} {found : Parsed}
       → bracket_at error_of inner ≡ Ok (bracket, rest) → first ≡ pairs_in bracket → PairsRead number step handler last first rest (Ok calendar)
       → found ≡ with_calendar (parsed_with core (zone_in bracket)) (calendar_value calendar) → TextReadAfter number step handler last core true inner (Ok found)
-  placed core inner last bracket first rest calendar found is same pairs has kind text read =
-      rw has
-      (first_read number step handler core inner last bracket rest (Ok calendar) is (rw (← same) pairs) kind text read)
+  placed is same pairs has kind text read = rw has (first_read number step handler _ _ _ _ _ (Ok _) is (rw (← same) pairs) kind text read)
 
-  pub placed_fault : (core : Core) (inner : Text) (last : F) (bracket : Bracket) (first : List Pair) (rest : Text) (fault : Fault)
-      → bracket_at error_of inner ≡ Ok (bracket, rest) → first ≡ pairs_in bracket → PairsRead number step handler last first rest (Err fault) → TextReadAfter number step handler last core true inner (Err fault)
-  placed_fault core inner last bracket first rest fault is same pairs =
-      first_read number step handler core inner last bracket rest (Err fault) is (rw (← same) pairs)
+  pub placed_fault : {core : Core} {inner : Text} {last : F} {bracket : Bracket} {first : List Pair} {rest : Text} {fault : Fault}
+      → bracket_at error_of inner ≡ Ok (bracket, rest) → first ≡ pairs_in bracket → PairsRead number step handler last first rest (Err fault)
+      → TextReadAfter number step handler last core true inner (Err fault)
+  placed_fault is same pairs = first_read number step handler _ _ _ _ _ (Err _) is (rw (← same) pairs)

@@ -1,5 +1,6 @@
 -- What the code read of a core, and of the first bracket after it, as what the text is.
-use Rattle.std.proofs.Common.{◌≡◌, ℕ, ◌≤◌, suc, Bool, true, false, List, [], ◌∷◌, ◌++◌, length, map, Option, None, Result, Ok, Err, refl, sym, ap, ◌∙◌, subst, arith}
+use Rattle.std.proofs.Common.{◌≡◌, ℕ, ◌≤◌, suc, Bool, true, false, List, [], ◌∷◌, ◌++◌, length, map, Option, None, Result, Ok, Err, refl, sym, ap, ◌∙◌, subst}
+use Rattle.std.proofs.Common.{arith}
 use Rattle.std.proofs.lemmas.List.{length-map, length-append}
 use Rattle.ixdtf.specs.language.Letters.{Letter, Text}
 use Rattle.ixdtf.specs.language.Letters.Letter.{Plain}
@@ -31,7 +32,8 @@ split_shortens text front rest true h = omega (arith, ap (λ t. length t) h, len
 split_shortens text front rest false h = omega (arith, ap (λ t. length t) h.1)
 
 -- what is left after a core is no longer than the text
-pub core_shortens : (kind : CoreKind) (letter : ℕ → Letter) (units left : List ℕ) (core : ClosedCore) → core_at error_of kind (map letter units) ≡ Ok (core, map letter left) → length left ≤ length units
+pub core_shortens : (kind : CoreKind) (letter : ℕ → Letter) (units left : List ℕ) (core : ClosedCore)
+    → core_at error_of kind (map letter units) ≡ Ok (core, map letter left) → length left ≤ length units
 core_shortens kind letter units left core is =
     let h = core_is kind _ _ core is in
     omega (arith, split_shortens _ h.0 _ core.1 h.1, length-map units letter, length-map left letter)
@@ -52,7 +54,8 @@ bracket_is : (inner rest : Text) (bracket : Bracket) → bracket_at error_of inn
 bracket_is inner rest bracket is = subst (OnBracket inner) is (bracket_read error_of (Plain 91 ∷ inner) inner refl)
 
 -- what is left after a bracket is no longer than the text
-pub bracket_shortens : (letter : ℕ → Letter) (units left : List ℕ) (bracket : Bracket) → bracket_at error_of (map letter units) ≡ Ok (bracket, map letter left) → length left ≤ suc (length units)
+pub bracket_shortens : (letter : ℕ → Letter) (units left : List ℕ) (bracket : Bracket) → bracket_at error_of (map letter units) ≡ Ok (bracket, map letter left)
+    → length left ≤ suc (length units)
 bracket_shortens letter units left bracket is =
     let h = bracket_is _ _ bracket is in
     omega (arith, ap (λ t. length t) h.1, length-append h.0 (map letter left), length-map units letter, length-map left letter)
@@ -61,7 +64,8 @@ bracket_shortens letter units left bracket is =
 
 module _ {T U F : Type 0} (number : U → ℕ) (step : Step T U F) (handler : F) where
   -- a core that is refused
-  pub core_refused : (kind : CoreKind) (text : Text) (fault : Fault) → core_at error_of kind text ≡ Err fault → TextRead number step handler handler (bracketed kind) text (Err fault)
+  pub core_refused : (kind : CoreKind) (text : Text) (fault : Fault) → core_at error_of kind text ≡ Err fault
+      → TextRead number step handler handler (bracketed kind) text (Err fault)
   core_refused kind text fault is =
       let row = subst (ReadsCore error_of kind text) is (core_read error_of text kind) in
       text_fault number step handler text _ fault (row.0, row.2, sym row.1)
@@ -73,14 +77,17 @@ module _ {T U F : Type 0} (number : U → ℕ) (step : Step T U F) (handler : F)
       text_derived number step handler text kind core (rw h.1.0 h.2)
 
   -- a first bracket that is refused
-  pub first_refused : (core : Core) (inner : Text) (fault : Fault) → bracket_at error_of inner ≡ Err fault → TextReadAfter number step handler handler core true inner (Err fault)
+  pub first_refused : (core : Core) (inner : Text) (fault : Fault) → bracket_at error_of inner ≡ Err fault
+      → TextReadAfter number step handler handler core true inner (Err fault)
   first_refused core inner fault refused kind text is =
       let h = core_is kind text inner (core, true) is in
       let row = subst (OnBracket inner) refused (bracket_read error_of (Plain 91 ∷ inner) inner refl) in
       text_fault number step handler text _ fault (row.0, after_core kind row.0 text h.0 (Plain 91 ∷ inner) h.1 (core, h.2) row.2, sym row.1)
 
   -- a first bracket, and the pairs after it
-  pub first_read : (core : Core) (inner : Text) (last : F) (bracket : Bracket) (rest : Text) (result : Result (Option Pair) Fault) → bracket_at error_of inner ≡ Ok (bracket, rest) → PairsRead number step handler last (pairs_in bracket) rest result → TextReadAfter number step handler last core true inner (text_result core bracket result)
+  pub first_read : (core : Core) (inner : Text) (last : F) (bracket : Bracket) (rest : Text) (result : Result (Option Pair) Fault)
+      → bracket_at error_of inner ≡ Ok (bracket, rest) → PairsRead number step handler last (pairs_in bracket) rest result
+      → TextReadAfter number step handler last core true inner (text_result core bracket result)
   first_read core inner last bracket rest result read pairs kind text is =
       let h = core_is kind text inner (core, true) is in
       let b = bracket_is inner rest bracket read in

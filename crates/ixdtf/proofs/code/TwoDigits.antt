@@ -29,7 +29,8 @@ module _ (letter : ℕ → Letter) (other : Fault) where
   too_short (u ∷ v ∷ units) short = absurd (omega arith)
 
   abbrev Second : ℕ → List ℕ → Letter → Type 0
-  Second a units l = digits_by (digit_look other) 2 (Plain a ∷ l ∷ map letter units) ≡ (digit_seen other (looked (Some l)) >>= λ b. Ok (Plain a ∷ Plain b ∷ [], map letter units))
+  Second a units l = digits_by (digit_look other) 2 (Plain a ∷ l ∷ map letter units)
+      ≡ (digit_seen other (looked (Some l)) >>= λ b. Ok (Plain a ∷ Plain b ∷ [], map letter units))
 
   plain_second : (a c : ℕ) (units : List ℕ) (b : Bool) → digit a ≡ true → digit c ≡ b → Second a units (Plain c)
   unfolding digits_by next_by look_at
@@ -42,7 +43,8 @@ module _ (letter : ℕ → Letter) (other : Fault) where
   second a units (Plain c) at = plain_second a c units (digit c) at refl
 
   abbrev First : Letter → List ℕ → Letter → Type 0
-  First v units l = digits_by (digit_look other) 2 (l ∷ v ∷ map letter units) ≡ (digit_seen other (looked (Some l)) >>= λ a. digit_seen other (looked (Some v)) >>= λ b. Ok (Plain a ∷ Plain b ∷ [], map letter units))
+  First v units l = digits_by (digit_look other) 2 (l ∷ v ∷ map letter units)
+      ≡ (digit_seen other (looked (Some l)) >>= λ a. digit_seen other (looked (Some v)) >>= λ b. Ok (Plain a ∷ Plain b ∷ [], map letter units))
 
   plain_first : (c : ℕ) (v : Letter) (units : List ℕ) (b : Bool) → digit c ≡ b → First v units (Plain c)
   unfolding digits_by next_by look_at
@@ -55,7 +57,9 @@ module _ (letter : ℕ → Letter) (other : Fault) where
   first (Plain c) v units = plain_first c v units (digit c) refl
 
   -- two units and more
-  pub long_enough : (units : List ℕ) → 2 ≤ length units → two units ≡ (digit_seen other (ascii_at letter 0 units) >>= λ a. digit_seen other (ascii_at letter 1 units) >>= λ b. Ok (Plain a ∷ Plain b ∷ [], map letter (drop 2 units)))
+  pub long_enough : (units : List ℕ) → 2 ≤ length units
+      → two units ≡ (digit_seen other (ascii_at letter 0 units) >>= λ a. digit_seen other (ascii_at letter 1 units)
+      >>= λ b. Ok (Plain a ∷ Plain b ∷ [], map letter (drop 2 units)))
   long_enough [] long = absurd (omega arith)
   long_enough (u ∷ []) long = absurd (omega arith)
   long_enough (u ∷ v ∷ units) long = first (letter u) (letter v) units

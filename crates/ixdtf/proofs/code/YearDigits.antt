@@ -4,15 +4,17 @@ use Rattle.ixdtf.specs.language.Letters.{Text}
 use Rattle.ixdtf.specs.table.Faults.{Fault}
 use Rattle.ixdtf.specs.table.Faults.Fault.{DateYear}
 use Rattle.ixdtf.specs.reading.Looks.{Look, ◌>>=◌, error_of, number_of, digits_by, digit_look}
-use Rattle.ixdtf.specs.reading.Dates.{plain_year_at}
+use Rattle.ixdtf.specs.reading.Dates.{four_digit_year_at}
 
 -- six digits are three, and three more
 pub six_digits : (l : Look Fault) (text : Text)
-    → number_of (digits_by l 6 text) ≡ (number_of (digits_by l 3 text) >>= λ high. number_of (digits_by l 3 high.1) >>= λ low. Ok (1000 * high.0 + low.0, low.1))
+    → number_of (digits_by l 6 text) ≡ (number_of (digits_by l 3 text) >>= λ high. number_of (digits_by l 3 high.1)
+    >>= λ low. Ok (1000 * high.0 + low.0, low.1))
 unfolding digits_by
 six_digits l text = grind (arith)
 
 -- a year of four digits is the first, and three more
-pub four_digits : (c : ℕ) (text : Text) → plain_year_at error_of c text ≡ (number_of (digits_by (digit_look DateYear) 3 text) >>= λ low. Ok (pos (1000 * (c - 48) + low.0), low.1))
-unfolding plain_year_at digits_by
+pub four_digits : (c : ℕ) (text : Text)
+    → four_digit_year_at error_of c text ≡ (number_of (digits_by (digit_look DateYear) 3 text) >>= λ low. Ok (pos (1000 * (c - 48) + low.0), low.1))
+unfolding four_digit_year_at digits_by
 four_digits c text = grind (arith)

@@ -10,7 +10,7 @@ use Rattle.ixdtf.specs.language.Letters.Letter.{Plain, Bad}
 use Rattle.ixdtf.specs.language.Shapes.{Shape, one, digits}
 use Rattle.ixdtf.specs.language.Dates.{Year}
 use Rattle.ixdtf.specs.language.Durations.{SignedDesignator}
-use Rattle.ixdtf.specs.language.Months.{OptionalHyphen, Marks, IsYearMonth, MonthDayShape}
+use Rattle.ixdtf.specs.language.Months.{OptionalHyphen, Marks, IsYearMonth, MonthDayText}
 use Rattle.ixdtf.specs.table.Before.{AtCoreEnd}
 
 abbrev pub outside : Class
@@ -128,7 +128,7 @@ in_year_month text date h =
     rw h.is (inside_append h.years _ (in_year h.years date.year h.year)
     (inside_append h.hyphens _ (in_hyphens h.hyphens h.hyphen) (in_digits 2 h.months h.month.0.0)))
 
-pub in_month_day : (text : Text) (date : DateRecord) → MonthDayShape text date → AllInside text
+pub in_month_day : (text : Text) (date : DateRecord) → MonthDayText text date → AllInside text
 in_month_day text date h =
     rw h.is (inside_append h.marks _ (in_marks h.marks h.mark) (inside_append h.months _ (in_digits 2 h.months h.month.0.0)
     (inside_append h.hyphens _ (in_hyphens h.hyphens h.hyphen) (in_digits 2 h.days h.day.0))))

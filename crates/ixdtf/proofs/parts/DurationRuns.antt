@@ -1,6 +1,7 @@
 -- Durations letter by letter: a letter that goes on leads to the next state, and the row of a state's line is returned where it fits.
 use Rattle.std.proofs.Common.{◌≡◌, ℕ, zero, suc, ◌≤◌, IsTrue, [], ◌∷◌, ◌++◌, Ok, Err, refl, ◌∙◌, arith, append_assoc, append-nil, nat_le, if◌then◌else◌}
 use Rattle.std.proofs.lemmas.Bool.{leb-true, le-leb}
+use Rattle.ixdtf.specs.declared.parsers.profile.Profile.{Profile}
 use Rattle.ixdtf.specs.language.Letters.{Text, digit}
 use Rattle.ixdtf.specs.language.Letters.Letter.{Plain, Bad}
 use Rattle.ixdtf.specs.language.Shapes.{digits}
@@ -17,7 +18,7 @@ use Rattle.ixdtf.specs.table.Rows.Place.{end, other, bad, anywhere}
 use Rattle.ixdtf.specs.reading.Looks.{Read, ◌>>=◌, row_of, look_of}
 use Rattle.ixdtf.specs.reading.Durations.{State, line_of_state, step, at_end, run}
 use Rattle.ixdtf.specs.reading.Durations.State.{between}
-use Rattle.ixdtf.proofs.parts.Looks.{Leads, Halts, Goes}
+use Rattle.ixdtf.proofs.parts.Looks.{ReadsOver, Halts, Goes}
 use Rattle.ixdtf.proofs.code.GrowingDigits.{decimal_snoc}
 
 -- ---- digits
@@ -69,12 +70,12 @@ Asks (line front goes_on ends at_other) = Unit {0}
 Asks (scanned front e) = ⊥
 Asks (whole front e) = ⊥
 
-pub state_asks : (s : State) → Asks (duration_line (line_of_state s))
-state_asks (between (in_dates s [])) = tt
-state_asks (between (in_times s dates [])) = tt
-state_asks s = tt
+pub state_asks : (profile : Profile) (s : State) → Asks (duration_line profile (line_of_state s))
+state_asks profile (between (in_dates s [])) = tt
+state_asks profile (between (in_times s dates [])) = tt
+state_asks profile s = tt
 
-module _ {E : Type 0} (fault : Row → E) where
+module _ {E : Type 0} (fault : Row → E) (profile : Profile) where
   -- ---- a letter that goes on
 
   by_look : {A : Type 0} (name : LineName) (l : Line) (c : ℕ) (x y : Read E A) → Goes l c → (if (look_of fault name l).goes_on c then x else y) ≡ x
@@ -83,35 +84,40 @@ module _ {E : Type 0} (fault : Row → E) where
 
   -- reading goes from a state over a front to a state
   abbrev pub Over : State → Text → State → Type 0
-  Over s front to = Leads (run fault s) front (run fault to)
+  Over s front to = ReadsOver (run fault profile s) front (run fault profile to)
 
   -- reading from a state ends at a row, over a front and at a rest
   abbrev pub Stays : State → Text → Text → Row → Type 0
-  Stays s front rest row = Halts (run fault s) front rest (fault row)
+  Stays s front rest row = Halts (run fault profile s) front rest (fault row)
 
   pub stays : (s : State) → Over s [] s
   stays s = record { over = λ rest. refl }
 
-  pub one_letter : (s : State) (c : ℕ) {to : State} → Goes (duration_line (line_of_state s)) c → step fault s c ≡ Ok to → Over s (Plain c ∷ []) to
+  pub one_letter : (s : State) (c : ℕ) {to : State} → Goes (duration_line profile (line_of_state s)) c → step fault profile s c ≡ Ok to
+      → Over s (Plain c ∷ []) to
   unfolding run
   one_letter s c h is = record { over = λ rest. by_look _ _ c _ _ h ∙ rw is refl }
 
-  pub letter_stops : (s : State) (c : ℕ) {rest : Text} {row : Row} → Goes (duration_line (line_of_state s)) c → step fault s c ≡ Err (fault row) → Stays s (Plain c ∷ []) rest row
+  pub letter_stops : (s : State) (c : ℕ) {rest : Text} {row : Row} → Goes (duration_line profile (line_of_state s)) c → step fault profile s c ≡ Err (fault row)
+      → Stays s (Plain c ∷ []) rest row
   unfolding run
   letter_stops s c h is = record { halts = by_look _ _ c _ _ h ∙ rw is refl }
 
   -- ---- the row of a state's line
 
-  stops_end : {A : Type 0} (name : LineName) (l : Line) (x : A) (e : Fault) (rest : Text) → Asks l → Stops l end e rest → (rest ≡ []) × (at_end (look_of fault name l).at_end x ≡ Err (fault (row_of name end e)))
+  stops_end : {A : Type 0} (name : LineName) (l : Line) (x : A) (e : Fault) (rest : Text) → Asks l → Stops l end e rest
+      → (rest ≡ []) × (at_end (look_of fault name l).at_end x ≡ Err (fault (row_of name end e)))
   stops_end name (line front goes_on ends at_other) x e rest asks h = (h.0, rw h.1 refl)
   stops_end name other_line x e rest asks h = absurd asks
 
   stops_other : {A : Type 0} (name : LineName) (l : Line) (next : ℕ → Text → Read E A) (e : Fault) (rest : Text) → Asks l → Stops l other e rest
-      → (c : ℕ) × (more : Text) × (rest ≡ Plain c ∷ more) × ((if (look_of fault name l).goes_on c then next c more else Err ((look_of fault name l).at_other c)) ≡ Err (fault (row_of name other e)))
+      → (c : ℕ) × (more : Text) × (rest ≡ Plain c ∷ more)
+      × ((if (look_of fault name l).goes_on c then next c more else Err ((look_of fault name l).at_other c)) ≡ Err (fault (row_of name other e)))
   stops_other name (line front goes_on ends at_other) next e rest asks h = (h.0, h.1, h.2, rw (h.3, h.4) refl)
   stops_other name other_line next e rest asks h = absurd asks
 
-  stops_bad : (name : LineName) (l : Line) (e : Fault) (rest : Text) → Asks l → Stops l bad e rest → (more : Text) × (rest ≡ Bad ∷ more) × ((look_of fault name l).at_bad ≡ fault (row_of name bad e))
+  stops_bad : (name : LineName) (l : Line) (e : Fault) (rest : Text) → Asks l → Stops l bad e rest
+      → (more : Text) × (rest ≡ Bad ∷ more) × ((look_of fault name l).at_bad ≡ fault (row_of name bad e))
   stops_bad name (line front goes_on ends at_other) e rest asks h = (h.0, h.1, rw h.2 refl)
   stops_bad name other_line e rest asks h = absurd asks
 
@@ -119,11 +125,13 @@ module _ {E : Type 0} (fault : Row → E) where
   stops_nowhere (line front goes_on ends at_other) e rest asks h = h
   stops_nowhere other_line e rest asks h = asks
 
-  pub run_stops : (s : State) (place : Place) (e : Fault) (rest : Text) → Stops (duration_line (line_of_state s)) place e rest → run fault s rest ≡ Err (fault (row_of (of_duration (line_of_state s)) place e))
+  pub run_stops : (s : State) (place : Place) (e : Fault) (rest : Text) → Stops (duration_line profile (line_of_state s)) place e rest
+      → run fault profile s rest ≡ Err (fault (row_of (of_duration profile (line_of_state s)) place e))
   unfolding run
-  run_stops s end e rest h = let p = stops_end _ _ _ e rest (state_asks s) h in rw p.0 p.1
+  run_stops s end e rest h = let p = stops_end _ _ _ e rest (state_asks profile s) h in rw p.0 p.1
   run_stops s other e rest h =
-      let p = stops_other _ _ (λ c more. step fault s c >>= λ next. run fault next more) e rest (state_asks s) h in
+      let p = stops_other _ _ (λ c more. step fault profile s c >>= λ next. run fault profile next more) e rest (state_asks profile s) h in
       rw p.2 p.3
-  run_stops s bad e rest h = let p = stops_bad (of_duration (line_of_state s)) (duration_line (line_of_state s)) e rest (state_asks s) h in rw (p.1, p.2) refl
-  run_stops s anywhere e rest h = absurd (stops_nowhere _ e rest (state_asks s) h)
+  run_stops s bad e rest h = let p =
+      stops_bad (of_duration profile (line_of_state s)) (duration_line profile (line_of_state s)) e rest (state_asks profile s) h in rw (p.1, p.2) refl
+  run_stops s anywhere e rest h = absurd (stops_nowhere _ e rest (state_asks profile s) h)

@@ -1,14 +1,15 @@
 -- Where the core of a text ends: no core has a letter that stands outside, and what stands after one is the end or a bracket.
-use Rattle.std.proofs.Common.{◌≡◌, ℕ, suc, Bool, true, false, IsTrue, IsFalse, List, [], ◌∷◌, ◌++◌, Option, Some, None, refl, ◌∙◌, inl, inr, arith, append_assoc}
+use Rattle.std.proofs.Common.{◌≡◌, ℕ, suc, Bool, true, false, IsTrue, IsFalse, List, [], ◌∷◌, ◌++◌, Option, Some, None, refl, ◌∙◌, inl, inr, arith}
+use Rattle.std.proofs.Common.{append_assoc}
 use Rattle.std.proofs.lemmas.Bool.Decides.{nat_tests}
 use Rattle.ixdtf.specs.declared.records.DateRecord.{DateRecord}
 use Rattle.ixdtf.specs.declared.records.TimeRecord.{TimeRecord}
 use Rattle.ixdtf.specs.declared.records.UtcOffsetRecordOrZ.{UtcOffsetRecordOrZ}
 use Rattle.ixdtf.specs.language.Letters.{Text, opening, zulu, decimal_mark, time_letter, date_time_separator}
 use Rattle.ixdtf.specs.language.Fractions.{FractionParts, IsFraction}
-use Rattle.ixdtf.specs.language.Dates.{DateShape}
+use Rattle.ixdtf.specs.language.Dates.{DateText}
 use Rattle.ixdtf.specs.language.Times.{Clock, Clock as clocks, TimeShape, SecondText, ClockOf}
-use Rattle.ixdtf.specs.language.Times.TimeShape.{hours, plain_minutes, colon_minutes, seconds, fractions}
+use Rattle.ixdtf.specs.language.Times.TimeShape.{hours, basic_minutes, colon_minutes, seconds, fractions}
 use Rattle.ixdtf.specs.language.Brackets.{ZoneNote, Opens, Pair, IsTail}
 use Rattle.ixdtf.specs.language.Cores.{Core, OptionalOffset, IsDateTimeCore, TimeMark, MarkedTime, IsCore}
 use Rattle.ixdtf.specs.language.Readers.{CoreKind}
@@ -43,7 +44,7 @@ of_time_letter c h = grind (arith, nat_tests, h)
 of_separator : (c : ℕ) → IsTrue (date_time_separator c) → IsFalse (outside c)
 of_separator c h = grind (arith, nat_tests, h)
 
-in_date : (text : Text) (date : DateRecord) → DateShape text date → AllInside text
+in_date : (text : Text) (date : DateRecord) → DateText text date → AllInside text
 in_date text date (inl h) =
     rw h.is (inside_append h.years _ (in_year h.years date.year h.year)
     (inside_append h.months _ (in_digits 2 h.months h.month.0.0) (in_digits 2 h.days h.day.0)))
@@ -62,10 +63,10 @@ in_fraction text fraction h = rw h.is (of_mark h.mark h.marks, in_digits (suc h.
 
 in_clock : (clock : Clock) (shape : TimeShape) (text : Text) (time : TimeRecord) → ClockOf clock shape text time → AllInside text
 in_clock clock hours text time h = in_digits 2 text h.hour.0
-in_clock clock plain_minutes text time h = rw h.is (inside_append h.hs _ (in_digits 2 h.hs h.hour.0) (in_digits 2 h.ms h.minute.0))
+in_clock clock basic_minutes text time h = rw h.is (inside_append h.hs _ (in_digits 2 h.hs h.hour.0) (in_digits 2 h.ms h.minute.0))
 in_clock clock colon_minutes text time h = rw h.is (inside_append h.hs _ (in_digits 2 h.hs h.hour.0) (refl, in_digits 2 h.ms h.minute.0))
-in_clock clock seconds text time h = in_seconds clock text time h.0
-in_clock clock fractions text time h = rw h.is (inside_append h.whole _ (in_seconds clock h.whole time h.second) (in_fraction h.part h.fraction h.shape))
+in_clock clock seconds text time h = in_seconds clock text time h
+in_clock clock fractions text time h = rw h.is (inside_append h.whole _ (in_seconds clock h.whole _ h.second) (in_fraction h.part h.fraction h.is_fraction))
 
 in_offset : (text : Text) (offset : Option UtcOffsetRecordOrZ) → OptionalOffset text offset → AllInside text
 in_offset text None h = rw h tt
@@ -94,5 +95,5 @@ in_marked_time text core h =
 pub core_inside : (kind : CoreKind) (text : Text) (core : Core) → IsCore kind text core → AllInside text
 core_inside date_time text core h = in_date_time text core h
 core_inside year_month text core h = in_year_month text h.0 h.1
-core_inside month_day text core h = in_month_day text h.0 h.1.0
-core_inside time_alone text core h = in_marked_time text core h.0
+core_inside (month_day profile) text core h = in_month_day text h.0 h.1.0
+core_inside (time_alone profile) text core h = in_marked_time text core h.0

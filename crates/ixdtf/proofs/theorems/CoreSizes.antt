@@ -7,8 +7,8 @@ use Rattle.ixdtf.specs.declared.records.DateRecord.{DateRecord}
 use Rattle.ixdtf.specs.language.Letters.{Class, Text, digit, hyphen, sign}
 use Rattle.ixdtf.specs.language.Letters.Letter.{Plain, Bad}
 use Rattle.ixdtf.specs.language.Shapes.{digits}
-use Rattle.ixdtf.specs.language.Dates.{Year, DateShape}
-use Rattle.ixdtf.specs.language.Months.{OptionalHyphen, Marks, IsYearMonth, MonthDayShape}
+use Rattle.ixdtf.specs.language.Dates.{Year, DateText}
+use Rattle.ixdtf.specs.language.Months.{OptionalHyphen, Marks, IsYearMonth, MonthDayText}
 use Rattle.ixdtf.specs.language.Cores.{Core, IsDateTimeCore}
 
 -- the first letter is of the class
@@ -80,7 +80,7 @@ year_and_more years after more year h least =
     (at_least _ _ _ _ _ 8 11 (omega (arith, rest)) (omega (arith, rest)) (year_size years (after ++ more) year h))
 
 -- a date, with what stands behind it
-date_size : (text more : Text) (date : DateRecord) → DateShape text date → AtLeast 8 11 (text ++ more)
+date_size : (text more : Text) (date : DateRecord) → DateText text date → AtLeast 8 11 (text ++ more)
 date_size text more date (inl h) =
     rw h.is (year_and_more h.years (h.months ++ h.days) more date.year h.year
     (omega (arith, length-append h.months h.days, digits_long 2 _ h.month.0.0, digits_long 2 _ h.day.0)))
@@ -95,7 +95,7 @@ date_time_size text core (inr h) = rw h.is (date_size h.dates _ h.date h.is_date
 hyphen_signs : (c : ℕ) → IsTrue (hyphen c) → IsTrue (sign c)
 hyphen_signs c h = grind (arith, nat_tests, h)
 
-pub month_day_size : (text : Text) (date : DateRecord) → MonthDayShape text date → Sized 4 5 6 7 text
+pub month_day_size : (text : Text) (date : DateRecord) → MonthDayText text date → Sized 4 5 6 7 text
 month_day_size text date h = rw h.is (by_marks h.marks h.mark)
   where
     after : Text

@@ -12,12 +12,12 @@ use Rattle.ixdtf.specs.language.Brackets.{Pair}
 use Rattle.ixdtf.specs.language.Readers.{Reader, has_brackets}
 use Rattle.ixdtf.specs.table.LineNames.{LineName}
 use Rattle.ixdtf.specs.table.LineNames.DateLine.{minus_zero_year}
-use Rattle.ixdtf.specs.table.LineNames.DateLine.{month_range, after_plain_month, day_range, after_date}
+use Rattle.ixdtf.specs.table.LineNames.DateLine.{month_range, after_basic_month, day_range, after_date}
 use Rattle.ixdtf.specs.table.LineNames.YearMonthLine.{after_year_month}
 use Rattle.ixdtf.specs.table.LineNames.MonthDayLine.{month_day_month_range}
 use Rattle.ixdtf.specs.table.LineNames.MonthDayLine.{month_day_range, after_month_day}
 use Rattle.ixdtf.specs.table.LineNames.TimeLine.{time_reads_as_month_day, time_reads_as_year_month}
-use Rattle.ixdtf.specs.table.LineNames.ClockLine.{hour_range, after_hour, minute_range, after_plain_minute}
+use Rattle.ixdtf.specs.table.LineNames.ClockLine.{hour_range, after_hour, minute_range, after_basic_minute}
 use Rattle.ixdtf.specs.table.LineNames.ClockLine.{after_colon_minute, second_digits, second_range, after_second, after_fraction}
 use Rattle.ixdtf.specs.table.LineNames.OffsetLine.{after_zulu}
 use Rattle.ixdtf.specs.table.LineNames.ZoneLine.{in_zone_name}
@@ -77,19 +77,19 @@ half_has halves.time = (refl, refl)
 line_has : (brackets : Bool) (name : LineName) → LineHas (line_of brackets name)
 line_has brackets (of_date minus_zero_year) = refl
 line_has brackets (of_date month_range) = refl
-line_has brackets (of_date after_plain_month) = (refl, λ c. either_has (hyphen c) DateSeparator DateDay refl refl)
+line_has brackets (of_date after_basic_month) = (refl, λ c. either_has (hyphen c) DateSeparator DateDay refl refl)
 line_has brackets (of_date day_range) = refl
 line_has brackets (of_date after_date) = (tt, λ c. refl)
 line_has brackets (of_year_month after_year_month) = (tt, λ c. refl)
 line_has brackets (of_month_day month_day_month_range) = refl
-line_has brackets (of_month_day month_day_range) = refl
-line_has brackets (of_month_day after_month_day) = (tt, λ c. refl)
-line_has brackets (of_time time_reads_as_month_day) = refl
+line_has brackets (of_month_day (month_day_range profile)) = refl
+line_has brackets (of_month_day (after_month_day profile)) = (tt, λ c. refl)
+line_has brackets (of_time (time_reads_as_month_day profile)) = refl
 line_has brackets (of_time time_reads_as_year_month) = refl
 line_has brackets (of_clock clock hour_range) = refl
 line_has brackets (of_clock clock after_hour) = let f = follow_has brackets clock in (f.0, λ c. f.1)
 line_has brackets (of_clock clock minute_range) = refl
-line_has brackets (of_clock clock after_plain_minute) =
+line_has brackets (of_clock clock after_basic_minute) =
     let f = follow_has brackets clock in (f.0, λ c. either_has (colon c || digit c) (mixed clock) (follow_of brackets clock).at_other (clock_has clock).0 f.1)
 line_has brackets (of_clock clock after_colon_minute) =
     let f = follow_has brackets clock in (f.0, λ c. either_has (colon c || digit c) (mixed clock) (follow_of brackets clock).at_other (clock_has clock).0 f.1)
@@ -102,13 +102,13 @@ line_has brackets (of_zone in_zone_name) = zone_has brackets
 line_has brackets (of_bracket first_bracket_scan) = refl
 line_has brackets (of_bracket after_bracket) = (tt, λ c. refl)
 line_has brackets (of_pair key_start) = (refl, λ c. refl)
-line_has brackets (of_duration after_date_groups) = (tt, λ c. refl)
-line_has brackets (of_duration (group_digits half)) = let has = (half_has half).0 in (has, λ c. has)
-line_has brackets (of_duration (group_value_range half)) = refl
-line_has brackets (of_duration (unit_order half)) = (half_has half).1
-line_has brackets (of_duration date_unit_range) = refl
-line_has brackets (of_duration after_time_groups) = (tt, λ c. refl)
-line_has brackets (of_duration after_fraction_group) = (tt, λ c. refl)
+line_has brackets (of_duration profile after_date_groups) = (tt, λ c. refl)
+line_has brackets (of_duration profile (group_digits half)) = let has = (half_has half).0 in (has, λ c. has)
+line_has brackets (of_duration profile (group_value_range half)) = refl
+line_has brackets (of_duration profile (unit_order half)) = (half_has half).1
+line_has brackets (of_duration profile date_unit_range) = refl
+line_has brackets (of_duration profile after_time_groups) = (tt, λ c. refl)
+line_has brackets (of_duration profile after_fraction_group) = (tt, λ c. refl)
 line_has brackets name = (refl, λ c. refl)
 
 end_has : (at_end : Ending) (fault : Fault) → EndHas at_end → at_end ≡ error fault → IsFalse (no_row fault)

@@ -1,6 +1,6 @@
 -- `parse` derives a record from every date-time of RFC 3339 section 5.6.
 use Rattle.ixdtf.specs.language.Readers.{parse}
-use Rattle.std.proofs.Common.{ℕ, IsTrue, [], ◌++◌, Option, Some, None, pos, refl, sym, ◌∙◌, false, inl, inr, arith, append_assoc, append-nil}
+use Rattle.std.proofs.Common.{ℕ, IsTrue, [], ◌++◌, Some, None, pos, refl, sym, ◌∙◌, false, inl, inr, arith, append_assoc, append-nil}
 use Rattle.std.proofs.lemmas.Bool.Decides.{nat_tests}
 use Rattle.ixdtf.specs.language.Times.{Clock as clocks}
 use Rattle.ixdtf.specs.declared.records.DateRecord.{DateRecord}
@@ -17,27 +17,44 @@ use Rattle.ixdtf.specs.language.Times.{IsTime, SecondText}
 use Rattle.ixdtf.specs.language.Times.TimeShape.{colon_minutes, seconds, fractions}
 use Rattle.ixdtf.specs.language.Offsets.{offset_of, IsOffsetOrZ}
 use Rattle.ixdtf.specs.language.Cores.{core_of}
+use Rattle.ixdtf.specs.language.Languages.Derives.{as_parsed}
 use Rattle.ixdtf.specs.language.Languages.{Parsed, parsed_with, Derives}
 use Rattle.ixdtf.specs.language.Languages.Found.{parsed}
 use Rattle.ixdtf.specs.reading.Dates.{date_of}
 use Rattle.ixdtf.specs.reading.Times.{time_of}
-use Rattle.ixdtf.specs.Handlers.{PlainRecord}
+use Rattle.ixdtf.specs.Handlers.{UnhandledRecord}
 use Rattle.ixdtf.specs.Laws.{EveryDateTimeIsRead}
 use Rattle.ixdtf.proofs.code.OneMoreReply.{NoneRefused-nothing}
 use Rattle.ixdtf.specs.language.Rfc3339.{FullDate, WholeTime, SecondFraction, TimeOffset, IsRfcDateTime}
 
 full_date : (text : Text) → FullDate text → (date : DateRecord) × IsDate text date
-full_date text d = (date_of (pos (decimal d.years)) d.month d.day, (inr (record { years = d.years; months = d.months; days = d.days; is = d.is; year = inl (d.is_year, refl); month = d.is_month; day = d.is_day }), (d.from_one, d.in_month)))
+full_date text d = (
+  date_of (pos (decimal d.years)) d.month d.day,
+  (
+    inr (record { years = d.years; months = d.months; days = d.days; is = d.is; year = inl (d.is_year, refl); month = d.is_month; day = d.is_day }),
+    (d.from_one, d.in_month),
+  ),
+)
 
 separates : (c : ℕ) → IsTrue (time_letter c) → IsTrue (date_time_separator c)
 separates c h = grind (arith, nat_tests, h)
 
--- the time of its hour, minute and second, with any fraction
-whole_time : (text : Text) (t : WholeTime text) (f : Option FractionParts) → SecondText clocks.Time text (time_of t.3.0 t.4.4.3.0 t.4.4.4.4.0 f)
-whole_time text t f = inr (record { hs = t.0; ms = t.4.4.0; ss = t.4.4.4.1; is = t.2 ∙ rw (t.4.2, t.4.3, t.4.4.2, t.4.4.4.2, t.4.4.4.3) refl; may = refl; hour = t.3.1; minute = t.4.4.3.1; second = t.4.4.4.4.1 })
+-- the time of its hour, minute and second
+whole_time : (text : Text) (t : WholeTime text) → SecondText clocks.Time text (time_of t.3.0 t.4.4.3.0 t.4.4.4.4.0 None)
+whole_time text t = inr (record {
+  hs = t.0;
+  ms = t.4.4.0;
+  ss = t.4.4.4.1;
+  is = t.2 ∙ rw (t.4.2, t.4.3, t.4.4.2, t.4.4.4.2, t.4.4.4.3) refl;
+  may = refl;
+  hour = t.3.1;
+  minute = t.4.4.3.1;
+  second = t.4.4.4.4.1;
+  no_fraction = refl;
+})
 
 is_time : (whole part : Text) → WholeTime whole → (nothing either SecondFraction) part → (time : TimeRecord) × IsTime (whole ++ part) time
-is_time whole part t (inl none) = (time_of t.3.0 t.4.4.3.0 t.4.4.4.4.0 None, (seconds, rw (none, append-nil whole) (whole_time whole t None, refl)))
+is_time whole part t (inl none) = (time_of t.3.0 t.4.4.3.0 t.4.4.4.4.0 None, (seconds, rw (none, append-nil whole) (whole_time whole t)))
 is_time whole part t (inr f) =
     let fraction : FractionParts = fraction_of f.0 in (
       time_of t.3.0 t.4.4.3.0 t.4.4.4.4.0 _,
@@ -48,8 +65,8 @@ is_time whole part t (inr f) =
           part = part;
           fraction = fraction;
           is = refl;
-          second = whole_time whole t _;
-          shape = record { mark = 46; ds = f.0; is = f.2; marks = refl; some = (f.1, f.3); value = refl };
+          second = whole_time whole t;
+          is_fraction = record { mark = 46; ds = f.0; is = f.2; marks = refl; some = (f.1, f.3); value = refl };
           value = refl;
         },
       ),
@@ -71,7 +88,15 @@ is_offset text (inr o) =
           time = time;
           is = o.2 ∙ rw sign.1 refl;
           sign = sign.2;
-          clock = record { hs = body.0; ms = body.4.1; is = body.2 ∙ rw (body.4.2, body.4.3) refl; hour = body.3.1; minute = body.4.4.1; no_second = refl; no_fraction = refl };
+          clock = record {
+            hs = body.0;
+            ms = body.4.1;
+            is = body.2 ∙ rw (body.4.2, body.4.3) refl;
+            hour = body.3.1;
+            minute = body.4.4.1;
+            no_second = refl;
+            no_fraction = refl;
+          };
           value = refl;
         },
         refl,
@@ -88,7 +113,7 @@ rfc_3339_derives text d =
     let offset = is_offset after.4.1 after.4.4 in
     let core = core_of _ _ _ in (
       parsed_with core None,
-      record {
+      as_parsed (record {
         cores = text;
         brackets = [];
         core = core;
@@ -111,12 +136,12 @@ rfc_3339_derives text d =
         });
         is_tail = ([], [], refl, refl, refl);
         has = refl;
-      },
+      }),
     )
 
 -- without pairs nothing is refused, and there is no calendar
-plain : (text : Text) (found : Parsed) → Derives parse text (parsed found) [] → PlainRecord parse text found
-plain text found d = ([], record { read = found; whole = d; accepted = NoneRefused-nothing; has = rw d.has refl })
+unhandled : (text : Text) (found : Parsed) → Derives parse text (parsed found) [] → UnhandledRecord parse text found
+unhandled text found (as_parsed d) = ([], record { read = found; whole = as_parsed d; accepted = NoneRefused-nothing; has = rw d.has refl })
 
 pub every_date_time_is_read : EveryDateTimeIsRead
-every_date_time_is_read text is = let (found, d) = rfc_3339_derives text is in (found, d, plain text found d)
+every_date_time_is_read text is = let (found, d) = rfc_3339_derives text is in (found, d, unhandled text found d)

@@ -1,10 +1,11 @@
 -- What reading a core returns is a core, with the end or a bracket after it, or a row that fits.
 use Rattle.std.proofs.Common.{◌≡◌, ℕ, Bool, true, false, IsTrue, IsFalse, [], ◌∷◌, ◌++◌, Ok, Option, Some, None, is_some, refl, sym, ap, ◌∙◌, subst, inl, inr}
 use Rattle.std.proofs.{Common.{append_assoc, append-nil}, lemmas.{Bool.{or_from, eqb-true}}}
+use Rattle.ixdtf.specs.declared.parsers.profile.Profile.{Profile}
 use Rattle.ixdtf.specs.declared.records.{DateRecord.DateRecord, TimeRecord.TimeRecord, UtcOffsetRecord.UtcOffsetRecord}
 use Rattle.ixdtf.specs.declared.records.UtcOffsetRecordOrZ.{UtcOffsetRecordOrZ, TheVariants.{Offset, Z}}
 use Rattle.ixdtf.specs.language.Letters.{Text, Class, digit, sign, zulu, opening, time_letter, date_time_separator, Letter.{Plain, Bad}}
-use Rattle.ixdtf.specs.language.{Shapes.{Shape, one, some, ◌then◌}, Dates.IsDate, Months.{IsYearMonth, IsMonthDay, least_day}}
+use Rattle.ixdtf.specs.language.{Shapes.{Shape, one, some, ◌then◌}, Dates.IsDate, Months.{IsYearMonth, IsMonthDay}}
 use Rattle.ixdtf.specs.language.{Times.{Clock, TimeShape, IsTime, writes_seconds, TimeShape.{seconds, fractions}}, Offsets.{IsOffset, offset_of}}
 use Rattle.ixdtf.specs.language.Cores.{Core, core_of, OptionalOffset, DateAlone, IsDateTimeCore, TimeMark, MarkedTime, HasNoDateFront, IsCore}
 use Rattle.ixdtf.specs.language.Readers.{CoreKind, CoreKind.{date_time, year_month, month_day, time_alone}, Reader.bracketed}
@@ -18,7 +19,8 @@ use Rattle.ixdtf.specs.reading.{Looks.{Read, row_of, look_at, next_by}, Months.{
 use Rattle.ixdtf.specs.reading.{Times.{hour_from, clock_at}, Cores.{ClosedCore, core_look, core_end_at, with_offset, offset_core_at, after_time_at}}
 use Rattle.ixdtf.specs.reading.Cores.{time_core_at, after_date_at, date_time_core_at, date_alone_at, hour_look, lone_time_at, marked_time_at, marked_core_at}
 use Rattle.ixdtf.specs.reading.Cores.{unfronted, time_alone_core_at, core_at}
-use Rattle.ixdtf.proofs.parts.{Fronts.{no_front_of, unfronted_read}, Looks.{Stopped, OnRead, then_read, read_weaker, read_if, lift, NotNext, next_read, Peeked}}
+use Rattle.ixdtf.proofs.parts.{Fronts.{no_front_of, unfronted_read}}
+use Rattle.ixdtf.proofs.parts.{Looks.{IsRowFault, OnRead, then_read, read_weaker, read_if, lift, NotNext, next_read, Peeked}}
 use Rattle.ixdtf.proofs.parts.Looks.{peek_read, further}
 use Rattle.ixdtf.proofs.to_reading.Times.{Closed, IsLater}
 use Rattle.ixdtf.proofs.to_grammar.{Dates.{DateFront, date_read}, Months.{FrontIs, year_month_read, month_day_read}}
@@ -249,14 +251,14 @@ module _ {E : Type 0} (fault : Row → E) (kind : CoreKind) (text : Text) (part 
 -- ---- times that stand alone
 
 -- what stands before a line after the first digit of the hour
-marked_line : (l : ClockLine) (prior : Text) → IsLater l → TimeMark prior → BeforeTime time_alone l prior
-marked_line hour_start prior is_later mark = absurd is_later
-marked_line l prior is_later mark = mark
+marked_line : (profile : Profile) (l : ClockLine) (prior : Text) → IsLater l → TimeMark prior → BeforeTime (time_alone profile) l prior
+marked_line profile hour_start prior is_later mark = absurd is_later
+marked_line profile l prior is_later mark = mark
 
 -- and before any line of a time, where the letter stands
-lettered_line : (l : ClockLine) (prior : Text) → one time_letter prior → BeforeTime time_alone l prior
-lettered_line hour_start prior letter = letter
-lettered_line l prior letter = inr letter
+lettered_line : (profile : Profile) (l : ClockLine) (prior : Text) → one time_letter prior → BeforeTime (time_alone profile) l prior
+lettered_line profile hour_start prior letter = letter
+lettered_line profile l prior letter = inr letter
 
 -- the end or a bracket stands after what was read
 split_ends : (text front : Text) (has_bracket : Bool) (rest : Text) → Splits text front has_bracket rest
@@ -268,41 +270,41 @@ split_ends text front false rest is = ([], is.0 ∙ sym (append-nil front), inl 
 abbrev MarkedFront : Text → OpenTime → Text → Type 0
 MarkedFront text x rest = (marks body : Text) × (text ≡ marks ++ body) × TimeMark marks × TimeFront Clock.Time body x rest
 
-module _ {E : Type 0} (fault : Row → E) (text : Text) where
+module _ {E : Type 0} (fault : Row → E) (profile : Profile) (text : Text) where
   start_stops : (place : Place) (e : Fault) → Stops (line_of true (of_time time_start)) place e text
-      → Stopped fault (fault (row_of (of_time time_start) place e)) (FitsCore time_alone text)
+      → IsRowFault fault (fault (row_of (of_time time_start) place e)) (FitsCore (time_alone profile) text)
   start_stops place e at = (row_of (of_time time_start) place e, refl, ([], text, refl, (refl, refl), ([], text, refl, refl, at)))
 
   hour_digit_read : (body : Text) → text ≡ body → NotNext time_letter body
-      → OnRead fault (next_by (hour_look fault) body) (λ c rest. (text ≡ Plain c ∷ rest) × IsTrue (digit c)) (FitsCore time_alone text)
+      → OnRead fault (next_by (hour_look fault) body) (λ c rest. (text ≡ Plain c ∷ rest) × IsTrue (digit c)) (FitsCore (time_alone profile) text)
   unfolding next_by look_at
   hour_digit_read [] is closed = start_stops end abrupt_digit (is, refl)
   hour_digit_read (Bad ∷ rest) is closed = absurd closed
   hour_digit_read (Plain c ∷ rest) is closed =
       read_if fault (digit c) _ _ _ _ (λ d. (is, d)) (λ out. start_stops other TimeHour (c, rest, is, or_from _ _ out closed, refl))
 
-  lone_time_read : NotNext time_letter text → OnRead fault (lone_time_at fault text) (MarkedFront text) (FitsCore time_alone text)
+  lone_time_read : NotNext time_letter text → OnRead fault (lone_time_at fault text) (MarkedFront text) (FitsCore (time_alone profile) text)
   unfolding lone_time_at
   lone_time_read closed = then_read fault (next_by (hour_look fault) text) _ _ _ _ _ (hour_digit_read text refl closed)
       (λ c rest h. read_weaker fault (hour_from fault Clock.Time c rest) _ _ _ _ (hour_read fault true Clock.Time text c rest h.1 h.0)
       (λ x left g. ([], text, refl, inl refl, g))
-      (λ row f. lift (later Clock.Time) (bracketed time_alone) row text [] text refl (λ l. (marked_line l.0 [] l.1 (inl refl), refl)) f))
+      (λ row f. lift (later Clock.Time) (bracketed (time_alone profile)) row text [] text refl (λ l. (marked_line profile l.0 [] l.1 (inl refl), refl)) f))
       (λ row f. f)
 
-  marked_time_read : OnRead fault (marked_time_at fault text) (MarkedFront text) (FitsCore time_alone text)
+  marked_time_read : OnRead fault (marked_time_at fault text) (MarkedFront text) (FitsCore (time_alone profile) text)
   unfolding marked_time_at
   marked_time_read = next_read (fault (row_of (of_time time_start) bad NonAsciiCodePoint)) time_letter _ _ fault text (MarkedFront text) _
       (λ more next. start_stops bad NonAsciiCodePoint (more, next, refl))
       (λ c rest next letter. read_weaker fault (clock_at fault Clock.Time rest) _ _ _ _ (clock_read fault true Clock.Time rest)
       (λ x left g. (Plain c ∷ [], rest, next, inr (c, refl, letter), g))
-      (λ row f. lift (of_clock Clock.Time) (bracketed time_alone) row text (Plain c ∷ []) rest next
-      (λ l. (lettered_line l (Plain c ∷ []) (c, refl, letter), refl)) f))
+      (λ row f. lift (of_clock Clock.Time) (bracketed (time_alone profile)) row text (Plain c ∷ []) rest next
+      (λ l. (lettered_line profile l (Plain c ∷ []) (c, refl, letter), refl)) f))
       lone_time_read
 
-  marked_core_read : ReadsAs fault time_alone text MarkedTime (marked_core_at fault text)
+  marked_core_read : ReadsAs fault (time_alone profile) text MarkedTime (marked_core_at fault text)
   unfolding marked_core_at
   marked_core_read = then_read fault (marked_time_at fault text) _ _ _ _ _ marked_time_read
-      (λ x rest h. after_time_read fault time_alone text MarkedTime None h.0 h.1 h.2 (λ l is_later. marked_line l h.0 is_later h.3)
+      (λ x rest h. after_time_read fault (time_alone profile) text MarkedTime None h.0 h.1 h.2 (λ l is_later. marked_line profile l h.0 is_later h.3)
       (λ ts offsets t offset is_time o. record {
         marks = h.0;
         times = ts;
@@ -320,24 +322,26 @@ module _ {E : Type 0} (fault : Row → E) (text : Text) where
       (λ row f. f)
 
   -- the test of the front, after the time
-  tested_read : (x : ClosedCore) (rest : Text) → FrontOf MarkedTime text x rest → ReadsCore fault time_alone text (unfronted fault text (Ok (x, rest)))
+  tested_read : (x : ClosedCore) (rest : Text) → FrontOf MarkedTime text x rest
+      → ReadsCore fault (time_alone profile) text (unfronted fault profile text (Ok (x, rest)))
   tested_read x rest h =
       let ends = split_ends text h.0 x.1 rest h.1 in
       let time : ReadsAsTime text = (h.0, ends.0, ends.1, (x.0, h.2), ends.2) in
-      unfronted_read text fault (Ok (x, rest)) (CoreFront time_alone text) (FitsCore time_alone text)
-      (λ begins. ([], text, refl, ((refl, time), refl), (begins.0, begins.1, begins.2, begins.3, refl)))
+      unfronted_read profile text fault (Ok (x, rest)) (CoreFront (time_alone profile) text) (FitsCore (time_alone profile) text)
+      (λ begins. ([], text, refl, ((refl, time, refl), refl), (begins.0, begins.1, begins.2, begins.3, refl)))
       (λ begins none. ([], text, refl, ((refl, time, none), refl), (begins.0, begins.1, begins.2, begins.3, refl)))
-      (λ none. (h.0, h.1, (h.2, no_front_of h.0 ends.0 (subst HasNoDateFront ends.1 none))))
+      (λ none. (h.0, h.1, (h.2, no_front_of profile h.0 ends.0 (subst (HasNoDateFront profile) ends.1 none))))
 
-  time_alone_read : ReadsCore fault time_alone text (time_alone_core_at fault text)
+  time_alone_read : ReadsCore fault (time_alone profile) text (time_alone_core_at fault profile text)
   unfolding time_alone_core_at
   time_alone_read = then_read fault (marked_core_at fault text) _ _ _ _ _ marked_core_read tested_read (λ row f. f)
 
-  -- a core of any kind
-  pub core_read : (kind : CoreKind) → ReadsCore fault kind text (core_at fault kind text)
-  core_read date_time = date_time_read fault text
-  core_read year_month = alone_read fault year_month text IsYearMonth (of_year_month after_year_month)
-      (λ place e front rest is date at. ([], text, refl, (refl, refl), (front, rest, is, date, at))) (year_month_at fault text) (year_month_read fault text)
-  core_read month_day = alone_read fault month_day text (IsMonthDay least_day) (of_month_day after_month_day)
-      (λ place e front rest is date at. ([], text, refl, (refl, refl), (front, rest, is, date, at))) (month_day_at fault text) (month_day_read fault text)
-  core_read time_alone = time_alone_read
+-- a core of any kind
+pub core_read : {E : Type 0} (fault : Row → E) (text : Text) (kind : CoreKind) → ReadsCore fault kind text (core_at fault kind text)
+core_read fault text date_time = date_time_read fault text
+core_read fault text year_month = alone_read fault year_month text IsYearMonth (of_year_month after_year_month)
+    (λ place e front rest is date at. ([], text, refl, (refl, refl), (front, rest, is, date, at))) (year_month_at fault text) (year_month_read fault text)
+core_read fault text (month_day profile) = alone_read fault (month_day profile) text (IsMonthDay profile) (of_month_day (after_month_day profile))
+    (λ place e front rest is date at. ([], text, refl, ((refl, refl), refl), (front, rest, is, date, at))) (month_day_at fault profile text)
+    (month_day_read fault profile text)
+core_read fault text (time_alone profile) = time_alone_read fault profile text

@@ -3,10 +3,10 @@ use Rattle.std.proofs.Common.{◌≡◌, ℕ, ◌<◌, ◌≤◌, ◌⊎◌, Boo
 use Rattle.std.proofs.lemmas.{Bool.{and_parts, and_from, both_ways, leb-true, le-leb}, Bool.Decides.nat_tests}
 use Rattle.ixdtf.specs.declared.records.DateRecord.{DateRecord}
 use Rattle.ixdtf.specs.language.{Letters.{Text, hyphen, Letter.Plain}, Shapes.{◌either◌, fewer_digits_than}, Digits.{decimal, TwoDigits}}
-use Rattle.ixdtf.specs.language.Dates.{Year, Month, DateShape, IsDate, month_length}
+use Rattle.ixdtf.specs.language.Dates.{Year, Month, DateText, IsDate, month_length}
 use Rattle.ixdtf.specs.table.{Faults.Fault.InvalidDayRange, LineNames.{LineName, of_date, DateLine.{after_year, month_digits, month_range}}}
-use Rattle.ixdtf.specs.table.LineNames.{DateLine.{after_hyphened_month, after_plain_month, day_digits, day_range}}
-use Rattle.ixdtf.specs.table.{Lines.{line_of, HyphenOrDigit, NoMonth, PlainDay, HyphenedDay}, Rows.Row}
+use Rattle.ixdtf.specs.table.LineNames.{DateLine.{after_hyphened_month, after_basic_month, day_digits, day_range}}
+use Rattle.ixdtf.specs.table.{Lines.{line_of, HyphenOrDigit, NoMonth, BasicDay, HyphenedDay}, Rows.Row}
 use Rattle.ixdtf.specs.reading.{Looks.{Read, ◌>>=◌, digits_at, mark_at}, Dates.{date_of, month_in_range, month_by, month_at, line_after_month, day_in_range}}
 use Rattle.ixdtf.specs.reading.Dates.{day_at, year_at, date_at}
 use Rattle.ixdtf.proofs.parts.Looks.{OnRead, FitsIn, StopsHere, fits_in, fits_whole_in, then_read, read_weaker, read_if, digits_read, one_as_digits, further}
@@ -32,12 +32,12 @@ fewer_than_two ds (inr h) = (1, omega arith, one_as_digits ds h)
 abbrev dated : Bool → Text → Text → Text → Text
 dated b ys ms ds = ys ++ ((hyphens_of b ++ ms) ++ (hyphens_of b ++ ds))
 
-date_shape : (b : Bool) (ys ms ds : Text) (date : DateRecord) → Year ys date.year → Month ms date.month → TwoDigits ds date.day
-    → DateShape (dated b ys ms ds) date
-date_shape false ys ms ds date year month day = inl (record { years = ys; months = ms; days = ds; is = refl; year = year; month = month; day = day })
-date_shape true ys ms ds date year month day = inr (record { years = ys; months = ms; days = ds; is = refl; year = year; month = month; day = day })
+is_date_text : (b : Bool) (ys ms ds : Text) (date : DateRecord) → Year ys date.year → Month ms date.month → TwoDigits ds date.day
+    → DateText (dated b ys ms ds) date
+is_date_text false ys ms ds date year month day = inl (record { years = ys; months = ms; days = ds; is = refl; year = year; month = month; day = day })
+is_date_text true ys ms ds date year month day = inr (record { years = ys; months = ms; days = ds; is = refl; year = year; month = month; day = day })
 
-begins_day : (b : Bool) (ys ms ds : Text) (y : ℤ) (m : ℕ) → Year ys y → Month ms m → Begun b ds → (PlainDay either HyphenedDay) (dated b ys ms ds)
+begins_day : (b : Bool) (ys ms ds : Text) (y : ℤ) (m : ℕ) → Year ys y → Month ms m → Begun b ds → (BasicDay either HyphenedDay) (dated b ys ms ds)
 begins_day false ys ms ds y m year month h = inl (ys, _, refl, (y, year), (ms, ds, refl, (m, month), h))
 begins_day true ys ms ds y m year month h =
     inr (
@@ -145,9 +145,9 @@ module _ {E : Type 0} (fault : Row → E) where
       by_mark true rest h = (h.0, tt)
       by_mark false rest h = absurd (both_ways _ h.5 h.4)
   separator_read false text = read_weaker fault _ _ _ _ _
-      (mark_read fault (of_date after_plain_month) text tt) by_mark (λ row h. h)
+      (mark_read fault (of_date after_basic_month) text tt) by_mark (λ row h. h)
     where
-      by_mark : (s : Bool) (rest : Text) → Stood fault (of_date after_plain_month) text s rest → (text ≡ hyphens_of false ++ rest) × Starts false rest
+      by_mark : (s : Bool) (rest : Text) → Stood fault (of_date after_basic_month) text s rest → (text ≡ hyphens_of false ++ rest) × Starts false rest
       by_mark true rest h = absurd cc
       by_mark false rest h = (h.0, (h.1, h.2, h.3, h.4))
 
@@ -156,7 +156,7 @@ module _ {E : Type 0} (fault : Row → E) where
     abbrev Reads : Text → Read E DateRecord → Type 0
     Reads text r = OnRead fault r (DateFront text) (λ row. FitsIn of_date brackets row text)
 
-    day_read : (text front rest : Text) (date : DateRecord) → text ≡ front ++ rest → DateShape front date → Reads text (day_in_range fault date rest)
+    day_read : (text front rest : Text) (date : DateRecord) → text ≡ front ++ rest → DateText front date → Reads text (day_in_range fault date rest)
     unfolding day_in_range
     day_read text front rest date is shape = read_if fault (nat_le 1 date.day && nat_le date.day (month_length date.year date.month)) _ _ _ _
         (λ test. let both = and_parts (nat_le 1 date.day) (nat_le date.day (month_length date.year date.month)) test in
@@ -171,7 +171,7 @@ module _ {E : Type 0} (fault : Row → E) where
       month_stops true rest row is h =
           fits_in of_date brackets after_hyphened_month row text (ys ++ (Plain 45 ∷ ms)) rest h.0 is
           (ys, _, refl, (y, year), (Plain 45 ∷ [], ms, refl, (45, refl, refl), (m, month))) h.1
-      month_stops false rest row is h = fits_in of_date brackets after_plain_month row text (ys ++ ms) rest h.0 is (ys, ms, refl, (y, year), (m, month)) h.1
+      month_stops false rest row is h = fits_in of_date brackets after_basic_month row text (ys ++ ms) rest h.0 is (ys, ms, refl, (y, year), (m, month)) h.1
 
       with_day : (b : Bool) (rest more ds left : Text) → text ≡ (ys ++ (hyphens_of b ++ ms)) ++ rest → rest ≡ hyphens_of b ++ more → more ≡ ds ++ left
           → text ≡ dated b ys ms ds ++ left
@@ -182,7 +182,7 @@ module _ {E : Type 0} (fault : Row → E) where
       after_month_read b rest is = then_read fault (mark_at fault (line_after_month b) hyphen rest) _ _ _ _ _ (separator_read b rest)
           (λ s more h. then_read fault (digits_at fault (of_date day_digits) 2 more) _ _ _ _ _ (digits_read fault (of_date day_digits) (λ c. refl) 2 more)
           (λ ds left g. day_read text (dated b ys ms ds) left _ (with_day b rest more ds left is h.0 g.0)
-          (date_shape b ys ms ds (date_of y m (decimal ds)) year month (g.1, refl)))
+          (is_date_text b ys ms ds (date_of y m (decimal ds)) year month (g.1, refl)))
           (λ r g. let t = stops_after b (of_date day_digits) more r (λ c. refl) h.1 g in
           fits_in of_date brackets day_digits r text (dated b ys ms t.0) t.1 t.4.0 (with_day b rest more t.0 t.1 is h.0 t.2)
           (begins_day b ys ms t.0 y m year month t.3) t.4.1))

@@ -13,7 +13,7 @@ use Rattle.ixdtf.specs.table.Rows.{Row, Place, Stops, FitsHere, front_of, Place.
 use Rattle.ixdtf.specs.reading.{Looks.{Read, ◌>>=◌, row_of, letter_at, look_at, next_by}, Times.clock_at, Pairs.pair_at}
 use Rattle.ixdtf.specs.reading.{Zones.{follow_look, name_look, name_run, as_zone}, Brackets.{Bracket, zoned, paired, sight_at, name_in_bracket_at}}
 use Rattle.ixdtf.specs.reading.Brackets.{name_or_pair_at, offset_in_bracket_at, noted, as_pair, inside_at, critical_bracket_at, bracket_at}
-use Rattle.ixdtf.proofs.parts.{Looks.{OnRead, FitsIn, then_read, read_if, read_letter}, LookAhead.{OnSight, over_letter, sight_read, key_lead_passed}}
+use Rattle.ixdtf.proofs.parts.{Looks.{OnRead, FitsIn, then_read, read_if, read_letter}, LookAhead.{OnSight, over_letter, sight_read, key_lead_skipped}}
 use Rattle.ixdtf.proofs.to_grammar.{Times.{clock_read, clock_next_read}, ZoneNames.{NameFront, name_read, name_stops_here}}
 use Rattle.ixdtf.proofs.to_grammar.Pair.{PairFront, FitsInPair, pair_read, opened_pair}
 use Rattle.ixdtf.proofs.to_reading.Pair.{InPair}
@@ -81,14 +81,20 @@ of_name : (row : Row) (c : ℕ) (text more : Text) → text ≡ Plain c ∷ more
 of_name row c text more is lead reads h start opens =
     (start, text, refl, subst (λ n. InBracket n start text) (sym h.1) (at_line (rw h.1 at h.2)), h.2)
   where
-    at_line : ((front rest : Text) × (text ≡ front ++ rest) × front_of (line_of true (of_zone h.0)) front × Stops (line_of true (of_zone h.0)) row.place row.error rest) → InBracket (of_zone h.0) start text
+    at_line : ((front rest : Text) × (text ≡ front ++ rest) × front_of (line_of true (of_zone h.0)) front
+        × Stops (line_of true (of_zone h.0)) row.place row.error rest) → InBracket (of_zone h.0) start text
     at_line g = inside_name h.0 row.place row.error c more g.0 g.1 lead (sym is ∙ g.2) g.3 g.4 start text opens reads
 
 -- a row of an offset fits in a bracket
 of_minutes : (row : Row) (c : ℕ) (text more : Text) → text ≡ Plain c ∷ more → IsTrue (sign c) → FitsIn (of_clock MinuteOffset) true row more
     → FitsInside text row
-of_minutes row c text more is signs h start opens =
-    (start ++ (Plain c ∷ []), more, rw is (simp append_assoc), subst (λ n. InBracket n (start ++ (Plain c ∷ [])) more) (sym h.1) (start, Plain c ∷ [], refl, opens, (c, refl, signs)), h.2)
+of_minutes row c text more is signs h start opens = (
+  start ++ (Plain c ∷ []),
+  more,
+  rw is (simp append_assoc),
+  subst (λ n. InBracket n (start ++ (Plain c ∷ [])) more) (sym h.1) (start, Plain c ∷ [], refl, opens, (c, refl, signs)),
+  h.2,
+)
 
 -- a row of a pair fits in a bracket
 of_pairs : (row : Row) (text : Text) → ReadsAsPair text → FitsInPair text row → FitsInside text row
@@ -111,7 +117,11 @@ module _ {E : Type 0} (fault : Row → E) where
   after_name_read text name (Bad ∷ rest) h = absurd h.4.0
   after_name_read text name (Plain d ∷ rest) h = read_if fault (closing d) _ _ _ _
       (λ closes. ap (λ n. Plain n ∷ rest) (eqb-true d 93 closes))
-      (λ out. (row_of (of_zone in_zone_name) other IanaChar, refl, name_stops_here fault true other IanaChar text h.0 (Plain d ∷ rest) h.1 h.2 (d, rest, refl, neither d h.4.0 h.4.1 out, refl)))
+      (λ out. (
+        row_of (of_zone in_zone_name) other IanaChar,
+        refl,
+        name_stops_here fault true other IanaChar text h.0 (Plain d ∷ rest) h.1 h.2 (d, rest, refl, neither d h.4.0 h.4.1 out, refl),
+      ))
     where
       neither : (d : ℕ) → IsFalse (zone_char d) → IsFalse (slash d) → IsFalse (closing d) → IsFalse (zone_letters true d)
       neither d no_char no_slash no_closing = grind (arith, nat_tests)
@@ -170,7 +180,8 @@ module _ {E : Type 0} (fault : Row → E) where
 
     -- what the sight saw decides
     sighted : (c : ℕ) (text more : Text) → text ≡ Plain c ∷ more → IsTrue (zone_lead c) → IsTrue (key_lead c) → (s : Result Bool E) → OnSight fault more s
-        → BracketRead (start ++ text) (s >>= λ pair. if pair then as_pair (pair_at fault critical text) else noted critical (as_zone (name_in_bracket_at fault text)))
+        → BracketRead (start ++ text) (s >>= λ pair. if pair then as_pair (pair_at fault critical text) else noted critical
+        (as_zone (name_in_bracket_at fault text)))
     sighted c text more is lead key (Ok true) h = paired_read text (Plain c ∷ [], more, is, (c, refl, key), h) _ (pair_read fault critical c text more is key)
     sighted c text more is lead key (Ok false) h =
         noted_read text _ (as_zone_read text _ (name_in_bracket_read c text more is lead (inr (Plain c ∷ [], more, is, (c, refl, key), h))))
@@ -186,7 +197,7 @@ module _ {E : Type 0} (fault : Row → E) where
     unfolding name_or_pair_at
     key_read c text more is lead key =
         sighted c text more is lead key (sight_at fault text) (subst (OnSight fault more)
-        (sym (ap (sight_at fault) is ∙ over_letter fault c more (key_lead_passed c key))) (sight_read fault more))
+        (sym (ap (sight_at fault) is ∙ over_letter fault c more (key_lead_skipped c key))) (sight_read fault more))
 
     -- from the first letter on
     inside_read : (c : ℕ) (text more : Text) → text ≡ Plain c ∷ more → IsTrue ((zone_lead or sign) c)
@@ -194,8 +205,8 @@ module _ {E : Type 0} (fault : Row → E) where
     unfolding inside_at
     inside_read c text more is may = read_if fault (sign c) _ _ _ _
         (λ signs. noted_read text (offset_in_bracket_at fault c (drop 1 text)) (rw (ap (drop 1) is) (minutes_read c text more is signs)))
-        (λ plain.
-        let lead : IsTrue (zone_lead c) = grind (arith, may, plain, nat_tests) in
+        (λ no_mark.
+        let lead : IsTrue (zone_lead c) = grind (arith, may, no_mark, nat_tests) in
         read_if fault (key_lead c) _ _ _ _
         (key_read c text more is lead)
         (λ no_key. noted_read text _ (as_zone_read text _ (name_in_bracket_read c text more is lead
@@ -227,7 +238,7 @@ module _ {E : Type 0} (fault : Row → E) where
       (λ c rest h. read_if fault (exclamation c) _ _ _ _
       (λ critical. subst (λ t. BracketRead (Plain 91 ∷ t) (critical_bracket_at fault rest))
       (sym (h.0 ∙ ap (λ n. Plain n ∷ rest) (eqb-true c 33 critical))) (critical_read rest))
-      (λ plain. inside_read (Plain 91 ∷ []) false (91, refl, refl) c text rest h.0 (grind (arith, h.1, plain, nat_tests))))
+      (λ no_mark. inside_read (Plain 91 ∷ []) false (91, refl, refl) c text rest h.0 (grind (arith, h.1, no_mark, nat_tests))))
       (λ r h. at_start first_bracket_start r (Plain 91 ∷ text) (Plain 91 ∷ []) text h.0 refl refl (91, refl, refl) h.1)
 
   -- after `[`

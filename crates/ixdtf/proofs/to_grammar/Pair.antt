@@ -155,7 +155,11 @@ module _ {E : Type 0} (fault : Row → E) where
       (λ goes. key_more c rest goes (key_run fault rest) (key_read rest))
       (λ no_key. read_if fault (equals c) _ _ _ _
       (λ marks. ([], ap (λ n. Plain n ∷ rest) (eqb-true c 61 marks), ([], refl), refl))
-      (λ no_equals. (row_of (of_pair in_key) other AnnotationKeyChar, refl, ([], Plain c ∷ rest, refl, ([], refl), refl, (c, rest, refl, rw (no_key, no_equals), refl)))))
+      (λ no_equals. (
+        row_of (of_pair in_key) other AnnotationKeyChar,
+        refl,
+        ([], Plain c ∷ rest, refl, ([], refl), refl, (c, rest, refl, rw (no_key, no_equals), refl)),
+      )))
 
   -- from its first letter on
   abbrev WholeKey : Text → List ℕ → Text → Type 0
@@ -317,7 +321,7 @@ module _ {E : Type 0} (fault : Row → E) where
       (λ c rest h. read_if fault (exclamation c) _ _ _ _
       (λ critical. subst (λ t. LaterRead (Plain 91 ∷ t) (critical_pair_at fault rest)) (sym (h.0 ∙ ap (λ n. Plain n ∷ rest) (eqb-true c 33 critical)))
       (critical_read rest))
-      (λ plain. opened_read (Plain 91 ∷ []) text false (91, refl, refl) _ (pair_read false c text rest h.0 (starts_key c h.1 plain))))
+      (λ no_mark. opened_read (Plain 91 ∷ []) text false (91, refl, refl) _ (pair_read false c text rest h.0 (starts_key c h.1 no_mark))))
       (λ r h. first_row key_start r (Plain 91 ∷ text) refl (Plain 91 ∷ [], text, refl, (91, refl, refl), h.0, h.1))
 
   -- after `[`

@@ -1,14 +1,14 @@
 -- What reading a time returns is a time as far as it goes, or a row that fits.
-use Rattle.std.proofs.Common.{◌≡◌, ℕ, ◌<◌, ◌≤◌, ◌⊎◌, IsTrue, IsFalse, [], ◌∷◌, ◌++◌, Ok, Err, Option, Some, None, refl, ◌∙◌, subst, inl, inr, arith}
+use Rattle.std.proofs.Common.{◌≡◌, ℕ, ◌<◌, ◌≤◌, ◌⊎◌, IsTrue, IsFalse, [], ◌∷◌, ◌++◌, Ok, Err, Some, None, refl, ◌∙◌, subst, inl, inr, arith}
 use Rattle.std.proofs.{Common.{append_assoc, nat_le, Bool, true, false, if◌then◌else◌}, lemmas.{Bool.{eqb-true, leb-true, leb-false, and_parts, or_from}}}
 use Rattle.std.proofs.lemmas.Bool.Decides.{nat_tests}
 use Rattle.ixdtf.specs.declared.records.TimeRecord.{TimeRecord}
-use Rattle.ixdtf.specs.language.Times.{Clock, TimeShape, ClockOf, PlainMinuteText, ColonMinuteText, SecondText, greatest_second, has_seconds, Clock.Time}
-use Rattle.ixdtf.specs.language.{Times.{TimeShape.{hours, plain_minutes, colon_minutes, seconds, fractions}}, Letters.{Text, ◌or◌, digit, colon, decimal_mark}}
+use Rattle.ixdtf.specs.language.Times.{Clock, TimeShape, ClockOf, BasicMinuteText, ColonMinuteText, SecondText, greatest_second, has_seconds, Clock.Time}
+use Rattle.ixdtf.specs.language.{Times.{TimeShape.{hours, basic_minutes, colon_minutes, seconds, fractions}}, Letters.{Text, ◌or◌, digit, colon, decimal_mark}}
 use Rattle.ixdtf.specs.language.{Letters.{Letter.{Plain, Bad}}, Shapes.{Shape, some, one, fewer_digits_than, ◌then◌, ◌either◌}, Digits.{decimal, UpTo}}
 use Rattle.ixdtf.specs.language.Fractions.{FractionParts, SomeDigits, fraction_of}
 use Rattle.ixdtf.specs.table.{Faults.{Fault, Fault.{NonAsciiCodePoint, TimeHour, TimeMinuteSecond}}, LineNames.{ClockLine, LineName, LineName.of_clock}}
-use Rattle.ixdtf.specs.table.LineNames.{ClockLine.{hour_start, hour_digit, hour_range, after_hour, minute_digits, minute_range, after_plain_minute}}
+use Rattle.ixdtf.specs.table.LineNames.{ClockLine.{hour_start, hour_digit, hour_range, after_hour, minute_digits, minute_range, after_basic_minute}}
 use Rattle.ixdtf.specs.table.LineNames.{ClockLine.{after_colon_minute, second_digits, second_range, after_second, fraction_start, after_fraction}}
 use Rattle.ixdtf.specs.table.Lines.{line_of, follow_of, seconds_after, second_fault, mixed, ColonOrDigit, Past, Ending.{ok, error}}
 use Rattle.ixdtf.specs.table.Rows.{Row, Place, Stops, front_of, Place.{end, other, bad, anywhere}}
@@ -16,7 +16,7 @@ use Rattle.ixdtf.specs.reading.{Looks.{Read, ◌>>=◌, row_of, letter_at, look_
 use Rattle.ixdtf.specs.reading.Times.{time_of, line_after, bad_after, mixed_after, hour_past, minute_past, second_past, minutes_shape, second_start}
 use Rattle.ixdtf.specs.reading.Times.{number_at, fraction_at, after_second_at, second_at, after_minute_at, minute_at, after_hour_at, hour_from, clock_at}
 use Rattle.ixdtf.specs.reading.Zones.{follow_look}
-use Rattle.ixdtf.proofs.parts.Looks.{Stopped, OnRead, OnRun, FitsIn, fits_in, then_read, read_weaker, read_if, no_digit, none_or_one, LooksForDigit}
+use Rattle.ixdtf.proofs.parts.Looks.{IsRowFault, OnRead, OnRun, FitsIn, fits_in, then_read, read_weaker, read_if, no_digit, none_or_one, LooksForDigit}
 use Rattle.ixdtf.proofs.parts.Looks.{DigitsStop, goes, stops, digit_goes, digit_looks, read_letter, digits_read, Peeked, peek_read, next_read, run_read}
 use Rattle.ixdtf.proofs.parts.Looks.{further, onto, NotNext}
 use Rattle.ixdtf.proofs.to_reading.Times.{Closed, IsLater, StopsAfter, closed_minutes, with_fraction}
@@ -70,7 +70,7 @@ minute_text clock false h m front ds x u = record { hs = front; ms = ds; is = re
 -- what stands after a minute where a second is
 after_minute_text : (clock : Clock) (shape : Bool → Shape) (colons : Bool) (t : TimeRecord) (front ds : Text)
     → ClockOf clock (minutes_shape colons) front t → shape colons ds
-    → ((some PlainMinuteText then shape false) either (some ColonMinuteText then one colon then shape true)) (front ++ (marks colons ++ ds))
+    → ((some BasicMinuteText then shape false) either (some ColonMinuteText then one colon then shape true)) (front ++ (marks colons ++ ds))
 after_minute_text clock shape true t front ds x s = inr (front, _, refl, (t, x), (Plain 58 ∷ [], ds, refl, (58, refl, refl), s))
 after_minute_text clock shape false t front ds x s = inl (front, ds, refl, (t, x), s)
 
@@ -78,27 +78,39 @@ second_text : (clock : Clock) (colons : Bool) (h m s : ℕ) (front ds : Text) �
     → ClockOf clock (minutes_shape colons) front (time_of h m 0 None) → UpTo (greatest_second clock) ds s
     → SecondText clock (front ++ (marks colons ++ ds)) (time_of h m s None)
 second_text clock true h m s front ds may x u =
-    inr (record { hs = x.hs; ms = x.ms; ss = ds; is = rw x.is (simp append_assoc); may = may; hour = x.hour; minute = x.minute; second = u })
+    inr (record {
+      hs = x.hs;
+      ms = x.ms;
+      ss = ds;
+      is = rw x.is (simp append_assoc);
+      may = may;
+      hour = x.hour;
+      minute = x.minute;
+      second = u;
+      no_fraction = refl;
+    })
 second_text clock false h m s front ds may x u =
-    inl (record { hs = x.hs; ms = x.ms; ss = ds; is = rw x.is (simp append_assoc); may = may; hour = x.hour; minute = x.minute; second = u })
+    inl (record {
+      hs = x.hs;
+      ms = x.ms;
+      ss = ds;
+      is = rw x.is (simp append_assoc);
+      may = may;
+      hour = x.hour;
+      minute = x.minute;
+      second = u;
+      no_fraction = refl;
+    })
 
--- the text of hour, minute and second says nothing of the fraction
-other_fraction : (clock : Clock) (text : Text) (h m s : ℕ) (f g : Option FractionParts) → SecondText clock text (time_of h m s f)
-    → SecondText clock text (time_of h m s g)
-other_fraction clock text h m s f g (inl x) =
-    inl (record { hs = x.hs; ms = x.ms; ss = x.ss; is = x.is; may = x.may; hour = x.hour; minute = x.minute; second = x.second })
-other_fraction clock text h m s f g (inr x) =
-    inr (record { hs = x.hs; ms = x.ms; ss = x.ss; is = x.is; may = x.may; hour = x.hour; minute = x.minute; second = x.second })
-
-fraction_shape : (clock : Clock) (h m s c : ℕ) (front ds : Text) (fraction : FractionParts) → SecondText clock front (time_of h m s None)
+is_fraction_text : (clock : Clock) (h m s c : ℕ) (front ds : Text) (fraction : FractionParts) → SecondText clock front (time_of h m s None)
     → IsTrue (decimal_mark c) → SomeDigits ds → fraction ≡ fraction_of ds → ClockOf clock fractions (front ++ (Plain c ∷ ds)) (time_of h m s (Some fraction))
-fraction_shape clock h m s c front ds fraction x mark some same = record {
+is_fraction_text clock h m s c front ds fraction x mark some same = record {
   whole = front;
   part = Plain c ∷ ds;
   fraction = fraction;
   is = refl;
-  second = other_fraction clock front h m s None (Some fraction) x;
-  shape = record { mark = c; ds = ds; is = refl; marks = mark; some = some; value = same };
+  second = x;
+  is_fraction = record { mark = c; ds = ds; is = refl; marks = mark; some = some; value = same };
   value = refl;
 }
 
@@ -144,14 +156,14 @@ module _ {E : Type 0} (fault : Row → E) where
     module _ (front rest : Text) (is : text ≡ front ++ rest) where
       -- the row of the line, which fits here
       at_line : (l : ClockLine) (is_later : IsLater l) (place : Place) (e : Fault) → front_of (line_of brackets (of_clock clock l)) front
-          → Stops (line_of brackets (of_clock clock l)) place e rest → Stopped fault (fault (row_of (of_clock clock l) place e)) Fitting
+          → Stops (line_of brackets (of_clock clock l)) place e rest → IsRowFault fault (fault (row_of (of_clock clock l) place e)) Fitting
       at_line l is_later place e shown at = (row_of (of_clock clock l) place e, refl, fits l is_later place e front rest is shown at)
 
       -- at Bad
       open_bad : (shape : TimeShape) (t : TimeRecord) (more : Text) → ClockOf clock shape front t → rest ≡ Bad ∷ more
-          → Stopped fault (bad_after fault clock shape) Fitting
+          → IsRowFault fault (bad_after fault clock shape) Fitting
       open_bad hours t more x next = at_line after_hour tt bad NonAsciiCodePoint (t, x) (more, next, refl)
-      open_bad plain_minutes t more x next = at_line after_plain_minute tt bad NonAsciiCodePoint (t, x) (more, next, refl)
+      open_bad basic_minutes t more x next = at_line after_basic_minute tt bad NonAsciiCodePoint (t, x) (more, next, refl)
       open_bad colon_minutes t more x next = at_line after_colon_minute tt bad NonAsciiCodePoint (t, x) (more, next, refl)
       open_bad seconds t more x next = at_line after_second tt bad NonAsciiCodePoint (t, x) (more, next, refl)
       open_bad fractions t more x next = at_line after_fraction tt bad NonAsciiCodePoint (t, x) (more, next, refl)
@@ -159,17 +171,17 @@ module _ {E : Type 0} (fault : Row → E) where
       -- at a colon or a digit that does not go on
       mixed_read : (colons : Bool) (t : TimeRecord) (c : ℕ) (more : Text) → ClockOf clock (minutes_shape colons) front t → rest ≡ Plain c ∷ more
           → IsFalse (seconds_after clock (second_start colons) c) → IsTrue ((colon or digit) c)
-          → Stopped fault (mixed_after fault clock (minutes_shape colons)) Fitting
+          → IsRowFault fault (mixed_after fault clock (minutes_shape colons)) Fitting
       mixed_read true t c more x next out h =
           at_line after_colon_minute tt other (mixed clock) (t, x) (c, more, next, or_from _ _ out (mixed_no_follow brackets clock c h), rw h)
       mixed_read false t c more x next out h =
-          at_line after_plain_minute tt other (mixed clock) (t, x) (c, more, next, or_from _ _ out (mixed_no_follow brackets clock c h), rw h)
+          at_line after_basic_minute tt other (mixed clock) (t, x) (c, more, next, or_from _ _ out (mixed_no_follow brackets clock c h), rw h)
 
       -- at the end, where it is an error
       open_end : (shape : TimeShape) (t : TimeRecord) (e : Fault) → ClockOf clock shape front t → rest ≡ [] → (follow_of brackets clock).at_end ≡ error e
           → Fitting (row_of (line_after clock shape) end e)
       open_end hours t e x next ends = fits after_hour tt end e front rest is (t, x) (next, ends)
-      open_end plain_minutes t e x next ends = fits after_plain_minute tt end e front rest is (t, x) (next, ends)
+      open_end basic_minutes t e x next ends = fits after_basic_minute tt end e front rest is (t, x) (next, ends)
       open_end colon_minutes t e x next ends = fits after_colon_minute tt end e front rest is (t, x) (next, ends)
       open_end seconds t e x next ends = fits after_second tt end e front rest is (t, x) (next, ends)
       open_end fractions t e x next ends = fits after_fraction tt end e front rest is (t, x) (next, ends)
@@ -180,8 +192,8 @@ module _ {E : Type 0} (fault : Row → E) where
           → Fitting (row_of (line_after clock shape) other e)
       open_other hours t c more e x next out same closed =
           fits after_hour tt other e front rest is (t, x) (c, more, next, or_from _ _ (or_from _ _ closed.0 closed.1) out, same)
-      open_other plain_minutes t c more e x next out same closed =
-          fits after_plain_minute tt other e front rest is (t, x) (c, more, next, or_from _ _ closed.0 out, rw closed.1 same)
+      open_other basic_minutes t c more e x next out same closed =
+          fits after_basic_minute tt other e front rest is (t, x) (c, more, next, or_from _ _ closed.0 out, rw closed.1 same)
       open_other colon_minutes t c more e x next out same closed =
           fits after_colon_minute tt other e front rest is (t, x) (c, more, next, or_from _ _ closed.0 out, rw closed.1 same)
       open_other seconds t c more e x next out same closed =
@@ -206,7 +218,7 @@ module _ {E : Type 0} (fault : Row → E) where
           (open_bad (front ++ (Plain c ∷ (Plain d ∷ run.1))) (Bad ∷ run.2)
           (further text front _ (Plain c ∷ (Plain d ∷ run.1)) (Bad ∷ run.2) is (onto c (onto d run.3))) fractions
           (time_of h m s (Some (fraction_of (Plain d ∷ run.1)))) run.2
-          (fraction_shape clock h m s c front (Plain d ∷ run.1) _ x mark (run.4, (d, run.1, refl, digit_d, run.5)) refl) refl)
+          (is_fraction_text clock h m s c front (Plain d ∷ run.1) _ x mark (run.4, (d, run.1, refl, digit_d, run.5)) refl) refl)
 
       fraction_read : (rest : Text) → text ≡ front ++ (Plain c ∷ rest) → OnRead fault (fraction_at fault clock rest) (FractionFront rest) Fitting
       unfolding fraction_at
@@ -215,11 +227,11 @@ module _ {E : Type 0} (fault : Row → E) where
           (λ d left g. rw g.0
           (more_digits_read d left (is ∙ rw g.0) g.1 (digit_run (bad_after fault clock fractions) left) (run_read (bad_after fault clock fractions) left)))
           (λ r g. fits_in (later clock) brackets (fraction_start, tt) r text (front ++ (Plain c ∷ [])) rest g.0
-          (further text front _ (Plain c ∷ []) rest is refl) (front, _, refl, (time_of h m s None, (x, refl)), (c, refl, mark)) g.1)
+          (further text front _ (Plain c ∷ []) rest is refl) (front, _, refl, (time_of h m s None, x), (c, refl, mark)) g.1)
 
       with_fraction_read : (rest : Text) → text ≡ front ++ (Plain c ∷ rest) → Reads (with_fraction h m s (fraction_at fault clock rest))
       with_fraction_read rest is = then_read fault (fraction_at fault clock rest) _ _ _ _ _ (fraction_read rest is)
-          (λ fraction more f. let whole = fraction_shape clock h m s c front f.0 fraction x mark f.2 f.3 in
+          (λ fraction more f. let whole = is_fraction_text clock h m s c front f.0 fraction x mark f.2 f.3 in
           (front ++ (Plain c ∷ f.0), further text front _ (Plain c ∷ f.0) more is (onto c f.1), whole, f.4))
           (λ r f. f)
 
@@ -227,9 +239,9 @@ module _ {E : Type 0} (fault : Row → E) where
         → Reads (after_second_at fault clock h m s rest)
     unfolding after_second_at
     after_second_read h m s front rest is x = next_read (bad_after fault clock seconds) decimal_mark _ _ fault rest (TimeFront clock text) Fitting
-        (λ more next. open_bad front rest is seconds (time_of h m s None) more (x, refl) next)
+        (λ more next. open_bad front rest is seconds (time_of h m s None) more x next)
         (λ c more next mark. with_fraction_read h m s c front x mark more (is ∙ rw next))
-        (λ closed. (front, is, (x, refl), closed))
+        (λ closed. (front, is, x, closed))
 
     -- the number of a minute or a second: its digits and its range each have a line
     module _ (at_digits at_range : (l : ClockLine) × IsLater l) (greatest : ℕ) (e : Fault) (asks : LooksForDigit (line_of true (later clock at_digits)))
@@ -334,13 +346,13 @@ module _ {E : Type 0} (fault : Row → E) where
 
     -- at a letter that may not follow
     other_read : (x : OpenTime) (rest : Text) → TimeFront clock text x rest → (c : ℕ) (more : Text) → rest ≡ Plain c ∷ more
-        → IsFalse ((follow_of brackets clock).letters c) → Stopped fault ((follow_look fault brackets clock x).at_other c) Fitting
+        → IsFalse ((follow_of brackets clock).letters c) → IsRowFault fault ((follow_look fault brackets clock x).at_other c) Fitting
     other_read x rest h c more next out =
         let e = (follow_of brackets clock).at_other in
         (row_of (line_after clock x.0) other e, refl, clock_stops x other e rest h (c, more, next, out, refl))
 
     -- a line after the first digit is one of the clock's lines
-    in_clock : (e : E) → Stopped fault e Fitting → Stopped fault e (λ row. FitsIn (of_clock clock) brackets row text)
+    in_clock : (e : E) → IsRowFault fault e Fitting → IsRowFault fault e (λ row. FitsIn (of_clock clock) brackets row text)
     in_clock e h = (h.0, h.1, (h.2.0.0, h.2.1, h.2.2))
 
     -- the look at what follows: where the text may end, and where it may not

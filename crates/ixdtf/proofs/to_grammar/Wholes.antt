@@ -3,6 +3,7 @@ use Rattle.std.proofs.Common.{◌≡◌, ◌≢◌, suc, List, [], ◌∷◌, �
 use Rattle.std.proofs.Common.{true}
 use Rattle.ixdtf.specs.language.{Times.Clock, Letters.{Text, Letter.Plain}, Shapes.some, Brackets.{Pair, ArePairs, IsTail}, Cores.{Core, IsCore}}
 use Rattle.ixdtf.specs.language.Readers.{Reader, CoreKind, Reader.{bracketed, parse_offset, parse_identifier, parse_iana_identifier, parse_duration}}
+use Rattle.ixdtf.specs.language.Languages.Derives.{as_parsed, as_shifted, as_identified, as_named, as_lasting}
 use Rattle.ixdtf.specs.language.Languages.{Parsed, parsed_with, IsBracketed, Found, Derives, Found.{shifted, identified, named, lasting}}
 use Rattle.ixdtf.specs.table.LineNames.{LineName, LineName.{of_clock, of_zone, of_bracket, of_pair}, ZoneLine.{in_zone_name, after_zone_slash}}
 use Rattle.ixdtf.specs.table.LineNames.{BracketLine.{first_bracket_start, first_critical_start, first_bracket_scan, after_bracket}, PairLine.key_start}
@@ -82,8 +83,19 @@ module _ {E : Type 0} (fault : List Pair → Row → E) (kind : CoreKind) where
     where
       go : (r : Read E (List Pair)) → OnPairs fault (pairs_in bracket) rest r
           → OnBracketed text (r >>= λ pairs. Ok ((parsed_with core (zone_in bracket), pairs.0), pairs.1))
-      go (Ok x) h =
-          (h.0, record { cores = cores; brackets = first ++ rest; core = core; zone = zone_in bracket; is = is; is_core = is_core; is_tail = rw h.2 (tail_of bracket first rest h.1 b h.3); has = refl })
+      go (Ok x) h = (
+        h.0,
+        record {
+          cores = cores;
+          brackets = first ++ rest;
+          core = core;
+          zone = zone_in bracket;
+          is = is;
+          is_core = is_core;
+          is_tail = rw h.2 (tail_of bracket first rest h.1 b h.3);
+          has = refl;
+        },
+      )
       go (Err e) h = (
         pairs_in bracket ++ h.0,
         h.3,
@@ -104,8 +116,19 @@ module _ {E : Type 0} (fault : List Pair → Row → E) (kind : CoreKind) where
       go (Err e) h = ([], h.0, h.1, after_core kind h.0 text cores (Plain 91 ∷ inner) is (core, is_core) h.2)
 
   tail_read : (text : Text) (x : ClosedCore) (rest : Text) → CoreFront kind text x rest → OnBracketed text (tail_at fault x rest)
-  tail_read text (core, false) rest h =
-      (h.1.1, record { cores = h.0; brackets = []; core = core; zone = None; is = h.1.0 ∙ sym (append-nil h.0); is_core = h.2; is_tail = ([], [], refl, refl, refl); has = refl })
+  tail_read text (core, false) rest h = (
+    h.1.1,
+    record {
+      cores = h.0;
+      brackets = [];
+      core = core;
+      zone = None;
+      is = h.1.0 ∙ sym (append-nil h.0);
+      is_core = h.2;
+      is_tail = ([], [], refl, refl, refl);
+      has = refl;
+    },
+  )
   tail_read text (core, true) rest h = annotated_read text h.0 rest core h.1 h.2
 
   text_read : (text : Text) → OnBracketed text (bracketed_text_at fault kind text)
@@ -117,7 +140,7 @@ module _ {E : Type 0} (fault : List Pair → Row → E) (kind : CoreKind) where
       go (Ok x) h = tail_read text x.0 x.1 h
 
   with_pairs_read : (text : Text) (r : Read E (Parsed × List Pair)) → OnBracketed text r → OnWhole fault (bracketed kind) text (with_pairs r)
-  with_pairs_read text (Ok x) h = h
+  with_pairs_read text (Ok x) h = (h.0, as_parsed h.1)
   with_pairs_read text (Err e) h = h
 
 module _ {E : Type 0} (fault : List Pair → Row → E) where
@@ -130,9 +153,10 @@ module _ {E : Type 0} (fault : List Pair → Row → E) where
   -- What reading returns is derived and nothing is left, or is the fault of a row that fits.
   pub whole_read : (reader : Reader) (text : Text) → OnWhole fault reader text (read_at fault reader text)
   whole_read (bracketed kind) text = with_pairs_read fault kind text (bracketed_text_at fault kind text) (text_read fault kind text)
-  whole_read parse_offset text = found_read parse_offset text shifted (offset_at (fault []) text) _ (offset_read (fault []) text) (λ x d. (d, refl))
+  whole_read parse_offset text = found_read parse_offset text shifted (offset_at (fault []) text) _ (offset_read (fault []) text) (λ x d. as_shifted d)
   whole_read parse_identifier text =
-      found_read parse_identifier text identified (identifier_at (fault []) text) _ (identifier_read (fault []) text) (λ x d. (d, refl))
+      found_read parse_identifier text identified (identifier_at (fault []) text) _ (identifier_read (fault []) text) (λ x d. as_identified d)
   whole_read parse_iana_identifier text =
-      found_read parse_iana_identifier text named (iana_identifier_at (fault []) text) _ (iana_identifier_read (fault []) text) (λ x d. (d, refl))
-  whole_read parse_duration text = found_read parse_duration text lasting (duration_at (fault []) text) _ (duration_read (fault []) text) (λ x d. (d, refl))
+      found_read parse_iana_identifier text named (iana_identifier_at (fault []) text) _ (iana_identifier_read (fault []) text) (λ x d. as_named d)
+  whole_read (parse_duration profile) text =
+      found_read (parse_duration profile) text lasting (duration_at (fault []) profile text) _ (duration_read (fault []) profile text) (λ x d. as_lasting d)

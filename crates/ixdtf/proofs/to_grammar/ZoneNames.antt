@@ -79,8 +79,11 @@ module _ {E : Type 0} (fault : Row → E) where
         → IsFalse (slash c && may_end) → ReadsMore whole front (Plain c ∷ rest)
         (name_stops (fault (row_of (of_zone after_zone_slash) other IanaCharPostSeparator)) may_end (Plain c ∷ rest))
     out_read true c whole front rest is h no_char no_slash = ([], refl, rw append-nil h, refl, (no_char, by_slash (slash c) no_slash))
-    out_read false c whole front rest is h no_char no_slash =
-        (row_of (of_zone after_zone_slash) other IanaCharPostSeparator, refl, (after_zone_slash, refl, (front, Plain c ∷ rest, is, h, (c, rest, refl, no_char, refl))))
+    out_read false c whole front rest is h no_char no_slash = (
+      row_of (of_zone after_zone_slash) other IanaCharPostSeparator,
+      refl,
+      (after_zone_slash, refl, (front, Plain c ∷ rest, is, h, (c, rest, refl, no_char, refl))),
+    )
 
     slash_may : (may_end : Bool) (front : Text) (c : ℕ) → Begun may_end front → IsTrue (slash c && may_end) → Begun false (front ++ (Plain c ∷ []))
     slash_may true front c h is = (front, Plain c ∷ [], refl, h, (c, refl, (and_parts _ _ is).0))

@@ -1,14 +1,14 @@
 -- A reading that has gone over what stands before a time or an offset, and goes on after it, returns each row of their lines.
 use Rattle.std.proofs.Common.{◌≡◌, ℕ, IsTrue, [], ◌∷◌, ◌++◌, Err, refl, ◌∙◌, inl, inr, arith, Bool}
 use Rattle.ixdtf.specs.declared.records.TimeRecord.{TimeRecord}
-use Rattle.ixdtf.specs.language.{Shapes.some, Times.{Clock, TimeShape, ClockOf, TimeShape.{hours, plain_minutes, colon_minutes, seconds, fractions}}}
+use Rattle.ixdtf.specs.language.{Shapes.some, Times.{Clock, TimeShape, ClockOf, TimeShape.{hours, basic_minutes, colon_minutes, seconds, fractions}}}
 use Rattle.ixdtf.specs.language.Letters.{Text, digit, Letter.Plain}
 use Rattle.ixdtf.specs.table.{Faults.Fault, LineNames.{ClockLine, LineName, LineName.of_clock, ClockLine.{hour_start, hour_digit, hour_range, after_hour}}}
-use Rattle.ixdtf.specs.table.LineNames.{ClockLine.{minute_digits, minute_range, after_plain_minute, after_colon_minute, second_digits, second_range}}
+use Rattle.ixdtf.specs.table.LineNames.{ClockLine.{minute_digits, minute_range, after_basic_minute, after_colon_minute, second_digits, second_range}}
 use Rattle.ixdtf.specs.table.{LineNames.{ClockLine.{after_second, fraction_start, after_fraction}}, Lines.{line_of, follow_of, Ending.ok}}
 use Rattle.ixdtf.specs.table.Rows.{Row, Place, Stops, Place.{end, other}}
 use Rattle.ixdtf.specs.reading.{Looks.{Read, ◌>>=◌, row_of, look_at, peek_by, next_by}, Times.{OpenTime, line_after, hour_from, clock_at}, Zones.follow_look}
-use Rattle.ixdtf.proofs.parts.Looks.{Leads, RowsRead, goes, stops, peek_other}
+use Rattle.ixdtf.proofs.parts.Looks.{ReadsOver, RowsRead, goes, stops, peek_other}
 use Rattle.ixdtf.proofs.to_reading.Times.{Closed, IsLater, StopsAfter, OpenRow, time_takes, open_row, hour_digit_row, hour_range_row, minute_digits_row}
 use Rattle.ixdtf.proofs.to_reading.Times.{minute_range_row, second_digits_row, second_range_row, fraction_start_row}
 
@@ -26,13 +26,13 @@ Refuses fault brackets clock after = (shape : TimeShape) (t : TimeRecord) (place
 pub record TimeLead {E A : Type 0} (fault : Row → E) (clock : Clock) (whole_at : Text → Read E A) (after : OpenTime × Text → Read E A)
     (prior : Text) : Type 0 where
   pub start : Text → Read E OpenTime
-  pub starts : (c : ℕ) → IsTrue (digit c) → Leads start (Plain c ∷ []) (hour_from fault clock c)
+  pub starts : (c : ℕ) → IsTrue (digit c) → ReadsOver start (Plain c ∷ []) (hour_from fault clock c)
   pub over : (body : Text) → whole_at (prior ++ body) ≡ (start body >>= after)
 
 -- ---- a time that starts with its hour
 
 module _ {E : Type 0} (fault : Row → E) (clock : Clock) where
-  pub clock_starts : (c : ℕ) → IsTrue (digit c) → Leads (clock_at fault clock) (Plain c ∷ []) (hour_from fault clock c)
+  pub clock_starts : (c : ℕ) → IsTrue (digit c) → ReadsOver (clock_at fault clock) (Plain c ∷ []) (hour_from fault clock c)
   unfolding clock_at
   clock_starts c d = record { over = λ rest. rw (goes fault (of_clock clock hour_start) c rest tt d) refl }
 
@@ -81,7 +81,7 @@ module _ {E A : Type 0} (fault : Row → E) (clock : Clock) (whole_at : Text →
       later_rows after_hour is_later = open_rows hours
       later_rows minute_digits is_later = start_rows _ (minute_digits_row fault clock lead.start lead.starts brackets)
       later_rows minute_range is_later = start_rows _ (minute_range_row fault clock lead.start lead.starts brackets)
-      later_rows after_plain_minute is_later = open_rows plain_minutes
+      later_rows after_basic_minute is_later = open_rows basic_minutes
       later_rows after_colon_minute is_later = open_rows colon_minutes
       later_rows second_digits is_later = start_rows _ (second_digits_row fault clock lead.start lead.starts brackets)
       later_rows second_range is_later = start_rows _ (second_range_row fault clock lead.start lead.starts brackets)

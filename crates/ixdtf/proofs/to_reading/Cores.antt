@@ -1,16 +1,18 @@
 -- A core is read, with the end or the bracket after it, and each row of a core's lines is returned.
 use Rattle.std.proofs.Common.{◌≡◌, ℕ, true, false, IsTrue, IsFalse, [], ◌∷◌, ◌++◌, Ok, Err, Option, Some, None, refl, sym, ap, ◌∙◌, subst, inl, inr, ◌||◌}
 use Rattle.std.proofs.{Common.{arith, append_assoc}, lemmas.{Bool.or_parts, Bool.Decides.nat_tests}}
+use Rattle.ixdtf.specs.declared.parsers.profile.Profile.{Profile}
 use Rattle.ixdtf.specs.declared.records.{DateRecord.DateRecord, TimeRecord.TimeRecord, UtcOffsetRecordOrZ.{UtcOffsetRecordOrZ, TheVariants.Z}}
 use Rattle.ixdtf.specs.language.Letters.{Text, digit, colon, decimal_mark, sign, zulu, opening, date_time_separator, time_letter, Letter.Plain}
-use Rattle.ixdtf.specs.language.{Shapes.{Shape, one, some, ◌then◌}, Dates.IsDate, Months.{IsYearMonth, IsMonthDay, least_day}}
+use Rattle.ixdtf.specs.language.{Shapes.{Shape, one, some, ◌then◌}, Dates.IsDate, Months.{IsYearMonth, IsMonthDay}}
 use Rattle.ixdtf.specs.language.{Times.{Clock, TimeShape, ClockOf, IsTime, writes_seconds, TimeShape.{hours, seconds, fractions}}, Offsets.offset_of}
 use Rattle.ixdtf.specs.language.Cores.{Core, core_of, OptionalOffset, DateAlone, IsDateTimeCore, TimeMark, MarkedTime, HasNoDateFront, IsCore}
 use Rattle.ixdtf.specs.language.Readers.{CoreKind, CoreKind.{date_time, year_month, month_day, time_alone}}
 use Rattle.ixdtf.specs.table.{Faults.{Fault, Fault.InvalidEnd}, LineNames.{DateLine, TimeLine, CoreLine, ClockLine, LineName, of_date, of_year_month}}
 use Rattle.ixdtf.specs.table.LineNames.{of_month_day, of_time, CoreLine.{dates, year_months, month_days, times}, LineName.{of_core, of_clock, of_offset}}
-use Rattle.ixdtf.specs.table.LineNames.{DateLine.{after_year, after_hyphened_month, after_plain_month, day_digits, day_range, after_date}}
-use Rattle.ixdtf.specs.table.LineNames.{YearMonthLine.{after_year_in_year_month, after_year_month}, MonthDayLine.after_month_day, TimeLine.time_start}
+use Rattle.ixdtf.specs.table.LineNames.{DateLine.{after_year, after_hyphened_month, after_basic_month, day_digits, day_range, after_date}}
+use Rattle.ixdtf.specs.table.LineNames.{YearMonthLine.{after_year_in_year_month, after_year_month}, MonthDayLine.{month_day_range, after_month_day}}
+use Rattle.ixdtf.specs.table.LineNames.{TimeLine.time_start}
 use Rattle.ixdtf.specs.table.LineNames.{TimeLine.{time_reads_as_month_day, time_reads_as_year_month}, ClockLine.hour_start, OffsetLine.after_zulu}
 use Rattle.ixdtf.specs.table.{Lines.{line_of, always, Line.line, Ending.ok}, Before.{DateAndSeparator, BeforeDate, ReadsAsTime, InTimeAlone, BeforeCore}}
 use Rattle.ixdtf.specs.table.{Before.{BeforeTime, BeforeOffset}, Rows.{Row, Place, Stops, front_of, Place.{end, other, bad, anywhere}}}
@@ -18,7 +20,7 @@ use Rattle.ixdtf.specs.reading.{Looks.{Read, ◌>>=◌, row_of, look_at, next_by
 use Rattle.ixdtf.specs.reading.{Times.{OpenTime, line_after, hour_from, clock_at}, Cores.{ClosedCore, core_look, core_end_at, with_offset, offset_core_at}}
 use Rattle.ixdtf.specs.reading.Cores.{after_time_at, time_core_at, after_date_at, date_time_core_at, date_alone_at, lone_time_at, marked_time_at}
 use Rattle.ixdtf.specs.reading.Cores.{marked_core_at, unfronted, time_alone_core_at, core_at}
-use Rattle.ixdtf.proofs.parts.{Looks.{Leads, RowsRead, peek_end, peek_goes, peek_other, peek_stops}, CoreLetters.{CoreEnds, core_ends}}
+use Rattle.ixdtf.proofs.parts.{Looks.{ReadsOver, RowsRead, peek_end, peek_goes, peek_other, peek_stops}, CoreLetters.{CoreEnds, core_ends}}
 use Rattle.ixdtf.proofs.parts.Fronts.{no_front_after, month_day_stops, year_month_stops, unfronted_goes}
 use Rattle.ixdtf.proofs.to_reading.{Dates.{IsInside, date_takes, date_row_read}, Months.{year_month_takes, month_day_takes, year_month_date_row}}
 use Rattle.ixdtf.proofs.to_reading.{Months.{year_month_row, month_day_row}, Times.{closed_at_end, Closed, IsLater}, ClockRows.{RowsBehind, Refuses, TimeLead}}
@@ -51,7 +53,7 @@ closed_at_core_end clock shape rest (inr h) = rw h.1 (closed_before clock shape 
 year_month_first : (l : DateLine) (prior : Text) → BeforeDate year_month l prior → (prior ≡ []) × BeforeDate year_month l []
 year_month_first after_year prior b = absurd b
 year_month_first after_hyphened_month prior b = absurd b
-year_month_first after_plain_month prior b = absurd b
+year_month_first after_basic_month prior b = absurd b
 year_month_first day_digits prior b = absurd b
 year_month_first day_range prior b = absurd b
 year_month_first after_date prior b = absurd b
@@ -129,11 +131,11 @@ module _ {E : Type 0} (fault : Row → E) where
             let no_sign : IsFalse (sign c) = grind (arith, nat_tests, h) in
             ap whole_at (simp append_assoc) ∙ timed_over (Plain c ∷ rest) (closed_before Clock.Time shape c rest (zulu_outside c h)) ∙ rw (no_sign, h)
 
-        plain_over : (rest : Text) → CoreEnds rest
+        without_offset_over : (rest : Text) → CoreEnds rest
             → whole_at (prior ++ (ts ++ rest)) ≡ core_end_at fault (line_after Clock.Time shape) (core_of date (Some t) None) rest
         unfolding after_time_at look_at
-        plain_over rest (inl is) = timed_over rest (closed_at_core_end Clock.Time shape rest (inl is)) ∙ rw is
-        plain_over rest (inr h) = timed_over rest (closed_at_core_end Clock.Time shape rest (inr h)) ∙ rw h.1
+        without_offset_over rest (inl is) = timed_over rest (closed_at_core_end Clock.Time shape rest (inl is)) ∙ rw is
+        without_offset_over rest (inr h) = timed_over rest (closed_at_core_end Clock.Time shape rest (inr h)) ∙ rw h.1
 
         offset_rows : (c : ℕ) → IsTrue (sign c) → (l : ClockLine) → RowsBehind fault true whole_at (signed c) (of_clock Clock.Offset l)
         offset_rows c h = clock_rows fault true Clock.Offset whole_at (after_offset t c) (signed c) (offset_lead c h) (offset_refuses t c)
@@ -145,7 +147,7 @@ module _ {E : Type 0} (fault : Row → E) where
         -- a time, and an offset or `Z` where there is one, before the end or a bracket
         timed_takes : (offsets : Text) (offset : Option UtcOffsetRecordOrZ) (rest : Text) → OptionalOffset offsets offset → CoreEnds rest
             → (name : LineName) × (whole_at (prior ++ (ts ++ (offsets ++ rest))) ≡ core_end_at fault name (core_of date (Some t) offset) rest)
-        timed_takes offsets None rest none ends = rw none (line_after Clock.Time shape, plain_over rest ends)
+        timed_takes offsets None rest none ends = rw none (line_after Clock.Time shape, without_offset_over rest ends)
         timed_takes offsets (Some o) rest (inl h) ends =
             rw (h.2, h.1.value, h.1.is) (
               line_after Clock.Offset h.1.shape,
@@ -159,15 +161,15 @@ module _ {E : Type 0} (fault : Row → E) where
   -- ---- the same behind anything that leads to a time, with the date in it
 
   module _ (before : Shape) (date_in : (prior : Text) → before prior → Option DateRecord) (whole_at : Text → Read E ClosedCore)
-      (leads : (prior : Text) (b : before prior) → TimeLead fault Clock.Time whole_at (after_time (date_in prior b)) prior) where
+      (lead_of : (prior : Text) (b : before prior) → TimeLead fault Clock.Time whole_at (after_time (date_in prior b)) prior) where
     -- the row of the line at which the time starts
-    first_rows : (prior : Text) (b : before prior) (name : LineName) → RowsRead fault true (leads prior b).start name
+    first_rows : (prior : Text) (b : before prior) (name : LineName) → RowsRead fault true (lead_of prior b).start name
         → RowsBehind fault true whole_at prior name
-    first_rows prior b = start_rows fault Clock.Time whole_at (after_time (date_in prior b)) prior (leads prior b) true
+    first_rows prior b = start_rows fault Clock.Time whole_at (after_time (date_in prior b)) prior (lead_of prior b) true
 
     time_rows : (l : ClockLine) → IsLater l → (prior : Text) → before prior → RowsBehind fault true whole_at prior (of_clock Clock.Time l)
     time_rows l is_later prior b =
-        later_rows fault Clock.Time whole_at (after_time (date_in prior b)) prior (leads prior b) true (time_refuses (date_in prior b)) l is_later
+        later_rows fault Clock.Time whole_at (after_time (date_in prior b)) prior (lead_of prior b) true (time_refuses (date_in prior b)) l is_later
 
     time_offset_rows : (l : ClockLine) (prior : Text) → ((before then some IsTime) then one sign) prior
         → RowsBehind fault true whole_at prior (of_clock Clock.Offset l)
@@ -175,19 +177,20 @@ module _ {E : Type 0} (fault : Row → E) where
         let timed = b.3 in
         let time = timed.4 in
         rw (b.2, timed.2, b.4.1)
-        (offset_rows (date_in timed.0 timed.3) whole_at timed.0 (leads timed.0 timed.3) timed.1 time.1.0 time.0 time.1.1 b.4.0 b.4.2 l place e front rest f at)
+        (offset_rows (date_in timed.0 timed.3) whole_at timed.0 (lead_of timed.0 timed.3) timed.1 time.1.0 time.0 time.1.1 b.4.0 b.4.2 l place e front rest f
+        at)
 
     time_zulu_row : (prior : Text) → (before then some IsTime) prior → RowsBehind fault true whole_at prior (of_offset after_zulu)
     time_zulu_row prior b place e front rest f at =
         let time = b.4 in
-        rw b.2 (zulu_row (date_in b.0 b.3) whole_at b.0 (leads b.0 b.3) b.1 time.1.0 time.0 time.1.1 place e front rest f at)
+        rw b.2 (zulu_row (date_in b.0 b.3) whole_at b.0 (lead_of b.0 b.3) b.1 time.1.0 time.0 time.1.1 place e front rest f at)
 
     -- a time, and an offset where there is one
     timed_closes : (prior ts offsets : Text) (b : before prior) (t : TimeRecord) (offset : Option UtcOffsetRecordOrZ) (rest : Text)
         → IsTime ts t → OptionalOffset offsets offset → CoreEnds rest
         → Closes (core_of (date_in prior b) (Some t) offset) rest (whole_at ((prior ++ (ts ++ offsets)) ++ rest))
     timed_closes prior ts offsets b t offset rest time o ends =
-        let timed = timed_takes (date_in prior b) whole_at prior (leads prior b) ts time.0 t time.1 offsets offset rest o ends in
+        let timed = timed_takes (date_in prior b) whole_at prior (lead_of prior b) ts time.0 t time.1 offsets offset rest o ends in
         end_closes timed.0 _ rest _ (ap whole_at (simp append_assoc) ∙ timed.1)
 
   -- ---- dates and times
@@ -253,7 +256,7 @@ module _ {E : Type 0} (fault : Row → E) where
   abbrev no_date : (prior : Text) → TimeMark prior → Option DateRecord
   no_date prior mark = None
 
-  lone_starts : (c : ℕ) → IsTrue (digit c) → Leads (marked_time_at fault) (Plain c ∷ []) (hour_from fault Clock.Time c)
+  lone_starts : (c : ℕ) → IsTrue (digit c) → ReadsOver (marked_time_at fault) (Plain c ∷ []) (hour_from fault Clock.Time c)
   unfolding marked_time_at lone_time_at look_at next_by
   lone_starts c d = record { over = λ rest. let no_letter : IsFalse (time_letter c) = grind (arith, nat_tests, d) in rw (no_letter, d) refl }
 
@@ -284,39 +287,42 @@ module _ {E : Type 0} (fault : Row → E) where
       rw (d.is, d.has) (timed_closes _ _ _ mark_lead d.marks d.times d.offsets d.mark d.time d.offset rest d.is_time d.is_offset ends)
 
   -- a fault in the time comes before the test of its front
-  in_marked : (name : LineName) (prior : Text) → RowsBehind fault true (marked_core_at fault) prior name
-      → RowsBehind fault true (time_alone_core_at fault) prior name
+  in_marked : (profile : Profile) (name : LineName) (prior : Text) → RowsBehind fault true (marked_core_at fault) prior name
+      → RowsBehind fault true (time_alone_core_at fault profile) prior name
   unfolding time_alone_core_at
-  in_marked name prior h place e front rest f at = rw (h place e front rest f at)
+  in_marked profile name prior h place e front rest f at = rw (h place e front rest f at)
 
   -- a time without such a front is read
-  unfronted_takes : (text : Text) (x : ClosedCore × Text) → HasNoDateFront text → marked_core_at fault text ≡ Ok x → time_alone_core_at fault text ≡ Ok x
+  unfronted_takes : (profile : Profile) (text : Text) (x : ClosedCore × Text) → HasNoDateFront profile text → marked_core_at fault text ≡ Ok x
+      → time_alone_core_at fault profile text ≡ Ok x
   unfolding time_alone_core_at
-  unfronted_takes text x none h = rw h (unfronted_goes text fault (Ok x) none)
+  unfronted_takes profile text x none h = rw h (unfronted_goes profile text fault (Ok x) none)
 
   -- a time is read as a whole, and then the test of its front refuses it
-  front_refuses : (text : Text) (e : E) → ReadsAsTime text → ((x : ClosedCore × Text) → unfronted fault text (Ok x) ≡ Err e)
-      → time_alone_core_at fault text ≡ Err e
+  front_refuses : (profile : Profile) (text : Text) (e : E) → ReadsAsTime text → ((x : ClosedCore × Text) → unfronted fault profile text (Ok x) ≡ Err e)
+      → time_alone_core_at fault profile text ≡ Err e
   unfolding time_alone_core_at
-  front_refuses text e h refuses =
+  front_refuses profile text e h refuses =
       go (core_ends h.1 h.4) (subst (λ t. Closes h.3.0 h.1 (marked_core_at fault t)) (sym h.2) (marked_takes h.0 h.3.0 h.1 h.3.1 (core_ends h.1 h.4)))
     where
-      go : CoreEnds h.1 → Closes h.3.0 h.1 (marked_core_at fault text) → time_alone_core_at fault text ≡ Err e
+      go : CoreEnds h.1 → Closes h.3.0 h.1 (marked_core_at fault text) → time_alone_core_at fault profile text ≡ Err e
       go (inl is) closes = rw (closes.0 is) (refuses ((h.3.0, false), []))
       go (inr bracket) closes = rw (closes.1 bracket.0 bracket.1) (refuses ((h.3.0, true), bracket.0))
 
   -- the rows of a time's lines but those of its clock
-  time_line_rows : (l : TimeLine) (place : Place) (e : Fault) (prior front rest : Text) → InTimeAlone l prior (front ++ rest)
+  time_line_rows : (profile : Profile) (l : TimeLine) (place : Place) (e : Fault) (prior front rest : Text) → InTimeAlone profile l prior (front ++ rest)
       → front_of (line_of true (of_time l)) front → Stops (line_of true (of_time l)) place e rest
-      → time_alone_core_at fault (prior ++ (front ++ rest)) ≡ Err (fault (row_of (of_time l) place e))
-  time_line_rows time_start place e prior front rest b f at =
-      in_marked (of_time time_start) prior (first_rows _ _ _ mark_lead prior (inl b) (of_time time_start) time_start_row) place e front rest f at
-  time_line_rows time_reads_as_month_day anywhere e prior front rest b f at =
-      rw (b.0, at) (front_refuses (front ++ rest) _ b.1 (λ x. month_day_stops (front ++ rest) fault (Ok x) (front, rest, refl, f, tt)))
-  time_line_rows time_reads_as_month_day place e prior front rest b f at = absurd at
-  time_line_rows time_reads_as_year_month anywhere e prior front rest b f at =
-      rw (b.0, at) (front_refuses (front ++ rest) _ b.1 (λ x. year_month_stops (front ++ rest) fault (Ok x) (front, rest, refl, f, tt) b.2))
-  time_line_rows time_reads_as_year_month place e prior front rest b f at = absurd at
+      → time_alone_core_at fault profile (prior ++ (front ++ rest)) ≡ Err (fault (row_of (of_time l) place e))
+  time_line_rows profile time_start place e prior front rest b f at =
+      in_marked profile (of_time time_start) prior (first_rows _ _ _ mark_lead prior (inl b) (of_time time_start) time_start_row) place e front rest f at
+  time_line_rows profile (time_reads_as_month_day named) anywhere e prior front rest b f at =
+      let same : (time_reads_as_month_day named) ≡ (time_reads_as_month_day profile) = ap time_reads_as_month_day b.2 in
+      let here = rw b.2 at f in
+      rw (b.0, at, same) (front_refuses profile (front ++ rest) _ b.1 (λ x. month_day_stops profile (front ++ rest) fault (Ok x) (front, rest, refl, here, tt)))
+  time_line_rows profile (time_reads_as_month_day named) place e prior front rest b f at = absurd at
+  time_line_rows profile time_reads_as_year_month anywhere e prior front rest b f at =
+      rw (b.0, at) (front_refuses profile (front ++ rest) _ b.1 (λ x. year_month_stops profile (front ++ rest) fault (Ok x) (front, rest, refl, f, tt) b.2))
+  time_line_rows profile time_reads_as_year_month place e prior front rest b f at = absurd at
 
   -- ---- a core of any kind
 
@@ -326,12 +332,23 @@ module _ {E : Type 0} (fault : Row → E) where
   core_takes date_time front core rest d ends = date_time_takes front core rest d ends
   core_takes year_month front core rest d ends =
       alone_takes IsYearMonth (of_year_month after_year_month) (year_month_at fault) (year_month_takes fault) front core rest d
-  core_takes month_day front core rest d ends =
-      alone_takes (IsMonthDay least_day) (of_month_day after_month_day) (month_day_at fault) (month_day_takes fault) front core rest d
-  core_takes time_alone front core rest d ends =
+  core_takes (month_day profile) front core rest d ends =
+      alone_takes (IsMonthDay profile) (of_month_day (after_month_day profile)) (month_day_at fault profile) (month_day_takes fault profile) front core rest d
+  core_takes (time_alone profile) front core rest d ends =
       let closes = marked_takes front core rest d.0 ends in
-      let none = no_front_after front rest ends d.1 in
-      ((λ is. unfronted_takes (front ++ rest) _ none (closes.0 is)), λ more is. unfronted_takes (front ++ rest) _ none (closes.1 more is))
+      let none = no_front_after profile front rest ends d.1 in
+      ((λ is. unfronted_takes profile (front ++ rest) _ none (closes.0 is)), λ more is. unfronted_takes profile (front ++ rest) _ none (closes.1 more is))
+
+  -- each row of what may follow a month-day
+  after_month_day_rows : (profile named : Profile) → named ≡ profile → (place : Place) (e : Fault) (prior front rest : Text) → prior ≡ []
+      → some (IsMonthDay named) front → Stops (line_of true (of_month_day (after_month_day named))) place e rest
+      → core_at fault (month_day profile) (prior ++ (front ++ rest)) ≡ Err (fault (row_of (of_month_day (after_month_day named)) place e))
+  after_month_day_rows profile named same place e prior front rest b f at =
+      let here : some (IsMonthDay profile) front = subst (λ p. some (IsMonthDay p) front) same f in
+      let row : row_of (of_month_day (after_month_day profile)) place e ≡ row_of (of_month_day (after_month_day named)) place e =
+      ap (λ p. row_of (of_month_day (after_month_day p)) place e) (sym same) in
+      rw b (after_alone_rows (IsMonthDay profile) (of_month_day (after_month_day profile)) (month_day_at fault profile) (month_day_takes fault profile)
+      place e front rest here at ∙ ap (λ r. Err (fault r)) row)
 
   -- each row of a core's lines is returned
   pub core_line_rows : (kind : CoreKind) (l : CoreLine) (place : Place) (e : Fault) (prior front rest : Text) → BeforeCore kind l prior (front ++ rest)
@@ -346,11 +363,13 @@ module _ {E : Type 0} (fault : Row → E) where
       rw b (in_alone (of_year_month after_year_month) _ _ (year_month_row fault place e front rest f at))
   core_line_rows year_month (year_months after_year_month) place e prior front rest b f at =
       rw b (after_alone_rows IsYearMonth (of_year_month after_year_month) (year_month_at fault) (year_month_takes fault) place e front rest f at)
-  core_line_rows month_day (month_days after_month_day) place e prior front rest b f at =
-      rw b (after_alone_rows (IsMonthDay least_day) (of_month_day after_month_day) (month_day_at fault) (month_day_takes fault) place e front rest f at)
-  core_line_rows month_day (month_days l) place e prior front rest b f at =
-      rw b (in_alone (of_month_day after_month_day) _ _ (month_day_row fault l tt place e front rest f at))
-  core_line_rows time_alone (times l) place e prior front rest b f at = time_line_rows l place e prior front rest b f at
+  core_line_rows (month_day profile) (month_days (after_month_day named)) place e prior front rest b f at =
+      after_month_day_rows profile named b.1 place e prior front rest b.0 f at
+  core_line_rows (month_day profile) (month_days (month_day_range named)) place e prior front rest b f at =
+      rw b.0 (in_alone (of_month_day (after_month_day profile)) _ _ (month_day_row fault profile (month_day_range named) b.1 place e front rest f at))
+  core_line_rows (month_day profile) (month_days l) place e prior front rest b f at =
+      rw b (in_alone (of_month_day (after_month_day profile)) _ _ (month_day_row fault profile l tt place e front rest f at))
+  core_line_rows (time_alone profile) (times l) place e prior front rest b f at = time_line_rows profile l place e prior front rest b f at
   core_line_rows kind l place e prior front rest b f at = absurd b
 
   pub core_time_rows : (kind : CoreKind) (l : ClockLine) (prior : Text) → BeforeTime kind l prior
@@ -358,19 +377,19 @@ module _ {E : Type 0} (fault : Row → E) where
   core_time_rows date_time hour_start prior b =
       first_rows _ _ _ date_time_lead prior b (of_clock Clock.Time hour_start) (hour_start_row fault Clock.Time true)
   core_time_rows date_time l prior b = time_rows _ _ _ date_time_lead l tt prior b
-  core_time_rows time_alone hour_start prior b =
-      in_marked (of_clock Clock.Time hour_start) prior
+  core_time_rows (time_alone profile) hour_start prior b =
+      in_marked profile (of_clock Clock.Time hour_start) prior
       (first_rows _ _ _ mark_lead prior (inr b) (of_clock Clock.Time hour_start) (hour_start_row fault Clock.Time true))
-  core_time_rows time_alone l prior b = in_marked (of_clock Clock.Time l) prior (time_rows _ _ _ mark_lead l tt prior b)
+  core_time_rows (time_alone profile) l prior b = in_marked profile (of_clock Clock.Time l) prior (time_rows _ _ _ mark_lead l tt prior b)
   core_time_rows kind l prior b = absurd b
 
   pub core_offset_rows : (kind : CoreKind) (l : ClockLine) (prior : Text) → (BeforeOffset kind then one sign) prior
       → RowsBehind fault true (core_at fault kind) prior (of_clock Clock.Offset l)
   core_offset_rows date_time l prior b = time_offset_rows _ _ _ date_time_lead l prior b
-  core_offset_rows time_alone l prior b = in_marked (of_clock Clock.Offset l) prior (time_offset_rows _ _ _ mark_lead l prior b)
+  core_offset_rows (time_alone profile) l prior b = in_marked profile (of_clock Clock.Offset l) prior (time_offset_rows _ _ _ mark_lead l prior b)
   core_offset_rows kind l prior b = absurd b.3
 
   pub core_zulu_row : (kind : CoreKind) (prior : Text) → BeforeOffset kind prior → RowsBehind fault true (core_at fault kind) prior (of_offset after_zulu)
   core_zulu_row date_time prior b = time_zulu_row _ _ _ date_time_lead prior b
-  core_zulu_row time_alone prior b = in_marked (of_offset after_zulu) prior (time_zulu_row _ _ _ mark_lead prior b)
+  core_zulu_row (time_alone profile) prior b = in_marked profile (of_offset after_zulu) prior (time_zulu_row _ _ _ mark_lead prior b)
   core_zulu_row kind prior b = absurd b

@@ -2,15 +2,15 @@
 use Rattle.std.proofs.Common.{◌≡◌, ℕ, ◌<◌, ◌⊎◌, Bool, true, false, [], ◌++◌, Ok, Err, refl, sym, ap, ◌∙◌, inl, inr, arith, append_assoc, ℤ, nat_le, ◌&&◌}
 use Rattle.std.proofs.lemmas.{Bool.{and_parts, and_from, leb-true, le-leb, false_from_ne_true}, Bool.Decides.nat_tests}
 use Rattle.ixdtf.specs.declared.records.DateRecord.{DateRecord}
-use Rattle.ixdtf.specs.language.{Letters.{Text, hyphen}, Digits.{decimal, TwoDigits}, Months.OptionalHyphen, Dates.{Year, Month, DateShape, IsDayOfMonth}}
+use Rattle.ixdtf.specs.language.{Letters.{Text, hyphen}, Digits.{decimal, TwoDigits}, Months.OptionalHyphen, Dates.{Year, Month, DateText, IsDayOfMonth}}
 use Rattle.ixdtf.specs.language.{Dates.{IsDate, month_length}, Readers.CoreKind.year_month}
 use Rattle.ixdtf.specs.table.{Faults.{Fault, Fault.{InvalidMonthRange, InvalidDayRange}}, LineNames.{DateLine, LineName, of_date, DateLine.year_start}}
 use Rattle.ixdtf.specs.table.LineNames.{DateLine.{year_digits, extended_year_digits, minus_zero_year, after_year, month_digits, month_range}}
-use Rattle.ixdtf.specs.table.LineNames.{DateLine.{after_hyphened_month, after_plain_month, day_digits, day_range, after_date}}
+use Rattle.ixdtf.specs.table.LineNames.{DateLine.{after_hyphened_month, after_basic_month, day_digits, day_range, after_date}}
 use Rattle.ixdtf.specs.table.{Lines.{line_of, date_line, HyphenOrDigit, NoMonth}, Before.BeforeDate, Rows.{Row, Place, Stops, Place.anywhere}}
 use Rattle.ixdtf.specs.reading.{Looks.{Read, ◌>>=◌, row_of, mark_at}, Dates.{date_of, year_at, month_in_range, month_by, month_at, line_after_month}}
 use Rattle.ixdtf.specs.reading.Dates.{day_in_range, day_at, date_at}
-use Rattle.ixdtf.proofs.parts.{Looks.{Leads, ◌before◌, Halts, ◌till◌, RowsRead, whole_row, digits_go, none_or_one}, Marks.{hyphens_of, Starts, Begun}}
+use Rattle.ixdtf.proofs.parts.{Looks.{ReadsOver, ◌before◌, Halts, ◌till◌, RowsRead, whole_row, digits_go, none_or_one}, Marks.{hyphens_of, Starts, Begun}}
 use Rattle.ixdtf.proofs.parts.Marks.{LooksForHyphen, hyphen_is, begun_starts, digits_start, hyphen_looks, hyphen_over, mark_over, mark_stops}
 use Rattle.ixdtf.proofs.parts.{Marks.digits_stop_after, Years.{year_takes, year_start_row, year_digits_row, extended_year_digits_row, minus_zero_year_row}}
 
@@ -84,10 +84,10 @@ module _ {E : Type 0} (fault : Row → E) where
       abbrev from_month : ℤ → Text → Read E A
       from_month y text = month_at fault name text >>= λ month. go y month
 
-      pub over_year : (ys : Text) (y : ℤ) → Year ys y → Leads from_year ys (from_month y)
+      pub over_year : (ys : Text) (y : ℤ) → Year ys y → ReadsOver from_year ys (from_month y)
       over_year ys y h = record { over = λ rest. rw (year_takes fault ys y rest h) refl }
 
-      pub over_month : (y : ℤ) (b : Bool) (ms : Text) (m : ℕ) → Month ms m → Leads (from_month y) (hyphens_of b ++ ms) (λ rest. go y ((m, b), rest))
+      pub over_month : (y : ℤ) (b : Bool) (ms : Text) (m : ℕ) → Month ms m → ReadsOver (from_month y) (hyphens_of b ++ ms) (λ rest. go y ((m, b), rest))
       over_month y b ms m h = record { over = λ rest. rw (month_takes b ms m rest h) refl }
 
       pub year_stops : (ys : Text) (y : ℤ) (place : Place) (e : Fault) (rest : Text) → Year ys y → Stops (line_of true name) place e rest
@@ -140,10 +140,10 @@ module _ {E : Type 0} (fault : Row → E) where
 
   over_separator : (b : Bool) (text : Text) → Starts b text → mark_at fault (line_after_month b) hyphen (hyphens_of b ++ text) ≡ Ok (b, text)
   over_separator true text starts = mark_over fault (of_date after_hyphened_month) true text tt refl starts
-  over_separator false text starts = mark_over fault (of_date after_plain_month) false text tt (λ c h. h) starts
+  over_separator false text starts = mark_over fault (of_date after_basic_month) false text tt (λ c h. h) starts
 
   over_day : (y : ℤ) (m : ℕ) (b : Bool) (ds : Text) (d : ℕ) → TwoDigits ds d
-      → Leads (day_at fault y (m, b)) (hyphens_of b ++ ds) (day_in_range fault (date_of y m d))
+      → ReadsOver (day_at fault y (m, b)) (hyphens_of b ++ ds) (day_in_range fault (date_of y m d))
   unfolding day_at
   over_day y m b ds d h = record {
     over = λ rest. rw (
@@ -170,15 +170,15 @@ module _ {E : Type 0} (fault : Row → E) where
   abbrev day_from : ℤ → (ℕ × Bool) × Text → Read E DateRecord
   day_from y month = day_at fault y month.0 month.1
 
-  to_year : (ys : Text) (y : ℤ) → Year ys y → Leads (date_at fault) ys (from_month (of_date after_year) (λ c. refl) day_from y)
+  to_year : (ys : Text) (y : ℤ) → Year ys y → ReadsOver (date_at fault) ys (from_month (of_date after_year) (λ c. refl) day_from y)
   unfolding date_at
   to_year = over_year (of_date after_year) (λ c. refl) day_from
 
   to_month : (y : ℤ) (b : Bool) (ms : Text) (m : ℕ) → Month ms m
-      → Leads (from_month (of_date after_year) (λ c. refl) day_from y) (hyphens_of b ++ ms) (day_at fault y (m, b))
+      → ReadsOver (from_month (of_date after_year) (λ c. refl) day_from y) (hyphens_of b ++ ms) (day_at fault y (m, b))
   to_month = over_month (of_date after_year) (λ c. refl) day_from
 
-  over_date : (text : Text) (date : DateRecord) → DateShape text date → Leads (date_at fault) text (day_in_range fault date)
+  pub over_date : (text : Text) (date : DateRecord) → DateText text date → ReadsOver (date_at fault) text (day_in_range fault date)
   over_date text date (inl h) = rw h.is (to_year _ _ h.year before to_month _ false _ _ h.month before over_day _ _ false _ _ h.day)
   over_date text date (inr h) = rw h.is (to_year _ _ h.year before to_month _ true _ _ h.month before over_day _ _ true _ _ h.day)
 
@@ -202,10 +202,10 @@ module _ {E : Type 0} (fault : Row → E) where
         rw (f.2, f.4.2, hyphen_is f.4.0 f.4.3)
         ((to_year _ _ f.3.1 before to_month _ true _ _ f.4.4.1).over rest ∙ rw (mark_stops fault (of_date after_hyphened_month) place e rest tt at))
 
-    after_plain_month_row : RowsRead fault brackets (date_at fault) (of_date after_plain_month)
+    after_basic_month_row : RowsRead fault brackets (date_at fault) (of_date after_basic_month)
     unfolding day_at
-    after_plain_month_row place e front rest f at =
-        rw f.2 ((to_year _ _ f.3.1 before to_month _ false _ _ f.4.1).over rest ∙ rw (mark_stops fault (of_date after_plain_month) place e rest tt at))
+    after_basic_month_row place e front rest f at =
+        rw f.2 ((to_year _ _ f.3.1 before to_month _ false _ _ f.4.1).over rest ∙ rw (mark_stops fault (of_date after_basic_month) place e rest tt at))
 
     day_digits_row : RowsRead fault brackets (date_at fault) (of_date day_digits)
     day_digits_row place e front rest (inl f) at =
@@ -223,7 +223,7 @@ module _ {E : Type 0} (fault : Row → E) where
     pub date_row_read : (l : DateLine) → IsInside l → RowsRead fault brackets (date_at fault) (of_date l)
     date_row_read after_year h = after_year_row
     date_row_read after_hyphened_month h = after_hyphened_month_row
-    date_row_read after_plain_month h = after_plain_month_row
+    date_row_read after_basic_month h = after_basic_month_row
     date_row_read day_digits h = day_digits_row
     date_row_read day_range h = day_range_row
     date_row_read after_date h = absurd h

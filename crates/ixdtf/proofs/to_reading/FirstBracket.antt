@@ -58,19 +58,28 @@ module _ {E : Type 0} (fault : Row → E) where
 
   starts : (start : Text) (critical : Bool) → Opens start critical → Starts start critical
   unfolding bracket_at critical_bracket_at
-  starts start true h =
-      (h.1, h.2 ∙ rw (h.3.1, eqb-true h.3.0 91 h.3.2), λ c more lead. rw (h.4.1, goes fault (of_bracket first_bracket_start) h.4.0 (Plain c ∷ more) tt (exclamation_starts h.4.0 h.4.2), h.4.2, goes fault (of_bracket first_critical_start) c more tt lead))
+  starts start true h = (
+    h.1,
+    h.2 ∙ rw (h.3.1, eqb-true h.3.0 91 h.3.2),
+    λ c more lead. rw (
+      h.4.1,
+      goes fault (of_bracket first_bracket_start) h.4.0 (Plain c ∷ more) tt (exclamation_starts h.4.0 h.4.2),
+      h.4.2,
+      goes fault (of_bracket first_critical_start) c more tt lead,
+    ),
+  )
   starts start false h =
       ([], h.1 ∙ rw (eqb-true h.0 91 h.2), λ c more lead. rw (goes fault (of_bracket first_bracket_start) c more tt (may_start c lead), no_exclamation c lead))
 
   -- ---- names
 
   -- what the first letter leads to
-  abbrev LeadsTo : Bool → Text → Read E Bracket → Type 0
-  LeadsTo critical text given = (c : ℕ) × (more : Text) × (text ≡ Plain c ∷ more) × IsTrue ((zone_lead or sign) c) × (inside_at fault critical c text ≡ given)
+  abbrev ReadsInside : Bool → Text → Read E Bracket → Type 0
+  ReadsInside critical text given =
+      (c : ℕ) × (more : Text) × (text ≡ Plain c ∷ more) × IsTrue ((zone_lead or sign) c) × (inside_at fault critical c text ≡ given)
 
   -- what reads as a name is read so
-  as_name : (critical : Bool) (text : Text) → ReadsAsName text → LeadsTo critical text (noted critical (as_zone (name_in_bracket_at fault text)))
+  as_name : (critical : Bool) (text : Text) → ReadsAsName text → ReadsInside critical text (noted critical (as_zone (name_in_bracket_at fault text)))
   unfolding inside_at name_or_pair_at
   as_name critical text (inl h) =
       let lead = only_lead h.3.0 h.3.2 in
@@ -78,7 +87,7 @@ module _ {E : Type 0} (fault : Row → E) where
   as_name critical text (inr h) = (h.3.0, h.1, h.2 ∙ rw h.3.1, key_starts h.3.0 h.3.2, rw (key_no_sign h.3.0 h.3.2, h.3.2, sight_name fault text h))
 
   -- what reads as a pair is read so
-  as_key : (critical : Bool) (text : Text) → ReadsAsPair text → LeadsTo critical text (as_pair (pair_at fault critical text))
+  as_key : (critical : Bool) (text : Text) → ReadsAsPair text → ReadsInside critical text (as_pair (pair_at fault critical text))
   unfolding inside_at name_or_pair_at
   as_key critical text h = (h.3.0, h.1, h.2 ∙ rw h.3.1, key_starts h.3.0 h.3.2, rw (key_no_sign h.3.0 h.3.2, h.3.2, sight_pair fault text h))
 
@@ -146,10 +155,19 @@ module _ {E : Type 0} (fault : Row → E) where
 
   -- a zone and `]`, from the zone's first letter on
   zone_takes : (critical : Bool) (inside : Text) (zone : Zone) (rest : Text) → IsZone inside zone
-      → LeadsTo critical (inside ++ (Plain 93 ∷ rest)) (Ok (zoned (record { critical = critical; zone = zone }), rest))
+      → ReadsInside critical (inside ++ (Plain 93 ∷ rest)) (Ok (zoned (record { critical = critical; zone = zone }), rest))
   zone_takes critical inside zone rest (inl h) =
-      let n = as_name critical (inside ++ (Plain 93 ∷ rest)) (name_reads inside rest h.1.0) in
-      (n.0, n.1, n.2, n.3, n.4 ∙ rw (name_closed h.0 (inside ++ (Plain 93 ∷ rest)) rest (name_takes fault inside h.0 (Plain 93 ∷ rest) h.1.0 h.1.1 (refl, refl)), h.2))
+      let n = as_name critical (inside ++ (Plain 93 ∷ rest)) (name_reads inside rest h.1.0) in (
+        n.0,
+        n.1,
+        n.2,
+        n.3,
+        n.4 ∙ rw (
+          name_closed h.0 (inside ++ (Plain 93 ∷ rest)) rest
+              (name_takes fault inside h.0 (Plain 93 ∷ rest) h.1.0 h.1.1 (refl, refl)),
+          h.2,
+        ),
+      )
   zone_takes critical inside zone rest (inr h) =
       let o = h.1 in (
         o.c,
@@ -165,7 +183,7 @@ module _ {E : Type 0} (fault : Row → E) where
   -- ---- whole brackets
 
   -- what stands in a bracket is read, and so is the bracket, after its `[`
-  opened_takes : (start inside rest : Text) (critical : Bool) (given : Read E Bracket) → Opens start critical → LeadsTo critical (inside ++ rest) given
+  opened_takes : (start inside rest : Text) (critical : Bool) (given : Read E Bracket) → Opens start critical → ReadsInside critical (inside ++ rest) given
       → (inner : Text) × (start ++ inside ≡ Plain 91 ∷ inner) × (bracket_at fault (inner ++ rest) ≡ given)
   opened_takes start inside rest critical given opens z =
       let o = starts start critical opens in
@@ -179,13 +197,13 @@ module _ {E : Type 0} (fault : Row → E) where
       rw h.is (opened_takes h.start (h.inside ++ (Plain 93 ∷ [])) rest note.critical _ h.opens
       (rw append_assoc (zone_takes note.critical h.inside note.zone rest h.zone)))
   bracket_takes front rest (paired pair) h =
-      rw h.is (opened_takes h.start (h.keys ++ (Plain 61 ∷ (h.values ++ (Plain 93 ∷ [])))) rest pair.critical _ h.opens pair_leads)
+      rw h.is (opened_takes h.start (h.keys ++ (Plain 61 ∷ (h.values ++ (Plain 93 ∷ [])))) rest pair.critical _ h.opens pair_reads_inside)
     where
       body : Text
       body = h.keys ++ (Plain 61 ∷ (h.values ++ (Plain 93 ∷ [])))
 
-      pair_leads : LeadsTo pair.critical (body ++ rest) (Ok (paired pair, rest))
-      pair_leads =
+      pair_reads_inside : ReadsInside pair.critical (body ++ rest) (Ok (paired pair, rest))
+      pair_reads_inside =
           let n = as_key pair.critical (body ++ rest) (rw append_assoc (key_reads h.keys ((h.values ++ (Plain 93 ∷ [])) ++ rest) h.is_key)) in
           (n.0, n.1, n.2, n.3, n.4 ∙ ap as_pair (pair_takes fault body rest pair (pair_text h)))
 
@@ -196,7 +214,7 @@ module _ {E : Type 0} (fault : Row → E) where
   Returned text e = (inner : Text) × (text ≡ Plain 91 ∷ inner) × (bracket_at fault inner ≡ Err e)
 
   -- a fault inside is a fault of the bracket
-  inside_stops : (start text : Text) (critical : Bool) (e : E) → Opens start critical → LeadsTo critical text (Err e) → Returned (start ++ text) e
+  inside_stops : (start text : Text) (critical : Bool) (e : E) → Opens start critical → ReadsInside critical text (Err e) → Returned (start ++ text) e
   inside_stops start text critical e opens z =
       let o = starts start critical opens in
       (o.0 ++ text, ap (λ t. t ++ text) o.1, ap (λ t. bracket_at fault (o.0 ++ t)) z.2 ∙ o.2 z.0 z.1 z.3 ∙ rw z.2 at z.4)
@@ -229,7 +247,12 @@ module _ {E : Type 0} (fault : Row → E) where
   critical_row place e front rest f at = (
     f.1 ++ rest,
     rw (f.2, f.3.1, eqb-true f.3.0 91 f.3.2),
-    rw (f.4.1, goes fault (of_bracket first_bracket_start) f.4.0 rest tt (exclamation_starts f.4.0 f.4.2), f.4.2, stops fault (of_bracket first_critical_start) place e rest tt at),
+    rw (
+      f.4.1,
+      goes fault (of_bracket first_bracket_start) f.4.0 rest tt (exclamation_starts f.4.0 f.4.2),
+      f.4.2,
+      stops fault (of_bracket first_critical_start) place e rest tt at,
+    ),
   )
 
   -- a fault of the sight, where a key may begin

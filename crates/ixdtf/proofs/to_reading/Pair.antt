@@ -209,8 +209,16 @@ module _ {E : Type 0} (fault : Row → E) where
 
   starts : (start : Text) (critical : Bool) → Opens start critical → Starts start critical
   unfolding later_pair_at critical_pair_at
-  starts start true h =
-      (h.1, h.2 ∙ rw (h.3.1, eqb-true h.3.0 91 h.3.2), λ c more lead. rw (h.4.1, goes fault (of_pair key_start) h.4.0 (Plain c ∷ more) tt (or_right _ _ h.4.2), h.4.2, goes fault (of_pair critical_key_start) c more tt lead))
+  starts start true h = (
+    h.1,
+    h.2 ∙ rw (h.3.1, eqb-true h.3.0 91 h.3.2),
+    λ c more lead. rw (
+      h.4.1,
+      goes fault (of_pair key_start) h.4.0 (Plain c ∷ more) tt (or_right _ _ h.4.2),
+      h.4.2,
+      goes fault (of_pair critical_key_start) c more tt lead,
+    ),
+  )
   starts start false h =
       ([], h.1 ∙ rw (eqb-true h.0 91 h.2), λ c more lead. rw (goes fault (of_pair key_start) c more tt (or_left _ _ lead), lead_no_exclamation c lead))
 
@@ -219,8 +227,12 @@ module _ {E : Type 0} (fault : Row → E) where
       → pair_at fault critical text ≡ given → (inner : Text) × (start ++ text ≡ Plain 91 ∷ inner) × (later_pair_at fault inner ≡ given)
   at_key start text critical keys rest given opens key is h =
       let o = starts start critical opens in
-      let whole : text ≡ Plain key.3.0 ∷ (key.1 ++ rest) = is ∙ rw (key.2, key.3.1) refl in
-      (o.0 ++ text, ap (λ t. t ++ text) o.1, ap (λ t. later_pair_at fault (o.0 ++ t)) whole ∙ o.2 key.3.0 (key.1 ++ rest) key.3.2 ∙ ap (pair_at fault critical) (sym whole) ∙ h)
+      let whole : text ≡ Plain key.3.0 ∷ (key.1 ++ rest) = is ∙ rw (key.2, key.3.1) refl in (
+        o.0 ++ text,
+        ap (λ t. t ++ text) o.1,
+        ap (λ t. later_pair_at fault (o.0 ++ t)) whole ∙ o.2 key.3.0 (key.1 ++ rest) key.3.2
+            ∙ ap (pair_at fault critical) (sym whole) ∙ h,
+      )
 
   -- a whole pair, after its `[`
   pub later_pair_takes : (front rest : Text) (pair : Pair) → IsPair front pair

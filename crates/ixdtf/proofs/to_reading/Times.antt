@@ -2,7 +2,7 @@
 use Rattle.std.proofs.Common.{◌≡◌, ℕ, suc, ◌<◌, ◌⊎◌, Bool, true, false, IsTrue, IsFalse, [], ◌∷◌, ◌++◌, Ok, Err, Option, Some, None, refl, sym, ap, ◌∙◌, inl}
 use Rattle.std.proofs.{Common.{inr, arith, append-nil, nat_le}, lemmas.{Bool.{le-leb, lt-leb, or_parts}, Bool.Decides.nat_tests}}
 use Rattle.ixdtf.specs.declared.records.TimeRecord.{TimeRecord}
-use Rattle.ixdtf.specs.language.Times.{Clock, TimeShape, ClockOf, SecondText, greatest_second, has_seconds, TimeShape.{hours, plain_minutes, colon_minutes}}
+use Rattle.ixdtf.specs.language.Times.{Clock, TimeShape, ClockOf, SecondText, greatest_second, has_seconds, TimeShape.{hours, basic_minutes, colon_minutes}}
 use Rattle.ixdtf.specs.language.{Times.{TimeShape.{seconds, fractions}}, Letters.{Text, Class, ◌or◌, digit, colon, decimal_mark, Letter.{Plain, Bad}}}
 use Rattle.ixdtf.specs.language.{Shapes.{Shape, some, digits, one}, Digits.{decimal, UpTo}, Fractions.{FractionParts, fraction_of}}
 use Rattle.ixdtf.specs.table.{Faults.Fault, LineNames.{ClockLine, LineName, LineName.of_clock, ClockLine.{hour_start, hour_digit, hour_range, minute_digits}}}
@@ -12,7 +12,8 @@ use Rattle.ixdtf.specs.table.Rows.{Row, Place, Stops, front_of, Place.{end, othe
 use Rattle.ixdtf.specs.reading.{Looks.{Read, ◌>>=◌, row_of, look_at, in_range, number_by}, Times.{OpenTime, time_of, line_after, bad_after, mixed_after}}
 use Rattle.ixdtf.specs.reading.Times.{hour_past, minute_past, second_past, minutes_shape, second_start, number_at, fraction_at, after_second_at, second_at}
 use Rattle.ixdtf.specs.reading.Times.{after_minute_at, minute_at, after_hour_at, hour_from}
-use Rattle.ixdtf.proofs.parts.Looks.{Leads, ◌before◌, Yields, ◌upto◌, Halts, ◌till◌, RowsRead, whole_row, LooksForDigit, goes, stops, digits_go, digits_stop}
+use Rattle.ixdtf.proofs.parts.Looks.{ReadsOver, ◌before◌, Yields, ◌upto◌, Halts, ◌till◌, RowsRead, whole_row, LooksForDigit, goes, stops, digits_go}
+use Rattle.ixdtf.proofs.parts.Looks.{digits_stop}
 use Rattle.ixdtf.proofs.parts.Looks.{one_as_digits, NotNext, run_takes, run_bad}
 
 digit_no_colon : (c : ℕ) → IsTrue (digit c) → IsFalse (colon c)
@@ -46,8 +47,8 @@ module _ {E A : Type 0}
   same_over : (n : ℕ) (ds rest : Text) → digits (suc n) ds → start (ds ++ rest) ≡ stage (ds ++ rest)
   same_over n ds rest d = rw d.2 (same d.0 (d.1 ++ rest) d.3)
 
-  leads_as : {further : Text → Read E A} (n : ℕ) (ds : Text) → digits (suc n) ds → Leads stage ds further → Leads start ds further
-  leads_as n ds d from = record { over = λ rest. same_over n ds rest d ∙ from.over rest }
+  reads_over_as : {further : Text → Read E A} (n : ℕ) (ds : Text) → digits (suc n) ds → ReadsOver stage ds further → ReadsOver start ds further
+  reads_over_as n ds d from = record { over = λ rest. same_over n ds rest d ∙ from.over rest }
 
   halts_as : {rest : Text} {e : E} (n : ℕ) (ds : Text) → digits (suc n) ds → Halts stage ds rest e → Halts start ds rest e
   halts_as n ds d from = record { halts = same_over n ds _ d ∙ from.halts }
@@ -62,7 +63,7 @@ some_same a b n o p q r = rw (r, p, q)
 -- the text does not go on as a time of the shape does, and Bad does not stand next
 abbrev pub Closed : Clock → TimeShape → Text → Type 0
 Closed clock hours rest = NotNext colon rest × NotNext digit rest
-Closed clock plain_minutes rest = NotNext (seconds_after clock digit) rest × NotNext (colon or digit) rest
+Closed clock basic_minutes rest = NotNext (seconds_after clock digit) rest × NotNext (colon or digit) rest
 Closed clock colon_minutes rest = NotNext (seconds_after clock colon) rest × NotNext (colon or digit) rest
 Closed clock seconds rest = NotNext decimal_mark rest
 Closed clock fractions rest = NotNext digit rest
@@ -96,8 +97,8 @@ with_fraction h m s r = r >>= λ fraction. Ok ((fractions, time_of h m s (Some f
 
 -- Reading that starts a time: over a first digit it leads to the hour.
 module _ {E : Type 0} (fault : Row → E) (clock : Clock)
-    (start : Text → Read E OpenTime) (starts : (c : ℕ) → IsTrue (digit c) → Leads start (Plain c ∷ []) (hour_from fault clock c)) where
-  over_hour : (hs : Text) (h : ℕ) → UpTo 23 hs h → Leads start hs (after_hour_at fault clock h)
+    (start : Text → Read E OpenTime) (starts : (c : ℕ) → IsTrue (digit c) → ReadsOver start (Plain c ∷ []) (hour_from fault clock c)) where
+  over_hour : (hs : Text) (h : ℕ) → UpTo 23 hs h → ReadsOver start hs (after_hour_at fault clock h)
   unfolding hour_from
   over_hour hs h u =
       let g = u.0 in
@@ -107,7 +108,7 @@ module _ {E : Type 0} (fault : Row → E) (clock : Clock)
             (rw (range_fits 23 h (fault (hour_past clock)) (Plain g.0 ∷ g.1) rest (rw g.2 at u))));
       }
 
-  over_colon : (h : ℕ) (t : Text) → one colon t → Leads (after_hour_at fault clock h) t (minute_at fault clock true h)
+  over_colon : (h : ℕ) (t : Text) → one colon t → ReadsOver (after_hour_at fault clock h) t (minute_at fault clock true h)
   unfolding after_hour_at look_at
   over_colon h t o = record { over = λ rest. rw (o.1, o.2) refl }
 
@@ -115,21 +116,22 @@ module _ {E : Type 0} (fault : Row → E) (clock : Clock)
   unfolding after_hour_at look_at
   at_minute_digit h c rest d = rw (digit_no_colon c d, d)
 
-  over_minute : (colons : Bool) (h : ℕ) (ms : Text) (m : ℕ) → UpTo 59 ms m → Leads (minute_at fault clock colons h) ms (after_minute_at fault clock colons h m)
+  over_minute : (colons : Bool) (h : ℕ) (ms : Text) (m : ℕ) → UpTo 59 ms m
+      → ReadsOver (minute_at fault clock colons h) ms (after_minute_at fault clock colons h m)
   unfolding minute_at
   over_minute colons h ms m u =
       record { over = λ rest. rw (number_goes fault (of_clock clock minute_digits) (λ c. refl) 59 (minute_past clock) ms rest m u) refl }
 
-  over_plain_minute : (h : ℕ) (ms : Text) (m : ℕ) → UpTo 59 ms m → Leads (after_hour_at fault clock h) ms (after_minute_at fault clock false h m)
-  over_plain_minute h ms m u = leads_as _ _ (at_minute_digit h) 1 ms u.0 (over_minute false h ms m u)
+  over_basic_minute : (h : ℕ) (ms : Text) (m : ℕ) → UpTo 59 ms m → ReadsOver (after_hour_at fault clock h) ms (after_minute_at fault clock false h m)
+  over_basic_minute h ms m u = reads_over_as _ _ (at_minute_digit h) 1 ms u.0 (over_minute false h ms m u)
 
   over_minutes : (colons : Bool) (text : Text) (t : TimeRecord) → ClockOf clock (minutes_shape colons) text t
-      → Leads start text (after_minute_at fault clock colons t.hour t.minute)
+      → ReadsOver start text (after_minute_at fault clock colons t.hour t.minute)
   over_minutes true text t x = rw x.is (over_hour _ _ x.hour before over_colon _ _ (58, refl, refl) before over_minute true _ _ _ x.minute)
-  over_minutes false text t x = rw x.is (over_hour _ _ x.hour before over_plain_minute _ _ _ x.minute)
+  over_minutes false text t x = rw x.is (over_hour _ _ x.hour before over_basic_minute _ _ _ x.minute)
 
   over_second_colon : (h m : ℕ) (t : Text) → IsTrue (has_seconds clock) → one colon t
-      → Leads (after_minute_at fault clock true h m) t (second_at fault clock h m)
+      → ReadsOver (after_minute_at fault clock true h m) t (second_at fault clock h m)
   unfolding after_minute_at look_at
   over_second_colon h m t may o = record { over = λ rest. rw (o.1, may, o.2) refl }
 
@@ -138,15 +140,15 @@ module _ {E : Type 0} (fault : Row → E) (clock : Clock)
   unfolding after_minute_at look_at
   at_second_digit h m may c rest d = rw (may, d)
 
-  over_second : (h m : ℕ) (ss : Text) (s : ℕ) → UpTo (greatest_second clock) ss s → Leads (second_at fault clock h m) ss (after_second_at fault clock h m s)
+  over_second : (h m : ℕ) (ss : Text) (s : ℕ) → UpTo (greatest_second clock) ss s → ReadsOver (second_at fault clock h m) ss (after_second_at fault clock h m s)
   unfolding second_at
   over_second h m ss s u =
       record { over = λ rest. rw (number_goes fault (of_clock clock second_digits) (λ c. refl) (greatest_second clock) (second_past clock) ss rest s u) refl }
 
-  pub over_seconds : (text : Text) (t : TimeRecord) → SecondText clock text t → Leads start text (after_second_at fault clock t.hour t.minute t.second)
+  pub over_seconds : (text : Text) (t : TimeRecord) → SecondText clock text t → ReadsOver start text (after_second_at fault clock t.hour t.minute t.second)
   over_seconds text t (inl x) =
-      rw x.is (over_hour _ _ x.hour before over_plain_minute _ _ _ x.minute
-      before leads_as _ _ (at_second_digit _ _ x.may) 1 _ x.second.0 (over_second _ _ _ _ x.second))
+      rw x.is (over_hour _ _ x.hour before over_basic_minute _ _ _ x.minute
+      before reads_over_as _ _ (at_second_digit _ _ x.may) 1 _ x.second.0 (over_second _ _ _ _ x.second))
   over_seconds text t (inr x) =
       rw x.is (over_hour _ _ x.hour before over_colon _ _ (58, refl, refl) before over_minute true _ _ _ x.minute
       before over_second_colon _ _ _ x.may (58, refl, refl) before over_second _ _ _ _ x.second)
@@ -154,7 +156,7 @@ module _ {E : Type 0} (fault : Row → E) (clock : Clock)
   fraction_stage : ℕ → ℕ → ℕ → Text → Read E OpenTime
   fraction_stage h m s rest = with_fraction h m s (fraction_at fault clock rest)
 
-  over_mark : (h m s : ℕ) (t : Text) → one decimal_mark t → Leads (after_second_at fault clock h m s) t (fraction_stage h m s)
+  over_mark : (h m s : ℕ) (t : Text) → one decimal_mark t → ReadsOver (after_second_at fault clock h m s) t (fraction_stage h m s)
   unfolding after_second_at look_at fraction_stage
   over_mark h m s t o = record { over = λ rest. rw (o.1, o.2) refl }
 
@@ -186,25 +188,29 @@ module _ {E : Type 0} (fault : Row → E) (clock : Clock)
   stays_at_second h m s (Bad ∷ rest) closed = absurd closed
   stays_at_second h m s (Plain c ∷ rest) closed = rw closed
 
+  no_fraction : {text : Text} {t : TimeRecord} → SecondText clock text t → t.fraction ≡ None
+  no_fraction (inl x) = x.no_fraction
+  no_fraction (inr x) = x.no_fraction
+
   -- a time is read as far as it goes
   pub time_takes : (shape : TimeShape) (text : Text) (t : TimeRecord) (rest : Text) → ClockOf clock shape text t → Closed clock shape rest
       → start (text ++ rest) ≡ Ok ((shape, t), rest)
   time_takes hours text t rest x closed =
       (over_hour _ _ x.hour).over rest ∙ stays_at_hour t.hour rest closed
       ∙ ap (λ u. Ok ((hours, u), rest)) (same_time t _ _ _ _ refl (sym x.no_minute) (sym x.no_second) (sym x.no_fraction))
-  time_takes plain_minutes text t rest x closed =
+  time_takes basic_minutes text t rest x closed =
       (over_minutes false text t x).over rest ∙ stays_at_minute false t.hour t.minute rest closed.0 closed.1
-      ∙ ap (λ u. Ok ((plain_minutes, u), rest)) (same_time t _ _ _ _ refl refl (sym x.no_second) (sym x.no_fraction))
+      ∙ ap (λ u. Ok ((basic_minutes, u), rest)) (same_time t _ _ _ _ refl refl (sym x.no_second) (sym x.no_fraction))
   time_takes colon_minutes text t rest x closed =
       (over_minutes true text t x).over rest ∙ stays_at_minute true t.hour t.minute rest closed.0 closed.1
       ∙ ap (λ u. Ok ((colon_minutes, u), rest)) (same_time t _ _ _ _ refl refl (sym x.no_second) (sym x.no_fraction))
   time_takes seconds text t rest x closed =
-      (over_seconds text t x.0).over rest ∙ stays_at_second t.hour t.minute t.second rest closed
-      ∙ ap (λ u. Ok ((seconds, u), rest)) (same_time t _ _ _ _ refl refl refl (sym x.1))
+      (over_seconds text t x).over rest ∙ stays_at_second t.hour t.minute t.second rest closed
+      ∙ ap (λ u. Ok ((seconds, u), rest)) (same_time t _ _ _ _ refl refl refl (sym (no_fraction x)))
   time_takes fractions text t rest x closed =
-      let part = x.shape in
+      let part = x.is_fraction in
       let ds = part.some.1 in
-      rw (x.is, part.is, ds.2) ((over_seconds x.whole t x.second upto over_mark _ _ _ (Plain part.mark ∷ []) (part.mark, refl, part.marks)
+      rw (x.is, part.is, ds.2) ((over_seconds x.whole _ x.second upto over_mark _ _ _ (Plain part.mark ∷ []) (part.mark, refl, part.marks)
       upto fraction_gives ds.0 ds.1 rest part.some.0 ds.3 ds.4 closed).yields
       ∙ ap (λ u. Ok ((fractions, u), rest)) (same_time t _ _ _ _ refl refl refl
       (some_same part.ds (Plain ds.0 ∷ ds.1) x.fraction t.fraction part.value ds.2 x.value)))
@@ -288,7 +294,7 @@ module _ {E : Type 0} (fault : Row → E) (clock : Clock)
     pub fraction_start_row : RowsRead fault brackets start (of_clock clock fraction_start)
     unfolding fraction_at fraction_stage
     fraction_start_row place e front rest f at =
-        rw f.2 ((over_seconds f.0 f.3.0 f.3.1.0 before over_mark _ _ _ f.1 f.4).over rest
+        rw f.2 ((over_seconds f.0 f.3.0 f.3.1 before over_mark _ _ _ f.1 f.4).over rest
         ∙ rw (stops fault (of_clock clock fraction_start) place e rest tt at))
 
   -- ---- the lines at which a time may stop
@@ -305,13 +311,13 @@ module _ {E : Type 0} (fault : Row → E) (clock : Clock)
       → start (text ++ (Bad ∷ rest)) ≡ Err (bad_after fault clock shape)
   unfolding after_hour_at after_minute_at after_second_at fraction_at fraction_stage look_at
   time_bad hours text t rest x = (over_hour _ _ x.hour).over (Bad ∷ rest)
-  time_bad plain_minutes text t rest x = (over_minutes false text t x).over (Bad ∷ rest)
+  time_bad basic_minutes text t rest x = (over_minutes false text t x).over (Bad ∷ rest)
   time_bad colon_minutes text t rest x = (over_minutes true text t x).over (Bad ∷ rest)
-  time_bad seconds text t rest x = (over_seconds text t x.0).over (Bad ∷ rest)
+  time_bad seconds text t rest x = (over_seconds text t x).over (Bad ∷ rest)
   time_bad fractions text t rest x =
-      let part = x.shape in
+      let part = x.is_fraction in
       let ds = part.some.1 in
-      rw (x.is, part.is, ds.2) ((over_seconds x.whole t x.second till over_mark _ _ _ (Plain part.mark ∷ []) (part.mark, refl, part.marks)
+      rw (x.is, part.is, ds.2) ((over_seconds x.whole _ x.second till over_mark _ _ _ (Plain part.mark ∷ []) (part.mark, refl, part.marks)
       till fraction_bad _ _ _ ds.0 ds.1 rest part.some.0 ds.3 ds.4).halts)
 
   -- at a colon or a digit that does not go on
@@ -353,8 +359,8 @@ module _ {E : Type 0} (fault : Row → E) (clock : Clock)
         let parts = or_parts _ _ out in
         let first = or_parts _ _ parts.0 in
         inr (rw is (first.0, first.1), (c, more, is, parts.1, same))
-    open_row plain_minutes place e front rest t x at =
-        at_places plain_minutes (some (ClockOf clock plain_minutes)) _ _ place e front rest t x at λ c more is out same.
+    open_row basic_minutes place e front rest t x at =
+        at_places basic_minutes (some (ClockOf clock basic_minutes)) _ _ place e front rest t x at λ c more is out same.
         at_mixed false e front rest t x c more is (or_parts _ _ out) same ((colon or digit) c) refl
     open_row colon_minutes place e front rest t x at =
         at_places colon_minutes (some (ClockOf clock colon_minutes)) _ _ place e front rest t x at λ c more is out same.

@@ -3,8 +3,8 @@ use Rattle.std.proofs.Common.{◌≡◌, ℕ, suc, ◌<◌, ◌⊎◌, List, [],
 use Rattle.std.proofs.Common.{append_assoc, append-nil, true}
 use Rattle.ixdtf.specs.language.{Times.Clock, Letters.{Text, Letter.Plain}, Shapes.some, Brackets.{ZoneNote, Opens, Pair, ArePairs, IsTail, ReadsAsPair}}
 use Rattle.ixdtf.specs.language.{Cores.{Core, IsCore}, Readers.{Reader, CoreKind, Reader.{bracketed, parse_offset, parse_identifier, parse_iana_identifier}}}
-use Rattle.ixdtf.specs.language.{Readers.Reader.parse_duration, Languages.{Parsed, parsed_with, IsBracketed, Found, Derives, Found.{parsed, shifted}}}
-use Rattle.ixdtf.specs.language.Languages.{Found.{identified, named, lasting}}
+use Rattle.ixdtf.specs.language.{Readers.Reader.parse_duration, Languages.{Parsed, parsed_with, IsBracketed, Found, Derives}}
+use Rattle.ixdtf.specs.language.Languages.{Derives.{as_parsed, as_shifted, as_identified, as_named, as_lasting}}
 use Rattle.ixdtf.specs.table.{Faults.Fault, LineNames.{LineName, LineName.{of_core, of_clock, of_offset, of_zone, of_bracket, of_pair}}}
 use Rattle.ixdtf.specs.table.LineNames.{OffsetLine.{offset_start, after_zulu}, ZoneLine.{in_zone_name, after_zone_slash}, BracketLine.first_bracket_start}
 use Rattle.ixdtf.specs.table.LineNames.{BracketLine.{first_critical_start, first_bracket_scan, after_bracket}, PairLine.{key_start, critical_key_start}}
@@ -39,7 +39,17 @@ pub record NoBrackets (text : Text) (zone : Option ZoneNote) (pairs : List Pair)
 pub brackets_of : (text : Text) (zone : Option ZoneNote) (pairs : List Pair) → IsTail text zone pairs → NoBrackets text zone pairs ⊎ Brackets text zone pairs
 brackets_of text None [] h = inl (record { is = h.2 ∙ rw (h.3, h.4); zone_is = refl; pairs_are = refl })
 brackets_of text None (pair ∷ pairs) h =
-    inr (record { bracket = paired pair; first = h.4.0; rest = h.4.1; more = pairs; is = h.2 ∙ rw h.3 h.4.2; is_bracket = h.4.3; zone_is = refl; are_pairs = h.4.4; pairs_are = refl })
+    inr (record {
+      bracket = paired pair;
+      first = h.4.0;
+      rest = h.4.1;
+      more = pairs;
+      is = h.2 ∙ rw h.3 h.4.2;
+      is_bracket = h.4.3;
+      zone_is = refl;
+      are_pairs = h.4.4;
+      pairs_are = refl;
+    })
 brackets_of text (Some note) pairs h =
     inr (record { bracket = zoned note; first = h.0; rest = h.1; more = pairs; is = h.2; is_bracket = h.3; zone_is = refl; are_pairs = h.4; pairs_are = refl })
 
@@ -189,12 +199,11 @@ module _ {E : Type 0} (fault : List Pair → Row → E) where
   -- what is derived is returned, and nothing is left
   pub takes : (reader : Reader) (text : Text) (found : Found) (pairs : List Pair) → Derives reader text found pairs
       → read_at fault reader text ≡ Ok ((found, pairs), [])
-  takes (bracketed kind) text (parsed found) pairs d = rw (whole_takes fault kind text found pairs d)
-  takes parse_offset text (shifted offset) pairs d = rw (offset_takes (fault []) text offset d.0, d.1)
-  takes parse_identifier text (identified zone) pairs d = rw (identifier_takes (fault []) text zone d.0, d.1)
-  takes parse_iana_identifier text (named name) pairs d = rw (iana_identifier_takes (fault []) text name d.0, d.1)
-  takes parse_duration text (lasting duration) pairs d = rw (duration_takes (fault []) text duration d.0, d.1)
-  takes reader text found pairs d = absurd d
+  takes reader text found pairs (as_parsed d) = rw (whole_takes fault _ text _ pairs d)
+  takes reader text found pairs (as_shifted d) = rw (offset_takes (fault []) text _ d)
+  takes reader text found pairs (as_identified d) = rw (identifier_takes (fault []) text _ d)
+  takes reader text found pairs (as_named d) = rw (iana_identifier_takes (fault []) text _ d)
+  takes reader text found pairs (as_lasting d) = rw (duration_takes (fault []) _ text _ d)
 
   -- a row that fits is returned
   pub row_read : (reader : Reader) (text : Text) (row : Row) (pairs : List Pair) → Fits reader row pairs text
@@ -207,4 +216,5 @@ module _ {E : Type 0} (fault : List Pair → Row → E) where
       rw (f.3.1, f.2, f.4.2, identifier_rows (fault []) row.name pairs row.place row.error f.0 f.4.0 f.4.1 f.3 f.4.3 f.4.4)
   row_read parse_iana_identifier text row pairs f =
       rw (f.3.1, f.2, f.4.2, iana_identifier_rows (fault []) row.name pairs row.place row.error f.0 f.4.0 f.4.1 f.3 f.4.3 f.4.4)
-  row_read parse_duration text row pairs f = rw (f.3.1, f.2, f.4.2, duration_rows (fault []) row.name pairs row.place row.error f.0 f.4.0 f.4.1 f.3 f.4.3 f.4.4)
+  row_read (parse_duration profile) text row pairs f =
+      rw (f.3.1, f.2, f.4.2, duration_rows (fault []) profile row.name pairs row.place row.error f.0 f.4.0 f.4.1 f.3 f.4.3 f.4.4)

@@ -24,7 +24,8 @@ plain_sees_nothing (Bad ∷ text) other_text plain sees = plain
 plain_sees_nothing (Plain c ∷ text) other_text plain sees = plain_sees_nothing text sees.0 plain sees.2
 
 -- what is plain in front of a text with Bad is in front of the other
-pub sees_after : (front rest other_text : Text) → IsPlain front → Sees (front ++ rest) other_text → (more : Text) × (other_text ≡ front ++ more) × Sees rest more
+pub sees_after : (front rest other_text : Text) → IsPlain front → Sees (front ++ rest) other_text
+    → (more : Text) × (other_text ≡ front ++ more) × Sees rest more
 sees_after [] rest other_text plain sees = (other_text, refl, sees)
 sees_after (Bad ∷ front) rest other_text plain sees = absurd plain
 sees_after (Plain c ∷ front) rest other_text plain sees =

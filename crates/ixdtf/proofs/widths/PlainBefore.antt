@@ -1,21 +1,24 @@
 -- What stands before a line is plain, and what is asked of the rest is asked of letters before the first Bad alone. So a row
 -- that fits a text with Bad in it is a row of Bad, or fits each text with the same letters before the first Bad.
 use Rattle.std.proofs.Common.{◌≡◌, ◌⊎◌, List, inl, inr}
+use Rattle.ixdtf.specs.declared.parsers.profile.Profile.{Profile}
 use Rattle.ixdtf.specs.language.Letters.{Text}
 use Rattle.ixdtf.specs.language.Shapes.{some}
 use Rattle.ixdtf.specs.language.Times.Clock.{Time, Offset, MinuteOffset}
-use Rattle.ixdtf.specs.language.Months.{IsMonthDay, least_day}
+use Rattle.ixdtf.specs.language.Months.{IsMonthDay}
 use Rattle.ixdtf.specs.language.Brackets.{Pair, ReadsAsName, ReadsAsPair}
 use Rattle.ixdtf.specs.language.Cores.{HasFront, IsCore}
 use Rattle.ixdtf.specs.language.Readers.{Reader, CoreKind, has_brackets}
 use Rattle.ixdtf.specs.language.Readers.CoreKind.{date_time, year_month, month_day, time_alone}
 use Rattle.ixdtf.specs.language.Readers.Reader.{bracketed, parse_offset, parse_identifier, parse_iana_identifier, parse_duration}
-use Rattle.ixdtf.specs.table.Before.{DateAndSeparator, BeforeDate, BeforeYearMonth, BeforeMonthDay, AtCoreEnd, ReadsAsTime, InTimeAlone, BeforeTimeAlone, BeforeCore}
-use Rattle.ixdtf.specs.table.Before.{BeforeTime, BeforeOffset, BeforeOffsetLine, Opened, Bracketed, BeforeKey, BeforeBracketed}
-use Rattle.ixdtf.specs.table.Before.{InOffset, InIdentifier, InIanaIdentifier, InDuration, Before}
+use Rattle.ixdtf.specs.table.Before.{DateAndSeparator, BeforeDate, BeforeYearMonth, BeforeMonthDay, AtCoreEnd, ReadsAsTime, InTimeAlone, BeforeTimeAlone}
+use Rattle.ixdtf.specs.table.Before.{BeforeCore}
+use Rattle.ixdtf.specs.table.Before.{InMonthDay, BeforeTime, BeforeOffset, BeforeOffsetLine, Opened, Bracketed, BeforeKey, BeforeBracketed}
+use Rattle.ixdtf.specs.table.Before.{InMonthDay, InOffset, InIdentifier, InIanaIdentifier, InDuration, Before}
 use Rattle.ixdtf.specs.table.Faults.Fault.{NonAsciiCodePoint}
-use Rattle.ixdtf.specs.table.LineNames.{DateLine, TimeLine, CoreLine, ClockLine, OffsetLine, LineName}
+use Rattle.ixdtf.specs.table.LineNames.{DateLine, MonthDayLine, TimeLine, CoreLine, ClockLine, OffsetLine, LineName}
 use Rattle.ixdtf.specs.table.LineNames.DateLine.{year_start, year_digits, extended_year_digits, minus_zero_year, month_digits, month_range}
+use Rattle.ixdtf.specs.table.LineNames.MonthDayLine.{month_day_range, after_month_day}
 use Rattle.ixdtf.specs.table.LineNames.TimeLine.{time_start, time_reads_as_month_day, time_reads_as_year_month}
 use Rattle.ixdtf.specs.table.LineNames.CoreLine.{dates, year_months, month_days, times}
 use Rattle.ixdtf.specs.table.LineNames.ClockLine.{hour_start}
@@ -27,7 +30,7 @@ use Rattle.ixdtf.specs.table.LineNames.LineName.{of_core, of_clock, of_offset, o
 use Rattle.ixdtf.specs.table.Rows.{Row, Fits}
 use Rattle.ixdtf.proofs.parts.CoreLetters.{core_ends}
 use Rattle.ixdtf.proofs.parts.Fronts.{month_day_front_stays}
-use Rattle.ixdtf.proofs.widths.PlainTexts.{plain_append, PlainShape, plain_nowhere, plain_nothing, plain_one, ◌and_then◌, plain_some}
+use Rattle.ixdtf.proofs.widths.PlainTexts.{plain_append, PlainShape, plain_nowhere, plain_nothing, plain_one, plain_with, ◌and_then◌, plain_some}
 use Rattle.ixdtf.proofs.widths.PlainTexts.{date_plain, time_plain, plain_mark, marked_plain, core_plain, opens_plain, tail_plain}
 use Rattle.ixdtf.proofs.widths.FirstBad.{Sees, sees_after, Moves, moves_anything, moves_nothing, moves_then, moves_either, moves_first}
 use Rattle.ixdtf.proofs.widths.FirstBad.{Stands, alone, ahead, ahead_where, besides, stands_either, never, stops_move}
@@ -50,9 +53,14 @@ before_year_month : (kind : CoreKind) → PlainShape (BeforeYearMonth kind)
 before_year_month year_month = plain_nothing
 before_year_month kind = plain_nowhere
 
-before_month_day : (kind : CoreKind) → PlainShape (BeforeMonthDay kind)
-before_month_day month_day = plain_nothing
-before_month_day kind = plain_nowhere
+in_month_day : (profile : Profile) (line : MonthDayLine) → PlainShape (InMonthDay profile line)
+in_month_day profile (month_day_range named) = plain_with plain_nothing
+in_month_day profile (after_month_day named) = plain_with plain_nothing
+in_month_day profile line = plain_nothing
+
+before_month_day : (kind : CoreKind) (line : MonthDayLine) → PlainShape (BeforeMonthDay kind line)
+before_month_day (month_day profile) line = in_month_day profile line
+before_month_day kind line = plain_nowhere
 
 moves_core_end : Moves AtCoreEnd
 moves_core_end = moves_either moves_nothing (moves_then plain_one moves_anything)
@@ -61,30 +69,33 @@ moves_time : Moves ReadsAsTime
 moves_time = moves_then (plain_some marked_plain) moves_core_end
 
 -- a month-day in front of the other text stands within the time, and so is in front of this one
-month_day_front_back : (rest other_rest : Text) → Sees rest other_rest → ReadsAsTime rest → HasFront (some (IsMonthDay least_day)) other_rest
-    → HasFront (some (IsMonthDay least_day)) rest
-month_day_front_back rest other_rest sees (marked, after, is, time, ends) front =
+month_day_front_back : (profile : Profile) (rest other_rest : Text) → Sees rest other_rest → ReadsAsTime rest → HasFront (some (IsMonthDay profile)) other_rest
+    → HasFront (some (IsMonthDay profile)) rest
+month_day_front_back profile rest other_rest sees (marked, after, is, time, ends) front =
     let next = sees_after marked after other_rest ((plain_some marked_plain).plain marked time) (rw (← is) sees) in
     let ends_there = core_ends next.0 (moves_core_end.moved after next.0 next.2 ends) in
-    rw is (month_day_front_stays marked next.0 after ends_there (rw (← next.1) front))
+    rw is (month_day_front_stays profile marked next.0 after ends_there (rw (← next.1) front))
 
-in_time_alone : (line : TimeLine) → Stands (λ before rest. InTimeAlone line before rest)
-in_time_alone time_start = alone plain_nothing
-in_time_alone time_reads_as_month_day = ahead plain_nothing moves_time
-in_time_alone time_reads_as_year_month = record {
+in_time_alone : (profile : Profile) (line : TimeLine) → Stands (λ before rest. InTimeAlone profile line before rest)
+in_time_alone profile time_start = alone plain_nothing
+in_time_alone profile (time_reads_as_month_day named) = record {
+  plain = λ before rest h. plain_nothing.plain before h.0;
+  moved = λ before rest other_rest sees h. (h.0, moves_time.moved rest other_rest sees h.1, h.2);
+}
+in_time_alone profile time_reads_as_year_month = record {
   plain = λ before rest h. plain_nothing.plain before h.0;
   moved = λ before rest other_rest sees h.
-      (h.0, moves_time.moved rest other_rest sees h.1, λ front. h.2 (month_day_front_back rest other_rest sees h.1 front));
+      (h.0, moves_time.moved rest other_rest sees h.1, λ front. h.2 (month_day_front_back profile rest other_rest sees h.1 front));
 }
 
 before_time_alone : (kind : CoreKind) (line : TimeLine) → Stands (λ before rest. BeforeTimeAlone kind line before rest)
-before_time_alone time_alone line = in_time_alone line
+before_time_alone (time_alone profile) line = in_time_alone profile line
 before_time_alone kind line = never
 
 before_core : (kind : CoreKind) (line : CoreLine) → Stands (λ before rest. BeforeCore kind line before rest)
 before_core kind (dates line) = alone (before_date kind line)
 before_core kind (year_months line) = alone (before_year_month kind)
-before_core kind (month_days line) = alone (before_month_day kind)
+before_core kind (month_days line) = alone (before_month_day kind line)
 before_core kind (times line) = before_time_alone kind line
 
 -- ---- lines of times and offsets
@@ -94,13 +105,13 @@ plain_start = plain_some date_plain and_then plain_one
 
 before_time : (kind : CoreKind) (line : ClockLine) → PlainShape (BeforeTime kind line)
 before_time date_time line = plain_start
-before_time time_alone hour_start = plain_one
-before_time time_alone line = plain_mark
+before_time (time_alone profile) hour_start = plain_one
+before_time (time_alone profile) line = plain_mark
 before_time kind line = plain_nowhere
 
 before_offset : (kind : CoreKind) → PlainShape (BeforeOffset kind)
 before_offset date_time = plain_start and_then plain_some time_plain
-before_offset time_alone = plain_mark and_then plain_some time_plain
+before_offset (time_alone profile) = plain_mark and_then plain_some time_plain
 before_offset kind = plain_nowhere
 
 before_offset_line : (kind : CoreKind) (line : OffsetLine) → PlainShape (BeforeOffsetLine kind line)
@@ -143,7 +154,7 @@ before_bracketed kind (of_bracket after_bracket) pairs = alone (plain_bracketed 
 before_bracketed kind (of_pair key_start) pairs = alone (plain_bracketed kind pairs)
 before_bracketed kind (of_pair critical_key_start) pairs = alone (plain_bracketed kind pairs)
 before_bracketed kind (of_pair line) pairs = before_key kind pairs
-before_bracketed kind (of_duration line) pairs = never
+before_bracketed kind (of_duration profile line) pairs = never
 
 -- ---- lines of readers without brackets
 
@@ -163,9 +174,9 @@ in_iana_identifier (of_zone identifier_start) = plain_nowhere
 in_iana_identifier (of_zone line) = plain_nothing
 in_iana_identifier name = plain_nowhere
 
-in_duration : (name : LineName) → PlainShape (InDuration name)
-in_duration (of_duration line) = plain_nothing
-in_duration name = plain_nowhere
+in_duration : (profile : Profile) (name : LineName) → PlainShape (InDuration profile name)
+in_duration profile (of_duration named line) = plain_with plain_nothing
+in_duration profile name = plain_nowhere
 
 -- ---- rows
 
@@ -174,7 +185,7 @@ before_line (bracketed kind) name pairs = before_bracketed kind name pairs
 before_line parse_offset name pairs = besides (alone (in_offset name))
 before_line parse_identifier name pairs = besides (alone (in_identifier name))
 before_line parse_iana_identifier name pairs = besides (alone (in_iana_identifier name))
-before_line parse_duration name pairs = besides (alone (in_duration name))
+before_line (parse_duration profile) name pairs = besides (alone (in_duration profile name))
 
 -- a row that fits a text with Bad is a row of Bad, or fits the other text too
 pub fits_move : (reader : Reader) (row : Row) (pairs : List Pair) (text other_text : Text) → Sees text other_text → Fits reader row pairs text

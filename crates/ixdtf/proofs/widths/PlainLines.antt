@@ -1,18 +1,20 @@
 -- The front of each line is plain.
 use Rattle.std.proofs.Common.{Bool}
+use Rattle.ixdtf.specs.declared.parsers.profile.Profile.{Profile}
 use Rattle.ixdtf.specs.language.Shapes.{some}
-use Rattle.ixdtf.specs.language.Times.{Clock, TimeShape, PlainMinuteText, ColonMinuteText, ClockOf}
+use Rattle.ixdtf.specs.language.Times.{Clock, TimeShape, BasicMinuteText, ColonMinuteText, ClockOf}
 use Rattle.ixdtf.specs.language.Times.Clock.{Time}
-use Rattle.ixdtf.specs.language.Times.TimeShape.{hours, plain_minutes, colon_minutes, seconds, fractions}
-use Rattle.ixdtf.specs.table.LineNames.{DateLine, YearMonthLine, MonthDayLine, TimeLine, CoreLine, ClockLine, OffsetLine, ZoneLine, BracketLine, PairLine, DurationLine, LineName}
+use Rattle.ixdtf.specs.language.Times.TimeShape.{hours, basic_minutes, colon_minutes, seconds, fractions}
+use Rattle.ixdtf.specs.table.LineNames.{DateLine, YearMonthLine, MonthDayLine, TimeLine, CoreLine, ClockLine, OffsetLine, ZoneLine, BracketLine, PairLine}
+use Rattle.ixdtf.specs.table.LineNames.{DurationLine, LineName}
 use Rattle.ixdtf.specs.table.LineNames.DateLine.{year_start, year_digits, extended_year_digits, minus_zero_year, after_year, month_digits, month_range}
-use Rattle.ixdtf.specs.table.LineNames.DateLine.{after_hyphened_month, after_plain_month, day_digits, day_range, after_date}
+use Rattle.ixdtf.specs.table.LineNames.DateLine.{after_hyphened_month, after_basic_month, day_digits, day_range, after_date}
 use Rattle.ixdtf.specs.table.LineNames.YearMonthLine.{after_year_in_year_month, after_year_month}
 use Rattle.ixdtf.specs.table.LineNames.MonthDayLine.{month_day_start, month_day_hyphen, month_day_month_digits, month_day_month_range}
 use Rattle.ixdtf.specs.table.LineNames.MonthDayLine.{after_month_day_month, month_day_day_digits, month_day_range, after_month_day}
 use Rattle.ixdtf.specs.table.LineNames.TimeLine.{time_start, time_reads_as_month_day, time_reads_as_year_month}
 use Rattle.ixdtf.specs.table.LineNames.CoreLine.{dates, year_months, month_days, times}
-use Rattle.ixdtf.specs.table.LineNames.ClockLine.{hour_start, hour_digit, hour_range, after_hour, minute_digits, minute_range, after_plain_minute}
+use Rattle.ixdtf.specs.table.LineNames.ClockLine.{hour_start, hour_digit, hour_range, after_hour, minute_digits, minute_range, after_basic_minute}
 use Rattle.ixdtf.specs.table.LineNames.ClockLine.{after_colon_minute, second_digits, second_range, after_second, fraction_start, after_fraction}
 use Rattle.ixdtf.specs.table.LineNames.OffsetLine.{offset_start, after_zulu}
 use Rattle.ixdtf.specs.table.LineNames.ZoneLine.{identifier_start, zone_name_start, in_zone_name, after_zone_slash}
@@ -22,12 +24,14 @@ use Rattle.ixdtf.specs.table.LineNames.DurationLine.{duration_start, after_durat
 use Rattle.ixdtf.specs.table.LineNames.DurationLine.{after_time_designator, group_digits, group_value_range, unit_order, date_unit_range}
 use Rattle.ixdtf.specs.table.LineNames.DurationLine.{group_fraction_start, group_fraction_digits, after_time_groups, after_fraction_group}
 use Rattle.ixdtf.specs.table.LineNames.LineName.{of_core, of_clock, of_offset, of_zone, of_bracket, of_pair, of_duration}
-use Rattle.ixdtf.specs.table.Lines.{Follow, date_line, year_month_line, month_day_line, time_line, core_line, clock_line, offset_line, zone_line, bracket_line, pair_line, duration_line}
+use Rattle.ixdtf.specs.table.Lines.{Follow, date_line, year_month_line, month_day_line, time_line, core_line, clock_line, offset_line, zone_line, bracket_line}
+use Rattle.ixdtf.specs.table.Lines.{pair_line, duration_line}
 use Rattle.ixdtf.specs.table.Lines.{Hour, line_of}
 use Rattle.ixdtf.specs.table.Rows.{front_of}
-use Rattle.ixdtf.proofs.widths.PlainTexts.{PlainShape, plain_nothing, plain_one, ◌and_then◌, ◌or_else◌, plain_digits, plain_fewer, plain_some_digits, plain_many}
-use Rattle.ixdtf.proofs.widths.PlainTexts.{plain_with, plain_where, plain_some, year_plain, month_plain, date_shape_plain, date_plain, plain_hyphen, plain_marks}
-use Rattle.ixdtf.proofs.widths.PlainTexts.{year_month_plain, month_day_shape_plain, month_day_plain, clock_plain, plain_name, plain_key, plain_value}
+use Rattle.ixdtf.proofs.widths.PlainTexts.{PlainShape, plain_nothing, plain_one, ◌and_then◌, ◌or_else◌, plain_digits, plain_fewer, plain_some_digits}
+use Rattle.ixdtf.proofs.widths.PlainTexts.{plain_many}
+use Rattle.ixdtf.proofs.widths.PlainTexts.{plain_with, plain_where, plain_some, year_plain, month_plain, date_text_plain, date_plain, plain_hyphen, plain_marks}
+use Rattle.ixdtf.proofs.widths.PlainTexts.{year_month_plain, month_day_text_plain, month_day_plain, clock_plain, plain_name, plain_key, plain_value}
 use Rattle.ixdtf.proofs.widths.PlainDurations.{designator_plain, plain_number, plain_in_context, plain_after_dates, plain_after_time, plain_after_times}
 use Rattle.ixdtf.proofs.widths.PlainDurations.{plain_value_past, plain_out_of_order, plain_unit_past, plain_last_group}
 
@@ -42,11 +46,11 @@ plain_date_line after_year = plain_some year_plain
 plain_date_line month_digits = plain_some year_plain and_then (plain_one or_else plain_one and_then plain_one or_else plain_one)
 plain_date_line month_range = plain_some year_plain and_then (plain_nothing or_else plain_one) and_then plain_with (plain_digits 2)
 plain_date_line after_hyphened_month = plain_some year_plain and_then plain_one and_then plain_some month_plain
-plain_date_line after_plain_month = plain_some year_plain and_then plain_some month_plain
+plain_date_line after_basic_month = plain_some year_plain and_then plain_some month_plain
 plain_date_line day_digits =
     plain_some year_plain and_then plain_some month_plain and_then plain_one
     or_else plain_some year_plain and_then plain_one and_then plain_some month_plain and_then plain_one and_then plain_fewer
-plain_date_line day_range = plain_some (λ text date h. date_shape_plain text date h.0)
+plain_date_line day_range = plain_some (λ text date h. date_text_plain text date h.0)
 plain_date_line after_date = plain_some date_plain
 
 plain_year_month_line : (name : YearMonthLine) → PlainShape (front_of (year_month_line name))
@@ -60,12 +64,12 @@ plain_month_day_line month_day_month_digits = plain_one and_then plain_one or_el
 plain_month_day_line month_day_month_range = plain_marks and_then plain_with (plain_digits 2)
 plain_month_day_line after_month_day_month = plain_marks and_then plain_some month_plain
 plain_month_day_line month_day_day_digits = plain_marks and_then plain_some month_plain and_then (plain_one or_else plain_hyphen and_then plain_one)
-plain_month_day_line month_day_range = plain_some (λ text date h. month_day_shape_plain text date h.0)
-plain_month_day_line after_month_day = plain_some month_day_plain
+plain_month_day_line (month_day_range profile) = plain_some (λ text date h. month_day_text_plain text date h.0)
+plain_month_day_line (after_month_day profile) = plain_some (month_day_plain profile)
 
 plain_time_line : (name : TimeLine) → PlainShape (front_of (time_line name))
 plain_time_line time_start = plain_nothing
-plain_time_line time_reads_as_month_day = plain_some month_day_plain
+plain_time_line (time_reads_as_month_day profile) = plain_some (month_day_plain profile)
 plain_time_line time_reads_as_year_month = plain_some year_month_plain
 
 plain_core_line : (name : CoreLine) → PlainShape (front_of (core_line name))
@@ -83,8 +87,8 @@ plain_hour : PlainShape (some Hour)
 plain_hour = plain_some (λ text hour h. (plain_digits 2).plain text h.0)
 
 -- a minute, before the digits of a second
-plain_minute : PlainShape (some PlainMinuteText)
-plain_minute = plain_some (clock_plain Time plain_minutes)
+plain_minute : PlainShape (some BasicMinuteText)
+plain_minute = plain_some (clock_plain Time basic_minutes)
 
 colon_minute : PlainShape (some ColonMinuteText)
 colon_minute = plain_some (clock_plain Time colon_minutes)
@@ -96,7 +100,7 @@ plain_clock_line follow clock hour_range = plain_with (plain_digits 2)
 plain_clock_line follow clock after_hour = plain_clock clock hours
 plain_clock_line follow clock minute_digits = plain_hour and_then (plain_one or_else plain_one and_then plain_one or_else plain_one)
 plain_clock_line follow clock minute_range = plain_hour and_then (plain_nothing or_else plain_one) and_then plain_with (plain_digits 2)
-plain_clock_line follow clock after_plain_minute = plain_clock clock plain_minutes
+plain_clock_line follow clock after_basic_minute = plain_clock clock basic_minutes
 plain_clock_line follow clock after_colon_minute = plain_clock clock colon_minutes
 plain_clock_line follow clock second_digits = plain_where (plain_minute and_then plain_one or_else colon_minute and_then plain_one and_then plain_fewer)
 plain_clock_line follow clock second_range =
@@ -133,20 +137,20 @@ plain_pair_line after_value_hyphen = plain_key and_then plain_one and_then plain
 
 -- ---- durations
 
-plain_duration_line : (name : DurationLine) → PlainShape (front_of (duration_line name))
-plain_duration_line duration_start = plain_nothing
-plain_duration_line after_duration_sign = plain_one
-plain_duration_line after_duration_designator = plain_some designator_plain
-plain_duration_line after_date_groups = plain_after_dates
-plain_duration_line after_time_designator = plain_after_time
-plain_duration_line after_time_groups = plain_after_times
-plain_duration_line (group_digits half) = plain_in_context (λ context. plain_number)
-plain_duration_line (group_value_range half) = plain_in_context (λ context. plain_value_past)
-plain_duration_line (unit_order half) = plain_in_context (plain_out_of_order half)
-plain_duration_line date_unit_range = plain_in_context plain_unit_past
-plain_duration_line group_fraction_start = plain_in_context (λ context. plain_number and_then plain_one)
-plain_duration_line group_fraction_digits = plain_in_context (λ context. plain_number and_then plain_one and_then plain_some_digits)
-plain_duration_line after_fraction_group = plain_in_context plain_last_group
+plain_duration_line : (profile : Profile) (name : DurationLine) → PlainShape (front_of (duration_line profile name))
+plain_duration_line profile duration_start = plain_nothing
+plain_duration_line profile after_duration_sign = plain_one
+plain_duration_line profile after_duration_designator = plain_some designator_plain
+plain_duration_line profile after_date_groups = plain_after_dates profile
+plain_duration_line profile after_time_designator = plain_after_time profile
+plain_duration_line profile after_time_groups = plain_after_times profile
+plain_duration_line profile (group_digits half) = plain_in_context profile (λ context. plain_number)
+plain_duration_line profile (group_value_range half) = plain_in_context profile (λ context. plain_value_past)
+plain_duration_line profile (unit_order half) = plain_in_context profile (plain_out_of_order profile half)
+plain_duration_line profile date_unit_range = plain_in_context profile (plain_unit_past profile)
+plain_duration_line profile group_fraction_start = plain_in_context profile (λ context. plain_number and_then plain_one)
+plain_duration_line profile group_fraction_digits = plain_in_context profile (λ context. plain_number and_then plain_one and_then plain_some_digits)
+plain_duration_line profile after_fraction_group = plain_in_context profile (plain_last_group profile)
 
 -- ---- any line
 
@@ -157,4 +161,4 @@ plain_line brackets (of_offset name) = plain_offset_line name
 plain_line brackets (of_zone name) = plain_zone_line brackets name
 plain_line brackets (of_bracket name) = plain_bracket_line name
 plain_line brackets (of_pair name) = plain_pair_line name
-plain_line brackets (of_duration name) = plain_duration_line name
+plain_line brackets (of_duration profile name) = plain_duration_line profile name

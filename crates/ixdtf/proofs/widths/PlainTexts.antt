@@ -1,15 +1,16 @@
 -- Plain texts: no letter of them is Bad. Each text of a shape of the grammar is plain, but for durations (PlainDurations).
 use Rattle.std.proofs.Common.{ℕ, zero, suc, Bool, true, false, List, [], ◌∷◌, ◌++◌, Option, Some, None, inl, inr, ℤ}
+use Rattle.ixdtf.specs.declared.parsers.profile.Profile.{Profile}
 use Rattle.ixdtf.specs.declared.records.DateRecord.{DateRecord}
 use Rattle.ixdtf.specs.declared.records.TimeRecord.{TimeRecord}
 use Rattle.ixdtf.specs.declared.records.UtcOffsetRecordOrZ.{UtcOffsetRecordOrZ}
 use Rattle.ixdtf.specs.language.Letters.{Text, Class}
 use Rattle.ixdtf.specs.language.Letters.Letter.{Plain, Bad}
 use Rattle.ixdtf.specs.language.Shapes.{Shape, nothing, one, ◌then◌, ◌either◌, digits, fewer_digits_than, some, Joined, many}
-use Rattle.ixdtf.specs.language.Dates.{Year, Month, DateShape, IsDate}
-use Rattle.ixdtf.specs.language.Months.{OptionalHyphen, Marks, IsYearMonth, MonthDayShape, IsMonthDay, least_day}
+use Rattle.ixdtf.specs.language.Dates.{Year, Month, DateText, IsDate}
+use Rattle.ixdtf.specs.language.Months.{OptionalHyphen, Marks, IsYearMonth, MonthDayText, IsMonthDay}
 use Rattle.ixdtf.specs.language.Times.{Clock, TimeShape, SecondText, ClockOf, IsTime}
-use Rattle.ixdtf.specs.language.Times.TimeShape.{hours, plain_minutes, colon_minutes, seconds, fractions}
+use Rattle.ixdtf.specs.language.Times.TimeShape.{hours, basic_minutes, colon_minutes, seconds, fractions}
 use Rattle.ixdtf.specs.language.Fractions.{SomeDigits, FractionParts, IsFraction}
 use Rattle.ixdtf.specs.language.Offsets.{IsSigned, IsOffsetOrZ}
 use Rattle.ixdtf.specs.language.ZoneNames.{ZoneName, Zone, IsZone}
@@ -98,14 +99,14 @@ year_plain text year (inr h) = rw h.is (digits_plain 6 h.ds h.digits)
 pub month_plain : (text : Text) (month : ℕ) → Month text month → IsPlain text
 month_plain text month h = digits_plain 2 text h.0.0
 
-pub date_shape_plain : (text : Text) (date : DateRecord) → DateShape text date → IsPlain text
-date_shape_plain text date (inl h) =
+pub date_text_plain : (text : Text) (date : DateRecord) → DateText text date → IsPlain text
+date_text_plain text date (inl h) =
     rw h.is (plain_append h.years _ (year_plain _ _ h.year) (plain_append h.months _ (month_plain _ _ h.month) (digits_plain 2 h.days h.day.0)))
-date_shape_plain text date (inr h) =
+date_text_plain text date (inr h) =
     rw h.is (plain_append h.years _ (year_plain _ _ h.year) (plain_append h.months _ (month_plain _ _ h.month) (digits_plain 2 h.days h.day.0)))
 
 pub date_plain : (text : Text) (date : DateRecord) → IsDate text date → IsPlain text
-date_plain text date h = date_shape_plain text date h.0
+date_plain text date h = date_text_plain text date h.0
 
 pub plain_hyphen : PlainShape OptionalHyphen
 plain_hyphen = plain_nothing or_else plain_one
@@ -117,13 +118,13 @@ pub year_month_plain : (text : Text) (date : DateRecord) → IsYearMonth text da
 year_month_plain text date h =
     rw h.is (plain_append h.years _ (year_plain _ _ h.year) (plain_append h.hyphens _ (plain_hyphen.plain _ h.hyphen) (month_plain _ _ h.month)))
 
-pub month_day_shape_plain : (text : Text) (date : DateRecord) → MonthDayShape text date → IsPlain text
-month_day_shape_plain text date h =
+pub month_day_text_plain : (text : Text) (date : DateRecord) → MonthDayText text date → IsPlain text
+month_day_text_plain text date h =
     rw h.is (plain_append h.marks _ (plain_marks.plain _ h.mark) (plain_append h.months _ (month_plain _ _ h.month)
     (plain_append h.hyphens _ (plain_hyphen.plain _ h.hyphen) (digits_plain 2 h.days h.day.0))))
 
-pub month_day_plain : (text : Text) (date : DateRecord) → IsMonthDay least_day text date → IsPlain text
-month_day_plain text date h = month_day_shape_plain text date h.0
+pub month_day_plain : (profile : Profile) (text : Text) (date : DateRecord) → IsMonthDay profile text date → IsPlain text
+month_day_plain profile text date h = month_day_text_plain text date h.0
 
 -- ---- times and offsets
 
@@ -139,15 +140,17 @@ second_plain clock text time (inr h) = rw h.is (two_plain h.hs _ h.hour.0 (two_p
 
 pub clock_plain : (clock : Clock) (shape : TimeShape) (text : Text) (time : TimeRecord) → ClockOf clock shape text time → IsPlain text
 clock_plain clock hours text time h = digits_plain 2 text h.hour.0
-clock_plain clock plain_minutes text time h = rw h.is (two_plain h.hs _ h.hour.0 (digits_plain 2 h.ms h.minute.0))
+clock_plain clock basic_minutes text time h = rw h.is (two_plain h.hs _ h.hour.0 (digits_plain 2 h.ms h.minute.0))
 clock_plain clock colon_minutes text time h = rw h.is (two_plain h.hs _ h.hour.0 (digits_plain 2 h.ms h.minute.0))
-clock_plain clock seconds text time h = second_plain clock text time h.0
-clock_plain clock fractions text time h = rw h.is (plain_append h.whole _ (second_plain clock h.whole time h.second) (fraction_plain h.part h.fraction h.shape))
+clock_plain clock seconds text time h = second_plain clock text time h
+clock_plain clock fractions text time h =
+    rw h.is (plain_append h.whole _ (second_plain clock h.whole _ h.second) (fraction_plain h.part h.fraction h.is_fraction))
 
 pub time_plain : (text : Text) (time : TimeRecord) → IsTime text time → IsPlain text
 time_plain text time h = clock_plain _ h.0 text time h.1
 
-pub signed_plain : {O : Type 0} (clock : Clock) (record_of : ℕ → TimeShape → TimeRecord → O) (text : Text) (offset : O) → IsSigned clock record_of text offset → IsPlain text
+pub signed_plain : {O : Type 0} (clock : Clock) (record_of : ℕ → TimeShape → TimeRecord → O) (text : Text) (offset : O) → IsSigned clock record_of text offset
+    → IsPlain text
 signed_plain clock record_of text offset h = rw h.is (clock_plain clock h.shape h.body h.time h.clock)
 
 offset_or_z_plain : (text : Text) (offset : UtcOffsetRecordOrZ) → IsOffsetOrZ text offset → IsPlain text
@@ -176,8 +179,8 @@ date_time_plain text core (inr h) =
 pub core_plain : (kind : CoreKind) (text : Text) (core : Core) → IsCore kind text core → IsPlain text
 core_plain date_time text core h = date_time_plain text core h
 core_plain year_month text core h = year_month_plain text h.0 h.1
-core_plain month_day text core h = month_day_plain text h.0 h.1
-core_plain time_alone text core h = marked_plain text core h.0
+core_plain (month_day profile) text core h = month_day_plain profile text h.0 h.1
+core_plain (time_alone profile) text core h = marked_plain text core h.0
 
 -- ---- zones and brackets
 
@@ -207,7 +210,8 @@ pairs_plain text [] h = rw h tt
 pairs_plain text (pair ∷ pairs) h =
     let p = h.3 in
     rw (h.2, p.is) (plain_append (p.start ++ (p.keys ++ (Plain 61 ∷ (p.values ++ (Plain 93 ∷ []))))) h.1
-    (plain_append p.start _ (opens_plain _ _ p.opens) (plain_append p.keys _ (plain_key.plain _ p.is_key) (plain_append p.values (Plain 93 ∷ []) (plain_value.plain _ p.is_value) tt)))
+    (plain_append p.start _ (opens_plain _ _ p.opens)
+    (plain_append p.keys _ (plain_key.plain _ p.is_key) (plain_append p.values (Plain 93 ∷ []) (plain_value.plain _ p.is_value) tt)))
     (pairs_plain h.1 pairs h.4))
 
 pub tail_plain : (text : Text) (zone : Option ZoneNote) (pairs : List Pair) → IsTail text zone pairs → IsPlain text

@@ -3,20 +3,22 @@ use Rattle.std.proofs.Common.{◌≡◌, ◌⊎◌, ℕ, Bool, true, false, IsTr
 use Rattle.std.specs.List.{list_any}
 use Rattle.std.proofs.lemmas.List.Elements.{All-head, All-tail}
 use Rattle.std.proofs.lemmas.List.Folds.{list_any-from_Any}
-use Rattle.ixdtf.specs.Handlers.{PlainFault}
-use Rattle.ixdtf.specs.Widths.{PlainOutcome, HasWithPairs, HasAlone, HasPlain, is_shared, wide_text, byte_text, mask, SameWhereShared, FaultWhereNotShared}
-use Rattle.ixdtf.specs.Widths.PlainOutcome.{read_as, faulted}
+use Rattle.ixdtf.specs.Handlers.{UnhandledFault}
+use Rattle.ixdtf.specs.Widths.{UnhandledOutcome, HasWithPairs, HasAlone, HasUnhandledOutcome, is_shared, wide_text, byte_text, mask, SameWhereShared}
+use Rattle.ixdtf.specs.Widths.{FaultWhereNotShared}
+use Rattle.ixdtf.specs.Widths.UnhandledOutcome.{read_as, faulted}
 use Rattle.ixdtf.specs.language.Brackets.{Pair}
+use Rattle.ixdtf.specs.language.Languages.Derives.{as_parsed, as_shifted, as_identified, as_named, as_lasting}
 use Rattle.ixdtf.specs.language.Languages.{Found, Derives}
-use Rattle.ixdtf.specs.language.Languages.Found.{parsed, shifted, identified, named, lasting}
+use Rattle.ixdtf.specs.language.Languages.Found.{parsed}
 use Rattle.ixdtf.specs.language.Letters.{Text, wide_letter}
 use Rattle.ixdtf.specs.language.Letters.Letter.{Plain}
 use Rattle.ixdtf.specs.language.Readers.{Reader, CoreKind}
-use Rattle.ixdtf.specs.language.Readers.Reader.{bracketed, parse_offset, parse_identifier, parse_iana_identifier, parse_duration}
+use Rattle.ixdtf.specs.language.Readers.Reader.{bracketed}
 use Rattle.ixdtf.specs.table.Faults.{Fault}
 use Rattle.ixdtf.specs.table.Faults.Fault.{NonAsciiCodePoint}
 use Rattle.ixdtf.specs.table.Outcomes.{HasFault}
-use Rattle.ixdtf.proofs.theorems.OnePlainOutcome.{plain_outcome}
+use Rattle.ixdtf.proofs.theorems.OneUnhandledOutcome.{unhandled_outcome}
 use Rattle.ixdtf.proofs.widths.FirstBad.{Sees, plain_sees_nothing, sees_after}
 use Rattle.ixdtf.proofs.widths.PlainBefore.{fits_move}
 use Rattle.ixdtf.proofs.widths.PlainDurations.{duration_plain}
@@ -47,13 +49,12 @@ mask_sees (n ∷ numbers) h = by_first _ refl (λ is. mask_sees numbers (rw is a
 
 -- what a reader derives something from is plain
 derived_plain : (reader : Reader) (text : Text) (found : Found) (pairs : List Pair) → Derives reader text found pairs → IsPlain text
-derived_plain (bracketed kind) text (parsed found) pairs h =
-    rw h.is (plain_append h.cores h.brackets (core_plain kind h.cores h.core h.is_core) (tail_plain h.brackets h.zone pairs h.is_tail))
-derived_plain parse_offset text (shifted offset) pairs h = signed_plain _ _ text offset h.0
-derived_plain parse_identifier text (identified zone) pairs h = zone_plain text zone h.0
-derived_plain parse_iana_identifier text (named units) pairs h = plain_name.plain text h.0.0
-derived_plain parse_duration text (lasting duration) pairs h = duration_plain text duration h.0
-derived_plain reader text found pairs h = absurd h
+derived_plain reader text found pairs (as_parsed h) =
+    rw h.is (plain_append h.cores h.brackets (core_plain _ h.cores h.core h.is_core) (tail_plain h.brackets h.zone pairs h.is_tail))
+derived_plain reader text found pairs (as_shifted h) = signed_plain _ _ text _ h
+derived_plain reader text found pairs (as_identified h) = zone_plain text _ h
+derived_plain reader text found pairs (as_named h) = plain_name.plain text h.0
+derived_plain reader text found pairs (as_lasting h) = duration_plain _ text _ h
 
 fault_moves : (reader : Reader) (text other_text : Text) → Sees text other_text → (pairs : List Pair) (fault : Fault) → HasFault reader text pairs fault
     → (fault ≡ NonAsciiCodePoint) ⊎ HasFault reader other_text pairs fault
@@ -63,35 +64,36 @@ fault_moves reader text other_text sees pairs fault h = elim (fits_move reader h
 ]
 
 -- a refused pair stands behind a front that is derived, and so is in front of the other text
-plain_fault_moves : (reader : Reader) (text other_text : Text) → Sees text other_text → (fault : Fault) → PlainFault reader text fault
-    → (fault ≡ NonAsciiCodePoint) ⊎ PlainFault reader other_text fault
-plain_fault_moves reader text other_text sees fault (pairs, inl h) =
+unhandled_fault_moves : (reader : Reader) (text other_text : Text) → Sees text other_text → (fault : Fault) → UnhandledFault reader text fault
+    → (fault ≡ NonAsciiCodePoint) ⊎ UnhandledFault reader other_text fault
+unhandled_fault_moves reader text other_text sees fault (pairs, inl h) =
     let front = h.0 in
     let plain = derived_plain reader front.0 _ pairs front.4 in
     let next = sees_after front.0 front.1 other_text plain (rw (← front.2) sees) in
     inr (pairs, inl ((front.0, next.0, next.1, front.3, front.4), h.1))
-plain_fault_moves reader text other_text sees fault (pairs, inr h) = elim (fault_moves reader text other_text sees pairs fault h.0) [
+unhandled_fault_moves reader text other_text sees fault (pairs, inr h) = elim (fault_moves reader text other_text sees pairs fault h.0) [
   | inl e ↦ inl e
   | inr other_fault ↦ inr (pairs, inr (other_fault, h.1))
 ]
 
 -- the outcome is a fault: that of Bad, or one that is known besides
-abbrev IsFault : PlainOutcome → Type 0 → Type 0
+abbrev IsFault : UnhandledOutcome → Type 0 → Type 0
 IsFault outcome also = (fault : Fault) × (outcome ≡ faulted fault) × ((fault ≡ NonAsciiCodePoint) ⊎ also)
 
 module _ (text other_text : Text) (sees : Sees text other_text) where
-  with_pairs_moves : (kind : CoreKind) (outcome : PlainOutcome) → HasWithPairs kind text outcome → IsFault outcome (HasWithPairs kind other_text outcome)
+  with_pairs_moves : (kind : CoreKind) (outcome : UnhandledOutcome) → HasWithPairs kind text outcome → IsFault outcome (HasWithPairs kind other_text outcome)
   with_pairs_moves kind (read_as (parsed found)) h =
       absurd (plain_sees_nothing text other_text (derived_plain (bracketed kind) text (parsed h.1.read) h.0 h.1.whole) sees)
-  with_pairs_moves kind (faulted fault) h = (fault, refl, plain_fault_moves (bracketed kind) text other_text sees fault h)
+  with_pairs_moves kind (faulted fault) h = (fault, refl, unhandled_fault_moves (bracketed kind) text other_text sees fault h)
   with_pairs_moves kind (read_as found) h = absurd h
 
-  alone_moves : (reader : Reader) (outcome : PlainOutcome) → HasAlone reader text outcome → IsFault outcome (HasAlone reader other_text outcome)
+  alone_moves : (reader : Reader) (outcome : UnhandledOutcome) → HasAlone reader text outcome → IsFault outcome (HasAlone reader other_text outcome)
   alone_moves reader (read_as found) h = absurd (plain_sees_nothing text other_text (derived_plain reader text found [] h) sees)
   alone_moves reader (faulted fault) h = (fault, refl, fault_moves reader text other_text sees [] fault h)
 
   -- What a text with Bad gives: the fault of Bad, or what each text with the same letters before the first Bad gives.
-  outcome_moves : (reader : Reader) (outcome : PlainOutcome) → HasPlain reader text outcome → IsFault outcome (HasPlain reader other_text outcome)
+  outcome_moves : (reader : Reader) (outcome : UnhandledOutcome) → HasUnhandledOutcome reader text outcome
+      → IsFault outcome (HasUnhandledOutcome reader other_text outcome)
   outcome_moves (bracketed kind) outcome h = with_pairs_moves kind outcome h
   outcome_moves reader outcome h = alone_moves reader outcome h
 
@@ -100,14 +102,14 @@ module _ (text other_text : Text) (sees : Sees text other_text) where
 pub same_where_shared : SameWhereShared
 same_where_shared reader numbers all outcome =
     let same = same_letters numbers all in
-    (subst (λ t. HasPlain reader t outcome) same, subst (λ t. HasPlain reader t outcome) (sym same))
+    (subst (λ t. HasUnhandledOutcome reader t outcome) same, subst (λ t. HasUnhandledOutcome reader t outcome) (sym same))
 
 some_not_shared : (numbers : List ℕ) → Any (λ n. IsFalse (is_shared n)) numbers → IsTrue (list_any (λ n. not (is_shared n)) numbers)
 some_not_shared numbers h = list_any-from_Any (λ n. not _) numbers (h.0, h.1, h.2, h.3, ap not h.4)
 
 pub fault_where_not_shared : FaultWhereNotShared
 fault_where_not_shared reader numbers some =
-    let outcome = plain_outcome reader _ in
+    let outcome = unhandled_outcome reader _ in
     let sees = mask_sees numbers (some_not_shared numbers some) in
     let moved = outcome_moves _ _ sees reader outcome.0 outcome.1 in (
       moved.0,

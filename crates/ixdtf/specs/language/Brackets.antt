@@ -35,12 +35,12 @@ abbrev pub zone_only_lead : Class
 zone_only_lead c = zone_lead c && not (key_lead c)
 
 -- neither `=` nor `]`
-abbrev pub passed : Class
-passed c = not (equals c || closing c)
+abbrev pub skipped : Class
+skipped c = not (equals c || closing c)
 
 -- letters, and the first `=` or `]` of them is of the class; Bad does not stand before it
 abbrev pub FirstIs : Class → Shape
-FirstIs class = many (one passed) then one class then anything
+FirstIs class = many (one skipped) then one class then anything
 
 -- What begins here is a zone name: where a key might begin too, a `]` comes before any `=`.
 abbrev pub ReadsAsName : Shape

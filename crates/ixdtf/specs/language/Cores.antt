@@ -1,12 +1,13 @@
 -- Cores: what stands before the brackets of a text.
 use Rattle.std.specs.Prelude.{◌≡◌, ◌⊎◌, [], ◌++◌, Option, Some, None}
+use Rattle.ixdtf.specs.declared.parsers.profile.Profile.{Profile}
 use Rattle.ixdtf.specs.declared.records.DateRecord.{DateRecord}
 use Rattle.ixdtf.specs.declared.records.TimeRecord.{TimeRecord}
 use Rattle.ixdtf.specs.declared.records.UtcOffsetRecordOrZ.{UtcOffsetRecordOrZ}
 use Rattle.ixdtf.specs.language.Letters.{Text, date_time_separator, time_letter}
 use Rattle.ixdtf.specs.language.Shapes.{Shape, nothing, one, ◌then◌, ◌either◌, some, anything}
 use Rattle.ixdtf.specs.language.Dates.{IsDate}
-use Rattle.ixdtf.specs.language.Months.{IsYearMonth, IsMonthDay, least_day}
+use Rattle.ixdtf.specs.language.Months.{IsYearMonth, IsMonthDay}
 use Rattle.ixdtf.specs.language.Times.{IsTime}
 use Rattle.ixdtf.specs.language.Offsets.{IsOffsetOrZ}
 use Rattle.ixdtf.specs.language.Readers.{CoreKind}
@@ -72,17 +73,17 @@ abbrev pub HasFront : Shape → Shape
 HasFront shape = shape then anything
 
 -- no front of the text is a month-day, and none a year-month
-abbrev pub HasNoDateFront : Shape
-HasNoDateFront text = ¬ (HasFront (some (IsMonthDay least_day)) text) × ¬ (HasFront (some IsYearMonth) text)
+abbrev pub HasNoDateFront : Profile → Shape
+HasNoDateFront profile text = ¬ (HasFront (some (IsMonthDay profile)) text) × ¬ (HasFront (some IsYearMonth) text)
 
 -- a time that does not begin as a month-day or a year-month
-abbrev pub IsTimeCore : Text → Core → Type 0
-IsTimeCore text core = MarkedTime text core × HasNoDateFront text
+abbrev pub IsTimeCore : Profile → Text → Core → Type 0
+IsTimeCore profile text core = MarkedTime text core × HasNoDateFront profile text
 
 -- ---- a core of the kind
 
 abbrev pub IsCore : CoreKind → Text → Core → Type 0
 IsCore date_time text core = IsDateTimeCore text core
 IsCore year_month text core = DateAlone IsYearMonth text core
-IsCore month_day text core = DateAlone (IsMonthDay least_day) text core
-IsCore time_alone text core = IsTimeCore text core
+IsCore (month_day profile) text core = DateAlone (IsMonthDay profile) text core
+IsCore (time_alone profile) text core = IsTimeCore profile text core

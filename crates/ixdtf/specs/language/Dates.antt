@@ -12,8 +12,8 @@ abbrev pub signed : ℕ → ℕ → ℤ
 signed c n = if hyphen c then neg_ℤ (pos n) else pos n
 
 -- four digits
-abbrev pub PlainYear : Text → ℤ → Type 0
-PlainYear text year = digits 4 text × (year ≡ pos (decimal text))
+abbrev pub FourDigitYear : Text → ℤ → Type 0
+FourDigitYear text year = digits 4 text × (year ≡ pos (decimal text))
 
 -- a sign and six digits, and not `-000000`
 pub record ExtendedYear (text : Text) (year : ℤ) : Type 0 where
@@ -26,7 +26,7 @@ pub record ExtendedYear (text : Text) (year : ℤ) : Type 0 where
   pub value : year ≡ signed c (decimal ds)
 
 abbrev pub Year : Text → ℤ → Type 0
-Year text year = PlainYear text year ⊎ ExtendedYear text year
+Year text year = FourDigitYear text year ⊎ ExtendedYear text year
 
 -- 01 to 12
 abbrev pub Month : Text → ℕ → Type 0
@@ -43,7 +43,7 @@ month_length year month =
     else (if nat_eq month 4 || nat_eq month 6 || nat_eq month 9 || nat_eq month 11 then 30 else 31)
 
 -- year, month and day in a row; the day is any two digits
-pub record PlainDate (text : Text) (date : DateRecord) : Type 0 where
+pub record BasicDate (text : Text) (date : DateRecord) : Type 0 where
   pub years : Text
   pub months : Text
   pub days : Text
@@ -63,11 +63,11 @@ pub record HyphenedDate (text : Text) (date : DateRecord) : Type 0 where
   pub day : TwoDigits days date.day
 
 -- a date's text, whatever its day
-abbrev pub DateShape : Text → DateRecord → Type 0
-DateShape text date = PlainDate text date ⊎ HyphenedDate text date
+abbrev pub DateText : Text → DateRecord → Type 0
+DateText text date = BasicDate text date ⊎ HyphenedDate text date
 
 abbrev pub IsDayOfMonth : DateRecord → Type 0
 IsDayOfMonth date = (1 ≤ date.day) × (date.day ≤ month_length date.year date.month)
 
 abbrev pub IsDate : Text → DateRecord → Type 0
-IsDate text date = DateShape text date × IsDayOfMonth date
+IsDate text date = DateText text date × IsDayOfMonth date

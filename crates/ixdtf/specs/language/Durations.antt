@@ -1,6 +1,8 @@
 -- Durations: which texts stand for which durations (ISO 8601 section 5.5.2, `TemporalDurationString` of the Temporal grammar).
--- Unlike there, a unit may be repeated.
-use Rattle.std.specs.Prelude.{◌≡◌, ℕ, ◌≤◌, ◌⊎◌, Bool, true, IsTrue, List, [], ◌∷◌, ◌++◌, Option, Some, None, nat_eq, nat_le, ◌&&◌, if◌then◌else◌}
+-- Unlike there, a unit may be repeated, but not under the strict profile.
+use Rattle.std.specs.Prelude.{◌≡◌, ℕ, ◌+◌, ◌≤◌, ◌⊎◌, Bool, true, IsTrue, List, [], ◌∷◌, ◌++◌, Option, Some, None, nat_eq, nat_le, ◌&&◌, if◌then◌else◌}
+use Rattle.ixdtf.specs.declared.parsers.profile.Profile.{Profile}
+use Rattle.ixdtf.specs.declared.parsers.profile.Profile.TheVariants.{Crate, Strict}
 use Rattle.ixdtf.specs.declared.records.Sign.{Sign}
 use Rattle.ixdtf.specs.declared.records.Sign.TheVariants.{Positive}
 use Rattle.ixdtf.specs.declared.records.DurationParseRecord.{DurationParseRecord}
@@ -75,7 +77,7 @@ abbrev pub Number : Text → ℕ → Type 0
 Number text n = SomeDigits text × (n ≡ decimal text) × (n ≤ greatest_value)
 
 -- a number, and a letter of the half
-pub record PlainGroup (half : Half) (text : Text) (g : Group) : Type 0 where
+pub record IntegerGroup (half : Half) (text : Text) (g : Group) : Type 0 where
   pub ds : Text
   pub c : ℕ
   pub is : text ≡ ds ++ (Plain c ∷ [])
@@ -97,21 +99,26 @@ pub record FractionGroup (text : Text) (g : Group) : Type 0 where
   pub unit : g.unit ≡ unit_of time c
   pub fraction : g.fraction ≡ Some parts
 
--- whether a group of the second unit may stand behind one of the first: the units never grow, and an equal one may follow
-abbrev pub may_follow : DurationUnit → DurationUnit → Bool
-may_follow before after = nat_le (place before) (place after)
+-- the least step from the place of a unit to that of the next: an equal one may follow, or none
+abbrev pub least_step : Profile → ℕ
+least_step Crate = 0
+least_step Strict = 1
+
+-- whether a group of the second unit may stand behind one of the first
+abbrev pub may_follow : Profile → DurationUnit → DurationUnit → Bool
+may_follow profile before after = nat_le (place before + least_step profile) (place after)
 
 -- whether a group of the unit may stand behind all of these
-abbrev pub in_order : List Group → DurationUnit → Bool
-in_order [] unit = true
-in_order (g ∷ earlier) unit = may_follow g.unit unit && in_order earlier unit
+abbrev pub in_order : Profile → List Group → DurationUnit → Bool
+in_order profile [] unit = true
+in_order profile (g ∷ earlier) unit = may_follow profile g.unit unit && in_order profile earlier unit
 
 -- Groups of the half without fractions, in order and in the ranges of their units. The last group stands first in the list.
-abbrev pub Groups : Half → Text → List Group → Type 0
-Groups half text [] = text ≡ []
-Groups half text (g ∷ earlier) =
-    (before last : Text) × (text ≡ before ++ last) × Groups half before earlier × PlainGroup half last g
-    × IsTrue (in_order earlier g.unit) × (g.value ≤ greatest g.unit)
+abbrev pub Groups : Profile → Half → Text → List Group → Type 0
+Groups profile half text [] = text ≡ []
+Groups profile half text (g ∷ earlier) =
+    (before last : Text) × (text ≡ before ++ last) × Groups profile half before earlier × IntegerGroup half last g
+    × IsTrue (in_order profile earlier g.unit) × (g.value ≤ greatest g.unit)
 
 -- ---- the parts of a duration
 
@@ -122,17 +129,17 @@ SignedDesignator text s =
     ⊎ ((c : ℕ) × (rest : Text) × (text ≡ Plain c ∷ rest) × IsTrue (sign c) × one duration_designator rest × (s ≡ sign_of c))
 
 -- one or more time groups, the last one first; it alone may have a fraction
-abbrev pub TimeGroups : Text → List Group → Type 0
-TimeGroups text [] = ⊥
-TimeGroups text (g ∷ earlier) =
-    Groups time text (g ∷ earlier)
-    ⊎ ((before last : Text) × (text ≡ before ++ last) × Groups time before earlier × FractionGroup last g × IsTrue (in_order earlier g.unit))
+abbrev pub TimeGroups : Profile → Text → List Group → Type 0
+TimeGroups profile text [] = ⊥
+TimeGroups profile text (g ∷ earlier) =
+    Groups profile time text (g ∷ earlier)
+    ⊎ ((before last : Text) × (text ≡ before ++ last) × Groups profile time before earlier × FractionGroup last g × IsTrue (in_order profile earlier g.unit))
 
 -- nothing, or `T` and time groups (`DurationTime`)
-abbrev pub TimePart : Text → List Group → Type 0
-TimePart text times =
+abbrev pub TimePart : Profile → Text → List Group → Type 0
+TimePart profile text times =
     ((text ≡ []) × (times ≡ []))
-    ⊎ ((c : ℕ) × (groups : Text) × (text ≡ Plain c ∷ groups) × IsTrue (time_letter c) × TimeGroups groups times)
+    ⊎ ((c : ℕ) × (groups : Text) × (text ≡ Plain c ∷ groups) × IsTrue (time_letter c) × TimeGroups profile groups times)
 
 -- a group of dates, or of times
 abbrev pub AtLeastOne : List Group → List Group → Type 0
@@ -171,7 +178,7 @@ abbrev pub duration_of : Sign → List Group → List Group → DurationParseRec
 duration_of s dates times = record { sign = s; date = date_duration dates; time = time_duration times }
 
 -- An optional sign, `P`, date groups, and `T` and time groups; at least one group (`Duration`).
-pub record IsDuration (text : Text) (duration : DurationParseRecord) : Type 0 where
+pub record IsDuration (profile : Profile) (text : Text) (duration : DurationParseRecord) : Type 0 where
   pub start : Text
   pub date_text : Text
   pub time_text : Text
@@ -180,7 +187,7 @@ pub record IsDuration (text : Text) (duration : DurationParseRecord) : Type 0 wh
   pub times : List Group
   pub is : text ≡ start ++ (date_text ++ time_text)
   pub is_start : SignedDesignator start sign
-  pub are_dates : Groups date date_text dates
-  pub are_times : TimePart time_text times
+  pub are_dates : Groups profile date date_text dates
+  pub are_times : TimePart profile time_text times
   pub least : AtLeastOne dates times
   pub value : duration ≡ duration_of sign dates times

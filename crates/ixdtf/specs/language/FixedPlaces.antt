@@ -1,12 +1,12 @@
 -- A date and a time whose letters stand at fixed places, `YYYY-MM-DD`, a separator and `HH:MM:SS`: `full-date` and `partial-time`
 -- of RFC 3339 section 5.6, without a fraction.
-use Rattle.std.specs.Prelude.{◌≡◌, ℕ, IsTrue, ◌∷◌, ◌++◌, None}
+use Rattle.std.specs.Prelude.{◌≡◌, ℕ, IsTrue, ◌∷◌, ◌++◌}
 use Rattle.ixdtf.specs.declared.records.DateRecord.{DateRecord}
 use Rattle.ixdtf.specs.declared.records.TimeRecord.{TimeRecord}
 use Rattle.ixdtf.specs.language.Letters.{Text, date_time_separator}
 use Rattle.ixdtf.specs.language.Letters.Letter.{Plain}
 use Rattle.ixdtf.specs.language.Digits.{TwoDigits}
-use Rattle.ixdtf.specs.language.Dates.{PlainYear, Month, IsDayOfMonth}
+use Rattle.ixdtf.specs.language.Dates.{FourDigitYear, Month, IsDayOfMonth}
 use Rattle.ixdtf.specs.language.Times.{ColonSecondText}
 use Rattle.ixdtf.specs.language.Times.Clock.{Time}
 
@@ -16,14 +16,14 @@ pub record FixedDate (text : Text) (date : DateRecord) : Type 0 where
   pub months : Text
   pub days : Text
   pub is : text ≡ years ++ (Plain 45 ∷ (months ++ (Plain 45 ∷ days)))
-  pub year : PlainYear years date.year
+  pub year : FourDigitYear years date.year
   pub month : Month months date.month
   pub day : TwoDigits days date.day
   pub in_month : IsDayOfMonth date
 
 -- a time of eight letters
 abbrev pub FixedTime : Text → TimeRecord → Type 0
-FixedTime text time = ColonSecondText Time text time × (time.fraction ≡ None)
+FixedTime = ColonSecondText Time
 
 -- the date, a separator and the time in the first nineteen letters, and the text after them
 pub record FixedDateTime (text : Text) (date : DateRecord) (time : TimeRecord) (rest : Text) : Type 0 where

@@ -5,6 +5,7 @@ use Rattle.ixdtf.specs.declared.records.TimeRecord.{TimeRecord}
 use Rattle.ixdtf.specs.declared.records.UtcOffsetRecord.{UtcOffsetRecord}
 use Rattle.ixdtf.specs.declared.records.UtcOffsetRecordOrZ.{UtcOffsetRecordOrZ}
 use Rattle.ixdtf.specs.declared.records.DurationParseRecord.{DurationParseRecord}
+use Rattle.ixdtf.specs.declared.parsers.profile.Profile.{Profile}
 use Rattle.ixdtf.specs.language.Letters.{Text}
 use Rattle.ixdtf.specs.language.Offsets.{IsOffset}
 use Rattle.ixdtf.specs.language.ZoneNames.{Zone, IsZoneName, IsZone}
@@ -46,29 +47,11 @@ pub data Found : Type 0 where
   lasting : DurationParseRecord → Found
 
 -- the language of a reader: which texts stand for what, with which pairs
-abbrev pub Derives : Reader → Text → Found → List Pair → Type 0
-Derives (bracketed kind) text (parsed found) pairs = IsBracketed kind text found pairs
-Derives (bracketed kind) text (shifted offset) pairs = ⊥
-Derives (bracketed kind) text (identified zone) pairs = ⊥
-Derives (bracketed kind) text (named units) pairs = ⊥
-Derives (bracketed kind) text (lasting duration) pairs = ⊥
-Derives parse_offset text (shifted offset) pairs = IsOffset text offset × (pairs ≡ [])
-Derives parse_offset text (parsed found) pairs = ⊥
-Derives parse_offset text (identified zone) pairs = ⊥
-Derives parse_offset text (named units) pairs = ⊥
-Derives parse_offset text (lasting duration) pairs = ⊥
-Derives parse_identifier text (identified zone) pairs = IsZone text zone × (pairs ≡ [])
-Derives parse_identifier text (parsed found) pairs = ⊥
-Derives parse_identifier text (shifted offset) pairs = ⊥
-Derives parse_identifier text (named units) pairs = ⊥
-Derives parse_identifier text (lasting duration) pairs = ⊥
-Derives parse_iana_identifier text (named units) pairs = IsZoneName text units × (pairs ≡ [])
-Derives parse_iana_identifier text (parsed found) pairs = ⊥
-Derives parse_iana_identifier text (shifted offset) pairs = ⊥
-Derives parse_iana_identifier text (identified zone) pairs = ⊥
-Derives parse_iana_identifier text (lasting duration) pairs = ⊥
-Derives parse_duration text (lasting duration) pairs = IsDuration text duration × (pairs ≡ [])
-Derives parse_duration text (parsed found) pairs = ⊥
-Derives parse_duration text (shifted offset) pairs = ⊥
-Derives parse_duration text (identified zone) pairs = ⊥
-Derives parse_duration text (named units) pairs = ⊥
+pub data Derives : Reader → Text → Found → List Pair → Type 0 where
+  as_parsed : {kind : CoreKind} {text : Text} {found : Parsed} {pairs : List Pair} →
+      IsBracketed kind text found pairs → Derives (bracketed kind) text (parsed found) pairs
+  as_shifted : {text : Text} {offset : UtcOffsetRecord} → IsOffset text offset → Derives parse_offset text (shifted offset) []
+  as_identified : {text : Text} {zone : Zone} → IsZone text zone → Derives parse_identifier text (identified zone) []
+  as_named : {text : Text} {units : List ℕ} → IsZoneName text units → Derives parse_iana_identifier text (named units) []
+  as_lasting : {profile : Profile} {text : Text} {duration : DurationParseRecord} →
+      IsDuration profile text duration → Derives (parse_duration profile) text (lasting duration) []

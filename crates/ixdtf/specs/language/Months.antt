@@ -1,5 +1,7 @@
 -- A year and a month, and a month and a day (ISO 8601, Temporal grammar).
 use Rattle.std.specs.Prelude.{◌≡◌, ℕ, ◌≤◌, ◌++◌, pos}
+use Rattle.ixdtf.specs.declared.parsers.profile.Profile.{Profile}
+use Rattle.ixdtf.specs.declared.parsers.profile.Profile.TheVariants.{Crate, Strict}
 use Rattle.ixdtf.specs.declared.records.DateRecord.{DateRecord}
 use Rattle.ixdtf.specs.language.Letters.{Text, hyphen}
 use Rattle.ixdtf.specs.language.Shapes.{Shape, nothing, one, ◌then◌, ◌either◌}
@@ -25,7 +27,7 @@ pub record IsYearMonth (text : Text) (date : DateRecord) : Type 0 where
   pub first_day : date.day ≡ 1
 
 -- a month and any two digits, with or without a hyphen between, and with or without two hyphens before; the year is 0
-pub record MonthDayShape (text : Text) (date : DateRecord) : Type 0 where
+pub record MonthDayText (text : Text) (date : DateRecord) : Type 0 where
   pub marks : Text
   pub months : Text
   pub hyphens : Text
@@ -41,13 +43,13 @@ pub record MonthDayShape (text : Text) (date : DateRecord) : Type 0 where
 abbrev pub greatest_day : ℕ → ℕ
 greatest_day month = month_length (pos 0) month
 
-abbrev pub IsDayOfSomeYear : ℕ → DateRecord → Type 0
-IsDayOfSomeYear least date = (least ≤ date.day) × (date.day ≤ greatest_day date.month)
-
--- a month-day, whose day is at least this
-abbrev pub IsMonthDay : ℕ → Text → DateRecord → Type 0
-IsMonthDay least text date = MonthDayShape text date × IsDayOfSomeYear least date
-
 -- the least day of a month-day
-abbrev pub least_day : ℕ
-least_day = 0
+abbrev pub least_day : Profile → ℕ
+least_day Crate = 0
+least_day Strict = 1
+
+abbrev pub IsDayOfSomeYear : Profile → DateRecord → Type 0
+IsDayOfSomeYear profile date = (least_day profile ≤ date.day) × (date.day ≤ greatest_day date.month)
+
+abbrev pub IsMonthDay : Profile → Text → DateRecord → Type 0
+IsMonthDay profile text date = MonthDayText text date × IsDayOfSomeYear profile date

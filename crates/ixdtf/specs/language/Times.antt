@@ -25,12 +25,12 @@ has_seconds MinuteOffset = false
 
 -- the shapes of a time, by what stands last in it
 pub data TimeShape : Type 0 where
-  hours plain_minutes colon_minutes seconds fractions : TimeShape
+  hours basic_minutes colon_minutes seconds fractions : TimeShape
 
 -- whether a second stands in it
 abbrev pub writes_seconds : TimeShape → Bool
 writes_seconds hours = false
-writes_seconds plain_minutes = false
+writes_seconds basic_minutes = false
 writes_seconds colon_minutes = false
 writes_seconds seconds = true
 writes_seconds fractions = true
@@ -43,7 +43,7 @@ pub record HourText (text : Text) (time : TimeRecord) : Type 0 where
   pub no_fraction : time.fraction ≡ None
 
 -- `Hour Min`
-pub record PlainMinuteText (text : Text) (time : TimeRecord) : Type 0 where
+pub record BasicMinuteText (text : Text) (time : TimeRecord) : Type 0 where
   pub hs : Text
   pub ms : Text
   pub is : text ≡ hs ++ ms
@@ -62,8 +62,8 @@ pub record ColonMinuteText (text : Text) (time : TimeRecord) : Type 0 where
   pub no_second : time.second ≡ 0
   pub no_fraction : time.fraction ≡ None
 
--- `Hour Min Sec`, and any fraction in the record
-pub record PlainSecondText (clock : Clock) (text : Text) (time : TimeRecord) : Type 0 where
+-- `Hour Min Sec`
+pub record BasicSecondText (clock : Clock) (text : Text) (time : TimeRecord) : Type 0 where
   pub hs : Text
   pub ms : Text
   pub ss : Text
@@ -72,8 +72,9 @@ pub record PlainSecondText (clock : Clock) (text : Text) (time : TimeRecord) : T
   pub hour : UpTo 23 hs time.hour
   pub minute : UpTo 59 ms time.minute
   pub second : UpTo (greatest_second clock) ss time.second
+  pub no_fraction : time.fraction ≡ None
 
--- `Hour : Min : Sec`, and any fraction in the record
+-- `Hour : Min : Sec`
 pub record ColonSecondText (clock : Clock) (text : Text) (time : TimeRecord) : Type 0 where
   pub hs : Text
   pub ms : Text
@@ -83,25 +84,26 @@ pub record ColonSecondText (clock : Clock) (text : Text) (time : TimeRecord) : T
   pub hour : UpTo 23 hs time.hour
   pub minute : UpTo 59 ms time.minute
   pub second : UpTo (greatest_second clock) ss time.second
+  pub no_fraction : time.fraction ≡ None
 
 abbrev pub SecondText : Clock → Text → TimeRecord → Type 0
-SecondText clock text time = PlainSecondText clock text time ⊎ ColonSecondText clock text time
+SecondText clock text time = BasicSecondText clock text time ⊎ ColonSecondText clock text time
 
--- a time with seconds, and a fraction of them
+-- the text of the time without its fraction, and the fraction of its seconds
 pub record FractionText (clock : Clock) (text : Text) (time : TimeRecord) : Type 0 where
   pub whole : Text
   pub part : Text
   pub fraction : FractionParts
   pub is : text ≡ whole ++ part
-  pub second : SecondText clock whole time
-  pub shape : IsFraction part fraction
+  pub second : SecondText clock whole (record time { fraction = None })
+  pub is_fraction : IsFraction part fraction
   pub value : time.fraction ≡ Some fraction
 
 abbrev pub ClockOf : Clock → TimeShape → Text → TimeRecord → Type 0
 ClockOf clock hours text time = HourText text time
-ClockOf clock plain_minutes text time = PlainMinuteText text time
+ClockOf clock basic_minutes text time = BasicMinuteText text time
 ClockOf clock colon_minutes text time = ColonMinuteText text time
-ClockOf clock seconds text time = SecondText clock text time × (time.fraction ≡ None)
+ClockOf clock seconds text time = SecondText clock text time
 ClockOf clock fractions text time = FractionText clock text time
 
 -- a time of any shape

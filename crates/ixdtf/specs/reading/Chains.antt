@@ -14,7 +14,8 @@ use Rattle.ixdtf.specs.table.LineNames.LineName.{of_core, of_clock, of_offset, o
 use Rattle.ixdtf.specs.table.LineNames.BracketLine.{first_bracket_start, first_critical_start, first_bracket_scan, after_bracket}
 use Rattle.ixdtf.specs.table.LineNames.PairLine.{key_start, critical_key_start, in_key, value_start, in_value, after_value_hyphen}
 use Rattle.ixdtf.specs.table.Rows.{Row, FitsHere}
-use Rattle.ixdtf.specs.Handlers.{Reply, first_calendar, NoneRefused, LastRefused, GivesRecord, GivesFault, Calls, handed, replies_of, Step, IsChain}
+use Rattle.ixdtf.specs.Handlers.{Reply, first_calendar, NoneRefused, LastRefused, Calls, handed, replies_of, Step, IsChain}
+use Rattle.ixdtf.specs.Laws.{GivesResult}
 use Rattle.ixdtf.specs.reading.Looks.{error_of}
 use Rattle.ixdtf.specs.reading.Cores.{core_at}
 
@@ -38,7 +39,7 @@ AfterBrackets (of_core line) before = ⊥
 AfterBrackets (of_clock clock line) before = ⊥
 AfterBrackets (of_offset line) before = ⊥
 AfterBrackets (of_zone line) before = ⊥
-AfterBrackets (of_duration line) before = ⊥
+AfterBrackets (of_duration profile line) before = ⊥
 
 -- the row fits what stands after whole brackets
 abbrev pub FitsAfterBrackets : Row → Text → Type 0
@@ -59,11 +60,6 @@ abbrev pub first_pairs : Option Pair → List Pair
 first_pairs None = []
 first_pairs (Some pair) = pair ∷ []
 
--- What the pairs and the replies give of the whole text.
-abbrev pub TextGives : Reader → Text → List Pair → List Reply → Result Parsed Fault → Type 0
-TextGives reader text pairs replies (Ok found) = GivesRecord reader text pairs replies found
-TextGives reader text pairs replies (Err fault) = GivesFault reader text pairs replies fault
-
 module _ {T U F : Type 0} (number : U → ℕ) (step : Step T U F) (handler last : F) where
   -- For a chain of calls on these first pairs and more of the text.
   pub record PairsRead (first : List Pair) (text : Text) (result : Result (Option Pair) Fault) : Type 0 where
@@ -77,7 +73,7 @@ module _ {T U F : Type 0} (number : U → ℕ) (step : Step T U F) (handler last
   pub record TextRead (reader : Reader) (text : Text) (result : Result Parsed Fault) : Type 0 where
     pub calls : Calls T U
     pub chain : IsChain step handler calls last
-    pub gives : TextGives reader text (handed number calls) (replies_of number calls) result
+    pub gives : GivesResult reader text (handed number calls) (replies_of number calls) result
 
   -- For any text of which this core was read, with a bracket after it or none, and this rest is left.
   abbrev pub TextReadAfter : Core → Bool → Text → Result Parsed Fault → Type 0

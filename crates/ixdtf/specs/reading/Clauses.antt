@@ -1,13 +1,14 @@
 -- Forms of the clauses of private functions, and what the code's own types stand for. No public clause cites one.
 use Rattle.std.specs.Prelude.{◌≡◌, ◌↔◌, ℕ, Bool, IsTrue, IsFalse, OnOk, IfErr, ◌+◌, ◌≤◌, map, length, Option, Some, None, Result, Ok, Err, ◌∷◌, if◌then◌else◌}
+use Rattle.ixdtf.specs.declared.parsers.profile.Profile.{Profile}
 use Rattle.ixdtf.specs.declared.records.DateRecord.{DateRecord}
 use Rattle.ixdtf.specs.declared.records.IxdtfParseRecord.{IxdtfParseRecord}
 use Rattle.ixdtf.specs.declared.stop.Stop.{Stop}
 use Rattle.ixdtf.specs.declared.stop.Stop.TheVariants as stops
 use Rattle.ixdtf.specs.declared.parsers.time.Clock.{Clock as CodeClock}
 use Rattle.ixdtf.specs.declared.parsers.time.Clock.TheVariants as code_clocks
-use Rattle.ixdtf.specs.declared.parsers.time.Shape.{Shape as CodeShape}
-use Rattle.ixdtf.specs.declared.parsers.time.Shape.TheVariants as code_shapes
+use Rattle.ixdtf.specs.declared.parsers.time.TimeShape.{TimeShape as CodeTimeShape}
+use Rattle.ixdtf.specs.declared.parsers.time.TimeShape.TheVariants as code_shapes
 use Rattle.ixdtf.specs.declared.parsers.fixed.WholeTime.{WholeTime}
 use Rattle.ixdtf.specs.declared.records.TimeRecord.{TimeRecord}
 use Rattle.ixdtf.specs.declared.parsers.brackets.Bracket.{Bracket as CodeBracket}
@@ -27,7 +28,7 @@ use Rattle.ixdtf.specs.table.Outcomes.{NoRowFits}
 use Rattle.ixdtf.specs.table.Lines.{always, abrupt_digit, abrupt_date, abrupt_month_day, abrupt_bracket, abrupt_offset, abrupt_zone}
 use Rattle.ixdtf.specs.table.Lines.{abrupt_duration_start, abrupt_duration_designator, abrupt_duration, abrupt_date_designator, abrupt_time_designator}
 use Rattle.ixdtf.specs.Views.{Unread, note_of}
-use Rattle.ixdtf.specs.Handlers.{pair_of, PlainRecord, PlainFault, PlainOnlyFault}
+use Rattle.ixdtf.specs.Handlers.{pair_of, UnhandledRecord, UnhandledFault, UnhandledOnlyFault}
 use Rattle.ixdtf.specs.Laws.{IsTextReader, InNoOther}
 use Rattle.ixdtf.specs.reading.Looks.{Read, Look, ◌>>=◌, error_of, digit_run}
 use Rattle.ixdtf.specs.reading.Times.{OpenTime, time_of, clock_at}
@@ -128,12 +129,12 @@ SpendsOr more found old (Ok x) new = Spends found old new
 SpendsOr more found old (Err e) new = Spends more old new
 
 -- what a form without a handler promises, where each pair replies for itself
-pub record PlainForm (reader : Reader) (text : Text) (result : Result Parsed Fault) : Type 0 where
-  pub ok : (found : Parsed) → (result ≡ Ok found) ↔ PlainRecord reader text found
-  pub err : IfErr result (λ fault. PlainFault reader text fault)
+pub record UnhandledForm (reader : Reader) (text : Text) (result : Result Parsed Fault) : Type 0 where
+  pub ok : (found : Parsed) → (result ≡ Ok found) ↔ UnhandledRecord reader text found
+  pub err : IfErr result (λ fault. UnhandledFault reader text fault)
   pub no_row : OnOk result (NoRowFits reader text)
-  pub alone : OnOk result (IsTextReader reader → InNoOther reader text)
-  pub only : IfErr result (λ fault. PlainOnlyFault reader text fault)
+  pub alone : OnOk result ((profile : Profile) → IsTextReader profile reader → InNoOther profile reader text)
+  pub only : IfErr result (λ fault. UnhandledOnlyFault reader text fault)
 
 -- a test held of a number that was handed back, or else the stop came
 abbrev pub Checks : {X Y : Type 0} → (X → Y) → Result X Stop → Y → Bool → Fault → Type 0
@@ -175,9 +176,9 @@ clock_of code_clocks.Time = clocks.Time
 clock_of code_clocks.Offset = clocks.Offset
 clock_of code_clocks.MinuteOffset = clocks.MinuteOffset
 
-abbrev pub shape_of : CodeShape → TimeShape
+abbrev pub shape_of : CodeTimeShape → TimeShape
 shape_of code_shapes.Hours = shapes.hours
-shape_of code_shapes.PlainMinutes = shapes.plain_minutes
+shape_of code_shapes.BasicMinutes = shapes.basic_minutes
 shape_of code_shapes.ColonMinutes = shapes.colon_minutes
 shape_of code_shapes.Seconds = shapes.seconds
 shape_of code_shapes.Fractions = shapes.fractions
@@ -187,17 +188,21 @@ abbrev pub time_to_second : WholeTime → TimeRecord
 time_to_second time = time_of time.hour time.minute time.second None
 
 -- a time that was written, and how far
-abbrev pub open_time_of : TimeRecord → CodeShape → OpenTime
+abbrev pub open_time_of : TimeRecord → CodeTimeShape → OpenTime
 open_time_of time shape = (shape_of shape, time)
 
 -- what is read behind a date, with a time behind it or without
-abbrev pub after_date_time_at : Option DateRecord → TimeRecord → Option CodeShape → Text → Read Fault ClosedCore
+abbrev pub after_date_time_at : Option DateRecord → TimeRecord → Option CodeTimeShape → Text → Read Fault ClosedCore
 after_date_time_at date time None text = core_end_at error_of (of_date after_date) (core_of date None None) text
 after_date_time_at date time (Some shape) text = after_time_at error_of date (open_time_of time shape) text
 
 -- the core that stands in a record
 abbrev pub core_in : {T U : Type 0} → IxdtfParseRecord T U → Core
 core_in found = core_of found.date found.time found.offset
+
+-- nothing stands in a record of what brackets write
+abbrev pub HasNoBrackets : {T U : Type 0} → IxdtfParseRecord T U → Type 0
+HasNoBrackets found = (found.tz ≡ None) × (found.calendar ≡ None)
 
 -- what brackets write in a record is as before
 abbrev pub KeepsBrackets : {T U : Type 0} → IxdtfParseRecord T U → IxdtfParseRecord T U → Type 0

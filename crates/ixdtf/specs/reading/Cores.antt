@@ -1,5 +1,6 @@
 -- Reading a core, and whether a bracket follows it.
 use Rattle.std.specs.Prelude.{ℕ, Bool, Option, Some, None, is_some, Ok, Err, if◌then◌else◌}
+use Rattle.ixdtf.specs.declared.parsers.profile.Profile.{Profile}
 use Rattle.ixdtf.specs.declared.records.DateRecord.{DateRecord}
 use Rattle.ixdtf.specs.declared.records.TimeRecord.{TimeRecord}
 use Rattle.ixdtf.specs.declared.records.UtcOffsetRecord.{UtcOffsetRecord}
@@ -122,23 +123,23 @@ marked_core_at fault text = do
   after_time_at fault None time.0 time.1
 
 -- The test of a time's front: where the text begins as a month-day or a year-month, this is the fault.
-abbrev pub unfronted : {E A : Type 0} → (Row → E) → Text → Read E A → Read E A
-unfronted fault text read =
-    if month_day_begins text then Err (fault (row_of (of_time time_reads_as_month_day) anywhere AmbiguousTimeMonthDay))
+abbrev pub unfronted : {E A : Type 0} → (Row → E) → Profile → Text → Read E A → Read E A
+unfronted fault profile text read =
+    if month_day_begins profile text then Err (fault (row_of (of_time (time_reads_as_month_day profile)) anywhere AmbiguousTimeMonthDay))
     else (if year_month_begins text then Err (fault (row_of (of_time time_reads_as_year_month) anywhere AmbiguousTimeYearMonth)) else read)
 
 -- a time and its offset, before the end or a bracket; and then the test of its front
-unfoldable pub time_alone_core_at : {E : Type 0} → (Row → E) → Text → Read E ClosedCore
-time_alone_core_at fault text = do
+unfoldable pub time_alone_core_at : {E : Type 0} → (Row → E) → Profile → Text → Read E ClosedCore
+time_alone_core_at fault profile text = do
   core ← marked_core_at fault text
-  unfronted fault text (Ok core)
+  unfronted fault profile text (Ok core)
 
 -- a core of the kind
 abbrev pub core_at : {E : Type 0} → (Row → E) → CoreKind → Text → Read E ClosedCore
 core_at fault date_time text = date_time_core_at fault text
 core_at fault year_month text = date_alone_at fault (of_year_month after_year_month) (year_month_at fault text)
-core_at fault month_day text = date_alone_at fault (of_month_day after_month_day) (month_day_at fault text)
-core_at fault time_alone text = time_alone_core_at fault text
+core_at fault (month_day profile) text = date_alone_at fault (of_month_day (after_month_day profile)) (month_day_at fault profile text)
+core_at fault (time_alone profile) text = time_alone_core_at fault profile text
 
 -- opening this opens the readings of a date and of what stands behind it, up to the end of its time
 unfoldable pub date_time_readings : ℕ

@@ -9,7 +9,7 @@ use Rattle.ixdtf.specs.table.Faults.Fault.{DateExtendedYear, InvalidMonthRange, 
 use Rattle.ixdtf.specs.language.Dates.{signed, month_length}
 use Rattle.ixdtf.specs.table.LineNames.{LineName, of_date}
 use Rattle.ixdtf.specs.table.LineNames.DateLine.{year_start, year_digits, extended_year_digits, minus_zero_year, after_year, month_digits}
-use Rattle.ixdtf.specs.table.LineNames.DateLine.{month_range, after_hyphened_month, after_plain_month, day_digits, day_range}
+use Rattle.ixdtf.specs.table.LineNames.DateLine.{month_range, after_hyphened_month, after_basic_month, day_digits, day_range}
 use Rattle.ixdtf.specs.table.Rows.{Row}
 use Rattle.ixdtf.specs.table.Rows.Place.{anywhere}
 use Rattle.ixdtf.specs.reading.Looks.{Read, Look, ◌>>=◌, row_of, look_at_line, letter_at, digits_at, mark_by, mark_at, look_readings}
@@ -22,15 +22,15 @@ extended_year_at fault c text = do
       else Ok (signed c (decimal ds.0), ds.1)
 
 -- after the first digit
-unfoldable pub plain_year_at : {E : Type 0} → (Row → E) → ℕ → Text → Read E ℤ
-plain_year_at fault c text = do
+unfoldable pub four_digit_year_at : {E : Type 0} → (Row → E) → ℕ → Text → Read E ℤ
+four_digit_year_at fault c text = do
   ds ← digits_at fault (of_date year_digits) 3 text
   Ok (pos (decimal (Plain c ∷ ds.0)), ds.1)
 
 unfoldable pub year_at : {E : Type 0} → (Row → E) → Text → Read E ℤ
 year_at fault text = do
   first ← letter_at fault (of_date year_start) text
-  if sign first.0 then extended_year_at fault first.0 first.1 else plain_year_at fault first.0 first.1
+  if sign first.0 then extended_year_at fault first.0 first.1 else four_digit_year_at fault first.0 first.1
 
 -- the month of the two digits that were read
 unfoldable pub month_in_range : {E : Type 0} → (Row → E) → Text × Text → Read E ℕ
@@ -62,7 +62,7 @@ month_at fault name text = month_by fault (look_at_line fault name) text
 -- the line after a month, which has a hyphen before it or has none
 abbrev pub line_after_month : Bool → LineName
 line_after_month true = of_date after_hyphened_month
-line_after_month false = of_date after_plain_month
+line_after_month false = of_date after_basic_month
 
 -- after a year and a month, which has a hyphen before it or has none
 unfoldable pub day_at : {E : Type 0} → (Row → E) → ℤ → ℕ × Bool → Text → Read E DateRecord
@@ -79,5 +79,5 @@ date_at fault text = do
 
 -- opening this opens the readings of dates
 unfoldable pub date_readings : ℕ
-unfolding look_readings extended_year_at plain_year_at year_at month_in_range month_by day_in_range day_at date_at
+unfolding look_readings extended_year_at four_digit_year_at year_at month_in_range month_by day_in_range day_at date_at
 date_readings = 0

@@ -1,5 +1,6 @@
 -- Reading a duration, letter by letter.
 use Rattle.std.specs.Prelude.{ℕ, List, [], ◌∷◌, ◌++◌, Option, Result, Ok, Err, Some, None, nat_le, if◌then◌else◌}
+use Rattle.ixdtf.specs.declared.parsers.profile.Profile.{Profile}
 use Rattle.ixdtf.specs.declared.records.Sign.{Sign}
 use Rattle.ixdtf.specs.declared.records.Sign.TheVariants.{Positive}
 use Rattle.ixdtf.specs.declared.records.DurationParseRecord.{DurationParseRecord}
@@ -54,34 +55,34 @@ abbrev pub add : Context → Group → Context
 add (in_dates s dates) g = in_dates s (g ∷ dates)
 add (in_times s dates times) g = in_times s dates (g ∷ times)
 
-abbrev pub plain_group : Half → Text → ℕ → Group
-plain_group half ds c = record { unit = unit_of half c; value = decimal ds; fraction = None }
+abbrev pub integer_group : Half → Text → ℕ → Group
+integer_group half ds c = record { unit = unit_of half c; value = decimal ds; fraction = None }
 
 abbrev pub fraction_group : Text → Text → ℕ → Group
 fraction_group ds fs c = record { unit = unit_of time c; value = decimal ds; fraction = Some (fraction_of fs) }
 
 -- the rows of numbers that are too great, and of a group out of order
-abbrev pub value_past : Half → Row
-value_past half = row_of (of_duration (group_value_range half)) anywhere DurationValueExceededRange
+abbrev pub value_past : Profile → Half → Row
+value_past profile half = row_of (of_duration profile (group_value_range half)) anywhere DurationValueExceededRange
 
-abbrev pub unit_past : Row
-unit_past = row_of (of_duration date_unit_range) anywhere DurationValueExceededRange
+abbrev pub unit_past : Profile → Row
+unit_past profile = row_of (of_duration profile date_unit_range) anywhere DurationValueExceededRange
 
-abbrev pub out_of_order : Half → Row
-out_of_order half = row_of (of_duration (unit_order half)) anywhere (order_fault half)
+abbrev pub out_of_order : Profile → Half → Row
+out_of_order profile half = row_of (of_duration profile (unit_order half)) anywhere (order_fault half)
 
-module _ {E : Type 0} (fault : Row → E) where
+module _ {E : Type 0} (fault : Row → E) (profile : Profile) where
   -- these digits of a group, where their number is in range
   abbrev pub grow : Context → Text → Result State E
-  grow context ds = if nat_le (decimal ds) greatest_value then Ok (in_number context ds) else Err (fault (value_past (half_of context)))
+  grow context ds = if nat_le (decimal ds) greatest_value then Ok (in_number context ds) else Err (fault (value_past profile (half_of context)))
 
   -- a group, where its number is in the range of its unit
   abbrev pub add_in_range : Context → Group → Result State E
-  add_in_range context g = if nat_le g.value (greatest g.unit) then Ok (between (add context g)) else Err (fault unit_past)
+  add_in_range context g = if nat_le g.value (greatest g.unit) then Ok (between (add context g)) else Err (fault (unit_past profile))
 
   -- what comes of a group, where it may stand behind those before it
   abbrev pub in_its_order : Context → Group → Result State E → Result State E
-  in_its_order context g next = if in_order (groups_of context) g.unit then next else Err (fault (out_of_order (half_of context)))
+  in_its_order context g next = if in_order profile (groups_of context) g.unit then next else Err (fault (out_of_order profile (half_of context)))
 
   -- a group without a fraction
   abbrev pub add_group : Context → Group → Result State E
@@ -102,18 +103,18 @@ to_fraction (in_dates s dates) ds = started
 to_fraction (in_times s dates times) ds = at_mark s dates times ds
 
 -- The state after a letter with which the state's line goes on, or the fault of a whole line.
-unfoldable pub step : {E : Type 0} → (Row → E) → State → ℕ → Result State E
-step fault started c = if sign c then Ok (signed (sign_of c)) else Ok (between (in_dates Positive []))
-step fault (signed s) c = Ok (between (in_dates s []))
-step fault (between context) c = if digit c then grow fault context (Plain c ∷ []) else Ok (to_times context)
-step fault (in_number context ds) c =
-    if digit c then grow fault context (ds ++ (Plain c ∷ []))
-    else (if designator (half_of context) c then add_group fault context (plain_group (half_of context) ds c)
+unfoldable pub step : {E : Type 0} → (Row → E) → Profile → State → ℕ → Result State E
+step fault profile started c = if sign c then Ok (signed (sign_of c)) else Ok (between (in_dates Positive []))
+step fault profile (signed s) c = Ok (between (in_dates s []))
+step fault profile (between context) c = if digit c then grow fault profile context (Plain c ∷ []) else Ok (to_times context)
+step fault profile (in_number context ds) c =
+    if digit c then grow fault profile context (ds ++ (Plain c ∷ []))
+    else (if designator (half_of context) c then add_group fault profile context (integer_group (half_of context) ds c)
     else Ok (to_fraction context ds))
-step fault (at_mark s dates times ds) c = Ok (in_fraction s dates times ds (Plain c ∷ []))
-step fault (in_fraction s dates times ds fs) c =
-    if digit c then Ok (in_fraction s dates times ds (fs ++ (Plain c ∷ []))) else end_group fault s dates times (fraction_group ds fs c)
-step fault (ended s dates times g) c = Ok (ended s dates times g)
+step fault profile (at_mark s dates times ds) c = Ok (in_fraction s dates times ds (Plain c ∷ []))
+step fault profile (in_fraction s dates times ds fs) c =
+    if digit c then Ok (in_fraction s dates times ds (fs ++ (Plain c ∷ []))) else end_group fault profile s dates times (fraction_group ds fs c)
+step fault profile (ended s dates times g) c = Ok (ended s dates times g)
 
 -- what was read, where the text may end
 abbrev pub finished : State → DurationParseRecord
@@ -129,8 +130,8 @@ finished (in_fraction s dates times ds fs) = duration_of s dates times
 -- ---- texts
 
 -- the look of the line at which a state looks
-abbrev pub state_look : {E : Type 0} → (Row → E) → State → Look E
-state_look fault s = look_at_line fault (of_duration (line_of_state s))
+abbrev pub state_look : {E : Type 0} → (Row → E) → Profile → State → Look E
+state_look fault profile s = look_at_line fault (of_duration profile (line_of_state s))
 
 -- the end of the text
 abbrev pub at_end : {E A : Type 0} → Option E → A → Read E A
@@ -138,12 +139,13 @@ at_end None x = Ok (x, [])
 at_end (Some e) x = Err e
 
 -- The text from a state on.
-unfoldable pub run : {E : Type 0} → (Row → E) → State → Text → Read E DurationParseRecord
-run fault s [] = at_end (state_look fault s).at_end (finished s)
-run fault s (Bad ∷ rest) = Err (state_look fault s).at_bad
-run fault s (Plain c ∷ rest) =
-    if (state_look fault s).goes_on c then (step fault s c >>= λ next. run fault next rest) else Err ((state_look fault s).at_other c)
+unfoldable pub run : {E : Type 0} → (Row → E) → Profile → State → Text → Read E DurationParseRecord
+run fault profile s [] = at_end (state_look fault profile s).at_end (finished s)
+run fault profile s (Bad ∷ rest) = Err (state_look fault profile s).at_bad
+run fault profile s (Plain c ∷ rest) =
+    if (state_look fault profile s).goes_on c then (step fault profile s c >>= λ next. run fault profile next rest) else Err
+    ((state_look fault profile s).at_other c)
 
 -- a duration, and the end
-abbrev pub duration_at : {E : Type 0} → (Row → E) → Text → Read E DurationParseRecord
-duration_at fault text = run fault started text
+abbrev pub duration_at : {E : Type 0} → (Row → E) → Profile → Text → Read E DurationParseRecord
+duration_at fault profile text = run fault profile started text

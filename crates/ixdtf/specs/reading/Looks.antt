@@ -1,4 +1,4 @@
--- What every reading is made of. A reading is a plain function on texts, in the shape of the code; no public clause
+-- What every reading is made of. A reading is a function on texts, in the shape of the code; no public clause
 -- cites one. It returns a value and the text after it, or a fault. What a fault is comes from outside, by what is made
 -- of a row: the row itself, or its error.
 use Rattle.std.specs.Prelude.{ℕ, Bool, true, zero, suc, [], ◌∷◌, drop, Option, Some, None, Result, Ok, Err, nat_le, if◌then◌else◌}
@@ -80,15 +80,15 @@ abbrev pub missing : {E A : Type 0} → Option E → E → Result A E
 missing None at_bad = Err at_bad
 missing (Some e) at_bad = Err e
 
-abbrev pub taken : {E : Type 0} → Look E → Option ℕ → Text → Read E ℕ
-taken l None rest = missing l.at_end l.at_bad
-taken l (Some c) rest = if l.goes_on c then Ok (c, rest) else Err (l.at_other c)
+abbrev pub needed : {E : Type 0} → Look E → Option ℕ → Text → Read E ℕ
+needed l None rest = missing l.at_end l.at_bad
+needed l (Some c) rest = if l.goes_on c then Ok (c, rest) else Err (l.at_other c)
 
 -- the next letter, taken off where the line goes on with it
 unfoldable pub next_by : {E : Type 0} → Look E → Text → Read E ℕ
 next_by l text = do
   next ← look_at l.at_bad text
-  taken l next (drop 1 text)
+  needed l next (drop 1 text)
 
 abbrev pub letter_at : {E : Type 0} → (Row → E) → LineName → Text → Read E ℕ
 letter_at fault name text = next_by (look_at_line fault name) text
@@ -108,14 +108,14 @@ number_of (Ok x) = Ok (decimal x.0, x.1)
 number_of (Err e) = Err e
 
 -- where the text may end: nothing, or the next letter, taken off
-abbrev pub passed : {E : Type 0} → Look E → Option ℕ → Text → Read E (Option ℕ)
-passed l None text = Ok (None, text)
-passed l (Some c) text = if l.goes_on c then Ok (Some c, drop 1 text) else Err (l.at_other c)
+abbrev pub peeked : {E : Type 0} → Look E → Option ℕ → Text → Read E (Option ℕ)
+peeked l None text = Ok (None, text)
+peeked l (Some c) text = if l.goes_on c then Ok (Some c, drop 1 text) else Err (l.at_other c)
 
 unfoldable pub peek_by : {E : Type 0} → Look E → Text → Read E (Option ℕ)
 peek_by l text = do
   next ← look_at l.at_bad text
-  passed l next text
+  peeked l next text
 
 -- a letter of the class is taken off and read on from; else reading stays
 abbrev pub chosen : {E A : Type 0} → Class → (ℕ → Text → Result A E) → (Text → Result A E) → Option ℕ → Text → Result A E

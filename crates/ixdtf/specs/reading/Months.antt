@@ -1,5 +1,6 @@
 -- Reading a year-month, and a month-day.
 use Rattle.std.specs.Prelude.{ℕ, Bool, true, false, ◌&&◌, Ok, Err, nat_le, if◌then◌else◌, pos}
+use Rattle.ixdtf.specs.declared.parsers.profile.Profile.{Profile}
 use Rattle.ixdtf.specs.declared.records.DateRecord.{DateRecord}
 use Rattle.ixdtf.specs.language.Letters.{Text, hyphen}
 use Rattle.ixdtf.specs.language.Digits.{decimal}
@@ -35,24 +36,24 @@ lone_month_in_range fault ds =
     else Err (fault (row_of (of_month_day month_day_month_range) anywhere InvalidMonthRange))
 
 -- the month-day, where the day is in the month
-unfoldable pub lone_day_in_range : {E : Type 0} → (Row → E) → ℕ → ℕ → Text → Read E DateRecord
-lone_day_in_range fault month day rest =
-    if nat_le least_day day && nat_le day (greatest_day month) then Ok (date_of (pos 0) month day, rest)
-    else Err (fault (row_of (of_month_day month_day_range) anywhere InvalidMonthDay))
+unfoldable pub lone_day_in_range : {E : Type 0} → (Row → E) → Profile → ℕ → ℕ → Text → Read E DateRecord
+lone_day_in_range fault profile month day rest =
+    if nat_le (least_day profile) day && nat_le day (greatest_day month) then Ok (date_of (pos 0) month day, rest)
+    else Err (fault (row_of (of_month_day (month_day_range profile)) anywhere InvalidMonthDay))
 
 -- after a month
-unfoldable pub lone_day_at : {E : Type 0} → (Row → E) → ℕ → Text → Read E DateRecord
-lone_day_at fault month text = do
+unfoldable pub lone_day_at : {E : Type 0} → (Row → E) → Profile → ℕ → Text → Read E DateRecord
+lone_day_at fault profile month text = do
   mark ← mark_at fault (of_month_day after_month_day_month) hyphen text
   ds ← digits_at fault (of_month_day month_day_day_digits) 2 mark.1
-  lone_day_in_range fault month (decimal ds.0) ds.1
+  lone_day_in_range fault profile month (decimal ds.0) ds.1
 
-unfoldable pub month_day_at : {E : Type 0} → (Row → E) → Text → Read E DateRecord
-month_day_at fault text = do
+unfoldable pub month_day_at : {E : Type 0} → (Row → E) → Profile → Text → Read E DateRecord
+month_day_at fault profile text = do
   marks ← marks_at fault text
   ds ← digits_at fault (of_month_day month_day_month_digits) 2 marks.1
   month ← lone_month_in_range fault ds
-  lone_day_at fault month.0 month.1
+  lone_day_at fault profile month.0 month.1
 
 -- ---- whether one stands in front
 
@@ -61,8 +62,8 @@ is_read (Ok x) = true
 is_read (Err e) = false
 
 -- a month-day stands in front of the text
-abbrev pub month_day_begins : Text → Bool
-month_day_begins text = is_read (month_day_at error_of text)
+abbrev pub month_day_begins : Profile → Text → Bool
+month_day_begins profile text = is_read (month_day_at error_of profile text)
 
 -- a year-month stands in front of the text
 abbrev pub year_month_begins : Text → Bool

@@ -7,7 +7,7 @@ use Rattle.ixdtf.specs.declared.parsers.timezone.NameLetters.{NameLetters}
 use Rattle.ixdtf.specs.declared.parsers.letters.Taken.{Taken as CodeTaken}
 use Rattle.ixdtf.specs.language.Letters.{Text, key_char}
 use Rattle.ixdtf.specs.language.Letters.Letter.{Plain, Bad}
-use Rattle.ixdtf.specs.language.Brackets.{passed}
+use Rattle.ixdtf.specs.language.Brackets.{skipped}
 use Rattle.ixdtf.specs.table.Faults.{Fault}
 use Rattle.ixdtf.specs.table.Faults.Fault.{NonAsciiCodePoint}
 use Rattle.ixdtf.specs.reading.Looks.{Read}
@@ -56,4 +56,4 @@ value_after state c = value_goes_on (value_step state c)
 
 -- where reading of a first bracket is after a letter before an `=` or a `]`
 abbrev pub bracket_after : BracketLetters → ℕ → Option BracketLetters
-bracket_after letters c = if passed c then Some letters else None
+bracket_after letters c = if skipped c then Some letters else None

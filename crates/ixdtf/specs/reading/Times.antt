@@ -7,10 +7,10 @@ use Rattle.ixdtf.specs.language.Letters.{Class, ◌or◌, digit, colon, decimal_
 use Rattle.ixdtf.specs.table.Faults.Fault.{NonAsciiCodePoint, TimeHour, TimeMinuteSecond}
 use Rattle.ixdtf.specs.language.Fractions.{FractionParts, fraction_of}
 use Rattle.ixdtf.specs.language.Times.{Clock, TimeShape, greatest_second}
-use Rattle.ixdtf.specs.language.Times.TimeShape.{hours, plain_minutes, colon_minutes, seconds, fractions}
+use Rattle.ixdtf.specs.language.Times.TimeShape.{hours, basic_minutes, colon_minutes, seconds, fractions}
 use Rattle.ixdtf.specs.table.LineNames.{LineName}
 use Rattle.ixdtf.specs.table.LineNames.LineName.{of_clock}
-use Rattle.ixdtf.specs.table.LineNames.ClockLine.{hour_start, hour_digit, hour_range, after_hour, minute_digits, minute_range, after_plain_minute}
+use Rattle.ixdtf.specs.table.LineNames.ClockLine.{hour_start, hour_digit, hour_range, after_hour, minute_digits, minute_range, after_basic_minute}
 use Rattle.ixdtf.specs.table.LineNames.ClockLine.{after_colon_minute, second_digits, second_range, after_second, fraction_start, after_fraction}
 use Rattle.ixdtf.specs.table.Lines.{seconds_after, mixed, second_fault}
 use Rattle.ixdtf.specs.table.Rows.{Row}
@@ -27,7 +27,7 @@ time_of hour minute second fraction = record { hour = hour; minute = minute; sec
 -- the line at which a time of the shape may stop
 abbrev pub line_after : Clock → TimeShape → LineName
 line_after clock hours = of_clock clock after_hour
-line_after clock plain_minutes = of_clock clock after_plain_minute
+line_after clock basic_minutes = of_clock clock after_basic_minute
 line_after clock colon_minutes = of_clock clock after_colon_minute
 line_after clock seconds = of_clock clock after_second
 line_after clock fractions = of_clock clock after_fraction
@@ -70,7 +70,7 @@ second_at fault clock hour minute text = do
 -- the shape of a time up to its minute, with a colon or without
 abbrev pub minutes_shape : Bool → TimeShape
 minutes_shape true = colon_minutes
-minutes_shape false = plain_minutes
+minutes_shape false = basic_minutes
 
 -- what a second starts with after a minute: a colon, or a digit of it
 abbrev pub second_start : Bool → Class

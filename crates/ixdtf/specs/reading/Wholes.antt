@@ -54,7 +54,7 @@ read_at fault (bracketed kind) text = with_pairs (bracketed_text_at fault kind t
 read_at fault parse_offset text = finding shifted (offset_at (fault []) text)
 read_at fault parse_identifier text = finding identified (identifier_at (fault []) text)
 read_at fault parse_iana_identifier text = finding named (iana_identifier_at (fault []) text)
-read_at fault parse_duration text = finding lasting (duration_at (fault []) text)
+read_at fault (parse_duration profile) text = finding lasting (duration_at (fault []) profile text)
 
 -- a row, with the pairs before it
 abbrev pub RowBehind : Type 0

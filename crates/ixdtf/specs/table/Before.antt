@@ -1,9 +1,10 @@
 -- Where a line is looked at: what stands before its front in a reader, and what the text has from the front on.
 use Rattle.std.specs.Prelude.{◌≡◌, ◌≢◌, ◌⊎◌, List, [], ◌++◌, Option}
+use Rattle.ixdtf.specs.declared.parsers.profile.Profile.{Profile}
 use Rattle.ixdtf.specs.language.Letters.{Text, sign, date_time_separator, time_letter, opening}
 use Rattle.ixdtf.specs.language.Shapes.{Shape, nothing, one, ◌then◌, ◌either◌, some, anything}
 use Rattle.ixdtf.specs.language.Dates.{IsDate}
-use Rattle.ixdtf.specs.language.Months.{IsMonthDay, least_day}
+use Rattle.ixdtf.specs.language.Months.{IsMonthDay}
 use Rattle.ixdtf.specs.language.Times.{IsTime}
 use Rattle.ixdtf.specs.language.Times.Clock.{Time, Offset, MinuteOffset}
 use Rattle.ixdtf.specs.language.Brackets.{ZoneNote, Opens, ReadsAsName, ReadsAsPair, Pair, IsTail}
@@ -11,12 +12,14 @@ use Rattle.ixdtf.specs.language.Cores.{TimeMark, MarkedTime, HasFront, IsCore}
 use Rattle.ixdtf.specs.language.Readers.{Reader, CoreKind}
 use Rattle.ixdtf.specs.language.Readers.CoreKind.{date_time, year_month, month_day, time_alone}
 use Rattle.ixdtf.specs.language.Readers.Reader.{bracketed, parse_offset, parse_identifier, parse_iana_identifier, parse_duration}
-use Rattle.ixdtf.specs.table.LineNames.{DateLine, TimeLine, CoreLine, ClockLine, OffsetLine, LineName}
+use Rattle.ixdtf.specs.table.LineNames.{DateLine, MonthDayLine, TimeLine, CoreLine, ClockLine, OffsetLine, LineName}
 use Rattle.ixdtf.specs.table.LineNames.DateLine.{year_start, year_digits, extended_year_digits, minus_zero_year, after_year, month_digits}
-use Rattle.ixdtf.specs.table.LineNames.DateLine.{month_range, after_hyphened_month, after_plain_month, day_digits, day_range, after_date}
+use Rattle.ixdtf.specs.table.LineNames.DateLine.{month_range, after_hyphened_month, after_basic_month, day_digits, day_range, after_date}
+use Rattle.ixdtf.specs.table.LineNames.MonthDayLine.{month_day_start, month_day_hyphen, month_day_month_digits, month_day_month_range}
+use Rattle.ixdtf.specs.table.LineNames.MonthDayLine.{after_month_day_month, month_day_day_digits, month_day_range, after_month_day}
 use Rattle.ixdtf.specs.table.LineNames.TimeLine.{time_start, time_reads_as_month_day, time_reads_as_year_month}
 use Rattle.ixdtf.specs.table.LineNames.CoreLine.{dates, year_months, month_days, times}
-use Rattle.ixdtf.specs.table.LineNames.ClockLine.{hour_start, hour_digit, hour_range, after_hour, minute_digits, minute_range, after_plain_minute}
+use Rattle.ixdtf.specs.table.LineNames.ClockLine.{hour_start, hour_digit, hour_range, after_hour, minute_digits, minute_range, after_basic_minute}
 use Rattle.ixdtf.specs.table.LineNames.ClockLine.{after_colon_minute, second_digits, second_range, after_second, fraction_start, after_fraction}
 use Rattle.ixdtf.specs.table.LineNames.OffsetLine.{offset_start, after_zulu}
 use Rattle.ixdtf.specs.table.LineNames.ZoneLine.{identifier_start, zone_name_start, in_zone_name, after_zone_slash}
@@ -42,7 +45,7 @@ BeforeDate date_time after_year before = nothing before
 BeforeDate date_time month_digits before = nothing before
 BeforeDate date_time month_range before = nothing before
 BeforeDate date_time after_hyphened_month before = nothing before
-BeforeDate date_time after_plain_month before = nothing before
+BeforeDate date_time after_basic_month before = nothing before
 BeforeDate date_time day_digits before = nothing before
 BeforeDate date_time day_range before = nothing before
 BeforeDate date_time after_date before = nothing before
@@ -54,24 +57,35 @@ BeforeDate year_month after_year before = ⊥
 BeforeDate year_month month_digits before = nothing before
 BeforeDate year_month month_range before = nothing before
 BeforeDate year_month after_hyphened_month before = ⊥
-BeforeDate year_month after_plain_month before = ⊥
+BeforeDate year_month after_basic_month before = ⊥
 BeforeDate year_month day_digits before = ⊥
 BeforeDate year_month day_range before = ⊥
 BeforeDate year_month after_date before = ⊥
-BeforeDate month_day line before = ⊥
-BeforeDate time_alone line before = ⊥
+BeforeDate (month_day profile) line before = ⊥
+BeforeDate (time_alone profile) line before = ⊥
 
 abbrev pub BeforeYearMonth : CoreKind → Shape
 BeforeYearMonth year_month before = nothing before
 BeforeYearMonth date_time before = ⊥
-BeforeYearMonth month_day before = ⊥
-BeforeYearMonth time_alone before = ⊥
+BeforeYearMonth (month_day profile) before = ⊥
+BeforeYearMonth (time_alone profile) before = ⊥
 
-abbrev pub BeforeMonthDay : CoreKind → Shape
-BeforeMonthDay month_day before = nothing before
-BeforeMonthDay date_time before = ⊥
-BeforeMonthDay year_month before = ⊥
-BeforeMonthDay time_alone before = ⊥
+-- what stands before a line of month-days: nothing; and a line of a profile is one of this profile
+abbrev pub InMonthDay : Profile → MonthDayLine → Shape
+InMonthDay profile month_day_start before = nothing before
+InMonthDay profile month_day_hyphen before = nothing before
+InMonthDay profile month_day_month_digits before = nothing before
+InMonthDay profile month_day_month_range before = nothing before
+InMonthDay profile after_month_day_month before = nothing before
+InMonthDay profile month_day_day_digits before = nothing before
+InMonthDay profile (month_day_range other) before = nothing before × (other ≡ profile)
+InMonthDay profile (after_month_day other) before = nothing before × (other ≡ profile)
+
+abbrev pub BeforeMonthDay : CoreKind → MonthDayLine → Shape
+BeforeMonthDay (month_day profile) line before = InMonthDay profile line before
+BeforeMonthDay date_time line before = ⊥
+BeforeMonthDay year_month line before = ⊥
+BeforeMonthDay (time_alone profile) line before = ⊥
 
 -- the end, or a bracket: what a core may stand before
 abbrev pub AtCoreEnd : Shape
@@ -83,50 +97,50 @@ ReadsAsTime = some MarkedTime then AtCoreEnd
 
 -- The lines of a time's front are looked at where the time ended as a whole. That of a year-month gives way to that of a
 -- month-day.
-abbrev pub InTimeAlone : TimeLine → Text → Text → Type 0
-InTimeAlone time_start before rest = nothing before
-InTimeAlone time_reads_as_month_day before rest = nothing before × ReadsAsTime rest
-InTimeAlone time_reads_as_year_month before rest = nothing before × ReadsAsTime rest × ¬ (HasFront (some (IsMonthDay least_day)) rest)
+abbrev pub InTimeAlone : Profile → TimeLine → Text → Text → Type 0
+InTimeAlone profile time_start before rest = nothing before
+InTimeAlone profile (time_reads_as_month_day other) before rest = nothing before × ReadsAsTime rest × (other ≡ profile)
+InTimeAlone profile time_reads_as_year_month before rest = nothing before × ReadsAsTime rest × ¬ (HasFront (some (IsMonthDay profile)) rest)
 
 -- what stands before the other lines of a time that stands alone, and what the text has from their front on
 abbrev pub BeforeTimeAlone : CoreKind → TimeLine → Text → Text → Type 0
-BeforeTimeAlone time_alone line before rest = InTimeAlone line before rest
+BeforeTimeAlone (time_alone profile) line before rest = InTimeAlone profile line before rest
 BeforeTimeAlone date_time line before rest = ⊥
 BeforeTimeAlone year_month line before rest = ⊥
-BeforeTimeAlone month_day line before rest = ⊥
+BeforeTimeAlone (month_day profile) line before rest = ⊥
 
 -- what stands before a line of a core, and what the text has from its front on
 abbrev pub BeforeCore : CoreKind → CoreLine → Text → Text → Type 0
 BeforeCore kind (dates line) before rest = BeforeDate kind line before
 BeforeCore kind (year_months line) before rest = BeforeYearMonth kind before
-BeforeCore kind (month_days line) before rest = BeforeMonthDay kind before
+BeforeCore kind (month_days line) before rest = BeforeMonthDay kind line before
 BeforeCore kind (times line) before rest = BeforeTimeAlone kind line before rest
 
 -- what stands before a line of times; a time that stands alone has its own line where it begins, but for its letter
 abbrev pub BeforeTime : CoreKind → ClockLine → Shape
 BeforeTime date_time line before = DateAndSeparator before
 BeforeTime year_month line before = ⊥
-BeforeTime month_day line before = ⊥
-BeforeTime time_alone hour_start before = one time_letter before
-BeforeTime time_alone hour_digit before = TimeMark before
-BeforeTime time_alone hour_range before = TimeMark before
-BeforeTime time_alone after_hour before = TimeMark before
-BeforeTime time_alone minute_digits before = TimeMark before
-BeforeTime time_alone minute_range before = TimeMark before
-BeforeTime time_alone after_plain_minute before = TimeMark before
-BeforeTime time_alone after_colon_minute before = TimeMark before
-BeforeTime time_alone second_digits before = TimeMark before
-BeforeTime time_alone second_range before = TimeMark before
-BeforeTime time_alone after_second before = TimeMark before
-BeforeTime time_alone fraction_start before = TimeMark before
-BeforeTime time_alone after_fraction before = TimeMark before
+BeforeTime (month_day profile) line before = ⊥
+BeforeTime (time_alone profile) hour_start before = one time_letter before
+BeforeTime (time_alone profile) hour_digit before = TimeMark before
+BeforeTime (time_alone profile) hour_range before = TimeMark before
+BeforeTime (time_alone profile) after_hour before = TimeMark before
+BeforeTime (time_alone profile) minute_digits before = TimeMark before
+BeforeTime (time_alone profile) minute_range before = TimeMark before
+BeforeTime (time_alone profile) after_basic_minute before = TimeMark before
+BeforeTime (time_alone profile) after_colon_minute before = TimeMark before
+BeforeTime (time_alone profile) second_digits before = TimeMark before
+BeforeTime (time_alone profile) second_range before = TimeMark before
+BeforeTime (time_alone profile) after_second before = TimeMark before
+BeforeTime (time_alone profile) fraction_start before = TimeMark before
+BeforeTime (time_alone profile) after_fraction before = TimeMark before
 
 -- what stands before the sign of an offset, and before `Z`
 abbrev pub BeforeOffset : CoreKind → Shape
 BeforeOffset date_time before = DateTime before
 BeforeOffset year_month before = ⊥
-BeforeOffset month_day before = ⊥
-BeforeOffset time_alone before = (TimeMark then some IsTime) before
+BeforeOffset (month_day profile) before = ⊥
+BeforeOffset (time_alone profile) before = (TimeMark then some IsTime) before
 
 abbrev pub BeforeOffsetLine : CoreKind → OffsetLine → Shape
 BeforeOffsetLine kind offset_start before = ⊥
@@ -169,7 +183,7 @@ BeforeBracketed kind (of_pair in_key) pairs before rest = BeforeKey kind pairs b
 BeforeBracketed kind (of_pair value_start) pairs before rest = BeforeKey kind pairs before rest
 BeforeBracketed kind (of_pair in_value) pairs before rest = BeforeKey kind pairs before rest
 BeforeBracketed kind (of_pair after_value_hyphen) pairs before rest = BeforeKey kind pairs before rest
-BeforeBracketed kind (of_duration line) pairs before rest = ⊥
+BeforeBracketed kind (of_duration profile line) pairs before rest = ⊥
 
 -- ---- lines of readers without brackets
 
@@ -183,7 +197,7 @@ InOffset (of_core line) before = ⊥
 InOffset (of_zone line) before = ⊥
 InOffset (of_bracket line) before = ⊥
 InOffset (of_pair line) before = ⊥
-InOffset (of_duration line) before = ⊥
+InOffset (of_duration profile line) before = ⊥
 
 abbrev pub InIdentifier : LineName → Shape
 InIdentifier (of_zone identifier_start) before = nothing before
@@ -197,7 +211,7 @@ InIdentifier (of_core line) before = ⊥
 InIdentifier (of_offset line) before = ⊥
 InIdentifier (of_bracket line) before = ⊥
 InIdentifier (of_pair line) before = ⊥
-InIdentifier (of_duration line) before = ⊥
+InIdentifier (of_duration profile line) before = ⊥
 
 abbrev pub InIanaIdentifier : LineName → Shape
 InIanaIdentifier (of_zone zone_name_start) before = nothing before
@@ -209,16 +223,16 @@ InIanaIdentifier (of_clock clock line) before = ⊥
 InIanaIdentifier (of_offset line) before = ⊥
 InIanaIdentifier (of_bracket line) before = ⊥
 InIanaIdentifier (of_pair line) before = ⊥
-InIanaIdentifier (of_duration line) before = ⊥
+InIanaIdentifier (of_duration profile line) before = ⊥
 
-abbrev pub InDuration : LineName → Shape
-InDuration (of_duration line) before = nothing before
-InDuration (of_core line) before = ⊥
-InDuration (of_clock clock line) before = ⊥
-InDuration (of_offset line) before = ⊥
-InDuration (of_zone line) before = ⊥
-InDuration (of_bracket line) before = ⊥
-InDuration (of_pair line) before = ⊥
+abbrev pub InDuration : Profile → LineName → Shape
+InDuration profile (of_duration other line) before = nothing before × (other ≡ profile)
+InDuration profile (of_core line) before = ⊥
+InDuration profile (of_clock clock line) before = ⊥
+InDuration profile (of_offset line) before = ⊥
+InDuration profile (of_zone line) before = ⊥
+InDuration profile (of_bracket line) before = ⊥
+InDuration profile (of_pair line) before = ⊥
 
 -- ---- lines of any reader
 
@@ -228,4 +242,4 @@ Before (bracketed kind) line pairs before rest = BeforeBracketed kind line pairs
 Before parse_offset line pairs before rest = InOffset line before × (pairs ≡ [])
 Before parse_identifier line pairs before rest = InIdentifier line before × (pairs ≡ [])
 Before parse_iana_identifier line pairs before rest = InIanaIdentifier line before × (pairs ≡ [])
-Before parse_duration line pairs before rest = InDuration line before × (pairs ≡ [])
+Before (parse_duration profile) line pairs before rest = InDuration profile line before × (pairs ≡ [])

@@ -1,4 +1,5 @@
 -- The names of the lines of the fault table.
+use Rattle.ixdtf.specs.declared.parsers.profile.Profile.{Profile}
 use Rattle.ixdtf.specs.language.Times.{Clock}
 use Rattle.ixdtf.specs.language.Durations.{Half}
 
@@ -6,20 +7,23 @@ use Rattle.ixdtf.specs.language.Durations.{Half}
 pub data DateLine : Type 0 where
   year_start year_digits extended_year_digits minus_zero_year : DateLine
   after_year month_digits month_range : DateLine
-  after_hyphened_month after_plain_month day_digits day_range after_date : DateLine
+  after_hyphened_month after_basic_month day_digits day_range after_date : DateLine
 
 -- the other lines of year-months
 pub data YearMonthLine : Type 0 where
   after_year_in_year_month after_year_month : YearMonthLine
 
--- the lines of month-days
+-- the lines of month-days; two of them are of a profile, on which their fronts depend
 pub data MonthDayLine : Type 0 where
   month_day_start month_day_hyphen month_day_month_digits month_day_month_range : MonthDayLine
-  after_month_day_month month_day_day_digits month_day_range after_month_day : MonthDayLine
+  after_month_day_month month_day_day_digits : MonthDayLine
+  month_day_range after_month_day : Profile → MonthDayLine
 
--- the other lines of times that stand alone: their start, and the fronts that read as something else
+-- the other lines of times that stand alone: their start, and the fronts that read as something else, of which that of a
+-- month-day is of a profile
 pub data TimeLine : Type 0 where
-  time_start time_reads_as_month_day time_reads_as_year_month : TimeLine
+  time_start time_reads_as_year_month : TimeLine
+  time_reads_as_month_day : Profile → TimeLine
 
 -- the lines of cores but for those of times and offsets, by the part that they speak of
 pub data CoreLine : Type 0 where
@@ -31,7 +35,7 @@ pub data CoreLine : Type 0 where
 -- the lines of times, and of offsets after their sign
 pub data ClockLine : Type 0 where
   hour_start hour_digit hour_range after_hour : ClockLine
-  minute_digits minute_range after_plain_minute after_colon_minute : ClockLine
+  minute_digits minute_range after_basic_minute after_colon_minute : ClockLine
   second_digits second_range after_second fraction_start after_fraction : ClockLine
 
 -- the other lines of offsets
@@ -57,7 +61,7 @@ pub data DurationLine : Type 0 where
   group_digits group_value_range unit_order : Half → DurationLine
   date_unit_range group_fraction_start group_fraction_digits : DurationLine
 
--- the lines, by the part that they speak of
+-- the lines, by the part that they speak of; those of durations are of a profile
 pub data LineName : Type 0 where
   of_core : CoreLine → LineName
   of_clock : Clock → ClockLine → LineName
@@ -65,7 +69,7 @@ pub data LineName : Type 0 where
   of_zone : ZoneLine → LineName
   of_bracket : BracketLine → LineName
   of_pair : PairLine → LineName
-  of_duration : DurationLine → LineName
+  of_duration : Profile → DurationLine → LineName
 
 -- a line of dates
 pattern abbrev pub of_date : DateLine → LineName

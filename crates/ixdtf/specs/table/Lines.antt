@@ -1,7 +1,9 @@
 -- The fault table, line by line.
 use Rattle.std.specs.Prelude.{◌≡◌, ◌⊎◌, IsTrue, ℕ, ◌<◌, ◌&&◌, ◌||◌, Bool, codes, if◌then◌else◌}
+use Rattle.ixdtf.specs.declared.parsers.profile.Profile.{Profile}
 use Rattle.ixdtf.specs.declared.records.DateRecord.{DateRecord}
-use Rattle.ixdtf.specs.language.Letters.{Text, Class, ◌or◌, none, digit, sign, hyphen, colon, decimal_mark, date_time_separator, zulu, opening, closing, time_letter}
+use Rattle.ixdtf.specs.language.Letters.{Text, Class, ◌or◌, none, digit, sign, hyphen, colon, decimal_mark, date_time_separator, zulu, opening, closing}
+use Rattle.ixdtf.specs.language.Letters.{time_letter}
 use Rattle.ixdtf.specs.language.Letters.{exclamation, equals, slash, zone_lead, zone_char, key_lead, key_char, value_char, duration_designator}
 use Rattle.ixdtf.specs.language.Shapes.{Shape, nothing, one, ◌then◌, ◌either◌, digits, fewer_digits_than, some, many}
 use Rattle.ixdtf.specs.language.Digits.{decimal, UpTo}
@@ -12,27 +14,29 @@ use Rattle.ixdtf.specs.table.Faults.Fault.{InvalidMinutePrecisionOffset, OffsetN
 use Rattle.ixdtf.specs.table.Faults.Fault.{AnnotationKeyLeadingChar, AnnotationKeyChar, AnnotationKeyValueSeparator, AnnotationValueChar}
 use Rattle.ixdtf.specs.table.Faults.Fault.{DurationDisgnator, DurationValueExceededRange, DateDurationPartOrder, TimeDurationPartOrder, TimeDurationDesignator}
 use Rattle.ixdtf.specs.table.Faults.Fault.{AnnotationValueCharPostHyphen, MonthDayHyphen, InvalidMonthDay, AmbiguousTimeMonthDay, AmbiguousTimeYearMonth}
-use Rattle.ixdtf.specs.language.Dates.{Year, Month, DateShape, IsDayOfMonth, IsDate}
-use Rattle.ixdtf.specs.language.Months.{Marks, OptionalHyphen, IsYearMonth, MonthDayShape, IsDayOfSomeYear, IsMonthDay, least_day}
-use Rattle.ixdtf.specs.language.Times.{Clock, ClockOf, PlainMinuteText, ColonMinuteText, greatest_second, has_seconds}
+use Rattle.ixdtf.specs.language.Dates.{Year, Month, DateText, IsDayOfMonth, IsDate}
+use Rattle.ixdtf.specs.language.Months.{Marks, OptionalHyphen, IsYearMonth, MonthDayText, IsDayOfSomeYear, IsMonthDay}
+use Rattle.ixdtf.specs.language.Times.{Clock, ClockOf, BasicMinuteText, ColonMinuteText, greatest_second, has_seconds}
 use Rattle.ixdtf.specs.language.Times.Clock.{Time, Offset, MinuteOffset}
-use Rattle.ixdtf.specs.language.Times.TimeShape.{hours, plain_minutes, colon_minutes, seconds, fractions}
+use Rattle.ixdtf.specs.language.Times.TimeShape.{hours, basic_minutes, colon_minutes, seconds, fractions}
 use Rattle.ixdtf.specs.language.ZoneNames.{ZoneName}
-use Rattle.ixdtf.specs.language.Brackets.{passed, Key, Value}
+use Rattle.ixdtf.specs.language.Brackets.{skipped, Key, Value}
 use Rattle.ixdtf.specs.language.Readers.{Reader, has_brackets}
 use Rattle.ixdtf.specs.language.Fractions.{SomeDigits}
 use Rattle.ixdtf.specs.language.Durations.{Half, Number, SignedDesignator, designator}
 use Rattle.ixdtf.specs.language.Durations.{Half as halves}
-use Rattle.ixdtf.specs.table.DurationFronts.{InContext, AfterDateGroups, AfterTimeDesignator, AfterTimeGroups, ValuePast, OutOfOrder, UnitPast, LastGroup, group_mark}
-use Rattle.ixdtf.specs.table.LineNames.{DateLine, YearMonthLine, MonthDayLine, TimeLine, CoreLine, ClockLine, OffsetLine, ZoneLine, BracketLine, PairLine, DurationLine, LineName}
+use Rattle.ixdtf.specs.table.DurationFronts.{InContext, AfterDateGroups, AfterTimeDesignator, AfterTimeGroups, ValuePast, OutOfOrder, UnitPast, LastGroup}
+use Rattle.ixdtf.specs.table.DurationFronts.{group_mark}
+use Rattle.ixdtf.specs.table.LineNames.{DateLine, YearMonthLine, MonthDayLine, TimeLine, CoreLine, ClockLine, OffsetLine, ZoneLine, BracketLine, PairLine}
+use Rattle.ixdtf.specs.table.LineNames.{DurationLine, LineName}
 use Rattle.ixdtf.specs.table.LineNames.DateLine.{year_start, year_digits, extended_year_digits, minus_zero_year, after_year, month_digits, month_range}
-use Rattle.ixdtf.specs.table.LineNames.DateLine.{after_hyphened_month, after_plain_month, day_digits, day_range, after_date}
+use Rattle.ixdtf.specs.table.LineNames.DateLine.{after_hyphened_month, after_basic_month, day_digits, day_range, after_date}
 use Rattle.ixdtf.specs.table.LineNames.YearMonthLine.{after_year_in_year_month, after_year_month}
 use Rattle.ixdtf.specs.table.LineNames.MonthDayLine.{month_day_start, month_day_hyphen, month_day_month_digits, month_day_month_range}
 use Rattle.ixdtf.specs.table.LineNames.MonthDayLine.{after_month_day_month, month_day_day_digits, month_day_range, after_month_day}
 use Rattle.ixdtf.specs.table.LineNames.TimeLine.{time_start, time_reads_as_month_day, time_reads_as_year_month}
 use Rattle.ixdtf.specs.table.LineNames.CoreLine.{dates, year_months, month_days, times}
-use Rattle.ixdtf.specs.table.LineNames.ClockLine.{hour_start, hour_digit, hour_range, after_hour, minute_digits, minute_range, after_plain_minute}
+use Rattle.ixdtf.specs.table.LineNames.ClockLine.{hour_start, hour_digit, hour_range, after_hour, minute_digits, minute_range, after_basic_minute}
 use Rattle.ixdtf.specs.table.LineNames.ClockLine.{after_colon_minute, second_digits, second_range, after_second, fraction_start, after_fraction}
 use Rattle.ixdtf.specs.table.LineNames.OffsetLine.{offset_start, after_zulu}
 use Rattle.ixdtf.specs.table.LineNames.ZoneLine.{identifier_start, zone_name_start, in_zone_name, after_zone_slash}
@@ -107,15 +111,15 @@ HyphenOrDigit = one hyphen either (one hyphen then one digit) either one digit
 abbrev pub NoMonth : Shape
 NoMonth text = digits 2 text × ((decimal text ≡ 0) ⊎ (12 < decimal text))
 
-abbrev pub PlainDay : Shape
-PlainDay = some Year then some Month then one digit
+abbrev pub BasicDay : Shape
+BasicDay = some Year then some Month then one digit
 
 abbrev pub HyphenedDay : Shape
 HyphenedDay = some Year then one hyphen then some Month then one hyphen then fewer_digits_than 2
 
 -- a date's shape, and a day that the month does not have
 abbrev pub NoDayOfMonth : Text → DateRecord → Type 0
-NoDayOfMonth text date = DateShape text date × ¬ (IsDayOfMonth date)
+NoDayOfMonth text date = DateText text date × ¬ (IsDayOfMonth date)
 
 -- two digits past the greatest number of their place
 abbrev pub Past : ℕ → Shape
@@ -131,11 +135,11 @@ ColonOrDigit = one colon either (one colon then one digit) either one digit
 -- a minute, and fewer than two digits of a second, where seconds may be written
 abbrev pub SecondDigits : Clock → Shape
 SecondDigits clock text = IsTrue (has_seconds clock)
-    × ((some PlainMinuteText then one digit) either (some ColonMinuteText then one colon then fewer_digits_than 2)) text
+    × ((some BasicMinuteText then one digit) either (some ColonMinuteText then one colon then fewer_digits_than 2)) text
 
 abbrev pub SecondPast : Clock → Shape
 SecondPast clock text = IsTrue (has_seconds clock)
-    × ((some PlainMinuteText then Past (greatest_second clock)) either (some ColonMinuteText then one colon then Past (greatest_second clock))) text
+    × ((some BasicMinuteText then Past (greatest_second clock)) either (some ColonMinuteText then one colon then Past (greatest_second clock))) text
 
 -- ---- dates
 
@@ -157,9 +161,9 @@ date_line month_range = whole (some Year then (nothing either one hyphen) then N
 -- a year, a hyphen and a month
 date_line after_hyphened_month = line (some Year then one hyphen then some Month) hyphen (error DateSeparator) (always DateSeparator)
 -- a year and a month
-date_line after_plain_month = line (some Year then some Month) digit (error abrupt_digit) (λ c. if hyphen c then DateSeparator else DateDay)
+date_line after_basic_month = line (some Year then some Month) digit (error abrupt_digit) (λ c. if hyphen c then DateSeparator else DateDay)
 -- what stands before a day, and fewer than two digits of it
-date_line day_digits = line (PlainDay either HyphenedDay) digit (error abrupt_digit) (always DateDay)
+date_line day_digits = line (BasicDay either HyphenedDay) digit (error abrupt_digit) (always DateDay)
 -- a date's shape, with a day that the month does not have
 date_line day_range = whole (some NoDayOfMonth) InvalidDayRange
 -- a date
@@ -184,8 +188,8 @@ abbrev pub MonthDayDayDigits : Shape
 MonthDayDayDigits = Marks then some Month then (one hyphen either (OptionalHyphen then one digit))
 
 -- a month-day's shape, with a day that its month never has, or below the least
-abbrev pub NoMonthDay : Text → DateRecord → Type 0
-NoMonthDay text date = MonthDayShape text date × ¬ (IsDayOfSomeYear least_day date)
+abbrev pub NoMonthDay : Profile → Text → DateRecord → Type 0
+NoMonthDay profile text date = MonthDayText text date × ¬ (IsDayOfSomeYear profile date)
 
 abbrev pub month_day_line : MonthDayLine → Line
 -- no letter of a month-day yet
@@ -201,9 +205,9 @@ month_day_line after_month_day_month = line (Marks then some Month) (hyphen or d
 -- what stands before a day, and fewer than two digits of it
 month_day_line month_day_day_digits = line MonthDayDayDigits digit (error abrupt_digit) (always DateDay)
 -- a month-day's shape, with a day out of range
-month_day_line month_day_range = whole (some NoMonthDay) InvalidMonthDay
+month_day_line (month_day_range profile) = whole (some (NoMonthDay profile)) InvalidMonthDay
 -- a month-day
-month_day_line after_month_day = line (some (IsMonthDay least_day)) opening ok (always InvalidEnd)
+month_day_line (after_month_day profile) = line (some (IsMonthDay profile)) opening ok (always InvalidEnd)
 
 -- ---- the other lines of times that stand alone
 
@@ -211,7 +215,7 @@ abbrev pub time_line : TimeLine → Line
 -- no letter of a time yet
 time_line time_start = line nothing (digit or time_letter) (error abrupt_digit) (always TimeHour)
 -- a month-day
-time_line time_reads_as_month_day = whole (some (IsMonthDay least_day)) AmbiguousTimeMonthDay
+time_line (time_reads_as_month_day profile) = whole (some (IsMonthDay profile)) AmbiguousTimeMonthDay
 -- a year-month
 time_line time_reads_as_year_month = whole (some IsYearMonth) AmbiguousTimeYearMonth
 
@@ -263,8 +267,8 @@ clock_line follow clock minute_digits = line (some Hour then ColonOrDigit) digit
 -- two digits that are no minute
 clock_line follow clock minute_range = whole (some Hour then (nothing either one colon) then Past 59) TimeMinuteSecond
 -- an hour and a minute
-clock_line follow clock after_plain_minute =
-    line (some (ClockOf clock plain_minutes)) (seconds_after clock digit or follow.letters) follow.at_end (after_minute follow clock)
+clock_line follow clock after_basic_minute =
+    line (some (ClockOf clock basic_minutes)) (seconds_after clock digit or follow.letters) follow.at_end (after_minute follow clock)
 -- an hour, a colon and a minute
 clock_line follow clock after_colon_minute =
     line (some (ClockOf clock colon_minutes)) (seconds_after clock colon or follow.letters) follow.at_end (after_minute follow clock)
@@ -313,7 +317,7 @@ zone_line in_bracket after_zone_slash = line (ZoneName then one slash) zone_char
 
 -- a letter that a key may begin with, and letters that are neither `=` nor `]`
 abbrev pub LetterOfKey : Shape
-LetterOfKey = one key_lead then many (one passed)
+LetterOfKey = one key_lead then many (one skipped)
 
 abbrev pub bracket_line : BracketLine → Line
 -- `[`
@@ -354,37 +358,38 @@ abbrev pub order_fault : Half → Fault
 order_fault halves.date = DateDurationPartOrder
 order_fault halves.time = TimeDurationPartOrder
 
-abbrev pub duration_line : DurationLine → Line
+abbrev pub duration_line : Profile → DurationLine → Line
 -- no sign and no `P` yet
-duration_line duration_start = line nothing (sign or duration_designator) (error abrupt_duration_start) (always DurationDisgnator)
+duration_line profile duration_start = line nothing (sign or duration_designator) (error abrupt_duration_start) (always DurationDisgnator)
 -- a sign
-duration_line after_duration_sign = line (one sign) duration_designator (error abrupt_duration_designator) (always DurationDisgnator)
+duration_line profile after_duration_sign = line (one sign) duration_designator (error abrupt_duration_designator) (always DurationDisgnator)
 -- `P`
-duration_line after_duration_designator = line (some SignedDesignator) (digit or time_letter) (error abrupt_duration) (always InvalidEnd)
+duration_line profile after_duration_designator = line (some SignedDesignator) (digit or time_letter) (error abrupt_duration) (always InvalidEnd)
 -- date groups
-duration_line after_date_groups = line AfterDateGroups (digit or time_letter) ok (always InvalidEnd)
+duration_line profile after_date_groups = line (AfterDateGroups profile) (digit or time_letter) ok (always InvalidEnd)
 -- `T`
-duration_line after_time_designator = line AfterTimeDesignator digit (error TimeDurationDesignator) (always TimeDurationDesignator)
+duration_line profile after_time_designator = line (AfterTimeDesignator profile) digit (error TimeDurationDesignator) (always TimeDurationDesignator)
 -- the digits of a group
-duration_line (group_digits half) =
-    line (InContext half (λ context. some Number)) (digit or designator half or group_mark half) (error (no_designator half)) (always (no_designator half))
+duration_line profile (group_digits half) =
+    line (InContext profile half (λ context. some Number)) (digit or designator half or group_mark half) (error (no_designator half))
+    (always (no_designator half))
 -- digits whose number is too great for any unit
-duration_line (group_value_range half) = whole (InContext half (λ context. ValuePast)) DurationValueExceededRange
+duration_line profile (group_value_range half) = whole (InContext profile half (λ context. ValuePast)) DurationValueExceededRange
 -- a group behind one of a shorter unit
-duration_line (unit_order half) = whole (InContext half (OutOfOrder half)) (order_fault half)
+duration_line profile (unit_order half) = whole (InContext profile half (OutOfOrder profile half)) (order_fault half)
 -- a group in order whose number is too great for its unit
-duration_line date_unit_range = whole (InContext halves.date UnitPast) DurationValueExceededRange
+duration_line profile date_unit_range = whole (InContext profile halves.date (UnitPast profile)) DurationValueExceededRange
 -- a number of times and a decimal mark
-duration_line group_fraction_start =
-    line (InContext halves.time (λ context. some Number then one decimal_mark)) digit (error FractionPart) (always FractionPart)
+duration_line profile group_fraction_start =
+    line (InContext profile halves.time (λ context. some Number then one decimal_mark)) digit (error FractionPart) (always FractionPart)
 -- a number of times, a decimal mark and digits
-duration_line group_fraction_digits =
-    line (InContext halves.time (λ context. some Number then one decimal_mark then SomeDigits)) (digit or designator halves.time)
+duration_line profile group_fraction_digits =
+    line (InContext profile halves.time (λ context. some Number then one decimal_mark then SomeDigits)) (digit or designator halves.time)
     (error abrupt_time_designator) (always abrupt_time_designator)
 -- time groups without fractions
-duration_line after_time_groups = line AfterTimeGroups digit ok (always InvalidEnd)
+duration_line profile after_time_groups = line (AfterTimeGroups profile) digit ok (always InvalidEnd)
 -- time groups, the last with a fraction
-duration_line after_fraction_group = line (InContext halves.time LastGroup) none ok (always InvalidEnd)
+duration_line profile after_fraction_group = line (InContext profile halves.time (LastGroup profile)) none ok (always InvalidEnd)
 
 -- ---- the table of a reader
 
@@ -409,7 +414,7 @@ line_of brackets (of_offset name) = offset_line name
 line_of brackets (of_zone name) = zone_line brackets name
 line_of brackets (of_bracket name) = bracket_line name
 line_of brackets (of_pair name) = pair_line name
-line_of brackets (of_duration name) = duration_line name
+line_of brackets (of_duration profile name) = duration_line profile name
 
 abbrev pub table : Reader → LineName → Line
 table reader name = line_of (has_brackets reader) name

@@ -1,5 +1,5 @@
 -- The outcomes of a text: what is derived, or the row that fits.
-use Rattle.std.specs.Prelude.{◌≡◌, List}
+use Rattle.std.specs.Prelude.{◌≡◌, List, ◌++◌}
 use Rattle.ixdtf.specs.language.Letters.{Text}
 use Rattle.ixdtf.specs.language.Brackets.{Pair}
 use Rattle.ixdtf.specs.language.Readers.{Reader}
@@ -40,3 +40,17 @@ ExactlyOne {A} p = (x : A) × p x × ((y : A) → p y → y ≡ x)
 -- each text has exactly one outcome in each reader
 abbrev pub OneOutcome : Type 0
 OneOutcome = (reader : Reader) (text : Text) → ExactlyOne (Holds reader text)
+
+-- the pairs of an outcome
+abbrev pub pairs_of : Outcome → List Pair
+pairs_of (derived found pairs) = pairs
+pairs_of (refused row pairs) = pairs
+
+-- the pairs are the first of all
+abbrev pub Begins : List Pair → List Pair → Type 0
+Begins pairs all = (more : List Pair) × (all ≡ pairs ++ more)
+
+-- the pairs of a front that is derived are the first of the whole text's outcome
+abbrev pub FrontsBegin : Type 0
+FrontsBegin = (reader : Reader) (front rest : Text) (found : Found) (pairs : List Pair) (outcome : Outcome) →
+    Derives reader front found pairs → Holds reader (front ++ rest) outcome → Begins pairs (pairs_of outcome)

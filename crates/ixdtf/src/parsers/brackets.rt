@@ -150,8 +150,8 @@ impl Letters for BracketLetters {
 
     #[inline(always)]
     fn go_on(self, byte: u8) -> Option<Self> {
-        let passed = !is_annotation_key_value_separator(byte) && !is_annotation_close(byte);
-        passed.then_some(self)
+        let skipped = !is_annotation_key_value_separator(byte) && !is_annotation_close(byte);
+        skipped.then_some(self)
     }
 }
 
@@ -166,7 +166,7 @@ fn refuse_bracket<'a, T: EncodingType>(cursor: &mut Cursor<'a, T>, name: NameLet
 {
     match take_letters(cursor, BracketLetters) {
         Err(stop) => stop,
-        Ok(passed) => match passed.next {
+        Ok(taken) => match taken.next {
             None => Stop::AbruptBracket,
             Some(byte) if is_annotation_key_value_separator(byte) => Stop::AnnotationKeyChar,
             Some(_) if name.may_end => Stop::IanaChar,

@@ -1,9 +1,10 @@
 //! Reading cores, which are what stands before the brackets of a text, into a record.
 
-ghost use Rattle.std.specs.Prelude.{◌≡◌, ◌+◌, ◌≤◌, List, map, length, Ok, Some, None};
+ghost use Rattle.std.specs.Prelude.{◌≡◌, ◌+◌, ◌≤◌, List, map, length, Ok, Some, None, refl};
+ghost use Rattle.ixdtf.specs.Laws.{IsKindUnder};
+ghost use Rattle.ixdtf.specs.declared.parsers.profile.Profile.{Profile};
 ghost use Rattle.ixdtf.specs.language.Letters.{Text};
 ghost use Rattle.ixdtf.specs.language.Cores.{Core};
-ghost use Rattle.ixdtf.specs.language.Times.{TimeShape};
 ghost use Rattle.ixdtf.specs.language.Readers.{CoreKind};
 ghost use Rattle.ixdtf.specs.language.Readers.CoreKind.{date_time};
 ghost use Rattle.ixdtf.specs.table.LineNames.{LineName};
@@ -21,27 +22,32 @@ use crate::parsers::grammar::{
 };
 use crate::parsers::months::{parse_month_day_date, parse_year_month_date};
 use crate::parsers::offsets::offset_from;
-use crate::parsers::time::{Clock, Shape, parse_after_second, parse_clock};
+use crate::parsers::profile::Profile;
+use crate::parsers::time::{Clock, TimeShape, parse_after_second, parse_clock};
 use crate::records::{DateRecord, IxdtfParseRecord, TimeRecord, UtcOffsetRecordOrZ};
 use crate::stop::Stop;
 
 /// Cores of one kind. What reads whole texts is generic in it, so that nothing asks for the kind when it runs.
 pub trait Cores {
-    /// Their kind.
-    ghost kind: { CoreKind };
+    /// Their kind, under a profile.
+    ghost kind: { Profile → CoreKind };
 
     /// Reads a core into a record in which nothing stands yet, and returns whether a bracket follows, whose `[` is taken off.
     fn parse_core<'a, T: EncodingType>(
         cursor: &mut Cursor<'a, T>,
+        profile: Profile,
         found: &mut IxdtfParseRecord<'a, T>,
     ) -> Result<bool, Stop>
         requires no_date { found.old.date ≡ None }
         requires no_time { found.old.time ≡ None }
         requires no_offset { found.old.offset ≡ None }
         ensures core { Reads T.letter (λ more. (core_in found.new, more)) cursor.old result
-            cursor.new (core_at error_of kind) }
+            cursor.new (core_at error_of (kind profile)) }
         ensures kept { KeepsBrackets found.old found.new }
         ensures looks { Spends (length cursor.old.rest + 30) cursor.old cursor.new };
+
+    /// The kind is one of the profile.
+    ghost is_under: { (profile : Profile) → IsKindUnder profile (kind profile) };
 }
 
 /// A date, and a time and an offset where there are.
@@ -50,11 +56,14 @@ pub struct DateTimes;
 impl Cores for DateTimes {
     ghost use Rattle.ixdtf.specs.language.Readers.CoreKind.{date_time};
 
-    ghost kind = { date_time };
+    ghost kind = { λ profile. date_time };
+
+    ghost is_under = { λ profile. tt };
 
     #[inline(always)]
     fn parse_core<'a, T: EncodingType>(
         cursor: &mut Cursor<'a, T>,
+        _profile: Profile,
         found: &mut IxdtfParseRecord<'a, T>,
     ) -> Result<bool, Stop> {
         let mut time = TimeRecord::default();
@@ -71,11 +80,14 @@ pub struct YearMonths;
 impl Cores for YearMonths {
     ghost use Rattle.ixdtf.specs.language.Readers.CoreKind.{year_month};
 
-    ghost kind = { year_month };
+    ghost kind = { λ profile. year_month };
+
+    ghost is_under = { λ profile. tt };
 
     #[inline(always)]
     fn parse_core<'a, T: EncodingType>(
         cursor: &mut Cursor<'a, T>,
+        _profile: Profile,
         found: &mut IxdtfParseRecord<'a, T>,
     ) -> Result<bool, Stop> {
         let date = parse_year_month_date(cursor)?;
@@ -90,14 +102,17 @@ pub struct MonthDays;
 impl Cores for MonthDays {
     ghost use Rattle.ixdtf.specs.language.Readers.CoreKind.{month_day};
 
-    ghost kind = { month_day };
+    ghost kind = { λ profile. month_day profile };
+
+    ghost is_under = { λ profile. refl };
 
     #[inline(always)]
     fn parse_core<'a, T: EncodingType>(
         cursor: &mut Cursor<'a, T>,
+        profile: Profile,
         found: &mut IxdtfParseRecord<'a, T>,
     ) -> Result<bool, Stop> {
-        let date = parse_month_day_date(cursor)?;
+        let date = parse_month_day_date(cursor, profile)?;
         found.date = Some(date);
         close_core(cursor)
     }
@@ -109,11 +124,14 @@ pub struct LoneTimes;
 impl Cores for LoneTimes {
     ghost use Rattle.ixdtf.specs.language.Readers.CoreKind.{time_alone};
 
-    ghost kind = { time_alone };
+    ghost kind = { λ profile. time_alone profile };
+
+    ghost is_under = { λ profile. refl };
 
     #[inline(always)]
     fn parse_core<'a, T: EncodingType>(
         cursor: &mut Cursor<'a, T>,
+        profile: Profile,
         found: &mut IxdtfParseRecord<'a, T>,
     ) -> Result<bool, Stop> {
         let start = cursor.rest();
@@ -124,7 +142,7 @@ impl Cores for LoneTimes {
             }
             _ => {
                 let more = parse_timed(cursor, found)?;
-                check_front(cursor, start)?;
+                check_front(cursor, start, profile)?;
                 Ok(more)
             }
         }
@@ -140,7 +158,7 @@ fn parse_date_time<'a, T: EncodingType>(
     cursor: &mut Cursor<'a, T>,
     time: &mut TimeRecord,
     found: &mut IxdtfParseRecord<'a, T>,
-) -> Result<Option<Shape>, Stop>
+) -> Result<Option<TimeShape>, Stop>
     requires no_time { found.old.time ≡ None }
     requires no_offset { found.old.offset ≡ None }
     ensures date_time { GoesOn T.letter cursor.old result cursor.new
@@ -153,14 +171,7 @@ fn parse_date_time<'a, T: EncodingType>(
     match fixed_date_time(cursor) {
         Some((date, whole)) => {
             found.date = Some(date);
-            let shape = parse_after_second(
-                cursor,
-                Clock::Time,
-                whole.hour,
-                whole.minute,
-                whole.second,
-                time,
-            )?;
+            let shape = parse_after_second(cursor, whole.hour, whole.minute, whole.second, time)?;
             Ok(Some(shape))
         }
         None => {
@@ -209,14 +220,15 @@ fn parse_timed<'a, T: EncodingType>(
 fn check_front<'a, T: EncodingType>(
     cursor: &mut Cursor<'a, T>,
     start: &'a [T::CodeUnit],
+    profile: Profile,
 ) -> Result<(), Stop>
     ensures front { (core : ClosedCore) (rest : Text) → Yields (λ _. (core, rest)) result
-        (unfronted error_of (map T.letter (map T.number start.now)) (Ok (core, rest))) }
+        (unfronted error_of profile (map T.letter (map T.number start.now)) (Ok (core, rest))) }
     ensures rest { cursor.new.rest ≡ cursor.old.rest }
     ensures looks { Spends 17 cursor.old cursor.new }
 {
     let mut front = cursor.at(start);
-    let month_day = parse_month_day_date(&mut front).is_ok();
+    let month_day = parse_month_day_date(&mut front, profile).is_ok();
     let mut again = front.at(start);
     let year_month = parse_year_month_date(&mut again).is_ok();
     cursor.count(again);
@@ -238,7 +250,7 @@ fn parse_after_time<'a, T: EncodingType>(
     found: &mut IxdtfParseRecord<'a, T>,
 ) -> Result<bool, Stop>
     requires no_offset { found.old.offset ≡ None }
-    ensures core { (shape : TimeShape) →
+    ensures core { (shape : _) →
         Reads T.letter (λ more. (core_in found.new, more)) cursor.old result cursor.new
         (after_time_at error_of found.old.date (shape, time)) }
     ensures kept { KeepsBrackets found.old found.new }

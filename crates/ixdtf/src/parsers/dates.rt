@@ -9,7 +9,7 @@ ghost use Rattle.ixdtf.specs.table.Faults.Fault.{DateExtendedYear, DateMonth, In
 ghost use Rattle.ixdtf.specs.reading.Clauses.{Reads, Spends, SpendsInAll, SpendsOr, Checks, Yields, fault_of_stop, hyphen_look};
 ghost use Rattle.ixdtf.specs.reading.FixedPlaces.{ranged};
 ghost use Rattle.ixdtf.specs.reading.Looks.{error_of, number_of, digits_by, digit_look, mark_by, mark_at};
-ghost use Rattle.ixdtf.specs.reading.Dates.{date_of, year_at, plain_year_at, extended_year_at, date_at, month_by, day_at, line_after_month};
+ghost use Rattle.ixdtf.specs.reading.Dates.{date_of, year_at, four_digit_year_at, extended_year_at, date_at, month_by, day_at, line_after_month};
 
 use crate::cursor::Cursor;
 use crate::encoding::EncodingType;
@@ -70,7 +70,7 @@ pub fn parse_date_year<'a, T: EncodingType>(cursor: &mut Cursor<'a, T>) -> Resul
         None => Err(Stop::AbruptDigit),
         Some(byte) if byte.is_ascii_digit() => {
             cursor.step();
-            parse_plain_year(cursor, byte)
+            parse_four_digit_year(cursor, byte)
         }
         Some(byte) if is_ascii_sign(byte) => {
             cursor.step();
@@ -82,13 +82,13 @@ pub fn parse_date_year<'a, T: EncodingType>(cursor: &mut Cursor<'a, T>) -> Resul
 
 /// Reads the other three digits of a year of four.
 #[inline(always)]
-fn parse_plain_year<'a, T: EncodingType>(
+fn parse_four_digit_year<'a, T: EncodingType>(
     cursor: &mut Cursor<'a, T>,
     thousands: u8,
 ) -> Result<i32, Stop>
     requires digit { IsTrue (digit thousands) }
     ensures year { Reads T.letter (λ year. year) cursor.old result cursor.new
-        (plain_year_at error_of thousands) }
+        (four_digit_year_at error_of thousands) }
     ensures looks { SpendsInAll 1 3 cursor.old cursor.new }
 {
     let ones = parse_three_digits(cursor, Stop::DateYear)?;

@@ -1,6 +1,7 @@
 //! The reader of durations.
 
-ghost use Rattle.std.specs.Prelude.{◌≡◌, ◌↔◌, ◌+◌, ◌-◌, ◌*◌, ◌≤◌, List, [], ◌∷◌, map, length, nat_le, Ok, Err, Some, None, OnOk, OnErr, IfOk, IfErr, IsTrue, IsFalse, IsSome};
+ghost use Rattle.std.specs.Prelude.{◌≡◌, ◌↔◌, ◌+◌, ◌-◌, ◌*◌, ◌≤◌, List, [], ◌∷◌, map, length, nat_le, Ok, Err, Some, None, OnOk, IfOk, IfErr, IsTrue, IsFalse, IsSome};
+ghost use Rattle.ixdtf.specs.declared.parsers.profile.Profile.{Profile};
 ghost use Rattle.ixdtf.specs.language.Letters.{Text, digit};
 ghost use Rattle.ixdtf.specs.language.Letters.Letter.{Plain};
 ghost use Rattle.ixdtf.specs.language.Digits.{decimal};
@@ -12,15 +13,15 @@ ghost use Rattle.ixdtf.specs.table.DurationFronts.Context.{in_dates, in_times};
 ghost use Rattle.ixdtf.specs.declared.records.DurationParseRecord.{DurationParseRecord};
 ghost use Rattle.ixdtf.specs.language.Readers.Reader.{parse_duration};
 ghost use Rattle.ixdtf.specs.language.Languages.{lasting, Derives};
-ghost use Rattle.ixdtf.specs.table.Faults.{fault_of, never_comes};
+ghost use Rattle.ixdtf.specs.table.Faults.{fault_of};
 ghost use Rattle.ixdtf.specs.table.Outcomes.{HasFault, NoRowFits, OnlyFault};
 ghost use Rattle.ixdtf.specs.Laws.{InNoOther};
-ghost use Rattle.ixdtf.specs.Views.{Unread, returned, most_looks};
+ghost use Rattle.ixdtf.specs.Views.{UnreadUnder, under, unread_of, LeavesBehind, returned};
 ghost use Rattle.ixdtf.specs.reading.Looks.{error_of};
 ghost use Rattle.ixdtf.specs.reading.Clauses.{Reads, Spends, SpendsOr, Checks, Yields, fault_of_stop};
 ghost use Rattle.ixdtf.specs.reading.Durations.{duration_at};
 ghost use Rattle.ixdtf.specs.reading.Durations.State.{started, signed, between, in_number, at_mark};
-ghost use Rattle.ixdtf.specs.reading.DurationClauses.{run_from, Leads, ReadsNumber, AreDates, HasDates, HasTimes, AddsDate, AddsTime};
+ghost use Rattle.ixdtf.specs.reading.DurationClauses.{run_from, ReadsOn, ReadsNumber, AreDates, HasDates, HasTimes, AddsDate, AddsTime};
 ghost use Rattle.ixdtf.specs.reading.DurationClauses.{date_unit_of, time_unit_of, unit_seen, date_group_of, time_group_of, after_date_group, after_time_group, begins_group, dated};
 
 use crate::ParserResult;
@@ -30,25 +31,27 @@ use crate::parsers::grammar::{
     is_ascii_sign, is_decimal_separator, is_duration_designator, is_time_designator,
 };
 use crate::parsers::offsets::sign_from;
-use crate::parsers::time::{Clock, parse_fraction};
+use crate::parsers::profile::Profile;
+use crate::parsers::time::parse_fraction;
 use crate::records::{DateDurationRecord, DurationParseRecord, Fraction, Sign, TimeDurationRecord};
 use crate::stop::Stop;
 use std::marker::Model;
 
 /// A reader of durations.
 ///
-/// It borrows its source, and is as large as the slice of units that are still to be read. A contract sees it as these
-/// units, by their numbers, and the count of looks that were made at them.
+/// It borrows its source, and is as large as the slice of units that are still to be read and its profile. A contract sees
+/// it as these units, by their numbers, the count of looks that were made at them, and the profile.
 #[derive(Drop)]
 #[derive_where(Debug)]
 pub struct IsoDurationParser<'a, T: EncodingType> {
     cursor: Cursor<'a, T>,
+    profile: Profile,
 }
 
 impl<'a, T: EncodingType> Model for IsoDurationParser<'a, T> {
-    ghost Value = { Unread };
+    ghost Value = { UnreadUnder };
 
-    ghost view = { λ p. p.cursor };
+    ghost view = { λ p. under p.profile p.cursor };
 }
 
 impl<'a> IsoDurationParser<'a, Utf8> {
@@ -56,6 +59,7 @@ impl<'a> IsoDurationParser<'a, Utf8> {
     pub fn from_str(value: &'a str) -> Self
         ensures rest { result.rest ≡ value.now }
         ensures looks { result.looks ≡ 0 }
+        ensures profile { result.profile ≡ Profile.Crate }
     {
         Self::new(value.as_bytes())
     }
@@ -64,6 +68,7 @@ impl<'a> IsoDurationParser<'a, Utf8> {
     pub fn from_utf8(value: &'a [u8]) -> Self
         ensures rest { result.rest ≡ value.now }
         ensures looks { result.looks ≡ 0 }
+        ensures profile { result.profile ≡ Profile.Crate }
     {
         IsoDurationParser::new(value)
     }
@@ -75,6 +80,7 @@ impl<'a> IsoDurationParser<'a, Utf16> {
     pub fn from_utf8(value: &'a [u16]) -> Self
         ensures rest { result.rest ≡ value.now }
         ensures looks { result.looks ≡ 0 }
+        ensures profile { result.profile ≡ Profile.Crate }
     {
         Self::new(value)
     }
@@ -85,9 +91,23 @@ impl<'a, T: EncodingType> IsoDurationParser<'a, T> {
     pub fn new(value: &'a [T::CodeUnit]) -> Self
         ensures rest { result.rest ≡ map T.number value.now }
         ensures looks { result.looks ≡ 0 }
+        ensures profile { result.profile ≡ Profile.Crate }
     {
         IsoDurationParser {
             cursor: Cursor::new(value),
+            profile: Profile::Crate,
+        }
+    }
+
+    /// The parser with this profile, which decides whether a unit may stand again. What is still to be read stays.
+    pub fn with_profile(self, profile: Profile) -> Self
+        ensures profile { result.profile ≡ profile }
+        ensures rest { result.rest ≡ self.entry.rest }
+        ensures looks { result.looks ≡ self.entry.looks }
+    {
+        IsoDurationParser {
+            cursor: self.cursor,
+            profile,
         }
     }
 
@@ -96,7 +116,8 @@ impl<'a, T: EncodingType> IsoDurationParser<'a, T> {
     /// An optional sign stands first, then `P`, then date groups, and then, behind a `T`, time groups; a group at all, and one
     /// behind a `T`. A group is a number and its unit: `Y`, `M`, `W` and `D` for years, months, weeks and days, and `H`, `M` and
     /// `S` for hours, minutes and seconds. No unit may stand behind a shorter one of its half; a unit may be repeated, and its
-    /// last number counts. The last time group may have a fraction, as `.25` or `,25`. All letters may be small.
+    /// last number counts, but under [`Profile::Strict`] none may. The last time group may have a fraction, as `.25` or `,25`.
+    /// All letters may be small.
     ///
     /// A number is below 2^64, and below 2^32 of years, months and weeks. The record has the date groups where any stand there,
     /// and the time groups where a `T` does.
@@ -104,13 +125,14 @@ impl<'a, T: EncodingType> IsoDurationParser<'a, T> {
     /// ```text
     /// P1Y2M3W4D           Ok: 1 year, 2 months, 3 weeks and 4 days
     /// -pt1h0,5m           Ok: negative, 1 hour, 0 minutes and a fraction of one digit, 5
-    /// P1Y2Y               Ok: 2 years
+    /// P1Y2Y               Ok: 2 years; strictly Err(DateDurationPartOrder)
     /// P1D1Y               Err(DateDurationPartOrder)
     /// PT0.5H1M            Err(InvalidEnd)
     /// P4294967296Y        Err(DurationValueExceededRange)
     /// ```
     ///
-    /// After `Ok` nothing is left to be read. After an error all that was still to be read still is.
+    /// After `Ok` nothing is left to be read, so each later call is refused as one on the empty text is. After an error all
+    /// that was still to be read still is.
     ///
     /// # Errors
     ///
@@ -121,7 +143,8 @@ impl<'a, T: EncodingType> IsoDurationParser<'a, T> {
     ///   `DateDurationDesignator` and `TimeDurationDesignator`);
     /// - `DurationDisgnator` where neither a sign nor `P` stands first, or no `P` behind a sign;
     /// - `TimeDurationDesignator` where no digit follows a `T`;
-    /// - `DateDurationPartOrder` and `TimeDurationPartOrder` for a group behind one of a shorter unit;
+    /// - `DateDurationPartOrder` and `TimeDurationPartOrder` for a group behind one of a shorter unit, and under
+    ///   [`Profile::Strict`] for one behind another of its unit;
     /// - `DurationValueExceededRange` at a digit with which a number is no more below 2^64, and for years, months and weeks
     ///   that are not below 2^32;
     /// - `FractionPart` where no digit follows a decimal mark;
@@ -131,29 +154,29 @@ impl<'a, T: EncodingType> IsoDurationParser<'a, T> {
         // `Ok` exactly where the language derives the duration.
         ensures ok { (duration : DurationParseRecord) →
             (returned (λ duration. duration) result ≡ Ok duration) ↔
-            Derives parse_duration (map T.letter self.old.rest) (lasting duration) [] }
+            Derives (parse_duration self.old.profile) (map T.letter self.old.rest)
+            (lasting duration) [] }
         // `Err` only where a row of the fault table with this error fits.
         ensures err { IfErr result
-            (λ e. HasFault parse_duration (map T.letter self.old.rest) [] (fault_of e)) }
+            (λ e. HasFault (parse_duration self.old.profile) (map T.letter self.old.rest) []
+            (fault_of e)) }
 
         // `Ok` only where no row fits, and where no other reader of dates, times and durations has the text.
-        ensures no_row { OnOk result (NoRowFits parse_duration (map T.letter self.old.rest)) }
-        ensures alone { OnOk result (InNoOther parse_duration (map T.letter self.old.rest)) }
+        ensures no_row { OnOk result (NoRowFits (parse_duration self.old.profile)
+            (map T.letter self.old.rest)) }
+        ensures alone { OnOk result (InNoOther self.old.profile (parse_duration self.old.profile)
+            (map T.letter self.old.rest)) }
         // `Err` only where no other row fits, and nothing is derived.
         ensures only { IfErr result
-            (λ e. OnlyFault parse_duration (map T.letter self.old.rest) [] (fault_of e)) }
+            (λ e. OnlyFault (parse_duration self.old.profile) (map T.letter self.old.rest) []
+            (fault_of e)) }
 
-        // None of the errors that no reader gives.
-        ensures comes { IfErr result (λ e. IsFalse (never_comes (fault_of e))) }
-
-        ensures empty { OnOk result (self.new.rest ≡ []) }
-        ensures unchanged { OnErr result (self.new.rest ≡ self.old.rest) }
-        ensures looks { self.new.looks ≤ self.old.looks + most_looks self.old.rest }
-        // The count of looks never goes down.
-        ensures counted { self.old.looks ≤ self.new.looks }
+        // What it leaves: nothing to be read after `Ok`, and all of it after an error.
+        ensures leaves { LeavesBehind fault_of (unread_of self.old) result (unread_of self.new) }
+        ensures profile { self.new.profile ≡ self.old.profile }
     {
         let mut here = self.cursor.take();
-        let read = parse_duration_text(&mut here);
+        let read = parse_duration_text(&mut here, self.profile);
         self.cursor.settle(here, read)
     }
 }
@@ -236,7 +259,8 @@ impl DateUnit {
     /// The place of the unit among those of durations, from the longest to the shortest.
     #[inline(always)]
     fn place(self) -> u8
-        ensures { result ≡ place (date_unit_of self) }
+        ensures place { result ≡ place (date_unit_of self) }
+        ensures small { result ≤ 6 }
     {
         match self {
             DateUnit::Years => 0,
@@ -254,11 +278,11 @@ struct DateGroup {
     value: u64,
 }
 
-/// Date groups: the record of them, and the unit of the last.
+/// Date groups: the record of them, and the least place of a unit that may follow.
 #[derive(Clone, Copy)]
 struct DateGroups {
     record: DateDurationRecord,
-    last: DateUnit,
+    least: u8,
 }
 
 /// The number, where it is below 2^32.
@@ -277,20 +301,21 @@ impl DateGroups {
     /// No groups.
     #[inline(always)]
     fn none() -> DateGroups
-        ensures { HasDates result [] }
+        ensures { (profile : Profile) → HasDates profile result [] }
     {
         DateGroups {
             record: DateDurationRecord::default(),
-            last: DateUnit::Years,
+            least: 0,
         }
     }
 
     /// Adds a group behind these, where its unit may follow and its number is in the range of the unit.
     #[inline(always)]
-    fn add(&mut self, group: DateGroup) -> Result<(), Stop>
-        ensures { AddsDate self.old result self.new (date_group_of group) }
+    fn add(&mut self, group: DateGroup, profile: Profile) -> Result<(), Stop>
+        ensures { AddsDate profile self.old result self.new (date_group_of group) }
     {
-        if group.unit.place() < self.last.place() {
+        let place = group.unit.place();
+        if place < self.least {
             return Err(Stop::DateDurationPartOrder);
         }
         match group.unit {
@@ -299,7 +324,7 @@ impl DateGroups {
             DateUnit::Weeks => self.record.weeks = check_small(group.value)?,
             DateUnit::Days => self.record.days = group.value,
         }
-        self.last = group.unit;
+        self.least = place + profile.least_step();
         Ok(())
     }
 }
@@ -318,9 +343,9 @@ fn parse_date_group<'a, T: EncodingType>(
     first: u8,
 ) -> Result<DateGroup, Stop>
     requires digit { IsTrue (digit first) }
-    ensures group { (s : Sign) (dates : List Group) →
-        Leads T.letter (in_number (in_dates s dates) (Plain first ∷ []))
-        cursor.old result cursor.new (after_date_group s dates) }
+    ensures group { (profile : Profile) (s : Sign) (dates : List Group) →
+        ReadsOn T.letter profile (in_number (in_dates s dates) (Plain first ∷ []))
+        cursor.old result cursor.new (after_date_group profile s dates) }
     ensures looks { SpendsOr 1 0 cursor.old result cursor.new }
 {
     let number = parse_number(cursor, first, Stop::AbruptDateDesignator)?;
@@ -333,12 +358,17 @@ fn parse_date_group<'a, T: EncodingType>(
 
 /// Reads date groups after their first digit, and what follows them: the end, or a `T`.
 #[inline(always)]
-fn parse_dates<'a, T: EncodingType>(cursor: &mut Cursor<'a, T>, first: u8) -> Result<Dates, Stop>
+fn parse_dates<'a, T: EncodingType>(
+    cursor: &mut Cursor<'a, T>,
+    first: u8,
+    profile: Profile,
+) -> Result<Dates, Stop>
     requires digit { IsTrue (digit first) }
     ensures dates { IfOk result
-        (λ dates. AreDates T.letter first cursor.old.rest dates cursor.new.rest) }
+        (λ dates. AreDates profile T.letter first cursor.old.rest dates cursor.new.rest) }
     ensures refused { IfErr result (λ e. (s : Sign) →
-        run_from (in_number (in_dates s []) (Plain first ∷ [])) (map T.letter cursor.old.rest)
+        run_from profile (in_number (in_dates s []) (Plain first ∷ []))
+        (map T.letter cursor.old.rest)
         ≡ Err (fault_of_stop e)) }
     ensures looks { Spends 1 cursor.old cursor.new }
 {
@@ -346,7 +376,7 @@ fn parse_dates<'a, T: EncodingType>(cursor: &mut Cursor<'a, T>, first: u8) -> Re
     let mut digit = first;
     loop {
         let group = parse_date_group(cursor, digit)?;
-        groups.add(group)?;
+        groups.add(group, profile)?;
         match cursor.look()? {
             None => {
                 return Ok(Dates {
@@ -397,7 +427,8 @@ impl TimeUnit {
     /// The place of the unit among those of durations, from the longest to the shortest.
     #[inline(always)]
     fn place(self) -> u8
-        ensures { result ≡ place (time_unit_of self) }
+        ensures place { result ≡ place (time_unit_of self) }
+        ensures small { result ≤ 6 }
     {
         match self {
             TimeUnit::Hours => 4,
@@ -415,12 +446,14 @@ struct TimeGroup {
     fraction: Option<Fraction>,
 }
 
-/// Time groups: the number of each unit, and the unit and the fraction of the last group.
+/// Time groups: the number of each unit, the least place of a unit that may follow, and the unit and the fraction of the last
+/// group, where there is one.
 #[derive(Clone, Copy)]
 struct TimeGroups {
     hours: u64,
     minutes: u64,
     seconds: u64,
+    least: u8,
     last: TimeUnit,
     fraction: Option<Fraction>,
 }
@@ -429,12 +462,13 @@ impl TimeGroups {
     /// No groups.
     #[inline(always)]
     fn none() -> TimeGroups
-        ensures { HasTimes result [] }
+        ensures { (profile : Profile) → HasTimes profile result [] }
     {
         TimeGroups {
             hours: 0,
             minutes: 0,
             seconds: 0,
+            least: 0,
             last: TimeUnit::Hours,
             fraction: None,
         }
@@ -442,12 +476,13 @@ impl TimeGroups {
 
     /// Adds a group behind these, where its unit may follow.
     #[inline(always)]
-    fn add(&mut self, group: TimeGroup) -> Result<(), Stop>
-        ensures added { AddsTime self.old result self.new (time_group_of group) }
+    fn add(&mut self, group: TimeGroup, profile: Profile) -> Result<(), Stop>
+        ensures added { AddsTime profile self.old result self.new (time_group_of group) }
         ensures last { OnOk result (self.new.last ≡ group.unit) }
         ensures fraction { OnOk result (self.new.fraction ≡ group.fraction) }
     {
-        if group.unit.place() < self.last.place() {
+        let place = group.unit.place();
+        if place < self.least {
             return Err(Stop::TimeDurationPartOrder);
         }
         match group.unit {
@@ -455,6 +490,7 @@ impl TimeGroups {
             TimeUnit::Minutes => self.minutes = group.value,
             TimeUnit::Seconds => self.seconds = group.value,
         }
+        self.least = place + profile.least_step();
         self.last = group.unit;
         self.fraction = group.fraction;
         Ok(())
@@ -471,7 +507,7 @@ impl TimeGroups {
     /// The record of the groups, by the unit of the last.
     #[inline(always)]
     fn record(self) -> TimeDurationRecord
-        ensures { (times : List Group) → HasTimes self times →
+        ensures { (profile : Profile) (times : List Group) → HasTimes profile self times →
             time_duration_to (time_unit_of self.last) self.fraction times ≡ Some result }
     {
         match self.last {
@@ -500,13 +536,13 @@ fn parse_fraction_group<'a, T: EncodingType>(
     cursor: &mut Cursor<'a, T>,
     value: u64,
 ) -> Result<TimeGroup, Stop>
-    ensures group { (s : Sign) (dates times : List Group) (ds : Text) → value ≡ decimal ds →
-        Leads T.letter (at_mark s dates times ds)
-        cursor.old result cursor.new (after_time_group s dates times) }
+    ensures group { (profile : Profile) (s : Sign) (dates times : List Group) (ds : Text) →
+        value ≡ decimal ds → ReadsOn T.letter profile (at_mark s dates times ds)
+        cursor.old result cursor.new (after_time_group profile s dates times) }
     ensures fraction { IfOk result (λ g. IsSome g.fraction) }
     ensures looks { Spends 3 cursor.old cursor.new }
 {
-    let fraction = parse_fraction(cursor, Clock::Time)?;
+    let fraction = parse_fraction(cursor)?;
     match cursor.look()? {
         None => Err(Stop::AbruptTimeDesignator),
         Some(byte) => {
@@ -528,9 +564,9 @@ fn parse_time_group<'a, T: EncodingType>(
     first: u8,
 ) -> Result<TimeGroup, Stop>
     requires digit { IsTrue (digit first) }
-    ensures group { (s : Sign) (dates times : List Group) →
-        Leads T.letter (in_number (in_times s dates times) (Plain first ∷ []))
-        cursor.old result cursor.new (after_time_group s dates times) }
+    ensures group { (profile : Profile) (s : Sign) (dates times : List Group) →
+        ReadsOn T.letter profile (in_number (in_times s dates times) (Plain first ∷ []))
+        cursor.old result cursor.new (after_time_group profile s dates times) }
     ensures looks { Spends 3 cursor.old cursor.new }
     ensures paid { IfOk result (λ g. g.fraction ≡ None → Spends 0 cursor.old cursor.new) }
 {
@@ -551,10 +587,11 @@ fn parse_time_group<'a, T: EncodingType>(
 fn parse_time_groups<'a, T: EncodingType>(
     cursor: &mut Cursor<'a, T>,
     first: u8,
+    profile: Profile,
 ) -> Result<TimeDurationRecord, Stop>
     requires digit { IsTrue (digit first) }
     ensures times { (s : Sign) (dates : List Group) →
-        Leads T.letter (in_number (in_times s dates []) (Plain first ∷ []))
+        ReadsOn T.letter profile (in_number (in_times s dates []) (Plain first ∷ []))
         cursor.old result cursor.new
         (λ time text. Ok (dated s (date_duration dates) (Some time), text)) }
     ensures looks { Spends 4 cursor.old cursor.new }
@@ -563,7 +600,7 @@ fn parse_time_groups<'a, T: EncodingType>(
     let mut digit = first;
     loop {
         match parse_time_group(cursor, digit) {
-            Ok(group) => groups.add(group)?,
+            Ok(group) => groups.add(group, profile)?,
             Err(stop) => return Err(stop),
         }
         match cursor.look()? {
@@ -583,16 +620,17 @@ fn parse_times<'a, T: EncodingType>(
     cursor: &mut Cursor<'a, T>,
     sign: Sign,
     date: Option<DateDurationRecord>,
+    profile: Profile,
 ) -> Result<DurationParseRecord, Stop>
     ensures duration { (dates : List Group) → date_duration dates ≡ date →
-        Leads T.letter (between (in_times sign dates []))
+        ReadsOn T.letter profile (between (in_times sign dates []))
         cursor.old result cursor.new (λ d text. Ok (d, text)) }
     ensures looks { Spends 5 cursor.old cursor.new }
 {
     match cursor.look()? {
         Some(byte) if byte.is_ascii_digit() => {
             cursor.step();
-            match parse_time_groups(cursor, byte) {
+            match parse_time_groups(cursor, byte, profile) {
                 Ok(time) => Ok(DurationParseRecord {
                     sign,
                     date,
@@ -614,8 +652,8 @@ fn parse_designator<'a, T: EncodingType>(
     cursor: &mut Cursor<'a, T>,
     sign: Sign,
 ) -> Result<Sign, Stop>
-    ensures sign { Leads T.letter (signed sign)
-        cursor.old result cursor.new (λ s. run_from (between (in_dates s []))) }
+    ensures sign { (profile : Profile) → ReadsOn T.letter profile (signed sign)
+        cursor.old result cursor.new (λ s. run_from profile (between (in_dates s []))) }
     ensures looks { Spends 1 cursor.old cursor.new }
 {
     match cursor.look()? {
@@ -632,8 +670,8 @@ fn parse_designator<'a, T: EncodingType>(
 #[inline(always)]
 #[tactic(auto, using(crate::proofs::code::DurationSteps::openings))]
 fn parse_opening<'a, T: EncodingType>(cursor: &mut Cursor<'a, T>) -> Result<Sign, Stop>
-    ensures sign { Leads T.letter started
-        cursor.old result cursor.new (λ s. run_from (between (in_dates s []))) }
+    ensures sign { (profile : Profile) → ReadsOn T.letter profile started
+        cursor.old result cursor.new (λ s. run_from profile (between (in_dates s []))) }
     ensures looks { Spends 2 cursor.old cursor.new }
 {
     match cursor.look()? {
@@ -656,15 +694,16 @@ fn parse_dated<'a, T: EncodingType>(
     cursor: &mut Cursor<'a, T>,
     sign: Sign,
     first: u8,
+    profile: Profile,
 ) -> Result<DurationParseRecord, Stop>
     requires digit { IsTrue (digit first) }
-    ensures duration { Leads T.letter (in_number (in_dates sign []) (Plain first ∷ []))
+    ensures duration { ReadsOn T.letter profile (in_number (in_dates sign []) (Plain first ∷ []))
         cursor.old result cursor.new (λ d text. Ok (d, text)) }
     ensures looks { Spends 6 cursor.old cursor.new }
 {
-    let dates = parse_dates(cursor, first)?;
+    let dates = parse_dates(cursor, first, profile)?;
     if dates.timed {
-        return parse_times(cursor, sign, Some(dates.record));
+        return parse_times(cursor, sign, Some(dates.record), profile);
     }
     Ok(DurationParseRecord {
         sign,
@@ -678,8 +717,9 @@ fn parse_dated<'a, T: EncodingType>(
 fn parse_after_designator<'a, T: EncodingType>(
     cursor: &mut Cursor<'a, T>,
     sign: Sign,
+    profile: Profile,
 ) -> Result<DurationParseRecord, Stop>
-    ensures duration { Leads T.letter (between (in_dates sign []))
+    ensures duration { ReadsOn T.letter profile (between (in_dates sign []))
         cursor.old result cursor.new (λ d text. Ok (d, text)) }
     ensures looks { Spends 7 cursor.old cursor.new }
 {
@@ -687,11 +727,11 @@ fn parse_after_designator<'a, T: EncodingType>(
         None => Err(Stop::AbruptDuration),
         Some(byte) if is_time_designator(byte) => {
             cursor.step();
-            parse_times(cursor, sign, None)
+            parse_times(cursor, sign, None, profile)
         }
         Some(byte) if byte.is_ascii_digit() => {
             cursor.step();
-            parse_dated(cursor, sign, byte)
+            parse_dated(cursor, sign, byte, profile)
         }
         Some(_) => Err(Stop::InvalidEnd),
     }
@@ -701,10 +741,12 @@ fn parse_after_designator<'a, T: EncodingType>(
 #[inline(always)]
 fn parse_duration_text<'a, T: EncodingType>(
     cursor: &mut Cursor<'a, T>,
+    profile: Profile,
 ) -> Result<DurationParseRecord, Stop>
-    ensures duration { Reads T.letter (λ d. d) cursor.old result cursor.new (duration_at error_of) }
+    ensures duration { Reads T.letter (λ d. d) cursor.old result cursor.new
+        (duration_at error_of profile) }
     ensures looks { Spends 9 cursor.old cursor.new }
 {
     let sign = parse_opening(cursor)?;
-    parse_after_designator(cursor, sign)
+    parse_after_designator(cursor, sign, profile)
 }

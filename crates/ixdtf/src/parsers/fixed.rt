@@ -30,11 +30,11 @@ pub struct WholeTime {
 /// unchanged, at the first place that does not fit, and where the numbers are no date or no time. Fewer units are not
 /// looked at.
 #[inline(always)]
-#[tactic(auto, using(crate::proofs::code::FixedPlaces::date_time_found, crate::proofs::code::FixedPlaces::date_time_stands))]
+#[tactic(auto, using(crate::proofs::code::FixedPlaces::date_time_at_place, crate::proofs::code::FixedPlaces::date_time_stands))]
 pub fn fixed_date_time<'a, T: EncodingType>(
     cursor: &mut Cursor<'a, T>,
 ) -> Option<(DateRecord, WholeTime)>
-    ensures found { IfSome result (λ found. FixedDateTime (map T.letter cursor.old.rest)
+    ensures at_place { IfSome result (λ found. FixedDateTime (map T.letter cursor.old.rest)
         found.0 (time_to_second found.1) (map T.letter cursor.new.rest)) }
     ensures none { result ≡ None → (date : DateRecord) (time : TimeRecord) (rest : Text) →
         FixedDateTime (map T.letter cursor.old.rest) date time rest → ⊥ }

@@ -16,6 +16,7 @@ use crate::parsers::dates::{
     check_month, days_in_month, parse_date_year, parse_month, take_hyphen,
 };
 use crate::parsers::grammar::{digits_value, is_hyphen};
+use crate::parsers::profile::Profile;
 use crate::records::DateRecord;
 use crate::stop::Stop;
 
@@ -41,9 +42,10 @@ pub fn parse_year_month_date<'a, T: EncodingType>(
 #[inline(always)]
 pub fn parse_month_day_date<'a, T: EncodingType>(
     cursor: &mut Cursor<'a, T>,
+    profile: Profile,
 ) -> Result<DateRecord, Stop>
     ensures date { Reads T.letter (λ date. date) cursor.old result cursor.new
-        (month_day_at error_of) }
+        (month_day_at error_of profile) }
     ensures looks { SpendsInAll 7 7 cursor.old cursor.new }
 {
     take_marks(cursor)?;
@@ -51,7 +53,7 @@ pub fn parse_month_day_date<'a, T: EncodingType>(
     let month = check_month(digits_value(tens, ones))?;
     take_hyphen(cursor, Stop::AbruptDigit, Stop::DateDay)?;
     let (tens, ones) = cursor.two_digits(Stop::DateDay)?;
-    check_month_day(month, digits_value(tens, ones))
+    check_month_day(profile, month, digits_value(tens, ones))
 }
 
 /// Takes two hyphens off, where the text does not begin with a digit.
@@ -74,13 +76,13 @@ fn take_marks<'a, T: EncodingType>(cursor: &mut Cursor<'a, T>) -> Result<bool, S
     }
 }
 
-/// The month-day, where its month has the day in some year. Day 0 is taken too.
+/// The month-day, where its month has the day in some year. Day 0 is taken too, but not under the strict profile.
 #[inline(always)]
-fn check_month_day(month: u8, day: u8) -> Result<DateRecord, Stop>
+fn check_month_day(profile: Profile, month: u8, day: u8) -> Result<DateRecord, Stop>
     ensures { Checks (λ date. date) result (date_of (pos 0) month day)
-        (nat_le least_day day && nat_le day (greatest_day month)) InvalidMonthDay }
+        (nat_le (least_day profile) day && nat_le day (greatest_day month)) InvalidMonthDay }
 {
-    if day > days_in_month(0, month) {
+    if day < profile.least_day() || day > days_in_month(0, month) {
         return Err(Stop::InvalidMonthDay);
     }
     Ok(DateRecord {

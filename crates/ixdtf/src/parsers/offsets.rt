@@ -12,7 +12,7 @@ ghost use Rattle.ixdtf.specs.reading.Zones.{offset_at};
 use crate::cursor::Cursor;
 use crate::encoding::EncodingType;
 use crate::parsers::grammar::{is_ascii_sign, is_hyphen};
-use crate::parsers::time::{Clock, Shape, parse_clock};
+use crate::parsers::time::{Clock, TimeShape, parse_clock};
 use crate::records::{
     FullPrecisionOffset, MinutePrecisionOffset, Sign, TimeRecord, UtcOffsetRecord,
 };
@@ -44,7 +44,7 @@ pub fn minute_offset(sign: u8, time: TimeRecord) -> MinutePrecisionOffset
 
 /// The record of an offset: in full where it has seconds.
 #[inline(always)]
-pub fn offset_from(sign: u8, shape: Shape, time: TimeRecord) -> UtcOffsetRecord
+pub fn offset_from(sign: u8, shape: TimeShape, time: TimeRecord) -> UtcOffsetRecord
     ensures { result ≡ offset_of sign (writes_seconds (shape_of shape)) time }
 {
     let second = time.second;

@@ -4,42 +4,40 @@ ghost use Rattle.std.specs.Prelude.{◌≡◌, ◌+◌, ◌*◌, ◌≤◌, [], 
 ghost use Rattle.ixdtf.specs.language.Readers.Reader.{bracketed};
 ghost use Rattle.ixdtf.specs.language.Languages.{parsed_with};
 ghost use Rattle.ixdtf.specs.Handlers.{with_calendar, calendar_value, pair_of};
-ghost use Rattle.ixdtf.specs.Views.{parsed_of, most_looks};
+ghost use Rattle.ixdtf.specs.Views.{IsEmptyRecord, parsed_of, most_looks};
 ghost use Rattle.ixdtf.specs.reading.Brackets.{zone_in, pairs_in};
 ghost use Rattle.ixdtf.specs.reading.Chains.{TextRead, TextReadAfter, first_pairs};
-ghost use Rattle.ixdtf.specs.reading.Clauses.{Spends, yielded, core_in, bracket_of};
+ghost use Rattle.ixdtf.specs.reading.Clauses.{Spends, HasNoBrackets, yielded, core_in, bracket_of};
 
 use crate::cursor::Cursor;
 use crate::encoding::EncodingType;
 use crate::parsers::annotations::parse_annotations;
 use crate::parsers::brackets::{Bracket, parse_first_bracket};
 use crate::parsers::cores::Cores;
+use crate::parsers::profile::Profile;
 use crate::records::{Annotation, IxdtfParseRecord};
 use crate::stop::Stop;
 
-/// Reads a core of the kind, and the brackets after it to the end, into a record in which nothing stands yet. The handler
-/// is asked about each annotation of a key and a value.
+/// Reads a core of the kind under the profile, and the brackets after it to the end, into a record in which nothing stands
+/// yet. The handler is asked about each annotation of a key and a value.
 pub fn parse_text<'a, T: EncodingType, C: Cores, F>(
     cursor: &mut Cursor<'a, T>,
+    profile: Profile,
     handler: &mut F,
     found: &mut IxdtfParseRecord<'a, T>,
 ) -> Result<(), Stop>
 where
     F: FnMut(Annotation<'a, T>) -> Option<Annotation<'a, T>>,
     requires callable { F.IsAlwaysCallable handler.old }
-    requires no_date { found.old.date ≡ None }
-    requires no_time { found.old.time ≡ None }
-    requires no_offset { found.old.offset ≡ None }
-    requires no_zone { found.old.tz ≡ None }
-    requires no_calendar { found.old.calendar ≡ None }
-    ensures replied { TextRead T.number F.step handler.old handler.new (bracketed C.kind)
+    requires empty { IsEmptyRecord found.old }
+    ensures replied { TextRead T.number F.step handler.old handler.new (bracketed (C.kind profile))
         (map T.letter cursor.old.rest) (yielded (λ _. parsed_of T.number found.new) result) }
     ensures empty { OnOk result (cursor.new.rest ≡ []) }
     ensures looks { cursor.new.looks ≤ cursor.old.looks + most_looks cursor.old.rest }
     ensures counted { cursor.old.looks ≤ cursor.new.looks }
 {
     let mut here = cursor.take();
-    let read = C::parse_core(&mut here, found);
+    let read = C::parse_core(&mut here, profile, found);
     *cursor = here;
     if !read? {
         return Ok(());
@@ -57,8 +55,7 @@ fn parse_brackets<'a, T: EncodingType, F>(
 where
     F: FnMut(Annotation<'a, T>) -> Option<Annotation<'a, T>>,
     requires callable { F.IsAlwaysCallable handler.old }
-    requires no_zone { found.old.tz ≡ None }
-    requires no_calendar { found.old.calendar ≡ None }
+    requires unbracketed { HasNoBrackets found.old }
     ensures replied { TextReadAfter T.number F.step handler.old handler.new (core_in found.old) true
         (map T.letter cursor.old.rest) (yielded (λ _. parsed_of T.number found.new) result) }
     ensures empty { OnOk result (cursor.new.rest ≡ []) }
@@ -81,8 +78,7 @@ fn place_bracket<'a, T: EncodingType>(
     bracket: Bracket<'a, T>,
     found: &mut IxdtfParseRecord<'a, T>,
 ) -> Option<Annotation<'a, T>>
-    requires no_zone { found.old.tz ≡ None }
-    requires no_calendar { found.old.calendar ≡ None }
+    requires { HasNoBrackets found.old }
     ensures pair { first_pairs (option_map (pair_of T.number) result) ≡
         pairs_in (bracket_of T.number bracket.entry) }
     ensures zone { parsed_of T.number found.new ≡

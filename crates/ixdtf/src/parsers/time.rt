@@ -55,11 +55,11 @@ impl Clock {
 
 /// How far a time was written.
 #[derive(Clone, Copy)]
-pub enum Shape {
+pub enum TimeShape {
     /// An hour alone.
     Hours,
     /// An hour and a minute right after it.
-    PlainMinutes,
+    BasicMinutes,
     /// An hour, a colon and a minute.
     ColonMinutes,
     /// A second too.
@@ -68,15 +68,15 @@ pub enum Shape {
     Fractions,
 }
 
-impl Shape {
+impl TimeShape {
     /// Whether a second stands in it.
     #[inline(always)]
     pub fn writes_seconds(self) -> bool
         ensures { result ≡ writes_seconds (shape_of self) }
     {
         match self {
-            Shape::Seconds | Shape::Fractions => true,
-            Shape::Hours | Shape::PlainMinutes | Shape::ColonMinutes => false,
+            TimeShape::Seconds | TimeShape::Fractions => true,
+            TimeShape::Hours | TimeShape::BasicMinutes | TimeShape::ColonMinutes => false,
         }
     }
 }
@@ -129,7 +129,7 @@ pub fn parse_clock<'a, T: EncodingType>(
     cursor: &mut Cursor<'a, T>,
     clock: Clock,
     time: &mut TimeRecord,
-) -> Result<Shape, Stop>
+) -> Result<TimeShape, Stop>
     ensures time { Reads T.letter (open_time_of time.new) cursor.old result cursor.new
         (clock_at error_of (clock_of clock)) }
     ensures looks { Spends 5 cursor.old cursor.new }
@@ -142,29 +142,29 @@ pub fn parse_clock<'a, T: EncodingType>(
             cursor.step();
             parse_minute(cursor, clock, true, hour, time)
         }
-        Some(byte) if byte.is_ascii_digit() => parse_plain_minute(cursor, clock, hour, time),
+        Some(byte) if byte.is_ascii_digit() => parse_basic_minute(cursor, clock, hour, time),
         _ => {
             write_time(time, hour, 0, 0, None);
-            Ok(Shape::Hours)
+            Ok(TimeShape::Hours)
         }
     }
 }
 
 /// Reads the minute right after an hour, and what of the time stands after it, by a cursor of its own.
 #[inline(always)]
-fn parse_plain_minute<'a, T: EncodingType>(
+fn parse_basic_minute<'a, T: EncodingType>(
     cursor: &mut Cursor<'a, T>,
     clock: Clock,
     hour: u8,
     time: &mut TimeRecord,
-) -> Result<Shape, Stop>
+) -> Result<TimeShape, Stop>
     ensures time { Reads T.letter (open_time_of time.new) cursor.old result cursor.new
         (minute_at error_of (clock_of clock) false hour) }
     ensures looks { Spends 4 cursor.old cursor.new }
 {
     let mut here = cursor.take();
     let mut there = *time;
-    let read = parse_plain_rest(&mut here, clock, hour, &mut there);
+    let read = parse_basic_rest(&mut here, clock, hour, &mut there);
     *cursor = here;
     *time = there;
     read
@@ -172,12 +172,12 @@ fn parse_plain_minute<'a, T: EncodingType>(
 
 /// Reads the minute right after an hour, and what of the time stands after it. It is not inlined: few texts have no colons.
 #[inline(never)]
-fn parse_plain_rest<'a, T: EncodingType>(
+fn parse_basic_rest<'a, T: EncodingType>(
     cursor: &mut Cursor<'a, T>,
     clock: Clock,
     hour: u8,
     time: &mut TimeRecord,
-) -> Result<Shape, Stop>
+) -> Result<TimeShape, Stop>
     ensures time { Reads T.letter (open_time_of time.new) cursor.old result cursor.new
         (minute_at error_of (clock_of clock) false hour) }
     ensures looks { Spends 4 cursor.old cursor.new }
@@ -194,7 +194,7 @@ fn parse_minute<'a, T: EncodingType>(
     colons: bool,
     hour: u8,
     time: &mut TimeRecord,
-) -> Result<Shape, Stop>
+) -> Result<TimeShape, Stop>
     ensures time { Reads T.letter (open_time_of time.new) cursor.old result cursor.new
         (minute_at error_of (clock_of clock) colons hour) }
     ensures looks { Spends 4 cursor.old cursor.new }
@@ -211,9 +211,9 @@ fn parse_minute<'a, T: EncodingType>(
         _ => {
             write_time(time, hour, minute, 0, None);
             Ok(if colons {
-                Shape::ColonMinutes
+                TimeShape::ColonMinutes
             } else {
-                Shape::PlainMinutes
+                TimeShape::BasicMinutes
             })
         }
     }
@@ -241,67 +241,60 @@ fn parse_second<'a, T: EncodingType>(
     hour: u8,
     minute: u8,
     time: &mut TimeRecord,
-) -> Result<Shape, Stop>
+) -> Result<TimeShape, Stop>
     ensures time { Reads T.letter (open_time_of time.new) cursor.old result cursor.new
         (second_at error_of (clock_of clock) hour minute) }
     ensures looks { Spends 3 cursor.old cursor.new }
 {
     let second = next_second(cursor, clock)?;
-    parse_after_second(cursor, clock, hour, minute, second, time)
+    parse_after_second(cursor, hour, minute, second, time)
 }
 
-/// Reads a fraction after a second, where there is one.
+/// Reads a fraction after a second, where there is one. It is read alike for each clock, as its digits are.
 #[inline(always)]
 pub fn parse_after_second<'a, T: EncodingType>(
     cursor: &mut Cursor<'a, T>,
-    clock: Clock,
     hour: u8,
     minute: u8,
     second: u8,
     time: &mut TimeRecord,
-) -> Result<Shape, Stop>
+) -> Result<TimeShape, Stop>
     ensures time { Reads T.letter (open_time_of time.new) cursor.old result cursor.new
-        (after_second_at error_of (clock_of clock) hour minute second) }
+        (after_second_at error_of clocks.Time hour minute second) }
     ensures looks { Spends 3 cursor.old cursor.new }
 {
     match cursor.look()? {
         Some(byte) if is_decimal_separator(byte) => {
             cursor.step();
-            let fraction = parse_fraction(cursor, clock)?;
+            let fraction = parse_fraction(cursor)?;
             write_time(time, hour, minute, second, Some(fraction));
-            Ok(Shape::Fractions)
+            Ok(TimeShape::Fractions)
         }
         _ => {
             write_time(time, hour, minute, second, None);
-            Ok(Shape::Seconds)
+            Ok(TimeShape::Seconds)
         }
     }
 }
 
 /// Reads the digits of a fraction after its decimal mark: `FractionPart` where there is none.
 #[inline(always)]
-pub fn parse_fraction<'a, T: EncodingType>(
-    cursor: &mut Cursor<'a, T>,
-    clock: Clock,
-) -> Result<Fraction, Stop>
+pub fn parse_fraction<'a, T: EncodingType>(cursor: &mut Cursor<'a, T>) -> Result<Fraction, Stop>
     ensures fraction { Reads T.letter (λ fraction. fraction) cursor.old result cursor.new
-        (fraction_at error_of (clock_of clock)) }
+        (fraction_at error_of clocks.Time) }
     ensures looks { Spends 2 cursor.old cursor.new }
 {
     let mut here = cursor.take();
-    let read = parse_digits(&mut here, clock);
+    let read = parse_digits(&mut here);
     *cursor = here;
     read
 }
 
 /// Reads the digits of a fraction. It is not inlined: few texts have one.
 #[inline(never)]
-fn parse_digits<'a, T: EncodingType>(
-    cursor: &mut Cursor<'a, T>,
-    clock: Clock,
-) -> Result<Fraction, Stop>
+fn parse_digits<'a, T: EncodingType>(cursor: &mut Cursor<'a, T>) -> Result<Fraction, Stop>
     ensures fraction { Reads T.letter (λ fraction. fraction) cursor.old result cursor.new
-        (fraction_at error_of (clock_of clock)) }
+        (fraction_at error_of clocks.Time) }
     ensures looks { Spends 2 cursor.old cursor.new }
 {
     let mut here = cursor.take();

@@ -1,13 +1,13 @@
 //! The reader of offsets and zones alone.
 
-ghost use Rattle.std.specs.Prelude.{◌≡◌, ◌↔◌, ℕ, ◌+◌, ◌≤◌, List, [], map, Ok, OnOk, OnErr, IfErr, IsFalse};
+ghost use Rattle.std.specs.Prelude.{◌≡◌, ◌↔◌, ℕ, List, [], map, Ok, OnOk, IfErr};
 ghost use Rattle.ixdtf.specs.declared.records.UtcOffsetRecord.{UtcOffsetRecord};
-ghost use Rattle.ixdtf.specs.table.Faults.{fault_of, never_comes};
+ghost use Rattle.ixdtf.specs.table.Faults.{fault_of};
 ghost use Rattle.ixdtf.specs.table.Outcomes.{HasFault, NoRowFits, OnlyFault};
 ghost use Rattle.ixdtf.specs.language.Readers.Reader.{parse_offset, parse_identifier, parse_iana_identifier};
 ghost use Rattle.ixdtf.specs.language.ZoneNames.{Zone};
 ghost use Rattle.ixdtf.specs.language.Languages.{shifted, identified, named, Derives};
-ghost use Rattle.ixdtf.specs.Views.{Unread, returned, zone_of, most_looks};
+ghost use Rattle.ixdtf.specs.Views.{Unread, LeavesBehind, returned, zone_of};
 
 use crate::ParserResult;
 use crate::cursor::Cursor;
@@ -85,7 +85,8 @@ impl<'a, T: EncodingType> TimeZoneParser<'a, T> {
     /// Europe//Berlin      Err(IanaCharPostSeparator)
     /// ```
     ///
-    /// After `Ok` nothing is left to be read. After an error all that was still to be read still is.
+    /// After `Ok` nothing is left to be read, so each later call is refused as one on the empty text is. After an error all
+    /// that was still to be read still is.
     ///
     /// # Errors
     ///
@@ -110,14 +111,8 @@ impl<'a, T: EncodingType> TimeZoneParser<'a, T> {
         ensures only { IfErr result
             (λ e. OnlyFault parse_identifier (map T.letter self.old.rest) [] (fault_of e)) }
 
-        // None of the errors that no reader gives.
-        ensures comes { IfErr result (λ e. IsFalse (never_comes (fault_of e))) }
-
-        ensures empty { OnOk result (self.new.rest ≡ []) }
-        ensures unchanged { OnErr result (self.new.rest ≡ self.old.rest) }
-        ensures looks { self.new.looks ≤ self.old.looks + most_looks self.old.rest }
-        // The count of looks never goes down.
-        ensures counted { self.old.looks ≤ self.new.looks }
+        // What it leaves: nothing to be read after `Ok`, and all of it after an error.
+        ensures leaves { LeavesBehind fault_of self.old result self.new }
     {
         let mut here = self.cursor.take();
         let read = parse_identifier_text(&mut here);
@@ -138,7 +133,8 @@ impl<'a, T: EncodingType> TimeZoneParser<'a, T> {
     /// +0530:15            Err(UtcTimeSeparator)
     /// ```
     ///
-    /// After `Ok` nothing is left to be read. After an error all that was still to be read still is.
+    /// After `Ok` nothing is left to be read, so each later call is refused as one on the empty text is. After an error all
+    /// that was still to be read still is.
     ///
     /// # Errors
     ///
@@ -165,14 +161,8 @@ impl<'a, T: EncodingType> TimeZoneParser<'a, T> {
         ensures only { IfErr result
             (λ e. OnlyFault parse_offset (map T.letter self.old.rest) [] (fault_of e)) }
 
-        // None of the errors that no reader gives.
-        ensures comes { IfErr result (λ e. IsFalse (never_comes (fault_of e))) }
-
-        ensures empty { OnOk result (self.new.rest ≡ []) }
-        ensures unchanged { OnErr result (self.new.rest ≡ self.old.rest) }
-        ensures looks { self.new.looks ≤ self.old.looks + most_looks self.old.rest }
-        // The count of looks never goes down.
-        ensures counted { self.old.looks ≤ self.new.looks }
+        // What it leaves: nothing to be read after `Ok`, and all of it after an error.
+        ensures leaves { LeavesBehind fault_of self.old result self.new }
     {
         let mut here = self.cursor.take();
         let read = parse_offset_text(&mut here);
@@ -189,7 +179,8 @@ impl<'a, T: EncodingType> TimeZoneParser<'a, T> {
     /// America/            Err(IanaCharPostSeparator)
     /// ```
     ///
-    /// After `Ok` nothing is left to be read. After an error all that was still to be read still is.
+    /// After `Ok` nothing is left to be read, so each later call is refused as one on the empty text is. After an error all
+    /// that was still to be read still is.
     ///
     /// # Errors
     ///
@@ -213,14 +204,8 @@ impl<'a, T: EncodingType> TimeZoneParser<'a, T> {
         ensures only { IfErr result
             (λ e. OnlyFault parse_iana_identifier (map T.letter self.old.rest) [] (fault_of e)) }
 
-        // None of the errors that no reader gives.
-        ensures comes { IfErr result (λ e. IsFalse (never_comes (fault_of e))) }
-
-        ensures empty { OnOk result (self.new.rest ≡ []) }
-        ensures unchanged { OnErr result (self.new.rest ≡ self.old.rest) }
-        ensures looks { self.new.looks ≤ self.old.looks + most_looks self.old.rest }
-        // The count of looks never goes down.
-        ensures counted { self.old.looks ≤ self.new.looks }
+        // What it leaves: nothing to be read after `Ok`, and all of it after an error.
+        ensures leaves { LeavesBehind fault_of self.old result self.new }
     {
         let mut here = self.cursor.take();
         let read = parse_iana_identifier_text(&mut here);

@@ -1,7 +1,8 @@
 use Rattle.std.proofs.Common.{rules, refl}
 use Rattle.std.specs.Cmp.{booleans_Decides, unsigned_Decides}
 use Rattle.ixdtf.specs.table.ErrorEquality.{same_error-Decides}
-use Rattle.ixdtf.proofs.code.EqualRecords.{by_exact, on_part, on_both, on_option, on_plain_option, put_together, zones_exact, offsets_exact, offsets_or_z_exact, time_durations_exact}
+use Rattle.ixdtf.proofs.code.EqualRecords.{by_exact, on_part, on_both, on_option, on_option_itself, put_together, zones_exact, offsets_exact}
+use Rattle.ixdtf.proofs.code.EqualRecords.{offsets_or_z_exact, time_durations_exact}
 use Rattle.ixdtf.proofs.code.EqualUnits.{equal_lists}
 use Rattle.ixdtf.proofs.laws.equality_is_of_what_is_seen.Goals as goal
 
@@ -25,7 +26,7 @@ returns-clause-fraction g c = by_exact (λ a b. search rules)
 
 pub returns-clause-time : goal.returns-clause-time
 returns-clause-time g c =
-    let fraction = on_plain_option (returns-clause-fraction g c).exact in
+    let fraction = on_option_itself (returns-clause-fraction g c).exact in
     by_exact (put_together (λ parts. record { hour = parts.0; minute = parts.1.0; second = parts.1.1.0; fraction = parts.1.1.1 })
     (λ t. (t.hour, (t.minute, (t.second, t.fraction)))) (λ parts. refl) (
     on_both (on_part (λ t. t.hour) unsigned_Decides) (on_both (on_part (λ t. t.minute) unsigned_Decides) (
@@ -34,7 +35,7 @@ returns-clause-time g c =
 pub returns-clause-full_offset : goal.returns-clause-full_offset
 returns-clause-full_offset g c =
     let minutes = (returns-clause-minute_offset g c).exact in
-    let fraction = on_plain_option (returns-clause-fraction g c).exact in
+    let fraction = on_option_itself (returns-clause-fraction g c).exact in
     by_exact (put_together (λ parts. record { minute_precision_offset = parts.0; second = parts.1.0; fraction = parts.1.1 })
     (λ o. (o.minute_precision_offset, (o.second, o.fraction))) (λ parts. refl) (
     on_both (on_part (λ o. o.minute_precision_offset) minutes) (on_both (on_part (λ o. o.second) unsigned_Decides) (on_part (λ o. o.fraction) fraction))))
@@ -62,9 +63,9 @@ returns-clause-zone_annotation g c =
 
 pub returns-clause-record : goal.returns-clause-record
 returns-clause-record g c =
-    let date = on_plain_option (returns-clause-date g c).exact in
-    let time = on_plain_option (returns-clause-time g c).exact in
-    let offset = on_plain_option (returns-clause-offset_or_z g c).exact in
+    let date = on_option_itself (returns-clause-date g c).exact in
+    let time = on_option_itself (returns-clause-time g c).exact in
+    let offset = on_option_itself (returns-clause-offset_or_z g c).exact in
     let zone = on_option (returns-clause-zone_annotation g c).exact in
     let calendar = on_option (returns-clause-units g c).exact in
     by_exact (put_together
@@ -81,7 +82,7 @@ returns-clause-date_duration g c = by_exact (λ a b. search rules)
 
 pub returns-clause-time_duration : goal.returns-clause-time_duration
 returns-clause-time_duration g c =
-    let fraction = on_plain_option (returns-clause-fraction g c).exact in
+    let fraction = on_option_itself (returns-clause-fraction g c).exact in
     let hours = on_both (on_part (λ p. p.0) unsigned_Decides) (on_part (λ p. p.1) fraction) in
     let minutes = on_both (on_part (λ p. p.0) unsigned_Decides) (on_part (λ p. p.1) hours) in
     let seconds = on_both (on_part (λ p. p.0) unsigned_Decides) (on_part (λ p. p.1) minutes) in
@@ -100,8 +101,8 @@ returns-clause-time_duration g c =
 pub returns-clause-duration : goal.returns-clause-duration
 returns-clause-duration g c =
     let sign = (returns-clause-sign g c).exact in
-    let date = on_plain_option (returns-clause-date_duration g c).exact in
-    let time = on_plain_option (returns-clause-time_duration g c).exact in
+    let date = on_option_itself (returns-clause-date_duration g c).exact in
+    let time = on_option_itself (returns-clause-time_duration g c).exact in
     by_exact (put_together (λ parts. record { sign = parts.0; date = parts.1.0; time = parts.1.1 }) (λ d. (d.sign, (d.date, d.time))) (λ parts. refl) (
     on_both (on_part (λ d. d.sign) sign) (on_both (on_part (λ d. d.date) date) (on_part (λ d. d.time) time))))
 

@@ -1,5 +1,15 @@
-use Rattle.ixdtf.proofs.theorems.OneOutcome.{one_outcome}
+use Rattle.ixdtf.proofs.theorems.OneChain.{one_result, one_chain}
+use Rattle.ixdtf.proofs.theorems.OneOutcome.{one_outcome, fronts_begin}
 use Rattle.ixdtf.proofs.laws.one_outcome.Goals as goal
 
-pub returns : goal.returns
-returns c = one_outcome
+pub returns-clause-outcome : goal.returns-clause-outcome
+returns-clause-outcome c = one_outcome
+
+pub returns-clause-begins : goal.returns-clause-begins
+returns-clause-begins c = fronts_begin
+
+pub returns-clause-chain : goal.returns-clause-chain
+returns-clause-chain c = one_result
+
+pub returns-clause-replied : goal.returns-clause-replied
+returns-clause-replied c = one_chain

@@ -1,9 +1,9 @@
-use Rattle.ixdtf.proofs.theorems.OnePlainOutcome.{one_plain_outcome}
+use Rattle.ixdtf.proofs.theorems.OneUnhandledOutcome.{one_unhandled_outcome}
 use Rattle.ixdtf.proofs.widths.Widths.{same_where_shared, fault_where_not_shared}
 use Rattle.ixdtf.proofs.laws.widths_agree.Goals as goal
 
 pub returns-clause-one : goal.returns-clause-one
-returns-clause-one c = one_plain_outcome
+returns-clause-one c = one_unhandled_outcome
 
 pub returns-clause-same : goal.returns-clause-same
 returns-clause-same c = same_where_shared

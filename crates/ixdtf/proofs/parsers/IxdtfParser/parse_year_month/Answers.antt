@@ -2,4 +2,4 @@ use Rattle.std.proofs.Common.{rules}
 use Rattle.ixdtf.proofs.parsers.IxdtfParser.parse_year_month.Goals as goal
 
 pub returns-in-Err : goal.returns-in-Err
-returns-in-Err g c = let gives = rw (← c.error.ensures) at c.in-Err.ensures.plain in search rules
+returns-in-Err g c = let gives = rw (← c.error.ensures) at c.in-Err.ensures.unhandled in search rules

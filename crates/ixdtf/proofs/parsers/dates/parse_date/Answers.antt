@@ -14,5 +14,6 @@ returns-in-Some-clause-date g c =
     let found : date_place (map letter units) ≡ Some c.in-Some.date = sym c.fixed_date.ensures.there ∙ c.in-Some.is in
     let left : drop 10 units ≡ new.rest = sym (c.skip.ensures.rest ∙ ap (λ (t : List ℕ). drop 10 t) c.fixed_date.ensures.rest) in
     let after : drop 10 (map letter units) ≡ map letter new.rest = drop-map letter 10 units ∙ ap (map letter) left in
-    let read : date_at error_of (map letter units) ≡ ranged c.in-Some.date (map letter new.rest) = date_is_read (map letter units) c.in-Some.date found ∙ ap (ranged c.in-Some.date) after in
+    let read : date_at error_of (map letter units) ≡ ranged c.in-Some.date (map letter new.rest) =
+    date_is_read (map letter units) c.in-Some.date found ∙ ap (ranged c.in-Some.date) after in
     reads_ranged letter c.args.cursor.now new c.check_ranges.result c.in-Some.date read (c.check_ranges.ensures (map letter new.rest))

@@ -4,9 +4,9 @@ use Rattle.ixdtf.proofs.parsers.duration.parse_date_group.Goals as goal
 
 -- the letter ends no group
 pub returns-in_err-unit-clause-group : goal.returns-in_err-unit-clause-group
-returns-in_err-unit-clause-group g c s dates =
+returns-in_err-unit-clause-group g c profile s dates =
     let p = err_from_is_err_and c.from_residual-in_err-unit.result c.from_residual-in_err-unit.ensures.1 in
-    rw (p.1, p.2) (ends_no_date _ _ _ _ _ c.in_ok-number.ensures.number s dates _ c.in_err-unit.ensures)
+    rw (p.1, p.2) (ends_no_date _ _ _ _ _ c.in_ok-number.ensures.number profile s dates _ c.in_err-unit.ensures)
 
 pub returns-clause-group : goal.returns-clause-group
-returns-clause-group g c s dates = ends_date _ _ _ _ _ c.in_ok-number.ensures.number s dates _ c.in_ok-unit.ensures
+returns-clause-group g c profile s dates = ends_date _ _ _ _ _ c.in_ok-number.ensures.number profile s dates _ c.in_ok-unit.ensures

@@ -2,25 +2,27 @@ use Rattle.std.proofs.Common.{◌≡◌, false, true, rules}
 use Rattle.std.proofs.lemmas.Result.{err_from_is_err_and}
 use Rattle.ixdtf.specs.language.Letters.{decimal_mark}
 use Rattle.ixdtf.proofs.code.DurationLetters.{ends_time, ends_no_time, at_decimal_mark, has_fraction}
-use Rattle.ixdtf.proofs.code.DurationSteps.{leads_on}
+use Rattle.ixdtf.proofs.code.DurationSteps.{reads_on_earlier}
 use Rattle.ixdtf.proofs.parsers.duration.parse_time_group.Goals as goal
 
 -- the letter ends no group
 pub returns-in_err-unit-clause-group : goal.returns-in_err-unit-clause-group
-returns-in_err-unit-clause-group g c s dates times =
+returns-in_err-unit-clause-group g c profile s dates times =
     let p = err_from_is_err_and c.from_residual-in_err-unit.result c.from_residual-in_err-unit.ensures.1 in
     let miss : decimal_mark c.in_ok-number.number.next ≡ false = search rules in
-    rw (p.1, p.2) (ends_no_time _ _ _ _ _ c.in_ok-number.ensures.number s dates times _ miss c.in_err-unit.ensures)
+    rw (p.1, p.2) (ends_no_time _ _ _ _ _ c.in_ok-number.ensures.number profile s dates times _ miss c.in_err-unit.ensures)
 
 pub returns-clause-group : goal.returns-clause-group
-returns-clause-group g c s dates times = ends_time _ _ _ _ _ c.in_ok-number.ensures.number s dates times _ c.in_ok-unit.ensures c.in_ok-number.ensures.small
+returns-clause-group g c profile s dates times =
+    ends_time _ _ _ _ _ c.in_ok-number.ensures.number profile s dates times _ c.in_ok-unit.ensures c.in_ok-number.ensures.small
 
 -- a decimal mark stands there
 pub returns-then-is_decimal_separator-clause-group : goal.returns-then-is_decimal_separator-clause-group
-returns-then-is_decimal_separator-clause-group g c s dates times =
+returns-then-is_decimal_separator-clause-group g c profile s dates times =
     let number = c.in_ok-number.ensures.number in
     let is : decimal_mark c.in_ok-number.number.next ≡ true = search rules in
-    leads_on _ _ _ c.args.cursor.now c.parse_number.new.cursor _ _ _ (at_decimal_mark _ _ _ _ _ number s dates times is) (c.parse_fraction_group.ensures.group s dates times number.ds number.value)
+    reads_on_earlier _ _ _ _ c.args.cursor.now c.parse_number.new.cursor _ _ _ (at_decimal_mark _ _ _ _ _ number profile s dates times is)
+    (c.parse_fraction_group.ensures.group profile s dates times number.ds number.value)
 
 pub returns-then-is_decimal_separator-clause-paid : goal.returns-then-is_decimal_separator-clause-paid
 returns-then-is_decimal_separator-clause-paid g c = has_fraction c.parse_fraction_group.result _ c.parse_fraction_group.ensures.fraction

@@ -4,7 +4,7 @@ use Rattle.ixdtf.specs.language.Letters.{Text}
 use Rattle.ixdtf.specs.language.FixedPlaces.{FixedDateTime}
 use Rattle.ixdtf.specs.reading.Clauses.{time_to_second}
 use Rattle.ixdtf.specs.reading.FixedPlaces.{date_time_place}
-use Rattle.ixdtf.proofs.code.FixedPlaces.{date_time_found, date_time_stands}
+use Rattle.ixdtf.proofs.code.FixedPlaces.{date_time_at_place, date_time_stands}
 use Rattle.ixdtf.proofs.parsers.fixed.fixed_date_time.Goals as goal
 
 nothing_is : {A : Type 0} {x : A} → None ≡ Some x → ⊥
@@ -16,8 +16,8 @@ returns-in_err-found-clause-none g c =
     let nothing : date_time_place text ≡ None = sym c.in_err-found.ensures.there in
     λ none date time rest fits. nothing_is (sym nothing ∙ date_time_stands text date time rest fits)
 
-pub returns-clause-found : goal.returns-clause-found
-returns-clause-found g c =
+pub returns-clause-at_place : goal.returns-clause-at_place
+returns-clause-at_place g c =
     let letter = g.T.EncodingType.letter in
     let units = c.args.cursor.now.rest in
     let date = c.in_ok-found.found.0 in
@@ -25,4 +25,4 @@ returns-clause-found g c =
     let found : date_time_place (map letter units) ≡ Some (date, time) = sym c.in_ok-found.ensures.there in
     let left : drop 19 units ≡ c.skip.new.self.rest = sym (c.skip.ensures.rest ∙ ap (λ (t : List ℕ). drop 19 t) c.find_date_time.ensures.rest) in
     subst (λ (t : Text). FixedDateTime (map letter units) date time t) (drop-map letter 19 units ∙ ap (map letter) left)
-    (date_time_found (map letter units) (date, time) found)
+    (date_time_at_place (map letter units) (date, time) found)

@@ -2,22 +2,28 @@ use Rattle.std.proofs.Common.{◌≡◌, ℕ, map, Option, Some, None, Ok, IsSom
 use Rattle.std.proofs.lemmas.Result.{err_from_is_err_and}
 use Rattle.ixdtf.specs.table.Faults.Fault.{NonAsciiCodePoint}
 use Rattle.ixdtf.specs.reading.Looks.{look_at}
-use Rattle.ixdtf.proofs.code.FractionLoop.{taken}
+use Rattle.ixdtf.proofs.code.FractionLoop.{one_taken}
 use Rattle.ixdtf.proofs.code.LetterLoops.{begins, goes_on, stays, ends, fails, front_is}
 use Rattle.ixdtf.proofs.parsers.letters.take_letters.Goals as goal
 use Rattle.ixdtf.proofs.parsers.letters.take_letters.Goals.{in-Err, in-Ok-None, in-Ok-Some+in-None}
 
 pub loop-stop-init : goal.loop-stop-init
-loop-stop-init g c = rw c.take-here.ensures.same record { start = c.rest-start.ensures; far = begins _ _ _ _; looks = omega arith; counted = omega arith; shorter = omega arith }
+loop-stop-init g c = rw c.take-here.ensures.same record {
+  start = c.rest-start.ensures;
+  far = begins _ _ _ _;
+  looks = omega arith;
+  counted = omega arith;
+  shorter = omega arith;
+}
 
 pub loop-stop-smaller : goal.loop-stop-smaller
 loop-stop-smaller g c =
-    let off = taken {letter = g.T.EncodingType.letter} c.in-Ok-Some.ensures.letter c.in-Ok-Some.field-0-is c.look.ensures.rest c.step.ensures.rest in
+    let off = one_taken {letter = g.T.EncodingType.letter} c.in-Ok-Some.ensures.letter c.in-Ok-Some.field-0-is c.look.ensures.rest c.step.ensures.rest in
     omega arith
 
 pub loop-stop-preserved : goal.loop-stop-preserved
 loop-stop-preserved g c =
-    let off = taken {letter = g.T.EncodingType.letter} c.in-Ok-Some.ensures.letter c.in-Ok-Some.field-0-is c.look.ensures.rest c.step.ensures.rest in
+    let off = one_taken {letter = g.T.EncodingType.letter} c.in-Ok-Some.ensures.letter c.in-Ok-Some.field-0-is c.look.ensures.rest c.step.ensures.rest in
     let next : g.S.Letters.after c.loop-stop.state c.in-Ok-Some.byte ≡ Some c.in-Some.next = search rules in
     let invariant = c.loop-stop.invariant in
     record {
@@ -44,7 +50,8 @@ returns-in_err-next-clause-letters g c =
 pub returns-clause-letters : goal.returns-clause-letters
 returns-clause-letters g c =
     let far = c.loop-stop.invariant.far in
-    let front = front_is g.T.EncodingType.number c.rest-start.result.now c.rest.result.now far.taken c.loop-stop.here.rest _ c.loop-stop.invariant.start far.units (c.rest.ensures ∙ c.look.ensures.rest) in
+    let front = front_is g.T.EncodingType.number c.rest-start.result.now c.rest.result.now far.taken c.loop-stop.here.rest _ c.loop-stop.invariant.start
+    far.units (c.rest.ensures ∙ c.look.ensures.rest) in
     rw (front, c.look.ensures.rest) elim c.match-look.branch [
       | in-Err w ↦ cc (w.found-is, c.in_ok-next.was)
       | in-Ok-None w ↦
@@ -61,7 +68,8 @@ returns-clause-letters g c =
 pub returns-clause-units : goal.returns-clause-units
 returns-clause-units g c =
     let far = c.loop-stop.invariant.far in
-    let front = front_is g.T.EncodingType.number c.rest-start.result.now c.rest.result.now far.taken c.loop-stop.here.rest _ c.loop-stop.invariant.start far.units (c.rest.ensures ∙ c.look.ensures.rest) in
+    let front = front_is g.T.EncodingType.number c.rest-start.result.now c.rest.result.now far.taken c.loop-stop.here.rest _ c.loop-stop.invariant.start
+    far.units (c.rest.ensures ∙ c.look.ensures.rest) in
     rw (front, c.look.ensures.rest) far.units
 
 -- a letter that stays is taken off by a step
@@ -69,7 +77,8 @@ pub returns-clause-stays : goal.returns-clause-stays
 returns-clause-stays g c some = elim c.match-look.branch [
   | in-Err w ↦ cc (w.found-is, c.in_ok-next.was)
   | in-Ok-None w ↦ absurd (nothing_next _ (search rules) some)
-  | in-Ok-Some+in-None w ↦ rw c.look.ensures.rest (taken {letter = g.T.EncodingType.letter} w.in-Ok-Some.ensures.letter w.in-Ok-Some.field-0-is refl refl).shorter
+  | in-Ok-Some+in-None w ↦
+      rw c.look.ensures.rest (one_taken {letter = g.T.EncodingType.letter} w.in-Ok-Some.ensures.letter w.in-Ok-Some.field-0-is refl refl).shorter
 ]
   where
     nothing_next : (next : Option ℕ) → next ≡ None → IsSome next → ⊥

@@ -15,7 +15,7 @@ pub returns-in_err-calendar-clause-replied : goal.returns-in_err-calendar-clause
 returns-in_err-calendar-clause-replied g c =
     let p = err_from_is_err_and c.from_residual-in_err-calendar.result c.from_residual-in_err-calendar.ensures.1 in
     let pairs = rw c.take-here-2.ensures.same at c.in_err-calendar.ensures.pairs in
-    rw (p.1, p.2, ← c.take-here.ensures.same) (placed_fault _ _ _ _ _ _ _ _ _ _ c.in_ok-bracket.ensures.bracket c.place_bracket-first.ensures.pair pairs)
+    rw (p.1, p.2, ← c.take-here.ensures.same) (placed_fault _ _ _ c.in_ok-bracket.ensures.bracket c.place_bracket-first.ensures.pair pairs)
 
 pub returns-in_err-calendar-clause-looks : goal.returns-in_err-calendar-clause-looks
 returns-in_err-calendar-clause-looks g c =
@@ -28,7 +28,7 @@ returns-clause-replied g c =
     let pairs = rw c.take-here-2.ensures.same at c.in_ok-calendar.ensures.pairs in
     let calendar = calendar_value (option_map (pair_of g.T.EncodingType.number) c.in_ok-calendar.field-0) in
     let found = c.place_calendar.ensures ∙ ap (λ (p : Parsed). with_calendar p calendar) c.place_bracket-first.ensures.zone in
-    rw (← c.take-here.ensures.same) (placed _ _ _ _ _ _ _ _ _ _ _ c.in_ok-bracket.ensures.bracket c.place_bracket-first.ensures.pair pairs found)
+    rw (← c.take-here.ensures.same) (placed _ _ _ c.in_ok-bracket.ensures.bracket c.place_bracket-first.ensures.pair pairs found)
 
 pub returns-clause-looks : goal.returns-clause-looks
 returns-clause-looks g c =

@@ -2,20 +2,24 @@ use Rattle.std.proofs.Common.{◌≡◌, map, Some, None, Ok, false, arith, rule
 use Rattle.ixdtf.specs.language.Letters.{digit}
 use Rattle.ixdtf.specs.table.Faults.Fault.{NonAsciiCodePoint}
 use Rattle.ixdtf.specs.reading.Looks.{look_at}
-use Rattle.ixdtf.proofs.code.FractionLoop.{goes_on, ends_at_other, ends_at_end, fails, taken}
+use Rattle.ixdtf.proofs.code.FractionLoop.{goes_on, ends_at_other, ends_at_end, fails, one_taken}
 use Rattle.ixdtf.proofs.parsers.time.parse_more_digits.Goals as goal
 use Rattle.ixdtf.proofs.parsers.time.parse_more_digits.Goals.{in-Some+then-not-is_ascii_digit, in_default}
 
 pub loop-byte-smaller : goal.loop-byte-smaller
 loop-byte-smaller g c =
-    let off = taken {letter = g.T.EncodingType.letter} c.in_ok-byte.ensures.letter c.in-Some.is c.in_ok-byte.ensures.rest c.step.ensures.rest in
+    let off = one_taken {letter = g.T.EncodingType.letter} c.in_ok-byte.ensures.letter c.in-Some.is c.in_ok-byte.ensures.rest c.step.ensures.rest in
     omega arith
 
 pub loop-byte-preserved : goal.loop-byte-preserved
 loop-byte-preserved g c =
-    let off = taken {letter = g.T.EncodingType.letter} c.in_ok-byte.ensures.letter c.in-Some.is c.in_ok-byte.ensures.rest c.step.ensures.rest in
+    let off = one_taken {letter = g.T.EncodingType.letter} c.in_ok-byte.ensures.letter c.in-Some.is c.in_ok-byte.ensures.rest c.step.ensures.rest in
     record {
-      far = goes_on _ _ _ _ _ _ _ c.loop-byte.invariant.far off.found (search rules) off.left (record { count = c.with_digit-fraction.ensures.count; grows = c.with_digit-fraction.ensures.grows; stays = c.with_digit-fraction.ensures.stays });
+      far = goes_on _ _ _ _ _ _ _ c.loop-byte.invariant.far off.found (search rules) off.left (record {
+        count = c.with_digit-fraction.ensures.count;
+        grows = c.with_digit-fraction.ensures.grows;
+        stays = c.with_digit-fraction.ensures.stays;
+      });
       looks = omega (arith, c.loop-byte.invariant.looks);
       counted = omega (arith, c.loop-byte.invariant.counted, c.in_ok-byte.ensures.looks, c.step.ensures.looks);
     }
@@ -30,10 +34,12 @@ returns-clause-fraction g c =
     let far = c.loop-byte.invariant.far in
     elim c.match-branch-2.branch [
       | in-Some+then-not-is_ascii_digit w ↦
-          let found : look_at NonAsciiCodePoint (map g.T.EncodingType.letter c.loop-byte.cursor.rest) ≡ Ok (Some w.in-Some.byte) = cc (c.in_ok-byte.ensures.letter, w.in-Some.is) in
+          let found : look_at NonAsciiCodePoint (map g.T.EncodingType.letter c.loop-byte.cursor.rest) ≡ Ok (Some w.in-Some.byte) =
+          cc (c.in_ok-byte.ensures.letter, w.in-Some.is) in
           let is : digit w.in-Some.byte ≡ false = search rules in
           rw c.in_ok-byte.ensures.rest (ends_at_other _ _ _ _ _ far found is)
       | in_default w ↦
-          let over : look_at NonAsciiCodePoint (map g.T.EncodingType.letter c.loop-byte.cursor.rest) ≡ Ok None = cc (c.in_ok-byte.ensures.letter, w.in_default.is) in
+          let over : look_at NonAsciiCodePoint (map g.T.EncodingType.letter c.loop-byte.cursor.rest) ≡ Ok None =
+          cc (c.in_ok-byte.ensures.letter, w.in_default.is) in
           rw c.in_ok-byte.ensures.rest (ends_at_end _ _ _ _ far over)
     ]

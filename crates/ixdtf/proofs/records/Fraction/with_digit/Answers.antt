@@ -5,8 +5,18 @@ use Rattle.ixdtf.proofs.records.Fraction.with_digit.Goals as goal
 
 pub overflow_mul-value : goal.overflow_mul-value
 overflow_mul-value c =
-    omega (arith, c.number-value.ensures, one_more c.self.inside.digits c.self.inside.value 0 c.if-self-lt18.true c.self.invariant.1 (omega arith), eighteen (c.self.inside.digits + 1))
+    omega (
+      arith,
+      c.number-value.ensures,
+      one_more c.self.inside.digits c.self.inside.value 0 c.if-self-lt18.true c.self.invariant.1 (omega arith),
+      eighteen (c.self.inside.digits + 1),
+    )
 
 pub overflow_add-value : goal.overflow_add-value
 overflow_add-value c =
-    omega (arith, c.number-value.ensures, one_more c.self.inside.digits c.self.inside.value c.from.result c.if-self-lt18.true c.self.invariant.1 (omega arith), eighteen (c.self.inside.digits + 1))
+    omega (
+      arith,
+      c.number-value.ensures,
+      one_more c.self.inside.digits c.self.inside.value c.from.result c.if-self-lt18.true c.self.invariant.1 (omega arith),
+      eighteen (c.self.inside.digits + 1),
+    )

@@ -9,12 +9,13 @@ use Rattle.ixdtf.proofs.parsers.cores.LoneTimesCores.parse_core.Goals as goal
 pub returns-in_err-byte-clause-core : goal.returns-in_err-byte-clause-core
 returns-in_err-byte-clause-core g c =
     let p = err_from_is_err_and c.from_residual.result c.from_residual.ensures.1 in
-    rw (p.1, p.2) (bad_is _ _ c.in_err-byte.ensures.letter)
+    rw (p.1, p.2) (bad_is _ _ _ c.in_err-byte.ensures.letter)
 
 -- `T` or `t`, and no test of the front
 pub returns-in-Some-clause-core : goal.returns-in-Some-clause-core
 returns-in-Some-clause-core g c =
-    let marked = marked_is _ c.in-Some.byte (rw c.in-Some.is at c.in_ok-byte.ensures.letter) (sym c.if-is_time_designator.ensures) _ c.requires.no_date in
+    let marked =
+    marked_is c.args.profile _ c.in-Some.byte (rw c.in-Some.is at c.in_ok-byte.ensures.letter) (sym c.if-is_time_designator.ensures) _ c.requires.no_date in
     let same = marked ∙ rw (c.step.ensures.letters, c.look.ensures.rest) refl in
     reads_as _ _ c.step.new.self c.args.cursor.now _ c.parse_timed.result _ _ same c.parse_timed.ensures.core
 
@@ -26,7 +27,7 @@ returns-in_err-more-in_default-clause-core g c =
       | in_default-via-in-Some+else-is_time_designator w ↦ rw w.in-Some.is (sym w.if-is_time_designator.ensures)
       | in_default-via-in_default w ↦ rw w.in_default.is refl
     ] in
-    rw (p.1, p.2) (unmarked_is _ _ c.in_ok-byte.ensures.letter other _ c.requires.no_date
+    rw (p.1, p.2) (unmarked_is _ _ _ c.in_ok-byte.ensures.letter other _ c.requires.no_date
     ∙ rw (← c.look.ensures.rest, c.in_err-more-in_default.ensures.core) refl)
 
 pub returns-in_err-check_front-in_default-clause-core : goal.returns-in_err-check_front-in_default-clause-core
@@ -37,7 +38,7 @@ returns-in_err-check_front-in_default-clause-core g c =
       | in_default-via-in_default w ↦ rw w.in_default.is refl
     ] in
     let front = c.in_err-check_front-in_default.ensures.front _ _ in
-    rw (p.1, p.2) (unmarked_is _ _ c.in_ok-byte.ensures.letter other _ c.requires.no_date
+    rw (p.1, p.2) (unmarked_is _ _ _ c.in_ok-byte.ensures.letter other _ c.requires.no_date
     ∙ rw (← c.look.ensures.rest, c.in_ok-more-in_default.ensures.core) (rw (c.look.ensures.rest, ← c.rest-start.ensures) front))
 
 pub returns-in_ok-check_front-in_default-clause-core : goal.returns-in_ok-check_front-in_default-clause-core
@@ -47,5 +48,5 @@ returns-in_ok-check_front-in_default-clause-core g c =
       | in_default-via-in_default w ↦ rw w.in_default.is refl
     ] in
     let front = c.in_ok-check_front-in_default.ensures.front _ _ in
-    unmarked_is _ _ c.in_ok-byte.ensures.letter other _ c.requires.no_date
+    unmarked_is _ _ _ c.in_ok-byte.ensures.letter other _ c.requires.no_date
     ∙ rw (← c.look.ensures.rest, c.in_ok-more-in_default.ensures.core) (rw (c.look.ensures.rest, ← c.rest-start.ensures, ← c.check_front.ensures.rest) front)

@@ -1,9 +1,10 @@
-use Rattle.std.proofs.Common.{◌≡◌, true, nat_le, rules, arith, refl}
+use Rattle.std.proofs.Common.{◌≡◌, true, nat_le, rules, arith}
 use Rattle.ixdtf.specs.language.Durations.{greatest, greatest_value}
 use Rattle.ixdtf.specs.reading.DurationClauses.{date_unit_of}
 use Rattle.ixdtf.proofs.code.DurationGroups.{IsWith, date_added}
 use Rattle.ixdtf.proofs.parsers.duration.DateGroups.add.Goals as goal
-use Rattle.ixdtf.proofs.parsers.duration.DateGroups.add.Goals.{in-Years+in_ok-self-in-Years, in-Months+in_ok-self-in-Months, in-Weeks+in_ok-self-in-Weeks, in-Days}
+use Rattle.ixdtf.proofs.parsers.duration.DateGroups.add.Goals.{in-Years+in_ok-self-in-Years, in-Months+in_ok-self-in-Months, in-Weeks+in_ok-self-in-Weeks}
+use Rattle.ixdtf.proofs.parsers.duration.DateGroups.add.Goals.{in-Days}
 
 pub returns : goal.returns
 unfolding greatest_value
@@ -20,4 +21,4 @@ returns c dates has =
       | in-Weeks+in_ok-self-in-Weeks w ↦ search rules
       | in-Days w ↦ search rules
     ] in
-    date_added _ _ _ _ dates has (omega arith) small refl with
+    date_added _ _ _ _ _ dates has (omega arith) small (search rules) with

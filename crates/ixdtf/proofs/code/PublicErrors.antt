@@ -54,13 +54,14 @@ Under n P κs = (τs : Lfts 5) × P τs × (τs.1.0 ≡ κs.1.0)
 
 -- a record, of an encoding and its units by their numbers among the types, or this error
 module _ (at : NamedLft) (i j : ℕ) (T' U : RattleType) where
-  abbrev pub Found : RattleType
-  Found = IxdtfParseRecord.the_row at (param i T') (param j U)
+  abbrev pub RecordRow : RattleType
+  RecordRow = IxdtfParseRecord.the_row at (param i T') (param j U)
 
   abbrev pub Got : RattleType
-  Got = Result.the_row Found ParseError.the_row
+  Got = Result.the_row RecordRow ParseError.the_row
 
   pub lands : Laws T' → Laws U → {M : Type 1} {𝓤 : Ura M} (𝓛 : Logic 𝓤) (x : Got.Denot) (r : Val) → Is Got x (r ∷ []) → T (has_ty (layout Got) r) × WT r
   lands LT LU 𝓛 x r is =
       let record_is = record_laws.the_row_laws at (param i T') (param j U) (param_laws i T' LT) (param_laws j U LU) in
-      ((loose_lawful (Result.the_type Found ParseError.the_row) (result_laws.the_loose Found ParseError.the_row record_is error_laws.the_row_laws) tt 𝓛).typed x (r ∷ []) is).0
+      ((loose_lawful (Result.the_type RecordRow ParseError.the_row) (result_laws.the_loose RecordRow ParseError.the_row record_is error_laws.the_row_laws) tt
+      𝓛).typed x (r ∷ []) is).0

@@ -2,7 +2,7 @@ use Rattle.std.proofs.Common.{◌∙◌, refl, arith}
 use Rattle.std.proofs.lemmas.Result.{err_from_is_err_and}
 use Rattle.std.proofs.lemmas.Grind.{common_steps}
 use Rattle.ixdtf.proofs.code.YearDigits.{four_digits}
-use Rattle.ixdtf.proofs.parsers.dates.parse_plain_year.Goals as goal
+use Rattle.ixdtf.proofs.parsers.dates.parse_four_digit_year.Goals as goal
 
 pub returns-in_err-ones-clause-year : goal.returns-in_err-ones-clause-year
 returns-in_err-ones-clause-year g c =
