@@ -1,0 +1,79 @@
+-- Digits of a number, the last one first.
+use Rattle.std.proofs.Common.{ℕ, zero, suc, ◌+◌, ◌-◌, ◌/◌, ◌%◌, ◌^◌, ◌<◌, ◌≤◌, ◌≡◌, List, [], ◌∷◌, ◌++◌, length, set, refl, sym, ◌∙◌, ap, arith, append_assoc}
+use Rattle.std.proofs.Common.{append-nil, subst}
+use Rattle.std.proofs.Math.Nat.{pow-succ', div-one, div-div-eq-div-mul}
+use Rattle.std.proofs.lemmas.List.{length-append}
+use Rattle.ixdtf.specs.language.Letters.{Text}
+use Rattle.ixdtf.specs.language.Letters.Letter.{Plain}
+use Rattle.ixdtf.specs.language.Digits.{padded_digits}
+use Rattle.ixdtf.proofs.code.Nanoseconds.{length-padded}
+use Rattle.ixdtf_print.specs.Puts.{HasRoom, Puts}
+use Rattle.ixdtf_print.proofs.Puts.{text_long, puts_length, puts_nothing, puts_before}
+
+-- the digits of a number are those of its tenth, and its last digit
+pub last_digit : (count number : ℕ) → padded_digits (suc count) number ≡ padded_digits count (number / 10) ++ (Plain (48 + number % 10) ∷ [])
+last_digit zero number = rw div-one refl
+last_digit (suc count) number =
+    let tenth : number / 10 ^ suc count ≡ number / 10 / 10 ^ count = ap (λ n. number / n) (pow-succ' 10 count)
+    ∙ sym (div-div-eq-div-mul number 10 (10 ^ count)) in
+    rw (tenth, last_digit count number) refl
+
+-- The last digits of a number were put, and those of what is left of it go before them.
+pub record LastDigits (old new : List ℕ) (from place to left count number : ℕ) : Type 0 where
+  pub begun : from ≤ place
+  pub done : Text
+  pub puts : Puts old new place to done
+  pub whole : padded_digits (place - from) left ++ done ≡ padded_digits count number
+
+pub no_digit : (out : List ℕ) (from count number : ℕ) → LastDigits out out from (from + count) (from + count) number count number
+no_digit out from count number =
+    let all : from + count - from ≡ count = omega arith in
+    record {
+      begun = omega arith;
+      done = [];
+      puts = puts_nothing out (from + count);
+      whole = rw (all, append-nil (padded_digits count number)) refl;
+    }
+
+-- they end with the digits of the whole number
+pub ends_all : (old new : List ℕ) (from place to left count number : ℕ) (d : LastDigits old new from place to left count number) → to ≡ from + count
+ends_all old new from place to left count number d =
+    omega (
+      arith,
+      d.begun,
+      text_long old new place to d.done d.puts,
+      length-append (padded_digits (place - from) left) d.done,
+      ap length d.whole,
+      length-padded (place - from) left,
+      length-padded count number,
+    )
+
+-- there is room before them
+pub inside_room : (old new : List ℕ) (from place to left count number : ℕ) → HasRoom old from (padded_digits count number)
+    → LastDigits old new from place to left count number
+    → (place ≤ length old) × (length new ≡ length old)
+inside_room old new from place to left count number room d =
+    let ends = ends_all old new from place to left count number d in
+    let inside : to ≤ length old = omega (arith, room.room, length-padded count number, ends) in
+    (omega (arith, inside, d.puts.ends), puts_length old new place to d.done d.puts inside)
+
+pub next_digit : {old new : List ℕ} {from place to left count number : ℕ} → HasRoom old from (padded_digits count number) → from < place
+    → LastDigits old new from place to left count number
+    → LastDigits old (set new (place - 1) (48 + left % 10)) from (place - 1) to (left / 10) count number
+next_digit {old = old} {new = new} {from = from} {place = place} {to = to} {left = left} {count = count} {number = number} room more d =
+    let inside = inside_room old new from place to left count number room d in
+    let one_less : place - from ≡ suc (place - 1 - from) = omega arith in
+    record {
+      begun = omega arith;
+      done = Plain (48 + left % 10) ∷ d.done;
+      puts = puts_before (place - 1) (48 + left % 10) (omega arith) inside.0 d.puts;
+      whole = sym (append_assoc (padded_digits (place - 1 - from) (left / 10)) _ d.done)
+          ∙ ap (λ t. t ++ d.done) (sym (last_digit (place - 1 - from) left)) ∙ ap (λ k. padded_digits k left ++ d.done) (sym one_less) ∙ d.whole;
+    }
+
+pub all_digits : {old new : List ℕ} {from place to left count number : ℕ} → place ≤ from → LastDigits old new from place to left count number
+    → Puts old new from to (padded_digits count number)
+all_digits {old = old} {new = new} {from = from} {place = place} {to = to} {left = left} least d =
+    let here : place ≡ from = omega (arith, d.begun) in
+    let none : place - from ≡ 0 = omega arith in
+    subst (Puts old new from to) (ap (λ k. padded_digits k left ++ d.done) (sym none) ∙ d.whole) (subst (λ k. Puts old new k to d.done) here d.puts)

@@ -1,0 +1,66 @@
+-- How long the parts of a canonical text are.
+use Rattle.std.proofs.Common.{ℕ, ◌+◌, ◌≡◌, ◌⊎◌, ℤ, pos, negsuc, Bool, true, false, cond, IsFalse, ◌<◌, ◌∷◌, ◌++◌, length, Some, refl, arith, nat_le, inl, inr}
+use Rattle.std.specs.Prelude.{◌≤ℤ◌, ◌<ℤ◌}
+use Rattle.std.proofs.lemmas.Bool.Decides.{nat_tests}
+use Rattle.std.proofs.lemmas.Int.{ints}
+use Rattle.std.proofs.lemmas.List.{length-append}
+use Rattle.ixdtf.specs.declared.records.DateRecord.{DateRecord}
+use Rattle.ixdtf.specs.declared.records.FullPrecisionOffset.{FullPrecisionOffset}
+use Rattle.ixdtf.specs.declared.records.MinutePrecisionOffset.{MinutePrecisionOffset}
+use Rattle.ixdtf.specs.declared.records.TimeRecord.{TimeRecord}
+use Rattle.ixdtf.specs.language.Letters.Letter.{Plain}
+use Rattle.ixdtf.specs.language.Digits.{padded_digits}
+use Rattle.ixdtf.specs.language.Fractions.{FractionParts}
+use Rattle.ixdtf.specs.language.Languages.{Parsed}
+use Rattle.ixdtf_print.specs.Canonical.{year_text, date_text, fraction_text, time_text, minute_offset_text, full_offset_text, offset_text, bracket_text}
+use Rattle.ixdtf_print.specs.Canonical.{calendar_text, optional_date_text, core_text, canonical_text}
+use Rattle.ixdtf_print.proofs.Derived.{fraction_long, year_few, date_long}
+use Rattle.ixdtf_print.proofs.DerivedTimes.{minutes_long, clock_long}
+
+pub some_fraction_long : (fraction : FractionParts) → length (fraction_text (Some fraction)) ≡ 1 + fraction.count
+some_fraction_long fraction = omega (arith, fraction_long fraction)
+
+pub some_time_long : (time : TimeRecord) → length (time_text (Some time)) ≡ 9 + length (fraction_text time.fraction)
+some_time_long time = omega (arith, clock_long time.hour time.minute time.second time.fraction)
+
+pub minute_offset_long : (offset : MinutePrecisionOffset) → length (minute_offset_text offset) ≡ 6
+minute_offset_long offset = omega (arith, minutes_long offset.hour offset.minute)
+
+pub full_offset_long : (offset : FullPrecisionOffset) → length (full_offset_text offset) ≡ 9 + length (fraction_text offset.fraction)
+full_offset_long offset = omega (arith, clock_long offset.minute_precision_offset.hour offset.minute_precision_offset.minute offset.second offset.fraction)
+
+year_four : (year : ℤ) → pos 0 ≤ℤ year → year ≤ℤ pos 9999 → length (year_text year) ≡ 4
+year_four (pos n) from to = year_few n (omega (arith, ints))
+year_four (negsuc n) from to = absurd (omega (arith, ints))
+
+many : (n : ℕ) → 9999 < n → length (year_text (pos n)) ≡ 7
+unfolding year_text
+many n h = by_test (nat_le n 9999) (grind (arith, nat_tests, h))
+  where
+    by_test : (b : Bool) → IsFalse b → length (cond b (padded_digits 4 n) (Plain 43 ∷ padded_digits 6 n)) ≡ 7
+    by_test true t = absurd cc
+    by_test false t = refl
+
+year_seven : (year : ℤ) → ((pos 9999 <ℤ year) ⊎ (year <ℤ pos 0)) → length (year_text year) ≡ 7
+unfolding year_text
+year_seven (pos n) (inl h) = many n (omega (arith, ints))
+year_seven (pos n) (inr h) = absurd (omega (arith, ints))
+year_seven (negsuc n) h = refl
+
+pub plain_date_long : (date : DateRecord) → pos 0 ≤ℤ date.year → date.year ≤ℤ pos 9999 → length (date_text date) ≡ 10
+plain_date_long date from to = omega (arith, date_long date, year_four date.year from to)
+
+pub signed_date_long : (date : DateRecord) → ((pos 9999 <ℤ date.year) ⊎ (date.year <ℤ pos 0)) → length (date_text date) ≡ 13
+signed_date_long date h = omega (arith, date_long date, year_seven date.year h)
+
+pub canonical_long : (found : Parsed) → length (canonical_text found)
+    ≡ length (optional_date_text found.date) + length (time_text found.time) + length (offset_text found.offset)
+    + length (bracket_text found.zone) + length (calendar_text found.calendar)
+unfolding canonical_text core_text
+canonical_long found = omega (
+  arith,
+  length-append (optional_date_text found.date ++ (time_text found.time ++ offset_text found.offset)) (bracket_text found.zone ++ calendar_text found.calendar),
+  length-append (optional_date_text found.date) (time_text found.time ++ offset_text found.offset),
+  length-append (time_text found.time) (offset_text found.offset),
+  length-append (bracket_text found.zone) (calendar_text found.calendar),
+)

@@ -1,0 +1,12 @@
+pub mod PaddedDigits
+pub mod Parse
+pub mod ReadBack
+pub mod Derived
+pub mod DerivedTimes
+pub mod Printable
+pub mod Puts
+pub mod DigitLoop
+pub mod Values
+pub mod Lengths
+pub mod Years
+pub mod ValueLoop

@@ -1,0 +1,59 @@
+-- Digits of a number.
+use Rattle.std.proofs.Common.{ℕ, zero, suc, ◌+◌, ◌%◌, ◌/◌, ◌^◌, ◌<◌, ◌≤◌, ◌≡◌, IsTrue, [], ◌∷◌, ◌++◌, replicate, min, ◌-◌, Option, Some, append_assoc, refl}
+use Rattle.std.proofs.Common.{sym, arith}
+use Rattle.std.proofs.lemmas.Bool.Decides.{nat_tests}
+use Rattle.std.proofs.Math.Nat.{div-one, zero-div}
+use Rattle.ixdtf.specs.language.Letters.{Text, digit}
+use Rattle.ixdtf.specs.language.Letters.Letter.{Plain}
+use Rattle.ixdtf.specs.language.Shapes.{digits}
+use Rattle.ixdtf.specs.language.Digits.{padded_digits, TwoDigits, UpTo}
+use Rattle.ixdtf.proofs.code.Nanoseconds.{decimal-whole}
+use Rattle.ixdtf.specs.language.Fractions.{FractionParts}
+use Rattle.ixdtf_print.specs.Canonical.{two_digits, minutes_text, seconds_text, clock_text, fraction_digits, fraction_text}
+
+is_digit : (n : ℕ) → IsTrue (digit (48 + n % 10))
+is_digit n = grind (arith, nat_tests)
+
+pub padded_are : (count number : ℕ) → digits count (padded_digits count number)
+padded_are zero number = refl
+padded_are (suc count) number = (_, _, refl, is_digit (number / 10 ^ count), padded_are count number)
+
+pub two_are : (number : ℕ) → number < 100 → TwoDigits (two_digits number) number
+unfolding two_digits
+two_are number small = (padded_are 2 number, sym (decimal-whole 2 number small))
+
+pub up_to : (greatest number : ℕ) → greatest < 100 → number ≤ greatest → UpTo greatest (two_digits number) number
+unfolding two_digits
+up_to greatest number g h = (padded_are 2 number, sym (decimal-whole 2 number (omega arith)), h)
+
+-- ---- any number of digits, one list after another
+
+pub digits-append : (a b : ℕ) (xs ys : Text) → digits a xs → digits b ys → digits (a + b) (xs ++ ys)
+digits-append zero b xs ys h g = rw h (let e : zero + b ≡ b = omega arith in rw e g)
+digits-append (suc a) b xs ys h g =
+    let e : suc a + b ≡ suc (a + b) = omega arith in
+    rw e (h.0, h.1 ++ ys, rw h.2 refl, h.3, digits-append a b h.1 ys h.4 g)
+
+pub zeros_are : (count : ℕ) → digits count (replicate count (Plain 48))
+zeros_are zero = refl
+zeros_are (suc count) = (48, replicate count (Plain 48), refl, refl, zeros_are count)
+
+-- the digits of zero are zeros
+padded_zero : (count : ℕ) → padded_digits count 0 ≡ replicate count (Plain 48)
+padded_zero zero = refl
+padded_zero (suc count) = rw (zero-div, padded_zero count) refl
+
+-- ---- two digits, as they are written
+
+pub two_is : (number : ℕ) → two_digits number ≡ Plain (48 + number / 10 % 10) ∷ (Plain (48 + number % 10) ∷ [])
+unfolding two_digits
+two_is number = rw div-one refl
+
+pub clock_split : (h m s : ℕ) (part : Option FractionParts) → clock_text h m s part ≡ minutes_text h m ++ ((Plain 58 ∷ two_digits s) ++ fraction_text part)
+unfolding clock_text seconds_text minutes_text
+clock_split h m s part = simp append_assoc
+
+pub fraction_is : (fraction : FractionParts) → fraction_text (Some fraction)
+    ≡ (Plain 46 ∷ []) ++ (padded_digits (min fraction.count 18) fraction.value ++ padded_digits (fraction.count - 18) 0)
+unfolding fraction_digits
+fraction_is fraction = rw (padded_zero (fraction.count - 18)) refl

@@ -1,0 +1,89 @@
+-- What `parse` reads without a handler, by the parts of the text, and back. The other proofs speak of these parts, and not of readers.
+use Rattle.std.proofs.Common.{◌≡◌, ◌++◌, List, Option, refl, ◌∙◌, ap}
+use Rattle.ixdtf.specs.language.Letters.{Text}
+use Rattle.ixdtf.specs.language.Brackets.{ZoneNote, Pair, OptionalBracket, ArePairs}
+use Rattle.ixdtf.specs.language.Cores.{Core, IsDateTimeCore}
+use Rattle.ixdtf.specs.language.Languages.{Parsed, parsed_with, IsBracketed, Derives}
+use Rattle.ixdtf.specs.language.Languages.Derives.{as_parsed}
+use Rattle.ixdtf.specs.language.Languages.Found.{parsed}
+use Rattle.ixdtf.specs.language.Readers.{parse}
+use Rattle.ixdtf.specs.language.Readers.CoreKind.{date_time}
+use Rattle.ixdtf.specs.Handlers.{UnhandledRecord, NoneRefused, own_replies, calendar_value, first_calendar, with_calendar}
+use Rattle.ixdtf.specs.Widths.UnhandledOutcome.{read_as}
+use Rattle.ixdtf.proofs.theorems.OneUnhandledOutcome.{one_unhandled_outcome}
+
+-- a record of these parts
+abbrev pub joined : Core → Option ZoneNote → List Pair → Parsed
+joined core zone pairs = record {
+  date = core.date;
+  time = core.time;
+  offset = core.offset;
+  zone = zone;
+  calendar = calendar_value (first_calendar (own_replies pairs));
+}
+
+-- a core, a zone bracket or none, and pairs, of which none is refused, in a row; and what they stand for
+pub record HasParts (text : Text) (found : Parsed) : Type 0 where
+  pub cores : Text
+  pub zones : Text
+  pub pair_texts : Text
+  pub core : Core
+  pub zone : Option ZoneNote
+  pub pairs : List Pair
+  pub is : text ≡ cores ++ (zones ++ pair_texts)
+  pub is_core : IsDateTimeCore cores core
+  pub is_bracket : OptionalBracket zones zone
+  pub are_pairs : ArePairs pair_texts pairs
+  pub accepted : NoneRefused (own_replies pairs)
+  pub has : found ≡ joined core zone pairs
+
+-- what `parse` derives is a core of its kind and brackets
+bracketed_of : (text : Text) (found : Parsed) (pairs : List Pair) → Derives parse text (parsed found) pairs → IsBracketed date_time text found pairs
+bracketed_of text found pairs (as_parsed h) = h
+
+pub to_parts : (text : Text) (found : Parsed) → UnhandledRecord parse text found → HasParts text found
+to_parts text found (pairs, gives) =
+    let whole = bracketed_of text gives.read pairs gives.whole in
+    let tail = whole.is_tail in
+    record {
+      cores = whole.cores;
+      zones = tail.0;
+      pair_texts = tail.1;
+      core = whole.core;
+      zone = whole.zone;
+      pairs = pairs;
+      is = whole.is ∙ ap (λ t. whole.cores ++ t) tail.2;
+      is_core = whole.is_core;
+      is_bracket = tail.3;
+      are_pairs = tail.4;
+      accepted = gives.accepted;
+      has = gives.has ∙ ap (λ read. with_calendar read (calendar_value (first_calendar (own_replies pairs)))) whole.has;
+    }
+
+pub of_parts : (text : Text) (found : Parsed) → HasParts text found → UnhandledRecord parse text found
+of_parts text found h = (
+  h.pairs,
+  record {
+    read = parsed_with h.core h.zone;
+    whole = as_parsed (record {
+      cores = h.cores;
+      brackets = h.zones ++ h.pair_texts;
+      core = h.core;
+      zone = h.zone;
+      is = h.is;
+      is_core = h.is_core;
+      is_tail = (h.zones, h.pair_texts, refl, h.is_bracket, h.are_pairs);
+      has = refl;
+    });
+    accepted = h.accepted;
+    has = h.has;
+  },
+)
+
+-- a text gives one record
+pub one_record : (text : Text) (a b : Parsed) → UnhandledRecord parse text a → UnhandledRecord parse text b → a ≡ b
+one_record text a b p q =
+    let outcome = one_unhandled_outcome parse text in
+    let first : read_as (parsed a) ≡ outcome.0 = outcome.2 (read_as (parsed a)) p in
+    let second : read_as (parsed b) ≡ outcome.0 = outcome.2 (read_as (parsed b)) q in
+    cc

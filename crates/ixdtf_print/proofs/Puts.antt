@@ -1,0 +1,100 @@
+-- One text put after another.
+use Rattle.std.proofs.Common.{ℕ, suc, ◌+◌, ◌≤◌, ◌≡◌, List, [], ◌∷◌, ◌++◌, map, length, take, drop, set, refl, sym, ◌∙◌, ap, arith, add-one, append_assoc}
+use Rattle.std.proofs.Math.Seq.{take-append_seam}
+use Rattle.std.proofs.lemmas.List.{length-append, length-map, map-append, length-take-le, drop_at, set_split, take-append-drop, take-append-le, take-take}
+use Rattle.std.proofs.lemmas.List.{length-drop, drop-drop}
+use Rattle.ixdtf.specs.language.Letters.{Letter, Text}
+use Rattle.ixdtf.specs.language.Letters.Letter.{Plain}
+use Rattle.ixdtf_print.specs.Puts.{HasRoom, Puts}
+
+long_bytes : (bytes : List ℕ) (text : Text) → map Plain bytes ≡ text → length bytes ≡ length text
+long_bytes bytes text e = let spell : ℕ → Letter = λ n. Plain n in sym (length-map bytes spell) ∙ ap length e
+
+-- the text has as many letters as bytes were put
+pub text_long : (old new : List ℕ) (from to : ℕ) (text : Text) (p : Puts old new from to text) → to ≡ from + length text
+text_long old new from to text p = omega (arith, p.ends, long_bytes p.bytes text p.spelled)
+
+front_of_new : (old new : List ℕ) (from to : ℕ) (text : Text) (p : Puts old new from to text) → from ≤ length old → take to new ≡ take from old ++ p.bytes
+front_of_new old new from to text p h =
+    let front : length (take from old) ≡ from = length-take-le from old h in
+    let e : to ≡ length (take from old ++ p.bytes) = omega (arith, length-append (take from old) p.bytes, front, p.ends) in
+    rw p.is (rw (← append_assoc (take from old) p.bytes (drop to old)) (ap (λ k. take k ((take from old ++ p.bytes) ++ drop to old)) e
+    ∙ take-append_seam (take from old ++ p.bytes) (drop to old)))
+
+rest_of_new : (old new : List ℕ) (from to : ℕ) (text : Text) (p : Puts old new from to text) → from ≤ length old → drop to new ≡ drop to old
+rest_of_new old new from to text p h =
+    let front : length (take from old) ≡ from = length-take-le from old h in
+    let e : to ≡ length (take from old ++ p.bytes) = omega (arith, length-append (take from old) p.bytes, front, p.ends) in
+    rw p.is (rw (← append_assoc (take from old) p.bytes (drop to old)) (drop_at (take from old ++ p.bytes) (drop to old) to (sym e)))
+
+pub puts_then : {old mid new : List ℕ} {from between to : ℕ} {first second : Text} → HasRoom old from (first ++ second)
+    → Puts old mid from between first → Puts mid new between to second → Puts old new from to (first ++ second)
+puts_then {old = old} {mid = mid} {new = new} {from = from} {between = between} {to = to} {first = first} {second = second} room p q =
+    let inside : from ≤ length old = omega (arith, room.room) in
+    let further : to ≡ between + length q.bytes = q.ends in
+    let later : drop to mid ≡ drop to old =
+    ap (λ j. drop j mid) further ∙ sym (drop-drop (length q.bytes) between mid)
+    ∙ ap (λ (t : List ℕ). drop (length q.bytes) t) (rest_of_new old mid from between first p inside)
+    ∙ drop-drop (length q.bytes) between old ∙ ap (λ j. drop j old) (sym further)
+    in
+    record {
+      bytes = p.bytes ++ q.bytes;
+      spelled = map-append Plain p.bytes q.bytes ∙ rw (p.spelled, q.spelled) refl;
+      is = q.is ∙ rw (front_of_new old mid from between first p inside, later) (simp append_assoc);
+      ends = omega (arith, p.ends, q.ends, length-append p.bytes q.bytes);
+    }
+
+-- the slice is as long as it was
+pub puts_length : (old new : List ℕ) (from to : ℕ) (text : Text) (p : Puts old new from to text) → to ≤ length old → length new ≡ length old
+puts_length old new from to text p inside =
+    let front : length (take from old) ≡ from = length-take-le from old (omega (arith, p.ends)) in
+    rw p.is (omega (arith, length-append (take from old) (p.bytes ++ drop to old), length-append p.bytes (drop to old), front, length-drop to old, p.ends))
+
+-- ---- room
+
+pub room_first : {out : List ℕ} {from : ℕ} {first : Text} (second : Text) → HasRoom out from (first ++ second) → HasRoom out from first
+room_first {first = first} second h = record { room = omega (arith, h.room, length-append first second) }
+
+pub room_then : {old new : List ℕ} {from to : ℕ} {first second : Text} → Puts old new from to first → HasRoom old from (first ++ second) → HasRoom new to second
+room_then {old = old} {new = new} {from = from} {to = to} {first = first} {second = second} p h =
+    let long = text_long old new from to first p in
+    let whole = length-append first second in
+    let same = puts_length old new from to first p (omega (arith, long, whole, h.room)) in
+    record { room = omega (arith, same, long, whole, h.room) }
+
+-- ---- one byte, and none
+
+pub puts_byte : (out : List ℕ) (at byte : ℕ) → HasRoom out at (Plain byte ∷ []) → Puts out (set out at byte) at (at + 1) (Plain byte ∷ [])
+puts_byte out at byte h = record {
+  bytes = byte ∷ [];
+  spelled = refl;
+  is = rw add-one (set_split out at byte (omega (arith, h.room)));
+  ends = refl;
+}
+
+pub puts_nothing : (out : List ℕ) (at : ℕ) → Puts out out at at []
+puts_nothing out at = record {
+  bytes = [];
+  spelled = refl;
+  is = sym (take-append-drop at out);
+  ends = omega arith;
+}
+
+-- ---- one byte in front of what was put
+
+pub puts_before : {old mid : List ℕ} {from to : ℕ} {text : Text} (at c : ℕ) → from ≡ suc at → from ≤ length old → Puts old mid from to text
+    → Puts old (set mid at c) at to (Plain c ∷ text)
+puts_before {old = old} {mid = mid} {from = from} {to = to} at c next inside p =
+    let front : length (take from old) ≡ from = length-take-le from old inside in
+    let long : length mid ≡ from + length (p.bytes ++ drop to old) = rw p.is (omega (arith, front, length-append (take from old) (p.bytes ++ drop to old))) in
+    let before : take at mid ≡ take at old = rw p.is (take-append-le at (take from old) (p.bytes ++ drop to old) (omega arith)
+    ∙ take-take at from old (omega arith)) in
+    let behind : drop (suc at) mid ≡ p.bytes ++ drop to old = rw p.is (drop_at (take from old) (p.bytes ++ drop to old) (suc at) (omega arith)) in
+    record {
+      bytes = c ∷ p.bytes;
+      spelled = ap (λ rest. Plain c ∷ rest) p.spelled;
+      is = set_split mid at c (omega (arith, long)) ∙ rw (before, behind) refl;
+      ends = omega (arith, p.ends);
+    }
+
+pub ruleset putting = (puts_then, room_first, room_then)

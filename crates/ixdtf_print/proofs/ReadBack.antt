@@ -1,0 +1,386 @@
+-- The canonical text of a record stands for the record.
+use Rattle.std.proofs.Common.{ℕ, suc, ◌+◌, ◌-◌, ◌<◌, ◌≤◌, ◌≡◌, min, IsTrue, Bool, true, false, cond, ℤ, pos, negsuc, nat_abs, List, [], ◌∷◌, ◌++◌, map, length}
+use Rattle.std.proofs.Common.{take, replicate, codes, Option, Some, None, refl, sym, ◌∙◌, ap, inl, inr, arith, append-nil, nat_le, nat_eq, ◌||◌, subst}
+use Rattle.std.proofs.lemmas.Bool.Decides.{nat_tests}
+use Rattle.std.proofs.lemmas.Bool.{leb-true}
+use Rattle.std.proofs.lemmas.List.{take_all, nil_from_length, length-append, length-replicate}
+use Rattle.std.proofs.Math.Seq.{take-append_seam}
+use Rattle.ixdtf.specs.declared.records.DateRecord.{DateRecord}
+use Rattle.ixdtf.specs.declared.records.MinutePrecisionOffset.{MinutePrecisionOffset}
+use Rattle.ixdtf.specs.declared.records.Sign.{Sign}
+use Rattle.ixdtf.specs.declared.records.Sign.TheVariants.{Positive, Negative}
+use Rattle.ixdtf.specs.declared.records.TimeRecord.{TimeRecord}
+use Rattle.ixdtf.specs.declared.records.UtcOffsetRecord.TheVariants as offsets
+use Rattle.ixdtf.specs.declared.records.UtcOffsetRecordOrZ.{UtcOffsetRecordOrZ}
+use Rattle.ixdtf.specs.declared.records.UtcOffsetRecordOrZ.TheVariants as stands
+use Rattle.ixdtf.specs.language.Letters.{Text, sign}
+use Rattle.ixdtf.specs.language.Letters.Letter.{Plain}
+use Rattle.ixdtf.specs.language.Digits.{decimal, padded_digits}
+use Rattle.ixdtf.specs.language.Shapes.{digits}
+use Rattle.ixdtf.specs.language.Dates.{Year, IsDate, is_leap, month_length}
+use Rattle.ixdtf.specs.language.Fractions.{FractionParts, IsFraction, places_of}
+use Rattle.ixdtf.specs.language.Times.{Clock, TimeShape, SecondText, ClockOf, IsTime, has_seconds, greatest_second, writes_seconds}
+use Rattle.ixdtf.specs.language.Times.{Clock as clocks}
+use Rattle.ixdtf.specs.language.Times.TimeShape.{colon_minutes, seconds, fractions}
+use Rattle.ixdtf.specs.language.Offsets.{IsOffsetOrZ, IsMinuteOffset, full_of, offset_of, sign_of as sign_at}
+use Rattle.ixdtf.specs.language.ZoneNames.{Zone, IsZone}
+use Rattle.ixdtf.specs.language.ZoneNames.Zone.{Name, Offset}
+use Rattle.ixdtf.specs.language.Brackets.{ZoneNote, Opens, OptionalBracket, Pair, Key, Value, IsPair, ArePairs}
+use Rattle.ixdtf.specs.language.Cores.{core_of, OptionalOffset, IsDateTimeCore}
+use Rattle.ixdtf.specs.language.Languages.{Parsed}
+use Rattle.ixdtf.specs.table.Faults.{Fault}
+use Rattle.ixdtf.specs.Handlers.{IsRefused, NoneRefused, own_replies, calendar_key, calendar_value, first_calendar}
+use Rattle.ixdtf.proofs.code.OneMoreReply.{NoneRefused-nothing, NoneRefused-more, neither_refused}
+use Rattle.ixdtf.specs.reading.Times.{time_of}
+use Rattle.ixdtf.proofs.code.Nanoseconds.{decimal-whole, length-padded}
+use Rattle.ixdtf_print.specs.Canonical.{two_digits, year_text, date_text, minutes_text, seconds_text, fraction_digits, clock_text, time_text, sign_of}
+use Rattle.ixdtf_print.specs.Canonical.{minute_offset_text, offset_text, zone_text, opening_text, bracket_text, calendar_text, optional_date_text, core_text}
+use Rattle.ixdtf_print.specs.Canonical.{canonical_text}
+use Rattle.ixdtf_print.specs.Spelled.{IsDay, AreDigits, HasDigits, IsClock, IsDayTime, IsMinuteClock, IsShift, HasDay, HasTime, IsZoneText, HasZone}
+use Rattle.ixdtf_print.specs.Spelled.{HasCalendar, IsSpelled}
+use Rattle.ixdtf_print.proofs.Parse.{HasParts}
+use Rattle.ixdtf_print.proofs.PaddedDigits.{padded_are, two_are, up_to, digits-append, zeros_are}
+
+-- ---- dates
+
+plain_year : (n : ℕ) (b : Bool) → nat_le n 9999 ≡ b → n ≤ 999999 → Year (cond b (padded_digits 4 n) (Plain 43 ∷ padded_digits 6 n)) (pos n)
+plain_year n true h small =
+    let few : n ≤ 9999 = leb-true _ _ h in
+    inl (padded_are 4 n, ap pos (sym (decimal-whole 4 n (omega arith))))
+plain_year n false h small = inr (record {
+  c = 43;
+  ds = padded_digits 6 n;
+  is = refl;
+  sign = refl;
+  digits = padded_are 6 n;
+  no_minus_zero = λ minus. absurd cc;
+  value = ap pos (sym (decimal-whole 6 n (omega arith)));
+})
+
+is_year : (year : ℤ) → nat_abs year ≤ 999999 → Year (year_text year) year
+unfolding year_text
+is_year (pos n) small = plain_year n (nat_le n 9999) refl small
+is_year (negsuc n) small =
+    let value : decimal (padded_digits 6 (suc n)) ≡ suc n = decimal-whole 6 (suc n) (omega arith) in
+    inr (record {
+      c = 45;
+      ds = padded_digits 6 (suc n);
+      is = refl;
+      sign = refl;
+      digits = padded_are 6 (suc n);
+      no_minus_zero = λ minus none. absurd (omega (arith, value, none));
+      value = rw value refl;
+    })
+
+most_days : (february leap short : Bool) → cond february (cond leap 29 28) (cond short 30 31) ≤ 31
+most_days true true short = omega arith
+most_days true false short = omega arith
+most_days false leap true = omega arith
+most_days false leap false = omega arith
+
+month_length_most : (year : ℤ) (month : ℕ) → month_length year month ≤ 31
+month_length_most year month = most_days (nat_eq month 2) (is_leap year) (nat_eq month 4 || nat_eq month 6 || nat_eq month 9 || nat_eq month 11)
+
+pub is_date : (date : DateRecord) → IsDay date → IsDate (date_text date) date
+unfolding date_text
+is_date date d = (
+  inr (record {
+    years = year_text date.year;
+    months = two_digits date.month;
+    days = two_digits date.day;
+    is = refl;
+    year = is_year date.year d.year;
+    month = (two_are date.month (omega (arith, d.month_to)), d.month_from, d.month_to);
+    day = two_are date.day (omega (arith, d.day.1, month_length_most date.year date.month));
+  }),
+  d.day,
+)
+
+-- ---- fractions and times
+
+-- the first 18 digits are those of the value
+of_value : (value zeros : Text) (count : ℕ) → length value ≡ min count 18 → length zeros ≡ count - 18 → take 18 (value ++ zeros) ≡ value
+of_value value zeros count long more = by_count (nat_le count 18) refl
+  where
+    by_count : (b : Bool) → nat_le count 18 ≡ b → take 18 (value ++ zeros) ≡ value
+    by_count true h =
+        let few : count ≤ 18 = leb-true _ _ h in
+        let none : zeros ≡ [] = nil_from_length zeros (omega arith) in
+        rw (none, append-nil value) (take_all 18 value (omega arith))
+    by_count false h =
+        let many : 18 < count = grind (arith, nat_tests, h) in
+        let e : 18 ≡ length value = omega arith in
+        ap (λ n. take n (value ++ zeros)) e ∙ take-append_seam value zeros
+
+capped : (n : ℕ) → n ≤ 255 → min n 255 ≡ n
+capped n h = omega arith
+
+is_fraction : (fraction : FractionParts) → AreDigits fraction → IsFraction (Plain 46 ∷ fraction_digits fraction) fraction
+unfolding fraction_digits
+is_fraction fraction d =
+    let value = padded_digits (places_of fraction) fraction.value in
+    let zeros = replicate (fraction.count - 18) (Plain 48) in
+    let places : length value ≡ places_of fraction = length-padded (places_of fraction) fraction.value in
+    let many : length zeros ≡ fraction.count - 18 = length-replicate (fraction.count - 18) (Plain 48) in
+    let long : length (value ++ zeros) ≡ fraction.count = omega (arith, length-append value zeros, places, many) in
+    let all : take 18 (value ++ zeros) ≡ value = of_value value zeros fraction.count places many in
+    let count : fraction.count ≡ min (length (value ++ zeros)) 255 = sym (ap (λ k. min k 255) long ∙ capped fraction.count d.count_to) in
+    let number : fraction.value ≡ decimal (take 18 (value ++ zeros)) = rw all (sym (decimal-whole (places_of fraction) fraction.value d.value)) in
+    record {
+      mark = 46;
+      ds = value ++ zeros;
+      is = refl;
+      marks = refl;
+      some = (
+        fraction.count - 1,
+        let e : places_of fraction + (fraction.count - 18) ≡ suc (fraction.count - 1) = omega (arith, d.count_from) in
+            subst (λ k. digits k (value ++ zeros)) e (digits-append (places_of fraction) (fraction.count - 18) value zeros (padded_are _ _) (zeros_are _)),
+      );
+      value = λ i. record { count = count i; value = number i };
+    }
+
+-- the digits of a clock
+module _ (clock : Clock) (may : IsTrue (has_seconds clock)) (small : greatest_second clock < 100) (h m s : ℕ) (part : Option FractionParts)
+    (at : IsClock (greatest_second clock) h m s part) where
+  second_text : SecondText clock (seconds_text h m s) (time_of h m s None)
+  unfolding seconds_text
+  second_text = inr (record {
+    hs = two_digits h;
+    ms = two_digits m;
+    ss = two_digits s;
+    is = refl;
+    may = may;
+    hour = up_to 23 h (omega arith) at.hour;
+    minute = up_to 59 m (omega arith) at.minute;
+    second = up_to (greatest_second clock) s small at.second;
+    no_fraction = refl;
+  })
+
+  clock_of : (part' : Option FractionParts) → HasDigits part'
+      → (shape : TimeShape) × IsTrue (writes_seconds shape) × ClockOf clock shape (clock_text h m s part') (time_of h m s part')
+  unfolding clock_text
+  clock_of None none = (seconds, refl, rw append-nil second_text)
+  clock_of (Some fraction) d = (
+    fractions,
+    refl,
+    record {
+      whole = seconds_text h m s;
+      part = Plain 46 ∷ fraction_digits fraction;
+      fraction = fraction;
+      is = refl;
+      second = second_text;
+      is_fraction = is_fraction fraction d;
+      value = refl;
+    },
+  )
+
+pub is_time : (time : TimeRecord) → IsDayTime time → IsTime (clock_text time.hour time.minute time.second time.fraction) time
+is_time time at =
+    let c = clock_of clocks.Time refl (omega arith) time.hour time.minute time.second time.fraction at time.fraction at.fraction in
+    (c.0, c.2)
+
+-- ---- offsets
+
+minute_clock : (clock : Clock) (offset : MinutePrecisionOffset) → IsMinuteClock offset
+    → ClockOf clock colon_minutes (minutes_text offset.hour offset.minute) (time_of offset.hour offset.minute 0 None)
+unfolding minutes_text
+minute_clock clock offset at = record {
+  hs = two_digits offset.hour;
+  ms = two_digits offset.minute;
+  is = refl;
+  hour = up_to 23 offset.hour (omega arith) at.0;
+  minute = up_to 59 offset.minute (omega arith) at.1;
+  no_second = refl;
+  no_fraction = refl;
+}
+
+is_sign : (s : Sign) → IsTrue (sign (sign_of s))
+is_sign Positive = refl
+is_sign Negative = refl
+
+same_sign : (s : Sign) → s ≡ sign_at (sign_of s)
+same_sign Positive = refl
+same_sign Negative = refl
+
+pub is_minute_offset : (offset : MinutePrecisionOffset) → IsMinuteClock offset → IsMinuteOffset (minute_offset_text offset) offset
+is_minute_offset offset at = record {
+  c = sign_of offset.sign;
+  body = minutes_text offset.hour offset.minute;
+  shape = colon_minutes;
+  time = time_of offset.hour offset.minute 0 None;
+  is = refl;
+  sign = is_sign offset.sign;
+  clock = minute_clock clocks.MinuteOffset offset at;
+  value = λ i. record { sign = same_sign offset.sign i; hour = offset.hour; minute = offset.minute };
+}
+
+in_full : (c : ℕ) (b : Bool) (time : TimeRecord) → IsTrue b → full_of c time ≡ offset_of c b time
+in_full c true time h = refl
+in_full c false time h = absurd cc
+
+pub is_offset : (offset : UtcOffsetRecordOrZ) → IsShift offset → IsOffsetOrZ (offset_text (Some offset)) offset
+is_offset stands.Z at = inr ((90, refl, refl), refl)
+is_offset (stands.Offset (offsets.MinutePrecision offset)) at = inl (
+  _,
+  record {
+    c = sign_of offset.sign;
+    body = minutes_text offset.hour offset.minute;
+    shape = colon_minutes;
+    time = time_of offset.hour offset.minute 0 None;
+    is = refl;
+    sign = is_sign offset.sign;
+    clock = minute_clock clocks.Offset offset at;
+    value = λ i. offsets.MinutePrecision (record { sign = same_sign offset.sign i; hour = offset.hour; minute = offset.minute });
+  },
+  refl,
+)
+is_offset (stands.Offset (offsets.FullPrecisionOffset offset)) at =
+    let minutes = offset.minute_precision_offset in
+    let c = clock_of clocks.Offset refl (omega arith) minutes.hour minutes.minute offset.second offset.fraction at offset.fraction at.fraction in
+    inl (
+      _,
+      record {
+        c = sign_of minutes.sign;
+        body = clock_text minutes.hour minutes.minute offset.second offset.fraction;
+        shape = c.0;
+        time = time_of minutes.hour minutes.minute offset.second offset.fraction;
+        is = refl;
+        sign = is_sign minutes.sign;
+        clock = c.2;
+        value =
+            (λ i. offsets.FullPrecisionOffset (record {
+              minute_precision_offset = record { sign = same_sign minutes.sign i; hour = minutes.hour; minute = minutes.minute };
+              second = offset.second;
+              fraction = offset.fraction;
+            }))
+            ∙ in_full (sign_of minutes.sign) (writes_seconds c.0) (time_of minutes.hour minutes.minute offset.second offset.fraction) c.1;
+      },
+      refl,
+    )
+
+-- ---- brackets
+
+is_zone : (zone : Zone) → IsZoneText zone → IsZone (zone_text zone) zone
+is_zone (Name name) h = inl (name, (h, refl), refl)
+is_zone (Offset offset) h = inr (offset, is_minute_offset offset h, refl)
+
+opens : (critical : Bool) → Opens (opening_text critical) critical
+opens true = (Plain 91 ∷ [], Plain 33 ∷ [], refl, (91, refl, refl), (33, refl, refl))
+opens false = (91, refl, refl)
+
+is_bracket : (note : Option ZoneNote) → HasZone note → OptionalBracket (bracket_text note) note
+is_bracket None h = refl
+is_bracket (Some note) h = record {
+  start = opening_text note.critical;
+  inside = zone_text note.zone;
+  is = refl;
+  opens = opens note.critical;
+  zone = is_zone note.zone h;
+}
+
+-- the pair of a calendar
+abbrev calendar_pair : List ℕ → Pair
+calendar_pair value = record { critical = false; key = calendar_key; value = value }
+
+is_calendar_key : Key (map Plain calendar_key)
+is_calendar_key = (
+  Plain 117 ∷ [],
+  map Plain (codes "-ca"),
+  refl,
+  (117, refl, refl),
+  (
+    (Plain 45 ∷ []) ∷ ((Plain 99 ∷ []) ∷ ((Plain 97 ∷ []) ∷ [])),
+    (_, refl, (45, refl, refl), (_, refl, (99, refl, refl), (_, refl, (97, refl, refl), refl))),
+  ),
+)
+
+is_calendar_pair : (value : List ℕ) → Value (map Plain value) → IsPair (calendar_text (Some value)) (calendar_pair value)
+is_calendar_pair value h = record {
+  start = Plain 91 ∷ [];
+  keys = map Plain calendar_key;
+  values = map Plain value;
+  is = refl;
+  opens = (91, refl, refl);
+  is_key = is_calendar_key;
+  is_value = h;
+  key = refl;
+  value = refl;
+}
+
+-- the pairs of a canonical text
+abbrev calendar_pairs : Option (List ℕ) → List Pair
+calendar_pairs None = []
+calendar_pairs (Some value) = calendar_pair value ∷ []
+
+are_pairs : (calendar : Option (List ℕ)) → HasCalendar calendar → ArePairs (calendar_text calendar) (calendar_pairs calendar)
+are_pairs None h = refl
+are_pairs (Some value) h = (calendar_text (Some value), [], sym (append-nil _), is_calendar_pair value h, refl)
+
+not_refused : (value : List ℕ) (fault : Fault) → ¬ (IsRefused [] (Some (calendar_pair value)) fault)
+not_refused value = neither_refused None (Some (calendar_pair value)) (λ h. absurd cc) (λ h. h)
+
+none_refused : (calendar : Option (List ℕ)) → NoneRefused (own_replies (calendar_pairs calendar))
+none_refused None = NoneRefused-nothing
+none_refused (Some value) = NoneRefused-more [] (Some (calendar_pair value)) NoneRefused-nothing (not_refused value)
+
+-- they give the calendar
+gives_calendar : (calendar : Option (List ℕ)) → calendar ≡ calendar_value (first_calendar (own_replies (calendar_pairs calendar)))
+gives_calendar None = refl
+gives_calendar (Some value) = refl
+
+-- ---- cores
+
+is_core : (date : DateRecord) (time : Option TimeRecord) (offset : Option UtcOffsetRecordOrZ) → IsDay date → HasTime time offset
+    → IsDateTimeCore (date_text date ++ (time_text time ++ offset_text offset)) (core_of (Some date) time offset)
+is_core date None None d h = inl (date, rw (append-nil (date_text date)) (is_date date d), refl)
+is_core date None (Some offset) d h = absurd h
+is_core date (Some time) offset d h = inr (record {
+  dates = date_text date;
+  separator = Plain 84 ∷ [];
+  times = clock_text time.hour time.minute time.second time.fraction;
+  offsets = offset_text offset;
+  date = date;
+  time = time;
+  offset = offset;
+  is = refl;
+  is_date = is_date date d;
+  separates = (84, refl, refl);
+  is_time = is_time time (time_at offset h);
+  is_offset = offset_at offset h;
+  has = refl;
+})
+  where
+    time_at : (offset : Option UtcOffsetRecordOrZ) → HasTime (Some time) offset → IsDayTime time
+    time_at None h = h
+    time_at (Some offset) h = h.0
+
+    offset_at : (offset : Option UtcOffsetRecordOrZ) → HasTime (Some time) offset → OptionalOffset (offset_text offset) offset
+    offset_at None h = refl
+    offset_at (Some offset) h = is_offset offset h.1
+
+-- ---- records
+
+reads_back : (date : Option DateRecord) (time : Option TimeRecord) (offset : Option UtcOffsetRecordOrZ) (bracket : Option ZoneNote) (calendar : Option (List ℕ))
+    → HasDay date → HasTime time offset → HasZone bracket → HasCalendar calendar
+    → HasParts ((optional_date_text date ++ (time_text time ++ offset_text offset)) ++ (bracket_text bracket ++ calendar_text calendar))
+    (record { date = date; time = time; offset = offset; zone = bracket; calendar = calendar })
+reads_back None time offset bracket calendar d t z c = absurd d
+reads_back (Some date) time offset bracket calendar d t z c = record {
+  cores = date_text date ++ (time_text time ++ offset_text offset);
+  zones = bracket_text bracket;
+  pair_texts = calendar_text calendar;
+  core = core_of (Some date) time offset;
+  zone = bracket;
+  pairs = calendar_pairs calendar;
+  is = refl;
+  is_core = is_core date time offset d t;
+  is_bracket = is_bracket bracket z;
+  are_pairs = are_pairs calendar c;
+  accepted = none_refused calendar;
+  has = λ i. record { date = Some date; time = time; offset = offset; zone = bracket; calendar = gives_calendar calendar i };
+}
+
+-- the canonical text of a record whose fields have texts has the parts of the record
+pub canonical_reads_back : (found : Parsed) → IsSpelled found → HasParts (canonical_text found) found
+unfolding canonical_text core_text
+canonical_reads_back found s = reads_back found.date found.time found.offset found.zone found.calendar s.date s.time s.zone s.calendar

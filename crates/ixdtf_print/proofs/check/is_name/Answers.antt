@@ -1,0 +1,27 @@
+use Rattle.std.proofs.Common.{◌↔◌, ◌≡◌, List, ℕ, map, [], Result, Ok, Err, IsTrue, refl}
+use Rattle.std.specs.Result.{is_ok}
+use Rattle.ixdtf.specs.declared.error.ParseError.{ParseError}
+use Rattle.ixdtf.specs.Views.{returned}
+use Rattle.ixdtf.specs.language.Languages.{Derives}
+use Rattle.ixdtf.specs.language.Languages.Derives.{as_named}
+use Rattle.ixdtf.specs.language.Languages.Found.{named}
+use Rattle.ixdtf.specs.language.Letters.{Text}
+use Rattle.ixdtf.specs.language.Letters.Letter.{Plain}
+use Rattle.ixdtf.specs.language.Readers.Reader.{parse_iana_identifier}
+use Rattle.ixdtf.specs.language.ZoneNames.{ZoneName, IsZoneName}
+use Rattle.ixdtf_print.proofs.check.is_name.Goals as goal
+
+name_of : (text : Text) (name : List ℕ) → Derives parse_iana_identifier text (named name) [] → IsZoneName text name
+name_of text name (as_named h) = h
+
+-- a name is derived exactly where the call returned one
+names : {X : Type 0} (view : X → List ℕ) (result : Result X ParseError) (units : List ℕ)
+    → ((name : List ℕ) → (returned view result ≡ Ok name) ↔ Derives parse_iana_identifier (map Plain units) (named name) [])
+    → IsTrue (is_ok result) ↔ ZoneName (map Plain units)
+names view (Ok name) units h = (λ t. (name_of (map Plain units) (view name) ((h (view name)).0 refl)).0, λ z. refl)
+names view (Err e) units h = (λ t. absurd cc, λ z. let wrong = (h units).1 (as_named (z, refl)) in absurd cc)
+
+pub returns : goal.returns
+returns c =
+    let ok = rw c.from_utf8.ensures.rest at c.parse_iana_identifier.ensures.ok in
+    rw c.is_ok.ensures.value (names _ c.parse_iana_identifier.result c.args.name.now ok)

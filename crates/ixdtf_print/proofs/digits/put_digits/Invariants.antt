@@ -1,0 +1,8 @@
+use Rattle.ixdtf_print.proofs.DigitLoop.{LastDigits}
+use Rattle.ixdtf_print.proofs.digits.put_digits.Given as goal
+
+abbrev pub invariant-loop-place : goal.invariant-loop-place
+invariant-loop-place l = LastDigits l.fn.out l.out l.at l.place l.end l.left l.count l.number
+
+abbrev pub decreases-loop-place : goal.decreases-loop-place
+decreases-loop-place l = l.place

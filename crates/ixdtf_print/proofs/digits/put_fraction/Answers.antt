@@ -1,0 +1,31 @@
+use Rattle.std.proofs.Common.{min, ◌-◌, ap, ◌∙◌}
+use Rattle.ixdtf_print.proofs.PaddedDigits.{fraction_is}
+use Rattle.ixdtf_print.proofs.Puts.{puts_then, room_first, room_then}
+use Rattle.ixdtf_print.proofs.digits.put_fraction.Goals as goal
+
+pub put_digits-zeros-requires : goal.put_digits-zeros-requires
+put_digits-zeros-requires c =
+    let room = rw (c.in-Some.is, fraction_is c.in-Some.fraction) at c.requires in
+    let count = c.from-count.ensures ∙ c.digit_count.ensures.count in
+    let places = c.min.ensures ∙ ap (λ n. min n 18) count in
+    rw (places, c.leading_value.ensures.value) (room_first _ (room_then c.put_byte-value.ensures room))
+
+pub put_digits-requires : goal.put_digits-requires
+put_digits-requires c =
+    let room = rw (c.in-Some.is, fraction_is c.in-Some.fraction) at c.requires in
+    let count = c.from-count.ensures ∙ c.digit_count.ensures.count in
+    let places = c.min.ensures ∙ ap (λ n. min n 18) count in
+    let more = c.saturating_sub.ensures ∙ ap (λ n. n - 18) count in
+    let value = rw (places, c.leading_value.ensures.value) at c.put_digits-zeros.ensures in
+    rw more (room_then value (room_then c.put_byte-value.ensures room))
+
+pub returns : goal.returns
+returns c =
+    let room = rw (c.in-Some.is, fraction_is c.in-Some.fraction) at c.requires in
+    let count = c.from-count.ensures ∙ c.digit_count.ensures.count in
+    let places = c.min.ensures ∙ ap (λ n. min n 18) count in
+    let more = c.saturating_sub.ensures ∙ ap (λ n. n - 18) count in
+    let value = rw (places, c.leading_value.ensures.value) at c.put_digits-zeros.ensures in
+    let zeros = rw more at c.put_digits.ensures in
+    rw (c.in-Some.is, fraction_is c.in-Some.fraction) (puts_then room c.put_byte-value.ensures
+    (puts_then (room_then c.put_byte-value.ensures room) value zeros))

@@ -1,0 +1,54 @@
+use Rattle.std.proofs.Common.{pos, arith}
+use Rattle.std.specs.Prelude.{◌≤ℤ◌, ◌<ℤ◌}
+use Rattle.std.proofs.lemmas.Int.{ints}
+use Rattle.ixdtf_print.proofs.Years.{negative_year, plain_year, far_year}
+use Rattle.ixdtf_print.proofs.Puts.{puts_then, room_first, room_then}
+use Rattle.ixdtf_print.proofs.fields.put_year.Goals as goal
+
+-- ---- before year 0
+
+pub put_byte-digits-requires : goal.put_byte-digits-requires
+put_byte-digits-requires c =
+    let sign : c.args.date.year <ℤ pos 0 = omega (arith, ints) in
+    room_first _ (rw (negative_year _ _ c.distance_of-distance.ensures sign) at c.requires)
+
+pub put_digits-requires : goal.put_digits-requires
+put_digits-requires c =
+    let sign : c.args.date.year <ℤ pos 0 = omega (arith, ints) in
+    room_then c.put_byte-digits.ensures (rw (negative_year _ _ c.distance_of-distance.ensures sign) at c.requires)
+
+pub returns-then-date-lt0 : goal.returns-then-date-lt0
+returns-then-date-lt0 c =
+    let sign : c.args.date.year <ℤ pos 0 = omega (arith, ints) in
+    let is = negative_year _ _ c.distance_of-distance.ensures sign in
+    rw is (puts_then (rw is at c.requires) c.put_byte-digits.ensures c.put_digits.ensures)
+
+-- ---- up to year 9999
+
+pub put_digits-requires-then-distance-le9999 : goal.put_digits-requires-then-distance-le9999
+put_digits-requires-then-distance-le9999 c =
+    let sign : pos 0 ≤ℤ c.args.date.year = omega (arith, ints) in
+    rw (plain_year _ _ c.distance_of-distance.ensures sign c.if-distance-le9999.true) at c.requires
+
+pub returns-then-distance-le9999 : goal.returns-then-distance-le9999
+returns-then-distance-le9999 c =
+    let sign : pos 0 ≤ℤ c.args.date.year = omega (arith, ints) in
+    rw (plain_year _ _ c.distance_of-distance.ensures sign c.if-distance-le9999.true) c.put_digits-then-distance-le9999.ensures
+
+-- ---- later years
+
+pub put_byte-digits-requires-2 : goal.put_byte-digits-requires-2
+put_byte-digits-requires-2 c =
+    let sign : pos 0 ≤ℤ c.args.date.year = omega (arith, ints) in
+    room_first _ (rw (far_year _ _ c.distance_of-distance.ensures sign c.if-distance-le9999.false) at c.requires)
+
+pub put_digits-requires-2 : goal.put_digits-requires-2
+put_digits-requires-2 c =
+    let sign : pos 0 ≤ℤ c.args.date.year = omega (arith, ints) in
+    room_then c.put_byte-digits-2.ensures (rw (far_year _ _ c.distance_of-distance.ensures sign c.if-distance-le9999.false) at c.requires)
+
+pub returns : goal.returns
+returns c =
+    let sign : pos 0 ≤ℤ c.args.date.year = omega (arith, ints) in
+    let is = far_year _ _ c.distance_of-distance.ensures sign c.if-distance-le9999.false in
+    rw is (puts_then (rw is at c.requires) c.put_byte-digits-2.ensures c.put_digits-2.ensures)

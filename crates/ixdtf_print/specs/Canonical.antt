@@ -1,0 +1,114 @@
+-- The canonical text of a record: of the texts that stand for it, the one that is printed.
+use Rattle.std.specs.Prelude.{ℕ, suc, ◌-◌, Bool, true, false, List, [], ◌∷◌, ◌++◌, map, replicate, codes, Option, Some, None, ℤ, pos, negsuc, nat_le}
+use Rattle.std.specs.Prelude.{if◌then◌else◌}
+use Rattle.ixdtf.specs.declared.records.DateRecord.{DateRecord}
+use Rattle.ixdtf.specs.declared.records.FullPrecisionOffset.{FullPrecisionOffset}
+use Rattle.ixdtf.specs.declared.records.MinutePrecisionOffset.{MinutePrecisionOffset}
+use Rattle.ixdtf.specs.declared.records.Sign.{Sign}
+use Rattle.ixdtf.specs.declared.records.Sign.TheVariants.{Positive, Negative}
+use Rattle.ixdtf.specs.declared.records.TimeRecord.{TimeRecord}
+use Rattle.ixdtf.specs.declared.records.UtcOffsetRecord.TheVariants as offsets
+use Rattle.ixdtf.specs.declared.records.UtcOffsetRecordOrZ.{UtcOffsetRecordOrZ}
+use Rattle.ixdtf.specs.declared.records.UtcOffsetRecordOrZ.TheVariants as stands
+use Rattle.ixdtf.specs.language.Letters.{Text}
+use Rattle.ixdtf.specs.language.Letters.Letter.{Plain}
+use Rattle.ixdtf.specs.language.Digits.{padded_digits}
+use Rattle.ixdtf.specs.language.Fractions.{FractionParts, places_of}
+use Rattle.ixdtf.specs.language.ZoneNames.{Zone}
+use Rattle.ixdtf.specs.language.ZoneNames.Zone.{Name, Offset}
+use Rattle.ixdtf.specs.language.Brackets.{ZoneNote}
+use Rattle.ixdtf.specs.language.Languages.{Parsed}
+
+-- a number in two digits
+unfoldable pub two_digits : ℕ → Text
+two_digits number = padded_digits 2 number
+
+-- four digits for 0 to 9999, and else a sign and six digits
+unfoldable pub year_text : ℤ → Text
+year_text (pos n) = if nat_le n 9999 then padded_digits 4 n else (Plain 43 ∷ padded_digits 6 n)
+year_text (negsuc n) = Plain 45 ∷ padded_digits 6 (suc n)
+
+-- `Year-Month-Day`
+unfoldable pub date_text : DateRecord → Text
+date_text date = year_text date.year ++ (Plain 45 ∷ (two_digits date.month ++ (Plain 45 ∷ two_digits date.day)))
+
+-- `Hour:Min`
+unfoldable pub minutes_text : ℕ → ℕ → Text
+minutes_text hour minute = two_digits hour ++ (Plain 58 ∷ two_digits minute)
+
+-- `Hour:Min:Sec`
+unfoldable pub seconds_text : ℕ → ℕ → ℕ → Text
+seconds_text hour minute second = two_digits hour ++ (Plain 58 ∷ (two_digits minute ++ (Plain 58 ∷ two_digits second)))
+
+-- as many digits as were counted: those of the value, with leading zeros, and then zeros
+unfoldable pub fraction_digits : FractionParts → Text
+fraction_digits fraction = padded_digits (places_of fraction) fraction.value ++ replicate (fraction.count - 18) (Plain 48)
+
+-- `.` and the digits, where there is a fraction
+abbrev pub fraction_text : Option FractionParts → Text
+fraction_text None = []
+fraction_text (Some fraction) = Plain 46 ∷ fraction_digits fraction
+
+-- `Hour:Min:Sec` and the fraction
+unfoldable pub clock_text : ℕ → ℕ → ℕ → Option FractionParts → Text
+clock_text hour minute second fraction = seconds_text hour minute second ++ fraction_text fraction
+
+-- `T` and the clock, where there is a time
+abbrev pub time_text : Option TimeRecord → Text
+time_text None = []
+time_text (Some time) = Plain 84 ∷ clock_text time.hour time.minute time.second time.fraction
+
+-- `+` or `-`
+abbrev pub sign_of : Sign → ℕ
+sign_of Positive = 43
+sign_of Negative = 45
+
+-- a sign and `Hour:Min`
+abbrev pub minute_offset_text : MinutePrecisionOffset → Text
+minute_offset_text offset = Plain (sign_of offset.sign) ∷ minutes_text offset.hour offset.minute
+
+-- a sign and a clock
+abbrev pub full_offset_text : FullPrecisionOffset → Text
+full_offset_text offset =
+    let minutes = offset.minute_precision_offset in
+    Plain (sign_of minutes.sign) ∷ clock_text minutes.hour minutes.minute offset.second offset.fraction
+
+-- an offset in its precision, or `Z`
+abbrev pub offset_text : Option UtcOffsetRecordOrZ → Text
+offset_text None = []
+offset_text (Some stands.Z) = Plain 90 ∷ []
+offset_text (Some (stands.Offset (offsets.MinutePrecision offset))) = minute_offset_text offset
+offset_text (Some (stands.Offset (offsets.FullPrecisionOffset offset))) = full_offset_text offset
+
+-- the name, or a sign and `Hour:Min`
+abbrev pub zone_text : Zone → Text
+zone_text (Name name) = map Plain name
+zone_text (Offset offset) = minute_offset_text offset
+
+-- `[`, and `!` where the bracket is critical
+abbrev pub opening_text : Bool → Text
+opening_text true = map Plain (codes "[!")
+opening_text false = map Plain (codes "[")
+
+-- the zone in its bracket, where there is one
+abbrev pub bracket_text : Option ZoneNote → Text
+bracket_text None = []
+bracket_text (Some note) = opening_text note.critical ++ (zone_text note.zone ++ (Plain 93 ∷ []))
+
+-- `[u-ca=Value]`, where there is a calendar
+abbrev pub calendar_text : Option (List ℕ) → Text
+calendar_text None = []
+calendar_text (Some value) = map Plain (codes "[u-ca=") ++ (map Plain value ++ (Plain 93 ∷ []))
+
+-- the date, where there is one
+abbrev pub optional_date_text : Option DateRecord → Text
+optional_date_text None = []
+optional_date_text (Some date) = date_text date
+
+-- date, time and offset
+unfoldable pub core_text : Parsed → Text
+core_text found = optional_date_text found.date ++ (time_text found.time ++ offset_text found.offset)
+
+-- date, time and offset, and then the brackets
+unfoldable pub canonical_text : Parsed → Text
+canonical_text found = core_text found ++ (bracket_text found.zone ++ calendar_text found.calendar)

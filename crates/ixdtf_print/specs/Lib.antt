@@ -1,0 +1,4 @@
+pub mod Canonical
+pub mod Printable
+pub mod Puts
+pub mod Spelled

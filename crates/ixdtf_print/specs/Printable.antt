@@ -1,0 +1,22 @@
+-- Which records are printed, and that what is printed of them is read back.
+use Rattle.std.specs.Prelude.{◌≡◌, ℕ}
+use Rattle.ixdtf.specs.declared.records.IxdtfParseRecord.{IxdtfParseRecord}
+use Rattle.ixdtf.specs.Handlers.{UnhandledRecord}
+use Rattle.ixdtf.specs.Views.{parsed_of}
+use Rattle.ixdtf.specs.language.Letters.{Text}
+use Rattle.ixdtf.specs.language.Languages.{Parsed}
+use Rattle.ixdtf.specs.language.Readers.{parse}
+use Rattle.ixdtf_print.specs.Canonical.{canonical_text}
+
+-- what `parse` reads: a record of bytes, with its names by the numbers of these
+abbrev pub record_of : {T : Type 0} → IxdtfParseRecord T ℕ → Parsed
+record_of parsed = parsed_of (λ byte. byte) parsed
+
+-- `parse` reads the record from some text, with each pair its own reply
+abbrev pub IsPrintable : Parsed → Type 0
+IsPrintable found = (text : Text) × UnhandledRecord parse text found
+
+-- `parse` reads the record from its canonical text, and no other printable record has this canonical text
+pub record IsReadBack (found : Parsed) : Type 0 where
+  pub same : UnhandledRecord parse (canonical_text found) found
+  pub alone : (other : Parsed) → IsPrintable other → canonical_text other ≡ canonical_text found → other ≡ found

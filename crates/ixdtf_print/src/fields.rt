@@ -1,0 +1,233 @@
+//! The fields of a record put into a slice.
+ghost use Rattle.std.specs.Prelude.{◌≡◌, ◌∷◌, map, nat_abs, option_map, Some};
+ghost use Rattle.ixdtf.specs.Views.{note_of, zone_of};
+ghost use Rattle.ixdtf_print.specs.Printable.{record_of};
+ghost use Rattle.ixdtf.specs.language.Letters.{Plain};
+ghost use Rattle.ixdtf_print.specs.Canonical.{year_text, date_text, minutes_text, clock_text, time_text, minute_offset_text};
+ghost use Rattle.ixdtf_print.specs.Canonical.{offset_text, zone_text, opening_text, bracket_text, calendar_text};
+ghost use Rattle.ixdtf_print.specs.Canonical.{optional_date_text, core_text, canonical_text, sign_of};
+ghost use Rattle.ixdtf_print.specs.Puts.{HasRoom, Puts};
+
+use crate::digits::{put_digits, put_fraction};
+use crate::put::{put, put_byte, put_marked};
+use ixdtf::encoding::Utf8;
+use ixdtf::records::{
+    DateRecord, Fraction, IxdtfParseRecord, MinutePrecisionOffset, Sign, TimeRecord,
+    TimeZoneAnnotation, TimeZoneRecord, UtcOffsetRecord, UtcOffsetRecordOrZ,
+};
+
+/// How far the year is from year 0.
+fn distance_of(date: DateRecord) -> u64
+    ensures { result ≡ nat_abs date.year }
+{
+    u64::from(date.year.unsigned_abs())
+}
+
+/// Puts the year at the place, and returns the place behind it.
+fn put_year(out: &mut [u8], at: usize, date: DateRecord) -> usize
+    requires { HasRoom out.old at (year_text date.year) }
+    ensures { Puts out.old out.new at result (year_text date.year) }
+{
+    let distance = distance_of(date);
+    if date.year < 0 {
+        let digits = put_byte(out, at, b'-');
+        return put_digits(out, digits, 6, distance);
+    }
+    if distance <= 9999 {
+        return put_digits(out, at, 4, distance);
+    }
+    let digits = put_byte(out, at, b'+');
+    put_digits(out, digits, 6, distance)
+}
+
+/// Puts the date at the place, and returns the place behind it.
+#[tactic(auto, using(crate::proofs::Puts::putting), unfolding(crate::specs::Canonical::date_text))]
+fn put_date(out: &mut [u8], at: usize, date: DateRecord) -> usize
+    requires { HasRoom out.old at (date_text date) }
+    ensures { Puts out.old out.new at result (date_text date) }
+{
+    let month = put_year(out, at, date);
+    let day = put_marked(out, month, b'-', date.month);
+    put_marked(out, day, b'-', date.day)
+}
+
+/// Puts the date at the place, where there is one, and returns the place behind it.
+fn put_optional_date(out: &mut [u8], at: usize, date: Option<DateRecord>) -> usize
+    requires { HasRoom out.old at (optional_date_text date) }
+    ensures { Puts out.old out.new at result (optional_date_text date) }
+{
+    match date {
+        None => at,
+        Some(date) => put_date(out, at, date),
+    }
+}
+
+/// Puts a mark, an hour and a minute at the place, and returns the place behind them.
+#[tactic(auto, using(crate::proofs::Puts::putting), unfolding(crate::specs::Canonical::minutes_text))]
+fn put_minutes(out: &mut [u8], at: usize, mark: u8, hour: u8, minute: u8) -> usize
+    requires { HasRoom out.old at (Plain mark ∷ minutes_text hour minute) }
+    ensures { Puts out.old out.new at result (Plain mark ∷ minutes_text hour minute) }
+{
+    let colon = put_marked(out, at, mark, hour);
+    put_marked(out, colon, b':', minute)
+}
+
+/// Puts a mark and a clock at the place, and returns the place behind them.
+fn put_clock(
+    out: &mut [u8],
+    at: usize,
+    mark: u8,
+    hour: u8,
+    minute: u8,
+    second: u8,
+    fraction: Option<Fraction>,
+) -> usize
+    requires { HasRoom out.old at (Plain mark ∷ clock_text hour minute second fraction) }
+    ensures { Puts out.old out.new at result (Plain mark ∷ clock_text hour minute second fraction) }
+{
+    let colon = put_minutes(out, at, mark, hour, minute);
+    let point = put_marked(out, colon, b':', second);
+    put_fraction(out, point, fraction)
+}
+
+/// Puts the time at the place, where there is one, and returns the place behind it.
+fn put_time(out: &mut [u8], at: usize, time: Option<TimeRecord>) -> usize
+    requires { HasRoom out.old at (time_text time) }
+    ensures { Puts out.old out.new at result (time_text time) }
+{
+    match time {
+        None => at,
+        Some(time) => put_clock(
+            out,
+            at,
+            b'T',
+            time.hour,
+            time.minute,
+            time.second,
+            time.fraction,
+        ),
+    }
+}
+
+/// The byte of a sign.
+fn byte_of(sign: Sign) -> u8
+    ensures { result ≡ sign_of sign }
+{
+    match sign {
+        Sign::Positive => b'+',
+        Sign::Negative => b'-',
+    }
+}
+
+/// Puts an offset of hours and minutes at the place, and returns the place behind it.
+fn put_minute_offset(out: &mut [u8], at: usize, offset: MinutePrecisionOffset) -> usize
+    requires { HasRoom out.old at (minute_offset_text offset) }
+    ensures { Puts out.old out.new at result (minute_offset_text offset) }
+{
+    put_minutes(out, at, byte_of(offset.sign), offset.hour, offset.minute)
+}
+
+/// Puts the offset at the place, where there is one, and returns the place behind it.
+fn put_offset(out: &mut [u8], at: usize, offset: Option<UtcOffsetRecordOrZ>) -> usize
+    requires { HasRoom out.old at (offset_text offset) }
+    ensures { Puts out.old out.new at result (offset_text offset) }
+{
+    match offset {
+        None => at,
+        Some(UtcOffsetRecordOrZ::Z) => put_byte(out, at, b'Z'),
+        Some(UtcOffsetRecordOrZ::Offset(UtcOffsetRecord::MinutePrecision(offset))) => {
+            put_minute_offset(out, at, offset)
+        }
+        Some(UtcOffsetRecordOrZ::Offset(UtcOffsetRecord::FullPrecisionOffset(offset))) => {
+            let minutes = offset.minute_precision_offset;
+            let mark = byte_of(minutes.sign);
+            put_clock(
+                out,
+                at,
+                mark,
+                minutes.hour,
+                minutes.minute,
+                offset.second,
+                offset.fraction,
+            )
+        }
+    }
+}
+
+/// What stands before a zone.
+fn opening_of(critical: bool) -> &'static [u8]
+    ensures { map Plain result.now ≡ opening_text critical }
+{
+    if critical {
+        b"[!".as_slice()
+    } else {
+        b"[".as_slice()
+    }
+}
+
+/// Puts the zone at the place, and returns the place behind it.
+fn put_zone(out: &mut [u8], at: usize, zone: &TimeZoneRecord<'_, Utf8>) -> usize
+    requires { HasRoom out.old at (zone_text (zone_of (λ byte. byte) zone.now)) }
+    ensures { Puts out.old out.new at result (zone_text (zone_of (λ byte. byte) zone.now)) }
+{
+    match zone {
+        TimeZoneRecord::Name(name) => put(out, at, name),
+        TimeZoneRecord::Offset(offset) => put_minute_offset(out, at, *offset),
+    }
+}
+
+/// Puts the zone in its bracket at the place, where there is one, and returns the place behind it.
+fn put_bracket(out: &mut [u8], at: usize, note: &Option<TimeZoneAnnotation<'_, Utf8>>) -> usize
+    requires { HasRoom out.old at (bracket_text (option_map (note_of (λ byte. byte)) note.now)) }
+    ensures { Puts out.old out.new at result
+        (bracket_text (option_map (note_of (λ byte. byte)) note.now)) }
+{
+    match note {
+        None => at,
+        Some(note) => {
+            let inside = put(out, at, opening_of(note.critical));
+            let end = put_zone(out, inside, &note.tz);
+            put_byte(out, end, b']')
+        }
+    }
+}
+
+/// Puts the calendar in its bracket at the place, where there is one, and returns the place behind it.
+fn put_calendar(out: &mut [u8], at: usize, calendar: Option<&[u8]>) -> usize
+    requires { HasRoom out.old at
+        (calendar_text (option_map (λ units. map (λ byte. byte) units.now) calendar)) }
+    ensures { Puts out.old out.new at result
+        (calendar_text (option_map (λ units. map (λ byte. byte) units.now) calendar.entry)) }
+{
+    match calendar {
+        None => at,
+        Some(value) => {
+            let inside = put(out, at, b"[u-ca=");
+            let end = put(out, inside, value);
+            put_byte(out, end, b']')
+        }
+    }
+}
+
+/// Puts the date, the time and the offset at the place, and returns the place behind them.
+#[tactic(auto, using(crate::proofs::Puts::putting), unfolding(crate::specs::Canonical::core_text))]
+fn put_core(out: &mut [u8], at: usize, parsed: &IxdtfParseRecord<'_, Utf8>) -> usize
+    requires { HasRoom out.old at (core_text (record_of parsed.now)) }
+    ensures { Puts out.old out.new at result (core_text (record_of parsed.now)) }
+{
+    let time = put_optional_date(out, at, parsed.date);
+    let offset = put_time(out, time, parsed.time);
+    put_offset(out, offset, parsed.offset)
+}
+
+/// Puts the record at the front, and returns the place behind it.
+#[tactic(auto, using(crate::proofs::Puts::putting), unfolding(crate::specs::Canonical::canonical_text))]
+pub fn put_record(out: &mut [u8], parsed: &IxdtfParseRecord<'_, Utf8>) -> usize
+    requires { HasRoom out.old 0 (canonical_text (record_of parsed.now)) }
+    ensures { Puts out.old out.new 0 result
+        (canonical_text (record_of parsed.now)) }
+{
+    let bracket = put_core(out, 0, parsed);
+    let calendar = put_bracket(out, bracket, &parsed.tz);
+    put_calendar(out, calendar, parsed.calendar)
+}
