@@ -1,13 +1,16 @@
 -- Dates and the lines of dates, computed.
 use Rattle.std.proofs.Common.{List, [], ◌∷◌, ◌++◌, map, codes, pos, neg_ℤ, refl}
 use Rattle.ixdtf.specs.language.Readers.{parse}
-use Rattle.ixdtf.specs.table.Faults.Fault.{NonAsciiCodePoint, InvalidEnd, InvalidMonthRange, InvalidDayRange, DateYear, DateExtendedYear, DateMonth, DateDay, DateSeparator}
+use Rattle.ixdtf.specs.table.Faults.Fault.{NonAsciiCodePoint, InvalidEnd, InvalidMonthRange, InvalidDayRange, DateYear, DateExtendedYear, DateMonth, DateDay}
+use Rattle.ixdtf.specs.table.Faults.Fault.{DateSeparator}
 use Rattle.ixdtf.specs.table.LineNames.{LineName, of_date}
-use Rattle.ixdtf.specs.table.LineNames.DateLine.{year_start, year_digits, extended_year_digits, minus_zero_year, after_year, month_digits, month_range, after_hyphened_month, after_plain_month, day_digits, day_range, after_date}
+use Rattle.ixdtf.specs.table.LineNames.DateLine.{year_start, year_digits, extended_year_digits, minus_zero_year, after_year, month_digits, month_range}
+use Rattle.ixdtf.specs.table.LineNames.DateLine.{after_hyphened_month, after_basic_month, day_digits, day_range, after_date}
 use Rattle.ixdtf.specs.table.Lines.{abrupt_digit, abrupt_date}
 use Rattle.ixdtf.specs.language.Letters.Letter.{Bad}
 use Rattle.ixdtf.specs.table.Rows.Place.{bad, anywhere}
-use Rattle.ixdtf_tests.proofs.Helpers.{all_readings, date, Example, Compute, ends, goes_off, meets_bad, stands, one, two, three, ShowEachRow, gives, stops, text_of, and_bad}
+use Rattle.ixdtf_tests.proofs.Helpers.{all_readings, date, Example, Compute, ends, goes_off, meets_bad, stands, one, two, three, ShowEachRow, gives, stops}
+use Rattle.ixdtf_tests.proofs.Helpers.{text_of, and_bad}
 
 -- ---- each row of the lines of dates, in `parse`
 
@@ -30,7 +33,7 @@ month_rows =
 
 abbrev date_lines : List LineName
 date_lines =
-    year_lines ++ map of_date (after_year ∷ month_digits ∷ month_range ∷ after_hyphened_month ∷ after_plain_month ∷ day_digits ∷ day_range ∷ after_date ∷ [])
+    year_lines ++ map of_date (after_year ∷ month_digits ∷ month_range ∷ after_hyphened_month ∷ after_basic_month ∷ day_digits ∷ day_range ∷ after_date ∷ [])
 
 abbrev date_rows : List Example
 date_rows =
@@ -38,7 +41,7 @@ date_rows =
     ++ three (of_date after_year) (codes "2020") abrupt_date (codes "x") DateMonth
     ++ month_rows
     ++ three (of_date after_hyphened_month) (codes "2020-01") DateSeparator (codes "x") DateSeparator
-    ++ three (of_date after_plain_month) (codes "202001") abrupt_digit (codes "x") DateDay
+    ++ three (of_date after_basic_month) (codes "202001") abrupt_digit (codes "x") DateDay
     ++ three (of_date day_digits) (codes "2020-01-") abrupt_digit (codes "x") DateDay
     ++ one (of_date day_range) (codes "2020-02-30") InvalidDayRange
     ++ two (of_date after_date) (codes "2020-01-01") (codes "x") InvalidEnd
@@ -100,7 +103,7 @@ no_month = refl
 -- in a day, and after it
 no_day : Compute parse (
     goes_off (codes "2020-0101") (of_date after_hyphened_month) DateSeparator
-    ∷ goes_off (codes "202206-05") (of_date after_plain_month) DateSeparator
+    ∷ goes_off (codes "202206-05") (of_date after_basic_month) DateSeparator
     ∷ ends (codes "2020010") (of_date day_digits) abrupt_digit
     ∷ ends (codes "2020-01-0") (of_date day_digits) abrupt_digit
     ∷ goes_off (codes "2020010x") (of_date day_digits) DateDay

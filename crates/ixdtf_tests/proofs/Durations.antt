@@ -1,5 +1,7 @@
 -- Durations and their lines, computed.
 use Rattle.std.proofs.Common.{ℕ, List, [], ◌∷◌, ◌++◌, map, codes, Option, Some, None, refl}
+use Rattle.ixdtf.specs.declared.parsers.profile.Profile.{Profile}
+use Rattle.ixdtf.specs.declared.parsers.profile.Profile.TheVariants.{Crate, Strict}
 use Rattle.ixdtf.specs.declared.records.DateDurationRecord.{DateDurationRecord}
 use Rattle.ixdtf.specs.declared.records.Sign.{Sign}
 use Rattle.ixdtf.specs.declared.records.Sign.TheVariants.{Positive, Negative}
@@ -9,7 +11,8 @@ use Rattle.ixdtf.specs.language.Durations.Half.{date, time}
 use Rattle.ixdtf.specs.language.Fractions.{FractionParts}
 use Rattle.ixdtf.specs.language.Languages.Found.{lasting}
 use Rattle.ixdtf.specs.language.Readers.Reader.{parse_duration}
-use Rattle.ixdtf.specs.table.Faults.Fault.{InvalidEnd, FractionPart, DurationDisgnator, DurationValueExceededRange, DateDurationPartOrder, TimeDurationPartOrder, TimeDurationDesignator}
+use Rattle.ixdtf.specs.table.Faults.Fault.{InvalidEnd, FractionPart, DurationDisgnator, DurationValueExceededRange, DateDurationPartOrder}
+use Rattle.ixdtf.specs.table.Faults.Fault.{TimeDurationPartOrder, TimeDurationDesignator}
 use Rattle.ixdtf.specs.table.LineNames.{LineName}
 use Rattle.ixdtf.specs.table.LineNames.LineName.{of_duration}
 use Rattle.ixdtf.specs.table.LineNames.DurationLine.{duration_start, after_duration_sign, after_duration_designator, after_date_groups, after_time_designator}
@@ -23,34 +26,35 @@ use Rattle.ixdtf_tests.proofs.Helpers.{all_readings, and_bad, Example, Compute, 
 
 -- ---- each row
 
-abbrev lines : List LineName
-lines =
-    map of_duration (duration_start ∷ after_duration_sign ∷ after_duration_designator ∷ after_date_groups ∷ after_time_designator
+abbrev lines : Profile → List LineName
+lines profile =
+    map (of_duration profile) (duration_start ∷ after_duration_sign ∷ after_duration_designator ∷ after_date_groups ∷ after_time_designator
     ∷ group_digits date ∷ group_digits time ∷ group_value_range date ∷ group_value_range time ∷ unit_order date ∷ unit_order time
     ∷ date_unit_range ∷ group_fraction_start ∷ group_fraction_digits ∷ after_time_groups ∷ after_fraction_group ∷ [])
 
-abbrev rows : List Example
-rows =
-    three (of_duration duration_start) [] abrupt_duration_start (codes "1") DurationDisgnator
-    ++ three (of_duration after_duration_sign) (codes "-") abrupt_duration_designator (codes "T") DurationDisgnator
-    ++ three (of_duration after_duration_designator) (codes "P") abrupt_duration (codes "X") InvalidEnd
-    ++ two (of_duration after_date_groups) (codes "P1Y") (codes "X") InvalidEnd
-    ++ three (of_duration after_time_designator) (codes "P1YT") TimeDurationDesignator (codes "H") TimeDurationDesignator
-    ++ three (of_duration (group_digits date)) (codes "P1") abrupt_date_designator (codes ".") abrupt_date_designator
-    ++ three (of_duration (group_digits time)) (codes "PT1") abrupt_time_designator (codes "Y") abrupt_time_designator
-    ++ one (of_duration (group_value_range date)) (codes "P18446744073709551616") DurationValueExceededRange
-    ++ one (of_duration (group_value_range time)) (codes "PT18446744073709551616") DurationValueExceededRange
-    ++ one (of_duration (unit_order date)) (codes "P1D1Y") DateDurationPartOrder
-    ++ one (of_duration (unit_order time)) (codes "PT1M1.5H") TimeDurationPartOrder
-    ++ one (of_duration date_unit_range) (codes "P4294967296Y") DurationValueExceededRange
-    ++ three (of_duration group_fraction_start) (codes "PT1.") FractionPart (codes "H") FractionPart
-    ++ three (of_duration group_fraction_digits) (codes "PT1.5") abrupt_time_designator (codes "X") abrupt_time_designator
-    ++ two (of_duration after_time_groups) (codes "PT1H") (codes "T") InvalidEnd
-    ++ two (of_duration after_fraction_group) (codes "PT0.5H") (codes "1") InvalidEnd
+abbrev rows : Profile → List Example
+rows profile =
+    three (of_duration profile duration_start) [] abrupt_duration_start (codes "1") DurationDisgnator
+    ++ three (of_duration profile after_duration_sign) (codes "-") abrupt_duration_designator (codes "T") DurationDisgnator
+    ++ three (of_duration profile after_duration_designator) (codes "P") abrupt_duration (codes "X") InvalidEnd
+    ++ two (of_duration profile after_date_groups) (codes "P1Y") (codes "X") InvalidEnd
+    ++ three (of_duration profile after_time_designator) (codes "P1YT") TimeDurationDesignator (codes "H") TimeDurationDesignator
+    ++ three (of_duration profile (group_digits date)) (codes "P1") abrupt_date_designator (codes ".") abrupt_date_designator
+    ++ three (of_duration profile (group_digits time)) (codes "PT1") abrupt_time_designator (codes "Y") abrupt_time_designator
+    ++ one (of_duration profile (group_value_range date)) (codes "P18446744073709551616") DurationValueExceededRange
+    ++ one (of_duration profile (group_value_range time)) (codes "PT18446744073709551616") DurationValueExceededRange
+    ++ one (of_duration profile (unit_order date)) (codes "P1D1Y") DateDurationPartOrder
+    ++ one (of_duration profile (unit_order time)) (codes "PT1M1.5H") TimeDurationPartOrder
+    ++ one (of_duration profile date_unit_range) (codes "P4294967296Y") DurationValueExceededRange
+    ++ three (of_duration profile group_fraction_start) (codes "PT1.") FractionPart (codes "H") FractionPart
+    ++ three (of_duration profile group_fraction_digits) (codes "PT1.5") abrupt_time_designator (codes "X") abrupt_time_designator
+    ++ two (of_duration profile after_time_groups) (codes "PT1H") (codes "T") InvalidEnd
+    ++ two (of_duration profile after_fraction_group) (codes "PT0.5H") (codes "1") InvalidEnd
 
-each_row : ShowEachRow parse_duration lines rows
+each_row : (profile : Profile) → ShowEachRow (parse_duration profile) (lines profile) (rows profile)
 unfolding all_readings
-each_row = (refl, refl)
+each_row Crate = (refl, refl)
+each_row Strict = (refl, refl)
 
 -- ---- durations
 
@@ -63,7 +67,7 @@ dated years months weeks days = Some (record { years = years; months = months; w
 abbrev fraction : ℕ → ℕ → Option FractionParts
 fraction count value = Some (record { count = count; value = value })
 
-durations : Compute parse_duration (
+durations : (profile : Profile) → Compute (parse_duration profile) (
     gives (codes "P1Y") (lasts Positive (dated 1 0 0 0) None)
     ∷ gives (codes "+P1m2w") (lasts Positive (dated 0 1 2 0) None)
     ∷ gives (codes "P0D") (lasts Positive (dated 0 0 0 0) None)
@@ -79,63 +83,79 @@ durations : Compute parse_duration (
     ∷ gives (codes "-P1Y1M1W1DT1H1M1.123456789S") (lasts Negative (dated 1 1 1 1) (Some (Seconds 1 1 1 (fraction 9 123456789))))
     ∷ [])
 unfolding all_readings
-durations = refl
+durations Crate = refl
+durations Strict = refl
 
 -- a unit that stands again: its last number counts
-repeated_units : Compute parse_duration (
+repeated_units : Compute (parse_duration Crate) (
     gives (codes "P1Y2Y") (lasts Positive (dated 2 0 0 0) None)
     ∷ gives (codes "P1M2M0m3W") (lasts Positive (dated 0 0 3 0) None)
     ∷ gives (codes "PT1H2H") (lasts Positive None (Some (Hours 2 None)))
     ∷ gives (codes "PT1M2M0.50M") (lasts Positive None (Some (Minutes 0 0 (fraction 2 50))))
+    ∷ stands (codes "P1Y4294967296Y") (of_duration Crate date_unit_range) DurationValueExceededRange
     ∷ [])
 unfolding all_readings
 repeated_units = refl
 
+-- and under the strict profile none stands again; the order comes before the range
+no_repeated_unit : Compute (parse_duration Strict) (
+    stands (codes "P1Y2Y") (of_duration Strict (unit_order date)) DateDurationPartOrder
+    ∷ stands (codes "P1M2M0m3W") (of_duration Strict (unit_order date)) DateDurationPartOrder
+    ∷ stands (codes "P1Y4294967296Y") (of_duration Strict (unit_order date)) DateDurationPartOrder
+    ∷ stands (codes "PT1S2S") (of_duration Strict (unit_order time)) TimeDurationPartOrder
+    ∷ stands (codes "PT1H2H") (of_duration Strict (unit_order time)) TimeDurationPartOrder
+    ∷ stands (codes "PT1M0.50M") (of_duration Strict (unit_order time)) TimeDurationPartOrder
+    ∷ [])
+unfolding all_readings
+no_repeated_unit = refl
+
 -- ---- texts that are no duration
 
-no_duration : Compute parse_duration (
-    goes_off (codes "--P1Y") (of_duration after_duration_sign) DurationDisgnator
-    ∷ ends (codes "-p") (of_duration after_duration_designator) abrupt_duration
-    ∷ goes_off (codes "P1Y[u-ca=iso8601]") (of_duration after_date_groups) InvalidEnd
-    ∷ ends (codes "+PT") (of_duration after_time_designator) TimeDurationDesignator
-    ∷ ends (codes "-PT") (of_duration after_time_designator) TimeDurationDesignator
-    ∷ goes_off (codes "PT1HT1M") (of_duration after_time_groups) InvalidEnd
-    ∷ goes_off (codes "PT0.5H1M") (of_duration after_fraction_group) InvalidEnd
-    ∷ goes_off (codes "PT0.5M1H") (of_duration after_fraction_group) InvalidEnd
-    ∷ goes_off (codes "PT0.5H1H") (of_duration after_fraction_group) InvalidEnd
-    ∷ goes_off (codes "P1Y1M1W1DT1H0.5M0.5S") (of_duration after_fraction_group) InvalidEnd
-    ∷ meets_bad (codes "P1Y1") (of_duration (group_digits date))
-    ∷ meets_bad (codes "PT1H1") (of_duration (group_digits time))
+no_duration : (profile : Profile) → Compute (parse_duration profile) (
+    goes_off (codes "--P1Y") (of_duration profile after_duration_sign) DurationDisgnator
+    ∷ ends (codes "-p") (of_duration profile after_duration_designator) abrupt_duration
+    ∷ goes_off (codes "P1Y[u-ca=iso8601]") (of_duration profile after_date_groups) InvalidEnd
+    ∷ ends (codes "+PT") (of_duration profile after_time_designator) TimeDurationDesignator
+    ∷ ends (codes "-PT") (of_duration profile after_time_designator) TimeDurationDesignator
+    ∷ goes_off (codes "PT1HT1M") (of_duration profile after_time_groups) InvalidEnd
+    ∷ goes_off (codes "PT0.5H1M") (of_duration profile after_fraction_group) InvalidEnd
+    ∷ goes_off (codes "PT0.5M1H") (of_duration profile after_fraction_group) InvalidEnd
+    ∷ goes_off (codes "PT0.5H1H") (of_duration profile after_fraction_group) InvalidEnd
+    ∷ goes_off (codes "P1Y1M1W1DT1H0.5M0.5S") (of_duration profile after_fraction_group) InvalidEnd
+    ∷ meets_bad (codes "P1Y1") (of_duration profile (group_digits date))
+    ∷ meets_bad (codes "PT1H1") (of_duration profile (group_digits time))
     ∷ [])
 unfolding all_readings
-no_duration = refl
+no_duration Crate = refl
+no_duration Strict = refl
 
 -- what is wrong with a number, or with the letter after it
-no_group : Compute parse_duration (
-    goes_off (codes "P1Y1M1W0,5D") (of_duration (group_digits date)) abrupt_date_designator
-    ∷ goes_off (codes "P4294967296X") (of_duration (group_digits date)) abrupt_date_designator
-    ∷ goes_off (codes "P1H") (of_duration (group_digits date)) abrupt_date_designator
-    ∷ stands (codes "P18446744073709551616D") (of_duration (group_value_range date)) DurationValueExceededRange
-    ∷ stands (codes "P99999999999999999999X") (of_duration (group_value_range date)) DurationValueExceededRange
-    ∷ stands (codes "PT18446744073709551616S") (of_duration (group_value_range time)) DurationValueExceededRange
-    ∷ stands (codes "P1YT1000000000000000000000000000000000000000H") (of_duration (group_value_range time)) DurationValueExceededRange
-    ∷ (and_bad (codes "P18446744073709551616"), stops (of_duration (group_value_range date)) anywhere DurationValueExceededRange)
-    ∷ stands (codes "P1Y4294967296Y") (of_duration date_unit_range) DurationValueExceededRange
-    ∷ stands (codes "P4294967296W") (of_duration date_unit_range) DurationValueExceededRange
-    ∷ (and_bad (codes "P4294967296m"), stops (of_duration date_unit_range) anywhere DurationValueExceededRange)
+no_group : (profile : Profile) → Compute (parse_duration profile) (
+    goes_off (codes "P1Y1M1W0,5D") (of_duration profile (group_digits date)) abrupt_date_designator
+    ∷ goes_off (codes "P4294967296X") (of_duration profile (group_digits date)) abrupt_date_designator
+    ∷ goes_off (codes "P1H") (of_duration profile (group_digits date)) abrupt_date_designator
+    ∷ stands (codes "P18446744073709551616D") (of_duration profile (group_value_range date)) DurationValueExceededRange
+    ∷ stands (codes "P99999999999999999999X") (of_duration profile (group_value_range date)) DurationValueExceededRange
+    ∷ stands (codes "PT18446744073709551616S") (of_duration profile (group_value_range time)) DurationValueExceededRange
+    ∷ stands (codes "P1YT1000000000000000000000000000000000000000H") (of_duration profile (group_value_range time)) DurationValueExceededRange
+    ∷ (and_bad (codes "P18446744073709551616"), stops (of_duration profile (group_value_range date)) anywhere DurationValueExceededRange)
+    ∷ stands (codes "P4294967296W") (of_duration profile date_unit_range) DurationValueExceededRange
+    ∷ (and_bad (codes "P4294967296m"), stops (of_duration profile date_unit_range) anywhere DurationValueExceededRange)
     ∷ [])
 unfolding all_readings
-no_group = refl
+no_group Crate = refl
+no_group Strict = refl
 
 -- a group behind one of a shorter unit
-no_order : Compute parse_duration (
-    stands (codes "P1Y1M1Y") (of_duration (unit_order date)) DateDurationPartOrder
-    ∷ stands (codes "P1D1Y1") (of_duration (unit_order date)) DateDurationPartOrder
+no_order : (profile : Profile) → Compute (parse_duration profile) (
+    stands (codes "P1Y1M1Y") (of_duration profile (unit_order date)) DateDurationPartOrder
+    ∷ stands (codes "P1D1Y1") (of_duration profile (unit_order date)) DateDurationPartOrder
     -- the order comes before the range
-    ∷ stands (codes "P1D4294967296Y") (of_duration (unit_order date)) DateDurationPartOrder
-    ∷ (and_bad (codes "P1W1M"), stops (of_duration (unit_order date)) anywhere DateDurationPartOrder)
-    ∷ stands (codes "PT1S1M") (of_duration (unit_order time)) TimeDurationPartOrder
-    ∷ stands (codes "PT1M1H") (of_duration (unit_order time)) TimeDurationPartOrder
+    ∷ stands (codes "P1D4294967296Y") (of_duration profile (unit_order date)) DateDurationPartOrder
+    ∷ (and_bad (codes "P1W1M"), stops (of_duration profile (unit_order date)) anywhere DateDurationPartOrder)
+    ∷ stands (codes "PT1S1M") (of_duration profile (unit_order time)) TimeDurationPartOrder
+    ∷ stands (codes "PT1M1H") (of_duration profile (unit_order time)) TimeDurationPartOrder
     ∷ [])
 unfolding all_readings
-no_order = refl
+no_order Crate = refl
+no_order Strict = refl

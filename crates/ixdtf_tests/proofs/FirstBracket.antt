@@ -14,7 +14,8 @@ use Rattle.ixdtf.specs.table.LineNames.PairLine.{in_key, value_start}
 use Rattle.ixdtf.specs.table.LineNames.BracketLine.{first_bracket_start, first_critical_start, first_bracket_scan, after_bracket}
 use Rattle.ixdtf.specs.table.Lines.{abrupt_bracket}
 use Rattle.ixdtf.specs.table.Rows.Place.{bad}
-use Rattle.ixdtf_tests.proofs.Helpers.{all_readings, text_of, and_bad, morning, zone_named, tagged, annotated, Example, Compute, gives, ends, goes_off, meets_bad, stops, stops_after, two, three, ShowEachRow}
+use Rattle.ixdtf_tests.proofs.Helpers.{all_readings, text_of, and_bad, morning, zone_named, tagged, annotated, Example, Compute, gives, ends, goes_off}
+use Rattle.ixdtf_tests.proofs.Helpers.{meets_bad, stops, stops_after, two, three, ShowEachRow}
 
 -- ---- each row of the lines of brackets
 

@@ -3,7 +3,8 @@ use Rattle.std.proofs.Common.{◌≡◌, ℕ, Bool, true, false, List, [], ◌�
 use Rattle.ixdtf.specs.declared.records.Sign.TheVariants.{Positive, Negative}
 use Rattle.ixdtf.specs.declared.records.UtcOffsetRecord.TheVariants.{MinutePrecision, FullPrecisionOffset}
 use Rattle.ixdtf.specs.declared.records.UtcOffsetRecordOrZ.TheVariants.{Offset}
-use Rattle.ixdtf.specs.Handlers.{calendar_key, first_calendar, NoneRefused, LastRefused, with_calendar, GivesRecord, GivesFault, own_replies, PlainRecord, PlainFault}
+use Rattle.ixdtf.specs.Handlers.{calendar_key, first_calendar, NoneRefused, LastRefused, with_calendar, GivesRecord, GivesFault, own_replies, UnhandledRecord}
+use Rattle.ixdtf.specs.Handlers.{UnhandledFault}
 use Rattle.ixdtf.specs.language.Brackets.{Pair}
 use Rattle.ixdtf.specs.language.Cores.{core_of}
 use Rattle.ixdtf.specs.language.Readers.{parse}
@@ -17,15 +18,15 @@ use Rattle.ixdtf.specs.reading.Looks.{row_of}
 use Rattle.ixdtf.specs.reading.Dates.{date_of}
 use Rattle.ixdtf.specs.reading.Times.{time_of}
 use Rattle.ixdtf_tests.proofs.Helpers.{all_readings, text_of, new_years_day, tagged, zone_named}
-use Rattle.ixdtf_tests.proofs.Replies.{all_accepted, last_refused, gives, stops_with, refuses, plain_record, differ}
+use Rattle.ixdtf_tests.proofs.Replies.{all_accepted, last_refused, gives, stops_with, refuses, unhandled_record, differ}
 
 -- a calendar
 abbrev calendar : Bool → List ℕ → Pair
 calendar critical value = tagged critical calendar_key value
 
 -- a pair that is no calendar
-abbrev plain : List ℕ → List ℕ → Pair
-plain key value = tagged false key value
+abbrev elective : List ℕ → List ℕ → Pair
+elective key value = tagged false key value
 
 abbrev critical : List ℕ → List ℕ → Pair
 critical key value = tagged true key value
@@ -47,26 +48,29 @@ morning = parsed_with (core_of (Some (date_of (pos 2024) 3 2)) (Some (time_of 8 
 none_of_none : first_calendar [] ≡ None
 none_of_none = refl
 
-first_of_replies : first_calendar (Some (plain (codes "a") (codes "b")) ∷ None ∷ Some (calendar false (codes "c")) ∷ Some (calendar true (codes "d")) ∷ [])
+first_of_replies : first_calendar (Some (elective (codes "a") (codes "b")) ∷ None ∷ Some (calendar false (codes "c")) ∷ Some (calendar true (codes "d")) ∷ [])
     ≡ Some (calendar false (codes "c"))
 first_of_replies = refl
 
-no_calendar_in_uppercase : first_calendar (Some (plain (codes "u-cb") (codes "a")) ∷ Some (plain (codes "u_ca") (codes "a")) ∷ []) ≡ None
+no_calendar_in_uppercase : first_calendar (Some (elective (codes "u-cb") (codes "a")) ∷ Some (elective (codes "u_ca") (codes "a")) ∷ []) ≡ None
 no_calendar_in_uppercase = refl
 
 -- ---- which reply is refused
 
 critical_calendar_after_another : LastRefused (own_replies (calendar false (codes "a") ∷ calendar true (codes "b") ∷ [])) CriticalDuplicateCalendar
 critical_calendar_after_another =
-    last_refused (own_replies (calendar false (codes "a") ∷ [])) (Some (calendar true (codes "b"))) CriticalDuplicateCalendar refl (refl, differ _ _ refl, inr refl)
+    last_refused (own_replies (calendar false (codes "a") ∷ [])) (Some (calendar true (codes "b"))) CriticalDuplicateCalendar refl
+    (refl, differ _ _ refl, inr refl)
 
 -- the first of the two is critical
 calendar_after_a_critical_one : LastRefused (own_replies (calendar true (codes "a") ∷ calendar false (codes "b") ∷ [])) CriticalDuplicateCalendar
 calendar_after_a_critical_one =
-    last_refused (own_replies (calendar true (codes "a") ∷ [])) (Some (calendar false (codes "b"))) CriticalDuplicateCalendar refl (refl, differ _ _ refl, inl refl)
+    last_refused (own_replies (calendar true (codes "a") ∷ [])) (Some (calendar false (codes "b"))) CriticalDuplicateCalendar refl
+    (refl, differ _ _ refl, inl refl)
 
 -- A calendar is compared with the first one: `b` again is refused after `a` and `b`.
-compared_with_the_first : LastRefused (own_replies (calendar false (codes "a") ∷ calendar false (codes "b") ∷ calendar true (codes "b") ∷ [])) CriticalDuplicateCalendar
+compared_with_the_first : LastRefused (own_replies (calendar false (codes "a") ∷ calendar false (codes "b") ∷ calendar true (codes "b") ∷ []))
+    CriticalDuplicateCalendar
 compared_with_the_first =
     last_refused (own_replies (calendar false (codes "a") ∷ calendar false (codes "b") ∷ [])) (Some (calendar true (codes "b"))) CriticalDuplicateCalendar
     refl (refl, differ _ _ refl, inr refl)
@@ -77,23 +81,23 @@ none_is_never_refused = all_accepted _ refl
 
 -- ---- texts whose pairs reply for themselves
 
-first_of_three_calendars : PlainRecord parse (text_of (codes "2020-01-01[u-ca=a][u-ca=b][!u-ca=a]")) (new_year_in (codes "a"))
+first_of_three_calendars : UnhandledRecord parse (text_of (codes "2020-01-01[u-ca=a][u-ca=b][!u-ca=a]")) (new_year_in (codes "a"))
 unfolding all_readings
 first_of_three_calendars =
-    plain_record (codes "2020-01-01[u-ca=a][u-ca=b][!u-ca=a]") new_year
+    unhandled_record (codes "2020-01-01[u-ca=a][u-ca=b][!u-ca=a]") new_year
     (calendar false (codes "a") ∷ calendar false (codes "b") ∷ calendar true (codes "a") ∷ []) refl refl
 
-calendar_of_runs : PlainRecord parse (text_of (codes "2020-01-01[u-ca=a-bc-d]")) (new_year_in (codes "a-bc-d"))
+calendar_of_runs : UnhandledRecord parse (text_of (codes "2020-01-01[u-ca=a-bc-d]")) (new_year_in (codes "a-bc-d"))
 unfolding all_readings
-calendar_of_runs = plain_record (codes "2020-01-01[u-ca=a-bc-d]") new_year (calendar false (codes "a-bc-d") ∷ []) refl refl
+calendar_of_runs = unhandled_record (codes "2020-01-01[u-ca=a-bc-d]") new_year (calendar false (codes "a-bc-d") ∷ []) refl refl
 
 -- a critical calendar is a calendar, and a pair with another key is passed over
-critical_calendar : PlainRecord parse (text_of (codes "+0020201108[!u-ca=iso8601][f-1a2b=a0sa-2l4s]"))
+critical_calendar : UnhandledRecord parse (text_of (codes "+0020201108[!u-ca=iso8601][f-1a2b=a0sa-2l4s]"))
     (with_calendar (parsed_with (core_of (Some (date_of (pos 2020) 11 8)) None None) None) (Some (codes "iso8601")))
 unfolding all_readings
 critical_calendar =
-    plain_record (codes "+0020201108[!u-ca=iso8601][f-1a2b=a0sa-2l4s]") (parsed_with (core_of (Some (date_of (pos 2020) 11 8)) None None) None)
-    (calendar true (codes "iso8601") ∷ plain (codes "f-1a2b") (codes "a0sa-2l4s") ∷ []) refl refl
+    unhandled_record (codes "+0020201108[!u-ca=iso8601][f-1a2b=a0sa-2l4s]") (parsed_with (core_of (Some (date_of (pos 2020) 11 8)) None None) None)
+    (calendar true (codes "iso8601") ∷ elective (codes "f-1a2b") (codes "a0sa-2l4s") ∷ []) refl refl
 
 -- 29 January 2021 with an offset that has seconds, and a zone
 abbrev night : Parsed
@@ -101,26 +105,28 @@ night = parsed_with (core_of (Some (date_of (pos 2021) 1 29)) (Some (time_of 2 1
     (Some (Offset (FullPrecisionOffset (record { minute_precision_offset = record { sign = Positive; hour = 1; minute = 0 }; second = 0; fraction = None })))))
     (zone_named false (codes "u"))
 
-zone_and_calendar : PlainRecord parse (text_of (codes "2021-01-29 02:12:48+01:00:00[u][u-ca=iso8601]")) (with_calendar night (Some (codes "iso8601")))
+zone_and_calendar : UnhandledRecord parse (text_of (codes "2021-01-29 02:12:48+01:00:00[u][u-ca=iso8601]")) (with_calendar night (Some (codes "iso8601")))
 unfolding all_readings
-zone_and_calendar = plain_record (codes "2021-01-29 02:12:48+01:00:00[u][u-ca=iso8601]") night (calendar false (codes "iso8601") ∷ []) refl refl
+zone_and_calendar = unhandled_record (codes "2021-01-29 02:12:48+01:00:00[u][u-ca=iso8601]") night (calendar false (codes "iso8601") ∷ []) refl refl
 
-two_calendars : PlainRecord parse (text_of (codes "2024-03-02T08:48:00-05:00[u-ca=iso8601][u-ca=japanese]")) (with_calendar morning (Some (codes "iso8601")))
+two_calendars : UnhandledRecord parse (text_of (codes "2024-03-02T08:48:00-05:00[u-ca=iso8601][u-ca=japanese]"))
+    (with_calendar morning (Some (codes "iso8601")))
 unfolding all_readings
 two_calendars =
-    plain_record (codes "2024-03-02T08:48:00-05:00[u-ca=iso8601][u-ca=japanese]") morning
+    unhandled_record (codes "2024-03-02T08:48:00-05:00[u-ca=iso8601][u-ca=japanese]") morning
     (calendar false (codes "iso8601") ∷ calendar false (codes "japanese") ∷ []) refl refl
 
 -- a critical calendar with the value of the first one
-same_calendar_twice : PlainRecord parse (text_of (codes "2024-03-02T08:48:00-05:00[u-ca=iso8601][!u-ca=iso8601]")) (with_calendar morning (Some (codes "iso8601")))
+same_calendar_twice : UnhandledRecord parse (text_of (codes "2024-03-02T08:48:00-05:00[u-ca=iso8601][!u-ca=iso8601]"))
+    (with_calendar morning (Some (codes "iso8601")))
 unfolding all_readings
 same_calendar_twice =
-    plain_record (codes "2024-03-02T08:48:00-05:00[u-ca=iso8601][!u-ca=iso8601]") morning
+    unhandled_record (codes "2024-03-02T08:48:00-05:00[u-ca=iso8601][!u-ca=iso8601]") morning
     (calendar false (codes "iso8601") ∷ calendar true (codes "iso8601") ∷ []) refl refl
 
 -- ---- texts whose pairs reply for themselves, and that are refused
 
-second_calendar_is_critical : PlainFault parse (text_of (codes "2020-01-01[u-ca=a][!u-ca=b]")) CriticalDuplicateCalendar
+second_calendar_is_critical : UnhandledFault parse (text_of (codes "2020-01-01[u-ca=a][!u-ca=b]")) CriticalDuplicateCalendar
 unfolding all_readings
 second_calendar_is_critical = (
   _,
@@ -128,7 +134,7 @@ second_calendar_is_critical = (
       (own_replies (calendar false (codes "a") ∷ [])) (Some (calendar true (codes "b"))) CriticalDuplicateCalendar refl refl (refl, differ _ _ refl, inr refl),
 )
 
-first_calendar_is_critical : PlainFault parse (text_of (codes "2020-01-01[!u-ca=a][u-ca=b]")) CriticalDuplicateCalendar
+first_calendar_is_critical : UnhandledFault parse (text_of (codes "2020-01-01[!u-ca=a][u-ca=b]")) CriticalDuplicateCalendar
 unfolding all_readings
 first_calendar_is_critical = (
   _,
@@ -136,7 +142,7 @@ first_calendar_is_critical = (
       (own_replies (calendar true (codes "a") ∷ [])) (Some (calendar false (codes "b"))) CriticalDuplicateCalendar refl refl (refl, differ _ _ refl, inl refl),
 )
 
-zone_after_a_calendar : PlainFault parse (text_of (codes "2020-01-01[u-ca=a][Europe/London]")) AnnotationKeyLeadingChar
+zone_after_a_calendar : UnhandledFault parse (text_of (codes "2020-01-01[u-ca=a][Europe/London]")) AnnotationKeyLeadingChar
 unfolding all_readings
 zone_after_a_calendar = (
   _,
@@ -144,16 +150,16 @@ zone_after_a_calendar = (
       (calendar false (codes "a") ∷ []) (own_replies (calendar false (codes "a") ∷ [])) refl refl,
 )
 
-zone_after_a_pair : PlainFault parse (text_of (codes "2020-01-01[a=b][u]")) AnnotationKeyChar
+zone_after_a_pair : UnhandledFault parse (text_of (codes "2020-01-01[a=b][u]")) AnnotationKeyChar
 unfolding all_readings
 zone_after_a_pair = (
   _,
   stops_with (codes "2020-01-01[a=b][u]") (row_of (of_pair in_key) other AnnotationKeyChar)
-      (plain (codes "a") (codes "b") ∷ []) (own_replies (plain (codes "a") (codes "b") ∷ [])) refl refl,
+      (elective (codes "a") (codes "b") ∷ []) (own_replies (elective (codes "a") (codes "b") ∷ [])) refl refl,
 )
 
 -- The reply is refused before the letters after the bracket are looked at.
-refused_before_the_end : PlainFault parse (text_of (codes "2020-01-01[!a=b]junk")) UnrecognizedCritical
+refused_before_the_end : UnhandledFault parse (text_of (codes "2020-01-01[!a=b]junk")) UnrecognizedCritical
 unfolding all_readings
 refused_before_the_end = (
   _,
@@ -164,31 +170,33 @@ refused_before_the_end = (
 -- ---- texts and a handler
 
 -- a handler that replies each pair itself: the second reply is refused, and `[e=f]` is not looked at
-handed_back : GivesFault parse (text_of (codes "2020-01-01[a=b][!c=d][e=f]")) (plain (codes "a") (codes "b") ∷ critical (codes "c") (codes "d") ∷ [])
-    (Some (plain (codes "a") (codes "b")) ∷ Some (critical (codes "c") (codes "d")) ∷ []) UnrecognizedCritical
+handed_back : GivesFault parse (text_of (codes "2020-01-01[a=b][!c=d][e=f]")) (elective (codes "a") (codes "b") ∷ critical (codes "c") (codes "d") ∷ [])
+    (Some (elective (codes "a") (codes "b")) ∷ Some (critical (codes "c") (codes "d")) ∷ []) UnrecognizedCritical
 unfolding all_readings
-handed_back = refuses (codes "2020-01-01[a=b][!c=d]") (codes "[e=f]") new_year (plain (codes "a") (codes "b") ∷ critical (codes "c") (codes "d") ∷ [])
-    (Some (plain (codes "a") (codes "b")) ∷ []) (Some (critical (codes "c") (codes "d"))) UnrecognizedCritical refl refl (refl, differ _ _ refl)
+handed_back = refuses (codes "2020-01-01[a=b][!c=d]") (codes "[e=f]") new_year (elective (codes "a") (codes "b") ∷ critical (codes "c") (codes "d") ∷ [])
+    (Some (elective (codes "a") (codes "b")) ∷ []) (Some (critical (codes "c") (codes "d"))) UnrecognizedCritical refl refl (refl, differ _ _ refl)
 
 -- a handler that replies none to each of the three
 all_passed_over : GivesRecord parse (text_of (codes "2020-01-01[a=b][!c=d][e=f]"))
-    (plain (codes "a") (codes "b") ∷ critical (codes "c") (codes "d") ∷ plain (codes "e") (codes "f") ∷ []) (None ∷ None ∷ None ∷ []) new_year
+    (elective (codes "a") (codes "b") ∷ critical (codes "c") (codes "d") ∷ elective (codes "e") (codes "f") ∷ []) (None ∷ None ∷ None ∷ []) new_year
 unfolding all_readings
 all_passed_over = gives (codes "2020-01-01[a=b][!c=d][e=f]") new_year
-    (plain (codes "a") (codes "b") ∷ critical (codes "c") (codes "d") ∷ plain (codes "e") (codes "f") ∷ []) (None ∷ None ∷ None ∷ []) refl refl
+    (elective (codes "a") (codes "b") ∷ critical (codes "c") (codes "d") ∷ elective (codes "e") (codes "f") ∷ []) (None ∷ None ∷ None ∷ []) refl refl
 
 -- two calls, and then the error of the text
-two_calls_and_an_error : GivesFault parse (text_of (codes "2020-01-01[a=b][c=d]junk")) (plain (codes "a") (codes "b") ∷ plain (codes "c") (codes "d") ∷ [])
-    (Some (plain (codes "a") (codes "b")) ∷ Some (plain (codes "c") (codes "d")) ∷ []) InvalidEnd
+two_calls_and_an_error : GivesFault parse (text_of (codes "2020-01-01[a=b][c=d]junk"))
+    (elective (codes "a") (codes "b") ∷ elective (codes "c") (codes "d") ∷ [])
+    (Some (elective (codes "a") (codes "b")) ∷ Some (elective (codes "c") (codes "d")) ∷ []) InvalidEnd
 unfolding all_readings
 two_calls_and_an_error = stops_with (codes "2020-01-01[a=b][c=d]junk") (row_of (of_bracket after_bracket) other InvalidEnd)
-    (plain (codes "a") (codes "b") ∷ plain (codes "c") (codes "d") ∷ [])
-    (Some (plain (codes "a") (codes "b")) ∷ Some (plain (codes "c") (codes "d")) ∷ []) refl refl
+    (elective (codes "a") (codes "b") ∷ elective (codes "c") (codes "d") ∷ [])
+    (Some (elective (codes "a") (codes "b")) ∷ Some (elective (codes "c") (codes "d")) ∷ []) refl refl
 
 -- the reply is judged, and not the pair: the same annotation made critical
-made_critical : GivesFault parse (text_of (codes "2020-01-01[x=y]")) (plain (codes "x") (codes "y") ∷ []) (Some (critical (codes "x") (codes "y")) ∷ []) UnrecognizedCritical
+made_critical : GivesFault parse (text_of (codes "2020-01-01[x=y]")) (elective (codes "x") (codes "y") ∷ []) (Some (critical (codes "x") (codes "y")) ∷ [])
+    UnrecognizedCritical
 unfolding all_readings
-made_critical = refuses (codes "2020-01-01[x=y]") [] new_year (plain (codes "x") (codes "y") ∷ []) []
+made_critical = refuses (codes "2020-01-01[x=y]") [] new_year (elective (codes "x") (codes "y") ∷ []) []
     (Some (critical (codes "x") (codes "y"))) UnrecognizedCritical refl refl (refl, differ _ _ refl)
 
 -- the pairs of a calendar, and of a critical annotation that the handler knows

@@ -1,5 +1,7 @@
 -- Times that stand alone, and their lines, computed.
 use Rattle.std.proofs.Common.{ℕ, List, [], ◌∷◌, ◌++◌, map, codes, Option, Some, None, false, refl}
+use Rattle.ixdtf.specs.declared.parsers.profile.Profile.{Profile}
+use Rattle.ixdtf.specs.declared.parsers.profile.Profile.TheVariants.{Crate, Strict}
 use Rattle.ixdtf.specs.declared.records.Sign.{Sign}
 use Rattle.ixdtf.specs.declared.records.Sign.TheVariants.{Negative}
 use Rattle.ixdtf.specs.declared.records.UtcOffsetRecord.TheVariants.{MinutePrecision}
@@ -14,10 +16,10 @@ use Rattle.ixdtf.specs.language.Languages.{parsed_with}
 use Rattle.ixdtf.specs.language.Languages.Found.{parsed}
 use Rattle.ixdtf.specs.language.Times.Clock.{Offset as OffsetClock}
 use Rattle.ixdtf.specs.table.Faults.Fault.{NonAsciiCodePoint, InvalidEnd, TimeHour, TimeSeparator, AmbiguousTimeMonthDay, AmbiguousTimeYearMonth}
-use Rattle.ixdtf.specs.table.LineNames.{of_time}
+use Rattle.ixdtf.specs.table.LineNames.{LineName, of_time}
 use Rattle.ixdtf.specs.table.LineNames.LineName.{of_clock, of_offset, of_bracket}
 use Rattle.ixdtf.specs.table.LineNames.TimeLine.{time_start, time_reads_as_month_day, time_reads_as_year_month}
-use Rattle.ixdtf.specs.table.LineNames.ClockLine.{hour_start, hour_digit, hour_range, after_hour, minute_digits, after_plain_minute, after_colon_minute}
+use Rattle.ixdtf.specs.table.LineNames.ClockLine.{hour_start, hour_digit, hour_range, after_hour, minute_digits, after_basic_minute, after_colon_minute}
 use Rattle.ixdtf.specs.table.LineNames.ClockLine.{after_second}
 use Rattle.ixdtf.specs.table.LineNames.OffsetLine.{after_zulu}
 use Rattle.ixdtf.specs.table.LineNames.BracketLine.{first_bracket_start}
@@ -33,23 +35,29 @@ use Rattle.ixdtf_tests.proofs.Offsets.{full_lines, full_rows}
 -- ---- each row in `parse_time`
 
 -- the rows of its own lines
-abbrev alone_rows : List Example
-alone_rows =
+abbrev alone_rows : Profile → List Example
+alone_rows profile =
     three (of_time time_start) [] abrupt_digit (codes "x") TimeHour
-    ++ one (of_time time_reads_as_month_day) (codes "1200") AmbiguousTimeMonthDay
+    ++ one (of_time (time_reads_as_month_day profile)) (codes "1214") AmbiguousTimeMonthDay
     ++ one (of_time time_reads_as_year_month) (codes "2021-12") AmbiguousTimeYearMonth
 
-each_row_of_its_own : ShowEachRow parse_time (map of_time (time_start ∷ time_reads_as_month_day ∷ time_reads_as_year_month ∷ [])) alone_rows
-unfolding all_readings
-each_row_of_its_own = (refl, refl)
+abbrev alone_lines : Profile → List LineName
+alone_lines profile = map of_time (time_start ∷ time_reads_as_month_day profile ∷ time_reads_as_year_month ∷ [])
 
-each_row_after_a_letter : ShowEachRow parse_time time_lines (time_rows (codes "T"))
+each_row_of_its_own : (profile : Profile) → ShowEachRow (parse_time profile) (alone_lines profile) (alone_rows profile)
 unfolding all_readings
-each_row_after_a_letter = (refl, refl)
+each_row_of_its_own Crate = (refl, refl)
+each_row_of_its_own Strict = (refl, refl)
 
-each_row_after_a_time : ShowEachRow parse_time (full_lines ++ (of_offset after_zulu ∷ [])) (full_rows (codes "t00:00"))
+each_row_after_a_letter : (profile : Profile) → ShowEachRow (parse_time profile) time_lines (time_rows (codes "T"))
 unfolding all_readings
-each_row_after_a_time = (refl, refl)
+each_row_after_a_letter Crate = (refl, refl)
+each_row_after_a_letter Strict = (refl, refl)
+
+each_row_after_a_time : (profile : Profile) → ShowEachRow (parse_time profile) (full_lines ++ (of_offset after_zulu ∷ [])) (full_rows (codes "t00:00"))
+unfolding all_readings
+each_row_after_a_time Crate = (refl, refl)
+each_row_after_a_time Strict = (refl, refl)
 
 -- ---- times
 
@@ -63,7 +71,7 @@ time hour minute second = alone hour minute second None None None
 abbrev shifted_by : Sign → ℕ → ℕ → Option UtcOffsetRecordOrZ
 shifted_by sign hour minute = Some (Offset (MinutePrecision (record { sign = sign; hour = hour; minute = minute })))
 
-times_alone : Compute parse_time (
+times_alone : (profile : Profile) → Compute (parse_time profile) (
     gives (codes "12") (time 12 0 0)
     ∷ gives (codes "T1200") (time 12 0 0)
     ∷ gives (codes "t121430") (time 12 14 30)
@@ -81,28 +89,29 @@ times_alone : Compute parse_time (
     (alone 15 23 30 (Some (record { count = 37; value = 123456789876543210 })) None None)
     ∷ [])
 unfolding all_readings
-times_alone = refl
+times_alone Crate = refl
+times_alone Strict = refl
 
 -- ---- texts that read as something else
 
-ambiguous : Compute parse_time (
-    stands (codes "0229") (of_time time_reads_as_month_day) AmbiguousTimeMonthDay
-    ∷ stands (codes "1208-10") (of_time time_reads_as_month_day) AmbiguousTimeMonthDay
-    ∷ stands (codes "121430") (of_time time_reads_as_month_day) AmbiguousTimeMonthDay
-    ∷ stands (codes "1214Z") (of_time time_reads_as_month_day) AmbiguousTimeMonthDay
-    ∷ stands (codes "12-14[-14:00]") (of_time time_reads_as_month_day) AmbiguousTimeMonthDay
+ambiguous : (profile : Profile) → Compute (parse_time profile) (
+    stands (codes "0229") (of_time (time_reads_as_month_day profile)) AmbiguousTimeMonthDay
+    ∷ stands (codes "1208-10") (of_time (time_reads_as_month_day profile)) AmbiguousTimeMonthDay
+    ∷ stands (codes "121430") (of_time (time_reads_as_month_day profile)) AmbiguousTimeMonthDay
+    ∷ stands (codes "1214Z") (of_time (time_reads_as_month_day profile)) AmbiguousTimeMonthDay
+    ∷ stands (codes "12-14[-14:00]") (of_time (time_reads_as_month_day profile)) AmbiguousTimeMonthDay
     ∷ stands (codes "202112[UTC]") (of_time time_reads_as_year_month) AmbiguousTimeYearMonth
     -- nothing inside a bracket is looked at
-    ∷ stands (codes "1214[") (of_time time_reads_as_month_day) AmbiguousTimeMonthDay
-    ∷ stands (codes "1200[a=b]") (of_time time_reads_as_month_day) AmbiguousTimeMonthDay
+    ∷ stands (codes "1214[") (of_time (time_reads_as_month_day profile)) AmbiguousTimeMonthDay
     ∷ ends (codes "T1214[") (of_bracket first_bracket_start) abrupt_bracket
     ∷ [])
 unfolding all_readings
-ambiguous = refl
+ambiguous Crate = refl
+ambiguous Strict = refl
 
 -- ---- texts that are no time
 
-no_time_alone : Compute parse_time (
+no_time_alone : (profile : Profile) → Compute (parse_time profile) (
     stands (codes "24-12-08") (of_clock_time hour_range) TimeHour
     ∷ goes_off (codes "20240801") (of_clock_time after_second) InvalidEnd
     ∷ goes_off (codes "T19:120-08") (of_clock_time after_colon_minute) TimeSeparator
@@ -112,8 +121,33 @@ no_time_alone : Compute parse_time (
     ∷ goes_off (codes "TT12") (of_clock_time hour_start) TimeHour
     ∷ goes_off (codes "1:00") (of_clock_time hour_digit) TimeHour
     -- a unit that stands for no letter comes before the test of the front
-    ∷ meets_bad (codes "1200") (of_clock_time after_plain_minute)
+    ∷ meets_bad (codes "1200") (of_clock_time after_basic_minute)
     ∷ (Bad ∷ [], stops (of_time time_start) bad NonAsciiCodePoint)
     ∷ [])
 unfolding all_readings
-no_time_alone = refl
+no_time_alone Crate = refl
+no_time_alone Strict = refl
+
+-- ---- what the profile changes
+
+-- day 0 makes a month-day of a front
+fronts_with_day_zero : Compute (parse_time Crate) (
+    stands (codes "1200") (of_time (time_reads_as_month_day Crate)) AmbiguousTimeMonthDay
+    ∷ stands (codes "11-00") (of_time (time_reads_as_month_day Crate)) AmbiguousTimeMonthDay
+    ∷ stands (codes "110010") (of_time (time_reads_as_month_day Crate)) AmbiguousTimeMonthDay
+    ∷ stands (codes "110013") (of_time (time_reads_as_month_day Crate)) AmbiguousTimeMonthDay
+    ∷ stands (codes "1200[a=b]") (of_time (time_reads_as_month_day Crate)) AmbiguousTimeMonthDay
+    ∷ [])
+unfolding all_readings
+fronts_with_day_zero = refl
+
+-- and under the strict profile it makes none
+times_with_minute_zero : Compute (parse_time Strict) (
+    gives (codes "1200") (time 12 0 0)
+    ∷ gives (codes "11-00") (alone 11 0 0 None (shifted_by Negative 0 0) None)
+    ∷ stands (codes "110010") (of_time time_reads_as_year_month) AmbiguousTimeYearMonth
+    ∷ gives (codes "110013") (time 11 0 13)
+    ∷ gives (codes "1200[UTC]") (alone 12 0 0 None None (zone_named false (codes "UTC")))
+    ∷ [])
+unfolding all_readings
+times_with_minute_zero = refl

@@ -1,5 +1,7 @@
 -- Year-months and month-days, and their lines, computed.
 use Rattle.std.proofs.Common.{ℕ, List, [], ◌∷◌, ◌++◌, map, codes, ℤ, pos, neg_ℤ, Some, None, false, refl}
+use Rattle.ixdtf.specs.declared.parsers.profile.Profile.{Profile}
+use Rattle.ixdtf.specs.declared.parsers.profile.Profile.TheVariants.{Crate, Strict}
 use Rattle.ixdtf.specs.declared.records.Sign.TheVariants.{Positive}
 use Rattle.ixdtf.specs.language.ZoneNames.Zone.{Offset}
 use Rattle.ixdtf.specs.language.Readers.{parse_year_month, parse_month_day}
@@ -65,36 +67,36 @@ no_year_month = refl
 
 -- ---- each row of the lines of month-days
 
-abbrev month_day_lines : List LineName
-month_day_lines =
+abbrev month_day_lines : Profile → List LineName
+month_day_lines profile =
     map of_month_day (month_day_start ∷ month_day_hyphen ∷ month_day_month_digits ∷ month_day_month_range
-    ∷ after_month_day_month ∷ month_day_day_digits ∷ month_day_range ∷ after_month_day ∷ [])
+    ∷ after_month_day_month ∷ month_day_day_digits ∷ month_day_range profile ∷ after_month_day profile ∷ [])
 
-abbrev month_day_rows : List Example
-month_day_rows =
+abbrev month_day_rows : Profile → List Example
+month_day_rows profile =
     three (of_month_day month_day_start) [] abrupt_month_day (codes "x") DateMonth
     ++ three (of_month_day month_day_hyphen) (codes "-") abrupt_month_day (codes "1") MonthDayHyphen
     ++ three (of_month_day month_day_month_digits) (codes "--") abrupt_digit (codes "x") DateMonth
     ++ one (of_month_day month_day_month_range) (codes "13") InvalidMonthRange
     ++ three (of_month_day after_month_day_month) (codes "11") abrupt_digit (codes "x") DateDay
     ++ three (of_month_day month_day_day_digits) (codes "11-") abrupt_digit (codes "x") DateDay
-    ++ one (of_month_day month_day_range) (codes "02-30") InvalidMonthDay
-    ++ two (of_month_day after_month_day) (codes "11-07") (codes "x") InvalidEnd
+    ++ one (of_month_day (month_day_range profile)) (codes "02-30") InvalidMonthDay
+    ++ two (of_month_day (after_month_day profile)) (codes "11-07") (codes "x") InvalidEnd
 
-each_row_of_month_days : ShowEachRow parse_month_day month_day_lines month_day_rows
+each_row_of_month_days : (profile : Profile) → ShowEachRow (parse_month_day profile) (month_day_lines profile) (month_day_rows profile)
 unfolding all_readings
-each_row_of_month_days = (refl, refl)
+each_row_of_month_days Crate = (refl, refl)
+each_row_of_month_days Strict = (refl, refl)
 
 -- ---- month-days
 
 abbrev month_day : ℕ → ℕ → Outcome
 month_day month day = date (pos 0) month day
 
-month_days : Compute parse_month_day (
+month_days : (profile : Profile) → Compute (parse_month_day profile) (
     gives (codes "11-07") (month_day 11 7)
     ∷ gives (codes "1107") (month_day 11 7)
     ∷ gives (codes "--11-07") (month_day 11 7)
-    ∷ gives (codes "11-00") (month_day 11 0)
     ∷ gives (codes "02-29") (month_day 2 29)
     ∷ gives (codes "0430") (month_day 4 30)
     ∷ gives (codes "1231") (month_day 12 31)
@@ -102,9 +104,10 @@ month_days : Compute parse_month_day (
     (Some (record { critical = false; zone = Offset (record { sign = Positive; hour = 4; minute = 0 }) })))
     ∷ [])
 unfolding all_readings
-month_days = refl
+month_days Crate = refl
+month_days Strict = refl
 
-no_month_day : Compute parse_month_day (
+no_month_day : (profile : Profile) → Compute (parse_month_day profile) (
     goes_off (codes "-11-07") (of_month_day month_day_hyphen) MonthDayHyphen
     ∷ ends (codes "1") (of_month_day month_day_month_digits) abrupt_digit
     ∷ ends (codes "--1") (of_month_day month_day_month_digits) abrupt_digit
@@ -120,10 +123,33 @@ no_month_day : Compute parse_month_day (
     ∷ goes_off (codes "11-0x") (of_month_day month_day_day_digits) DateDay
     ∷ goes_off (codes "11--7") (of_month_day month_day_day_digits) DateDay
     ∷ meets_bad (codes "110") (of_month_day month_day_day_digits)
-    ∷ stands (codes "0230") (of_month_day month_day_range) InvalidMonthDay
-    ∷ stands (codes "04-31") (of_month_day month_day_range) InvalidMonthDay
-    ∷ stands (codes "12-32x") (of_month_day month_day_range) InvalidMonthDay
-    ∷ goes_off (codes "11-071") (of_month_day after_month_day) InvalidEnd
+    ∷ stands (codes "0230") (of_month_day (month_day_range profile)) InvalidMonthDay
+    ∷ stands (codes "04-31") (of_month_day (month_day_range profile)) InvalidMonthDay
+    ∷ stands (codes "12-32x") (of_month_day (month_day_range profile)) InvalidMonthDay
+    ∷ goes_off (codes "11-071") (of_month_day (after_month_day profile)) InvalidEnd
     ∷ [])
 unfolding all_readings
-no_month_day = refl
+no_month_day Crate = refl
+no_month_day Strict = refl
+
+-- ---- what the profile changes
+
+day_zero : Compute (parse_month_day Crate) (
+    gives (codes "11-00") (month_day 11 0)
+    ∷ gives (codes "--11-00") (month_day 11 0)
+    ∷ gives (codes "0200") (month_day 2 0)
+    ∷ goes_off (codes "11-001") (of_month_day (after_month_day Crate)) InvalidEnd
+    ∷ [])
+unfolding all_readings
+day_zero = refl
+
+no_day_zero : Compute (parse_month_day Strict) (
+    stands (codes "11-00") (of_month_day (month_day_range Strict)) InvalidMonthDay
+    ∷ stands (codes "--11-00") (of_month_day (month_day_range Strict)) InvalidMonthDay
+    ∷ stands (codes "0200") (of_month_day (month_day_range Strict)) InvalidMonthDay
+    ∷ stands (codes "11-001") (of_month_day (month_day_range Strict)) InvalidMonthDay
+    ∷ (and_bad (codes "1100"), stops (of_month_day (month_day_range Strict)) anywhere InvalidMonthDay)
+    ∷ gives (codes "11-01") (month_day 11 1)
+    ∷ [])
+unfolding all_readings
+no_day_zero = refl

@@ -12,18 +12,21 @@ use Rattle.ixdtf.specs.language.Brackets.{ZoneNote}
 use Rattle.ixdtf.specs.language.Readers.{parse}
 use Rattle.ixdtf.specs.language.Readers.Reader.{parse_offset, parse_identifier}
 use Rattle.ixdtf.specs.language.Languages.Found.{shifted, identified}
-use Rattle.ixdtf.specs.table.Faults.Fault.{InvalidEnd, TimeHour, TimeMinuteSecond, FractionPart, UtcTimeSeparator, InvalidMinutePrecisionOffset, OffsetNeedsSign, AnnotationClose}
+use Rattle.ixdtf.specs.table.Faults.Fault.{InvalidEnd, TimeHour, TimeMinuteSecond, FractionPart, UtcTimeSeparator, InvalidMinutePrecisionOffset}
+use Rattle.ixdtf.specs.table.Faults.Fault.{OffsetNeedsSign, AnnotationClose}
 use Rattle.ixdtf.specs.table.LineNames.{ClockLine, LineName}
 use Rattle.ixdtf.specs.table.LineNames.LineName.{of_clock, of_offset}
 use Rattle.ixdtf.specs.table.LineNames.OffsetLine.{offset_start, after_zulu}
-use Rattle.ixdtf.specs.table.LineNames.ClockLine.{hour_start, hour_digit, hour_range, after_hour, minute_digits, minute_range, after_plain_minute, after_colon_minute, second_digits, second_range, after_second, fraction_start, after_fraction}
+use Rattle.ixdtf.specs.table.LineNames.ClockLine.{hour_start, hour_digit, hour_range, after_hour, minute_digits, minute_range, after_basic_minute}
+use Rattle.ixdtf.specs.table.LineNames.ClockLine.{after_colon_minute, second_digits, second_range, after_second, fraction_start, after_fraction}
 use Rattle.ixdtf.specs.table.Lines.{abrupt_digit, abrupt_offset}
 use Rattle.ixdtf.specs.table.Rows.Place.{anywhere}
 use Rattle.ixdtf.specs.table.Outcomes.{Outcome}
 use Rattle.ixdtf.specs.table.Outcomes.Outcome.{derived}
 use Rattle.ixdtf.specs.reading.Times.{time_of}
 use Rattle.ixdtf_tests.proofs.Times.{minute_lines, clock_lines}
-use Rattle.ixdtf_tests.proofs.Helpers.{all_readings, and_bad, morning, new_years_day, with, Example, Compute, gives, ends, goes_off, meets_bad, stands, stops, one, two, three, ShowEachRow}
+use Rattle.ixdtf_tests.proofs.Helpers.{all_readings, and_bad, morning, new_years_day, with, Example, Compute, gives, ends, goes_off, meets_bad, stands, stops}
+use Rattle.ixdtf_tests.proofs.Helpers.{one, two, three, ShowEachRow}
 
 -- the lines of an offset, and of one without seconds
 abbrev of_full : ClockLine → LineName
@@ -50,7 +53,7 @@ minute_rows of_line before zero letter =
     ++ two (of_line after_hour) (before ++ codes "+05") letter InvalidEnd
     ++ three (of_line minute_digits) (before ++ codes "+05:") abrupt_digit (codes "x") TimeMinuteSecond
     ++ one (of_line minute_range) (before ++ codes "+05:60") TimeMinuteSecond
-    ++ two (of_line after_plain_minute) (before ++ codes "+0530") letter InvalidEnd
+    ++ two (of_line after_basic_minute) (before ++ codes "+0530") letter InvalidEnd
     ++ two (of_line after_colon_minute) (before ++ codes "+05:30") letter InvalidEnd
 
 -- with the rows of seconds
@@ -101,7 +104,7 @@ rows_in_brackets =
     ++ three (of_short after_hour) (inside (codes "05")) AnnotationClose (codes "x") AnnotationClose
     ++ three (of_short minute_digits) (inside (codes "05:")) abrupt_digit (codes "]") TimeMinuteSecond
     ++ one (of_short minute_range) (inside (codes "05:60")) TimeMinuteSecond
-    ++ three (of_short after_plain_minute) (inside (codes "0530")) AnnotationClose (codes "x") AnnotationClose
+    ++ three (of_short after_basic_minute) (inside (codes "0530")) AnnotationClose (codes "x") AnnotationClose
     ++ three (of_short after_colon_minute) (inside (codes "05:30")) AnnotationClose (codes "x") AnnotationClose
 
 each_row_in_brackets : ShowEachRow parse short_lines rows_in_brackets
@@ -188,7 +191,7 @@ no_offset : Compute parse_offset (
     ∷ goes_off (codes "+08:0x") (of_full minute_digits) TimeMinuteSecond
     ∷ goes_off (codes "+080x") (of_full minute_digits) TimeMinuteSecond
     ∷ stands (codes "+0860") (of_full minute_range) TimeMinuteSecond
-    ∷ goes_off (codes "+0800:00") (of_full after_plain_minute) UtcTimeSeparator
+    ∷ goes_off (codes "+0800:00") (of_full after_basic_minute) UtcTimeSeparator
     ∷ goes_off (codes "+08:0000") (of_full after_colon_minute) UtcTimeSeparator
     ∷ goes_off (codes "+08:00:5x") (of_full second_digits) TimeMinuteSecond
     ∷ ends (codes "+08005") (of_full second_digits) abrupt_digit
@@ -205,7 +208,7 @@ no_offset_after_a_time : Compute parse (
     ∷ stands (codes "2024-08-24T14:00:00-05:00:60") (of_full second_range) TimeMinuteSecond
     ∷ stands (codes "2024-08-24T14:00:00-050060") (of_full second_range) TimeMinuteSecond
     ∷ goes_off (codes "2024-08-24T14:00:00-05:0060") (of_full after_colon_minute) UtcTimeSeparator
-    ∷ goes_off (codes "2024-08-24T14:00:00-0500:60") (of_full after_plain_minute) UtcTimeSeparator
+    ∷ goes_off (codes "2024-08-24T14:00:00-0500:60") (of_full after_basic_minute) UtcTimeSeparator
     ∷ goes_off (codes "2024-08-24T14:00:00-5:00") (of_full hour_digit) TimeHour
     ∷ goes_off (codes "2024-08-24T14:00:00Z+") (of_offset after_zulu) InvalidEnd
     ∷ [])
@@ -216,8 +219,8 @@ no_offset_after_a_time = refl
 no_short_offset : Compute parse_identifier (
     goes_off (codes "+00:00:00") (of_short after_colon_minute) InvalidMinutePrecisionOffset
     ∷ goes_off (codes "+00:000") (of_short after_colon_minute) InvalidMinutePrecisionOffset
-    ∷ goes_off (codes "+000000") (of_short after_plain_minute) InvalidMinutePrecisionOffset
-    ∷ goes_off (codes "+0000:00") (of_short after_plain_minute) InvalidMinutePrecisionOffset
+    ∷ goes_off (codes "+000000") (of_short after_basic_minute) InvalidMinutePrecisionOffset
+    ∷ goes_off (codes "+0000:00") (of_short after_basic_minute) InvalidMinutePrecisionOffset
     ∷ goes_off (codes "+00:00.1") (of_short after_colon_minute) InvalidEnd
     ∷ stands (codes "+24:00") (of_short hour_range) TimeHour
     ∷ stands (codes "+0060") (of_short minute_range) TimeMinuteSecond
@@ -228,8 +231,8 @@ no_short_offset = refl
 no_short_offset_in_a_bracket : Compute parse (
     goes_off (codes "2020-01-01[-05:00:60]") (of_short after_colon_minute) InvalidMinutePrecisionOffset
     ∷ goes_off (codes "2020-01-01[-05:000]") (of_short after_colon_minute) InvalidMinutePrecisionOffset
-    ∷ goes_off (codes "2020-01-01[-050000]") (of_short after_plain_minute) InvalidMinutePrecisionOffset
-    ∷ goes_off (codes "2020-01-01[!-0500:]") (of_short after_plain_minute) InvalidMinutePrecisionOffset
+    ∷ goes_off (codes "2020-01-01[-050000]") (of_short after_basic_minute) InvalidMinutePrecisionOffset
+    ∷ goes_off (codes "2020-01-01[!-0500:]") (of_short after_basic_minute) InvalidMinutePrecisionOffset
     ∷ goes_off (codes "2024-08-24T14:00:00-05:00[-05:00.1]") (of_short after_colon_minute) AnnotationClose
     ∷ goes_off (codes "2020-01-01[+05=]") (of_short after_hour) AnnotationClose
     ∷ [])

@@ -2,11 +2,13 @@
 use Rattle.std.proofs.Common.{true, false, List, [], ◌∷◌, ◌++◌, map, codes, None, refl}
 use Rattle.ixdtf.specs.language.Brackets.{Pair}
 use Rattle.ixdtf.specs.language.Readers.{parse}
-use Rattle.ixdtf.specs.table.Faults.Fault.{AnnotationClose, AnnotationKeyLeadingChar, AnnotationKeyChar, AnnotationKeyValueSeparator, AnnotationValueChar, AnnotationValueCharPostHyphen}
+use Rattle.ixdtf.specs.table.Faults.Fault.{AnnotationClose, AnnotationKeyLeadingChar, AnnotationKeyChar, AnnotationKeyValueSeparator, AnnotationValueChar}
+use Rattle.ixdtf.specs.table.Faults.Fault.{AnnotationValueCharPostHyphen}
 use Rattle.ixdtf.specs.table.LineNames.{LineName}
 use Rattle.ixdtf.specs.table.LineNames.LineName.{of_pair}
 use Rattle.ixdtf.specs.table.LineNames.PairLine.{key_start, critical_key_start, in_key, value_start, in_value, after_value_hyphen}
-use Rattle.ixdtf_tests.proofs.Helpers.{all_readings, zone_named, tagged, annotated, Example, Compute, gives, ends, goes_off, meets_bad, three, three_after, ShowEachRow}
+use Rattle.ixdtf_tests.proofs.Helpers.{all_readings, zone_named, tagged, annotated, Example, Compute, gives, ends, goes_off, meets_bad, three, three_after}
+use Rattle.ixdtf_tests.proofs.Helpers.{ShowEachRow}
 
 abbrev pair_lines : List LineName
 pair_lines = map of_pair (key_start ∷ critical_key_start ∷ in_key ∷ value_start ∷ in_value ∷ after_value_hyphen ∷ [])

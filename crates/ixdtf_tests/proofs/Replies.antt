@@ -1,9 +1,11 @@
 -- From the outcome of a text and a test of replies to what the text and the replies give.
-use Rattle.std.proofs.Common.{◌≡◌, ◌≢◌, ◌⊎◌, ℕ, nat_eq, Bool, true, false, not, ◌&&◌, ◌||◌, IsTrue, List, [], ◌∷◌, ◌++◌, Option, Some, None, refl, sym, ◌∙◌, ap, subst, inl, inr, append_assoc, append-nil, Ok, Err}
+use Rattle.std.proofs.Common.{◌≡◌, ◌≢◌, ◌⊎◌, ℕ, nat_eq, Bool, true, false, not, ◌&&◌, ◌||◌, IsTrue, List, [], ◌∷◌, ◌++◌, Option, Some, None, refl, sym, ◌∙◌, ap}
+use Rattle.std.proofs.Common.{subst, inl, inr, append_assoc, append-nil, Ok, Err}
 use Rattle.std.specs.Cmp.Lexicographic.{pointwise, same_text}
 use Rattle.std.proofs.lemmas.Cmp.{nat_list_eq_equiv}
 use Rattle.std.proofs.lemmas.Bool.{and_parts, false_from_ne_true}
-use Rattle.ixdtf.specs.Handlers.{Reply, calendar_key, is_calendar, first_calendar, RefusedBeside, NoneRefused, LastRefused, calendar_value, with_calendar, GivesRecord, GivesFault, own_replies, PlainRecord}
+use Rattle.ixdtf.specs.Handlers.{Reply, calendar_key, is_calendar, first_calendar, RefusedBeside, NoneRefused, LastRefused, calendar_value, with_calendar}
+use Rattle.ixdtf.specs.Handlers.{GivesRecord, GivesFault, own_replies, UnhandledRecord}
 use Rattle.ixdtf.specs.language.Letters.{Text}
 use Rattle.ixdtf.specs.language.Brackets.{Pair}
 use Rattle.ixdtf.specs.language.Readers.{Reader, parse}
@@ -95,7 +97,8 @@ holds reader text x e = subst (Holds reader text) e (go (read_at row_behind read
     go (Err stop) h = rw h.2 h.3
 
 -- A text that is derived with these pairs, and replies that are accepted, give the record with the first calendar.
-pub gives : (units : List ℕ) (read : Parsed) (pairs : List Pair) (replies : List Reply) → parsing units ≡ derived (parsed read) pairs → accepted [] replies ≡ true
+pub gives : (units : List ℕ) (read : Parsed) (pairs : List Pair) (replies : List Reply) → parsing units ≡ derived (parsed read) pairs
+    → accepted [] replies ≡ true
     → GivesRecord parse (text_of units) pairs replies (with_calendar read (calendar_value (first_calendar replies)))
 gives units read pairs replies is none =
     record { read = read; whole = holds parse (text_of units) (derived (parsed read) pairs) is; accepted = all_accepted replies none; has = refl }
@@ -115,6 +118,7 @@ refuses front rest read pairs earlier reply fault is none is_refused = inl (
 )
 
 -- The pairs reply for themselves.
-pub plain_record : (units : List ℕ) (read : Parsed) (pairs : List Pair) → parsing units ≡ derived (parsed read) pairs → accepted [] (own_replies pairs) ≡ true
-    → PlainRecord parse (text_of units) (with_calendar read (calendar_value (first_calendar (own_replies pairs))))
-plain_record units read pairs is none = (pairs, gives units read pairs (own_replies pairs) is none)
+pub unhandled_record : (units : List ℕ) (read : Parsed) (pairs : List Pair) → parsing units ≡ derived (parsed read) pairs
+    → accepted [] (own_replies pairs) ≡ true
+    → UnhandledRecord parse (text_of units) (with_calendar read (calendar_value (first_calendar (own_replies pairs))))
+unhandled_record units read pairs is none = (pairs, gives units read pairs (own_replies pairs) is none)

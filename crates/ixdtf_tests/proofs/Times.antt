@@ -5,12 +5,14 @@ use Rattle.ixdtf.specs.language.Readers.{parse}
 use Rattle.ixdtf.specs.table.Faults.Fault.{InvalidEnd, TimeHour, TimeMinuteSecond, TimeSecond, TimeSeparator, FractionPart}
 use Rattle.ixdtf.specs.table.LineNames.{ClockLine, LineName}
 use Rattle.ixdtf.specs.table.LineNames.LineName.{of_clock}
-use Rattle.ixdtf.specs.table.LineNames.ClockLine.{hour_start, hour_digit, hour_range, after_hour, minute_digits, minute_range, after_plain_minute, after_colon_minute, second_digits, second_range, after_second, fraction_start, after_fraction}
+use Rattle.ixdtf.specs.table.LineNames.ClockLine.{hour_start, hour_digit, hour_range, after_hour, minute_digits, minute_range, after_basic_minute}
+use Rattle.ixdtf.specs.table.LineNames.ClockLine.{after_colon_minute, second_digits, second_range, after_second, fraction_start, after_fraction}
 use Rattle.ixdtf.specs.table.Rows.Place.{anywhere}
 use Rattle.ixdtf.specs.table.Lines.{abrupt_digit}
 use Rattle.ixdtf.specs.reading.Dates.{date_of}
 use Rattle.ixdtf.specs.reading.Times.{time_of}
-use Rattle.ixdtf_tests.proofs.Helpers.{all_readings, and_bad, new_year, with, Example, Compute, gives, ends, goes_off, meets_bad, stands, stops, one, two, three, ShowEachRow}
+use Rattle.ixdtf_tests.proofs.Helpers.{all_readings, and_bad, new_year, with, Example, Compute, gives, ends, goes_off, meets_bad, stands, stops, one, two}
+use Rattle.ixdtf_tests.proofs.Helpers.{three, ShowEachRow}
 
 abbrev pub of_clock_time : ClockLine → LineName
 of_clock_time line = of_clock Time line
@@ -18,7 +20,7 @@ of_clock_time line = of_clock Time line
 -- the lines of hours and minutes, and all lines of a clock
 abbrev pub minute_lines : List ClockLine
 minute_lines =
-    hour_start ∷ hour_digit ∷ hour_range ∷ after_hour ∷ minute_digits ∷ minute_range ∷ after_plain_minute ∷ after_colon_minute ∷ []
+    hour_start ∷ hour_digit ∷ hour_range ∷ after_hour ∷ minute_digits ∷ minute_range ∷ after_basic_minute ∷ after_colon_minute ∷ []
 
 abbrev pub clock_lines : List ClockLine
 clock_lines = minute_lines ++ second_digits ∷ second_range ∷ after_second ∷ fraction_start ∷ after_fraction ∷ []
@@ -41,7 +43,7 @@ time_rows before =
     ++ two (of_clock_time after_hour) (before ++ codes "12") (codes "x") InvalidEnd
     ++ three (of_clock_time minute_digits) (before ++ codes "12:") abrupt_digit (codes "x") TimeMinuteSecond
     ++ one (of_clock_time minute_range) (before ++ codes "12:60") TimeMinuteSecond
-    ++ two (of_clock_time after_plain_minute) (before ++ codes "1230") (codes "x") InvalidEnd
+    ++ two (of_clock_time after_basic_minute) (before ++ codes "1230") (codes "x") InvalidEnd
     ++ two (of_clock_time after_colon_minute) (before ++ codes "12:30") (codes "x") InvalidEnd
     ++ three (of_clock_time second_digits) (before ++ codes "12:30:") abrupt_digit (codes "x") TimeSecond
     ++ one (of_clock_time second_range) (before ++ codes "00:00:61") TimeSecond
@@ -96,7 +98,7 @@ no_time = refl
 
 -- a colon or a digit that does not go on
 mixed_times : Compute parse (
-    goes_off (codes "2022-06-05 0434:22.000") (of_clock_time after_plain_minute) TimeSeparator
+    goes_off (codes "2022-06-05 0434:22.000") (of_clock_time after_basic_minute) TimeSeparator
     ∷ goes_off (at (codes "01:001")) (of_clock_time after_colon_minute) TimeSeparator
     ∷ goes_off (at (codes "01:0000")) (of_clock_time after_colon_minute) TimeSeparator
     ∷ [])

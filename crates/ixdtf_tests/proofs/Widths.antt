@@ -1,5 +1,7 @@
 -- Texts in 16-bit units and in 8-bit units, computed: the letters of units, and what the texts give.
 use Rattle.std.proofs.Common.{◌≡◌, ℕ, List, [], ◌∷◌, ◌++◌, map, codes, false, None, pos, refl}
+use Rattle.ixdtf.specs.declared.parsers.profile.Profile.{Profile}
+use Rattle.ixdtf.specs.declared.parsers.profile.Profile.TheVariants.{Crate, Strict}
 use Rattle.ixdtf.specs.language.Letters.{Text, byte_letter, wide_letter}
 use Rattle.ixdtf.specs.language.Letters.Letter.{Plain, Bad}
 use Rattle.ixdtf.specs.language.Readers.{parse}
@@ -52,10 +54,11 @@ wide_names : Compute parse_iana_identifier ((wide (codes "UTC" ++ 233 ∷ []), s
 unfolding all_readings
 wide_names = refl
 
-wide_durations : Compute parse_duration (
-    (wide (codes "P1Y" ++ 128 ∷ []), stops (of_duration after_date_groups) bad NonAsciiCodePoint)
-    ∷ (wide (codes "PT1.5H" ++ 128 ∷ []), stops (of_duration after_fraction_group) bad NonAsciiCodePoint)
-    ∷ (wide (codes "PT99999999999999999999" ++ 128 ∷ []), stops (of_duration (group_value_range time)) anywhere DurationValueExceededRange)
+wide_durations : (profile : Profile) → Compute (parse_duration profile) (
+    (wide (codes "P1Y" ++ 128 ∷ []), stops (of_duration profile after_date_groups) bad NonAsciiCodePoint)
+    ∷ (wide (codes "PT1.5H" ++ 128 ∷ []), stops (of_duration profile after_fraction_group) bad NonAsciiCodePoint)
+    ∷ (wide (codes "PT99999999999999999999" ++ 128 ∷ []), stops (of_duration profile (group_value_range time)) anywhere DurationValueExceededRange)
     ∷ [])
 unfolding all_readings
-wide_durations = refl
+wide_durations Crate = refl
+wide_durations Strict = refl

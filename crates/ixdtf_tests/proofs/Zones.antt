@@ -9,7 +9,8 @@ use Rattle.ixdtf.specs.table.LineNames.LineName.{of_zone}
 use Rattle.ixdtf.specs.table.LineNames.ZoneLine.{identifier_start, zone_name_start, in_zone_name, after_zone_slash}
 use Rattle.ixdtf.specs.table.Lines.{abrupt_zone}
 use Rattle.ixdtf.specs.table.Outcomes.Outcome.{derived}
-use Rattle.ixdtf_tests.proofs.Helpers.{all_readings, new_years_day, with, zone_named, Example, Compute, gives, ends, goes_off, meets_bad, two, three, ShowEachRow}
+use Rattle.ixdtf_tests.proofs.Helpers.{all_readings, new_years_day, with, zone_named, Example, Compute, gives, ends, goes_off, meets_bad, two, three}
+use Rattle.ixdtf_tests.proofs.Helpers.{ShowEachRow}
 
 -- ---- each row in `parse_identifier`
 

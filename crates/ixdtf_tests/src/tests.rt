@@ -1,5 +1,6 @@
 //! Texts of the readers, with the records and errors that they give.
 
+mod again;
 mod brackets;
 mod calling;
 mod dates;
@@ -15,6 +16,8 @@ mod lone_times;
 mod months;
 mod odd;
 mod offsets;
+mod printing;
+mod profiles;
 mod records;
 mod refused;
 mod replies;
@@ -22,7 +25,6 @@ mod replies_in_parts;
 mod surface;
 mod times;
 mod wide;
-mod wide_parts;
 mod wide_refused;
 mod widths;
 mod zones;
@@ -36,6 +38,7 @@ use ixdtf::records::{
     MinutePrecisionOffset, Sign, TimeRecord, TimeZoneAnnotation, TimeZoneRecord, UtcOffsetRecord,
     UtcOffsetRecordOrZ,
 };
+use printing::check_read_back;
 use std::process::Abort;
 
 const AT_DIGIT: ParseError = AbruptEnd { location: "digit" };
@@ -171,11 +174,33 @@ fn timed(hour: u8, minute: u8, second: u8, fraction: Option<Fraction>) -> Option
     })
 }
 
-/// The fraction of the second of an offset, such as `+00:00:00.25`.
+/// The fraction of the second of an offset, such as `+00:00:00.25`, for the calls of a fraction.
 fn fraction_of(text: &str) -> Option<Fraction> {
     match TimeZoneParser::from_str(text).parse_offset() {
         Ok(offset) => offset.fraction(),
         Err(_) => None,
+    }
+}
+
+/// The fraction that a text has been read to has these nanoseconds, and digits after them where it is cut.
+fn check_fraction(
+    rt: &impl Abort,
+    text: &str,
+    fraction: &Option<Fraction>,
+    nanoseconds: u32,
+    is_cut: bool,
+) {
+    let exact = if is_cut { None } else { Some(nanoseconds) };
+    match fraction {
+        Some(fraction) => {
+            assert_eq!(rt; fraction.to_nanoseconds(), exact, "at {text}");
+            assert_eq!(rt;
+                fraction.to_truncated_nanoseconds(),
+                nanoseconds,
+                "at {text}"
+            );
+        }
+        None => assert!(rt; false, "at {text}"),
     }
 }
 
@@ -297,6 +322,14 @@ impl<'a, T: EncodingType> Parsers<'a, T> {
             Err(error) => Err(error),
         }
     }
+
+    // The error of a reader, where it refuses.
+    fn refusal(&mut self, reader: Reader) -> Option<ParseError> {
+        match self.read(reader) {
+            Ok(_found) => None,
+            Err(error) => Some(error),
+        }
+    }
 }
 
 /// One reader after the other gives this, with the same parsers.
@@ -312,6 +345,15 @@ fn check_in_turn(
     }
 }
 
+/// The reader refuses the text with this error, and once more in the same way.
+fn check_kept(rt: &impl Abort, reader: Reader, text: &'static str, error: ParseError) {
+    let mut parsers = Parsers::from_str(text);
+    for _ in 0..2 {
+        let found = parsers.refusal(reader);
+        assert_eq!(rt; found, Some(error), "{reader:?} at {text}");
+    }
+}
+
 /// The reader gives this for the text.
 fn check_found(
     rt: &impl Abort,
@@ -323,16 +365,21 @@ fn check_found(
     assert!(rt; found == *wanted, "{reader:?} at {text}");
 }
 
-/// `IxdtfParser::parse` gives this for the text.
+/// `IxdtfParser::parse` gives this for the text, and what it reads is printed and read back.
 fn check_parsed(rt: &impl Abort, text: &'static str, wanted: &ParserResult<Record>) {
     let found = IxdtfParser::from_str(text).parse();
     assert!(rt; found == *wanted, "at {text}");
+    if let Ok(parsed) = found {
+        check_read_back(rt, &parsed);
+    }
 }
 
-/// The reader refuses each text with the error beside it.
-fn check_refused(rt: &impl Abort, reader: Reader, rows: &[(&'static str, ParseError)]) {
-    for (text, error) in rows {
-        let found = Parsers::from_str(text).read(reader);
-        assert_eq!(rt; found, Err(*error), "{reader:?} at {text}");
+/// The reader refuses the texts beside each error with it.
+fn check_refused(rt: &impl Abort, reader: Reader, rows: &[(ParseError, &[&'static str])]) {
+    for (error, texts) in rows {
+        for text in *texts {
+            let found = Parsers::from_str(text).refusal(reader);
+            assert_eq!(rt; found, Some(*error), "{reader:?} at {text}");
+        }
     }
 }

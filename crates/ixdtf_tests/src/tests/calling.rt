@@ -1,11 +1,100 @@
 //! Calls of each reader, as the README and `docs/CALLING.md` show them.
 
+ghost use Rattle.std.specs.Prelude.{map, IfSome};
+ghost use Rattle.ixdtf.specs.Laws.{InLanguage};
+ghost use Rattle.ixdtf.specs.language.Letters.{byte_letter};
+ghost use Rattle.ixdtf.specs.language.Readers.{parse as reader_parse};
+
 use ixdtf::ParseError::{self, AbruptEnd, InvalidDayRange, InvalidMonthRange};
 use ixdtf::ParserResult;
-use ixdtf::encoding::Utf8;
+use ixdtf::encoding::{Utf8, Utf16};
 use ixdtf::parsers::{IsoDurationParser, IxdtfParser, TimeZoneParser};
-use ixdtf::records::{Annotation, Sign, TimeZoneRecord};
+use ixdtf::records::{Annotation, Sign, TimeDurationRecord, TimeZoneRecord, UtcOffsetRecordOrZ};
 use std::test::Fail;
+
+// ==== A text taken apart ====
+
+/// A date, a time and an offset, with a zone where the text names one.
+#[derive(Clone, Copy, Debug, PartialEq)]
+struct Moment<'a> {
+    /// The year, the month and the day.
+    date: (i32, u8, u8),
+    /// The hour, the minute and the second.
+    time: (u8, u8, u8),
+    /// The nanoseconds beyond the second.
+    nanoseconds: u32,
+    /// How many minutes local time is ahead of UTC; `None` for `Z`, which says nothing of local time.
+    ahead: Option<i32>,
+    /// The name of the time zone.
+    zone: Option<&'a str>,
+}
+
+// The parts of a text that has a date, a time and an offset or `Z`, and `None` for any other text.
+fn moment_of<'a>(text: &'a str) -> Option<Moment<'a>> {
+    let mut parser = IxdtfParser::from_str(text);
+    let Ok(record) = parser.parse() else {
+        return None;
+    };
+    let (date, time, offset) = (record.date?, record.time?, record.offset?);
+    let nanoseconds = match time.fraction {
+        Some(fraction) => fraction.to_truncated_nanoseconds(),
+        None => 0,
+    };
+    let ahead = match offset {
+        UtcOffsetRecordOrZ::Z => None,
+        UtcOffsetRecordOrZ::Offset(offset) => {
+            let minutes = i32::from(offset.hour()) * 60 + i32::from(offset.minute());
+            match offset.sign() {
+                Sign::Positive => Some(minutes),
+                Sign::Negative => Some(-minutes),
+            }
+        }
+    };
+    let zone = match record.tz {
+        Some(zone) => match zone.tz {
+            TimeZoneRecord::Name(name) => std::str::from_utf8(name).ok(),
+            TimeZoneRecord::Offset(_) => None,
+        },
+        None => None,
+    };
+    Some(Moment {
+        date: (date.year, date.month, date.day),
+        time: (time.hour, time.minute, time.second),
+        nanoseconds,
+        ahead,
+        zone,
+    })
+}
+
+#[test]
+fn takes_a_text_apart(rt: HostRuntime) {
+    let moment = Moment {
+        date: (2024, 3, 2),
+        time: (8, 48, 0),
+        nanoseconds: 250_000_000,
+        ahead: Some(-300),
+        zone: Some("America/New_York"),
+    };
+    assert_eq!(rt;
+        moment_of("2024-03-02T08:48:00.25-05:00[America/New_York]"),
+        Some(moment)
+    );
+    let at_utc = Moment {
+        nanoseconds: 0,
+        ahead: Some(0),
+        zone: None,
+        ..moment
+    };
+    assert_eq!(rt; moment_of("2024-03-02T08:48:00+00:00"), Some(at_utc));
+    let unknown = Moment {
+        ahead: None,
+        ..at_utc
+    };
+    assert_eq!(rt; moment_of("2024-03-02T08:48:00Z"), Some(unknown));
+    assert_eq!(rt; moment_of("2024-03-02T08:48:00Z[+05:30]"), Some(unknown));
+    assert_eq!(rt; moment_of("2024-03-02T08:48:00"), None);
+    assert_eq!(rt; moment_of("2024-03-02T08:48:00+00:0"), None);
+}
 
 // ==== One call of each reader ====
 
@@ -69,6 +158,15 @@ fn name_of<'a>(text: &'a str) -> ParserResult<&'a [u8]> {
     parser.parse_iana_identifier()
 }
 
+// The calendar of a text, by its name.
+fn calendar_of<'a>(text: &'a str) -> Option<&'a str> {
+    let mut parser = IxdtfParser::from_str(text);
+    let Ok(record) = parser.parse() else {
+        return None;
+    };
+    std::str::from_utf8(record.calendar?).ok()
+}
+
 // The sign, the weeks and the days of a duration such as `-P2W3D`.
 fn days_of(text: &str) -> ParserResult<Option<(Sign, u32, u64)>> {
     let mut parser = IsoDurationParser::from_str(text);
@@ -79,6 +177,58 @@ fn days_of(text: &str) -> ParserResult<Option<(Sign, u32, u64)>> {
         }
         Err(error) => Err(error),
     }
+}
+
+// The sign of a duration without a date, such as `-PT1H30.5M`, and its whole seconds. A fraction is a part of the last unit.
+fn seconds_of(text: &str) -> Option<(Sign, u128)> {
+    let mut parser = IsoDurationParser::from_str(text);
+    let Ok(duration) = parser.parse() else {
+        return None;
+    };
+    if duration.date.is_some() {
+        return None;
+    }
+    let (hours, minutes, seconds, fraction, unit) = match duration.time? {
+        TimeDurationRecord::Hours { hours, fraction } => (hours, 0, 0, fraction, 3600u64),
+        TimeDurationRecord::Minutes {
+            hours,
+            minutes,
+            fraction,
+        } => (hours, minutes, 0, fraction, 60),
+        TimeDurationRecord::Seconds {
+            hours,
+            minutes,
+            seconds,
+            fraction,
+        } => (hours, minutes, seconds, fraction, 1),
+    };
+    let billionths = match fraction {
+        Some(fraction) => u64::from(fraction.to_truncated_nanoseconds()),
+        None => 0,
+    };
+    let part = billionths * unit / 1_000_000_000;
+    let whole = u128::from(hours) * 3600 + u128::from(minutes) * 60 + u128::from(seconds);
+    Some((duration.sign, whole + u128::from(part)))
+}
+
+// The year of a date in 16-bit units.
+fn year_of_units(units: &[u16]) -> Option<i32> {
+    let mut parser = IxdtfParser::from_utf16(units);
+    let Ok(record) = parser.parse() else {
+        return None;
+    };
+    let date = record.date?;
+    Some(date.year)
+}
+
+// The weeks of a duration in 16-bit units.
+fn weeks_of_units(units: &[u16]) -> Option<u32> {
+    let mut parser = IsoDurationParser::<Utf16>::from_utf8(units);
+    let Ok(duration) = parser.parse() else {
+        return None;
+    };
+    let date = duration.date?;
+    Some(date.weeks)
 }
 
 #[test]
@@ -94,7 +244,31 @@ fn calls_each_reader(rt: HostRuntime) -> Result<(), Fail> {
     assert_eq!(rt; name_of("Europe/Berlin")?, b"Europe/Berlin".as_slice());
     assert_eq!(rt; days_of("-P2W3DT4H")?, Some((Sign::Negative, 2, 3)));
     assert_eq!(rt; days_of("PT4H")?, None);
+    assert_eq!(rt; calendar_of("2024-03-02[UTC][u-ca=hebrew]"), Some("hebrew"));
+    assert_eq!(rt; calendar_of("2024-03-02[UTC]"), None);
     Ok(())
+}
+
+#[test]
+fn counts_seconds(rt: HostRuntime) {
+    assert_eq!(rt; seconds_of("-PT1H30.5M"), Some((Sign::Negative, 5430)));
+    assert_eq!(rt; seconds_of("PT0,25H"), Some((Sign::Positive, 900)));
+    assert_eq!(rt; seconds_of("PT1M2.999S"), Some((Sign::Positive, 62)));
+    assert_eq!(rt; seconds_of("P1DT1H"), None);
+    assert_eq!(rt; seconds_of("P1D"), None);
+    assert_eq!(rt; seconds_of("1H"), None);
+}
+
+#[test]
+fn reads_wide_units(rt: HostRuntime) {
+    // `2024-03-02`, and the same with a unit that stands for no letter behind it
+    let date: [u16; 11] = [50, 48, 50, 52, 45, 48, 51, 45, 48, 50, 0x263A];
+    assert_eq!(rt; year_of_units(&date[..10]), Some(2024));
+    assert_eq!(rt; year_of_units(&date), None);
+    // `P2W`
+    let duration: [u16; 3] = [80, 50, 87];
+    assert_eq!(rt; weeks_of_units(&duration), Some(2));
+    assert_eq!(rt; weeks_of_units(&duration[..2]), None);
 }
 
 // ==== Errors ====
@@ -157,11 +331,68 @@ fn reads_with_notes(text: &str) -> bool {
     read.is_ok()
 }
 
+/// How many annotations there are, and how many of them are critical.
+#[derive(Clone, Copy, Debug, PartialEq)]
+struct Counts {
+    all: u32,
+    critical: u32,
+}
+
+impl Counts {
+    fn note(&mut self, critical: bool) {
+        self.all = self.all.saturating_add(1);
+        if critical {
+            self.critical = self.critical.saturating_add(1);
+        }
+    }
+}
+
+// How many annotations a text has, in a struct that a method of it fills.
+fn counts_of(text: &str) -> ParserResult<Counts> {
+    let mut counts = Counts {
+        all: 0,
+        critical: 0,
+    };
+    let mut parser = IxdtfParser::from_str(text);
+    let read = parser.parse_with_annotation_handler(|annotation| {
+        counts.note(annotation.critical);
+        None
+    });
+    match read {
+        Ok(_record) => Ok(counts),
+        Err(error) => Err(error),
+    }
+}
+
 #[test]
 fn hands_annotations_out(rt: HostRuntime) -> Result<(), Fail> {
-    assert_eq!(rt; count_annotations("2024-03-02[u-ca=hebrew][!a=b]")?, 2);
+    let text = "2024-03-02[u-ca=hebrew][!a=b]";
+    assert_eq!(rt; count_annotations(text)?, 2);
     assert!(rt; reads_with_notes("2024-03-02[!x-note=draft][u-ca=hebrew]"));
     assert!(rt; !reads_with_notes("2024-03-02[!x-text=draft]"));
+    let counts = Counts {
+        all: 2,
+        critical: 1,
+    };
+    assert_eq!(rt; counts_of(text)?, counts);
+    assert_eq!(rt; count_critical(text)?, (2, 1));
+    Ok(())
+}
+
+#[test]
+fn keeps_an_annotation(rt: HostRuntime) -> Result<(), Fail> {
+    let text = "2024-03-02T08:48:00-05:00[u-ca=iso8601][!answer-to-universe=fortytwo]";
+    let answer = Annotation {
+        critical: true,
+        key: b"answer-to-universe".as_slice(),
+        value: b"fortytwo".as_slice(),
+    };
+    assert_eq!(rt; answer_in(text)?, Some(answer));
+    assert_eq!(rt; answer_in("2024-03-02[u-ca=iso8601]")?, None);
+    assert_eq!(rt;
+        answer_in("2024-03-02[!a=b]"),
+        Err(ParseError::UnrecognizedCritical)
+    );
     Ok(())
 }
 
@@ -193,6 +424,40 @@ where
     match parser.parse_with_annotation_handler(handler) {
         Ok(record) => Ok(record.calendar),
         Err(error) => Err(E::from(error)),
+    }
+}
+
+// The annotation `answer-to-universe` of a text, which the text may mark as critical. Every other annotation is handed back.
+fn answer_in<'a>(text: &'a str) -> ParserResult<Option<Annotation<'a, Utf8>>> {
+    let mut answer = None;
+    let read = calendar_or::<ParseError, _>(text, |annotation| {
+        if annotation.key == b"answer-to-universe".as_slice() {
+            answer.get_or_insert(annotation);
+            None
+        } else {
+            Some(annotation)
+        }
+    });
+    match read {
+        Ok(_calendar) => Ok(answer),
+        Err(error) => Err(error),
+    }
+}
+
+// How many annotations a text has, and how many of them are critical.
+fn count_critical(text: &str) -> ParserResult<(u32, u32)> {
+    let mut all = 0u32;
+    let mut critical = 0u32;
+    let read = calendar_or::<ParseError, _>(text, |annotation| {
+        all = all.saturating_add(1);
+        if annotation.critical {
+            critical = critical.saturating_add(1);
+        }
+        None
+    });
+    match read {
+        Ok(_calendar) => Ok((all, critical)),
+        Err(error) => Err(error),
     }
 }
 
@@ -235,4 +500,25 @@ fn forwards_handlers(rt: HostRuntime) {
         Some(hebrew)
     );
     assert_eq!(rt; has_calendar(text, |_annotation| None), Ok(false));
+}
+
+// ==== A caller's clause ====
+
+// The year of a date. `Some` only where the text is in the language of `parse`.
+fn year_of(text: &str) -> Option<i32>
+    ensures { IfSome result (λ year. InLanguage reader_parse (map byte_letter text.now)) }
+{
+    match IxdtfParser::from_str(text).parse() {
+        Ok(record) => match record.date {
+            Some(date) => Some(date.year),
+            None => None,
+        },
+        Err(_) => None,
+    }
+}
+
+#[test]
+fn names_the_year(rt: HostRuntime) {
+    assert_eq!(rt; year_of("-000400-02-29"), Some(-400));
+    assert_eq!(rt; year_of("-000100-02-29"), None);
 }

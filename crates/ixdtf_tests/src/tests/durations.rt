@@ -1,7 +1,6 @@
-use super::wide::{Wide, check_wide_found};
-use super::{AT_START, Found, Reader, check_found, check_in_turn, fraction_of};
+use super::{Found, Reader, check_found, check_fraction, check_kept};
 use ixdtf::ParseError;
-use ixdtf::encoding::{Utf8, Utf16};
+use ixdtf::encoding::Utf8;
 use ixdtf::parsers::IsoDurationParser;
 use ixdtf::records::{DateDurationRecord, DurationParseRecord, Fraction, Sign, TimeDurationRecord};
 use std::process::Abort;
@@ -49,163 +48,352 @@ fn seconds(
     })
 }
 
-fn check_lasts(
-    rt: &impl Abort,
-    text: &'static str,
-    sign: Sign,
-    date: Option<DateDurationRecord>,
-    time: Option<TimeDurationRecord>,
-) {
-    let wanted = Found::Duration(lasts(sign, date, time));
-    check_found(rt, Reader::Duration, text, &Ok(wanted));
+/// The unit of the last group of a time.
+#[derive(Clone, Copy)]
+enum Unit {
+    Hours,
+    Minutes,
+    Seconds,
+}
+
+// A time up to its last unit. What is shorter stands for nothing there.
+fn up_to(
+    last: Unit,
+    time: (u64, u64, u64),
+    fraction: Option<Fraction>,
+) -> Option<TimeDurationRecord> {
+    match last {
+        Unit::Hours => hours(time.0, fraction),
+        Unit::Minutes => minutes(time.0, time.1, fraction),
+        Unit::Seconds => seconds(time.0, time.1, time.2, fraction),
+    }
 }
 
 // ==== Texts ====
 
+/// A duration of years, months, weeks and days.
+struct Dates {
+    text: &'static str,
+    sign: Sign,
+    date: (u32, u32, u32, u64),
+}
+
+fn check_dates(rt: &impl Abort, rows: &[Dates]) {
+    for row in rows {
+        let (years, months, weeks, days) = row.date;
+        let wanted = lasts(row.sign, dated(years, months, weeks, days), None);
+        check_found(rt, Reader::Duration, row.text, &Ok(Found::Duration(wanted)));
+    }
+}
+
 #[test]
 fn reads_dates_of_durations(rt: HostRuntime) {
-    let rows = [
-        ("P1Y", Sign::Positive, dated(1, 0, 0, 0)),
-        ("+P1M", Sign::Positive, dated(0, 1, 0, 0)),
-        ("-p1w", Sign::Negative, dated(0, 0, 1, 0)),
-        ("P1y2m3W4d", Sign::Positive, dated(1, 2, 3, 4)),
-        ("P0D", Sign::Positive, dated(0, 0, 0, 0)),
-        ("P1Y2Y", Sign::Positive, dated(2, 0, 0, 0)),
-        ("P1Y1D0D", Sign::Positive, dated(1, 0, 0, 0)),
-        (
-            "P4294967295W",
-            Sign::Positive,
-            dated(0, 0, 4_294_967_295, 0),
-        ),
-        (
-            "P4294967295Y4294967295M",
-            Sign::Positive,
-            dated(4_294_967_295, 4_294_967_295, 0, 0),
-        ),
-        (
-            "P18446744073709551615D",
-            Sign::Positive,
-            dated(0, 0, 0, 18_446_744_073_709_551_615),
-        ),
-        (
-            "P000000000000000000000000001D",
-            Sign::Positive,
-            dated(0, 0, 0, 1),
-        ),
-    ];
-    for (text, sign, date) in rows {
-        check_lasts(&rt, text, sign, date, None);
+    check_dates(
+        &rt,
+        &[
+            Dates {
+                text: "P1Y",
+                sign: Sign::Positive,
+                date: (1, 0, 0, 0),
+            },
+            Dates {
+                text: "+P1M",
+                sign: Sign::Positive,
+                date: (0, 1, 0, 0),
+            },
+            Dates {
+                text: "-p1w",
+                sign: Sign::Negative,
+                date: (0, 0, 1, 0),
+            },
+            Dates {
+                text: "P1y2m3W4d",
+                sign: Sign::Positive,
+                date: (1, 2, 3, 4),
+            },
+            Dates {
+                text: "P0D",
+                sign: Sign::Positive,
+                date: (0, 0, 0, 0),
+            },
+            Dates {
+                text: "P1Y2Y",
+                sign: Sign::Positive,
+                date: (2, 0, 0, 0),
+            },
+            Dates {
+                text: "P1Y1D0D",
+                sign: Sign::Positive,
+                date: (1, 0, 0, 0),
+            },
+            Dates {
+                text: "P4294967295W",
+                sign: Sign::Positive,
+                date: (0, 0, 4_294_967_295, 0),
+            },
+            Dates {
+                text: "P4294967295Y4294967295M",
+                sign: Sign::Positive,
+                date: (4_294_967_295, 4_294_967_295, 0, 0),
+            },
+            Dates {
+                text: "P18446744073709551615D",
+                sign: Sign::Positive,
+                date: (0, 0, 0, 18_446_744_073_709_551_615),
+            },
+            Dates {
+                text: "P000000000000000000000000001D",
+                sign: Sign::Positive,
+                date: (0, 0, 0, 1),
+            },
+        ],
+    );
+}
+
+/// A duration of hours, minutes and seconds, up to its last unit.
+struct Times {
+    text: &'static str,
+    last: Unit,
+    time: (u64, u64, u64),
+}
+
+fn check_times(rt: &impl Abort, rows: &[Times]) {
+    for row in rows {
+        let wanted = lasts(Sign::Positive, None, up_to(row.last, row.time, None));
+        check_found(rt, Reader::Duration, row.text, &Ok(Found::Duration(wanted)));
     }
 }
 
 #[test]
 fn reads_times_of_durations(rt: HostRuntime) {
-    let rows = [
-        ("PT5H", hours(5, None)),
-        ("PT5M", minutes(0, 5, None)),
-        ("PT5S", seconds(0, 0, 5, None)),
-        ("Pt1h2m3s", seconds(1, 2, 3, None)),
-        ("PT1H2M", minutes(1, 2, None)),
-        ("PT1H3S", seconds(1, 0, 3, None)),
-        ("PT1H2H", hours(2, None)),
-        ("PT1M2M3M", minutes(0, 3, None)),
-        (
-            "PT90071992547409910S",
-            seconds(0, 0, 90_071_992_547_409_910, None),
-        ),
-        (
-            "PT18446744073709551615H18446744073709551615M18446744073709551615S",
-            seconds(
-                18_446_744_073_709_551_615,
-                18_446_744_073_709_551_615,
-                18_446_744_073_709_551_615,
-                None,
-            ),
-        ),
-    ];
-    for (text, time) in rows {
-        check_lasts(&rt, text, Sign::Positive, None, time);
+    check_times(
+        &rt,
+        &[
+            Times {
+                text: "PT5H",
+                last: Unit::Hours,
+                time: (5, 0, 0),
+            },
+            Times {
+                text: "PT5M",
+                last: Unit::Minutes,
+                time: (0, 5, 0),
+            },
+            Times {
+                text: "PT5S",
+                last: Unit::Seconds,
+                time: (0, 0, 5),
+            },
+            Times {
+                text: "Pt1h2m3s",
+                last: Unit::Seconds,
+                time: (1, 2, 3),
+            },
+            Times {
+                text: "PT1H2M",
+                last: Unit::Minutes,
+                time: (1, 2, 0),
+            },
+            Times {
+                text: "PT1H3S",
+                last: Unit::Seconds,
+                time: (1, 0, 3),
+            },
+            Times {
+                text: "PT1H2H",
+                last: Unit::Hours,
+                time: (2, 0, 0),
+            },
+            Times {
+                text: "PT1M2M3M",
+                last: Unit::Minutes,
+                time: (0, 3, 0),
+            },
+            Times {
+                text: "PT90071992547409910S",
+                last: Unit::Seconds,
+                time: (0, 0, 90_071_992_547_409_910),
+            },
+            Times {
+                text: "PT18446744073709551615H18446744073709551615M18446744073709551615S",
+                last: Unit::Seconds,
+                time: (
+                    18_446_744_073_709_551_615,
+                    18_446_744_073_709_551_615,
+                    18_446_744_073_709_551_615,
+                ),
+            },
+        ],
+    );
+}
+
+/// A duration whose last number has a fraction.
+struct Fractional {
+    text: &'static str,
+    sign: Sign,
+    date: Option<(u32, u32, u32, u64)>,
+    last: Unit,
+    time: (u64, u64, u64),
+    /// Those of the first nine digits.
+    nanoseconds: u32,
+    /// Whether the fraction has more digits.
+    is_cut: bool,
+}
+
+// The fraction of a duration, behind its last number.
+fn fraction_of_duration(text: &'static str) -> Option<Fraction> {
+    match IsoDurationParser::from_str(text).parse() {
+        Ok(duration) => match duration.time? {
+            TimeDurationRecord::Hours { fraction, .. } => fraction,
+            TimeDurationRecord::Minutes { fraction, .. } => fraction,
+            TimeDurationRecord::Seconds { fraction, .. } => fraction,
+        },
+        Err(_) => None,
+    }
+}
+
+fn check_fractional(rt: &impl Abort, row: &Fractional) {
+    let fraction = fraction_of_duration(row.text);
+    check_fraction(rt, row.text, &fraction, row.nanoseconds, row.is_cut);
+    let date = match row.date {
+        Some((years, months, weeks, days)) => dated(years, months, weeks, days),
+        None => None,
+    };
+    let wanted = lasts(row.sign, date, up_to(row.last, row.time, fraction));
+    check_found(rt, Reader::Duration, row.text, &Ok(Found::Duration(wanted)));
+}
+
+fn check_fractions(rt: &impl Abort, rows: &[Fractional]) {
+    for row in rows {
+        check_fractional(rt, row);
     }
 }
 
 #[test]
 fn reads_fractions_of_durations(rt: HostRuntime) {
-    let rows = [
-        ("PT0,5H", hours(0, fraction_of("+00:00:00.5"))),
-        ("PT1.50M", minutes(0, 1, fraction_of("+00:00:00.50"))),
-        ("PT1.25s", seconds(0, 0, 1, fraction_of("+00:00:00.25"))),
-        ("PT1H0.5H", hours(0, fraction_of("+00:00:00.5"))),
-        (
-            "PT1H1.123456789123M",
-            minutes(1, 1, fraction_of("+00:00:00.123456789123")),
-        ),
-        (
-            "PT1S2.1234567898765432101234567890987654321S",
-            seconds(
-                0,
-                0,
-                2,
-                fraction_of("+00:00:00.1234567898765432101234567890987654321"),
-            ),
-        ),
-    ];
-    for (text, time) in rows {
-        check_lasts(&rt, text, Sign::Positive, None, time);
-    }
+    check_fractions(
+        &rt,
+        &[
+            Fractional {
+                text: "PT0,5H",
+                sign: Sign::Positive,
+                date: None,
+                last: Unit::Hours,
+                time: (0, 0, 0),
+                nanoseconds: 500_000_000,
+                is_cut: false,
+            },
+            Fractional {
+                text: "PT1.50M",
+                sign: Sign::Positive,
+                date: None,
+                last: Unit::Minutes,
+                time: (0, 1, 0),
+                nanoseconds: 500_000_000,
+                is_cut: false,
+            },
+            Fractional {
+                text: "PT1.25s",
+                sign: Sign::Positive,
+                date: None,
+                last: Unit::Seconds,
+                time: (0, 0, 1),
+                nanoseconds: 250_000_000,
+                is_cut: false,
+            },
+            Fractional {
+                text: "PT1H0.5H",
+                sign: Sign::Positive,
+                date: None,
+                last: Unit::Hours,
+                time: (0, 0, 0),
+                nanoseconds: 500_000_000,
+                is_cut: false,
+            },
+            Fractional {
+                text: "PT1H1.123456789123M",
+                sign: Sign::Positive,
+                date: None,
+                last: Unit::Minutes,
+                time: (1, 1, 0),
+                nanoseconds: 123_456_789,
+                is_cut: true,
+            },
+            Fractional {
+                text: "PT1S2.1234567898765432101234567890987654321S",
+                sign: Sign::Positive,
+                date: None,
+                last: Unit::Seconds,
+                time: (0, 0, 2),
+                nanoseconds: 123_456_789,
+                is_cut: true,
+            },
+        ],
+    );
+}
+
+#[test]
+fn reads_dates_and_fractions_of_durations(rt: HostRuntime) {
+    check_fractions(
+        &rt,
+        &[
+            Fractional {
+                text: "-P1Y3wT0,5H",
+                sign: Sign::Negative,
+                date: Some((1, 0, 3, 0)),
+                last: Unit::Hours,
+                time: (0, 0, 0),
+                nanoseconds: 500_000_000,
+                is_cut: false,
+            },
+            Fractional {
+                text: "-P1Y1M1W1DT1H1M1.123456789S",
+                sign: Sign::Negative,
+                date: Some((1, 1, 1, 1)),
+                last: Unit::Seconds,
+                time: (1, 1, 1),
+                nanoseconds: 123_456_789,
+                is_cut: false,
+            },
+            Fractional {
+                text: "P1Y1DT1.999999999H",
+                sign: Sign::Positive,
+                date: Some((1, 0, 0, 1)),
+                last: Unit::Hours,
+                time: (1, 0, 0),
+                nanoseconds: 999_999_999,
+                is_cut: false,
+            },
+            Fractional {
+                text: "P1Y1M1W1DT1H1M1.1S",
+                sign: Sign::Positive,
+                date: Some((1, 1, 1, 1)),
+                last: Unit::Seconds,
+                time: (1, 1, 1),
+                nanoseconds: 100_000_000,
+                is_cut: false,
+            },
+        ],
+    );
 }
 
 #[test]
 fn reads_dates_and_times_of_durations(rt: HostRuntime) {
-    let rows = [
-        (
-            "-P1Y3wT0,5H",
-            Sign::Negative,
-            dated(1, 0, 3, 0),
-            hours(0, fraction_of("+00:00:00.5")),
-        ),
-        (
-            "-P1Y1M1W1DT1H1M1.123456789S",
-            Sign::Negative,
-            dated(1, 1, 1, 1),
-            seconds(1, 1, 1, fraction_of("+00:00:00.123456789")),
-        ),
-        (
-            "P1Y1DT1.999999999H",
-            Sign::Positive,
-            dated(1, 0, 0, 1),
-            hours(1, fraction_of("+00:00:00.999999999")),
-        ),
-        (
-            "p1y1m1dt1h1m1s",
-            Sign::Positive,
-            dated(1, 1, 0, 1),
-            seconds(1, 1, 1, None),
-        ),
-    ];
-    for (text, sign, date, time) in rows {
-        check_lasts(&rt, text, sign, date, time);
-    }
+    let time = up_to(Unit::Seconds, (1, 1, 1), None);
+    let wanted = Found::Duration(lasts(Sign::Positive, dated(1, 1, 0, 1), time));
+    check_found(&rt, Reader::Duration, "p1y1m1dt1h1m1s", &Ok(wanted));
 }
 
 // ==== Calls ====
 
 #[test]
 fn keeps_a_duration_that_it_refused(rt: HostRuntime) {
-    let steps = [
-        (Reader::Duration, Err(ParseError::DateDurationPartOrder)),
-        (Reader::Duration, Err(ParseError::DateDurationPartOrder)),
-    ];
-    check_in_turn(&rt, "P1D1Y", &steps);
-}
-
-#[test]
-fn reads_a_duration_once(rt: HostRuntime) {
-    let year = Found::Duration(lasts(Sign::Positive, dated(1, 0, 0, 0), None));
-    let steps = [
-        (Reader::Duration, Ok(year)),
-        (Reader::Duration, Err(AT_START)),
-    ];
-    check_in_turn(&rt, "P1Y", &steps);
+    check_kept(
+        &rt,
+        Reader::Duration,
+        "P1D1Y",
+        ParseError::DateDurationPartOrder,
+    );
 }
 
 #[test]
@@ -219,14 +407,6 @@ fn reads_durations_of_units_and_bytes(rt: HostRuntime) {
     assert_eq!(rt; second, year);
 }
 
-#[test]
-fn a_duration_parser_is_as_large_as_its_slice(rt: HostRuntime) {
-    assert_eq!(rt;
-        size_of::<IsoDurationParser<'static, Utf8>>(),
-        size_of::<&'static [u8]>()
-    );
-}
-
 // ==== Records ====
 
 #[test]
@@ -237,25 +417,31 @@ fn durations_differ_by_the_digits_of_their_fractions(rt: HostRuntime) {
     assert_ne!(rt; tenth, more_digits);
 }
 
-#[test]
-fn durations_differ_by_their_parts(rt: HostRuntime) {
-    let year = lasts(Sign::Positive, dated(1, 0, 0, 0), None);
-    let rows = [
-        lasts(Sign::Negative, dated(1, 0, 0, 0), None),
-        lasts(Sign::Positive, dated(0, 12, 0, 0), None),
-        lasts(Sign::Positive, None, hours(1, None)),
-        lasts(Sign::Positive, None, minutes(1, 0, None)),
-        lasts(Sign::Positive, None, seconds(1, 0, 0, None)),
-        lasts(Sign::Positive, None, None),
-    ];
-    for other in rows {
-        assert_ne!(rt; year, other);
-    }
-    assert_ne!(rt; hours(1, None), minutes(1, 0, None));
+// A duration is not that of one year.
+fn check_no_year(rt: &impl Abort, duration: DurationParseRecord) {
+    assert_ne!(rt; duration, lasts(Sign::Positive, dated(1, 0, 0, 0), None));
 }
 
 #[test]
-fn durations_have_defaults_and_clones(rt: HostRuntime) {
+fn durations_differ_by_their_parts(rt: HostRuntime) {
+    check_no_year(&rt, lasts(Sign::Negative, dated(1, 0, 0, 0), None));
+    check_no_year(&rt, lasts(Sign::Positive, dated(0, 12, 0, 0), None));
+    check_no_year(&rt, lasts(Sign::Positive, None, hours(1, None)));
+    check_no_year(&rt, lasts(Sign::Positive, None, None));
+}
+
+#[test]
+fn times_of_durations_differ_by_their_last_unit(rt: HostRuntime) {
+    let until_hours = up_to(Unit::Hours, (1, 0, 0), None);
+    let until_minutes = up_to(Unit::Minutes, (1, 0, 0), None);
+    let until_seconds = up_to(Unit::Seconds, (1, 0, 0), None);
+    assert_ne!(rt; until_hours, until_minutes);
+    assert_ne!(rt; until_hours, until_seconds);
+    assert_ne!(rt; until_minutes, until_seconds);
+}
+
+#[test]
+fn dates_of_durations_have_defaults(rt: HostRuntime) {
     let DateDurationRecord {
         years,
         months,
@@ -263,6 +449,10 @@ fn durations_have_defaults_and_clones(rt: HostRuntime) {
         days,
     } = DateDurationRecord::default();
     assert!(rt; years == 0 && months == 0 && weeks == 0 && days == 0);
+}
+
+#[test]
+fn durations_have_clones(rt: HostRuntime) {
     let date = DateDurationRecord {
         years: 1,
         months: 2,
@@ -281,50 +471,4 @@ fn durations_have_defaults_and_clones(rt: HostRuntime) {
     let duration = lasts(Sign::Negative, Some(date), Some(time));
     let durations: Result<_, _> = duration.clone();
     assert_eq!(rt; durations, Ok(duration));
-}
-
-// ==== 16-bit units ====
-
-#[test]
-fn reads_durations_of_wide_units(rt: HostRuntime) {
-    let rows = [
-        (
-            "P1M2M0m485479313W",
-            Sign::Positive,
-            dated(0, 0, 485_479_313, 0),
-            None,
-        ),
-        ("+P12Y5W", Sign::Positive, dated(12, 0, 5, 0), None),
-        (
-            "-P0Y99DT1,007712000m",
-            Sign::Negative,
-            dated(0, 0, 0, 99),
-            minutes(0, 1, fraction_of("+00:00:00.007712000")),
-        ),
-        (
-            "+p005Y494967296M9m",
-            Sign::Positive,
-            dated(5, 9, 0, 0),
-            None,
-        ),
-        ("-P5y238356m12m0D", Sign::Negative, dated(5, 12, 0, 0), None),
-        (
-            "PT1.9999999999s",
-            Sign::Positive,
-            None,
-            seconds(0, 0, 1, fraction_of("+00:00:00.9999999999")),
-        ),
-    ];
-    for (text, sign, date, time) in rows {
-        let wanted = Found::Duration(lasts(sign, date, time));
-        check_wide_found(&rt, Reader::Duration, text, &Ok(wanted));
-    }
-}
-
-#[test]
-fn makes_duration_parsers_of_wide_units(rt: HostRuntime) {
-    let wide = Wide::new("P1Y");
-    let mut parser: IsoDurationParser<'_, Utf16> = IsoDurationParser::new(wide.units());
-    let found = parser.parse();
-    assert_eq!(rt; found, Ok(lasts(Sign::Positive, dated(1, 0, 0, 0), None)));
 }

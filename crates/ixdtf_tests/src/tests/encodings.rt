@@ -1,4 +1,5 @@
 use ixdtf::encoding::{EncodingType, Utf8};
+use std::process::Abort;
 
 #[test]
 fn bytes_are_letters(rt: HostRuntime) {
@@ -9,38 +10,36 @@ fn bytes_are_letters(rt: HostRuntime) {
     }
 }
 
+fn check_slice(rt: &impl Abort, start: usize, end: usize, part: Option<&'static [u8]>) {
+    let found = Utf8::slice(b"abc", start, end);
+    assert_eq!(rt; found, part, "from {start} to {end}");
+}
+
 #[test]
 fn slices_lie_within(rt: HostRuntime) {
-    let units = "abc".as_bytes();
-    let rows = [
-        (0, 2, Some("ab".as_bytes())),
-        (3, 3, Some("".as_bytes())),
-        (2, 1, None),
-        (0, 4, None),
-    ];
-    for (start, end, part) in rows {
-        assert_eq!(rt;
-            Utf8::slice(units, start, end),
-            part,
-            "from {start} to {end}"
-        );
+    check_slice(&rt, 0, 2, Some(b"ab"));
+    check_slice(&rt, 3, 3, Some(b""));
+    check_slice(&rt, 2, 1, None);
+    check_slice(&rt, 0, 4, None);
+}
+
+fn check_keys(rt: &impl Abort, keys: &[(&'static str, bool)]) {
+    for (key, is_calendar) in keys {
+        let found = Utf8::check_calendar_key(key.as_bytes());
+        assert_eq!(rt; found, *is_calendar, "at {key}");
     }
 }
 
 #[test]
 fn one_key_is_of_calendars(rt: HostRuntime) {
-    let rows = [
-        ("u-ca", true),
-        ("u-cA", false),
-        ("u-c", false),
-        ("u-ca-", false),
-        ("", false),
-    ];
-    for (key, is_calendar) in rows {
-        assert_eq!(rt;
-            Utf8::check_calendar_key(key.as_bytes()),
-            is_calendar,
-            "at {key}"
-        );
-    }
+    check_keys(
+        &rt,
+        &[
+            ("u-ca", true),
+            ("u-cA", false),
+            ("u-c", false),
+            ("u-ca-", false),
+            ("", false),
+        ],
+    );
 }

@@ -1,42 +1,78 @@
 //! Texts that begin with a date and a time at fixed places, `YYYY-MM-DD`, a separator and `HH:MM:SS`, or nearly so. What is
 //! expected is what the Rust crate returns.
 
-use super::{Record, check_parsed, dated, fraction_of, timed};
+use super::times::{Fractional, Whole, check_fractional, check_whole, time_of};
+use super::{Reader, Record, check_fraction, check_parsed, dated, timed};
 use ixdtf::records::UtcOffsetRecordOrZ;
 
 #[test]
 fn reads_at_fixed_places(rt: HostRuntime) {
-    let rows = [
-        ("2020-02-29T23:59:60", 2020, 2, 29, timed(23, 59, 60, None)),
-        ("2020-01-01 23:59:60", 2020, 1, 1, timed(23, 59, 60, None)),
-        ("2020-01-01t00:00:60", 2020, 1, 1, timed(0, 0, 60, None)),
-        (
-            "20200101T00:00:00.25",
-            2020,
-            1,
-            1,
-            timed(0, 0, 0, fraction_of("+00:00:00.25")),
-        ),
-        (
-            "2020-01-01T000000.25",
-            2020,
-            1,
-            1,
-            timed(0, 0, 0, fraction_of("+00:00:00.25")),
-        ),
-        ("+002020-01-01T00:00:00", 2020, 1, 1, timed(0, 0, 0, None)),
-    ];
-    for (text, year, month, day, time) in rows {
-        check_parsed(&rt, text, &Ok(dated(year, month, day, time)));
-    }
+    check_whole(
+        &rt,
+        &[
+            Whole {
+                text: "2020-02-29T23:59:60",
+                date: (2020, 2, 29),
+                time: (23, 59, 60),
+            },
+            Whole {
+                text: "2020-01-01T00:00:60",
+                date: (2020, 1, 1),
+                time: (0, 0, 60),
+            },
+            Whole {
+                text: "2020-01-01 23:59:60",
+                date: (2020, 1, 1),
+                time: (23, 59, 60),
+            },
+            Whole {
+                text: "2020-01-01t00:00:60",
+                date: (2020, 1, 1),
+                time: (0, 0, 60),
+            },
+            Whole {
+                text: "+002020-01-01T00:00:00",
+                date: (2020, 1, 1),
+                time: (0, 0, 0),
+            },
+        ],
+    );
+}
+
+#[test]
+fn reads_fractions_beside_fixed_places(rt: HostRuntime) {
+    check_fractional(
+        &rt,
+        Reader::Parse,
+        Some((2020, 1, 1)),
+        &[
+            Fractional {
+                text: "20200101T00:00:00.25",
+                time: (0, 0, 0),
+                nanoseconds: 250_000_000,
+                is_cut: false,
+            },
+            Fractional {
+                text: "2020-01-01T000000.25",
+                time: (0, 0, 0),
+                nanoseconds: 250_000_000,
+                is_cut: false,
+            },
+        ],
+    );
 }
 
 #[test]
 fn reads_on_after_fixed_places(rt: HostRuntime) {
-    let time = timed(0, 0, 0, fraction_of("+00:00:00.5"));
+    let text = "2020-01-01t00:00:00,5Z";
+    let fraction = match time_of(Reader::Parse, text) {
+        Some(time) => time.fraction,
+        None => None,
+    };
+    check_fraction(&rt, text, &fraction, 500_000_000, false);
     let record = Record {
         offset: Some(UtcOffsetRecordOrZ::Z),
-        ..dated(2020, 1, 1, time)
+        ..dated(2020, 1, 1, timed(0, 0, 0, fraction))
     };
-    check_parsed(&rt, "2020-01-01t00:00:00,5Z", &Ok(record));
+    check_parsed(&rt, text, &Ok(record));
 }

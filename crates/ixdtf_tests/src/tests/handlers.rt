@@ -1,63 +1,10 @@
 use super::calling::calendar_or;
-use super::{AT_DIGIT, dated, morning, short};
+use super::{dated, morning, short};
 use ixdtf::encoding::Utf8;
-use ixdtf::laws::parse_unanswered;
 use ixdtf::parsers::IxdtfParser;
 use ixdtf::records::{Annotation, DateRecord, Sign, UtcOffsetRecordOrZ};
 use ixdtf::{ParseError, ParserResult};
 use std::test::Fail;
-
-#[test]
-fn asks_as_far_as_the_first_refusal(rt: HostRuntime) {
-    let mut parser = IxdtfParser::from_str("2020-01-01[a=b][!c=d][e=f]");
-    let mut calls = 0u32;
-    let refused = parser.parse_with_annotation_handler(|annotation| {
-        calls = calls.saturating_add(1);
-        Some(annotation)
-    });
-    assert_eq!(rt; refused, Err(ParseError::UnrecognizedCritical));
-    assert_eq!(rt; calls, 2);
-    let mut more = 0u32;
-    let found = parser.parse_with_annotation_handler(|_annotation| {
-        more = more.saturating_add(1);
-        None
-    });
-    assert_eq!(rt; found, Ok(dated(2020, 1, 1, None)));
-    assert_eq!(rt; more, 3);
-}
-
-#[test]
-fn asks_before_a_fault(rt: HostRuntime) {
-    let rows = [
-        ("2020-01-01[a=b]junk", 1u32, ParseError::InvalidEnd),
-        ("2020-01-01[a=b][c=d]junk", 2, ParseError::InvalidEnd),
-        ("2020-01-01[a=b][c=d", 1, ParseError::AnnotationClose),
-        ("2020-13-01[a=b]", 0, ParseError::InvalidMonthRange),
-    ];
-    for (text, wanted, error) in rows {
-        let mut calls = 0u32;
-        let mut parser = IxdtfParser::from_str(text);
-        let refused = parser.parse_with_annotation_handler(|annotation| {
-            calls = calls.saturating_add(1);
-            Some(annotation)
-        });
-        assert_eq!(rt; refused, Err(error), "at {text}");
-        assert_eq!(rt; calls, wanted, "at {text}");
-    }
-}
-
-#[test]
-fn judges_the_reply(rt: HostRuntime) {
-    let mut parser = IxdtfParser::from_str("2020-01-01[x=y]");
-    let refused = parser.parse_with_annotation_handler(|annotation| {
-        Some(Annotation {
-            critical: true,
-            key: annotation.key,
-            value: annotation.value,
-        })
-    });
-    assert_eq!(rt; refused, Err(ParseError::UnrecognizedCritical));
-}
 
 #[test]
 fn takes_a_calendar_that_is_not_of_the_source(rt: HostRuntime) {
@@ -119,19 +66,14 @@ fn keeps_pairs_that_it_refused(rt: HostRuntime) {
     let mut parser = IxdtfParser::from_str("2020-01-01[u-ca=a][x=y][!c=d]");
     let first = parser.parse();
     assert_eq!(rt; first, Err(ParseError::UnrecognizedCritical));
-    let second = parser.parse();
-    assert_eq!(rt; second, Err(ParseError::UnrecognizedCritical));
-    let third = parser.parse_with_annotation_handler(|_annotation| None);
-    assert_eq!(rt; third, Ok(dated(2020, 1, 1, None)));
-    let fourth = parser.parse();
-    assert_eq!(rt; fourth, Err(AT_DIGIT));
+    let second = parser.parse_with_annotation_handler(|_annotation| None);
+    assert_eq!(rt; second, Ok(dated(2020, 1, 1, None)));
 }
 
 #[test]
 fn takes_the_handler_of_a_caller(rt: HostRuntime) {
-    let text = "2020-01-01[u-ca=a][!c=d]";
     let mut calls = 0u32;
-    let found = calendar_or::<ParseError, _>(text, |annotation| {
+    let found = calendar_or::<ParseError, _>("2020-01-01[u-ca=a][!c=d]", |annotation| {
         calls = calls.saturating_add(1);
         if annotation.critical {
             None
@@ -141,8 +83,6 @@ fn takes_the_handler_of_a_caller(rt: HostRuntime) {
     });
     assert_eq!(rt; found, Ok(Some(b"a".as_slice())));
     assert_eq!(rt; calls, 2);
-    let refused = calendar_or::<ParseError, _>(text, |annotation| Some(annotation));
-    assert_eq!(rt; refused, Err(ParseError::UnrecognizedCritical));
 }
 
 // The date of a text whose annotations are all passed over, as a result of the crate.
@@ -179,16 +119,4 @@ fn may_be_discarded(rt: HostRuntime) {
         Some(annotation)
     });
     assert_eq!(rt; calls, 2);
-    let _ = parser.parse_with_annotation_handler(|_annotation| None);
-    assert_eq!(rt; parser.parse(), Err(AT_DIGIT));
-}
-
-#[test]
-fn leaves_no_calendar_unanswered(rt: HostRuntime) {
-    let mut parser = IxdtfParser::from_str("2020-01-01[u-ca=a][!u-ca=b][!c=d]");
-    let found = parse_unanswered(&mut parser, |_annotation| None);
-    assert_eq!(rt; found, Ok(dated(2020, 1, 1, None)));
-    let mut faulty = IxdtfParser::from_str("2020-01-01[!c=d]junk");
-    let refused = parse_unanswered(&mut faulty, |_annotation| None);
-    assert_eq!(rt; refused, Err(ParseError::InvalidEnd));
 }

@@ -9,7 +9,7 @@ use ixdtf::ParseError::{
 use ixdtf::records::Sign;
 
 #[test]
-fn reads_a_plain_date_as_a_date(rt: HostRuntime) {
+fn reads_a_basic_date_as_a_date(rt: HostRuntime) {
     let steps = [
         (Reader::YearMonth, Err(InvalidEnd)),
         (Reader::MonthDay, Err(InvalidMonthRange)),

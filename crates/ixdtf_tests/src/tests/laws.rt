@@ -1,21 +1,25 @@
-ghost use Rattle.std.specs.Prelude.{◌≡◌, [], map, All, Err, IsOk, IsTrue};
+ghost use Rattle.std.specs.Prelude.{◌≡◌, [], ◌∷◌, ◌++◌, map, All, Err, IfSome, IsOk, IsTrue, None, pos};
 ghost use Rattle.ixdtf.specs.Widths.{is_shared};
-ghost use Rattle.ixdtf.specs.language.Letters.{byte_letter};
+ghost use Rattle.ixdtf.specs.Laws.{IsDateParts};
+ghost use Rattle.ixdtf.specs.language.Letters.{Text, byte_letter};
+ghost use Rattle.ixdtf.specs.language.Letters.Letter.{Plain};
 ghost use Rattle.ixdtf.specs.language.Readers.{parse as reader_parse};
 ghost use Rattle.ixdtf.specs.language.Rfc3339.{IsRfcDateTime};
 ghost use Rattle.ixdtf.specs.table.Rows.{Row, Fits};
-ghost use Rattle.ixdtf.specs.Views.{returned};
+ghost use Rattle.ixdtf.specs.table.Faults.Fault.{DateSeparator};
+ghost use Rattle.ixdtf.specs.Views.{returned, parsed_of};
 
-use super::fraction_of;
+use super::{Record, dated, fraction_of};
 use ixdtf::encoding::{EncodingType, Utf8, Utf16};
 use ixdtf::laws::{
-    clones_are_equal, equality_is_of_what_is_seen, every_name_is_an_identifier,
-    every_rfc3339_date_time_is_read, exact_nanoseconds_are_the_truncated_ones, languages_disjoint,
-    one_outcome, widths_agree,
+    clones_are_equal, defaults_are_zero, equality_is_of_what_is_seen, every_name_is_an_identifier,
+    every_rfc3339_date_time_is_read, exact_nanoseconds_are_the_truncated_ones, hyphens_say_nothing,
+    languages_disjoint, offsets_agree, one_outcome, parse_unanswered, widths_agree,
 };
 use ixdtf::parsers::{IsoDurationParser, IxdtfParser, TimeZoneParser};
 use ixdtf::records::{
-    DurationParseRecord, Fraction, IxdtfParseRecord, TimeZoneAnnotation, TimeZoneRecord,
+    DateDurationRecord, DateRecord, DurationParseRecord, Fraction, IxdtfParseRecord, TimeRecord,
+    TimeZoneAnnotation, TimeZoneRecord,
 };
 use ixdtf::{ParseError, ParserResult};
 
@@ -49,6 +53,101 @@ fn read_by_the_table<'a>(bytes: &'a [u8]) -> ParserResult<IxdtfParseRecord<'a, U
 {
     one_outcome();
     IxdtfParser::from_utf8(bytes).parse()
+}
+
+// What a caller makes of the law: who passes every annotation over reads a text twice alike.
+fn reads_twice<'a>(
+    bytes: &'a [u8],
+) -> (
+    ParserResult<IxdtfParseRecord<'a, Utf8>>,
+    ParserResult<IxdtfParseRecord<'a, Utf8>>,
+)
+    ensures { returned (parsed_of (λ unit. unit)) result.0 ≡
+        returned (parsed_of (λ unit. unit)) result.1 }
+{
+    one_outcome();
+    let mut first = IxdtfParser::from_utf8(bytes);
+    let mut second = IxdtfParser::from_utf8(bytes);
+    let found = parse_unanswered(&mut first, |_annotation| None);
+    let again = parse_unanswered(&mut second, |_annotation| None);
+    (found, again)
+}
+
+// What a caller makes of the law: where bytes are an offset and a zone, the hours of both are one.
+fn hours_of_both(bytes: &[u8]) -> Option<(u8, u8)>
+    ensures { IfSome result (λ hours. hours.0 ≡ hours.1) }
+{
+    match TimeZoneParser::from_utf8(bytes).parse_offset() {
+        Ok(offset) => match TimeZoneParser::from_utf8(bytes).parse_identifier() {
+            Ok(zone) => {
+                offsets_agree();
+                match zone {
+                    TimeZoneRecord::Offset(minutes) => Some((offset.hour(), minutes.hour)),
+                    TimeZoneRecord::Name(_) => unreachable!(),
+                }
+            }
+            Err(_) => None,
+        },
+        Err(_) => None,
+    }
+}
+
+// What a caller makes of the laws: a date without hyphens and the same date with both, each before the same bytes, give the
+// same record, or the same error.
+fn read_both_forms<'a>(
+    plain: &'a [u8],
+    hyphened: &'a [u8],
+) -> (
+    ParserResult<IxdtfParseRecord<'a, Utf8>>,
+    ParserResult<IxdtfParseRecord<'a, Utf8>>,
+)
+    ensures { (years months days rest : Text) → IsDateParts years months days →
+        map byte_letter plain.now ≡ years ++ (months ++ (days ++ rest)) →
+        map byte_letter hyphened.now ≡
+        years ++ (Plain 45 ∷ (months ++ (Plain 45 ∷ (days ++ rest)))) →
+        returned (parsed_of (λ unit. unit)) result.0 ≡
+        returned (parsed_of (λ unit. unit)) result.1 }
+{
+    hyphens_say_nothing();
+    widths_agree();
+    let found = IxdtfParser::from_utf8(plain).parse();
+    let same = IxdtfParser::from_utf8(hyphened).parse();
+    (found, same)
+}
+
+// What a caller makes of the laws: where a hyphen stands before the month alone, the error is `DateSeparator`.
+fn refuses_one_hyphen<'a>(bytes: &'a [u8]) -> ParserResult<IxdtfParseRecord<'a, Utf8>>
+    ensures { (years months days rest : Text) → IsDateParts years months days →
+        map byte_letter bytes.now ≡ years ++ (Plain 45 ∷ (months ++ (days ++ rest))) →
+        returned (parsed_of (λ unit. unit)) result ≡ Err DateSeparator }
+{
+    hyphens_say_nothing();
+    widths_agree();
+    IxdtfParser::from_utf8(bytes).parse()
+}
+
+// What a caller makes of the law.
+fn default_date() -> DateRecord
+    ensures { result ≡ record { year = pos 0; month = 0; day = 0 } }
+{
+    defaults_are_zero();
+    DateRecord::default()
+}
+
+// What a caller makes of the law.
+fn default_time() -> TimeRecord
+    ensures { result ≡ record { hour = 0; minute = 0; second = 0; fraction = None } }
+{
+    defaults_are_zero();
+    TimeRecord::default()
+}
+
+// What a caller makes of the law.
+fn default_date_units() -> DateDurationRecord
+    ensures { result ≡ record { years = 0; months = 0; weeks = 0; days = 0 } }
+{
+    defaults_are_zero();
+    DateDurationRecord::default()
 }
 
 // What a caller makes of the law: bytes that are a date, or a date and a time, are no year-month.
@@ -165,4 +264,74 @@ fn reads_faults_by_the_table(rt: HostRuntime) {
 fn reads_by_one_reader(rt: HostRuntime) {
     assert!(rt; is_read_by_one("2024-03-02".as_bytes()));
     assert!(rt; !is_read_by_one("2024-03".as_bytes()));
+}
+
+#[test]
+fn reads_a_text_twice(rt: HostRuntime) {
+    let (found, again) = reads_twice("2024-03-02[!a=b][u-ca=c]".as_bytes());
+    assert!(rt; matches!(found, Ok(IxdtfParseRecord { calendar: None, .. })));
+    assert!(rt; found == again);
+}
+
+#[test]
+fn reads_offsets_of_both_readers(rt: HostRuntime) {
+    assert_eq!(rt; hours_of_both("-05:30".as_bytes()), Some((5, 5)));
+    assert_eq!(rt; hours_of_both("-05:30:15".as_bytes()), None);
+}
+
+#[test]
+fn reads_dates_by_their_hyphens(rt: HostRuntime) {
+    let (found, same) = read_both_forms(
+        "20240302T12[a=b]".as_bytes(),
+        "2024-03-02T12[a=b]".as_bytes(),
+    );
+    assert!(rt; found.is_ok());
+    assert!(rt; found == same);
+    let (fault, other) = read_both_forms("20240399".as_bytes(), "2024-03-99".as_bytes());
+    assert!(rt; matches!(fault, Err(ParseError::InvalidDayRange)));
+    assert!(rt; fault == other);
+    let refused = refuses_one_hyphen("2024-0302".as_bytes());
+    assert!(rt; matches!(refused, Err(ParseError::DateSeparator)));
+}
+
+#[test]
+fn defaults_are_zero_in_each_field(rt: HostRuntime) {
+    let midnight = TimeRecord {
+        hour: 0,
+        minute: 0,
+        second: 0,
+        fraction: None,
+    };
+    assert_eq!(rt;
+        default_date(),
+        DateRecord {
+            year: 0,
+            month: 0,
+            day: 0
+        }
+    );
+    assert_eq!(rt; default_time(), midnight);
+    assert_eq!(rt;
+        default_date_units(),
+        DateDurationRecord {
+            years: 0,
+            months: 0,
+            weeks: 0,
+            days: 0
+        }
+    );
+}
+
+// What a text gives where no annotation is answered.
+fn unanswered(text: &'static str) -> ParserResult<Record> {
+    let mut parser = IxdtfParser::from_str(text);
+    parse_unanswered(&mut parser, |_annotation| None)
+}
+
+#[test]
+fn leaves_no_calendar_unanswered(rt: HostRuntime) {
+    let found = unanswered("2020-01-01[u-ca=a][!u-ca=b][!c=d]");
+    assert_eq!(rt; found, Ok(dated(2020, 1, 1, None)));
+    let refused = unanswered("2020-01-01[!c=d]junk");
+    assert_eq!(rt; refused, Err(ParseError::InvalidEnd));
 }

@@ -1,46 +1,64 @@
 use super::{
-    AT_DIGIT, Found, Reader, alone, check_found, check_in_turn, dated, fraction_of, parts, short,
-    timed,
+    AT_DIGIT, Found, Reader, alone, check_found, check_in_turn, dated, minutes, parts, short, timed,
 };
 use ixdtf::ParseError;
-use ixdtf::records::{Sign, UtcOffsetRecordOrZ};
+use ixdtf::records::{Sign, TimeZoneAnnotation, TimeZoneRecord, UtcOffsetRecordOrZ};
+use std::process::Abort;
 
 fn west(hour: u8, minute: u8) -> Option<UtcOffsetRecordOrZ> {
     Some(UtcOffsetRecordOrZ::Offset(short(Sign::Negative, hour, minute)))
 }
 
+fn check_alone(
+    rt: &impl Abort,
+    text: &'static str,
+    (hour, minute, second): (u8, u8, u8),
+    offset: Option<UtcOffsetRecordOrZ>,
+) {
+    let wanted = Found::Parts(alone(timed(hour, minute, second, None), offset));
+    check_found(rt, Reader::Time, text, &Ok(wanted));
+}
+
+fn check_local(rt: &impl Abort, rows: &[(&'static str, (u8, u8, u8))]) {
+    for (text, time) in rows {
+        check_alone(rt, text, *time, None);
+    }
+}
+
 #[test]
 fn reads_times_alone(rt: HostRuntime) {
-    let rows = [
-        ("12", timed(12, 0, 0, None), None),
-        ("T1200", timed(12, 0, 0, None), None),
-        ("t121430", timed(12, 14, 30, None), None),
-        ("0230", timed(2, 30, 0, None), None),
-        ("0631", timed(6, 31, 0, None), None),
-        ("1232", timed(12, 32, 0, None), None),
-        ("13-14", timed(13, 0, 0, None), west(14, 0)),
-        ("2021-13", timed(20, 21, 0, None), west(13, 0)),
-        ("202113-13", timed(20, 21, 13, None), west(13, 0)),
-        ("0000-00", timed(0, 0, 0, None), west(0, 0)),
-        (
-            "T1214Z",
-            timed(12, 14, 0, None),
-            Some(UtcOffsetRecordOrZ::Z),
-        ),
-        (
-            "15:23:30.1234567890",
-            timed(15, 23, 30, fraction_of("+00:00:00.1234567890")),
-            None,
-        ),
-    ];
-    for (text, time, offset) in rows {
-        check_found(
-            &rt,
-            Reader::Time,
-            text,
-            &Ok(Found::Parts(alone(time, offset))),
-        );
+    check_local(
+        &rt,
+        &[
+            ("12", (12, 0, 0)),
+            ("T1200", (12, 0, 0)),
+            ("t121430", (12, 14, 30)),
+            ("0230", (2, 30, 0)),
+            ("0631", (6, 31, 0)),
+            ("1232", (12, 32, 0)),
+        ],
+    );
+    check_alone(&rt, "T1214Z", (12, 14, 0), Some(UtcOffsetRecordOrZ::Z));
+}
+
+fn check_west(rt: &impl Abort, rows: &[(&'static str, (u8, u8, u8), u8)]) {
+    for (text, time, hour) in rows {
+        check_alone(rt, text, *time, west(*hour, 0));
     }
+}
+
+// The sign of an offset stands where the hyphen of a date would.
+#[test]
+fn reads_offsets_after_times_alone(rt: HostRuntime) {
+    check_west(
+        &rt,
+        &[
+            ("13-14", (13, 0, 0), 14),
+            ("2021-13", (20, 21, 0), 13),
+            ("202113-13", (20, 21, 13), 13),
+            ("0000-00", (0, 0, 0), 0),
+        ],
+    );
 }
 
 #[test]
@@ -50,6 +68,21 @@ fn reads_brackets_after_a_time_alone(rt: HostRuntime) {
     let wanted = parts(None, time, west(5, 0), name, Some("iso8601"));
     let text = "12:01:04-05:00[America/from_str_York][u-ca=iso8601]";
     check_found(&rt, Reader::Time, text, &Ok(Found::Parts(wanted)));
+}
+
+#[test]
+fn reads_an_offset_in_brackets_after_a_time_alone(rt: HostRuntime) {
+    let mut wanted = alone(timed(20, 21, 13, None), None);
+    wanted.tz = Some(TimeZoneAnnotation {
+        critical: false,
+        tz: TimeZoneRecord::Offset(minutes(Sign::Negative, 13, 0)),
+    });
+    check_found(
+        &rt,
+        Reader::Time,
+        "202113[-13:00]",
+        &Ok(Found::Parts(wanted)),
+    );
 }
 
 #[test]

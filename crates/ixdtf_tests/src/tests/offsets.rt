@@ -1,51 +1,140 @@
 use super::{
-    AT_OFFSET, Found, Reader, check_found, check_in_turn, check_parsed, dated, fraction_of, long,
-    minutes, morning, short, timed,
+    AT_OFFSET, Found, Reader, check_found, check_fraction, check_in_turn, check_parsed, dated,
+    fraction_of, long, minutes, morning, short, timed,
 };
 use ixdtf::ParseError;
-use ixdtf::records::{Sign, UtcOffsetRecordOrZ};
+use ixdtf::records::{Sign, UtcOffsetRecord, UtcOffsetRecordOrZ};
+use std::process::Abort;
+
+fn check_offset(rt: &impl Abort, text: &'static str, offset: UtcOffsetRecord) {
+    check_found(rt, Reader::Offset, text, &Ok(Found::Offset(offset)));
+}
+
+/// An offset of hours and minutes.
+struct Short {
+    text: &'static str,
+    sign: Sign,
+    hour: u8,
+    minute: u8,
+}
+
+fn check_short(rt: &impl Abort, rows: &[Short]) {
+    for row in rows {
+        check_offset(rt, row.text, short(row.sign, row.hour, row.minute));
+    }
+}
 
 #[test]
 fn reads_offsets(rt: HostRuntime) {
-    let half = fraction_of("+00:00:00.5");
-    let quarter = fraction_of("+00:00:00.25");
-    let nine_digits = fraction_of("+00:00:00.123456789");
-    let five = minutes(Sign::Negative, 5, 0);
-    let rows = [
-        ("+05", short(Sign::Positive, 5, 0)),
-        ("-0530", short(Sign::Negative, 5, 30)),
-        ("-05:30", short(Sign::Negative, 5, 30)),
-        ("-00:00", short(Sign::Negative, 0, 0)),
-        ("+235959", long(minutes(Sign::Positive, 23, 59), 59, None)),
-        ("+01:00:00", long(minutes(Sign::Positive, 1, 0), 0, None)),
-        ("-050030,25", long(five, 30, quarter)),
-        ("-05:00:30.5", long(five, 30, half)),
-        ("-05:00:30.123456789", long(five, 30, nine_digits)),
-    ];
-    for (text, offset) in rows {
-        check_found(&rt, Reader::Offset, text, &Ok(Found::Offset(offset)));
+    check_short(
+        &rt,
+        &[
+            Short {
+                text: "+05",
+                sign: Sign::Positive,
+                hour: 5,
+                minute: 0,
+            },
+            Short {
+                text: "-0530",
+                sign: Sign::Negative,
+                hour: 5,
+                minute: 30,
+            },
+            Short {
+                text: "-05:30",
+                sign: Sign::Negative,
+                hour: 5,
+                minute: 30,
+            },
+            Short {
+                text: "-00:00",
+                sign: Sign::Negative,
+                hour: 0,
+                minute: 0,
+            },
+        ],
+    );
+}
+
+// East of Greenwich by hours, minutes and seconds.
+fn check_east(rt: &impl Abort, rows: &[(&'static str, u8, u8, u8)]) {
+    for (text, hour, minute, second) in rows {
+        let offset = long(minutes(Sign::Positive, *hour, *minute), *second, None);
+        check_offset(rt, text, offset);
+    }
+}
+
+#[test]
+fn reads_offsets_with_seconds(rt: HostRuntime) {
+    check_east(&rt, &[("+235959", 23, 59, 59), ("+01:00:00", 1, 0, 0)]);
+}
+
+// Half a minute, five hours to the west, with a fraction of these nanoseconds.
+fn check_fractional(rt: &impl Abort, rows: &[(&'static str, u32)]) {
+    for (text, nanoseconds) in rows {
+        let fraction = fraction_of(text);
+        check_fraction(rt, text, &fraction, *nanoseconds, false);
+        check_offset(rt, text, long(minutes(Sign::Negative, 5, 0), 30, fraction));
+    }
+}
+
+#[test]
+fn reads_offsets_with_fractions(rt: HostRuntime) {
+    check_fractional(
+        &rt,
+        &[
+            ("-050030,25", 250_000_000),
+            ("-05:00:30.5", 500_000_000),
+            ("-05:00:30.123456789", 123_456_789),
+        ],
+    );
+}
+
+fn check_morning(rt: &impl Abort, text: &'static str, offset: UtcOffsetRecord) {
+    let offset = Some(UtcOffsetRecordOrZ::Offset(offset));
+    check_parsed(rt, text, &Ok(morning(offset, None, None)));
+}
+
+fn check_mornings(rt: &impl Abort, rows: &[Short]) {
+    for row in rows {
+        check_morning(rt, row.text, short(row.sign, row.hour, row.minute));
     }
 }
 
 #[test]
 fn reads_offsets_after_times(rt: HostRuntime) {
-    let rows = [
-        ("2024-03-02T08:48:00-05:00", short(Sign::Negative, 5, 0)),
-        ("2024-03-02T08:48-05", short(Sign::Negative, 5, 0)),
-        ("20240302t084800-0530", short(Sign::Negative, 5, 30)),
-        ("2024-03-02 08:48:00-00:00", short(Sign::Negative, 0, 0)),
-        (
-            "2024-03-02 08:48:00+01:00:00",
-            long(minutes(Sign::Positive, 1, 0), 0, None),
-        ),
-    ];
-    for (text, offset) in rows {
-        check_parsed(
-            &rt,
-            text,
-            &Ok(morning(Some(UtcOffsetRecordOrZ::Offset(offset)), None, None)),
-        );
-    }
+    check_mornings(
+        &rt,
+        &[
+            Short {
+                text: "2024-03-02T08:48:00-05:00",
+                sign: Sign::Negative,
+                hour: 5,
+                minute: 0,
+            },
+            Short {
+                text: "2024-03-02T08:48-05",
+                sign: Sign::Negative,
+                hour: 5,
+                minute: 0,
+            },
+            Short {
+                text: "20240302t084800-0530",
+                sign: Sign::Negative,
+                hour: 5,
+                minute: 30,
+            },
+            Short {
+                text: "2024-03-02 08:48:00-00:00",
+                sign: Sign::Negative,
+                hour: 0,
+                minute: 0,
+            },
+        ],
+    );
+    let hour = long(minutes(Sign::Positive, 1, 0), 0, None);
+    check_morning(&rt, "2024-03-02 08:48:00+01:00:00", hour);
 }
 
 #[test]
@@ -60,8 +149,7 @@ fn reads_utc(rt: HostRuntime) {
 #[test]
 fn reads_the_offset_that_z_resolves_to(rt: HostRuntime) {
     let zulu = UtcOffsetRecordOrZ::Z.resolve_rfc_9557();
-    let record = morning(Some(UtcOffsetRecordOrZ::Offset(zulu)), None, None);
-    check_parsed(&rt, "2024-03-02T08:48:00-00:00", &Ok(record));
+    check_morning(&rt, "2024-03-02T08:48:00-00:00", zulu);
 }
 
 #[test]

@@ -1,9 +1,10 @@
-use super::{fraction_of, long, minutes, short};
-use ixdtf::encoding::{Utf8, Utf16};
+use super::{check_fraction, fraction_of, long, minutes, short};
+use ixdtf::encoding::{EncodingType, Utf8, Utf16};
 use ixdtf::records::{
     DateRecord, IxdtfParseRecord, MinutePrecisionOffset, Sign, TimeRecord, TimeZoneAnnotation,
     TimeZoneRecord, UtcOffsetRecord, UtcOffsetRecordOrZ,
 };
+use std::process::Abort;
 
 // The offset -05:30.
 fn short_offset() -> UtcOffsetRecord {
@@ -26,37 +27,113 @@ const LONGEST: &'static str =
 const LONGER: &'static str =
     "+00:00:00.123456789876543210777777777777777777777777777777777777777777777777777777777777777777777777777777777777777777777777777777777777777777777777777777777777777777777777777777777777777777777777777777777777777777777777777777777777777777777777777777777777777777777777777777777777777777777777777777777777777777";
 
+/// The second of an offset with a fraction.
+struct Second {
+    text: &'static str,
+    /// Those of the first nine digits.
+    nanoseconds: u32,
+    /// Whether there are more digits.
+    is_cut: bool,
+}
+
+fn check_seconds(rt: &impl Abort, rows: &[Second]) {
+    for row in rows {
+        let fraction = fraction_of(row.text);
+        check_fraction(rt, row.text, &fraction, row.nanoseconds, row.is_cut);
+    }
+}
+
 #[test]
 fn fractions_are_cut_at_nanoseconds(rt: HostRuntime) {
+    check_seconds(
+        &rt,
+        &[
+            Second {
+                text: "+00:00:00.0",
+                nanoseconds: 0,
+                is_cut: false,
+            },
+            Second {
+                text: "+00:00:00.25",
+                nanoseconds: 250_000_000,
+                is_cut: false,
+            },
+            Second {
+                text: "+00:00:00.12345678",
+                nanoseconds: 123_456_780,
+                is_cut: false,
+            },
+            Second {
+                text: "+00:00:00.123456789",
+                nanoseconds: 123_456_789,
+                is_cut: false,
+            },
+            Second {
+                text: "+00:00:00.000000001",
+                nanoseconds: 1,
+                is_cut: false,
+            },
+            Second {
+                text: "+00:00:00.1234567890",
+                nanoseconds: 123_456_789,
+                is_cut: true,
+            },
+            Second {
+                text: "+00:00:00.1234567898",
+                nanoseconds: 123_456_789,
+                is_cut: true,
+            },
+            Second {
+                text: "+00:00:00.0000000009",
+                nanoseconds: 0,
+                is_cut: true,
+            },
+            Second {
+                text: "+00:00:00.999999999999999999",
+                nanoseconds: 999_999_999,
+                is_cut: true,
+            },
+            Second {
+                text: "+00:00:00.1234567898765432109",
+                nanoseconds: 123_456_789,
+                is_cut: true,
+            },
+            Second {
+                text: "+00:00:00.1234567898765432101234567890987654321",
+                nanoseconds: 123_456_789,
+                is_cut: true,
+            },
+            Second {
+                text: LONGEST,
+                nanoseconds: 123_456_789,
+                is_cut: true,
+            },
+            Second {
+                text: LONGER,
+                nanoseconds: 123_456_789,
+                is_cut: true,
+            },
+        ],
+    );
+}
+
+#[test]
+fn fractions_tell_their_digits(rt: HostRuntime) {
     let rows = [
-        ("+00:00:00.0", Some(0), 0),
-        ("+00:00:00.25", Some(250_000_000), 250_000_000),
-        ("+00:00:00.12345678", Some(123_456_780), 123_456_780),
-        ("+00:00:00.123456789", Some(123_456_789), 123_456_789),
-        ("+00:00:00.000000001", Some(1), 1),
-        ("+00:00:00.1234567890", None, 123_456_789),
-        ("+00:00:00.1234567898", None, 123_456_789),
-        ("+00:00:00.0000000009", None, 0),
-        ("+00:00:00.999999999999999999", None, 999_999_999),
-        ("+00:00:00.1234567898765432109", None, 123_456_789),
+        ("+00:00:00.0", Some((1, 0))),
+        ("+00:00:00.50", Some((2, 50))),
+        ("+00:00:00.00000000000000000150", Some((20, 1))),
         (
             "+00:00:00.1234567898765432101234567890987654321",
-            None,
-            123_456_789,
+            Some((37, 123_456_789_876_543_210)),
         ),
-        (LONGEST, None, 123_456_789),
-        (LONGER, None, 123_456_789),
+        (LONGEST, Some((255, 123_456_789_876_543_210))),
+        (LONGER, Some((255, 123_456_789_876_543_210))),
     ];
-    for (text, exact, cut) in rows {
+    for (text, wanted) in rows {
         let found = fraction_of(text);
-        let nanoseconds = match found {
-            Some(fraction) => (
-                fraction.to_nanoseconds(),
-                fraction.to_truncated_nanoseconds(),
-            ),
-            None => (None, 0),
-        };
-        assert!(rt; found.is_some() && nanoseconds == (exact, cut), "at {text}");
+        let digits = found.map(|fraction| (fraction.digit_count(), fraction.leading_value()));
+        assert_eq!(rt; digits, wanted, "at {text}");
     }
 }
 
@@ -79,7 +156,7 @@ fn a_count_of_digits_ends_at_255(rt: HostRuntime) {
 }
 
 #[test]
-fn records_have_defaults_and_clones(rt: HostRuntime) {
+fn dates_and_times_have_defaults(rt: HostRuntime) {
     let DateRecord { year, month, day } = DateRecord::default();
     assert!(rt; year == 0 && month == 0 && day == 0);
     let TimeRecord {
@@ -89,12 +166,21 @@ fn records_have_defaults_and_clones(rt: HostRuntime) {
         fraction,
     } = TimeRecord::default();
     assert!(rt; hour == 0 && minute == 0 && second == 0 && fraction == None);
-    let record: IxdtfParseRecord<'_, Utf8> = IxdtfParseRecord::default();
-    assert!(rt; record.date == None && record.time == None && record.offset == None);
-    assert!(rt; record.tz == None && record.calendar == None);
-    let wide: IxdtfParseRecord<'_, Utf16> = IxdtfParseRecord::default();
-    assert!(rt; wide.date == None && wide.time == None && wide.offset == None);
-    assert!(rt; wide.tz == None && wide.calendar == None);
+}
+
+// Whether nothing stands in the default record.
+fn has_an_empty_default<T: EncodingType>() -> bool {
+    let record: IxdtfParseRecord<'_, T> = IxdtfParseRecord::default();
+    record.date.is_none()
+        && record.time.is_none()
+        && record.offset.is_none()
+        && record.tz.is_none()
+        && record.calendar.is_none()
+}
+
+#[test]
+fn records_have_defaults_and_clones(rt: HostRuntime) {
+    assert!(rt; has_an_empty_default::<Utf8>() && has_an_empty_default::<Utf16>());
     let annotation: TimeZoneAnnotation<'_, Utf8> = TimeZoneAnnotation {
         critical: true,
         tz: TimeZoneRecord::Name("Europe/Paris".as_bytes()),
@@ -114,57 +200,32 @@ fn offsets_differ_by_their_precision(rt: HostRuntime) {
 
 #[test]
 fn signs_come_from_bools(rt: HostRuntime) {
-    assert_eq!(rt; Sign::from(true), Sign::Positive);
-    assert_eq!(rt; Sign::from(false), Sign::Negative);
+    assert!(rt; Sign::from(true) == Sign::Positive && Sign::from(false) == Sign::Negative);
 }
 
 #[test]
-fn zero_has_a_plus(rt: HostRuntime) {
-    assert_eq!(rt;
-        MinutePrecisionOffset::zero(),
-        minutes(Sign::Positive, 0, 0)
-    );
-}
-
-#[test]
-fn zero_has_no_seconds(rt: HostRuntime) {
+fn zero_has_a_plus_and_no_seconds(rt: HostRuntime) {
+    let zero = MinutePrecisionOffset::zero();
+    assert_eq!(rt; zero, minutes(Sign::Positive, 0, 0));
     assert_eq!(rt; UtcOffsetRecord::zero(), short(Sign::Positive, 0, 0));
 }
 
 #[test]
-fn seconds_end_minute_precision(rt: HostRuntime) {
-    assert!(rt; short_offset().is_minute_precision());
-    assert!(rt; !long_offset().is_minute_precision());
-}
-
-#[test]
-fn offsets_have_a_sign(rt: HostRuntime) {
-    assert_eq!(rt; short_offset().sign(), Sign::Negative);
-    assert_eq!(rt; long_offset().sign(), Sign::Negative);
-}
-
-#[test]
-fn offsets_have_an_hour(rt: HostRuntime) {
-    assert_eq!(rt; short_offset().hour(), 5);
-    assert_eq!(rt; long_offset().hour(), 5);
-}
-
-#[test]
-fn offsets_have_a_minute(rt: HostRuntime) {
-    assert_eq!(rt; short_offset().minute(), 30);
-    assert_eq!(rt; long_offset().minute(), 30);
+fn offsets_have_parts(rt: HostRuntime) {
+    for offset in [short_offset(), long_offset()] {
+        assert_eq!(rt; offset.sign(), Sign::Negative);
+        assert!(rt; offset.hour() == 5 && offset.minute() == 30);
+    }
 }
 
 #[test]
 fn long_offsets_have_a_second(rt: HostRuntime) {
-    assert_eq!(rt; short_offset().second(), None);
-    assert_eq!(rt; long_offset().second(), Some(15));
-}
-
-#[test]
-fn long_offsets_have_a_fraction(rt: HostRuntime) {
-    assert_eq!(rt; short_offset().fraction(), None);
-    assert_eq!(rt; long_offset().fraction(), fraction_of("+00:00:00.25"));
+    let short = short_offset();
+    assert!(rt; short.is_minute_precision() && short.second() == None);
+    assert_eq!(rt; short.fraction(), None);
+    let long = long_offset();
+    assert!(rt; !long.is_minute_precision() && long.second() == Some(15));
+    check_fraction(&rt, "a long offset", &long.fraction(), 250_000_000, false);
 }
 
 #[test]

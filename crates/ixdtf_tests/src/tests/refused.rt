@@ -5,7 +5,7 @@ use super::{
     AT_OFFSET, AT_START, AT_TIME_DESIGNATOR, AT_ZONE, Reader, check_refused,
 };
 use ixdtf::ParseError::{
-    self, AmbiguousTimeMonthDay, AmbiguousTimeYearMonth, AnnotationClose, AnnotationKeyChar,
+    AmbiguousTimeMonthDay, AmbiguousTimeYearMonth, AnnotationClose, AnnotationKeyChar,
     AnnotationKeyLeadingChar, AnnotationKeyValueSeparator, AnnotationValueChar,
     AnnotationValueCharPostHyphen, CriticalDuplicateCalendar, DateDay, DateDurationPartOrder,
     DateExtendedYear, DateMonth, DateSeparator, DateYear, DurationDisgnator,
@@ -15,406 +15,508 @@ use ixdtf::ParseError::{
     TimeSecond, TimeSeparator, TzLeadingChar, UnrecognizedCritical, UtcTimeSeparator,
 };
 
-/// One text for each of the nineteen places, with an `x` there.
-pub(super) const AT_EACH_PLACE: [(&str, ParseError); 19] = [
-    ("x020-02-29T23:59:60", DateYear),
-    ("2x20-02-29T23:59:60", DateYear),
-    ("20x0-02-29T23:59:60", DateYear),
-    ("202x-02-29T23:59:60", DateYear),
-    ("2020x02-29T23:59:60", DateMonth),
-    ("2020-x2-29T23:59:60", DateMonth),
-    ("2020-0x-29T23:59:60", DateMonth),
-    ("2020-02x29T23:59:60", DateSeparator),
-    ("2020-02-x9T23:59:60", DateDay),
-    ("2020-02-2xT23:59:60", DateDay),
-    ("2020-02-29x23:59:60", InvalidEnd),
-    ("2020-02-29Tx3:59:60", TimeHour),
-    ("2020-02-29T2x:59:60", TimeHour),
-    ("2020-02-29T23x59:60", InvalidEnd),
-    ("2020-02-29T23:x9:60", TimeMinuteSecond),
-    ("2020-02-29T23:5x:60", TimeMinuteSecond),
-    ("2020-02-29T23:59x60", InvalidEnd),
-    ("2020-02-29T23:59:x0", TimeSecond),
-    ("2020-02-29T23:59:6x", TimeSecond),
-];
-
-/// Texts whose letters fit each place, and whose numbers are no date or no time; and texts that end or go wrong after it.
-pub(super) const OUT_OF_RANGE: [(&str, ParseError); 13] = [
-    ("2020-02-30T00:00:00", InvalidDayRange),
-    ("2021-02-29T00:00:00", InvalidDayRange),
-    ("2020-01-00T00:00:00", InvalidDayRange),
-    ("2020-01-32T00:00:00", InvalidDayRange),
-    ("2020-00-01T00:00:00", InvalidMonthRange),
-    ("2020-13-01T00:00:00", InvalidMonthRange),
-    ("2020-01-01T24:00:00", TimeHour),
-    ("2020-01-01T00:60:00", TimeMinuteSecond),
-    ("2020-01-01T00:00:61", TimeSecond),
-    ("2020-01-01T00:00:00x", InvalidEnd),
-    ("2020-01-01T00:00:00.x", FractionPart),
-    ("2020-01-01T00:00:00+", AT_DIGIT),
-    ("2020-01-01T00:00:0", AT_DIGIT),
-];
-
 #[test]
 fn refuses_dates(rt: HostRuntime) {
-    let rows = [
-        ("", AT_DIGIT),
-        ("x", DateYear),
-        ("+", AT_DIGIT),
-        ("2020", AT_DATE),
-        ("2020x", DateMonth),
-        ("2020-01", DateSeparator),
-        ("202001", AT_DIGIT),
-        ("202206-05", DateSeparator),
-        ("2020-0101", DateSeparator),
-        ("20-06-05", DateYear),
-        ("02020-01-01", DateMonth),
-        ("2020-W01-1", DateMonth),
-        ("-1000000-11-08", DateMonth),
-        ("2020-001", InvalidMonthRange),
-        ("2020-13-01", InvalidMonthRange),
-        ("2020-01-001", InvalidDayRange),
-        ("2021-02-29", InvalidDayRange),
-        ("-000100-02-29", InvalidDayRange),
-        ("-000000-11-08", DateExtendedYear),
-        ("-P12Y", DateExtendedYear),
-        ("202001x", DateDay),
-        ("2020-01-x", DateDay),
-        ("+10000001108", InvalidEnd),
-        ("2020-01-01é", InvalidEnd),
-    ];
-    check_refused(&rt, Reader::Parse, &rows);
+    check_refused(
+        &rt,
+        Reader::Parse,
+        &[
+            (AT_DIGIT, &["", "+", "202001"]),
+            (DateYear, &["x", "20-06-05"]),
+            (AT_DATE, &["2020"]),
+            (
+                DateMonth,
+                &["2020x", "02020-01-01", "2020-W01-1", "-1000000-11-08"],
+            ),
+            (DateSeparator, &["2020-01", "202206-05", "2020-0101"]),
+            (InvalidMonthRange, &["2020-001", "2020-13-01"]),
+            (
+                InvalidDayRange,
+                &["2020-01-001", "2021-02-29", "-000100-02-29"],
+            ),
+            (DateExtendedYear, &["-000000-11-08", "-P12Y"]),
+            (DateDay, &["202001x", "2020-01-x"]),
+            (InvalidEnd, &["+10000001108", "2020-01-01é"]),
+        ],
+    );
 }
 
 #[test]
 fn refuses_times(rt: HostRuntime) {
-    let rows = [
-        ("2020-01-01T", AT_DIGIT),
-        ("2020-01-01Tx", TimeHour),
-        ("2020-01-01T1", AT_DIGIT),
-        ("2020-01-01T1:", TimeHour),
-        ("2020-01-01T12:x", TimeMinuteSecond),
-        ("2020-01-01T1230x", InvalidEnd),
-        ("2020-01-01T12:30x", InvalidEnd),
-        ("2020-01-01T12:30:", AT_DIGIT),
-        ("2020-01-01T00:00:61", TimeSecond),
-        ("2020-01-01T00:00:00.x", FractionPart),
-        ("2020-01-01T00:00:00.5x", InvalidEnd),
-        ("2020-01-01T001", AT_DIGIT),
-        ("2020-01-01T24", TimeHour),
-        ("2020-01-01T01:60:61", TimeMinuteSecond),
-        ("2020-01-01T01:001", TimeSeparator),
-        ("2022-06-05 0434:22.000", TimeSeparator),
-        ("2022-06-05 03422.000", TimeSecond),
-        ("2020-01-01T00:00:00.", FractionPart),
-        ("2020-01-01T01:01:001", InvalidEnd),
-        ("2020-01-01T00:00:00x", InvalidEnd),
-    ];
-    check_refused(&rt, Reader::Parse, &rows);
+    check_refused(
+        &rt,
+        Reader::Parse,
+        &[
+            (
+                AT_DIGIT,
+                &[
+                    "2020-01-01T",
+                    "2020-01-01T1",
+                    "2020-01-01T12:30:",
+                    "2020-01-01T001",
+                ],
+            ),
+            (
+                TimeHour,
+                &["2020-01-01Tx", "2020-01-01T1:", "2020-01-01T24"],
+            ),
+            (
+                TimeMinuteSecond,
+                &["2020-01-01T12:x", "2020-01-01T01:60:61"],
+            ),
+            (
+                InvalidEnd,
+                &[
+                    "2020-01-01T1230x",
+                    "2020-01-01T12:30x",
+                    "2020-01-01T00:00:00.5x",
+                    "2020-01-01T01:01:001",
+                    "2020-01-01T00:00:00x",
+                ],
+            ),
+            (TimeSecond, &["2020-01-01T00:00:61", "2022-06-05 03422.000"]),
+            (
+                FractionPart,
+                &["2020-01-01T00:00:00.x", "2020-01-01T00:00:00."],
+            ),
+            (
+                TimeSeparator,
+                &["2020-01-01T01:001", "2022-06-05 0434:22.000"],
+            ),
+        ],
+    );
 }
 
+// One text for each of the nineteen places, with an `x` there.
 #[test]
 fn refuses_at_each_fixed_place(rt: HostRuntime) {
-    check_refused(&rt, Reader::Parse, &AT_EACH_PLACE);
-    check_refused(&rt, Reader::Parse, &OUT_OF_RANGE);
+    check_refused(
+        &rt,
+        Reader::Parse,
+        &[
+            (
+                DateYear,
+                &[
+                    "x020-02-29T23:59:60",
+                    "2x20-02-29T23:59:60",
+                    "20x0-02-29T23:59:60",
+                    "202x-02-29T23:59:60",
+                ],
+            ),
+            (
+                DateMonth,
+                &[
+                    "2020x02-29T23:59:60",
+                    "2020-x2-29T23:59:60",
+                    "2020-0x-29T23:59:60",
+                ],
+            ),
+            (DateSeparator, &["2020-02x29T23:59:60"]),
+            (DateDay, &["2020-02-x9T23:59:60", "2020-02-2xT23:59:60"]),
+            (
+                InvalidEnd,
+                &[
+                    "2020-02-29x23:59:60",
+                    "2020-02-29T23x59:60",
+                    "2020-02-29T23:59x60",
+                ],
+            ),
+            (TimeHour, &["2020-02-29Tx3:59:60", "2020-02-29T2x:59:60"]),
+            (
+                TimeMinuteSecond,
+                &["2020-02-29T23:x9:60", "2020-02-29T23:5x:60"],
+            ),
+            (TimeSecond, &["2020-02-29T23:59:x0", "2020-02-29T23:59:6x"]),
+        ],
+    );
+}
+
+// Texts whose letters fit each place, and whose numbers are no date or no time; and texts that end or go wrong after it.
+#[test]
+fn refuses_numbers_at_fixed_places(rt: HostRuntime) {
+    check_refused(
+        &rt,
+        Reader::Parse,
+        &[
+            (
+                InvalidDayRange,
+                &[
+                    "2020-02-30T00:00:00",
+                    "2021-02-29T00:00:00",
+                    "2020-01-00T00:00:00",
+                    "2020-01-32T00:00:00",
+                ],
+            ),
+            (
+                InvalidMonthRange,
+                &["2020-00-01T00:00:00", "2020-13-01T00:00:00"],
+            ),
+            (TimeHour, &["2020-01-01T24:00:00"]),
+            (TimeMinuteSecond, &["2020-01-01T00:60:00"]),
+            (TimeSecond, &["2020-01-01T00:00:61"]),
+            (InvalidEnd, &["2020-01-01T00:00:00x", "2020-01-01x00:00:00"]),
+            (FractionPart, &["2020-01-01T00:00:00.x"]),
+            (AT_DIGIT, &["2020-01-01T00:00:00+", "2020-01-01T00:00:0"]),
+        ],
+    );
 }
 
 #[test]
 fn refuses_offsets_after_times(rt: HostRuntime) {
-    let rows = [
-        ("2020-01-01+05:00", InvalidEnd),
-        ("2020-01-01Z", InvalidEnd),
-        ("2020-01-01T00:00:00+", AT_DIGIT),
-        ("2020-01-01T00:00:00Zx", InvalidEnd),
-        ("2020-01-01T00:00:00+01:00Z", InvalidEnd),
-        ("2024-08-24T14:00:00-05:00:60", TimeMinuteSecond),
-        ("2024-08-24T14:00:00-050060", TimeMinuteSecond),
-        ("2024-08-24T14:00:00-05:0060", UtcTimeSeparator),
-        ("2024-08-24T14:00:00-5:00", TimeHour),
-        ("2024-08-24T14:00:00-05:00[-05:00.1]", AnnotationClose),
-    ];
-    check_refused(&rt, Reader::Parse, &rows);
+    check_refused(
+        &rt,
+        Reader::Parse,
+        &[
+            (
+                InvalidEnd,
+                &[
+                    "2020-01-01+05:00",
+                    "2020-01-01Z",
+                    "2020-01-01T00:00:00Zx",
+                    "2020-01-01T00:00:00+01:00Z",
+                ],
+            ),
+            (AT_DIGIT, &["2020-01-01T00:00:00+"]),
+            (
+                TimeMinuteSecond,
+                &["2024-08-24T14:00:00-05:00:60", "2024-08-24T14:00:00-050060"],
+            ),
+            (UtcTimeSeparator, &["2024-08-24T14:00:00-05:0060"]),
+            (TimeHour, &["2024-08-24T14:00:00-5:00"]),
+            (AnnotationClose, &["2024-08-24T14:00:00-05:00[-05:00.1]"]),
+        ],
+    );
 }
 
 #[test]
 fn refuses_brackets(rt: HostRuntime) {
-    let rows = [
-        ("2020-01-01[", AT_BRACKET),
-        ("2020-01-01[!", AT_BRACKET),
-        ("2020-01-01[cet", AT_BRACKET),
-        ("2020-01-01[!cet", AT_BRACKET),
-        ("2020-01-01[]", TzLeadingChar),
-        ("2020-01-01[!]", TzLeadingChar),
-        ("2020-01-01[!!UTC]", TzLeadingChar),
-        ("2020-01-01[+]", TimeHour),
-        ("2020-01-01[-05:00:60]", InvalidMinutePrecisionOffset),
-        ("2020-01-01[+05:00", AnnotationClose),
-        ("2020-01-01[+05:00.1]", AnnotationClose),
-        ("2020-04-08[Amer", AnnotationClose),
-        ("2020-01-01[UTC=x]", IanaChar),
-        ("2020-01-01[A=b]", IanaChar),
-        ("2020-01-01[cet!]", IanaChar),
-        ("2020-04-08[America/Chicago)", IanaChar),
-        ("2020-01-01[_x/]", IanaCharPostSeparator),
-        ("2020-01-01[America//Chicago]", IanaCharPostSeparator),
-        ("2020-04-08[America/ Chicago)", IanaCharPostSeparator),
-        ("2020-01-01T00:00:00+00:00[UTC]junk", InvalidEnd),
-    ];
-    check_refused(&rt, Reader::Parse, &rows);
+    check_refused(
+        &rt,
+        Reader::Parse,
+        &[
+            (
+                AT_BRACKET,
+                &[
+                    "2020-01-01[",
+                    "2020-01-01[!",
+                    "2020-01-01[cet",
+                    "2020-01-01[!cet",
+                ],
+            ),
+            (
+                TzLeadingChar,
+                &["2020-01-01[]", "2020-01-01[!]", "2020-01-01[!!UTC]"],
+            ),
+            (TimeHour, &["2020-01-01[+]"]),
+            (InvalidMinutePrecisionOffset, &["2020-01-01[-05:00:60]"]),
+            (
+                AnnotationClose,
+                &[
+                    "2020-01-01[+05:00",
+                    "2020-01-01[+05:00.1]",
+                    "2020-04-08[Amer",
+                ],
+            ),
+            (
+                IanaChar,
+                &[
+                    "2020-01-01[UTC=x]",
+                    "2020-01-01[A=b]",
+                    "2020-01-01[cet!]",
+                    "2020-04-08[America/Chicago)",
+                ],
+            ),
+            (
+                IanaCharPostSeparator,
+                &[
+                    "2020-01-01[_x/]",
+                    "2020-01-01[America//Chicago]",
+                    "2020-04-08[America/ Chicago)",
+                ],
+            ),
+            (InvalidEnd, &["2020-01-01T00:00:00+00:00[UTC]junk"]),
+        ],
+    );
 }
 
 #[test]
 fn refuses_pairs(rt: HostRuntime) {
-    let rows = [
-        ("2020-01-01[a=b]junk", InvalidEnd),
-        ("2020-01-01[u-cA=iso8601]", AnnotationKeyChar),
-        ("2020-01-01[_!=]", AnnotationKeyChar),
-        ("2020-01-01[a=b][u]", AnnotationKeyChar),
-        ("2020-01-01[u][a", AnnotationKeyValueSeparator),
-        ("2020-01-01[u][", AnnotationKeyLeadingChar),
-        ("2020-01-01[UTC][!", AnnotationKeyLeadingChar),
-        ("2020-01-01[a=b][!!c=d]", AnnotationKeyLeadingChar),
-        (
-            "2020-01-01[u-ca=a][Europe/London]",
-            AnnotationKeyLeadingChar,
-        ),
-        ("2020-01-01[a=", AnnotationValueChar),
-        ("2020-01-01[a=]", AnnotationValueChar),
-        ("2020-01-01[u-ca=-iso]", AnnotationValueChar),
-        ("2020-01-01[u-ca=iso8601)", AnnotationValueChar),
-        ("2020-01-01[a=b", AnnotationClose),
-        ("2020-01-01[u-ca=iso-]", AnnotationValueCharPostHyphen),
-        ("2020-01-01[u-ca=iso--8601]", AnnotationValueCharPostHyphen),
-    ];
-    check_refused(&rt, Reader::Parse, &rows);
+    check_refused(
+        &rt,
+        Reader::Parse,
+        &[
+            (InvalidEnd, &["2020-01-01[a=b]junk"]),
+            (
+                AnnotationKeyChar,
+                &[
+                    "2020-01-01[u-cA=iso8601]",
+                    "2020-01-01[_!=]",
+                    "2020-01-01[a=b][u]",
+                ],
+            ),
+            (AnnotationKeyValueSeparator, &["2020-01-01[u][a"]),
+            (
+                AnnotationKeyLeadingChar,
+                &[
+                    "2020-01-01[u][",
+                    "2020-01-01[UTC][!",
+                    "2020-01-01[a=b][!!c=d]",
+                    "2020-01-01[u-ca=a][Europe/London]",
+                ],
+            ),
+            (
+                AnnotationValueChar,
+                &[
+                    "2020-01-01[a=",
+                    "2020-01-01[a=]",
+                    "2020-01-01[u-ca=-iso]",
+                    "2020-01-01[u-ca=iso8601)",
+                ],
+            ),
+            (AnnotationClose, &["2020-01-01[a=b"]),
+            (
+                AnnotationValueCharPostHyphen,
+                &["2020-01-01[u-ca=iso-]", "2020-01-01[u-ca=iso--8601]"],
+            ),
+        ],
+    );
 }
 
 #[test]
 fn refuses_critical_pairs(rt: HostRuntime) {
-    let unknown = UnrecognizedCritical;
-    let duplicate = CriticalDuplicateCalendar;
-    let rows = [
-        ("2020-01-01[!a=b]", unknown),
-        ("2020-01-01[!a=b]junk", unknown),
-        ("2020-01-01[cet][!u-cb=iso8601]", unknown),
-        ("2020-01-01[u-ca=a][!u-ca=b]", duplicate),
-        ("2020-01-01[!u-ca=a][u-ca=b]", duplicate),
-        ("2020-01-01[!u-ca=a][u-ca=a][u-ca=b][", duplicate),
-        ("2020-01-01[u-ca=a][u-ca=b][!u-ca=b]", duplicate),
-    ];
-    check_refused(&rt, Reader::Parse, &rows);
+    check_refused(
+        &rt,
+        Reader::Parse,
+        &[
+            (
+                UnrecognizedCritical,
+                &[
+                    "2020-01-01[!a=b]",
+                    "2020-01-01[!a=b]junk",
+                    "2020-01-01[cet][!u-cb=iso8601]",
+                ],
+            ),
+            (
+                CriticalDuplicateCalendar,
+                &[
+                    "2020-01-01[u-ca=a][!u-ca=b]",
+                    "2020-01-01[!u-ca=a][u-ca=b]",
+                    "2020-01-01[!u-ca=a][u-ca=a][u-ca=b][",
+                    "2020-01-01[u-ca=a][u-ca=b][!u-ca=b]",
+                ],
+            ),
+        ],
+    );
 }
 
 #[test]
 fn refuses_year_months(rt: HostRuntime) {
-    let rows = [
-        ("", AT_DIGIT),
-        ("x", DateYear),
-        ("20-11", DateYear),
-        ("+", AT_DIGIT),
-        ("-P12Y", DateExtendedYear),
-        ("-000000-11", DateExtendedYear),
-        ("2020", AT_DIGIT),
-        ("2020-", AT_DIGIT),
-        ("2020x", DateMonth),
-        ("-202011[!u-ca=iso8601]", DateMonth),
-        ("2020-13", InvalidMonthRange),
-        ("202000", InvalidMonthRange),
-        ("2020-01-01", InvalidEnd),
-        ("-00202011Z[Europe/Berlin]", InvalidEnd),
-        ("2020-01[UTC", AnnotationClose),
-        ("2020-01[!c=d]", UnrecognizedCritical),
-    ];
-    check_refused(&rt, Reader::YearMonth, &rows);
+    check_refused(
+        &rt,
+        Reader::YearMonth,
+        &[
+            (AT_DIGIT, &["", "+", "2020", "2020-"]),
+            (DateYear, &["x", "20-11"]),
+            (DateExtendedYear, &["-P12Y", "-000000-11"]),
+            (DateMonth, &["2020x", "-202011[!u-ca=iso8601]"]),
+            (InvalidMonthRange, &["2020-13", "202000"]),
+            (InvalidEnd, &["2020-01-01", "-00202011Z[Europe/Berlin]"]),
+            (AnnotationClose, &["2020-01[UTC"]),
+            (UnrecognizedCritical, &["2020-01[!c=d]"]),
+        ],
+    );
 }
 
 #[test]
 fn refuses_month_days(rt: HostRuntime) {
-    let rows = [
-        ("", AT_MONTH_DAY),
-        ("-", AT_MONTH_DAY),
-        ("x", DateMonth),
-        ("-11-07", MonthDayHyphen),
-        ("--", AT_DIGIT),
-        ("1-07", DateMonth),
-        ("13-07", InvalidMonthRange),
-        ("11", AT_DIGIT),
-        ("11/07", DateDay),
-        ("11-", AT_DIGIT),
-        ("11-0x", DateDay),
-        ("02-30", InvalidMonthDay),
-        ("04-31", InvalidMonthDay),
-        ("12-32", InvalidMonthDay),
-        ("11-071", InvalidEnd),
-        ("11-07[a=b", AnnotationClose),
-    ];
-    check_refused(&rt, Reader::MonthDay, &rows);
+    check_refused(
+        &rt,
+        Reader::MonthDay,
+        &[
+            (AT_MONTH_DAY, &["", "-"]),
+            (DateMonth, &["x", "1-07"]),
+            (MonthDayHyphen, &["-11-07"]),
+            (AT_DIGIT, &["--", "11", "11-"]),
+            (InvalidMonthRange, &["13-07"]),
+            (DateDay, &["11/07", "11-0x"]),
+            (InvalidMonthDay, &["02-30", "04-31", "12-32"]),
+            (InvalidEnd, &["11-071"]),
+            (AnnotationClose, &["11-07[a=b"]),
+        ],
+    );
 }
 
 #[test]
 fn refuses_times_alone(rt: HostRuntime) {
-    let rows = [
-        ("", AT_DIGIT),
-        ("T", AT_DIGIT),
-        ("x", TimeHour),
-        ("24-12-08", TimeHour),
-        ("20240801", InvalidEnd),
-        ("T19:12-089", AT_DIGIT),
-        ("T19:120-08", TimeSeparator),
-        ("T19-12-08", InvalidEnd),
-        ("T1214[", AT_BRACKET),
-        ("12:00Z[UTC]junk", InvalidEnd),
-    ];
-    check_refused(&rt, Reader::Time, &rows);
+    check_refused(
+        &rt,
+        Reader::Time,
+        &[
+            (AT_DIGIT, &["", "T", "T19:12-089"]),
+            (TimeHour, &["x", "24-12-08"]),
+            (InvalidEnd, &["20240801", "T19-12-08", "12:00Z[UTC]junk"]),
+            (TimeSeparator, &["T19:120-08"]),
+            (AT_BRACKET, &["T1214["]),
+        ],
+    );
 }
 
 #[test]
 fn refuses_times_that_read_as_dates(rt: HostRuntime) {
-    let rows = [
-        ("0229", AmbiguousTimeMonthDay),
-        ("1208-10", AmbiguousTimeMonthDay),
-        ("1200", AmbiguousTimeMonthDay),
-        ("121430", AmbiguousTimeMonthDay),
-        ("1214Z", AmbiguousTimeMonthDay),
-        ("12-14[-14:00]", AmbiguousTimeMonthDay),
-        ("1214[", AmbiguousTimeMonthDay),
-        ("1200é", InvalidEnd),
-        ("2021-12", AmbiguousTimeYearMonth),
-        ("202112[UTC]", AmbiguousTimeYearMonth),
-    ];
-    check_refused(&rt, Reader::Time, &rows);
+    check_refused(
+        &rt,
+        Reader::Time,
+        &[
+            (
+                AmbiguousTimeMonthDay,
+                &[
+                    "0229",
+                    "1208-10",
+                    "1200",
+                    "121430",
+                    "1214Z",
+                    "12-14[-14:00]",
+                    "1214[",
+                ],
+            ),
+            (InvalidEnd, &["1200é"]),
+            (AmbiguousTimeYearMonth, &["2021-12", "202112[UTC]"]),
+        ],
+    );
 }
 
 #[test]
 fn refuses_offsets(rt: HostRuntime) {
-    let rows = [
-        ("", AT_OFFSET),
-        ("+", AT_DIGIT),
-        ("+0", AT_DIGIT),
-        ("00:00", OffsetNeedsSign),
-        ("Z", OffsetNeedsSign),
-        ("+08:0000", UtcTimeSeparator),
-        ("+0800:00", UtcTimeSeparator),
-        ("+24", TimeHour),
-        ("+08:60", TimeMinuteSecond),
-        ("+08:00:60", TimeMinuteSecond),
-        ("+08:00:5x", TimeMinuteSecond),
-        ("+08:00:00.", FractionPart),
-        ("+08:00[", InvalidEnd),
-        ("+08:00:00[", InvalidEnd),
-        ("+05.5", InvalidEnd),
-    ];
-    check_refused(&rt, Reader::Offset, &rows);
+    check_refused(
+        &rt,
+        Reader::Offset,
+        &[
+            (AT_OFFSET, &[""]),
+            (AT_DIGIT, &["+", "+0"]),
+            (OffsetNeedsSign, &["00:00", "Z"]),
+            (UtcTimeSeparator, &["+08:0000", "+0800:00"]),
+            (TimeHour, &["+24"]),
+            (TimeMinuteSecond, &["+08:60", "+08:00:60", "+08:00:5x"]),
+            (FractionPart, &["+08:00:00."]),
+            (InvalidEnd, &["+08:00[", "+08:00:00[", "+05.5"]),
+        ],
+    );
 }
 
 #[test]
 fn refuses_zones(rt: HostRuntime) {
-    let rows = [
-        ("", AT_ZONE),
-        ("1UTC", TzLeadingChar),
-        ("UTC]", InvalidEnd),
-        ("UTC!", IanaChar),
-        ("America/", IanaCharPostSeparator),
-        ("+0", AT_DIGIT),
-        ("+24:00", TimeHour),
-        ("+00:60", TimeMinuteSecond),
-        ("+00:00:00", InvalidMinutePrecisionOffset),
-        ("+000000", InvalidMinutePrecisionOffset),
-        ("+00:00.1", InvalidEnd),
-        ("+00:00]", InvalidEnd),
-    ];
-    check_refused(&rt, Reader::Identifier, &rows);
+    check_refused(
+        &rt,
+        Reader::Identifier,
+        &[
+            (AT_ZONE, &[""]),
+            (TzLeadingChar, &["1UTC"]),
+            (InvalidEnd, &["UTC]", "+00:00.1", "+00:00]"]),
+            (IanaChar, &["UTC!"]),
+            (IanaCharPostSeparator, &["America/"]),
+            (AT_DIGIT, &["+0"]),
+            (TimeHour, &["+24:00"]),
+            (TimeMinuteSecond, &["+00:60"]),
+            (InvalidMinutePrecisionOffset, &["+00:00:00", "+000000"]),
+        ],
+    );
 }
 
 #[test]
 fn refuses_names(rt: HostRuntime) {
-    let rows = [
-        ("", TzLeadingChar),
-        ("+05:00", TzLeadingChar),
-        ("1UTC", TzLeadingChar),
-        ("é", TzLeadingChar),
-        ("UTC!", IanaChar),
-        ("UTC=x", IanaChar),
-        ("America/", IanaCharPostSeparator),
-        ("America//Chicago", IanaCharPostSeparator),
-        ("UTC]", InvalidEnd),
-    ];
-    check_refused(&rt, Reader::IanaIdentifier, &rows);
+    check_refused(
+        &rt,
+        Reader::IanaIdentifier,
+        &[
+            (TzLeadingChar, &["", "+05:00", "1UTC", "é"]),
+            (IanaChar, &["UTC!", "UTC=x"]),
+            (IanaCharPostSeparator, &["America/", "America//Chicago"]),
+            (InvalidEnd, &["UTC]"]),
+        ],
+    );
 }
 
 #[test]
 fn refuses_durations(rt: HostRuntime) {
-    let rows = [
-        ("", AT_START),
-        ("x", DurationDisgnator),
-        ("1Y", DurationDisgnator),
-        ("-", AT_DESIGNATOR),
-        ("+T1H", DurationDisgnator),
-        ("--P1Y", DurationDisgnator),
-        ("P", AT_DURATION),
-        ("-p", AT_DURATION),
-        ("PX", InvalidEnd),
-        ("P-1Y", InvalidEnd),
-        ("P1YX", InvalidEnd),
-        ("P1Y ", InvalidEnd),
-        ("P1Y[u-ca=iso8601]", InvalidEnd),
-        ("+PT", TimeDurationDesignator),
-        ("-PT", TimeDurationDesignator),
-        ("P1YT", TimeDurationDesignator),
-        ("P1YTX", TimeDurationDesignator),
-        ("PT1HT1M", InvalidEnd),
-        ("PT1HX", InvalidEnd),
-        ("P1Yé", InvalidEnd),
-    ];
-    check_refused(&rt, Reader::Duration, &rows);
+    check_refused(
+        &rt,
+        Reader::Duration,
+        &[
+            (AT_START, &[""]),
+            (DurationDisgnator, &["x", "1Y", "+T1H", "--P1Y"]),
+            (AT_DESIGNATOR, &["-"]),
+            (AT_DURATION, &["P", "-p"]),
+            (
+                InvalidEnd,
+                &[
+                    "PX",
+                    "P-1Y",
+                    "P1YX",
+                    "P1Y ",
+                    "P1Y[u-ca=iso8601]",
+                    "PT1HT1M",
+                    "PT1HX",
+                    "P1Yé",
+                ],
+            ),
+            (TimeDurationDesignator, &["+PT", "-PT", "P1YT", "P1YTX"]),
+        ],
+    );
 }
 
 #[test]
 fn refuses_numbers_of_durations(rt: HostRuntime) {
-    let rows = [
-        ("P1", AT_DATE_DESIGNATOR),
-        ("P1H", AT_DATE_DESIGNATOR),
-        ("P1T1H", AT_DATE_DESIGNATOR),
-        ("P1Y1M1W0,5D", AT_DATE_DESIGNATOR),
-        ("P4294967296X", AT_DATE_DESIGNATOR),
-        ("PT1", AT_TIME_DESIGNATOR),
-        ("PT1Y", AT_TIME_DESIGNATOR),
-        ("PT1.5", AT_TIME_DESIGNATOR),
-        ("PT1.5X", AT_TIME_DESIGNATOR),
-        ("PT1.5.5S", AT_TIME_DESIGNATOR),
-        ("PT1.", FractionPart),
-        ("PT1.H", FractionPart),
-        ("P4294967296Y", DurationValueExceededRange),
-        ("P4294967296m", DurationValueExceededRange),
-        ("P1Y4294967296W", DurationValueExceededRange),
-        ("P1Y4294967296Y", DurationValueExceededRange),
-        ("P18446744073709551616D", DurationValueExceededRange),
-        ("P99999999999999999999X", DurationValueExceededRange),
-        ("PT18446744073709551616S", DurationValueExceededRange),
-        (
-            "P1YT1000000000000000000000000000000000000000H",
-            DurationValueExceededRange,
-        ),
-    ];
-    check_refused(&rt, Reader::Duration, &rows);
+    check_refused(
+        &rt,
+        Reader::Duration,
+        &[
+            (
+                AT_DATE_DESIGNATOR,
+                &["P1", "P1H", "P1T1H", "P1Y1M1W0,5D", "P4294967296X"],
+            ),
+            (
+                AT_TIME_DESIGNATOR,
+                &["PT1", "PT1Y", "PT1.5", "PT1.5X", "PT1.5.5S"],
+            ),
+            (FractionPart, &["PT1.", "PT1.H"]),
+            (
+                DurationValueExceededRange,
+                &[
+                    "P4294967296Y",
+                    "P4294967296m",
+                    "P1Y4294967296W",
+                    "P1Y4294967296Y",
+                    "P18446744073709551616D",
+                    "P99999999999999999999X",
+                    "PT18446744073709551616S",
+                    "P1YT1000000000000000000000000000000000000000H",
+                ],
+            ),
+        ],
+    );
 }
 
 #[test]
 fn refuses_orders_of_durations(rt: HostRuntime) {
-    let rows = [
-        ("P1D1Y", DateDurationPartOrder),
-        ("P1W1M", DateDurationPartOrder),
-        ("P1Y1M1Y", DateDurationPartOrder),
-        ("P1D4294967296Y", DateDurationPartOrder),
-        ("P1D1Y1", DateDurationPartOrder),
-        ("PT1S1M", TimeDurationPartOrder),
-        ("PT1M1H", TimeDurationPartOrder),
-        ("PT1M1.5H", TimeDurationPartOrder),
-        ("PT0.5H1M", InvalidEnd),
-        ("PT0.5M1H", InvalidEnd),
-        ("PT0.5H1", InvalidEnd),
-        ("PT0.5H1H", InvalidEnd),
-        ("P1Y1M1W1DT1H0.5M0.5S", InvalidEnd),
-    ];
-    check_refused(&rt, Reader::Duration, &rows);
+    check_refused(
+        &rt,
+        Reader::Duration,
+        &[
+            (
+                DateDurationPartOrder,
+                &["P1D1Y", "P1W1M", "P1Y1M1Y", "P1D4294967296Y", "P1D1Y1"],
+            ),
+            (TimeDurationPartOrder, &["PT1S1M", "PT1M1H", "PT1M1.5H"]),
+            (
+                InvalidEnd,
+                &[
+                    "PT0.5H1M",
+                    "PT0.5M1H",
+                    "PT0.5H1",
+                    "PT0.5H1H",
+                    "P1Y1M1W1DT1H0.5M0.5S",
+                ],
+            ),
+        ],
+    );
 }

@@ -1,10 +1,15 @@
 use super::wide::Wide;
 use super::widths::same_calendar;
-use super::{AT_DIGIT, Record, fraction_of, parts, timed};
+use super::{AT_DIGIT, Record, check_fraction, dated, fraction_of, parts, timed};
+use ixdtf::ParseError::{
+    self, AnnotationClose, AnnotationKeyLeadingChar, AnnotationKeyValueSeparator,
+    AnnotationValueChar, CriticalDuplicateCalendar, DateYear, InvalidEnd, InvalidMonthRange,
+    NonAsciiCodePoint, TzLeadingChar, UnrecognizedCritical,
+};
+use ixdtf::ParserResult;
 use ixdtf::encoding::{EncodingType, Utf8, Utf16};
 use ixdtf::parsers::IxdtfParser;
-use ixdtf::records::{Annotation, IxdtfParseRecord, TimeRecord, UtcOffsetRecordOrZ};
-use ixdtf::{ParseError, ParserResult};
+use ixdtf::records::{Annotation, IxdtfParseRecord, UtcOffsetRecordOrZ};
 use std::process::Abort;
 
 /// What a handler replies.
@@ -169,7 +174,7 @@ pub(super) enum Form {
 
 // What the reader gives with the listener for its handler.
 fn heard<'a, T: Foreign + 'static>(
-    mut parser: IxdtfParser<'a, T>,
+    parser: &mut IxdtfParser<'a, T>,
     form: Form,
     listener: &mut Listener,
 ) -> ParserResult<IxdtfParseRecord<'a, T>> {
@@ -189,341 +194,482 @@ fn heard<'a, T: Foreign + 'static>(
     }
 }
 
-// What a text gives with a handler, and whether these calls of it were made, in this order, and no more.
-pub(super) fn handled(
-    form: Form,
-    text: &'static str,
-    kind: Kind,
-    calls: &'static str,
-) -> (ParserResult<Record>, bool) {
-    let mut listener = Listener::new(kind);
-    let found = heard(IxdtfParser::from_str(text), form, &mut listener);
-    (found, listener.has_heard(calls))
+/// A text, and the calls of a handler that it makes, in order.
+pub(super) struct Asked {
+    pub(super) form: Form,
+    pub(super) text: &'static str,
+    pub(super) kind: Kind,
+    pub(super) calls: &'static str,
 }
 
-// A text gives this with a handler, after these calls of it, in this order, and no more.
-pub(super) fn check_handled(
-    rt: &impl Abort,
-    form: Form,
-    text: &'static str,
-    kind: Kind,
-    calls: &'static str,
-    wanted: &ParserResult<Record>,
-) {
-    let (found, as_listed) = handled(form, text, kind, calls);
-    assert!(rt; found == *wanted, "at {text}");
-    assert!(rt; as_listed, "at {text}");
+/// Each text gives this with its handler, after its calls and no more.
+pub(super) fn check_handled(rt: &impl Abort, wanted: &ParserResult<Record>, rows: &[Asked]) {
+    for row in rows {
+        let mut listener = Listener::new(row.kind);
+        let mut parser = IxdtfParser::from_str(row.text);
+        let found = heard(&mut parser, row.form, &mut listener);
+        assert!(rt; found == *wanted, "at {}", row.text);
+        assert!(rt; listener.has_heard(row.calls), "at {}", row.text);
+    }
 }
 
-// Whether a text in 16-bit units is refused with this error, or gives this calendar, after these calls.
-pub(super) fn heeds_wide(
-    form: Form,
-    text: &'static str,
-    kind: Kind,
-    calls: &'static str,
-    error: Option<ParseError>,
-    calendar: Option<&'static str>,
-) -> bool {
-    let mut listener = Listener::new(kind);
-    let wide = Wide::new(text);
-    let found = heard(IxdtfParser::from_utf16(wide.units()), form, &mut listener);
-    let as_wanted = match found {
+/// The text is read, and the parser refuses then as it refuses the empty text, with no call of the handler.
+pub(super) fn check_read_once(rt: &impl Abort, form: Form, text: &'static str, at_end: ParseError) {
+    let mut parser = IxdtfParser::from_str(text);
+    let mut first_calls = Listener::new(Kind::HandsBack);
+    let first = heard(&mut parser, form, &mut first_calls);
+    assert!(rt; first.is_ok(), "at {text}");
+    let mut more_calls = Listener::new(Kind::HandsBack);
+    let second = heard(&mut parser, form, &mut more_calls);
+    assert!(rt;
+        second == Err(at_end) && more_calls.has_heard(""),
+        "after {text}"
+    );
+    let mut empty = IxdtfParser::from_str("");
+    let third = heard(&mut empty, form, &mut more_calls);
+    assert!(rt; third == Err(at_end), "instead of {text}");
+}
+
+// Whether a text in 16-bit units is refused with this error, or gives this calendar and no zone, after its calls.
+fn heeds_wide(asked: &Asked, error: Option<ParseError>, calendar: Option<&'static str>) -> bool {
+    let mut listener = Listener::new(asked.kind);
+    let wide = Wide::new(asked.text);
+    let mut parser = IxdtfParser::from_utf16(wide.units());
+    let as_wanted = match heard(&mut parser, asked.form, &mut listener) {
         Ok(record) => {
             let name = calendar.map(|name| name.as_bytes());
             error.is_none() && record.tz.is_none() && same_calendar(name, record.calendar)
         }
         Err(found) => error == Some(found),
     };
-    as_wanted && listener.has_heard(calls)
+    as_wanted && listener.has_heard(asked.calls)
 }
 
-// Half a second past midnight.
-fn half_a_second() -> Option<TimeRecord> {
-    timed(0, 0, 0, fraction_of("+00:00:00.5"))
+/// Each text in 16-bit units is refused with this error, after its calls and no more.
+pub(super) fn check_wide_refusals(rt: &impl Abort, error: ParseError, rows: &[Asked]) {
+    for row in rows {
+        assert!(rt; heeds_wide(row, Some(error), None), "at {}", row.text);
+    }
+}
+
+/// Each text in 16-bit units gives this calendar and no zone, after its calls and no more.
+pub(super) fn check_wide_calendars(
+    rt: &impl Abort,
+    calendar: Option<&'static str>,
+    rows: &[Asked],
+) {
+    for row in rows {
+        assert!(rt; heeds_wide(row, None, calendar), "at {}", row.text);
+    }
 }
 
 #[test]
 fn heeds_handlers(rt: HostRuntime) {
-    let rows: [(
-        &'static str,
-        Kind,
-        &'static str,
-        Option<TimeRecord>,
-        Option<UtcOffsetRecordOrZ>,
-        Option<&'static str>,
-    ); 9] = [
-        (
-            "2020-01-01[u-ca=a0sa-2l4s][u-ca=a0sa-2l4s][answer-to-universe=hebrew][a=gregory][u-ca=45W-E0h61U-kXpZ]",
-            Kind::HandsBack,
-            "[u-ca=a0sa-2l4s][u-ca=a0sa-2l4s][answer-to-universe=hebrew][a=gregory][u-ca=45W-E0h61U-kXpZ]",
-            None,
-            None,
-            Some("a0sa-2l4s"),
-        ),
-        (
-            "20200101T12[u-ca=A][qe7idr62=O-QXB-Ir]",
-            Kind::HandsBack,
-            "[u-ca=A][qe7idr62=O-QXB-Ir]",
+    check_handled(
+        &rt,
+        &Ok(dated(2020, 1, 1, None)),
+        &[
+            Asked {
+                form: Form::Parse,
+                text: "2020-01-01[a=a1]",
+                kind: Kind::HandsBack,
+                calls: "[a=a1]",
+            },
+            Asked {
+                form: Form::Parse,
+                text: "2020-01-01[u-ca=gregory][!u-ca=1][!u-ca=a0sa-2l4s][u-ca=k-H0EGv]",
+                kind: Kind::RepliesNone,
+                calls: "[u-ca=gregory][!u-ca=1][!u-ca=a0sa-2l4s][u-ca=k-H0EGv]",
+            },
+            Asked {
+                form: Form::Parse,
+                text: "2020-01-01[u-ca=japanese][!u-ca=FE-4-s-y]",
+                kind: Kind::RepliesNone,
+                calls: "[u-ca=japanese][!u-ca=FE-4-s-y]",
+            },
+        ],
+    );
+    check_handled(
+        &rt,
+        &Ok(parts(Some((2020, 1, 1)), None, None, None, Some("a0sa-2l4s"))),
+        &[Asked {
+            form: Form::Parse,
+            text: "2020-01-01[u-ca=a0sa-2l4s][u-ca=a0sa-2l4s][answer-to-universe=hebrew][a=gregory][u-ca=45W-E0h61U-kXpZ]",
+            kind: Kind::HandsBack,
+            calls: "[u-ca=a0sa-2l4s][u-ca=a0sa-2l4s][answer-to-universe=hebrew][a=gregory][u-ca=45W-E0h61U-kXpZ]",
+        }],
+    );
+    check_handled(
+        &rt,
+        &Ok(parts(
+            Some((2020, 1, 1)),
             timed(12, 0, 0, None),
             None,
+            None,
             Some("A"),
-        ),
-        (
-            "2020-01-01[a=a1]",
-            Kind::HandsBack,
-            "[a=a1]",
-            None,
-            None,
-            None,
-        ),
-        (
-            "2020-01-01[u-ca=gregory][!u-ca=1][!u-ca=a0sa-2l4s][u-ca=k-H0EGv]",
-            Kind::RepliesNone,
-            "[u-ca=gregory][!u-ca=1][!u-ca=a0sa-2l4s][u-ca=k-H0EGv]",
-            None,
-            None,
-            None,
-        ),
-        (
-            "2020-01-01 00:00:00.5Z[!u-ca=A]",
-            Kind::RepliesNone,
-            "[!u-ca=A]",
-            half_a_second(),
-            Some(UtcOffsetRecordOrZ::Z),
-            None,
-        ),
-        (
-            "2020-01-01[u-ca=japanese][!u-ca=FE-4-s-y]",
-            Kind::RepliesNone,
-            "[u-ca=japanese][!u-ca=FE-4-s-y]",
-            None,
-            None,
-            None,
-        ),
-        (
-            "2020-01-01 00:00:00.5Z[!u-ca=n-dzMM2]",
-            Kind::MakesCritical,
-            "[!u-ca=n-dzMM2]",
-            half_a_second(),
-            Some(UtcOffsetRecordOrZ::Z),
-            Some("n-dzMM2"),
-        ),
-        (
-            "2020-01-01 00:00:00.5Z[u-ca=mr-nUk-EDkNu]",
-            Kind::TurnsCritical,
-            "[u-ca=mr-nUk-EDkNu]",
-            half_a_second(),
-            Some(UtcOffsetRecordOrZ::Z),
-            Some("mr-nUk-EDkNu"),
-        ),
-        (
-            "2020-01-01 00:00:00.5Z[answer-to-universe=OSR]",
-            Kind::RepliesAnother,
-            "[answer-to-universe=OSR]",
-            half_a_second(),
-            Some(UtcOffsetRecordOrZ::Z),
-            Some("a"),
-        ),
-    ];
-    for (text, kind, calls, time, offset, calendar) in rows {
-        let record = parts(Some((2020, 1, 1)), time, offset, None, calendar);
-        check_handled(&rt, Form::Parse, text, kind, calls, &Ok(record));
-    }
+        )),
+        &[Asked {
+            form: Form::Parse,
+            text: "20200101T12[u-ca=A][qe7idr62=O-QXB-Ir]",
+            kind: Kind::HandsBack,
+            calls: "[u-ca=A][qe7idr62=O-QXB-Ir]",
+        }],
+    );
+}
+
+// Half a second past midnight, in UTC, with this calendar.
+fn half_past(rt: &impl Abort, calendar: Option<&'static str>) -> Record {
+    let text = "+00:00:00.5";
+    let fraction = fraction_of(text);
+    check_fraction(rt, text, &fraction, 500_000_000, false);
+    let zulu = Some(UtcOffsetRecordOrZ::Z);
+    parts(
+        Some((2020, 1, 1)),
+        timed(0, 0, 0, fraction),
+        zulu,
+        None,
+        calendar,
+    )
 }
 
 #[test]
-fn heeds_handlers_and_refuses(rt: HostRuntime) {
-    let rows: [(&'static str, Kind, &'static str, ParseError); 16] = [
-        (
-            "2020-01-01[xy=a0sa-2l4s][!u-ca=iso8601][!u-ca=A][u-ca=a][u-ca=a]",
-            Kind::HandsBack,
-            "[xy=a0sa-2l4s][!u-ca=iso8601][!u-ca=A]",
-            ParseError::CriticalDuplicateCalendar,
-        ),
-        (
-            "2020-01-01[u-ca=Nl8-jswAuQ-H][",
-            Kind::HandsBack,
-            "[u-ca=Nl8-jswAuQ-H]",
-            ParseError::AnnotationKeyLeadingChar,
-        ),
-        (
-            "2020-01-01[u-ca=4-aYg][!u_ca=dbto-3eyv22-fA-rtts]",
-            Kind::HandsBack,
-            "[u-ca=4-aYg][!u_ca=dbto-3eyv22-fA-rtts]",
-            ParseError::UnrecognizedCritical,
-        ),
-        (
-            "20200101T12[yh=Vx-Qi-v0Zpe7-Nx1][foo=B1aoE-XS-yGk-7][u-cb=iWnJ0a][!u-cb=l][u-ca=uz5HNg-NV3x]",
-            Kind::HandsBack,
-            "[yh=Vx-Qi-v0Zpe7-Nx1][foo=B1aoE-XS-yGk-7][u-cb=iWnJ0a][!u-cb=l]",
-            ParseError::UnrecognizedCritical,
-        ),
-        ("2020-01-0", Kind::RepliesNone, "", AT_DIGIT),
-        (
-            "2020-01-01 00:00:00.5Z[bsgaqql7=4FH][!nk_8nl=",
-            Kind::RepliesNone,
-            "[bsgaqql7=4FH]",
-            ParseError::AnnotationValueChar,
-        ),
-        (
-            "20200101T12[u-ca=a][s=iE-Dn-NXDPL]",
-            Kind::MakesCritical,
-            "[u-ca=a][s=iE-Dn-NXDPL]",
-            ParseError::UnrecognizedCritical,
-        ),
-        (
-            "2020-01-01[u-ca=Cwup_-X]",
-            Kind::TurnsCritical,
-            "",
-            ParseError::AnnotationValueChar,
-        ),
-        (
-            "20200101T12[u-ca=R2-uY40-cvb-w][x-y=WXTo]",
-            Kind::TurnsCritical,
-            "[u-ca=R2-uY40-cvb-w][x-y=WXTo]",
-            ParseError::UnrecognizedCritical,
-        ),
-        ("2020-0", Kind::TurnsCritical, "", AT_DIGIT),
-        (
-            "202-01-01[u-ca=iso8601][fgq=Czb32s-v-zayknf]",
-            Kind::TurnsCritical,
-            "",
-            ParseError::DateYear,
-        ),
-        (
-            "2020-01-01[!u-ca=a-b][!u-ca=a3Z-DL-Irpq-2U]",
-            Kind::RepliesAnother,
-            "[!u-ca=a-b][!u-ca=a3Z-DL-Irpq-2U]",
-            ParseError::CriticalDuplicateCalendar,
-        ),
-        (
-            "2020-01-01 00:00:00.5Z[!u-ca=b][u-ca=AdUhu-LRdEB][!u-ca",
-            Kind::RepliesAnother,
-            "[!u-ca=b][u-ca=AdUhu-LRdEB]",
-            ParseError::AnnotationKeyValueSeparator,
-        ),
-        (
-            "2020-01-01[!u-ca=1][u-ca=xjQk-E][u-ca=b][!u-ca=UAq-KMwlE][u-ca =okKb7P]",
-            Kind::RepliesAnother,
-            "[!u-ca=1][u-ca=xjQk-E][u-ca=b][!u-ca=UAq-KMwlE]",
-            ParseError::CriticalDuplicateCalendar,
-        ),
-        (
-            "20200101WT12[!u--=1]",
-            Kind::RepliesAnother,
-            "",
-            ParseError::InvalidEnd,
-        ),
-        (
-            "20200101T12[answer-to-universe=xRozE-IPf-E3][u-ca=a0sa-2l4s][answer-to-universe=OMr-WGJ2kC-6pOrnn][u-ca=iso8601][u-ca=a][!",
-            Kind::RepliesAnother,
-            "[answer-to-universe=xRozE-IPf-E3][u-ca=a0sa-2l4s][answer-to-universe=OMr-WGJ2kC-6pOrnn][u-ca=iso8601][u-ca=a]",
-            ParseError::AnnotationKeyLeadingChar,
-        ),
-    ];
-    for (text, kind, calls, error) in rows {
-        check_handled(&rt, Form::Parse, text, kind, calls, &Err(error));
-    }
+fn heeds_handlers_after_times(rt: HostRuntime) {
+    check_handled(
+        &rt,
+        &Ok(half_past(&rt, None)),
+        &[Asked {
+            form: Form::Parse,
+            text: "2020-01-01 00:00:00.5Z[!u-ca=A]",
+            kind: Kind::RepliesNone,
+            calls: "[!u-ca=A]",
+        }],
+    );
+    check_handled(
+        &rt,
+        &Ok(half_past(&rt, Some("n-dzMM2"))),
+        &[Asked {
+            form: Form::Parse,
+            text: "2020-01-01 00:00:00.5Z[!u-ca=n-dzMM2]",
+            kind: Kind::MakesCritical,
+            calls: "[!u-ca=n-dzMM2]",
+        }],
+    );
+    check_handled(
+        &rt,
+        &Ok(half_past(&rt, Some("mr-nUk-EDkNu"))),
+        &[Asked {
+            form: Form::Parse,
+            text: "2020-01-01 00:00:00.5Z[u-ca=mr-nUk-EDkNu]",
+            kind: Kind::TurnsCritical,
+            calls: "[u-ca=mr-nUk-EDkNu]",
+        }],
+    );
+    check_handled(
+        &rt,
+        &Ok(half_past(&rt, Some("a"))),
+        &[Asked {
+            form: Form::Parse,
+            text: "2020-01-01 00:00:00.5Z[answer-to-universe=OSR]",
+            kind: Kind::RepliesAnother,
+            calls: "[answer-to-universe=OSR]",
+        }],
+    );
+}
+
+#[test]
+fn refuses_replies(rt: HostRuntime) {
+    check_handled(
+        &rt,
+        &Err(UnrecognizedCritical),
+        &[
+            Asked {
+                form: Form::Parse,
+                text: "2020-01-01[x=y]",
+                kind: Kind::MakesCritical,
+                calls: "[x=y]",
+            },
+            Asked {
+                form: Form::Parse,
+                text: "2020-01-01[a=b][!c=d][e=f]",
+                kind: Kind::HandsBack,
+                calls: "[a=b][!c=d]",
+            },
+            Asked {
+                form: Form::Parse,
+                text: "2020-01-01[u-ca=a][!c=d]",
+                kind: Kind::HandsBack,
+                calls: "[u-ca=a][!c=d]",
+            },
+            Asked {
+                form: Form::Parse,
+                text: "2020-01-01[u-ca=4-aYg][!u_ca=dbto-3eyv22-fA-rtts]",
+                kind: Kind::HandsBack,
+                calls: "[u-ca=4-aYg][!u_ca=dbto-3eyv22-fA-rtts]",
+            },
+            Asked {
+                form: Form::Parse,
+                text: "20200101T12[yh=Vx-Qi-v0Zpe7-Nx1][foo=B1aoE-XS-yGk-7][u-cb=iWnJ0a][!u-cb=l][u-ca=uz5HNg-NV3x]",
+                kind: Kind::HandsBack,
+                calls: "[yh=Vx-Qi-v0Zpe7-Nx1][foo=B1aoE-XS-yGk-7][u-cb=iWnJ0a][!u-cb=l]",
+            },
+            Asked {
+                form: Form::Parse,
+                text: "20200101T12[u-ca=a][s=iE-Dn-NXDPL]",
+                kind: Kind::MakesCritical,
+                calls: "[u-ca=a][s=iE-Dn-NXDPL]",
+            },
+            Asked {
+                form: Form::Parse,
+                text: "20200101T12[u-ca=R2-uY40-cvb-w][x-y=WXTo]",
+                kind: Kind::TurnsCritical,
+                calls: "[u-ca=R2-uY40-cvb-w][x-y=WXTo]",
+            },
+        ],
+    );
+    check_handled(
+        &rt,
+        &Err(CriticalDuplicateCalendar),
+        &[
+            Asked {
+                form: Form::Parse,
+                text: "2020-01-01[xy=a0sa-2l4s][!u-ca=iso8601][!u-ca=A][u-ca=a][u-ca=a]",
+                kind: Kind::HandsBack,
+                calls: "[xy=a0sa-2l4s][!u-ca=iso8601][!u-ca=A]",
+            },
+            Asked {
+                form: Form::Parse,
+                text: "2020-01-01[!u-ca=a-b][!u-ca=a3Z-DL-Irpq-2U]",
+                kind: Kind::RepliesAnother,
+                calls: "[!u-ca=a-b][!u-ca=a3Z-DL-Irpq-2U]",
+            },
+            Asked {
+                form: Form::Parse,
+                text: "2020-01-01[!u-ca=1][u-ca=xjQk-E][u-ca=b][!u-ca=UAq-KMwlE][u-ca =okKb7P]",
+                kind: Kind::RepliesAnother,
+                calls: "[!u-ca=1][u-ca=xjQk-E][u-ca=b][!u-ca=UAq-KMwlE]",
+            },
+        ],
+    );
+}
+
+#[test]
+fn asks_before_a_fault(rt: HostRuntime) {
+    check_handled(
+        &rt,
+        &Err(AnnotationKeyLeadingChar),
+        &[
+            Asked {
+                form: Form::Parse,
+                text: "2020-01-01[u-ca=Nl8-jswAuQ-H][",
+                kind: Kind::HandsBack,
+                calls: "[u-ca=Nl8-jswAuQ-H]",
+            },
+            Asked {
+                form: Form::Parse,
+                text: "20200101T12[answer-to-universe=xRozE-IPf-E3][u-ca=a0sa-2l4s][answer-to-universe=OMr-WGJ2kC-6pOrnn][u-ca=iso8601][u-ca=a][!",
+                kind: Kind::RepliesAnother,
+                calls: "[answer-to-universe=xRozE-IPf-E3][u-ca=a0sa-2l4s][answer-to-universe=OMr-WGJ2kC-6pOrnn][u-ca=iso8601][u-ca=a]",
+            },
+        ],
+    );
+    check_handled(
+        &rt,
+        &Err(AnnotationValueChar),
+        &[
+            Asked {
+                form: Form::Parse,
+                text: "2020-01-01 00:00:00.5Z[bsgaqql7=4FH][!nk_8nl=",
+                kind: Kind::RepliesNone,
+                calls: "[bsgaqql7=4FH]",
+            },
+            Asked {
+                form: Form::Parse,
+                text: "2020-01-01[u-ca=Cwup_-X]",
+                kind: Kind::TurnsCritical,
+                calls: "",
+            },
+        ],
+    );
+    check_handled(
+        &rt,
+        &Err(AnnotationKeyValueSeparator),
+        &[Asked {
+            form: Form::Parse,
+            text: "2020-01-01 00:00:00.5Z[!u-ca=b][u-ca=AdUhu-LRdEB][!u-ca",
+            kind: Kind::RepliesAnother,
+            calls: "[!u-ca=b][u-ca=AdUhu-LRdEB]",
+        }],
+    );
+    check_handled(
+        &rt,
+        &Err(InvalidEnd),
+        &[
+            Asked {
+                form: Form::Parse,
+                text: "20200101WT12[!u--=1]",
+                kind: Kind::RepliesAnother,
+                calls: "",
+            },
+            Asked {
+                form: Form::Parse,
+                text: "2020-01-01[a=b]junk",
+                kind: Kind::HandsBack,
+                calls: "[a=b]",
+            },
+            Asked {
+                form: Form::Parse,
+                text: "2020-01-01[a=b][c=d]junk",
+                kind: Kind::HandsBack,
+                calls: "[a=b][c=d]",
+            },
+        ],
+    );
+    check_handled(
+        &rt,
+        &Err(AnnotationClose),
+        &[Asked {
+            form: Form::Parse,
+            text: "2020-01-01[a=b][c=d",
+            kind: Kind::HandsBack,
+            calls: "[a=b]",
+        }],
+    );
+}
+
+#[test]
+fn asks_nothing_before_a_fault_of_a_date(rt: HostRuntime) {
+    check_handled(
+        &rt,
+        &Err(AT_DIGIT),
+        &[
+            Asked {
+                form: Form::Parse,
+                text: "2020-01-0",
+                kind: Kind::RepliesNone,
+                calls: "",
+            },
+            Asked {
+                form: Form::Parse,
+                text: "2020-0",
+                kind: Kind::TurnsCritical,
+                calls: "",
+            },
+        ],
+    );
+    check_handled(
+        &rt,
+        &Err(DateYear),
+        &[Asked {
+            form: Form::Parse,
+            text: "202-01-01[u-ca=iso8601][fgq=Czb32s-v-zayknf]",
+            kind: Kind::TurnsCritical,
+            calls: "",
+        }],
+    );
+    check_handled(
+        &rt,
+        &Err(InvalidMonthRange),
+        &[Asked {
+            form: Form::Parse,
+            text: "2020-13-01[a=b]",
+            kind: Kind::HandsBack,
+            calls: "",
+        }],
+    );
 }
 
 #[test]
 fn heeds_handlers_of_wide_texts(rt: HostRuntime) {
-    let rows: [(
-        &'static str,
-        Kind,
-        &'static str,
-        Option<ParseError>,
-        Option<&'static str>,
-    ); 12] = [
-        (
-            "2020-01-01[x-y=iso8601][!\u{15b}u-ca=hebrew][!u-cb=gregory][!u-c=TQ-of7][!u-ca=a0sa-2l4s]junk",
-            Kind::MakesCritical,
-            "[x-y=iso8601]",
-            Some(ParseError::UnrecognizedCritical),
-            None,
-        ),
-        (
-            "2020-01-01[18:01][!u-ca=japanese\u{7f}]",
-            Kind::TurnsCritical,
-            "",
-            Some(ParseError::TzLeadingChar),
-            None,
-        ),
-        (
-            "20200101T12[u-ca=iso8601][u-ca=e6dVZ][!answer-to-univers\u{12d}e=japanese][m1bs8=b]",
-            Kind::MakesCritical,
-            "[u-ca=iso8601][u-ca=e6dVZ]",
-            Some(ParseError::CriticalDuplicateCalendar),
-            None,
-        ),
-        (
-            "2020-01-01 00:00:00.5Z[i4=WyQ-GeL-dW-SU]",
-            Kind::TurnsCritical,
-            "[i4=WyQ-GeL-dW-SU]",
-            Some(ParseError::UnrecognizedCritical),
-            None,
-        ),
-        (
-            "2020-01-01 00:00:00.5Z[u-ca=CzQ0a3-PyM-ju][iwky-8bo=IwOJz-gjv-u4MDVT-zL4NDu][!jglkvdvm=XG\u{e9}Mqmt-Pe-Wz][u-ca=d-jX-Hmth-BXr]",
-            Kind::RepliesNone,
-            "[u-ca=CzQ0a3-PyM-ju][iwky-8bo=IwOJz-gjv-u4MDVT-zL4NDu]",
-            Some(ParseError::NonAsciiCodePoint),
-            None,
-        ),
-        (
-            "2020-01-01[u-\u{7f}ca=oQ-b-vC]",
-            Kind::MakesCritical,
-            "",
-            Some(ParseError::NonAsciiCodePoint),
-            None,
-        ),
-        (
-            "20200101T12[f-1a2b=v1xugC-9wa-FD-W6][u-ca=I",
-            Kind::HandsBack,
-            "[f-1a2b=v1xugC-9wa-FD-W6]",
-            Some(ParseError::AnnotationClose),
-            None,
-        ),
-        (
-            "2020-01-01[0u-ca=\u{7f}a8-2UZ-2b6iy]",
-            Kind::MakesCritical,
-            "",
-            Some(ParseError::TzLeadingChar),
-            None,
-        ),
-        (
-            "2020-01-01 00:00:00.5Z[u-ca=a-b][u-ca=japanese][!u-ca=gB-DxG-f6UUB8-CIgGr]",
-            Kind::RepliesNone,
-            "[u-ca=a-b][u-ca=japanese][!u-ca=gB-DxG-f6UUB8-CIgGr]",
-            None,
-            None,
-        ),
-        (
-            "2020-01-01[u-ca=ZQ-PB9T][q-rrwv=jRSShrMIMY-5g-\u{ff}rE9][rs1tpdw=fua06i-bJ-VN5]",
-            Kind::RepliesNone,
-            "[u-ca=ZQ-PB9T]",
-            Some(ParseError::NonAsciiCodePoint),
-            None,
-        ),
-        (
-            "2020-01-01[!u-ca\u{130}=O8K-PA-73dBkw-WfIA9][!u-ca=japanese]",
-            Kind::HandsBack,
-            "",
-            Some(ParseError::NonAsciiCodePoint),
-            None,
-        ),
-        (
-            "2020-01-01 00:00:00.5Z[answer-to-universe=OSR]",
-            Kind::RepliesAnother,
-            "[answer-to-universe=OSR]",
-            None,
-            Some("a"),
-        ),
-    ];
-    for (text, kind, calls, error, calendar) in rows {
-        assert!(rt;
-            heeds_wide(Form::Parse, text, kind, calls, error, calendar),
-            "at {text}"
-        );
-    }
+    check_wide_calendars(
+        &rt,
+        None,
+        &[Asked {
+            form: Form::Parse,
+            text: "2020-01-01 00:00:00.5Z[u-ca=a-b][u-ca=japanese][!u-ca=gB-DxG-f6UUB8-CIgGr]",
+            kind: Kind::RepliesNone,
+            calls: "[u-ca=a-b][u-ca=japanese][!u-ca=gB-DxG-f6UUB8-CIgGr]",
+        }],
+    );
+    check_wide_calendars(
+        &rt,
+        Some("a"),
+        &[Asked {
+            form: Form::Parse,
+            text: "2020-01-01 00:00:00.5Z[answer-to-universe=OSR]",
+            kind: Kind::RepliesAnother,
+            calls: "[answer-to-universe=OSR]",
+        }],
+    );
+}
+
+#[test]
+fn refuses_wide_texts_with_handlers(rt: HostRuntime) {
+    check_wide_refusals(
+        &rt,
+        UnrecognizedCritical,
+        &[Asked {
+            form: Form::Parse,
+            text: "2020-01-01[x-y=iso8601][!\u{15b}u-ca=hebrew][!u-cb=gregory][!u-c=TQ-of7][!u-ca=a0sa-2l4s]junk",
+            kind: Kind::MakesCritical,
+            calls: "[x-y=iso8601]",
+        }],
+    );
+    check_wide_refusals(
+        &rt,
+        TzLeadingChar,
+        &[
+            Asked {
+                form: Form::Parse,
+                text: "2020-01-01[18:01][!u-ca=japanese\u{7f}]",
+                kind: Kind::TurnsCritical,
+                calls: "",
+            },
+            Asked {
+                form: Form::Parse,
+                text: "2020-01-01[0u-ca=\u{7f}a8-2UZ-2b6iy]",
+                kind: Kind::MakesCritical,
+                calls: "",
+            },
+        ],
+    );
+    check_wide_refusals(
+        &rt,
+        CriticalDuplicateCalendar,
+        &[Asked {
+            form: Form::Parse,
+            text: "20200101T12[u-ca=iso8601][u-ca=e6dVZ][!answer-to-univers\u{12d}e=japanese][m1bs8=b]",
+            kind: Kind::MakesCritical,
+            calls: "[u-ca=iso8601][u-ca=e6dVZ]",
+        }],
+    );
+    check_wide_refusals(
+        &rt,
+        NonAsciiCodePoint,
+        &[
+            Asked {
+                form: Form::Parse,
+                text: "2020-01-01 00:00:00.5Z[u-ca=CzQ0a3-PyM-ju][iwky-8bo=IwOJz-gjv-u4MDVT-zL4NDu][!jglkvdvm=XG\u{e9}Mqmt-Pe-Wz][u-ca=d-jX-Hmth-BXr]",
+                kind: Kind::RepliesNone,
+                calls: "[u-ca=CzQ0a3-PyM-ju][iwky-8bo=IwOJz-gjv-u4MDVT-zL4NDu]",
+            },
+            Asked {
+                form: Form::Parse,
+                text: "2020-01-01[u-\u{7f}ca=oQ-b-vC]",
+                kind: Kind::MakesCritical,
+                calls: "",
+            },
+            Asked {
+                form: Form::Parse,
+                text: "2020-01-01[u-ca=ZQ-PB9T][q-rrwv=jRSShrMIMY-5g-\u{ff}rE9][rs1tpdw=fua06i-bJ-VN5]",
+                kind: Kind::RepliesNone,
+                calls: "[u-ca=ZQ-PB9T]",
+            },
+            Asked {
+                form: Form::Parse,
+                text: "2020-01-01[!u-ca\u{130}=O8K-PA-73dBkw-WfIA9][!u-ca=japanese]",
+                kind: Kind::HandsBack,
+                calls: "",
+            },
+        ],
+    );
 }

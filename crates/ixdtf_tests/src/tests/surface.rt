@@ -1,11 +1,8 @@
-//! Every public item of `ixdtf` by its name, so that a missing one does not compile.
+//! Every public item of `ixdtf` by its name, with its fields, variants and traits, so that a missing one does not compile.
+//! The variants of `ParseError` are named in `errors.rt`, and the laws in `laws.rt`.
 
 use ixdtf::encoding::{EncodingType, Utf8, Utf16};
-use ixdtf::laws::{
-    clones_are_equal, equality_is_of_what_is_seen, every_name_is_an_identifier,
-    every_rfc3339_date_time_is_read, exact_nanoseconds_are_the_truncated_ones, parse_unanswered,
-};
-use ixdtf::parsers::{IsoDurationParser, IxdtfParser, TimeZoneParser};
+use ixdtf::parsers::{IsoDurationParser, IxdtfParser, Profile, TimeZoneParser};
 use ixdtf::records::{
     Annotation, DateDurationRecord, DateRecord, DurationParseRecord, Fraction, FullPrecisionOffset,
     IxdtfParseRecord, MinutePrecisionOffset, Sign, TimeDurationRecord, TimeRecord,
@@ -61,6 +58,7 @@ fn has_every_trait() {
     is_copied::<DateDurationRecord>();
     is_default::<DateDurationRecord>();
     is_copied::<TimeDurationRecord>();
+    is_copied::<Profile>();
 }
 
 // Whether the calls of an encoding are there, and see no letter, no part and no calendar in nothing.
@@ -79,16 +77,19 @@ fn has_parts(offset: UtcOffsetRecord, parts: MinutePrecisionOffset) -> bool {
         && UtcOffsetRecordOrZ::Offset(offset).resolve_rfc_9557() == offset
 }
 
+// How many digits the fraction of an offset has, and the number of the first of them.
+fn digits_of(offset: UtcOffsetRecord) -> Option<(u8, u64)> {
+    let fraction = offset.fraction()?;
+    Some((fraction.digit_count(), fraction.leading_value()))
+}
+
 // The nanoseconds of an offset, as both calls give them.
 fn nanoseconds_of(offset: UtcOffsetRecord) -> Option<(Option<u32>, u32)> {
     match offset.fraction() {
-        Some(fraction) => {
-            exact_nanoseconds_are_the_truncated_ones(&fraction);
-            Some((
-                fraction.to_nanoseconds(),
-                fraction.to_truncated_nanoseconds(),
-            ))
-        }
+        Some(fraction) => Some((
+            fraction.to_nanoseconds(),
+            fraction.to_truncated_nanoseconds(),
+        )),
         None => None,
     }
 }
@@ -108,35 +109,132 @@ fn has_every_call(rt: HostRuntime) {
         assert!(rt; has_parts(offset, parts));
         let nanoseconds = nanoseconds_of(offset);
         assert_eq!(rt; nanoseconds, Some((Some(500_000_000), 500_000_000)));
+        assert_eq!(rt; digits_of(offset), Some((1, 5)));
     }
     assert_eq!(rt; ParseError::ParseFloat.to_static_string().len(), 42);
-    every_rfc3339_date_time_is_read();
-    every_name_is_an_identifier();
-    equality_is_of_what_is_seen::<Utf16>();
-    clones_are_equal::<Utf16>();
 }
 
 #[test]
-fn has_every_reader(rt: HostRuntime) {
+fn makes_every_parser_of_dates(rt: HostRuntime) {
     let empty: [u16; 0] = [];
-    let at_digit = ParseError::AbruptEnd { location: "digit" };
-    let mut bytes: IxdtfParser<'_, Utf8> = IxdtfParser::new(b"");
-    let first = bytes.parse();
-    assert_eq!(rt; first, Err(at_digit));
-    let second = IxdtfParser::from_utf8(b"").parse_with_annotation_handler(|_annotation| None);
-    assert_eq!(rt; second, Err(at_digit));
-    let mut text = IxdtfParser::from_str("");
-    let third = parse_unanswered(&mut text, |_annotation| None);
-    assert_eq!(rt; third, Err(at_digit));
-    let fourth = IxdtfParser::from_utf16(&empty).parse();
-    assert!(rt; fourth.is_err());
-    let mut zone: TimeZoneParser<'_, Utf8> = TimeZoneParser::new(b"");
+    let units: IxdtfParser<'_, Utf8> = IxdtfParser::new(b"2020-01-01");
+    let bytes = IxdtfParser::from_utf8(b"2020-01");
+    let text = IxdtfParser::from_str("01-01");
+    let wide = IxdtfParser::from_utf16(&empty);
+    assert!(rt; has_the_readers_of_dates(units, bytes, text, wide));
+}
+
+// Whether the readers are there, and read a date, a year-month, a month-day and no empty text.
+fn has_the_readers_of_dates(
+    mut date: IxdtfParser<'_, Utf8>,
+    mut year_month: IxdtfParser<'_, Utf8>,
+    mut month_day: IxdtfParser<'_, Utf8>,
+    mut empty: IxdtfParser<'_, Utf16>,
+) -> bool {
+    date.parse().is_ok()
+        && year_month.parse_year_month().is_ok()
+        && month_day.parse_month_day().is_ok()
+        && empty.parse_time().is_err()
+}
+
+#[test]
+fn has_every_reader_with_a_handler(rt: HostRuntime) {
+    let mut date = IxdtfParser::from_str("2020-01-01");
+    let first = date.parse_with_annotation_handler(|_annotation| None);
+    assert!(rt; first.is_ok());
+    let mut year_month = IxdtfParser::from_str("2020-01");
+    let second = year_month.parse_year_month_with_annotation_handler(|_annotation| None);
+    assert!(rt; second.is_ok());
+}
+
+#[test]
+fn has_every_further_reader_with_a_handler(rt: HostRuntime) {
+    let mut month_day = IxdtfParser::from_str("01-01");
+    let third = month_day.parse_month_day_with_annotation_handler(|_annotation| None);
+    assert!(rt; third.is_ok());
+    let mut time = IxdtfParser::from_str("T12");
+    let fourth = time.parse_time_with_annotation_handler(|_annotation| None);
+    assert!(rt; fourth.is_ok());
+}
+
+#[test]
+fn has_every_reader_of_zones(rt: HostRuntime) {
+    let empty: [u16; 0] = [];
+    let mut zone: TimeZoneParser<'_, Utf8> = TimeZoneParser::new(b"UTC");
     let name = zone.parse_iana_identifier();
-    assert_eq!(rt; name, Err(ParseError::TzLeadingChar));
+    assert_eq!(rt; name, Ok(b"UTC".as_slice()));
     let nothing = TimeZoneParser::from_str("").parse_identifier();
     assert!(rt; nothing.is_err());
+    let offset = TimeZoneParser::from_utf8(b"+01").parse_offset();
+    assert!(rt; offset.is_ok());
     let wide = TimeZoneParser::from_utf16(&empty).parse_offset();
     assert!(rt; wide.is_err());
+}
+
+// The record of a text that has all parts, each field by its name.
+fn fullest_record() -> IxdtfParseRecord<'static, Utf8> {
+    let minute_precision_offset = MinutePrecisionOffset {
+        sign: Sign::Positive,
+        hour: 7,
+        minute: 8,
+    };
+    let offset = FullPrecisionOffset {
+        minute_precision_offset,
+        second: 9,
+        fraction: None,
+    };
+    IxdtfParseRecord {
+        date: Some(DateRecord {
+            year: 1,
+            month: 2,
+            day: 3,
+        }),
+        time: Some(TimeRecord {
+            hour: 4,
+            minute: 5,
+            second: 6,
+            fraction: None,
+        }),
+        offset: Some(UtcOffsetRecordOrZ::Offset(UtcOffsetRecord::FullPrecisionOffset(offset))),
+        tz: Some(TimeZoneAnnotation {
+            critical: true,
+            tz: TimeZoneRecord::Offset(minute_precision_offset),
+        }),
+        calendar: Some(b"iso8601"),
+    }
+}
+
+#[test]
+fn has_every_field(rt: HostRuntime) {
+    let text = "0001-02-03T04:05:06+07:08:09[!+07:08][u-ca=iso8601]";
+    let found = IxdtfParser::from_str(text).parse();
+    assert_eq!(rt; found, Ok(fullest_record()));
+    let annotation: Annotation<'_, Utf8> = Annotation {
+        critical: true,
+        key: b"a",
+        value: b"b",
+    };
+    assert!(rt; annotation.critical && annotation.key != annotation.value);
+}
+
+// Whether the variants of an offset and of a zone are there, and differ.
+#[test]
+fn has_every_variant(rt: HostRuntime) {
+    let zero = MinutePrecisionOffset::zero();
+    let offset = UtcOffsetRecordOrZ::Offset(UtcOffsetRecord::MinutePrecision(zero));
+    assert_ne!(rt; offset, UtcOffsetRecordOrZ::Z);
+    let zone: TimeZoneRecord<'_, Utf8> = TimeZoneRecord::Offset(zero);
+    assert_ne!(rt; zone, TimeZoneRecord::Name(b"UTC"));
+    let hours = TimeDurationRecord::Hours {
+        hours: 1,
+        fraction: None,
+    };
+    let minutes = TimeDurationRecord::Minutes {
+        hours: 1,
+        minutes: 0,
+        fraction: None,
+    };
+    assert_ne!(rt; hours, minutes);
 }
 
 // The records of a duration, with all that they have by its name.

@@ -6,6 +6,7 @@ use super::{Found, Parsers, Reader};
 use ixdtf::encoding::{Utf8, Utf16};
 use ixdtf::records::{IxdtfParseRecord, TimeZoneRecord};
 use ixdtf::{ParseError, ParserResult};
+use std::process::Abort;
 
 const READERS: [Reader; 8] = [
     Reader::Parse,
@@ -19,7 +20,7 @@ const READERS: [Reader; 8] = [
 ];
 
 // Texts of units from 1 to 126. Most are of one reader, and the others refuse them in both widths alike.
-const SHARED: [&'static str; 67] = [
+pub(super) const SHARED: [&'static str; 67] = [
     "",
     "2024-03-02T08:48:00-05:00[America/New_York]",
     "2024-03-02T08:48:00Z[!America/New_York]",
@@ -128,7 +129,10 @@ pub(super) fn same_calendar(narrow: Option<&[u8]>, wide: Option<&[u16]>) -> bool
 }
 
 // Whether two records are the same, slices by the numbers of their units.
-fn same_record(narrow: &IxdtfParseRecord<'_, Utf8>, wide: &IxdtfParseRecord<'_, Utf16>) -> bool {
+pub(super) fn same_record(
+    narrow: &IxdtfParseRecord<'_, Utf8>,
+    wide: &IxdtfParseRecord<'_, Utf16>,
+) -> bool {
     let zones = match (&narrow.tz, &wide.tz) {
         (None, None) => true,
         (Some(first), Some(second)) => {
@@ -155,7 +159,7 @@ fn same_found(narrow: &Found<'_, Utf8>, wide: &Found<'_, Utf16>) -> bool {
 }
 
 // Whether a reader gave the same in both widths.
-pub(super) fn same_result(
+fn same_result(
     narrow: &ParserResult<Found<'_, Utf8>>,
     wide: &ParserResult<Found<'_, Utf16>>,
 ) -> bool {
@@ -166,42 +170,43 @@ pub(super) fn same_result(
     }
 }
 
-// Whether the reader gives the same for the bytes and for 16-bit units of the same numbers.
+// Whether the reader gives the same for the bytes and for 16-bit units of the same numbers, whichever way the parser is made.
 pub(super) fn reads_alike(reader: Reader, bytes: &[u8]) -> bool {
     let numbers = Wide::of_bytes(bytes);
     let narrow = Parsers::from_utf8(bytes).read(reader);
     let wide = Parsers::from_utf16(numbers.units()).read(reader);
-    same_result(&narrow, &wide)
+    let again = Parsers::<Utf16>::new(numbers.units()).read(reader);
+    same_result(&narrow, &wide) && wide == again
+}
+
+fn check_alike(rt: &impl Abort, reader: Reader, texts: &[&'static str]) {
+    for text in texts {
+        assert!(rt;
+            reads_alike(reader, text.as_bytes()),
+            "{reader:?} at {text}"
+        );
+    }
 }
 
 #[test]
 fn reads_alike_in_both_widths(rt: HostRuntime) {
-    for text in SHARED {
-        for reader in READERS {
-            assert!(rt;
-                reads_alike(reader, text.as_bytes()),
-                "{reader:?} at {text}"
-            );
-        }
+    for reader in READERS {
+        check_alike(&rt, reader, &SHARED);
     }
 }
 
-// The error of a text of bytes, where it is refused.
-fn byte_refusal(reader: Reader, bytes: &'static [u8]) -> Option<ParseError> {
-    match Parsers::from_utf8(bytes).read(reader) {
-        Ok(_found) => None,
-        Err(error) => Some(error),
+fn check_masked(rt: &impl Abort, reader: Reader, rows: &[(&'static str, &'static [u8])]) {
+    for (text, mask) in rows {
+        let found = refusal(reader, text);
+        let is_bad = found == Some(ParseError::NonAsciiCodePoint);
+        let is_masked = found.is_some() && found == Parsers::from_utf8(mask).refusal(reader);
+        assert!(rt; is_bad || is_masked, "{reader:?} at {text}");
     }
 }
 
 #[test]
 fn refuses_such_a_unit_or_as_its_mask(rt: HostRuntime) {
-    for (text, mask) in MASKED {
-        for reader in READERS {
-            let found = refusal(reader, text);
-            let is_bad = found == Some(ParseError::NonAsciiCodePoint);
-            let is_masked = found.is_some() && found == byte_refusal(reader, mask);
-            assert!(rt; is_bad || is_masked, "{reader:?} at {text}");
-        }
+    for reader in READERS {
+        check_masked(&rt, reader, &MASKED);
     }
 }

@@ -1,43 +1,53 @@
-use super::{AT_ZONE, Found, Reader, check_found, check_in_turn, minutes, named};
+use super::{Found, Reader, check_found, check_in_turn, minutes, named};
 use ixdtf::ParseError;
 use ixdtf::encoding::Utf8;
 use ixdtf::parsers::TimeZoneParser;
 use ixdtf::records::{Sign, TimeZoneRecord};
+use std::process::Abort;
+
+fn check_names(rt: &impl Abort, names: &[&'static str]) {
+    for name in names {
+        let zone = Found::Zone(named(name));
+        check_found(rt, Reader::Identifier, name, &Ok(zone));
+        let units = Found::Name(name.as_bytes());
+        check_found(rt, Reader::IanaIdentifier, name, &Ok(units));
+    }
+}
 
 #[test]
 fn reads_names(rt: HostRuntime) {
-    let rows = [
-        "Europe/Berlin",
-        "UTC",
-        "u",
-        "_x",
-        ".",
-        "Etc/GMT+5",
-        "America/Argentina/Buenos_Aires",
-        "a/-1",
-    ];
-    for name in rows {
-        check_found(
-            &rt,
-            Reader::IanaIdentifier,
-            name,
-            &Ok(Found::Name(name.as_bytes())),
-        );
-        check_found(&rt, Reader::Identifier, name, &Ok(Found::Zone(named(name))));
+    check_names(
+        &rt,
+        &[
+            "Europe/Berlin",
+            "UTC",
+            "u",
+            "_x",
+            ".",
+            "Etc/GMT+5",
+            "America/Argentina/Buenos_Aires",
+            "a/-1",
+        ],
+    );
+}
+
+fn check_shifts(rt: &impl Abort, rows: &[(&'static str, Sign, u8, u8)]) {
+    for (text, sign, hour, minute) in rows {
+        let zone = TimeZoneRecord::Offset(minutes(*sign, *hour, *minute));
+        check_found(rt, Reader::Identifier, text, &Ok(Found::Zone(zone)));
     }
 }
 
 #[test]
 fn reads_zones_that_are_offsets(rt: HostRuntime) {
-    let rows = [
-        ("+05:30", minutes(Sign::Positive, 5, 30)),
-        ("-0530", minutes(Sign::Negative, 5, 30)),
-        ("+08", minutes(Sign::Positive, 8, 0)),
-    ];
-    for (text, offset) in rows {
-        let zone = TimeZoneRecord::Offset(offset);
-        check_found(&rt, Reader::Identifier, text, &Ok(Found::Zone(zone)));
-    }
+    check_shifts(
+        &rt,
+        &[
+            ("+05:30", Sign::Positive, 5, 30),
+            ("-0530", Sign::Negative, 5, 30),
+            ("+08", Sign::Positive, 8, 0),
+        ],
+    );
 }
 
 #[test]
@@ -52,25 +62,6 @@ fn keeps_a_zone_that_it_refused(rt: HostRuntime) {
         (Reader::Offset, Err(ParseError::OffsetNeedsSign)),
     ];
     check_in_turn(&rt, "Europe/", &steps);
-}
-
-#[test]
-fn reads_a_zone_once(rt: HostRuntime) {
-    let zone = Found::Zone(named("UTC"));
-    let steps = [
-        (Reader::Identifier, Ok(zone)),
-        (Reader::Identifier, Err(AT_ZONE)),
-    ];
-    check_in_turn(&rt, "UTC", &steps);
-}
-
-#[test]
-fn reads_a_name_once(rt: HostRuntime) {
-    let steps = [
-        (Reader::IanaIdentifier, Ok(Found::Name("UTC".as_bytes()))),
-        (Reader::IanaIdentifier, Err(ParseError::TzLeadingChar)),
-    ];
-    check_in_turn(&rt, "UTC", &steps);
 }
 
 #[test]

@@ -1,17 +1,18 @@
 use Rattle.std.proofs.Common.{◌≡◌, ℕ, List, refl, sym, ◌∙◌, subst, All, IsTrue}
-use Rattle.ixdtf.specs.Widths.{PlainOutcome, HasPlain, OnePlainOutcome, SameWhereShared, is_shared, wide_text, byte_text}
-use Rattle.ixdtf.specs.Widths.PlainOutcome.{read_as, faulted}
+use Rattle.ixdtf.specs.Widths.{UnhandledOutcome, HasUnhandledOutcome, OneUnhandledOutcome, SameWhereShared, is_shared, wide_text, byte_text}
+use Rattle.ixdtf.specs.Widths.UnhandledOutcome.{read_as, faulted}
 use Rattle.ixdtf.specs.language.Languages.Found.{shifted}
 use Rattle.ixdtf.specs.language.Readers.Reader.{parse_offset}
 use Rattle.ixdtf.specs.table.Faults.{fault_of}
 use Rattle.ixdtf_tests.proofs.tests.laws.gives_one_offset.Goals as goal
 
 -- the outcomes of the two widths are one
-one_outcome : OnePlainOutcome → SameWhereShared → (bytes units : List ℕ) → All (λ n. IsTrue (is_shared n)) bytes → units ≡ bytes
-    → (narrow wide : PlainOutcome) → HasPlain parse_offset (byte_text bytes) narrow → HasPlain parse_offset (wide_text units) wide → narrow ≡ wide
+one_outcome : OneUnhandledOutcome → SameWhereShared → (bytes units : List ℕ) → All (λ n. IsTrue (is_shared n)) bytes → units ≡ bytes
+    → (narrow wide : UnhandledOutcome) → HasUnhandledOutcome parse_offset (byte_text bytes) narrow → HasUnhandledOutcome parse_offset (wide_text units) wide
+    → narrow ≡ wide
 one_outcome one same bytes units shared is narrow wide h g =
     let only = one parse_offset (wide_text bytes) in
-    only.2 narrow ((same parse_offset bytes shared narrow).1 h) ∙ sym (only.2 wide (subst (λ t. HasPlain parse_offset (wide_text t) wide) is g))
+    only.2 narrow ((same parse_offset bytes shared narrow).1 h) ∙ sym (only.2 wide (subst (λ t. HasUnhandledOutcome parse_offset (wide_text t) wide) is g))
 
 pub returns-in-Ok-narrow : goal.returns-in-Ok-narrow
 returns-in-Ok-narrow c shared is =

@@ -1,4 +1,5 @@
 use Rattle.std.proofs.Common.{refl, map}
+use Rattle.ixdtf.specs.declared.parsers.profile.Profile.TheVariants.{Crate}
 use Rattle.ixdtf.specs.language.Letters.{Text, byte_letter}
 use Rattle.ixdtf.specs.language.Languages.Found.{parsed}
 use Rattle.ixdtf.specs.language.Readers.{parse, parse_year_month}
@@ -13,5 +14,5 @@ unreachable-requires c =
     let (marks, month) = (c.in-Ok-parse_year_month.ensures.ok (parsed_of (λ unit. unit) c.in-Ok-parse_year_month._month)).0 refl in
     let is_date : InLanguage parse text = (parsed date.read, pairs, rw (← c.from_utf8.ensures.rest) date.whole) in
     let is_month : InLanguage parse_year_month text = (parsed month.read, marks, rw (← c.from_utf8-in-Ok.ensures.rest) month.whole) in
-    let same = c.languages_disjoint.ensures text parse parse_year_month tt tt is_date is_month in
+    let same = c.languages_disjoint.ensures Crate text parse parse_year_month tt tt is_date is_month in
     absurd cc

@@ -6,13 +6,12 @@ use Rattle.ixdtf.specs.language.Languages.Found.{parsed}
 use Rattle.ixdtf.specs.language.Letters.{Text, byte_letter}
 use Rattle.ixdtf.specs.language.Readers.{parse}
 use Rattle.ixdtf.specs.table.Faults.{Fault, fault_of}
-use Rattle.ixdtf.specs.table.Outcomes.{Holds, ExactlyOne}
+use Rattle.ixdtf.specs.table.Outcomes.{Holds, ExactlyOne, Begins, FrontsBegin}
 use Rattle.ixdtf.specs.table.Outcomes.Outcome.{derived, refused}
 use Rattle.ixdtf.specs.table.Rows.{Row, Fits}
-use Rattle.ixdtf.specs.Handlers.{own_replies, LastRefused, PlainRecord, PlainFault}
+use Rattle.ixdtf.specs.Handlers.{own_replies, LastRefused, UnhandledRecord, UnhandledFault}
 use Rattle.ixdtf.specs.Views.{returned, parsed_of}
 use Rattle.ixdtf.proofs.code.OneMoreReply.{nothing_split}
-use Rattle.ixdtf.proofs.theorems.OneOutcome.{Begins, fault_begins}
 use Rattle.ixdtf_tests.proofs.tests.laws.read_by_the_table.Goals as goal
 
 -- a reply that is refused is one to some pair
@@ -21,16 +20,17 @@ none_refused [] fault last begins = nothing_split last.earlier [] last.reply las
 none_refused (pair ∷ pairs) fault last begins = let is : [] ≡ pair ∷ (pairs ++ begins.0) = begins.1 in absurd cc
 
 -- what `parse` returns where the row fits, with no pairs before it, and what holds of the text is one
-by_the_row : {X : Type 0} (view : X → Parsed) (text : Text) (row : Row) → Fits parse row [] text → ExactlyOne (Holds parse text) → (result : Result X ParseError)
-    → ((p : Parsed) → (returned view result ≡ Ok p) ↔ PlainRecord parse text p) → IfErr result (λ e. PlainFault parse text (fault_of e))
+by_the_row : {X : Type 0} (view : X → Parsed) (text : Text) (row : Row) → Fits parse row [] text → ExactlyOne (Holds parse text) → FrontsBegin
+    → (result : Result X ParseError)
+    → ((p : Parsed) → (returned view result ≡ Ok p) ↔ UnhandledRecord parse text p) → IfErr result (λ e. UnhandledFault parse text (fault_of e))
     → returned (λ (it : X). it) result ≡ Err row.error
-by_the_row view text row fits one (Ok x) ok err =
+by_the_row view text row fits one begins (Ok x) ok err =
     let (pairs, given) = (ok (view x)).0 refl in
     let same : derived (parsed given.read) pairs ≡ refused row [] = one.2 (derived (parsed given.read) pairs) given.whole ∙ sym (one.2 (refused row []) fits) in
     absurd cc
-by_the_row view text row fits one (Err e) ok (pairs, inl ((front, rest, is, read, whole), last)) =
-    absurd (none_refused pairs (fault_of e) last (fault_begins parse front rest read pairs [] row.error whole (row, rw (← is) fits, refl)))
-by_the_row view text row fits one (Err e) ok (pairs, inr ((other, fits_too, error), none)) =
+by_the_row view text row fits one begins (Err e) ok (pairs, inl ((front, rest, is, read, whole), last)) =
+    absurd (none_refused pairs (fault_of e) last (begins parse front rest (parsed read) pairs (refused row []) whole (rw (← is) fits)))
+by_the_row view text row fits one begins (Err e) ok (pairs, inr ((other, fits_too, error), none)) =
     let same : refused other pairs ≡ refused row [] = one.2 (refused other pairs) fits_too ∙ sym (one.2 (refused row []) fits) in
     let rows : other ≡ row = cc in
     ap Err (sym error ∙ ap (λ (r : Row). r.error) rows)
@@ -38,4 +38,6 @@ by_the_row view text row fits one (Err e) ok (pairs, inr ((other, fits_too, erro
 pub returns : goal.returns
 returns c row fits =
     let text : Text = map byte_letter c.from_utf8.result.rest in
-    by_the_row (parsed_of (λ unit. unit)) text row (rw c.from_utf8.ensures.rest fits) (c.one_outcome.ensures parse text) c.parse.result c.parse.ensures.ok c.parse.ensures.err
+    let one = c.one_outcome.ensures in
+    by_the_row (parsed_of (λ unit. unit)) text row (rw c.from_utf8.ensures.rest fits) (one.outcome parse text) one.begins c.parse.result
+    c.parse.ensures.ok c.parse.ensures.err

@@ -1,0 +1,10 @@
+use Rattle.std.proofs.Common.{refl}
+use Rattle.ixdtf.specs.language.Languages.Found.{parsed}
+use Rattle.ixdtf.specs.Views.{parsed_of}
+use Rattle.ixdtf_tests.proofs.tests.calling.year_of.Goals as goal
+
+-- `ok` of `parse`, read from the left to the right, gives the record that the text derives, and its pairs
+pub returns-in-Some : goal.returns-in-Some
+returns-in-Some c =
+    let (pairs, given) = (c.in-Ok.ensures.ok (parsed_of (λ unit. unit) c.in-Ok.record)).0 refl in
+    (parsed given.read, pairs, rw (← c.from_str.ensures.rest) given.whole)

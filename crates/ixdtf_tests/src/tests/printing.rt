@@ -1,0 +1,284 @@
+//! Records printed as their canonical texts, and these read back.
+
+ghost use Rattle.std.specs.Prelude.{IsTrue};
+
+use super::wide::Wide;
+use super::widths::{SHARED, same_record};
+use super::{Record, alone, dated, long, minutes, morning, named, parts, short, timed};
+use ixdtf::ParserResult;
+use ixdtf::encoding::Utf8;
+use ixdtf::laws::equality_is_of_what_is_seen;
+use ixdtf::parsers::{IxdtfParser, Profile};
+use ixdtf::records::{
+    IxdtfParseRecord, Sign, TimeZoneAnnotation, TimeZoneRecord, UtcOffsetRecordOrZ,
+};
+use ixdtf_print::{PrintError, print};
+use std::process::Abort;
+
+// ==== Calls, as `docs/CALLING.md` shows them ====
+
+// The canonical text of a text, in the bytes that are handed in; `None` where the text is refused, or they are too few.
+fn canonical_of<'a>(text: &str, out: &'a mut [u8]) -> Option<&'a [u8]> {
+    let Ok(parsed) = IxdtfParser::from_str(text).parse() else {
+        return None;
+    };
+    match print(&parsed, out) {
+        Ok(count) => Some(&out[..count]),
+        Err(_) => None,
+    }
+}
+
+// What a caller makes of the contracts: what was read is printable, and what is printed is read, as an equal record.
+fn is_read_back(bytes: &[u8], out: &mut [u8]) -> bool
+    ensures { IsTrue result }
+{
+    equality_is_of_what_is_seen::<Utf8>();
+    let Ok(parsed) = IxdtfParser::from_utf8(bytes).parse() else {
+        return true;
+    };
+    match print(&parsed, out) {
+        Ok(count) => match IxdtfParser::from_utf8(&out[..count]).parse() {
+            Ok(again) => again == parsed,
+            Err(_) => unreachable!(),
+        },
+        Err(PrintError::TooShort) => true,
+        Err(PrintError::NotPrintable) => unreachable!(),
+    }
+}
+
+#[test]
+fn prints_for_callers(rt: HostRuntime) {
+    let text = "20240302 084800z[u-ca=hebrew][a=b]";
+    let canonical = "2024-03-02T08:48:00Z[u-ca=hebrew]";
+    let mut out = [0; 64];
+    assert_eq!(rt; canonical_of(text, &mut out), Some(canonical.as_bytes()));
+    let mut short = [0; 32];
+    assert_eq!(rt; canonical_of(text, &mut short), None);
+    assert_eq!(rt; canonical_of("2024-13-02", &mut out), None);
+    assert!(rt; is_read_back(text.as_bytes(), &mut out));
+}
+
+// ==== What is printed ====
+
+/// The record is printed as these bytes into as many bytes, and not into one less.
+fn check_canonical(rt: &impl Abort, parsed: &IxdtfParseRecord<'_, Utf8>, canonical: &[u8]) {
+    let mut out = [7; 512];
+    let count = canonical.len().min(512);
+    assert_eq!(rt; print(parsed, &mut out[..count]), Ok(count));
+    let printed = &out[..count];
+    assert!(rt; printed == canonical);
+    let mut out = [7; 512];
+    let short = print(parsed, &mut out[..count.saturating_sub(1)]);
+    assert_eq!(rt; short, Err(PrintError::TooShort));
+    assert!(rt; out.iter().all(|byte| *byte == 7));
+}
+
+/// The bytes are read as the record, under each profile, and as 16-bit units.
+fn check_read_as(rt: &impl Abort, bytes: &[u8], parsed: &IxdtfParseRecord<'_, Utf8>) {
+    for profile in [Profile::Crate, Profile::Strict] {
+        let mut parser = IxdtfParser::from_utf8(bytes).with_profile(profile);
+        match parser.parse() {
+            Ok(again) => assert!(rt; again == *parsed, "{bytes:?}"),
+            Err(error) => assert!(rt; false, "{error:?} at {bytes:?}"),
+        }
+    }
+    let wide = Wide::of_bytes(bytes);
+    match IxdtfParser::from_utf16(wide.units()).parse() {
+        Ok(again) => assert!(rt; same_record(parsed, &again), "{bytes:?}"),
+        Err(error) => assert!(rt; false, "{error:?} at {bytes:?}"),
+    }
+}
+
+/// The record is printed, and read back from what was printed.
+pub(super) fn check_read_back(rt: &impl Abort, parsed: &IxdtfParseRecord<'_, Utf8>) {
+    let mut out = [7; 512];
+    match print(parsed, &mut out) {
+        Ok(count) => {
+            let canonical = &out[..count];
+            assert!(rt; out[count..].iter().all(|byte| *byte == 7));
+            check_canonical(rt, parsed, canonical);
+            check_read_as(rt, canonical, parsed);
+        }
+        Err(error) => assert!(rt; false, "{error:?}"),
+    }
+}
+
+/// The record of the text is printed so.
+fn check_printed(rt: &impl Abort, text: &[u8], canonical: &[u8]) {
+    match IxdtfParser::from_utf8(text).parse() {
+        Ok(parsed) => {
+            check_canonical(rt, &parsed, canonical);
+            check_read_as(rt, canonical, &parsed);
+        }
+        Err(error) => assert!(rt; false, "{error:?} at {text:?}"),
+    }
+}
+
+#[test]
+fn prints_canonical_texts(rt: HostRuntime) {
+    let rows = [
+        (
+            "+002020-11-08T12[cet][!u-ca=iso8601][x=y]",
+            "2020-11-08T12:00:00[cet][u-ca=iso8601]",
+        ),
+        ("-000001-01-01t00z", "-000001-01-01T00:00:00Z"),
+        (
+            "2020-01-01T00+01:00:00.50[!-05]",
+            "2020-01-01T00:00:00+01:00:00.50[!-05:00]",
+        ),
+        ("+0100000101", "+010000-01-01"),
+        ("99991231", "9999-12-31"),
+        ("+000000-02-29", "0000-02-29"),
+        ("-9999991231 235960,0", "-999999-12-31T23:59:60.0"),
+        ("20200101T00+00[+00]", "2020-01-01T00:00:00+00:00[+00:00]"),
+        ("2020-01-01T0102-0304", "2020-01-01T01:02:00-03:04"),
+        (
+            "2020-01-01[!_/+1][u-ca=a-B-0]",
+            "2020-01-01[!_/+1][u-ca=a-B-0]",
+        ),
+    ];
+    for (text, canonical) in rows {
+        check_printed(&rt, text.as_bytes(), canonical.as_bytes());
+    }
+}
+
+#[test]
+fn prints_three_hundred_digits(rt: HostRuntime) {
+    let mut text = [b'1'; 320];
+    text[..20].copy_from_slice(b"2020-01-01 00:00:00,");
+    let mut canonical = [b'0'; 275];
+    canonical[..20].copy_from_slice(b"2020-01-01T00:00:00.");
+    canonical[20..38].copy_from_slice(b"111111111111111111");
+    check_printed(&rt, &text, &canonical);
+}
+
+#[test]
+fn prints_back_what_was_read(rt: HostRuntime) {
+    for text in SHARED {
+        if let Ok(parsed) = IxdtfParser::from_str(text).parse() {
+            check_read_back(&rt, &parsed);
+        }
+    }
+}
+
+// ==== What is not ====
+
+/// The record, handed over as a reader returns it, is not printed, also not into no bytes, and the bytes are as they were.
+fn check_not_printable(rt: &impl Abort, what: &str, built: &ParserResult<Record>) {
+    let Ok(parsed) = built else {
+        assert!(rt; false, "{what}");
+        return;
+    };
+    let mut out = [7; 64];
+    let refused = print(parsed, &mut out);
+    assert_eq!(rt; refused, Err(PrintError::NotPrintable), "{what}");
+    assert!(rt; out.iter().all(|byte| *byte == 7), "{what}");
+    let refused = print(parsed, &mut out[..0]);
+    assert_eq!(rt;
+        refused,
+        Err(PrintError::NotPrintable),
+        "{what} into no bytes"
+    );
+}
+
+#[test]
+fn prints_no_other_dates(rt: HostRuntime) {
+    let rows = [
+        ("month 0", 2020, 0, 1),
+        ("month 13", 2020, 13, 1),
+        ("day 0", 2020, 1, 0),
+        ("day 32", 2020, 1, 32),
+        ("day 31 of June", 2020, 6, 31),
+        ("29 February 1900", 1900, 2, 29),
+        ("year 1000000", 1_000_000, 1, 1),
+        ("year -1000000", -1_000_000, 1, 1),
+    ];
+    for (what, year, month, day) in rows {
+        check_not_printable(&rt, what, &Ok(dated(year, month, day, None)));
+    }
+    check_not_printable(&rt, "nothing", &Ok(Record::default()));
+}
+
+#[test]
+fn prints_no_other_times(rt: HostRuntime) {
+    let rows = [
+        ("hour 24", timed(24, 0, 0, None)),
+        ("minute 60", timed(0, 60, 0, None)),
+        ("second 61", timed(0, 0, 61, None)),
+    ];
+    for (what, time) in rows {
+        check_not_printable(&rt, what, &Ok(dated(2020, 1, 1, time)));
+    }
+    check_not_printable(&rt, "a time alone", &Ok(alone(timed(0, 0, 0, None), None)));
+}
+
+#[test]
+fn prints_no_other_offsets(rt: HostRuntime) {
+    let rows = [
+        ("hour 24", short(Sign::Positive, 24, 0)),
+        ("minute 60", short(Sign::Negative, 0, 60)),
+        (
+            "hour 24 in full",
+            long(minutes(Sign::Positive, 24, 0), 0, None),
+        ),
+        (
+            "minute 60 in full",
+            long(minutes(Sign::Positive, 0, 60), 0, None),
+        ),
+        ("second 60", long(minutes(Sign::Negative, 0, 0), 60, None)),
+    ];
+    for (what, offset) in rows {
+        check_not_printable(
+            &rt,
+            what,
+            &Ok(morning(Some(UtcOffsetRecordOrZ::Offset(offset)), None, None)),
+        );
+    }
+    let mut untimed = dated(2020, 1, 1, None);
+    untimed.offset = Some(UtcOffsetRecordOrZ::Z);
+    check_not_printable(&rt, "no time", &Ok(untimed));
+    let offset = Some(UtcOffsetRecordOrZ::Z);
+    check_not_printable(&rt, "an offset alone", &Ok(alone(None, offset)));
+}
+
+/// 1 January 2020 in this zone.
+fn zoned(tz: TimeZoneRecord<'static, Utf8>) -> Record {
+    let critical = true;
+    let mut record = dated(2020, 1, 1, None);
+    record.tz = Some(TimeZoneAnnotation { critical, tz });
+    record
+}
+
+#[test]
+fn prints_no_other_zones(rt: HostRuntime) {
+    let rows = [
+        ("hour 24", minutes(Sign::Negative, 24, 0)),
+        ("minute 60", minutes(Sign::Positive, 0, 60)),
+    ];
+    for (what, zone) in rows {
+        check_not_printable(&rt, what, &Ok(zoned(TimeZoneRecord::Offset(zone))));
+    }
+}
+
+#[test]
+fn prints_no_other_names(rt: HostRuntime) {
+    for name in ["", "1", "a/", "a//b", "/a", "a b", "a]", "\u{e9}"] {
+        check_not_printable(&rt, name, &Ok(zoned(named(name))));
+    }
+    let utc = Some((true, "UTC"));
+    check_not_printable(&rt, "a zone alone", &Ok(parts(None, None, None, utc, None)));
+}
+
+#[test]
+fn prints_no_other_calendars(rt: HostRuntime) {
+    let day = Some((2020, 1, 1));
+    for name in ["", "-", "-a", "a-", "a--b", "a_b", "a]", "\u{e9}"] {
+        check_not_printable(&rt, name, &Ok(parts(day, None, None, None, Some(name))));
+    }
+    let hebrew = Some("hebrew");
+    check_not_printable(
+        &rt,
+        "a calendar alone",
+        &Ok(parts(None, None, None, None, hebrew)),
+    );
+}
