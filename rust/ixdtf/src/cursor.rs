@@ -1,0 +1,175 @@
+// Made by tools/to_rust.py of crates/ixdtf/src/cursor.rt. Do not edit.
+
+//! A place in a source: the units that are still to be read.
+//!
+//! There is no index: a cursor keeps the end of the source that is still to be read, as one slice. So a place past the end
+//! cannot be, and a reader that refuses puts back the slice that it began with.
+
+use crate::encoding::EncodingType;
+use crate::looks::Looks;
+use crate::stop::{Raised, Stop};
+
+/// The units that are still to be read, and a count of looks at them, which takes no byte.
+#[derive(Debug)]
+pub struct Cursor<'a, T: EncodingType> {
+    rest: &'a [T::CodeUnit],
+    looks: Looks,
+}
+
+impl<'a, T: EncodingType> Cursor<'a, T> {
+    /// A cursor at the front of a source.
+    pub fn new(source: &'a [T::CodeUnit]) -> Self {
+        Cursor {
+            rest: source,
+            looks: Looks::none(),
+        }
+    }
+
+    /// The units that are still to be read. They are a part of the source, and outlive the cursor.
+    #[inline(always)]
+    pub fn rest(&self) -> &'a [T::CodeUnit] {
+        self.rest
+    }
+
+    /// How many units are still to be read.
+    #[inline(always)]
+    pub fn remaining(&self) -> usize {
+        self.rest.len()
+    }
+
+    /// A cursor of its own at the same place, with the looks that were made: this one keeps its rest, and no count. So a
+    /// reader and its loops work on a value that nothing else sees, and put it back at their end.
+    #[inline(always)]
+    pub fn take(&mut self) -> Self {
+        Cursor {
+            rest: self.rest,
+            looks: std::mem::replace(&mut self.looks, Looks::none()),
+        }
+    }
+
+    /// A cursor of its own at a rest that was kept, with the looks that were made: this one keeps its rest, and no count.
+    #[inline(always)]
+    pub fn at(&mut self, rest: &'a [T::CodeUnit]) -> Self {
+        Cursor {
+            rest,
+            looks: std::mem::replace(&mut self.looks, Looks::none()),
+        }
+    }
+
+    /// Stays where it is, and counts the looks of a cursor that went on from here.
+    #[inline(always)]
+    pub fn count(&mut self, here: Self) {
+        self.looks = here.looks;
+    }
+
+    /// Ends a reader that worked on a cursor of its own. Where it found something, this cursor goes on from there; where it
+    /// stopped, this one keeps its rest and counts the looks, and the stop becomes the error.
+    #[inline(always)]
+    pub fn settle<R, E: Raised>(&mut self, here: Self, read: Result<R, Stop>) -> Result<R, E> {
+        match read {
+            Ok(found) => {
+                *self = here;
+                Ok(found)
+            }
+            Err(stop) => {
+                self.count(here);
+                Err(E::of_stop(stop))
+            }
+        }
+    }
+
+    /// Looks at a place of the rest: `None` past its end, and `NonAsciiCodePoint` at a unit that stands for no letter.
+    /// This is the one place that calls `get_ascii`.
+    #[inline(always)]
+    pub fn look_at(&mut self, index: usize) -> Result<Option<u8>, Stop> {
+        self.looks.tick();
+        match T::get_ascii(self.rest, index) {
+            Ok(found) => Ok(found),
+            Err(_) => Err(Stop::NonAsciiCodePoint),
+        }
+    }
+
+    /// Looks at the first letter of the rest.
+    #[inline(always)]
+    pub fn look(&mut self) -> Result<Option<u8>, Stop> {
+        self.look_at(0)
+    }
+
+    /// Takes the first unit off, where there is one.
+    #[inline(always)]
+    pub fn step(&mut self) {
+        if let [_, rest @ ..] = self.rest {
+            self.rest = rest;
+        }
+    }
+
+    /// Takes a digit off and returns it, as an ASCII byte. The end is `AbruptDigit`, and another letter this stop; both
+    /// stay.
+    #[inline(always)]
+    pub fn next_digit(&mut self, other: Stop) -> Result<u8, Stop> {
+        match self.look()? {
+            None => Err(Stop::AbruptDigit),
+            Some(byte) if byte.is_ascii_digit() => {
+                self.step();
+                Ok(byte)
+            }
+            Some(_) => Err(other),
+        }
+    }
+
+    /// The digit at a place of the rest, as an ASCII byte. The end is `AbruptDigit`, and another letter this stop.
+    #[inline(always)]
+    fn digit_at(&mut self, index: usize, other: Stop) -> Result<u8, Stop> {
+        match self.look_at(index)? {
+            None => Err(Stop::AbruptDigit),
+            Some(byte) if byte.is_ascii_digit() => Ok(byte),
+            Some(_) => Err(other),
+        }
+    }
+
+    /// Takes two digits off and returns them, as ASCII bytes, with one test for the end.
+    #[inline(always)]
+    pub fn two_digits(&mut self, other: Stop) -> Result<(u8, u8), Stop> {
+        if self.rest.len() < 2 {
+            self.digit_at(0, other)?;
+            return Err(Stop::AbruptDigit);
+        }
+        let tens = self.digit_at(0, other)?;
+        let ones = self.digit_at(1, other)?;
+        self.skip(2);
+        Ok((tens, ones))
+    }
+
+    /// Takes so many units off.
+    #[inline(always)]
+    pub fn skip(&mut self, count: usize) {
+        self.rest = &self.rest[count..];
+    }
+
+    /// The digit at a fixed place of the rest, as an ASCII byte, or `None` where none stands there.
+    #[inline(always)]
+    pub fn fixed_digit(&mut self, index: usize) -> Option<u8> {
+        match self.look_at(index) {
+            Ok(Some(byte)) if byte.is_ascii_digit() => Some(byte),
+            _ => None,
+        }
+    }
+
+    /// The letter, where it stands at a fixed place of the rest, or `None`.
+    #[inline(always)]
+    pub fn fixed_letter(&mut self, index: usize, letter: u8) -> Option<u8> {
+        match self.look_at(index) {
+            Ok(Some(byte)) if byte == letter => Some(byte),
+            _ => None,
+        }
+    }
+
+    /// Wants the end of the source: `InvalidEnd` at any letter.
+    #[inline(always)]
+    pub fn close(&mut self) -> Result<(), Stop> {
+        match self.look()? {
+            None => Ok(()),
+            Some(_) => Err(Stop::InvalidEnd),
+        }
+    }
+}

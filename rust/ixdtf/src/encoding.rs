@@ -1,0 +1,88 @@
+// Made by tools/to_rust.py of crates/ixdtf/src/encoding.rt. Do not edit.
+
+//! The encodings that a source may have.
+//!
+//! The readers are written once for all encodings. They see a unit by the ASCII byte that it stands for, and an encoding
+//! says which byte that is, or that it stands for none.
+
+use crate::{ParseError, ParserResult};
+
+mod private {
+    /// Only this crate's encodings are encodings.
+    pub trait Sealed {}
+}
+
+/// An encoding of a source in code units.
+///
+/// A proof sees each unit as a number, and the number as a letter: the number again, or none that a reader takes. No crate
+/// but this one can write an encoding.
+pub trait EncodingType: private::Sealed {
+    /// The unit of a source.
+    type CodeUnit: PartialEq + std::fmt::Debug + Clone;
+
+    /// The units from `start` up to `end`, or `None` where these are not places in order within the source.
+    fn slice(source: &[Self::CodeUnit], start: usize, end: usize) -> Option<&[Self::CodeUnit]>;
+
+    /// The letter at a place of the source, as a byte, or `None` past its end. The readers take ASCII letters alone, so a
+    /// byte from 128 up is a letter that none of them goes on with.
+    ///
+    /// The error `NonAsciiCodePoint` comes exactly where the unit there stands for no letter.
+    fn get_ascii(source: &[Self::CodeUnit], index: usize) -> ParserResult<Option<u8>>;
+
+    /// Whether the key is `u-ca`, the key of calendars (RFC 9557 section 4.1).
+    fn check_calendar_key(key: &[Self::CodeUnit]) -> bool;
+}
+
+/// Sources in 8-bit units, as UTF-8. Each unit is its own letter, also 0 and those from 128 up, and `get_ascii` returns no
+/// error. That the units are UTF-8 is not tested.
+#[derive(Clone, Debug, PartialEq)]
+pub struct Utf8;
+
+impl private::Sealed for Utf8 {}
+
+impl EncodingType for Utf8 {
+    type CodeUnit = u8;
+
+    fn slice(source: &[u8], start: usize, end: usize) -> Option<&[u8]> {
+        source.get(start..end)
+    }
+
+    #[inline(always)]
+    fn get_ascii(source: &[u8], index: usize) -> ParserResult<Option<u8>> {
+        Ok(source.get(index).copied())
+    }
+
+    #[inline(always)]
+    fn check_calendar_key(key: &[u8]) -> bool {
+        matches!(key, [b'u', b'-', b'c', b'a'])
+    }
+}
+
+/// Sources in 16-bit units, as UTF-16. Units from 1 to 126 are their own letters, and every other stands for none, also 0 and
+/// 127. That the units are UTF-16 is not tested.
+#[derive(Clone, Debug, PartialEq)]
+pub struct Utf16;
+
+impl private::Sealed for Utf16 {}
+
+impl EncodingType for Utf16 {
+    type CodeUnit = u16;
+
+    fn slice(source: &[u16], start: usize, end: usize) -> Option<&[u16]> {
+        source.get(start..end)
+    }
+
+    #[inline(always)]
+    fn get_ascii(source: &[u16], index: usize) -> ParserResult<Option<u8>> {
+        match source.get(index) {
+            None => Ok(None),
+            Some(unit) if *unit < 1 || *unit > 126 => Err(ParseError::NonAsciiCodePoint),
+            Some(unit) => Ok(Some(*unit as u8)),
+        }
+    }
+
+    #[inline(always)]
+    fn check_calendar_key(key: &[u16]) -> bool {
+        matches!(key, [0x75, 0x2d, 0x63, 0x61])
+    }
+}

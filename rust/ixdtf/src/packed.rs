@@ -1,0 +1,43 @@
+// Made by tools/to_rust.py of crates/ixdtf/src/packed.rt. Do not edit.
+
+//! Numbers that stand at any address.
+
+use std::fmt;
+
+/// A number below 2 to the 64th, as its eight bytes, the lowest first. It stands at any address, so a record that has one
+/// has no unused bytes before it.
+#[derive(Clone, Copy)]
+pub struct PackedNumber {
+    bytes: [u8; 8],
+}
+
+impl PackedNumber {
+    /// The number, packed.
+    #[inline(always)]
+    pub fn of(number: u64) -> PackedNumber {
+        PackedNumber {
+            bytes: number.to_le_bytes(),
+        }
+    }
+
+    /// The number.
+    #[inline(always)]
+    pub fn number(self) -> u64 {
+        u64::from_le_bytes(self.bytes)
+    }
+}
+
+impl PartialEq for PackedNumber {
+    /// Whether the numbers are equal.
+    #[inline(always)]
+    fn eq(&self, other: &PackedNumber) -> bool {
+        self.number() == other.number()
+    }
+}
+
+impl fmt::Debug for PackedNumber {
+    /// Writes the number, as it writes a number that is not packed.
+    fn fmt(&self, f: &mut fmt::Formatter<'_>) -> fmt::Result {
+        fmt::Debug::fmt(&self.number(), f)
+    }
+}

@@ -1,0 +1,212 @@
+// Made by tools/to_rust.py of crates/ixdtf/src/parsers/cores.rt. Do not edit.
+
+//! Reading cores, which are what stands before the brackets of a text, into a record.
+
+use crate::cursor::Cursor;
+use crate::encoding::EncodingType;
+use crate::parsers::dates::parse_date;
+use crate::parsers::fixed::fixed_date_time;
+use crate::parsers::grammar::{
+    is_annotation_open, is_ascii_sign, is_date_time_separator, is_time_designator,
+    is_utc_designator,
+};
+use crate::parsers::months::{parse_month_day_date, parse_year_month_date};
+use crate::parsers::offsets::offset_from;
+use crate::parsers::profile::Profile;
+use crate::parsers::time::{Clock, TimeShape, parse_after_second, parse_clock};
+use crate::records::{DateRecord, IxdtfParseRecord, TimeRecord, UtcOffsetRecordOrZ};
+use crate::stop::Stop;
+
+/// Cores of one kind. What reads whole texts is generic in it, so that nothing asks for the kind when it runs.
+pub trait Cores {
+    /// Reads a core into a record in which nothing stands yet, and returns whether a bracket follows, whose `[` is taken off.
+    fn parse_core<'a, T: EncodingType>(
+        cursor: &mut Cursor<'a, T>,
+        profile: Profile,
+        found: &mut IxdtfParseRecord<'a, T>,
+    ) -> Result<bool, Stop>;
+}
+
+/// A date, and a time and an offset where there are.
+pub struct DateTimes;
+
+impl Cores for DateTimes {
+    #[inline(always)]
+    fn parse_core<'a, T: EncodingType>(
+        cursor: &mut Cursor<'a, T>,
+        _profile: Profile,
+        found: &mut IxdtfParseRecord<'a, T>,
+    ) -> Result<bool, Stop> {
+        let mut time = TimeRecord::default();
+        match parse_date_time(cursor, &mut time, found)? {
+            Some(_) => parse_after_time(cursor, time, found),
+            None => close_core(cursor),
+        }
+    }
+}
+
+/// A year and a month, of which the record has the first day.
+pub struct YearMonths;
+
+impl Cores for YearMonths {
+    #[inline(always)]
+    fn parse_core<'a, T: EncodingType>(
+        cursor: &mut Cursor<'a, T>,
+        _profile: Profile,
+        found: &mut IxdtfParseRecord<'a, T>,
+    ) -> Result<bool, Stop> {
+        let date = parse_year_month_date(cursor)?;
+        found.date = Some(date);
+        close_core(cursor)
+    }
+}
+
+/// A month and a day, of which the record has the year 0.
+pub struct MonthDays;
+
+impl Cores for MonthDays {
+    #[inline(always)]
+    fn parse_core<'a, T: EncodingType>(
+        cursor: &mut Cursor<'a, T>,
+        profile: Profile,
+        found: &mut IxdtfParseRecord<'a, T>,
+    ) -> Result<bool, Stop> {
+        let date = parse_month_day_date(cursor, profile)?;
+        found.date = Some(date);
+        close_core(cursor)
+    }
+}
+
+/// A time, and an offset where there is one.
+pub struct LoneTimes;
+
+impl Cores for LoneTimes {
+    #[inline(always)]
+    fn parse_core<'a, T: EncodingType>(
+        cursor: &mut Cursor<'a, T>,
+        profile: Profile,
+        found: &mut IxdtfParseRecord<'a, T>,
+    ) -> Result<bool, Stop> {
+        let start = cursor.rest();
+        match cursor.look()? {
+            Some(byte) if is_time_designator(byte) => {
+                cursor.step();
+                parse_timed(cursor, found)
+            }
+            _ => {
+                let more = parse_timed(cursor, found)?;
+                check_front(cursor, start, profile)?;
+                Ok(more)
+            }
+        }
+    }
+}
+
+// ==== Dates and times ====
+
+/// Reads a date into the record, and a time where a separator follows, and returns how far the time was written.
+#[inline(always)]
+fn parse_date_time<'a, T: EncodingType>(
+    cursor: &mut Cursor<'a, T>,
+    time: &mut TimeRecord,
+    found: &mut IxdtfParseRecord<'a, T>,
+) -> Result<Option<TimeShape>, Stop> {
+    match fixed_date_time(cursor) {
+        Some((date, whole)) => {
+            found.date = Some(date);
+            let shape = parse_after_second(cursor, whole.hour, whole.minute, whole.second, time)?;
+            Ok(Some(shape))
+        }
+        None => {
+            let date = parse_date(cursor)?;
+            found.date = Some(DateRecord {
+                year: date.year,
+                month: date.month,
+                day: date.day,
+            });
+            match cursor.look()? {
+                Some(byte) if is_date_time_separator(byte) => {
+                    cursor.step();
+                    let shape = parse_clock(cursor, Clock::Time, time)?;
+                    Ok(Some(shape))
+                }
+                _ => Ok(None),
+            }
+        }
+    }
+}
+
+// ==== Times ====
+
+/// Reads a time, and an offset or `Z` where there is one, behind the date that stands in the record, or none.
+#[inline(always)]
+fn parse_timed<'a, T: EncodingType>(
+    cursor: &mut Cursor<'a, T>,
+    found: &mut IxdtfParseRecord<'a, T>,
+) -> Result<bool, Stop> {
+    let mut time = TimeRecord::default();
+    parse_clock(cursor, Clock::Time, &mut time)?;
+    parse_after_time(cursor, time, found)
+}
+
+/// Refuses a time whose text began as a month-day or as a year-month does. The cursor stays, and counts the looks that are
+/// made at the start.
+#[inline(always)]
+fn check_front<'a, T: EncodingType>(
+    cursor: &mut Cursor<'a, T>,
+    start: &'a [T::CodeUnit],
+    profile: Profile,
+) -> Result<(), Stop> {
+    let mut front = cursor.at(start);
+    let month_day = parse_month_day_date(&mut front, profile).is_ok();
+    let mut again = front.at(start);
+    let year_month = parse_year_month_date(&mut again).is_ok();
+    cursor.count(again);
+    if month_day {
+        return Err(Stop::AmbiguousTimeMonthDay);
+    }
+    if year_month {
+        return Err(Stop::AmbiguousTimeYearMonth);
+    }
+    Ok(())
+}
+
+/// Reads an offset or `Z` after a time, where there is one.
+#[inline(always)]
+fn parse_after_time<'a, T: EncodingType>(
+    cursor: &mut Cursor<'a, T>,
+    time: TimeRecord,
+    found: &mut IxdtfParseRecord<'a, T>,
+) -> Result<bool, Stop> {
+    found.time = Some(time);
+    match cursor.look()? {
+        Some(byte) if is_ascii_sign(byte) => {
+            cursor.step();
+            let mut time = TimeRecord::default();
+            let shape = parse_clock(cursor, Clock::Offset, &mut time)?;
+            let offset = offset_from(byte, shape, time);
+            found.offset = Some(UtcOffsetRecordOrZ::Offset(offset));
+            close_core(cursor)
+        }
+        Some(byte) if is_utc_designator(byte) => {
+            cursor.step();
+            found.offset = Some(UtcOffsetRecordOrZ::Z);
+            close_core(cursor)
+        }
+        _ => close_core(cursor),
+    }
+}
+
+/// Wants the end of the text or a `[` after a core, and returns whether it is the `[`, which is taken off: `InvalidEnd` at
+/// any other letter.
+#[inline(always)]
+fn close_core<'a, T: EncodingType>(cursor: &mut Cursor<'a, T>) -> Result<bool, Stop> {
+    match cursor.look()? {
+        None => Ok(false),
+        Some(byte) if is_annotation_open(byte) => {
+            cursor.step();
+            Ok(true)
+        }
+        Some(_) => Err(Stop::InvalidEnd),
+    }
+}

@@ -1,0 +1,217 @@
+// Made by tools/to_rust.py of crates/ixdtf/src/parsers/dates.rt. Do not edit.
+
+//! Reading dates.
+
+use crate::cursor::Cursor;
+use crate::encoding::EncodingType;
+use crate::parsers::fixed::fixed_date;
+use crate::parsers::grammar::{digits_value, is_ascii_sign, is_hyphen};
+use crate::records::DateRecord;
+use crate::stop::Stop;
+
+/// Reads a date: at fixed places where these fit, and else part by part.
+#[inline(always)]
+pub fn parse_date<'a, T: EncodingType>(cursor: &mut Cursor<'a, T>) -> Result<DateRecord, Stop> {
+    match fixed_date(cursor) {
+        Some(date) => {
+            cursor.skip(10);
+            check_ranges(date)
+        }
+        None => parse_any_date(cursor),
+    }
+}
+
+/// Reads a date of any form.
+#[inline(always)]
+fn parse_any_date<'a, T: EncodingType>(cursor: &mut Cursor<'a, T>) -> Result<DateRecord, Stop> {
+    let year = parse_date_year(cursor)?;
+    let (month, hyphened) = parse_month(cursor, Stop::AbruptDate)?;
+    parse_day(cursor, year, month, hyphened)
+}
+
+/// The date, where its month is one and has the day.
+#[inline(always)]
+fn check_ranges(date: DateRecord) -> Result<DateRecord, Stop> {
+    check_month(date.month)?;
+    check_date(date.year, date.month, date.day)
+}
+
+// ==== Years ====
+
+/// Reads a year: four digits, or a sign and six digits.
+#[inline(always)]
+pub fn parse_date_year<'a, T: EncodingType>(cursor: &mut Cursor<'a, T>) -> Result<i32, Stop> {
+    match cursor.look()? {
+        None => Err(Stop::AbruptDigit),
+        Some(byte) if byte.is_ascii_digit() => {
+            cursor.step();
+            parse_four_digit_year(cursor, byte)
+        }
+        Some(byte) if is_ascii_sign(byte) => {
+            cursor.step();
+            parse_extended_year(cursor, byte)
+        }
+        Some(_) => Err(Stop::DateYear),
+    }
+}
+
+/// Reads the other three digits of a year of four.
+#[inline(always)]
+fn parse_four_digit_year<'a, T: EncodingType>(
+    cursor: &mut Cursor<'a, T>,
+    thousands: u8,
+) -> Result<i32, Stop> {
+    let ones = parse_three_digits(cursor, Stop::DateYear)?;
+    Ok((1000 * u32::from(thousands - b'0') + ones) as i32)
+}
+
+/// Reads the six digits of a year with a sign, by a cursor of its own.
+#[inline(always)]
+fn parse_extended_year<'a, T: EncodingType>(
+    cursor: &mut Cursor<'a, T>,
+    sign: u8,
+) -> Result<i32, Stop> {
+    let mut here = cursor.take();
+    let read = parse_signed_year(&mut here, sign);
+    *cursor = here;
+    read
+}
+
+/// Reads the six digits of a year with a sign. It is not inlined: few texts have one.
+#[inline(never)]
+fn parse_signed_year<'a, T: EncodingType>(cursor: &mut Cursor<'a, T>, sign: u8) -> Result<i32, Stop> {
+    let value = parse_six_digits(cursor)?;
+    if !is_hyphen(sign) {
+        return Ok(value as i32);
+    }
+    if value == 0 {
+        return Err(Stop::DateExtendedYear);
+    }
+    Ok(-(value as i32))
+}
+
+/// Reads six digits, and returns their number.
+#[inline(always)]
+fn parse_six_digits<'a, T: EncodingType>(cursor: &mut Cursor<'a, T>) -> Result<u32, Stop> {
+    let thousands = parse_three_digits(cursor, Stop::DateExtendedYear)?;
+    let ones = parse_three_digits(cursor, Stop::DateExtendedYear)?;
+    Ok(1000 * thousands + ones)
+}
+
+/// Reads three digits, and returns their number. Another letter is this stop.
+#[inline(always)]
+fn parse_three_digits<'a, T: EncodingType>(
+    cursor: &mut Cursor<'a, T>,
+    other: Stop,
+) -> Result<u32, Stop> {
+    let hundreds = cursor.next_digit(other)?;
+    let tens = cursor.next_digit(other)?;
+    let ones = cursor.next_digit(other)?;
+    Ok(100 * u32::from(hundreds - b'0') + 10 * u32::from(tens - b'0') + u32::from(ones - b'0'))
+}
+
+// ==== Months and days ====
+
+/// Takes a hyphen off, and returns whether one stands there: a digit stays. The end is one stop, and another letter the
+/// other.
+#[inline(always)]
+pub fn take_hyphen<'a, T: EncodingType>(
+    cursor: &mut Cursor<'a, T>,
+    at_end: Stop,
+    other: Stop,
+) -> Result<bool, Stop> {
+    match cursor.look()? {
+        None => Err(at_end),
+        Some(byte) if byte.is_ascii_digit() => Ok(false),
+        Some(byte) if is_hyphen(byte) => {
+            cursor.step();
+            Ok(true)
+        }
+        Some(_) => Err(other),
+    }
+}
+
+/// Reads a month after a year, and returns whether a hyphen stands before it. The end of the text after the year is this
+/// stop.
+#[inline(always)]
+pub fn parse_month<'a, T: EncodingType>(
+    cursor: &mut Cursor<'a, T>,
+    at_end: Stop,
+) -> Result<(u8, bool), Stop> {
+    let hyphened = take_hyphen(cursor, at_end, Stop::DateMonth)?;
+    let (tens, ones) = cursor.two_digits(Stop::DateMonth)?;
+    let month = check_month(digits_value(tens, ones))?;
+    Ok((month, hyphened))
+}
+
+/// Reads the day after a month, with a hyphen before it where one stands before the month.
+#[inline(always)]
+fn parse_day<'a, T: EncodingType>(
+    cursor: &mut Cursor<'a, T>,
+    year: i32,
+    month: u8,
+    hyphened: bool,
+) -> Result<DateRecord, Stop> {
+    take_separator(cursor, hyphened)?;
+    let (tens, ones) = cursor.two_digits(Stop::DateDay)?;
+    check_date(year, month, digits_value(tens, ones))
+}
+
+/// Takes the hyphen after a month off where one stands before the month, and else wants a digit, which stays.
+#[inline(always)]
+fn take_separator<'a, T: EncodingType>(
+    cursor: &mut Cursor<'a, T>,
+    hyphened: bool,
+) -> Result<(), Stop> {
+    let next = cursor.look()?;
+    if hyphened {
+        return match next {
+            Some(byte) if is_hyphen(byte) => {
+                cursor.step();
+                Ok(())
+            }
+            _ => Err(Stop::DateSeparator),
+        };
+    }
+    match next {
+        None => Err(Stop::AbruptDigit),
+        Some(byte) if byte.is_ascii_digit() => Ok(()),
+        Some(byte) if is_hyphen(byte) => Err(Stop::DateSeparator),
+        Some(_) => Err(Stop::DateDay),
+    }
+}
+
+/// The month, where it is one.
+#[inline(always)]
+pub fn check_month(month: u8) -> Result<u8, Stop> {
+    if month < 1 || month > 12 {
+        return Err(Stop::InvalidMonthRange);
+    }
+    Ok(month)
+}
+
+/// The date, where its month has the day.
+#[inline(always)]
+fn check_date(year: i32, month: u8, day: u8) -> Result<DateRecord, Stop> {
+    if day < 1 || day > days_in_month(year, month) {
+        return Err(Stop::InvalidDayRange);
+    }
+    Ok(DateRecord { year, month, day })
+}
+
+/// The length of a month in the Gregorian calendar.
+#[inline(always)]
+pub fn days_in_month(year: i32, month: u8) -> u8 {
+    match month {
+        2 => { if is_leap_year(year) { 29 } else { 28 } }
+        4 | 6 | 9 | 11 => 30,
+        _ => 31,
+    }
+}
+
+/// Whether the year has 29 days in February.
+#[inline(always)]
+fn is_leap_year(year: i32) -> bool {
+    let distance = year.unsigned_abs();
+    (distance % 4 == 0 && distance % 100 != 0) || distance % 400 == 0
+}

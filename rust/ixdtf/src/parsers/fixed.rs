@@ -1,0 +1,116 @@
+// Made by tools/to_rust.py of crates/ixdtf/src/parsers/fixed.rt. Do not edit.
+
+//! Reading a date and a time at fixed places, as most texts have them: `YYYY-MM-DD`, a separator and `HH:MM:SS`.
+//!
+//! The places are looked at in order, and nothing is taken off where one does not fit: the text is then read part by part,
+//! which finds the record or the fault.
+
+use crate::cursor::Cursor;
+use crate::encoding::EncodingType;
+use crate::parsers::dates::days_in_month;
+use crate::parsers::grammar::{digits_value, is_date_time_separator};
+use crate::records::DateRecord;
+
+/// A time to its second.
+#[derive(Clone, Copy)]
+pub struct WholeTime {
+    pub hour: u8,
+    pub minute: u8,
+    pub second: u8,
+}
+
+/// Takes off the date, the separator and the time that stand at the first nineteen places. It is `None`, with the rest
+/// unchanged, at the first place that does not fit, and where the numbers are no date or no time. Fewer units are not
+/// looked at.
+#[inline(always)]
+pub fn fixed_date_time<'a, T: EncodingType>(
+    cursor: &mut Cursor<'a, T>,
+) -> Option<(DateRecord, WholeTime)> {
+    let found = find_date_time(cursor)?;
+    cursor.skip(19);
+    Some(found)
+}
+
+/// The same, with nothing taken off.
+#[inline(always)]
+fn find_date_time<'a, T: EncodingType>(
+    cursor: &mut Cursor<'a, T>,
+) -> Option<(DateRecord, WholeTime)> {
+    if cursor.remaining() < 19 {
+        return None;
+    }
+    let date = fixed_date(cursor)?;
+    fixed_separator(cursor, 10)?;
+    let time = fixed_time(cursor)?;
+    if !is_date(date) || !is_time(time) {
+        return None;
+    }
+    Some((date, time))
+}
+
+/// The date at the first ten places, or `None` at the first that does not fit. Its month and its day are not checked.
+#[inline(always)]
+pub fn fixed_date<'a, T: EncodingType>(cursor: &mut Cursor<'a, T>) -> Option<DateRecord> {
+    if cursor.remaining() < 10 {
+        return None;
+    }
+    let century = fixed_number(cursor, 0)?;
+    let year = fixed_number(cursor, 2)?;
+    cursor.fixed_letter(4, b'-')?;
+    let month = fixed_number(cursor, 5)?;
+    cursor.fixed_letter(7, b'-')?;
+    let day = fixed_number(cursor, 8)?;
+    Some(DateRecord {
+        year: 100 * i32::from(century) + i32::from(year),
+        month,
+        day,
+    })
+}
+
+/// The time at the eight places after a date and a separator, or `None` at the first that does not fit. Its numbers are not
+/// checked.
+#[inline(always)]
+fn fixed_time<'a, T: EncodingType>(cursor: &mut Cursor<'a, T>) -> Option<WholeTime> {
+    let hour = fixed_number(cursor, 11)?;
+    cursor.fixed_letter(13, b':')?;
+    let minute = fixed_number(cursor, 14)?;
+    cursor.fixed_letter(16, b':')?;
+    let second = fixed_number(cursor, 17)?;
+    Some(WholeTime {
+        hour,
+        minute,
+        second,
+    })
+}
+
+/// The number of the two digits at a place of the first nineteen and the next, or `None` at the first that is none.
+#[inline(always)]
+fn fixed_number<'a, T: EncodingType>(cursor: &mut Cursor<'a, T>, place: usize) -> Option<u8> {
+    let tens = cursor.fixed_digit(place)?;
+    let ones = cursor.fixed_digit(place + 1)?;
+    Some(digits_value(tens, ones))
+}
+
+/// The separator of a date and a time, where one stands at a place, or `None`.
+#[inline(always)]
+fn fixed_separator<'a, T: EncodingType>(cursor: &mut Cursor<'a, T>, place: usize) -> Option<u8> {
+    match cursor.look_at(place) {
+        Ok(Some(byte)) if is_date_time_separator(byte) => Some(byte),
+        _ => None,
+    }
+}
+
+/// Whether the month is one and has the day.
+#[inline(always)]
+fn is_date(date: DateRecord) -> bool {
+    date.month >= 1
+        && date.month <= 12
+        && date.day >= 1
+        && date.day <= days_in_month(date.year, date.month)
+}
+
+/// Whether the hour, the minute and the second are at most the greatest of their places.
+#[inline(always)]
+fn is_time(time: WholeTime) -> bool {
+    time.hour <= 23 && time.minute <= 59 && time.second <= 60
+}

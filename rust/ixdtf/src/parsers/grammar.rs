@@ -1,0 +1,137 @@
+// Made by tools/to_rust.py of crates/ixdtf/src/parsers/grammar.rt. Do not edit.
+
+//! The classes of letters that the readers tell apart.
+
+// The classes that a byte is of, one bit for each: 1 goes on in a key, 2 in a zone name, 4 stands in a value.
+static CLASSES: [u8; 256] = [
+    0, 0, 0, 0, 0, 0, 0, 0, 0, 0, 0, 0, 0, 0, 0, 0,
+    0, 0, 0, 0, 0, 0, 0, 0, 0, 0, 0, 0, 0, 0, 0, 0,
+    0, 0, 0, 0, 0, 0, 0, 0, 0, 0, 0, 2, 0, 3, 2, 0,
+    7, 7, 7, 7, 7, 7, 7, 7, 7, 7, 0, 0, 0, 0, 0, 0,
+    0, 6, 6, 6, 6, 6, 6, 6, 6, 6, 6, 6, 6, 6, 6, 6,
+    6, 6, 6, 6, 6, 6, 6, 6, 6, 6, 6, 0, 0, 0, 0, 3,
+    0, 7, 7, 7, 7, 7, 7, 7, 7, 7, 7, 7, 7, 7, 7, 7,
+    7, 7, 7, 7, 7, 7, 7, 7, 7, 7, 7, 0, 0, 0, 0, 0,
+    0, 0, 0, 0, 0, 0, 0, 0, 0, 0, 0, 0, 0, 0, 0, 0,
+    0, 0, 0, 0, 0, 0, 0, 0, 0, 0, 0, 0, 0, 0, 0, 0,
+    0, 0, 0, 0, 0, 0, 0, 0, 0, 0, 0, 0, 0, 0, 0, 0,
+    0, 0, 0, 0, 0, 0, 0, 0, 0, 0, 0, 0, 0, 0, 0, 0,
+    0, 0, 0, 0, 0, 0, 0, 0, 0, 0, 0, 0, 0, 0, 0, 0,
+    0, 0, 0, 0, 0, 0, 0, 0, 0, 0, 0, 0, 0, 0, 0, 0,
+    0, 0, 0, 0, 0, 0, 0, 0, 0, 0, 0, 0, 0, 0, 0, 0,
+    0, 0, 0, 0, 0, 0, 0, 0, 0, 0, 0, 0, 0, 0, 0, 0,
+];
+
+/// `+` or `-`.
+#[inline(always)]
+pub fn is_ascii_sign(byte: u8) -> bool {
+    byte == b'+' || byte == b'-'
+}
+
+/// `-`.
+#[inline(always)]
+pub fn is_hyphen(byte: u8) -> bool {
+    byte == b'-'
+}
+
+/// `:`.
+#[inline(always)]
+pub fn is_time_separator(byte: u8) -> bool {
+    byte == b':'
+}
+
+/// `.` or `,`.
+#[inline(always)]
+pub fn is_decimal_separator(byte: u8) -> bool {
+    byte == b'.' || byte == b','
+}
+
+/// `T`, `t` or a space.
+#[inline(always)]
+pub fn is_date_time_separator(byte: u8) -> bool {
+    byte == b'T' || byte == b't' || byte == b' '
+}
+
+/// `T` or `t`.
+#[inline(always)]
+pub fn is_time_designator(byte: u8) -> bool {
+    byte == b'T' || byte == b't'
+}
+
+/// `P` or `p`.
+#[inline(always)]
+pub fn is_duration_designator(byte: u8) -> bool {
+    byte == b'P' || byte == b'p'
+}
+
+/// `Z` or `z`.
+#[inline(always)]
+pub fn is_utc_designator(byte: u8) -> bool {
+    byte == b'Z' || byte == b'z'
+}
+
+/// `[`.
+#[inline(always)]
+pub fn is_annotation_open(byte: u8) -> bool {
+    byte == b'['
+}
+
+/// `]`.
+#[inline(always)]
+pub fn is_annotation_close(byte: u8) -> bool {
+    byte == b']'
+}
+
+/// `!`.
+#[inline(always)]
+pub fn is_critical_flag(byte: u8) -> bool {
+    byte == b'!'
+}
+
+/// `=`.
+#[inline(always)]
+pub fn is_annotation_key_value_separator(byte: u8) -> bool {
+    byte == b'='
+}
+
+/// `/`.
+#[inline(always)]
+pub fn is_tz_name_separator(byte: u8) -> bool {
+    byte == b'/'
+}
+
+/// What a zone name begins with: an ASCII letter, `_` or `.`.
+#[inline(always)]
+pub fn is_tz_leading_char(byte: u8) -> bool {
+    byte.is_ascii_alphabetic() || byte == b'_' || byte == b'.'
+}
+
+/// What goes on in a zone name: what begins one, a digit, `+` or `-`.
+#[inline(always)]
+pub fn is_tz_char(byte: u8) -> bool {
+    CLASSES[byte as usize] & 2 != 0
+}
+
+/// What a key begins with: a small ASCII letter or `_`.
+#[inline(always)]
+pub fn is_a_key_leading_char(byte: u8) -> bool {
+    byte.is_ascii_lowercase() || byte == b'_'
+}
+
+/// What goes on in a key: what begins one, a digit or `-`.
+#[inline(always)]
+pub fn is_a_key_char(byte: u8) -> bool {
+    CLASSES[byte as usize] & 1 != 0
+}
+
+/// What stands in a value: an ASCII letter or a digit.
+#[inline(always)]
+pub fn is_annotation_value_component(byte: u8) -> bool {
+    CLASSES[byte as usize] & 4 != 0
+}
+
+/// The number of two digits.
+#[inline(always)]
+pub fn digits_value(tens: u8, ones: u8) -> u8 {
+    10 * (tens - b'0') + (ones - b'0')
+}

@@ -1,0 +1,35 @@
+// Made by tools/to_rust.py of crates/ixdtf/src/parsers/profile.rt. Do not edit.
+
+//! Which of two readings a parser makes.
+
+/// Which reading a parser makes: that of the Rust crate, or one that is stricter with month-days and durations.
+///
+/// A new parser has [`Profile::Crate`]. Dates, year-months, offsets and zones are read alike under both.
+#[derive(Clone, Copy, Debug, PartialEq)]
+pub enum Profile {
+    /// The reading of the Rust crate: a month-day may have the day 0, and a unit of a duration may be repeated.
+    Crate,
+    /// The stricter reading: the day of a month-day is at least 1, also where a time is told from one, and each unit of a
+    /// duration is shorter than the one before it.
+    Strict,
+}
+
+impl Profile {
+    /// The least day of a month-day.
+    #[inline(always)]
+    pub(crate) fn least_day(self) -> u8 {
+        match self {
+            Profile::Crate => 0,
+            Profile::Strict => 1,
+        }
+    }
+
+    /// The least step from the place of a unit of a duration to that of the next.
+    #[inline(always)]
+    pub(crate) fn least_step(self) -> u8 {
+        match self {
+            Profile::Crate => 0,
+            Profile::Strict => 1,
+        }
+    }
+}

@@ -1,0 +1,77 @@
+// Made by tools/to_rust.py of crates/ixdtf/src/parsers/texts.rt. Do not edit.
+
+//! Reading whole texts: a core, a first bracket and the brackets after it.
+
+use crate::cursor::Cursor;
+use crate::encoding::EncodingType;
+use crate::parsers::annotations::parse_annotations;
+use crate::parsers::brackets::{Bracket, parse_first_bracket};
+use crate::parsers::cores::Cores;
+use crate::parsers::profile::Profile;
+use crate::records::{Annotation, IxdtfParseRecord};
+use crate::stop::Stop;
+
+/// Reads a core of the kind under the profile, and the brackets after it to the end, into a record in which nothing stands
+/// yet. The handler is asked about each annotation of a key and a value.
+pub fn parse_text<'a, T: EncodingType, C: Cores, F>(
+    cursor: &mut Cursor<'a, T>,
+    profile: Profile,
+    handler: &mut F,
+    found: &mut IxdtfParseRecord<'a, T>,
+) -> Result<(), Stop>
+where
+    F: FnMut(Annotation<'a, T>) -> Option<Annotation<'a, T>>,
+{
+    let mut here = cursor.take();
+    let read = C::parse_core(&mut here, profile, found);
+    *cursor = here;
+    if !read? {
+        return Ok(());
+    }
+    parse_brackets(cursor, handler, found)
+}
+
+/// Reads the brackets after a core and the first `[`, to the end: a first one, and the pairs after it.
+#[inline(never)]
+fn parse_brackets<'a, T: EncodingType, F>(
+    cursor: &mut Cursor<'a, T>,
+    handler: &mut F,
+    found: &mut IxdtfParseRecord<'a, T>,
+) -> Result<(), Stop>
+where
+    F: FnMut(Annotation<'a, T>) -> Option<Annotation<'a, T>>,
+{
+    let mut here = cursor.take();
+    let bracket = parse_first_bracket(&mut here);
+    *cursor = here;
+    let first = place_bracket(bracket?, found);
+    let mut here = cursor.take();
+    let calendar = parse_annotations::<T, F>(&mut here, first, handler);
+    *cursor = here;
+    place_calendar(calendar?, found);
+    Ok(())
+}
+
+/// Writes the zone of a first bracket into the record, or returns its pair.
+#[inline(always)]
+fn place_bracket<'a, T: EncodingType>(
+    bracket: Bracket<'a, T>,
+    found: &mut IxdtfParseRecord<'a, T>,
+) -> Option<Annotation<'a, T>> {
+    match bracket {
+        Bracket::Zone(zone) => {
+            found.tz = Some(zone);
+            None
+        }
+        Bracket::Pair(annotation) => Some(annotation),
+    }
+}
+
+/// Writes the value of the calendar that is kept into the record.
+#[inline(always)]
+fn place_calendar<'a, T: EncodingType>(
+    calendar: Option<Annotation<'a, T>>,
+    found: &mut IxdtfParseRecord<'a, T>,
+) {
+    found.calendar = calendar.map(|kept| kept.value);
+}

@@ -1,0 +1,267 @@
+// Made by tools/to_rust.py of crates/ixdtf/src/parsers/time.rt. Do not edit.
+
+//! Reading times of day, and offsets after their sign, which are written as times are.
+
+use crate::cursor::Cursor;
+use crate::encoding::EncodingType;
+use crate::parsers::grammar::{digits_value, is_decimal_separator, is_time_separator};
+use crate::records::{Fraction, TimeRecord};
+use crate::stop::Stop;
+
+/// What is written as a time is.
+#[derive(Clone, Copy)]
+pub enum Clock {
+    /// A time of day.
+    Time,
+    /// An offset from UTC, after its sign.
+    Offset,
+    /// An offset without seconds, after its sign.
+    MinuteOffset,
+}
+
+impl Clock {
+    /// Whether a second starts at the byte after a minute: at a colon where colons are written, and else at a digit.
+    #[inline(always)]
+    fn starts_second(self, colons: bool, byte: u8) -> bool {
+        match self {
+            Clock::Time | Clock::Offset if colons => is_time_separator(byte),
+            Clock::Time | Clock::Offset => byte.is_ascii_digit(),
+            Clock::MinuteOffset => false,
+        }
+    }
+
+    /// Why reading stops at a colon or a digit after a minute that no second may follow so.
+    #[inline(always)]
+    fn mixed(self) -> Stop {
+        match self {
+            Clock::Time => Stop::TimeSeparator,
+            Clock::Offset => Stop::UtcTimeSeparator,
+            Clock::MinuteOffset => Stop::InvalidMinutePrecisionOffset,
+        }
+    }
+}
+
+/// How far a time was written.
+#[derive(Clone, Copy)]
+pub enum TimeShape {
+    /// An hour alone.
+    Hours,
+    /// An hour and a minute right after it.
+    BasicMinutes,
+    /// An hour, a colon and a minute.
+    ColonMinutes,
+    /// A second too.
+    Seconds,
+    /// A fraction of a second too.
+    Fractions,
+}
+
+impl TimeShape {
+    /// Whether a second stands in it.
+    #[inline(always)]
+    pub fn writes_seconds(self) -> bool {
+        match self {
+            TimeShape::Seconds | TimeShape::Fractions => true,
+            TimeShape::Hours | TimeShape::BasicMinutes | TimeShape::ColonMinutes => false,
+        }
+    }
+}
+
+/// Writes a time of these parts, as far as the shape.
+#[inline(always)]
+fn write_time(time: &mut TimeRecord, hour: u8, minute: u8, second: u8, fraction: Option<Fraction>) {
+    *time = TimeRecord {
+        hour,
+        minute,
+        second,
+        fraction,
+    };
+}
+
+/// The number, where it is at most the greatest of its place, else the stop.
+#[inline(always)]
+fn check_most(number: u8, greatest: u8, stop: Stop) -> Result<u8, Stop> {
+    if number > greatest {
+        return Err(stop);
+    }
+    Ok(number)
+}
+
+/// Takes two digits off and returns their number, which is at most the greatest of its place. The end is `AbruptDigit`, and
+/// another letter or a greater number this stop.
+#[inline(always)]
+fn next_number<'a, T: EncodingType>(
+    cursor: &mut Cursor<'a, T>,
+    greatest: u8,
+    stop: Stop,
+) -> Result<u8, Stop> {
+    let (tens, ones) = cursor.two_digits(stop)?;
+    check_most(digits_value(tens, ones), greatest, stop)
+}
+
+/// Reads a time, as far as it goes.
+#[inline(always)]
+pub fn parse_clock<'a, T: EncodingType>(
+    cursor: &mut Cursor<'a, T>,
+    clock: Clock,
+    time: &mut TimeRecord,
+) -> Result<TimeShape, Stop> {
+    let tens = cursor.next_digit(Stop::TimeHour)?;
+    let ones = cursor.next_digit(Stop::TimeHour)?;
+    let hour = check_most(digits_value(tens, ones), 23, Stop::TimeHour)?;
+    match cursor.look()? {
+        Some(byte) if is_time_separator(byte) => {
+            cursor.step();
+            parse_minute(cursor, clock, true, hour, time)
+        }
+        Some(byte) if byte.is_ascii_digit() => parse_basic_minute(cursor, clock, hour, time),
+        _ => {
+            write_time(time, hour, 0, 0, None);
+            Ok(TimeShape::Hours)
+        }
+    }
+}
+
+/// Reads the minute right after an hour, and what of the time stands after it, by a cursor of its own.
+#[inline(always)]
+fn parse_basic_minute<'a, T: EncodingType>(
+    cursor: &mut Cursor<'a, T>,
+    clock: Clock,
+    hour: u8,
+    time: &mut TimeRecord,
+) -> Result<TimeShape, Stop> {
+    let mut here = cursor.take();
+    let mut there = *time;
+    let read = parse_basic_rest(&mut here, clock, hour, &mut there);
+    *cursor = here;
+    *time = there;
+    read
+}
+
+/// Reads the minute right after an hour, and what of the time stands after it. It is not inlined: few texts have no colons.
+#[inline(never)]
+fn parse_basic_rest<'a, T: EncodingType>(
+    cursor: &mut Cursor<'a, T>,
+    clock: Clock,
+    hour: u8,
+    time: &mut TimeRecord,
+) -> Result<TimeShape, Stop> {
+    parse_minute(cursor, clock, false, hour, time)
+}
+
+/// Reads the minute, where its colon is taken off if colons are written, and what of the time stands after it. A colon and
+/// a digit go on there as they did before the minute, where seconds may be, and are errors else.
+#[inline(always)]
+fn parse_minute<'a, T: EncodingType>(
+    cursor: &mut Cursor<'a, T>,
+    clock: Clock,
+    colons: bool,
+    hour: u8,
+    time: &mut TimeRecord,
+) -> Result<TimeShape, Stop> {
+    let minute = next_number(cursor, 59, Stop::TimeMinuteSecond)?;
+    match cursor.look()? {
+        Some(byte) if clock.starts_second(colons, byte) => {
+            if colons {
+                cursor.step();
+            }
+            parse_second(cursor, clock, hour, minute, time)
+        }
+        Some(byte) if is_time_separator(byte) || byte.is_ascii_digit() => Err(clock.mixed()),
+        _ => {
+            write_time(time, hour, minute, 0, None);
+            Ok(if colons {
+                TimeShape::ColonMinutes
+            } else {
+                TimeShape::BasicMinutes
+            })
+        }
+    }
+}
+
+/// Takes the two digits of a second off and returns their number.
+#[inline(always)]
+fn next_second<'a, T: EncodingType>(cursor: &mut Cursor<'a, T>, clock: Clock) -> Result<u8, Stop> {
+    match clock {
+        Clock::Time => next_number(cursor, 60, Stop::TimeSecond),
+        Clock::Offset | Clock::MinuteOffset => next_number(cursor, 59, Stop::TimeMinuteSecond),
+    }
+}
+
+/// Reads the second, and a fraction where there is one.
+#[inline(always)]
+fn parse_second<'a, T: EncodingType>(
+    cursor: &mut Cursor<'a, T>,
+    clock: Clock,
+    hour: u8,
+    minute: u8,
+    time: &mut TimeRecord,
+) -> Result<TimeShape, Stop> {
+    let second = next_second(cursor, clock)?;
+    parse_after_second(cursor, hour, minute, second, time)
+}
+
+/// Reads a fraction after a second, where there is one. It is read alike for each clock, as its digits are.
+#[inline(always)]
+pub fn parse_after_second<'a, T: EncodingType>(
+    cursor: &mut Cursor<'a, T>,
+    hour: u8,
+    minute: u8,
+    second: u8,
+    time: &mut TimeRecord,
+) -> Result<TimeShape, Stop> {
+    match cursor.look()? {
+        Some(byte) if is_decimal_separator(byte) => {
+            cursor.step();
+            let fraction = parse_fraction(cursor)?;
+            write_time(time, hour, minute, second, Some(fraction));
+            Ok(TimeShape::Fractions)
+        }
+        _ => {
+            write_time(time, hour, minute, second, None);
+            Ok(TimeShape::Seconds)
+        }
+    }
+}
+
+/// Reads the digits of a fraction after its decimal mark: `FractionPart` where there is none.
+#[inline(always)]
+pub fn parse_fraction<'a, T: EncodingType>(cursor: &mut Cursor<'a, T>) -> Result<Fraction, Stop> {
+    let mut here = cursor.take();
+    let read = parse_digits(&mut here);
+    *cursor = here;
+    read
+}
+
+/// Reads the digits of a fraction. It is not inlined: few texts have one.
+#[inline(never)]
+fn parse_digits<'a, T: EncodingType>(cursor: &mut Cursor<'a, T>) -> Result<Fraction, Stop> {
+    let mut here = cursor.take();
+    let read = match here.look() {
+        Ok(Some(byte)) if byte.is_ascii_digit() => {
+            here.step();
+            parse_more_digits(&mut here, byte)
+        }
+        Ok(_) => Err(Stop::FractionPart),
+        Err(stop) => Err(stop),
+    };
+    *cursor = here;
+    read
+}
+
+/// Reads the other digits of a fraction.
+#[inline(always)]
+fn parse_more_digits<'a, T: EncodingType>(
+    cursor: &mut Cursor<'a, T>,
+    first: u8,
+) -> Result<Fraction, Stop> {
+    let mut fraction = Fraction::start(first);
+    while let Some(byte) = cursor.look()? {
+        if !byte.is_ascii_digit() {
+            break;
+        }
+        cursor.step();
+        fraction = fraction.with_digit(byte);
+    }
+    Ok(fraction)
+}

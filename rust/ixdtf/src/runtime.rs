@@ -1,0 +1,81 @@
+//! What the tests, which are made of those of the proved library, take from their own toolchain's standard library.
+
+pub use std::string::String as Text;
+
+/// What a test hands to those it calls.
+pub struct HostRuntime;
+
+impl HostRuntime {
+    pub fn alloc(&self) -> Global {
+        Global
+    }
+}
+
+/// What may end a test.
+pub trait Abort {}
+
+impl Abort for HostRuntime {}
+
+impl<A: Abort> Abort for &A {}
+
+/// What memory is taken of.
+#[derive(Clone, Copy)]
+pub struct Global;
+
+/// Why no memory was to be had, which does not come here.
+#[derive(Debug, PartialEq)]
+pub enum AllocError {}
+
+impl std::fmt::Display for AllocError {
+    fn fmt(&self, _f: &mut std::fmt::Formatter<'_>) -> std::fmt::Result {
+        match *self {}
+    }
+}
+
+impl std::error::Error for AllocError {}
+
+/// Why a test fails.
+pub type Fail = std::boxed::Box<dyn std::error::Error>;
+
+/// A text that grows by results.
+pub struct String(Text);
+
+impl String {
+    pub fn new(_alloc: Global) -> String {
+        String(Text::new())
+    }
+
+    pub fn push_str(&mut self, text: &str) -> Result<(), AllocError> {
+        self.0.push_str(text);
+        Ok(())
+    }
+
+    pub fn as_str(&self) -> &str {
+        &self.0
+    }
+}
+
+/// A clone as a result.
+pub trait TryClone: Clone {
+    fn try_clone(&self) -> Result<Self, AllocError> {
+        Ok(self.clone())
+    }
+}
+
+impl<X: Clone> TryClone for X {}
+
+macro_rules! assert {
+    ($rt:expr; $($rest:tt)*) => {{ let _ = &$rt; std::assert!($($rest)*) }};
+}
+
+macro_rules! assert_eq {
+    ($rt:expr; $($rest:tt)*) => {{ let _ = &$rt; std::assert_eq!($($rest)*) }};
+}
+
+macro_rules! assert_ne {
+    ($rt:expr; $($rest:tt)*) => {{ let _ = &$rt; std::assert_ne!($($rest)*) }};
+}
+
+macro_rules! format {
+    (in $alloc:expr; $($rest:tt)*) => {{ let _ = $alloc; Ok::<_, $crate::runtime::AllocError>(std::format!($($rest)*)) }};
+}

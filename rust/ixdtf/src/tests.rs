@@ -1,0 +1,387 @@
+// Made by tools/to_rust.py of crates/ixdtf_tests/src/tests.rt. Do not edit.
+
+//! Texts of the readers, with the records and errors that they give.
+
+#[allow(unused_imports)]
+use crate::runtime::{HostRuntime, TryClone};
+
+mod again;
+mod brackets;
+mod calling;
+mod dates;
+mod durations;
+mod encodings;
+mod errors;
+mod fixed_places;
+mod handlers;
+mod languages;
+mod large;
+mod lone_times;
+mod months;
+mod odd;
+mod offsets;
+mod printing;
+mod profiles;
+mod records;
+mod refused;
+mod replies;
+mod replies_in_parts;
+mod surface;
+mod times;
+mod wide;
+mod wide_refused;
+mod widths;
+mod zones;
+
+use ixdtf::ParseError::{self, AbruptEnd};
+use ixdtf::ParserResult;
+use ixdtf::encoding::{EncodingType, Utf8, Utf16};
+use ixdtf::parsers::{IsoDurationParser, IxdtfParser, TimeZoneParser};
+use ixdtf::records::{
+    DateRecord, DurationParseRecord, Fraction, FullPrecisionOffset, IxdtfParseRecord,
+    MinutePrecisionOffset, Sign, TimeRecord, TimeZoneAnnotation, TimeZoneRecord, UtcOffsetRecord,
+    UtcOffsetRecordOrZ,
+};
+use printing::check_read_back;
+use crate::runtime::Abort;
+
+const AT_DIGIT: ParseError = AbruptEnd { location: "digit" };
+
+const AT_DATE: ParseError = AbruptEnd { location: "Date" };
+
+const AT_MONTH_DAY: ParseError = AbruptEnd {
+    location: "MonthDay",
+};
+
+const AT_OFFSET: ParseError = AbruptEnd {
+    location: "time-numoffset",
+};
+
+const AT_ZONE: ParseError = AbruptEnd {
+    location: "TimeZoneAnnotation",
+};
+
+const AT_BRACKET: ParseError = AbruptEnd {
+    location: "AmbiguousAnnotation",
+};
+
+const AT_START: ParseError = AbruptEnd {
+    location: "DurationStart",
+};
+
+const AT_DESIGNATOR: ParseError = AbruptEnd {
+    location: "DurationDesignator",
+};
+
+const AT_DURATION: ParseError = AbruptEnd {
+    location: "Duration",
+};
+
+const AT_DATE_DESIGNATOR: ParseError = AbruptEnd {
+    location: "DateDurationDesignator",
+};
+
+const AT_TIME_DESIGNATOR: ParseError = AbruptEnd {
+    location: "TimeDurationDesignator",
+};
+
+type Record = IxdtfParseRecord<'static, Utf8>;
+
+/// The parts of a text, with a zone by its `!` and its name.
+fn parts(
+    date: Option<(i32, u8, u8)>,
+    time: Option<TimeRecord>,
+    offset: Option<UtcOffsetRecordOrZ>,
+    zone: Option<(bool, &'static str)>,
+    calendar: Option<&'static str>,
+) -> Record {
+    Record {
+        date: date.map(|(year, month, day)| DateRecord { year, month, day }),
+        time,
+        offset,
+        tz: zone.map(|(critical, name)| TimeZoneAnnotation {
+            critical,
+            tz: named(name),
+        }),
+        calendar: calendar.map(|name| name.as_bytes()),
+    }
+}
+
+fn dated(year: i32, month: u8, day: u8, time: Option<TimeRecord>) -> Record {
+    parts(Some((year, month, day)), time, None, None, None)
+}
+
+// A time without a date.
+fn alone(time: Option<TimeRecord>, offset: Option<UtcOffsetRecordOrZ>) -> Record {
+    parts(None, time, offset, None, None)
+}
+
+// 2 March 2024 at 8:48.
+fn morning(
+    offset: Option<UtcOffsetRecordOrZ>,
+    zone: Option<(bool, &'static str)>,
+    calendar: Option<&'static str>,
+) -> Record {
+    parts(
+        Some((2024, 3, 2)),
+        timed(8, 48, 0, None),
+        offset,
+        zone,
+        calendar,
+    )
+}
+
+/// The parts of a text whose zone is an offset.
+fn shifted(
+    date: (i32, u8, u8),
+    time: Option<TimeRecord>,
+    offset: Option<UtcOffsetRecordOrZ>,
+    critical: bool,
+    zone: MinutePrecisionOffset,
+) -> Record {
+    let mut record = parts(Some(date), time, offset, None, None);
+    let tz = TimeZoneRecord::Offset(zone);
+    record.tz = Some(TimeZoneAnnotation { critical, tz });
+    record
+}
+
+fn named(name: &'static str) -> TimeZoneRecord<'static, Utf8> {
+    TimeZoneRecord::Name(name.as_bytes())
+}
+
+fn minutes(sign: Sign, hour: u8, minute: u8) -> MinutePrecisionOffset {
+    MinutePrecisionOffset { sign, hour, minute }
+}
+
+fn short(sign: Sign, hour: u8, minute: u8) -> UtcOffsetRecord {
+    UtcOffsetRecord::MinutePrecision(minutes(sign, hour, minute))
+}
+
+fn long(
+    minute_precision_offset: MinutePrecisionOffset,
+    second: u8,
+    fraction: Option<Fraction>,
+) -> UtcOffsetRecord {
+    UtcOffsetRecord::FullPrecisionOffset(FullPrecisionOffset {
+        minute_precision_offset,
+        second,
+        fraction,
+    })
+}
+
+fn timed(hour: u8, minute: u8, second: u8, fraction: Option<Fraction>) -> Option<TimeRecord> {
+    Some(TimeRecord {
+        hour,
+        minute,
+        second,
+        fraction,
+    })
+}
+
+/// The fraction of the second of an offset, such as `+00:00:00.25`, for the calls of a fraction.
+fn fraction_of(text: &str) -> Option<Fraction> {
+    match TimeZoneParser::from_str(text).parse_offset() {
+        Ok(offset) => offset.fraction(),
+        Err(_) => None,
+    }
+}
+
+/// The fraction that a text has been read to has these nanoseconds, and digits after them where it is cut.
+fn check_fraction(
+    rt: &impl Abort,
+    text: &str,
+    fraction: &Option<Fraction>,
+    nanoseconds: u32,
+    is_cut: bool,
+) {
+    let exact = if is_cut { None } else { Some(nanoseconds) };
+    match fraction {
+        Some(fraction) => {
+            assert_eq!(rt; fraction.to_nanoseconds(), exact, "at {text}");
+            assert_eq!(rt;
+                fraction.to_truncated_nanoseconds(),
+                nanoseconds,
+                "at {text}"
+            );
+        }
+        None => assert!(rt; false, "at {text}"),
+    }
+}
+
+/// A reader of a text.
+#[derive(Clone, Copy, Debug)]
+enum Reader {
+    /// `IxdtfParser::parse`.
+    Parse,
+    /// `IxdtfParser::parse_year_month`.
+    YearMonth,
+    /// `IxdtfParser::parse_month_day`.
+    MonthDay,
+    /// `IxdtfParser::parse_time`.
+    Time,
+    /// `TimeZoneParser::parse_offset`.
+    Offset,
+    /// `TimeZoneParser::parse_identifier`.
+    Identifier,
+    /// `TimeZoneParser::parse_iana_identifier`.
+    IanaIdentifier,
+    /// `IsoDurationParser::parse`.
+    Duration,
+}
+
+/// What a reader found in a text.
+#[derive(Debug, PartialEq)]
+enum Found<'a, T: EncodingType> {
+    /// The parts of a text with brackets.
+    Parts(IxdtfParseRecord<'a, T>),
+    /// An offset from UTC.
+    Offset(UtcOffsetRecord),
+    /// A time zone, by name or by offset.
+    Zone(TimeZoneRecord<'a, T>),
+    /// The units of a time zone's name.
+    Name(&'a [T::CodeUnit]),
+    /// A duration.
+    Duration(DurationParseRecord),
+}
+
+/// The parsers of one text.
+struct Parsers<'a, T: EncodingType> {
+    dates: IxdtfParser<'a, T>,
+    zones: TimeZoneParser<'a, T>,
+    durations: IsoDurationParser<'a, T>,
+}
+
+impl<'a> Parsers<'a, Utf8> {
+    fn from_str(text: &'a str) -> Parsers<'a, Utf8> {
+        Parsers {
+            dates: IxdtfParser::from_str(text),
+            zones: TimeZoneParser::from_str(text),
+            durations: IsoDurationParser::from_str(text),
+        }
+    }
+
+    fn from_utf8(bytes: &'a [u8]) -> Parsers<'a, Utf8> {
+        Parsers {
+            dates: IxdtfParser::from_utf8(bytes),
+            zones: TimeZoneParser::from_utf8(bytes),
+            durations: IsoDurationParser::<Utf8>::from_utf8(bytes),
+        }
+    }
+}
+
+impl<'a> Parsers<'a, Utf16> {
+    fn from_utf16(units: &'a [u16]) -> Parsers<'a, Utf16> {
+        Parsers {
+            dates: IxdtfParser::from_utf16(units),
+            zones: TimeZoneParser::from_utf16(units),
+            durations: IsoDurationParser::<Utf16>::from_utf8(units),
+        }
+    }
+}
+
+impl<'a, T: EncodingType> Parsers<'a, T> {
+    fn new(units: &'a [T::CodeUnit]) -> Parsers<'a, T> {
+        Parsers {
+            dates: IxdtfParser::new(units),
+            zones: TimeZoneParser::new(units),
+            durations: IsoDurationParser::new(units),
+        }
+    }
+
+    fn read(&mut self, reader: Reader) -> ParserResult<Found<'a, T>> {
+        let parts = match reader {
+            Reader::Parse => self.dates.parse(),
+            Reader::YearMonth => self.dates.parse_year_month(),
+            Reader::MonthDay => self.dates.parse_month_day(),
+            Reader::Time => self.dates.parse_time(),
+            Reader::Offset => {
+                return match self.zones.parse_offset() {
+                    Ok(offset) => Ok(Found::Offset(offset)),
+                    Err(error) => Err(error),
+                };
+            }
+            Reader::Identifier => {
+                return match self.zones.parse_identifier() {
+                    Ok(zone) => Ok(Found::Zone(zone)),
+                    Err(error) => Err(error),
+                };
+            }
+            Reader::IanaIdentifier => {
+                return match self.zones.parse_iana_identifier() {
+                    Ok(name) => Ok(Found::Name(name)),
+                    Err(error) => Err(error),
+                };
+            }
+            Reader::Duration => {
+                return match self.durations.parse() {
+                    Ok(duration) => Ok(Found::Duration(duration)),
+                    Err(error) => Err(error),
+                };
+            }
+        };
+        match parts {
+            Ok(parts) => Ok(Found::Parts(parts)),
+            Err(error) => Err(error),
+        }
+    }
+
+    // The error of a reader, where it refuses.
+    fn refusal(&mut self, reader: Reader) -> Option<ParseError> {
+        match self.read(reader) {
+            Ok(_found) => None,
+            Err(error) => Some(error),
+        }
+    }
+}
+
+/// One reader after the other gives this, with the same parsers.
+fn check_in_turn(
+    rt: &impl Abort,
+    text: &'static str,
+    steps: &[(Reader, ParserResult<Found<'static, Utf8>>)],
+) {
+    let mut parsers = Parsers::from_str(text);
+    for (reader, wanted) in steps {
+        let found = parsers.read(*reader);
+        assert!(rt; found == *wanted, "{reader:?} at {text}");
+    }
+}
+
+/// The reader refuses the text with this error, and once more in the same way.
+fn check_kept(rt: &impl Abort, reader: Reader, text: &'static str, error: ParseError) {
+    let mut parsers = Parsers::from_str(text);
+    for _ in 0..2 {
+        let found = parsers.refusal(reader);
+        assert_eq!(rt; found, Some(error), "{reader:?} at {text}");
+    }
+}
+
+/// The reader gives this for the text.
+fn check_found(
+    rt: &impl Abort,
+    reader: Reader,
+    text: &'static str,
+    wanted: &ParserResult<Found<'static, Utf8>>,
+) {
+    let found = Parsers::from_str(text).read(reader);
+    assert!(rt; found == *wanted, "{reader:?} at {text}");
+}
+
+/// `IxdtfParser::parse` gives this for the text, and what it reads is printed and read back.
+fn check_parsed(rt: &impl Abort, text: &'static str, wanted: &ParserResult<Record>) {
+    let found = IxdtfParser::from_str(text).parse();
+    assert!(rt; found == *wanted, "at {text}");
+    if let Ok(parsed) = found {
+        check_read_back(rt, &parsed);
+    }
+}
+
+/// The reader refuses the texts beside each error with it.
+fn check_refused(rt: &impl Abort, reader: Reader, rows: &[(ParseError, &[&'static str])]) {
+    for (error, texts) in rows {
+        for text in *texts {
+            let found = Parsers::from_str(text).refusal(reader);
+            assert_eq!(rt; found, Some(*error), "{reader:?} at {text}");
+        }
+    }
+}

@@ -1,0 +1,528 @@
+// Made by tools/to_rust.py of crates/ixdtf_tests/src/tests/calling.rt. Do not edit.
+
+//! Calls of each reader, as the README and `docs/CALLING.md` show them.
+
+#[allow(unused_imports)]
+use crate::runtime::{HostRuntime, TryClone};
+
+use ixdtf::ParseError::{self, AbruptEnd, InvalidDayRange, InvalidMonthRange};
+use ixdtf::ParserResult;
+use ixdtf::encoding::{Utf8, Utf16};
+use ixdtf::parsers::{IsoDurationParser, IxdtfParser, TimeZoneParser};
+use ixdtf::records::{Annotation, Sign, TimeDurationRecord, TimeZoneRecord, UtcOffsetRecordOrZ};
+use crate::runtime::Fail;
+
+// ==== A text taken apart ====
+
+/// A date, a time and an offset, with a zone where the text names one.
+#[derive(Clone, Copy, Debug, PartialEq)]
+struct Moment<'a> {
+    /// The year, the month and the day.
+    date: (i32, u8, u8),
+    /// The hour, the minute and the second.
+    time: (u8, u8, u8),
+    /// The nanoseconds beyond the second.
+    nanoseconds: u32,
+    /// How many minutes local time is ahead of UTC; `None` for `Z`, which says nothing of local time.
+    ahead: Option<i32>,
+    /// The name of the time zone.
+    zone: Option<&'a str>,
+}
+
+// The parts of a text that has a date, a time and an offset or `Z`, and `None` for any other text.
+fn moment_of<'a>(text: &'a str) -> Option<Moment<'a>> {
+    let mut parser = IxdtfParser::from_str(text);
+    let Ok(record) = parser.parse() else {
+        return None;
+    };
+    let (date, time, offset) = (record.date?, record.time?, record.offset?);
+    let nanoseconds = match time.fraction {
+        Some(fraction) => fraction.to_truncated_nanoseconds(),
+        None => 0,
+    };
+    let ahead = match offset {
+        UtcOffsetRecordOrZ::Z => None,
+        UtcOffsetRecordOrZ::Offset(offset) => {
+            let minutes = i32::from(offset.hour()) * 60 + i32::from(offset.minute());
+            match offset.sign() {
+                Sign::Positive => Some(minutes),
+                Sign::Negative => Some(-minutes),
+            }
+        }
+    };
+    let zone = match record.tz {
+        Some(zone) => match zone.tz {
+            TimeZoneRecord::Name(name) => std::str::from_utf8(name).ok(),
+            TimeZoneRecord::Offset(_) => None,
+        },
+        None => None,
+    };
+    Some(Moment {
+        date: (date.year, date.month, date.day),
+        time: (time.hour, time.minute, time.second),
+        nanoseconds,
+        ahead,
+        zone,
+    })
+}
+
+#[test]
+fn takes_a_text_apart() {
+    let rt = HostRuntime;
+    let moment = Moment {
+        date: (2024, 3, 2),
+        time: (8, 48, 0),
+        nanoseconds: 250_000_000,
+        ahead: Some(-300),
+        zone: Some("America/New_York"),
+    };
+    assert_eq!(rt;
+        moment_of("2024-03-02T08:48:00.25-05:00[America/New_York]"),
+        Some(moment)
+    );
+    let at_utc = Moment {
+        nanoseconds: 0,
+        ahead: Some(0),
+        zone: None,
+        ..moment
+    };
+    assert_eq!(rt; moment_of("2024-03-02T08:48:00+00:00"), Some(at_utc));
+    let unknown = Moment {
+        ahead: None,
+        ..at_utc
+    };
+    assert_eq!(rt; moment_of("2024-03-02T08:48:00Z"), Some(unknown));
+    assert_eq!(rt; moment_of("2024-03-02T08:48:00Z[+05:30]"), Some(unknown));
+    assert_eq!(rt; moment_of("2024-03-02T08:48:00"), None);
+    assert_eq!(rt; moment_of("2024-03-02T08:48:00+00:0"), None);
+}
+
+// ==== One call of each reader ====
+
+// The year, month and day of a text.
+fn date_of(text: &str) -> ParserResult<Option<(i32, u8, u8)>> {
+    let mut parser = IxdtfParser::from_str(text);
+    match parser.parse() {
+        Ok(record) => Ok(record.date.map(|date| (date.year, date.month, date.day))),
+        Err(error) => Err(error),
+    }
+}
+
+// The year and the month of a text such as `2020-11`.
+fn month_of(text: &str) -> ParserResult<Option<(i32, u8)>> {
+    let mut parser = IxdtfParser::from_str(text);
+    match parser.parse_year_month() {
+        Ok(record) => Ok(record.date.map(|date| (date.year, date.month))),
+        Err(error) => Err(error),
+    }
+}
+
+// The month and the day of a text such as `11-07`.
+fn birthday_of(text: &str) -> ParserResult<Option<(u8, u8)>> {
+    let mut parser = IxdtfParser::from_str(text);
+    match parser.parse_month_day() {
+        Ok(record) => Ok(record.date.map(|date| (date.month, date.day))),
+        Err(error) => Err(error),
+    }
+}
+
+// The hour and the minute of a text such as `T1200`. Without the `T` this one is refused: it begins as a month and a day.
+fn clock_of(text: &str) -> ParserResult<Option<(u8, u8)>> {
+    let mut parser = IxdtfParser::from_str(text);
+    match parser.parse_time() {
+        Ok(record) => Ok(record.time.map(|time| (time.hour, time.minute))),
+        Err(error) => Err(error),
+    }
+}
+
+// The sign, the hour and the minute of an offset.
+fn offset_of(text: &str) -> ParserResult<(Sign, u8, u8)> {
+    let mut parser = TimeZoneParser::from_str(text);
+    match parser.parse_offset() {
+        Ok(offset) => Ok((offset.sign(), offset.hour(), offset.minute())),
+        Err(error) => Err(error),
+    }
+}
+
+// Whether a text is a zone by its name, and not by an offset.
+fn has_a_name(text: &str) -> ParserResult<bool> {
+    let mut parser = TimeZoneParser::from_str(text);
+    match parser.parse_identifier()? {
+        TimeZoneRecord::Name(_) => Ok(true),
+        TimeZoneRecord::Offset(_) => Ok(false),
+    }
+}
+
+// The bytes of a zone's name, all of the text.
+fn name_of<'a>(text: &'a str) -> ParserResult<&'a [u8]> {
+    let mut parser = TimeZoneParser::from_str(text);
+    parser.parse_iana_identifier()
+}
+
+// The calendar of a text, by its name.
+fn calendar_of<'a>(text: &'a str) -> Option<&'a str> {
+    let mut parser = IxdtfParser::from_str(text);
+    let Ok(record) = parser.parse() else {
+        return None;
+    };
+    std::str::from_utf8(record.calendar?).ok()
+}
+
+// The sign, the weeks and the days of a duration such as `-P2W3D`.
+fn days_of(text: &str) -> ParserResult<Option<(Sign, u32, u64)>> {
+    let mut parser = IsoDurationParser::from_str(text);
+    match parser.parse() {
+        Ok(duration) => {
+            let sign = duration.sign;
+            Ok(duration.date.map(|date| (sign, date.weeks, date.days)))
+        }
+        Err(error) => Err(error),
+    }
+}
+
+// The sign of a duration without a date, such as `-PT1H30.5M`, and its whole seconds. A fraction is a part of the last unit.
+fn seconds_of(text: &str) -> Option<(Sign, u128)> {
+    let mut parser = IsoDurationParser::from_str(text);
+    let Ok(duration) = parser.parse() else {
+        return None;
+    };
+    if duration.date.is_some() {
+        return None;
+    }
+    let (hours, minutes, seconds, fraction, unit) = match duration.time? {
+        TimeDurationRecord::Hours { hours, fraction } => (hours, 0, 0, fraction, 3600u64),
+        TimeDurationRecord::Minutes {
+            hours,
+            minutes,
+            fraction,
+        } => (hours, minutes, 0, fraction, 60),
+        TimeDurationRecord::Seconds {
+            hours,
+            minutes,
+            seconds,
+            fraction,
+        } => (hours, minutes, seconds, fraction, 1),
+    };
+    let billionths = match fraction {
+        Some(fraction) => u64::from(fraction.to_truncated_nanoseconds()),
+        None => 0,
+    };
+    let part = billionths * unit / 1_000_000_000;
+    let whole = u128::from(hours) * 3600 + u128::from(minutes) * 60 + u128::from(seconds);
+    Some((duration.sign, whole + u128::from(part)))
+}
+
+// The year of a date in 16-bit units.
+fn year_of_units(units: &[u16]) -> Option<i32> {
+    let mut parser = IxdtfParser::from_utf16(units);
+    let Ok(record) = parser.parse() else {
+        return None;
+    };
+    let date = record.date?;
+    Some(date.year)
+}
+
+// The weeks of a duration in 16-bit units.
+fn weeks_of_units(units: &[u16]) -> Option<u32> {
+    let mut parser = IsoDurationParser::<Utf16>::from_utf8(units);
+    let Ok(duration) = parser.parse() else {
+        return None;
+    };
+    let date = duration.date?;
+    Some(date.weeks)
+}
+
+#[test]
+fn calls_each_reader() -> Result<(), Fail> {
+    let rt = HostRuntime;
+    assert_eq!(rt; date_of("2024-03-02T08:48:00Z")?, Some((2024, 3, 2)));
+    assert_eq!(rt; month_of("2020-11")?, Some((2020, 11)));
+    assert_eq!(rt; birthday_of("11-07")?, Some((11, 7)));
+    assert_eq!(rt; clock_of("T1200")?, Some((12, 0)));
+    assert_eq!(rt; clock_of("1200"), Err(ParseError::AmbiguousTimeMonthDay));
+    assert_eq!(rt; offset_of("-05:30")?, (Sign::Negative, 5, 30));
+    assert!(rt; has_a_name("America/New_York")?);
+    assert!(rt; !has_a_name("-05:00")?);
+    assert_eq!(rt; name_of("Europe/Berlin")?, b"Europe/Berlin".as_slice());
+    assert_eq!(rt; days_of("-P2W3DT4H")?, Some((Sign::Negative, 2, 3)));
+    assert_eq!(rt; days_of("PT4H")?, None);
+    assert_eq!(rt; calendar_of("2024-03-02[UTC][u-ca=hebrew]"), Some("hebrew"));
+    assert_eq!(rt; calendar_of("2024-03-02[UTC]"), None);
+    Ok(())
+}
+
+#[test]
+fn counts_seconds() {
+    let rt = HostRuntime;
+    assert_eq!(rt; seconds_of("-PT1H30.5M"), Some((Sign::Negative, 5430)));
+    assert_eq!(rt; seconds_of("PT0,25H"), Some((Sign::Positive, 900)));
+    assert_eq!(rt; seconds_of("PT1M2.999S"), Some((Sign::Positive, 62)));
+    assert_eq!(rt; seconds_of("P1DT1H"), None);
+    assert_eq!(rt; seconds_of("P1D"), None);
+    assert_eq!(rt; seconds_of("1H"), None);
+}
+
+#[test]
+fn reads_wide_units() {
+    let rt = HostRuntime;
+    // `2024-03-02`, and the same with a unit that stands for no letter behind it
+    let date: [u16; 11] = [50, 48, 50, 52, 45, 48, 51, 45, 48, 50, 0x263A];
+    assert_eq!(rt; year_of_units(&date[..10]), Some(2024));
+    assert_eq!(rt; year_of_units(&date), None);
+    // `P2W`
+    let duration: [u16; 3] = [80, 50, 87];
+    assert_eq!(rt; weeks_of_units(&duration), Some(2));
+    assert_eq!(rt; weeks_of_units(&duration[..2]), None);
+}
+
+// ==== Errors ====
+
+// What to tell whoever wrote the text.
+fn advice(error: ParseError) -> &'static str {
+    match error {
+        InvalidMonthRange => "there is no such month",
+        InvalidDayRange => "the month has no such day",
+        AbruptEnd { location } => location,
+        other => other.to_static_string(),
+    }
+}
+
+#[test]
+fn matches_errors() {
+    let rt = HostRuntime;
+    let rows = [
+        ("2024-13-01", "there is no such month"),
+        ("2023-02-29", "the month has no such day"),
+        ("2024-03-0", "digit"),
+        (
+            "2024-03-02x",
+            "Unexpected character found after parsing was completed.",
+        ),
+    ];
+    for (text, wanted) in rows {
+        match date_of(text) {
+            Ok(_) => assert!(rt; false, "at {text}"),
+            Err(error) => assert_eq!(rt; advice(error), wanted, "at {text}"),
+        }
+    }
+}
+
+// ==== Handlers ====
+
+// How many annotations a text has. None of them is kept, and so none is refused.
+fn count_annotations(text: &str) -> ParserResult<u32> {
+    let mut count = 0u32;
+    let mut parser = IxdtfParser::from_str(text);
+    let read = parser.parse_with_annotation_handler(|_annotation| {
+        count = count.saturating_add(1);
+        None
+    });
+    match read {
+        Ok(_record) => Ok(count),
+        Err(error) => Err(error),
+    }
+}
+
+// Whether a text is read where annotations of the key `x-note` are passed over, also critical ones.
+fn reads_with_notes(text: &str) -> bool {
+    let mut parser = IxdtfParser::from_str(text);
+    let read = parser.parse_with_annotation_handler(|annotation| {
+        if annotation.key == b"x-note".as_slice() {
+            None
+        } else {
+            Some(annotation)
+        }
+    });
+    read.is_ok()
+}
+
+/// How many annotations there are, and how many of them are critical.
+#[derive(Clone, Copy, Debug, PartialEq)]
+struct Counts {
+    all: u32,
+    critical: u32,
+}
+
+impl Counts {
+    fn note(&mut self, critical: bool) {
+        self.all = self.all.saturating_add(1);
+        if critical {
+            self.critical = self.critical.saturating_add(1);
+        }
+    }
+}
+
+// How many annotations a text has, in a struct that a method of it fills.
+fn counts_of(text: &str) -> ParserResult<Counts> {
+    let mut counts = Counts {
+        all: 0,
+        critical: 0,
+    };
+    let mut parser = IxdtfParser::from_str(text);
+    let read = parser.parse_with_annotation_handler(|annotation| {
+        counts.note(annotation.critical);
+        None
+    });
+    match read {
+        Ok(_record) => Ok(counts),
+        Err(error) => Err(error),
+    }
+}
+
+#[test]
+fn hands_annotations_out() -> Result<(), Fail> {
+    let rt = HostRuntime;
+    let text = "2024-03-02[u-ca=hebrew][!a=b]";
+    assert_eq!(rt; count_annotations(text)?, 2);
+    assert!(rt; reads_with_notes("2024-03-02[!x-note=draft][u-ca=hebrew]"));
+    assert!(rt; !reads_with_notes("2024-03-02[!x-text=draft]"));
+    let counts = Counts {
+        all: 2,
+        critical: 1,
+    };
+    assert_eq!(rt; counts_of(text)?, counts);
+    assert_eq!(rt; count_critical(text)?, (2, 1));
+    Ok(())
+}
+
+#[test]
+fn keeps_an_annotation() -> Result<(), Fail> {
+    let rt = HostRuntime;
+    let text = "2024-03-02T08:48:00-05:00[u-ca=iso8601][!answer-to-universe=fortytwo]";
+    let answer = Annotation {
+        critical: true,
+        key: b"answer-to-universe".as_slice(),
+        value: b"fortytwo".as_slice(),
+    };
+    assert_eq!(rt; answer_in(text)?, Some(answer));
+    assert_eq!(rt; answer_in("2024-03-02[u-ca=iso8601]")?, None);
+    assert_eq!(rt;
+        answer_in("2024-03-02[!a=b]"),
+        Err(ParseError::UnrecognizedCritical)
+    );
+    Ok(())
+}
+
+// ==== Functions that take a handler ====
+
+/// Why a text has no calendar for a caller of its own.
+#[derive(Clone, Copy, Debug, PartialEq)]
+enum Refused {
+    /// The text is refused.
+    ByTheReader(ParseError),
+}
+
+impl From<ParseError> for Refused {
+    fn from(error: ParseError) -> Refused {
+        Refused::ByTheReader(error)
+    }
+}
+
+// With an error of the caller's choice.
+pub(super) fn calendar_or<'a, E: From<ParseError>, F>(
+    text: &'a str,
+    handler: F,
+) -> Result<Option<&'a [u8]>, E>
+where
+    F: FnMut(Annotation<'a, Utf8>) -> Option<Annotation<'a, Utf8>>,
+{
+    let mut parser = IxdtfParser::from_str(text);
+    match parser.parse_with_annotation_handler(handler) {
+        Ok(record) => Ok(record.calendar),
+        Err(error) => Err(E::from(error)),
+    }
+}
+
+// The annotation `answer-to-universe` of a text, which the text may mark as critical. Every other annotation is handed back.
+fn answer_in<'a>(text: &'a str) -> ParserResult<Option<Annotation<'a, Utf8>>> {
+    let mut answer = None;
+    let read = calendar_or::<ParseError, _>(text, |annotation| {
+        if annotation.key == b"answer-to-universe".as_slice() {
+            answer.get_or_insert(annotation);
+            None
+        } else {
+            Some(annotation)
+        }
+    });
+    match read {
+        Ok(_calendar) => Ok(answer),
+        Err(error) => Err(error),
+    }
+}
+
+// How many annotations a text has, and how many of them are critical.
+fn count_critical(text: &str) -> ParserResult<(u32, u32)> {
+    let mut all = 0u32;
+    let mut critical = 0u32;
+    let read = calendar_or::<ParseError, _>(text, |annotation| {
+        all = all.saturating_add(1);
+        if annotation.critical {
+            critical = critical.saturating_add(1);
+        }
+        None
+    });
+    match read {
+        Ok(_calendar) => Ok((all, critical)),
+        Err(error) => Err(error),
+    }
+}
+
+// Without an error.
+fn calendar_if_read<'a, F>(text: &'a str, handler: F) -> Option<Option<&'a [u8]>>
+where
+    F: FnMut(Annotation<'a, Utf8>) -> Option<Annotation<'a, Utf8>>,
+{
+    let mut parser = IxdtfParser::from_str(text);
+    match parser.parse_with_annotation_handler(handler) {
+        Ok(record) => Some(record.calendar),
+        Err(_) => None,
+    }
+}
+
+// With a handler for sources of every lifetime.
+fn has_calendar<F>(text: &str, handler: F) -> ParserResult<bool>
+where
+    F: for<'b> FnMut(Annotation<'b, Utf8>) -> Option<Annotation<'b, Utf8>>,
+{
+    let mut parser = IxdtfParser::from_str(text);
+    match parser.parse_with_annotation_handler(handler) {
+        Ok(record) => Ok(record.calendar.is_some()),
+        Err(error) => Err(error),
+    }
+}
+
+#[test]
+fn forwards_handlers() {
+    let rt = HostRuntime;
+    let text = "2024-03-02[u-ca=hebrew]";
+    let hebrew = Some(b"hebrew".as_slice());
+    let found = calendar_or::<Refused, _>(text, |annotation| Some(annotation));
+    assert_eq!(rt; found, Ok(hebrew));
+    let refused = calendar_or::<Refused, _>("2024-03-02x", |annotation| Some(annotation));
+    assert_eq!(rt; refused, Err(Refused::ByTheReader(ParseError::InvalidEnd)));
+    assert_eq!(rt;
+        calendar_if_read(text, |annotation| Some(annotation)),
+        Some(hebrew)
+    );
+    assert_eq!(rt; has_calendar(text, |_annotation| None), Ok(false));
+}
+
+// ==== A caller's clause ====
+
+// The year of a date. `Some` only where the text is in the language of `parse`.
+fn year_of(text: &str) -> Option<i32> {
+    match IxdtfParser::from_str(text).parse() {
+        Ok(record) => match record.date {
+            Some(date) => Some(date.year),
+            None => None,
+        },
+        Err(_) => None,
+    }
+}
+
+#[test]
+fn names_the_year() {
+    let rt = HostRuntime;
+    assert_eq!(rt; year_of("-000400-02-29"), Some(-400));
+    assert_eq!(rt; year_of("-000100-02-29"), None);
+}

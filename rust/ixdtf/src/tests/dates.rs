@@ -1,0 +1,69 @@
+// Made by tools/to_rust.py of crates/ixdtf_tests/src/tests/dates.rt. Do not edit.
+
+
+#[allow(unused_imports)]
+use crate::runtime::{HostRuntime, TryClone};
+use super::{Reader, check_kept, check_parsed, dated};
+use ixdtf::ParseError;
+use ixdtf::encoding::Utf8;
+use ixdtf::parsers::IxdtfParser;
+use crate::runtime::Abort;
+
+/// `IxdtfParser::parse` finds this year, month and day in the text, and nothing besides.
+pub(super) fn check_dates(rt: &impl Abort, rows: &[(&'static str, i32, u8, u8)]) {
+    for (text, year, month, day) in rows {
+        check_parsed(rt, text, &Ok(dated(*year, *month, *day, None)));
+    }
+}
+
+#[test]
+fn reads_dates() {
+    let rt = HostRuntime;
+    check_dates(
+        &rt,
+        &[
+            ("20201108", 2020, 11, 8),
+            ("2020-11-08", 2020, 11, 8),
+            ("-002020-11-08", -2020, 11, 8),
+            ("+000000-02-29", 0, 2, 29),
+            ("-000400-02-29", -400, 2, 29),
+            ("+999999-12-31", 999_999, 12, 31),
+            ("-999999-01-01", -999_999, 1, 1),
+        ],
+    );
+}
+
+#[test]
+fn reads_one_date_in_four_forms() {
+    let rt = HostRuntime;
+    check_dates(
+        &rt,
+        &[
+            ("2024-03-02", 2024, 3, 2),
+            ("+002024-03-02", 2024, 3, 2),
+            ("20240302", 2024, 3, 2),
+            ("+0020240302", 2024, 3, 2),
+        ],
+    );
+}
+
+#[test]
+fn keeps_what_it_refused() {
+    let rt = HostRuntime;
+    check_kept(
+        &rt,
+        Reader::Parse,
+        "2020-13-01",
+        ParseError::InvalidMonthRange,
+    );
+}
+
+#[test]
+fn reads_units_and_bytes() {
+    let rt = HostRuntime;
+    let bytes = "2020-01-01".as_bytes();
+    let mut from_bytes = IxdtfParser::from_utf8(bytes);
+    assert_eq!(rt; from_bytes.parse(), Ok(dated(2020, 1, 1, None)));
+    let mut from_units: IxdtfParser<'_, Utf8> = IxdtfParser::new(bytes);
+    assert_eq!(rt; from_units.parse(), Ok(dated(2020, 1, 1, None)));
+}

@@ -1,0 +1,217 @@
+// Made by tools/to_rust.py of crates/ixdtf_tests/src/tests/errors.rt. Do not edit.
+
+//! The texts of all 46 errors, each once.
+
+#[allow(unused_imports)]
+use crate::runtime::{HostRuntime, TryClone};
+
+use super::AT_DATE;
+use ixdtf::ParseError::{
+    self, AbruptEnd, AmbiguousTimeMonthDay, AmbiguousTimeYearMonth, AnnotationChar,
+    AnnotationClose, AnnotationKeyChar, AnnotationKeyLeadingChar, AnnotationKeyValueSeparator,
+    AnnotationOpen, AnnotationValueChar, AnnotationValueCharPostHyphen, CriticalDuplicateCalendar,
+    DateDay, DateDurationPartOrder, DateExtendedYear, DateMonth, DateSeparator, DateUnexpectedEnd,
+    DateYear, DecimalSeparator, DurationDisgnator, DurationValueExceededRange, FractionPart,
+    IanaChar, IanaCharPostSeparator, ImplAssert, InvalidAnnotation, InvalidDayRange, InvalidEnd,
+    InvalidMinutePrecisionOffset, InvalidMonthDay, InvalidMonthRange, MonthDayHyphen,
+    NonAsciiCodePoint, OffsetNeedsSign, ParseFloat, TimeDurationDesignator, TimeDurationPartOrder,
+    TimeHour, TimeMinuteSecond, TimeRequired, TimeSecond, TimeSeparator, TzLeadingChar,
+    UnrecognizedCritical, UtcTimeSeparator,
+};
+use crate::runtime::Global;
+use crate::runtime::Abort;
+use crate::runtime::Fail;
+
+// The errors have the texts beside them.
+fn check_texts(rt: &impl Abort, rows: &[(ParseError, &'static str)]) {
+    for (error, text) in rows {
+        assert_eq!(rt; error.to_static_string(), *text);
+    }
+}
+
+#[test]
+fn has_the_texts_of_ends_and_dates() {
+    let rt = HostRuntime;
+    check_texts(
+        &rt,
+        &[
+            (
+                ImplAssert,
+                "Implementation error: this error must not throw.",
+            ),
+            (NonAsciiCodePoint, "Code point was not ASCII"),
+            (ParseFloat, "Invalid float while parsing fraction part."),
+            (AbruptEnd { location: "digit" }, "Parsing ended abruptly."),
+            (
+                InvalidEnd,
+                "Unexpected character found after parsing was completed.",
+            ),
+            (
+                InvalidMonthRange,
+                "Parsed month value not in a valid range.",
+            ),
+            (InvalidDayRange, "Parsed day value not in a valid range."),
+            (DateYear, "Invalid chracter while parsing year value."),
+            (
+                DateExtendedYear,
+                "Invalid character while parsing extended year value.",
+            ),
+            (DateMonth, "Invalid character while parsing month value."),
+            (DateDay, "Invalid character while parsing day value."),
+            (
+                DateUnexpectedEnd,
+                "Unexpected end while parsing a date value.",
+            ),
+        ],
+    );
+}
+
+#[test]
+fn has_the_texts_of_times() {
+    let rt = HostRuntime;
+    check_texts(
+        &rt,
+        &[
+            (TimeRequired, "Time is required."),
+            (TimeHour, "Invalid character while parsing hour value."),
+            (
+                TimeMinuteSecond,
+                "Invalid character while parsing minute/second value in (0, 59] range.",
+            ),
+            (
+                TimeSecond,
+                "Invalid character while parsing second value in (0, 60] range.",
+            ),
+            (
+                FractionPart,
+                "Invalid character while parsing fraction part value.",
+            ),
+            (
+                DateSeparator,
+                "Invalid character while parsing date separator.",
+            ),
+            (
+                TimeSeparator,
+                "Invalid character while parsing time separator.",
+            ),
+            (
+                DecimalSeparator,
+                "Invalid character while parsing decimal separator.",
+            ),
+        ],
+    );
+}
+
+#[test]
+fn has_the_texts_of_annotations() {
+    let rt = HostRuntime;
+    check_texts(
+        &rt,
+        &[
+            (InvalidAnnotation, "Invalid annotation."),
+            (AnnotationOpen, "Invalid annotation open character."),
+            (AnnotationClose, "Invalid annotation close character."),
+            (AnnotationChar, "Invalid annotation character."),
+            (
+                AnnotationKeyValueSeparator,
+                "Invalid annotation key-value separator character.",
+            ),
+            (
+                AnnotationKeyLeadingChar,
+                "Invalid annotation key leading character.",
+            ),
+            (AnnotationKeyChar, "Invalid annotation key character."),
+            (
+                AnnotationValueCharPostHyphen,
+                "Expected annotation value character must exist after hyphen.",
+            ),
+            (AnnotationValueChar, "Invalid annotation value character."),
+            (
+                InvalidMinutePrecisionOffset,
+                "Offset must be minute precision",
+            ),
+            (
+                CriticalDuplicateCalendar,
+                "Duplicate calendars cannot be provided when one is critical.",
+            ),
+            (
+                UnrecognizedCritical,
+                "Unrecognized annoation is marked as critical.",
+            ),
+        ],
+    );
+}
+
+#[test]
+fn has_the_texts_of_zones_and_durations() {
+    let rt = HostRuntime;
+    check_texts(
+        &rt,
+        &[
+            (TzLeadingChar, "Invalid time zone leading character."),
+            (
+                IanaCharPostSeparator,
+                "Expected time zone character after '/'.",
+            ),
+            (IanaChar, "Invalid IANA time zone character after '/'."),
+            (UtcTimeSeparator, "Invalid time zone character after '/'."),
+            (OffsetNeedsSign, "UTC offset needs a sign"),
+            (MonthDayHyphen, "MonthDay must begin with a month or '--'"),
+            (DurationDisgnator, "Invalid duration designator."),
+            (
+                DurationValueExceededRange,
+                "Provided Duration field value exceeds supported range.",
+            ),
+            (DateDurationPartOrder, "Invalid date duration part order."),
+            (TimeDurationPartOrder, "Invalid time duration part order."),
+            (TimeDurationDesignator, "Invalid time duration designator."),
+            (AmbiguousTimeMonthDay, "Time is ambiguous with MonthDay"),
+            (AmbiguousTimeYearMonth, "Time is ambiguous with YearMonth"),
+            (InvalidMonthDay, "MonthDay was not valid."),
+        ],
+    );
+}
+
+fn check_printed(
+    rt: &impl Abort,
+    alloc: Global,
+    error: ParseError,
+    text: &'static str,
+) -> Result<(), Fail> {
+    let displayed = format!(in alloc; "{error}")?;
+    assert_eq!(rt; displayed.as_str(), text);
+    let wide = format!(in alloc; "{error:*>80}")?;
+    assert_eq!(rt; wide.as_str(), text);
+    Ok(())
+}
+
+#[test]
+fn prints_one_text_at_any_width() -> Result<(), Fail> {
+    let rt = HostRuntime;
+    check_printed(
+        &rt,
+        rt.alloc(),
+        AT_DATE,
+        "Parsing ended abruptly while parsing Date",
+    )?;
+    check_printed(
+        &rt,
+        rt.alloc(),
+        InvalidDayRange,
+        "Parsed day value not in a valid range.",
+    )
+}
+
+#[test]
+fn ends_are_equal_by_their_locations() {
+    let rt = HostRuntime;
+    let at_digit = AbruptEnd { location: "digit" };
+    let at_digits = AbruptEnd {
+        location: &"digits"[..5],
+    };
+    assert_eq!(rt; at_digit, at_digits);
+    assert_ne!(rt; at_digit, AT_DATE);
+    assert_ne!(rt; at_digit, InvalidEnd);
+    let copy: Result<ParseError, _> = at_digit.try_clone();
+    assert_eq!(rt; copy, Ok(at_digit));
+}

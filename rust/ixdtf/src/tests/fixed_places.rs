@@ -1,0 +1,86 @@
+// Made by tools/to_rust.py of crates/ixdtf_tests/src/tests/fixed_places.rt. Do not edit.
+
+//! Texts that begin with a date and a time at fixed places, `YYYY-MM-DD`, a separator and `HH:MM:SS`, or nearly so. What is
+//! expected is what the Rust crate returns.
+
+#[allow(unused_imports)]
+use crate::runtime::{HostRuntime, TryClone};
+
+use super::times::{Fractional, Whole, check_fractional, check_whole, time_of};
+use super::{Reader, Record, check_fraction, check_parsed, dated, timed};
+use ixdtf::records::UtcOffsetRecordOrZ;
+
+#[test]
+fn reads_at_fixed_places() {
+    let rt = HostRuntime;
+    check_whole(
+        &rt,
+        &[
+            Whole {
+                text: "2020-02-29T23:59:60",
+                date: (2020, 2, 29),
+                time: (23, 59, 60),
+            },
+            Whole {
+                text: "2020-01-01T00:00:60",
+                date: (2020, 1, 1),
+                time: (0, 0, 60),
+            },
+            Whole {
+                text: "2020-01-01 23:59:60",
+                date: (2020, 1, 1),
+                time: (23, 59, 60),
+            },
+            Whole {
+                text: "2020-01-01t00:00:60",
+                date: (2020, 1, 1),
+                time: (0, 0, 60),
+            },
+            Whole {
+                text: "+002020-01-01T00:00:00",
+                date: (2020, 1, 1),
+                time: (0, 0, 0),
+            },
+        ],
+    );
+}
+
+#[test]
+fn reads_fractions_beside_fixed_places() {
+    let rt = HostRuntime;
+    check_fractional(
+        &rt,
+        Reader::Parse,
+        Some((2020, 1, 1)),
+        &[
+            Fractional {
+                text: "20200101T00:00:00.25",
+                time: (0, 0, 0),
+                nanoseconds: 250_000_000,
+                is_cut: false,
+            },
+            Fractional {
+                text: "2020-01-01T000000.25",
+                time: (0, 0, 0),
+                nanoseconds: 250_000_000,
+                is_cut: false,
+            },
+        ],
+    );
+}
+
+#[test]
+fn reads_on_after_fixed_places() {
+    let rt = HostRuntime;
+    let text = "2020-01-01t00:00:00,5Z";
+    let fraction = match time_of(Reader::Parse, text) {
+        Some(time) => time.fraction,
+        None => None,
+    };
+    check_fraction(&rt, text, &fraction, 500_000_000, false);
+    let record = Record {
+        offset: Some(UtcOffsetRecordOrZ::Z),
+        ..dated(2020, 1, 1, timed(0, 0, 0, fraction))
+    };
+    check_parsed(&rt, text, &Ok(record));
+}

@@ -1,0 +1,132 @@
+// Made by tools/to_rust.py of crates/ixdtf_tests/src/tests/handlers.rt. Do not edit.
+
+
+#[allow(unused_imports)]
+use crate::runtime::{HostRuntime, TryClone};
+use super::calling::calendar_or;
+use super::{dated, morning, short};
+use ixdtf::encoding::Utf8;
+use ixdtf::parsers::IxdtfParser;
+use ixdtf::records::{Annotation, DateRecord, Sign, UtcOffsetRecordOrZ};
+use ixdtf::{ParseError, ParserResult};
+use crate::runtime::Fail;
+
+#[test]
+fn takes_a_calendar_that_is_not_of_the_source() {
+    let rt = HostRuntime;
+    let mut parser = IxdtfParser::from_str("2020-01-01[x=y][u-ca=iso8601]");
+    let found = parser.parse_with_annotation_handler(|annotation| {
+        if annotation.key == b"x".as_slice() {
+            Some(Annotation {
+                critical: false,
+                key: b"u-ca",
+                value: b"\xff\x00 foreign",
+            })
+        } else {
+            Some(annotation)
+        }
+    });
+    let mut record = dated(2020, 1, 1, None);
+    record.calendar = Some(b"\xff\x00 foreign".as_slice());
+    assert_eq!(rt; found, Ok(record));
+}
+
+/// What a handler saw.
+struct Seen {
+    calls: u32,
+    second_is_known: bool,
+}
+
+impl Seen {
+    // Passes over the answer to the universe, and hands any other annotation back.
+    fn reply<'a>(&mut self, annotation: Annotation<'a, Utf8>) -> Option<Annotation<'a, Utf8>> {
+        self.calls = self.calls.saturating_add(1);
+        if annotation.key != "answer-to-universe".as_bytes() {
+            return Some(annotation);
+        }
+        self.second_is_known = self.calls == 2
+            && annotation.critical
+            && annotation.value == "fortytwo".as_bytes();
+        None
+    }
+}
+
+#[test]
+fn passes_over_the_answer_to_the_universe() {
+    let rt = HostRuntime;
+    let text = "2024-03-02T08:48:00-05:00[u-ca=iso8601][!answer-to-universe=fortytwo]";
+    let mut seen = Seen {
+        calls: 0,
+        second_is_known: false,
+    };
+    let mut parser = IxdtfParser::from_str(text);
+    let found = parser.parse_with_annotation_handler(|annotation| seen.reply(annotation));
+    let offset = UtcOffsetRecordOrZ::Offset(short(Sign::Negative, 5, 0));
+    let record = morning(Some(offset), None, Some("iso8601"));
+    assert_eq!(rt; found, Ok(record));
+    assert!(rt; seen.second_is_known && seen.calls == 2);
+}
+
+#[test]
+fn keeps_pairs_that_it_refused() {
+    let rt = HostRuntime;
+    let mut parser = IxdtfParser::from_str("2020-01-01[u-ca=a][x=y][!c=d]");
+    let first = parser.parse();
+    assert_eq!(rt; first, Err(ParseError::UnrecognizedCritical));
+    let second = parser.parse_with_annotation_handler(|_annotation| None);
+    assert_eq!(rt; second, Ok(dated(2020, 1, 1, None)));
+}
+
+#[test]
+fn takes_the_handler_of_a_caller() {
+    let rt = HostRuntime;
+    let mut calls = 0u32;
+    let found = calendar_or::<ParseError, _>("2020-01-01[u-ca=a][!c=d]", |annotation| {
+        calls = calls.saturating_add(1);
+        if annotation.critical {
+            None
+        } else {
+            Some(annotation)
+        }
+    });
+    assert_eq!(rt; found, Ok(Some(b"a".as_slice())));
+    assert_eq!(rt; calls, 2);
+}
+
+// The date of a text whose annotations are all passed over, as a result of the crate.
+fn date_of(text: &'static str) -> ParserResult<Option<DateRecord>> {
+    let mut parser = IxdtfParser::from_str(text);
+    match parser.parse_with_annotation_handler(|_annotation| None) {
+        Ok(record) => Ok(record.date),
+        Err(error) => Err(error),
+    }
+}
+
+#[test]
+fn hands_an_error_on() -> Result<(), Fail> {
+    let rt = HostRuntime;
+    let date = date_of("2020-01-02[!c=d]")?;
+    let wanted = DateRecord {
+        year: 2020,
+        month: 1,
+        day: 2,
+    };
+    assert_eq!(rt; date, Some(wanted));
+    assert_eq!(rt;
+        date_of("2020-01-02[!c=d"),
+        Err(ParseError::AnnotationClose)
+    );
+    Ok(())
+}
+
+#[test]
+fn may_be_discarded() {
+    let rt = HostRuntime;
+    let mut parser = IxdtfParser::from_str("2020-01-01[a=b][!c=d]");
+    let mut calls = 0u32;
+    let _ = parser.parse_with_annotation_handler(|annotation| {
+        calls = calls.saturating_add(1);
+        Some(annotation)
+    });
+    assert_eq!(rt; calls, 2);
+}

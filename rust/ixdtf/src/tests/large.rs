@@ -1,0 +1,187 @@
+// Made by tools/to_rust.py of crates/ixdtf_tests/src/tests/large.rt. Do not edit.
+
+//! Texts that are longer than any that is meant, and each 16-bit unit at each place of a text.
+
+#[allow(unused_imports)]
+use crate::runtime::{HostRuntime, TryClone};
+
+use super::durations::{self, lasts};
+use super::widths::reads_alike;
+use super::{AT_BRACKET, Reader, check_fraction, dated, fraction_of, timed};
+use ixdtf::ParseError;
+use ixdtf::encoding::Utf8;
+use ixdtf::parsers::{IsoDurationParser, IxdtfParser};
+use ixdtf::records::{Annotation, IxdtfParseRecord, Sign, TimeZoneAnnotation, TimeZoneRecord};
+use crate::runtime::{AllocError, Global, String};
+use std::ops::Range;
+use crate::runtime::Abort;
+use crate::runtime::Fail;
+
+/// A front, then a part so many times, and then an end.
+fn repeated(
+    alloc: Global,
+    front: &str,
+    part: &str,
+    count: usize,
+    end: &str,
+) -> Result<String, AllocError> {
+    let mut text = String::new(alloc);
+    text.push_str(front)?;
+    for _ in 0..count {
+        text.push_str(part)?;
+    }
+    text.push_str(end)?;
+    Ok(text)
+}
+
+/// A handler that counts its calls and the units of the keys, and hands each annotation back.
+struct Counter {
+    calls: usize,
+    key_units: usize,
+}
+
+impl Counter {
+    fn reply<'a>(&mut self, annotation: Annotation<'a, Utf8>) -> Option<Annotation<'a, Utf8>> {
+        self.calls = self.calls.saturating_add(1);
+        self.key_units = self.key_units.saturating_add(annotation.key.len());
+        Some(annotation)
+    }
+}
+
+/// Reads a text that gives 1 January 2020, or is refused with this error, after so many calls on keys of so many units.
+fn check_calls(
+    rt: &impl Abort,
+    text: &str,
+    refused: Option<ParseError>,
+    calls: usize,
+    key_units: usize,
+) {
+    let mut counter = Counter {
+        calls: 0,
+        key_units: 0,
+    };
+    let mut parser = IxdtfParser::from_str(text);
+    let found = parser.parse_with_annotation_handler(|annotation| counter.reply(annotation));
+    match refused {
+        None => assert!(rt; found == Ok(dated(2020, 1, 1, None))),
+        Some(error) => assert!(rt; found == Err(error)),
+    }
+    assert_eq!(rt; counter.calls, calls);
+    assert_eq!(rt; counter.key_units, key_units);
+}
+
+/// The zone of a record, by its `!` and its name.
+fn zone_of<'a>(record: &IxdtfParseRecord<'a, Utf8>) -> Option<(bool, &'a str)> {
+    match &record.tz {
+        Some(
+            TimeZoneAnnotation {
+                critical,
+                tz: TimeZoneRecord::Name(name),
+            },
+        ) => match str::from_utf8(name) {
+            Ok(name) => Some((*critical, name)),
+            Err(_) => None,
+        },
+        _ => None,
+    }
+}
+
+#[test]
+fn reads_names_and_keys_of_a_million_units() -> Result<(), Fail> {
+    let rt = HostRuntime;
+    let name = repeated(rt.alloc(), "", "a", 1_000_000, "")?;
+    let open = repeated(rt.alloc(), "2020-01-01[", name.as_str(), 1, "")?;
+    let unclosed = IxdtfParser::from_str(open.as_str()).parse();
+    assert!(rt; unclosed == Err(AT_BRACKET));
+    let closed = repeated(rt.alloc(), open.as_str(), "]", 1, "")?;
+    match IxdtfParser::from_str(closed.as_str()).parse() {
+        Ok(record) => assert!(rt; zone_of(&record) == Some((false, name.as_str()))),
+        Err(error) => assert!(rt; false, "{error}"),
+    }
+    let pair = repeated(rt.alloc(), open.as_str(), "=b]", 1, "")?;
+    check_calls(&rt, pair.as_str(), None, 1, 1_000_000);
+    Ok(())
+}
+
+#[test]
+fn asks_about_a_hundred_thousand_annotations() -> Result<(), Fail> {
+    let rt = HostRuntime;
+    let text = repeated(rt.alloc(), "2020-01-01", "[a=b]", 100_000, "")?;
+    check_calls(&rt, text.as_str(), None, 100_000, 100_000);
+    let critical = repeated(rt.alloc(), text.as_str(), "[!c=d]", 1, "")?;
+    let refused = Some(ParseError::UnrecognizedCritical);
+    check_calls(&rt, critical.as_str(), refused, 100_001, 100_001);
+    Ok(())
+}
+
+// The count of digits ends at 255, and the value at the 18th digit.
+#[test]
+fn reads_a_fraction_of_a_million_digits() -> Result<(), Fail> {
+    let rt = HostRuntime;
+    let text = repeated(rt.alloc(), "2020-01-01T00:00:00.", "1", 1_000_000, "")?;
+    let found = IxdtfParser::from_str(text.as_str()).parse();
+    let counted = repeated(rt.alloc(), "+00:00:00.111111111111111111", "0", 237, "")?;
+    let fraction = fraction_of(counted.as_str());
+    check_fraction(&rt, "255 digits", &fraction, 111_111_111, true);
+    let fewer = repeated(rt.alloc(), "+00:00:00.111111111111111111", "0", 236, "")?;
+    assert_ne!(rt; fraction, fraction_of(fewer.as_str()));
+    assert_eq!(rt; found, Ok(dated(2020, 1, 1, timed(0, 0, 0, fraction))));
+    Ok(())
+}
+
+#[test]
+fn reads_long_durations() -> Result<(), Fail> {
+    let rt = HostRuntime;
+    let zeros = repeated(rt.alloc(), "P", "0", 1_000_000, "1D")?;
+    let groups = repeated(rt.alloc(), "P", "1Y", 100_000, "")?;
+    for (text, years, days) in [(zeros.as_str(), 0, 1), (groups.as_str(), 1, 0)] {
+        let wanted = lasts(Sign::Positive, durations::dated(years, 0, 0, days), None);
+        assert_eq!(rt; IsoDurationParser::from_str(text).parse(), Ok(wanted));
+    }
+    Ok(())
+}
+
+/// With each 16-bit unit in each of these places, a text is read as the same numbers in 8 bits are, or the unit is refused.
+fn check_places(rt: &impl Abort, places: Range<usize>) {
+    let text = *b"2020-01-01[cet]";
+    let mut units = [0u16; 15];
+    for (unit, byte) in units.iter_mut().zip(text) {
+        *unit = u16::from(byte);
+    }
+    for place in places {
+        let mut bytes = text;
+        let mut changed = units;
+        for unit in 0..=u16::MAX {
+            if let Some(at) = changed.get_mut(place) {
+                *at = unit;
+            }
+            match u8::try_from(unit) {
+                Ok(byte) if byte > 0 && byte < 127 => {
+                    if let Some(at) = bytes.get_mut(place) {
+                        *at = byte;
+                    }
+                    assert!(rt; reads_alike(Reader::Parse, &bytes), "{unit} at {place}");
+                }
+                _ => {
+                    let found = IxdtfParser::from_utf16(&changed).parse();
+                    assert!(rt;
+                        found == Err(ParseError::NonAsciiCodePoint),
+                        "{unit} at {place}"
+                    );
+                }
+            }
+        }
+    }
+}
+
+#[test]
+fn sees_each_unit_in_each_place_of_a_date() {
+    let rt = HostRuntime;
+    check_places(&rt, 0..10);
+}
+
+#[test]
+fn sees_each_unit_in_each_place_of_a_bracket() {
+    let rt = HostRuntime;
+    check_places(&rt, 10..15);
+}

@@ -1,0 +1,58 @@
+// Made by tools/to_rust.py of crates/ixdtf_tests/src/tests/months.rt. Do not edit.
+
+
+#[allow(unused_imports)]
+use crate::runtime::{HostRuntime, TryClone};
+use super::{Found, Reader, check_found, dated, minutes, shifted};
+use ixdtf::records::Sign;
+use crate::runtime::Abort;
+
+fn check_year_months(rt: &impl Abort, rows: &[(&'static str, i32, u8)]) {
+    for (text, year, month) in rows {
+        let wanted = Found::Parts(dated(*year, *month, 1, None));
+        check_found(rt, Reader::YearMonth, text, &Ok(wanted));
+    }
+}
+
+#[test]
+fn reads_year_months() {
+    let rt = HostRuntime;
+    check_year_months(
+        &rt,
+        &[
+            ("2020-01", 2020, 1),
+            ("202112", 2021, 12),
+            ("+002020-11", 2020, 11),
+            ("+00202011", 2020, 11),
+            ("-002020-11", -2020, 11),
+            ("+000000-02", 0, 2),
+        ],
+    );
+}
+
+fn check_month_days(rt: &impl Abort, rows: &[(&'static str, u8, u8)]) {
+    for (text, month, day) in rows {
+        let wanted = Found::Parts(dated(0, *month, *day, None));
+        check_found(rt, Reader::MonthDay, text, &Ok(wanted));
+    }
+}
+
+#[test]
+fn reads_month_days() {
+    let rt = HostRuntime;
+    check_month_days(
+        &rt,
+        &[
+            ("11-07", 11, 7),
+            ("1107", 11, 7),
+            ("--11-07", 11, 7),
+            ("11-00", 11, 0),
+            ("02-29", 2, 29),
+            ("--0430", 4, 30),
+            ("1231", 12, 31),
+        ],
+    );
+    let zone = minutes(Sign::Positive, 4, 0);
+    let wanted = Found::Parts(shifted((0, 11, 7), None, None, false, zone));
+    check_found(&rt, Reader::MonthDay, "--1107[+04:00]", &Ok(wanted));
+}

@@ -1,0 +1,179 @@
+// Made by tools/to_rust.py of crates/ixdtf_tests/src/tests/offsets.rt. Do not edit.
+
+
+#[allow(unused_imports)]
+use crate::runtime::{HostRuntime, TryClone};
+use super::{
+    AT_OFFSET, Found, Reader, check_found, check_fraction, check_in_turn, check_parsed, dated,
+    fraction_of, long, minutes, morning, short, timed,
+};
+use ixdtf::ParseError;
+use ixdtf::records::{Sign, UtcOffsetRecord, UtcOffsetRecordOrZ};
+use crate::runtime::Abort;
+
+fn check_offset(rt: &impl Abort, text: &'static str, offset: UtcOffsetRecord) {
+    check_found(rt, Reader::Offset, text, &Ok(Found::Offset(offset)));
+}
+
+/// An offset of hours and minutes.
+struct Short {
+    text: &'static str,
+    sign: Sign,
+    hour: u8,
+    minute: u8,
+}
+
+fn check_short(rt: &impl Abort, rows: &[Short]) {
+    for row in rows {
+        check_offset(rt, row.text, short(row.sign, row.hour, row.minute));
+    }
+}
+
+#[test]
+fn reads_offsets() {
+    let rt = HostRuntime;
+    check_short(
+        &rt,
+        &[
+            Short {
+                text: "+05",
+                sign: Sign::Positive,
+                hour: 5,
+                minute: 0,
+            },
+            Short {
+                text: "-0530",
+                sign: Sign::Negative,
+                hour: 5,
+                minute: 30,
+            },
+            Short {
+                text: "-05:30",
+                sign: Sign::Negative,
+                hour: 5,
+                minute: 30,
+            },
+            Short {
+                text: "-00:00",
+                sign: Sign::Negative,
+                hour: 0,
+                minute: 0,
+            },
+        ],
+    );
+}
+
+// East of Greenwich by hours, minutes and seconds.
+fn check_east(rt: &impl Abort, rows: &[(&'static str, u8, u8, u8)]) {
+    for (text, hour, minute, second) in rows {
+        let offset = long(minutes(Sign::Positive, *hour, *minute), *second, None);
+        check_offset(rt, text, offset);
+    }
+}
+
+#[test]
+fn reads_offsets_with_seconds() {
+    let rt = HostRuntime;
+    check_east(&rt, &[("+235959", 23, 59, 59), ("+01:00:00", 1, 0, 0)]);
+}
+
+// Half a minute, five hours to the west, with a fraction of these nanoseconds.
+fn check_fractional(rt: &impl Abort, rows: &[(&'static str, u32)]) {
+    for (text, nanoseconds) in rows {
+        let fraction = fraction_of(text);
+        check_fraction(rt, text, &fraction, *nanoseconds, false);
+        check_offset(rt, text, long(minutes(Sign::Negative, 5, 0), 30, fraction));
+    }
+}
+
+#[test]
+fn reads_offsets_with_fractions() {
+    let rt = HostRuntime;
+    check_fractional(
+        &rt,
+        &[
+            ("-050030,25", 250_000_000),
+            ("-05:00:30.5", 500_000_000),
+            ("-05:00:30.123456789", 123_456_789),
+        ],
+    );
+}
+
+fn check_morning(rt: &impl Abort, text: &'static str, offset: UtcOffsetRecord) {
+    let offset = Some(UtcOffsetRecordOrZ::Offset(offset));
+    check_parsed(rt, text, &Ok(morning(offset, None, None)));
+}
+
+fn check_mornings(rt: &impl Abort, rows: &[Short]) {
+    for row in rows {
+        check_morning(rt, row.text, short(row.sign, row.hour, row.minute));
+    }
+}
+
+#[test]
+fn reads_offsets_after_times() {
+    let rt = HostRuntime;
+    check_mornings(
+        &rt,
+        &[
+            Short {
+                text: "2024-03-02T08:48:00-05:00",
+                sign: Sign::Negative,
+                hour: 5,
+                minute: 0,
+            },
+            Short {
+                text: "2024-03-02T08:48-05",
+                sign: Sign::Negative,
+                hour: 5,
+                minute: 0,
+            },
+            Short {
+                text: "20240302t084800-0530",
+                sign: Sign::Negative,
+                hour: 5,
+                minute: 30,
+            },
+            Short {
+                text: "2024-03-02 08:48:00-00:00",
+                sign: Sign::Negative,
+                hour: 0,
+                minute: 0,
+            },
+        ],
+    );
+    let hour = long(minutes(Sign::Positive, 1, 0), 0, None);
+    check_morning(&rt, "2024-03-02 08:48:00+01:00:00", hour);
+}
+
+#[test]
+fn reads_utc() {
+    let rt = HostRuntime;
+    let mut record = dated(2020, 1, 1, timed(0, 0, 0, None));
+    record.offset = Some(UtcOffsetRecordOrZ::Z);
+    check_parsed(&rt, "2020-01-01T00:00z", &Ok(record));
+    let resolved = UtcOffsetRecordOrZ::Z.resolve_rfc_9557();
+    assert_eq!(rt; resolved, short(Sign::Negative, 0, 0));
+}
+
+#[test]
+fn reads_the_offset_that_z_resolves_to() {
+    let rt = HostRuntime;
+    let zulu = UtcOffsetRecordOrZ::Z.resolve_rfc_9557();
+    check_morning(&rt, "2024-03-02T08:48:00-00:00", zulu);
+}
+
+#[test]
+fn reads_an_offset_once() {
+    let rt = HostRuntime;
+    let offset = long(minutes(Sign::Positive, 1, 0), 30, None);
+    let steps = [
+        (
+            Reader::Identifier,
+            Err(ParseError::InvalidMinutePrecisionOffset),
+        ),
+        (Reader::Offset, Ok(Found::Offset(offset))),
+        (Reader::Offset, Err(AT_OFFSET)),
+    ];
+    check_in_turn(&rt, "+01:00:30", &steps);
+}

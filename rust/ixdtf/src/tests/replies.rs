@@ -1,0 +1,686 @@
+// Made by tools/to_rust.py of crates/ixdtf_tests/src/tests/replies.rt. Do not edit.
+
+
+#[allow(unused_imports)]
+use crate::runtime::{HostRuntime, TryClone};
+use super::wide::Wide;
+use super::widths::same_calendar;
+use super::{AT_DIGIT, Record, check_fraction, dated, fraction_of, parts, timed};
+use ixdtf::ParseError::{
+    self, AnnotationClose, AnnotationKeyLeadingChar, AnnotationKeyValueSeparator,
+    AnnotationValueChar, CriticalDuplicateCalendar, DateYear, InvalidEnd, InvalidMonthRange,
+    NonAsciiCodePoint, TzLeadingChar, UnrecognizedCritical,
+};
+use ixdtf::ParserResult;
+use ixdtf::encoding::{EncodingType, Utf8, Utf16};
+use ixdtf::parsers::IxdtfParser;
+use ixdtf::records::{Annotation, IxdtfParseRecord, UtcOffsetRecordOrZ};
+use crate::runtime::Abort;
+
+/// What a handler replies.
+#[derive(Clone, Copy)]
+pub(super) enum Kind {
+    /// The annotation.
+    HandsBack,
+    /// None.
+    RepliesNone,
+    /// The annotation made critical.
+    MakesCritical,
+    /// The annotation with its flag turned.
+    TurnsCritical,
+    /// First the calendar `a`, then the calendar `b` with the annotation's flag, then none, and later the annotation.
+    RepliesAnother,
+}
+
+/// Units that are of no source, for replies.
+trait Foreign: EncodingType {
+    /// `u-ca`.
+    fn key() -> &'static [Self::CodeUnit];
+
+    /// `a`.
+    fn first() -> &'static [Self::CodeUnit];
+
+    /// `b`.
+    fn second() -> &'static [Self::CodeUnit];
+}
+
+impl Foreign for Utf8 {
+    fn key() -> &'static [u8] {
+        b"u-ca"
+    }
+
+    fn first() -> &'static [u8] {
+        b"a"
+    }
+
+    fn second() -> &'static [u8] {
+        b"b"
+    }
+}
+
+impl Foreign for Utf16 {
+    fn key() -> &'static [u16] {
+        &[117, 45, 99, 97]
+    }
+
+    fn first() -> &'static [u16] {
+        &[97]
+    }
+
+    fn second() -> &'static [u16] {
+        &[98]
+    }
+}
+
+// What the handler replies at a call, where so many were made before it.
+fn reply<'a, T: Foreign + 'static>(
+    kind: Kind,
+    before: usize,
+    annotation: Annotation<'a, T>,
+) -> Option<Annotation<'a, T>> {
+    match kind {
+        Kind::HandsBack => Some(annotation),
+        Kind::RepliesNone => None,
+        Kind::MakesCritical => Some(Annotation {
+            critical: true,
+            key: annotation.key,
+            value: annotation.value,
+        }),
+        Kind::TurnsCritical => Some(Annotation {
+            critical: !annotation.critical,
+            key: annotation.key,
+            value: annotation.value,
+        }),
+        Kind::RepliesAnother => match before {
+            0 => Some(Annotation {
+                critical: false,
+                key: T::key(),
+                value: T::first(),
+            }),
+            1 => Some(Annotation {
+                critical: annotation.critical,
+                key: T::key(),
+                value: T::second(),
+            }),
+            2 => None,
+            _ => Some(annotation),
+        },
+    }
+}
+
+/// A handler that writes down what it was asked about, as `[key=value]` and `[!key=value]`.
+struct Listener {
+    kind: Kind,
+    calls: usize,
+    heard: [u8; 256],
+    length: usize,
+}
+
+impl Listener {
+    fn write(&mut self, part: &[u8]) {
+        for byte in part {
+            if let Some(place) = self.heard.get_mut(self.length) {
+                *place = *byte;
+                self.length = self.length.saturating_add(1);
+            }
+        }
+    }
+
+    fn write_units<T: EncodingType>(&mut self, units: &[T::CodeUnit]) {
+        for index in 0..units.len() {
+            if let Ok(Some(byte)) = T::get_ascii(units, index) {
+                self.write(&[byte]);
+            }
+        }
+    }
+
+    fn reply<'a, T: Foreign + 'static>(
+        &mut self,
+        annotation: Annotation<'a, T>,
+    ) -> Option<Annotation<'a, T>> {
+        self.write(if annotation.critical { b"[!" } else { b"[" });
+        self.write_units::<T>(annotation.key);
+        self.write(b"=");
+        self.write_units::<T>(annotation.value);
+        self.write(b"]");
+        let before = self.calls;
+        self.calls = self.calls.saturating_add(1);
+        reply(self.kind, before, annotation)
+    }
+
+    fn new(kind: Kind) -> Listener {
+        Listener {
+            kind,
+            calls: 0,
+            heard: [0; 256],
+            length: 0,
+        }
+    }
+
+    // Whether it heard these calls, in this order, and no more.
+    fn has_heard(&self, calls: &'static str) -> bool {
+        self.heard.get(..self.length) == Some(calls.as_bytes())
+    }
+}
+
+/// A reader with a handler.
+#[derive(Clone, Copy)]
+pub(super) enum Form {
+    /// `parse_with_annotation_handler`.
+    Parse,
+    /// `parse_year_month_with_annotation_handler`.
+    YearMonth,
+    /// `parse_month_day_with_annotation_handler`.
+    MonthDay,
+    /// `parse_time_with_annotation_handler`.
+    Time,
+}
+
+// What the reader gives with the listener for its handler.
+fn heard<'a, T: Foreign + 'static>(
+    parser: &mut IxdtfParser<'a, T>,
+    form: Form,
+    listener: &mut Listener,
+) -> ParserResult<IxdtfParseRecord<'a, T>> {
+    match form {
+        Form::Parse => {
+            parser.parse_with_annotation_handler(|annotation| listener.reply(annotation))
+        }
+        Form::YearMonth => parser.parse_year_month_with_annotation_handler(
+            |annotation| listener.reply(annotation),
+        ),
+        Form::MonthDay => parser.parse_month_day_with_annotation_handler(
+            |annotation| listener.reply(annotation),
+        ),
+        Form::Time => {
+            parser.parse_time_with_annotation_handler(|annotation| listener.reply(annotation))
+        }
+    }
+}
+
+/// A text, and the calls of a handler that it makes, in order.
+pub(super) struct Asked {
+    pub(super) form: Form,
+    pub(super) text: &'static str,
+    pub(super) kind: Kind,
+    pub(super) calls: &'static str,
+}
+
+/// Each text gives this with its handler, after its calls and no more.
+pub(super) fn check_handled(rt: &impl Abort, wanted: &ParserResult<Record>, rows: &[Asked]) {
+    for row in rows {
+        let mut listener = Listener::new(row.kind);
+        let mut parser = IxdtfParser::from_str(row.text);
+        let found = heard(&mut parser, row.form, &mut listener);
+        assert!(rt; found == *wanted, "at {}", row.text);
+        assert!(rt; listener.has_heard(row.calls), "at {}", row.text);
+    }
+}
+
+/// The text is read, and the parser refuses then as it refuses the empty text, with no call of the handler.
+pub(super) fn check_read_once(rt: &impl Abort, form: Form, text: &'static str, at_end: ParseError) {
+    let mut parser = IxdtfParser::from_str(text);
+    let mut first_calls = Listener::new(Kind::HandsBack);
+    let first = heard(&mut parser, form, &mut first_calls);
+    assert!(rt; first.is_ok(), "at {text}");
+    let mut more_calls = Listener::new(Kind::HandsBack);
+    let second = heard(&mut parser, form, &mut more_calls);
+    assert!(rt;
+        second == Err(at_end) && more_calls.has_heard(""),
+        "after {text}"
+    );
+    let mut empty = IxdtfParser::from_str("");
+    let third = heard(&mut empty, form, &mut more_calls);
+    assert!(rt; third == Err(at_end), "instead of {text}");
+}
+
+// Whether a text in 16-bit units is refused with this error, or gives this calendar and no zone, after its calls.
+fn heeds_wide(asked: &Asked, error: Option<ParseError>, calendar: Option<&'static str>) -> bool {
+    let mut listener = Listener::new(asked.kind);
+    let wide = Wide::new(asked.text);
+    let mut parser = IxdtfParser::from_utf16(wide.units());
+    let as_wanted = match heard(&mut parser, asked.form, &mut listener) {
+        Ok(record) => {
+            let name = calendar.map(|name| name.as_bytes());
+            error.is_none() && record.tz.is_none() && same_calendar(name, record.calendar)
+        }
+        Err(found) => error == Some(found),
+    };
+    as_wanted && listener.has_heard(asked.calls)
+}
+
+/// Each text in 16-bit units is refused with this error, after its calls and no more.
+pub(super) fn check_wide_refusals(rt: &impl Abort, error: ParseError, rows: &[Asked]) {
+    for row in rows {
+        assert!(rt; heeds_wide(row, Some(error), None), "at {}", row.text);
+    }
+}
+
+/// Each text in 16-bit units gives this calendar and no zone, after its calls and no more.
+pub(super) fn check_wide_calendars(
+    rt: &impl Abort,
+    calendar: Option<&'static str>,
+    rows: &[Asked],
+) {
+    for row in rows {
+        assert!(rt; heeds_wide(row, None, calendar), "at {}", row.text);
+    }
+}
+
+#[test]
+fn heeds_handlers() {
+    let rt = HostRuntime;
+    check_handled(
+        &rt,
+        &Ok(dated(2020, 1, 1, None)),
+        &[
+            Asked {
+                form: Form::Parse,
+                text: "2020-01-01[a=a1]",
+                kind: Kind::HandsBack,
+                calls: "[a=a1]",
+            },
+            Asked {
+                form: Form::Parse,
+                text: "2020-01-01[u-ca=gregory][!u-ca=1][!u-ca=a0sa-2l4s][u-ca=k-H0EGv]",
+                kind: Kind::RepliesNone,
+                calls: "[u-ca=gregory][!u-ca=1][!u-ca=a0sa-2l4s][u-ca=k-H0EGv]",
+            },
+            Asked {
+                form: Form::Parse,
+                text: "2020-01-01[u-ca=japanese][!u-ca=FE-4-s-y]",
+                kind: Kind::RepliesNone,
+                calls: "[u-ca=japanese][!u-ca=FE-4-s-y]",
+            },
+        ],
+    );
+    check_handled(
+        &rt,
+        &Ok(parts(Some((2020, 1, 1)), None, None, None, Some("a0sa-2l4s"))),
+        &[Asked {
+            form: Form::Parse,
+            text: "2020-01-01[u-ca=a0sa-2l4s][u-ca=a0sa-2l4s][answer-to-universe=hebrew][a=gregory][u-ca=45W-E0h61U-kXpZ]",
+            kind: Kind::HandsBack,
+            calls: "[u-ca=a0sa-2l4s][u-ca=a0sa-2l4s][answer-to-universe=hebrew][a=gregory][u-ca=45W-E0h61U-kXpZ]",
+        }],
+    );
+    check_handled(
+        &rt,
+        &Ok(parts(
+            Some((2020, 1, 1)),
+            timed(12, 0, 0, None),
+            None,
+            None,
+            Some("A"),
+        )),
+        &[Asked {
+            form: Form::Parse,
+            text: "20200101T12[u-ca=A][qe7idr62=O-QXB-Ir]",
+            kind: Kind::HandsBack,
+            calls: "[u-ca=A][qe7idr62=O-QXB-Ir]",
+        }],
+    );
+}
+
+// Half a second past midnight, in UTC, with this calendar.
+fn half_past(rt: &impl Abort, calendar: Option<&'static str>) -> Record {
+    let text = "+00:00:00.5";
+    let fraction = fraction_of(text);
+    check_fraction(rt, text, &fraction, 500_000_000, false);
+    let zulu = Some(UtcOffsetRecordOrZ::Z);
+    parts(
+        Some((2020, 1, 1)),
+        timed(0, 0, 0, fraction),
+        zulu,
+        None,
+        calendar,
+    )
+}
+
+#[test]
+fn heeds_handlers_after_times() {
+    let rt = HostRuntime;
+    check_handled(
+        &rt,
+        &Ok(half_past(&rt, None)),
+        &[Asked {
+            form: Form::Parse,
+            text: "2020-01-01 00:00:00.5Z[!u-ca=A]",
+            kind: Kind::RepliesNone,
+            calls: "[!u-ca=A]",
+        }],
+    );
+    check_handled(
+        &rt,
+        &Ok(half_past(&rt, Some("n-dzMM2"))),
+        &[Asked {
+            form: Form::Parse,
+            text: "2020-01-01 00:00:00.5Z[!u-ca=n-dzMM2]",
+            kind: Kind::MakesCritical,
+            calls: "[!u-ca=n-dzMM2]",
+        }],
+    );
+    check_handled(
+        &rt,
+        &Ok(half_past(&rt, Some("mr-nUk-EDkNu"))),
+        &[Asked {
+            form: Form::Parse,
+            text: "2020-01-01 00:00:00.5Z[u-ca=mr-nUk-EDkNu]",
+            kind: Kind::TurnsCritical,
+            calls: "[u-ca=mr-nUk-EDkNu]",
+        }],
+    );
+    check_handled(
+        &rt,
+        &Ok(half_past(&rt, Some("a"))),
+        &[Asked {
+            form: Form::Parse,
+            text: "2020-01-01 00:00:00.5Z[answer-to-universe=OSR]",
+            kind: Kind::RepliesAnother,
+            calls: "[answer-to-universe=OSR]",
+        }],
+    );
+}
+
+#[test]
+fn refuses_replies() {
+    let rt = HostRuntime;
+    check_handled(
+        &rt,
+        &Err(UnrecognizedCritical),
+        &[
+            Asked {
+                form: Form::Parse,
+                text: "2020-01-01[x=y]",
+                kind: Kind::MakesCritical,
+                calls: "[x=y]",
+            },
+            Asked {
+                form: Form::Parse,
+                text: "2020-01-01[a=b][!c=d][e=f]",
+                kind: Kind::HandsBack,
+                calls: "[a=b][!c=d]",
+            },
+            Asked {
+                form: Form::Parse,
+                text: "2020-01-01[u-ca=a][!c=d]",
+                kind: Kind::HandsBack,
+                calls: "[u-ca=a][!c=d]",
+            },
+            Asked {
+                form: Form::Parse,
+                text: "2020-01-01[u-ca=4-aYg][!u_ca=dbto-3eyv22-fA-rtts]",
+                kind: Kind::HandsBack,
+                calls: "[u-ca=4-aYg][!u_ca=dbto-3eyv22-fA-rtts]",
+            },
+            Asked {
+                form: Form::Parse,
+                text: "20200101T12[yh=Vx-Qi-v0Zpe7-Nx1][foo=B1aoE-XS-yGk-7][u-cb=iWnJ0a][!u-cb=l][u-ca=uz5HNg-NV3x]",
+                kind: Kind::HandsBack,
+                calls: "[yh=Vx-Qi-v0Zpe7-Nx1][foo=B1aoE-XS-yGk-7][u-cb=iWnJ0a][!u-cb=l]",
+            },
+            Asked {
+                form: Form::Parse,
+                text: "20200101T12[u-ca=a][s=iE-Dn-NXDPL]",
+                kind: Kind::MakesCritical,
+                calls: "[u-ca=a][s=iE-Dn-NXDPL]",
+            },
+            Asked {
+                form: Form::Parse,
+                text: "20200101T12[u-ca=R2-uY40-cvb-w][x-y=WXTo]",
+                kind: Kind::TurnsCritical,
+                calls: "[u-ca=R2-uY40-cvb-w][x-y=WXTo]",
+            },
+        ],
+    );
+    check_handled(
+        &rt,
+        &Err(CriticalDuplicateCalendar),
+        &[
+            Asked {
+                form: Form::Parse,
+                text: "2020-01-01[xy=a0sa-2l4s][!u-ca=iso8601][!u-ca=A][u-ca=a][u-ca=a]",
+                kind: Kind::HandsBack,
+                calls: "[xy=a0sa-2l4s][!u-ca=iso8601][!u-ca=A]",
+            },
+            Asked {
+                form: Form::Parse,
+                text: "2020-01-01[!u-ca=a-b][!u-ca=a3Z-DL-Irpq-2U]",
+                kind: Kind::RepliesAnother,
+                calls: "[!u-ca=a-b][!u-ca=a3Z-DL-Irpq-2U]",
+            },
+            Asked {
+                form: Form::Parse,
+                text: "2020-01-01[!u-ca=1][u-ca=xjQk-E][u-ca=b][!u-ca=UAq-KMwlE][u-ca =okKb7P]",
+                kind: Kind::RepliesAnother,
+                calls: "[!u-ca=1][u-ca=xjQk-E][u-ca=b][!u-ca=UAq-KMwlE]",
+            },
+        ],
+    );
+}
+
+#[test]
+fn asks_before_a_fault() {
+    let rt = HostRuntime;
+    check_handled(
+        &rt,
+        &Err(AnnotationKeyLeadingChar),
+        &[
+            Asked {
+                form: Form::Parse,
+                text: "2020-01-01[u-ca=Nl8-jswAuQ-H][",
+                kind: Kind::HandsBack,
+                calls: "[u-ca=Nl8-jswAuQ-H]",
+            },
+            Asked {
+                form: Form::Parse,
+                text: "20200101T12[answer-to-universe=xRozE-IPf-E3][u-ca=a0sa-2l4s][answer-to-universe=OMr-WGJ2kC-6pOrnn][u-ca=iso8601][u-ca=a][!",
+                kind: Kind::RepliesAnother,
+                calls: "[answer-to-universe=xRozE-IPf-E3][u-ca=a0sa-2l4s][answer-to-universe=OMr-WGJ2kC-6pOrnn][u-ca=iso8601][u-ca=a]",
+            },
+        ],
+    );
+    check_handled(
+        &rt,
+        &Err(AnnotationValueChar),
+        &[
+            Asked {
+                form: Form::Parse,
+                text: "2020-01-01 00:00:00.5Z[bsgaqql7=4FH][!nk_8nl=",
+                kind: Kind::RepliesNone,
+                calls: "[bsgaqql7=4FH]",
+            },
+            Asked {
+                form: Form::Parse,
+                text: "2020-01-01[u-ca=Cwup_-X]",
+                kind: Kind::TurnsCritical,
+                calls: "",
+            },
+        ],
+    );
+    check_handled(
+        &rt,
+        &Err(AnnotationKeyValueSeparator),
+        &[Asked {
+            form: Form::Parse,
+            text: "2020-01-01 00:00:00.5Z[!u-ca=b][u-ca=AdUhu-LRdEB][!u-ca",
+            kind: Kind::RepliesAnother,
+            calls: "[!u-ca=b][u-ca=AdUhu-LRdEB]",
+        }],
+    );
+    check_handled(
+        &rt,
+        &Err(InvalidEnd),
+        &[
+            Asked {
+                form: Form::Parse,
+                text: "20200101WT12[!u--=1]",
+                kind: Kind::RepliesAnother,
+                calls: "",
+            },
+            Asked {
+                form: Form::Parse,
+                text: "2020-01-01[a=b]junk",
+                kind: Kind::HandsBack,
+                calls: "[a=b]",
+            },
+            Asked {
+                form: Form::Parse,
+                text: "2020-01-01[a=b][c=d]junk",
+                kind: Kind::HandsBack,
+                calls: "[a=b][c=d]",
+            },
+        ],
+    );
+    check_handled(
+        &rt,
+        &Err(AnnotationClose),
+        &[Asked {
+            form: Form::Parse,
+            text: "2020-01-01[a=b][c=d",
+            kind: Kind::HandsBack,
+            calls: "[a=b]",
+        }],
+    );
+}
+
+#[test]
+fn asks_nothing_before_a_fault_of_a_date() {
+    let rt = HostRuntime;
+    check_handled(
+        &rt,
+        &Err(AT_DIGIT),
+        &[
+            Asked {
+                form: Form::Parse,
+                text: "2020-01-0",
+                kind: Kind::RepliesNone,
+                calls: "",
+            },
+            Asked {
+                form: Form::Parse,
+                text: "2020-0",
+                kind: Kind::TurnsCritical,
+                calls: "",
+            },
+        ],
+    );
+    check_handled(
+        &rt,
+        &Err(DateYear),
+        &[Asked {
+            form: Form::Parse,
+            text: "202-01-01[u-ca=iso8601][fgq=Czb32s-v-zayknf]",
+            kind: Kind::TurnsCritical,
+            calls: "",
+        }],
+    );
+    check_handled(
+        &rt,
+        &Err(InvalidMonthRange),
+        &[Asked {
+            form: Form::Parse,
+            text: "2020-13-01[a=b]",
+            kind: Kind::HandsBack,
+            calls: "",
+        }],
+    );
+}
+
+#[test]
+fn heeds_handlers_of_wide_texts() {
+    let rt = HostRuntime;
+    check_wide_calendars(
+        &rt,
+        None,
+        &[Asked {
+            form: Form::Parse,
+            text: "2020-01-01 00:00:00.5Z[u-ca=a-b][u-ca=japanese][!u-ca=gB-DxG-f6UUB8-CIgGr]",
+            kind: Kind::RepliesNone,
+            calls: "[u-ca=a-b][u-ca=japanese][!u-ca=gB-DxG-f6UUB8-CIgGr]",
+        }],
+    );
+    check_wide_calendars(
+        &rt,
+        Some("a"),
+        &[Asked {
+            form: Form::Parse,
+            text: "2020-01-01 00:00:00.5Z[answer-to-universe=OSR]",
+            kind: Kind::RepliesAnother,
+            calls: "[answer-to-universe=OSR]",
+        }],
+    );
+}
+
+#[test]
+fn refuses_wide_texts_with_handlers() {
+    let rt = HostRuntime;
+    check_wide_refusals(
+        &rt,
+        UnrecognizedCritical,
+        &[Asked {
+            form: Form::Parse,
+            text: "2020-01-01[x-y=iso8601][!\u{15b}u-ca=hebrew][!u-cb=gregory][!u-c=TQ-of7][!u-ca=a0sa-2l4s]junk",
+            kind: Kind::MakesCritical,
+            calls: "[x-y=iso8601]",
+        }],
+    );
+    check_wide_refusals(
+        &rt,
+        TzLeadingChar,
+        &[
+            Asked {
+                form: Form::Parse,
+                text: "2020-01-01[18:01][!u-ca=japanese\u{7f}]",
+                kind: Kind::TurnsCritical,
+                calls: "",
+            },
+            Asked {
+                form: Form::Parse,
+                text: "2020-01-01[0u-ca=\u{7f}a8-2UZ-2b6iy]",
+                kind: Kind::MakesCritical,
+                calls: "",
+            },
+        ],
+    );
+    check_wide_refusals(
+        &rt,
+        CriticalDuplicateCalendar,
+        &[Asked {
+            form: Form::Parse,
+            text: "20200101T12[u-ca=iso8601][u-ca=e6dVZ][!answer-to-univers\u{12d}e=japanese][m1bs8=b]",
+            kind: Kind::MakesCritical,
+            calls: "[u-ca=iso8601][u-ca=e6dVZ]",
+        }],
+    );
+    check_wide_refusals(
+        &rt,
+        NonAsciiCodePoint,
+        &[
+            Asked {
+                form: Form::Parse,
+                text: "2020-01-01 00:00:00.5Z[u-ca=CzQ0a3-PyM-ju][iwky-8bo=IwOJz-gjv-u4MDVT-zL4NDu][!jglkvdvm=XG\u{e9}Mqmt-Pe-Wz][u-ca=d-jX-Hmth-BXr]",
+                kind: Kind::RepliesNone,
+                calls: "[u-ca=CzQ0a3-PyM-ju][iwky-8bo=IwOJz-gjv-u4MDVT-zL4NDu]",
+            },
+            Asked {
+                form: Form::Parse,
+                text: "2020-01-01[u-\u{7f}ca=oQ-b-vC]",
+                kind: Kind::MakesCritical,
+                calls: "",
+            },
+            Asked {
+                form: Form::Parse,
+                text: "2020-01-01[u-ca=ZQ-PB9T][q-rrwv=jRSShrMIMY-5g-\u{ff}rE9][rs1tpdw=fua06i-bJ-VN5]",
+                kind: Kind::RepliesNone,
+                calls: "[u-ca=ZQ-PB9T]",
+            },
+            Asked {
+                form: Form::Parse,
+                text: "2020-01-01[!u-ca\u{130}=O8K-PA-73dBkw-WfIA9][!u-ca=japanese]",
+                kind: Kind::HandsBack,
+                calls: "",
+            },
+        ],
+    );
+}

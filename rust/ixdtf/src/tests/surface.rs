@@ -1,0 +1,284 @@
+// Made by tools/to_rust.py of crates/ixdtf_tests/src/tests/surface.rt. Do not edit.
+
+//! Every public item of `ixdtf` by its name, with its fields, variants and traits, so that a missing one does not compile.
+//! The variants of `ParseError` are named in `errors.rt`, and the laws in `laws.rt`.
+
+#[allow(unused_imports)]
+use crate::runtime::{HostRuntime, TryClone};
+
+use ixdtf::encoding::{EncodingType, Utf8, Utf16};
+use ixdtf::parsers::{IsoDurationParser, IxdtfParser, Profile, TimeZoneParser};
+use ixdtf::records::{
+    Annotation, DateDurationRecord, DateRecord, DurationParseRecord, Fraction, FullPrecisionOffset,
+    IxdtfParseRecord, MinutePrecisionOffset, Sign, TimeDurationRecord, TimeRecord,
+    TimeZoneAnnotation, TimeZoneRecord, UtcOffsetRecord, UtcOffsetRecordOrZ,
+};
+use ixdtf::{ParseError, ParserResult};
+use std::error::Error;
+use std::fmt::{Debug, Display};
+
+fn is_shown<X: Debug>() {}
+
+fn is_default<X: Default>() {}
+
+fn is_compared<X: Debug + PartialEq>() {}
+
+fn is_cloned<X: Clone + Debug + PartialEq>() {}
+
+fn is_copied<X: Copy + Debug + PartialEq>() {}
+
+fn is_error<X: Copy + Debug + Display + Error + PartialEq>() {}
+
+// The traits of what an encoding has, and of the encoding.
+fn has_traits<T: EncodingType>() {
+    is_compared::<IxdtfParseRecord<'static, Utf8>>();
+    is_default::<IxdtfParseRecord<'static, Utf16>>();
+    is_cloned::<Annotation<'static, Utf8>>();
+    is_cloned::<TimeZoneAnnotation<'static, Utf16>>();
+    is_cloned::<TimeZoneRecord<'static, Utf8>>();
+    is_shown::<IxdtfParser<'static, Utf16>>();
+    is_shown::<TimeZoneParser<'static, Utf8>>();
+    is_shown::<IsoDurationParser<'static, Utf16>>();
+    is_cloned::<T::CodeUnit>();
+}
+
+#[test]
+fn has_every_trait() {
+    has_traits::<Utf8>();
+    has_traits::<Utf16>();
+    is_cloned::<Utf8>();
+    is_cloned::<Utf16>();
+    is_error::<ParseError>();
+    is_copied::<DateRecord>();
+    is_default::<DateRecord>();
+    is_copied::<TimeRecord>();
+    is_default::<TimeRecord>();
+    is_copied::<Sign>();
+    is_copied::<MinutePrecisionOffset>();
+    is_copied::<FullPrecisionOffset>();
+    is_copied::<UtcOffsetRecord>();
+    is_copied::<UtcOffsetRecordOrZ>();
+    is_copied::<Fraction>();
+    is_copied::<DurationParseRecord>();
+    is_copied::<DateDurationRecord>();
+    is_default::<DateDurationRecord>();
+    is_copied::<TimeDurationRecord>();
+    is_copied::<Profile>();
+}
+
+// Whether the calls of an encoding are there, and see no letter, no part and no calendar in nothing.
+fn sees_nothing<T: EncodingType>(units: &[T::CodeUnit]) -> bool {
+    let letter: ParserResult<Option<u8>> = T::get_ascii(units, 0);
+    let part = T::slice(units, 1, 0);
+    letter == Ok(None) && part.is_none() && !T::check_calendar_key(units)
+}
+
+// Whether the calls of an offset are there, and agree with its parts.
+fn has_parts(offset: UtcOffsetRecord, parts: MinutePrecisionOffset) -> bool {
+    offset.sign() == parts.sign
+        && offset.hour() == parts.hour
+        && offset.minute() == parts.minute
+        && offset.second().is_none() == offset.is_minute_precision()
+        && UtcOffsetRecordOrZ::Offset(offset).resolve_rfc_9557() == offset
+}
+
+// How many digits the fraction of an offset has, and the number of the first of them.
+fn digits_of(offset: UtcOffsetRecord) -> Option<(u8, u64)> {
+    let fraction = offset.fraction()?;
+    Some((fraction.digit_count(), fraction.leading_value()))
+}
+
+// The nanoseconds of an offset, as both calls give them.
+fn nanoseconds_of(offset: UtcOffsetRecord) -> Option<(Option<u32>, u32)> {
+    match offset.fraction() {
+        Some(fraction) => Some((
+            fraction.to_nanoseconds(),
+            fraction.to_truncated_nanoseconds(),
+        )),
+        None => None,
+    }
+}
+
+#[test]
+fn has_every_call() {
+    let rt = HostRuntime;
+    assert!(rt; sees_nothing::<Utf8>(&[]) && sees_nothing::<Utf16>(&[]));
+    assert!(rt; has_parts(UtcOffsetRecord::zero(), MinutePrecisionOffset::zero()));
+    let sign = Sign::from(false);
+    let offset = TimeZoneParser::from_utf8(b"-01:02:03.5").parse_offset();
+    let parts = MinutePrecisionOffset {
+        sign,
+        hour: 1,
+        minute: 2,
+    };
+    if let Ok(offset) = offset {
+        assert!(rt; has_parts(offset, parts));
+        let nanoseconds = nanoseconds_of(offset);
+        assert_eq!(rt; nanoseconds, Some((Some(500_000_000), 500_000_000)));
+        assert_eq!(rt; digits_of(offset), Some((1, 5)));
+    }
+    assert_eq!(rt; ParseError::ParseFloat.to_static_string().len(), 42);
+}
+
+#[test]
+fn makes_every_parser_of_dates() {
+    let rt = HostRuntime;
+    let empty: [u16; 0] = [];
+    let units: IxdtfParser<'_, Utf8> = IxdtfParser::new(b"2020-01-01");
+    let bytes = IxdtfParser::from_utf8(b"2020-01");
+    let text = IxdtfParser::from_str("01-01");
+    let wide = IxdtfParser::from_utf16(&empty);
+    assert!(rt; has_the_readers_of_dates(units, bytes, text, wide));
+}
+
+// Whether the readers are there, and read a date, a year-month, a month-day and no empty text.
+fn has_the_readers_of_dates(
+    mut date: IxdtfParser<'_, Utf8>,
+    mut year_month: IxdtfParser<'_, Utf8>,
+    mut month_day: IxdtfParser<'_, Utf8>,
+    mut empty: IxdtfParser<'_, Utf16>,
+) -> bool {
+    date.parse().is_ok()
+        && year_month.parse_year_month().is_ok()
+        && month_day.parse_month_day().is_ok()
+        && empty.parse_time().is_err()
+}
+
+#[test]
+fn has_every_reader_with_a_handler() {
+    let rt = HostRuntime;
+    let mut date = IxdtfParser::from_str("2020-01-01");
+    let first = date.parse_with_annotation_handler(|_annotation| None);
+    assert!(rt; first.is_ok());
+    let mut year_month = IxdtfParser::from_str("2020-01");
+    let second = year_month.parse_year_month_with_annotation_handler(|_annotation| None);
+    assert!(rt; second.is_ok());
+}
+
+#[test]
+fn has_every_further_reader_with_a_handler() {
+    let rt = HostRuntime;
+    let mut month_day = IxdtfParser::from_str("01-01");
+    let third = month_day.parse_month_day_with_annotation_handler(|_annotation| None);
+    assert!(rt; third.is_ok());
+    let mut time = IxdtfParser::from_str("T12");
+    let fourth = time.parse_time_with_annotation_handler(|_annotation| None);
+    assert!(rt; fourth.is_ok());
+}
+
+#[test]
+fn has_every_reader_of_zones() {
+    let rt = HostRuntime;
+    let empty: [u16; 0] = [];
+    let mut zone: TimeZoneParser<'_, Utf8> = TimeZoneParser::new(b"UTC");
+    let name = zone.parse_iana_identifier();
+    assert_eq!(rt; name, Ok(b"UTC".as_slice()));
+    let nothing = TimeZoneParser::from_str("").parse_identifier();
+    assert!(rt; nothing.is_err());
+    let offset = TimeZoneParser::from_utf8(b"+01").parse_offset();
+    assert!(rt; offset.is_ok());
+    let wide = TimeZoneParser::from_utf16(&empty).parse_offset();
+    assert!(rt; wide.is_err());
+}
+
+// The record of a text that has all parts, each field by its name.
+fn fullest_record() -> IxdtfParseRecord<'static, Utf8> {
+    let minute_precision_offset = MinutePrecisionOffset {
+        sign: Sign::Positive,
+        hour: 7,
+        minute: 8,
+    };
+    let offset = FullPrecisionOffset {
+        minute_precision_offset,
+        second: 9,
+        fraction: None,
+    };
+    IxdtfParseRecord {
+        date: Some(DateRecord {
+            year: 1,
+            month: 2,
+            day: 3,
+        }),
+        time: Some(TimeRecord {
+            hour: 4,
+            minute: 5,
+            second: 6,
+            fraction: None,
+        }),
+        offset: Some(UtcOffsetRecordOrZ::Offset(UtcOffsetRecord::FullPrecisionOffset(offset))),
+        tz: Some(TimeZoneAnnotation {
+            critical: true,
+            tz: TimeZoneRecord::Offset(minute_precision_offset),
+        }),
+        calendar: Some(b"iso8601"),
+    }
+}
+
+#[test]
+fn has_every_field() {
+    let rt = HostRuntime;
+    let text = "0001-02-03T04:05:06+07:08:09[!+07:08][u-ca=iso8601]";
+    let found = IxdtfParser::from_str(text).parse();
+    assert_eq!(rt; found, Ok(fullest_record()));
+    let annotation: Annotation<'_, Utf8> = Annotation {
+        critical: true,
+        key: b"a",
+        value: b"b",
+    };
+    assert!(rt; annotation.critical && annotation.key != annotation.value);
+}
+
+// Whether the variants of an offset and of a zone are there, and differ.
+#[test]
+fn has_every_variant() {
+    let rt = HostRuntime;
+    let zero = MinutePrecisionOffset::zero();
+    let offset = UtcOffsetRecordOrZ::Offset(UtcOffsetRecord::MinutePrecision(zero));
+    assert_ne!(rt; offset, UtcOffsetRecordOrZ::Z);
+    let zone: TimeZoneRecord<'_, Utf8> = TimeZoneRecord::Offset(zero);
+    assert_ne!(rt; zone, TimeZoneRecord::Name(b"UTC"));
+    let hours = TimeDurationRecord::Hours {
+        hours: 1,
+        fraction: None,
+    };
+    let minutes = TimeDurationRecord::Minutes {
+        hours: 1,
+        minutes: 0,
+        fraction: None,
+    };
+    assert_ne!(rt; hours, minutes);
+}
+
+// The records of a duration, with all that they have by its name.
+fn longest_duration() -> DurationParseRecord {
+    DurationParseRecord {
+        sign: Sign::Negative,
+        date: Some(DateDurationRecord {
+            years: 1,
+            months: 2,
+            weeks: 3,
+            days: 4,
+        }),
+        time: Some(TimeDurationRecord::Seconds {
+            hours: 5,
+            minutes: 6,
+            seconds: 7,
+            fraction: None,
+        }),
+    }
+}
+
+#[test]
+fn has_the_reader_of_durations() {
+    let rt = HostRuntime;
+    let empty: [u16; 0] = [];
+    let mut text: IsoDurationParser<'_, Utf8> = IsoDurationParser::new(b"-P1Y2M3W4DT5H6M7S");
+    let longest = text.parse();
+    assert_eq!(rt; longest, Ok(longest_duration()));
+    let nothing = IsoDurationParser::from_str("").parse();
+    assert!(rt; nothing.is_err());
+    let bytes = IsoDurationParser::<Utf8>::from_utf8(b"").parse();
+    assert!(rt; bytes.is_err());
+    let wide = IsoDurationParser::<Utf16>::from_utf8(&empty).parse();
+    assert!(rt; wide.is_err());
+}

@@ -1,0 +1,149 @@
+// Made by tools/to_rust.py of crates/ixdtf_tests/src/tests/wide.rt. Do not edit.
+
+//! Sources in 16-bit units. A unit from 1 to 126 is its ASCII letter, and every other stands for none.
+
+#[allow(unused_imports)]
+use crate::runtime::{HostRuntime, TryClone};
+
+use super::{Parsers, Reader};
+use ixdtf::ParseError;
+use ixdtf::encoding::{EncodingType, Utf16};
+use ixdtf::parsers::TimeZoneParser;
+use crate::runtime::Abort;
+
+/// A text in 16-bit units, each character or each byte in one unit.
+pub(super) struct Wide {
+    units: [u16; 512],
+    length: usize,
+}
+
+impl Wide {
+    fn empty() -> Wide {
+        Wide {
+            units: [0; 512],
+            length: 0,
+        }
+    }
+
+    pub(super) fn new(text: &str) -> Wide {
+        let mut wide = Wide::empty();
+        for letter in text.chars() {
+            if let Ok(unit) = u16::try_from(u32::from(letter)) {
+                wide.push(unit);
+            }
+        }
+        wide
+    }
+
+    pub(super) fn of_bytes(bytes: &[u8]) -> Wide {
+        let mut wide = Wide::empty();
+        for byte in bytes {
+            wide.push(u16::from(*byte));
+        }
+        wide
+    }
+
+    fn push(&mut self, unit: u16) {
+        if let Some(place) = self.units.get_mut(self.length) {
+            *place = unit;
+            self.length = self.length.saturating_add(1);
+        }
+    }
+
+    pub(super) fn units(&self) -> &[u16] {
+        match self.units.get(..self.length) {
+            Some(units) => units,
+            None => &[],
+        }
+    }
+}
+
+// The error of a text, where it is refused.
+pub(super) fn refusal(reader: Reader, text: &'static str) -> Option<ParseError> {
+    let wide = Wide::new(text);
+    Parsers::from_utf16(wide.units()).refusal(reader)
+}
+
+/// The reader refuses the texts beside each error with it, where each character is one unit.
+pub(super) fn check_wide_refused(
+    rt: &impl Abort,
+    reader: Reader,
+    rows: &[(ParseError, &[&'static str])],
+) {
+    for (error, texts) in rows {
+        for text in *texts {
+            let found = refusal(reader, text);
+            assert_eq!(rt; found, Some(*error), "{reader:?} at {text}");
+        }
+    }
+}
+
+/// The reader refuses each text for a unit that stands for no letter.
+pub(super) fn check_no_letter(rt: &impl Abort, reader: Reader, texts: &[&'static str]) {
+    for text in texts {
+        let found = refusal(reader, text);
+        assert_eq!(rt;
+            found,
+            Some(ParseError::NonAsciiCodePoint),
+            "{reader:?} at {text}"
+        );
+    }
+}
+
+#[test]
+fn sees_each_unit() {
+    let rt = HostRuntime;
+    for unit in 0..=u16::MAX {
+        let letter = Utf16::get_ascii(&[unit], 0);
+        match u8::try_from(unit) {
+            Ok(byte) if byte > 0 && byte < 127 => assert_eq!(rt; letter, Ok(Some(byte))),
+            _ => assert_eq!(rt; letter, Err(ParseError::NonAsciiCodePoint), "at {unit}"),
+        }
+    }
+}
+
+const UNITS: [u16; 3] = [97, 306, 99];
+
+fn check_slice(rt: &impl Abort, start: usize, end: usize, part: Option<&'static [u16]>) {
+    let found = Utf16::slice(&UNITS, start, end);
+    assert_eq!(rt; found, part, "from {start} to {end}");
+}
+
+#[test]
+fn wide_slices_lie_within() {
+    let rt = HostRuntime;
+    assert_eq!(rt; Utf16::get_ascii(&UNITS, 3), Ok(None));
+    check_slice(&rt, 1, 3, Some(&[306, 99]));
+    check_slice(&rt, 3, 3, Some(&[]));
+    check_slice(&rt, 2, 1, None);
+    check_slice(&rt, 0, 4, None);
+}
+
+fn check_wide_keys(rt: &impl Abort, keys: &[(&'static str, bool)]) {
+    for (key, is_calendar) in keys {
+        let wide = Wide::new(key);
+        let found = Utf16::check_calendar_key(wide.units());
+        assert_eq!(rt; found, *is_calendar, "at {key}");
+    }
+}
+
+#[test]
+fn one_wide_key_is_of_calendars() {
+    let rt = HostRuntime;
+    check_wide_keys(
+        &rt,
+        &[
+            ("u-ca", true),
+            ("u-cA", false),
+            ("u-c", false),
+            ("\u{175}-ca", false),
+        ],
+    );
+}
+
+#[test]
+fn a_wide_parser_of_zones_is_as_large_as_its_slice() {
+    let rt = HostRuntime;
+    let slice = size_of::<&'static [u16]>();
+    assert_eq!(rt; size_of::<TimeZoneParser<'static, Utf16>>(), slice);
+}

@@ -1,0 +1,37 @@
+//! Answers each line of standard input by a line on standard output.
+#![forbid(unsafe_code)]
+
+mod answer;
+mod arguments;
+mod error;
+mod fields;
+mod found;
+mod line;
+mod number;
+mod output;
+mod runner;
+mod waiting;
+mod word;
+
+use arguments::arguments_allowed;
+use error::RunError;
+use runner::run;
+use std::io::{stdin, stdout};
+use std::process::ExitCode;
+
+fn main() -> ExitCode {
+    if !arguments_allowed(std::env::args_os().skip(1).count()) {
+        eprintln!("ixdtf_lines: takes no arguments");
+        return ExitCode::from(2);
+    }
+    match run(&mut stdin().lock(), &mut stdout().lock()) {
+        Ok(()) => ExitCode::SUCCESS,
+        Err(RunError::Read) => failed("read"),
+        Err(RunError::Write) => failed("write"),
+    }
+}
+
+fn failed(what: &str) -> ExitCode {
+    eprintln!("ixdtf_lines: {what} failed");
+    ExitCode::from(1)
+}

@@ -1,0 +1,85 @@
+// Made by tools/to_rust.py of crates/ixdtf_lines/src/runner.rt. Do not edit.
+
+//! The run over all lines.
+
+use crate::answer::answer_to;
+use crate::error::RunError;
+use crate::line::Line;
+use crate::output::Output;
+use std::io::{Read, Write};
+
+/// The bytes that one read asks for.
+const INPUT_SIZE: usize = 4096;
+
+/// Answers each line of the reader on the writer.
+pub fn run<R: Read, W: Write>(reader: &mut R, writer: &mut W) -> Result<(), RunError> {
+    let mut output = Output::new(writer);
+    answer_all(reader, &mut output)
+}
+
+/// Answers each line of the reader on an output where no byte waits.
+fn answer_all<R: Read, W: Write>(reader: &mut R, output: &mut Output<'_, W>) -> Result<(), RunError> {
+    let mut line = Line::new();
+    let mut input = [0; INPUT_SIZE];
+    // A loop is proved to end, so this one counts its reads. No byte waits at any of them.
+    'reads: for _ in 0..u64::MAX {
+        let count = read_some(reader, &mut input)?;
+        if count == 0 {
+            return finish(output, &line);
+        }
+        answer_bytes(output, &mut line, &input[..count])?;
+    }
+    Err(RunError::Read)
+}
+
+/// One read.
+fn read_some<R: Read>(reader: &mut R, input: &mut [u8]) -> Result<usize, RunError> {
+    match reader.read(input) {
+        Ok(count) => Ok(count),
+        Err(_) => Err(RunError::Read),
+    }
+}
+
+/// Takes the bytes of a read, answers each line that ends in them, and hands the answers on.
+fn answer_bytes<W: Write>(
+    output: &mut Output<'_, W>,
+    line: &mut Line,
+    bytes: &[u8],
+) -> Result<(), RunError> {
+    for byte in bytes {
+        take_byte(output, line, *byte)?;
+    }
+    output.hand_on()
+}
+
+/// Takes a byte onto the line, or answers the line where the byte ends it.
+fn take_byte<W: Write>(
+    output: &mut Output<'_, W>,
+    line: &mut Line,
+    byte: u8,
+) -> Result<(), RunError> {
+    if byte == b'\n' {
+        return end_line(output, line);
+    }
+    line.push(byte);
+    Ok(())
+}
+
+/// Answers the line, whose newline was read, and begins the next one.
+///
+/// It is not inlined: the room for an answer is cleared on entry, here once a line and not once a byte.
+#[inline(never)]
+fn end_line<W: Write>(output: &mut Output<'_, W>, line: &mut Line) -> Result<(), RunError> {
+    output.put_answer(&answer_to(line))?;
+    line.clear();
+    Ok(())
+}
+
+/// Answers what stands after the last newline, hands the answer to the writer, and flushes it.
+fn finish<W: Write>(output: &mut Output<'_, W>, line: &Line) -> Result<(), RunError> {
+    if line.is_empty() {
+        return output.finish();
+    }
+    output.put_answer(&answer_to(line))?;
+    output.finish()
+}

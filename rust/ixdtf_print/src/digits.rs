@@ -1,0 +1,30 @@
+// Made by tools/to_rust.py of crates/ixdtf_print/src/digits.rt. Do not edit.
+
+//! Digits put into a slice.
+
+use crate::put::put_byte;
+use ixdtf::records::Fraction;
+
+/// Puts so many digits of the number at the place, with leading zeros, and returns the place behind them.
+pub fn put_digits(out: &mut [u8], at: usize, count: usize, number: u64) -> usize {
+    let end = at + count;
+    let mut place = end;
+    let mut left = number;
+    while place > at {
+        place -= 1;
+        out[place] = b'0' + (left % 10) as u8;
+        left /= 10;
+    }
+    end
+}
+
+/// Puts the fraction at the place, where there is one, and returns the place behind it.
+pub fn put_fraction(out: &mut [u8], at: usize, fraction: Option<Fraction>) -> usize {
+    let Some(fraction) = fraction else {
+        return at;
+    };
+    let count = usize::from(fraction.digit_count());
+    let value = put_byte(out, at, b'.');
+    let zeros = put_digits(out, value, count.min(18), fraction.leading_value());
+    put_digits(out, zeros, count.saturating_sub(18), 0)
+}

@@ -1,0 +1,176 @@
+// Made by tools/to_rust.py of crates/ixdtf_print/src/fields.rt. Do not edit.
+
+//! The fields of a record put into a slice.
+
+use crate::digits::{put_digits, put_fraction};
+use crate::put::{put, put_byte, put_marked};
+use ixdtf::encoding::Utf8;
+use ixdtf::records::{
+    DateRecord, Fraction, IxdtfParseRecord, MinutePrecisionOffset, Sign, TimeRecord,
+    TimeZoneAnnotation, TimeZoneRecord, UtcOffsetRecord, UtcOffsetRecordOrZ,
+};
+
+/// How far the year is from year 0.
+fn distance_of(date: DateRecord) -> u64 {
+    u64::from(date.year.unsigned_abs())
+}
+
+/// Puts the year at the place, and returns the place behind it.
+fn put_year(out: &mut [u8], at: usize, date: DateRecord) -> usize {
+    let distance = distance_of(date);
+    if date.year < 0 {
+        let digits = put_byte(out, at, b'-');
+        return put_digits(out, digits, 6, distance);
+    }
+    if distance <= 9999 {
+        return put_digits(out, at, 4, distance);
+    }
+    let digits = put_byte(out, at, b'+');
+    put_digits(out, digits, 6, distance)
+}
+
+/// Puts the date at the place, and returns the place behind it.
+fn put_date(out: &mut [u8], at: usize, date: DateRecord) -> usize {
+    let month = put_year(out, at, date);
+    let day = put_marked(out, month, b'-', date.month);
+    put_marked(out, day, b'-', date.day)
+}
+
+/// Puts the date at the place, where there is one, and returns the place behind it.
+fn put_optional_date(out: &mut [u8], at: usize, date: Option<DateRecord>) -> usize {
+    match date {
+        None => at,
+        Some(date) => put_date(out, at, date),
+    }
+}
+
+/// Puts a mark, an hour and a minute at the place, and returns the place behind them.
+fn put_minutes(out: &mut [u8], at: usize, mark: u8, hour: u8, minute: u8) -> usize {
+    let colon = put_marked(out, at, mark, hour);
+    put_marked(out, colon, b':', minute)
+}
+
+/// Puts a mark and a clock at the place, and returns the place behind them.
+fn put_clock(
+    out: &mut [u8],
+    at: usize,
+    mark: u8,
+    hour: u8,
+    minute: u8,
+    second: u8,
+    fraction: Option<Fraction>,
+) -> usize {
+    let colon = put_minutes(out, at, mark, hour, minute);
+    let point = put_marked(out, colon, b':', second);
+    put_fraction(out, point, fraction)
+}
+
+/// Puts the time at the place, where there is one, and returns the place behind it.
+fn put_time(out: &mut [u8], at: usize, time: Option<TimeRecord>) -> usize {
+    match time {
+        None => at,
+        Some(time) => put_clock(
+            out,
+            at,
+            b'T',
+            time.hour,
+            time.minute,
+            time.second,
+            time.fraction,
+        ),
+    }
+}
+
+/// The byte of a sign.
+fn byte_of(sign: Sign) -> u8 {
+    match sign {
+        Sign::Positive => b'+',
+        Sign::Negative => b'-',
+    }
+}
+
+/// Puts an offset of hours and minutes at the place, and returns the place behind it.
+fn put_minute_offset(out: &mut [u8], at: usize, offset: MinutePrecisionOffset) -> usize {
+    put_minutes(out, at, byte_of(offset.sign), offset.hour, offset.minute)
+}
+
+/// Puts the offset at the place, where there is one, and returns the place behind it.
+fn put_offset(out: &mut [u8], at: usize, offset: Option<UtcOffsetRecordOrZ>) -> usize {
+    match offset {
+        None => at,
+        Some(UtcOffsetRecordOrZ::Z) => put_byte(out, at, b'Z'),
+        Some(UtcOffsetRecordOrZ::Offset(UtcOffsetRecord::MinutePrecision(offset))) => {
+            put_minute_offset(out, at, offset)
+        }
+        Some(UtcOffsetRecordOrZ::Offset(UtcOffsetRecord::FullPrecisionOffset(offset))) => {
+            let minutes = offset.minute_precision_offset;
+            let mark = byte_of(minutes.sign);
+            put_clock(
+                out,
+                at,
+                mark,
+                minutes.hour,
+                minutes.minute,
+                offset.second,
+                offset.fraction,
+            )
+        }
+        _ => unreachable!(),
+    }
+}
+
+/// What stands before a zone.
+fn opening_of(critical: bool) -> &'static [u8] {
+    if critical {
+        b"[!".as_slice()
+    } else {
+        b"[".as_slice()
+    }
+}
+
+/// Puts the zone at the place, and returns the place behind it.
+fn put_zone(out: &mut [u8], at: usize, zone: &TimeZoneRecord<'_, Utf8>) -> usize {
+    match zone {
+        TimeZoneRecord::Name(name) => put(out, at, name),
+        TimeZoneRecord::Offset(offset) => put_minute_offset(out, at, *offset),
+        _ => unreachable!(),
+    }
+}
+
+/// Puts the zone in its bracket at the place, where there is one, and returns the place behind it.
+fn put_bracket(out: &mut [u8], at: usize, note: &Option<TimeZoneAnnotation<'_, Utf8>>) -> usize {
+    match note {
+        None => at,
+        Some(note) => {
+            let inside = put(out, at, opening_of(note.critical));
+            let end = put_zone(out, inside, &note.tz);
+            put_byte(out, end, b']')
+        }
+    }
+}
+
+/// Puts the calendar in its bracket at the place, where there is one, and returns the place behind it.
+fn put_calendar(out: &mut [u8], at: usize, calendar: Option<&[u8]>) -> usize {
+    match calendar {
+        None => at,
+        Some(value) => {
+            let inside = put(out, at, b"[u-ca=");
+            let end = put(out, inside, value);
+            put_byte(out, end, b']')
+        }
+    }
+}
+
+/// Puts the date, the time and the offset at the place, and returns the place behind them.
+fn put_core(out: &mut [u8], at: usize, parsed: &IxdtfParseRecord<'_, Utf8>) -> usize {
+    let time = put_optional_date(out, at, parsed.date);
+    let offset = put_time(out, time, parsed.time);
+    put_offset(out, offset, parsed.offset)
+}
+
+/// Puts the record at the front, and returns the place behind it.
+pub fn put_record(out: &mut [u8], parsed: &IxdtfParseRecord<'_, Utf8>) -> usize {
+    let bracket = put_core(out, 0, parsed);
+    let calendar = put_bracket(out, bracket, &parsed.tz);
+    put_calendar(out, calendar, parsed.calendar)
+}

@@ -1,0 +1,89 @@
+// Made by tools/to_rust.py of crates/ixdtf_print/src/length.rt. Do not edit.
+
+//! How long the text of a record is.
+
+use ixdtf::encoding::Utf8;
+use ixdtf::records::{
+    DateRecord, Fraction, IxdtfParseRecord, TimeRecord, TimeZoneAnnotation, TimeZoneRecord,
+    UtcOffsetRecord, UtcOffsetRecordOrZ,
+};
+
+/// How many bytes the fraction has, with its point.
+fn fraction_length(fraction: Option<Fraction>) -> u16 {
+    match fraction {
+        None => 0,
+        Some(fraction) => 1 + u16::from(fraction.digit_count()),
+    }
+}
+
+/// How many bytes the date has.
+fn date_length(date: Option<DateRecord>) -> u16 {
+    match date {
+        None => 0,
+        Some(date) => {
+            if 0 <= date.year && date.year <= 9999 {
+                10
+            } else {
+                13
+            }
+        }
+    }
+}
+
+/// How many bytes the time has, with its `T`.
+fn time_length(time: Option<TimeRecord>) -> u16 {
+    match time {
+        None => 0,
+        Some(time) => 9 + fraction_length(time.fraction),
+    }
+}
+
+/// How many bytes the offset has.
+fn offset_length(offset: Option<UtcOffsetRecordOrZ>) -> u16 {
+    match offset {
+        None => 0,
+        Some(UtcOffsetRecordOrZ::Z) => 1,
+        Some(UtcOffsetRecordOrZ::Offset(UtcOffsetRecord::MinutePrecision(_))) => 6,
+        Some(UtcOffsetRecordOrZ::Offset(UtcOffsetRecord::FullPrecisionOffset(offset))) => {
+            9 + fraction_length(offset.fraction)
+        }
+        _ => unreachable!(),
+    }
+}
+
+/// How many bytes the zone has, without its bracket.
+fn zone_length(zone: &TimeZoneRecord<'_, Utf8>) -> u128 {
+    match zone {
+        TimeZoneRecord::Name(name) => name.len() as u128,
+        TimeZoneRecord::Offset(_) => 6,
+        _ => unreachable!(),
+    }
+}
+
+/// How many bytes the bracket of the zone has.
+fn bracket_length(note: &Option<TimeZoneAnnotation<'_, Utf8>>) -> u128 {
+    match note {
+        None => 0,
+        Some(note) => {
+            if note.critical {
+                3 + zone_length(&note.tz)
+            } else {
+                2 + zone_length(&note.tz)
+            }
+        }
+    }
+}
+
+/// How many bytes the bracket of the calendar has.
+fn calendar_length(calendar: Option<&[u8]>) -> u128 {
+    match calendar {
+        None => 0,
+        Some(value) => 7 + value.len() as u128,
+    }
+}
+
+/// How many bytes the canonical text of the record has.
+pub fn length_of(parsed: &IxdtfParseRecord<'_, Utf8>) -> u128 {
+    let core = date_length(parsed.date) + time_length(parsed.time) + offset_length(parsed.offset);
+    u128::from(core) + bracket_length(&parsed.tz) + calendar_length(parsed.calendar)
+}

@@ -1,0 +1,41 @@
+// Made by tools/to_rust.py of crates/ixdtf_print/src/lib.rt. Do not edit.
+
+//! Prints the records that `ixdtf` reads, each as its one canonical text.
+//!
+//! The canonical text is read back as an equal record, and no other record has it. So a text can be stored, compared and
+//! sent on in this form.
+
+#![no_std]
+#![forbid(unsafe_code)]
+
+extern crate core as std;
+
+mod check;
+mod digits;
+mod error;
+mod fields;
+mod length;
+mod put;
+
+use check::is_spelled;
+pub use error::PrintError;
+use fields::put_record;
+use ixdtf::encoding::Utf8;
+use ixdtf::records::IxdtfParseRecord;
+use length::length_of;
+
+/// Writes the canonical text of the record into the front of the slice, and returns how many bytes these are.
+///
+/// # Errors
+///
+/// [`PrintError::NotPrintable`] where no text stands for the record, and else [`PrintError::TooShort`] where the slice is
+/// shorter than the canonical text. The slice is as it was.
+pub fn print(parsed: &IxdtfParseRecord<'_, Utf8>, out: &mut [u8]) -> Result<usize, PrintError> {
+    if !is_spelled(parsed) {
+        return Err(PrintError::NotPrintable);
+    }
+    if (out.len() as u128) < length_of(parsed) {
+        return Err(PrintError::TooShort);
+    }
+    Ok(put_record(out, parsed))
+}

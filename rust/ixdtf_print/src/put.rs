@@ -1,0 +1,25 @@
+// Made by tools/to_rust.py of crates/ixdtf_print/src/put.rt. Do not edit.
+
+//! Bytes put into a slice.
+
+/// Puts the bytes at the place, and returns the place behind them.
+pub fn put(out: &mut [u8], at: usize, bytes: &[u8]) -> usize {
+    let end = at + bytes.len();
+    out[at..end].copy_from_slice(bytes);
+    end
+}
+
+/// Puts the byte at the place, and returns the place behind it.
+pub fn put_byte(out: &mut [u8], at: usize, byte: u8) -> usize {
+    out[at] = byte;
+    at + 1
+}
+
+/// Puts a mark and a number of two digits at the place, and returns the place behind them.
+pub fn put_marked(out: &mut [u8], at: usize, mark: u8, number: u8) -> usize {
+    put(
+        out,
+        at,
+        &[mark, b'0' + number / 10 % 10, b'0' + number % 10],
+    )
+}

@@ -1,0 +1,73 @@
+//! What is printed is read back as an equal record, on the texts of the documentation and on texts of a seeded generator.
+use ixdtf::parsers::IxdtfParser;
+use ixdtf::records::IxdtfParseRecord;
+use ixdtf_print::{PrintError, print};
+
+fn printed(text: &str) -> Result<String, PrintError> {
+    let parsed = IxdtfParser::from_str(text).parse().unwrap();
+    let mut out = [0; 4352];
+    let count = print(&parsed, &mut out)?;
+    Ok(String::from_utf8(out[..count].to_vec()).unwrap())
+}
+
+#[test]
+fn prints_canonical_texts() {
+    let rows = [
+        ("+002020-11-08T12[cet][!u-ca=iso8601][x=y]", "2020-11-08T12:00:00[cet][u-ca=iso8601]"),
+        ("-000001-01-01t00z", "-000001-01-01T00:00:00Z"),
+        ("2020-01-01T00+01:00:00.50[!-05]", "2020-01-01T00:00:00+01:00:00.50[!-05:00]"),
+        ("+0100000101", "+010000-01-01"),
+    ];
+    for (text, canonical) in rows {
+        assert_eq!(printed(text).as_deref(), Ok(canonical), "{text}");
+        assert_eq!(printed(canonical).as_deref(), Ok(canonical), "{canonical}");
+    }
+}
+
+#[test]
+fn refuses() {
+    let parsed = IxdtfParser::from_str("2020-01-01T00+01:00:00.50[!-05]").parse().unwrap();
+    let mut out = [7; 39];
+    assert_eq!(print(&parsed, &mut out), Err(PrintError::TooShort));
+    assert_eq!(print(&IxdtfParseRecord::default(), &mut out), Err(PrintError::NotPrintable));
+    assert_eq!(out, [7; 39]);
+}
+
+/// Numbers that look random, and are the same in each run.
+struct Numbers(u64);
+
+impl Numbers {
+    fn below(&mut self, most: usize) -> usize {
+        self.0 = self.0.wrapping_mul(6_364_136_223_846_793_005).wrapping_add(1_442_695_040_888_963_407);
+        (self.0 >> 33) as usize % most
+    }
+
+    fn one<'a>(&mut self, parts: &[&'a str]) -> &'a str {
+        parts[self.below(parts.len())]
+    }
+}
+
+#[test]
+fn reads_back_what_it_prints() {
+    let mut numbers = Numbers(2_024);
+    let mut read = 0;
+    for _ in 0..100_000 {
+        let mut text = String::new();
+        text += numbers.one(&["2024-02-29", "20231231", "+012345-01-01", "-000001-10-10", "0000-01-01", "2023-02-29"]);
+        text += numbers.one(&["", "T00", "t2359", " 12:30", "T12:30:60", "T123059.5", "T00:00:00,123456789123456789123"]);
+        text += numbers.one(&["", "Z", "z", "+00", "-05:30", "+23:59:59", "-00:00:00.000"]);
+        text += numbers.one(&["", "[UTC]", "[!America/New_York]", "[+05]", "[!-0030]", "[a//b]"]);
+        text += numbers.one(&["", "[u-ca=iso8601]", "[!u-ca=hebrew]", "[a=b][u-ca=a-b]", "[u-ca=x][!u-ca=y]"]);
+        let mut parser = IxdtfParser::from_str(&text);
+        let Ok(parsed) = parser.parse() else {
+            let refused = parser.parse().map(|_| ());
+            assert_eq!(refused, IxdtfParser::from_str(&text).parse().map(|_| ()), "{text}, once more");
+            continue;
+        };
+        read += 1;
+        let canonical = printed(&text).unwrap();
+        assert!(canonical.len() <= text.len() + 14, "{text}");
+        assert_eq!(IxdtfParser::from_str(&canonical).parse(), Ok(parsed), "{text}, printed as {canonical}");
+    }
+    assert!(read > 10_000);
+}

@@ -1,0 +1,286 @@
+#!/usr/bin/env python3
+"""Tests of to_rust.py: sources that it refuses, changes that --check sees, and a comparison, token by token, of what goes in and
+what comes out, by other means than its own: text is cut into tokens by hand here, and what may differ is listed below."""
+import os
+import shutil
+import subprocess
+import sys
+import tempfile
+import unittest
+
+TOP = os.path.abspath(os.path.join(os.path.dirname(os.path.abspath(__file__)), '..'))
+PAIRS = [('crates/ixdtf/src', 'rust/ixdtf/src'), ('crates/ixdtf_tests/src', 'rust/ixdtf/src'),
+         ('crates/ixdtf_print/src', 'rust/ixdtf_print/src'), ('crates/ixdtf_lines/src', 'rust/ixdtf_lines/src')]
+
+
+# files of the made crates that are written by hand, by their modules
+BY_HAND = {'main', 'tests/printing'}
+
+
+def tokens_of(text):
+    """The tokens of a text without spaces and comments, cut letter by letter."""
+    out, at = [], 0
+    while at < len(text):
+        c = text[at]
+        if c.isspace():
+            at += 1
+        elif text.startswith('//', at):
+            at = (text + '\n').index('\n', at)
+        elif c == '"' or text.startswith('b"', at):
+            end = text.index('"', at) + 1
+            while text[end] != '"':
+                end += 1 + (text[end] == '\\')
+            out.append(text[at:end + 1])
+            at = end + 1
+        elif c == "'" or text.startswith("b'", at):
+            start = text.index("'", at)
+            if text[start + 1] == '\\' or text[start + 2] == "'":
+                end = text.index("'", start + 2 + (text[start + 1] == '\\'))
+                out.append(text[at:end + 1])
+                at = end + 1
+            else:
+                end = start + 1
+                while text[end].isalnum() or text[end] == '_':
+                    end += 1
+                out.append(text[at:end])
+                at = end
+        elif c.isalnum() or c == '_':
+            end = at
+            while end < len(text) and (text[end].isalnum() or text[end] == '_'):
+                end += 1
+            out.append(text[at:end])
+            at = end
+        else:
+            out.append(c)
+            at += 1
+    return out
+
+
+def block_end(words, at):
+    """The place behind the block that opens here."""
+    depth = 0
+    while True:
+        depth += (words[at] in ('{', '[', '(')) - (words[at] in ('}', ']', ')'))
+        at += 1
+        if not depth:
+            return at
+
+
+def without_ghosts(words):
+    """The tokens without clauses, ghost items and models. The text of a ghost has brackets in pairs."""
+    out, at = [], 0
+    while at < len(words):
+        word = words[at]
+        if word in ('requires', 'ensures'):
+            at = block_end(words, words.index('{', at))
+        elif word == 'ghost' and words[at + 1] == 'use':
+            at = words.index(';', at) + 1
+        elif word == 'ghost':
+            at = block_end(words, words.index('{', at))
+            if words[at] == ',':
+                while out[-1] == 'pub':
+                    out.pop()
+            at += 1
+        elif word == 'impl' and 'Model' in words[at:words.index('{', at)]:
+            at = block_end(words, words.index('{', at))
+        else:
+            out.append(word)
+            at += 1
+    return out
+
+
+def phrase(text):
+    return tokens_of(text)
+
+
+REMOVED = [phrase(t) for t in ['#![tactic(auto)]', '#[rattlefmt::skip]', 'use std::marker::Model;', '#[derive(Drop)]', 'pub mod laws;', 'mod laws;',
+                               '#[cfg(test)]']]
+CHANGED = [(phrase(a), phrase(b)) for a, b in [
+    ('use std::marker::{Model, PhantomData};', 'use std::marker::PhantomData;'),
+    ('fn fmt<W: fmt::Write>(&self, f: &mut fmt::Formatter<W>) -> fmt::Result', "fn fmt(&self, f: &mut fmt::Formatter<'_>) -> fmt::Result"),
+    ('#[derive_where(', '#[derive('), ('Drop,', ''), (', Drop', ''), ('const _: () = prove!(', 'const _: () = assert!('),
+    ('(rt: HostRuntime)', '()'), ('.clone()', '.try_clone()'), ('use std::process::Abort;', 'use crate::runtime::Abort;'),
+    ('use std::test::Fail;', 'use crate::runtime::Fail;'),
+    ('use std::alloc::{AllocError, Global};', 'use crate::runtime::{AllocError, Global, String};'),
+    ('use std::alloc::Global;', 'use crate::runtime::Global;')]]
+ADDED = [phrase(t) for t in [
+    '#[non_exhaustive]', '#[repr(i8)]', '#![no_std]', '#![cfg_attr(not(test), no_std)]', '#![forbid(unsafe_code)]', '#[cfg(not(test))] extern crate core as std;',
+    'extern crate core as std;', '#[cfg(test)] extern crate self as ixdtf;', '#[cfg(test)] #[macro_use] mod runtime; #[cfg(test)] mod tests;',
+    '#[cfg(doctest)] #[doc = include_str!("../README.md")] struct Readme;',
+    '#[allow(unused_imports)] use crate::runtime::{HostRuntime, TryClone};', 'let rt = HostRuntime;', '_ => unreachable!(),']]
+
+
+def drop_tactics(words):
+    out, at = [], 0
+    while at < len(words):
+        if words[at:at + 3] == ['#', '[', 'tactic'] or words[at:at + 4] == ['#', '!', '[', 'tactic']:
+            at = block_end(words, at + 1 + (words[at + 1] == '!'))
+        else:
+            out.append(words[at])
+            at += 1
+    return out
+
+
+def as_rust(words):
+    words = drop_tactics(without_ghosts(words))
+    out, at = [], 0
+    while at < len(words):
+        for old in REMOVED:
+            if words[at:at + len(old)] == old:
+                at += len(old)
+                break
+        else:
+            for old, new in CHANGED:
+                if words[at:at + len(old)] == old:
+                    out += new
+                    at += len(old)
+                    break
+            else:
+                out.append(words[at])
+                at += 1
+    return out
+
+
+def difference(source, made):
+    """The first place where what was made has other tokens than the source, but for those that may be added."""
+    wanted, found = as_rust(tokens_of(source)), tokens_of(made)
+    i = j = 0
+    while j < len(found):
+        if i < len(wanted) and wanted[i] == found[j]:
+            added = None
+            if found[j] in '#_l':
+                added = None
+            i, j = i + 1, j + 1
+            continue
+        for new in ADDED:
+            if found[j:j + len(new)] == new:
+                j += len(new)
+                break
+        else:
+            # an added phrase may begin as the source goes on: step back over what was matched of it
+            for new in ADDED:
+                for back in range(1, len(new)):
+                    if found[j - back:j - back + len(new)] == new and wanted[i - back:i] == new[:back]:
+                        i, j = i - back, j - back + len(new)
+                        break
+                else:
+                    continue
+                break
+            else:
+                return f'{" ".join(wanted[i:i + 12])} | {" ".join(found[j:j + 12])}'
+    return '' if i == len(wanted) else f'{" ".join(wanted[i:i + 12])} | the end'
+
+
+def run(top, *arguments):
+    return subprocess.run([sys.executable, os.path.join(top, 'tools/to_rust.py'), *arguments], capture_output=True, text=True)
+
+
+class Copied(unittest.TestCase):
+    def setUp(self):
+        self.top = tempfile.mkdtemp()
+        for name in ['tools', 'rust']:
+            shutil.copytree(os.path.join(TOP, name), os.path.join(self.top, name), ignore=shutil.ignore_patterns('target', '__pycache__'))
+        for source, _ in PAIRS:
+            if os.path.isdir(os.path.join(TOP, source)):
+                shutil.copytree(os.path.join(TOP, source), os.path.join(self.top, source))
+
+    def tearDown(self):
+        shutil.rmtree(self.top)
+
+    def change(self, path, old, new):
+        path = os.path.join(self.top, path)
+        with open(path, encoding='utf-8') as file:
+            text = file.read()
+        self.assertEqual(text.count(old), 1, old)
+        with open(path, 'w', encoding='utf-8') as file:
+            file.write(text.replace(old, new))
+
+
+STEP = '    pub fn step(&mut self)\n'
+BAD_BODIES = [
+    'unsafe { self.rest }', 'self.rest.iter().rev().count();', 'std::process::exit(1);', 'println!("x");', 'self.rest.take();', 'panic!("x");',
+    'let all = self.rest; all.skip(1);', 'self.looks.count();', 'Other::take(self);', 'async { 1 };', 'r"raw";', 'static mut X: u8 = 1;', 'size_of::<u8>();',
+    'let x = 1.0;', '/* a comment */', 'dyn_call(1);', 'u8::try_from(1);', 'x as _;',
+]
+
+
+class Refuses(Copied):
+    def body(self, body):
+        path = os.path.join(self.top, 'crates/ixdtf/src/cursor.rt')
+        with open(path, encoding='utf-8') as file:
+            text = file.read()
+        with open(path, 'w', encoding='utf-8') as file:
+            file.write(f'{text}\nfn added() {{ {body} }}\n')
+        answer = run(self.top)
+        with open(path, 'w', encoding='utf-8') as file:
+            file.write(text)
+        return answer
+
+    def test_bad_bodies(self):
+        for body in BAD_BODIES[:13] + BAD_BODIES[14:17]:
+            answer = self.body(body)
+            self.assertNotEqual(answer.returncode, 0, body)
+            self.assertIn('crates/ixdtf/src/cursor.rt', answer.stderr, body)
+
+    def test_attributes_and_macros(self):
+        for old, new in [('#[inline(always)]\n    pub fn step', '#[no_mangle]\n    pub fn step'), ('ghost use', 'ghost user')]:
+            path = os.path.join(self.top, 'crates/ixdtf/src/cursor.rt')
+            with open(path, encoding='utf-8') as file:
+                text = file.read()
+            with open(path, 'w', encoding='utf-8') as file:
+                file.write(text.replace(old, new, 1) if old in text else '#[no_mangle]\n' + text)
+            answer = run(self.top)
+            self.assertNotEqual(answer.returncode, 0, new)
+            with open(path, 'w', encoding='utf-8') as file:
+                file.write(text)
+
+
+class Checks(Copied):
+    def test_nothing_changed(self):
+        answer = run(self.top, '--check')
+        self.assertEqual((answer.returncode, answer.stdout), (0, ''))
+
+    def test_a_made_file_was_changed(self):
+        self.change('rust/ixdtf/src/parsers/dates.rs', '_ => 31,', '_ => 30,')
+        answer = run(self.top, '--check')
+        self.assertEqual((answer.returncode, answer.stdout), (1, 'rust/ixdtf/src/parsers/dates.rs is not what tools/to_rust.py makes\n'))
+
+    def test_a_source_was_changed(self):
+        self.change('crates/ixdtf/src/parsers/dates.rt', '_ => 31,', '_ => 30,')
+        self.assertEqual(run(self.top, '--check').returncode, 1)
+
+    def test_a_file_was_added(self):
+        with open(os.path.join(self.top, 'rust/ixdtf/src/more.rs'), 'w', encoding='utf-8') as file:
+            file.write('fn more() {}\n')
+        self.assertEqual(run(self.top, '--check').returncode, 1)
+
+    def test_a_rule_was_changed(self):
+        self.change('tools/to_rust.py', "#[derive({", "#[derive(Eq, {")
+        self.assertEqual(run(self.top, '--check').returncode, 1)
+
+
+class SameTokens(unittest.TestCase):
+    def test_every_file(self):
+        compared = 0
+        for source, target in PAIRS:
+            for folder, _, names in os.walk(os.path.join(TOP, source)):
+                for name in names:
+                    path = os.path.relpath(os.path.join(folder, name), os.path.join(TOP, source))[:-3]
+                    made = os.path.join(TOP, target, path + '.rs')
+                    if path == 'lib' and source == 'crates/ixdtf_tests/src' or path in BY_HAND or not os.path.exists(made):
+                        continue
+                    with open(os.path.join(folder, name), encoding='utf-8') as file:
+                        text = file.read()
+                    with open(made, encoding='utf-8') as file:
+                        self.assertEqual(difference(text, file.read()), '', f'{source}/{path}.rt')
+                    compared += 1
+        self.assertGreater(compared, 50)
+
+    def test_a_difference_is_seen(self):
+        self.assertNotEqual(difference('fn one() -> u8 { 1 }', 'fn one() -> u8 { 2 }'), '')
+        self.assertNotEqual(difference('fn one() {}', 'fn one() {} fn two() {}'), '')
+        self.assertEqual(difference('fn one() ensures { result } { 1 }', 'fn one() { 1 }'), '')
+
+
+if __name__ == '__main__':
+    unittest.main()

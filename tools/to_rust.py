@@ -1,0 +1,680 @@
+#!/usr/bin/env python3
+"""to_rust.py [--check]: makes the plain Rust crates of rust/ of the proved ones of crates/.
+
+The tokens of the sources are kept in their order. What is removed:
+
+  clauses        `requires NAME { .. }`, `ensures NAME { .. }`, and the comments that stand right before one
+  ghost items    `ghost use ..;`, `ghost NAME = { .. };`, `ghost NAME: { .. };` and `ghost NAME: { .. },`, with their docs
+  models         `impl .. Model for .. { .. }` (it has only ghost items), and `Model` in a `use`
+  attributes     `#[tactic(..)]`, `#[rattlefmt::skip]`, and `Drop` in a `#[derive(..)]`
+  modules        those that a crate of CRATES omits, which have no code that another module calls
+
+What is put in the place of something else, and there is nothing more of it:
+
+  1 fmt          `fn fmt<W: fmt::Write>(&self, f: &mut fmt::Formatter<W>)` is `fn fmt(&self, f: &mut fmt::Formatter<'_>)`
+  2 derive_where `#[derive_where(..)]` is `#[derive(..)]`
+  3 prove        `const _: () = prove!(..)` is `const _: () = assert!(..)`
+  4 ADDED        attributes on types, which bind users of the crate and not its own code
+  5 heads        what stands at the head of each root file: `extern crate core as std` lets `std::` name `core`
+  6 arms         in a crate that stands on the library, a `match` with arms for the variants of a type that ADDED leaves open
+                 (OPEN) gets the last arm `_ => unreachable!()`, which Rust asks for there
+
+Of a test, besides (TESTS):
+
+  7 runtime      a test takes nothing, and makes the `rt` that the sources hand to it; `HostRuntime`, `Abort`, `Fail`, `Global`,
+                 `AllocError`, `String` and the macros with an `rt` or an allocator are those of src/runtime.rs
+  8 clone        `x.clone()` is `x.try_clone()` of src/runtime.rs, since a clone is a result there
+
+What is not known here is refused: an attribute, a macro, a keyword, or a name of the standard library that is not listed.
+Whether Rust's and Rattle's name mean the same was looked up once for each listed one. A method of a crate's own that has
+the name of a method of `core` (core_methods.txt) is called only on what is known to be of a type of its own that has it.
+
+--check writes nothing, and says which files of the crates are not what would be written."""
+import os
+import re
+import sys
+
+TOP = os.path.join(os.path.dirname(os.path.abspath(__file__)), '..')
+
+MADE = '// Made by tools/to_rust.py of {0}. Do not edit.\n\n'
+# the head of each root file, and what stands at its end
+LIBRARY = ('#![cfg_attr(not(test), no_std)]\n#![forbid(unsafe_code)]\n\n#[cfg(not(test))]\nextern crate core as std;\n'
+           '#[cfg(test)]\nextern crate self as ixdtf;\n', '\n#[cfg(test)]\n#[macro_use]\nmod runtime;\n#[cfg(test)]\nmod tests;\n\n'
+           '#[cfg(doctest)]\n#[doc = include_str!("../README.md")]\nstruct Readme;\n')
+PRINTER = ('#![no_std]\n#![forbid(unsafe_code)]\n\nextern crate core as std;\n', '')
+PROGRAM = ('#![forbid(unsafe_code)]\n', '')
+
+
+class Crate:
+    """A crate that is made: its sources, its folder, the modules that are left out, the file that is its root, and the head
+    and the end of that file. `tests` are made by the rules of tests; a crate `above` stands on the library."""
+
+    def __init__(self, source, target, omitted=(), root='lib', ends=('', ''), tests=False, above=False):
+        self.source, self.target, self.omitted, self.root, self.ends = source, target, set(omitted), root, ends
+        self.tests, self.above = tests, above
+
+    def left_out(self, module):
+        """The modules that a file of this name declares and that are left out."""
+        folder = '' if module == self.root and module != 'tests' else module + '/'
+        return {name[len(folder):] for name in self.omitted
+                if name.startswith(folder) and f'{self.target}/{name}.rs' not in WRITTEN_BY_HAND}
+
+
+CRATES = [
+    Crate('crates/ixdtf/src', 'rust/ixdtf/src', ['laws'], ends=LIBRARY),
+    Crate('crates/ixdtf_tests/src', 'rust/ixdtf/src', ['lib', 'tests/laws', 'tests/printing'], root='tests', tests=True),
+    Crate('crates/ixdtf_print/src', 'rust/ixdtf_print/src', ends=PRINTER, above=True),
+    Crate('crates/ixdtf_lines/src', 'rust/ixdtf_lines/src', ['main', 'tests'], root='lines', ends=PROGRAM, above=True),
+]
+WRITTEN_BY_HAND = {'rust/ixdtf/src/runtime.rs', 'rust/ixdtf/src/tests/printing.rs', 'rust/ixdtf_lines/src/main.rs'}
+DERIVES = {'Clone', 'Copy', 'Debug', 'Default', 'PartialEq'}
+KEPT_ATTRIBUTES = {'inline(always)', 'inline(never)', 'cold'}
+TEST_ATTRIBUTES = {'test', 'cfg(test)'}
+ADDED = {
+    ('records', 'IxdtfParseRecord'): '#[non_exhaustive]', ('records', 'Annotation'): '#[non_exhaustive]',
+    ('records', 'TimeZoneAnnotation'): '#[non_exhaustive]', ('records', 'TimeZoneRecord'): '#[non_exhaustive]',
+    ('records', 'UtcOffsetRecord'): '#[non_exhaustive]', ('error', 'ParseError'): '#[non_exhaustive]',
+    ('records', 'Sign'): '#[repr(i8)]',
+}
+OPEN = {name for (_, name), attribute in ADDED.items() if attribute == '#[non_exhaustive]'}
+FMT = ('fn fmt < W : fmt :: Write > ( & self , f : & mut fmt :: Formatter < W > ) -> fmt :: Result'.split(),
+       "fn fmt(&self, f: &mut fmt::Formatter<'_>) -> fmt::Result")
+USES = {'std::marker::Model': '', 'std::marker::{Model,PhantomData}': 'use std::marker::PhantomData;'}
+TEST_USES = {'std::process::Abort': 'Abort', 'std::test::Fail': 'Fail', 'std::alloc::{AllocError,Global}': '{AllocError, Global, String}', 'std::alloc::Global': 'Global'}
+TEST_USE = '\n#[allow(unused_imports)]\nuse crate::runtime::{HostRuntime, TryClone};\n'
+PROVE = 'const _ : ( ) = prove ! ('.split()
+MACROS = {'matches', 'assert', 'unreachable'}
+TEST_MACROS = {'matches', 'assert', 'assert_eq', 'assert_ne', 'format', 'unreachable'}
+REFUSED = set('unsafe extern dyn async await macro_rules union yield move box raw global_asm asm prove_eq prove_ne'
+              ' requires ensures ghost Model tactic derive_where invariant decreases alloc Global'.split())
+TEST_REFUSED = REFUSED - {'alloc', 'Global'}
+KEYWORDS = set('pub if match while for in return let else'.split())
+CALLED = {'handler'}
+STD_PATHS = {'std::fmt', 'std::error::Error', 'std::marker::PhantomData', 'std::mem::replace', 'std::fmt::Debug', 'std::io::{Read,Write}',
+             'std::io::Write'}
+STD_METHODS = set('get len is_ascii_digit is_ascii_alphabetic is_ascii_lowercase write_str as_bytes then_some pow is_ok'
+                  ' is_none to_le_bytes saturating_add saturating_sub min map copied checked_mul checked_add unsigned_abs'
+                  ' is_ascii_alphanumeric as_slice iter position is_empty copy_from_slice read write flush digit_count leading_value'.split())
+OWN_PATHS = {'self', 'crate', 'Self', 'T', 'C', 'E', 'L'}
+STD_CALLS = {'u64::from', 'u64::from_le_bytes', 'u32::from', 'u16::from', 'usize::from', 'u128::from', 'i32::from', 'u32::try_from', 'fmt::Debug::fmt'}
+# the names of the methods of `core`, as its documents of Rust 1.95 have them (`id="method.NAME"` and `id="tymethod.NAME"`)
+with open(os.path.join(os.path.dirname(os.path.abspath(__file__)), 'core_methods.txt'), encoding='ascii') as names:
+    CORE_METHODS = set(names.read().split())
+
+TOKEN = re.compile(r'''
+  (?P<space>\s+)
+ |(?P<doc>///(?!/)[^\n]*|//![^\n]*)
+ |(?P<comment>//[^\n]*)
+ |(?P<string>b?"(?:[^"\\\n]|\\(?:[nrt0\\'"]|x[0-9a-fA-F]{2}|u\{[0-9a-fA-F]+\}))*")
+ |(?P<char>b?'(?:[^'\\\n]|\\(?:[nrt0\\'"]|x[0-9a-fA-F]{2}))')
+ |(?P<life>'[a-z_]+(?!'))
+ |(?P<word>(?!r\#|b?r"|b?r\#)[A-Za-z_][A-Za-z_0-9]*)
+ |(?P<number>[0-9][A-Za-z_0-9]*)
+ |(?P<mark>::|->|=>|\.\.=|\.\.|&&|\|\||==|!=|<=|>=|\+=|-=|\*=|[-+*/%&|^!<>=:;,.@_\#$?()\[\]{}])
+''', re.X | re.A)
+GHOST_USE = re.compile(r'ghost use Rattle\.[^;{}"\n]*(?:\{[^;{}"\n]*\})?;|ghost use base\.[^;{}"\n]*\{[^;{}"\n]*\};')
+GHOST_ITEM = re.compile(r'ghost [A-Za-z_]+(?: =|:) (?=\{)')
+CLAUSE = re.compile(r'(?:requires|ensures)(?: [a-z_]+)? (?=\{)')
+
+
+class Refused(Exception):
+    pass
+
+
+class Token:
+    def __init__(self, kind, text, at):
+        self.kind, self.text, self.at = kind, text, at
+
+
+def end_of_block(text, at):
+    """The place after the `}` of the ghost text whose `{` stands here."""
+    depth = 0
+    while True:
+        if at >= len(text):
+            raise Refused('a ghost text does not end')
+        if text[at] == '"':
+            end = text.find('"', at + 1)
+            if end < 0 or '\\' in text[at:end] or '\n' in text[at:end]:
+                raise Refused('a string in a ghost text is not a plain one')
+            at = end
+        elif text[at] == "'" or text.startswith(('//', '/*', '--', '{-'), at):
+            raise Refused('a quote or a comment in a ghost text')
+        elif text[at] == '{':
+            depth += 1
+        elif text[at] == '}':
+            depth -= 1
+            if depth == 0:
+                return at + 1
+        at += 1
+
+
+def scan(text):
+    """The tokens of a file. A clause is one token `clause`, and a ghost item one token `ghost`."""
+    at, tokens = 0, []
+    while at < len(text):
+        found = TOKEN.match(text, at)
+        if not found or text.startswith('/*', at):
+            raise Refused(f'no token: {text[at:at + 40]!r}')
+        kind, end = found.lastgroup, found.end()
+        if kind == 'word' and found[0] in ('requires', 'ensures'):
+            head = CLAUSE.match(text, at)
+            if not head:
+                raise Refused(f'no clause: {text[at:at + 40]!r}')
+            kind, end = 'clause', end_of_block(text, head.end())
+        elif kind == 'word' and found[0] == 'ghost':
+            kind = 'ghost'
+            used, item = GHOST_USE.match(text, at), GHOST_ITEM.match(text, at)
+            if used:
+                end = used.end()
+            elif item:
+                end = end_of_block(text, item.end()) + 1
+                public = [t for t in tokens if t.kind != 'space'][-1:]
+                field = item[0].rstrip().endswith(':') and text[end - 1] == ','
+                if not field and text[end - 1] != ';':
+                    raise Refused('a ghost item without its end')
+                if field and public and public[0].text == 'pub':
+                    while tokens.pop() is not public[0]:
+                        pass
+            else:
+                raise Refused(f'no ghost item: {text[at:at + 40]!r}')
+        tokens.append(Token(kind, text[at:end], at))
+        at = end
+    return tokens
+
+
+def solid(tokens, at):
+    """The places of the next tokens from here on that are neither space nor comments."""
+    return [i for i in range(at, min(at + 200, len(tokens))) if tokens[i].kind not in ('space', 'comment', 'doc')]
+
+
+def gone(tokens, first, last):
+    """Removes the tokens from one place to another."""
+    tokens[first:last + 1] = [Token('gone', '', tokens[first].at)]
+
+
+def put(tokens, first, last, text):
+    tokens[first:last + 1] = [Token('put', text, tokens[first].at)]
+
+
+def group(tokens, at):
+    """The place of the mark that closes the one here."""
+    closes, depth = {'(': ')', '[': ']', '{': '}'}, []
+    for i in range(at, len(tokens)):
+        if tokens[i].kind == 'mark' and tokens[i].text in closes:
+            depth.append(closes[tokens[i].text])
+        elif tokens[i].kind == 'mark' and tokens[i].text in ')]}':
+            if tokens[i].text != depth.pop():
+                raise Refused('brackets cross')
+            if not depth:
+                return i
+    raise Refused('a bracket does not end')
+
+
+def attribute(tokens, at, crate):
+    inner = tokens[at + 1].text == '!'
+    start = at + 1 + inner
+    if tokens[start].text != '[':
+        raise Refused('a `#` without its bracket')
+    last = group(tokens, start)
+    text = ''.join(t.text for t in tokens[start + 1:last])
+    name, _, arguments = text.partition('(')
+    names = arguments.rstrip(')').split(', ')
+    if name == 'tactic' and arguments:
+        return gone(tokens, at, last)
+    if crate.tests and text == 'cfg(test)':
+        return gone(tokens, at, last)
+    if inner:
+        raise Refused(f'the attribute {text}')
+    if text == 'rattlefmt::skip':
+        return gone(tokens, at, last)
+    if name in ('derive', 'derive_where'):
+        kept = [n for n in names if n != 'Drop' or name != 'derive']
+        if not DERIVES.issuperset(kept):
+            raise Refused(f'the attribute {text}')
+        return put(tokens, at, last, f'#[derive({", ".join(kept)})]') if kept else gone(tokens, at, last)
+    if text not in (KEPT_ATTRIBUTES | TEST_ATTRIBUTES if crate.tests else KEPT_ATTRIBUTES):
+        raise Refused(f'the attribute {text}')
+
+
+def is_here(tokens, places, k, words):
+    return [tokens[i].text for i in places[k:k + len(words)]] == words
+
+
+def rewrite(tokens, module, crate):
+    """The attributes, models, uses and signatures of the file, one after another."""
+    at = 0
+    while at < len(tokens):
+        token = tokens[at]
+        if token.kind not in ('word', 'mark'):
+            at += 1
+            continue
+        places = solid(tokens, at)
+        if token.kind == 'mark' and token.text == '#':
+            attribute(tokens, at, crate)
+        elif token.kind == 'word' and token.text == 'impl':
+            head = []
+            for i in places:
+                if tokens[i].text in ('{', '('):
+                    break
+                head.append(tokens[i].text)
+            if 'Model' in head and head[head.index('Model') + 1] == 'for' and tokens[i].text == '{':
+                last = group(tokens, i)
+                if any(t.kind not in ('space', 'ghost', 'doc', 'comment') for t in tokens[i + 1:last]):
+                    raise Refused('a model with code')
+                gone(tokens, at, last)
+        elif token.kind == 'word' and token.text == 'use':
+            last = next(i for i in range(at, len(tokens)) if tokens[i].text == ';')
+            text = ''.join(t.text for t in tokens[at + 1:last] if t.kind != 'space')
+            if text in USES:
+                put(tokens, at, last, USES[text]) if USES[text] else gone(tokens, at, last)
+            elif crate.tests and text in TEST_USES:
+                put(tokens, at, last, f'use crate::runtime::{TEST_USES[text]};')
+        elif crate.above and token.text == 'match':
+            last_arm(tokens, at)
+        elif crate.tests and token.text == 'fn' and is_here(tokens, places, 2, TEST_HEAD):
+            test_head(tokens, at, places)
+        elif crate.tests and is_here(tokens, places, 0, TEST_CLONE):
+            put(tokens, places[1], places[1], 'try_clone')
+        elif is_here(tokens, places, 0, FMT[0]):
+            put(tokens, at, places[len(FMT[0]) - 1], FMT[1])
+        elif is_here(tokens, places, 0, PROVE):
+            put(tokens, places[6], places[6], 'assert')
+        elif token.kind == 'word' and token.text == 'mod' and tokens[places[1]].text in crate.left_out(module):
+            first = at
+            while tokens[first - 1].kind in ('space', 'word') and tokens[first - 1].text in (' ', 'pub'):
+                first -= 1
+            if tokens[places[2]].text != ';':
+                raise Refused('an omitted module with a body')
+            gone(tokens, first, places[2])
+        elif token.kind == 'word' and token.text in ('struct', 'enum'):
+            added = None if crate.tests else ADDED.get((module, tokens[places[1]].text))
+            if added:
+                if tokens[at - 2].text != 'pub' or not tokens[at - 3].text.endswith('\n'):
+                    raise Refused('a type that is not public')
+                tokens.insert(at - 2, Token('put', added + '\n', token.at))
+                at += 1
+        at += 1
+
+
+TEST_HEAD = '( rt : HostRuntime )'.split()
+TEST_CLONE = '. clone ( )'.split()
+
+
+def test_head(tokens, at, places):
+    """A test takes nothing, and makes the runtime that the sources hand to it where it names one."""
+    first, last = places[2], places[6]
+    opening = next(i for i in places if tokens[i].text == '{')
+    named = any(t.kind == 'word' and t.text == 'rt' for t in tokens[opening:group(tokens, opening)])
+    if named:
+        tokens[opening] = Token('put', '{\n    let rt = HostRuntime;', tokens[opening].at)
+    put(tokens, first, last, '()')
+
+
+def last_arm(tokens, at):
+    """Gives a `match` with arms for the variants of an open type its last arm."""
+    opening = next(i for i in range(at, len(tokens)) if tokens[i].text == '{')
+    last = group(tokens, opening)
+    margin = tokens[last - 1].text.rpartition('\n')[2] if tokens[last - 1].kind == 'space' else ''
+    depth, pattern, wanted, caught = 0, True, False, False
+    words = [t for t in tokens[opening + 1:last] if t.kind not in ('space', 'comment', 'doc')]
+    for i, token in enumerate(words):
+        if token.text == '=>' and not depth:
+            pattern = False
+        elif not pattern and not depth and (token.text == ',' or words[i - 1].text == '}'):
+            pattern = True
+        if pattern and token.text in OPEN and words[i + 1].text == '::':
+            wanted = True
+        if pattern and not depth and token.text == '_' and words[i + 1].text == '=>':
+            caught = True
+        depth += (token.text in '([{') - (token.text in ')]}')
+    if wanted and not caught:
+        tokens.insert(last, Token('put', f'    _ => unreachable!(),\n{margin}', tokens[last].at))
+
+
+def lay_out(tokens):
+    """The text of the file. What was removed leaves no empty line, and a `{` goes up to its signature."""
+    for at, token in enumerate(tokens):
+        if token.kind in ('clause', 'ghost'):
+            # the comments and docs that stand right before it are said of it
+            back = at - 1
+            while tokens[back].kind in ('comment', 'doc') or tokens[back].kind == 'space' and tokens[back].text.count('\n') < 2:
+                if tokens[back].text.startswith('//!'):
+                    break
+                if tokens[back].kind != 'space':
+                    tokens[back] = Token('gone', '', tokens[back].at)
+                back -= 1
+            token.kind, token.text = 'gone', ''
+    out, at = [], 0
+    while at < len(tokens):
+        run = at
+        while run < len(tokens) and tokens[run].kind in ('gone', 'space'):
+            run += 1
+        if all(t.kind == 'space' for t in tokens[at:run]):
+            out += [t.text for t in tokens[at:run + 1]]
+            at = run + 1
+            continue
+        following = tokens[run].text if run < len(tokens) else ''
+        spaces = [t.text for t in tokens[at:run] if t.kind == 'space']
+        margin = spaces[-1].rpartition('\n')[2] if spaces else ''
+        text = ''.join(out)
+        if following == '{':
+            where = re.search(r'\bwhere\b', text[text.rindex('fn '):])
+            out.append('\n' + margin if where else ' ')
+        elif following == '':
+            out.append('\n')
+        elif following != ';' and text:
+            blank = any(s.count('\n') > 1 for s in spaces) and text[-1] != '{' and following != '}'
+            out.append('\n' * (1 + blank) + margin)
+        at = run
+    return ''.join(out)
+
+
+def declared(words, files):
+    """The names that the crates declare behind these words."""
+    return {name for text in files for name in re.findall(rf'\b(?:{words}) ([A-Za-z_0-9]+)', text)}
+
+
+def solid_tokens(text):
+    return [t for t in scan(text) if t.kind not in ('space', 'comment', 'doc', 'string', 'char')]
+
+
+def head_of(words):
+    """The name of a type, without its borrow, its path and its parameters."""
+    names = [w for w in words if w not in ('&', 'mut', '(', 'Self') and not w.startswith("'")]
+    if 'Self' in words and (not names or words.index('Self') <= words.index(names[0])):
+        return 'Self'
+    at = 0
+    while names[at + 1:at + 2] == ['::']:
+        at += 2
+    return names[at] if names else ''
+
+
+def split_commas(words):
+    """The parts between commas that stand in no bracket."""
+    parts, depth = [[]], 0
+    for word in words:
+        depth += (word in '([{<') - (word in ')]}>')
+        if word == ',' and not depth:
+            parts.append([])
+        else:
+            parts[-1].append(word)
+    return [part for part in parts if part]
+
+
+class Types:
+    """What the sources say of the types of their own: the fields, the methods, and what these return, each by its head."""
+
+    def __init__(self, files):
+        self.fields, self.methods = {}, {}
+        for text in files:
+            for _, kind, name, words in items(text):
+                if kind == 'struct':
+                    for part in split_commas(words):
+                        part = part[part.index('pub') + 1:] if 'pub' in part[:1] else part
+                        part = part[3:] if part[:1] == ['('] else part
+                        if part[1:2] == [':']:
+                            self.fields[name, part[0]] = head_of(part[2:])
+                elif kind == 'fn':
+                    owner, method = name
+                    returned = words[words.index('->') + 1:] if '->' in words else []
+                    head = owner if head_of(returned) == 'Self' else head_of(returned)
+                    # two free functions of one name are known where both return the same
+                    self.methods[owner, method] = head if self.methods.get((owner, method), head) == head else ''
+
+
+def items(text):
+    """The structs and functions of a file: the place, the kind, the name, and the words of the fields or of the signature. The
+    name of a function has that of the type or trait that it stands in, or none."""
+    words = [t.text for t in solid_tokens(text)]
+    owners, depth, at = [], 0, 0
+    while at < len(words):
+        word = words[at]
+        if word in ('impl', 'trait') and (at == 0 or words[at - 1] in ('}', ';', ']', 'pub', ')') or word == 'trait'):
+            end = words.index('{', at)
+            head = words[at + 1:end]
+            if word == 'impl' and head[:1] == ['<']:
+                level = 0
+                for i, w in enumerate(head):
+                    level += (w == '<') - (w == '>')
+                    if not level:
+                        head = head[i + 1:]
+                        break
+            if 'for' in head:
+                head = head[head.index('for') + 1:]
+            owners.append((depth, head_of(head)))
+        elif word == 'struct' and words[at + 2] in ('{', '<'):
+            start = words.index('{', at)
+            yield at, 'struct', words[at + 1], words[start + 1:close(words, start)]
+        elif word == 'fn':
+            end = close(words, words.index('(', at))
+            while words[end] not in ('{', ';'):
+                end = close(words, end) if words[end] in '([' else end
+                end += 1
+            signature = words[at + 2:end]
+            yield at, 'fn', (owners[-1][1] if owners else '', words[at + 1]), signature
+        depth += (word == '{') - (word == '}')
+        if word == '}' and owners and owners[-1][0] == depth:
+            owners.pop()
+        at += 1
+
+
+def close(words, at):
+    depth = 0
+    for i in range(at, len(words)):
+        depth += (words[i] in '([{') - (words[i] in ')]}')
+        if not depth:
+            return i
+    raise Refused('a bracket does not end')
+
+
+def parameters(signature):
+    """The parameters of a signature and the heads of their types."""
+    start = signature.index('(')
+    found = {}
+    for part in split_commas(signature[start + 1:close(signature, start)]):
+        part = part[1:] if part[0] == 'mut' else part
+        if part[1:2] == [':']:
+            found[part[0]] = head_of(part[2:])
+    return found
+
+
+def receivers(text, types):
+    """Refuses a method with the name of one of `core` whose receiver is not known to be of a type of the crate's that has it."""
+    words = [t.text for t in solid_tokens(text)]
+    own = {method for _, method in types.methods}
+    known, owner = {}, ''
+    functions = {at: (name, signature) for at, kind, name, signature in items(text) if kind == 'fn'}
+    for at, word in enumerate(words):
+        if at in functions:
+            (owner, _), signature = functions[at]
+            known = {name: owner if head == 'Self' else head for name, head in parameters(signature).items()}
+            known['self'] = owner
+        if word == 'let':
+            name = words[at + 2] if words[at + 1] == 'mut' else words[at + 1]
+            start = at + 2 + (words[at + 1] == 'mut')
+            known.pop(name, None)
+            if words[start] == '=':
+                value = words[start + 1:start + 6]
+                if value[1:2] == ['::'] and (value[0], value[2]) in types.methods:
+                    known[name] = types.methods[value[0], value[2]]
+                elif '(' in words[start + 1:start + 9]:
+                    path = words[start + 1:start + 1 + words[start + 1:start + 9].index('(')]
+                    if path[-2:-1] == ['.']:
+                        known[name] = types.methods.get((type_of(path[:-2], known, types), path[-1]), '')
+        if word == '.' and words[at + 2] == '(' and words[at + 1] in own & CORE_METHODS:
+            path, back = [], at - 1
+            while re.fullmatch(r'[a-z_][a-z_0-9]*', words[back]):
+                path.insert(0, words[back])
+                if words[back - 1] != '.':
+                    break
+                path.insert(0, '.')
+                back -= 2
+            here = type_of(path, known, types) or made_by(words, at - 1, types)
+            if (here, words[at + 1]) not in types.methods and words[at + 1] not in STD_METHODS:
+                raise Refused(f'the method {words[at + 1]}, which is one of `core` too, on {"".join(path) or "what is not known"}')
+
+
+def made_by(words, at, types):
+    """The head of the type that a call of `TYPE::NAME(..)` or `TYPE::<..>::NAME(..)` gives, where its `)` stands here."""
+    depth, start = 0, at
+    while start >= 0:
+        depth += (words[start] in ')') - (words[start] in '(')
+        if not depth:
+            break
+        start -= 1
+    if words[at] != ')' or not re.fullmatch(r'[a-z_][a-z_0-9]*', words[start - 1]):
+        return ''
+    if words[start - 2] not in ('::', '.'):
+        return types.methods.get(('', words[start - 1]), '')
+    if words[start - 2] == '.':
+        return ''
+    name, back = words[start - 1], start - 3
+    if words[back] == '>':
+        back = max(i for i in range(back) if words[i] == '<') - 2
+    return types.methods.get((words[back], name), '')
+
+
+def type_of(path, known, types):
+    """The head of the type of a variable and its fields."""
+    if not path:
+        return ''
+    found = known.get(path[0], '')
+    for field in path[2::2]:
+        found = types.fields.get((found, field), '')
+    return found
+
+
+def allowed(text, functions, types, crate):
+    """Refuses what is not known in a file as it would be written."""
+    refused, macros = (TEST_REFUSED, TEST_MACROS) if crate.tests else (REFUSED, MACROS)
+    tokens = solid_tokens(text)
+    words = [t.text for t in tokens] + [''] * 8
+    for i, (token, word) in enumerate(zip(tokens, words)):
+        if token.kind in ('clause', 'ghost'):
+            raise Refused('something ghost stayed')
+        if token.kind != 'word':
+            continue
+        before, after = words[i - 1] if i else '', words[i + 1]
+        if word in refused and words[i:i + 2] != ['extern', 'crate']:
+            raise Refused(f'the word {word}')
+        if word == 'Formatter' and words[i + 1:i + 4] != ['<', "'_", '>']:
+            raise Refused('a Formatter that rule 1 does not have')
+        if word == 'static' and after == 'mut':
+            raise Refused('a static that changes')
+        if after == '!' and words[i + 2] in '([{' and word not in macros:
+            raise Refused(f'the macro {word}')
+        if crate.tests:
+            continue
+        if word == 'size_of' and words[i - 2:i] != ['!', '(']:
+            raise Refused('a size outside a prove!, where Rust has another one')
+        in_attribute = before == '[' and words[i - 2] in '#!'
+        if after == '(' and not in_attribute and before not in ('.', '::', 'fn', 'pub') and not word[0].isupper() and word not in functions | KEYWORDS | CALLED:
+            raise Refused(f'the call {word}')
+        if before == '.' and after == '(' and word not in functions | STD_METHODS:
+            raise Refused(f'the method {word}')
+        if word == 'std' and after == '::':
+            path = word
+            while words[i + 1] == '::':
+                path, i = f'{path}::{words[i + 2]}', i + 2
+            if path.endswith('::{'):
+                path += ''.join(words[i + 1:words.index('}', i) + 1])
+            if path not in STD_PATHS:
+                raise Refused(f'the path {path}')
+        elif after == '::' and before != '::' and word not in types | OWN_PATHS:
+            path = word
+            while words[i + 1] == '::':
+                path, i = f'{path}::{words[i + 2]}', i + 2
+            if words[i + 1] == '(' and path not in STD_CALLS:
+                raise Refused(f'the call {path}')
+
+
+def sources(crate):
+    """The sources of a crate, by the names of their modules."""
+    found = {}
+    top = os.path.join(TOP, crate.source)
+    for folder, _, names in os.walk(top):
+        for name in names:
+            path = os.path.relpath(os.path.join(folder, name), top)
+            if not path.endswith('.rt'):
+                raise SystemExit(f'to_rust.py: {crate.source}/{path}: no source')
+            if path[:-3] not in crate.omitted:
+                with open(os.path.join(folder, name), encoding='utf-8') as file:
+                    found[path[:-3]] = file.read()
+    return found
+
+
+def written(crate, module, text):
+    """What a source is in Rust."""
+    tokens = scan(text)
+    rewrite(tokens, module, crate)
+    return lay_out(tokens)
+
+
+def headed(crate, module, plain):
+    """A file with the head and the end of its crate where it is the root."""
+    if crate.tests:
+        head = re.match(r'(?://![^\n]*\n)*', plain)
+        return head[0] + TEST_USE + plain[head.end():]
+    if module != crate.root or not crate.ends[0]:
+        return plain
+    plain = ''.join(line for line in plain.splitlines(True) if not any(f'[`{m}`]' in line for m in crate.omitted))
+    head = re.match(r'(?://![^\n]*\n)*', plain)
+    return head[0] + '\n' + crate.ends[0] + plain[head.end():] + crate.ends[1]
+
+
+def made():
+    """The files of all crates, by their names."""
+    out, texts, added = {}, [], 0
+    for crate in CRATES:
+        if not os.path.isdir(os.path.join(TOP, crate.source)):
+            continue
+        for module, text in sorted(sources(crate).items()):
+            try:
+                out[crate, module] = written(crate, module, text)
+            except Refused as why:
+                raise SystemExit(f'to_rust.py: {crate.source}/{module}.rt: {why}')
+            if not crate.tests:
+                texts.append(out[crate, module])
+                added += sum(out[crate, module].count(a) for a in set(ADDED.values()))
+    functions, names = declared('fn', texts), declared('struct|enum|trait|mod|type', texts)
+    types = Types(texts)
+    for (crate, module), plain in out.items():
+        try:
+            allowed(plain, functions, names, crate)
+            if not crate.tests:
+                receivers(plain, types)
+        except Refused as why:
+            raise SystemExit(f'to_rust.py: {crate.source}/{module}.rt: {why}')
+    if added != len(ADDED):
+        raise SystemExit(f'to_rust.py: {added} of {len(ADDED)} types of ADDED were found')
+    return {f'{crate.target}/{module}.rs': MADE.format(f'{crate.source}/{module}.rt') + headed(crate, module, plain) for (crate, module), plain in out.items()}
+
+
+def main():
+    if sys.argv[1:] not in ([], ['--check']):
+        raise SystemExit(__doc__)
+    files = made()
+    there = set()
+    for target in {crate.target for crate in CRATES}:
+        for folder, _, names in os.walk(os.path.join(TOP, target)):
+            there |= {os.path.relpath(os.path.join(folder, name), TOP) for name in names}
+    there -= WRITTEN_BY_HAND
+    if not sys.argv[1:]:
+        for path, text in files.items():
+            os.makedirs(os.path.dirname(os.path.join(TOP, path)), exist_ok=True)
+            with open(os.path.join(TOP, path), 'w', encoding='utf-8') as file:
+                file.write(text)
+        for path in there - set(files):
+            os.remove(os.path.join(TOP, path))
+        return
+    wrong = sorted(there - set(files))
+    for path, text in files.items():
+        if path not in there or open(os.path.join(TOP, path), encoding='utf-8').read() != text:
+            wrong.append(path)
+    for path in wrong:
+        print(f'{path} is not what tools/to_rust.py makes')
+    sys.exit(bool(wrong))
+
+
+if __name__ == '__main__':
+    main()
