@@ -121,12 +121,12 @@ def drop_tactics(words):
     return out
 
 
-def as_rust(words):
+def as_rust(words, kept):
     words = drop_tactics(without_ghosts(words))
     out, at = [], 0
     while at < len(words):
         for old in REMOVED:
-            if words[at:at + len(old)] == old:
+            if old not in kept and words[at:at + len(old)] == old:
                 at += len(old)
                 break
         else:
@@ -141,9 +141,9 @@ def as_rust(words):
     return out
 
 
-def difference(source, made):
-    """The first place where what was made has other tokens than the source, but for those that may be added."""
-    wanted, found = as_rust(tokens_of(source)), tokens_of(made)
+def difference(source, made, kept=()):
+    """The first place where what was made has other tokens than the source, but for those that may be added. Phrases that are kept here are else removed."""
+    wanted, found = as_rust(tokens_of(source), kept), tokens_of(made)
     i = j = 0
     while j < len(found):
         if i < len(wanted) and wanted[i] == found[j]:
@@ -263,6 +263,7 @@ class SameTokens(unittest.TestCase):
     def test_every_file(self):
         compared = 0
         for source, target in PAIRS:
+            kept = [phrase('mod laws;')] if source == 'crates/ixdtf_print/src' else []
             for folder, _, names in os.walk(os.path.join(TOP, source)):
                 for name in names:
                     path = os.path.relpath(os.path.join(folder, name), os.path.join(TOP, source))[:-3]
@@ -272,7 +273,7 @@ class SameTokens(unittest.TestCase):
                     with open(os.path.join(folder, name), encoding='utf-8') as file:
                         text = file.read()
                     with open(made, encoding='utf-8') as file:
-                        self.assertEqual(difference(text, file.read()), '', f'{source}/{path}.rt')
+                        self.assertEqual(difference(text, file.read(), kept), '', f'{source}/{path}.rt')
                     compared += 1
         self.assertGreater(compared, 50)
 

@@ -1,6 +1,6 @@
 -- The answer to a line with a space, and what a reader makes of its text.
 use Rattle.std.proofs.Common.{◌≡◌, ℕ, ◌+◌, ◌-◌, ◌≤◌, Bool, List, length, take, drop, Option, Some, MatchOption, position, inl, inr, refl, sym, subst}
-use Rattle.std.proofs.Common.{arith}
+use Rattle.std.proofs.Common.{ap, arith, codes, ◌++◌}
 use Rattle.std.proofs.lemmas.Bool.{le-ltb}
 use Rattle.std.proofs.lemmas.List.{take_all, length-drop}
 use Rattle.std.specs.Bool.{MatchBool}
@@ -8,7 +8,7 @@ use Rattle.ixdtf.specs.declared.parsers.profile.Profile.{Profile}
 use Rattle.ixdtf.specs.table.Faults.{Fault}
 use Rattle.ixdtf.specs.language.Languages.{Found}
 use Rattle.ixdtf.specs.language.Readers.{Reader}
-use Rattle.ixdtf_lines.specs.Answer.{line_limit, too_long, unknown_reader, is_space, letters, error_answer_of, Gives, Refuses, IsAnswer}
+use Rattle.ixdtf_lines.specs.Answer.{line_limit, too_long, unknown_reader, is_space, letters, shown_of, error_answer_of, Gives, Refuses, IsAnswer}
 use Rattle.ixdtf_lines.specs.Answer.{IsReaderAnswer, IsOutcome}
 use Rattle.ixdtf_lines.specs.Word.{name_of, reader_of}
 use Rattle.ixdtf_lines.specs.declared.word.Word.{Word}
@@ -27,7 +27,7 @@ IsAnswer-word line answer place short at is =
     (subst (λ o. MatchOption o (answer ≡ unknown_reader) (λ p. IsReaderAnswer (take p line) (drop (p + 1) line) answer)) at
     (subst (λ t. IsReaderAnswer (take place line) t answer) all is))
 
-pub IsReaderAnswer-word : (name text answer : List ℕ) (word : Word) → name ≡ name_of word → IsOutcome (reader_of word) text answer
+pub IsReaderAnswer-word : (name text answer : List ℕ) (word : Word) → name ≡ name_of word → IsOutcome word text answer
     → IsReaderAnswer name text answer
 IsReaderAnswer-word name text answer word is outcome = inl (word, is, outcome)
 
@@ -51,5 +51,10 @@ pub Refuses-under : (reader : Profile → Reader) (own wanted : Profile) (text r
 Refuses-under reader own wanted text rest fault same_profile same has =
     subst (λ p. Refuses (reader p) (letters text) fault) same_profile (Refuses-text (reader own) text rest fault same has)
 
-pub IsOutcome-error : (reader : Reader) (text : List ℕ) (fault : Fault) → Refuses reader (letters text) fault → IsOutcome reader text (error_answer_of fault)
-IsOutcome-error reader text fault has = inr (fault, has, refl)
+pub IsOutcome-ok : (word : Word) (text : List ℕ) (found : Found) (shown : List ℕ) → Gives (reader_of word) (letters text) found
+    → shown ≡ shown_of word found → IsOutcome word text (codes "ok" ++ shown)
+IsOutcome-ok word text found shown has same = inl (found, has, ap (λ (t : List ℕ). codes "ok" ++ t) same)
+
+pub IsOutcome-error : (word : Word) (text : List ℕ) (fault : Fault) → Refuses (reader_of word) (letters text) fault
+    → IsOutcome word text (error_answer_of fault)
+IsOutcome-error word text fault has = inr (fault, has, refl)

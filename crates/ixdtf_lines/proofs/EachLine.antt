@@ -19,7 +19,7 @@ use Rattle.ixdtf_lines.specs.Run.{AreAnswers}
 use Rattle.ixdtf_lines.specs.Word.{name_of, reader_of, IsNoWord}
 use Rattle.ixdtf_lines.specs.declared.word.Word.{Word}
 use Rattle.ixdtf_lines.specs.declared.word.Word.TheVariants.{Parse, YearMonth, MonthDay, Time, Offset, Zone, Iana, Duration, StrictMonthDay, StrictTime}
-use Rattle.ixdtf_lines.specs.declared.word.Word.TheVariants.{StrictDuration}
+use Rattle.ixdtf_lines.specs.declared.word.Word.TheVariants.{StrictDuration, Canonical}
 
 -- ---- each text has an outcome
 
@@ -38,9 +38,9 @@ each_outcome reader text = let outcome = unhandled_outcome reader text in of_pla
 
 -- ---- each line has an answer
 
-outcome_answer : (reader : Reader) (text : List ℕ) → (answer : List ℕ) × IsOutcome reader text answer
-outcome_answer reader text = elim (each_outcome reader (letters text)) [
-  | inl p ↦ (ok_answer_of p.0, inl (p.0, p.1, refl))
+outcome_answer : (word : Word) (text : List ℕ) → (answer : List ℕ) × IsOutcome word text answer
+outcome_answer word text = elim (each_outcome (reader_of word) (letters text)) [
+  | inl p ↦ (ok_answer_of word p.0, inl (p.0, p.1, refl))
   | inr p ↦ (error_answer_of p.0, inr (p.0, p.1, refl))
 ]
 
@@ -57,10 +57,10 @@ word_among name (word ∷ words) = elim (same_bytes name (name_of word)) [
 ]
 
 abbrev all_words : List Word
-all_words = Parse ∷ YearMonth ∷ MonthDay ∷ Time ∷ Offset ∷ Zone ∷ Iana ∷ Duration ∷ StrictMonthDay ∷ StrictTime ∷ StrictDuration ∷ []
+all_words = Parse ∷ YearMonth ∷ MonthDay ∷ Time ∷ Offset ∷ Zone ∷ Iana ∷ Duration ∷ StrictMonthDay ∷ StrictTime ∷ StrictDuration ∷ Canonical ∷ []
 
 no_word : (name : List ℕ) → NoneOf name all_words → IsNoWord name
-no_word name (a, (b, (c, (d, (e, (f, (g, (h, (i, (j, (k, end))))))))))) = elim [
+no_word name (a, (b, (c, (d, (e, (f, (g, (h, (i, (j, (k, (l, end)))))))))))) = elim [
   | Parse ↦ a
   | YearMonth ↦ b
   | MonthDay ↦ c
@@ -72,6 +72,7 @@ no_word name (a, (b, (c, (d, (e, (f, (g, (h, (i, (j, (k, end))))))))))) = elim [
   | StrictMonthDay ↦ i
   | StrictTime ↦ j
   | StrictDuration ↦ k
+  | Canonical ↦ l
 ]
 
 word_or_none : (name : List ℕ) → ((word : Word) × (name ≡ name_of word)) ⊎ IsNoWord name
@@ -79,7 +80,7 @@ word_or_none name = elim (word_among name all_words) [ inl p ↦ inl p | inr non
 
 reader_answer : (name text : List ℕ) → (answer : List ℕ) × IsReaderAnswer name text answer
 reader_answer name text = elim (word_or_none name) [
-  | inl p ↦ (let answer = outcome_answer (reader_of p.0) text in (answer.0, inl (p.0, p.1, answer.1)))
+  | inl p ↦ (let answer = outcome_answer p.0 text in (answer.0, inl (p.0, p.1, answer.1)))
   | inr none ↦ (unknown_reader, inr (none, refl))
 ]
 

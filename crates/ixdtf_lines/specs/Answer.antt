@@ -10,9 +10,11 @@ use Rattle.ixdtf.specs.language.Languages.Found.{parsed, shifted, identified, na
 use Rattle.ixdtf.specs.language.Letters.{Text, byte_letter}
 use Rattle.ixdtf.specs.language.Readers.{Reader}
 use Rattle.ixdtf.specs.language.Readers.Reader.{bracketed, parse_offset, parse_identifier, parse_iana_identifier, parse_duration}
-use Rattle.ixdtf_lines.specs.Fields.{fields_of}
+use Rattle.ixdtf_lines.specs.Fields.{fields_of, canonical_field_of}
 use Rattle.ixdtf_lines.specs.Word.{name_of, reader_of, IsNoWord}
 use Rattle.ixdtf_lines.specs.declared.word.Word.{Word}
+use Rattle.ixdtf_lines.specs.declared.word.Word.TheVariants.{Parse, YearMonth, MonthDay, Time, Offset, Zone, Iana, Duration, StrictMonthDay, StrictTime}
+use Rattle.ixdtf_lines.specs.declared.word.Word.TheVariants.{StrictDuration, Canonical}
 
 -- the longest line that is read
 abbrev pub line_limit : ℕ
@@ -31,9 +33,24 @@ is_space byte = byte == 32
 abbrev pub letters : List ℕ → Text
 letters bytes = map byte_letter bytes
 
+-- what is shown of what the reader of a word gives: its fields, and for `canonical` the canonical text
+abbrev pub shown_of : Word → Found → List ℕ
+shown_of Parse found = fields_of found
+shown_of YearMonth found = fields_of found
+shown_of MonthDay found = fields_of found
+shown_of Time found = fields_of found
+shown_of Offset found = fields_of found
+shown_of Zone found = fields_of found
+shown_of Iana found = fields_of found
+shown_of Duration found = fields_of found
+shown_of StrictMonthDay found = fields_of found
+shown_of StrictTime found = fields_of found
+shown_of StrictDuration found = fields_of found
+shown_of Canonical found = canonical_field_of found
+
 -- the answer to a text that is read
-abbrev pub ok_answer_of : Found → List ℕ
-ok_answer_of found = codes "ok" ++ fields_of found
+abbrev pub ok_answer_of : Word → Found → List ℕ
+ok_answer_of word found = codes "ok" ++ shown_of word found
 
 -- the answer to a text that is refused
 abbrev pub error_answer_of : Fault → List ℕ
@@ -61,16 +78,16 @@ Refuses parse_identifier text fault = HasFault parse_identifier text [] fault
 Refuses parse_iana_identifier text fault = HasFault parse_iana_identifier text [] fault
 Refuses (parse_duration profile) text fault = HasFault (parse_duration profile) text [] fault
 
--- the answer of a reader, to which the text gives a value, or which refuses the text
-abbrev pub IsOutcome : Reader → List ℕ → List ℕ → Type 0
-IsOutcome reader text answer =
-    ((found : Found) × Gives reader (letters text) found × (answer ≡ ok_answer_of found))
-    ⊎ ((fault : Fault) × Refuses reader (letters text) fault × (answer ≡ error_answer_of fault))
+-- the answer of the word's reader, to which the text gives a value, or which refuses the text
+abbrev pub IsOutcome : Word → List ℕ → List ℕ → Type 0
+IsOutcome word text answer =
+    ((found : Found) × Gives (reader_of word) (letters text) found × (answer ≡ ok_answer_of word found))
+    ⊎ ((fault : Fault) × Refuses (reader_of word) (letters text) fault × (answer ≡ error_answer_of fault))
 
 -- the answer of the reader that the name names, where there is one
 abbrev pub IsReaderAnswer : List ℕ → List ℕ → List ℕ → Type 0
 IsReaderAnswer name text answer =
-    ((word : Word) × (name ≡ name_of word) × IsOutcome (reader_of word) text answer)
+    ((word : Word) × (name ≡ name_of word) × IsOutcome word text answer)
     ⊎ (IsNoWord name × (answer ≡ unknown_reader))
 
 -- the answer to a line

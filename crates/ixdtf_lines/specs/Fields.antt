@@ -22,6 +22,7 @@ use Rattle.ixdtf.specs.language.Letters.{Letter}
 use Rattle.ixdtf.specs.language.Letters.Letter.{Plain, Bad}
 use Rattle.ixdtf.specs.language.Languages.{Parsed, Found}
 use Rattle.ixdtf.specs.language.Languages.Found.{parsed, shifted, identified, named, lasting}
+use Rattle.ixdtf_print.specs.Canonical.{canonical_text}
 use Rattle.ixdtf.specs.language.ZoneNames.{Zone}
 use Rattle.ixdtf.specs.language.ZoneNames.Zone.{Name, Offset}
 
@@ -183,3 +184,11 @@ fields_of (shifted offset) = offset_text_of offset
 fields_of (identified zone) = zone_text_of false zone
 fields_of (named name) = zone_text_of false (Name name)
 fields_of (lasting duration) = duration_text_of duration
+
+-- a space, and the bytes of the canonical text of a record; nothing else has one
+abbrev pub canonical_field_of : Found → List ℕ
+canonical_field_of (parsed found) = codes " " ++ map byte_of (canonical_text found)
+canonical_field_of (shifted offset) = []
+canonical_field_of (identified zone) = []
+canonical_field_of (named name) = []
+canonical_field_of (lasting duration) = []

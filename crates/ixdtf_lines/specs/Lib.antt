@@ -5,6 +5,7 @@ pub mod Found
 pub mod Line
 pub mod Lines
 pub mod Output
+pub mod Printed
 pub mod Progress
 pub mod Run
 pub mod Word

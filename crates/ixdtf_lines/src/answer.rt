@@ -1,10 +1,10 @@
 //! The answer to a line.
-ghost use Rattle.std.specs.Prelude.{◌≡◌, ℕ, List, [], ◌∷◌, ◌++◌, ◌≤◌, length, position};
+ghost use Rattle.std.specs.Prelude.{◌≡◌, ℕ, List, [], ◌∷◌, ◌++◌, ◌≤◌, length, position, codes};
 ghost use Rattle.ixdtf.specs.table.ErrorTexts.{message_of};
 ghost use Rattle.ixdtf.specs.table.Faults.{fault_of};
-ghost use Rattle.ixdtf_lines.specs.Answer.{IsAnswer, is_space, ok_answer_of, error_answer_of};
+ghost use Rattle.ixdtf_lines.specs.Answer.{IsAnswer, is_space, error_answer_of};
 ghost use Rattle.ixdtf_lines.specs.AnswerText.{answer_text_of};
-ghost use Rattle.ixdtf_lines.specs.Found.{found_of};
+ghost use Rattle.ixdtf_lines.specs.Found.{shown_in};
 ghost use Rattle.ixdtf_lines.specs.Line.{Holds};
 ghost use Rattle.ixdtf_lines.specs.Lines.{newline};
 ghost use Rattle.ixdtf_lines.specs.Output.{Puts};
@@ -81,7 +81,7 @@ impl<W: Write> Output<'_, W> {
     /// Puts the answer to a text that is read, and a newline.
     fn put_found(&mut self, found: &Found<'_>) -> Result<(), RunError>
         ensures { Puts W.contents self.old self.new result
-            (ok_answer_of (found_of found.now) ++ newline ∷ []) }
+            (codes "ok" ++ shown_in found.now ++ newline ∷ []) }
     {
         self.put(b"ok")?;
         self.put_fields(found)?;

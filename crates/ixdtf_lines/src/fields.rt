@@ -1,31 +1,39 @@
 //! The fields of what a reader found.
 ghost use Rattle.std.specs.Prelude.{◌≡◌, ◌++◌, codes, map, option_map};
 ghost use Rattle.ixdtf.specs.Views.{parsed_of, note_of, zone_of};
-ghost use Rattle.ixdtf_lines.specs.Fields.{fields_of, record_fields_of, date_field_of, time_field_of, clock_text_of};
+ghost use Rattle.ixdtf.specs.language.Languages.Found.{parsed};
+ghost use Rattle.ixdtf_print.specs.Printable.{record_of};
+ghost use Rattle.ixdtf_lines.specs.Fields.{canonical_field_of, record_fields_of, date_field_of};
+ghost use Rattle.ixdtf_lines.specs.Fields.{time_field_of, clock_text_of};
 ghost use Rattle.ixdtf_lines.specs.Fields.{fraction_text_of, sign_text_of, minute_offset_text_of, second_text_of};
 ghost use Rattle.ixdtf_lines.specs.Fields.{full_offset_text_of, offset_text_of, offset_field_of};
 ghost use Rattle.ixdtf_lines.specs.Fields.{zone_label_of, zone_text_of, zone_field_of, calendar_field_of};
 ghost use Rattle.ixdtf_lines.specs.Fields.{sign_field_of, date_duration_field_of, time_numbers_of, last_fraction_of};
 ghost use Rattle.ixdtf_lines.specs.Fields.{time_duration_text_of, time_duration_field_of, duration_text_of};
-ghost use Rattle.ixdtf_lines.specs.Found.{found_of};
+ghost use Rattle.ixdtf_lines.specs.Found.{shown_in};
 ghost use Rattle.ixdtf_lines.specs.Output.{Puts};
 
 use crate::error::RunError;
 use crate::found::Found;
 use crate::number::{Decimal, nine_digits, sign_of};
 use crate::output::Output;
+use crate::printed::PrintedRecord;
 use ixdtf::encoding::Utf8;
 use ixdtf::records::{
     DateDurationRecord, DateRecord, DurationParseRecord, Fraction, FullPrecisionOffset,
     IxdtfParseRecord, MinutePrecisionOffset, Sign, TimeDurationRecord, TimeRecord,
     TimeZoneAnnotation, TimeZoneRecord, UtcOffsetRecord, UtcOffsetRecordOrZ,
 };
+use ixdtf_print::print;
 use std::io::Write;
+
+/// How many bytes the canonical text of a record that was read from a line has at most, and some more.
+const MOST_BYTES: usize = 4352;
 
 impl<W: Write> Output<'_, W> {
     /// Puts each field of what a reader found, after a space.
     pub fn put_fields(&mut self, found: &Found<'_>) -> Result<(), RunError>
-        ensures { Puts W.contents self.old self.new result (fields_of (found_of found.now)) }
+        ensures { Puts W.contents self.old self.new result (shown_in found.now) }
     {
         match found {
             Found::Record(parts) => self.put_record(parts),
@@ -33,6 +41,19 @@ impl<W: Write> Output<'_, W> {
             Found::Zone(zone) => self.put_zone(false, zone),
             Found::Name(name) => self.put_zone(false, &TimeZoneRecord::Name(name)),
             Found::Duration(duration) => self.put_duration(*duration),
+            Found::Canonical(printed) => self.put_canonical(printed),
+        }
+    }
+
+    /// Puts a space and the canonical text of the record.
+    fn put_canonical(&mut self, printed: &PrintedRecord<'_>) -> Result<(), RunError>
+        ensures { Puts W.contents self.old self.new result
+            (canonical_field_of (parsed (record_of printed.now.parts))) }
+    {
+        let mut text = [0; MOST_BYTES];
+        match print(&printed.parts, &mut text) {
+            Ok(count) => self.put_all(&[b" ".as_slice(), &text[..count]]),
+            Err(_) => unreachable!(),
         }
     }
 

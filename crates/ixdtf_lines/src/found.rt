@@ -1,15 +1,18 @@
 //! What the readers find.
-ghost use Rattle.std.specs.Prelude.{◌≡◌, IfOk, IfErr};
+ghost use Rattle.std.specs.Prelude.{◌≡◌, ◌≤◌, length, IfOk, IfErr};
+ghost use Rattle.ixdtf.specs.language.Readers.{parse};
 ghost use Rattle.ixdtf.specs.table.Faults.{fault_of};
-ghost use Rattle.ixdtf_lines.specs.Answer.{letters, Gives, Refuses};
-ghost use Rattle.ixdtf_lines.specs.Found.{found_of};
+ghost use Rattle.ixdtf_lines.specs.Answer.{letters, shown_of, Gives, Refuses};
+ghost use Rattle.ixdtf_lines.specs.Found.{found_of, shown_in};
 ghost use Rattle.ixdtf_lines.specs.Word.{reader_of};
 
+use crate::printed::PrintedRecord;
 use crate::word::Word;
 use ixdtf::ParserResult;
 use ixdtf::encoding::Utf8;
 use ixdtf::parsers::{IsoDurationParser, IxdtfParser, Profile, TimeZoneParser};
 use ixdtf::records::{DurationParseRecord, IxdtfParseRecord, TimeZoneRecord, UtcOffsetRecord};
+use ixdtf_print::canonical_fits;
 
 /// What a reader found in a text.
 #[derive(Drop)]
@@ -24,12 +27,16 @@ pub enum Found<'a> {
     Name(&'a [u8]),
     /// A duration.
     Duration(DurationParseRecord),
+    /// The parts of a text that are printed as their canonical text.
+    Canonical(PrintedRecord<'a>),
 }
 
 /// What the reader of the word finds in the text.
 pub fn read(word: Word, text: &[u8]) -> ParserResult<Found<'_>>
+    requires { length text.now ≤ 4096 }
     ensures ok { IfOk result (λ found.
         Gives (reader_of word) (letters text.now) (found_of found)) }
+    ensures shown { IfOk result (λ found. shown_in found ≡ shown_of word (found_of found)) }
     ensures err { IfErr result (λ error.
         Refuses (reader_of word) (letters text.now) (fault_of error)) }
 {
@@ -78,6 +85,22 @@ pub fn read(word: Word, text: &[u8]) -> ParserResult<Found<'_>>
             Ok(duration) => Ok(Found::Duration(duration)),
             Err(error) => Err(error),
         },
+        Word::Canonical => read_to_print(text),
+    }
+}
+
+/// What `parse` finds in the text, to be printed.
+fn read_to_print(text: &[u8]) -> ParserResult<Found<'_>>
+    requires { length text.now ≤ 4096 }
+    ensures ok { IfOk result (λ found. Gives parse (letters text.now) (found_of found)) }
+    ensures shown { IfOk result (λ found.
+        shown_in found ≡ shown_of Word.Canonical (found_of found)) }
+    ensures err { IfErr result (λ error. Refuses parse (letters text.now) (fault_of error)) }
+{
+    canonical_fits();
+    match IxdtfParser::from_utf8(text).parse() {
+        Ok(parts) => Ok(Found::Canonical(PrintedRecord { parts })),
+        Err(error) => Err(error),
     }
 }
 

@@ -9,6 +9,7 @@ mod found;
 mod line;
 mod number;
 mod output;
+mod printed;
 mod runner;
 #[cfg(test)]
 mod tests;
@@ -39,7 +40,8 @@ fn main(rt: HostRuntime) -> ExitCode {
 /// What a line of the input is, for whoever gave arguments in its place.
 const USAGE: &str =
     "usage: a line of standard input is a word, a space and a text, and the words are \
-    parse, year-month, month-day, time, offset, zone, iana, duration";
+    parse, year-month, month-day, time, offset, zone, iana, duration, strict-month-day, \
+    strict-time, strict-duration, canonical";
 
 fn refuse(rt: &impl Eprint) -> ExitCode {
     let _ = eprintln!(rt; "ixdtf_lines: takes no arguments");

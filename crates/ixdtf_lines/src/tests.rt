@@ -106,8 +106,8 @@ impl Write for FaultyWriter {
     }
 }
 
-/// Lines of four readers and of none, each with its answer.
-const LINES: [(&str, &str); 8] = [
+/// Lines of several words and of none, each with its answer.
+const LINES: [(&str, &str); 9] = [
     ("parse 20201108", "ok date=2020,11,8"),
     ("hello", "error unknown reader"),
     ("offset -05:00:30.5", "ok offset=-5,0,30.500000000"),
@@ -122,6 +122,10 @@ const LINES: [(&str, &str); 8] = [
     ),
     ("", "error unknown reader"),
     ("parse -000400-02-29", "ok date=-400,2,29"),
+    (
+        "canonical 20200101T00+00[+00]",
+        "ok 2020-01-01T00:00:00+00:00[+00:00]",
+    ),
 ];
 
 /// The lines of the stored run, each with its answer.
@@ -390,6 +394,95 @@ fn answers_strictly(rt: HostRuntime) -> Result<(), Fail> {
         rt.alloc(),
         b"strict-time 1200\nstrict-month-day 11-00\nstrict-duration P1Y2Y\nstrict-duration PT1S2S\nstrict-month-day 11-07\nstrict-duration P1Y2M\n",
         b"ok time=12,0,0\nerror MonthDay was not valid.\nerror Invalid date duration part order.\nerror Invalid time duration part order.\nok date=0,11,7\nok sign=+ date=1,2,0,0\n",
+    )
+}
+
+#[test]
+fn answers_canonical_texts(rt: HostRuntime) -> Result<(), Fail> {
+    check_answers(
+        &rt,
+        rt.alloc(),
+        &[
+            (
+                "canonical +002020-11-08T12[cet][!u-ca=iso8601][x=y]",
+                "ok 2020-11-08T12:00:00[cet][u-ca=iso8601]",
+            ),
+            (
+                "canonical 20200101T00+00[+00]",
+                "ok 2020-01-01T00:00:00+00:00[+00:00]",
+            ),
+            ("canonical -000001-01-01t00z", "ok -000001-01-01T00:00:00Z"),
+            (
+                "canonical 2020-13-01",
+                "error Parsed month value not in a valid range.",
+            ),
+            (
+                "canonical 2020-01-01[!a=b]",
+                "error Unrecognized annoation is marked as critical.",
+            ),
+            (
+                "canonical 2020-01-01T23:59:60,5-01:00:30.25[!-0530]",
+                "ok 2020-01-01T23:59:60.5-01:00:30.25[!-05:30]",
+            ),
+        ],
+    )
+}
+
+/// A line of 4,096 bytes, its text a first part, the byte again and again, and a last part, is answered by a canonical text
+/// with other such parts, and the byte between them as often, but at most so many times.
+fn check_longest(
+    rt: &impl Abort,
+    alloc: Global,
+    text: (&[u8], u8, &[u8]),
+    answer: (&[u8], usize, &[u8]),
+) -> Result<(), Fail> {
+    let (first, byte, last) = text;
+    let mut line = Vec::new(alloc);
+    line.extend_from_slice(b"canonical ")?;
+    line.extend_from_slice(first)?;
+    let mut answered = Vec::new(alloc);
+    answered.extend_from_slice(b"ok ")?;
+    answered.extend_from_slice(answer.0)?;
+    let count = 4096usize
+        .saturating_sub(line.len())
+        .saturating_sub(last.len());
+    for _ in 0..count {
+        line.push(byte)?;
+    }
+    for _ in 0..count.min(answer.1) {
+        answered.push(byte)?;
+    }
+    line.extend_from_slice(last)?;
+    answered.extend_from_slice(answer.2)?;
+    answered.push(b'\n')?;
+    assert_eq!(rt; line.len(), 4096);
+    check_run(rt, alloc, line.as_slice(), answered.as_slice())
+}
+
+#[test]
+fn answers_the_longest_canonical_texts(rt: HostRuntime) -> Result<(), Fail> {
+    check_longest(
+        &rt,
+        rt.alloc(),
+        (b"20200101[", b'a', b"]"),
+        (b"2020-01-01[", 4096, b"]"),
+    )?;
+    check_longest(
+        &rt,
+        rt.alloc(),
+        (b"20200101[u-ca=", b'a', b"]"),
+        (b"2020-01-01[u-ca=", 4096, b"]"),
+    )?;
+    // a fraction has at most 255 digits: these 18, and 237 zeros
+    check_longest(
+        &rt,
+        rt.alloc(),
+        (b"20200101t000000,123456789012345678", b'0', b"+00[+00]"),
+        (
+            b"2020-01-01T00:00:00.123456789012345678",
+            237,
+            b"+00:00[+00:00]",
+        ),
     )
 }
 
@@ -679,6 +772,23 @@ fn stops_at_a_write_that_fails(rt: HostRuntime) {
     let mut writer = FaultyWriter::new();
     writer.room = 5;
     check_writer(&rt, writer, Err(RunError::Write), b"ok da");
+}
+
+#[test]
+fn stops_at_whichever_write_fails(rt: HostRuntime) -> Result<(), Fail> {
+    let session = Session::new(rt.alloc(), &LINES)?;
+    let answers = session.answers.as_slice();
+    for room in 0..answers.len() {
+        let mut reader = session.lines.as_slice();
+        let mut writer = FaultyWriter::new();
+        writer.most = 1;
+        writer.room = room;
+        let outcome = run(&mut reader, &mut writer);
+        assert_eq!(rt; outcome, Err(RunError::Write));
+        assert_eq!(rt; writer.written().len(), room);
+        assert!(rt; answers.starts_with(writer.written()));
+    }
+    Ok(())
 }
 
 #[test]

@@ -1,4 +1,5 @@
 pub mod Canonical
+pub mod Laws
 pub mod Printable
 pub mod Puts
 pub mod Spelled

@@ -13,6 +13,7 @@ mod check;
 mod digits;
 mod error;
 mod fields;
+mod laws;
 mod length;
 mod put;
 
@@ -21,6 +22,7 @@ pub use error::PrintError;
 use fields::put_record;
 use ixdtf::encoding::Utf8;
 use ixdtf::records::IxdtfParseRecord;
+pub use laws::canonical_fits;
 use length::length_of;
 
 /// Writes the canonical text of the record into the front of the slice, and returns how many bytes these are.

@@ -6,13 +6,18 @@ use crate::error::RunError;
 use crate::found::Found;
 use crate::number::{Decimal, nine_digits, sign_of};
 use crate::output::Output;
+use crate::printed::PrintedRecord;
 use ixdtf::encoding::Utf8;
 use ixdtf::records::{
     DateDurationRecord, DateRecord, DurationParseRecord, Fraction, FullPrecisionOffset,
     IxdtfParseRecord, MinutePrecisionOffset, Sign, TimeDurationRecord, TimeRecord,
     TimeZoneAnnotation, TimeZoneRecord, UtcOffsetRecord, UtcOffsetRecordOrZ,
 };
+use ixdtf_print::print;
 use std::io::Write;
+
+/// How many bytes the canonical text of a record that was read from a line has at most, and some more.
+const MOST_BYTES: usize = 4352;
 
 impl<W: Write> Output<'_, W> {
     /// Puts each field of what a reader found, after a space.
@@ -23,6 +28,16 @@ impl<W: Write> Output<'_, W> {
             Found::Zone(zone) => self.put_zone(false, zone),
             Found::Name(name) => self.put_zone(false, &TimeZoneRecord::Name(name)),
             Found::Duration(duration) => self.put_duration(*duration),
+            Found::Canonical(printed) => self.put_canonical(printed),
+        }
+    }
+
+    /// Puts a space and the canonical text of the record.
+    fn put_canonical(&mut self, printed: &PrintedRecord<'_>) -> Result<(), RunError> {
+        let mut text = [0; MOST_BYTES];
+        match print(&printed.parts, &mut text) {
+            Ok(count) => self.put_all(&[b" ".as_slice(), &text[..count]]),
+            Err(_) => unreachable!(),
         }
     }
 

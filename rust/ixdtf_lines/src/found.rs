@@ -2,11 +2,13 @@
 
 //! What the readers find.
 
+use crate::printed::PrintedRecord;
 use crate::word::Word;
 use ixdtf::ParserResult;
 use ixdtf::encoding::Utf8;
 use ixdtf::parsers::{IsoDurationParser, IxdtfParser, Profile, TimeZoneParser};
 use ixdtf::records::{DurationParseRecord, IxdtfParseRecord, TimeZoneRecord, UtcOffsetRecord};
+use ixdtf_print::canonical_fits;
 
 /// What a reader found in a text.
 pub enum Found<'a> {
@@ -20,6 +22,8 @@ pub enum Found<'a> {
     Name(&'a [u8]),
     /// A duration.
     Duration(DurationParseRecord),
+    /// The parts of a text that are printed as their canonical text.
+    Canonical(PrintedRecord<'a>),
 }
 
 /// What the reader of the word finds in the text.
@@ -69,6 +73,16 @@ pub fn read(word: Word, text: &[u8]) -> ParserResult<Found<'_>> {
             Ok(duration) => Ok(Found::Duration(duration)),
             Err(error) => Err(error),
         },
+        Word::Canonical => read_to_print(text),
+    }
+}
+
+/// What `parse` finds in the text, to be printed.
+fn read_to_print(text: &[u8]) -> ParserResult<Found<'_>> {
+    canonical_fits();
+    match IxdtfParser::from_utf8(text).parse() {
+        Ok(parts) => Ok(Found::Canonical(PrintedRecord { parts })),
+        Err(error) => Err(error),
     }
 }
 

@@ -9,6 +9,7 @@ mod found;
 mod line;
 mod number;
 mod output;
+mod printed;
 mod runner;
 mod waiting;
 mod word;

@@ -27,6 +27,8 @@ pub enum Word {
     StrictTime,
     /// `strict-duration`: as `duration`, under the strict profile.
     StrictDuration,
+    /// `canonical`: as `parse`, to be printed as its canonical text.
+    Canonical,
 }
 
 impl Word {
@@ -54,6 +56,8 @@ impl Word {
             Some(Word::StrictTime)
         } else if name == b"strict-duration".as_slice() {
             Some(Word::StrictDuration)
+        } else if name == b"canonical".as_slice() {
+            Some(Word::Canonical)
         } else {
             None
         }

@@ -1,0 +1,11 @@
+-- What holds of canonical texts.
+use Rattle.std.specs.Prelude.{◌≤◌, ◌+◌, length}
+use Rattle.ixdtf.specs.Handlers.{UnhandledRecord}
+use Rattle.ixdtf.specs.language.Letters.{Text}
+use Rattle.ixdtf.specs.language.Languages.{Parsed}
+use Rattle.ixdtf.specs.language.Readers.{parse}
+use Rattle.ixdtf_print.specs.Canonical.{canonical_text}
+
+-- the canonical text of a record that `parse` reads from a text, with each pair its own reply, has at most 14 letters more
+abbrev pub CanonicalFits : Type 0
+CanonicalFits = (text : Text) (found : Parsed) → UnhandledRecord parse text found → length (canonical_text found) ≤ length text + 14

@@ -1,0 +1,8 @@
+//! What holds of canonical texts, for callers to cite.
+ghost use Rattle.ixdtf_print.specs.Laws.{CanonicalFits};
+
+/// The canonical text of a record that [`IxdtfParser::parse`](ixdtf::parsers::IxdtfParser::parse) reads from a text has at
+/// most 14 bytes more than the text. A caller cites this by calling the function, which does nothing.
+pub fn canonical_fits()
+    ensures { CanonicalFits }
+{}
