@@ -49,8 +49,8 @@ use std::marker::Model;
 
 /// A reader of dates and times, with an offset, a time zone and annotations.
 ///
-/// It borrows its source, and is as large as the slice of units that are still to be read and its profile. A contract sees
-/// it as these units, by their numbers, the count of looks that were made at them, and the profile.
+/// It borrows its source, and is as large as the slice of units that are still to be read and its
+/// profile.
 #[derive(Drop)]
 #[derive_where(Debug)]
 pub struct IxdtfParser<'a, T: EncodingType> {
@@ -59,6 +59,8 @@ pub struct IxdtfParser<'a, T: EncodingType> {
 }
 
 impl<'a, T: EncodingType> Model for IxdtfParser<'a, T> {
+    // A contract sees a parser as the units that are still to be read, by their numbers, the count
+    // of looks that were made at them, and the profile.
     ghost Value = { UnreadUnder };
 
     ghost view = { λ p. under p.profile p.cursor };
@@ -224,9 +226,10 @@ impl<'a, T: EncodingType> IxdtfParser<'a, T> {
     /// 2020-01-01[a=b][c=d]junk      |_| None                         two calls, then Err(InvalidEnd)
     /// ```
     ///
-    /// The handler has to be one that may be called at any time, in any state that it reached, on any annotation. Where it
-    /// holds borrows of several lifetimes, as a closure does that captures two variables, the proof of its caller wants a
-    /// function between them, generic in the handler and in an error `E: From<ParseError>`.
+    /// The handler has to be one that may be called at any time, in any state that it reached, on
+    /// any annotation. In Rust any closure of this type can be handed in. In Rattle one that holds
+    /// borrows of several lifetimes, as a closure does that captures two variables, is handed in by
+    /// a function between them, generic in the handler and in an error `E: From<ParseError>`.
     ///
     /// After `Ok` nothing is left to be read, so each later call is refused as one on the empty text is. After an error what
     /// was still to be read still is. Calls that were made stay made.

@@ -124,8 +124,9 @@ const _: () = prove!(size_of::<Stop>() == 1);
 
 /// An error that a stop gives.
 ///
-/// What calls a handler is generic in its error by this bound, and is used at `ParseError` alone: the toolchain's proof of
-/// borrows does not cover a function that makes such a call and whose own signature names `'static`, as `ParseError` does.
+/// What calls a handler is generic in its error by this bound, and is used at `ParseError` alone:
+/// in Rattle a function that makes such a call may not name `'static` in its own signature, as
+/// `ParseError` does.
 pub trait Raised {
     /// The fault that an error names.
     ghost fault: { Self → Fault };

@@ -44,7 +44,7 @@ fn answer_all<R: Read, W: Write>(reader: &mut R, output: &mut Output<'_, W>) -> 
 {
     let mut line = Line::new();
     let mut input = [0; INPUT_SIZE];
-    // A loop is proved to end, so this one counts its reads. No byte waits at any of them.
+    // It counts its reads, so that it ends in any case. No byte waits at any of them.
     'reads: for _ in 0..u64::MAX {
         let count = read_some(reader, &mut input)?;
         if count == 0 {

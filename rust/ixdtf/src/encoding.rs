@@ -14,8 +14,8 @@ mod private {
 
 /// An encoding of a source in code units.
 ///
-/// A proof sees each unit as a number, and the number as a letter: the number again, or none that a reader takes. No crate
-/// but this one can write an encoding.
+/// Each unit is a number, and the number stands for a letter: for itself, or for none that a reader
+/// takes. No crate but this one can write an encoding.
 pub trait EncodingType: private::Sealed {
     /// The unit of a source.
     type CodeUnit: PartialEq + std::fmt::Debug + Clone;

@@ -1,6 +1,6 @@
 // Made by tools/to_rust.py of crates/ixdtf/src/lib.rt. Do not edit.
 
-//! A reader of the Internet Extended Date/Time Format (RFC 9557), proved.
+//! A reader of the Internet Extended Date/Time Format (RFC 9557), proved in Rattle.
 //!
 //! [`parsers::IxdtfParser::parse`] reads a date, or a date and a time with its offset, and what stands in
 //! brackets after it, of 8-bit or of 16-bit units: the forms of RFC 3339, the shorter ones that ISO 8601 has, and
@@ -20,8 +20,10 @@
 //! - [`ParseError`]: why they refused.
 //! - [`encoding`]: the units of a source.
 //!
-//! The definitions that the contracts cite are in `specs/`: the grammar in `language`, the fault table in `table`, and what
-//! replies to annotations make of a text in `Handlers`. `docs/` tells them in words.
+//! The repository tells the grammar in words in `docs/GRAMMAR.md`, and the fault table in
+//! `docs/FAULTS.md`. The definitions that the reader was proved by are in `crates/ixdtf/specs`: the
+//! grammar in `language`, the fault table in `table`, and what replies to annotations make of a
+//! text in `Handlers`.
 
 #![cfg_attr(not(test), no_std)]
 #![forbid(unsafe_code)]

@@ -37,8 +37,8 @@ use crate::{ParseError, ParserResult};
 
 /// A reader of dates and times, with an offset, a time zone and annotations.
 ///
-/// It borrows its source, and is as large as the slice of units that are still to be read and its profile. A contract sees
-/// it as these units, by their numbers, the count of looks that were made at them, and the profile.
+/// It borrows its source, and is as large as the slice of units that are still to be read and its
+/// profile.
 #[derive(Debug)]
 pub struct IxdtfParser<'a, T: EncodingType> {
     cursor: Cursor<'a, T>,
@@ -166,9 +166,10 @@ impl<'a, T: EncodingType> IxdtfParser<'a, T> {
     /// 2020-01-01[a=b][c=d]junk      |_| None                         two calls, then Err(InvalidEnd)
     /// ```
     ///
-    /// The handler has to be one that may be called at any time, in any state that it reached, on any annotation. Where it
-    /// holds borrows of several lifetimes, as a closure does that captures two variables, the proof of its caller wants a
-    /// function between them, generic in the handler and in an error `E: From<ParseError>`.
+    /// The handler has to be one that may be called at any time, in any state that it reached, on
+    /// any annotation. In Rust any closure of this type can be handed in. In Rattle one that holds
+    /// borrows of several lifetimes, as a closure does that captures two variables, is handed in by
+    /// a function between them, generic in the handler and in an error `E: From<ParseError>`.
     ///
     /// After `Ok` nothing is left to be read, so each later call is refused as one on the empty text is. After an error what
     /// was still to be read still is. Calls that were made stay made.

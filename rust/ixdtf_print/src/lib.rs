@@ -28,6 +28,17 @@ use length::length_of;
 
 /// Writes the canonical text of the record into the front of the slice, and returns how many bytes these are.
 ///
+/// ```rust
+/// use ixdtf::parsers::IxdtfParser;
+/// use ixdtf_print::print;
+///
+/// let text = "20240302 084800z[u-ca=hebrew][a=b]";
+/// let Ok(parsed) = IxdtfParser::from_str(text).parse() else { unreachable!() };
+/// let mut out = [0; 64];
+/// let Ok(count) = print(&parsed, &mut out) else { unreachable!() };
+/// assert!(out[..count] == *b"2024-03-02T08:48:00Z[u-ca=hebrew]");
+/// ```
+///
 /// # Errors
 ///
 /// [`PrintError::NotPrintable`] where no text stands for the record, and else [`PrintError::TooShort`] where the slice is

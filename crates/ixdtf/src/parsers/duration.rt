@@ -39,8 +39,8 @@ use std::marker::Model;
 
 /// A reader of durations.
 ///
-/// It borrows its source, and is as large as the slice of units that are still to be read and its profile. A contract sees
-/// it as these units, by their numbers, the count of looks that were made at them, and the profile.
+/// It borrows its source, and is as large as the slice of units that are still to be read and its
+/// profile.
 #[derive(Drop)]
 #[derive_where(Debug)]
 pub struct IsoDurationParser<'a, T: EncodingType> {
@@ -49,6 +49,8 @@ pub struct IsoDurationParser<'a, T: EncodingType> {
 }
 
 impl<'a, T: EncodingType> Model for IsoDurationParser<'a, T> {
+    // A contract sees a parser as the units that are still to be read, by their numbers, the count
+    // of looks that were made at them, and the profile.
     ghost Value = { UnreadUnder };
 
     ghost view = { λ p. under p.profile p.cursor };

@@ -19,8 +19,7 @@ use std::marker::Model;
 
 /// A reader of offsets from UTC and of time zones, where a text is one of these alone.
 ///
-/// It borrows its source, and is as large as the slice of units that are still to be read. A contract sees it as these
-/// units, by their numbers, and the count of looks that were made at them.
+/// It borrows its source, and is as large as the slice of units that are still to be read.
 #[derive(Drop)]
 #[derive_where(Debug)]
 pub struct TimeZoneParser<'a, T: EncodingType> {
@@ -28,6 +27,8 @@ pub struct TimeZoneParser<'a, T: EncodingType> {
 }
 
 impl<'a, T: EncodingType> Model for TimeZoneParser<'a, T> {
+    // A contract sees a parser as the units that are still to be read, by their numbers, and the
+    // count of looks that were made at them.
     ghost Value = { Unread };
 
     ghost view = { λ p. p.cursor };

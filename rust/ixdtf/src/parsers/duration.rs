@@ -16,8 +16,8 @@ use crate::stop::Stop;
 
 /// A reader of durations.
 ///
-/// It borrows its source, and is as large as the slice of units that are still to be read and its profile. A contract sees
-/// it as these units, by their numbers, the count of looks that were made at them, and the profile.
+/// It borrows its source, and is as large as the slice of units that are still to be read and its
+/// profile.
 #[derive(Debug)]
 pub struct IsoDurationParser<'a, T: EncodingType> {
     cursor: Cursor<'a, T>,

@@ -11,8 +11,7 @@ use crate::records::{TimeZoneRecord, UtcOffsetRecord};
 
 /// A reader of offsets from UTC and of time zones, where a text is one of these alone.
 ///
-/// It borrows its source, and is as large as the slice of units that are still to be read. A contract sees it as these
-/// units, by their numbers, and the count of looks that were made at them.
+/// It borrows its source, and is as large as the slice of units that are still to be read.
 #[derive(Debug)]
 pub struct TimeZoneParser<'a, T: EncodingType> {
     cursor: Cursor<'a, T>,

@@ -507,7 +507,7 @@ fn forwards_handlers() {
     assert_eq!(rt; has_calendar(text, |_annotation| None), Ok(false));
 }
 
-// ==== A caller's clause ====
+// ==== What a caller can conclude ====
 
 // The year of a date. `Some` only where the text is in the language of `parse`.
 fn year_of(text: &str) -> Option<i32> {
