@@ -182,9 +182,9 @@ module _ {T U F : Type 0} (number : U → ℕ) (step : Step T U F) (handler : F)
   ]
 
 -- what a form without a handler promises, where the handler hands each annotation back
-pub plain : {T U F : Type 0} {number : U → ℕ} {step : Step T U F} {handler : F} {reader : Reader} {text : Text} {result : Result Parsed Fault}
+pub unhandled_form : {T U F : Type 0} {number : U → ℕ} {step : Step T U F} {handler : F} {reader : Reader} {text : Text} {result : Result Parsed Fault}
     → Handled number step handler reader text result → OwnReplies step → UnhandledForm reader text result
-plain {number = number} {step = step} {handler = handler} {reader = reader} {text = text} {result = Ok found} h own = let whole =
+unhandled_form {number = number} {step = step} {handler = handler} {reader = reader} {text = text} {result = Ok found} h own = let whole =
     handled_accepted number step handler reader text _ h found refl in record {
       ok = unhandled_ok number step handler reader text _ own h;
       err = tt;
@@ -192,7 +192,7 @@ plain {number = number} {step = step} {handler = handler} {reader = reader} {tex
       alone = whole.alone;
       only = tt;
     }
-plain {number = number} {step = step} {handler = handler} {reader = reader} {text = text} {result = Err fault} h own = let gives =
+unhandled_form {number = number} {step = step} {handler = handler} {reader = reader} {text = text} {result = Err fault} h own = let gives =
     unhandled_err number step handler reader text _ own h fault refl in record {
       ok = unhandled_ok number step handler reader text _ own h;
       err = gives;
