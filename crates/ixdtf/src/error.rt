@@ -12,7 +12,7 @@ use std::fmt;
 ///
 /// Each error that a reader returns for a text has a row in the fault table (`docs/FAULTS.md`), which says at which place of
 /// the text it comes. `CriticalDuplicateCalendar` and `UnrecognizedCritical` come for replies. The names and the texts are
-/// those of the Rust crate, as they are spelled there.
+/// those of `ixdtf` 0.6.7 of ICU4X, as they are spelled there.
 #[derive(Clone, Copy, Debug)]
 pub enum ParseError {
     /// A mistake of the reader itself. No reader returns it.

@@ -23,6 +23,7 @@ use std::process::ExitCode;
 fn main() -> ExitCode {
     if !arguments_allowed(std::env::args_os().skip(1).count()) {
         eprintln!("ixdtf_lines: takes no arguments");
+        eprintln!("{USAGE}");
         return ExitCode::from(2);
     }
     match run(&mut stdin().lock(), &mut stdout().lock()) {
@@ -31,6 +32,11 @@ fn main() -> ExitCode {
         Err(RunError::Write) => failed("write"),
     }
 }
+
+/// What a line of the input is, for whoever gave arguments in its place.
+const USAGE: &str = "usage: a line of standard input is a word, a space and a text, and the words are \
+    parse, year-month, month-day, time, offset, zone, iana, duration, strict-month-day, \
+    strict-time, strict-duration, canonical";
 
 fn failed(what: &str) -> ExitCode {
     eprintln!("ixdtf_lines: {what} failed");

@@ -4,12 +4,13 @@ ghost use Rattle.std.specs.Prelude.{◌≡◌};
 ghost use Rattle.ixdtf.specs.language.Months.{least_day};
 ghost use Rattle.ixdtf.specs.language.Durations.{least_step};
 
-/// Which reading a parser makes: that of the Rust crate, or one that is stricter with month-days and durations.
+/// Which reading a parser makes: that of `ixdtf` 0.6.7 of ICU4X, or one that is stricter with month-days and
+/// durations.
 ///
 /// A new parser has [`Profile::Crate`]. Dates, year-months, offsets and zones are read alike under both.
 #[derive(Clone, Copy, Debug, PartialEq)]
 pub enum Profile {
-    /// The reading of the Rust crate: a month-day may have the day 0, and a unit of a duration may be repeated.
+    /// The reading of `ixdtf` 0.6.7 of ICU4X: a month-day may have the day 0, and a unit of a duration may be repeated.
     Crate,
     /// The stricter reading: the day of a month-day is at least 1, also where a time is told from one, and each unit of a
     /// duration is shorter than the one before it.
