@@ -2,7 +2,8 @@
 
 #![tactic(auto, unfolding(crate::specs::reading::Brackets::bracket_readings))]
 
-ghost use Rattle.std.specs.Prelude.{◌≡◌, ◌+◌, ◌≤◌, map, length, true};
+ghost use Rattle.std.specs.Prelude.{◌≡◌, ◌+◌, ◌≤◌, map, length, true, IsFalse};
+ghost use Rattle.ixdtf.specs.language.Letters.{zone_char};
 ghost use Rattle.ixdtf.specs.Views.{zone_of};
 ghost use Rattle.ixdtf.specs.reading.Clauses.{Reads, Spends, fault_of_stop, closing_look};
 ghost use Rattle.ixdtf.specs.reading.Looks.{error_of, next_by};
@@ -36,7 +37,22 @@ impl Letters for NameLetters {
     fn go_on(self, byte: u8) -> Option<Self> {
         if is_tz_char(byte) {
             Some(NameLetters { may_end: true })
-        } else if is_tz_name_separator(byte) && self.may_end {
+        } else {
+            self.after_part(byte)
+        }
+    }
+}
+
+impl NameLetters {
+    /// Where reading is after a letter that no part of a name has. It is not inlined, so that the loop over a part keeps to
+    /// itself.
+    #[cold]
+    #[inline(never)]
+    fn after_part(self, byte: u8) -> Option<NameLetters>
+        requires other { IsFalse (zone_char byte) }
+        ensures { result ≡ name_after self byte }
+    {
+        if is_tz_name_separator(byte) && self.may_end {
             Some(NameLetters { may_end: false })
         } else {
             None

@@ -26,7 +26,19 @@ impl Letters for NameLetters {
     fn go_on(self, byte: u8) -> Option<Self> {
         if is_tz_char(byte) {
             Some(NameLetters { may_end: true })
-        } else if is_tz_name_separator(byte) && self.may_end {
+        } else {
+            self.after_part(byte)
+        }
+    }
+}
+
+impl NameLetters {
+    /// Where reading is after a letter that no part of a name has. It is not inlined, so that the loop over a part keeps to
+    /// itself.
+    #[cold]
+    #[inline(never)]
+    fn after_part(self, byte: u8) -> Option<NameLetters> {
+        if is_tz_name_separator(byte) && self.may_end {
             Some(NameLetters { may_end: false })
         } else {
             None
