@@ -1,6 +1,6 @@
 //! The records that the readers return: dates, times, offsets, time zones, durations and fractions.
 
-ghost use Rattle.std.specs.Prelude.{◌≡◌, ◌+◌, ◌-◌, ◌*◌, ◌<◌, ◌≤◌, ◌^◌, min, IfSome};
+ghost use Rattle.std.specs.Prelude.{◌≡◌, ◌+◌, ◌-◌, ◌*◌, ◌<◌, ◌≤◌, ◌^◌, nat_le, min, IfSome};
 ghost use Rattle.ixdtf.specs.language.Fractions.{FractionParts, exact_nanoseconds_of, nanoseconds_of};
 
 use crate::encoding::EncodingType;
@@ -372,21 +372,37 @@ impl Fraction {
         }
     }
 
-    /// The fraction with one more digit behind it, an ASCII byte.
+    /// Whether it has fewer than 18 digits, so that one more digit changes its number.
+    #[inline(always)]
+    pub(crate) fn is_short(self) -> bool
+        ensures { result ≡ nat_le self.count 17 }
+    {
+        self.digits < 18
+    }
+
+    /// A fraction of fewer than 18 digits with one more digit behind it, an ASCII byte.
+    #[inline(always)]
     pub(crate) fn with_digit(self, digit: u8) -> Fraction
-        requires { (48 ≤ digit) × (digit ≤ 57) }
-        ensures count { result.count ≡ min (self.count + 1) 255 }
-        ensures grows { self.count < 18 → result.value ≡ self.value * 10 + (digit - 48) }
-        ensures stays { 18 ≤ self.count → result.value ≡ self.value }
+        requires digit { (48 ≤ digit) × (digit ≤ 57) }
+        requires short { self.count < 18 }
+        ensures { result ≡ record { count = self.count + 1; value = self.value * 10 + (digit - 48) } }
     {
         let value = self.value.number();
         Fraction {
+            digits: self.digits + 1,
+            value: PackedNumber::of(value * 10 + u64::from(digit - b'0')),
+        }
+    }
+
+    /// A fraction of 18 digits or more with one more digit behind it, which is only counted.
+    #[inline(always)]
+    pub(crate) fn with_more(self) -> Fraction
+        requires { 18 ≤ self.count }
+        ensures { result ≡ record { count = min (self.count + 1) 255; value = self.value } }
+    {
+        Fraction {
             digits: self.digits.saturating_add(1),
-            value: if self.digits < 18 {
-                PackedNumber::of(value * 10 + u64::from(digit - b'0'))
-            } else {
-                self.value
-            },
+            value: self.value,
         }
     }
 

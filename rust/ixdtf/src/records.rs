@@ -326,16 +326,28 @@ impl Fraction {
         }
     }
 
-    /// The fraction with one more digit behind it, an ASCII byte.
+    /// Whether it has fewer than 18 digits, so that one more digit changes its number.
+    #[inline(always)]
+    pub(crate) fn is_short(self) -> bool {
+        self.digits < 18
+    }
+
+    /// A fraction of fewer than 18 digits with one more digit behind it, an ASCII byte.
+    #[inline(always)]
     pub(crate) fn with_digit(self, digit: u8) -> Fraction {
         let value = self.value.number();
         Fraction {
+            digits: self.digits + 1,
+            value: PackedNumber::of(value * 10 + u64::from(digit - b'0')),
+        }
+    }
+
+    /// A fraction of 18 digits or more with one more digit behind it, which is only counted.
+    #[inline(always)]
+    pub(crate) fn with_more(self) -> Fraction {
+        Fraction {
             digits: self.digits.saturating_add(1),
-            value: if self.digits < 18 {
-                PackedNumber::of(value * 10 + u64::from(digit - b'0'))
-            } else {
-                self.value
-            },
+            value: self.value,
         }
     }
 

@@ -35,42 +35,54 @@ run_other : (c : ℕ) (rest : Text) → digit c ≡ false → run_of (Plain c �
 unfolding digit_run
 run_other c rest is = rw is refl
 
--- So far digits were taken off: the fraction is theirs, and the rest is still to be read.
-pub record IsSoFar (first : ℕ) (whole rest : Text) (fraction : FractionParts) : Type 0 where
+-- So far digits were taken off behind the first ones: the fraction is theirs, and the rest is still to be read.
+pub record IsSoFar (front whole rest : Text) (fraction : FractionParts) : Type 0 where
   pub ds : Text
   pub read : run_of whole ≡ with_front ds (run_of rest)
-  pub value : fraction ≡ fraction_of (Plain first ∷ ds)
+  pub value : fraction ≡ fraction_of (front ++ ds)
 
-pub begins : (first : ℕ) (whole : Text) (fraction : FractionParts) → fraction ≡ fraction_of (Plain first ∷ []) → IsSoFar first whole whole fraction
-begins first whole fraction is = record { ds = []; read = sym (with_nothing _); value = is }
+pub begins : (front whole : Text) (fraction : FractionParts) → fraction ≡ fraction_of front → IsSoFar front whole whole fraction
+begins front whole fraction is = record { ds = []; read = sym (with_nothing _); value = is ∙ ap fraction_of (sym (append-nil front)) }
 
-pub goes_on : (first : ℕ) (whole rest next : Text) (before after : FractionParts) (c : ℕ) → IsSoFar first whole rest
-    before → look_at NonAsciiCodePoint rest ≡ Ok (Some c) → digit c ≡ true → next ≡ drop 1 rest → Grown before after c → IsSoFar first whole next after
-goes_on first whole rest next before after c far e is moved grown = record {
+pub goes_on : (front whole rest next : Text) (before after : FractionParts) (c : ℕ) → IsSoFar front whole rest
+    before → look_at NonAsciiCodePoint rest ≡ Ok (Some c) → digit c ≡ true → next ≡ drop 1 rest → Grown before after c → IsSoFar front whole next after
+goes_on front whole rest next before after c far e is moved grown = record {
   ds = far.ds ++ (Plain c ∷ []);
   read = far.read ∙ ap (λ t. with_front far.ds (run_of t)) (first_is rest c e) ∙ ap (with_front far.ds) (run_more c _ is)
       ∙ with_both far.ds (Plain c ∷ []) _ ∙ ap (λ t. with_front (far.ds ++ (Plain c ∷ [])) (run_of t)) (sym moved);
-  value = fraction_grows (Plain first ∷ far.ds) before after c far.value grown;
+  value = fraction_grows (front ++ far.ds) before after c far.value grown ∙ ap fraction_of (append_assoc front far.ds (Plain c ∷ []));
 }
 
-ends : (first : ℕ) (whole rest : Text) (fraction : FractionParts) → IsSoFar first whole rest fraction → run_of rest ≡ Ok ([], rest)
-    → more_digits_at first whole ≡ Ok (fraction, rest)
-ends first whole rest fraction far over = rw (far.read, over, append-nil far.ds, far.value) refl
+abbrev in_fraction : Text → Read Fault Text → Read Fault FractionParts
+in_fraction front read = read >>= λ more. Ok (fraction_of (front ++ more.0), more.1)
 
-pub ends_at_other : (first : ℕ) (whole rest : Text) (fraction : FractionParts) (c : ℕ) → IsSoFar first whole rest fraction
-    → look_at NonAsciiCodePoint rest ≡ Ok (Some c) → digit c ≡ false → more_digits_at first whole ≡ Ok (fraction, rest)
-ends_at_other first whole rest fraction c far e is = ends first whole rest fraction far (rw (first_is rest c e) (run_other c _ is))
+over : (front ds : Text) (read : Read Fault Text) → in_fraction front (with_front ds read) ≡ in_fraction (front ++ ds) read
+over front ds (Ok more) = ap (λ t. Ok (fraction_of t, more.1)) (sym (append_assoc front ds more.0))
+over front ds (Err e) = refl
 
-pub ends_at_end : (first : ℕ) (whole rest : Text) (fraction : FractionParts) → IsSoFar first whole rest fraction → look_at NonAsciiCodePoint rest ≡ Ok None
-    → more_digits_at first whole ≡ Ok (fraction, rest)
+-- what is read from here on, with these digits before it, is what is read of the whole
+pub hands_on : (front whole rest : Text) (fraction : FractionParts) (far : IsSoFar front whole rest fraction)
+    → more_digits_at front whole ≡ more_digits_at (front ++ far.ds) rest
+hands_on front whole rest fraction far = ap (in_fraction front) far.read ∙ over front far.ds (run_of rest)
+
+ends : (front whole rest : Text) (fraction : FractionParts) → IsSoFar front whole rest fraction → run_of rest ≡ Ok ([], rest)
+    → more_digits_at front whole ≡ Ok (fraction, rest)
+ends front whole rest fraction far over = rw (far.read, over, append-nil far.ds, far.value) refl
+
+pub ends_at_other : (front whole rest : Text) (fraction : FractionParts) (c : ℕ) → IsSoFar front whole rest fraction
+    → look_at NonAsciiCodePoint rest ≡ Ok (Some c) → digit c ≡ false → more_digits_at front whole ≡ Ok (fraction, rest)
+ends_at_other front whole rest fraction c far e is = ends front whole rest fraction far (rw (first_is rest c e) (run_other c _ is))
+
+pub ends_at_end : (front whole rest : Text) (fraction : FractionParts) → IsSoFar front whole rest fraction → look_at NonAsciiCodePoint rest ≡ Ok None
+    → more_digits_at front whole ≡ Ok (fraction, rest)
 unfolding digit_run
-ends_at_end first whole rest fraction far e = ends first whole rest fraction far (rw (nothing_is rest e) refl)
+ends_at_end front whole rest fraction far e = ends front whole rest fraction far (rw (nothing_is rest e) refl)
 
-pub fails : (first : ℕ) (whole rest : Text) (fraction : FractionParts) (fault : Fault) → IsSoFar first whole rest fraction
-    → look_at NonAsciiCodePoint rest ≡ Err fault → more_digits_at first whole ≡ Err fault
+pub fails : (front whole rest : Text) (fraction : FractionParts) (fault : Fault) → IsSoFar front whole rest fraction
+    → look_at NonAsciiCodePoint rest ≡ Err fault → more_digits_at front whole ≡ Err fault
 unfolding look_at digit_run
-fails first whole (Bad ∷ rest) fraction fault far e = let same : NonAsciiCodePoint ≡ fault = cc in rw (far.read, same) refl
-fails first whole rest fraction fault far e = absurd cc
+fails front whole (Bad ∷ rest) fraction fault far e = let same : NonAsciiCodePoint ≡ fault = cc in rw (far.read, same) refl
+fails front whole rest fraction fault far e = absurd cc
 
 -- a look found this letter first, and a step took it off
 pub record OneTaken (letter : ℕ → Letter) (rest next : List ℕ) (c : ℕ) : Type 0 where

@@ -35,6 +35,23 @@ pub record Grown (before after : FractionParts) (c : ℕ) : Type 0 where
   pub grows : before.count < 18 → after.value ≡ before.value * 10 + (c - 48)
   pub stays : 18 ≤ before.count → after.value ≡ before.value
 
+-- what a digit makes of a fraction of fewer than 18, and of one of 18 or more
+pub grown_by_digit : (before after : FractionParts) (c : ℕ) → before.count < 18
+    → after ≡ record { count = before.count + 1; value = before.value * 10 + (c - 48) } → Grown before after c
+grown_by_digit before after c short is = record {
+  count = omega (arith, ap (λ f. f.count) is);
+  grows = λ _. ap (λ f. f.value) is;
+  stays = λ long. absurd (omega arith);
+}
+
+pub grown_by_count : (before after : FractionParts) (c : ℕ) → 18 ≤ before.count
+    → after ≡ record { count = min (before.count + 1) 255; value = before.value } → Grown before after c
+grown_by_count before after c long is = record {
+  count = ap (λ f. f.count) is;
+  grows = λ short. absurd (omega arith);
+  stays = λ _. ap (λ f. f.value) is;
+}
+
 same_fraction : (f g : FractionParts) → f.count ≡ g.count → f.value ≡ g.value → f ≡ g
 same_fraction f g p q = λ i. record { count = p i; value = q i }
 

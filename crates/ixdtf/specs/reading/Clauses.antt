@@ -1,5 +1,5 @@
 -- Forms of the clauses of private functions, and what the code's own types stand for. No public clause cites one.
-use Rattle.std.specs.Prelude.{◌≡◌, ◌↔◌, ℕ, Bool, IsTrue, IsFalse, OnOk, IfErr, ◌+◌, ◌≤◌, map, length, Option, Some, None, Result, Ok, Err, ◌∷◌, if◌then◌else◌}
+use Rattle.std.specs.Prelude.{◌≡◌, ◌↔◌, ℕ, Bool, IsTrue, IsFalse, OnOk, IfErr, ◌+◌, ◌≤◌, map, length, Option, Some, None, Result, Ok, Err, ◌++◌, if◌then◌else◌}
 use Rattle.ixdtf.specs.declared.parsers.profile.Profile.{Profile}
 use Rattle.ixdtf.specs.declared.records.DateRecord.{DateRecord}
 use Rattle.ixdtf.specs.declared.records.IxdtfParseRecord.{IxdtfParseRecord}
@@ -14,7 +14,6 @@ use Rattle.ixdtf.specs.declared.records.TimeRecord.{TimeRecord}
 use Rattle.ixdtf.specs.declared.parsers.brackets.Bracket.{Bracket as CodeBracket}
 use Rattle.ixdtf.specs.declared.parsers.brackets.Bracket.TheVariants as brackets
 use Rattle.ixdtf.specs.language.Letters.{Letter, Text, ◌or◌, none, digit, hyphen, closing}
-use Rattle.ixdtf.specs.language.Letters.Letter.{Plain}
 use Rattle.ixdtf.specs.language.Fractions.{FractionParts, fraction_of}
 use Rattle.ixdtf.specs.language.Times.{Clock, TimeShape}
 use Rattle.ixdtf.specs.language.Times.{Clock as clocks}
@@ -161,9 +160,9 @@ digit_seen other (Ok None) = Err abrupt_digit
 digit_seen other (Ok (Some c)) = if digit c then Ok c else Err other
 digit_seen other (Err e) = Err e
 
--- the other digits of a fraction, and the fraction
-abbrev pub more_digits_at : ℕ → Text → Read Fault FractionParts
-more_digits_at first text = digit_run faults.NonAsciiCodePoint text >>= λ more. Ok (fraction_of (Plain first ∷ more.0), more.1)
+-- the digits of a fraction behind its first ones, and the fraction
+abbrev pub more_digits_at : Text → Text → Read Fault FractionParts
+more_digits_at front text = digit_run faults.NonAsciiCodePoint text >>= λ more. Ok (fraction_of (front ++ more.0), more.1)
 
 -- a time, and an offset where there is one, behind a date or none
 unfoldable pub timed_core_at : Option DateRecord → Text → Read Fault ClosedCore

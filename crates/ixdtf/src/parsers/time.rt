@@ -2,8 +2,10 @@
 
 #![tactic(auto, unfolding(crate::specs::reading::Times::time_readings))]
 
-ghost use Rattle.std.specs.Prelude.{◌≡◌, ◌+◌, ◌≤◌, map, nat_le, length, false, true, None, IsTrue, IfSome, OnOk};
-ghost use Rattle.ixdtf.specs.language.Letters.{digit};
+ghost use Rattle.std.specs.Prelude.{◌≡◌, ◌+◌, ◌≤◌, ◌∷◌, [], map, nat_le, length, false, true, None, IsTrue, IfSome, OnOk};
+ghost use Rattle.ixdtf.specs.language.Letters.{Text, digit};
+ghost use Rattle.ixdtf.specs.language.Letters.Letter.{Plain};
+ghost use Rattle.ixdtf.specs.language.Fractions.{fraction_of};
 ghost use Rattle.ixdtf.specs.language.Times.{Clock as clocks, greatest_second, writes_seconds};
 ghost use Rattle.ixdtf.specs.table.Lines.{mixed, second_fault, seconds_after};
 ghost use Rattle.ixdtf.specs.reading.Clauses.{Reads, Spends, SpendsOr, Checks, more_digits_at, fault_of_stop, clock_of, shape_of, open_time_of};
@@ -310,7 +312,7 @@ fn parse_digits<'a, T: EncodingType>(cursor: &mut Cursor<'a, T>) -> Result<Fract
     read
 }
 
-/// Reads the other digits of a fraction.
+/// Reads the other digits of a fraction: of the first 18 it makes the number, and those behind them it only counts.
 #[inline(always)]
 fn parse_more_digits<'a, T: EncodingType>(
     cursor: &mut Cursor<'a, T>,
@@ -318,16 +320,41 @@ fn parse_more_digits<'a, T: EncodingType>(
 ) -> Result<Fraction, Stop>
     requires digit { IsTrue (digit first) }
     ensures fraction { Reads T.letter (λ fraction. fraction) cursor.old result cursor.new
-        (more_digits_at first) }
+        (more_digits_at (Plain first ∷ [])) }
     ensures looks { Spends 1 cursor.old cursor.new }
 {
     let mut fraction = Fraction::start(first);
+    while fraction.is_short() {
+        match cursor.look()? {
+            Some(byte) if byte.is_ascii_digit() => {
+                cursor.step();
+                fraction = fraction.with_digit(byte);
+            }
+            _ => return Ok(fraction),
+        }
+    }
+    count_more_digits(cursor, fraction)
+}
+
+/// Counts the digits behind the first 18 of a fraction.
+#[inline(always)]
+fn count_more_digits<'a, T: EncodingType>(
+    cursor: &mut Cursor<'a, T>,
+    leading: Fraction,
+) -> Result<Fraction, Stop>
+    requires long { 18 ≤ leading.count }
+    ensures fraction { (front : Text) → leading ≡ fraction_of front →
+        Reads T.letter (λ fraction. fraction) cursor.old result cursor.new
+        (more_digits_at front) }
+    ensures looks { Spends 1 cursor.old cursor.new }
+{
+    let mut fraction = leading;
     while let Some(byte) = cursor.look()? {
         if !byte.is_ascii_digit() {
             break;
         }
         cursor.step();
-        fraction = fraction.with_digit(byte);
+        fraction = fraction.with_more();
     }
     Ok(fraction)
 }

@@ -249,19 +249,38 @@ fn parse_digits<'a, T: EncodingType>(cursor: &mut Cursor<'a, T>) -> Result<Fract
     read
 }
 
-/// Reads the other digits of a fraction.
+/// Reads the other digits of a fraction: of the first 18 it makes the number, and those behind them it only counts.
 #[inline(always)]
 fn parse_more_digits<'a, T: EncodingType>(
     cursor: &mut Cursor<'a, T>,
     first: u8,
 ) -> Result<Fraction, Stop> {
     let mut fraction = Fraction::start(first);
+    while fraction.is_short() {
+        match cursor.look()? {
+            Some(byte) if byte.is_ascii_digit() => {
+                cursor.step();
+                fraction = fraction.with_digit(byte);
+            }
+            _ => return Ok(fraction),
+        }
+    }
+    count_more_digits(cursor, fraction)
+}
+
+/// Counts the digits behind the first 18 of a fraction.
+#[inline(always)]
+fn count_more_digits<'a, T: EncodingType>(
+    cursor: &mut Cursor<'a, T>,
+    leading: Fraction,
+) -> Result<Fraction, Stop> {
+    let mut fraction = leading;
     while let Some(byte) = cursor.look()? {
         if !byte.is_ascii_digit() {
             break;
         }
         cursor.step();
-        fraction = fraction.with_digit(byte);
+        fraction = fraction.with_more();
     }
     Ok(fraction)
 }

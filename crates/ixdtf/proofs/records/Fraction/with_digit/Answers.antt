@@ -1,5 +1,5 @@
 -- One more digit makes less than 10 ^ 18 of a value of fewer than 18 digits.
-use Rattle.std.proofs.Common.{◌+◌, arith}
+use Rattle.std.proofs.Common.{◌+◌, ap, arith}
 use Rattle.ixdtf.proofs.code.Nanoseconds.{one_more, eighteen}
 use Rattle.ixdtf.proofs.records.Fraction.with_digit.Goals as goal
 
@@ -8,7 +8,7 @@ overflow_mul-value c =
     omega (
       arith,
       c.number-value.ensures,
-      one_more c.self.inside.digits c.self.inside.value 0 c.if-self-lt18.true c.self.invariant.1 (omega arith),
+      one_more c.self.inside.digits c.self.inside.value 0 (omega (arith, c.requires.short, ap (λ f. f.count) c.self.view_is)) c.self.invariant.1 (omega arith),
       eighteen (c.self.inside.digits + 1),
     )
 
@@ -17,6 +17,6 @@ overflow_add-value c =
     omega (
       arith,
       c.number-value.ensures,
-      one_more c.self.inside.digits c.self.inside.value c.from.result c.if-self-lt18.true c.self.invariant.1 (omega arith),
+      one_more c.self.inside.digits c.self.inside.value c.from.result (omega (arith, c.requires.short, ap (λ f. f.count) c.self.view_is)) c.self.invariant.1 (omega arith),
       eighteen (c.self.inside.digits + 1),
     )
