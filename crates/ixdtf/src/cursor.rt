@@ -5,13 +5,13 @@
 
 #![tactic(auto, unfolding(crate::specs::reading::Looks::look_readings))]
 
-ghost use Rattle.std.specs.Prelude.{◌≡◌, ℕ, ◌+◌, ◌-◌, ◌<◌, ◌≤◌, ◌∷◌, List, [], map, length, drop, Ok, Some, None, IfOk, IfSome, OnOk, OnErr, IsTrue, nat_eq};
+ghost use Rattle.std.specs.Prelude.{◌≡◌, ℕ, ◌+◌, ◌-◌, ◌<◌, ◌≤◌, ◌∷◌, List, [], map, length, drop, Ok, Some, None, IfOk, OnOk, OnErr, IsTrue, nat_eq};
 ghost use Rattle.ixdtf.specs.language.Letters.{digit};
 ghost use Rattle.ixdtf.specs.language.Letters.Letter.{Plain};
 ghost use Rattle.ixdtf.specs.table.Faults.{NonAsciiCodePoint};
 ghost use Rattle.ixdtf.specs.Views.{Unread, ascii_at};
 ghost use Rattle.ixdtf.specs.reading.Clauses.{Reads, Settles, Spends, SpendsOr, Yields, fault_of_stop, digit_seen, end_look};
-ghost use Rattle.ixdtf.specs.reading.FixedPlaces.{letter_place};
+ghost use Rattle.ixdtf.specs.reading.FixedPlaces.{letter_place, byte_place};
 ghost use Rattle.ixdtf.specs.reading.Looks.{look_at, next_by, peek_by, digit_look, digits_by};
 
 use crate::encoding::EncodingType;
@@ -225,18 +225,18 @@ impl<'a, T: EncodingType> Cursor<'a, T> {
         self.rest = &self.rest[count..];
     }
 
-    /// The digit at a fixed place of the rest, as an ASCII byte, or `None` where none stands there.
+    /// The letter at a fixed place of the rest, as an ASCII byte, or 0 where none stands there: 0 is of no class that the
+    /// readers tell apart.
     #[inline(always)]
-    #[tactic(auto, using(crate::proofs::code::FixedPlaces::place_looked))]
-    pub fn fixed_digit(&mut self, index: usize) -> Option<u8>
-        ensures there { result ≡ letter_place digit index (map T.letter self.old.rest) }
-        ensures digit { IfSome result (λ byte. IsTrue (digit byte)) }
+    #[tactic(auto, using(crate::proofs::code::FixedPlaces::byte_looked))]
+    pub fn byte_at(&mut self, index: usize) -> u8
+        ensures there { result ≡ byte_place index (map T.letter self.old.rest) }
         ensures rest { self.new.rest ≡ self.old.rest }
         ensures looks { self.new.looks ≡ self.old.looks + 1 }
     {
         match self.look_at(index) {
-            Ok(Some(byte)) if byte.is_ascii_digit() => Some(byte),
-            _ => None,
+            Ok(Some(byte)) => byte,
+            _ => 0,
         }
     }
 

@@ -146,12 +146,13 @@ impl<'a, T: EncodingType> Cursor<'a, T> {
         self.rest = &self.rest[count..];
     }
 
-    /// The digit at a fixed place of the rest, as an ASCII byte, or `None` where none stands there.
+    /// The letter at a fixed place of the rest, as an ASCII byte, or 0 where none stands there: 0 is of no class that the
+    /// readers tell apart.
     #[inline(always)]
-    pub fn fixed_digit(&mut self, index: usize) -> Option<u8> {
+    pub fn byte_at(&mut self, index: usize) -> u8 {
         match self.look_at(index) {
-            Ok(Some(byte)) if byte.is_ascii_digit() => Some(byte),
-            _ => None,
+            Ok(Some(byte)) => byte,
+            _ => 0,
         }
     }
 

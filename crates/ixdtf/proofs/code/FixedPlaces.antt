@@ -24,7 +24,7 @@ use Rattle.ixdtf.specs.table.LineNames.DateLine.{after_year}
 use Rattle.ixdtf.specs.reading.Looks.{Read, ◌>>=◌, error_of, look_at, next_by, mark_by, digits_by}
 use Rattle.ixdtf.proofs.parts.Looks.{in_turn, onto}
 use Rattle.ixdtf.proofs.code.DigitClasses.{digit_no_sign}
-use Rattle.ixdtf.specs.reading.FixedPlaces.{ranged, ◌>>?◌, first_in, letter_place, number_place, date_place, time_place, date_in_range, time_in_range}
+use Rattle.ixdtf.specs.reading.FixedPlaces.{ranged, ◌>>?◌, first_in, letter_place, first_byte, byte_place, tens_value, ones_value, number_place, date_place, time_place, date_in_range, time_in_range}
 use Rattle.ixdtf.specs.reading.FixedPlaces.{date_time_place}
 
 -- the letter that a look found, where it is of the class
@@ -44,6 +44,79 @@ place_looked letter class zero (u ∷ more) = go (letter u)
     go (Plain n) = refl
     go Bad = refl
 place_looked letter class (suc place) (u ∷ more) = place_looked letter class place more
+
+-- the letter that a look found, or 0
+abbrev pub byte_of_look : Result (Option ℕ) Fault → ℕ
+byte_of_look (Ok None) = 0
+byte_of_look (Ok (Some c)) = c
+byte_of_look (Err e) = 0
+
+pub byte_looked : (letter : ℕ → Letter) (place : ℕ) (units : List ℕ) → byte_place place (map letter units) ≡ byte_of_look (ascii_at letter place units)
+byte_looked letter zero [] = refl
+byte_looked letter (suc place) [] = refl
+byte_looked letter zero (u ∷ more) = go (letter u)
+  where
+    go : (l : Letter) → first_byte (l ∷ map letter more) ≡ byte_of_look (looked (Some l))
+    go (Plain n) = refl
+    go Bad = refl
+byte_looked letter (suc place) (u ∷ more) = byte_looked letter place more
+
+-- ---- two digits by two tables
+
+-- a number below 100
+abbrev pub below_100 : ℕ → Option ℕ
+below_100 n = if nat_le n 99 then Some n else None
+
+not_below : (n : ℕ) → 100 ≤ n → nat_le n 99 ≡ false
+not_below n h = grind (arith, nat_tests)
+
+is_below : (n : ℕ) → n ≤ 99 → nat_le n 99 ≡ true
+is_below n h = grind (arith, nat_tests)
+
+not_both : (n : ℕ) → 100 ≤ n → None ≡ below_100 n
+not_both n h = rw (not_below n h) refl
+
+both : (n m : ℕ) → n ≡ m → m ≤ 99 → Some n ≡ below_100 m
+both n m same h = rw (is_below m h, same) refl
+
+digit_bounds : (c : ℕ) → digit c ≡ true → (48 ≤ c) × (c ≤ 57)
+digit_bounds c is = (grind (arith, nat_tests), grind (arith, nat_tests))
+
+abbrev of_two : Text → Text → Option ℕ
+of_two tens ones = first_in digit tens >>? λ a. first_in digit ones >>? λ b. Some (decimal (Plain a ∷ Plain b ∷ []))
+
+abbrev ByTables : Text → Text → Type 0
+ByTables tens ones = of_two tens ones ≡ below_100 (tens_value (first_byte tens) + ones_value (first_byte ones))
+
+abbrev ByOnes : ℕ → Text → Type 0
+ByOnes a ones = (first_in digit ones >>? λ b. Some (decimal (Plain a ∷ Plain b ∷ []))) ≡ below_100 (10 * (a - 48) + ones_value (first_byte ones))
+
+by_ones_letter : (a b : ℕ) (rest : Text) → (t : Bool) → digit a ≡ true → digit b ≡ t → ByOnes a (Plain b ∷ rest)
+by_ones_letter a b rest false ea eb = rw eb (not_both (10 * (a - 48) + 100) (omega arith))
+by_ones_letter a b rest true ea eb =
+    let (la, ga) = digit_bounds a ea in
+    let (lb, gb) = digit_bounds b eb in
+    rw eb (both (decimal (Plain a ∷ Plain b ∷ [])) (10 * (a - 48) + (b - 48)) (omega arith) (omega arith))
+
+by_ones : (a : ℕ) (ones : Text) → digit a ≡ true → ByOnes a ones
+by_ones a [] ea = not_both (10 * (a - 48) + 100) (omega arith)
+by_ones a (Bad ∷ rest) ea = not_both (10 * (a - 48) + 100) (omega arith)
+by_ones a (Plain b ∷ rest) ea = by_ones_letter a b rest (digit b) ea refl
+
+by_tens_letter : (a : ℕ) (rest ones : Text) → (t : Bool) → digit a ≡ t → ByTables (Plain a ∷ rest) ones
+by_tens_letter a rest ones false ea = rw ea (not_both (100 + ones_value (first_byte ones)) (omega arith))
+by_tens_letter a rest ones true ea = rw ea (by_ones a ones ea)
+
+by_tens : (tens ones : Text) → ByTables tens ones
+by_tens [] ones = not_both (100 + ones_value (first_byte ones)) (omega arith)
+by_tens (Bad ∷ rest) ones = not_both (100 + ones_value (first_byte ones)) (omega arith)
+by_tens (Plain a ∷ rest) ones = by_tens_letter a rest ones (digit a) refl
+
+-- the number of two digits is the sum of what the two tables have, where it is below 100
+pub number_by_tables : (place : ℕ) (text : Text)
+    → number_place place text ≡ below_100 (tens_value (byte_place place text) + ones_value (byte_place (place + 1) text))
+unfolding number_place
+number_by_tables place text = by_tens (drop place text) (drop (place + 1) text)
 
 -- ---- what stands where something was found
 

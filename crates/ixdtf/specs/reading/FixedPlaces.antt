@@ -4,7 +4,7 @@ use Rattle.ixdtf.specs.declared.records.DateRecord.{DateRecord}
 use Rattle.ixdtf.specs.declared.records.TimeRecord.{TimeRecord}
 use Rattle.ixdtf.specs.language.Letters.{Text, Class, digit, hyphen, colon, date_time_separator}
 use Rattle.ixdtf.specs.language.Letters.Letter.{Plain, Bad}
-use Rattle.ixdtf.specs.language.Digits.{decimal}
+use Rattle.ixdtf.specs.language.Digits.{digit_value, decimal}
 use Rattle.ixdtf.specs.language.Dates.{month_length}
 use Rattle.ixdtf.specs.table.Faults.{Fault}
 use Rattle.ixdtf.specs.table.Faults.Fault.{InvalidMonthRange}
@@ -27,6 +27,22 @@ first_in class (Plain c ∷ rest) = if class c then Some c else None
 -- the letter at a place, where it is of the class
 abbrev pub letter_place : Class → ℕ → Text → Option ℕ
 letter_place class place text = first_in class (drop place text)
+
+-- the letter at a place, or 0 where none stands there
+abbrev pub first_byte : Text → ℕ
+first_byte [] = 0
+first_byte (Bad ∷ rest) = 0
+first_byte (Plain c ∷ rest) = c
+
+abbrev pub byte_place : ℕ → Text → ℕ
+byte_place place text = first_byte (drop place text)
+
+-- what a digit counts as the first of two and as the second, and 100 for a letter that is none
+abbrev pub tens_value : ℕ → ℕ
+tens_value c = if digit c then 10 * digit_value (Plain c) else 100
+
+abbrev pub ones_value : ℕ → ℕ
+ones_value c = if digit c then digit_value (Plain c) else 100
 
 -- the number of two digits at a place and the next
 unfoldable pub number_place : ℕ → Text → Option ℕ

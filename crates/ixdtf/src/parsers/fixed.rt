@@ -15,7 +15,7 @@ ghost use Rattle.ixdtf.specs.reading.FixedPlaces.{letter_place, number_place, da
 use crate::cursor::Cursor;
 use crate::encoding::EncodingType;
 use crate::parsers::dates::days_in_month;
-use crate::parsers::grammar::{digits_value, is_date_time_separator};
+use crate::parsers::grammar::{is_date_time_separator, number_of};
 use crate::records::DateRecord;
 
 /// A time to its second.
@@ -120,7 +120,8 @@ fn fixed_time<'a, T: EncodingType>(cursor: &mut Cursor<'a, T>) -> Option<WholeTi
     })
 }
 
-/// The number of the two digits at a place of the first nineteen and the next, or `None` at the first that is none.
+/// The number of the two digits at a place of the first nineteen and the next, or `None` where one of them is none. Both
+/// are looked at.
 #[inline(always)]
 fn fixed_number<'a, T: EncodingType>(cursor: &mut Cursor<'a, T>, place: usize) -> Option<u8>
     requires early { place < 18 }
@@ -130,9 +131,13 @@ fn fixed_number<'a, T: EncodingType>(cursor: &mut Cursor<'a, T>, place: usize) -
     ensures few { cursor.new.looks ≤ cursor.old.looks + 2 }
     ensures counted { cursor.old.looks ≤ cursor.new.looks }
 {
-    let tens = cursor.fixed_digit(place)?;
-    let ones = cursor.fixed_digit(place + 1)?;
-    Some(digits_value(tens, ones))
+    let tens = cursor.byte_at(place);
+    let ones = cursor.byte_at(place + 1);
+    let number = number_of(tens, ones);
+    if number > 99 {
+        return None;
+    }
+    Some(number)
 }
 
 /// The separator of a date and a time, where one stands at a place, or `None`.

@@ -8,7 +8,7 @@
 use crate::cursor::Cursor;
 use crate::encoding::EncodingType;
 use crate::parsers::dates::days_in_month;
-use crate::parsers::grammar::{digits_value, is_date_time_separator};
+use crate::parsers::grammar::{is_date_time_separator, number_of};
 use crate::records::DateRecord;
 
 /// A time to its second.
@@ -83,12 +83,17 @@ fn fixed_time<'a, T: EncodingType>(cursor: &mut Cursor<'a, T>) -> Option<WholeTi
     })
 }
 
-/// The number of the two digits at a place of the first nineteen and the next, or `None` at the first that is none.
+/// The number of the two digits at a place of the first nineteen and the next, or `None` where one of them is none. Both
+/// are looked at.
 #[inline(always)]
 fn fixed_number<'a, T: EncodingType>(cursor: &mut Cursor<'a, T>, place: usize) -> Option<u8> {
-    let tens = cursor.fixed_digit(place)?;
-    let ones = cursor.fixed_digit(place + 1)?;
-    Some(digits_value(tens, ones))
+    let tens = cursor.byte_at(place);
+    let ones = cursor.byte_at(place + 1);
+    let number = number_of(tens, ones);
+    if number > 99 {
+        return None;
+    }
+    Some(number)
 }
 
 /// The separator of a date and a time, where one stands at a place, or `None`.
