@@ -1,0 +1,4 @@
+pub mod Crossing
+pub mod Narrow
+pub mod Outcomes
+pub mod Wide

@@ -1,0 +1,27 @@
+-- What a reader's outcome says of a text: the clauses of the library's readers, with an outcome in the place of their result.
+use Rattle.std.specs.Prelude.{◌≡◌, ◌↔◌, [], Result, Ok, Err, OnOk}
+use Rattle.ixdtf.specs.declared.parsers.profile.Profile.{Profile}
+use Rattle.ixdtf.specs.language.Letters.{Text}
+use Rattle.ixdtf.specs.language.Languages.{Parsed, Found, Derives}
+use Rattle.ixdtf.specs.language.Readers.{Reader}
+use Rattle.ixdtf.specs.table.Faults.{Fault}
+use Rattle.ixdtf.specs.table.Outcomes.{HasFault, OnlyFault, NoRowFits}
+use Rattle.ixdtf.specs.Handlers.{UnhandledRecord, UnhandledFault, UnhandledOnlyFault}
+use Rattle.ixdtf.specs.Laws.{InNoOther}
+
+-- Of a text with brackets, where each pair replies for itself: `Ok` exactly with the record that the text gives, and only where
+-- no row of the fault table fits and no other reader has the text; and `Err` only with the one fault that it gives.
+pub record ReadsRecord (profile : Profile) (reader : Reader) (text : Text) (outcome : Result Parsed Fault) : Type 0 where
+  pub ok : (found : Parsed) → (outcome ≡ Ok found) ↔ UnhandledRecord reader text found
+  pub err : (fault : Fault) → outcome ≡ Err fault → UnhandledFault reader text fault
+  pub no_row : OnOk outcome (NoRowFits reader text)
+  pub alone : OnOk outcome (InNoOther profile reader text)
+  pub only : (fault : Fault) → outcome ≡ Err fault → UnhandledOnlyFault reader text fault
+
+-- Of a text that is one part alone: `Ok` exactly where the language derives the part, and only where no row of the fault table
+-- fits; and `Err` only with the one fault that the text has.
+pub record ReadsPart {A : Type 0} (reader : Reader) (part : A → Found) (text : Text) (outcome : Result A Fault) : Type 0 where
+  pub ok : (found : A) → (outcome ≡ Ok found) ↔ Derives reader text (part found) []
+  pub err : (fault : Fault) → outcome ≡ Err fault → HasFault reader text [] fault
+  pub no_row : OnOk outcome (NoRowFits reader text)
+  pub only : (fault : Fault) → outcome ≡ Err fault → OnlyFault reader text [] fault
