@@ -125,6 +125,15 @@ pub record Handled {T U F : Type 0} (number : U → ℕ) (step : Step T U F)
   pub err : (fault : Fault) → result ≡ Err fault → GivesFault reader text (handed number calls) (replies_of number calls) fault
   pub only : (fault : Fault) → result ≡ Err fault → GivesOnlyFault reader text (handed number calls) (replies_of number calls) fault
 
+-- The same for a handler that was lent and is left in the state `last`: the chain of calls ends there, so none follows it.
+pub record HandledTo {T U F : Type 0} (number : U → ℕ) (step : Step T U F)
+    (handler last : F) (reader : Reader) (text : Text) (result : Result Parsed Fault) : Type 0 where
+  pub calls : Calls T U
+  pub chain : IsChain step handler calls last
+  pub ok : (found : Parsed) → (result ≡ Ok found) ↔ GivesRecord reader text (handed number calls) (replies_of number calls) found
+  pub err : (fault : Fault) → result ≡ Err fault → GivesFault reader text (handed number calls) (replies_of number calls) fault
+  pub only : (fault : Fault) → result ≡ Err fault → GivesOnlyFault reader text (handed number calls) (replies_of number calls) fault
+
 -- ---- without a handler
 
 -- each pair is its own reply

@@ -12,7 +12,7 @@ ghost use Rattle.ixdtf.specs.language.Readers.{parse as reader_parse, parse_year
 ghost use Rattle.ixdtf.specs.language.Readers.{parse_month_day as reader_parse_month_day, parse_time as reader_parse_time};
 ghost use Rattle.ixdtf.specs.language.Readers.Reader.{bracketed};
 ghost use Rattle.ixdtf.specs.language.Languages.{Parsed};
-ghost use Rattle.ixdtf.specs.Handlers.{Handled, UnhandledRecord, UnhandledFault, UnhandledOnlyFault};
+ghost use Rattle.ixdtf.specs.Handlers.{Handled, HandledTo, UnhandledRecord, UnhandledFault, UnhandledOnlyFault};
 ghost use Rattle.ixdtf.specs.Laws.{InNoOther};
 ghost use Rattle.ixdtf.specs.Views.{UnreadUnder, under, unread_of, LeavesBehind, IsEmptyRecord, returned, returned_by, parsed_of};
 ghost use Rattle.ixdtf.specs.reading.Chains.{TextRead};
@@ -34,8 +34,9 @@ mod time;
 mod timezone;
 mod zones;
 
-pub(crate) use self::cores::DateTimes;
-use self::cores::{Cores, LoneTimes, MonthDays, YearMonths};
+// For crates of this repository, and no part of the interface: what `read_by_reference` is generic in.
+#[doc(hidden)]
+pub use self::cores::{Cores, DateTimes, LoneTimes, MonthDays, YearMonths};
 pub use self::duration::IsoDurationParser;
 pub use self::profile::Profile;
 use self::texts::parse_text;
@@ -43,7 +44,9 @@ pub use self::zones::TimeZoneParser;
 use crate::cursor::Cursor;
 use crate::encoding::{EncodingType, Utf8, Utf16};
 use crate::records::{Annotation, IxdtfParseRecord};
-use crate::stop::{Raised, Stop};
+#[doc(hidden)]
+pub use crate::stop::Raised;
+use crate::stop::Stop;
 use crate::{ParseError, ParserResult};
 use std::marker::Model;
 
@@ -589,6 +592,47 @@ impl<'a, T: EncodingType> IxdtfParser<'a, T> {
         match self.read_into::<C, F>(&mut handler, &mut found) {
             Ok(()) => Ok(found),
             Err(stop) => return Err(E::of_stop(stop)),
+        }
+    }
+
+    /// Reads a text with a core of the kind, as [`parse_with_annotation_handler`](Self::parse_with_annotation_handler) does, and
+    /// leaves the handler as its last call left it, so that what it noted can be told. The error is one that a stop gives.
+    ///
+    /// It is for crates of this repository, and no part of the interface.
+    ///
+    /// # Errors
+    ///
+    /// Those of the reader of the kind, with a handler.
+    #[doc(hidden)]
+    #[inline(always)]
+    pub fn read_by_reference<E: Raised, C: Cores, F>(
+        &mut self,
+        handler: &mut F,
+    ) -> Result<IxdtfParseRecord<'a, T>, E>
+    where
+        F: FnMut(Annotation<'a, T>) -> Option<Annotation<'a, T>>,
+        // The handler may be called at any time, in any state that it reached, on any annotation.
+        requires callable { F.IsAlwaysCallable handler.old }
+        // For the one chain of its calls, which ends in the state that the handler is left in: `Ok` exactly with the record,
+        // and `Err` only with the one fault, that the text and the replies give.
+        ensures handled { HandledTo T.number F.step handler.old handler.new
+            (bracketed (C.kind self.old.profile)) (map T.letter self.old.rest)
+            (returned_by E.fault (parsed_of T.number) result) }
+
+        // `Ok` only where no row of the fault table fits, and where no other reader of dates, times and durations has the text.
+        ensures no_row { OnOk result (NoRowFits (bracketed (C.kind self.old.profile))
+            (map T.letter self.old.rest)) }
+        ensures alone { OnOk result (InNoOther self.old.profile
+            (bracketed (C.kind self.old.profile)) (map T.letter self.old.rest)) }
+
+        // What it leaves: nothing to be read after `Ok`, and all of it after an error.
+        ensures leaves { LeavesBehind E.fault (unread_of self.old) result (unread_of self.new) }
+        ensures profile { self.new.profile ≡ self.old.profile }
+    {
+        let mut found = IxdtfParseRecord::default();
+        match self.read_into::<C, F>(handler, &mut found) {
+            Ok(()) => Ok(found),
+            Err(why) => return Err(E::of_stop(why)),
         }
     }
 

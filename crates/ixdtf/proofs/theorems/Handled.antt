@@ -14,7 +14,7 @@ use Rattle.ixdtf.specs.language.Languages.{Parsed, Derives}
 use Rattle.ixdtf.specs.language.Languages.Found.{parsed}
 use Rattle.ixdtf.specs.table.Outcomes.Outcome.{derived}
 use Rattle.ixdtf.specs.Handlers.{Reply, first_calendar, RefusedBeside, NoneRefused, calendar_value, with_calendar, GivesRecord, GivesFault, pair_of, Calls}
-use Rattle.ixdtf.specs.Handlers.{handed, replies_of, Step, IsChain, own_replies, Handled, UnhandledRecord, UnhandledFault}
+use Rattle.ixdtf.specs.Handlers.{handed, replies_of, Step, IsChain, own_replies, Handled, HandledTo, UnhandledRecord, UnhandledFault}
 use Rattle.ixdtf.specs.reading.Chains.{TextRead}
 use Rattle.ixdtf.specs.reading.Clauses.{UnhandledForm}
 use Rattle.ixdtf.specs.Laws.{GivesResult}
@@ -91,6 +91,16 @@ module _ {T U F : Type 0} (number : U → ℕ) (step : Step T U F) (handler : F)
   handled last text_read = record {
     calls = text_read.calls;
     last = last;
+    chain = text_read.chain;
+    ok = only_ok result _ _ text_read.gives;
+    err = only_err result _ _ text_read.gives;
+    only = λ fault is. gives_only reader text _ _ fault (only_err result _ _ text_read.gives fault is);
+  }
+
+  -- what the form that takes the handler by reference promises
+  pub handled_to : (last : F) → TextRead number step handler last reader text result → HandledTo number step handler last reader text result
+  handled_to last text_read = record {
+    calls = text_read.calls;
     chain = text_read.chain;
     ok = only_ok result _ _ text_read.gives;
     err = only_err result _ _ text_read.gives;
