@@ -2,6 +2,7 @@
 pub mod CoreEnds
 pub mod CoreSizes
 pub mod Disjoint
+pub mod FewPairs
 pub mod Handled
 pub mod Hyphens
 pub mod NoRow
