@@ -1,0 +1,76 @@
+/* Lists the annotations of each argument, and keeps its calendar by a handler of its own: the key x-note is known, also where it is
+ * critical, and every other annotation stands for itself.
+ *
+ *     cc -std=c99 annotations.c $(pkg-config --cflags --libs ixdtf) -o annotations
+ *     ./annotations '2024-03-02[Europe/Paris][u-ca=hebrew][!x-note=a-b]'
+ */
+#include <ixdtf.h>
+#include <stdio.h>
+#include <stdlib.h>
+#include <string.h>
+
+static void print_units(ixdtf_units units) {
+    printf("%.*s", (int)units.length, (const char *)units.at);
+}
+
+static bool is_note(const ixdtf_annotation *annotation) {
+    return annotation->key.length == 6 && memcmp(annotation->key.at, "x-note", 6) == 0;
+}
+
+/* Asks about each annotation, in order, up to the first that is refused. */
+static uint32_t ask(const ixdtf_annotation *list, size_t count, ixdtf_calendar *calendar) {
+    for (size_t i = 0; i < count; i++) {
+        printf("  %s", list[i].is_critical ? "critical " : "");
+        print_units(list[i].key);
+        printf(" is ");
+        print_units(list[i].value);
+        printf("\n");
+        if (is_note(&list[i])) {
+            continue; /* no reply: the annotation is passed over */
+        }
+        uint32_t error = ixdtf_reply(calendar, &list[i]);
+        if (error != IXDTF_OK) {
+            return error;
+        }
+    }
+    return IXDTF_OK;
+}
+
+static void print_outcome(uint32_t error, const ixdtf_calendar *calendar) {
+    if (error != IXDTF_OK) {
+        ixdtf_text why = IXDTF_TEXT;
+        ixdtf_error_text(error, &why);
+        printf("  refused: %.*s\n", (int)why.length, why.at);
+    } else if (calendar->is_there) {
+        printf("  calendar: ");
+        print_units(calendar->value);
+        printf("\n");
+    } else {
+        printf("  no calendar\n");
+    }
+}
+
+int main(int count, char **arguments) {
+    for (int i = 1; i < count; i++) {
+        const uint8_t *text = (const uint8_t *)arguments[i];
+        size_t length = strlen(arguments[i]);
+        size_t room = length / 5 + 1; /* the shortest annotation has five units, as [a=b] */
+        ixdtf_annotation *list = malloc(room * sizeof *list);
+        if (list == NULL) {
+            return 1;
+        }
+        for (size_t at = 0; at < room; at++) {
+            list[at] = (ixdtf_annotation)IXDTF_ANNOTATION;
+        }
+        size_t found = 0;
+        ixdtf_record record = IXDTF_RECORD;
+        ixdtf_calendar calendar = IXDTF_CALENDAR;
+        printf("%s\n", arguments[i]);
+        uint32_t error = ixdtf_parse_with_annotations(text, length, list, room, &found, &record);
+        uint32_t refused = ask(list, found, &calendar);
+        /* A reply that is refused stands before the end or the error of the text. */
+        print_outcome(refused != IXDTF_OK ? refused : error, &calendar);
+        free(list);
+    }
+    return 0;
+}

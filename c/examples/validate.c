@@ -1,0 +1,34 @@
+/* Says of each argument whether it is a date, or a date and a time, and why not. Its status is 1 where one is not.
+ *
+ *     cc -std=c99 validate.c $(pkg-config --cflags --libs ixdtf) -o validate
+ *     ./validate 2024-03-02T08:48:00Z 2024-02-30
+ */
+#include <ixdtf.h>
+#include <stdio.h>
+#include <string.h>
+
+static void print_error(const char *text, uint32_t error, ixdtf_text location) {
+    ixdtf_text why = IXDTF_TEXT;
+    ixdtf_error_text(error, &why);
+    printf("%s: %.*s", text, (int)why.length, why.at);
+    if (error == IXDTF_ABRUPT_END) {
+        printf(" What it broke off in: %.*s.", (int)location.length, location.at);
+    }
+    printf("\n");
+}
+
+int main(int count, char **arguments) {
+    int status = 0;
+    for (int i = 1; i < count; i++) {
+        const char *text = arguments[i];
+        ixdtf_record record = IXDTF_RECORD;
+        uint32_t error = ixdtf_parse((const uint8_t *)text, strlen(text), &record);
+        if (error == IXDTF_OK) {
+            printf("%s: valid\n", text);
+        } else {
+            print_error(text, error, record.location);
+            status = 1;
+        }
+    }
+    return status;
+}

@@ -1,0 +1,343 @@
+/* ixdtf.h: a proved reader of date-times of RFC 9557, of offsets and time zones, and of durations; version 1 of the interface.
+ *
+ * Link libixdtf_c.a. It needs nothing else: it takes no memory, keeps no state, starts no thread and calls no other library, not even
+ * the C library. It runs on x86-64 processors with SSE4.2 and POPCNT (x86-64-v2).
+ *
+ * TEXTS. A text is a pointer to its first unit and a length in units: of 8 bits in ixdtf_.., of 16 bits in ixdtf16_... Exactly these units
+ * are read, all of them, and nothing is written to them. A text need not end in a zero, which counts as a unit where it is
+ * inside the length, and need not be UTF-8 or UTF-16. The pointer is never NULL, also with length 0: pass "" for an empty text. A text of
+ * 16-bit units is aligned as uint16_t is. A length is at most PTRDIFF_MAX bytes, as that of every object in C.
+ *
+ * RESULTS. Each reader returns 0 (IXDTF_OK) or the number of the error that the text is refused with. After 0 the record has
+ * what was read. After an error it is as it was, but for `location`, which IXDTF_ABRUPT_END sets to what the text broke off in, as "digit",
+ * and every other error to nothing.
+ *
+ * RECORDS. The caller owns every record, array and text. A record is handed in initialised, by the macro of its type (IXDTF_RECORD for an
+ * ixdtf_record) or by a call before, and aligned as its type; whatever a call left in it may stand there. Only the parts that a text has are
+ * written: look at `is_there`, `form`, `has_..` first, since the other fields of a part that is not there keep what they had.
+ * No pointer handed in is NULL, and what a call writes overlaps nothing else that is handed in with it.
+ *
+ * SLICES. A name, a calendar, a key or a value in a record is a pointer into the text that was read, and a length. It is not ended by
+ * a zero. It is valid as long as the text is there and unchanged; the library keeps no pointer between calls. A location and an
+ * error's text are valid as long as the program runs. A slice is never NULL, also where its length is 0.
+ *
+ * THREADS. Each call stands for itself: any number of threads may call at one time, as long as none writes what another uses. No call
+ * blocks, and each returns, in time linear in the length of its text. A call may be made in a signal handler.
+ *
+ * VERSIONS. Names, order and numbers in this header are stable: a later version adds calls, and numbers behind those that are there, and
+ * changes none.
+ */
+#ifndef IXDTF_H
+#define IXDTF_H
+#include <stdbool.h>
+#include <stddef.h>
+#include <stdint.h>
+#ifdef __cplusplus
+extern "C" {
+#endif
+
+/* The version of the interface that this header is of. */
+#define IXDTF_INTERFACE_VERSION 1
+
+/* What a reader returns. ixdtf_error_text has the text of each, docs/FAULTS.md says where each comes. Those marked - are
+ * returned by no reader, and keep their numbers. */
+enum {
+    IXDTF_OK = 0,
+    IXDTF_IMPL_ASSERT = 1, /* - */
+    IXDTF_NON_ASCII_CODE_POINT = 2, /* 16-bit texts alone */
+    IXDTF_PARSE_FLOAT = 3, /* - */
+    IXDTF_ABRUPT_END = 4, /* `location` says what the text broke off in */
+    IXDTF_INVALID_END = 5,
+    IXDTF_INVALID_MONTH_RANGE = 6,
+    IXDTF_INVALID_DAY_RANGE = 7,
+    IXDTF_DATE_YEAR = 8,
+    IXDTF_DATE_EXTENDED_YEAR = 9,
+    IXDTF_DATE_MONTH = 10,
+    IXDTF_DATE_DAY = 11,
+    IXDTF_DATE_UNEXPECTED_END = 12, /* - */
+    IXDTF_TIME_REQUIRED = 13, /* - */
+    IXDTF_TIME_HOUR = 14,
+    IXDTF_TIME_MINUTE_SECOND = 15,
+    IXDTF_TIME_SECOND = 16,
+    IXDTF_FRACTION_PART = 17,
+    IXDTF_DATE_SEPARATOR = 18,
+    IXDTF_TIME_SEPARATOR = 19,
+    IXDTF_DECIMAL_SEPARATOR = 20, /* - */
+    IXDTF_INVALID_ANNOTATION = 21, /* - */
+    IXDTF_ANNOTATION_OPEN = 22, /* - */
+    IXDTF_ANNOTATION_CLOSE = 23,
+    IXDTF_ANNOTATION_CHAR = 24, /* - */
+    IXDTF_ANNOTATION_KEY_VALUE_SEPARATOR = 25,
+    IXDTF_ANNOTATION_KEY_LEADING_CHAR = 26,
+    IXDTF_ANNOTATION_KEY_CHAR = 27,
+    IXDTF_ANNOTATION_VALUE_CHAR_POST_HYPHEN = 28,
+    IXDTF_ANNOTATION_VALUE_CHAR = 29,
+    IXDTF_INVALID_MINUTE_PRECISION_OFFSET = 30,
+    IXDTF_CRITICAL_DUPLICATE_CALENDAR = 31, /* of a reply */
+    IXDTF_UNRECOGNIZED_CRITICAL = 32, /* of a reply */
+    IXDTF_TZ_LEADING_CHAR = 33,
+    IXDTF_IANA_CHAR_POST_SEPARATOR = 34,
+    IXDTF_IANA_CHAR = 35,
+    IXDTF_UTC_TIME_SEPARATOR = 36,
+    IXDTF_OFFSET_NEEDS_SIGN = 37,
+    IXDTF_MONTH_DAY_HYPHEN = 38,
+    IXDTF_DURATION_DISGNATOR = 39,
+    IXDTF_DURATION_VALUE_EXCEEDED_RANGE = 40,
+    IXDTF_DATE_DURATION_PART_ORDER = 41,
+    IXDTF_TIME_DURATION_PART_ORDER = 42,
+    IXDTF_TIME_DURATION_DESIGNATOR = 43,
+    IXDTF_AMBIGUOUS_TIME_MONTH_DAY = 44,
+    IXDTF_AMBIGUOUS_TIME_YEAR_MONTH = 45,
+    IXDTF_INVALID_MONTH_DAY = 46
+};
+
+/* Bytes that are valid as long as the program runs, without a zero at their end. */
+typedef struct ixdtf_text { const char *at; size_t length; } ixdtf_text;
+
+/* Units of a text that was read. */
+typedef struct ixdtf_units { const uint8_t *at; size_t length; } ixdtf_units;
+typedef struct ixdtf16_units { const uint16_t *at; size_t length; } ixdtf16_units;
+
+typedef struct ixdtf_date {
+    int32_t year;  /* -999999 to 999999; 0 for a month and a day alone */
+    uint8_t month; /* 1 to 12 */
+    uint8_t day;   /* from 1; 1 for a year and a month alone */
+    bool is_there; /* else the other fields say nothing */
+} ixdtf_date;
+
+typedef struct ixdtf_time {
+    uint64_t fraction;       /* where fraction_digits is not 0: the number of the first 18 digits of the fraction, or of all where
+                              * there are fewer */
+    uint8_t fraction_digits; /* how many digits the fraction has, and 255 of more; 0: the time has none */
+    uint8_t hour;            /* 0 to 23 */
+    uint8_t minute;          /* 0 to 59 */
+    uint8_t second;          /* 0 to 60 */
+    bool is_there;           /* else the other fields say nothing */
+} ixdtf_time;
+
+/* The values of `form` of an offset. */
+enum { IXDTF_NO_OFFSET = 0, IXDTF_UTC = 1, IXDTF_MINUTES = 2, IXDTF_SECONDS = 3 };
+typedef struct ixdtf_offset {
+    uint64_t fraction;       /* where form is IXDTF_SECONDS, as in ixdtf_time */
+    uint8_t fraction_digits; /* where form is IXDTF_SECONDS, as in ixdtf_time */
+    uint8_t form;            /* IXDTF_NO_OFFSET; IXDTF_UTC for Z, which says nothing of local time; IXDTF_MINUTES or IXDTF_SECONDS */
+    bool is_negative;        /* this and the next two where form is IXDTF_MINUTES or IXDTF_SECONDS; true for -00:00 */
+    uint8_t hour;
+    uint8_t minute;
+    uint8_t second;          /* where form is IXDTF_SECONDS */
+} ixdtf_offset;
+
+/* The values of `form` of a time zone. */
+enum { IXDTF_NO_ZONE = 0, IXDTF_NAME = 1, IXDTF_ZONE_OFFSET = 2 };
+typedef struct ixdtf_zone {
+    ixdtf_units name; /* where form is IXDTF_NAME */
+    uint8_t form;     /* IXDTF_NO_ZONE, IXDTF_NAME or IXDTF_ZONE_OFFSET */
+    bool is_critical; /* whether a ! stands before it: then honour the zone, or reject the text */
+    bool is_negative; /* this and the next two where form is IXDTF_ZONE_OFFSET */
+    uint8_t hour;
+    uint8_t minute;
+} ixdtf_zone;
+typedef struct ixdtf16_zone { ixdtf16_units name; uint8_t form; bool is_critical, is_negative; uint8_t hour, minute; } ixdtf16_zone;
+
+typedef struct ixdtf_record {
+    ixdtf_date date;
+    ixdtf_time time;
+    ixdtf_offset offset;
+    ixdtf_zone zone;
+    ixdtf_units calendar; /* where has_calendar */
+    bool has_calendar;
+    ixdtf_text location;  /* after IXDTF_ABRUPT_END: what the text broke off in */
+} ixdtf_record;
+typedef struct ixdtf16_record {
+    ixdtf_date date;
+    ixdtf_time time;
+    ixdtf_offset offset;
+    ixdtf16_zone zone;
+    ixdtf16_units calendar;
+    bool has_calendar;
+    ixdtf_text location;
+} ixdtf16_record;
+
+/* An annotation of a key and a value, as [u-ca=hebrew]; or a reply to one. */
+typedef struct ixdtf_annotation { ixdtf_units key, value; bool is_critical; } ixdtf_annotation;
+typedef struct ixdtf16_annotation { ixdtf16_units key, value; bool is_critical; } ixdtf16_annotation;
+
+/* The calendar that ixdtf_reply keeps of the replies so far. */
+typedef struct ixdtf_calendar { ixdtf_units value; bool is_critical, is_there; } ixdtf_calendar;
+typedef struct ixdtf16_calendar { ixdtf16_units value; bool is_critical, is_there; } ixdtf16_calendar;
+
+/* The values of `time_form`: there is no time, or its last unit. */
+enum { IXDTF_NO_TIME = 0, IXDTF_LAST_HOURS = 1, IXDTF_LAST_MINUTES = 2, IXDTF_LAST_SECONDS = 3 };
+typedef struct ixdtf_duration {
+    uint64_t days;           /* where has_date */
+    uint64_t hours;          /* where time_form is not IXDTF_NO_TIME */
+    uint64_t minutes;        /* where time_form is IXDTF_LAST_MINUTES or IXDTF_LAST_SECONDS */
+    uint64_t seconds;        /* where time_form is IXDTF_LAST_SECONDS */
+    uint64_t fraction;       /* of the last unit of the time; as in ixdtf_time */
+    uint32_t years, months, weeks; /* where has_date */
+    uint8_t fraction_digits; /* where time_form is not IXDTF_NO_TIME; as in ixdtf_time */
+    uint8_t time_form;       /* IXDTF_NO_TIME, or the last unit of the time */
+    bool has_date;           /* whether there are years, months, weeks or days */
+    bool is_negative;
+    ixdtf_text location;
+} ixdtf_duration;
+
+/* Initial values: ixdtf_record record = IXDTF_RECORD; */
+#define IXDTF_NO_TEXT_ { "", 0 }
+#define IXDTF_NO_UNITS_ { (const uint8_t *)"", 0 }
+#define IXDTF16_NO_UNITS_ { (const uint16_t *)L"", 0 }
+#define IXDTF_DATE_ { 0, 0, 0, false }
+#define IXDTF_TIME_ { 0, 0, 0, 0, 0, false }
+#define IXDTF_OFFSET_ { 0, 0, 0, false, 0, 0, 0 }
+#define IXDTF_RECORD_(units) \
+    { IXDTF_DATE_, IXDTF_TIME_, IXDTF_OFFSET_, { units, 0, false, false, 0, 0 }, units, false, IXDTF_NO_TEXT_ }
+#define IXDTF_RECORD IXDTF_RECORD_(IXDTF_NO_UNITS_)
+#define IXDTF16_RECORD IXDTF_RECORD_(IXDTF16_NO_UNITS_)
+#define IXDTF_ANNOTATION { IXDTF_NO_UNITS_, IXDTF_NO_UNITS_, false }
+#define IXDTF16_ANNOTATION { IXDTF16_NO_UNITS_, IXDTF16_NO_UNITS_, false }
+#define IXDTF_CALENDAR { IXDTF_NO_UNITS_, false, false }
+#define IXDTF16_CALENDAR { IXDTF16_NO_UNITS_, false, false }
+#define IXDTF_DURATION { 0, 0, 0, 0, 0, 0, 0, 0, 0, 0, false, false, IXDTF_NO_TEXT_ }
+#define IXDTF_TEXT IXDTF_NO_TEXT_
+
+/* Readers of 8-bit texts. Each reads the whole text, and gives what docs/GRAMMAR.md says. */
+
+/* A date, or a date and a time, with an offset, a zone and annotations: 2024-03-02T08:48:00-05:00[America/New_York][u-ca=hebrew]. */
+uint32_t ixdtf_parse(const uint8_t *text, size_t length, ixdtf_record *out);
+/* A year and a month: 2020-11. The brackets of all texts may follow; so below. */
+uint32_t ixdtf_parse_year_month(const uint8_t *text, size_t length, ixdtf_record *out);
+/* A month and a day: 11-07. */
+uint32_t ixdtf_parse_month_day(const uint8_t *text, size_t length, ixdtf_record *out);
+/* A time: T12:30. */
+uint32_t ixdtf_parse_time(const uint8_t *text, size_t length, ixdtf_record *out);
+/* An offset, +05:30, into `offset`, whose form is then IXDTF_MINUTES or IXDTF_SECONDS. Nothing else is written. */
+uint32_t ixdtf_parse_offset(const uint8_t *text, size_t length, ixdtf_record *out);
+/* A time zone by its name or its offset, Europe/Berlin or +05:30, into `zone`, of which `is_critical` stays. Nothing else is written. */
+uint32_t ixdtf_parse_identifier(const uint8_t *text, size_t length, ixdtf_record *out);
+/* The name of a time zone, Europe/Berlin, into `zone.name`. Nothing else is written, not even `zone.form`. */
+uint32_t ixdtf_parse_iana_identifier(const uint8_t *text, size_t length, ixdtf_record *out);
+/* A duration: -P1Y2M3W4DT5H6M7.5S. */
+uint32_t ixdtf_parse_duration(const uint8_t *text, size_t length, ixdtf_duration *out);
+
+/* The strict profile: no day 00 of a month and a day, and no unit of a duration twice. Dates, and years and months, are read alike in both. */
+uint32_t ixdtf_parse_month_day_strict(const uint8_t *text, size_t length, ixdtf_record *out);
+uint32_t ixdtf_parse_time_strict(const uint8_t *text, size_t length, ixdtf_record *out);
+uint32_t ixdtf_parse_duration_strict(const uint8_t *text, size_t length, ixdtf_duration *out);
+
+/* Readers that list annotations. Each reads as the one above, but accepts every annotation of a key and a value, keeps no calendar
+ * (has_calendar is false after 0), and lists the annotations: `count` is how many stand before the end of the text, or before its error, of
+ * which the first `room` are written to `annotations`, in order. The others of the array stay. `count` is written after an error too; where it
+ * is more than `room`, call again with as much room. A text of n units has at most n / 5 annotations. With room 0 `annotations` is
+ * still not NULL. What to do with the list, docs/C.md says under "Handlers". */
+uint32_t ixdtf_parse_with_annotations(const uint8_t *text, size_t length,
+    ixdtf_annotation *annotations, size_t room, size_t *count, ixdtf_record *out);
+uint32_t ixdtf_parse_year_month_with_annotations(const uint8_t *text, size_t length,
+    ixdtf_annotation *annotations, size_t room, size_t *count, ixdtf_record *out);
+uint32_t ixdtf_parse_month_day_with_annotations(const uint8_t *text, size_t length,
+    ixdtf_annotation *annotations, size_t room, size_t *count, ixdtf_record *out);
+uint32_t ixdtf_parse_time_with_annotations(const uint8_t *text, size_t length,
+    ixdtf_annotation *annotations, size_t room, size_t *count, ixdtf_record *out);
+
+/* Takes the reply to an annotation: 0, and the first reply whose key is u-ca is kept in `calendar`; or the error that the reply is
+ * refused with, IXDTF_CRITICAL_DUPLICATE_CALENDAR or IXDTF_UNRECOGNIZED_CRITICAL, and `calendar` is as it was. The reply is the annotation
+ * itself, as it is without a handler, or another one. Replies are taken in the order of the list, and none after the first refusal. The kept
+ * value is a slice of the reply, and is valid as long as its units are. */
+uint32_t ixdtf_reply(ixdtf_calendar *calendar, const ixdtf_annotation *reply);
+
+/* The same of 16-bit texts. A unit outside 1 to 126 stands for no letter: where a letter has to stand it is IXDTF_NON_ASCII_CODE_POINT. */
+uint32_t ixdtf16_parse(const uint16_t *text, size_t length, ixdtf16_record *out);
+uint32_t ixdtf16_parse_year_month(const uint16_t *text, size_t length, ixdtf16_record *out);
+uint32_t ixdtf16_parse_month_day(const uint16_t *text, size_t length, ixdtf16_record *out);
+uint32_t ixdtf16_parse_time(const uint16_t *text, size_t length, ixdtf16_record *out);
+uint32_t ixdtf16_parse_offset(const uint16_t *text, size_t length, ixdtf16_record *out);
+uint32_t ixdtf16_parse_identifier(const uint16_t *text, size_t length, ixdtf16_record *out);
+uint32_t ixdtf16_parse_iana_identifier(const uint16_t *text, size_t length, ixdtf16_record *out);
+uint32_t ixdtf16_parse_duration(const uint16_t *text, size_t length, ixdtf_duration *out);
+uint32_t ixdtf16_parse_month_day_strict(const uint16_t *text, size_t length, ixdtf16_record *out);
+uint32_t ixdtf16_parse_time_strict(const uint16_t *text, size_t length, ixdtf16_record *out);
+uint32_t ixdtf16_parse_duration_strict(const uint16_t *text, size_t length, ixdtf_duration *out);
+uint32_t ixdtf16_parse_with_annotations(const uint16_t *text, size_t length,
+    ixdtf16_annotation *annotations, size_t room, size_t *count, ixdtf16_record *out);
+uint32_t ixdtf16_parse_year_month_with_annotations(const uint16_t *text, size_t length,
+    ixdtf16_annotation *annotations, size_t room, size_t *count, ixdtf16_record *out);
+uint32_t ixdtf16_parse_month_day_with_annotations(const uint16_t *text, size_t length,
+    ixdtf16_annotation *annotations, size_t room, size_t *count, ixdtf16_record *out);
+uint32_t ixdtf16_parse_time_with_annotations(const uint16_t *text, size_t length,
+    ixdtf16_annotation *annotations, size_t room, size_t *count, ixdtf16_record *out);
+uint32_t ixdtf16_reply(ixdtf16_calendar *calendar, const ixdtf16_annotation *reply);
+
+/* The text of an error by its number, as "Invalid character while parsing date separator.": from 1 to
+ * 46; any other number has the text of 1. */
+void ixdtf_error_text(uint32_t error, ixdtf_text *out);
+
+/* The layout is the library's: where it is another one for this compiler, nothing compiles. */
+#if defined(__cplusplus) && __cplusplus >= 201103L
+#define IXDTF_ASSERT_(what, name) static_assert(what, #name)
+#elif !defined(__cplusplus) && defined(__STDC_VERSION__) && __STDC_VERSION__ >= 201112L
+#define IXDTF_ASSERT_(what, name) _Static_assert(what, #name)
+#else
+#define IXDTF_ASSERT_(what, name) typedef char ixdtf_asserted_##name[(what) ? 1 : -1]
+#endif
+#define IXDTF_SIZE_(type, size) IXDTF_ASSERT_(sizeof(type) == (size), type##_size)
+#define IXDTF_PLACE_(type, field, place) IXDTF_ASSERT_(offsetof(type, field) == (place), type##_##field)
+IXDTF_ASSERT_(sizeof(void *) == 8 && sizeof(size_t) == 8 && sizeof(bool) == 1, pointers);
+#define IXDTF_SLICE_(type) IXDTF_SIZE_(type, 16); IXDTF_PLACE_(type, at, 0); IXDTF_PLACE_(type, length, 8)
+IXDTF_SLICE_(ixdtf_text);
+IXDTF_SLICE_(ixdtf_units);
+IXDTF_SLICE_(ixdtf16_units);
+IXDTF_SIZE_(ixdtf_date, 8);
+IXDTF_PLACE_(ixdtf_date, year, 0);
+IXDTF_PLACE_(ixdtf_date, month, 4);
+IXDTF_PLACE_(ixdtf_date, day, 5);
+IXDTF_PLACE_(ixdtf_date, is_there, 6);
+IXDTF_SIZE_(ixdtf_time, 16);
+IXDTF_PLACE_(ixdtf_time, fraction, 0);
+IXDTF_PLACE_(ixdtf_time, fraction_digits, 8);
+IXDTF_PLACE_(ixdtf_time, hour, 9);
+IXDTF_PLACE_(ixdtf_time, minute, 10);
+IXDTF_PLACE_(ixdtf_time, second, 11);
+IXDTF_PLACE_(ixdtf_time, is_there, 12);
+IXDTF_SIZE_(ixdtf_offset, 16);
+IXDTF_PLACE_(ixdtf_offset, fraction, 0);
+IXDTF_PLACE_(ixdtf_offset, fraction_digits, 8);
+IXDTF_PLACE_(ixdtf_offset, form, 9);
+IXDTF_PLACE_(ixdtf_offset, is_negative, 10);
+IXDTF_PLACE_(ixdtf_offset, hour, 11);
+IXDTF_PLACE_(ixdtf_offset, minute, 12);
+IXDTF_PLACE_(ixdtf_offset, second, 13);
+#define IXDTF_ZONE_PLACES_(type) IXDTF_SIZE_(type, 24); IXDTF_PLACE_(type, name, 0); IXDTF_PLACE_(type, form, 16); \
+    IXDTF_PLACE_(type, is_critical, 17); IXDTF_PLACE_(type, is_negative, 18); IXDTF_PLACE_(type, hour, 19); IXDTF_PLACE_(type, minute, 20)
+IXDTF_ZONE_PLACES_(ixdtf_zone);
+IXDTF_ZONE_PLACES_(ixdtf16_zone);
+#define IXDTF_RECORD_PLACES_(type) IXDTF_SIZE_(type, 104); IXDTF_PLACE_(type, date, 0); IXDTF_PLACE_(type, time, 8); \
+    IXDTF_PLACE_(type, offset, 24); IXDTF_PLACE_(type, zone, 40); IXDTF_PLACE_(type, calendar, 64); \
+    IXDTF_PLACE_(type, has_calendar, 80); IXDTF_PLACE_(type, location, 88)
+IXDTF_RECORD_PLACES_(ixdtf_record);
+IXDTF_RECORD_PLACES_(ixdtf16_record);
+#define IXDTF_ANNOTATION_PLACES_(type) IXDTF_SIZE_(type, 40); IXDTF_PLACE_(type, key, 0); IXDTF_PLACE_(type, value, 16); \
+    IXDTF_PLACE_(type, is_critical, 32)
+IXDTF_ANNOTATION_PLACES_(ixdtf_annotation);
+IXDTF_ANNOTATION_PLACES_(ixdtf16_annotation);
+#define IXDTF_CALENDAR_PLACES_(type) IXDTF_SIZE_(type, 24); IXDTF_PLACE_(type, value, 0); IXDTF_PLACE_(type, is_critical, 16); \
+    IXDTF_PLACE_(type, is_there, 17)
+IXDTF_CALENDAR_PLACES_(ixdtf_calendar);
+IXDTF_CALENDAR_PLACES_(ixdtf16_calendar);
+IXDTF_SIZE_(ixdtf_duration, 72);
+IXDTF_PLACE_(ixdtf_duration, days, 0);
+IXDTF_PLACE_(ixdtf_duration, hours, 8);
+IXDTF_PLACE_(ixdtf_duration, minutes, 16);
+IXDTF_PLACE_(ixdtf_duration, seconds, 24);
+IXDTF_PLACE_(ixdtf_duration, fraction, 32);
+IXDTF_PLACE_(ixdtf_duration, years, 40);
+IXDTF_PLACE_(ixdtf_duration, months, 44);
+IXDTF_PLACE_(ixdtf_duration, weeks, 48);
+IXDTF_PLACE_(ixdtf_duration, fraction_digits, 52);
+IXDTF_PLACE_(ixdtf_duration, time_form, 53);
+IXDTF_PLACE_(ixdtf_duration, has_date, 54);
+IXDTF_PLACE_(ixdtf_duration, is_negative, 55);
+IXDTF_PLACE_(ixdtf_duration, location, 56);
+
+#ifdef __cplusplus
+}
+#endif
+#endif

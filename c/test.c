@@ -1,0 +1,320 @@
+/* Tests of the library through ixdtf.h, as C99 and as C++: every call in both widths, every error, every optional part, and the layout of each
+ * struct. c/test compiles and runs this with every compiler that is there. It prints what fails, and how many checks were made. */
+#if !defined(_DEFAULT_SOURCE)
+#define _DEFAULT_SOURCE
+#endif
+#include "ixdtf.h"
+#include <stdarg.h>
+#include <stdio.h>
+#include <stdlib.h>
+#include <string.h>
+#include <sys/mman.h>
+#include <unistd.h>
+
+#define COUNT(array) (sizeof(array) / sizeof((array)[0]))
+#define TEXT(literal) literal, sizeof(literal) - 1
+
+/* An error's number, its variant and its text. */
+struct error_row { uint32_t number; const char *name, *text; };
+/* A reader's word, a text and what the reader gives of it. In a text \uXXXX is one unit of 16 bits. */
+struct row { const char *reader; const char *text; size_t length; const char *answer; };
+/* The same with a handler, and the annotations that it is asked about. */
+struct handler_row { const char *reader, *handler; const char *text; size_t length; const char *answer, *calls; };
+
+#include "test_rows.h"
+
+static unsigned long checks, failures;
+static const char *row_shown = "";
+
+static void check(int holds, const char *what) {
+    checks++;
+    if (!holds) {
+        failures++;
+        printf("failed: %s (at \"%s\")\n", what, row_shown);
+    }
+}
+
+static void is(const char *found, const char *wanted, const char *reader, const char *text) {
+    checks++;
+    if (strcmp(found, wanted) != 0) {
+        failures++;
+        printf("failed: %s of \"%s\"\n    wanted %s\n    found  %s\n", reader, text, wanted, found);
+    }
+}
+
+/* A line that is written part by part. */
+struct line { char text[2048]; size_t length; };
+
+static void show(struct line *line, const char *format, ...) {
+    va_list parts;
+    int written;
+    va_start(parts, format);
+    written = vsnprintf(line->text + line->length, sizeof(line->text) - line->length, format, parts);
+    va_end(parts);
+    if (written < 0 || (size_t)written >= sizeof(line->text) - line->length) {
+        puts("a line is too long");
+        exit(2);
+    }
+    line->length += (size_t)written;
+}
+
+static void show_fraction(struct line *line, unsigned digits, uint64_t fraction) {
+    if (digits != 0) {
+        show(line, ".f%u:%llu", digits, (unsigned long long)fraction);
+    }
+}
+
+static void show_offset(struct line *line, const ixdtf_offset *offset) {
+    if (offset->form == IXDTF_UTC) {
+        show(line, "Z");
+        return;
+    }
+    check(offset->form == IXDTF_MINUTES || offset->form == IXDTF_SECONDS, "an offset has minutes or seconds");
+    show(line, "%c%u,%u", offset->is_negative ? '-' : '+', offset->hour, offset->minute);
+    if (offset->form == IXDTF_SECONDS) {
+        show(line, ",%u", offset->second);
+        show_fraction(line, offset->fraction_digits, offset->fraction);
+    }
+}
+
+static void show_duration(struct line *line, const ixdtf_duration *it) {
+    show(line, "ok sign=%c", it->is_negative ? '-' : '+');
+    if (it->has_date) {
+        show(line, " date=%lu,%lu,%lu,%llu", (unsigned long)it->years, (unsigned long)it->months, (unsigned long)it->weeks,
+            (unsigned long long)it->days);
+    }
+    if (it->time_form != IXDTF_NO_TIME) {
+        show(line, " time=%llu", (unsigned long long)it->hours);
+        if (it->time_form != IXDTF_LAST_HOURS) {
+            show(line, ",%llu", (unsigned long long)it->minutes);
+        }
+        if (it->time_form == IXDTF_LAST_SECONDS) {
+            show(line, ",%llu", (unsigned long long)it->seconds);
+        }
+        check(it->time_form <= IXDTF_LAST_SECONDS, "a duration has one of three last units");
+        show_fraction(line, it->fraction_digits, it->fraction);
+    }
+}
+
+static unsigned char is_met[47];
+
+static void show_error(struct line *line, uint32_t error, ixdtf_text location) {
+    if (error < 1 || error > COUNT(error_rows)) {
+        show(line, "error without a name: %lu", (unsigned long)error);
+        return;
+    }
+    is_met[error] = 1;
+    if (error == IXDTF_ABRUPT_END) {
+        show(line, "error AE %.*s", (int)location.length, location.at);
+    } else {
+        show(line, "error %s", error_rows[error - 1].name);
+        check(location.length == 0, "an error of the text that is no end has no location");
+    }
+}
+
+static int same_date(const ixdtf_date *a, const ixdtf_date *b) {
+    return a->year == b->year && a->month == b->month && a->day == b->day && a->is_there == b->is_there;
+}
+
+static int same_time(const ixdtf_time *a, const ixdtf_time *b) {
+    return a->fraction == b->fraction && a->fraction_digits == b->fraction_digits && a->hour == b->hour && a->minute == b->minute
+        && a->second == b->second && a->is_there == b->is_there;
+}
+
+static int same_offset(const ixdtf_offset *a, const ixdtf_offset *b) {
+    return a->fraction == b->fraction && a->fraction_digits == b->fraction_digits && a->form == b->form && a->is_negative == b->is_negative
+        && a->hour == b->hour && a->minute == b->minute && a->second == b->second;
+}
+
+static int same_duration_but_location(const ixdtf_duration *a, const ixdtf_duration *b) {
+    return a->days == b->days && a->hours == b->hours && a->minutes == b->minutes && a->seconds == b->seconds && a->fraction == b->fraction
+        && a->years == b->years && a->months == b->months && a->weeks == b->weeks && a->fraction_digits == b->fraction_digits
+        && a->time_form == b->time_form && a->has_date == b->has_date && a->is_negative == b->is_negative;
+}
+
+/* A duration in which every part stands already. */
+static ixdtf_duration used_duration(void) {
+    ixdtf_duration it = { 1, 2, 3, 4, 5, 6, 7, 8, 9, IXDTF_LAST_SECONDS, true, true, { "", 0 } };
+    return it;
+}
+
+/* The unit at the front of a row's text, and how many bytes of the text it takes. */
+static size_t row_unit(const char *text, size_t length, size_t width, uint16_t *unit) {
+    if (width == 2 && length >= 6 && text[0] == '\\' && text[1] == 'u') {
+        char digits[5];
+        memcpy(digits, text + 2, 4);
+        digits[4] = 0;
+        *unit = (uint16_t)strtoul(digits, NULL, 16);
+        return 6;
+    }
+    *unit = (unsigned char)text[0];
+    return 1;
+}
+
+/* Whether a row of 8-bit units says the same of 16-bit units: those from 1 to 126 are the letters of both. */
+static int is_shared(const char *text, size_t length, size_t width) {
+    size_t i;
+    for (i = 0; i < length; i++) {
+        if (width == 2 && (text[i] < 1 || text[i] > 126)) {
+            return 0;
+        }
+    }
+    return 1;
+}
+
+/* Bytes that have none before and none behind them that can be read. */
+#define ROOM ((size_t)4 << 12)
+static unsigned char *room;
+
+static void make_room(void) {
+    size_t page = (size_t)sysconf(_SC_PAGESIZE);
+    unsigned char *all;
+    if (ROOM % page != 0) {
+        puts("a page is larger than the room");
+        exit(2);
+    }
+    all = (unsigned char *)mmap(NULL, ROOM + 2 * page, PROT_NONE, MAP_PRIVATE | MAP_ANONYMOUS, -1, 0);
+    if ((void *)all == MAP_FAILED || mprotect(all + page, ROOM, PROT_READ | PROT_WRITE) != 0) {
+        puts("there is no memory for the tests");
+        exit(2);
+    }
+    room = all + page;
+}
+
+#define UNIT uint8_t
+#define CALL(name) ixdtf_##name
+#define OWN(name) narrow_##name
+#define NEW_RECORD IXDTF_RECORD
+#define NEW_ANNOTATION IXDTF_ANNOTATION
+#define NEW_CALENDAR IXDTF_CALENDAR
+#include "test_width.h"
+
+#define UNIT uint16_t
+#define CALL(name) ixdtf16_##name
+#define OWN(name) wide_##name
+#define NEW_RECORD IXDTF16_RECORD
+#define NEW_ANNOTATION IXDTF16_ANNOTATION
+#define NEW_CALENDAR IXDTF16_CALENDAR
+#include "test_width.h"
+
+static void test_errors(void) {
+    static const uint32_t others[] = { 0, 47, 100, 103, 0x80000000u, 0xffffffffu };
+    size_t i;
+    check(COUNT(error_rows) == 46, "there are 46 errors");
+    for (i = 0; i < COUNT(error_rows); i++) {
+        ixdtf_text text = IXDTF_TEXT;
+        row_shown = error_rows[i].name;
+        check(error_rows[i].number == i + 1, "errors are numbered in order");
+        ixdtf_error_text(error_rows[i].number, &text);
+        check(text.length == strlen(error_rows[i].text) && !memcmp(text.at, error_rows[i].text, text.length), "the text of an error");
+    }
+    row_shown = "";
+    for (i = 0; i < COUNT(others); i++) {
+        ixdtf_text text = IXDTF_TEXT;
+        ixdtf_error_text(others[i], &text);
+        check(text.length == strlen(error_rows[0].text) && !memcmp(text.at, error_rows[0].text, text.length), "another number has the text of 1");
+    }
+}
+
+/* The numbers of the header beside the variants, each written out once more. */
+static void test_numbers(void) {
+    static const struct { uint32_t number; const char *name; } named[] = {
+        { IXDTF_IMPL_ASSERT, "ImplAssert" }, { IXDTF_NON_ASCII_CODE_POINT, "NonAsciiCodePoint" }, { IXDTF_PARSE_FLOAT, "ParseFloat" },
+        { IXDTF_ABRUPT_END, "AbruptEnd" }, { IXDTF_INVALID_END, "InvalidEnd" }, { IXDTF_INVALID_MONTH_RANGE, "InvalidMonthRange" },
+        { IXDTF_INVALID_DAY_RANGE, "InvalidDayRange" }, { IXDTF_DATE_YEAR, "DateYear" }, { IXDTF_DATE_EXTENDED_YEAR, "DateExtendedYear" },
+        { IXDTF_DATE_MONTH, "DateMonth" }, { IXDTF_DATE_DAY, "DateDay" }, { IXDTF_DATE_UNEXPECTED_END, "DateUnexpectedEnd" },
+        { IXDTF_TIME_REQUIRED, "TimeRequired" }, { IXDTF_TIME_HOUR, "TimeHour" }, { IXDTF_TIME_MINUTE_SECOND, "TimeMinuteSecond" },
+        { IXDTF_TIME_SECOND, "TimeSecond" }, { IXDTF_FRACTION_PART, "FractionPart" }, { IXDTF_DATE_SEPARATOR, "DateSeparator" },
+        { IXDTF_TIME_SEPARATOR, "TimeSeparator" }, { IXDTF_DECIMAL_SEPARATOR, "DecimalSeparator" },
+        { IXDTF_INVALID_ANNOTATION, "InvalidAnnotation" }, { IXDTF_ANNOTATION_OPEN, "AnnotationOpen" },
+        { IXDTF_ANNOTATION_CLOSE, "AnnotationClose" }, { IXDTF_ANNOTATION_CHAR, "AnnotationChar" },
+        { IXDTF_ANNOTATION_KEY_VALUE_SEPARATOR, "AnnotationKeyValueSeparator" },
+        { IXDTF_ANNOTATION_KEY_LEADING_CHAR, "AnnotationKeyLeadingChar" }, { IXDTF_ANNOTATION_KEY_CHAR, "AnnotationKeyChar" },
+        { IXDTF_ANNOTATION_VALUE_CHAR_POST_HYPHEN, "AnnotationValueCharPostHyphen" }, { IXDTF_ANNOTATION_VALUE_CHAR, "AnnotationValueChar" },
+        { IXDTF_INVALID_MINUTE_PRECISION_OFFSET, "InvalidMinutePrecisionOffset" },
+        { IXDTF_CRITICAL_DUPLICATE_CALENDAR, "CriticalDuplicateCalendar" }, { IXDTF_UNRECOGNIZED_CRITICAL, "UnrecognizedCritical" },
+        { IXDTF_TZ_LEADING_CHAR, "TzLeadingChar" }, { IXDTF_IANA_CHAR_POST_SEPARATOR, "IanaCharPostSeparator" }, { IXDTF_IANA_CHAR, "IanaChar" },
+        { IXDTF_UTC_TIME_SEPARATOR, "UtcTimeSeparator" }, { IXDTF_OFFSET_NEEDS_SIGN, "OffsetNeedsSign" },
+        { IXDTF_MONTH_DAY_HYPHEN, "MonthDayHyphen" }, { IXDTF_DURATION_DISGNATOR, "DurationDisgnator" },
+        { IXDTF_DURATION_VALUE_EXCEEDED_RANGE, "DurationValueExceededRange" }, { IXDTF_DATE_DURATION_PART_ORDER, "DateDurationPartOrder" },
+        { IXDTF_TIME_DURATION_PART_ORDER, "TimeDurationPartOrder" }, { IXDTF_TIME_DURATION_DESIGNATOR, "TimeDurationDesignator" },
+        { IXDTF_AMBIGUOUS_TIME_MONTH_DAY, "AmbiguousTimeMonthDay" }, { IXDTF_AMBIGUOUS_TIME_YEAR_MONTH, "AmbiguousTimeYearMonth" },
+        { IXDTF_INVALID_MONTH_DAY, "InvalidMonthDay" },
+    };
+    size_t i;
+    check(COUNT(named) == COUNT(error_rows), "each error is named");
+    for (i = 0; i < COUNT(named); i++) {
+        row_shown = named[i].name;
+        check(named[i].number == error_rows[i].number && !strcmp(named[i].name, error_rows[i].name), "the number of an error");
+    }
+    row_shown = "";
+}
+
+/* Each field of a record holds another number, so that a field at another place than the library's shows. The bytes behind the structs stay. */
+static void test_layout(void) {
+    static const char *text = "-123456-07-08T09:10:11.1213-14:15:16.17181[!Abc/d][u-ca=ef-g]";
+    static const char *spoken = "-P1Y2M3W4DT5H6M7.890S";
+    struct { ixdtf_record record; unsigned char behind[64]; } one;
+    struct { ixdtf_duration duration; unsigned char behind[64]; } two;
+    ixdtf_record record = IXDTF_RECORD;
+    ixdtf_duration duration = IXDTF_DURATION;
+    size_t i;
+    memset(&one, 0xa5, sizeof one);
+    memset(&two, 0xa5, sizeof two);
+    one.record = record;
+    two.duration = duration;
+    check(ixdtf_parse((const uint8_t *)text, strlen(text), &one.record) == 0, "a text with every part");
+    check(one.record.date.year == -123456 && one.record.date.month == 7 && one.record.date.day == 8 && one.record.date.is_there, "a date");
+    check(one.record.time.hour == 9 && one.record.time.minute == 10 && one.record.time.second == 11 && one.record.time.fraction == 1213
+            && one.record.time.fraction_digits == 4 && one.record.time.is_there,
+        "a time");
+    check(one.record.offset.form == IXDTF_SECONDS && one.record.offset.is_negative && one.record.offset.hour == 14
+            && one.record.offset.minute == 15 && one.record.offset.second == 16 && one.record.offset.fraction == 17181
+            && one.record.offset.fraction_digits == 5,
+        "an offset");
+    check(one.record.zone.form == IXDTF_NAME && one.record.zone.is_critical && one.record.zone.name.length == 5
+            && !memcmp(one.record.zone.name.at, "Abc/d", 5),
+        "a zone");
+    check(one.record.has_calendar && one.record.calendar.length == 4 && !memcmp(one.record.calendar.at, "ef-g", 4), "a calendar");
+    text = "2020-01-01[-12:34]";
+    check(ixdtf_parse((const uint8_t *)text, strlen(text), &one.record) == 0, "a zone by its offset");
+    check(one.record.zone.form == IXDTF_ZONE_OFFSET && !one.record.zone.is_critical && one.record.zone.is_negative && one.record.zone.hour == 12
+            && one.record.zone.minute == 34 && !one.record.time.is_there && one.record.offset.form == IXDTF_NO_OFFSET
+            && !one.record.has_calendar,
+        "a zone by its offset alone");
+    check(ixdtf_parse_duration((const uint8_t *)spoken, strlen(spoken), &two.duration) == 0, "a duration with every part");
+    check(two.duration.is_negative && two.duration.has_date && two.duration.years == 1 && two.duration.months == 2 && two.duration.weeks == 3
+            && two.duration.days == 4 && two.duration.time_form == IXDTF_LAST_SECONDS && two.duration.hours == 5 && two.duration.minutes == 6
+            && two.duration.seconds == 7 && two.duration.fraction == 890 && two.duration.fraction_digits == 3,
+        "a duration");
+    for (i = 0; i < 64; i++) {
+        check(one.behind[i] == 0xa5 && two.behind[i] == 0xa5, "nothing behind a struct is written");
+    }
+}
+
+/* Each error that a text can have came, and no other. */
+static void test_met(void) {
+    static const unsigned char never[] = { 1, 3, 12, 13, 20, 21, 22, 24 };
+    size_t i, j;
+    for (i = 1; i <= COUNT(error_rows); i++) {
+        int comes = 1;
+        for (j = 0; j < COUNT(never); j++) {
+            comes = comes && never[j] != i;
+        }
+        row_shown = error_rows[i - 1].name;
+        check(is_met[i] == comes, "an error comes from some row, or from none at all");
+    }
+    row_shown = "";
+}
+
+int main(void) {
+    make_room();
+    test_numbers();
+    test_errors();
+    test_layout();
+    narrow_test_all();
+    wide_test_all();
+    test_met();
+    printf("%lu checks, %lu failed\n", checks, failures);
+    return failures == 0 ? 0 : 1;
+}

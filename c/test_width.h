@@ -1,0 +1,373 @@
+/* The tests of one width. test.c includes this file once for each, with
+ *
+ *     UNIT         the type of a unit
+ *     CALL(name)   a call or a type of the header: ixdtf_name or ixdtf16_name
+ *     OWN(name)    a function of this file in this width
+ *     NEW_RECORD, NEW_ANNOTATION, NEW_CALENDAR   the initial values of the header
+ */
+
+/* A text of a row as units, which stand right before bytes that cannot be read, or right behind such. */
+static const UNIT *OWN(placed)(const char *text, size_t length, int at_end, size_t *units) {
+    UNIT *at;
+    size_t i, count = 0;
+    uint16_t unit;
+    for (i = 0; i < length; count++) {
+        i += row_unit(text + i, length - i, sizeof(UNIT), &unit);
+    }
+    at = (UNIT *)(void *)(at_end ? room + ROOM - count * sizeof(UNIT) : room);
+    *units = count;
+    for (i = 0, count = 0; i < length; count++) {
+        i += row_unit(text + i, length - i, sizeof(UNIT), &unit);
+        at[count] = (UNIT)unit;
+    }
+    return at;
+}
+
+static void OWN(show_units)(struct line *line, CALL(units) units) {
+    size_t i;
+    for (i = 0; i < units.length; i++) {
+        unsigned unit = units.at[i];
+        if (sizeof(UNIT) == 2 && (unit < 1 || unit > 126)) {
+            show(line, "\\u%04x", unit);
+        } else {
+            show(line, "%c", (int)unit);
+        }
+    }
+}
+
+static void OWN(show_zone)(struct line *line, const CALL(zone) *zone) {
+    if (zone->form == IXDTF_NAME) {
+        OWN(show_units)(line, zone->name);
+    } else {
+        check(zone->form == IXDTF_ZONE_OFFSET, "a zone is a name or an offset");
+        show(line, "%c%u,%u", zone->is_negative ? '-' : '+', zone->hour, zone->minute);
+    }
+}
+
+static void OWN(show_record)(struct line *line, const CALL(record) *record) {
+    show(line, "ok");
+    if (record->date.is_there) {
+        show(line, " date=%ld,%u,%u", (long)record->date.year, record->date.month, record->date.day);
+    }
+    if (record->time.is_there) {
+        show(line, " time=%u,%u,%u", record->time.hour, record->time.minute, record->time.second);
+        show_fraction(line, record->time.fraction_digits, record->time.fraction);
+    }
+    if (record->offset.form != IXDTF_NO_OFFSET) {
+        show(line, " offset=");
+        show_offset(line, &record->offset);
+    }
+    if (record->zone.form != IXDTF_NO_ZONE) {
+        show(line, " tz=%s", record->zone.is_critical ? "!" : "");
+        OWN(show_zone)(line, &record->zone);
+    }
+    if (record->has_calendar) {
+        show(line, " calendar=");
+        OWN(show_units)(line, record->calendar);
+    }
+}
+
+/* Calls a reader by the word of a row. */
+static uint32_t OWN(read)(const char *reader, int strict, const UNIT *text, size_t length, CALL(record) *out, ixdtf_duration *duration) {
+    if (!strcmp(reader, "parse")) {
+        return CALL(parse)(text, length, out);
+    } else if (!strcmp(reader, "year-month")) {
+        return CALL(parse_year_month)(text, length, out);
+    } else if (!strcmp(reader, "month-day")) {
+        return strict ? CALL(parse_month_day_strict)(text, length, out) : CALL(parse_month_day)(text, length, out);
+    } else if (!strcmp(reader, "time")) {
+        return strict ? CALL(parse_time_strict)(text, length, out) : CALL(parse_time)(text, length, out);
+    } else if (!strcmp(reader, "offset")) {
+        return CALL(parse_offset)(text, length, out);
+    } else if (!strcmp(reader, "zone")) {
+        return CALL(parse_identifier)(text, length, out);
+    } else if (!strcmp(reader, "iana")) {
+        return CALL(parse_iana_identifier)(text, length, out);
+    }
+    check(!strcmp(reader, "duration"), "a row names a reader");
+    return strict ? CALL(parse_duration_strict)(text, length, duration) : CALL(parse_duration)(text, length, duration);
+}
+
+/* Calls a reader that lists. */
+static uint32_t OWN(list)(const char *reader, const UNIT *text, size_t length, CALL(annotation) *list, size_t places,
+    size_t *count, CALL(record) *out) {
+    if (!strcmp(reader, "parse")) {
+        return CALL(parse_with_annotations)(text, length, list, places, count, out);
+    } else if (!strcmp(reader, "year-month")) {
+        return CALL(parse_year_month_with_annotations)(text, length, list, places, count, out);
+    } else if (!strcmp(reader, "month-day")) {
+        return CALL(parse_month_day_with_annotations)(text, length, list, places, count, out);
+    }
+    check(!strcmp(reader, "time"), "a row names a reader that lists");
+    return CALL(parse_time_with_annotations)(text, length, list, places, count, out);
+}
+
+/* What a reader gave, as the rows show it. */
+static void OWN(show_outcome)(struct line *line, const char *reader, uint32_t error, const CALL(record) *record, const ixdtf_duration *duration) {
+    line->length = 0;
+    if (error != 0) {
+        show_error(line, error, !strcmp(reader, "duration") ? duration->location : record->location);
+    } else if (!strcmp(reader, "duration")) {
+        show_duration(line, duration);
+    } else if (!strcmp(reader, "offset")) {
+        show(line, "ok offset=");
+        show_offset(line, &record->offset);
+    } else if (!strcmp(reader, "zone")) {
+        show(line, "ok tz=");
+        OWN(show_zone)(line, &record->zone);
+    } else if (!strcmp(reader, "iana")) {
+        show(line, "ok tz=");
+        OWN(show_units)(line, record->zone.name);
+    } else {
+        OWN(show_record)(line, record);
+    }
+}
+
+static int OWN(is_part)(CALL(units) part, const UNIT *text, size_t length) {
+    return part.at >= text && part.at + part.length <= text + length;
+}
+
+static int OWN(same_units)(CALL(units) left, CALL(units) right) {
+    return left.at == right.at && left.length == right.length;
+}
+
+/* Whether two records are alike in all but the location. */
+static int OWN(same_but_location)(const CALL(record) *a, const CALL(record) *b) {
+    return same_date(&a->date, &b->date) && same_time(&a->time, &b->time) && same_offset(&a->offset, &b->offset)
+        && OWN(same_units)(a->zone.name, b->zone.name) && a->zone.form == b->zone.form && a->zone.is_critical == b->zone.is_critical
+        && a->zone.is_negative == b->zone.is_negative && a->zone.hour == b->zone.hour && a->zone.minute == b->zone.minute
+        && OWN(same_units)(a->calendar, b->calendar) && a->has_calendar == b->has_calendar;
+}
+
+/* A record in which every part stands already. */
+static CALL(record) OWN(used_record)(void) {
+    static const UNIT name[] = { 'A', '/', 'b' };
+    static const UNIT calendar[] = { 'x', '-', 'y' };
+    CALL(record) record = NEW_RECORD;
+    ixdtf_date date = { -271821, 4, 20, true };
+    ixdtf_time time = { 987654321, 9, 23, 59, 60, true };
+    ixdtf_offset offset = { 123, 3, IXDTF_SECONDS, true, 11, 22, 33 };
+    record.date = date;
+    record.time = time;
+    record.offset = offset;
+    record.zone.name.at = name;
+    record.zone.name.length = 3;
+    record.zone.form = IXDTF_NAME;
+    record.zone.is_critical = true;
+    record.zone.is_negative = true;
+    record.zone.hour = 12;
+    record.zone.minute = 34;
+    record.calendar.at = calendar;
+    record.calendar.length = 3;
+    record.has_calendar = true;
+    return record;
+}
+
+/* A row, in a new record and in one that was used before, and with the text at either end of what can be read. */
+static void OWN(test_row)(const struct row *row, int strict) {
+    int used;
+    for (used = 0; used < 2; used++) {
+        struct line line;
+        size_t length;
+        const UNIT *text = OWN(placed)(row->text, row->length, used, &length);
+        CALL(record) record = NEW_RECORD;
+        ixdtf_duration duration = IXDTF_DURATION;
+        uint32_t error;
+        CALL(record) before;
+        ixdtf_duration duration_before;
+        if (used) {
+            record = OWN(used_record)();
+            duration = used_duration();
+        }
+        before = record;
+        duration_before = duration;
+        error = OWN(read)(row->reader, strict, text, length, &record, &duration);
+        OWN(show_outcome)(&line, row->reader, error, &record, &duration);
+        is(line.text, row->answer, row->reader, row->text);
+        if (error != 0) {
+            check(OWN(same_but_location)(&record, &before), "a refusal leaves the record");
+            check(same_duration_but_location(&duration, &duration_before), "a refusal leaves the duration");
+        } else {
+            check(record.location.length == before.location.length, "a record that is read has no new location");
+            if (strcmp(row->reader, "duration") && strcmp(row->reader, "offset")) {
+                check(record.zone.form != IXDTF_NAME || !strcmp(row->reader, "iana") || OWN(is_part)(record.zone.name, text, length),
+                    "a name is a part of the text");
+                check(!strcmp(row->reader, "zone") || !strcmp(row->reader, "iana") || !record.has_calendar
+                        || OWN(is_part)(record.calendar, text, length),
+                    "a calendar is a part of the text");
+            }
+            if (!strcmp(row->reader, "offset") || !strcmp(row->reader, "zone") || !strcmp(row->reader, "iana")) {
+                CALL(record) rest = record;
+                if (!strcmp(row->reader, "offset")) {
+                    rest.offset = before.offset;
+                } else {
+                    check(record.zone.is_critical == before.zone.is_critical, "a zone alone is not said to be critical");
+                    rest.zone = before.zone;
+                }
+                check(OWN(same_but_location)(&rest, &before), "the other parts stay");
+            }
+        }
+    }
+}
+
+/* What a handler of the rows replies to the annotation of a number; 0 where it passes it over. */
+static int OWN(replies)(const char *handler, size_t number, const CALL(annotation) *it, CALL(annotation) *reply) {
+    static const UNIT key[] = { 'u', '-', 'c', 'a' };
+    static const UNIT first[] = { 'a' };
+    static const UNIT second[] = { 'b' };
+    *reply = *it;
+    if (!strcmp(handler, "none")) {
+        return 0;
+    } else if (!strcmp(handler, "crit")) {
+        reply->is_critical = true;
+    } else if (!strcmp(handler, "flip")) {
+        reply->is_critical = !it->is_critical;
+    } else if (!strcmp(handler, "foreign")) {
+        if (number == 2) {
+            return 0;
+        } else if (number < 2) {
+            reply->key.at = key;
+            reply->key.length = 4;
+            reply->value.at = number == 0 ? first : second;
+            reply->value.length = 1;
+            reply->is_critical = number == 0 ? false : it->is_critical;
+        }
+    } else {
+        check(!strcmp(handler, "id"), "a row names a handler");
+    }
+    return 1;
+}
+
+/* Lists the annotations in arrays of every length up to all of them, and two places more. */
+static size_t OWN(test_listing)(const struct handler_row *row, const UNIT *text, size_t length) {
+    CALL(annotation) all[64], some[64];
+    CALL(annotation) none = NEW_ANNOTATION;
+    CALL(record) record = NEW_RECORD, again = NEW_RECORD;
+    size_t count = 7, places, i;
+    uint32_t error = OWN(list)(row->reader, text, length, all, 0, &count, &record);
+    check(count <= 60, "a row has few annotations");
+    for (places = 0; places <= count + 2; places++) {
+        size_t found = 7;
+        for (i = 0; i < 64; i++) {
+            some[i] = none;
+        }
+        check(OWN(list)(row->reader, text, length, some, places, &found, &again) == error, "the room changes no outcome");
+        check(found == count, "the room changes no count");
+        check(OWN(same_but_location)(&record, &again), "the room changes no record");
+        for (i = 0; i < 64; i++) {
+            if (i < places && i < count) {
+                check(OWN(is_part)(some[i].key, text, length) && OWN(is_part)(some[i].value, text, length)
+                        && some[i].key.at + some[i].key.length + 1 == some[i].value.at && some[i].key.at[some[i].key.length] == '='
+                        && some[i].is_critical == (some[i].key.at[-1] == '!'),
+                    "an annotation is a part of the text");
+            } else {
+                check(OWN(same_units)(some[i].key, none.key) && OWN(same_units)(some[i].value, none.value) && !some[i].is_critical,
+                    "the other places stay");
+            }
+        }
+    }
+    return count;
+}
+
+/* Lists, asks the handler about each annotation in order, and stops at the first reply that is refused. */
+static void OWN(test_handler)(const struct handler_row *row) {
+    struct line line, calls;
+    size_t length, count = 0, found, i;
+    const UNIT *text = OWN(placed)(row->text, row->length, 1, &length);
+    CALL(annotation) list[64];
+    CALL(record) record = NEW_RECORD;
+    CALL(calendar) calendar = NEW_CALENDAR;
+    ixdtf_duration duration = IXDTF_DURATION;
+    uint32_t error, refused = 0;
+    for (i = 0; i < 64; i++) {
+        CALL(annotation) none = NEW_ANNOTATION;
+        list[i] = none;
+    }
+    found = OWN(test_listing)(row, text, length);
+    error = OWN(list)(row->reader, text, length, list, 64, &count, &record);
+    check(count == found, "the count is always the same");
+    calls.length = 0;
+    show(&calls, "%s", "");
+    for (i = 0; i < count && refused == 0; i++) {
+        CALL(annotation) reply;
+        show(&calls, "[%s", list[i].is_critical ? "!" : "");
+        OWN(show_units)(&calls, list[i].key);
+        show(&calls, "=");
+        OWN(show_units)(&calls, list[i].value);
+        show(&calls, "]");
+        if (OWN(replies)(row->handler, i, &list[i], &reply)) {
+            CALL(calendar) before = calendar;
+            refused = CALL(reply)(&calendar, &reply);
+            check(refused == 0 || refused == IXDTF_CRITICAL_DUPLICATE_CALENDAR || refused == IXDTF_UNRECOGNIZED_CRITICAL, "a reply's error");
+            check((refused == 0 && !before.is_there) || (OWN(same_units)(before.value, calendar.value) && before.is_critical == calendar.is_critical
+                      && before.is_there == calendar.is_there),
+                "the first calendar is kept");
+        }
+    }
+    if (refused != 0) {
+        error = refused;
+    } else if (error == 0) {
+        check(!record.has_calendar, "a reader that lists keeps no calendar");
+        record.has_calendar = calendar.is_there;
+        record.calendar = calendar.value;
+    }
+    OWN(show_outcome)(&line, row->reader, error, &record, &duration);
+    is(line.text, row->answer, row->handler, row->text);
+    is(calls.text, row->calls, row->handler, row->text);
+}
+
+static void OWN(test_texts)(void) {
+    static const UNIT nothing[1] = { 0 };
+    static const UNIT date[] = { '2', '0', '2', '4', '-', '0', '3', '-', '0', '2', 0, '[', 'x' };
+    CALL(record) record = NEW_RECORD;
+    CALL(annotation) list[1] = { NEW_ANNOTATION };
+    CALL(annotation) critical = NEW_ANNOTATION;
+    CALL(calendar) calendar = NEW_CALENDAR;
+    size_t count = 7;
+    check(CALL(parse)(nothing, 0, &record) == IXDTF_ABRUPT_END, "a text without units");
+    check(record.location.length == 5 && !memcmp(record.location.at, "digit", 5), "the location of a text without units");
+    check(CALL(parse)(date, 10, &record) == IXDTF_OK && record.date.is_there && record.date.day == 2, "a text ends at its length");
+    check(CALL(parse)(date, 11, &record) == (sizeof(UNIT) == 1 ? IXDTF_INVALID_END : IXDTF_NON_ASCII_CODE_POINT), "a zero is a unit");
+    check(record.location.length == 0, "another error has no location");
+    check(CALL(parse_with_annotations)(date, 10, list, 0, &count, &record) == IXDTF_OK && count == 0, "a text without annotations");
+    check(CALL(reply)(&calendar, &critical) == IXDTF_OK && !calendar.is_there, "a reply without units");
+    critical.is_critical = true;
+    check(CALL(reply)(&calendar, &critical) == IXDTF_UNRECOGNIZED_CRITICAL && !calendar.is_there, "a critical reply without units");
+}
+
+static void OWN(test_all)(void) {
+    size_t i;
+    OWN(test_texts)();
+    for (i = 0; i < COUNT(rows); i++) {
+        row_shown = rows[i].text;
+        if (is_shared(rows[i].text, rows[i].length, sizeof(UNIT))) {
+            OWN(test_row)(&rows[i], 0);
+        }
+    }
+    for (i = 0; i < COUNT(strict_rows); i++) {
+        row_shown = strict_rows[i].text;
+        if (is_shared(strict_rows[i].text, strict_rows[i].length, sizeof(UNIT))) {
+            OWN(test_row)(&strict_rows[i], 1);
+        }
+    }
+    for (i = 0; i < COUNT(handler_rows); i++) {
+        row_shown = handler_rows[i].text;
+        if (is_shared(handler_rows[i].text, handler_rows[i].length, sizeof(UNIT))) {
+            OWN(test_handler)(&handler_rows[i]);
+        }
+    }
+    if (sizeof(UNIT) == 2) {
+        for (i = 0; i < COUNT(wide_rows); i++) {
+            row_shown = wide_rows[i].text;
+            OWN(test_row)(&wide_rows[i], 0);
+        }
+    }
+    row_shown = "";
+}
+
+#undef UNIT
+#undef CALL
+#undef OWN
+#undef NEW_RECORD
+#undef NEW_ANNOTATION
+#undef NEW_CALENDAR
