@@ -101,7 +101,7 @@ typedef struct ixdtf16_units { const uint16_t *at; size_t length; } ixdtf16_unit
 typedef struct ixdtf_date {
     int32_t year;  /* -999999 to 999999; 0 for a month and a day alone */
     uint8_t month; /* 1 to 12 */
-    uint8_t day;   /* from 1; 1 for a year and a month alone */
+    uint8_t day;   /* 1 to 31; 1 for a year and a month alone; 0 where ixdtf_parse_month_day reads a day 00 */
     bool is_there; /* else the other fields say nothing */
 } ixdtf_date;
 
@@ -336,6 +336,14 @@ IXDTF_PLACE_(ixdtf_duration, time_form, 53);
 IXDTF_PLACE_(ixdtf_duration, has_date, 54);
 IXDTF_PLACE_(ixdtf_duration, is_negative, 55);
 IXDTF_PLACE_(ixdtf_duration, location, 56);
+#undef IXDTF_SLICE_
+#undef IXDTF_ZONE_PLACES_
+#undef IXDTF_RECORD_PLACES_
+#undef IXDTF_ANNOTATION_PLACES_
+#undef IXDTF_CALENDAR_PLACES_
+#undef IXDTF_SIZE_
+#undef IXDTF_PLACE_
+#undef IXDTF_ASSERT_
 
 #ifdef __cplusplus
 }
