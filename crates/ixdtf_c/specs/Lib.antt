@@ -1,4 +1,5 @@
 pub mod Crossing
+pub mod Listing
 pub mod Narrow
 pub mod Outcomes
 pub mod Wide

@@ -1,6 +1,7 @@
 -- What records of 16-bit sources stand for.
 use Rattle.std.specs.Prelude.{◌≡◌, ℕ, List, map, Option, Result}
 use Rattle.ixdtf.specs.declared.records.UtcOffsetRecord.{UtcOffsetRecord}
+use Rattle.ixdtf.specs.declared.records.Annotation.{Annotation as Read}
 use Rattle.ixdtf.specs.language.ZoneNames.{Zone as SomeZone}
 use Rattle.ixdtf.specs.language.Brackets.{ZoneNote, Pair}
 use Rattle.ixdtf.specs.language.Languages.{Parsed}
@@ -45,6 +46,10 @@ name_outcome_by number r = either_by number r.location.now (map (λ unit. unit) 
 
 abbrev pub annotation_by : Annotation → Pair
 annotation_by a = record { critical = a.is_critical; key = map (λ unit. unit) a.key.now; value = map (λ unit. unit) a.value.now }
+
+-- what is written of an annotation that the library's reader read
+abbrev pub annotation_for : {T : Type 0} → Read T ℕ → Annotation
+annotation_for a = record { key = a.key; value = a.value; is_critical = a.critical }
 
 -- the calendar that is kept, where there is one
 abbrev pub calendar_by : Calendar → Option Pair

@@ -1,0 +1,192 @@
+-- From a chain of calls that list annotations to what a listing says of a text.
+use Rattle.std.proofs.Common.{◌≡◌, ◌↔◌, ℕ, ◌+◌, ◌≤◌, min, List, [], ◌∷◌, ◌++◌, length, slice_set, map, Option, Some, None, option_map, Result, Ok, Err, OnOk, refl, sym, ◌∙◌, ap, subst, inl, inr, arith}
+use Rattle.std.proofs.lemmas.List.{append-nil, append_assoc, length-append}
+use Rattle.ixdtf.specs.declared.parsers.profile.Profile.{Profile}
+use Rattle.ixdtf.specs.declared.records.Annotation.{Annotation}
+use Rattle.ixdtf.specs.language.Brackets.{Pair}
+use Rattle.ixdtf.specs.language.Letters.{Text}
+use Rattle.ixdtf.specs.language.Readers.{Reader, CoreKind}
+use Rattle.ixdtf.specs.language.Readers.Reader.{bracketed}
+use Rattle.ixdtf.specs.language.Languages.{Parsed, Derives}
+use Rattle.ixdtf.specs.language.Languages.Derives.{as_parsed}
+use Rattle.ixdtf.specs.language.Languages.Found.{parsed}
+use Rattle.ixdtf.specs.table.Faults.{Fault}
+use Rattle.ixdtf.specs.table.Outcomes.{HasFault, NoRowFits}
+use Rattle.ixdtf.specs.Laws.{InNoOther}
+use Rattle.ixdtf.specs.Handlers.{Reply, first_calendar, calendar_value, with_calendar, RefusedBeside, NoneRefused, LastRefused, GivesRecord, GivesFault}
+use Rattle.ixdtf.specs.Handlers.{pair_of, Calls, handed, replies_of, Step, IsChain, HandledTo}
+use Rattle.ixdtf.proofs.theorems.OnlyOutcome.{only_fault}
+use Rattle.ixdtf.proofs.theorems.FewPairs.{derived_few, gives_few}
+use Rattle.ixdtf_c.specs.Listing.{PassesOver, overwritten, Lists}
+
+-- ---- what is written
+
+overwritten-none : {A : Type 0} (slots : List A) → overwritten slots [] ≡ slots
+overwritten-none [] = refl
+overwritten-none (slot ∷ slots) = refl
+
+-- one more item
+overwritten-more : {A : Type 0} (slots items : List A) (item : A) → slice_set (overwritten slots items) (length items) item ≡ overwritten slots (items ++ (item ∷ []))
+overwritten-more [] [] item = refl
+overwritten-more [] (first ∷ items) item = refl
+overwritten-more (slot ∷ slots) [] item = ap (λ rest. item ∷ rest) (sym (overwritten-none slots))
+overwritten-more (slot ∷ slots) (first ∷ items) item = ap (λ rest. first ∷ rest) (overwritten-more slots items item)
+
+-- ---- replies of none
+
+abbrev nones : {A : Type 0} → List A → List Reply
+nones calls = map (λ call. None) calls
+
+first_calendar-nones : {A : Type 0} (calls : List A) → first_calendar (nones calls) ≡ None
+first_calendar-nones [] = refl
+first_calendar-nones (call ∷ calls) = first_calendar-nones calls
+
+each_is_none : {A : Type 0} (calls : List A) (earlier later : List Reply) (reply : Reply) → nones calls ≡ earlier ++ reply ∷ later → reply ≡ None
+each_is_none [] [] later reply e = cc
+each_is_none [] (b ∷ earlier) later reply e = cc
+each_is_none (call ∷ calls) [] later reply e = cc
+each_is_none (call ∷ calls) (b ∷ earlier) later reply e = let tail : nones calls ≡ earlier ++ reply ∷ later = cc in each_is_none calls earlier later reply tail
+
+unrefused : {A : Type 0} (calls : List A) (earlier later : List Reply) (reply : Reply) (fault : Fault) → nones calls ≡ earlier ++ reply ∷ later
+    → ¬ (RefusedBeside (first_calendar earlier) reply fault)
+unrefused calls earlier later reply fault e refused =
+    subst (λ it. RefusedBeside (first_calendar earlier) it fault) (each_is_none calls earlier later reply e) refused
+
+nones_accepted : {A : Type 0} (calls : List A) → NoneRefused (nones calls)
+nones_accepted calls = record { none = λ earlier later reply fault split. unrefused calls earlier later reply fault split }
+
+nones_not_last : {A : Type 0} (calls : List A) (fault : Fault) → ¬ (LastRefused (nones calls) fault)
+nones_not_last calls fault last = unrefused calls last.earlier [] last.reply fault last.split last.refused
+
+-- what is derived has no calendar yet
+no_calendar : (kind : CoreKind) (text : Text) (found : Parsed) (pairs : List Pair) → Derives (bracketed kind) text (parsed found) pairs → found.calendar ≡ None
+no_calendar kind text found pairs (as_parsed whole) = ap (λ read. read.calendar) whole.has
+
+without_calendar : (found : Parsed) → found.calendar ≡ None → found ≡ with_calendar found None
+without_calendar found none = λ i. record { date = found.date; time = found.time; offset = found.offset; zone = found.zone; calendar = none i }
+
+module _ (kind : CoreKind) (text : Text) where
+  -- a record that the text gives with replies of none is the one that is derived
+  given : {A : Type 0} (calls : List A) (pairs : List Pair) (found : Parsed) → GivesRecord (bracketed kind) text pairs (nones calls) found
+      → Derives (bracketed kind) text (parsed found) pairs
+  given calls pairs found gives =
+      let none : gives.read.calendar ≡ None = no_calendar kind text gives.read pairs gives.whole in
+      let same : found ≡ gives.read =
+      gives.has ∙ ap (λ first. with_calendar gives.read (calendar_value first)) (first_calendar-nones calls) ∙ sym (without_calendar gives.read none) in
+      rw same gives.whole
+
+  gives : {A : Type 0} (calls : List A) (pairs : List Pair) (found : Parsed) → Derives (bracketed kind) text (parsed found) pairs
+      → GivesRecord (bracketed kind) text pairs (nones calls) found
+  gives calls pairs found whole = record {
+    read = found;
+    whole = whole;
+    accepted = nones_accepted calls;
+    has = without_calendar found (no_calendar kind text found pairs whole)
+        ∙ ap (λ first. with_calendar found (calendar_value first)) (sym (first_calendar-nones calls));
+  }
+
+  -- the outcome of replies of none
+  passes_over : {A : Type 0} (profile : Profile) (calls : List A) (pairs : List Pair) (outcome : Result Parsed Fault)
+      → ((found : Parsed) → (outcome ≡ Ok found) ↔ GivesRecord (bracketed kind) text pairs (nones calls) found)
+      → ((fault : Fault) → outcome ≡ Err fault → GivesFault (bracketed kind) text pairs (nones calls) fault)
+      → OnOk outcome (NoRowFits (bracketed kind) text) → OnOk outcome (InNoOther profile (bracketed kind) text)
+      → PassesOver profile (bracketed kind) text pairs outcome
+  passes_over profile calls pairs outcome ok err no_row alone = let fault_of_text : (fault : Fault) → outcome ≡ Err fault → HasFault (bracketed kind) text pairs fault = λ fault is. elim (err fault is) [
+    | inl p ↦ absurd (nones_not_last calls fault p.1)
+    | inr p ↦ p.0
+  ] in record {
+    ok = λ found. (
+      (λ is. given calls pairs found ((ok found).0 is)),
+      λ whole. (ok found).1 (gives calls pairs found whole),
+    );
+    err = fault_of_text;
+    no_row = no_row;
+    alone = alone;
+    only = λ fault is. only_fault (bracketed kind) text pairs fault (fault_of_text fault is);
+  }
+
+  -- no more pairs than letters
+  few : {A : Type 0} (calls : List A) (pairs : List Pair) (outcome : Result Parsed Fault)
+      → ((found : Parsed) → (outcome ≡ Ok found) ↔ GivesRecord (bracketed kind) text pairs (nones calls) found)
+      → ((fault : Fault) → outcome ≡ Err fault → GivesFault (bracketed kind) text pairs (nones calls) fault)
+      → length pairs ≤ length text
+  few calls pairs (Ok found) ok err = derived_few kind text (parsed found) pairs (given calls pairs found ((ok found).0 refl))
+  few calls pairs (Err fault) ok err = gives_few kind text pairs (nones calls) fault (err fault refl)
+
+-- ---- a chain of calls that list
+
+-- each call replies none, and writes its annotation to its slot and counts it
+abbrev pub ListsEach : {T A F : Type 0} → Step T ℕ F → (F → ℕ) → (F → List A) → (Annotation T ℕ → A) → ℕ → Type 0
+ListsEach {T} {A} {F} step count slots item limit =
+    (state : F) (annotation : Annotation T ℕ) (reply : Option (Annotation T ℕ)) (next : F) → step state annotation reply next
+    → (reply ≡ None) × (count next ≡ min (count state + 1) limit) × (slots next ≡ slice_set (slots state) (count state) (item annotation))
+
+-- what each call keeps is kept by all of them
+pub kept : {T U F X : Type 0} (step : Step T U F) (name : F → X)
+    → ((state : F) (annotation : Annotation T U) (reply : Option (Annotation T U)) (next : F) → step state annotation reply next → name next ≡ name state)
+    → (calls : Calls T U) (state last : F) → IsChain step state calls last → name state ≡ name last
+kept step name each [] state last chain = ap name chain
+kept step name each (call ∷ calls) state last (next, stepped, chain) =
+    sym (each state call.0 call.1 next stepped) ∙ kept step name each calls next last chain
+
+-- what is written of each annotation
+abbrev items : {T A : Type 0} → (Annotation T ℕ → A) → Calls T ℕ → List A
+items item calls = map (λ call. item call.0) calls
+
+abbrev unit_number : ℕ → ℕ
+unit_number = λ unit. unit
+
+items_seen : {T A : Type 0} (item : Annotation T ℕ → A) (view : A → Pair)
+    → ((annotation : Annotation T ℕ) → view (item annotation) ≡ pair_of unit_number annotation)
+    → (calls : Calls T ℕ) → map view (items item calls) ≡ handed unit_number calls
+items_seen item view same [] = refl
+items_seen item view same (call ∷ calls) = let head = same call.0 in let tail = items_seen item view same calls in λ i. head i ∷ tail i
+
+items_length : {T A : Type 0} (item : Annotation T ℕ → A) (calls : Calls T ℕ) → length (items item calls) ≡ length (handed unit_number calls)
+items_length item [] = refl
+items_length item (call ∷ calls) = let tail = items_length item calls in omega (arith, tail)
+
+module _ {T A F : Type 0} (step : Step T ℕ F) (count : F → ℕ) (slots : F → List A) (item : Annotation T ℕ → A) (limit : ℕ)
+    (each : ListsEach step count slots item limit) where
+  replies_none : (calls : Calls T ℕ) (state last : F) → IsChain step state calls last → replies_of unit_number calls ≡ nones calls
+  replies_none [] state last chain = refl
+  replies_none (call ∷ calls) state last (next, stepped, chain) =
+      let head = (each state call.0 call.1 next stepped).0 in
+      let tail = replies_none calls next last chain in λ i. option_map (pair_of unit_number) (head i) ∷ tail i
+
+  -- with these items written before
+  listed : (old : List A) (calls : Calls T ℕ) (state last : F) → IsChain step state calls last → (before : List A)
+      → count state ≡ length before → slots state ≡ overwritten old before → length before + length (items item calls) ≤ limit
+      → (count last ≡ length (before ++ items item calls)) × (slots last ≡ overwritten old (before ++ items item calls))
+  listed old [] state last chain before counted written fits = rw (append-nil before, ← chain) (counted, written)
+  listed old (call ∷ calls) state last (next, stepped, chain) before counted written fits =
+      let one = each state call.0 call.1 next stepped in
+      let more : List A = before ++ (item call.0 ∷ []) in
+      let longer : length more ≡ length before + 1 = length-append before (item call.0 ∷ []) in
+      let counted_more : count next ≡ length more = omega (arith, one.1, counted, longer, fits) in
+      let written_more : slots next ≡ overwritten old more = one.2 ∙ rw (counted, written) (overwritten-more old before (item call.0)) in
+      let whole : more ++ items item calls ≡ before ++ (item call.0 ∷ items item calls) = append_assoc before (item call.0 ∷ []) (items item calls) in
+      rw (← whole) (listed old calls next last chain more counted_more written_more (omega (arith, longer, fits)))
+
+  -- what a form with a handler that lists says
+  pub lists : (view : A → Pair) → ((annotation : Annotation T ℕ) → view (item annotation) ≡ pair_of unit_number annotation)
+      → (profile : Profile) (kind : CoreKind) (text : Text) (state last : F) (outcome : Result Parsed Fault)
+      → HandledTo unit_number step state last (bracketed kind) text outcome
+      → OnOk outcome (NoRowFits (bracketed kind) text) → OnOk outcome (InNoOther profile (bracketed kind) text)
+      → count state ≡ 0 → length text ≤ limit
+      → Lists view profile (bracketed kind) text (slots state) (slots last) (count last) outcome
+  lists view same profile kind text state last outcome h no_row alone zero fits =
+      let none = replies_none h.calls state last h.chain in
+      let pairs = handed unit_number h.calls in
+      let ok : (found : Parsed) → (outcome ≡ Ok found) ↔ GivesRecord (bracketed kind) text pairs (nones h.calls) found =
+      λ found. rw (← none) (h.ok found) in
+      let err : (fault : Fault) → outcome ≡ Err fault → GivesFault (bracketed kind) text pairs (nones h.calls) fault =
+      λ fault is. rw (← none) (h.err fault is) in
+      let shorter : length pairs ≤ length text = few kind text h.calls pairs outcome ok err in
+      let all = listed (slots state) h.calls state last h.chain [] zero (sym (overwritten-none (slots state))) (omega (arith, items_length item h.calls, shorter, fits)) in
+      record {
+        annotations = items item h.calls;
+        counted = all.0;
+        written = all.1;
+        read = rw (items_seen item view same h.calls) (passes_over kind text profile h.calls pairs outcome ok err no_row alone);
+      }

@@ -1,0 +1,36 @@
+-- What a reader that lists annotations says of a text.
+use Rattle.std.specs.Prelude.{◌≡◌, ◌↔◌, ℕ, List, [], ◌∷◌, length, map, Result, Ok, Err, OnOk}
+use Rattle.ixdtf.specs.declared.parsers.profile.Profile.{Profile}
+use Rattle.ixdtf.specs.language.Brackets.{Pair}
+use Rattle.ixdtf.specs.language.Letters.{Text}
+use Rattle.ixdtf.specs.language.Languages.{Parsed, Derives}
+use Rattle.ixdtf.specs.language.Languages.Found.{parsed}
+use Rattle.ixdtf.specs.language.Readers.{Reader}
+use Rattle.ixdtf.specs.table.Faults.{Fault}
+use Rattle.ixdtf.specs.table.Outcomes.{HasFault, OnlyFault, NoRowFits}
+use Rattle.ixdtf.specs.Laws.{InNoOther}
+
+-- Of a text with these annotations before its end or its fault, all of which are passed over: `Ok` exactly with the record that
+-- the language derives with them, and only where no row of the fault table fits and no other reader has the text; and `Err` only
+-- with the one fault that the text has behind them.
+pub record PassesOver (profile : Profile) (reader : Reader) (text : Text) (pairs : List Pair) (outcome : Result Parsed Fault) : Type 0 where
+  pub ok : (found : Parsed) → (outcome ≡ Ok found) ↔ Derives reader text (parsed found) pairs
+  pub err : (fault : Fault) → outcome ≡ Err fault → HasFault reader text pairs fault
+  pub no_row : OnOk outcome (NoRowFits reader text)
+  pub alone : OnOk outcome (InNoOther profile reader text)
+  pub only : (fault : Fault) → outcome ≡ Err fault → OnlyFault reader text pairs fault
+
+-- the slots with these items in their front, as far as they go, and behind it as they were
+abbrev pub overwritten : {A : Type 0} → List A → List A → List A
+overwritten [] items = []
+overwritten (slot ∷ slots) [] = slot ∷ slots
+overwritten (slot ∷ slots) (item ∷ items) = item ∷ overwritten slots items
+
+-- The count is that of the annotations before the end of the text or its fault, the slots have the first of them in their order,
+-- and the outcome is that of the text where all of them are passed over.
+pub record Lists {A : Type 0} (view : A → Pair) (profile : Profile) (reader : Reader) (text : Text)
+    (old new : List A) (count : ℕ) (outcome : Result Parsed Fault) : Type 0 where
+  pub annotations : List A
+  pub counted : count ≡ length annotations
+  pub written : new ≡ overwritten old annotations
+  pub read : PassesOver profile reader text (map view annotations) outcome
