@@ -13,8 +13,9 @@
  * and every other error to nothing.
  *
  * RECORDS. The caller owns every record, array and text. A record is handed in initialised, by the macro of its type (IXDTF_RECORD for an
- * ixdtf_record) or by a call before, and aligned as its type; whatever a call left in it may stand there. Only the parts that a text has are
- * written: look at `is_there`, `form`, `has_..` first, since the other fields of a part that is not there keep what they had.
+ * ixdtf_record) or by a call before, and aligned as its type; whatever a call left in it may stand there, also slices of a text that is
+ * gone, since no reader reads them. Only the parts that a text has are written: look at `is_there`, `form`, `has_..` first, since the other
+ * fields of a part that is not there keep what they had.
  * No pointer handed in is NULL, and what a call writes overlaps nothing else that is handed in with it.
  *
  * SLICES. A name, a calendar, a key or a value in a record is a pointer into the text that was read, and a length. It is not ended by

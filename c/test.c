@@ -132,12 +132,6 @@ static int same_duration_but_location(const ixdtf_duration *a, const ixdtf_durat
         && a->time_form == b->time_form && a->has_date == b->has_date && a->is_negative == b->is_negative;
 }
 
-/* A duration in which every part stands already. */
-static ixdtf_duration used_duration(void) {
-    ixdtf_duration it = { 1, 2, 3, 4, 5, 6, 7, 8, 9, IXDTF_LAST_SECONDS, true, true, { "", 0 } };
-    return it;
-}
-
 /* The unit at the front of a row's text, and how many bytes of the text it takes. */
 static size_t row_unit(const char *text, size_t length, size_t width, uint16_t *unit) {
     if (width == 2 && length >= 6 && text[0] == '\\' && text[1] == 'u') {
@@ -165,6 +159,7 @@ static int is_shared(const char *text, size_t length, size_t width) {
 /* Bytes that have none before and none behind them that can be read. */
 #define ROOM ((size_t)4 << 12)
 static unsigned char *room;
+static const char *behind;
 
 static void make_room(void) {
     size_t page = (size_t)sysconf(_SC_PAGESIZE);
@@ -179,6 +174,14 @@ static void make_room(void) {
         exit(2);
     }
     room = all + page;
+    behind = (const char *)room + ROOM;
+}
+
+/* A duration in which every part stands already, with a location that cannot be read. */
+static ixdtf_duration used_duration(void) {
+    ixdtf_duration it = { 1, 2, 3, 4, 5, 6, 7, 8, 9, IXDTF_LAST_SECONDS, true, true, { "", 4 } };
+    it.location.at = behind;
+    return it;
 }
 
 #define UNIT uint8_t

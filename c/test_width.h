@@ -139,10 +139,8 @@ static int OWN(same_but_location)(const CALL(record) *a, const CALL(record) *b) 
         && OWN(same_units)(a->calendar, b->calendar) && a->has_calendar == b->has_calendar;
 }
 
-/* A record in which every part stands already. */
+/* A record in which every part stands already, with slices that cannot be read. */
 static CALL(record) OWN(used_record)(void) {
-    static const UNIT name[] = { 'A', '/', 'b' };
-    static const UNIT calendar[] = { 'x', '-', 'y' };
     CALL(record) record = NEW_RECORD;
     ixdtf_date date = { -271821, 4, 20, true };
     ixdtf_time time = { 987654321, 9, 23, 59, 60, true };
@@ -150,16 +148,18 @@ static CALL(record) OWN(used_record)(void) {
     record.date = date;
     record.time = time;
     record.offset = offset;
-    record.zone.name.at = name;
+    record.zone.name.at = (const UNIT *)(const void *)behind;
     record.zone.name.length = 3;
     record.zone.form = IXDTF_NAME;
     record.zone.is_critical = true;
     record.zone.is_negative = true;
     record.zone.hour = 12;
     record.zone.minute = 34;
-    record.calendar.at = calendar;
+    record.calendar.at = (const UNIT *)(const void *)behind;
     record.calendar.length = 3;
     record.has_calendar = true;
+    record.location.at = behind;
+    record.location.length = 4;
     return record;
 }
 
@@ -246,6 +246,8 @@ static size_t OWN(test_listing)(const struct handler_row *row, const UNIT *text,
     size_t count = 7, places, i;
     uint32_t error = OWN(list)(row->reader, text, length, all, 0, &count, &record);
     check(count <= 60, "a row has few annotations");
+    none.key.at = (const UNIT *)(const void *)behind; /* what stands in the array before is not read */
+    none.key.length = 5;
     for (places = 0; places <= count + 2; places++) {
         size_t found = 7;
         for (i = 0; i < 64; i++) {
