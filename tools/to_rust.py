@@ -68,7 +68,7 @@ CRATES = [
 ]
 WRITTEN_BY_HAND = {'rust/ixdtf/src/runtime.rs', 'rust/ixdtf/src/tests/printing.rs', 'rust/ixdtf_lines/src/main.rs'}
 DERIVES = {'Clone', 'Copy', 'Debug', 'Default', 'PartialEq'}
-KEPT_ATTRIBUTES = {'inline(always)', 'inline(never)', 'cold'}
+KEPT_ATTRIBUTES = {'inline(always)', 'inline(never)', 'cold', 'doc(hidden)'}
 TEST_ATTRIBUTES = {'test', 'cfg(test)'}
 ADDED = {
     ('records', 'IxdtfParseRecord'): '#[non_exhaustive]', ('records', 'Annotation'): '#[non_exhaustive]',

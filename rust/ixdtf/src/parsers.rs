@@ -23,8 +23,9 @@ mod time;
 mod timezone;
 mod zones;
 
-pub(crate) use self::cores::DateTimes;
-use self::cores::{Cores, LoneTimes, MonthDays, YearMonths};
+// For crates of this repository, and no part of the interface: what `read_by_reference` is generic in.
+#[doc(hidden)]
+pub use self::cores::{Cores, DateTimes, LoneTimes, MonthDays, YearMonths};
 pub use self::duration::IsoDurationParser;
 pub use self::profile::Profile;
 use self::texts::parse_text;
@@ -32,7 +33,9 @@ pub use self::zones::TimeZoneParser;
 use crate::cursor::Cursor;
 use crate::encoding::{EncodingType, Utf8, Utf16};
 use crate::records::{Annotation, IxdtfParseRecord};
-use crate::stop::{Raised, Stop};
+#[doc(hidden)]
+pub use crate::stop::Raised;
+use crate::stop::Stop;
 use crate::{ParseError, ParserResult};
 
 /// A reader of dates and times, with an offset, a time zone and annotations.
@@ -371,6 +374,30 @@ impl<'a, T: EncodingType> IxdtfParser<'a, T> {
         match self.read_into::<C, F>(&mut handler, &mut found) {
             Ok(()) => Ok(found),
             Err(stop) => return Err(E::of_stop(stop)),
+        }
+    }
+
+    /// Reads a text with a core of the kind, as [`parse_with_annotation_handler`](Self::parse_with_annotation_handler) does, and
+    /// leaves the handler as its last call left it, so that what it noted can be told. The error is one that a stop gives.
+    ///
+    /// It is for crates of this repository, and no part of the interface.
+    ///
+    /// # Errors
+    ///
+    /// Those of the reader of the kind, with a handler.
+    #[doc(hidden)]
+    #[inline(always)]
+    pub fn read_by_reference<E: Raised, C: Cores, F>(
+        &mut self,
+        handler: &mut F,
+    ) -> Result<IxdtfParseRecord<'a, T>, E>
+    where
+        F: FnMut(Annotation<'a, T>) -> Option<Annotation<'a, T>>,
+    {
+        let mut found = IxdtfParseRecord::default();
+        match self.read_into::<C, F>(handler, &mut found) {
+            Ok(()) => Ok(found),
+            Err(why) => return Err(E::of_stop(why)),
         }
     }
 
