@@ -23,8 +23,8 @@ use Rattle.ixdtf.specs.table.LineNames.{of_date}
 use Rattle.ixdtf.specs.table.LineNames.DateLine.{after_year}
 use Rattle.ixdtf.specs.reading.Looks.{Read, ◌>>=◌, error_of, look_at, next_by, mark_by, digits_by}
 use Rattle.ixdtf.proofs.parts.Looks.{in_turn, onto}
-use Rattle.ixdtf.proofs.code.DigitClasses.{digit_no_sign}
-use Rattle.ixdtf.specs.reading.FixedPlaces.{ranged, ◌>>?◌, first_in, letter_place, first_byte, byte_place, tens_value, ones_value, number_place, date_place, time_place, date_in_range, time_in_range}
+use Rattle.ixdtf.proofs.code.DigitClasses.{digit_no_sign, digit_no_hyphen}
+use Rattle.ixdtf.specs.reading.FixedPlaces.{ranged, ◌>>?◌, first_in, letter_place, first_byte, byte_place, tens_value, ones_value, number_place, year_place, days_place, basic_days_place, date_place, basic_date_place, time_place, date_in_range, time_in_range}
 use Rattle.ixdtf.specs.reading.FixedPlaces.{date_time_place}
 
 -- the letter that a look found, where it is of the class
@@ -219,18 +219,24 @@ date_of_numbers text date century year month day c y first m second d is = recor
   day = two_digits d (ap (λ x. x.day) is);
 }
 
+-- the record of a year that was found
+same_year : {year found : ℕ} {date : DateRecord} (month day : ℕ) → Some year ≡ Some found → Some (date_of (pos found) month day) ≡ Some date
+    → date_of (pos year) month day ≡ date
+same_year month day is of = cc
+
 date_at_place : (text : Text) (date : DateRecord) → date_place text ≡ Some date → DateLetters text date
-unfolding date_place
+unfolding date_place year_place days_place
 date_at_place text date e =
-    then_some (number_place 0 text) _ date e λ century f0 e0.
-    then_some (number_place 2 text) _ date e0 λ year f1 e1.
-    then_some (letter_place hyphen 4 text) _ date e1 λ first f2 e2.
+    then_some (year_place text) _ date e λ years fy e0.
+    then_some (number_place 0 text) _ years fy λ century f0 y0.
+    then_some (number_place 2 text) _ years y0 λ year f1 y1.
+    then_some (letter_place hyphen 4 text) _ date e0 λ first f2 e2.
     then_some (number_place 5 text) _ date e2 λ month f3 e3.
     then_some (letter_place hyphen 7 text) _ date e3 λ second f4 e4.
     then_some (number_place 8 text) _ date e4 λ day f5 e5.
     date_of_numbers text date century year month day (number_at_place 0 text century f0) (number_at_place 2 text year f1)
     (mark_at_place hyphen 45 4 text first hyphen_is f2) (number_at_place 5 text month f3) (mark_at_place hyphen 45 7 text second hyphen_is f4)
-    (number_at_place 8 text day f5) cc
+    (number_at_place 8 text day f5) (same_year month day y1 e5)
 
 -- the letters of a time whose numbers are any, after a date and a separator, and the text after them
 record TimeLetters (text : Text) (time : TimeRecord) : Type 0 where
@@ -353,7 +359,7 @@ module _ (a b c d m n p q s h i j k u v : ℕ) (rest : Text) where
   there : IsTrue (digit a) → IsTrue (digit b) → IsTrue (digit c) → IsTrue (digit d) → IsTrue (digit m) → IsTrue (digit n) → IsTrue (digit p) → IsTrue (digit q)
       → IsTrue (date_time_separator s) → IsTrue (digit h) → IsTrue (digit i) → IsTrue (digit j) → IsTrue (digit k) → IsTrue (digit u) → IsTrue (digit v)
       → IsTrue (date_in_range date_there) → IsTrue (time_in_range time_there) → date_time_place text_there ≡ Some (date_there, time_there)
-  unfolding date_time_place date_place time_place number_place
+  unfolding date_time_place date_place year_place days_place time_place number_place
   there ea eb ec ed em en ep eq es eh ei ej ek eu ev in_date in_time =
       rw (ea, eb, ec, ed, em, en, ep, eq, es, eh, ei, ej, ek, eu, ev, year_is a b c d, in_date, in_time) refl
 
@@ -435,6 +441,91 @@ pub date_is_read : (text : Text) (date : DateRecord) → date_place text ≡ Som
 date_is_read text date e =
     let d = date_at_place text date e in
     ap (date_at error_of) d.is ∙ letters_read d.years d.months d.days date (drop 10 text) d.year d.month d.day
+
+-- ---- without hyphens
+
+basic_day_read : (y : _) (month p q : ℕ) (more : Text) → IsTrue (digit p) → IsTrue (digit q)
+    → day_at error_of y (month, false) (Plain p ∷ Plain q ∷ more) ≡ day_in_range error_of (date_of y month (decimal (Plain p ∷ Plain q ∷ []))) more
+unfolding day_at mark_by digits_by next_by look_at
+basic_day_read y month p q more ep eq = rw (ep, digit_no_hyphen p ep, ep, eq) refl
+
+basic_month_read : (y : _) (m n p q : ℕ) (more : Text) → IsTrue (digit m) → IsTrue (digit n) → IsTrue (digit p) → IsTrue (digit q)
+    → (month_at error_of (of_date after_year) (Plain m ∷ Plain n ∷ Plain p ∷ Plain q ∷ more)
+    >>= λ month. day_at error_of y month.0 month.1) ≡ ranged (date_of y (decimal (Plain m ∷ Plain n ∷ [])) (decimal (Plain p ∷ Plain q ∷ []))) more
+unfolding month_by mark_by month_in_range digits_by next_by look_at
+basic_month_read y m n p q more em en ep eq =
+    let month = decimal (Plain m ∷ Plain n ∷ []) in
+    let test = nat_le 1 month && nat_le month 12 in
+    let step = on_test test (month, Plain p ∷ Plain q ∷ more) InvalidMonthRange (λ x. day_at error_of y (x.0, false) x.1) in
+    rw (em, digit_no_hyphen m em, digit_no_hyphen m em, em, en) (in_turn (if test then Ok (month, Plain p ∷ Plain q ∷ more) else Err InvalidMonthRange) (λ x. Ok ((x.0, false), x.1))
+    (λ x. day_at error_of y x.0 x.1) ∙ step ∙ rw (basic_day_read y month p q more ep eq) refl)
+
+basic_read : (a b c d m n p q : ℕ) (more : Text) → IsTrue (digit a) → IsTrue (digit b) → IsTrue (digit c) → IsTrue (digit d) → IsTrue (digit m)
+    → IsTrue (digit n) → IsTrue (digit p) → IsTrue (digit q)
+    → date_at error_of (Plain a ∷ Plain b ∷ Plain c ∷ Plain d ∷ Plain m ∷ Plain n ∷ Plain p ∷ Plain q ∷ more)
+    ≡ ranged (date_of (pos (decimal (Plain a ∷ Plain b ∷ Plain c ∷ Plain d ∷ []))) (decimal (Plain m ∷ Plain n ∷ [])) (decimal (Plain p ∷ Plain q ∷ []))) more
+unfolding date_at year_at four_digit_year_at digits_by next_by look_at
+basic_read a b c d m n p q more ea eb ec ed em en ep eq =
+    rw (ea, digit_no_sign a ea, eb, ec, ed) (basic_month_read (pos (decimal (Plain a ∷ Plain b ∷ Plain c ∷ Plain d ∷ []))) m n p q more em en ep eq)
+
+basic_of_numbers : (text : Text) (date : DateRecord) (century year month day : ℕ)
+    → (c : Number 0 text century) → (y : Number 2 text year) → (m : Number 4 text month) → (d : Number 6 text day)
+    → date_of (pos (100 * century + year)) month day ≡ date → date_at error_of text ≡ ranged date (drop 8 text)
+basic_of_numbers text date century year month day c y m d is =
+    let whole : text ≡ Plain c.a ∷ Plain c.b ∷ Plain y.a ∷ Plain y.b ∷ Plain m.a ∷ Plain m.b ∷ Plain d.a ∷ Plain d.b ∷ drop 8 text =
+    over_two c (over_two y (over_two m (over_two d refl))) in
+    let years = ap (λ n. pos n) (sym (year_is c.a c.b y.a y.b) ∙ rw (c.value, y.value) refl) in
+    let same = same_date date _ _ _ (years ∙ ap (λ x. x.year) is) (sym m.value ∙ ap (λ x. x.month) is) (sym d.value ∙ ap (λ x. x.day) is) in
+    ap (date_at error_of) whole ∙ basic_read _ _ _ _ _ _ _ _ (drop 8 text) c.is_a c.is_b y.is_a y.is_b m.is_a m.is_b d.is_a d.is_b
+    ∙ ap (λ r. ranged r (drop 8 text)) same
+
+-- a date without hyphens that is found is the one that is read, where its numbers are in range
+pub basic_date_is_read : (text : Text) (date : DateRecord) → basic_date_place text ≡ Some date → date_at error_of text ≡ ranged date (drop 8 text)
+unfolding basic_date_place year_place basic_days_place
+basic_date_is_read text date e =
+    then_some (year_place text) _ date e λ years fy e1.
+    then_some (number_place 0 text) _ years fy λ century f0 y0.
+    then_some (number_place 2 text) _ years y0 λ year f1 y1.
+    then_some (number_place 4 text) _ date e1 λ month f2 e2.
+    then_some (number_place 6 text) _ date e2 λ day f3 e3.
+    basic_of_numbers text date century year month day (number_at_place 0 text century f0) (number_at_place 2 text year f1)
+    (number_at_place 4 text month f2) (number_at_place 6 text day f3) (same_year month day y1 e3)
+
+never : (b : Bool) → b ≡ false → IsTrue b → ⊥
+never true no_one is = absurd cc
+never false no_one is = absurd cc
+
+-- the letter at a place is of a class that 0 is not of
+pub byte_in_class : (class : Class) (place : ℕ) (text : Text) → class 0 ≡ false → IsTrue (class (byte_place place text))
+    → letter_place class place text ≡ Some (byte_place place text)
+byte_in_class class place text not_zero is = go (drop place text) is
+  where
+    go : (text : Text) → IsTrue (class (first_byte text)) → first_in class text ≡ Some (first_byte text)
+    go [] is = absurd (never (class 0) not_zero is)
+    go (Bad ∷ rest) is = absurd (never (class 0) not_zero is)
+    go (Plain c ∷ rest) is = rw is refl
+
+date_of_parts : (text : Text) (year : ℕ) (date : DateRecord) (mark : ℕ) → year_place text ≡ Some year → letter_place hyphen 4 text ≡ Some mark
+    → days_place year text ≡ Some date → date_place text ≡ Some date
+unfolding date_place
+date_of_parts text year date mark years first days =
+    ap (λ found. found >>? λ year. letter_place hyphen 4 text >>? λ _. days_place year text) years
+    ∙ (ap (λ found. found >>? λ _. days_place year text) first ∙ days)
+
+-- what is found of a year, a hyphen, a month and a day, and of the same without hyphens
+pub hyphened_is_read : (text : Text) (year : ℕ) (date : DateRecord) → year_place text ≡ Some year → IsTrue (hyphen (byte_place 4 text))
+    → days_place year text ≡ Some date → date_at error_of text ≡ ranged date (drop 10 text)
+hyphened_is_read text year date years mark days =
+    date_is_read text date (date_of_parts text year date (byte_place 4 text) years (byte_in_class hyphen 4 text refl mark) days)
+
+basic_of_parts : (text : Text) (year : ℕ) (date : DateRecord) → year_place text ≡ Some year → basic_days_place year text ≡ Some date
+    → basic_date_place text ≡ Some date
+unfolding basic_date_place
+basic_of_parts text year date years days = ap (λ found. found >>? λ year. basic_days_place year text) years ∙ days
+
+pub basic_is_read : (text : Text) (year : ℕ) (date : DateRecord) → year_place text ≡ Some year → basic_days_place year text ≡ Some date
+    → date_at error_of text ≡ ranged date (drop 8 text)
+basic_is_read text year date years days = basic_date_is_read text date (basic_of_parts text year date years days)
 
 -- what is found has nineteen letters
 long_enough : (text : Text) (found : DateRecord × TimeRecord) → date_time_place text ≡ Some found → 19 ≤ length text

@@ -49,12 +49,26 @@ unfoldable pub number_place : ℕ → Text → Option ℕ
 number_place place text =
     letter_place digit place text >>? λ tens. letter_place digit (place + 1) text >>? λ ones. Some (decimal (Plain tens ∷ Plain ones ∷ []))
 
+-- the year at the first four places
+unfoldable pub year_place : Text → Option ℕ
+year_place text = number_place 0 text >>? λ century. number_place 2 text >>? λ year. Some (100 * century + year)
+
+-- the date of a year and of the month and the day at their places behind a hyphen, whatever these are
+unfoldable pub days_place : ℕ → Text → Option DateRecord
+days_place year text =
+    number_place 5 text >>? λ month. letter_place hyphen 7 text >>? λ _. number_place 8 text >>? λ day. Some (date_of (pos year) month day)
+
+-- the same without hyphens
+unfoldable pub basic_days_place : ℕ → Text → Option DateRecord
+basic_days_place year text = number_place 4 text >>? λ month. number_place 6 text >>? λ day. Some (date_of (pos year) month day)
+
 -- the date at the first ten places, whatever its month and its day
 unfoldable pub date_place : Text → Option DateRecord
-date_place text =
-    number_place 0 text >>? λ century. number_place 2 text >>? λ year. letter_place hyphen 4 text >>? λ _.
-    number_place 5 text >>? λ month. letter_place hyphen 7 text >>? λ _. number_place 8 text >>? λ day.
-    Some (date_of (pos (100 * century + year)) month day)
+date_place text = year_place text >>? λ year. letter_place hyphen 4 text >>? λ _. days_place year text
+
+-- the date at the eight places of one without hyphens, whatever its month and its day
+unfoldable pub basic_date_place : Text → Option DateRecord
+basic_date_place text = year_place text >>? λ year. basic_days_place year text
 
 -- the time at the eight places after a date and a separator, whatever its numbers
 unfoldable pub time_place : Text → Option TimeRecord
@@ -84,5 +98,5 @@ date_time_place text =
 
 -- opening this opens the readings of parts at fixed places
 unfoldable pub fixed_readings : ℕ
-unfolding number_place date_place time_place date_time_place
+unfolding number_place year_place days_place basic_days_place date_place basic_date_place time_place date_time_place
 fixed_readings = 0

@@ -13,30 +13,39 @@ ghost use Rattle.ixdtf.specs.reading.Dates.{date_of, year_at, four_digit_year_at
 
 use crate::cursor::Cursor;
 use crate::encoding::EncodingType;
-use crate::parsers::fixed::fixed_date;
+use crate::parsers::fixed::take_fixed_date;
 use crate::parsers::grammar::{digits_value, is_ascii_sign, is_hyphen};
 use crate::records::DateRecord;
 use crate::stop::Stop;
 
-/// Reads a date: at fixed places where these fit, and else part by part.
+/// Reads a date: at its ten places or its eight where these fit, and else part by part.
 #[inline(always)]
-#[tactic(auto, using(crate::proofs::code::FixedPlaces::date_is_read))]
 pub fn parse_date<'a, T: EncodingType>(cursor: &mut Cursor<'a, T>) -> Result<DateRecord, Stop>
     ensures date { Reads T.letter (λ date. date) cursor.old result cursor.new
         (date_at error_of) }
     ensures looks { Spends 16 cursor.old cursor.new }
 {
-    match fixed_date(cursor) {
-        Some(date) => {
-            cursor.skip(10);
-            check_ranges(date)
-        }
-        None => parse_any_date(cursor),
+    match take_fixed_date(cursor) {
+        Some(date) => check_ranges(date),
+        None => parse_other_date(cursor),
     }
 }
 
-/// Reads a date of any form.
+/// Reads a date part by part, by a cursor of its own.
 #[inline(always)]
+fn parse_other_date<'a, T: EncodingType>(cursor: &mut Cursor<'a, T>) -> Result<DateRecord, Stop>
+    ensures date { Reads T.letter (λ date. date) cursor.old result cursor.new
+        (date_at error_of) }
+    ensures looks { Spends 6 cursor.old cursor.new }
+{
+    let mut here = cursor.take();
+    let read = parse_any_date(&mut here);
+    *cursor = here;
+    read
+}
+
+/// Reads a date of any form. It is not inlined: most texts have their date at fixed places.
+#[inline(never)]
 fn parse_any_date<'a, T: EncodingType>(cursor: &mut Cursor<'a, T>) -> Result<DateRecord, Stop>
     ensures date { Reads T.letter (λ date. date) cursor.old result cursor.new
         (date_at error_of) }
@@ -268,10 +277,18 @@ fn check_date(year: i32, month: u8, day: u8) -> Result<DateRecord, Stop>
     ensures { Checks (λ date. date) result (date_of year month day)
         (nat_le 1 day && nat_le day (month_length year month)) InvalidDayRange }
 {
-    if day < 1 || day > days_in_month(year, month) {
+    if !has_day(year, month, day) {
         return Err(Stop::InvalidDayRange);
     }
     Ok(DateRecord { year, month, day })
+}
+
+/// Whether the month of the year has the day. Each month has the first 28.
+#[inline(always)]
+pub fn has_day(year: i32, month: u8, day: u8) -> bool
+    ensures { result ≡ (nat_le 1 day && nat_le day (month_length year month)) }
+{
+    day >= 1 && (day <= 28 || day <= days_in_month(year, month))
 }
 
 /// The length of a month in the Gregorian calendar.

@@ -10,12 +10,14 @@ ghost use Rattle.ixdtf.specs.declared.records.TimeRecord.{TimeRecord};
 ghost use Rattle.ixdtf.specs.language.Letters.{Text, date_time_separator};
 ghost use Rattle.ixdtf.specs.language.FixedPlaces.{FixedDateTime};
 ghost use Rattle.ixdtf.specs.reading.Clauses.{Spends, time_to_second};
-ghost use Rattle.ixdtf.specs.reading.FixedPlaces.{letter_place, number_place, date_in_range, time_in_range, date_place, time_place, date_time_place};
+ghost use Rattle.ixdtf.specs.reading.Dates.{date_at};
+ghost use Rattle.ixdtf.specs.reading.Looks.{error_of};
+ghost use Rattle.ixdtf.specs.reading.FixedPlaces.{letter_place, number_place, date_in_range, time_in_range, ranged, year_place, days_place, basic_days_place, date_place, basic_date_place, time_place, date_time_place};
 
 use crate::cursor::Cursor;
 use crate::encoding::EncodingType;
-use crate::parsers::dates::days_in_month;
-use crate::parsers::grammar::{is_date_time_separator, number_of};
+use crate::parsers::dates::has_day;
+use crate::parsers::grammar::{is_date_time_separator, is_hyphen, number_of};
 use crate::records::DateRecord;
 
 /// A time to its second.
@@ -76,7 +78,7 @@ fn find_date_time<'a, T: EncodingType>(
 
 /// The date at the first ten places, or `None` at the first that does not fit. Its month and its day are not checked.
 #[inline(always)]
-pub fn fixed_date<'a, T: EncodingType>(cursor: &mut Cursor<'a, T>) -> Option<DateRecord>
+fn fixed_date<'a, T: EncodingType>(cursor: &mut Cursor<'a, T>) -> Option<DateRecord>
     ensures there { result ≡ date_place (map T.letter cursor.old.rest) }
     ensures long { IfSome result (λ _. 10 ≤ length cursor.old.rest) }
     ensures rest { cursor.new.rest ≡ cursor.old.rest }
@@ -86,14 +88,87 @@ pub fn fixed_date<'a, T: EncodingType>(cursor: &mut Cursor<'a, T>) -> Option<Dat
     if cursor.remaining() < 10 {
         return None;
     }
+    let year = fixed_year(cursor)?;
+    cursor.fixed_letter(4, b'-')?;
+    fixed_days(cursor, year)
+}
+
+/// Takes off the date that stands at the first ten places, or at the eight of one without hyphens. It is `None`, with the
+/// rest unchanged, at the first place that does not fit. Its month and its day are not checked.
+#[inline(always)]
+pub fn take_fixed_date<'a, T: EncodingType>(cursor: &mut Cursor<'a, T>) -> Option<DateRecord>
+    ensures read { IfSome result (λ date. date_at error_of (map T.letter cursor.old.rest) ≡
+        ranged date (map T.letter cursor.new.rest)) }
+    ensures rest { result ≡ None → cursor.new.rest ≡ cursor.old.rest }
+    ensures shorter { length cursor.new.rest ≤ length cursor.old.rest }
+    ensures few { cursor.new.looks ≤ cursor.old.looks + 10 }
+    ensures counted { cursor.old.looks ≤ cursor.new.looks }
+{
+    if cursor.remaining() < 8 {
+        return None;
+    }
+    let year = fixed_year(cursor)?;
+    if is_hyphen(cursor.byte_at(4)) {
+        let date = fixed_days(cursor, year)?;
+        cursor.skip(10);
+        return Some(date);
+    }
+    let date = fixed_basic_days(cursor, year)?;
+    cursor.skip(8);
+    Some(date)
+}
+
+/// The year at the first four places, or `None` where one of them is no digit.
+#[inline(always)]
+fn fixed_year<'a, T: EncodingType>(cursor: &mut Cursor<'a, T>) -> Option<u16>
+    ensures there { result ≡ year_place (map T.letter cursor.old.rest) }
+    ensures rest { cursor.new.rest ≡ cursor.old.rest }
+    ensures few { cursor.new.looks ≤ cursor.old.looks + 4 }
+    ensures counted { cursor.old.looks ≤ cursor.new.looks }
+{
     let century = fixed_number(cursor, 0)?;
     let year = fixed_number(cursor, 2)?;
-    cursor.fixed_letter(4, b'-')?;
+    Some(100 * u16::from(century) + u16::from(year))
+}
+
+/// The date of a year and of the month and the day at their places behind a hyphen, or `None` at the first place that does
+/// not fit. Its month and its day are not checked.
+#[inline(always)]
+fn fixed_days<'a, T: EncodingType>(cursor: &mut Cursor<'a, T>, year: u16) -> Option<DateRecord>
+    ensures there { result ≡ days_place year (map T.letter cursor.old.rest) }
+    ensures long { IfSome result (λ _. 10 ≤ length cursor.old.rest) }
+    ensures rest { cursor.new.rest ≡ cursor.old.rest }
+    ensures few { cursor.new.looks ≤ cursor.old.looks + 5 }
+    ensures counted { cursor.old.looks ≤ cursor.new.looks }
+{
+    if cursor.remaining() < 10 {
+        return None;
+    }
     let month = fixed_number(cursor, 5)?;
     cursor.fixed_letter(7, b'-')?;
     let day = fixed_number(cursor, 8)?;
     Some(DateRecord {
-        year: 100 * i32::from(century) + i32::from(year),
+        year: i32::from(year),
+        month,
+        day,
+    })
+}
+
+/// The same at their places in a date without hyphens.
+#[inline(always)]
+fn fixed_basic_days<'a, T: EncodingType>(
+    cursor: &mut Cursor<'a, T>,
+    year: u16,
+) -> Option<DateRecord>
+    ensures there { result ≡ basic_days_place year (map T.letter cursor.old.rest) }
+    ensures rest { cursor.new.rest ≡ cursor.old.rest }
+    ensures few { cursor.new.looks ≤ cursor.old.looks + 4 }
+    ensures counted { cursor.old.looks ≤ cursor.new.looks }
+{
+    let month = fixed_number(cursor, 4)?;
+    let day = fixed_number(cursor, 6)?;
+    Some(DateRecord {
+        year: i32::from(year),
         month,
         day,
     })
@@ -160,10 +235,7 @@ fn fixed_separator<'a, T: EncodingType>(cursor: &mut Cursor<'a, T>, place: usize
 fn is_date(date: DateRecord) -> bool
     ensures { result ≡ date_in_range date }
 {
-    date.month >= 1
-        && date.month <= 12
-        && date.day >= 1
-        && date.day <= days_in_month(date.year, date.month)
+    date.month >= 1 && date.month <= 12 && has_day(date.year, date.month, date.day)
 }
 
 /// Whether the hour, the minute and the second are at most the greatest of their places.

@@ -4,25 +4,31 @@
 
 use crate::cursor::Cursor;
 use crate::encoding::EncodingType;
-use crate::parsers::fixed::fixed_date;
+use crate::parsers::fixed::take_fixed_date;
 use crate::parsers::grammar::{digits_value, is_ascii_sign, is_hyphen};
 use crate::records::DateRecord;
 use crate::stop::Stop;
 
-/// Reads a date: at fixed places where these fit, and else part by part.
+/// Reads a date: at its ten places or its eight where these fit, and else part by part.
 #[inline(always)]
 pub fn parse_date<'a, T: EncodingType>(cursor: &mut Cursor<'a, T>) -> Result<DateRecord, Stop> {
-    match fixed_date(cursor) {
-        Some(date) => {
-            cursor.skip(10);
-            check_ranges(date)
-        }
-        None => parse_any_date(cursor),
+    match take_fixed_date(cursor) {
+        Some(date) => check_ranges(date),
+        None => parse_other_date(cursor),
     }
 }
 
-/// Reads a date of any form.
+/// Reads a date part by part, by a cursor of its own.
 #[inline(always)]
+fn parse_other_date<'a, T: EncodingType>(cursor: &mut Cursor<'a, T>) -> Result<DateRecord, Stop> {
+    let mut here = cursor.take();
+    let read = parse_any_date(&mut here);
+    *cursor = here;
+    read
+}
+
+/// Reads a date of any form. It is not inlined: most texts have their date at fixed places.
+#[inline(never)]
 fn parse_any_date<'a, T: EncodingType>(cursor: &mut Cursor<'a, T>) -> Result<DateRecord, Stop> {
     let year = parse_date_year(cursor)?;
     let (month, hyphened) = parse_month(cursor, Stop::AbruptDate)?;
@@ -193,10 +199,16 @@ pub fn check_month(month: u8) -> Result<u8, Stop> {
 /// The date, where its month has the day.
 #[inline(always)]
 fn check_date(year: i32, month: u8, day: u8) -> Result<DateRecord, Stop> {
-    if day < 1 || day > days_in_month(year, month) {
+    if !has_day(year, month, day) {
         return Err(Stop::InvalidDayRange);
     }
     Ok(DateRecord { year, month, day })
+}
+
+/// Whether the month of the year has the day. Each month has the first 28.
+#[inline(always)]
+pub fn has_day(year: i32, month: u8, day: u8) -> bool {
+    day >= 1 && (day <= 28 || day <= days_in_month(year, month))
 }
 
 /// The length of a month in the Gregorian calendar.
