@@ -6,6 +6,7 @@ pub mod DurationGroups
 pub mod DurationLetters
 pub mod DurationLoops
 pub mod DurationNumbers
+pub mod DurationRanks
 pub mod DurationSteps
 pub mod EqualRecords
 pub mod EqualUnits

@@ -3,13 +3,12 @@ use Rattle.std.proofs.Common.{◌≡◌, ℕ, Bool, true, false, [], ◌∷◌, 
 use Rattle.ixdtf.specs.declared.parsers.profile.Profile.{Profile}
 use Rattle.ixdtf.specs.declared.records.Sign.{Sign}
 use Rattle.ixdtf.specs.declared.records.DurationParseRecord.{DurationParseRecord}
-use Rattle.ixdtf.specs.declared.parsers.duration.TimeUnit.{TimeUnit}
 use Rattle.ixdtf.specs.language.Letters.{Text, digit}
 use Rattle.ixdtf.specs.language.Letters.Letter.{Plain, Bad}
 use Rattle.ixdtf.specs.language.Digits.{decimal}
 use Rattle.ixdtf.specs.language.Fractions.{FractionParts, fraction_of}
 use Rattle.ixdtf.specs.language.Times.Clock.{Time}
-use Rattle.ixdtf.specs.language.Durations.{Group, unit_of}
+use Rattle.ixdtf.specs.language.Durations.{Group, designator, unit_of}
 use Rattle.ixdtf.specs.language.Durations.Half.{time}
 use Rattle.ixdtf.specs.table.Faults.{Fault}
 use Rattle.ixdtf.specs.table.Faults.Fault.{NonAsciiCodePoint, FractionPart}
@@ -17,11 +16,11 @@ use Rattle.ixdtf.specs.table.Lines.{abrupt_time_designator}
 use Rattle.ixdtf.specs.reading.Looks.{Read, ◌>>=◌, error_of, look_at, next_by, digit_run}
 use Rattle.ixdtf.specs.reading.Times.{fraction_at}
 use Rattle.ixdtf.specs.reading.Durations.{step, run, fraction_group}
-use Rattle.ixdtf.specs.reading.Durations.State.{at_mark, in_fraction, ended}
-use Rattle.ixdtf.specs.reading.DurationClauses.{run_from, run_where, unit_seen, time_unit_of, time_group_of, time_group_fits}
+use Rattle.ixdtf.specs.reading.Durations.State.{at_mark, in_fraction}
+use Rattle.ixdtf.specs.reading.DurationClauses.{run_from, time_group_of, after_time_group}
 use Rattle.ixdtf.proofs.code.DurationSteps.{fails}
 use Rattle.ixdtf.proofs.code.FirstLetter.{first_is, nothing_is}
-use Rattle.ixdtf.proofs.code.DurationLetters.{by_test, by_no_test, end_step}
+use Rattle.ixdtf.proofs.code.DurationLetters.{end_step}
 
 ok_is : {A : Type 0} (x y : A × Text) → ◌≡◌ {A = Read Fault A} (Ok x) (Ok y) → x ≡ y
 ok_is x y e = cc
@@ -134,9 +133,6 @@ module _ (text : Text) (fraction : FractionParts) (rest : Text) (over : IsFracti
   abbrev from_mark : Read Fault DurationParseRecord
   from_mark = run_from profile (at_mark s dates times ds) text
 
-  abbrev group : ℕ → TimeUnit → Group
-  group value unit = time_group_of (record { unit = unit; value = value; fraction = Some fraction })
-
   pub no_letter : look_at NonAsciiCodePoint rest ≡ Ok None → from_mark ≡ Err abrupt_time_designator
   unfolding run
   no_letter none = over.leads profile s dates times ds ∙ rw (nothing_is rest none) refl
@@ -145,20 +141,16 @@ module _ (text : Text) (fraction : FractionParts) (rest : Text) (over : IsFracti
   breaks fault bad = over.leads profile s dates times ds ∙ fails _ _ rest fault bad
 
   module _ (c : ℕ) (found : look_at NonAsciiCodePoint rest ≡ Ok (Some c)) where
-    pub ends_none : (fault : Fault) → unit_seen time c ≡ Err fault → from_mark ≡ Err fault
-    unfolding run
-    ends_none fault seen =
-        let p = by_no_test _ _ _ _ seen in
-        over.leads profile s dates times ds ∙ rw (first_is rest c found, over.no_digit c found, p.0, p.1) refl
+    group_is : (value : ℕ) → value ≡ decimal ds
+        → ◌≡◌ {A = Group} (fraction_group ds over.fs c) (time_group_of (record { value = value; fraction = Some fraction; letter = c }))
+    group_is value number i = record { unit = unit_of time c; value = sym number i; fraction = Some (sym over.is i) }
 
-    group_is : (value : ℕ) (unit : TimeUnit) → value ≡ decimal ds → unit_of time c ≡ time_unit_of unit
-        → ◌≡◌ {A = Group} (fraction_group ds over.fs c) (group value unit)
-    group_is value unit number is i = record { unit = is i; value = sym number i; fraction = Some (sym over.is i) }
-
-    pub ends_group : (value : ℕ) (unit : TimeUnit) (new : Text) → value ≡ decimal ds → unit_seen time c ≡ Ok (time_unit_of unit) → new ≡ drop 1 rest
-        → from_mark ≡ run_where profile (time_group_fits profile times (group value unit)) (ended s dates times (group value unit)) new
+    pub ends_group : (value : ℕ) (new : Text) → value ≡ decimal ds → new ≡ drop 1 rest
+        → from_mark ≡ after_time_group profile s dates times (record { value = value; fraction = Some fraction; letter = c }) new
     unfolding run step
-    ends_group value unit new number seen moved =
-        let p = by_test _ _ _ _ seen in
-        over.leads profile s dates times ds ∙ rw (first_is rest c found, over.no_digit c found, p.0, moved)
-        (end_step profile s dates times _ _ (drop 1 rest) (group_is value unit number p.1))
+    ends_group value new number moved = over.leads profile s dates times ds ∙ go (designator time c) refl
+      where
+        go : (b : Bool) → designator time c ≡ b → run_from profile (in_fraction s dates times ds over.fs) rest
+            ≡ after_time_group profile s dates times (record { value = value; fraction = Some fraction; letter = c }) new
+        go true is = rw (first_is rest c found, over.no_digit c found, is, moved) (end_step profile s dates times _ _ (drop 1 rest) (group_is value number))
+        go false is = rw (first_is rest c found, over.no_digit c found, is) refl

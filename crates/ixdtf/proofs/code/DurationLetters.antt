@@ -7,32 +7,21 @@ use Rattle.ixdtf.specs.declared.records.DurationParseRecord.{DurationParseRecord
 use Rattle.ixdtf.specs.declared.stop.Stop.{Stop}
 use Rattle.ixdtf.specs.declared.parsers.duration.TimeGroup.{TimeGroup}
 use Rattle.ixdtf.specs.declared.parsers.duration.Number.{Number}
-use Rattle.ixdtf.specs.declared.parsers.duration.DateUnit.{DateUnit}
-use Rattle.ixdtf.specs.declared.parsers.duration.TimeUnit.{TimeUnit}
-use Rattle.ixdtf.specs.declared.parsers.duration.TimeUnit.TheVariants as time_units
-use Rattle.ixdtf.specs.language.Letters.{Letter, Text, digit, decimal_mark}
+use Rattle.ixdtf.specs.language.Letters.{Letter, Text, digit, decimal_mark, hour_letter, minute_letter}
 use Rattle.ixdtf.specs.language.Letters.Letter.{Plain}
-use Rattle.ixdtf.specs.language.Durations.{Half, DurationUnit, Group, designator, unit_of, greatest, greatest_value, in_order}
+use Rattle.ixdtf.specs.language.Durations.{Half, Group, designator, unit_of, greatest, greatest_value, in_order}
 use Rattle.ixdtf.specs.language.Durations.Half.{date, time}
+use Rattle.ixdtf.specs.language.Durations.DurationUnit.{hours, minutes, seconds}
 use Rattle.ixdtf.specs.table.Faults.{Fault}
 use Rattle.ixdtf.specs.table.DurationFronts.{Context}
 use Rattle.ixdtf.specs.table.DurationFronts.Context.{in_dates, in_times}
 use Rattle.ixdtf.specs.reading.Looks.{Read, ◌>>=◌, error_of}
 use Rattle.ixdtf.specs.reading.Durations.{State, add_group, end_group, step, run, integer_group}
 use Rattle.ixdtf.specs.reading.Durations.State.{between, in_number, at_mark, ended}
-use Rattle.ixdtf.specs.reading.DurationClauses.{run_from, run_where, IsNumber, date_unit_of, time_unit_of, date_group_of, time_group_of, unit_seen}
+use Rattle.ixdtf.specs.reading.DurationClauses.{run_from, run_where, IsNumber, date_group_of, date_read, after_time_group}
 use Rattle.ixdtf.specs.reading.DurationClauses.{date_group_fits, time_group_fits}
 
 -- ---- letters
-
--- a letter that ends a group of the half, and one that ends none
-pub by_test : {X : Type 0} (b : Bool) (x y : X) (e : Fault) → (if b then Ok x else Err e) ≡ Ok y → (b ≡ true) × (x ≡ y)
-by_test true x y e is = (refl, cc)
-by_test false x y e is = absurd cc
-
-pub by_no_test : {X : Type 0} (b : Bool) (x : X) (e f : Fault) → (if b then Ok x else Err e) ≡ Err f → (b ≡ false) × (e ≡ f)
-by_no_test true x e f is = absurd cc
-by_no_test false x e f is = (refl, cc)
 
 -- a letter that ends a group is no digit, and neither is a decimal mark
 designator_no_digit : (half : Half) (c : ℕ) → designator half c ≡ true → digit c ≡ false
@@ -81,56 +70,41 @@ module _ (letter : ℕ → Letter) (first : ℕ) (old : List ℕ) (number : Numb
   abbrev from_first : Profile → Context → Read Fault DurationParseRecord
   from_first profile context = run_from profile (in_number context (Plain first ∷ [])) (map letter old)
 
-  -- a group of the number
-  abbrev date_group : DateUnit → Group
-  date_group unit = date_group_of (record { unit = unit; value = number.value })
-
-  abbrev time_group : TimeUnit → Group
-  time_group unit = time_group_of (record { unit = unit; value = number.value; fraction = None })
-
   no_digit : digit number.next ≡ false
   no_digit = reads.other
 
-  -- a letter that ends no group
-  pub ends_no_date : (profile : Profile) (s : Sign) (dates : List Group) (fault : Fault) → unit_seen date number.next ≡ Err fault
-      → from_first profile (in_dates s dates) ≡ Err fault
-  unfolding run
-  ends_no_date profile s dates fault seen =
-      let p = by_no_test _ _ _ _ seen in
-      reads.leads profile _ ∙ rw (no_digit, p.0, p.1) refl
+  group_is : (half : Half)
+      → ◌≡◌ {A = Group} (integer_group half reads.ds number.next) (record { unit = unit_of half number.next; value = number.value; fraction = None })
+  group_is half i = record { unit = unit_of half number.next; value = sym reads.value i; fraction = None }
 
-  pub ends_no_time : (profile : Profile) (s : Sign) (dates times : List Group) (fault : Fault) → decimal_mark number.next ≡ false
-      → unit_seen time number.next ≡ Err fault
-      → from_first profile (in_times s dates times) ≡ Err fault
-  unfolding run
-  ends_no_time profile s dates times fault miss seen =
-      let p = by_no_test _ _ _ _ seen in
-      reads.leads profile _ ∙ rw (no_digit, p.0, miss, p.1) refl
-
-  group_is : (half : Half) (unit : DurationUnit) → unit_of half number.next ≡ unit
-      → ◌≡◌ {A = Group} (integer_group half reads.ds number.next) (record { unit = unit; value = number.value; fraction = None })
-  group_is half unit is i = record { unit = is i; value = sym reads.value i; fraction = None }
-
-  pub ends_date : (profile : Profile) (s : Sign) (dates : List Group) (unit : DateUnit) → unit_seen date number.next ≡ Ok (date_unit_of unit)
-      → from_first profile (in_dates s dates)
-      ≡ run_where profile (date_group_fits profile dates (date_group unit)) (between (in_dates s (date_group unit ∷ dates))) (map letter new)
+  -- a date group ends there, or none
+  pub ends_date : (profile : Profile) (s : Sign) (dates : List Group) → from_first profile (in_dates s dates)
+      ≡ run_where profile (date_read profile dates number) (between (in_dates s (date_group_of number ∷ dates))) (map letter new)
   unfolding run step
-  ends_date profile s dates unit seen =
-      let p = by_test _ _ _ _ seen in
-      reads.leads profile _ ∙ rw (no_digit, p.0) (date_step profile s dates _ _ (map letter new) (group_is date (date_unit_of unit) p.1))
-
-  pub ends_time : (profile : Profile) (s : Sign) (dates times : List Group) (unit : TimeUnit) → unit_seen time number.next ≡ Ok (time_unit_of unit)
-      → nat_le number.value greatest_value ≡ true → from_first profile (in_times s dates times)
-      ≡ run_where profile (time_group_fits profile times (time_group unit)) (between (in_times s dates (time_group unit ∷ times))) (map letter new)
-  unfolding run step
-  ends_time profile s dates times unit seen small =
-      let p = by_test _ _ _ _ seen in
-      reads.leads profile _ ∙ rw (no_digit, p.0) (time_step profile s dates times _ _ (map letter new) (group_is time (time_unit_of unit) p.1) (in_range unit))
+  ends_date profile s dates = reads.leads profile _ ∙ go (designator date number.next) refl
     where
-      in_range : (unit : TimeUnit) → nat_le number.value (greatest (time_unit_of unit)) ≡ true
-      in_range time_units.Hours = small
-      in_range time_units.Minutes = small
-      in_range time_units.Seconds = small
+      go : (b : Bool) → designator date number.next ≡ b → run_from profile (in_number (in_dates s dates) reads.ds) (Plain number.next ∷ map letter new)
+          ≡ run_where profile (date_read profile dates number) (between (in_dates s (date_group_of number ∷ dates))) (map letter new)
+      go true is = rw (no_digit, is) (date_step profile s dates _ _ (map letter new) (group_is date))
+      go false is = rw (no_digit, is) refl
+
+  -- a time group ends there, or none
+  pub ends_time : (profile : Profile) (s : Sign) (dates times : List Group) → decimal_mark number.next ≡ false → nat_le number.value greatest_value ≡ true
+      → from_first profile (in_times s dates times)
+      ≡ after_time_group profile s dates times (record { value = number.value; fraction = None; letter = number.next }) (map letter new)
+  unfolding run step
+  ends_time profile s dates times miss small = reads.leads profile _ ∙ go (designator time number.next) refl
+    where
+      in_range : (h m : Bool) → nat_le number.value (greatest (if h then hours else (if m then minutes else seconds))) ≡ true
+      in_range true m = small
+      in_range false true = small
+      in_range false false = small
+
+      go : (b : Bool) → designator time number.next ≡ b → run_from profile (in_number (in_times s dates times) reads.ds) (Plain number.next ∷ map letter new)
+          ≡ after_time_group profile s dates times (record { value = number.value; fraction = None; letter = number.next }) (map letter new)
+      go true is = rw (no_digit, is)
+          (time_step profile s dates times _ _ (map letter new) (group_is time) (in_range (hour_letter number.next) (minute_letter number.next)))
+      go false is = rw (no_digit, is, miss) refl
 
   -- a decimal mark
   pub at_decimal_mark : (profile : Profile) (s : Sign) (dates times : List Group) → decimal_mark number.next ≡ true

@@ -1,5 +1,5 @@
 -- Forms of the clauses of the private functions that read durations, and what their types stand for. No public clause cites one.
-use Rattle.std.specs.Prelude.{◌≡◌, ℕ, Bool, false, IsFalse, IsTrue, List, [], ◌∷◌, map, Option, Some, None, Result, Ok, Err, nat_le, if◌then◌else◌}
+use Rattle.std.specs.Prelude.{◌≡◌, ◌≤◌, ℕ, Bool, false, IsFalse, IsTrue, List, [], ◌∷◌, map, Option, Some, None, Result, Ok, Err, nat_le, slice_index_or, if◌then◌else◌}
 use Rattle.ixdtf.specs.declared.parsers.profile.Profile.{Profile}
 use Rattle.ixdtf.specs.declared.records.Sign.{Sign}
 use Rattle.ixdtf.specs.declared.records.DurationParseRecord.{DurationParseRecord}
@@ -7,20 +7,14 @@ use Rattle.ixdtf.specs.declared.records.DateDurationRecord.{DateDurationRecord}
 use Rattle.ixdtf.specs.declared.records.TimeDurationRecord.{TimeDurationRecord}
 use Rattle.ixdtf.specs.declared.stop.Stop.{Stop}
 use Rattle.ixdtf.specs.declared.parsers.duration.Number.{Number}
-use Rattle.ixdtf.specs.declared.parsers.duration.DateUnit.{DateUnit}
-use Rattle.ixdtf.specs.declared.parsers.duration.DateUnit.TheVariants as date_units
-use Rattle.ixdtf.specs.declared.parsers.duration.DateGroup.{DateGroup}
-use Rattle.ixdtf.specs.declared.parsers.duration.DateGroups.{DateGroups}
 use Rattle.ixdtf.specs.declared.parsers.duration.Dates.{Dates}
-use Rattle.ixdtf.specs.declared.parsers.duration.TimeUnit.{TimeUnit}
-use Rattle.ixdtf.specs.declared.parsers.duration.TimeUnit.TheVariants as time_units
 use Rattle.ixdtf.specs.declared.parsers.duration.TimeGroup.{TimeGroup}
-use Rattle.ixdtf.specs.declared.parsers.duration.TimeGroups.{TimeGroups}
 use Rattle.ixdtf.specs.language.Letters.{Letter, Text, digit}
 use Rattle.ixdtf.specs.language.Letters.Letter.{Plain}
 use Rattle.ixdtf.specs.language.Digits.{decimal}
 use Rattle.ixdtf.specs.language.Fractions.{FractionParts}
-use Rattle.ixdtf.specs.language.Durations.{Half, DurationUnit, Group, designator, unit_of, place, greatest, in_order, number_of, date_duration}
+use Rattle.ixdtf.specs.language.Durations.{Half, DurationUnit, Group, designator, unit_of, greatest, in_order, number_of, date_duration, time_duration_to}
+use Rattle.ixdtf.specs.language.Durations.Half.{date, time}
 use Rattle.ixdtf.specs.language.Durations.DurationUnit.{years, months, weeks, days, hours, minutes, seconds}
 use Rattle.ixdtf.specs.table.Faults.{Fault}
 use Rattle.ixdtf.specs.table.Faults.Fault.{DurationValueExceededRange, DateDurationPartOrder, TimeDurationPartOrder}
@@ -61,26 +55,39 @@ ReadsNumber letter first end old (Err e) new =
 
 -- ---- groups
 
-abbrev pub date_unit_of : DateUnit → DurationUnit
-date_unit_of date_units.Years = years
-date_unit_of date_units.Months = months
-date_unit_of date_units.Weeks = weeks
-date_unit_of date_units.Days = days
+-- the group of a number and the letter after it, which ends a date group
+abbrev pub date_group_of : Number → Group
+date_group_of n = record { unit = unit_of date n.next; value = n.value; fraction = None }
 
-abbrev pub time_unit_of : TimeUnit → DurationUnit
-time_unit_of time_units.Hours = hours
-time_unit_of time_units.Minutes = minutes
-time_unit_of time_units.Seconds = seconds
-
-abbrev pub date_group_of : DateGroup → Group
-date_group_of g = record { unit = date_unit_of g.unit; value = g.value; fraction = None }
-
+-- the same of times
 abbrev pub time_group_of : TimeGroup → Group
-time_group_of g = record { unit = time_unit_of g.unit; value = g.value; fraction = g.fraction }
+time_group_of g = record { unit = unit_of time g.letter; value = g.value; fraction = g.fraction }
 
--- the unit of the letter that ends a group, or the fault where it ends none
-abbrev pub unit_seen : Half → ℕ → Result DurationUnit Fault
-unit_seen half c = if designator half c then Ok (unit_of half c) else Err (no_designator half)
+-- the rank of a unit among those of its half, from the longest to the shortest
+abbrev pub rank : DurationUnit → ℕ
+rank years = 1
+rank months = 2
+rank weeks = 3
+rank days = 4
+rank hours = 1
+rank minutes = 2
+rank seconds = 3
+
+-- the rank of the unit of the letter that ends a group, and 0 where it ends none
+abbrev pub rank_seen : Half → ℕ → ℕ
+rank_seen half c = if designator half c then rank (unit_of half c) else 0
+
+-- the rank of a group that may stand from this rank on, or why it may not
+abbrev pub date_rank_from : ℕ → Number → Result ℕ Fault
+date_rank_from least n =
+    let unit = unit_of date n.next in
+    if designator date n.next then (if nat_le least (rank unit) then (if nat_le n.value (greatest unit) then Ok (rank unit) else Err DurationValueExceededRange)
+    else Err DateDurationPartOrder) else Err (no_designator date)
+
+abbrev pub time_rank_from : ℕ → ℕ → Result ℕ Fault
+time_rank_from least c =
+    let unit = unit_of time c in
+    if designator time c then (if nat_le least (rank unit) then Ok (rank unit) else Err TimeDurationPartOrder) else Err (no_designator time)
 
 -- a group may stand behind these, by its unit and its number, or why it may not
 abbrev pub date_group_fits : Profile → List Group → Group → Result (Unit {0}) Fault
@@ -100,48 +107,42 @@ abbrev pub after_group : Option FractionParts → Sign → List Group → List G
 after_group None s dates times g = between (in_times s dates (g ∷ times))
 after_group (Some fraction) s dates times g = ended s dates times g
 
--- reading after a date group, and after a time group, where it may stand there
-abbrev pub after_date_group : Profile → Sign → List Group → DateGroup → Text → Read Fault DurationParseRecord
-after_date_group profile s dates g = run_where profile (date_group_fits profile dates (date_group_of g)) (between (in_dates s (date_group_of g ∷ dates)))
+-- what comes of the letter that ends a group, in a text behind these groups
+abbrev pub date_read : Profile → List Group → Number → Result (Unit {0}) Fault
+date_read profile dates n = if designator date n.next then date_group_fits profile dates (date_group_of n) else Err (no_designator date)
 
+abbrev pub time_read : Profile → List Group → TimeGroup → Result (Unit {0}) Fault
+time_read profile times g = if designator time g.letter then time_group_fits profile times (time_group_of g) else Err (no_designator time)
+
+-- reading after a time group, where its letter ends one and it may stand there
 abbrev pub after_time_group : Profile → Sign → List Group → List Group → TimeGroup → Text → Read Fault DurationParseRecord
-after_time_group profile s dates times g =
-    run_where profile (time_group_fits profile times (time_group_of g)) (after_group g.fraction s dates times (time_group_of g))
+after_time_group profile s dates times g = run_where profile (time_read profile times g) (after_group g.fraction s dates times (time_group_of g))
 
 -- whether the letter begins one more time group, after one with a fraction or without
 abbrev pub begins_group : Option FractionParts → ℕ → Bool
 begins_group None c = digit c
 begins_group (Some fraction) c = false
 
--- a unit may follow these groups from this place on
-abbrev pub MayFollowFrom : {U : Type 0} → Profile → (U → DurationUnit) → ℕ → List Group → Type 0
-MayFollowFrom profile named least groups = (u : _) → in_order profile groups (named u) ≡ nat_le least (place (named u))
+-- the numbers of groups, by the ranks of their units
+abbrev pub date_numbers : List Group → List ℕ
+date_numbers dates = 0 ∷ number_of years dates ∷ number_of months dates ∷ number_of weeks dates ∷ number_of days dates ∷ []
 
--- the record has the numbers of these date groups, and the least place that may follow
-pub record HasDates (profile : Profile) (groups : DateGroups) (dates : List Group) : Type 0 where
-  pub years_are : groups.record.years ≡ number_of years dates
-  pub months_are : groups.record.months ≡ number_of months dates
-  pub weeks_are : groups.record.weeks ≡ number_of weeks dates
-  pub days_are : groups.record.days ≡ number_of days dates
-  pub follows : MayFollowFrom profile date_unit_of groups.least dates
+abbrev pub time_numbers : List Group → List ℕ
+time_numbers times = 0 ∷ number_of hours times ∷ number_of minutes times ∷ number_of seconds times ∷ []
 
--- the same of time groups
-pub record HasTimes (profile : Profile) (groups : TimeGroups) (times : List Group) : Type 0 where
-  pub hours_are : groups.hours ≡ number_of hours times
-  pub minutes_are : groups.minutes ≡ number_of minutes times
-  pub seconds_are : groups.seconds ≡ number_of seconds times
-  pub follows : MayFollowFrom profile time_unit_of groups.least times
+-- years, months and weeks are in their range
+abbrev pub HasSmallDates : List ℕ → Type 0
+HasSmallDates values = (slice_index_or values 1 0 ≤ 4294967295) × (slice_index_or values 2 0 ≤ 4294967295) × (slice_index_or values 3 0 ≤ 4294967295)
 
--- a group was added behind these, or it may not stand there
-abbrev pub AddsDate : Profile → DateGroups → Result Unit Stop → DateGroups → Group → Type 0
-AddsDate profile old (Ok x) new g =
-    (dates : List Group) → HasDates profile old dates → (date_group_fits profile dates g ≡ Ok tt) × HasDates profile new (g ∷ dates)
-AddsDate profile old (Err e) new g = (dates : List Group) → HasDates profile old dates → date_group_fits profile dates g ≡ Err (fault_of_stop e)
+-- the record has these numbers
+abbrev pub IsDateRecord : List ℕ → DateDurationRecord → Type 0
+IsDateRecord values dates = (g : Group) (earlier : List Group) → values ≡ date_numbers (g ∷ earlier) → date_duration (g ∷ earlier) ≡ Some dates
 
-abbrev pub AddsTime : Profile → TimeGroups → Result Unit Stop → TimeGroups → Group → Type 0
-AddsTime profile old (Ok x) new g =
-    (times : List Group) → HasTimes profile old times → (time_group_fits profile times g ≡ Ok tt) × HasTimes profile new (g ∷ times)
-AddsTime profile old (Err e) new g = (times : List Group) → HasTimes profile old times → time_group_fits profile times g ≡ Err (fault_of_stop e)
+-- the same of times, where the last group has a unit of this rank, and this fraction
+abbrev pub IsTimeRecord : List ℕ → ℕ → Option FractionParts → TimeDurationRecord → Type 0
+IsTimeRecord values last fraction found =
+    (c : ℕ) (times : List Group) → last ≡ rank (unit_of time c) → values ≡ time_numbers times
+    → time_duration_to (unit_of time c) fraction times ≡ Some found
 
 abbrev pub dated : Sign → Option DateDurationRecord → Option TimeDurationRecord → DurationParseRecord
 dated s dates times = record { sign = s; date = dates; time = times }

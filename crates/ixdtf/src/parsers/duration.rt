@@ -5,7 +5,7 @@ ghost use Rattle.ixdtf.specs.declared.parsers.profile.Profile.{Profile};
 ghost use Rattle.ixdtf.specs.language.Letters.{Text, digit};
 ghost use Rattle.ixdtf.specs.language.Letters.Letter.{Plain};
 ghost use Rattle.ixdtf.specs.language.Digits.{decimal};
-ghost use Rattle.ixdtf.specs.language.Durations.{Group, place, greatest_value, date_duration, time_duration_to};
+ghost use Rattle.ixdtf.specs.language.Durations.{Group, greatest_value, date_duration};
 ghost use Rattle.ixdtf.specs.language.Durations.Half.{date, time};
 ghost use Rattle.ixdtf.specs.declared.records.Sign.{Sign};
 ghost use Rattle.ixdtf.specs.table.Faults.Fault.{DurationValueExceededRange};
@@ -21,8 +21,8 @@ ghost use Rattle.ixdtf.specs.reading.Looks.{error_of};
 ghost use Rattle.ixdtf.specs.reading.Clauses.{Reads, Spends, SpendsOr, Checks, Yields, fault_of_stop};
 ghost use Rattle.ixdtf.specs.reading.Durations.{duration_at};
 ghost use Rattle.ixdtf.specs.reading.Durations.State.{started, signed, between, in_number, at_mark};
-ghost use Rattle.ixdtf.specs.reading.DurationClauses.{run_from, ReadsOn, ReadsNumber, AreDates, HasDates, HasTimes, AddsDate, AddsTime};
-ghost use Rattle.ixdtf.specs.reading.DurationClauses.{date_unit_of, time_unit_of, unit_seen, date_group_of, time_group_of, after_date_group, after_time_group, begins_group, dated};
+ghost use Rattle.ixdtf.specs.reading.DurationClauses.{run_from, ReadsOn, ReadsNumber, AreDates, HasSmallDates, IsDateRecord, IsTimeRecord};
+ghost use Rattle.ixdtf.specs.reading.DurationClauses.{rank_seen, date_rank_from, time_rank_from, after_time_group, begins_group, dated};
 
 use crate::ParserResult;
 use crate::cursor::Cursor;
@@ -234,100 +234,73 @@ fn parse_number<'a, T: EncodingType>(
 
 // ==== Dates ====
 
-/// A unit of date groups.
-#[derive(Clone, Copy)]
-enum DateUnit {
-    Years,
-    Months,
-    Weeks,
-    Days,
-}
+// The greatest number of years, and of months, and of weeks.
+const MOST_OF_LONG_UNITS: u64 = 0xffff_ffff;
 
-impl DateUnit {
-    /// The unit of the letter that ends a group.
-    #[inline(always)]
-    fn of_letter(letter: u8) -> Result<DateUnit, Stop>
-        ensures { Yields date_unit_of result (unit_seen date letter) }
-    {
-        match letter {
-            b'Y' | b'y' => Ok(DateUnit::Years),
-            b'M' | b'm' => Ok(DateUnit::Months),
-            b'W' | b'w' => Ok(DateUnit::Weeks),
-            b'D' | b'd' => Ok(DateUnit::Days),
-            _ => Err(Stop::AbruptDateDesignator),
-        }
-    }
+// The rank of the unit that a letter ends a date group of: years are 1, months 2, weeks 3 and days 4. A letter that ends none
+// has 0.
+#[rattlefmt::skip]
+static DATE_RANKS: [u8; 256] = [
+    0, 0, 0, 0, 0, 0, 0, 0, 0, 0, 0, 0, 0, 0, 0, 0,
+    0, 0, 0, 0, 0, 0, 0, 0, 0, 0, 0, 0, 0, 0, 0, 0,
+    0, 0, 0, 0, 0, 0, 0, 0, 0, 0, 0, 0, 0, 0, 0, 0,
+    0, 0, 0, 0, 0, 0, 0, 0, 0, 0, 0, 0, 0, 0, 0, 0,
+    0, 0, 0, 0, 4, 0, 0, 0, 0, 0, 0, 0, 0, 2, 0, 0, // @ to O
+    0, 0, 0, 0, 0, 0, 0, 3, 0, 1, 0, 0, 0, 0, 0, 0, // P to _
+    0, 0, 0, 0, 4, 0, 0, 0, 0, 0, 0, 0, 0, 2, 0, 0, // ` to o
+    0, 0, 0, 0, 0, 0, 0, 3, 0, 1, 0, 0, 0, 0, 0, 0, // p to the last
+    0, 0, 0, 0, 0, 0, 0, 0, 0, 0, 0, 0, 0, 0, 0, 0,
+    0, 0, 0, 0, 0, 0, 0, 0, 0, 0, 0, 0, 0, 0, 0, 0,
+    0, 0, 0, 0, 0, 0, 0, 0, 0, 0, 0, 0, 0, 0, 0, 0,
+    0, 0, 0, 0, 0, 0, 0, 0, 0, 0, 0, 0, 0, 0, 0, 0,
+    0, 0, 0, 0, 0, 0, 0, 0, 0, 0, 0, 0, 0, 0, 0, 0,
+    0, 0, 0, 0, 0, 0, 0, 0, 0, 0, 0, 0, 0, 0, 0, 0,
+    0, 0, 0, 0, 0, 0, 0, 0, 0, 0, 0, 0, 0, 0, 0, 0,
+    0, 0, 0, 0, 0, 0, 0, 0, 0, 0, 0, 0, 0, 0, 0, 0,
+];
 
-    /// The place of the unit among those of durations, from the longest to the shortest.
-    #[inline(always)]
-    fn place(self) -> u8
-        ensures place { result ≡ place (date_unit_of self) }
-        ensures small { result ≤ 6 }
-    {
-        match self {
-            DateUnit::Years => 0,
-            DateUnit::Months => 1,
-            DateUnit::Weeks => 2,
-            DateUnit::Days => 3,
-        }
-    }
-}
-
-/// A date group: a number and its unit.
-#[derive(Clone, Copy)]
-struct DateGroup {
-    unit: DateUnit,
-    value: u64,
-}
-
-/// Date groups: the record of them, and the least place of a unit that may follow.
-#[derive(Clone, Copy)]
-struct DateGroups {
-    record: DateDurationRecord,
-    least: u8,
-}
-
-/// The number, where it is below 2^32.
+/// The rank of the unit that a letter ends a date group of, or 0 where it ends none.
 #[inline(always)]
-fn check_small(value: u64) -> Result<u32, Stop>
-    ensures { Checks (λ small. small) result value
-        (nat_le value 4294967295) DurationValueExceededRange }
+fn date_rank(letter: u8) -> u8
+    ensures rank { result ≡ rank_seen date letter }
+    ensures small { result ≤ 4 }
 {
-    match u32::try_from(value) {
-        Ok(small) => Ok(small),
-        Err(_) => Err(Stop::DurationValueExceededRange),
-    }
+    DATE_RANKS[letter as usize]
 }
 
-impl DateGroups {
-    /// No groups.
-    #[inline(always)]
-    fn none() -> DateGroups
-        ensures { (profile : Profile) → HasDates profile result [] }
-    {
-        DateGroups {
-            record: DateDurationRecord::default(),
-            least: 0,
-        }
+/// The rank of a date group that may stand from this rank on, where its number is in the range of its unit.
+#[inline(always)]
+fn check_date_rank(number: Number, least: u8) -> Result<u8, Stop>
+    requires least { 1 ≤ least }
+    requires small { IsTrue (nat_le number.value greatest_value) }
+    ensures rank { Yields (λ rank. rank) result (date_rank_from least number) }
+    ensures small { IfOk result (λ rank. rank ≤ 4) }
+{
+    let rank = date_rank(number.next);
+    if rank < least {
+        return Err(if rank == 0 {
+            Stop::AbruptDateDesignator
+        } else {
+            Stop::DateDurationPartOrder
+        });
     }
+    if number.value > MOST_OF_LONG_UNITS && rank < 4 {
+        return Err(Stop::DurationValueExceededRange);
+    }
+    Ok(rank)
+}
 
-    /// Adds a group behind these, where its unit may follow and its number is in the range of the unit.
-    #[inline(always)]
-    fn add(&mut self, group: DateGroup, profile: Profile) -> Result<(), Stop>
-        ensures { AddsDate profile self.old result self.new (date_group_of group) }
-    {
-        let place = group.unit.place();
-        if place < self.least {
-            return Err(Stop::DateDurationPartOrder);
-        }
-        match group.unit {
-            DateUnit::Years => self.record.years = check_small(group.value)?,
-            DateUnit::Months => self.record.months = check_small(group.value)?,
-            DateUnit::Weeks => self.record.weeks = check_small(group.value)?,
-            DateUnit::Days => self.record.days = group.value,
-        }
-        self.least = place + profile.least_step();
-        Ok(())
+/// The record of the numbers of date groups, which stand by their ranks.
+#[inline(always)]
+fn date_record(values: [u64; 5]) -> DateDurationRecord
+    requires small { HasSmallDates values }
+    ensures { IsDateRecord values result }
+{
+    DateDurationRecord {
+        years: values[1] as u32,
+        months: values[2] as u32,
+        weeks: values[3] as u32,
+        days: values[4],
     }
 }
 
@@ -336,26 +309,6 @@ impl DateGroups {
 struct Dates {
     record: DateDurationRecord,
     timed: bool,
-}
-
-/// Reads a date group after its first digit.
-#[inline(always)]
-fn parse_date_group<'a, T: EncodingType>(
-    cursor: &mut Cursor<'a, T>,
-    first: u8,
-) -> Result<DateGroup, Stop>
-    requires digit { IsTrue (digit first) }
-    ensures group { (profile : Profile) (s : Sign) (dates : List Group) →
-        ReadsOn T.letter profile (in_number (in_dates s dates) (Plain first ∷ []))
-        cursor.old result cursor.new (after_date_group profile s dates) }
-    ensures looks { SpendsOr 1 0 cursor.old result cursor.new }
-{
-    let number = parse_number(cursor, first, Stop::AbruptDateDesignator)?;
-    let unit = DateUnit::of_letter(number.next)?;
-    Ok(DateGroup {
-        unit,
-        value: number.value,
-    })
 }
 
 /// Reads date groups after their first digit, and what follows them: the end, or a `T`.
@@ -374,15 +327,18 @@ fn parse_dates<'a, T: EncodingType>(
         ≡ Err (fault_of_stop e)) }
     ensures looks { Spends 1 cursor.old cursor.new }
 {
-    let mut groups = DateGroups::none();
+    let mut values = [0; 5];
+    let mut least = 1;
     let mut digit = first;
     loop {
-        let group = parse_date_group(cursor, digit)?;
-        groups.add(group, profile)?;
+        let number = parse_number(cursor, digit, Stop::AbruptDateDesignator)?;
+        let rank = check_date_rank(number, least)?;
+        values[rank as usize] = number.value;
+        least = rank + profile.least_step();
         match cursor.look()? {
             None => {
                 return Ok(Dates {
-                    record: groups.record,
+                    record: date_record(values),
                     timed: false,
                 });
             }
@@ -393,7 +349,7 @@ fn parse_dates<'a, T: EncodingType>(
             Some(byte) if is_time_designator(byte) => {
                 cursor.step();
                 return Ok(Dates {
-                    record: groups.record,
+                    record: date_record(values),
                     timed: true,
                 });
             }
@@ -404,135 +360,97 @@ fn parse_dates<'a, T: EncodingType>(
 
 // ==== Times ====
 
-/// A unit of time groups.
-#[derive(Clone, Copy)]
-enum TimeUnit {
-    Hours,
-    Minutes,
-    Seconds,
+// The rank of the unit that a letter ends a time group of: hours are 1, minutes 2 and seconds 3. A letter that ends none has
+// 0.
+#[rattlefmt::skip]
+static TIME_RANKS: [u8; 256] = [
+    0, 0, 0, 0, 0, 0, 0, 0, 0, 0, 0, 0, 0, 0, 0, 0,
+    0, 0, 0, 0, 0, 0, 0, 0, 0, 0, 0, 0, 0, 0, 0, 0,
+    0, 0, 0, 0, 0, 0, 0, 0, 0, 0, 0, 0, 0, 0, 0, 0,
+    0, 0, 0, 0, 0, 0, 0, 0, 0, 0, 0, 0, 0, 0, 0, 0,
+    0, 0, 0, 0, 0, 0, 0, 0, 1, 0, 0, 0, 0, 2, 0, 0, // @ to O
+    0, 0, 0, 3, 0, 0, 0, 0, 0, 0, 0, 0, 0, 0, 0, 0, // P to _
+    0, 0, 0, 0, 0, 0, 0, 0, 1, 0, 0, 0, 0, 2, 0, 0, // ` to o
+    0, 0, 0, 3, 0, 0, 0, 0, 0, 0, 0, 0, 0, 0, 0, 0, // p to the last
+    0, 0, 0, 0, 0, 0, 0, 0, 0, 0, 0, 0, 0, 0, 0, 0,
+    0, 0, 0, 0, 0, 0, 0, 0, 0, 0, 0, 0, 0, 0, 0, 0,
+    0, 0, 0, 0, 0, 0, 0, 0, 0, 0, 0, 0, 0, 0, 0, 0,
+    0, 0, 0, 0, 0, 0, 0, 0, 0, 0, 0, 0, 0, 0, 0, 0,
+    0, 0, 0, 0, 0, 0, 0, 0, 0, 0, 0, 0, 0, 0, 0, 0,
+    0, 0, 0, 0, 0, 0, 0, 0, 0, 0, 0, 0, 0, 0, 0, 0,
+    0, 0, 0, 0, 0, 0, 0, 0, 0, 0, 0, 0, 0, 0, 0, 0,
+    0, 0, 0, 0, 0, 0, 0, 0, 0, 0, 0, 0, 0, 0, 0, 0,
+];
+
+/// The rank of the unit that a letter ends a time group of, or 0 where it ends none.
+#[inline(always)]
+fn time_rank(letter: u8) -> u8
+    ensures rank { result ≡ rank_seen time letter }
+    ensures small { result ≤ 3 }
+{
+    TIME_RANKS[letter as usize]
 }
 
-impl TimeUnit {
-    /// The unit of the letter that ends a group.
-    #[inline(always)]
-    fn of_letter(letter: u8) -> Result<TimeUnit, Stop>
-        ensures { Yields time_unit_of result (unit_seen time letter) }
-    {
-        match letter {
-            b'H' | b'h' => Ok(TimeUnit::Hours),
-            b'M' | b'm' => Ok(TimeUnit::Minutes),
-            b'S' | b's' => Ok(TimeUnit::Seconds),
-            _ => Err(Stop::AbruptTimeDesignator),
-        }
-    }
-
-    /// The place of the unit among those of durations, from the longest to the shortest.
-    #[inline(always)]
-    fn place(self) -> u8
-        ensures place { result ≡ place (time_unit_of self) }
-        ensures small { result ≤ 6 }
-    {
-        match self {
-            TimeUnit::Hours => 4,
-            TimeUnit::Minutes => 5,
-            TimeUnit::Seconds => 6,
-        }
-    }
-}
-
-/// A time group: a number, its unit, and the part of a unit beyond it.
+/// A time group: a number, the part of a unit beyond it, and the letter after them.
 #[derive(Clone, Copy)]
 struct TimeGroup {
-    unit: TimeUnit,
     value: u64,
     fraction: Option<Fraction>,
+    letter: u8,
 }
 
-/// Time groups: the number of each unit, the least place of a unit that may follow, and the unit and the fraction of the last
-/// group, where there is one.
-#[derive(Clone, Copy)]
-struct TimeGroups {
-    hours: u64,
-    minutes: u64,
-    seconds: u64,
-    least: u8,
-    last: TimeUnit,
-    fraction: Option<Fraction>,
+/// The rank of a time group that may stand from this rank on.
+#[inline(always)]
+fn check_time_rank(letter: u8, least: u8) -> Result<u8, Stop>
+    requires least { 1 ≤ least }
+    ensures rank { Yields (λ rank. rank) result (time_rank_from least letter) }
+    ensures small { IfOk result (λ rank. rank ≤ 3) }
+{
+    let rank = time_rank(letter);
+    if rank < least {
+        return Err(if rank == 0 {
+            Stop::AbruptTimeDesignator
+        } else {
+            Stop::TimeDurationPartOrder
+        });
+    }
+    Ok(rank)
 }
 
-impl TimeGroups {
-    /// No groups.
-    #[inline(always)]
-    fn none() -> TimeGroups
-        ensures { (profile : Profile) → HasTimes profile result [] }
-    {
-        TimeGroups {
-            hours: 0,
-            minutes: 0,
-            seconds: 0,
-            least: 0,
-            last: TimeUnit::Hours,
-            fraction: None,
-        }
-    }
-
-    /// Adds a group behind these, where its unit may follow.
-    #[inline(always)]
-    fn add(&mut self, group: TimeGroup, profile: Profile) -> Result<(), Stop>
-        ensures added { AddsTime profile self.old result self.new (time_group_of group) }
-        ensures last { OnOk result (self.new.last ≡ group.unit) }
-        ensures fraction { OnOk result (self.new.fraction ≡ group.fraction) }
-    {
-        let place = group.unit.place();
-        if place < self.least {
-            return Err(Stop::TimeDurationPartOrder);
-        }
-        match group.unit {
-            TimeUnit::Hours => self.hours = group.value,
-            TimeUnit::Minutes => self.minutes = group.value,
-            TimeUnit::Seconds => self.seconds = group.value,
-        }
-        self.least = place + profile.least_step();
-        self.last = group.unit;
-        self.fraction = group.fraction;
-        Ok(())
-    }
-
-    /// Whether the byte begins one more group: a digit does, where the last group has no fraction.
-    #[inline(always)]
-    fn goes_on(&self, byte: u8) -> bool
-        ensures { result ≡ begins_group self.now.fraction byte }
-    {
-        byte.is_ascii_digit() && self.fraction.is_none()
-    }
-
-    /// The record of the groups, by the unit of the last.
-    #[inline(always)]
-    fn record(self) -> TimeDurationRecord
-        ensures { (profile : Profile) (times : List Group) → HasTimes profile self times →
-            time_duration_to (time_unit_of self.last) self.fraction times ≡ Some result }
-    {
-        match self.last {
-            TimeUnit::Hours => TimeDurationRecord::Hours {
-                hours: self.hours,
-                fraction: self.fraction,
-            },
-            TimeUnit::Minutes => TimeDurationRecord::Minutes {
-                hours: self.hours,
-                minutes: self.minutes,
-                fraction: self.fraction,
-            },
-            TimeUnit::Seconds => TimeDurationRecord::Seconds {
-                hours: self.hours,
-                minutes: self.minutes,
-                seconds: self.seconds,
-                fraction: self.fraction,
-            },
-        }
+/// The record of the numbers of time groups, which stand by their ranks, by the rank of the last.
+#[inline(always)]
+fn time_record(values: [u64; 4], rank: u8, fraction: Option<Fraction>) -> TimeDurationRecord
+    requires rank { 1 ≤ rank }
+    ensures { IsTimeRecord values rank fraction result }
+{
+    match rank {
+        1 => TimeDurationRecord::Hours {
+            hours: values[1],
+            fraction,
+        },
+        2 => TimeDurationRecord::Minutes {
+            hours: values[1],
+            minutes: values[2],
+            fraction,
+        },
+        _ => TimeDurationRecord::Seconds {
+            hours: values[1],
+            minutes: values[2],
+            seconds: values[3],
+            fraction,
+        },
     }
 }
 
-/// Reads the digits of a fraction after its decimal mark, and the letter that ends the group of this number.
+/// Whether the byte begins one more group after one with this fraction: a digit does, where there is none.
+#[inline(always)]
+fn begins_time_group(byte: u8, fraction: Option<Fraction>) -> bool
+    ensures { result ≡ begins_group fraction byte }
+{
+    byte.is_ascii_digit() && fraction.is_none()
+}
+
+/// Reads the digits of a fraction after its decimal mark, and the letter after them.
 #[inline(always)]
 fn parse_fraction_group<'a, T: EncodingType>(
     cursor: &mut Cursor<'a, T>,
@@ -547,19 +465,18 @@ fn parse_fraction_group<'a, T: EncodingType>(
     let fraction = parse_fraction(cursor)?;
     match cursor.look()? {
         None => Err(Stop::AbruptTimeDesignator),
-        Some(byte) => {
+        Some(letter) => {
             cursor.step();
-            let unit = TimeUnit::of_letter(byte)?;
             Ok(TimeGroup {
-                unit,
                 value,
                 fraction: Some(fraction),
+                letter,
             })
         }
     }
 }
 
-/// Reads a time group after its first digit.
+/// Reads a time group after its first digit. Its letter is not tested.
 #[inline(always)]
 fn parse_time_group<'a, T: EncodingType>(
     cursor: &mut Cursor<'a, T>,
@@ -576,11 +493,10 @@ fn parse_time_group<'a, T: EncodingType>(
     if is_decimal_separator(number.next) {
         return parse_fraction_group(cursor, number.value);
     }
-    let unit = TimeUnit::of_letter(number.next)?;
     Ok(TimeGroup {
-        unit,
         value: number.value,
         fraction: None,
+        letter: number.next,
     })
 }
 
@@ -598,16 +514,17 @@ fn parse_time_groups<'a, T: EncodingType>(
         (λ time text. Ok (dated s (date_duration dates) (Some time), text)) }
     ensures looks { Spends 4 cursor.old cursor.new }
 {
-    let mut groups = TimeGroups::none();
+    let mut values = [0; 4];
+    let mut least = 1;
     let mut digit = first;
     loop {
-        match parse_time_group(cursor, digit) {
-            Ok(group) => groups.add(group, profile)?,
-            Err(stop) => return Err(stop),
-        }
+        let group = parse_time_group(cursor, digit)?;
+        let rank = check_time_rank(group.letter, least)?;
+        values[rank as usize] = group.value;
+        least = rank + profile.least_step();
         match cursor.look()? {
-            None => return Ok(groups.record()),
-            Some(byte) if groups.goes_on(byte) => {
+            None => return Ok(time_record(values, rank, group.fraction)),
+            Some(byte) if begins_time_group(byte, group.fraction) => {
                 cursor.step();
                 digit = byte;
             }

@@ -148,88 +148,61 @@ fn parse_number<'a, T: EncodingType>(
 
 // ==== Dates ====
 
-/// A unit of date groups.
-#[derive(Clone, Copy)]
-enum DateUnit {
-    Years,
-    Months,
-    Weeks,
-    Days,
-}
+// The greatest number of years, and of months, and of weeks.
+const MOST_OF_LONG_UNITS: u64 = 0xffff_ffff;
 
-impl DateUnit {
-    /// The unit of the letter that ends a group.
-    #[inline(always)]
-    fn of_letter(letter: u8) -> Result<DateUnit, Stop> {
-        match letter {
-            b'Y' | b'y' => Ok(DateUnit::Years),
-            b'M' | b'm' => Ok(DateUnit::Months),
-            b'W' | b'w' => Ok(DateUnit::Weeks),
-            b'D' | b'd' => Ok(DateUnit::Days),
-            _ => Err(Stop::AbruptDateDesignator),
-        }
-    }
+// The rank of the unit that a letter ends a date group of: years are 1, months 2, weeks 3 and days 4. A letter that ends none
+// has 0.
+static DATE_RANKS: [u8; 256] = [
+    0, 0, 0, 0, 0, 0, 0, 0, 0, 0, 0, 0, 0, 0, 0, 0,
+    0, 0, 0, 0, 0, 0, 0, 0, 0, 0, 0, 0, 0, 0, 0, 0,
+    0, 0, 0, 0, 0, 0, 0, 0, 0, 0, 0, 0, 0, 0, 0, 0,
+    0, 0, 0, 0, 0, 0, 0, 0, 0, 0, 0, 0, 0, 0, 0, 0,
+    0, 0, 0, 0, 4, 0, 0, 0, 0, 0, 0, 0, 0, 2, 0, 0, // @ to O
+    0, 0, 0, 0, 0, 0, 0, 3, 0, 1, 0, 0, 0, 0, 0, 0, // P to _
+    0, 0, 0, 0, 4, 0, 0, 0, 0, 0, 0, 0, 0, 2, 0, 0, // ` to o
+    0, 0, 0, 0, 0, 0, 0, 3, 0, 1, 0, 0, 0, 0, 0, 0, // p to the last
+    0, 0, 0, 0, 0, 0, 0, 0, 0, 0, 0, 0, 0, 0, 0, 0,
+    0, 0, 0, 0, 0, 0, 0, 0, 0, 0, 0, 0, 0, 0, 0, 0,
+    0, 0, 0, 0, 0, 0, 0, 0, 0, 0, 0, 0, 0, 0, 0, 0,
+    0, 0, 0, 0, 0, 0, 0, 0, 0, 0, 0, 0, 0, 0, 0, 0,
+    0, 0, 0, 0, 0, 0, 0, 0, 0, 0, 0, 0, 0, 0, 0, 0,
+    0, 0, 0, 0, 0, 0, 0, 0, 0, 0, 0, 0, 0, 0, 0, 0,
+    0, 0, 0, 0, 0, 0, 0, 0, 0, 0, 0, 0, 0, 0, 0, 0,
+    0, 0, 0, 0, 0, 0, 0, 0, 0, 0, 0, 0, 0, 0, 0, 0,
+];
 
-    /// The place of the unit among those of durations, from the longest to the shortest.
-    #[inline(always)]
-    fn place(self) -> u8 {
-        match self {
-            DateUnit::Years => 0,
-            DateUnit::Months => 1,
-            DateUnit::Weeks => 2,
-            DateUnit::Days => 3,
-        }
-    }
-}
-
-/// A date group: a number and its unit.
-#[derive(Clone, Copy)]
-struct DateGroup {
-    unit: DateUnit,
-    value: u64,
-}
-
-/// Date groups: the record of them, and the least place of a unit that may follow.
-#[derive(Clone, Copy)]
-struct DateGroups {
-    record: DateDurationRecord,
-    least: u8,
-}
-
-/// The number, where it is below 2^32.
+/// The rank of the unit that a letter ends a date group of, or 0 where it ends none.
 #[inline(always)]
-fn check_small(value: u64) -> Result<u32, Stop> {
-    match u32::try_from(value) {
-        Ok(small) => Ok(small),
-        Err(_) => Err(Stop::DurationValueExceededRange),
-    }
+fn date_rank(letter: u8) -> u8 {
+    DATE_RANKS[letter as usize]
 }
 
-impl DateGroups {
-    /// No groups.
-    #[inline(always)]
-    fn none() -> DateGroups {
-        DateGroups {
-            record: DateDurationRecord::default(),
-            least: 0,
-        }
+/// The rank of a date group that may stand from this rank on, where its number is in the range of its unit.
+#[inline(always)]
+fn check_date_rank(number: Number, least: u8) -> Result<u8, Stop> {
+    let rank = date_rank(number.next);
+    if rank < least {
+        return Err(if rank == 0 {
+            Stop::AbruptDateDesignator
+        } else {
+            Stop::DateDurationPartOrder
+        });
     }
+    if number.value > MOST_OF_LONG_UNITS && rank < 4 {
+        return Err(Stop::DurationValueExceededRange);
+    }
+    Ok(rank)
+}
 
-    /// Adds a group behind these, where its unit may follow and its number is in the range of the unit.
-    #[inline(always)]
-    fn add(&mut self, group: DateGroup, profile: Profile) -> Result<(), Stop> {
-        let place = group.unit.place();
-        if place < self.least {
-            return Err(Stop::DateDurationPartOrder);
-        }
-        match group.unit {
-            DateUnit::Years => self.record.years = check_small(group.value)?,
-            DateUnit::Months => self.record.months = check_small(group.value)?,
-            DateUnit::Weeks => self.record.weeks = check_small(group.value)?,
-            DateUnit::Days => self.record.days = group.value,
-        }
-        self.least = place + profile.least_step();
-        Ok(())
+/// The record of the numbers of date groups, which stand by their ranks.
+#[inline(always)]
+fn date_record(values: [u64; 5]) -> DateDurationRecord {
+    DateDurationRecord {
+        years: values[1] as u32,
+        months: values[2] as u32,
+        weeks: values[3] as u32,
+        days: values[4],
     }
 }
 
@@ -240,20 +213,6 @@ struct Dates {
     timed: bool,
 }
 
-/// Reads a date group after its first digit.
-#[inline(always)]
-fn parse_date_group<'a, T: EncodingType>(
-    cursor: &mut Cursor<'a, T>,
-    first: u8,
-) -> Result<DateGroup, Stop> {
-    let number = parse_number(cursor, first, Stop::AbruptDateDesignator)?;
-    let unit = DateUnit::of_letter(number.next)?;
-    Ok(DateGroup {
-        unit,
-        value: number.value,
-    })
-}
-
 /// Reads date groups after their first digit, and what follows them: the end, or a `T`.
 #[inline(always)]
 fn parse_dates<'a, T: EncodingType>(
@@ -261,15 +220,18 @@ fn parse_dates<'a, T: EncodingType>(
     first: u8,
     profile: Profile,
 ) -> Result<Dates, Stop> {
-    let mut groups = DateGroups::none();
+    let mut values = [0; 5];
+    let mut least = 1;
     let mut digit = first;
     loop {
-        let group = parse_date_group(cursor, digit)?;
-        groups.add(group, profile)?;
+        let number = parse_number(cursor, digit, Stop::AbruptDateDesignator)?;
+        let rank = check_date_rank(number, least)?;
+        values[rank as usize] = number.value;
+        least = rank + profile.least_step();
         match cursor.look()? {
             None => {
                 return Ok(Dates {
-                    record: groups.record,
+                    record: date_record(values),
                     timed: false,
                 });
             }
@@ -280,7 +242,7 @@ fn parse_dates<'a, T: EncodingType>(
             Some(byte) if is_time_designator(byte) => {
                 cursor.step();
                 return Ok(Dates {
-                    record: groups.record,
+                    record: date_record(values),
                     timed: true,
                 });
             }
@@ -291,119 +253,84 @@ fn parse_dates<'a, T: EncodingType>(
 
 // ==== Times ====
 
-/// A unit of time groups.
-#[derive(Clone, Copy)]
-enum TimeUnit {
-    Hours,
-    Minutes,
-    Seconds,
+// The rank of the unit that a letter ends a time group of: hours are 1, minutes 2 and seconds 3. A letter that ends none has
+// 0.
+static TIME_RANKS: [u8; 256] = [
+    0, 0, 0, 0, 0, 0, 0, 0, 0, 0, 0, 0, 0, 0, 0, 0,
+    0, 0, 0, 0, 0, 0, 0, 0, 0, 0, 0, 0, 0, 0, 0, 0,
+    0, 0, 0, 0, 0, 0, 0, 0, 0, 0, 0, 0, 0, 0, 0, 0,
+    0, 0, 0, 0, 0, 0, 0, 0, 0, 0, 0, 0, 0, 0, 0, 0,
+    0, 0, 0, 0, 0, 0, 0, 0, 1, 0, 0, 0, 0, 2, 0, 0, // @ to O
+    0, 0, 0, 3, 0, 0, 0, 0, 0, 0, 0, 0, 0, 0, 0, 0, // P to _
+    0, 0, 0, 0, 0, 0, 0, 0, 1, 0, 0, 0, 0, 2, 0, 0, // ` to o
+    0, 0, 0, 3, 0, 0, 0, 0, 0, 0, 0, 0, 0, 0, 0, 0, // p to the last
+    0, 0, 0, 0, 0, 0, 0, 0, 0, 0, 0, 0, 0, 0, 0, 0,
+    0, 0, 0, 0, 0, 0, 0, 0, 0, 0, 0, 0, 0, 0, 0, 0,
+    0, 0, 0, 0, 0, 0, 0, 0, 0, 0, 0, 0, 0, 0, 0, 0,
+    0, 0, 0, 0, 0, 0, 0, 0, 0, 0, 0, 0, 0, 0, 0, 0,
+    0, 0, 0, 0, 0, 0, 0, 0, 0, 0, 0, 0, 0, 0, 0, 0,
+    0, 0, 0, 0, 0, 0, 0, 0, 0, 0, 0, 0, 0, 0, 0, 0,
+    0, 0, 0, 0, 0, 0, 0, 0, 0, 0, 0, 0, 0, 0, 0, 0,
+    0, 0, 0, 0, 0, 0, 0, 0, 0, 0, 0, 0, 0, 0, 0, 0,
+];
+
+/// The rank of the unit that a letter ends a time group of, or 0 where it ends none.
+#[inline(always)]
+fn time_rank(letter: u8) -> u8 {
+    TIME_RANKS[letter as usize]
 }
 
-impl TimeUnit {
-    /// The unit of the letter that ends a group.
-    #[inline(always)]
-    fn of_letter(letter: u8) -> Result<TimeUnit, Stop> {
-        match letter {
-            b'H' | b'h' => Ok(TimeUnit::Hours),
-            b'M' | b'm' => Ok(TimeUnit::Minutes),
-            b'S' | b's' => Ok(TimeUnit::Seconds),
-            _ => Err(Stop::AbruptTimeDesignator),
-        }
-    }
-
-    /// The place of the unit among those of durations, from the longest to the shortest.
-    #[inline(always)]
-    fn place(self) -> u8 {
-        match self {
-            TimeUnit::Hours => 4,
-            TimeUnit::Minutes => 5,
-            TimeUnit::Seconds => 6,
-        }
-    }
-}
-
-/// A time group: a number, its unit, and the part of a unit beyond it.
+/// A time group: a number, the part of a unit beyond it, and the letter after them.
 #[derive(Clone, Copy)]
 struct TimeGroup {
-    unit: TimeUnit,
     value: u64,
     fraction: Option<Fraction>,
+    letter: u8,
 }
 
-/// Time groups: the number of each unit, the least place of a unit that may follow, and the unit and the fraction of the last
-/// group, where there is one.
-#[derive(Clone, Copy)]
-struct TimeGroups {
-    hours: u64,
-    minutes: u64,
-    seconds: u64,
-    least: u8,
-    last: TimeUnit,
-    fraction: Option<Fraction>,
+/// The rank of a time group that may stand from this rank on.
+#[inline(always)]
+fn check_time_rank(letter: u8, least: u8) -> Result<u8, Stop> {
+    let rank = time_rank(letter);
+    if rank < least {
+        return Err(if rank == 0 {
+            Stop::AbruptTimeDesignator
+        } else {
+            Stop::TimeDurationPartOrder
+        });
+    }
+    Ok(rank)
 }
 
-impl TimeGroups {
-    /// No groups.
-    #[inline(always)]
-    fn none() -> TimeGroups {
-        TimeGroups {
-            hours: 0,
-            minutes: 0,
-            seconds: 0,
-            least: 0,
-            last: TimeUnit::Hours,
-            fraction: None,
-        }
-    }
-
-    /// Adds a group behind these, where its unit may follow.
-    #[inline(always)]
-    fn add(&mut self, group: TimeGroup, profile: Profile) -> Result<(), Stop> {
-        let place = group.unit.place();
-        if place < self.least {
-            return Err(Stop::TimeDurationPartOrder);
-        }
-        match group.unit {
-            TimeUnit::Hours => self.hours = group.value,
-            TimeUnit::Minutes => self.minutes = group.value,
-            TimeUnit::Seconds => self.seconds = group.value,
-        }
-        self.least = place + profile.least_step();
-        self.last = group.unit;
-        self.fraction = group.fraction;
-        Ok(())
-    }
-
-    /// Whether the byte begins one more group: a digit does, where the last group has no fraction.
-    #[inline(always)]
-    fn goes_on(&self, byte: u8) -> bool {
-        byte.is_ascii_digit() && self.fraction.is_none()
-    }
-
-    /// The record of the groups, by the unit of the last.
-    #[inline(always)]
-    fn record(self) -> TimeDurationRecord {
-        match self.last {
-            TimeUnit::Hours => TimeDurationRecord::Hours {
-                hours: self.hours,
-                fraction: self.fraction,
-            },
-            TimeUnit::Minutes => TimeDurationRecord::Minutes {
-                hours: self.hours,
-                minutes: self.minutes,
-                fraction: self.fraction,
-            },
-            TimeUnit::Seconds => TimeDurationRecord::Seconds {
-                hours: self.hours,
-                minutes: self.minutes,
-                seconds: self.seconds,
-                fraction: self.fraction,
-            },
-        }
+/// The record of the numbers of time groups, which stand by their ranks, by the rank of the last.
+#[inline(always)]
+fn time_record(values: [u64; 4], rank: u8, fraction: Option<Fraction>) -> TimeDurationRecord {
+    match rank {
+        1 => TimeDurationRecord::Hours {
+            hours: values[1],
+            fraction,
+        },
+        2 => TimeDurationRecord::Minutes {
+            hours: values[1],
+            minutes: values[2],
+            fraction,
+        },
+        _ => TimeDurationRecord::Seconds {
+            hours: values[1],
+            minutes: values[2],
+            seconds: values[3],
+            fraction,
+        },
     }
 }
 
-/// Reads the digits of a fraction after its decimal mark, and the letter that ends the group of this number.
+/// Whether the byte begins one more group after one with this fraction: a digit does, where there is none.
+#[inline(always)]
+fn begins_time_group(byte: u8, fraction: Option<Fraction>) -> bool {
+    byte.is_ascii_digit() && fraction.is_none()
+}
+
+/// Reads the digits of a fraction after its decimal mark, and the letter after them.
 #[inline(always)]
 fn parse_fraction_group<'a, T: EncodingType>(
     cursor: &mut Cursor<'a, T>,
@@ -412,19 +339,18 @@ fn parse_fraction_group<'a, T: EncodingType>(
     let fraction = parse_fraction(cursor)?;
     match cursor.look()? {
         None => Err(Stop::AbruptTimeDesignator),
-        Some(byte) => {
+        Some(letter) => {
             cursor.step();
-            let unit = TimeUnit::of_letter(byte)?;
             Ok(TimeGroup {
-                unit,
                 value,
                 fraction: Some(fraction),
+                letter,
             })
         }
     }
 }
 
-/// Reads a time group after its first digit.
+/// Reads a time group after its first digit. Its letter is not tested.
 #[inline(always)]
 fn parse_time_group<'a, T: EncodingType>(
     cursor: &mut Cursor<'a, T>,
@@ -434,11 +360,10 @@ fn parse_time_group<'a, T: EncodingType>(
     if is_decimal_separator(number.next) {
         return parse_fraction_group(cursor, number.value);
     }
-    let unit = TimeUnit::of_letter(number.next)?;
     Ok(TimeGroup {
-        unit,
         value: number.value,
         fraction: None,
+        letter: number.next,
     })
 }
 
@@ -449,16 +374,17 @@ fn parse_time_groups<'a, T: EncodingType>(
     first: u8,
     profile: Profile,
 ) -> Result<TimeDurationRecord, Stop> {
-    let mut groups = TimeGroups::none();
+    let mut values = [0; 4];
+    let mut least = 1;
     let mut digit = first;
     loop {
-        match parse_time_group(cursor, digit) {
-            Ok(group) => groups.add(group, profile)?,
-            Err(stop) => return Err(stop),
-        }
+        let group = parse_time_group(cursor, digit)?;
+        let rank = check_time_rank(group.letter, least)?;
+        values[rank as usize] = group.value;
+        least = rank + profile.least_step();
         match cursor.look()? {
-            None => return Ok(groups.record()),
-            Some(byte) if groups.goes_on(byte) => {
+            None => return Ok(time_record(values, rank, group.fraction)),
+            Some(byte) if begins_time_group(byte, group.fraction) => {
                 cursor.step();
                 digit = byte;
             }

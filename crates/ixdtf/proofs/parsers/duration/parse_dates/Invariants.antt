@@ -3,13 +3,14 @@ use Rattle.ixdtf.specs.language.Letters.{digit}
 use Rattle.ixdtf.proofs.code.DurationLoops.{DatesSoFar}
 use Rattle.ixdtf.proofs.parsers.duration.parse_dates.Given as goal
 
-abbrev pub invariant-loop-group : goal.invariant-loop-group
-invariant-loop-group g l = record {
-  far : DatesSoFar l.profile l.first (map g.T.EncodingType.letter l.initial.cursor.rest) (map g.T.EncodingType.letter l.cursor.rest) l.groups l.digit;
+abbrev pub invariant-loop-number : goal.invariant-loop-number
+invariant-loop-number g l = record {
+  far : DatesSoFar l.profile l.first (map g.T.EncodingType.letter l.initial.cursor.rest) (map g.T.EncodingType.letter l.cursor.rest) l.values l.least l.digit;
+  first : 1 ≤ l.least;
   is_digit : IsTrue (digit l.digit);
   looks : l.cursor.looks + length l.cursor.rest ≤ l.initial.cursor.looks + length l.initial.cursor.rest;
   counted : l.initial.cursor.looks ≤ l.cursor.looks;
 }
 
-abbrev pub decreases-loop-group : goal.decreases-loop-group
-decreases-loop-group g l = length l.cursor.rest
+abbrev pub decreases-loop-number : goal.decreases-loop-number
+decreases-loop-number g l = length l.cursor.rest

@@ -2,7 +2,7 @@ use Rattle.std.proofs.Common.{◌≡◌, ℕ, List, map, drop, Some, None, Ok, a
 use Rattle.std.proofs.lemmas.Result.{err_from_is_err_and}
 use Rattle.ixdtf.specs.table.Faults.Fault.{NonAsciiCodePoint}
 use Rattle.ixdtf.specs.reading.Looks.{look_at}
-use Rattle.ixdtf.proofs.code.DurationFractions.{fraction_fails, fraction_over, no_letter, breaks, ends_none, ends_group}
+use Rattle.ixdtf.proofs.code.DurationFractions.{fraction_fails, fraction_over, no_letter, breaks, ends_group}
 use Rattle.ixdtf.proofs.parsers.duration.parse_fraction_group.Goals as goal
 
 -- there is no fraction
@@ -24,18 +24,11 @@ returns-in-None-clause-group g c profile s dates times ds number =
     cc (c.in_ok-look.ensures.letter, c.in-None.is) in
     no_letter _ _ _ (fraction_over _ _ _ c.in_ok-fraction.ensures.fraction) profile s dates times ds none
 
--- the letter ends no group
-pub returns-in_err-unit-in-Some-clause-group : goal.returns-in_err-unit-in-Some-clause-group
-returns-in_err-unit-in-Some-clause-group g c profile s dates times ds number =
-    let p = err_from_is_err_and c.from_residual-in_err-unit-in-Some.result c.from_residual-in_err-unit-in-Some.ensures.1 in
-    let found : look_at NonAsciiCodePoint (map g.T.EncodingType.letter c.parse_fraction.new.cursor.rest) ≡ Ok (Some c.in-Some.byte) =
-    cc (c.in_ok-look.ensures.letter, c.in-Some.is) in
-    rw (p.1, p.2) (ends_none _ _ _ (fraction_over _ _ _ c.in_ok-fraction.ensures.fraction) profile s dates times ds _ found _ c.in_err-unit-in-Some.ensures)
-
-pub returns-in_ok-unit-in-Some-clause-group : goal.returns-in_ok-unit-in-Some-clause-group
-returns-in_ok-unit-in-Some-clause-group g c profile s dates times ds number =
-    let found : look_at NonAsciiCodePoint (map g.T.EncodingType.letter c.parse_fraction.new.cursor.rest) ≡ Ok (Some c.in-Some.byte) =
+-- a letter is taken off
+pub returns-in-Some-clause-group : goal.returns-in-Some-clause-group
+returns-in-Some-clause-group g c profile s dates times ds number =
+    let found : look_at NonAsciiCodePoint (map g.T.EncodingType.letter c.parse_fraction.new.cursor.rest) ≡ Ok (Some c.in-Some.letter) =
     cc (c.in_ok-look.ensures.letter, c.in-Some.is) in
     let left : map g.T.EncodingType.letter c.step.new.self.rest ≡ drop 1 (map g.T.EncodingType.letter c.parse_fraction.new.cursor.rest) =
     c.step.ensures.letters ∙ ap (λ (t : List ℕ). drop 1 (map g.T.EncodingType.letter t)) c.in_ok-look.ensures.rest in
-    ends_group _ _ _ (fraction_over _ _ _ c.in_ok-fraction.ensures.fraction) profile s dates times ds _ found _ _ _ number c.in_ok-unit-in-Some.ensures left
+    ends_group _ _ _ (fraction_over _ _ _ c.in_ok-fraction.ensures.fraction) profile s dates times ds _ found _ _ number left

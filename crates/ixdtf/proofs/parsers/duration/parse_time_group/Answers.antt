@@ -1,20 +1,13 @@
 use Rattle.std.proofs.Common.{◌≡◌, false, true, rules}
-use Rattle.std.proofs.lemmas.Result.{err_from_is_err_and}
 use Rattle.ixdtf.specs.language.Letters.{decimal_mark}
-use Rattle.ixdtf.proofs.code.DurationLetters.{ends_time, ends_no_time, at_decimal_mark, has_fraction}
+use Rattle.ixdtf.proofs.code.DurationLetters.{ends_time, at_decimal_mark, has_fraction}
 use Rattle.ixdtf.proofs.code.DurationSteps.{reads_on_earlier}
 use Rattle.ixdtf.proofs.parsers.duration.parse_time_group.Goals as goal
 
--- the letter ends no group
-pub returns-in_err-unit-clause-group : goal.returns-in_err-unit-clause-group
-returns-in_err-unit-clause-group g c profile s dates times =
-    let p = err_from_is_err_and c.from_residual-in_err-unit.result c.from_residual-in_err-unit.ensures.1 in
-    let miss : decimal_mark c.in_ok-number.number.next ≡ false = search rules in
-    rw (p.1, p.2) (ends_no_time _ _ _ _ _ c.in_ok-number.ensures.number profile s dates times _ miss c.in_err-unit.ensures)
-
 pub returns-clause-group : goal.returns-clause-group
 returns-clause-group g c profile s dates times =
-    ends_time _ _ _ _ _ c.in_ok-number.ensures.number profile s dates times _ c.in_ok-unit.ensures c.in_ok-number.ensures.small
+    let miss : decimal_mark c.in_ok-number.number.next ≡ false = search rules in
+    ends_time _ _ _ _ _ c.in_ok-number.ensures.number profile s dates times miss c.in_ok-number.ensures.small
 
 -- a decimal mark stands there
 pub returns-then-is_decimal_separator-clause-group : goal.returns-then-is_decimal_separator-clause-group

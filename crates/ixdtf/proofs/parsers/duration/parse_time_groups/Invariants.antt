@@ -5,7 +5,8 @@ use Rattle.ixdtf.proofs.parsers.duration.parse_time_groups.Given as goal
 
 abbrev pub invariant-loop-group : goal.invariant-loop-group
 invariant-loop-group g l = record {
-  far : TimesSoFar l.profile l.first (map g.T.EncodingType.letter l.initial.cursor.rest) (map g.T.EncodingType.letter l.cursor.rest) l.groups l.digit;
+  far : TimesSoFar l.profile l.first (map g.T.EncodingType.letter l.initial.cursor.rest) (map g.T.EncodingType.letter l.cursor.rest) l.values l.least l.digit;
+  first : 1 ≤ l.least;
   is_digit : IsTrue (digit l.digit);
   looks : l.cursor.looks + length l.cursor.rest ≤ l.initial.cursor.looks + length l.initial.cursor.rest;
   counted : l.initial.cursor.looks ≤ l.cursor.looks;
