@@ -26,7 +26,7 @@
  * blocks, and each returns, in time linear in the length of its text. A call may be made in a signal handler.
  *
  * VERSIONS. Names, order and numbers in this header are stable: a later version adds calls, and numbers behind those that are there, and
- * changes none.
+ * changes none. ixdtf_interface_version() is that of the library, and is to be at least IXDTF_INTERFACE_VERSION.
  */
 #ifndef IXDTF_H
 #define IXDTF_H
@@ -238,6 +238,10 @@ uint32_t ixdtf_parse_month_day_with_annotations(const uint8_t *text, size_t leng
     ixdtf_annotation *annotations, size_t room, size_t *count, ixdtf_record *out);
 uint32_t ixdtf_parse_time_with_annotations(const uint8_t *text, size_t length,
     ixdtf_annotation *annotations, size_t room, size_t *count, ixdtf_record *out);
+uint32_t ixdtf_parse_month_day_with_annotations_strict(const uint8_t *text, size_t length,
+    ixdtf_annotation *annotations, size_t room, size_t *count, ixdtf_record *out);
+uint32_t ixdtf_parse_time_with_annotations_strict(const uint8_t *text, size_t length,
+    ixdtf_annotation *annotations, size_t room, size_t *count, ixdtf_record *out);
 
 /* Takes the reply to an annotation: 0, and the first reply whose key is u-ca is kept in `calendar`; or the error that the reply is
  * refused with, IXDTF_CRITICAL_DUPLICATE_CALENDAR or IXDTF_UNRECOGNIZED_CRITICAL, and `calendar` is as it was. The reply is the annotation
@@ -265,11 +269,18 @@ uint32_t ixdtf16_parse_month_day_with_annotations(const uint16_t *text, size_t l
     ixdtf16_annotation *annotations, size_t room, size_t *count, ixdtf16_record *out);
 uint32_t ixdtf16_parse_time_with_annotations(const uint16_t *text, size_t length,
     ixdtf16_annotation *annotations, size_t room, size_t *count, ixdtf16_record *out);
+uint32_t ixdtf16_parse_month_day_with_annotations_strict(const uint16_t *text, size_t length,
+    ixdtf16_annotation *annotations, size_t room, size_t *count, ixdtf16_record *out);
+uint32_t ixdtf16_parse_time_with_annotations_strict(const uint16_t *text, size_t length,
+    ixdtf16_annotation *annotations, size_t room, size_t *count, ixdtf16_record *out);
 uint32_t ixdtf16_reply(ixdtf16_calendar *calendar, const ixdtf16_annotation *reply);
 
 /* The text of an error by its number, as "Invalid character while parsing date separator.": from 1 to
  * 46; any other number has the text of 1. */
 void ixdtf_error_text(uint32_t error, ixdtf_text *out);
+
+/* The version of the interface that the library has. */
+uint32_t ixdtf_interface_version(void);
 
 /* The layout is the library's: where it is another one for this compiler, nothing compiles. */
 #if defined(__cplusplus) && __cplusplus >= 201103L

@@ -251,6 +251,7 @@ static void test_numbers(void) {
         check(named[i].number == error_rows[i].number && !strcmp(named[i].name, error_rows[i].name), "the number of an error");
     }
     row_shown = "";
+    check(ixdtf_interface_version() == IXDTF_INTERFACE_VERSION, "the library has the version of the header");
 }
 
 /* Each field of a record holds another number, so that a field at another place than the library's shows. The bytes behind the structs stay. */

@@ -89,17 +89,19 @@ static uint32_t OWN(read)(const char *reader, int strict, const UNIT *text, size
 }
 
 /* Calls a reader that lists. */
-static uint32_t OWN(list)(const char *reader, const UNIT *text, size_t length, CALL(annotation) *list, size_t places,
+static uint32_t OWN(list)(const char *reader, int strict, const UNIT *text, size_t length, CALL(annotation) *list, size_t places,
     size_t *count, CALL(record) *out) {
     if (!strcmp(reader, "parse")) {
         return CALL(parse_with_annotations)(text, length, list, places, count, out);
     } else if (!strcmp(reader, "year-month")) {
         return CALL(parse_year_month_with_annotations)(text, length, list, places, count, out);
     } else if (!strcmp(reader, "month-day")) {
-        return CALL(parse_month_day_with_annotations)(text, length, list, places, count, out);
+        return strict ? CALL(parse_month_day_with_annotations_strict)(text, length, list, places, count, out)
+                      : CALL(parse_month_day_with_annotations)(text, length, list, places, count, out);
     }
     check(!strcmp(reader, "time"), "a row names a reader that lists");
-    return CALL(parse_time_with_annotations)(text, length, list, places, count, out);
+    return strict ? CALL(parse_time_with_annotations_strict)(text, length, list, places, count, out)
+                  : CALL(parse_time_with_annotations)(text, length, list, places, count, out);
 }
 
 /* What a reader gave, as the rows show it. */
@@ -244,7 +246,7 @@ static size_t OWN(test_listing)(const struct handler_row *row, const UNIT *text,
     CALL(annotation) none = NEW_ANNOTATION;
     CALL(record) record = NEW_RECORD, again = NEW_RECORD;
     size_t count = 7, places, i;
-    uint32_t error = OWN(list)(row->reader, text, length, all, 0, &count, &record);
+    uint32_t error = OWN(list)(row->reader, 0, text, length, all, 0, &count, &record);
     check(count <= 60, "a row has few annotations");
     none.key.at = (const UNIT *)(const void *)behind; /* what stands in the array before is not read */
     none.key.length = 5;
@@ -253,7 +255,7 @@ static size_t OWN(test_listing)(const struct handler_row *row, const UNIT *text,
         for (i = 0; i < 64; i++) {
             some[i] = none;
         }
-        check(OWN(list)(row->reader, text, length, some, places, &found, &again) == error, "the room changes no outcome");
+        check(OWN(list)(row->reader, 0, text, length, some, places, &found, &again) == error, "the room changes no outcome");
         check(found == count, "the room changes no count");
         check(OWN(same_but_location)(&record, &again), "the room changes no record");
         for (i = 0; i < 64; i++) {
@@ -286,7 +288,7 @@ static void OWN(test_handler)(const struct handler_row *row) {
         list[i] = none;
     }
     found = OWN(test_listing)(row, text, length);
-    error = OWN(list)(row->reader, text, length, list, 64, &count, &record);
+    error = OWN(list)(row->reader, 0, text, length, list, 64, &count, &record);
     check(count == found, "the count is always the same");
     calls.length = 0;
     show(&calls, "%s", "");
@@ -316,6 +318,35 @@ static void OWN(test_handler)(const struct handler_row *row) {
     OWN(show_outcome)(&line, row->reader, error, &record, &duration);
     is(line.text, row->answer, row->handler, row->text);
     is(calls.text, row->calls, row->handler, row->text);
+    /* The strict profile lists alike, where it accepts the text. */
+    if (!strcmp(row->reader, "month-day") || !strcmp(row->reader, "time")) {
+        size_t strict_count = 0;
+        CALL(record) strict = NEW_RECORD;
+        uint32_t strict_error = OWN(list)(row->reader, 1, text, length, list, 64, &strict_count, &strict);
+        uint32_t plain_error = OWN(list)(row->reader, 0, text, length, list, 64, &count, &record);
+        check(strict_error == plain_error ? strict_count == count
+                                          : strict_error == IXDTF_INVALID_MONTH_DAY || plain_error == IXDTF_AMBIGUOUS_TIME_MONTH_DAY,
+            "the strict profile lists alike");
+    }
+}
+
+/* A strict row through the reader that lists, which reads a text without annotations alike. */
+static void OWN(test_strict_listing)(const struct row *row) {
+    struct line line;
+    size_t length, count = 7;
+    const UNIT *text = OWN(placed)(row->text, row->length, 1, &length);
+    CALL(annotation) list[1] = { NEW_ANNOTATION };
+    CALL(record) record = NEW_RECORD;
+    ixdtf_duration duration = IXDTF_DURATION;
+    uint32_t error;
+    if (!strcmp(row->reader, "duration")) {
+        return;
+    }
+    error = OWN(list)(row->reader, 1, text, length, list, 1, &count, &record);
+    if (count == 0) {
+        OWN(show_outcome)(&line, row->reader, error, &record, &duration);
+        is(line.text, row->answer, row->reader, row->text);
+    }
 }
 
 static void OWN(test_texts)(void) {
@@ -350,6 +381,7 @@ static void OWN(test_all)(void) {
         row_shown = strict_rows[i].text;
         if (is_shared(strict_rows[i].text, strict_rows[i].length, sizeof(UNIT))) {
             OWN(test_row)(&strict_rows[i], 1);
+            OWN(test_strict_listing)(&strict_rows[i]);
         }
     }
     for (i = 0; i < COUNT(handler_rows); i++) {
