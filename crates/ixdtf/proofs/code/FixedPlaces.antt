@@ -6,7 +6,7 @@ use Rattle.std.proofs.lemmas.Bool.Decides.{nat_tests}
 use Rattle.std.proofs.lemmas.List.{length-drop}
 use Rattle.ixdtf.specs.declared.records.DateRecord.{DateRecord}
 use Rattle.ixdtf.specs.declared.records.TimeRecord.{TimeRecord}
-use Rattle.ixdtf.specs.language.Letters.{Letter, Text, Class, digit, hyphen, colon, date_time_separator}
+use Rattle.ixdtf.specs.language.Letters.{Letter, Text, Class, digit, hyphen, colon, opening, date_time_separator}
 use Rattle.ixdtf.specs.language.Letters.Letter.{Plain, Bad}
 use Rattle.ixdtf.specs.language.Digits.{decimal, TwoDigits}
 use Rattle.ixdtf.specs.language.Shapes.{digits}
@@ -121,18 +121,18 @@ number_by_tables place text = by_tens (drop place text) (drop (place + 1) text)
 -- ---- what stands where something was found
 
 -- a step from what was found
-then_some : {A B : Type 0} {Goal : Type 0} (o : Option A) (go : A → Option B) (y : B) → (o >>? go) ≡ Some y → ((x : A) → o ≡ Some x → go x ≡ Some y → Goal)
+pub then_some : {A B : Type 0} {Goal : Type 0} (o : Option A) (go : A → Option B) (y : B) → (o >>? go) ≡ Some y → ((x : A) → o ≡ Some x → go x ≡ Some y → Goal)
     → Goal
 then_some None go y e next = absurd cc
 then_some (Some x) go y e next = next x refl e
 
 -- what passed a test
-then_held : {A : Type 0} (t : Bool) (x y : A) → (if t then Some x else None) ≡ Some y → IsTrue t × (x ≡ y)
+pub then_held : {A : Type 0} (t : Bool) (x y : A) → (if t then Some x else None) ≡ Some y → IsTrue t × (x ≡ y)
 then_held true x y e = (refl, cc)
 then_held false x y e = absurd cc
 
 -- the letter at a place, and the text after it
-letter_at_place : (class : Class) (place : ℕ) (text : Text) (c : ℕ) → letter_place class place text ≡ Some c
+pub letter_at_place : (class : Class) (place : ℕ) (text : Text) (c : ℕ) → letter_place class place text ≡ Some c
     → (drop place text ≡ Plain c ∷ drop (suc place) text) × IsTrue (class c)
 letter_at_place class zero (Plain n ∷ rest) c e =
     let (held, same) = then_held (class n) n c e in (ap (λ m. Plain m ∷ rest) same, ap class (sym same) ∙ held)
@@ -140,13 +140,13 @@ letter_at_place class (suc place) (x ∷ rest) c e = letter_at_place class place
 letter_at_place class place text c e = absurd cc
 
 -- two digits at a place and the next, and the text after them
-record Number (place : ℕ) (text : Text) (n : ℕ) : Type 0 where
-  a : ℕ
-  b : ℕ
-  is : drop place text ≡ Plain a ∷ Plain b ∷ drop (suc (suc place)) text
-  is_a : IsTrue (digit a)
-  is_b : IsTrue (digit b)
-  value : n ≡ decimal (Plain a ∷ Plain b ∷ [])
+pub record Number (place : ℕ) (text : Text) (n : ℕ) : Type 0 where
+  pub a : ℕ
+  pub b : ℕ
+  pub is : drop place text ≡ Plain a ∷ Plain b ∷ drop (suc (suc place)) text
+  pub is_a : IsTrue (digit a)
+  pub is_b : IsTrue (digit b)
+  pub value : n ≡ decimal (Plain a ∷ Plain b ∷ [])
 
 number_of_letters : (place : ℕ) (text : Text) (n a b : ℕ) → letter_place digit place text ≡ Some a → letter_place digit (place + 1) text ≡ Some b
     → decimal (Plain a ∷ Plain b ∷ []) ≡ n
@@ -157,7 +157,7 @@ number_of_letters place text n a b ea eb is =
     let second = letter_at_place digit (suc place) text b (ap (λ p. letter_place digit p text) next ∙ eb) in
     record { a = a; b = b; is = first.0 ∙ onto a second.0; is_a = first.1; is_b = second.1; value = sym is }
 
-number_at_place : (place : ℕ) (text : Text) (n : ℕ) → number_place place text ≡ Some n → Number place text n
+pub number_at_place : (place : ℕ) (text : Text) (n : ℕ) → number_place place text ≡ Some n → Number place text n
 unfolding number_place
 number_at_place place text n e =
     then_some (letter_place digit place text) _ n e λ a ea next.
@@ -167,15 +167,26 @@ number_at_place place text n e =
 hyphen_is : (c : ℕ) → IsTrue (hyphen c) → c ≡ 45
 hyphen_is c h = grind (arith, nat_tests)
 
-colon_is : (c : ℕ) → IsTrue (colon c) → c ≡ 58
+pub colon_is : (c : ℕ) → IsTrue (colon c) → c ≡ 58
 colon_is c h = grind (arith, nat_tests)
 
 -- a mark at a place
-mark_at_place : (class : Class) (mark place : ℕ) (text : Text) (c : ℕ) → ((n : ℕ) → IsTrue (class n) → n ≡ mark) → letter_place class place text ≡ Some c
+pub mark_at_place : (class : Class) (mark place : ℕ) (text : Text) (c : ℕ) → ((n : ℕ) → IsTrue (class n) → n ≡ mark) → letter_place class place text ≡ Some c
     → drop place text ≡ Plain mark ∷ drop (suc place) text
 mark_at_place class mark place text c only e =
     let found = letter_at_place class place text c e in
     found.0 ∙ ap (λ n. Plain n ∷ drop (suc place) text) (only c found.1)
+
+opening_is : (c : ℕ) → IsTrue (opening c) → c ≡ 91
+opening_is c h = grind (arith, nat_tests)
+
+-- a `[` at a place
+pub opening_at_place : (place : ℕ) (text : Text) → IsTrue (opening (byte_place place text)) → drop place text ≡ Plain 91 ∷ drop (suc place) text
+opening_at_place zero [] h = absurd cc
+opening_at_place zero (Bad ∷ rest) h = absurd cc
+opening_at_place zero (Plain c ∷ rest) h = ap (λ n. Plain n ∷ rest) (opening_is c h)
+opening_at_place (suc place) [] h = absurd cc
+opening_at_place (suc place) (x ∷ rest) h = opening_at_place place rest h
 
 abbrev century_and_year : (a b c d : ℕ) → Type 0
 century_and_year a b c d = 100 * decimal (Plain a ∷ Plain b ∷ []) + decimal (Plain c ∷ Plain d ∷ []) ≡ decimal (Plain a ∷ Plain b ∷ Plain c ∷ Plain d ∷ [])
@@ -193,13 +204,13 @@ record DateLetters (text : Text) (date : DateRecord) : Type 0 where
   month : TwoDigits months date.month
   day : TwoDigits days date.day
 
-abbrev two : {place : ℕ} {text : Text} {n : ℕ} → Number place text n → Text
+abbrev pub two : {place : ℕ} {text : Text} {n : ℕ} → Number place text n → Text
 two number = Plain number.a ∷ Plain number.b ∷ []
 
-two_digits : {place : ℕ} {text : Text} {n m : ℕ} (number : Number place text n) → n ≡ m → TwoDigits (two number) m
+pub two_digits : {place : ℕ} {text : Text} {n m : ℕ} (number : Number place text n) → n ≡ m → TwoDigits (two number) m
 two_digits number same = ((number.a, Plain number.b ∷ [], refl, number.is_a, (number.b, [], refl, number.is_b, refl)), sym same ∙ number.value)
 
-over_two : {place : ℕ} {text rest : Text} {n : ℕ} (number : Number place text n) → drop (suc (suc place)) text ≡ rest → drop place text ≡ two number ++ rest
+pub over_two : {place : ℕ} {text rest : Text} {n : ℕ} (number : Number place text n) → drop (suc (suc place)) text ≡ rest → drop place text ≡ two number ++ rest
 over_two number is = number.is ∙ ap (λ t. two number ++ t) is
 
 date_of_numbers : (text : Text) (date : DateRecord) (century year month day : ℕ)

@@ -1,13 +1,12 @@
 -- A text has no more pairs than letters.
-use Rattle.std.proofs.Common.{◌≡◌, ℕ, ◌+◌, ◌≤◌, List, [], ◌∷◌, ◌++◌, length, inl, inr, ap, arith}
+use Rattle.std.proofs.Common.{◌≡◌, ℕ, ◌≤◌, List, [], ◌∷◌, ◌++◌, length, inl, inr, arith}
 use Rattle.std.proofs.lemmas.List.{length-append}
 use Rattle.ixdtf.specs.language.Letters.{Text}
-use Rattle.ixdtf.specs.language.Letters.Letter.{Plain}
 use Rattle.ixdtf.specs.language.Times.Clock.{Time, Offset, MinuteOffset}
 use Rattle.ixdtf.specs.language.Brackets.{Pair, IsPair, ArePairs}
 use Rattle.ixdtf.specs.language.Readers.{CoreKind}
 use Rattle.ixdtf.specs.language.Readers.Reader.{bracketed}
-use Rattle.ixdtf.specs.language.Languages.{Found, Derives, IsBracketed}
+use Rattle.ixdtf.specs.language.Languages.{Found, Derives}
 use Rattle.ixdtf.specs.language.Languages.Derives.{as_parsed}
 use Rattle.ixdtf.specs.table.Faults.{Fault}
 use Rattle.ixdtf.specs.table.LineNames.{LineName}

@@ -1,11 +1,13 @@
 -- Reading at fixed places: each place is looked at in turn, and nothing is read where one does not fit.
 use Rattle.std.specs.Prelude.{ℕ, Bool, pos, [], ◌∷◌, ◌+◌, ◌*◌, drop, Option, Some, None, Err, nat_le, ◌&&◌, if◌then◌else◌}
 use Rattle.ixdtf.specs.declared.records.DateRecord.{DateRecord}
+use Rattle.ixdtf.specs.declared.records.MinutePrecisionOffset.{MinutePrecisionOffset}
 use Rattle.ixdtf.specs.declared.records.TimeRecord.{TimeRecord}
 use Rattle.ixdtf.specs.language.Letters.{Text, Class, digit, hyphen, colon, date_time_separator}
 use Rattle.ixdtf.specs.language.Letters.Letter.{Plain, Bad}
 use Rattle.ixdtf.specs.language.Digits.{digit_value, decimal}
 use Rattle.ixdtf.specs.language.Dates.{month_length}
+use Rattle.ixdtf.specs.language.Offsets.{minutes_of}
 use Rattle.ixdtf.specs.table.Faults.{Fault}
 use Rattle.ixdtf.specs.table.Faults.Fault.{InvalidMonthRange}
 use Rattle.ixdtf.specs.reading.Looks.{Read, error_of}
@@ -96,7 +98,13 @@ date_time_place text =
     date_place text >>? λ date. letter_place date_time_separator 10 text >>? λ _. time_place text >>? λ time.
     if date_in_range date && time_in_range time then Some (date, time) else None
 
+-- the offset of a sign, and of the hour and the minute at the first five places behind it, where these are in range
+unfoldable pub offset_place : ℕ → Text → Option MinutePrecisionOffset
+offset_place c text =
+    number_place 0 text >>? λ hour. letter_place colon 2 text >>? λ _. number_place 3 text >>? λ minute.
+    if nat_le hour 23 && nat_le minute 59 then Some (minutes_of c (time_of hour minute 0 None)) else None
+
 -- opening this opens the readings of parts at fixed places
 unfoldable pub fixed_readings : ℕ
-unfolding number_place year_place days_place basic_days_place date_place basic_date_place time_place date_time_place
+unfolding number_place year_place days_place basic_days_place date_place basic_date_place time_place date_time_place offset_place
 fixed_readings = 0

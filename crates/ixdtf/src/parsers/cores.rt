@@ -3,6 +3,7 @@
 ghost use Rattle.std.specs.Prelude.{◌≡◌, ◌+◌, ◌≤◌, List, map, length, Ok, Some, None, refl};
 ghost use Rattle.ixdtf.specs.Laws.{IsKindUnder};
 ghost use Rattle.ixdtf.specs.declared.parsers.profile.Profile.{Profile};
+ghost use Rattle.ixdtf.specs.declared.records.TimeRecord.{TimeRecord};
 ghost use Rattle.ixdtf.specs.language.Letters.{Text};
 ghost use Rattle.ixdtf.specs.language.Cores.{Core};
 ghost use Rattle.ixdtf.specs.language.Readers.{CoreKind};
@@ -21,7 +22,7 @@ use crate::parsers::grammar::{
     is_utc_designator,
 };
 use crate::parsers::months::{parse_month_day_date, parse_year_month_date};
-use crate::parsers::offsets::offset_from;
+use crate::parsers::offsets::{offset_from, take_fixed_offset};
 use crate::parsers::profile::Profile;
 use crate::parsers::time::{Clock, TimeShape, parse_after_second, parse_clock};
 use crate::records::{DateRecord, IxdtfParseRecord, TimeRecord, UtcOffsetRecordOrZ};
@@ -44,7 +45,7 @@ pub trait Cores {
         ensures core { Reads T.letter (λ more. (core_in found.new, more)) cursor.old result
             cursor.new (core_at error_of (kind profile)) }
         ensures kept { KeepsBrackets found.old found.new }
-        ensures looks { Spends (length cursor.old.rest + 30) cursor.old cursor.new };
+        ensures looks { Spends (length cursor.old.rest + 36) cursor.old cursor.new };
 
     /// The kind is one of the profile.
     ghost is_under: { (profile : Profile) → IsKindUnder profile (kind profile) };
@@ -207,7 +208,7 @@ fn parse_timed<'a, T: EncodingType>(
     ensures core { Reads T.letter (λ more. (core_in found.new, more)) cursor.old result cursor.new
         (timed_core_at found.old.date) }
     ensures kept { KeepsBrackets found.old found.new }
-    ensures looks { Spends 12 cursor.old cursor.new }
+    ensures looks { Spends 18 cursor.old cursor.new }
 {
     let mut time = TimeRecord::default();
     parse_clock(cursor, Clock::Time, &mut time)?;
@@ -254,17 +255,13 @@ fn parse_after_time<'a, T: EncodingType>(
         Reads T.letter (λ more. (core_in found.new, more)) cursor.old result cursor.new
         (after_time_at error_of found.old.date (shape, time)) }
     ensures kept { KeepsBrackets found.old found.new }
-    ensures looks { Spends 7 cursor.old cursor.new }
+    ensures looks { Spends 13 cursor.old cursor.new }
 {
     found.time = Some(time);
     match cursor.look()? {
         Some(byte) if is_ascii_sign(byte) => {
             cursor.step();
-            let mut time = TimeRecord::default();
-            let shape = parse_clock(cursor, Clock::Offset, &mut time)?;
-            let offset = offset_from(byte, shape, time);
-            found.offset = Some(UtcOffsetRecordOrZ::Offset(offset));
-            close_core(cursor)
+            parse_signed(cursor, byte, found)
         }
         Some(byte) if is_utc_designator(byte) => {
             cursor.step();
@@ -273,6 +270,50 @@ fn parse_after_time<'a, T: EncodingType>(
         }
         _ => close_core(cursor),
     }
+}
+
+/// Reads an offset behind its sign: at its places where it has no seconds and the core ends with it, and else by a cursor of
+/// its own, as far as it goes.
+#[inline(always)]
+fn parse_signed<'a, T: EncodingType>(
+    cursor: &mut Cursor<'a, T>,
+    sign: u8,
+    found: &mut IxdtfParseRecord<'a, T>,
+) -> Result<bool, Stop>
+    ensures core { (time : TimeRecord) → found.old.time ≡ Some time →
+        Reads T.letter (λ more. (core_in found.new, more)) cursor.old result cursor.new
+        (offset_core_at error_of found.old.date time sign) }
+    ensures kept { KeepsBrackets found.old found.new }
+    ensures looks { Spends 12 cursor.old cursor.new }
+{
+    if let Some(more) = take_fixed_offset(cursor, sign, &mut found.offset) {
+        return Ok(more);
+    }
+    let mut here = cursor.take();
+    let read = parse_any_offset(&mut here, sign, found);
+    *cursor = here;
+    read
+}
+
+/// Reads an offset of any form behind its sign. It is not inlined: most texts have their offset at its places.
+#[inline(never)]
+#[tactic(auto, unfolding(crate::specs::reading::Cores::offset_core_at))]
+fn parse_any_offset<'a, T: EncodingType>(
+    cursor: &mut Cursor<'a, T>,
+    sign: u8,
+    found: &mut IxdtfParseRecord<'a, T>,
+) -> Result<bool, Stop>
+    ensures core { (time : TimeRecord) → found.old.time ≡ Some time →
+        Reads T.letter (λ more. (core_in found.new, more)) cursor.old result cursor.new
+        (offset_core_at error_of found.old.date time sign) }
+    ensures kept { KeepsBrackets found.old found.new }
+    ensures looks { Spends 6 cursor.old cursor.new }
+{
+    let mut time = TimeRecord::default();
+    let shape = parse_clock(cursor, Clock::Offset, &mut time)?;
+    let offset = offset_from(sign, shape, time);
+    found.offset = Some(UtcOffsetRecordOrZ::Offset(offset));
+    close_core(cursor)
 }
 
 /// Wants the end of the text or a `[` after a core, and returns whether it is the `[`, which is taken off: `InvalidEnd` at

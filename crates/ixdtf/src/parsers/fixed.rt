@@ -198,7 +198,7 @@ fn fixed_time<'a, T: EncodingType>(cursor: &mut Cursor<'a, T>) -> Option<WholeTi
 /// The number of the two digits at a place of the first nineteen and the next, or `None` where one of them is none. Both
 /// are looked at.
 #[inline(always)]
-fn fixed_number<'a, T: EncodingType>(cursor: &mut Cursor<'a, T>, place: usize) -> Option<u8>
+pub fn fixed_number<'a, T: EncodingType>(cursor: &mut Cursor<'a, T>, place: usize) -> Option<u8>
     requires early { place < 18 }
     ensures there { result ≡ number_place place (map T.letter cursor.old.rest) }
     ensures small { IfSome result (λ number. number < 100) }

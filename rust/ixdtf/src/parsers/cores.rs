@@ -11,7 +11,7 @@ use crate::parsers::grammar::{
     is_utc_designator,
 };
 use crate::parsers::months::{parse_month_day_date, parse_year_month_date};
-use crate::parsers::offsets::offset_from;
+use crate::parsers::offsets::{offset_from, take_fixed_offset};
 use crate::parsers::profile::Profile;
 use crate::parsers::time::{Clock, TimeShape, parse_after_second, parse_clock};
 use crate::records::{DateRecord, IxdtfParseRecord, TimeRecord, UtcOffsetRecordOrZ};
@@ -182,11 +182,7 @@ fn parse_after_time<'a, T: EncodingType>(
     match cursor.look()? {
         Some(byte) if is_ascii_sign(byte) => {
             cursor.step();
-            let mut time = TimeRecord::default();
-            let shape = parse_clock(cursor, Clock::Offset, &mut time)?;
-            let offset = offset_from(byte, shape, time);
-            found.offset = Some(UtcOffsetRecordOrZ::Offset(offset));
-            close_core(cursor)
+            parse_signed(cursor, byte, found)
         }
         Some(byte) if is_utc_designator(byte) => {
             cursor.step();
@@ -195,6 +191,37 @@ fn parse_after_time<'a, T: EncodingType>(
         }
         _ => close_core(cursor),
     }
+}
+
+/// Reads an offset behind its sign: at its places where it has no seconds and the core ends with it, and else by a cursor of
+/// its own, as far as it goes.
+#[inline(always)]
+fn parse_signed<'a, T: EncodingType>(
+    cursor: &mut Cursor<'a, T>,
+    sign: u8,
+    found: &mut IxdtfParseRecord<'a, T>,
+) -> Result<bool, Stop> {
+    if let Some(more) = take_fixed_offset(cursor, sign, &mut found.offset) {
+        return Ok(more);
+    }
+    let mut here = cursor.take();
+    let read = parse_any_offset(&mut here, sign, found);
+    *cursor = here;
+    read
+}
+
+/// Reads an offset of any form behind its sign. It is not inlined: most texts have their offset at its places.
+#[inline(never)]
+fn parse_any_offset<'a, T: EncodingType>(
+    cursor: &mut Cursor<'a, T>,
+    sign: u8,
+    found: &mut IxdtfParseRecord<'a, T>,
+) -> Result<bool, Stop> {
+    let mut time = TimeRecord::default();
+    let shape = parse_clock(cursor, Clock::Offset, &mut time)?;
+    let offset = offset_from(sign, shape, time);
+    found.offset = Some(UtcOffsetRecordOrZ::Offset(offset));
+    close_core(cursor)
 }
 
 /// Wants the end of the text or a `[` after a core, and returns whether it is the `[`, which is taken off: `InvalidEnd` at

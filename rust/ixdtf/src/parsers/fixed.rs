@@ -136,7 +136,7 @@ fn fixed_time<'a, T: EncodingType>(cursor: &mut Cursor<'a, T>) -> Option<WholeTi
 /// The number of the two digits at a place of the first nineteen and the next, or `None` where one of them is none. Both
 /// are looked at.
 #[inline(always)]
-fn fixed_number<'a, T: EncodingType>(cursor: &mut Cursor<'a, T>, place: usize) -> Option<u8> {
+pub fn fixed_number<'a, T: EncodingType>(cursor: &mut Cursor<'a, T>, place: usize) -> Option<u8> {
     let tens = cursor.byte_at(place);
     let ones = cursor.byte_at(place + 1);
     let number = number_of(tens, ones);

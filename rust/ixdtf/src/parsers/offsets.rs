@@ -4,10 +4,12 @@
 
 use crate::cursor::Cursor;
 use crate::encoding::EncodingType;
-use crate::parsers::grammar::{is_ascii_sign, is_hyphen};
+use crate::parsers::fixed::fixed_number;
+use crate::parsers::grammar::{is_annotation_open, is_ascii_sign, is_hyphen};
 use crate::parsers::time::{Clock, TimeShape, parse_clock};
 use crate::records::{
     FullPrecisionOffset, MinutePrecisionOffset, Sign, TimeRecord, UtcOffsetRecord,
+    UtcOffsetRecordOrZ,
 };
 use crate::stop::Stop;
 
@@ -29,6 +31,53 @@ pub fn minute_offset(sign: u8, time: TimeRecord) -> MinutePrecisionOffset {
         hour: time.hour,
         minute: time.minute,
     }
+}
+
+/// The offset of a sign, and of the hour and the minute at the first five places behind it, or `None` at the first place
+/// that does not fit, and where a number is too great.
+#[inline(always)]
+fn fixed_offset<'a, T: EncodingType>(
+    cursor: &mut Cursor<'a, T>,
+    sign: u8,
+) -> Option<MinutePrecisionOffset> {
+    let hour = fixed_number(cursor, 0)?;
+    cursor.fixed_letter(2, b':')?;
+    let minute = fixed_number(cursor, 3)?;
+    if hour > 23 || minute > 59 {
+        return None;
+    }
+    Some(MinutePrecisionOffset {
+        sign: sign_from(sign),
+        hour,
+        minute,
+    })
+}
+
+/// Takes off an offset that stands behind its sign at the first five places, where the text ends there or a `[` follows,
+/// and that `[`, writes the offset and returns whether the `[` follows. It is `None`, with the rest unchanged, where one of
+/// them does not fit.
+#[inline(always)]
+pub fn take_fixed_offset<'a, T: EncodingType>(
+    cursor: &mut Cursor<'a, T>,
+    sign: u8,
+    found: &mut Option<UtcOffsetRecordOrZ>,
+) -> Option<bool> {
+    if cursor.remaining() < 5 {
+        return None;
+    }
+    let offset = fixed_offset(cursor, sign)?;
+    if cursor.remaining() == 5 {
+        cursor.skip(5);
+        *found = Some(UtcOffsetRecordOrZ::Offset(UtcOffsetRecord::MinutePrecision(offset)));
+        return Some(false);
+    }
+    let next = cursor.byte_at(5);
+    if !is_annotation_open(next) {
+        return None;
+    }
+    cursor.skip(6);
+    *found = Some(UtcOffsetRecordOrZ::Offset(UtcOffsetRecord::MinutePrecision(offset)));
+    Some(true)
 }
 
 /// The record of an offset: in full where it has seconds.
