@@ -8,10 +8,12 @@ use Rattle.ixdtf.specs.declared.records.UtcOffsetRecord.TheVariants.{MinutePreci
 use Rattle.ixdtf.specs.language.Letters.{Text, colon}
 use Rattle.ixdtf.specs.language.Letters.Letter.{Plain}
 use Rattle.ixdtf.specs.language.Offsets.{minutes_of}
-use Rattle.ixdtf.specs.language.Times.{ColonMinuteText, Clock.Offset, TimeShape.colon_minutes}
+use Rattle.ixdtf.specs.language.ZoneNames.{Zone}
+use Rattle.ixdtf.specs.language.Times.{ColonMinuteText, Clock, Clock.{Offset, MinuteOffset}, TimeShape.colon_minutes}
 use Rattle.ixdtf.specs.reading.Looks.{error_of, look_at, peek_by}
 use Rattle.ixdtf.specs.reading.FixedPlaces.{letter_place, number_place, offset_place}
 use Rattle.ixdtf.specs.reading.Times.{time_of, line_after, clock_at}
+use Rattle.ixdtf.specs.reading.Zones.{signed_alone_at, offset_alone_at, minute_offset_alone_at}
 use Rattle.ixdtf.specs.reading.Cores.{with_offset, offset_core_at, core_end_at}
 use Rattle.ixdtf.proofs.parts.Looks.{onto}
 use Rattle.ixdtf.proofs.code.FixedPlaces.{then_some, then_held, Number, number_at_place, mark_at_place, colon_is, two, two_digits, over_two}
@@ -61,23 +63,39 @@ offset_letters c text offset e =
     of_numbers c text offset hour minute (number_at_place 0 text hour f0) (mark_at_place colon 58 2 text mark colon_is f1) (number_at_place 3 text minute f2)
     (then_held _ _ offset e2)
 
-module _ (c : ℕ) (text : Text) (offset : MinutePrecisionOffset) (found : offset_place c text ≡ Some offset) (date : Option DateRecord) (time : TimeRecord) where
-  -- what follows is looked at behind the five places
-  goes_on : Closed Offset colon_minutes (drop 5 text)
-      → offset_core_at error_of date time c text
-      ≡ core_end_at error_of (line_after Offset colon_minutes) (with_offset date time (MinutePrecision offset)) (drop 5 text)
-  unfolding offset_core_at
-  goes_on closed =
-      let o = offset_letters c text offset found in
-      let read : clock_at error_of Offset text ≡ Ok ((colon_minutes, o.time), drop 5 text) =
-      ap (clock_at error_of Offset) o.is ∙ time_takes error_of Offset _ (clock_starts error_of Offset) colon_minutes o.letters o.time (drop 5 text) o.minutes closed in
-      rw read (ap (λ m. core_end_at error_of (line_after Offset colon_minutes) (with_offset date time (MinutePrecision m)) (drop 5 text)) o.value)
+module _ (c : ℕ) (text : Text) (offset : MinutePrecisionOffset) (found : offset_place c text ≡ Some offset) where
+  abbrev there : OffsetLetters c text offset
+  there = offset_letters c text offset found
 
-  pub ends : drop 5 text ≡ [] → offset_core_at error_of date time c text ≡ Ok ((with_offset date time (MinutePrecision offset), false), [])
-  unfolding core_end_at peek_by look_at
-  ends is = goes_on (rw is (tt, tt)) ∙ rw is refl
+  -- its letters are read as those of an hour and a minute, where nothing goes on behind them
+  is_read : (clock : Clock) → Closed clock colon_minutes (drop 5 text) → clock_at error_of clock text ≡ Ok ((colon_minutes, there.time), drop 5 text)
+  is_read clock closed =
+      ap (clock_at error_of clock) there.is ∙ time_takes error_of clock _ (clock_starts error_of clock) colon_minutes there.letters there.time (drop 5 text) there.minutes closed
 
-  pub goes_into_a_bracket : (rest : Text) → drop 5 text ≡ Plain 91 ∷ rest
-      → offset_core_at error_of date time c text ≡ Ok ((with_offset date time (MinutePrecision offset), true), rest)
-  unfolding core_end_at peek_by look_at
-  goes_into_a_bracket rest is = goes_on (rw is (refl, refl)) ∙ rw is refl
+  module _ (is : drop 5 text ≡ []) where
+    pub ends_the_text : offset_alone_at error_of c text ≡ Ok (MinutePrecision offset, [])
+    unfolding signed_alone_at peek_by look_at
+    ends_the_text = rw (is_read Offset (rw is (tt, tt)), is) (ap (λ m. Ok (MinutePrecision m, [])) there.value)
+
+    pub ends_a_zone : minute_offset_alone_at error_of c text ≡ Ok (Zone.Offset offset, [])
+    unfolding signed_alone_at peek_by look_at
+    ends_a_zone = rw (is_read MinuteOffset (rw is (tt, tt)), is) (ap (λ m. Ok (Zone.Offset m, [])) there.value)
+
+  module _ (date : Option DateRecord) (time : TimeRecord) where
+    -- what follows is looked at behind the five places
+    goes_on : Closed Offset colon_minutes (drop 5 text)
+        → offset_core_at error_of date time c text
+        ≡ core_end_at error_of (line_after Offset colon_minutes) (with_offset date time (MinutePrecision offset)) (drop 5 text)
+    unfolding offset_core_at
+    goes_on closed =
+        rw (is_read Offset closed)
+        (ap (λ m. core_end_at error_of (line_after Offset colon_minutes) (with_offset date time (MinutePrecision m)) (drop 5 text)) there.value)
+
+    pub ends : drop 5 text ≡ [] → offset_core_at error_of date time c text ≡ Ok ((with_offset date time (MinutePrecision offset), false), [])
+    unfolding core_end_at peek_by look_at
+    ends is = goes_on (rw is (tt, tt)) ∙ rw is refl
+
+    pub goes_into_a_bracket : (rest : Text) → drop 5 text ≡ Plain 91 ∷ rest
+        → offset_core_at error_of date time c text ≡ Ok ((with_offset date time (MinutePrecision offset), true), rest)
+    unfolding core_end_at peek_by look_at
+    goes_into_a_bracket rest is = goes_on (rw is (refl, refl)) ∙ rw is refl

@@ -5,14 +5,16 @@
 ghost use Rattle.std.specs.Prelude.{◌≡◌, ◌+◌, ◌≤◌, map, length, Option, Ok, Some, None, IfSome};
 ghost use Rattle.ixdtf.specs.declared.records.DateRecord.{DateRecord};
 ghost use Rattle.ixdtf.specs.declared.records.TimeRecord.{TimeRecord};
+ghost use Rattle.ixdtf.specs.declared.records.UtcOffsetRecord.TheVariants.{MinutePrecision};
 ghost use Rattle.ixdtf.specs.language.Cores.{core_of};
+ghost use Rattle.ixdtf.specs.language.ZoneNames.{Zone};
 ghost use Rattle.ixdtf.specs.language.Offsets.{sign_of, minutes_of, offset_of};
 ghost use Rattle.ixdtf.specs.language.Times.{writes_seconds};
 ghost use Rattle.ixdtf.specs.reading.Clauses.{Reads, Spends, shape_of};
 ghost use Rattle.ixdtf.specs.reading.Looks.{error_of};
 ghost use Rattle.ixdtf.specs.reading.FixedPlaces.{offset_place};
 ghost use Rattle.ixdtf.specs.reading.Cores.{offset_core_at};
-ghost use Rattle.ixdtf.specs.reading.Zones.{offset_at};
+ghost use Rattle.ixdtf.specs.reading.Zones.{offset_at, offset_alone_at, minute_offset_alone_at};
 
 use crate::cursor::Cursor;
 use crate::encoding::EncodingType;
@@ -110,6 +112,30 @@ pub fn take_fixed_offset<'a, T: EncodingType>(
     Some(true)
 }
 
+/// Takes off an offset that stands behind its sign at the last five places of a text. It is `None`, with the rest unchanged,
+/// where there are more or fewer, or one of them does not fit.
+#[inline(always)]
+pub fn take_last_offset<'a, T: EncodingType>(
+    cursor: &mut Cursor<'a, T>,
+    sign: u8,
+) -> Option<MinutePrecisionOffset>
+    ensures offset { IfSome result (λ offset. offset_alone_at error_of sign (map T.letter cursor.old.rest) ≡
+        Ok (MinutePrecision offset, map T.letter cursor.new.rest)) }
+    ensures zone { IfSome result (λ offset. minute_offset_alone_at error_of sign (map T.letter cursor.old.rest) ≡
+        Ok (Zone.Offset offset, map T.letter cursor.new.rest)) }
+    ensures rest { result ≡ None → cursor.new.rest ≡ cursor.old.rest }
+    ensures shorter { length cursor.new.rest ≤ length cursor.old.rest }
+    ensures few { cursor.new.looks ≤ cursor.old.looks + 5 }
+    ensures counted { cursor.old.looks ≤ cursor.new.looks }
+{
+    if cursor.remaining() != 5 {
+        return None;
+    }
+    let offset = fixed_offset(cursor, sign)?;
+    cursor.skip(5);
+    Some(offset)
+}
+
 /// The record of an offset: in full where it has seconds.
 #[inline(always)]
 pub fn offset_from(sign: u8, shape: TimeShape, time: TimeRecord) -> UtcOffsetRecord
@@ -141,6 +167,9 @@ pub fn parse_offset_text<'a, T: EncodingType>(
         None => Err(Stop::AbruptOffset),
         Some(byte) if is_ascii_sign(byte) => {
             cursor.step();
+            if let Some(offset) = take_last_offset(cursor, byte) {
+                return Ok(UtcOffsetRecord::MinutePrecision(offset));
+            }
             let mut time = TimeRecord::default();
             let shape = parse_clock(cursor, Clock::Offset, &mut time)?;
             cursor.close()?;

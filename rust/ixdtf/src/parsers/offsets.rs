@@ -80,6 +80,21 @@ pub fn take_fixed_offset<'a, T: EncodingType>(
     Some(true)
 }
 
+/// Takes off an offset that stands behind its sign at the last five places of a text. It is `None`, with the rest unchanged,
+/// where there are more or fewer, or one of them does not fit.
+#[inline(always)]
+pub fn take_last_offset<'a, T: EncodingType>(
+    cursor: &mut Cursor<'a, T>,
+    sign: u8,
+) -> Option<MinutePrecisionOffset> {
+    if cursor.remaining() != 5 {
+        return None;
+    }
+    let offset = fixed_offset(cursor, sign)?;
+    cursor.skip(5);
+    Some(offset)
+}
+
 /// The record of an offset: in full where it has seconds.
 #[inline(always)]
 pub fn offset_from(sign: u8, shape: TimeShape, time: TimeRecord) -> UtcOffsetRecord {
@@ -105,6 +120,9 @@ pub fn parse_offset_text<'a, T: EncodingType>(
         None => Err(Stop::AbruptOffset),
         Some(byte) if is_ascii_sign(byte) => {
             cursor.step();
+            if let Some(offset) = take_last_offset(cursor, byte) {
+                return Ok(UtcOffsetRecord::MinutePrecision(offset));
+            }
             let mut time = TimeRecord::default();
             let shape = parse_clock(cursor, Clock::Offset, &mut time)?;
             cursor.close()?;

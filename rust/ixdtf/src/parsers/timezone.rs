@@ -8,7 +8,7 @@ use crate::parsers::grammar::{
     is_annotation_close, is_ascii_sign, is_tz_char, is_tz_leading_char, is_tz_name_separator,
 };
 use crate::parsers::letters::{Letters, take_letters};
-use crate::parsers::offsets::minute_offset;
+use crate::parsers::offsets::{minute_offset, take_last_offset};
 use crate::parsers::time::{Clock, parse_clock};
 use crate::records::{TimeRecord, TimeZoneRecord};
 use crate::stop::Stop;
@@ -88,6 +88,9 @@ pub fn parse_identifier_text<'a, T: EncodingType>(
         None => Err(Stop::AbruptZone),
         Some(byte) if is_ascii_sign(byte) => {
             cursor.step();
+            if let Some(offset) = take_last_offset(cursor, byte) {
+                return Ok(TimeZoneRecord::Offset(offset));
+            }
             let mut time = TimeRecord::default();
             parse_clock(cursor, Clock::MinuteOffset, &mut time)?;
             cursor.close()?;
