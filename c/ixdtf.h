@@ -275,8 +275,8 @@ uint32_t ixdtf16_parse_time_with_annotations_strict(const uint16_t *text, size_t
     ixdtf16_annotation *annotations, size_t room, size_t *count, ixdtf16_record *out);
 uint32_t ixdtf16_reply(ixdtf16_calendar *calendar, const ixdtf16_annotation *reply);
 
-/* The text of an error by its number, as "Invalid character while parsing date separator.": from 1 to
- * 46; any other number has the text of 1. */
+/* The text of an error by its number, as "Invalid character while parsing date separator.", for the numbers from 1 to 46; any other number
+ * has the empty text. */
 void ixdtf_error_text(uint32_t error, ixdtf_text *out);
 
 /* The version of the interface that the library has. */

@@ -1,9 +1,8 @@
 -- What the numbers at the C boundary stand for.
-use Rattle.std.specs.Prelude.{◌≡◌, ℕ, Bool, true, false, not, nat_eq, if◌then◌else◌, List, [], ◌∷◌, ◌-◌, map, slice_index_or, Option, Some, None, Result, Ok, Err}
+use Rattle.std.specs.Prelude.{◌≡◌, ◌≤◌, ℕ, Bool, true, false, not, nat_eq, if◌then◌else◌, List, [], ◌∷◌, ◌-◌, slice_index_or, Option, Some, None, Result, Ok, Err}
 use Rattle.ixdtf.specs.declared.records.DateRecord.{DateRecord}
 use Rattle.ixdtf.specs.declared.records.TimeRecord.{TimeRecord}
 use Rattle.ixdtf.specs.declared.records.MinutePrecisionOffset.{MinutePrecisionOffset}
-use Rattle.ixdtf.specs.declared.records.DateDurationRecord.{DateDurationRecord}
 use Rattle.ixdtf.specs.declared.records.DurationParseRecord.{DurationParseRecord}
 use Rattle.ixdtf.specs.declared.records.TimeDurationRecord.{TimeDurationRecord}
 use Rattle.ixdtf.specs.declared.records.TimeDurationRecord.TheVariants as times
@@ -99,6 +98,10 @@ faults_at location =
 -- the error of a number from 1 on, with its location
 abbrev pub fault_by : ℕ → List ℕ → Fault
 fault_by number location = slice_index_or (faults_at location) (number - 1) ImplAssert
+
+-- the numbers that errors have
+abbrev pub IsErrorNumber : ℕ → Type 0
+IsErrorNumber number = (1 ≤ number) × (number ≤ 46)
 
 -- 0: what was read. Another number: the error of that number.
 abbrev pub either_by : {A : Type 0} → ℕ → List ℕ → A → Result A Fault

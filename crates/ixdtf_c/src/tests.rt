@@ -62,4 +62,10 @@ fn tells_texts_and_the_version(rt: HostRuntime) {
         text.bytes,
         b"Unexpected end while parsing a date value.".as_slice()
     );
+    ixdtf_error_text(47, &mut text);
+    assert_eq!(rt; text.bytes.len(), 0);
+    ixdtf_error_text(46, &mut text);
+    assert_eq!(rt; text.bytes, b"MonthDay was not valid.".as_slice());
+    ixdtf_error_text(0, &mut text);
+    assert_eq!(rt; text.bytes.len(), 0);
 }
