@@ -1,6 +1,6 @@
 //! The records that the readers return: dates, times, offsets, time zones, durations and fractions.
 
-ghost use Rattle.std.specs.Prelude.{◌≡◌, ◌+◌, ◌-◌, ◌*◌, ◌<◌, ◌≤◌, ◌^◌, nat_le, min, IfSome};
+ghost use Rattle.std.specs.Prelude.{◌≡◌, ◌↔◌, ◌+◌, ◌-◌, ◌*◌, ◌<◌, ◌≤◌, ◌^◌, nat_le, min, IfSome, None};
 ghost use Rattle.ixdtf.specs.language.Fractions.{FractionParts, exact_nanoseconds_of, nanoseconds_of};
 
 use crate::encoding::EncodingType;
@@ -370,6 +370,24 @@ impl Fraction {
             digits: 1,
             value: PackedNumber::of(u64::from(digit - b'0')),
         }
+    }
+
+    /// The fraction that has so many digits, where this is the number of the first 18 of them, or of all where there are
+    /// fewer; or `None` where no fraction has both.
+    ///
+    /// It is for crates of this repository, and no part of the interface.
+    #[doc(hidden)]
+    pub fn of_parts(count: u8, value: u64) -> Option<Fraction>
+        ensures parts { IfSome result (λ f. f ≡ record { count = count; value = value }) }
+        ensures none { (result ≡ None) ↔ ¬ ((1 ≤ count) × (value < 10 ^ min count 18)) }
+    {
+        if count == 0 || value >= 10u64.pow(u32::from(count.min(18))) {
+            return None;
+        }
+        Some(Fraction {
+            digits: count,
+            value: PackedNumber::of(value),
+        })
     }
 
     /// Whether it has fewer than 18 digits, so that one more digit changes its number.

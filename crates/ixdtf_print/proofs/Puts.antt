@@ -1,6 +1,6 @@
 -- One text put after another.
-use Rattle.std.proofs.Common.{ℕ, suc, ◌+◌, ◌≤◌, ◌≡◌, List, [], ◌∷◌, ◌++◌, map, length, take, drop, set, refl, sym, ◌∙◌, ap, arith, add-one, append_assoc}
-use Rattle.std.proofs.Math.Seq.{take-append_seam}
+use Rattle.std.proofs.Common.{ℕ, suc, ◌+◌, ◌<◌, ◌≤◌, ◌≡◌, List, [], ◌∷◌, ◌++◌, map, length, take, drop, set, get_or, refl, sym, ◌∙◌, ap, arith, add-one, append_assoc}
+use Rattle.std.proofs.Math.Seq.{take-append_seam, take-suc}
 use Rattle.std.proofs.lemmas.List.{length-append, length-map, map-append, length-take-le, drop_at, set_split, take-append-drop, take-append-le, take-take}
 use Rattle.std.proofs.lemmas.List.{length-drop, drop-drop}
 use Rattle.ixdtf.specs.language.Letters.{Letter, Text}
@@ -79,6 +79,29 @@ puts_nothing out at = record {
   is = sym (take-append-drop at out);
   ends = omega arith;
 }
+
+-- ---- one byte behind what was put
+
+pub puts_one_more : {old mid new : List ℕ} {from between to : ℕ} (bytes : List ℕ) (i d : ℕ) → HasRoom old from (map Plain bytes) → i < length bytes
+    → Puts old mid from between (map Plain (take i bytes)) → Puts mid new between to (Plain (get_or bytes i d) ∷ [])
+    → Puts old new from to (map Plain (take (i + 1) bytes))
+puts_one_more {old = old} {mid = mid} {new = new} {from = from} {between = between} {to = to} bytes i d room more p q =
+    let spell : ℕ → Letter = λ n. Plain n in
+    let so_far : List ℕ = take i bytes in
+    let longer : map spell (take (i + 1) bytes) ≡ map spell so_far ++ (Plain (get_or bytes i d) ∷ []) =
+    rw (add-one, take-suc bytes i d more) (map-append spell so_far (get_or bytes i d ∷ [])) in
+    let inside : HasRoom old from (map spell so_far ++ (Plain (get_or bytes i d) ∷ [])) = record {
+      room = omega (
+        arith,
+        room.room,
+        more,
+        length-map bytes spell,
+        length-map so_far spell,
+        length-take-le i bytes (omega (arith, more)),
+        length-append (map spell so_far) (Plain (get_or bytes i d) ∷ []),
+      );
+    } in
+    rw longer (puts_then inside p q)
 
 -- ---- one byte in front of what was put
 

@@ -8,6 +8,10 @@ use crate::put::put_byte;
 use ixdtf::records::Fraction;
 
 /// Puts so many digits of the number at the place, with leading zeros, and returns the place behind them.
+///
+/// It is a call of its own, since of a loop that puts zeros alone a compiler would make a call of `memset`, and the library
+/// for C calls nothing.
+#[inline(never)]
 pub fn put_digits(out: &mut [u8], at: usize, count: usize, number: u64) -> usize
     requires { HasRoom out.old at (padded_digits count number) }
     ensures { Puts out.old out.new at result (padded_digits count number) }

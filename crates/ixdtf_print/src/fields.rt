@@ -9,7 +9,7 @@ ghost use Rattle.ixdtf_print.specs.Canonical.{optional_date_text, core_text, can
 ghost use Rattle.ixdtf_print.specs.Puts.{HasRoom, Puts};
 
 use crate::digits::{put_digits, put_fraction};
-use crate::put::{put, put_byte, put_marked};
+use crate::put::{put, put_byte, put_each, put_marked};
 use ixdtf::encoding::Utf8;
 use ixdtf::records::{
     DateRecord, Fraction, IxdtfParseRecord, MinutePrecisionOffset, Sign, TimeRecord,
@@ -171,7 +171,7 @@ fn put_zone(out: &mut [u8], at: usize, zone: &TimeZoneRecord<'_, Utf8>) -> usize
     ensures { Puts out.old out.new at result (zone_text (zone_of (λ byte. byte) zone.now)) }
 {
     match zone {
-        TimeZoneRecord::Name(name) => put(out, at, name),
+        TimeZoneRecord::Name(name) => put_each(out, at, name),
         TimeZoneRecord::Offset(offset) => put_minute_offset(out, at, *offset),
     }
 }
@@ -185,7 +185,7 @@ fn put_bracket(out: &mut [u8], at: usize, note: &Option<TimeZoneAnnotation<'_, U
     match note {
         None => at,
         Some(note) => {
-            let inside = put(out, at, opening_of(note.critical));
+            let inside = put_each(out, at, opening_of(note.critical));
             let end = put_zone(out, inside, &note.tz);
             put_byte(out, end, b']')
         }
@@ -203,7 +203,7 @@ fn put_calendar(out: &mut [u8], at: usize, calendar: Option<&[u8]>) -> usize
         None => at,
         Some(value) => {
             let inside = put(out, at, b"[u-ca=");
-            let end = put(out, inside, value);
+            let end = put_each(out, inside, value);
             put_byte(out, end, b']')
         }
     }

@@ -326,6 +326,21 @@ impl Fraction {
         }
     }
 
+    /// The fraction that has so many digits, where this is the number of the first 18 of them, or of all where there are
+    /// fewer; or `None` where no fraction has both.
+    ///
+    /// It is for crates of this repository, and no part of the interface.
+    #[doc(hidden)]
+    pub fn of_parts(count: u8, value: u64) -> Option<Fraction> {
+        if count == 0 || value >= 10u64.pow(u32::from(count.min(18))) {
+            return None;
+        }
+        Some(Fraction {
+            digits: count,
+            value: PackedNumber::of(value),
+        })
+    }
+
     /// Whether it has fewer than 18 digits, so that one more digit changes its number.
     #[inline(always)]
     pub(crate) fn is_short(self) -> bool {

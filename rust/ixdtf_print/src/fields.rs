@@ -3,7 +3,7 @@
 //! The fields of a record put into a slice.
 
 use crate::digits::{put_digits, put_fraction};
-use crate::put::{put, put_byte, put_marked};
+use crate::put::{put, put_byte, put_each, put_marked};
 use ixdtf::encoding::Utf8;
 use ixdtf::records::{
     DateRecord, Fraction, IxdtfParseRecord, MinutePrecisionOffset, Sign, TimeRecord,
@@ -131,7 +131,7 @@ fn opening_of(critical: bool) -> &'static [u8] {
 /// Puts the zone at the place, and returns the place behind it.
 fn put_zone(out: &mut [u8], at: usize, zone: &TimeZoneRecord<'_, Utf8>) -> usize {
     match zone {
-        TimeZoneRecord::Name(name) => put(out, at, name),
+        TimeZoneRecord::Name(name) => put_each(out, at, name),
         TimeZoneRecord::Offset(offset) => put_minute_offset(out, at, *offset),
         _ => unreachable!(),
     }
@@ -142,7 +142,7 @@ fn put_bracket(out: &mut [u8], at: usize, note: &Option<TimeZoneAnnotation<'_, U
     match note {
         None => at,
         Some(note) => {
-            let inside = put(out, at, opening_of(note.critical));
+            let inside = put_each(out, at, opening_of(note.critical));
             let end = put_zone(out, inside, &note.tz);
             put_byte(out, end, b']')
         }
@@ -155,7 +155,7 @@ fn put_calendar(out: &mut [u8], at: usize, calendar: Option<&[u8]>) -> usize {
         None => at,
         Some(value) => {
             let inside = put(out, at, b"[u-ca=");
-            let end = put(out, inside, value);
+            let end = put_each(out, inside, value);
             put_byte(out, end, b']')
         }
     }

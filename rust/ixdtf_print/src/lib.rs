@@ -24,7 +24,9 @@ use fields::put_record;
 use ixdtf::encoding::Utf8;
 use ixdtf::records::IxdtfParseRecord;
 pub use laws::canonical_fits;
-use length::length_of;
+// For crates of this repository, and no part of the interface.
+#[doc(hidden)]
+pub use length::length_of;
 
 /// Writes the canonical text of the record into the front of the slice, and returns how many bytes these are.
 ///

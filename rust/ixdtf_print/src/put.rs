@@ -2,14 +2,26 @@
 
 //! Bytes put into a slice.
 
-/// Puts the bytes at the place, and returns the place behind them.
+/// Puts a few bytes at the place, and returns the place behind them.
 pub fn put(out: &mut [u8], at: usize, bytes: &[u8]) -> usize {
     let end = at + bytes.len();
     out[at..end].copy_from_slice(bytes);
     end
 }
 
-/// Puts the byte at the place, and returns the place behind it.
+/// Puts any number of bytes at the place, and returns the place behind them.
+///
+/// A call puts each: of a loop that copies, a compiler would make a call of `memcpy`, and the library for C calls nothing.
+pub fn put_each(out: &mut [u8], at: usize, bytes: &[u8]) -> usize {
+    let mut place = at;
+    for byte in bytes {
+        place = put_byte(out, place, *byte);
+    }
+    place
+}
+
+/// Puts the byte at the place, and returns the place behind it. It is a call of its own for [`put_each`].
+#[inline(never)]
 pub fn put_byte(out: &mut [u8], at: usize, byte: u8) -> usize {
     out[at] = byte;
     at + 1
