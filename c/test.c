@@ -112,6 +112,10 @@ static void show_error(struct line *line, uint32_t error, ixdtf_text location) {
     }
 }
 
+static int same_text(ixdtf_text a, ixdtf_text b) {
+    return a.at == b.at && a.length == b.length;
+}
+
 static int same_date(const ixdtf_date *a, const ixdtf_date *b) {
     return a->year == b->year && a->month == b->month && a->day == b->day && a->is_there == b->is_there;
 }
@@ -298,6 +302,148 @@ static void test_layout(void) {
     }
 }
 
+/* What ixdtf_print gives of a record, into bytes with none behind them that can be read, for every room up to one more than the text takes. */
+static void test_printed(const ixdtf_record *record, uint32_t wanted, const char *canonical) {
+    ixdtf_record before = *record;
+    size_t length = strlen(canonical), places, i;
+    for (places = 0; places <= length + 1; places++) {
+        uint8_t *out = room + ROOM - places;
+        size_t count = 7;
+        uint32_t error, found = wanted == IXDTF_OK && places < length ? (uint32_t)IXDTF_TOO_SHORT : wanted;
+        memset(room, 0xa5, ROOM);
+        error = ixdtf_print(record, out, places, &count);
+        check(error == found, "what printing returns");
+        check(count == (wanted == IXDTF_OK ? length : 7), "the count of what is printed");
+        check(error != IXDTF_OK || !memcmp(out, canonical, length), "the canonical text");
+        for (i = error == IXDTF_OK ? length : 0; i < places; i++) {
+            check(out[i] == 0xa5, "the other bytes stay");
+        }
+        check(places == ROOM || out[-1] == 0xa5, "nothing before the bytes is written");
+    }
+    check(narrow_same_but_location(&before, record) && same_text(before.location, record->location), "a record that is printed stays");
+}
+
+/* Texts and their canonical texts, written out by the rules of docs/GRAMMAR.md. */
+static void test_canonical(void) {
+    static const struct { const char *text, *canonical; } texts[] = {
+        { "20240302", "2024-03-02" },
+        { "+002024-03-02", "2024-03-02" },
+        { "-000001-12-31", "-000001-12-31" },
+        { "+010000-01-01", "+010000-01-01" },
+        { "0000-01-01", "0000-01-01" },
+        { "-271821-04-20", "-271821-04-20" },
+        { "2024-02-29 08", "2024-02-29T08:00:00" },
+        { "20240302t084800,250", "2024-03-02T08:48:00.250" },
+        { "2024-03-02T23:59:60.000000000000000001", "2024-03-02T23:59:60.000000000000000001" },
+        { "2024-03-02T00:00:00.00000000000000000123", "2024-03-02T00:00:00.00000000000000000100" },
+        { "2024-03-02T08:48z", "2024-03-02T08:48:00Z" },
+        { "2024-03-02T08:48-05", "2024-03-02T08:48:00-05:00" },
+        { "2024-03-02T08:48-00:00", "2024-03-02T08:48:00-00:00" },
+        { "2024-03-02T084800+053010", "2024-03-02T08:48:00+05:30:10" },
+        { "2024-03-02T08:48:00+05:30:10,50", "2024-03-02T08:48:00+05:30:10.50" },
+        { "2024-03-02[Europe/Paris]", "2024-03-02[Europe/Paris]" },
+        { "2024-03-02[!etc/utc][a=b]", "2024-03-02[!etc/utc]" },
+        { "2024-03-02[+0530]", "2024-03-02[+05:30]" },
+        { "2024-03-02[!-00]", "2024-03-02[!-00:00]" },
+        { "2024-03-02[!u-ca=hebrew]", "2024-03-02[u-ca=hebrew]" },
+        { "-123456-07-08T09:10:11.1213-14:15:16.17181[!Abc/d][u-ca=ef-g]", "-123456-07-08T09:10:11.1213-14:15:16.17181[!Abc/d][u-ca=ef-g]" },
+    };
+    size_t i;
+    for (i = 0; i < COUNT(texts); i++) {
+        ixdtf_record record = narrow_used_record();
+        row_shown = texts[i].text;
+        check(ixdtf_parse((const uint8_t *)texts[i].text, strlen(texts[i].text), &record) == IXDTF_OK, "a text that is printed");
+        test_printed(&record, IXDTF_OK, texts[i].canonical);
+    }
+    row_shown = "";
+}
+
+/* Every record of the rows is printed, in at most 14 bytes more than its text, and what is printed is read as the same record. */
+static void test_read_back(void) {
+    size_t i;
+    for (i = 0; i < COUNT(rows); i++) {
+        ixdtf_record record = IXDTF_RECORD, again = IXDTF_RECORD;
+        ixdtf_duration none = IXDTF_DURATION;
+        struct line line;
+        uint8_t out[1024];
+        size_t count = 0;
+        row_shown = rows[i].text;
+        if (strcmp(rows[i].reader, "parse") || rows[i].length + 14 > sizeof out
+            || ixdtf_parse((const uint8_t *)rows[i].text, rows[i].length, &record) != IXDTF_OK) {
+            continue;
+        }
+        check(ixdtf_print(&record, out, rows[i].length + 14, &count) == IXDTF_OK && count <= rows[i].length + 14, "a record that was read is printed");
+        check(ixdtf_parse(out, count, &again) == IXDTF_OK, "what is printed is read");
+        narrow_show_outcome(&line, "parse", 0, &again, &none);
+        is(line.text, rows[i].answer, "what is printed", rows[i].text);
+    }
+    row_shown = "";
+}
+
+/* Records that are filled in by hand: what no text has is not printed, and what is not there is not read. */
+static void test_by_hand(void) {
+    static const char *whole = "2024-02-29T23:59:60.5-23:59:59.25[!Abc/d][u-ca=ef-g]";
+    ixdtf_record full = IXDTF_RECORD, it = IXDTF_RECORD;
+    check(ixdtf_parse((const uint8_t *)whole, strlen(whole), &full) == IXDTF_OK, "a text with every part");
+    test_printed(&full, IXDTF_OK, whole);
+    test_printed(&it, IXDTF_NOT_PRINTABLE, ""); /* no date */
+    it = narrow_used_record();
+    it.zone.form = IXDTF_ZONE_OFFSET;
+    it.has_calendar = false;
+    test_printed(&it, IXDTF_OK, "-271821-04-20T23:59:60.987654321-11:22:33.123[!-12:34]");
+#define CHANGED(change, wanted, text) \
+    it = full; \
+    change; \
+    row_shown = #change; \
+    test_printed(&it, wanted, text)
+    CHANGED(it.date.is_there = false, IXDTF_NOT_PRINTABLE, "");
+    CHANGED(it.date.year = 2023, IXDTF_NOT_PRINTABLE, "");
+    CHANGED(it.date.year = 1000000, IXDTF_NOT_PRINTABLE, "");
+    CHANGED(it.date.year = INT32_MIN, IXDTF_NOT_PRINTABLE, "");
+    CHANGED(it.date.month = 0, IXDTF_NOT_PRINTABLE, "");
+    CHANGED(it.date.month = 13, IXDTF_NOT_PRINTABLE, "");
+    CHANGED(it.date.day = 0, IXDTF_NOT_PRINTABLE, "");
+    CHANGED(it.date.day = 30, IXDTF_NOT_PRINTABLE, "");
+    CHANGED(it.time.hour = 24, IXDTF_NOT_PRINTABLE, "");
+    CHANGED(it.time.minute = 60, IXDTF_NOT_PRINTABLE, "");
+    CHANGED(it.time.second = 61, IXDTF_NOT_PRINTABLE, "");
+    CHANGED(it.time.fraction = 10, IXDTF_NOT_PRINTABLE, "");
+    CHANGED(it.time.fraction = UINT64_MAX, IXDTF_NOT_PRINTABLE, "");
+    CHANGED((it.time.fraction = UINT64_MAX, it.time.fraction_digits = 255), IXDTF_NOT_PRINTABLE, "");
+    CHANGED((it.time.fraction = UINT64_MAX, it.time.fraction_digits = 0), IXDTF_OK, "2024-02-29T23:59:60-23:59:59.25[!Abc/d][u-ca=ef-g]");
+    CHANGED(it.time.fraction_digits = 3, IXDTF_OK, "2024-02-29T23:59:60.005-23:59:59.25[!Abc/d][u-ca=ef-g]");
+    CHANGED(it.time.is_there = false, IXDTF_NOT_PRINTABLE, ""); /* an offset stands behind a time alone */
+    CHANGED((it.time.is_there = false, it.offset.form = IXDTF_NO_OFFSET), IXDTF_OK, "2024-02-29[!Abc/d][u-ca=ef-g]");
+    CHANGED(it.offset.form = IXDTF_NO_OFFSET, IXDTF_OK, "2024-02-29T23:59:60.5[!Abc/d][u-ca=ef-g]");
+    CHANGED(it.offset.form = IXDTF_UTC, IXDTF_OK, "2024-02-29T23:59:60.5Z[!Abc/d][u-ca=ef-g]");
+    CHANGED(it.offset.form = IXDTF_MINUTES, IXDTF_OK, "2024-02-29T23:59:60.5-23:59[!Abc/d][u-ca=ef-g]");
+    CHANGED(it.offset.form = 200, IXDTF_OK, whole);
+    CHANGED(it.offset.is_negative = false, IXDTF_OK, "2024-02-29T23:59:60.5+23:59:59.25[!Abc/d][u-ca=ef-g]");
+    CHANGED(it.offset.hour = 24, IXDTF_NOT_PRINTABLE, "");
+    CHANGED(it.offset.minute = 60, IXDTF_NOT_PRINTABLE, "");
+    CHANGED(it.offset.second = 60, IXDTF_NOT_PRINTABLE, "");
+    CHANGED((it.offset.second = 60, it.offset.form = IXDTF_MINUTES), IXDTF_OK, "2024-02-29T23:59:60.5-23:59[!Abc/d][u-ca=ef-g]");
+    CHANGED(it.offset.fraction = 100, IXDTF_NOT_PRINTABLE, "");
+    CHANGED((it.offset.fraction = 100, it.offset.form = IXDTF_UTC), IXDTF_OK, "2024-02-29T23:59:60.5Z[!Abc/d][u-ca=ef-g]");
+    CHANGED(it.zone.form = IXDTF_NO_ZONE, IXDTF_OK, "2024-02-29T23:59:60.5-23:59:59.25[u-ca=ef-g]");
+    CHANGED((it.zone.form = IXDTF_ZONE_OFFSET, it.zone.hour = 1, it.zone.minute = 2), IXDTF_OK, "2024-02-29T23:59:60.5-23:59:59.25[!+01:02][u-ca=ef-g]");
+    CHANGED((it.zone.form = 3, it.zone.hour = 1, it.zone.is_negative = true), IXDTF_OK, "2024-02-29T23:59:60.5-23:59:59.25[!-01:00][u-ca=ef-g]");
+    CHANGED((it.zone.form = IXDTF_ZONE_OFFSET, it.zone.hour = 24), IXDTF_NOT_PRINTABLE, "");
+    CHANGED(it.zone.is_critical = false, IXDTF_OK, "2024-02-29T23:59:60.5-23:59:59.25[Abc/d][u-ca=ef-g]");
+    CHANGED(it.zone.name.length = 3, IXDTF_OK, "2024-02-29T23:59:60.5-23:59:59.25[!Abc][u-ca=ef-g]");
+    CHANGED(it.zone.name.length = 4, IXDTF_NOT_PRINTABLE, "");
+    CHANGED(it.zone.name.length = 0, IXDTF_NOT_PRINTABLE, "");
+    CHANGED(it.calendar.length = 2, IXDTF_OK, "2024-02-29T23:59:60.5-23:59:59.25[!Abc/d][u-ca=ef]");
+    CHANGED(it.calendar.length = 3, IXDTF_NOT_PRINTABLE, "");
+    CHANGED(it.calendar.length = 0, IXDTF_NOT_PRINTABLE, "");
+    CHANGED(it.has_calendar = false, IXDTF_OK, "2024-02-29T23:59:60.5-23:59:59.25[!Abc/d]");
+    CHANGED((it.has_calendar = false, it.calendar.at = (const uint8_t *)behind), IXDTF_OK, "2024-02-29T23:59:60.5-23:59:59.25[!Abc/d]");
+    CHANGED((it.zone.form = IXDTF_NO_ZONE, it.zone.name.at = (const uint8_t *)behind), IXDTF_OK, "2024-02-29T23:59:60.5-23:59:59.25[u-ca=ef-g]");
+    CHANGED((it.location.at = behind, it.location.length = 4), IXDTF_OK, whole);
+#undef CHANGED
+    row_shown = "";
+}
+
 /* Each error that a text can have came, and no other. */
 static void test_met(void) {
     static const unsigned char never[] = { 1, 3, 12, 13, 20, 21, 22, 24 };
@@ -320,6 +466,9 @@ int main(void) {
     test_layout();
     narrow_test_all();
     wide_test_all();
+    test_canonical();
+    test_read_back();
+    test_by_hand();
     test_met();
     printf("%lu checks, %lu failed\n", checks, failures);
     return failures == 0 ? 0 : 1;

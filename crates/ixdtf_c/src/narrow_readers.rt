@@ -1,14 +1,16 @@
 //! The readers of 8-bit sources.
 
-ghost use Rattle.std.specs.Prelude.{◌≢◌, map, OnOk};
+ghost use Rattle.std.specs.Prelude.{◌≡◌, ◌≢◌, ◌+◌, ◌≤◌, length, map, OnOk};
 ghost use Rattle.ixdtf.specs.language.Languages.Found.{lasting, shifted, identified, named};
 ghost use Rattle.ixdtf.specs.language.Letters.{byte_letter};
 ghost use Rattle.ixdtf.specs.language.Readers.{parse, parse_year_month, parse_month_day, parse_time};
 ghost use Rattle.ixdtf.specs.language.Readers.Reader.{parse_duration, parse_offset, parse_identifier, parse_iana_identifier};
 ghost use Rattle.ixdtf_c.specs.Crossing.{duration_outcome_by, SameDurationButLocation};
-ghost use Rattle.ixdtf_c.specs.Narrow.{outcome_by, offset_outcome_by, zone_outcome_by, name_outcome_by, SameButLocation};
+ghost use Rattle.ixdtf_c.specs.Narrow.{outcome_by, offset_outcome_by, zone_outcome_by, name_outcome_by, record_by, SameButLocation};
 ghost use Rattle.ixdtf.specs.Laws.{InNoOther};
 ghost use Rattle.ixdtf_c.specs.Outcomes.{ReadsRecord, ReadsPart};
+ghost use Rattle.ixdtf_print.specs.Canonical.{canonical_text};
+ghost use Rattle.ixdtf_print.specs.Printable.{IsPrintable};
 
 use crate::durations::{Duration, give_duration};
 use crate::narrow::{Record, give, give_name, give_offset, give_zone};
@@ -21,6 +23,10 @@ pub extern "C" fn ixdtf_parse<'a>(text: &'a [u8], out: &mut Record<'a>) -> u32
     // What the number and the record stand for is what the library's reader returns of the text.
     ensures read { ReadsRecord Profile.Crate parse (map byte_letter text.now)
         (outcome_by result out.new) }
+    // What was read has a canonical text, of at most 14 bytes more than the text.
+    ensures printable { result ≡ 0 → IsPrintable (record_by out.new) }
+    ensures fits { result ≡ 0 →
+        length (canonical_text (record_by out.new)) ≤ length text.now + 14 }
     // After a refusal the record is as it was, but for the location.
     ensures unchanged { result ≢ 0 → SameButLocation out.old out.new }
 {

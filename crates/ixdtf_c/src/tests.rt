@@ -1,6 +1,7 @@
 //! One happy path for each call.
 
 mod narrow;
+mod printing;
 mod wide;
 
 use crate::durations::Duration;

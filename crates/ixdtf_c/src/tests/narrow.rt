@@ -6,7 +6,7 @@ use crate::narrow_annotations::*;
 use crate::narrow_readers::*;
 
 /// A record in which nothing stands.
-fn no_record<'a>() -> Record<'a> {
+pub(super) fn no_record<'a>() -> Record<'a> {
     Record {
         date: NO_DATE,
         time: NO_TIME,
@@ -26,7 +26,7 @@ fn no_record<'a>() -> Record<'a> {
 }
 
 /// The units of a text.
-fn units<const N: usize>(text: &[u8; N]) -> [u8; N] {
+pub(super) fn units<const N: usize>(text: &[u8; N]) -> [u8; N] {
     *text
 }
 

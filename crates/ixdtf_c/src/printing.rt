@@ -1,0 +1,189 @@
+//! Printing records that C hands in.
+
+ghost use Rattle.std.specs.Prelude.{◌≡◌, ◌≢◌, ◌↔◌, ◌<◌, ◌≤◌, length, map, min, take, drop, option_map, IfSome, IfNone};
+ghost use Rattle.ixdtf.specs.language.Letters.{byte_letter};
+ghost use Rattle.ixdtf.specs.Views.{parsed_of, note_of};
+ghost use Rattle.ixdtf_c.specs.Crossing.{fraction_by, date_by, time_by, minutes_by, offset_by};
+ghost use Rattle.ixdtf_c.specs.Narrow.{zone_by, record_by};
+ghost use Rattle.ixdtf_print.specs.Canonical.{canonical_text};
+ghost use Rattle.ixdtf_print.specs.Printable.{IsPrintable, IsReadBack};
+ghost use Rattle.ixdtf_print.specs.Spelled.{HasDigits, IsDayTime, IsShift};
+
+use crate::forms::{Date, Offset, Time};
+use crate::narrow::{Record, Zone};
+use ixdtf::encoding::Utf8;
+use ixdtf::records::{
+    DateRecord, Fraction, FullPrecisionOffset, IxdtfParseRecord, MinutePrecisionOffset, Sign,
+    TimeRecord, TimeZoneAnnotation, TimeZoneRecord, UtcOffsetRecord, UtcOffsetRecordOrZ,
+};
+use ixdtf_print::{PrintError, length_of, print};
+
+/// The fraction of so many digits and this value, where there is one of them.
+fn fraction_of(digits: u8, value: u64) -> Option<Option<Fraction>>
+    ensures found { IfSome result (λ fraction. fraction ≡ fraction_by digits value) }
+    ensures none { IfNone result (¬ (HasDigits (fraction_by digits value))) }
+{
+    if digits == 0 {
+        return Some(None);
+    }
+    match Fraction::of_parts(digits, value) {
+        None => None,
+        Some(fraction) => Some(Some(fraction)),
+    }
+}
+
+/// The date.
+fn date_of(date: &Date) -> Option<DateRecord>
+    ensures { result ≡ date_by date.now }
+{
+    if !date.is_there {
+        return None;
+    }
+    Some(DateRecord {
+        year: date.year,
+        month: date.month,
+        day: date.day,
+    })
+}
+
+/// The time, where its fraction is one.
+fn time_of(time: &Time) -> Option<Option<TimeRecord>>
+    ensures found { IfSome result (λ found. found ≡ time_by time.now) }
+    ensures none { IfNone result (¬ (IfSome (time_by time.now) IsDayTime)) }
+{
+    if !time.is_there {
+        return Some(None);
+    }
+    match fraction_of(time.fraction_digits, time.fraction) {
+        None => None,
+        Some(fraction) => Some(Some(TimeRecord {
+            hour: time.hour,
+            minute: time.minute,
+            second: time.second,
+            fraction,
+        })),
+    }
+}
+
+/// The offset in hours and minutes.
+fn minutes_of(is_negative: bool, hour: u8, minute: u8) -> MinutePrecisionOffset
+    ensures { result ≡ minutes_by is_negative hour minute }
+{
+    MinutePrecisionOffset {
+        sign: Sign::from(!is_negative),
+        hour,
+        minute,
+    }
+}
+
+/// The offset, where its fraction is one.
+fn offset_of(offset: &Offset) -> Option<Option<UtcOffsetRecordOrZ>>
+    ensures found { IfSome result (λ found. found ≡ offset_by offset.now) }
+    ensures none { IfNone result (¬ (IfSome (offset_by offset.now) IsShift)) }
+{
+    if offset.form == 0 {
+        return Some(None);
+    }
+    if offset.form == 1 {
+        return Some(Some(UtcOffsetRecordOrZ::Z));
+    }
+    let minutes = minutes_of(offset.is_negative, offset.hour, offset.minute);
+    if offset.form == 2 {
+        let shift = UtcOffsetRecord::MinutePrecision(minutes);
+        return Some(Some(UtcOffsetRecordOrZ::Offset(shift)));
+    }
+    match fraction_of(offset.fraction_digits, offset.fraction) {
+        None => None,
+        Some(fraction) => {
+            let shift = UtcOffsetRecord::FullPrecisionOffset(FullPrecisionOffset {
+                minute_precision_offset: minutes,
+                second: offset.second,
+                fraction,
+            });
+            Some(Some(UtcOffsetRecordOrZ::Offset(shift)))
+        }
+    }
+}
+
+/// The time zone.
+fn zone_of<'a>(zone: &Zone<'a>) -> Option<TimeZoneAnnotation<'a, Utf8>>
+    ensures { option_map (note_of (λ unit. unit)) result ≡ zone_by zone.now }
+{
+    if zone.form == 0 {
+        return None;
+    }
+    let tz = if zone.form == 1 {
+        TimeZoneRecord::Name(zone.name)
+    } else {
+        TimeZoneRecord::Offset(minutes_of(zone.is_negative, zone.hour, zone.minute))
+    };
+    Some(TimeZoneAnnotation {
+        critical: zone.is_critical,
+        tz,
+    })
+}
+
+/// The record, where its fractions are such.
+fn record_of<'a>(given: &Record<'a>) -> Option<IxdtfParseRecord<'a, Utf8>>
+    ensures found { IfSome result
+        (λ found. parsed_of (λ unit. unit) found ≡ record_by given.now) }
+    ensures none { IfNone result (¬ (IsPrintable (record_by given.now))) }
+{
+    let Some(time) = time_of(&given.time) else {
+        return None;
+    };
+    let Some(offset) = offset_of(&given.offset) else {
+        return None;
+    };
+    let calendar = if given.has_calendar {
+        Some(given.calendar)
+    } else {
+        None
+    };
+    Some(IxdtfParseRecord {
+        date: date_of(&given.date),
+        time,
+        offset,
+        tz: zone_of(&given.zone),
+        calendar,
+    })
+}
+
+/// Writes the canonical text of the record into the front of the bytes, and how many bytes these are. It returns 0; or 101
+/// where no text stands for the record, and else 102 where the bytes are fewer than those of the text, and the count is then
+/// how many these are.
+#[unsafe(no_mangle)]
+pub extern "C" fn ixdtf_print(given: &Record<'_>, out: &mut [u8], count: &mut usize) -> u32
+    // After 0 the first bytes are the canonical text of what the numbers stand for, which is read back as it, and the others
+    // are as they were.
+    ensures count { result ≡ 0 → count.new ≡ length (canonical_text (record_by given.now)) }
+    ensures fits { result ≡ 0 → count.new ≤ length out.new }
+    ensures text { result ≡ 0 →
+        map byte_letter (take count.new out.new) ≡ canonical_text (record_by given.now) }
+    ensures read_back { result ≡ 0 → IsReadBack (record_by given.now) }
+    ensures rest { result ≡ 0 → drop count.new out.new ≡ drop count.new out.old }
+    // When it refuses, and that the bytes are then as they were.
+    ensures not_printable { (result ≡ 101) ↔ ¬ (IsPrintable (record_by given.now)) }
+    ensures too_short { (result ≡ 102) ↔ (IsPrintable (record_by given.now) ×
+        (length out.old < length (canonical_text (record_by given.now)))) }
+    ensures unchanged { result ≢ 0 → out.new ≡ out.old }
+    // After 102 the count is that of the bytes that it takes, as far as the number goes.
+    ensures uncounted { result ≡ 101 → count.new ≡ count.old }
+    ensures needed { result ≡ 102 →
+        count.new ≡ min (length (canonical_text (record_by given.now))) usize.MAX }
+{
+    let Some(found) = record_of(given) else {
+        return 101;
+    };
+    match print(&found, out) {
+        Ok(written) => {
+            *count = written;
+            0
+        }
+        Err(PrintError::NotPrintable) => 101,
+        Err(PrintError::TooShort) => {
+            *count = length_of(&found).min(usize::MAX as u128) as usize;
+            102
+        }
+    }
+}
