@@ -15,8 +15,8 @@
  *
  * RECORDS. The caller owns every record, array and text. A record is handed in initialised, by the macro of its type (IXDTF_RECORD for an
  * ixdtf_record) or by a call before, and aligned as its type; whatever a call left in it may stand there, also slices of a text that is
- * gone, since no reader reads them: ixdtf_print reads those of the parts that are there. Only the parts that a text has are written: look at `is_there`, `form`, `has_..` first, since the other
- * fields of a part that is not there keep what they had.
+ * gone, since no reader reads them; ixdtf_print reads those of the parts that are there. Only the parts that a text has are written: look
+ * at `is_there`, `form`, `has_..` first, since the other fields of a part that is not there keep what they had.
  * No pointer handed in is NULL, and what a call writes overlaps nothing else that is handed in with it.
  *
  * SLICES. A name, a calendar, a key or a value in a record is a pointer into the text that was read, and a length. It is not ended by
@@ -24,7 +24,8 @@
  * error's text are valid as long as the program runs. A slice is never NULL, also where its length is 0.
  *
  * THREADS. Each call stands for itself: any number of threads may call at one time, as long as none writes what another uses. No call
- * blocks, and each returns, in time linear in the length of its text, or of the slices of its record. A call may be made in a signal handler.
+ * blocks, and each returns, in time linear in the length of its text, or of the slices of its record. A call may be made in a signal
+ * handler.
  *
  * VERSIONS. Names, order and numbers in this header are stable: a later version adds calls, and numbers behind those that are there, and
  * changes none. ixdtf_interface_version() is that of the library, and is to be at least IXDTF_INTERFACE_VERSION.
@@ -256,18 +257,19 @@ uint32_t ixdtf_parse_time_with_annotations_strict(const uint8_t *text, size_t le
  * value is a slice of the reply, and is valid as long as its units are. */
 uint32_t ixdtf_reply(ixdtf_calendar *calendar, const ixdtf_annotation *reply);
 
-/* Prints a record as its one canonical text, in the 8 bits of ASCII: writes the text, without a zero behind it, into the first bytes of
+/* Prints a record as its one canonical text, in ASCII: writes the text, without a zero behind it, into the first bytes of
  * `out`, which has `room` of them, and to `count` how many these are. ixdtf_parse reads that text as the same record, and no other record
  * is printed so. It is 0; or else IXDTF_NOT_PRINTABLE where ixdtf_parse gives the record for no text, as one of the 30th of February, without
  * a date, or with a fraction whose number has more digits than it counts; or else IXDTF_TOO_SHORT, where `count` is how much room the text
  * takes (SIZE_MAX where that is no size_t). The other bytes of `out` are as they were, after an error all of them, and after
  * IXDTF_NOT_PRINTABLE `count` too. With room 0 `out` is still not NULL.
- * A record that ixdtf_parse gave of a text of n bytes is always printed where there is room for n + 14, and its slices are read as long as
- * they are valid. A record may also be filled in by hand: then the fields of each part that is there are set, slices are never NULL, and
+ * A record that ixdtf_parse gave of a text of n bytes is always printed where there is room for n + 14. Its slices are read, so that text
+ * is still there. A record may also be filled in by hand: then the fields of each part that is there are set, and no slice is NULL;
  * `location` is not read. A `form` beyond those that are named is taken as IXDTF_SECONDS, or as IXDTF_ZONE_OFFSET. */
 uint32_t ixdtf_print(const ixdtf_record *record, uint8_t *out, size_t room, size_t *count);
 
-/* The same of 16-bit texts, but for ixdtf_print. A unit outside 1 to 126 stands for no letter: where a letter has to stand it is IXDTF_NON_ASCII_CODE_POINT. */
+/* The same of 16-bit texts, but for ixdtf_print. A unit outside 1 to 126 stands for no letter: where a letter has to stand it is
+ * IXDTF_NON_ASCII_CODE_POINT. */
 uint32_t ixdtf16_parse(const uint16_t *text, size_t length, ixdtf16_record *out);
 uint32_t ixdtf16_parse_year_month(const uint16_t *text, size_t length, ixdtf16_record *out);
 uint32_t ixdtf16_parse_month_day(const uint16_t *text, size_t length, ixdtf16_record *out);

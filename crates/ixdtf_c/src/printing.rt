@@ -154,6 +154,12 @@ fn record_of<'a>(given: &Record<'a>) -> Option<IxdtfParseRecord<'a, Utf8>>
 /// how many these are.
 #[unsafe(no_mangle)]
 pub extern "C" fn ixdtf_print(given: &Record<'_>, out: &mut [u8], count: &mut usize) -> u32
+    // Of each record and room, one of the three is returned.
+    ensures printed { (result ≡ 0) ↔ (IsPrintable (record_by given.now) ×
+        (length (canonical_text (record_by given.now)) ≤ length out.old)) }
+    ensures not_printable { (result ≡ 101) ↔ ¬ (IsPrintable (record_by given.now)) }
+    ensures too_short { (result ≡ 102) ↔ (IsPrintable (record_by given.now) ×
+        (length out.old < length (canonical_text (record_by given.now)))) }
     // After 0 the first bytes are the canonical text of what the numbers stand for, which is read back as it, and the others
     // are as they were.
     ensures count { result ≡ 0 → count.new ≡ length (canonical_text (record_by given.now)) }
@@ -162,12 +168,8 @@ pub extern "C" fn ixdtf_print(given: &Record<'_>, out: &mut [u8], count: &mut us
         map byte_letter (take count.new out.new) ≡ canonical_text (record_by given.now) }
     ensures read_back { result ≡ 0 → IsReadBack (record_by given.now) }
     ensures rest { result ≡ 0 → drop count.new out.new ≡ drop count.new out.old }
-    // When it refuses, and that the bytes are then as they were.
-    ensures not_printable { (result ≡ 101) ↔ ¬ (IsPrintable (record_by given.now)) }
-    ensures too_short { (result ≡ 102) ↔ (IsPrintable (record_by given.now) ×
-        (length out.old < length (canonical_text (record_by given.now)))) }
+    // Else the bytes are as they were; and after 102 the count is that of the bytes that it takes, as far as the number goes.
     ensures unchanged { result ≢ 0 → out.new ≡ out.old }
-    // After 102 the count is that of the bytes that it takes, as far as the number goes.
     ensures uncounted { result ≡ 101 → count.new ≡ count.old }
     ensures needed { result ≡ 102 →
         count.new ≡ min (length (canonical_text (record_by given.now))) usize.MAX }
