@@ -2,4 +2,5 @@ pub mod Crossing
 pub mod Listing
 pub mod Narrow
 pub mod Outcomes
+pub mod Replying
 pub mod Wide

@@ -35,7 +35,7 @@ are_few text (pair ∷ pairs) (first, rest, is, one, are) = rw is
     (omega (arith, length-append first rest, pair_some first pair one, are_few rest pairs are))
 
 bracketed_few : (kind : CoreKind) (pairs : List Pair) (before : Text) → Bracketed kind pairs before → length pairs ≤ length before
-bracketed_few kind pairs before (cores, brackets, is, core, zone, (first, rest, whole, bracket, are), some) =
+bracketed_few kind pairs before (cores, brackets, is, core, _, (first, rest, whole, bracket, are), some) =
     rw (is, whole) (part_few cores _ _ (part_few first rest _ (are_few rest pairs are)))
 
 none_few : (pairs : List Pair) (before : Text) → pairs ≡ [] → length pairs ≤ length before

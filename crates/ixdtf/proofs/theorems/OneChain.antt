@@ -317,6 +317,25 @@ before_row kind (of_pair line) pairs before rest h = before_key kind pairs befor
 before_row kind (of_duration profile name) pairs before rest h = absurd h
 before_row kind name pairs before rest h = inl h.1
 
+-- the first pairs of a text that is derived
+pub derived_front : (kind : CoreKind) (text : Text) (read : Parsed) (pairs xs ys : List Pair) → Derives (bracketed kind) text (parsed read) pairs → pairs ≡ xs ++ ys
+    → HasFront (bracketed kind) text xs
+derived_front kind text read pairs xs ys (as_parsed d) is =
+    let has : HasFront (bracketed kind) ((d.cores ++ d.brackets) ++ []) xs =
+    whole_front kind d.cores d.brackets [] d.core d.zone xs ys d.is_core (rw (← is) d.is_tail) in rw (← (append-nil _ ∙ sym d.is)) has
+
+-- the first pairs before a row, where there are some
+pub row_front : (kind : CoreKind) (row : Row) (pairs xs ys : List Pair) (text : Text) → Fits (bracketed kind) row pairs text → pairs ≡ xs ++ ys
+    → xs ++ ys ≢ [] → HasFront (bracketed kind) text xs
+row_front kind row pairs xs ys text fits is some_pair = elim (before_row kind row.name pairs fits.0 fits.1 fits.3) [
+  | inl none ↦ absurd (some_pair (sym is ∙ none))
+  | inr p ↦
+      let (front, more, split, (cores, brackets, whole, (core, is_core), zone, tail, some)) = p in
+      let is_text = fits.2 ∙ ap (λ t. t ++ fits.1) (split ∙ ap (λ t. t ++ more) whole) ∙ append_assoc (cores ++ brackets) more fits.1 in
+      rw is_text
+      (whole_front kind cores brackets _ core zone xs ys is_core (rw (← is) tail))
+]
+
 -- ---- each text gives a chain
 
 module _ (replies : List Pair → List Reply) (by : Replying replies) where
@@ -348,31 +367,18 @@ module _ (replies : List Pair → List Reply) (by : Replying replies) where
   some_pair [] ys fault last none = nothing_split last.earlier [] last.reply (sym by.nothing ∙ last.split)
   some_pair (x ∷ xs) ys fault last none = cc
 
-  row_front : (kind : CoreKind) (row : Row) (pairs xs ys : List Pair) (text : Text) (fault : Fault) → Fits (bracketed kind) row pairs text → pairs ≡ xs ++ ys
-      → LastRefused (replies xs) fault → HasFront (bracketed kind) text xs
-  row_front kind row pairs xs ys text fault fits is last = elim (before_row kind row.name pairs fits.0 fits.1 fits.3) [
-    | inl none ↦ absurd (some_pair xs ys fault last (sym is ∙ none))
-    | inr p ↦
-        let (front, more, split, (cores, brackets, whole, (core, is_core), zone, tail, some)) = p in
-        let is_text = fits.2 ∙ ap (λ t. t ++ fits.1) (split ∙ ap (λ t. t ++ more) whole) ∙ append_assoc (cores ++ brackets) more fits.1 in
-        rw is_text
-        (whole_front kind cores brackets _ core zone xs ys is_core (rw (← is) tail))
-  ]
-
   chain_of : (kind : CoreKind) (text : Text) (x : Outcome) → Holds (bracketed kind) text x → (x : Chain) × GivesChain replies by kind text x
   chain_of kind text (derived found pairs) (as_parsed {found = read} d) = elim (whole_or_stopped pairs) [
     | inl none ↦ (record_at replies by kind read pairs, record { read = read; whole = as_parsed d; accepted = none; has = refl })
     | inr p ↦
         let (front, back, is, fault, last) = p in
-        let has : HasFront (bracketed kind) ((d.cores ++ d.brackets) ++ []) front =
-        whole_front kind d.cores d.brackets [] d.core d.zone front back d.is_core (rw (← is) d.is_tail) in
-        ((front, Err fault), inl (rw (← (append-nil _ ∙ sym d.is)) has, last))
+        ((front, Err fault), inl (derived_front kind text read pairs front back (as_parsed d) is, last))
   ]
   chain_of kind text (refused row pairs) fits = elim (whole_or_stopped pairs) [
     | inl none ↦ ((pairs, Err row.error), inr ((row, fits, refl), none))
     | inr p ↦
         let (front, back, is, fault, last) = p in
-        ((front, Err fault), inl (row_front kind row pairs front back text fault fits is last, last))
+        ((front, Err fault), inl (row_front kind row pairs front back text fits is (some_pair front back fault last), last))
   ]
 
   pub only_chain : (kind : CoreKind) (text : Text) → ExactlyOne (GivesChain replies by kind text)
