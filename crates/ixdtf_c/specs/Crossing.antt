@@ -110,6 +110,15 @@ either_by number location read = if nat_eq number 0 then Ok read else Err (fault
 abbrev pub duration_outcome_by : ℕ → Duration → Result DurationParseRecord Fault
 duration_outcome_by number d = either_by number d.location.now (duration_by d)
 
--- the duration is as it was, but for the location
-abbrev pub SameDurationButLocation : Duration → Duration → Type 0
-SameDurationButLocation old new = new ≡ record old { location = new.location }
+-- where a text broke off, of `AbruptEnd`, and of another error nothing
+abbrev pub location_of : Fault → List ℕ
+location_of (AbruptEnd location) = location
+location_of fault = []
+
+-- the location is that of the error of this number
+abbrev pub IsLocation : ℕ → List ℕ → Type 0
+IsLocation number location = location ≡ location_of (fault_by number location)
+
+-- the duration is as it was, but for the location, which is that of the error of this number
+abbrev pub SameDurationButLocation : ℕ → Duration → Duration → Type 0
+SameDurationButLocation number old new = (new ≡ record old { location = new.location }) × IsLocation number new.location.now

@@ -11,7 +11,7 @@ use Rattle.ixdtf_c.specs.declared.narrow.Zone.{Zone}
 use Rattle.ixdtf_c.specs.declared.narrow.Record.{Record}
 use Rattle.ixdtf_c.specs.declared.narrow.Annotation.{Annotation}
 use Rattle.ixdtf_c.specs.declared.narrow.Calendar.{Calendar}
-use Rattle.ixdtf_c.specs.Crossing.{where_there, date_by, time_by, offset_by, shift_by, minutes_by, note_by, area_by, either_by}
+use Rattle.ixdtf_c.specs.Crossing.{where_there, date_by, time_by, offset_by, shift_by, minutes_by, note_by, area_by, either_by, IsLocation}
 
 abbrev pub zone_by : Zone → Option ZoneNote
 zone_by z = note_by z.form z.is_critical (map (λ unit. unit) z.name.now) (minutes_by z.is_negative z.hour z.minute)
@@ -28,9 +28,21 @@ record_by r = record {
   calendar = where_there r.has_calendar (map (λ unit. unit) r.calendar.now);
 }
 
--- the record is as it was, but for the location
-abbrev pub SameButLocation : Record → Record → Type 0
-SameButLocation old new = new ≡ record old { location = new.location }
+-- the record is as it was, but for the location, which is that of the error of this number
+abbrev pub SameButLocation : ℕ → Record → Record → Type 0
+SameButLocation number old new = (new ≡ record old { location = new.location }) × IsLocation number new.location.now
+
+-- the record is as it was, but for the offset
+abbrev pub SameButOffset : Record → Record → Type 0
+SameButOffset old new = new ≡ record old { offset = new.offset }
+
+-- the record is as it was, but for the zone, and of this whether it is critical is as it was too
+abbrev pub SameButZone : Record → Record → Type 0
+SameButZone old new = new ≡ record old { zone = record (new.zone) { is_critical = old.zone.is_critical } }
+
+-- the record is as it was, but for the name of the zone
+abbrev pub SameButName : Record → Record → Type 0
+SameButName old new = new ≡ record old { zone = record (old.zone) { name = new.zone.name } }
 
 abbrev pub outcome_by : ℕ → Record → Result Parsed Fault
 outcome_by number r = either_by number r.location.now (record_by r)

@@ -115,7 +115,7 @@ impl<'a> Duration<'a> {
 pub fn give_duration<'a>(outcome: &ParserResult<DurationParseRecord>, out: &mut Duration<'a>) -> u32
     ensures outcome { duration_outcome_by result out.new ≡
         returned (λ duration. duration) outcome.now }
-    ensures unchanged { result ≢ 0 → SameDurationButLocation out.old out.new }
+    ensures unchanged { result ≢ 0 → SameDurationButLocation result out.old out.new }
 {
     match outcome {
         Ok(found) => {

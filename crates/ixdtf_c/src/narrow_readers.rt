@@ -6,7 +6,8 @@ ghost use Rattle.ixdtf.specs.language.Letters.{byte_letter};
 ghost use Rattle.ixdtf.specs.language.Readers.{parse, parse_year_month, parse_month_day, parse_time};
 ghost use Rattle.ixdtf.specs.language.Readers.Reader.{parse_duration, parse_offset, parse_identifier, parse_iana_identifier};
 ghost use Rattle.ixdtf_c.specs.Crossing.{duration_outcome_by, SameDurationButLocation};
-ghost use Rattle.ixdtf_c.specs.Narrow.{outcome_by, offset_outcome_by, zone_outcome_by, name_outcome_by, record_by, SameButLocation};
+ghost use Rattle.ixdtf_c.specs.Narrow.{outcome_by, offset_outcome_by, zone_outcome_by, name_outcome_by, record_by};
+ghost use Rattle.ixdtf_c.specs.Narrow.{SameButLocation, SameButOffset, SameButZone, SameButName};
 ghost use Rattle.ixdtf.specs.Laws.{InNoOther};
 ghost use Rattle.ixdtf_c.specs.Outcomes.{ReadsRecord, ReadsPart};
 ghost use Rattle.ixdtf_print.specs.Canonical.{canonical_text};
@@ -27,8 +28,8 @@ pub extern "C" fn ixdtf_parse<'a>(text: &'a [u8], out: &mut Record<'a>) -> u32
     ensures printable { result ≡ 0 → IsPrintable (record_by out.new) }
     ensures fits { result ≡ 0 →
         length (canonical_text (record_by out.new)) ≤ length text.now + 14 }
-    // After a refusal the record is as it was, but for the location.
-    ensures unchanged { result ≢ 0 → SameButLocation out.old out.new }
+    // After a refusal the record is as it was, but for the location, which is the error's.
+    ensures unchanged { result ≢ 0 → SameButLocation result out.old out.new }
 {
     give(&IxdtfParser::from_utf8(text).parse(), out)
 }
@@ -39,8 +40,8 @@ pub extern "C" fn ixdtf_parse_year_month<'a>(text: &'a [u8], out: &mut Record<'a
     // What the number and the record stand for is what the library's reader returns of the text.
     ensures read { ReadsRecord Profile.Crate parse_year_month (map byte_letter text.now)
         (outcome_by result out.new) }
-    // After a refusal the record is as it was, but for the location.
-    ensures unchanged { result ≢ 0 → SameButLocation out.old out.new }
+    // After a refusal the record is as it was, but for the location, which is the error's.
+    ensures unchanged { result ≢ 0 → SameButLocation result out.old out.new }
 {
     give(&IxdtfParser::from_utf8(text).parse_year_month(), out)
 }
@@ -51,8 +52,8 @@ pub extern "C" fn ixdtf_parse_month_day<'a>(text: &'a [u8], out: &mut Record<'a>
     // What the number and the record stand for is what the library's reader returns of the text.
     ensures read { ReadsRecord Profile.Crate (parse_month_day Profile.Crate) (map byte_letter text.now)
         (outcome_by result out.new) }
-    // After a refusal the record is as it was, but for the location.
-    ensures unchanged { result ≢ 0 → SameButLocation out.old out.new }
+    // After a refusal the record is as it was, but for the location, which is the error's.
+    ensures unchanged { result ≢ 0 → SameButLocation result out.old out.new }
 {
     give(&IxdtfParser::from_utf8(text).parse_month_day(), out)
 }
@@ -63,8 +64,8 @@ pub extern "C" fn ixdtf_parse_time<'a>(text: &'a [u8], out: &mut Record<'a>) -> 
     // What the number and the record stand for is what the library's reader returns of the text.
     ensures read { ReadsRecord Profile.Crate (parse_time Profile.Crate) (map byte_letter text.now)
         (outcome_by result out.new) }
-    // After a refusal the record is as it was, but for the location.
-    ensures unchanged { result ≢ 0 → SameButLocation out.old out.new }
+    // After a refusal the record is as it was, but for the location, which is the error's.
+    ensures unchanged { result ≢ 0 → SameButLocation result out.old out.new }
 {
     give(&IxdtfParser::from_utf8(text).parse_time(), out)
 }
@@ -75,8 +76,8 @@ pub extern "C" fn ixdtf_parse_month_day_strict<'a>(text: &'a [u8], out: &mut Rec
     // What the number and the record stand for is what the library's reader returns of the text.
     ensures read { ReadsRecord Profile.Strict (parse_month_day Profile.Strict) (map byte_letter text.now)
         (outcome_by result out.new) }
-    // After a refusal the record is as it was, but for the location.
-    ensures unchanged { result ≢ 0 → SameButLocation out.old out.new }
+    // After a refusal the record is as it was, but for the location, which is the error's.
+    ensures unchanged { result ≢ 0 → SameButLocation result out.old out.new }
 {
     let mut parser = IxdtfParser::from_utf8(text).with_profile(Profile::Strict);
     give(&parser.parse_month_day(), out)
@@ -88,8 +89,8 @@ pub extern "C" fn ixdtf_parse_time_strict<'a>(text: &'a [u8], out: &mut Record<'
     // What the number and the record stand for is what the library's reader returns of the text.
     ensures read { ReadsRecord Profile.Strict (parse_time Profile.Strict) (map byte_letter text.now)
         (outcome_by result out.new) }
-    // After a refusal the record is as it was, but for the location.
-    ensures unchanged { result ≢ 0 → SameButLocation out.old out.new }
+    // After a refusal the record is as it was, but for the location, which is the error's.
+    ensures unchanged { result ≢ 0 → SameButLocation result out.old out.new }
 {
     let mut parser = IxdtfParser::from_utf8(text).with_profile(Profile::Strict);
     give(&parser.parse_time(), out)
@@ -101,8 +102,10 @@ pub extern "C" fn ixdtf_parse_offset<'a>(text: &'a [u8], out: &mut Record<'a>) -
     // What the number and the record stand for is what the library's reader returns of the text.
     ensures read { ReadsPart parse_offset shifted (map byte_letter text.now)
         (offset_outcome_by result out.new) }
-    // After a refusal the record is as it was, but for the location.
-    ensures unchanged { result ≢ 0 → SameButLocation out.old out.new }
+    // Where it reads the text, the record is as it was, but for the offset.
+    ensures rest { result ≡ 0 → SameButOffset out.old out.new }
+    // After a refusal the record is as it was, but for the location, which is the error's.
+    ensures unchanged { result ≢ 0 → SameButLocation result out.old out.new }
 {
     give_offset(&TimeZoneParser::from_utf8(text).parse_offset(), out)
 }
@@ -113,8 +116,10 @@ pub extern "C" fn ixdtf_parse_identifier<'a>(text: &'a [u8], out: &mut Record<'a
     // What the number and the record stand for is what the library's reader returns of the text.
     ensures read { ReadsPart parse_identifier identified (map byte_letter text.now)
         (zone_outcome_by result out.new) }
-    // After a refusal the record is as it was, but for the location.
-    ensures unchanged { result ≢ 0 → SameButLocation out.old out.new }
+    // Where it reads the text, the record is as it was, but for the zone, and of this but for whether it is critical.
+    ensures rest { result ≡ 0 → SameButZone out.old out.new }
+    // After a refusal the record is as it was, but for the location, which is the error's.
+    ensures unchanged { result ≢ 0 → SameButLocation result out.old out.new }
 {
     give_zone(&TimeZoneParser::from_utf8(text).parse_identifier(), out)
 }
@@ -125,8 +130,10 @@ pub extern "C" fn ixdtf_parse_iana_identifier<'a>(text: &'a [u8], out: &mut Reco
     // What the number and the record stand for is what the library's reader returns of the text.
     ensures read { ReadsPart parse_iana_identifier named (map byte_letter text.now)
         (name_outcome_by result out.new) }
-    // After a refusal the record is as it was, but for the location.
-    ensures unchanged { result ≢ 0 → SameButLocation out.old out.new }
+    // Where it reads the text, the record is as it was, but for the name of the zone.
+    ensures rest { result ≡ 0 → SameButName out.old out.new }
+    // After a refusal the record is as it was, but for the location, which is the error's.
+    ensures unchanged { result ≢ 0 → SameButLocation result out.old out.new }
 {
     give_name(
         &TimeZoneParser::from_utf8(text).parse_iana_identifier(),
@@ -143,8 +150,8 @@ pub extern "C" fn ixdtf_parse_duration(text: &[u8], out: &mut Duration<'_>) -> u
     // `Ok` only where no other reader of dates, times and durations has the text.
     ensures alone { OnOk (duration_outcome_by result out.new)
         (InNoOther Profile.Crate (parse_duration Profile.Crate) (map byte_letter text.now)) }
-    // After a refusal the duration is as it was, but for the location.
-    ensures unchanged { result ≢ 0 → SameDurationButLocation out.old out.new }
+    // After a refusal the duration is as it was, but for the location, which is the error's.
+    ensures unchanged { result ≢ 0 → SameDurationButLocation result out.old out.new }
 {
     give_duration(&IsoDurationParser::<Utf8>::from_utf8(text).parse(), out)
 }
@@ -158,8 +165,8 @@ pub extern "C" fn ixdtf_parse_duration_strict(text: &[u8], out: &mut Duration<'_
     // `Ok` only where no other reader of dates, times and durations has the text.
     ensures alone { OnOk (duration_outcome_by result out.new)
         (InNoOther Profile.Strict (parse_duration Profile.Strict) (map byte_letter text.now)) }
-    // After a refusal the duration is as it was, but for the location.
-    ensures unchanged { result ≢ 0 → SameDurationButLocation out.old out.new }
+    // After a refusal the duration is as it was, but for the location, which is the error's.
+    ensures unchanged { result ≢ 0 → SameDurationButLocation result out.old out.new }
 {
     let mut parser = IsoDurationParser::<Utf8>::from_utf8(text).with_profile(Profile::Strict);
     give_duration(&parser.parse(), out)

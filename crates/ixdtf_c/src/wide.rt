@@ -4,7 +4,8 @@ ghost use Rattle.std.specs.Prelude.{◌≡◌, ◌≢◌, ◌≤◌, map, option
 ghost use Rattle.ixdtf.specs.table.Faults.{fault_of};
 ghost use Rattle.ixdtf.specs.Views.{parsed_of, note_of, zone_of, returned};
 ghost use Rattle.ixdtf_c.specs.Crossing.{fault_by};
-ghost use Rattle.ixdtf_c.specs.Wide.{zone_by, zone_alone_by, record_by, SameButLocation};
+ghost use Rattle.ixdtf_c.specs.Wide.{zone_by, zone_alone_by, record_by};
+ghost use Rattle.ixdtf_c.specs.Wide.{SameButLocation, SameButOffset, SameButZone, SameButName};
 ghost use Rattle.ixdtf_c.specs.Wide.{outcome_by, offset_outcome_by, zone_outcome_by, name_outcome_by};
 
 use crate::errors::number_of;
@@ -95,6 +96,7 @@ impl<'a> Zone<'a> {
     fn put_area(&mut self, zone: &TimeZoneRecord<'a, Utf16>)
         ensures area { zone_alone_by self.new ≡ zone_of (λ unit. unit) zone.now }
         ensures form { 1 ≤ self.new.form }
+        ensures critical { self.new.is_critical ≡ self.old.is_critical }
     {
         match zone {
             TimeZoneRecord::Name(name) => {
@@ -137,7 +139,7 @@ impl<'a> Record<'a> {
     fn refuse(&mut self, error: ParseError) -> u32
         ensures fault { fault_by result self.new.location.now ≡ fault_of error }
         ensures some { result ≢ 0 }
-        ensures unchanged { SameButLocation self.old self.new }
+        ensures unchanged { SameButLocation result self.old self.new }
     {
         let (number, location) = number_of(error);
         self.location = location;
@@ -149,7 +151,7 @@ impl<'a> Record<'a> {
 #[inline(always)]
 pub fn give<'a>(outcome: &ParserResult<IxdtfParseRecord<'a, Utf16>>, out: &mut Record<'a>) -> u32
     ensures outcome { outcome_by result out.new ≡ returned (parsed_of (λ unit. unit)) outcome.now }
-    ensures unchanged { result ≢ 0 → SameButLocation out.old out.new }
+    ensures unchanged { result ≢ 0 → SameButLocation result out.old out.new }
 {
     match outcome {
         Ok(found) => {
@@ -164,7 +166,8 @@ pub fn give<'a>(outcome: &ParserResult<IxdtfParseRecord<'a, Utf16>>, out: &mut R
 #[inline(always)]
 pub fn give_offset<'a>(outcome: &ParserResult<UtcOffsetRecord>, out: &mut Record<'a>) -> u32
     ensures outcome { offset_outcome_by result out.new ≡ returned (λ offset. offset) outcome.now }
-    ensures unchanged { result ≢ 0 → SameButLocation out.old out.new }
+    ensures rest { result ≡ 0 → SameButOffset out.old out.new }
+    ensures unchanged { result ≢ 0 → SameButLocation result out.old out.new }
 {
     match outcome {
         Ok(offset) => {
@@ -179,7 +182,8 @@ pub fn give_offset<'a>(outcome: &ParserResult<UtcOffsetRecord>, out: &mut Record
 #[inline(always)]
 pub fn give_zone<'a>(outcome: &ParserResult<TimeZoneRecord<'a, Utf16>>, out: &mut Record<'a>) -> u32
     ensures outcome { zone_outcome_by result out.new ≡ returned (zone_of (λ unit. unit)) outcome.now }
-    ensures unchanged { result ≢ 0 → SameButLocation out.old out.new }
+    ensures rest { result ≡ 0 → SameButZone out.old out.new }
+    ensures unchanged { result ≢ 0 → SameButLocation result out.old out.new }
 {
     match outcome {
         Ok(zone) => {
@@ -195,7 +199,8 @@ pub fn give_zone<'a>(outcome: &ParserResult<TimeZoneRecord<'a, Utf16>>, out: &mu
 pub fn give_name<'a>(outcome: &ParserResult<&'a [u16]>, out: &mut Record<'a>) -> u32
     ensures outcome { name_outcome_by result out.new ≡
         returned (λ units. map (λ unit. unit) units.now) outcome.now }
-    ensures unchanged { result ≢ 0 → SameButLocation out.old out.new }
+    ensures rest { result ≡ 0 → SameButName out.old out.new }
+    ensures unchanged { result ≢ 0 → SameButLocation result out.old out.new }
 {
     match outcome {
         Ok(name) => {

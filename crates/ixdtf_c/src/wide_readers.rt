@@ -1,12 +1,13 @@
 //! The readers of 16-bit sources.
 
-ghost use Rattle.std.specs.Prelude.{◌≢◌, map, OnOk};
+ghost use Rattle.std.specs.Prelude.{◌≡◌, ◌≢◌, map, OnOk};
 ghost use Rattle.ixdtf.specs.language.Languages.Found.{lasting, shifted, identified, named};
 ghost use Rattle.ixdtf.specs.language.Letters.{wide_letter};
 ghost use Rattle.ixdtf.specs.language.Readers.{parse, parse_year_month, parse_month_day, parse_time};
 ghost use Rattle.ixdtf.specs.language.Readers.Reader.{parse_duration, parse_offset, parse_identifier, parse_iana_identifier};
 ghost use Rattle.ixdtf_c.specs.Crossing.{duration_outcome_by, SameDurationButLocation};
-ghost use Rattle.ixdtf_c.specs.Wide.{outcome_by, offset_outcome_by, zone_outcome_by, name_outcome_by, SameButLocation};
+ghost use Rattle.ixdtf_c.specs.Wide.{outcome_by, offset_outcome_by, zone_outcome_by, name_outcome_by};
+ghost use Rattle.ixdtf_c.specs.Wide.{SameButLocation, SameButOffset, SameButZone, SameButName};
 ghost use Rattle.ixdtf.specs.Laws.{InNoOther};
 ghost use Rattle.ixdtf_c.specs.Outcomes.{ReadsRecord, ReadsPart};
 
@@ -21,8 +22,8 @@ pub extern "C" fn ixdtf16_parse<'a>(text: &'a [u16], out: &mut Record<'a>) -> u3
     // What the number and the record stand for is what the library's reader returns of the text.
     ensures read { ReadsRecord Profile.Crate parse (map wide_letter text.now)
         (outcome_by result out.new) }
-    // After a refusal the record is as it was, but for the location.
-    ensures unchanged { result ≢ 0 → SameButLocation out.old out.new }
+    // After a refusal the record is as it was, but for the location, which is the error's.
+    ensures unchanged { result ≢ 0 → SameButLocation result out.old out.new }
 {
     give(&IxdtfParser::from_utf16(text).parse(), out)
 }
@@ -33,8 +34,8 @@ pub extern "C" fn ixdtf16_parse_year_month<'a>(text: &'a [u16], out: &mut Record
     // What the number and the record stand for is what the library's reader returns of the text.
     ensures read { ReadsRecord Profile.Crate parse_year_month (map wide_letter text.now)
         (outcome_by result out.new) }
-    // After a refusal the record is as it was, but for the location.
-    ensures unchanged { result ≢ 0 → SameButLocation out.old out.new }
+    // After a refusal the record is as it was, but for the location, which is the error's.
+    ensures unchanged { result ≢ 0 → SameButLocation result out.old out.new }
 {
     give(&IxdtfParser::from_utf16(text).parse_year_month(), out)
 }
@@ -45,8 +46,8 @@ pub extern "C" fn ixdtf16_parse_month_day<'a>(text: &'a [u16], out: &mut Record<
     // What the number and the record stand for is what the library's reader returns of the text.
     ensures read { ReadsRecord Profile.Crate (parse_month_day Profile.Crate) (map wide_letter text.now)
         (outcome_by result out.new) }
-    // After a refusal the record is as it was, but for the location.
-    ensures unchanged { result ≢ 0 → SameButLocation out.old out.new }
+    // After a refusal the record is as it was, but for the location, which is the error's.
+    ensures unchanged { result ≢ 0 → SameButLocation result out.old out.new }
 {
     give(&IxdtfParser::from_utf16(text).parse_month_day(), out)
 }
@@ -57,8 +58,8 @@ pub extern "C" fn ixdtf16_parse_time<'a>(text: &'a [u16], out: &mut Record<'a>) 
     // What the number and the record stand for is what the library's reader returns of the text.
     ensures read { ReadsRecord Profile.Crate (parse_time Profile.Crate) (map wide_letter text.now)
         (outcome_by result out.new) }
-    // After a refusal the record is as it was, but for the location.
-    ensures unchanged { result ≢ 0 → SameButLocation out.old out.new }
+    // After a refusal the record is as it was, but for the location, which is the error's.
+    ensures unchanged { result ≢ 0 → SameButLocation result out.old out.new }
 {
     give(&IxdtfParser::from_utf16(text).parse_time(), out)
 }
@@ -69,8 +70,8 @@ pub extern "C" fn ixdtf16_parse_month_day_strict<'a>(text: &'a [u16], out: &mut 
     // What the number and the record stand for is what the library's reader returns of the text.
     ensures read { ReadsRecord Profile.Strict (parse_month_day Profile.Strict) (map wide_letter text.now)
         (outcome_by result out.new) }
-    // After a refusal the record is as it was, but for the location.
-    ensures unchanged { result ≢ 0 → SameButLocation out.old out.new }
+    // After a refusal the record is as it was, but for the location, which is the error's.
+    ensures unchanged { result ≢ 0 → SameButLocation result out.old out.new }
 {
     let mut parser = IxdtfParser::from_utf16(text).with_profile(Profile::Strict);
     give(&parser.parse_month_day(), out)
@@ -82,8 +83,8 @@ pub extern "C" fn ixdtf16_parse_time_strict<'a>(text: &'a [u16], out: &mut Recor
     // What the number and the record stand for is what the library's reader returns of the text.
     ensures read { ReadsRecord Profile.Strict (parse_time Profile.Strict) (map wide_letter text.now)
         (outcome_by result out.new) }
-    // After a refusal the record is as it was, but for the location.
-    ensures unchanged { result ≢ 0 → SameButLocation out.old out.new }
+    // After a refusal the record is as it was, but for the location, which is the error's.
+    ensures unchanged { result ≢ 0 → SameButLocation result out.old out.new }
 {
     let mut parser = IxdtfParser::from_utf16(text).with_profile(Profile::Strict);
     give(&parser.parse_time(), out)
@@ -95,8 +96,10 @@ pub extern "C" fn ixdtf16_parse_offset<'a>(text: &'a [u16], out: &mut Record<'a>
     // What the number and the record stand for is what the library's reader returns of the text.
     ensures read { ReadsPart parse_offset shifted (map wide_letter text.now)
         (offset_outcome_by result out.new) }
-    // After a refusal the record is as it was, but for the location.
-    ensures unchanged { result ≢ 0 → SameButLocation out.old out.new }
+    // Where it reads the text, the record is as it was, but for the offset.
+    ensures rest { result ≡ 0 → SameButOffset out.old out.new }
+    // After a refusal the record is as it was, but for the location, which is the error's.
+    ensures unchanged { result ≢ 0 → SameButLocation result out.old out.new }
 {
     give_offset(&TimeZoneParser::from_utf16(text).parse_offset(), out)
 }
@@ -107,8 +110,10 @@ pub extern "C" fn ixdtf16_parse_identifier<'a>(text: &'a [u16], out: &mut Record
     // What the number and the record stand for is what the library's reader returns of the text.
     ensures read { ReadsPart parse_identifier identified (map wide_letter text.now)
         (zone_outcome_by result out.new) }
-    // After a refusal the record is as it was, but for the location.
-    ensures unchanged { result ≢ 0 → SameButLocation out.old out.new }
+    // Where it reads the text, the record is as it was, but for the zone, and of this but for whether it is critical.
+    ensures rest { result ≡ 0 → SameButZone out.old out.new }
+    // After a refusal the record is as it was, but for the location, which is the error's.
+    ensures unchanged { result ≢ 0 → SameButLocation result out.old out.new }
 {
     give_zone(&TimeZoneParser::from_utf16(text).parse_identifier(), out)
 }
@@ -119,8 +124,10 @@ pub extern "C" fn ixdtf16_parse_iana_identifier<'a>(text: &'a [u16], out: &mut R
     // What the number and the record stand for is what the library's reader returns of the text.
     ensures read { ReadsPart parse_iana_identifier named (map wide_letter text.now)
         (name_outcome_by result out.new) }
-    // After a refusal the record is as it was, but for the location.
-    ensures unchanged { result ≢ 0 → SameButLocation out.old out.new }
+    // Where it reads the text, the record is as it was, but for the name of the zone.
+    ensures rest { result ≡ 0 → SameButName out.old out.new }
+    // After a refusal the record is as it was, but for the location, which is the error's.
+    ensures unchanged { result ≢ 0 → SameButLocation result out.old out.new }
 {
     give_name(
         &TimeZoneParser::from_utf16(text).parse_iana_identifier(),
@@ -137,8 +144,8 @@ pub extern "C" fn ixdtf16_parse_duration(text: &[u16], out: &mut Duration<'_>) -
     // `Ok` only where no other reader of dates, times and durations has the text.
     ensures alone { OnOk (duration_outcome_by result out.new)
         (InNoOther Profile.Crate (parse_duration Profile.Crate) (map wide_letter text.now)) }
-    // After a refusal the duration is as it was, but for the location.
-    ensures unchanged { result ≢ 0 → SameDurationButLocation out.old out.new }
+    // After a refusal the duration is as it was, but for the location, which is the error's.
+    ensures unchanged { result ≢ 0 → SameDurationButLocation result out.old out.new }
 {
     give_duration(&IsoDurationParser::<Utf16>::from_utf8(text).parse(), out)
 }
@@ -152,8 +159,8 @@ pub extern "C" fn ixdtf16_parse_duration_strict(text: &[u16], out: &mut Duration
     // `Ok` only where no other reader of dates, times and durations has the text.
     ensures alone { OnOk (duration_outcome_by result out.new)
         (InNoOther Profile.Strict (parse_duration Profile.Strict) (map wide_letter text.now)) }
-    // After a refusal the duration is as it was, but for the location.
-    ensures unchanged { result ≢ 0 → SameDurationButLocation out.old out.new }
+    // After a refusal the duration is as it was, but for the location, which is the error's.
+    ensures unchanged { result ≢ 0 → SameDurationButLocation result out.old out.new }
 {
     let mut parser = IsoDurationParser::<Utf16>::from_utf8(text).with_profile(Profile::Strict);
     give_duration(&parser.parse(), out)
