@@ -1,5 +1,5 @@
 -- From a chain of calls that list annotations to what a listing says of a text.
-use Rattle.std.proofs.Common.{◌≡◌, ◌↔◌, ℕ, ◌+◌, ◌≤◌, min, List, [], ◌∷◌, ◌++◌, length, slice_set, map, Option, Some, None, option_map, Result, Ok, Err, OnOk, refl, sym, ◌∙◌, ap, subst, inl, inr, arith}
+use Rattle.std.proofs.Common.{◌≡◌, ◌↔◌, ℕ, ◌+◌, ◌≤◌, min, List, [], ◌∷◌, ◌++◌, length, slice_set, map, Option, None, option_map, Result, Ok, Err, OnOk, refl, sym, ◌∙◌, ap, subst, inl, inr, arith}
 use Rattle.std.proofs.lemmas.List.{append-nil, append_assoc, length-append}
 use Rattle.ixdtf.specs.declared.parsers.profile.Profile.{Profile}
 use Rattle.ixdtf.specs.declared.records.Annotation.{Annotation}
@@ -112,6 +112,11 @@ module _ (kind : CoreKind) (text : Text) where
       → length pairs ≤ length text
   few calls pairs (Ok found) ok err = derived_few kind text (parsed found) pairs (given calls pairs found ((ok found).0 refl))
   few calls pairs (Err fault) ok err = gives_few kind text pairs (nones calls) fault (err fault refl)
+
+-- what a listing says of slots and a count that are what it left
+pub lists_left : {A : Type 0} {view : A → Pair} {profile : Profile} {reader : Reader} {text : Text} {old new slots : List A} {count number : ℕ} {outcome : Result Parsed Fault}
+    → slots ≡ new → number ≡ count → Lists view profile reader text old new count outcome → Lists view profile reader text old slots number outcome
+lists_left same as_many listing = rw (same, as_many) listing
 
 -- ---- a chain of calls that list
 

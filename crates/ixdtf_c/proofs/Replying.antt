@@ -1,5 +1,5 @@
 -- What comes of replying in turn to the annotations that a reader listed is what the reader with a handler gives.
-use Rattle.std.proofs.Common.{◌≡◌, ◌≢◌, ◌⊎◌, ◌↔◌, ℕ, zero, suc, ◌+◌, ◌≤◌, List, [], ◌∷◌, ◌++◌, length, map, take, drop, Option, Some, None, Result, Ok, Err, refl, sym, ◌∙◌, ap, subst, inl, inr, arith}
+use Rattle.std.proofs.Common.{◌≡◌, ◌≢◌, ◌⊎◌, ℕ, zero, suc, ◌≤◌, List, [], ◌∷◌, ◌++◌, length, map, take, drop, Option, Some, None, Result, Ok, Err, refl, sym, ◌∙◌, ap, inl, inr, arith}
 use Rattle.std.specs.Option.{option_or}
 use Rattle.std.proofs.lemmas.List.{append-nil, append_assoc, length-append, length-map, length-take-le, take-append-drop}
 use Rattle.ixdtf.specs.declared.parsers.profile.Profile.{Profile}
@@ -9,14 +9,13 @@ use Rattle.ixdtf.specs.language.Readers.{CoreKind}
 use Rattle.ixdtf.specs.language.Readers.Reader.{bracketed}
 use Rattle.ixdtf.specs.language.Languages.{Parsed}
 use Rattle.ixdtf.specs.table.Faults.{Fault}
-use Rattle.ixdtf.specs.table.Outcomes.{HasFault}
-use Rattle.ixdtf.specs.Handlers.{Reply, first_calendar, NoneRefused, LastRefused, HasFront, GivesRecord, Step, Handled, handed, replies_of}
+use Rattle.ixdtf.specs.Handlers.{Reply, first_calendar, NoneRefused, LastRefused, HasFront, Step, Handled, handed, replies_of}
 use Rattle.ixdtf.specs.Laws.{GivesResult}
 use Rattle.ixdtf.proofs.code.OneMoreReply.{first_calendar-more, NoneRefused-nothing, NoneRefused-more}
 use Rattle.ixdtf.proofs.theorems.OneChain.{Replying, GivesChain, only_chain, derived_front, row_front}
 use Rattle.ixdtf_c.specs.Crossing.{fault_by}
-use Rattle.ixdtf_c.specs.Listing.{PassesOver, overwritten, Lists}
-use Rattle.ixdtf_c.specs.Replying.{TakesReply, with_kept, Replied, ListsAndReplies, IsFront, ReplyingGives, ReplyingIsHandling}
+use Rattle.ixdtf_c.specs.Listing.{PassesOver, overwritten}
+use Rattle.ixdtf_c.specs.Replying.{with_kept, Replied, IsFront, ReplyingGives, ReplyingIsHandling}
 
 -- ---- what is listed
 

@@ -1,36 +1,38 @@
 -- The handler replies none and lists each annotation, and keeps its loan of the list.
-use Rattle.std.proofs.Common.{rules, refl, sym, ◌≡◌, ◌≤◌, ◌+◌, ◌-◌, ◌^◌, length}
+use Rattle.std.proofs.Common.{rules, refl, ◌≤◌, ◌-◌, ◌^◌, length}
 use Rattle.std.proofs.lemmas.List.{length-map}
 use Rattle.ixdtf_c.specs.Narrow.{annotation_by, annotation_for}
-use Rattle.ixdtf_c.proofs.Listed.{lists, kept}
+use Rattle.ixdtf_c.proofs.Listed.{lists, lists_left, kept}
 use Rattle.ixdtf_c.proofs.narrow_annotations.list_as.Goals as goal
 
 pub returns-in-Err-clause-lists : goal.returns-in-Err-clause-lists
 returns-in-Err-clause-lists g c =
     let h = c.in-Err.ensures.handled in
     let fits : length c.args.text.now ≤ 2 ^ 64 - 1 = search rules in
-    let tie = c.list-1.given.1 (kept _ (λ state. state.0.ghost_name) (λ state annotation reply next stepped. search rules) h.calls _ _ h.chain) in
-    rw tie (
+    let loan = kept _ (λ state. state.0.ghost_name) (λ state annotation reply next stepped. search rules) h.calls _ _ h.chain in
+    lists_left (search (rules, loan)) (search (rules, loan)) (
     lists _ (λ state. state.0.now.count) (λ state. state.0.now.slots.now) annotation_for (2 ^ 64 - 1) (λ state annotation reply next stepped. (search rules, search rules, search rules))
     annotation_by (λ annotation. refl) _ _ _ _ _ _ h c.in-Err.ensures.no_row c.in-Err.ensures.alone c.requires (rw (length-map c.args.text.now _) fits))
 
 pub returns-in-Err-clause-same_slots : goal.returns-in-Err-clause-same_slots
 returns-in-Err-clause-same_slots g c =
     let h = c.in-Err.ensures.handled in
-    let tie = c.list-1.given.1 (kept _ (λ state. state.0.ghost_name) (λ state annotation reply next stepped. search rules) h.calls _ _ h.chain) in
-    rw tie (sym (kept _ (λ state. state.0.now.slots.ghost_name) (λ state annotation reply next stepped. search rules) h.calls _ _ h.chain))
+    let loan = kept _ (λ state. state.0.ghost_name) (λ state annotation reply next stepped. search rules) h.calls _ _ h.chain in
+    let slots = kept _ (λ state. state.0.now.slots.ghost_name) (λ state annotation reply next stepped. search rules) h.calls _ _ h.chain in
+    search (rules, loan, slots)
 
 pub returns-clause-lists : goal.returns-clause-lists
 returns-clause-lists g c =
     let h = c.in-Ok.ensures.handled in
     let fits : length c.args.text.now ≤ 2 ^ 64 - 1 = search rules in
-    let tie = c.list-1.given.1 (kept _ (λ state. state.0.ghost_name) (λ state annotation reply next stepped. search rules) h.calls _ _ h.chain) in
-    rw tie (
+    let loan = kept _ (λ state. state.0.ghost_name) (λ state annotation reply next stepped. search rules) h.calls _ _ h.chain in
+    lists_left (search (rules, loan)) (search (rules, loan)) (
     lists _ (λ state. state.0.now.count) (λ state. state.0.now.slots.now) annotation_for (2 ^ 64 - 1) (λ state annotation reply next stepped. (search rules, search rules, search rules))
     annotation_by (λ annotation. refl) _ _ _ _ _ _ h c.in-Ok.ensures.no_row c.in-Ok.ensures.alone c.requires (rw (length-map c.args.text.now _) fits))
 
 pub returns-clause-same_slots : goal.returns-clause-same_slots
 returns-clause-same_slots g c =
     let h = c.in-Ok.ensures.handled in
-    let tie = c.list-1.given.1 (kept _ (λ state. state.0.ghost_name) (λ state annotation reply next stepped. search rules) h.calls _ _ h.chain) in
-    rw tie (sym (kept _ (λ state. state.0.now.slots.ghost_name) (λ state annotation reply next stepped. search rules) h.calls _ _ h.chain))
+    let loan = kept _ (λ state. state.0.ghost_name) (λ state annotation reply next stepped. search rules) h.calls _ _ h.chain in
+    let slots = kept _ (λ state. state.0.now.slots.ghost_name) (λ state annotation reply next stepped. search rules) h.calls _ _ h.chain in
+    search (rules, loan, slots)

@@ -1,4 +1,3 @@
-use Rattle.std.proofs.Common.{rules}
 use Rattle.ixdtf_c.proofs.narrow_annotations.read_with.Goals as goal
 
 pub returns-in-Err-clause-handled : goal.returns-in-Err-clause-handled
