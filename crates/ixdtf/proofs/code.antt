@@ -13,6 +13,7 @@ pub mod EqualUnits
 pub mod FirstLetter
 pub mod FirstPass
 pub mod FixedCores
+pub mod FixedMonths
 pub mod FixedOffsets
 pub mod FixedPlaces
 pub mod FractionLoop

@@ -164,7 +164,7 @@ number_at_place place text n e =
     then_some (letter_place digit (place + 1) text) _ n next λ b eb last.
     number_of_letters place text n a b ea eb cc
 
-hyphen_is : (c : ℕ) → IsTrue (hyphen c) → c ≡ 45
+pub hyphen_is : (c : ℕ) → IsTrue (hyphen c) → c ≡ 45
 hyphen_is c h = grind (arith, nat_tests)
 
 pub colon_is : (c : ℕ) → IsTrue (colon c) → c ≡ 58
@@ -191,7 +191,7 @@ opening_at_place (suc place) (x ∷ rest) h = opening_at_place place rest h
 abbrev century_and_year : (a b c d : ℕ) → Type 0
 century_and_year a b c d = 100 * decimal (Plain a ∷ Plain b ∷ []) + decimal (Plain c ∷ Plain d ∷ []) ≡ decimal (Plain a ∷ Plain b ∷ Plain c ∷ Plain d ∷ [])
 
-year_is : (a b c d : ℕ) → century_and_year a b c d
+pub year_is : (a b c d : ℕ) → century_and_year a b c d
 year_is a b c d = omega arith
 
 -- the letters of a date whose month and day are any numbers, and the text after them

@@ -21,7 +21,9 @@ use crate::parsers::grammar::{
     is_annotation_open, is_ascii_sign, is_date_time_separator, is_time_designator,
     is_utc_designator,
 };
-use crate::parsers::months::{parse_month_day_date, parse_year_month_date};
+use crate::parsers::months::{
+    parse_month_day_date, parse_month_day_parts, parse_year_month_date, parse_year_month_parts,
+};
 use crate::parsers::offsets::{offset_from, take_fixed_offset};
 use crate::parsers::profile::Profile;
 use crate::parsers::time::{Clock, TimeShape, parse_after_second, parse_clock};
@@ -229,9 +231,9 @@ fn check_front<'a, T: EncodingType>(
     ensures looks { Spends 17 cursor.old cursor.new }
 {
     let mut front = cursor.at(start);
-    let month_day = parse_month_day_date(&mut front, profile).is_ok();
+    let month_day = parse_month_day_parts(&mut front, profile).is_ok();
     let mut again = front.at(start);
-    let year_month = parse_year_month_date(&mut again).is_ok();
+    let year_month = parse_year_month_parts(&mut again).is_ok();
     cursor.count(again);
     if month_day {
         return Err(Stop::AmbiguousTimeMonthDay);

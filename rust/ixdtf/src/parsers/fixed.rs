@@ -1,6 +1,7 @@
 // Made by tools/to_rust.py of crates/ixdtf/src/parsers/fixed.rt. Do not edit.
 
-//! Reading a date and a time at fixed places, as most texts have them: `YYYY-MM-DD`, a separator and `HH:MM:SS`.
+//! Reading a date and a time at fixed places, as most texts have them: `YYYY-MM-DD`, a separator and `HH:MM:SS`; and a
+//! year-month and a month-day, `YYYY-MM` and `MM-DD`.
 //!
 //! The places are looked at in order, and nothing is taken off where one does not fit: the text is then read part by part,
 //! which finds the record or the fault.
@@ -9,6 +10,8 @@ use crate::cursor::Cursor;
 use crate::encoding::EncodingType;
 use crate::parsers::dates::has_day;
 use crate::parsers::grammar::{is_date_time_separator, is_hyphen, number_of};
+use crate::parsers::months::has_month_day;
+use crate::parsers::profile::Profile;
 use crate::records::DateRecord;
 
 /// A time to its second.
@@ -165,4 +168,116 @@ fn is_date(date: DateRecord) -> bool {
 #[inline(always)]
 fn is_time(time: WholeTime) -> bool {
     time.hour <= 23 && time.minute <= 59 && time.second <= 60
+}
+
+// ==== Year-months and month-days ====
+
+/// Takes off the year-month that stands at the first seven places, or at the six of one without a hyphen, as a date with
+/// day 1. It is `None`, with the rest unchanged, at the first place that does not fit, and where the month is none.
+#[inline(always)]
+pub fn take_fixed_year_month<'a, T: EncodingType>(cursor: &mut Cursor<'a, T>) -> Option<DateRecord> {
+    if cursor.remaining() < 6 {
+        return None;
+    }
+    let year = fixed_year(cursor)?;
+    if is_hyphen(cursor.byte_at(4)) {
+        if cursor.remaining() < 7 {
+            return None;
+        }
+        let date = fixed_month_of(cursor, year, 5)?;
+        cursor.skip(7);
+        return Some(date);
+    }
+    let date = fixed_month_of(cursor, year, 4)?;
+    cursor.skip(6);
+    Some(date)
+}
+
+/// The first day of a month of the year, where its two digits stand at a place and the next, or `None`.
+#[inline(always)]
+fn fixed_month_of<'a, T: EncodingType>(
+    cursor: &mut Cursor<'a, T>,
+    year: u16,
+    place: usize,
+) -> Option<DateRecord> {
+    let month = fixed_month(cursor, place)?;
+    Some(DateRecord {
+        year: i32::from(year),
+        month,
+        day: 1,
+    })
+}
+
+/// Takes off the month-day that stands at its five places, or at the four of one without a hyphen, with two hyphens before
+/// it or none, as a date with year 0. It is `None`, with the rest unchanged, at the first place that does not fit, and where
+/// the profile has no such month-day.
+#[inline(always)]
+pub fn take_fixed_month_day<'a, T: EncodingType>(
+    cursor: &mut Cursor<'a, T>,
+    profile: Profile,
+) -> Option<DateRecord> {
+    if has_marks(cursor) {
+        return fixed_month_day(cursor, profile, 2);
+    }
+    fixed_month_day(cursor, profile, 0)
+}
+
+/// Whether two hyphens stand in front of four units or more.
+#[inline(always)]
+fn has_marks<'a, T: EncodingType>(cursor: &mut Cursor<'a, T>) -> bool {
+    cursor.remaining() >= 6 && is_hyphen(cursor.byte_at(0)) && is_hyphen(cursor.byte_at(1))
+}
+
+/// Takes off the month-day whose month stands at a place and the next, with what stands before it, or `None`, with the rest
+/// unchanged.
+#[inline(always)]
+fn fixed_month_day<'a, T: EncodingType>(
+    cursor: &mut Cursor<'a, T>,
+    profile: Profile,
+    start: usize,
+) -> Option<DateRecord> {
+    if cursor.remaining() < start + 4 {
+        return None;
+    }
+    let month = fixed_month(cursor, start)?;
+    if is_hyphen(cursor.byte_at(start + 2)) {
+        if cursor.remaining() < start + 5 {
+            return None;
+        }
+        let date = fixed_day_of(cursor, profile, month, start + 3)?;
+        cursor.skip(start + 5);
+        return Some(date);
+    }
+    let date = fixed_day_of(cursor, profile, month, start + 2)?;
+    cursor.skip(start + 4);
+    Some(date)
+}
+
+/// The month-day of the month and of the day whose two digits stand at a place and the next, or `None`.
+#[inline(always)]
+fn fixed_day_of<'a, T: EncodingType>(
+    cursor: &mut Cursor<'a, T>,
+    profile: Profile,
+    month: u8,
+    place: usize,
+) -> Option<DateRecord> {
+    let day = fixed_number(cursor, place)?;
+    if !has_month_day(profile, month, day) {
+        return None;
+    }
+    Some(DateRecord {
+        year: 0,
+        month,
+        day,
+    })
+}
+
+/// The month whose two digits stand at a place and the next, or `None`.
+#[inline(always)]
+fn fixed_month<'a, T: EncodingType>(cursor: &mut Cursor<'a, T>, place: usize) -> Option<u8> {
+    let month = fixed_number(cursor, place)?;
+    if month < 1 || month > 12 {
+        return None;
+    }
+    Some(month)
 }

@@ -7,14 +7,45 @@ use crate::encoding::EncodingType;
 use crate::parsers::dates::{
     check_month, days_in_month, parse_date_year, parse_month, take_hyphen,
 };
+use crate::parsers::fixed::{take_fixed_month_day, take_fixed_year_month};
 use crate::parsers::grammar::{digits_value, is_hyphen};
 use crate::parsers::profile::Profile;
 use crate::records::DateRecord;
 use crate::stop::Stop;
 
-/// Reads a year-month, as a date with day 1.
+// ==== Year-months ====
+
+/// Reads a year-month, as a date with day 1: at its seven places or its six where these fit, and else part by part.
 #[inline(always)]
 pub fn parse_year_month_date<'a, T: EncodingType>(
+    cursor: &mut Cursor<'a, T>,
+) -> Result<DateRecord, Stop> {
+    match take_fixed_year_month(cursor) {
+        Some(date) => Ok(date),
+        None => parse_other_year_month(cursor),
+    }
+}
+
+/// Reads a year-month part by part, by a cursor of its own.
+#[inline(always)]
+fn parse_other_year_month<'a, T: EncodingType>(
+    cursor: &mut Cursor<'a, T>,
+) -> Result<DateRecord, Stop> {
+    let mut here = cursor.take();
+    let read = parse_any_year_month(&mut here);
+    *cursor = here;
+    read
+}
+
+/// Reads a year-month of any form. It is not inlined: most texts have their year-month at fixed places.
+#[inline(never)]
+fn parse_any_year_month<'a, T: EncodingType>(cursor: &mut Cursor<'a, T>) -> Result<DateRecord, Stop> {
+    parse_year_month_parts(cursor)
+}
+
+/// Reads the parts of a year-month.
+#[inline(always)]
+pub fn parse_year_month_parts<'a, T: EncodingType>(
     cursor: &mut Cursor<'a, T>,
 ) -> Result<DateRecord, Stop> {
     let year = parse_date_year(cursor)?;
@@ -26,9 +57,45 @@ pub fn parse_year_month_date<'a, T: EncodingType>(
     })
 }
 
-/// Reads a month-day, as a date with year 0.
+// ==== Month-days ====
+
+/// Reads a month-day, as a date with year 0: at its five places or its four where these fit, with two hyphens before them or
+/// none, and else part by part.
 #[inline(always)]
 pub fn parse_month_day_date<'a, T: EncodingType>(
+    cursor: &mut Cursor<'a, T>,
+    profile: Profile,
+) -> Result<DateRecord, Stop> {
+    match take_fixed_month_day(cursor, profile) {
+        Some(date) => Ok(date),
+        None => parse_other_month_day(cursor, profile),
+    }
+}
+
+/// Reads a month-day part by part, by a cursor of its own.
+#[inline(always)]
+fn parse_other_month_day<'a, T: EncodingType>(
+    cursor: &mut Cursor<'a, T>,
+    profile: Profile,
+) -> Result<DateRecord, Stop> {
+    let mut here = cursor.take();
+    let read = parse_any_month_day(&mut here, profile);
+    *cursor = here;
+    read
+}
+
+/// Reads a month-day of any form. It is not inlined: texts with one have it at fixed places, and others have a fault here.
+#[inline(never)]
+fn parse_any_month_day<'a, T: EncodingType>(
+    cursor: &mut Cursor<'a, T>,
+    profile: Profile,
+) -> Result<DateRecord, Stop> {
+    parse_month_day_parts(cursor, profile)
+}
+
+/// Reads the parts of a month-day.
+#[inline(always)]
+pub fn parse_month_day_parts<'a, T: EncodingType>(
     cursor: &mut Cursor<'a, T>,
     profile: Profile,
 ) -> Result<DateRecord, Stop> {
@@ -59,7 +126,7 @@ fn take_marks<'a, T: EncodingType>(cursor: &mut Cursor<'a, T>) -> Result<bool, S
 /// The month-day, where its month has the day in some year. Day 0 is taken too, but not under the strict profile.
 #[inline(always)]
 fn check_month_day(profile: Profile, month: u8, day: u8) -> Result<DateRecord, Stop> {
-    if day < profile.least_day() || day > days_in_month(0, month) {
+    if !has_month_day(profile, month, day) {
         return Err(Stop::InvalidMonthDay);
     }
     Ok(DateRecord {
@@ -67,4 +134,11 @@ fn check_month_day(profile: Profile, month: u8, day: u8) -> Result<DateRecord, S
         month,
         day,
     })
+}
+
+/// Whether the month has the day in some year, or the day is 0 and the profile is not the strict one. Each month has the
+/// first 28.
+#[inline(always)]
+pub fn has_month_day(profile: Profile, month: u8, day: u8) -> bool {
+    day >= profile.least_day() && (day <= 28 || day <= days_in_month(0, month))
 }
