@@ -1,5 +1,5 @@
 -- Reading at fixed places: each place is looked at in turn, and nothing is read where one does not fit.
-use Rattle.std.specs.Prelude.{ℕ, Bool, pos, [], ◌∷◌, ◌+◌, ◌*◌, drop, Option, Some, None, Err, nat_le, ◌&&◌, if◌then◌else◌}
+use Rattle.std.specs.Prelude.{ℕ, Bool, pos, [], ◌∷◌, ◌+◌, ◌*◌, drop, Option, Some, None, Ok, Err, nat_le, ◌&&◌, if◌then◌else◌}
 use Rattle.ixdtf.specs.declared.parsers.profile.Profile.{Profile}
 use Rattle.ixdtf.specs.declared.records.DateRecord.{DateRecord}
 use Rattle.ixdtf.specs.declared.records.MinutePrecisionOffset.{MinutePrecisionOffset}
@@ -8,7 +8,6 @@ use Rattle.ixdtf.specs.language.Letters.{Text, Class, digit, hyphen, colon, date
 use Rattle.ixdtf.specs.language.Letters.Letter.{Plain, Bad}
 use Rattle.ixdtf.specs.language.Digits.{digit_value, decimal}
 use Rattle.ixdtf.specs.language.Dates.{month_length}
-use Rattle.ixdtf.specs.language.Months.{greatest_day, least_day}
 use Rattle.ixdtf.specs.language.Offsets.{minutes_of}
 use Rattle.ixdtf.specs.table.Faults.{Fault}
 use Rattle.ixdtf.specs.table.Faults.Fault.{InvalidMonthRange}
@@ -16,7 +15,7 @@ use Rattle.ixdtf.specs.table.LineNames.{of_month_day}
 use Rattle.ixdtf.specs.table.LineNames.MonthDayLine.{month_day_month_digits}
 use Rattle.ixdtf.specs.reading.Looks.{Read, ◌>>=◌, error_of, digits_at}
 use Rattle.ixdtf.specs.reading.Dates.{date_of, day_in_range}
-use Rattle.ixdtf.specs.reading.Months.{lone_month_in_range, lone_day_at}
+use Rattle.ixdtf.specs.reading.Months.{lone_month_in_range, lone_day_in_range, lone_day_at}
 use Rattle.ixdtf.specs.reading.Times.{time_of}
 
 -- from what was found to what is found with it
@@ -109,19 +108,23 @@ offset_place c text =
     number_place 0 text >>? λ hour. letter_place colon 2 text >>? λ _. number_place 3 text >>? λ minute.
     if nat_le hour 23 && nat_le minute 59 then Some (minutes_of c (time_of hour minute 0 None)) else None
 
--- the month of the two digits at a place and the next, where it is one
-unfoldable pub month_place : ℕ → Text → Option ℕ
-month_place place text = number_place place text >>? λ month. if nat_le 1 month && nat_le month 12 then Some month else None
-
--- the first day of a year's month that stands at a place and the next
+-- the first day of a year's month that stands at a place and the next, whatever it is
 unfoldable pub month_of_year_place : ℕ → ℕ → Text → Option DateRecord
-month_of_year_place year place text = month_place place text >>? λ month. Some (date_of (pos year) month 1)
+month_of_year_place year place text = number_place place text >>? λ month. Some (date_of (pos year) month 1)
 
--- the month-day of a month's day that stands at a place and the next, where the profile has it
-unfoldable pub day_of_month_place : Profile → ℕ → ℕ → Text → Option DateRecord
-day_of_month_place profile month place text =
-    number_place place text >>? λ day.
-    if nat_le (least_day profile) day && nat_le day (greatest_day month) then Some (date_of (pos 0) month day) else None
+-- the month-day of a month's day that stands at a place and the next, whatever these are
+unfoldable pub day_of_month_place : ℕ → ℕ → Text → Option DateRecord
+day_of_month_place month place text = number_place place text >>? λ day. Some (date_of (pos 0) month day)
+
+-- the year-month with the text after it, where its month is one
+abbrev pub ranged_month : DateRecord → Text → Read Fault DateRecord
+ranged_month date rest = if nat_le 1 date.month && nat_le date.month 12 then Ok (date, rest) else Err InvalidMonthRange
+
+-- the month-day with the text after it, where its month is one and the profile has its day
+abbrev pub ranged_day : Profile → DateRecord → Text → Read Fault DateRecord
+ranged_day profile date rest =
+    if nat_le 1 date.month && nat_le date.month 12 then lone_day_in_range error_of profile date.month date.day rest
+    else Err InvalidMonthRange
 
 -- whether two hyphens stand in front
 abbrev pub marks_place : Text → Bool
@@ -136,5 +139,5 @@ unmarked_at profile text = do
 
 -- opening this opens the readings of parts at fixed places
 unfoldable pub fixed_readings : ℕ
-unfolding number_place year_place days_place basic_days_place date_place basic_date_place time_place date_time_place offset_place month_place month_of_year_place day_of_month_place
+unfolding number_place year_place days_place basic_days_place date_place basic_date_place time_place date_time_place offset_place month_of_year_place day_of_month_place
 fixed_readings = 0

@@ -6,22 +6,21 @@
 
 #![tactic(auto, unfolding(crate::specs::reading::FixedPlaces::fixed_readings))]
 
-ghost use Rattle.std.specs.Prelude.{◌≡◌, ◌+◌, ◌<◌, ◌≤◌, map, drop, length, option_map, Ok, None, IfSome, IsTrue};
+ghost use Rattle.std.specs.Prelude.{◌≡◌, ◌+◌, ◌<◌, ◌≤◌, map, drop, length, option_map, None, IfSome, IsTrue};
+ghost use Rattle.ixdtf.specs.declared.parsers.profile.Profile.{Profile};
 ghost use Rattle.ixdtf.specs.declared.records.TimeRecord.{TimeRecord};
-ghost use Rattle.ixdtf.specs.language.Letters.{Text, date_time_separator};
+ghost use Rattle.ixdtf.specs.language.Letters.{Text, digit, date_time_separator};
 ghost use Rattle.ixdtf.specs.language.FixedPlaces.{FixedDateTime};
 ghost use Rattle.ixdtf.specs.reading.Clauses.{Spends, time_to_second};
 ghost use Rattle.ixdtf.specs.reading.Dates.{date_at};
 ghost use Rattle.ixdtf.specs.reading.Looks.{error_of};
 ghost use Rattle.ixdtf.specs.reading.Months.{year_month_at, month_day_at};
-ghost use Rattle.ixdtf.specs.reading.FixedPlaces.{letter_place, number_place, month_place, month_of_year_place, day_of_month_place, marks_place, unmarked_at, date_in_range, time_in_range, ranged, year_place, days_place, basic_days_place, date_place, basic_date_place, time_place, date_time_place};
+ghost use Rattle.ixdtf.specs.reading.FixedPlaces.{letter_place, byte_place, number_place, month_of_year_place, day_of_month_place, ranged_month, ranged_day, marks_place, unmarked_at, date_in_range, time_in_range, ranged, year_place, days_place, basic_days_place, date_place, basic_date_place, time_place, date_time_place};
 
 use crate::cursor::Cursor;
 use crate::encoding::EncodingType;
 use crate::parsers::dates::has_day;
 use crate::parsers::grammar::{is_date_time_separator, is_hyphen, number_of};
-use crate::parsers::months::has_month_day;
-use crate::parsers::profile::Profile;
 use crate::records::DateRecord;
 
 /// A time to its second.
@@ -253,11 +252,11 @@ fn is_time(time: WholeTime) -> bool
 // ==== Year-months and month-days ====
 
 /// Takes off the year-month that stands at the first seven places, or at the six of one without a hyphen, as a date with
-/// day 1. It is `None`, with the rest unchanged, at the first place that does not fit, and where the month is none.
+/// day 1. It is `None`, with the rest unchanged, at the first place that does not fit. Its month is not checked.
 #[inline(always)]
 pub fn take_fixed_year_month<'a, T: EncodingType>(cursor: &mut Cursor<'a, T>) -> Option<DateRecord>
     ensures read { IfSome result (λ date. year_month_at error_of (map T.letter cursor.old.rest) ≡
-        Ok (date, map T.letter cursor.new.rest)) }
+        ranged_month date (map T.letter cursor.new.rest)) }
     ensures rest { result ≡ None → cursor.new.rest ≡ cursor.old.rest }
     ensures shorter { length cursor.new.rest ≤ length cursor.old.rest }
     ensures few { cursor.new.looks ≤ cursor.old.looks + 7 }
@@ -280,7 +279,7 @@ pub fn take_fixed_year_month<'a, T: EncodingType>(cursor: &mut Cursor<'a, T>) ->
     Some(date)
 }
 
-/// The first day of a month of the year, where its two digits stand at a place and the next, or `None`.
+/// The first day of a month of the year, where its two digits stand at a place and the next, or `None`. It is not checked.
 #[inline(always)]
 fn fixed_month_of<'a, T: EncodingType>(
     cursor: &mut Cursor<'a, T>,
@@ -293,7 +292,7 @@ fn fixed_month_of<'a, T: EncodingType>(
     ensures few { cursor.new.looks ≤ cursor.old.looks + 2 }
     ensures counted { cursor.old.looks ≤ cursor.new.looks }
 {
-    let month = fixed_month(cursor, place)?;
+    let month = fixed_number(cursor, place)?;
     Some(DateRecord {
         year: i32::from(year),
         month,
@@ -302,24 +301,21 @@ fn fixed_month_of<'a, T: EncodingType>(
 }
 
 /// Takes off the month-day that stands at its five places, or at the four of one without a hyphen, with two hyphens before
-/// it or none, as a date with year 0. It is `None`, with the rest unchanged, at the first place that does not fit, and where
-/// the profile has no such month-day.
+/// it or none, as a date with year 0. It is `None`, with the rest unchanged, at the first place that does not fit. Its month
+/// and its day are not checked.
 #[inline(always)]
-pub fn take_fixed_month_day<'a, T: EncodingType>(
-    cursor: &mut Cursor<'a, T>,
-    profile: Profile,
-) -> Option<DateRecord>
-    ensures read { IfSome result (λ date. month_day_at error_of profile
-        (map T.letter cursor.old.rest) ≡ Ok (date, map T.letter cursor.new.rest)) }
+pub fn take_fixed_month_day<'a, T: EncodingType>(cursor: &mut Cursor<'a, T>) -> Option<DateRecord>
+    ensures read { IfSome result (λ date. (profile : Profile) → month_day_at error_of profile
+        (map T.letter cursor.old.rest) ≡ ranged_day profile date (map T.letter cursor.new.rest)) }
     ensures rest { result ≡ None → cursor.new.rest ≡ cursor.old.rest }
     ensures shorter { length cursor.new.rest ≤ length cursor.old.rest }
     ensures few { cursor.new.looks ≤ cursor.old.looks + 7 }
     ensures counted { cursor.old.looks ≤ cursor.new.looks }
 {
     if has_marks(cursor) {
-        return fixed_month_day(cursor, profile, 2);
+        return fixed_month_day(cursor, 2);
     }
-    fixed_month_day(cursor, profile, 0)
+    fixed_month_day(cursor, 0)
 }
 
 /// Whether two hyphens stand in front of four units or more.
@@ -336,14 +332,17 @@ fn has_marks<'a, T: EncodingType>(cursor: &mut Cursor<'a, T>) -> bool
 /// Takes off the month-day whose month stands at a place and the next, with what stands before it, or `None`, with the rest
 /// unchanged.
 #[inline(always)]
+#[tactic(auto, using(crate::proofs::code::FixedMonths::first_digit))]
 fn fixed_month_day<'a, T: EncodingType>(
     cursor: &mut Cursor<'a, T>,
-    profile: Profile,
     start: usize,
 ) -> Option<DateRecord>
     requires early { start ≤ 2 }
-    ensures read { IfSome result (λ date. unmarked_at profile
-        (drop start (map T.letter cursor.old.rest)) ≡ Ok (date, map T.letter cursor.new.rest)) }
+    ensures read { IfSome result (λ date. (profile : Profile) → unmarked_at profile
+        (drop start (map T.letter cursor.old.rest)) ≡
+        ranged_day profile date (map T.letter cursor.new.rest)) }
+    ensures digit { IfSome result (λ _.
+        IsTrue (digit (byte_place start (map T.letter cursor.old.rest)))) }
     ensures rest { result ≡ None → cursor.new.rest ≡ cursor.old.rest }
     ensures shorter { length cursor.new.rest ≤ length cursor.old.rest }
     ensures few { cursor.new.looks ≤ cursor.old.looks + 5 }
@@ -352,58 +351,37 @@ fn fixed_month_day<'a, T: EncodingType>(
     if cursor.remaining() < start + 4 {
         return None;
     }
-    let month = fixed_month(cursor, start)?;
+    let month = fixed_number(cursor, start)?;
     if is_hyphen(cursor.byte_at(start + 2)) {
         if cursor.remaining() < start + 5 {
             return None;
         }
-        let date = fixed_day_of(cursor, profile, month, start + 3)?;
+        let date = fixed_day_of(cursor, month, start + 3)?;
         cursor.skip(start + 5);
         return Some(date);
     }
-    let date = fixed_day_of(cursor, profile, month, start + 2)?;
+    let date = fixed_day_of(cursor, month, start + 2)?;
     cursor.skip(start + 4);
     Some(date)
 }
 
-/// The month-day of the month and of the day whose two digits stand at a place and the next, or `None`.
+/// The month-day of the month and of the day whose two digits stand at a place and the next, or `None`. It is not checked.
 #[inline(always)]
 fn fixed_day_of<'a, T: EncodingType>(
     cursor: &mut Cursor<'a, T>,
-    profile: Profile,
     month: u8,
     place: usize,
 ) -> Option<DateRecord>
     requires early { place < 18 }
-    ensures there { result ≡
-        day_of_month_place profile month place (map T.letter cursor.old.rest) }
+    ensures there { result ≡ day_of_month_place month place (map T.letter cursor.old.rest) }
     ensures rest { cursor.new.rest ≡ cursor.old.rest }
     ensures few { cursor.new.looks ≤ cursor.old.looks + 2 }
     ensures counted { cursor.old.looks ≤ cursor.new.looks }
 {
     let day = fixed_number(cursor, place)?;
-    if !has_month_day(profile, month, day) {
-        return None;
-    }
     Some(DateRecord {
         year: 0,
         month,
         day,
     })
-}
-
-/// The month whose two digits stand at a place and the next, or `None`.
-#[inline(always)]
-fn fixed_month<'a, T: EncodingType>(cursor: &mut Cursor<'a, T>, place: usize) -> Option<u8>
-    requires early { place < 18 }
-    ensures there { result ≡ month_place place (map T.letter cursor.old.rest) }
-    ensures rest { cursor.new.rest ≡ cursor.old.rest }
-    ensures few { cursor.new.looks ≤ cursor.old.looks + 2 }
-    ensures counted { cursor.old.looks ≤ cursor.new.looks }
-{
-    let month = fixed_number(cursor, place)?;
-    if month < 1 || month > 12 {
-        return None;
-    }
-    Some(month)
 }

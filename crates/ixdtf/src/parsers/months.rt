@@ -3,12 +3,14 @@
 #![tactic(auto, unfolding(crate::specs::reading::Months::month_readings))]
 
 ghost use Rattle.std.specs.Prelude.{◌≡◌, ◌+◌, ◌≤◌, ◌&&◌, nat_le, pos};
+ghost use Rattle.ixdtf.specs.language.Letters.{Text};
 ghost use Rattle.ixdtf.specs.language.Months.{greatest_day, least_day};
 ghost use Rattle.ixdtf.specs.table.Faults.Fault.{InvalidMonthDay};
-ghost use Rattle.ixdtf.specs.reading.Clauses.{Reads, Checks, Spends, SpendsInAll};
+ghost use Rattle.ixdtf.specs.reading.Clauses.{Reads, Checks, Yields, Spends, SpendsInAll};
 ghost use Rattle.ixdtf.specs.reading.Looks.{error_of};
 ghost use Rattle.ixdtf.specs.reading.Dates.{date_of};
 ghost use Rattle.ixdtf.specs.reading.Months.{year_month_at, marks_at, month_day_at};
+ghost use Rattle.ixdtf.specs.reading.FixedPlaces.{ranged_month, ranged_day};
 
 use crate::cursor::Cursor;
 use crate::encoding::EncodingType;
@@ -33,9 +35,18 @@ pub fn parse_year_month_date<'a, T: EncodingType>(
     ensures looks { Spends 12 cursor.old cursor.new }
 {
     match take_fixed_year_month(cursor) {
-        Some(date) => Ok(date),
+        Some(date) => check_year_month(date),
         None => parse_other_year_month(cursor),
     }
+}
+
+/// The year-month that begins with the day, where its month is one.
+#[inline(always)]
+fn check_year_month(first: DateRecord) -> Result<DateRecord, Stop>
+    ensures { (rest : Text) → Yields (λ date. (date, rest)) result (ranged_month first rest) }
+{
+    check_month(first.month)?;
+    Ok(first)
 }
 
 /// Reads a year-month part by part, by a cursor of its own.
@@ -94,10 +105,19 @@ pub fn parse_month_day_date<'a, T: EncodingType>(
         (month_day_at error_of profile) }
     ensures looks { Spends 14 cursor.old cursor.new }
 {
-    match take_fixed_month_day(cursor, profile) {
-        Some(date) => Ok(date),
+    match take_fixed_month_day(cursor) {
+        Some(date) => check_lone_day(profile, date),
         None => parse_other_month_day(cursor, profile),
     }
+}
+
+/// The month-day, where its month is one and the profile has its day.
+#[inline(always)]
+fn check_lone_day(profile: Profile, date: DateRecord) -> Result<DateRecord, Stop>
+    ensures { (rest : Text) → Yields (λ date. (date, rest)) result (ranged_day profile date rest) }
+{
+    check_month(date.month)?;
+    check_month_day(profile, date.month, date.day)
 }
 
 /// Reads a month-day part by part, by a cursor of its own.
@@ -186,7 +206,7 @@ fn check_month_day(profile: Profile, month: u8, day: u8) -> Result<DateRecord, S
 /// Whether the month has the day in some year, or the day is 0 and the profile is not the strict one. Each month has the
 /// first 28.
 #[inline(always)]
-pub fn has_month_day(profile: Profile, month: u8, day: u8) -> bool
+fn has_month_day(profile: Profile, month: u8, day: u8) -> bool
     ensures { result ≡ (nat_le (least_day profile) day && nat_le day (greatest_day month)) }
 {
     day >= profile.least_day() && (day <= 28 || day <= days_in_month(0, month))

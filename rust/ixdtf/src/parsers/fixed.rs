@@ -10,8 +10,6 @@ use crate::cursor::Cursor;
 use crate::encoding::EncodingType;
 use crate::parsers::dates::has_day;
 use crate::parsers::grammar::{is_date_time_separator, is_hyphen, number_of};
-use crate::parsers::months::has_month_day;
-use crate::parsers::profile::Profile;
 use crate::records::DateRecord;
 
 /// A time to its second.
@@ -173,7 +171,7 @@ fn is_time(time: WholeTime) -> bool {
 // ==== Year-months and month-days ====
 
 /// Takes off the year-month that stands at the first seven places, or at the six of one without a hyphen, as a date with
-/// day 1. It is `None`, with the rest unchanged, at the first place that does not fit, and where the month is none.
+/// day 1. It is `None`, with the rest unchanged, at the first place that does not fit. Its month is not checked.
 #[inline(always)]
 pub fn take_fixed_year_month<'a, T: EncodingType>(cursor: &mut Cursor<'a, T>) -> Option<DateRecord> {
     if cursor.remaining() < 6 {
@@ -193,14 +191,14 @@ pub fn take_fixed_year_month<'a, T: EncodingType>(cursor: &mut Cursor<'a, T>) ->
     Some(date)
 }
 
-/// The first day of a month of the year, where its two digits stand at a place and the next, or `None`.
+/// The first day of a month of the year, where its two digits stand at a place and the next, or `None`. It is not checked.
 #[inline(always)]
 fn fixed_month_of<'a, T: EncodingType>(
     cursor: &mut Cursor<'a, T>,
     year: u16,
     place: usize,
 ) -> Option<DateRecord> {
-    let month = fixed_month(cursor, place)?;
+    let month = fixed_number(cursor, place)?;
     Some(DateRecord {
         year: i32::from(year),
         month,
@@ -209,17 +207,14 @@ fn fixed_month_of<'a, T: EncodingType>(
 }
 
 /// Takes off the month-day that stands at its five places, or at the four of one without a hyphen, with two hyphens before
-/// it or none, as a date with year 0. It is `None`, with the rest unchanged, at the first place that does not fit, and where
-/// the profile has no such month-day.
+/// it or none, as a date with year 0. It is `None`, with the rest unchanged, at the first place that does not fit. Its month
+/// and its day are not checked.
 #[inline(always)]
-pub fn take_fixed_month_day<'a, T: EncodingType>(
-    cursor: &mut Cursor<'a, T>,
-    profile: Profile,
-) -> Option<DateRecord> {
+pub fn take_fixed_month_day<'a, T: EncodingType>(cursor: &mut Cursor<'a, T>) -> Option<DateRecord> {
     if has_marks(cursor) {
-        return fixed_month_day(cursor, profile, 2);
+        return fixed_month_day(cursor, 2);
     }
-    fixed_month_day(cursor, profile, 0)
+    fixed_month_day(cursor, 0)
 }
 
 /// Whether two hyphens stand in front of four units or more.
@@ -233,51 +228,36 @@ fn has_marks<'a, T: EncodingType>(cursor: &mut Cursor<'a, T>) -> bool {
 #[inline(always)]
 fn fixed_month_day<'a, T: EncodingType>(
     cursor: &mut Cursor<'a, T>,
-    profile: Profile,
     start: usize,
 ) -> Option<DateRecord> {
     if cursor.remaining() < start + 4 {
         return None;
     }
-    let month = fixed_month(cursor, start)?;
+    let month = fixed_number(cursor, start)?;
     if is_hyphen(cursor.byte_at(start + 2)) {
         if cursor.remaining() < start + 5 {
             return None;
         }
-        let date = fixed_day_of(cursor, profile, month, start + 3)?;
+        let date = fixed_day_of(cursor, month, start + 3)?;
         cursor.skip(start + 5);
         return Some(date);
     }
-    let date = fixed_day_of(cursor, profile, month, start + 2)?;
+    let date = fixed_day_of(cursor, month, start + 2)?;
     cursor.skip(start + 4);
     Some(date)
 }
 
-/// The month-day of the month and of the day whose two digits stand at a place and the next, or `None`.
+/// The month-day of the month and of the day whose two digits stand at a place and the next, or `None`. It is not checked.
 #[inline(always)]
 fn fixed_day_of<'a, T: EncodingType>(
     cursor: &mut Cursor<'a, T>,
-    profile: Profile,
     month: u8,
     place: usize,
 ) -> Option<DateRecord> {
     let day = fixed_number(cursor, place)?;
-    if !has_month_day(profile, month, day) {
-        return None;
-    }
     Some(DateRecord {
         year: 0,
         month,
         day,
     })
-}
-
-/// The month whose two digits stand at a place and the next, or `None`.
-#[inline(always)]
-fn fixed_month<'a, T: EncodingType>(cursor: &mut Cursor<'a, T>, place: usize) -> Option<u8> {
-    let month = fixed_number(cursor, place)?;
-    if month < 1 || month > 12 {
-        return None;
-    }
-    Some(month)
 }

@@ -21,9 +21,16 @@ pub fn parse_year_month_date<'a, T: EncodingType>(
     cursor: &mut Cursor<'a, T>,
 ) -> Result<DateRecord, Stop> {
     match take_fixed_year_month(cursor) {
-        Some(date) => Ok(date),
+        Some(date) => check_year_month(date),
         None => parse_other_year_month(cursor),
     }
+}
+
+/// The year-month that begins with the day, where its month is one.
+#[inline(always)]
+fn check_year_month(first: DateRecord) -> Result<DateRecord, Stop> {
+    check_month(first.month)?;
+    Ok(first)
 }
 
 /// Reads a year-month part by part, by a cursor of its own.
@@ -66,10 +73,17 @@ pub fn parse_month_day_date<'a, T: EncodingType>(
     cursor: &mut Cursor<'a, T>,
     profile: Profile,
 ) -> Result<DateRecord, Stop> {
-    match take_fixed_month_day(cursor, profile) {
-        Some(date) => Ok(date),
+    match take_fixed_month_day(cursor) {
+        Some(date) => check_lone_day(profile, date),
         None => parse_other_month_day(cursor, profile),
     }
+}
+
+/// The month-day, where its month is one and the profile has its day.
+#[inline(always)]
+fn check_lone_day(profile: Profile, date: DateRecord) -> Result<DateRecord, Stop> {
+    check_month(date.month)?;
+    check_month_day(profile, date.month, date.day)
 }
 
 /// Reads a month-day part by part, by a cursor of its own.
@@ -139,6 +153,6 @@ fn check_month_day(profile: Profile, month: u8, day: u8) -> Result<DateRecord, S
 /// Whether the month has the day in some year, or the day is 0 and the profile is not the strict one. Each month has the
 /// first 28.
 #[inline(always)]
-pub fn has_month_day(profile: Profile, month: u8, day: u8) -> bool {
+fn has_month_day(profile: Profile, month: u8, day: u8) -> bool {
     day >= profile.least_day() && (day <= 28 || day <= days_in_month(0, month))
 }

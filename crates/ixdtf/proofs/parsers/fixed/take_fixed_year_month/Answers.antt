@@ -1,7 +1,7 @@
-use Rattle.std.proofs.Common.{◌≡◌, List, ℕ, map, drop, Some, Ok, IsTrue, sym, ap, ◌∙◌, subst}
+use Rattle.std.proofs.Common.{◌≡◌, List, ℕ, map, drop, Some, IsTrue, sym, ap, ◌∙◌, subst}
 use Rattle.std.proofs.lemmas.List.{drop-map}
 use Rattle.ixdtf.specs.language.Letters.{hyphen}
-use Rattle.ixdtf.specs.reading.FixedPlaces.{byte_place, month_of_year_place}
+use Rattle.ixdtf.specs.reading.FixedPlaces.{byte_place, month_of_year_place, ranged_month}
 use Rattle.ixdtf.proofs.code.FixedMonths.{hyphened_month_is_read, basic_month_is_read}
 use Rattle.ixdtf.proofs.parsers.fixed.take_fixed_year_month.Goals as goal
 
@@ -19,7 +19,7 @@ returns-then-is_hyphen-clause-read g c =
     ap (λ (t : List ℕ). month_of_year_place year 5 (map letter t)) (sym looked) ∙ sym c.in_ok-date.ensures.there in
     let left : c.skip.new.self.rest ≡ drop 7 units = c.skip.ensures.rest ∙ ap (λ (t : List ℕ). drop 7 t) (c.fixed_month_of.ensures.rest ∙ looked) in
     hyphened_month_is_read (map letter units) year date (sym c.in_ok-year.ensures.there) mark month
-    ∙ ap (λ t. Ok (date, t)) (drop-map letter 7 units ∙ ap (map letter) (sym left))
+    ∙ ap (ranged_month date) (drop-map letter 7 units ∙ ap (map letter) (sym left))
 
 pub returns-clause-read : goal.returns-clause-read
 returns-clause-read g c =
@@ -32,4 +32,4 @@ returns-clause-read g c =
     ap (λ (t : List ℕ). month_of_year_place year 4 (map letter t)) (sym looked) ∙ sym c.in_ok-date-2.ensures.there in
     let left : c.skip-2.new.self.rest ≡ drop 6 units = c.skip-2.ensures.rest ∙ ap (λ (t : List ℕ). drop 6 t) (c.fixed_month_of-2.ensures.rest ∙ looked) in
     basic_month_is_read (map letter units) year date (sym c.in_ok-year.ensures.there) month
-    ∙ ap (λ t. Ok (date, t)) (drop-map letter 6 units ∙ ap (map letter) (sym left))
+    ∙ ap (ranged_month date) (drop-map letter 6 units ∙ ap (map letter) (sym left))
