@@ -18,16 +18,34 @@ use crate::parsers::grammar::{digits_value, is_ascii_sign, is_hyphen};
 use crate::records::DateRecord;
 use crate::stop::Stop;
 
-/// Reads a date: at its ten places or its eight where these fit, and else part by part.
+/// Reads a date: at its ten places or its eight where these fit, and else part by part. Fewer units than eight are no date.
 #[inline(always)]
 pub fn parse_date<'a, T: EncodingType>(cursor: &mut Cursor<'a, T>) -> Result<DateRecord, Stop>
     ensures date { Reads T.letter (λ date. date) cursor.old result cursor.new
         (date_at error_of) }
     ensures looks { Spends 16 cursor.old cursor.new }
 {
+    if cursor.remaining() < 8 {
+        return parse_short_date(cursor);
+    }
     match take_fixed_date(cursor) {
         Some(date) => check_ranges(date),
         None => parse_other_date(cursor),
+    }
+}
+
+/// Finds the fault of fewer units than a date has: without a call where the first letter begins no year.
+#[inline(always)]
+#[tactic(auto, unfolding(crate::specs::reading::Dates::date_at, crate::specs::reading::Dates::year_at, crate::specs::reading::Looks::next_by))]
+fn parse_short_date<'a, T: EncodingType>(cursor: &mut Cursor<'a, T>) -> Result<DateRecord, Stop>
+    ensures date { Reads T.letter (λ date. date) cursor.old result cursor.new
+        (date_at error_of) }
+    ensures looks { Spends 7 cursor.old cursor.new }
+{
+    match cursor.look()? {
+        None => Err(Stop::AbruptDigit),
+        Some(byte) if byte.is_ascii_digit() || is_ascii_sign(byte) => parse_other_date(cursor),
+        Some(_) => Err(Stop::DateYear),
     }
 }
 
@@ -120,8 +138,8 @@ fn parse_extended_year<'a, T: EncodingType>(
     read
 }
 
-/// Reads the six digits of a year with a sign. It is not inlined: few texts have one.
-#[inline(never)]
+/// Reads the six digits of a year with a sign.
+#[inline(always)]
 fn parse_signed_year<'a, T: EncodingType>(cursor: &mut Cursor<'a, T>, sign: u8) -> Result<i32, Stop>
     ensures year { Reads T.letter (λ year. year) cursor.old result cursor.new
         (extended_year_at error_of sign) }

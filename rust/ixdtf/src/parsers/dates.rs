@@ -9,12 +9,25 @@ use crate::parsers::grammar::{digits_value, is_ascii_sign, is_hyphen};
 use crate::records::DateRecord;
 use crate::stop::Stop;
 
-/// Reads a date: at its ten places or its eight where these fit, and else part by part.
+/// Reads a date: at its ten places or its eight where these fit, and else part by part. Fewer units than eight are no date.
 #[inline(always)]
 pub fn parse_date<'a, T: EncodingType>(cursor: &mut Cursor<'a, T>) -> Result<DateRecord, Stop> {
+    if cursor.remaining() < 8 {
+        return parse_short_date(cursor);
+    }
     match take_fixed_date(cursor) {
         Some(date) => check_ranges(date),
         None => parse_other_date(cursor),
+    }
+}
+
+/// Finds the fault of fewer units than a date has: without a call where the first letter begins no year.
+#[inline(always)]
+fn parse_short_date<'a, T: EncodingType>(cursor: &mut Cursor<'a, T>) -> Result<DateRecord, Stop> {
+    match cursor.look()? {
+        None => Err(Stop::AbruptDigit),
+        Some(byte) if byte.is_ascii_digit() || is_ascii_sign(byte) => parse_other_date(cursor),
+        Some(_) => Err(Stop::DateYear),
     }
 }
 
@@ -83,8 +96,8 @@ fn parse_extended_year<'a, T: EncodingType>(
     read
 }
 
-/// Reads the six digits of a year with a sign. It is not inlined: few texts have one.
-#[inline(never)]
+/// Reads the six digits of a year with a sign.
+#[inline(always)]
 fn parse_signed_year<'a, T: EncodingType>(cursor: &mut Cursor<'a, T>, sign: u8) -> Result<i32, Stop> {
     let value = parse_six_digits(cursor)?;
     if !is_hyphen(sign) {
