@@ -20,14 +20,14 @@ use Rattle.ixdtf_c.specs.Replying.{with_kept, Replied, IsFront, ReplyingGives, R
 -- ---- what is listed
 
 -- with room for all items, the first slots are these
-overwritten-front : {A : Type 0} (slots items : List A) → length items ≤ length slots → take (length items) (overwritten slots items) ≡ items
+pub overwritten-front : {A : Type 0} (slots items : List A) → length items ≤ length slots → take (length items) (overwritten slots items) ≡ items
 overwritten-front slots [] room = refl
 overwritten-front [] (item ∷ items) room = absurd (omega (arith, room))
 overwritten-front (slot ∷ slots) (item ∷ items) room = ap (λ rest. item ∷ rest) (overwritten-front slots items (omega (arith, room)))
 
 -- ---- replies in turn
 
-zero_or_not : (number : ℕ) → (number ≡ 0) ⊎ (number ≢ 0)
+pub zero_or_not : (number : ℕ) → (number ≡ 0) ⊎ (number ≢ 0)
 zero_or_not zero = inl refl
 zero_or_not (suc n) = inr (λ is. omega (arith, is))
 
@@ -74,13 +74,13 @@ Gives kind text pairs replies outcome =
 
 module _ (profile : Profile) (kind : CoreKind) (text : Text) (pairs : List Pair) where
   -- where none is refused
-  gives_all : (listed : Result Parsed Fault) (replies : List Reply) → PassesOver profile (bracketed kind) text pairs listed → NoneRefused replies
+  pub gives_all : (listed : Result Parsed Fault) (replies : List Reply) → PassesOver profile (bracketed kind) text pairs listed → NoneRefused replies
       → GivesResult (bracketed kind) text pairs replies (with_kept (first_calendar replies) listed)
   gives_all (Ok found) replies passes none = record { read = found; whole = (passes.ok found).0 refl; accepted = none; has = refl }
   gives_all (Err fault) replies passes none = inr (passes.err fault refl, none)
 
   -- the front behind which the last of some first replies is refused
-  front_of : (listed : Result Parsed Fault) (xs ys : List Pair) → PassesOver profile (bracketed kind) text pairs listed → pairs ≡ xs ++ ys → xs ++ ys ≢ []
+  pub front_of : (listed : Result Parsed Fault) (xs ys : List Pair) → PassesOver profile (bracketed kind) text pairs listed → pairs ≡ xs ++ ys → xs ++ ys ≢ []
       → HasFront (bracketed kind) text xs
   front_of (Ok found) xs ys passes split some = derived_front kind text found pairs xs ys ((passes.ok found).0 refl) split
   front_of (Err fault) xs ys passes split some = let (row, fits, has) = passes.err fault refl in row_front kind row pairs xs ys text fits split some

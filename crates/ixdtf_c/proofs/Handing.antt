@@ -1,0 +1,163 @@
+-- A handler that is asked about annotations in turn, and whose replies are handed over.
+use Rattle.std.proofs.Common.{◌≡◌, ◌≢◌, ◌≤◌, ℕ, List, [], ◌∷◌, ◌++◌, length, map, take, drop, get_or, ◌<◌, ◌+◌, Option, None, Result, Ok, Err, refl, sym, ◌∙◌, ap, inl, arith, option_map, Bool, true, false, if◌then◌else◌, ◌⊎◌, inr}
+use Rattle.std.proofs.SliceLists.{chained_more}
+use Rattle.std.proofs.lemmas.Bool.Decides.{eqb_tells}
+use Rattle.std.proofs.lemmas.List.{map-append, append-nil, length-append, take_more, take-append-drop, length-map}
+use Rattle.std.specs.Option.{option_or}
+use Rattle.ixdtf.specs.declared.parsers.profile.Profile.{Profile}
+use Rattle.ixdtf.specs.declared.records.Annotation.{Annotation}
+use Rattle.ixdtf.specs.language.Brackets.{Pair}
+use Rattle.ixdtf.specs.language.Letters.{Text}
+use Rattle.ixdtf.specs.language.Readers.{CoreKind}
+use Rattle.ixdtf.specs.language.Readers.Reader.{bracketed}
+use Rattle.ixdtf.specs.language.Languages.{Parsed}
+use Rattle.ixdtf.specs.table.Faults.{Fault}
+use Rattle.ixdtf.specs.Handlers.{calendar_key, with_calendar, first_calendar, NoneRefused, Calls, IsChain, Step, handed, replies_of, pair_of, Handled}
+use Rattle.ixdtf.proofs.code.OneMoreReply.{first_calendar-more, NoneRefused-nothing, NoneRefused-more}
+use Rattle.ixdtf.proofs.theorems.Handled.{handled as handled_by}
+use Rattle.ixdtf.specs.Laws.{GivesResult}
+use Rattle.ixdtf_c.specs.Crossing.{fault_by, either_by, where_there}
+use Rattle.ixdtf_c.specs.Listing.{Lists}
+use Rattle.ixdtf_c.specs.Replying.{with_kept}
+use Rattle.ixdtf_c.specs.Turns.{HandsOver, InTurn}
+use Rattle.ixdtf_c.proofs.Replying.{zero_or_not, overwritten-front, gives_all, front_of}
+
+-- ---- annotations in turn
+
+-- the annotations up to one, and this one
+pub taken_more : {A : Type 0} (view : A → Pair) (annotations : List A) (i : ℕ) (d : A) → i < length annotations
+    → map view (take (i + 1) annotations) ≡ map view (take i annotations) ++ view (get_or annotations i d) ∷ []
+taken_more view annotations i d less =
+    ap (map view) (take_more annotations i d less) ∙ map-append view (take i annotations) (get_or annotations i d ∷ [])
+
+-- and these behind it are all
+pub taken_split : {A : Type 0} (view : A → Pair) (annotations : List A) (i : ℕ) (d : A) → i < length annotations
+    → map view annotations ≡ (map view (take i annotations) ++ view (get_or annotations i d) ∷ []) ++ map view (drop (i + 1) annotations)
+taken_split view annotations i d less =
+    ap (map view) (sym (take-append-drop (i + 1) annotations)) ∙ map-append view (take (i + 1) annotations) (drop (i + 1) annotations)
+    ∙ ap (λ front. front ++ map view (drop (i + 1) annotations)) (taken_more view annotations i d less)
+
+module _ {T U F : Type 0} (number : U → ℕ) (step : Step T U F) (handler : F) where
+  -- it was asked about these, none of its replies was refused, and this calendar is kept
+  pub record SoFar (state : F) (pairs : List Pair) (kept : Option Pair) : Type 0 where
+    pub calls : Calls T U
+    pub chain : IsChain step handler calls state
+    pub asked : handed number calls ≡ pairs
+    pub accepted : NoneRefused (replies_of number calls)
+    pub first : kept ≡ first_calendar (replies_of number calls)
+
+  pub so_far_none : (kept : Option Pair) → kept ≡ None → SoFar handler [] kept
+  so_far_none kept none = record { calls = []; chain = refl; asked = refl; accepted = NoneRefused-nothing; first = none }
+
+  -- it is asked about one more
+  module _ {state : F} {pairs : List Pair} {kept : Option Pair} {annotation : Annotation T U} {reply : Option (Annotation T U)} {next : F}
+      (so_far : SoFar state pairs kept) (called : step state annotation reply next) where
+    more_calls : Calls T U
+    more_calls = so_far.calls ++ (annotation, reply) ∷ []
+
+    more_chain : IsChain step handler more_calls next
+    unfolding more_calls
+    more_chain = chained_more (λ f call g. step f call.0 call.1 g) handler so_far.calls state (annotation, reply) next so_far.chain called
+
+    more_handed : handed number more_calls ≡ pairs ++ pair_of number annotation ∷ []
+    unfolding more_calls
+    more_handed = map-append (λ call. pair_of number call.0) so_far.calls ((annotation, reply) ∷ [])
+        ∙ ap (λ all. all ++ pair_of number annotation ∷ []) so_far.asked
+
+    more_replies : replies_of number more_calls ≡ replies_of number so_far.calls ++ option_map (pair_of number) reply ∷ []
+    unfolding more_calls
+    more_replies = map-append (λ call. option_map (pair_of number) call.1) so_far.calls ((annotation, reply) ∷ [])
+
+    pub so_far_more : {new : Option Pair} {result : ℕ} (all : List Pair) → HandsOver kept new (option_map (pair_of number) reply) result → result ≡ 0
+        → all ≡ pairs ++ pair_of number annotation ∷ [] → SoFar next all new
+    so_far_more {new} all over zeroed is = record {
+      calls = more_calls;
+      chain = more_chain;
+      asked = more_handed ∙ sym is;
+      accepted = rw more_replies (NoneRefused-more (replies_of number so_far.calls) (option_map (pair_of number) reply) so_far.accepted (λ fault. rw (← so_far.first) (over.accepted zeroed fault)));
+      first = over.kept zeroed ∙ ap (λ c. option_or c (first_calendar (option_map (pair_of number) reply ∷ []))) so_far.first
+          ∙ sym (first_calendar-more (replies_of number so_far.calls) (option_map (pair_of number) reply)) ∙ ap first_calendar (sym more_replies);
+    }
+
+    -- its reply is refused, before these
+    pub refused_in_turn : {new : Option Pair} {result : ℕ} (all behind : List Pair) → HandsOver kept new (option_map (pair_of number) reply) result → result ≢ 0
+        → all ≡ (pairs ++ pair_of number annotation ∷ []) ++ behind → InTurn number step handler next all new result
+    refused_in_turn {new} all behind over refused is = record {
+      calls = more_calls;
+      chain = more_chain;
+      asked = (behind, is ∙ ap (λ front. front ++ behind) (sym more_handed));
+      all = λ zeroed. absurd (refused zeroed);
+      accepted = λ zeroed. absurd (refused zeroed);
+      first = λ zeroed. absurd (refused zeroed);
+      refused = λ other. record {
+        earlier = replies_of number so_far.calls;
+        reply = option_map (pair_of number) reply;
+        split = more_replies;
+        none = so_far.accepted;
+        refused = rw (← so_far.first) (over.refused refused);
+      };
+    }
+
+  -- it was asked about all
+  pub all_in_turn : {state : F} {pairs : List Pair} {kept : Option Pair} → SoFar state pairs kept → InTurn number step handler state pairs kept 0
+  all_in_turn {state} {pairs} so_far = record {
+    calls = so_far.calls;
+    chain = so_far.chain;
+    asked = ([], sym so_far.asked ∙ sym (append-nil _));
+    all = λ zeroed. so_far.asked;
+    accepted = λ zeroed. so_far.accepted;
+    first = λ zeroed. so_far.first;
+    refused = λ other. absurd (other refl);
+  }
+
+-- ---- the outcome
+
+pub refused_by : {A : Type 0} (number : ℕ) (location : List ℕ) (read : A) → number ≢ 0 → either_by number location read ≡ Err (fault_by number location)
+refused_by number location read some = elim (eqb_tells number 0) [
+  | inl p ↦ absurd (some p.1)
+  | inr p ↦ ap (λ test. if test then Ok read else Err (fault_by number location)) p.0
+]
+
+-- a refusal is kept
+pub kept_refused : (number : ℕ) (location : List ℕ) (read : Parsed) (kept : Option Pair) → number ≢ 0
+    → either_by number location read ≡ with_kept kept (either_by number location read)
+kept_refused number location read kept some = rw (refused_by number location read some) refl
+
+-- a record gets the calendar that is kept
+pub kept_read : (number : ℕ) (location : List ℕ) (old : Parsed) (there critical : Bool) (value : List ℕ) → number ≡ 0
+    → either_by number location (with_calendar old (where_there there value))
+    ≡ with_kept (where_there there (record { critical = critical; key = calendar_key; value = value })) (either_by number location old)
+kept_read number location old true critical value zeroed = rw zeroed refl
+kept_read number location old false critical value zeroed = rw zeroed refl
+
+-- where the annotations were listed with room for all, and the handler was asked about them in turn, this is what a form with a handler says
+pub handled_in_turn : {T U F A : Type 0} {number : U → ℕ} {step : Step T U F} {handler last : F} {view : A → Pair} {profile : Profile} {kind : CoreKind} {text : Text}
+    {old new : List A} {count result : ℕ} {listed outcome : Result Parsed Fault} {kept : Option Pair}
+    → Lists view profile (bracketed kind) text old new count listed → count ≤ length old
+    → InTurn number step handler last (map view (take count new)) kept result
+    → (result ≡ 0 → outcome ≡ with_kept kept listed) → (result ≢ 0 → outcome ≡ Err (fault_by result []))
+    → Handled number step handler (bracketed kind) text outcome
+handled_in_turn {T} {U} {F} {A} {number} {step} {handler} {last} {view} {profile} {kind} {text} {old} {new} {count} {result} {listed} {outcome} {kept} listing room turns whole stopped =
+    handled_by number step handler (bracketed kind) text outcome last record { calls = turns.calls; chain = turns.chain; gives = gives (zero_or_not result) }
+  where
+    shown : map view (take count new) ≡ map view listing.annotations
+    shown = ap (map view) (rw (listing.counted, listing.written) (overwritten-front old listing.annotations (rw (← listing.counted) room)))
+
+    gives : (result ≡ 0) ⊎ (result ≢ 0) → GivesResult (bracketed kind) text (handed number turns.calls) (replies_of number turns.calls) outcome
+    gives (inl zeroed) =
+        rw (whole zeroed, turns.first zeroed, turns.all zeroed ∙ shown)
+        (gives_all profile kind text (map view listing.annotations) listed (replies_of number turns.calls) listing.read (turns.accepted zeroed))
+    gives (inr refused) =
+        let stop = turns.refused refused in
+        let (behind, is) = turns.asked in
+        let split : map view listing.annotations ≡ handed number turns.calls ++ behind = sym shown ∙ is in
+        let lengths : length (replies_of number turns.calls) ≡ length (handed number turns.calls) = length-map turns.calls _ ∙ sym (length-map turns.calls _) in
+        let some : handed number turns.calls ++ behind ≢ [] = λ none. omega (
+          arith,
+          lengths,
+          ap length stop.split,
+          length-append stop.earlier (stop.reply ∷ []),
+          ap length none,
+          length-append (handed number turns.calls) behind,
+        ) in
+        rw (stopped refused) (inl (front_of profile kind text (map view listing.annotations) listed (handed number turns.calls) behind listing.read split some, stop))

@@ -1,0 +1,26 @@
+-- What a caller does who has a handler, and makes the calls of the library for C.
+use Rattle.std.specs.Prelude.{◌≡◌, ◌≢◌, ℕ, List, [], ◌∷◌, Option}
+use Rattle.std.specs.Option.{option_or}
+use Rattle.ixdtf.specs.language.Brackets.{Pair}
+use Rattle.ixdtf.specs.table.Faults.{Fault}
+use Rattle.ixdtf.specs.Handlers.{Reply, RefusedBeside, first_calendar, NoneRefused, LastRefused, Calls, IsChain, Step, handed, replies_of}
+use Rattle.ixdtf_c.specs.Crossing.{fault_by}
+use Rattle.ixdtf_c.specs.Replying.{IsFront}
+
+-- A reply, or none, is handed over, beside the calendar that is kept before it: with 0 it is not refused, and the first calendar
+-- is kept, and with another number it is refused with the fault of that number.
+pub record HandsOver (old new : Option Pair) (reply : Reply) (number : ℕ) : Type 0 where
+  pub accepted : number ≡ 0 → (fault : Fault) → ¬ (RefusedBeside old reply fault)
+  pub kept : number ≡ 0 → new ≡ option_or old (first_calendar (reply ∷ []))
+  pub refused : number ≢ 0 → RefusedBeside old reply (fault_by number [])
+
+-- The handler was asked about these annotations in turn: with 0 about all of them, no reply was refused, and the first calendar
+-- is kept; with another number up to the one whose reply was refused with the fault of that number.
+pub record InTurn {T U F : Type 0} (number : U → ℕ) (step : Step T U F) (handler last : F) (pairs : List Pair) (kept : Option Pair) (result : ℕ) : Type 0 where
+  pub calls : Calls T U
+  pub chain : IsChain step handler calls last
+  pub asked : IsFront (handed number calls) pairs
+  pub all : result ≡ 0 → handed number calls ≡ pairs
+  pub accepted : result ≡ 0 → NoneRefused (replies_of number calls)
+  pub first : result ≡ 0 → kept ≡ first_calendar (replies_of number calls)
+  pub refused : result ≢ 0 → LastRefused (replies_of number calls) (fault_by result [])

@@ -1,0 +1,110 @@
+//! A caller of the library for C who has a handler.
+
+ghost use Rattle.std.specs.Prelude.{◌≡◌, ◌≢◌, ◌≤◌, None, length, map, option_map};
+ghost use Rattle.ixdtf.specs.Handlers.{Handled, pair_of};
+ghost use Rattle.ixdtf.specs.language.Letters.{byte_letter};
+ghost use Rattle.ixdtf.specs.language.Readers.{parse};
+ghost use Rattle.ixdtf_c.specs.Narrow.{annotation_by, calendar_by, outcome_by};
+ghost use Rattle.ixdtf_c.specs.Turns.{HandsOver, InTurn};
+
+use crate::narrow::{Annotation, Calendar, Record};
+use crate::narrow_annotations::{ixdtf_parse_with_annotations, ixdtf_reply};
+use ixdtf::encoding::Utf8;
+use ixdtf::records;
+
+/// Asks the handler about an annotation.
+#[inline(always)]
+fn ask<'a, F>(
+    handler: &mut F,
+    annotation: records::Annotation<'a, Utf8>,
+) -> Option<records::Annotation<'a, Utf8>>
+where
+    F: FnMut(records::Annotation<'a, Utf8>) -> Option<records::Annotation<'a, Utf8>>,
+    requires callable { F.IsAlwaysCallable handler.old }
+    ensures again { F.IsAlwaysCallable handler.new }
+    ensures step { F.step handler.old annotation.entry result handler.new }
+{
+    handler(annotation)
+}
+
+/// Hands a reply over, where there is one.
+fn hand_over<'a>(calendar: &mut Calendar<'a>, reply: Option<records::Annotation<'a, Utf8>>) -> u32
+    ensures { HandsOver (calendar_by calendar.old) (calendar_by calendar.new)
+        (option_map (pair_of (λ unit. unit)) reply.entry) result }
+{
+    match reply {
+        None => 0,
+        Some(it) => {
+            let reply = Annotation {
+                key: it.key,
+                value: it.value,
+                is_critical: it.critical,
+            };
+            ixdtf_reply(calendar, &reply)
+        }
+    }
+}
+
+/// Asks the handler about each annotation in turn and hands its replies over, up to the first that is refused.
+fn reply_in_turn<'a, F>(
+    annotations: &[Annotation<'a>],
+    calendar: &mut Calendar<'a>,
+    handler: &mut F,
+) -> u32
+where
+    F: FnMut(records::Annotation<'a, Utf8>) -> Option<records::Annotation<'a, Utf8>>,
+    requires callable { F.IsAlwaysCallable handler.old }
+    requires none { calendar_by calendar.old ≡ None }
+    ensures { InTurn (λ unit. unit) F.step handler.old handler.new
+        (map annotation_by annotations.now) (calendar_by calendar.new) result }
+{
+    for annotation in annotations {
+        let asked = records::Annotation {
+            key: annotation.key,
+            value: annotation.value,
+            critical: annotation.is_critical,
+        };
+        let number = hand_over(calendar, ask(handler, asked));
+        if number != 0 {
+            return number;
+        }
+    }
+    0
+}
+
+/// Reads as [`ixdtf_parse_with_annotations`] does, asks the handler about each annotation, hands each of its replies to
+/// [`ixdtf_reply`], and stops at the first that is refused. With room for all annotations this is the library's
+/// `parse_with_annotation_handler`.
+pub fn parse_in_turn<'a, F>(
+    text: &'a [u8],
+    annotations: &mut [Annotation<'a>],
+    count: &mut usize,
+    out: &mut Record<'a>,
+    mut handler: F,
+) -> u32
+where
+    F: FnMut(records::Annotation<'a, Utf8>) -> Option<records::Annotation<'a, Utf8>>,
+    requires callable { F.IsAlwaysCallable handler }
+    ensures handled { count.new ≤ length annotations.old → Handled (λ unit. unit) F.step handler
+        parse (map byte_letter text.now) (outcome_by result out.new) }
+{
+    let read = ixdtf_parse_with_annotations(text, annotations, count, out);
+    if *count > annotations.len() {
+        return read;
+    }
+    let mut calendar = Calendar {
+        value: &[],
+        is_critical: false,
+        is_there: false,
+    };
+    let refused = reply_in_turn(&annotations[..*count], &mut calendar, &mut handler);
+    if refused != 0 {
+        out.location = &[];
+        return refused;
+    }
+    if read == 0 {
+        out.calendar = calendar.value;
+        out.has_calendar = calendar.is_there;
+    }
+    read
+}
