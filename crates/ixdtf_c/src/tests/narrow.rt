@@ -4,6 +4,7 @@ use super::{NO_DATE, NO_OFFSET, NO_TIME, no_duration};
 use crate::narrow::{Annotation, Calendar, Record, Zone};
 use crate::narrow_annotations::*;
 use crate::narrow_readers::*;
+use crate::turns::parse_in_turn;
 
 /// A record in which nothing stands.
 pub(super) fn no_record<'a>() -> Record<'a> {
@@ -227,4 +228,24 @@ fn takes_replies(rt: HostRuntime) {
         is_critical: true,
     };
     assert_eq!(rt; ixdtf_reply(&mut calendar, &unknown), 32);
+}
+
+#[test]
+fn asks_a_handler_in_turn(rt: HostRuntime) {
+    let mut record = no_record();
+    let mut slots = [no_annotation(), no_annotation()];
+    let mut count = 0;
+    let text = units(b"2024-03-02[u-ca=hebrew][!c=de]");
+    assert_eq!(rt;
+        parse_in_turn(&text, &mut slots, &mut count, &mut record, |it| Some(it)),
+        32
+    );
+    let refused = parse_in_turn(&text, &mut slots, &mut count, &mut record, |it| {
+        if it.critical { None } else { Some(it) }
+    });
+    assert_eq!(rt; refused, 0);
+    assert_eq!(rt;
+        (count, record.has_calendar, record.calendar.len()),
+        (2, true, 6)
+    );
 }
