@@ -10,6 +10,7 @@ import unittest
 
 TOP = os.path.abspath(os.path.join(os.path.dirname(os.path.abspath(__file__)), '..'))
 PAIRS = [('crates/ixdtf/src', 'rust/ixdtf/src'), ('crates/ixdtf_tests/src', 'rust/ixdtf/src'),
+         ('crates/ixdtf_callers/src', 'rust/ixdtf/src'),
          ('crates/ixdtf_print/src', 'rust/ixdtf_print/src'), ('crates/ixdtf_lines/src', 'rust/ixdtf_lines/src')]
 
 
@@ -105,7 +106,7 @@ CHANGED = [(phrase(a), phrase(b)) for a, b in [
     ('use std::alloc::Global;', 'use crate::runtime::Global;')]]
 ADDED = [phrase(t) for t in [
     '#[non_exhaustive]', '#[repr(i8)]', '#![no_std]', '#![cfg_attr(not(test), no_std)]', '#![forbid(unsafe_code)]', '#[cfg(not(test))] extern crate core as std;',
-    'extern crate core as std;', '#[cfg(test)] extern crate self as ixdtf;', '#[cfg(test)] #[macro_use] mod runtime; #[cfg(test)] mod tests;',
+    'extern crate core as std;', '#[cfg(test)] extern crate self as ixdtf;', '#[cfg(test)] #[macro_use] mod runtime; #[cfg(test)] mod callers; #[cfg(test)] mod tests;',
     '#[cfg(doctest)] #[doc = include_str!("../README.md")] struct Readme;',
     '#[allow(unused_imports)] use crate::runtime::{HostRuntime, TryClone};', 'let rt = HostRuntime;', '_ => unreachable!(),']]
 
@@ -268,7 +269,7 @@ class SameTokens(unittest.TestCase):
                 for name in names:
                     path = os.path.relpath(os.path.join(folder, name), os.path.join(TOP, source))[:-3]
                     made = os.path.join(TOP, target, path + '.rs')
-                    if path == 'lib' and source == 'crates/ixdtf_tests/src' or path in BY_HAND or not os.path.exists(made):
+                    if path == 'lib' and source in ('crates/ixdtf_tests/src', 'crates/ixdtf_callers/src') or path in BY_HAND or not os.path.exists(made):
                         continue
                     with open(os.path.join(folder, name), encoding='utf-8') as file:
                         text = file.read()

@@ -39,7 +39,7 @@ TOP = os.path.join(os.path.dirname(os.path.abspath(__file__)), '..')
 MADE = '// Made by tools/to_rust.py of {0}. Do not edit.\n\n'
 # the head of each root file, and what stands at its end
 LIBRARY = ('#![cfg_attr(not(test), no_std)]\n#![forbid(unsafe_code)]\n\n#[cfg(not(test))]\nextern crate core as std;\n'
-           '#[cfg(test)]\nextern crate self as ixdtf;\n', '\n#[cfg(test)]\n#[macro_use]\nmod runtime;\n#[cfg(test)]\nmod tests;\n\n'
+           '#[cfg(test)]\nextern crate self as ixdtf;\n', '\n#[cfg(test)]\n#[macro_use]\nmod runtime;\n#[cfg(test)]\nmod callers;\n#[cfg(test)]\nmod tests;\n\n'
            '#[cfg(doctest)]\n#[doc = include_str!("../README.md")]\nstruct Readme;\n')
 PRINTER = ('#![no_std]\n#![forbid(unsafe_code)]\n\nextern crate core as std;\n', '')
 PROGRAM = ('#![forbid(unsafe_code)]\n', '')
@@ -62,9 +62,10 @@ class Crate:
 
 CRATES = [
     Crate('crates/ixdtf/src', 'rust/ixdtf/src', ['laws'], ends=LIBRARY),
+    Crate('crates/ixdtf_callers/src', 'rust/ixdtf/src', ['lib'], root='callers', tests=True),
     Crate('crates/ixdtf_tests/src', 'rust/ixdtf/src', ['lib', 'tests/laws', 'tests/printing'], root='tests', tests=True),
     Crate('crates/ixdtf_print/src', 'rust/ixdtf_print/src', ends=PRINTER, above=True),
-    Crate('crates/ixdtf_lines/src', 'rust/ixdtf_lines/src', ['main', 'tests'], root='lines', ends=PROGRAM, above=True),
+    Crate('crates/ixdtf_lines/src', 'rust/ixdtf_lines/src', ['main', 'tests', 'tests/faults', 'tests/words'], root='lines', ends=PROGRAM, above=True),
 ]
 WRITTEN_BY_HAND = {'rust/ixdtf/src/runtime.rs', 'rust/ixdtf/src/tests/printing.rs', 'rust/ixdtf_lines/src/main.rs'}
 DERIVES = {'Clone', 'Copy', 'Debug', 'Default', 'PartialEq'}

@@ -2,7 +2,6 @@
 
 mod again;
 mod brackets;
-mod calling;
 mod dates;
 mod durations;
 mod encodings;
@@ -22,7 +21,6 @@ mod records;
 mod refused;
 mod replies;
 mod replies_in_parts;
-mod surface;
 mod times;
 mod wide;
 mod wide_refused;

@@ -51,6 +51,8 @@ pub type ParserResult<T> = Result<T, ParseError>;
 #[macro_use]
 mod runtime;
 #[cfg(test)]
+mod callers;
+#[cfg(test)]
 mod tests;
 
 #[cfg(doctest)]

@@ -7,7 +7,6 @@ use crate::runtime::{HostRuntime, TryClone};
 
 mod again;
 mod brackets;
-mod calling;
 mod dates;
 mod durations;
 mod encodings;
@@ -26,7 +25,6 @@ mod records;
 mod refused;
 mod replies;
 mod replies_in_parts;
-mod surface;
 mod times;
 mod wide;
 mod wide_refused;

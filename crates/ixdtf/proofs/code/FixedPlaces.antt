@@ -344,35 +344,43 @@ date_time_at_place text found e =
 -- ---- nothing is missed
 
 -- two digits and four, as letters, and the numbers that they are
-two_are : (text : Text) (h : digits 2 text) → text ≡ Plain h.0 ∷ Plain h.4.0 ∷ []
+abbrev two_letters : (text : Text) → digits 2 text → Text
+two_letters text h = Plain h.0 ∷ Plain h.4.0 ∷ []
+
+abbrev four_letters : (text : Text) → digits 4 text → Text
+four_letters text h = Plain h.0 ∷ Plain h.4.0 ∷ Plain h.4.4.0 ∷ Plain h.4.4.4.0 ∷ []
+
+two_are : (text : Text) (h : digits 2 text) → text ≡ two_letters text h
 two_are text h = rw (h.2, h.4.2, h.4.4) refl
 
-four_are : (text : Text) (h : digits 4 text) → text ≡ Plain h.0 ∷ Plain h.4.0 ∷ Plain h.4.4.0 ∷ Plain h.4.4.4.0 ∷ []
+four_are : (text : Text) (h : digits 4 text) → text ≡ four_letters text h
 four_are text h = rw (h.2, h.4.2, h.4.4.2, h.4.4.4.2, h.4.4.4.4) refl
 
-number_of : (text : Text) (n : ℕ) (h : TwoDigits text n) → decimal (Plain h.0.0 ∷ Plain h.0.4.0 ∷ []) ≡ n
+number_of : (text : Text) (n : ℕ) (h : TwoDigits text n) → decimal (two_letters text h.0) ≡ n
 number_of text n h = ap decimal (sym (two_are text h.0)) ∙ sym h.1
 
-year_of : (text : Text) (year : ℤ) (h : FourDigitYear text year) → pos (decimal (Plain h.0.0 ∷ Plain h.0.4.0 ∷ Plain h.0.4.4.0 ∷ Plain h.0.4.4.4.0 ∷ [])) ≡ year
+year_of : (text : Text) (year : ℤ) (h : FourDigitYear text year) → pos (decimal (four_letters text h.0)) ≡ year
 year_of text year h = ap (λ t. pos (decimal t)) (sym (four_are text h.0)) ∙ sym h.1
 
-module _ (a b c d m n p q s h i j k u v : ℕ) (rest : Text) where
+module _ {years months days hours minutes seconds : Text} (y : digits 4 years) (m : digits 2 months) (d : digits 2 days) (separator : ℕ)
+    (h : digits 2 hours) (n : digits 2 minutes) (x : digits 2 seconds) (rest : Text) where
   abbrev date_there : DateRecord
-  date_there = date_of (pos (decimal (Plain a ∷ Plain b ∷ Plain c ∷ Plain d ∷ []))) (decimal (Plain m ∷ Plain n ∷ [])) (decimal (Plain p ∷ Plain q ∷ []))
+  date_there = date_of (pos (decimal (four_letters years y))) (decimal (two_letters months m)) (decimal (two_letters days d))
 
   abbrev time_there : TimeRecord
-  time_there = time_of (decimal (Plain h ∷ Plain i ∷ [])) (decimal (Plain j ∷ Plain k ∷ [])) (decimal (Plain u ∷ Plain v ∷ [])) None
+  time_there = time_of (decimal (two_letters hours h)) (decimal (two_letters minutes n)) (decimal (two_letters seconds x)) None
 
   abbrev text_there : Text
-  text_there = Plain a ∷ Plain b ∷ Plain c ∷ Plain d ∷ Plain 45 ∷ Plain m ∷ Plain n ∷ Plain 45 ∷ Plain p ∷ Plain q
-      ∷ Plain s ∷ Plain h ∷ Plain i ∷ Plain 58 ∷ Plain j ∷ Plain k ∷ Plain 58 ∷ Plain u ∷ Plain v ∷ rest
+  text_there = four_letters years y ++ (Plain 45 ∷ (two_letters months m ++ (Plain 45 ∷ (two_letters days d
+      ++ (Plain separator ∷ (two_letters hours h ++ (Plain 58 ∷ (two_letters minutes n ++ (Plain 58 ∷ (two_letters seconds x ++ rest))))))))))
 
-  there : IsTrue (digit a) → IsTrue (digit b) → IsTrue (digit c) → IsTrue (digit d) → IsTrue (digit m) → IsTrue (digit n) → IsTrue (digit p) → IsTrue (digit q)
-      → IsTrue (date_time_separator s) → IsTrue (digit h) → IsTrue (digit i) → IsTrue (digit j) → IsTrue (digit k) → IsTrue (digit u) → IsTrue (digit v)
-      → IsTrue (date_in_range date_there) → IsTrue (time_in_range time_there) → date_time_place text_there ≡ Some (date_there, time_there)
+  -- the digits of a date and of a time, with the marks between them, are found at their places
+  there : IsTrue (date_time_separator separator) → IsTrue (date_in_range date_there) → IsTrue (time_in_range time_there)
+      → date_time_place text_there ≡ Some (date_there, time_there)
   unfolding date_time_place date_place year_place days_place time_place number_place
-  there ea eb ec ed em en ep eq es eh ei ej ek eu ev in_date in_time =
-      rw (ea, eb, ec, ed, em, en, ep, eq, es, eh, ei, ej, ek, eu, ev, year_is a b c d, in_date, in_time) refl
+  there separates in_date in_time =
+      let year = year_is y.0 y.4.0 y.4.4.0 y.4.4.4.0 in
+      rw (y.3, y.4.3, y.4.4.3, y.4.4.4.3, m.3, m.4.3, d.3, d.4.3, separates, h.3, h.4.3, n.3, n.4.3, x.3, x.4.3, year, in_date, in_time) refl
 
 same_date : (date : DateRecord) (year : ℤ) (month day : ℕ) → year ≡ date.year → month ≡ date.month → day ≡ date.day → date_of year month day ≡ date
 same_date date year month day y m d = λ i. record { year = y i; month = m i; day = d i }
@@ -395,7 +403,7 @@ date_time_stands text date time rest f =
     let h = t.hour.0 in
     let n = t.minute.0 in
     let x = t.second.0 in
-    let whole : text ≡ text_there y.0 y.4.0 y.4.4.0 y.4.4.4.0 m.0 m.4.0 d.0 d.4.0 f.separator h.0 h.4.0 n.0 n.4.0 x.0 x.4.0 rest =
+    let whole : text ≡ text_there y m d f.separator h n x rest =
     f.is ∙ rw (f.is_date.is, t.is, four_are _ y, two_are _ m, two_are _ d, two_are _ h, two_are _ n, two_are _ x) refl in
     let is_date = same_date date _ _ _ (year_of _ _ f.is_date.year) (number_of _ _ f.is_date.month.0) (number_of _ _ f.is_date.day) in
     let is_time = same_time time _ _ _ (number_of _ _ (h, t.hour.1)) (number_of _ _ (n, t.minute.1)) (number_of _ _ (x, t.second.1)) (sym t.no_fraction) in
@@ -403,7 +411,7 @@ date_time_stands text date time rest f =
     let in_time = subst (λ r. IsTrue (time_in_range r)) (sym is_time) (
     and_from _ _ (and_from _ _ (le-leb _ 23 t.hour.2) (le-leb _ 59 t.minute.2)) (le-leb _ 60 t.second.2)) in
     ap date_time_place whole
-    ∙ there _ _ _ _ _ _ _ _ _ _ _ _ _ _ _ rest y.3 y.4.3 y.4.4.3 y.4.4.4.3 m.3 m.4.3 d.3 d.4.3 f.separates h.3 h.4.3 n.3 n.4.3 x.3 x.4.3 in_date in_time
+    ∙ there y m d f.separator h n x rest f.separates in_date in_time
     ∙ (λ i. Some (is_date i, is_time i))
 
 -- ---- what is found is read

@@ -1,5 +1,5 @@
 -- The letters of a text and the units of a text.
-use Rattle.std.proofs.Common.{◌≡◌, ℕ, List, [], ◌∷◌, map, Some, refl}
+use Rattle.std.proofs.Common.{◌≡◌, ℕ, ◌+◌, List, [], ◌∷◌, map, length, drop, Some, Ok, refl, arith}
 use Rattle.std.proofs.lemmas.Option.{slice_get-map}
 use Rattle.ixdtf.specs.language.Letters.{Letter}
 use Rattle.ixdtf.specs.language.Letters.Letter.{Plain, Bad}
@@ -24,3 +24,10 @@ first_look letter (unit ∷ units) = go (letter unit)
     go : (l : Letter) → look_at NonAsciiCodePoint (l ∷ map letter units) ≡ looked (Some l)
     go (Plain n) = refl
     go Bad = refl
+
+-- where a letter is seen there is a unit, and a step takes it off
+pub stepped : (letter : ℕ → Letter) (units : List ℕ) (c : ℕ) → look_at NonAsciiCodePoint (map letter units) ≡ Ok (Some c)
+    → length (drop 1 units) + 1 ≡ length units
+unfolding look_at
+stepped letter [] c e = absurd cc
+stepped letter (unit ∷ units) c e = omega arith

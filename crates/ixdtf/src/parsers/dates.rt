@@ -130,7 +130,7 @@ fn parse_extended_year<'a, T: EncodingType>(
 ) -> Result<i32, Stop>
     ensures year { Reads T.letter (λ year. year) cursor.old result cursor.new
         (extended_year_at error_of sign) }
-    ensures looks { SpendsInAll 1 6 cursor.old cursor.new }
+    ensures looks { SpendsInAll 2 6 cursor.old cursor.new }
 {
     let mut here = cursor.take();
     let read = parse_signed_year(&mut here, sign);
@@ -143,7 +143,7 @@ fn parse_extended_year<'a, T: EncodingType>(
 fn parse_signed_year<'a, T: EncodingType>(cursor: &mut Cursor<'a, T>, sign: u8) -> Result<i32, Stop>
     ensures year { Reads T.letter (λ year. year) cursor.old result cursor.new
         (extended_year_at error_of sign) }
-    ensures looks { SpendsInAll 1 6 cursor.old cursor.new }
+    ensures looks { SpendsInAll 2 6 cursor.old cursor.new }
 {
     let value = parse_six_digits(cursor)?;
     if !is_hyphen(sign) {
@@ -155,18 +155,32 @@ fn parse_signed_year<'a, T: EncodingType>(cursor: &mut Cursor<'a, T>, sign: u8) 
     Ok(-(value as i32))
 }
 
-/// Reads six digits, and returns their number.
+/// Reads six digits, two by two, and returns their number.
 #[inline(always)]
 #[tactic(auto, using(crate::proofs::code::YearDigits::six_digits))]
 fn parse_six_digits<'a, T: EncodingType>(cursor: &mut Cursor<'a, T>) -> Result<u32, Stop>
     ensures number { Reads T.letter (λ number. number) cursor.old result cursor.new
         (λ text. number_of (digits_by (digit_look DateExtendedYear) 6 text)) }
     ensures small { IfOk result (λ number. number < 1000000) }
-    ensures looks { SpendsInAll 1 6 cursor.old cursor.new }
+    ensures looks { SpendsInAll 2 6 cursor.old cursor.new }
 {
-    let thousands = parse_three_digits(cursor, Stop::DateExtendedYear)?;
-    let ones = parse_three_digits(cursor, Stop::DateExtendedYear)?;
-    Ok(1000 * thousands + ones)
+    let high = parse_year_pair(cursor)?;
+    let middle = parse_year_pair(cursor)?;
+    let low = parse_year_pair(cursor)?;
+    Ok(10_000 * u32::from(high) + 100 * u32::from(middle) + u32::from(low))
+}
+
+/// Reads two of the six digits of a year, and returns their number.
+#[inline(always)]
+fn parse_year_pair<'a, T: EncodingType>(cursor: &mut Cursor<'a, T>) -> Result<u8, Stop>
+    ensures number { Reads T.letter (λ number. number) cursor.old result cursor.new
+        (λ text. number_of (digits_by (digit_look DateExtendedYear) 2 text)) }
+    ensures small { IfOk result (λ number. number < 100) }
+    ensures looks { SpendsOr 2 0 cursor.old result cursor.new }
+    ensures few { cursor.new.looks ≤ cursor.old.looks + 2 }
+{
+    let (tens, ones) = cursor.two_digits(Stop::DateExtendedYear)?;
+    Ok(digits_value(tens, ones))
 }
 
 /// Reads three digits, and returns their number. Another letter is this stop.

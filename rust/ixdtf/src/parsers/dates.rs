@@ -109,12 +109,20 @@ fn parse_signed_year<'a, T: EncodingType>(cursor: &mut Cursor<'a, T>, sign: u8) 
     Ok(-(value as i32))
 }
 
-/// Reads six digits, and returns their number.
+/// Reads six digits, two by two, and returns their number.
 #[inline(always)]
 fn parse_six_digits<'a, T: EncodingType>(cursor: &mut Cursor<'a, T>) -> Result<u32, Stop> {
-    let thousands = parse_three_digits(cursor, Stop::DateExtendedYear)?;
-    let ones = parse_three_digits(cursor, Stop::DateExtendedYear)?;
-    Ok(1000 * thousands + ones)
+    let high = parse_year_pair(cursor)?;
+    let middle = parse_year_pair(cursor)?;
+    let low = parse_year_pair(cursor)?;
+    Ok(10_000 * u32::from(high) + 100 * u32::from(middle) + u32::from(low))
+}
+
+/// Reads two of the six digits of a year, and returns their number.
+#[inline(always)]
+fn parse_year_pair<'a, T: EncodingType>(cursor: &mut Cursor<'a, T>) -> Result<u8, Stop> {
+    let (tens, ones) = cursor.two_digits(Stop::DateExtendedYear)?;
+    Ok(digits_value(tens, ones))
 }
 
 /// Reads three digits, and returns their number. Another letter is this stop.

@@ -3,7 +3,6 @@
 
 #[allow(unused_imports)]
 use crate::runtime::{HostRuntime, TryClone};
-use super::calling::calendar_or;
 use super::{dated, morning, short};
 use ixdtf::encoding::Utf8;
 use ixdtf::parsers::IxdtfParser;
@@ -75,22 +74,6 @@ fn keeps_pairs_that_it_refused() {
     assert_eq!(rt; first, Err(ParseError::UnrecognizedCritical));
     let second = parser.parse_with_annotation_handler(|_annotation| None);
     assert_eq!(rt; second, Ok(dated(2020, 1, 1, None)));
-}
-
-#[test]
-fn takes_the_handler_of_a_caller() {
-    let rt = HostRuntime;
-    let mut calls = 0u32;
-    let found = calendar_or::<ParseError, _>("2020-01-01[u-ca=a][!c=d]", |annotation| {
-        calls = calls.saturating_add(1);
-        if annotation.critical {
-            None
-        } else {
-            Some(annotation)
-        }
-    });
-    assert_eq!(rt; found, Ok(Some(b"a".as_slice())));
-    assert_eq!(rt; calls, 2);
 }
 
 // The date of a text whose annotations are all passed over, as a result of the crate.

@@ -412,10 +412,7 @@ impl From<ParseError> for Refused {
 }
 
 // With an error of the caller's choice.
-pub(super) fn calendar_or<'a, E: From<ParseError>, F>(
-    text: &'a str,
-    handler: F,
-) -> Result<Option<&'a [u8]>, E>
+fn calendar_or<'a, E: From<ParseError>, F>(text: &'a str, handler: F) -> Result<Option<&'a [u8]>, E>
 where
     F: FnMut(Annotation<'a, Utf8>) -> Option<Annotation<'a, Utf8>>,
     requires callable { F.IsAlwaysCallable handler }
@@ -521,4 +518,19 @@ fn year_of(text: &str) -> Option<i32>
 fn names_the_year(rt: HostRuntime) {
     assert_eq!(rt; year_of("-000400-02-29"), Some(-400));
     assert_eq!(rt; year_of("-000100-02-29"), None);
+}
+
+#[test]
+fn takes_the_handler_of_a_caller(rt: HostRuntime) {
+    let mut calls = 0u32;
+    let found = calendar_or::<ParseError, _>("2020-01-01[u-ca=a][!c=d]", |annotation| {
+        calls = calls.saturating_add(1);
+        if annotation.critical {
+            None
+        } else {
+            Some(annotation)
+        }
+    });
+    assert_eq!(rt; found, Ok(Some(b"a".as_slice())));
+    assert_eq!(rt; calls, 2);
 }

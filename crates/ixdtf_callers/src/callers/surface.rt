@@ -1,10 +1,5 @@
-// Made by tools/to_rust.py of crates/ixdtf_tests/src/tests/surface.rt. Do not edit.
-
 //! Every public item of `ixdtf` by its name, with its fields, variants and traits, so that a missing one does not compile.
-//! The variants of `ParseError` are named in `errors.rt`, and the laws in `laws.rt`.
-
-#[allow(unused_imports)]
-use crate::runtime::{HostRuntime, TryClone};
+//! The variants of `ParseError` are named in `errors.rt` of `ixdtf_tests`, and the laws in `laws.rt` there.
 
 use ixdtf::encoding::{EncodingType, Utf8, Utf16};
 use ixdtf::parsers::{IsoDurationParser, IxdtfParser, Profile, TimeZoneParser};
@@ -100,8 +95,7 @@ fn nanoseconds_of(offset: UtcOffsetRecord) -> Option<(Option<u32>, u32)> {
 }
 
 #[test]
-fn has_every_call() {
-    let rt = HostRuntime;
+fn has_every_call(rt: HostRuntime) {
     assert!(rt; sees_nothing::<Utf8>(&[]) && sees_nothing::<Utf16>(&[]));
     assert!(rt; has_parts(UtcOffsetRecord::zero(), MinutePrecisionOffset::zero()));
     let sign = Sign::from(false);
@@ -121,8 +115,7 @@ fn has_every_call() {
 }
 
 #[test]
-fn makes_every_parser_of_dates() {
-    let rt = HostRuntime;
+fn makes_every_parser_of_dates(rt: HostRuntime) {
     let empty: [u16; 0] = [];
     let units: IxdtfParser<'_, Utf8> = IxdtfParser::new(b"2020-01-01");
     let bytes = IxdtfParser::from_utf8(b"2020-01");
@@ -145,8 +138,7 @@ fn has_the_readers_of_dates(
 }
 
 #[test]
-fn has_every_reader_with_a_handler() {
-    let rt = HostRuntime;
+fn has_every_reader_with_a_handler(rt: HostRuntime) {
     let mut date = IxdtfParser::from_str("2020-01-01");
     let first = date.parse_with_annotation_handler(|_annotation| None);
     assert!(rt; first.is_ok());
@@ -156,8 +148,7 @@ fn has_every_reader_with_a_handler() {
 }
 
 #[test]
-fn has_every_further_reader_with_a_handler() {
-    let rt = HostRuntime;
+fn has_every_further_reader_with_a_handler(rt: HostRuntime) {
     let mut month_day = IxdtfParser::from_str("01-01");
     let third = month_day.parse_month_day_with_annotation_handler(|_annotation| None);
     assert!(rt; third.is_ok());
@@ -167,8 +158,7 @@ fn has_every_further_reader_with_a_handler() {
 }
 
 #[test]
-fn has_every_reader_of_zones() {
-    let rt = HostRuntime;
+fn has_every_reader_of_zones(rt: HostRuntime) {
     let empty: [u16; 0] = [];
     let mut zone: TimeZoneParser<'_, Utf8> = TimeZoneParser::new(b"UTC");
     let name = zone.parse_iana_identifier();
@@ -215,8 +205,7 @@ fn fullest_record() -> IxdtfParseRecord<'static, Utf8> {
 }
 
 #[test]
-fn has_every_field() {
-    let rt = HostRuntime;
+fn has_every_field(rt: HostRuntime) {
     let text = "0001-02-03T04:05:06+07:08:09[!+07:08][u-ca=iso8601]";
     let found = IxdtfParser::from_str(text).parse();
     assert_eq!(rt; found, Ok(fullest_record()));
@@ -230,8 +219,7 @@ fn has_every_field() {
 
 // Whether the variants of an offset and of a zone are there, and differ.
 #[test]
-fn has_every_variant() {
-    let rt = HostRuntime;
+fn has_every_variant(rt: HostRuntime) {
     let zero = MinutePrecisionOffset::zero();
     let offset = UtcOffsetRecordOrZ::Offset(UtcOffsetRecord::MinutePrecision(zero));
     assert_ne!(rt; offset, UtcOffsetRecordOrZ::Z);
@@ -269,8 +257,7 @@ fn longest_duration() -> DurationParseRecord {
 }
 
 #[test]
-fn has_the_reader_of_durations() {
-    let rt = HostRuntime;
+fn has_the_reader_of_durations(rt: HostRuntime) {
     let empty: [u16; 0] = [];
     let mut text: IsoDurationParser<'_, Utf8> = IsoDurationParser::new(b"-P1Y2M3W4DT5H6M7S");
     let longest = text.parse();

@@ -1,7 +1,7 @@
 use Rattle.std.proofs.Common.{refl}
 use Rattle.ixdtf.specs.language.Languages.Found.{parsed}
 use Rattle.ixdtf.specs.Views.{parsed_of}
-use Rattle.ixdtf_tests.proofs.tests.calling.year_of.Goals as goal
+use Rattle.ixdtf_callers.proofs.callers.calling.year_of.Goals as goal
 
 -- `ok` of `parse`, read from the left to the right, gives the record that the text derives, and its pairs
 pub returns-in-Some : goal.returns-in-Some

@@ -1,0 +1,4 @@
+//! Code that calls the readers, as a repository above this one has it.
+
+mod calling;
+mod surface;
