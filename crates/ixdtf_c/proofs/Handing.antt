@@ -74,7 +74,8 @@ module _ {T U F : Type 0} (number : U → ℕ) (step : Step T U F) (handler : F)
       calls = more_calls;
       chain = more_chain;
       asked = more_handed ∙ sym is;
-      accepted = rw more_replies (NoneRefused-more (replies_of number so_far.calls) (option_map (pair_of number) reply) so_far.accepted (λ fault. rw (← so_far.first) (over.accepted zeroed fault)));
+      accepted = rw more_replies (NoneRefused-more (replies_of number so_far.calls) (option_map (pair_of number) reply) so_far.accepted
+          (λ fault. rw (← so_far.first) (over.accepted zeroed fault)));
       first = over.kept zeroed ∙ ap (λ c. option_or c (first_calendar (option_map (pair_of number) reply ∷ []))) so_far.first
           ∙ sym (first_calendar-more (replies_of number so_far.calls) (option_map (pair_of number) reply)) ∙ ap first_calendar (sym more_replies);
     }
@@ -131,13 +132,15 @@ kept_read number location old true critical value zeroed = rw zeroed refl
 kept_read number location old false critical value zeroed = rw zeroed refl
 
 -- where the annotations were listed with room for all, and the handler was asked about them in turn, this is what a form with a handler says
-pub handled_in_turn : {T U F A : Type 0} {number : U → ℕ} {step : Step T U F} {handler last : F} {view : A → Pair} {profile : Profile} {kind : CoreKind} {text : Text}
+pub handled_in_turn : {T U F A : Type 0} {number : U → ℕ} {step : Step T U F} {handler last : F} {view : A → Pair} {profile : Profile} {kind : CoreKind}
+    {text : Text}
     {old new : List A} {count result : ℕ} {listed outcome : Result Parsed Fault} {kept : Option Pair}
     → Lists view profile (bracketed kind) text old new count listed → count ≤ length old
     → InTurn number step handler last (map view (take count new)) kept result
     → (result ≡ 0 → outcome ≡ with_kept kept listed) → (result ≢ 0 → outcome ≡ Err (fault_by result []))
     → Handled number step handler (bracketed kind) text outcome
-handled_in_turn {T} {U} {F} {A} {number} {step} {handler} {last} {view} {profile} {kind} {text} {old} {new} {count} {result} {listed} {outcome} {kept} listing room turns whole stopped =
+handled_in_turn {T} {U} {F} {A} {number} {step} {handler} {last} {view} {profile} {kind} {text} {old} {new} {count} {result} {listed} {outcome}
+    {kept} listing room turns whole stopped =
     handled_by number step handler (bracketed kind) text outcome last record { calls = turns.calls; chain = turns.chain; gives = gives (zero_or_not result) }
   where
     shown : map view (take count new) ≡ map view listing.annotations
@@ -160,4 +163,7 @@ handled_in_turn {T} {U} {F} {A} {number} {step} {handler} {last} {view} {profile
           ap length none,
           length-append (handed number turns.calls) behind,
         ) in
-        rw (stopped refused) (inl (front_of profile kind text (map view listing.annotations) listed (handed number turns.calls) behind listing.read split some, stop))
+        rw (stopped refused) (inl (
+          front_of profile kind text (map view listing.annotations) listed (handed number turns.calls) behind listing.read split some,
+          stop,
+        ))

@@ -26,7 +26,8 @@ overwritten-none [] = refl
 overwritten-none (slot ∷ slots) = refl
 
 -- one more item
-overwritten-more : {A : Type 0} (slots items : List A) (item : A) → slice_set (overwritten slots items) (length items) item ≡ overwritten slots (items ++ (item ∷ []))
+overwritten-more : {A : Type 0} (slots items : List A) (item : A)
+    → slice_set (overwritten slots items) (length items) item ≡ overwritten slots (items ++ (item ∷ []))
 overwritten-more [] [] item = refl
 overwritten-more [] (first ∷ items) item = refl
 overwritten-more (slot ∷ slots) [] item = ap (λ rest. item ∷ rest) (sym (overwritten-none slots))
@@ -91,19 +92,20 @@ module _ (kind : CoreKind) (text : Text) where
       → ((fault : Fault) → outcome ≡ Err fault → GivesFault (bracketed kind) text pairs (nones calls) fault)
       → OnOk outcome (NoRowFits (bracketed kind) text) → OnOk outcome (InNoOther profile (bracketed kind) text)
       → PassesOver profile (bracketed kind) text pairs outcome
-  passes_over profile calls pairs outcome ok err no_row alone = let fault_of_text : (fault : Fault) → outcome ≡ Err fault → HasFault (bracketed kind) text pairs fault = λ fault is. elim (err fault is) [
-    | inl p ↦ absurd (nones_not_last calls fault p.1)
-    | inr p ↦ p.0
-  ] in record {
-    ok = λ found. (
-      (λ is. given calls pairs found ((ok found).0 is)),
-      λ whole. (ok found).1 (gives calls pairs found whole),
-    );
-    err = fault_of_text;
-    no_row = no_row;
-    alone = alone;
-    only = λ fault is. only_fault (bracketed kind) text pairs fault (fault_of_text fault is);
-  }
+  passes_over profile calls pairs outcome ok err no_row alone = let fault_of_text : (fault : Fault) → outcome ≡ Err fault
+      → HasFault (bracketed kind) text pairs fault = λ fault is. elim (err fault is) [
+        | inl p ↦ absurd (nones_not_last calls fault p.1)
+        | inr p ↦ p.0
+      ] in record {
+        ok = λ found. (
+          (λ is. given calls pairs found ((ok found).0 is)),
+          λ whole. (ok found).1 (gives calls pairs found whole),
+        );
+        err = fault_of_text;
+        no_row = no_row;
+        alone = alone;
+        only = λ fault is. only_fault (bracketed kind) text pairs fault (fault_of_text fault is);
+      }
 
   -- no more pairs than letters
   few : {A : Type 0} (calls : List A) (pairs : List Pair) (outcome : Result Parsed Fault)
@@ -114,7 +116,8 @@ module _ (kind : CoreKind) (text : Text) where
   few calls pairs (Err fault) ok err = gives_few kind text pairs (nones calls) fault (err fault refl)
 
 -- what a listing says of slots and a count that are what it left
-pub lists_left : {A : Type 0} {view : A → Pair} {profile : Profile} {reader : Reader} {text : Text} {old new slots : List A} {count number : ℕ} {outcome : Result Parsed Fault}
+pub lists_left : {A : Type 0} {view : A → Pair} {profile : Profile} {reader : Reader} {text : Text} {old new slots : List A} {count number : ℕ}
+    {outcome : Result Parsed Fault}
     → slots ≡ new → number ≡ count → Lists view profile reader text old new count outcome → Lists view profile reader text old slots number outcome
 lists_left same as_many listing = rw (same, as_many) listing
 
@@ -188,7 +191,8 @@ module _ {T A F : Type 0} (step : Step T ℕ F) (count : F → ℕ) (slots : F �
       let err : (fault : Fault) → outcome ≡ Err fault → GivesFault (bracketed kind) text pairs (nones h.calls) fault =
       λ fault is. rw (← none) (h.err fault is) in
       let shorter : length pairs ≤ length text = few kind text h.calls pairs outcome ok err in
-      let all = listed (slots state) h.calls state last h.chain [] zero (sym (overwritten-none (slots state))) (omega (arith, items_length item h.calls, shorter, fits)) in
+      let all = listed (slots state) h.calls state last h.chain [] zero (sym (overwritten-none (slots state)))
+      (omega (arith, items_length item h.calls, shorter, fits)) in
       record {
         annotations = items item h.calls;
         counted = all.0;

@@ -53,8 +53,10 @@ module _ (listed outcome : Result Parsed Fault) where
   settled given (Some reply ∷ rest) kept none is (number, next, takes, on, stop) = elim (zero_or_not number) [
     | inl zeroed ↦
         let accepted : (fault : Fault) → ¬ (_) = λ fault h. takes.accepted.0 zeroed fault (rw is h) in
-        let same : next ≡ first_calendar (given ++ Some reply ∷ []) = takes.kept zeroed ∙ ap (λ first. option_or first (first_calendar (Some reply ∷ []))) is ∙ sym (first_calendar-more given (Some reply)) in
-        rw (← (append_assoc given (Some reply ∷ []) rest)) (settled (given ++ Some reply ∷ []) rest next (NoneRefused-more given (Some reply) none accepted) same (on zeroed))
+        let same : next ≡ first_calendar (given ++ Some reply ∷ []) = takes.kept zeroed ∙ ap (λ first. option_or first (first_calendar (Some reply ∷ []))) is
+        ∙ sym (first_calendar-more given (Some reply)) in
+        rw (← (append_assoc given (Some reply ∷ []) rest)) (settled (given ++ Some reply ∷ []) rest next
+        (NoneRefused-more given (Some reply) none accepted) same (on zeroed))
     | inr refused ↦
         inr (
           given ++ Some reply ∷ [],
@@ -62,7 +64,14 @@ module _ (listed outcome : Result Parsed Fault) where
           sym (append_assoc given (Some reply ∷ []) rest),
           fault_by number [],
           stop refused,
-          record { earlier = given; reply = Some reply; split = refl; none = none; refused = rw (← is) ((takes.refused (fault_by number [])).0 (refused, refl)) },
+          record {
+            earlier = given;
+            reply = Some reply;
+            split = refl;
+            none = none;
+            refused =
+                rw (← is) ((takes.refused (fault_by number [])).0 (refused, refl));
+          },
         )
   ]
 
@@ -155,11 +164,13 @@ replying_gives view profile kind text pairs replies outcome h =
     rw (listing.counted, listing.written) (overwritten-front h.old listing.annotations (rw (← listing.counted) h.room)) in
     let is : pairs ≡ map view listing.annotations = h.all ∙ ap (map view) shown in
     let each : length replies ≡ length pairs = h.each ∙ listing.counted ∙ sym (length-map listing.annotations view) ∙ sym (ap length is) in
-    gives profile kind text pairs h.listed outcome replies (rw is listing.read) each (settled h.listed outcome [] replies None NoneRefused-nothing refl h.replied)
+    gives profile kind text pairs h.listed outcome replies (rw is listing.read) each
+    (settled h.listed outcome [] replies None NoneRefused-nothing refl h.replied)
 
 -- what a form with a handler says of its chain of calls
 handled_gives : {T U F : Type 0} (number : U → ℕ) (step : Step T U F) (handler : F) (kind : CoreKind) (text : Text) (result : Result Parsed Fault)
-    (h : Handled number step handler (bracketed kind) text result) → GivesResult (bracketed kind) text (handed number h.calls) (replies_of number h.calls) result
+    (h : Handled number step handler (bracketed kind) text result)
+    → GivesResult (bracketed kind) text (handed number h.calls) (replies_of number h.calls) result
 handled_gives number step handler kind text (Ok found) h = (h.ok found).0 refl
 handled_gives number step handler kind text (Err fault) h = h.err fault refl
 
@@ -168,6 +179,7 @@ replying_is_handling view number step profile kind text pairs replies outcome h 
     let (asked, given, first, begins, same, gives) = replying_gives view profile kind text pairs replies outcome h in
     let lengths : length (replies_of number handled.calls) ≡ length (handed number handled.calls) =
     length-map handled.calls _ ∙ sym (length-map handled.calls _) in
-    let one = same_chain kind text replies asked (handed number handled.calls) given (replies_of number handled.calls) outcome result begins front same lengths gives
+    let one = same_chain kind text replies asked (handed number handled.calls) given
+    (replies_of number handled.calls) outcome result begins front same lengths gives
     (handled_gives number step handler kind text result handled) in
     (one.1, rw (← one.0) first)

@@ -90,7 +90,8 @@ faults_at location =
     InvalidDayRange ∷ DateYear ∷ DateExtendedYear ∷ DateMonth ∷ DateDay ∷ DateUnexpectedEnd ∷
     TimeRequired ∷ TimeHour ∷ TimeMinuteSecond ∷ TimeSecond ∷ FractionPart ∷ DateSeparator ∷
     TimeSeparator ∷ DecimalSeparator ∷ InvalidAnnotation ∷ AnnotationOpen ∷ AnnotationClose ∷ AnnotationChar ∷
-    AnnotationKeyValueSeparator ∷ AnnotationKeyLeadingChar ∷ AnnotationKeyChar ∷ AnnotationValueCharPostHyphen ∷ AnnotationValueChar ∷ InvalidMinutePrecisionOffset ∷
+    AnnotationKeyValueSeparator ∷ AnnotationKeyLeadingChar ∷ AnnotationKeyChar ∷ AnnotationValueCharPostHyphen ∷
+    AnnotationValueChar ∷ InvalidMinutePrecisionOffset ∷
     CriticalDuplicateCalendar ∷ UnrecognizedCritical ∷ TzLeadingChar ∷ IanaCharPostSeparator ∷ IanaChar ∷ UtcTimeSeparator ∷
     OffsetNeedsSign ∷ MonthDayHyphen ∷ DurationDisgnator ∷ DurationValueExceededRange ∷ DateDurationPartOrder ∷ TimeDurationPartOrder ∷
     TimeDurationDesignator ∷ AmbiguousTimeMonthDay ∷ AmbiguousTimeYearMonth ∷ InvalidMonthDay ∷ []

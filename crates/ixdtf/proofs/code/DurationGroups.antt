@@ -116,7 +116,8 @@ module _ (profile : Profile) (values : List ℕ) (least : ℕ) (dates : List Gro
   pub date_added : (r : ℕ) → date_rank_from least n ≡ Ok r
       → (date_read profile dates n ≡ Ok tt) × HasDates profile (slice_set values r n.value) (r + least_step profile) (date_group_of n ∷ dates)
   date_added r is =
-      let p = three_hold (designator date n.next) (nat_le least (rank (unit_of date n.next))) (nat_le n.value (greatest (unit_of date n.next))) (rank (unit_of date n.next)) r abrupt_date_designator DateDurationPartOrder DurationValueExceededRange is in
+      let p = three_hold (designator date n.next) (nat_le least (rank (unit_of date n.next))) (nat_le n.value (greatest (unit_of date n.next)))
+      (rank (unit_of date n.next)) r abrupt_date_designator DateDurationPartOrder DurationValueExceededRange is in
       let high : least ≤ place (unit_of date n.next) + 1 = rw (date_place n.next) (below _ _ p.1) in (
         rw (p.0, has.follows n.next, p.1, p.2) refl,
         record {
@@ -128,7 +129,9 @@ module _ (profile : Profile) (values : List ℕ) (least : ℕ) (dates : List Gro
 
   -- it may not
   pub date_refused : (e : Fault) → date_rank_from least n ≡ Err e → date_read profile dates n ≡ Err e
-  date_refused e is = rw (has.follows n.next) (three_fail (designator date n.next) (nat_le least (rank (unit_of date n.next))) (nat_le n.value (greatest (unit_of date n.next))) (rank (unit_of date n.next)) abrupt_date_designator DateDurationPartOrder DurationValueExceededRange e is)
+  date_refused e is = rw (has.follows n.next) (three_fail (designator date n.next) (nat_le least (rank (unit_of date n.next)))
+      (nat_le n.value (greatest (unit_of date n.next))) (rank (unit_of date n.next))
+      abrupt_date_designator DateDurationPartOrder DurationValueExceededRange e is)
 
 module _ (profile : Profile) (values : List ℕ) (least : ℕ) (times : List Group) (has : HasTimes profile values least times) (g : TimeGroup) where
   times_with : slice_set (time_numbers times) (rank (unit_of time g.letter)) g.value ≡ time_numbers (time_group_of g ∷ times)
@@ -145,7 +148,8 @@ module _ (profile : Profile) (values : List ℕ) (least : ℕ) (times : List Gro
       → (time_read profile times g ≡ Ok tt) × (r ≡ rank (unit_of time g.letter))
       × HasTimes profile (slice_set values r g.value) (r + least_step profile) (time_group_of g ∷ times)
   time_added r is =
-      let p = two_hold (designator time g.letter) (nat_le least (rank (unit_of time g.letter))) (rank (unit_of time g.letter)) r abrupt_time_designator TimeDurationPartOrder is in
+      let p = two_hold (designator time g.letter) (nat_le least (rank (unit_of time g.letter)))
+      (rank (unit_of time g.letter)) r abrupt_time_designator TimeDurationPartOrder is in
       let high : least ≤ rank (unit_of time g.letter) = below _ _ p.1 in (
         rw (p.0, has.follows g.letter, p.1) refl,
         sym p.2,
@@ -157,4 +161,5 @@ module _ (profile : Profile) (values : List ℕ) (least : ℕ) (times : List Gro
 
   -- it may not
   pub time_refused : (e : Fault) → time_rank_from least g.letter ≡ Err e → time_read profile times g ≡ Err e
-  time_refused e is = rw (has.follows g.letter) (two_fail (designator time g.letter) (nat_le least (rank (unit_of time g.letter))) (rank (unit_of time g.letter)) abrupt_time_designator TimeDurationPartOrder e is)
+  time_refused e is = rw (has.follows g.letter) (two_fail (designator time g.letter) (nat_le least (rank (unit_of time g.letter)))
+      (rank (unit_of time g.letter)) abrupt_time_designator TimeDurationPartOrder e is)

@@ -92,7 +92,8 @@ module _ (profile : Profile) (first : ℕ) (whole : Text) where
     pub dates_break : (fault : Fault) → look_at NonAsciiCodePoint rest ≡ Err fault → (s : Sign) → first_dates s ≡ Err fault
     dates_break fault bad s = far.leads s ∙ fails _ _ rest fault bad
 
-    module _ (letter : ℕ → Letter) (old : List ℕ) (is_whole : whole ≡ map letter old) (new : List ℕ) (found : DateDurationRecord) (is : IsDateRecord values found) where
+    module _ (letter : ℕ → Letter) (old : List ℕ) (is_whole : whole ≡ map letter old) (new : List ℕ) (found : DateDurationRecord)
+        (is : IsDateRecord values found) where
       record_is : date_duration (far.last ∷ far.earlier) ≡ Some found
       record_is = is far.last far.earlier far.has.numbers
 

@@ -1,6 +1,6 @@
 -- A year-month, and a month-day, at fixed places: what is found there is read so.
 use Rattle.std.proofs.Common.{subst, ◌≡◌, ℕ, suc, ◌+◌, ◌*◌, Bool, true, false, IsTrue, [], ◌∷◌, map, drop, Option}
-use Rattle.std.proofs.Common.{Some, None, Result, Ok, Err, refl, sym, ap, ◌∙◌, nat_le, ◌&&◌, if◌then◌else◌, pos, arith}
+use Rattle.std.proofs.Common.{Some, None, Result, Ok, Err, refl, sym, ap, ◌∙◌, nat_le, ◌&&◌, pos, arith}
 use Rattle.std.specs.Prelude.{IfSome}
 use Rattle.std.proofs.lemmas.Bool.{and_parts}
 use Rattle.ixdtf.specs.declared.parsers.profile.Profile.{Profile}
@@ -82,7 +82,8 @@ hyphened_month_is_read text year date years mark months =
     let whole : text ≡ Plain c.a ∷ Plain c.b ∷ Plain y.a ∷ Plain y.b ∷ Plain 45 ∷ Plain m.a ∷ Plain m.b ∷ drop 7 text =
     over_two c (over_two y (hyphens ∙ onto 45 (over_two m refl))) in
     ap (year_month_at error_of) whole
-    ∙ hyphened_letters_read c.a c.b y.a y.b m.a m.b (drop 7 text) c.is_a c.is_b y.is_a y.is_b m.is_a m.is_b (is_month (decimal (Plain m.a ∷ Plain m.b ∷ []))) refl
+    ∙ hyphened_letters_read c.a c.b y.a y.b m.a m.b (drop 7 text) c.is_a c.is_b y.is_a y.is_b m.is_a m.is_b
+    (is_month (decimal (Plain m.a ∷ Plain m.b ∷ []))) refl
     ∙ ap (λ d. ranged_month d (drop 7 text)) (year_month_of c.a c.b y.a y.b century rest month _ year date c.value y.value m.value is_year is_date)
 
 -- and so are a year and a month without a hyphen

@@ -70,7 +70,8 @@ module _ (c : ℕ) (text : Text) (offset : MinutePrecisionOffset) (found : offse
   -- its letters are read as those of an hour and a minute, where nothing goes on behind them
   is_read : (clock : Clock) → Closed clock colon_minutes (drop 5 text) → clock_at error_of clock text ≡ Ok ((colon_minutes, there.time), drop 5 text)
   is_read clock closed =
-      ap (clock_at error_of clock) there.is ∙ time_takes error_of clock _ (clock_starts error_of clock) colon_minutes there.letters there.time (drop 5 text) there.minutes closed
+      ap (clock_at error_of clock) there.is ∙ time_takes error_of clock _ (clock_starts error_of clock) colon_minutes there.letters there.time
+      (drop 5 text) there.minutes closed
 
   module _ (is : drop 5 text ≡ []) where
     pub ends_the_text : offset_alone_at error_of c text ≡ Ok (MinutePrecision offset, [])

@@ -476,7 +476,8 @@ basic_month_read y m n p q more em en ep eq =
     let month = decimal (Plain m ∷ Plain n ∷ []) in
     let test = nat_le 1 month && nat_le month 12 in
     let step = on_test test (month, Plain p ∷ Plain q ∷ more) InvalidMonthRange (λ x. day_at error_of y (x.0, false) x.1) in
-    rw (em, digit_no_hyphen m em, digit_no_hyphen m em, em, en) (in_turn (if test then Ok (month, Plain p ∷ Plain q ∷ more) else Err InvalidMonthRange) (λ x. Ok ((x.0, false), x.1))
+    rw (em, digit_no_hyphen m em, digit_no_hyphen m em, em, en)
+    (in_turn (if test then Ok (month, Plain p ∷ Plain q ∷ more) else Err InvalidMonthRange) (λ x. Ok ((x.0, false), x.1))
     (λ x. day_at error_of y x.0 x.1) ∙ step ∙ rw (basic_day_read y month p q more ep eq) refl)
 
 basic_read : (a b c d m n p q : ℕ) (more : Text) → IsTrue (digit a) → IsTrue (digit b) → IsTrue (digit c) → IsTrue (digit d) → IsTrue (digit m)

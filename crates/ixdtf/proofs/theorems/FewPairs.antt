@@ -69,7 +69,8 @@ before_few kind (of_pair after_value_hyphen) pairs before rest p = key_few kind 
 before_few kind (of_duration profile line) pairs before rest p = absurd p
 
 fault_few : (kind : CoreKind) (text : Text) (pairs : List Pair) (fault : Fault) → HasFault (bracketed kind) text pairs fault → length pairs ≤ length text
-fault_few kind text pairs fault (row, (before, rest, is, stands, here), has) = rw is (front_few before rest _ (before_few kind row.name pairs before rest stands))
+fault_few kind text pairs fault (row, (before, rest, is, stands, here), has) =
+    rw is (front_few before rest _ (before_few kind row.name pairs before rest stands))
 
 -- the pairs of a text that is derived
 pub derived_few : (kind : CoreKind) (text : Text) (found : Found) (pairs : List Pair) → Derives (bracketed kind) text found pairs → length pairs ≤ length text

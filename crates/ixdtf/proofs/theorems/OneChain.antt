@@ -318,7 +318,8 @@ before_row kind (of_duration profile name) pairs before rest h = absurd h
 before_row kind name pairs before rest h = inl h.1
 
 -- the first pairs of a text that is derived
-pub derived_front : (kind : CoreKind) (text : Text) (read : Parsed) (pairs xs ys : List Pair) → Derives (bracketed kind) text (parsed read) pairs → pairs ≡ xs ++ ys
+pub derived_front : (kind : CoreKind) (text : Text) (read : Parsed) (pairs xs ys : List Pair) → Derives (bracketed kind) text (parsed read) pairs
+    → pairs ≡ xs ++ ys
     → HasFront (bracketed kind) text xs
 derived_front kind text read pairs xs ys (as_parsed d) is =
     let has : HasFront (bracketed kind) ((d.cores ++ d.brackets) ++ []) xs =

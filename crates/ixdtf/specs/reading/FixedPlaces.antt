@@ -139,5 +139,6 @@ unmarked_at profile text = do
 
 -- opening this opens the readings of parts at fixed places
 unfoldable pub fixed_readings : ℕ
-unfolding number_place year_place days_place basic_days_place date_place basic_date_place time_place date_time_place offset_place month_of_year_place day_of_month_place
+unfolding number_place year_place days_place basic_days_place date_place basic_date_place time_place date_time_place
+    offset_place month_of_year_place day_of_month_place
 fixed_readings = 0

@@ -11,7 +11,8 @@ returns-in-Err-clause-lists g c =
     let fits : length c.args.text.now ≤ 2 ^ 64 - 1 = search rules in
     let loan = kept _ (λ state. state.0.ghost_name) (λ state annotation reply next stepped. search rules) h.calls _ _ h.chain in
     lists_left (search (rules, loan)) (search (rules, loan)) (
-    lists _ (λ state. state.0.now.count) (λ state. state.0.now.slots.now) annotation_for (2 ^ 64 - 1) (λ state annotation reply next stepped. (search rules, search rules, search rules))
+    lists _ (λ state. state.0.now.count) (λ state. state.0.now.slots.now) annotation_for (2 ^ 64 - 1)
+    (λ state annotation reply next stepped. (search rules, search rules, search rules))
     annotation_by (λ annotation. refl) _ _ _ _ _ _ h c.in-Err.ensures.no_row c.in-Err.ensures.alone c.requires (rw (length-map c.args.text.now _) fits))
 
 pub returns-in-Err-clause-same_slots : goal.returns-in-Err-clause-same_slots
@@ -27,7 +28,8 @@ returns-clause-lists g c =
     let fits : length c.args.text.now ≤ 2 ^ 64 - 1 = search rules in
     let loan = kept _ (λ state. state.0.ghost_name) (λ state annotation reply next stepped. search rules) h.calls _ _ h.chain in
     lists_left (search (rules, loan)) (search (rules, loan)) (
-    lists _ (λ state. state.0.now.count) (λ state. state.0.now.slots.now) annotation_for (2 ^ 64 - 1) (λ state annotation reply next stepped. (search rules, search rules, search rules))
+    lists _ (λ state. state.0.now.count) (λ state. state.0.now.slots.now) annotation_for (2 ^ 64 - 1)
+    (λ state annotation reply next stepped. (search rules, search rules, search rules))
     annotation_by (λ annotation. refl) _ _ _ _ _ _ h c.in-Ok.ensures.no_row c.in-Ok.ensures.alone c.requires (rw (length-map c.args.text.now _) fits))
 
 pub returns-clause-same_slots : goal.returns-clause-same_slots

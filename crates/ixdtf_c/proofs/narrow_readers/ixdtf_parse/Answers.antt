@@ -14,4 +14,5 @@ pub returns-clause-printable : goal.returns-clause-printable
 returns-clause-printable c = λ zero. read_is_printable profiles.Crate _ _ _ _ (returns-clause-read c) zero
 
 pub returns-clause-fits : goal.returns-clause-fits
-returns-clause-fits c = λ zero. let short = read_fits profiles.Crate _ _ _ _ (returns-clause-read c) zero in omega (arith, short, length-map c.args.text.now byte_letter)
+returns-clause-fits c = λ zero. let short = read_fits profiles.Crate _ _ _ _ (returns-clause-read c) zero in omega
+    (arith, short, length-map c.args.text.now byte_letter)

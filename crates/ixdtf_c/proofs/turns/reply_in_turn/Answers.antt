@@ -16,6 +16,7 @@ loop-annotation-preserved g c = record {
 
 pub returns-then-number-ne0 : goal.returns-then-number-ne0
 returns-then-number-ne0 g c =
-    refused_in_turn _ _ _ c.loop-annotation.invariant.so_far c.ask.ensures.step _ (map annotation_by (drop (c.loop-annotation.annotation-index + 1) c.args.annotations.now))
+    refused_in_turn _ _ _ c.loop-annotation.invariant.so_far c.ask.ensures.step _
+    (map annotation_by (drop (c.loop-annotation.annotation-index + 1) c.args.annotations.now))
     c.hand_over-number.ensures c.if-number-ne0.true
     (taken_split annotation_by c.args.annotations.now c.loop-annotation.annotation-index _ c.loop-annotation-test.true)

@@ -6,4 +6,5 @@ returns-clause-read c = rw (c.give_duration.ensures.outcome, ← c.from_utf8.ens
     (crossed_part _ _ _ _ c.parse.result c.parse.ensures.ok c.parse.ensures.err c.parse.ensures.no_row c.parse.ensures.only)
 
 pub returns-clause-alone : goal.returns-clause-alone
-returns-clause-alone c = rw (c.give_duration.ensures.outcome, ← c.from_utf8.ensures.rest, ← c.from_utf8.ensures.profile) (crossed_ok _ _ c.parse.result c.parse.ensures.alone)
+returns-clause-alone c = rw (c.give_duration.ensures.outcome, ← c.from_utf8.ensures.rest, ← c.from_utf8.ensures.profile)
+    (crossed_ok _ _ c.parse.result c.parse.ensures.alone)

@@ -12,5 +12,6 @@ returns-in-Some-clause-date g c =
     let old = c.args.cursor.now in
     let new = c.take_fixed_date.new.cursor in
     let read : date_at error_of (map letter old.rest) ≡ ranged c.in-Some.date (map letter new.rest) =
-    subst (λ found. IfSome found (λ date. date_at error_of (map letter old.rest) ≡ ranged date (map letter new.rest))) c.in-Some.is c.take_fixed_date.ensures.read in
+    subst (λ found. IfSome found (λ date. date_at error_of (map letter old.rest) ≡ ranged date (map letter new.rest))) c.in-Some.is
+    c.take_fixed_date.ensures.read in
     reads_ranged letter old new c.check_ranges.result c.in-Some.date read (c.check_ranges.ensures (map letter new.rest))

@@ -22,7 +22,8 @@ loop-group-init g c = record {
 pub returns-in_err-rank-clause-times : goal.returns-in_err-rank-clause-times
 returns-in_err-rank-clause-times g c s dates =
     let p = err_from_is_err_and c.from_residual-in_err-rank.result c.from_residual-in_err-rank.ensures.1 in
-    rw (p.1, p.2) (time_refused_on _ _ _ _ _ _ _ c.loop-group.invariant.far c.in_ok-group.group _ (c.in_ok-group.ensures.group _) _ c.in_err-rank.ensures.rank s dates)
+    rw (p.1, p.2) (time_refused_on _ _ _ _ _ _ _ c.loop-group.invariant.far c.in_ok-group.group _
+    (c.in_ok-group.ensures.group _) _ c.in_err-rank.ensures.rank s dates)
 
 -- the look failed
 pub returns-in_err-look-clause-times : goal.returns-in_err-look-clause-times

@@ -15,7 +15,8 @@ returns-then-is_hyphen-clause-read g c profile =
     let looked : c.byte_at.new.self.rest ≡ units = c.byte_at.ensures.rest ∙ c.fixed_number.ensures.rest in
     let byte : c.byte_at.result ≡ byte_place (start + 2) (map letter units) =
     c.byte_at.ensures.there ∙ ap (λ (t : List ℕ). byte_place (start + 2) (map letter t)) c.fixed_number.ensures.rest in
-    let mark : IsTrue (hyphen (byte_place (start + 2) (map letter units))) = subst (λ b. IsTrue (hyphen b)) byte (sym c.is_hyphen.ensures ∙ c.if-is_hyphen.true) in
+    let mark : IsTrue (hyphen (byte_place (start + 2) (map letter units))) =
+    subst (λ b. IsTrue (hyphen b)) byte (sym c.is_hyphen.ensures ∙ c.if-is_hyphen.true) in
     let day : day_of_month_place month (start + 3) (map letter units) ≡ Some date =
     ap (λ (t : List ℕ). day_of_month_place month (start + 3) (map letter t)) (sym looked) ∙ sym c.in_ok-date.ensures.there in
     let left : c.skip.new.self.rest ≡ drop (start + 5) units =

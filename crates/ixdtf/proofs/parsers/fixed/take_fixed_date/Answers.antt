@@ -15,7 +15,8 @@ returns-then-is_hyphen-clause-read g c =
     let byte : c.byte_at.result ≡ byte_place 4 (map letter units) =
     c.byte_at.ensures.there ∙ ap (λ (t : List ℕ). byte_place 4 (map letter t)) c.fixed_year.ensures.rest in
     let mark : IsTrue (hyphen (byte_place 4 (map letter units))) = subst (λ b. IsTrue (hyphen b)) byte (sym c.is_hyphen.ensures ∙ c.if-is_hyphen.true) in
-    let days : days_place year (map letter units) ≡ Some date = ap (λ (t : List ℕ). days_place year (map letter t)) (sym looked) ∙ sym c.in_ok-date.ensures.there in
+    let days : days_place year (map letter units) ≡ Some date = ap (λ (t : List ℕ). days_place year (map letter t)) (sym looked)
+    ∙ sym c.in_ok-date.ensures.there in
     let left : c.skip.new.self.rest ≡ drop 10 units = c.skip.ensures.rest ∙ ap (λ (t : List ℕ). drop 10 t) (c.fixed_days.ensures.rest ∙ looked) in
     hyphened_is_read (map letter units) year date (sym c.in_ok-year.ensures.there) mark days
     ∙ ap (ranged date) (drop-map letter 10 units ∙ ap (map letter) (sym left))

@@ -1,6 +1,5 @@
 use Rattle.std.proofs.Common.{List, ℕ, map, drop, sym, ap, ◌∙◌, subst}
-use Rattle.std.specs.Prelude.{IsTrue, IfSome}
-use Rattle.ixdtf.specs.declared.records.DateRecord.{DateRecord}
+use Rattle.std.specs.Prelude.{IsTrue}
 use Rattle.ixdtf.specs.language.Letters.{digit}
 use Rattle.ixdtf.specs.reading.FixedPlaces.{byte_place, unmarked_at}
 use Rattle.ixdtf.proofs.code.FixedMonths.{marked_is_read, unmarked_is_read, on_found, on_both}

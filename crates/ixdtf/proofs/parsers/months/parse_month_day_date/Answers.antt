@@ -15,7 +15,8 @@ returns-in-Some-clause-date g c =
     let new = c.take_fixed_month_day.new.cursor in
     let date = c.in-Some.date in
     let read : (profile : Profile) → month_day_at error_of profile (map letter old.rest) ≡ ranged_day profile date (map letter new.rest) =
-    subst (λ found. IfSome found (λ date. (profile : Profile) → month_day_at error_of profile (map letter old.rest) ≡ ranged_day profile date (map letter new.rest)))
+    subst (λ found. IfSome found (λ date. (profile : Profile)
+    → month_day_at error_of profile (map letter old.rest) ≡ ranged_day profile date (map letter new.rest)))
     c.in-Some.is c.take_fixed_month_day.ensures.read in
     reads_tested letter old new c.check_lone_day.result (month_day_at error_of profile) (ranged_day profile date) (read profile)
     (c.check_lone_day.ensures (map letter new.rest))

@@ -17,6 +17,7 @@ overflow_add-value c =
     omega (
       arith,
       c.number-value.ensures,
-      one_more c.self.inside.digits c.self.inside.value c.from.result (omega (arith, c.requires.short, ap (λ f. f.count) c.self.view_is)) c.self.invariant.1 (omega arith),
+      one_more c.self.inside.digits c.self.inside.value c.from.result (omega (arith, c.requires.short, ap (λ f. f.count) c.self.view_is)) c.self.invariant.1
+          (omega arith),
       eighteen (c.self.inside.digits + 1),
     )
