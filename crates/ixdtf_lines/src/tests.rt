@@ -129,20 +129,18 @@ fn answers_unknown_words(rt: HostRuntime) -> Result<(), Fail> {
     Ok(())
 }
 
+const AFTER_THE_FIRST_SPACE: &[(&str, &str)] = &[
+    ("parse ", "error Parsing ended abruptly while parsing digit"),
+    ("parse 2020-01-01 05", "ok date=2020,1,1 time=5,0,0"),
+    (
+        "parse 20201108\r",
+        "error Unexpected character found after parsing was completed.",
+    ),
+];
+
 #[test]
 fn takes_all_after_the_first_space_as_text(rt: HostRuntime) -> Result<(), Fail> {
-    check_answers(
-        &rt,
-        rt.alloc(),
-        &[
-            ("parse ", "error Parsing ended abruptly while parsing digit"),
-            ("parse 2020-01-01 05", "ok date=2020,1,1 time=5,0,0"),
-            (
-                "parse 20201108\r",
-                "error Unexpected character found after parsing was completed.",
-            ),
-        ],
-    )
+    check_answers(&rt, rt.alloc(), AFTER_THE_FIRST_SPACE)
 }
 
 #[test]

@@ -25,69 +25,68 @@ fn check_named(rt: &impl Abort, rows: &[Named]) {
     }
 }
 
+const NAMES_IN_BRACKETS: &[Named] = &[
+    Named {
+        text: "2020-04-08[America/Chicago]",
+        month: 4,
+        day: 8,
+        critical: false,
+        name: "America/Chicago",
+    },
+    Named {
+        text: "2020-04-08[!America/Chicago]",
+        month: 4,
+        day: 8,
+        critical: true,
+        name: "America/Chicago",
+    },
+    Named {
+        text: "20200408[asia/kolkata]",
+        month: 4,
+        day: 8,
+        critical: false,
+        name: "asia/kolkata",
+    },
+    Named {
+        text: "+002020-04-08[!cet]",
+        month: 4,
+        day: 8,
+        critical: true,
+        name: "cet",
+    },
+    Named {
+        text: "2020-04-08[cet]",
+        month: 4,
+        day: 8,
+        critical: false,
+        name: "cet",
+    },
+    Named {
+        text: "2020-04-08[_]",
+        month: 4,
+        day: 8,
+        critical: false,
+        name: "_",
+    },
+    Named {
+        text: "2020-04-08[.x]",
+        month: 4,
+        day: 8,
+        critical: false,
+        name: ".x",
+    },
+    Named {
+        text: "2020-01-01[asia/kolkata]",
+        month: 1,
+        day: 1,
+        critical: false,
+        name: "asia/kolkata",
+    },
+];
+
 #[test]
 fn reads_names_in_brackets(rt: HostRuntime) {
-    check_named(
-        &rt,
-        &[
-            Named {
-                text: "2020-04-08[America/Chicago]",
-                month: 4,
-                day: 8,
-                critical: false,
-                name: "America/Chicago",
-            },
-            Named {
-                text: "2020-04-08[!America/Chicago]",
-                month: 4,
-                day: 8,
-                critical: true,
-                name: "America/Chicago",
-            },
-            Named {
-                text: "20200408[asia/kolkata]",
-                month: 4,
-                day: 8,
-                critical: false,
-                name: "asia/kolkata",
-            },
-            Named {
-                text: "+002020-04-08[!cet]",
-                month: 4,
-                day: 8,
-                critical: true,
-                name: "cet",
-            },
-            Named {
-                text: "2020-04-08[cet]",
-                month: 4,
-                day: 8,
-                critical: false,
-                name: "cet",
-            },
-            Named {
-                text: "2020-04-08[_]",
-                month: 4,
-                day: 8,
-                critical: false,
-                name: "_",
-            },
-            Named {
-                text: "2020-04-08[.x]",
-                month: 4,
-                day: 8,
-                critical: false,
-                name: ".x",
-            },
-            Named {
-                text: "2020-01-01[asia/kolkata]",
-                month: 1,
-                day: 1,
-                critical: false,
-                name: "asia/kolkata",
-            },
-        ],
-    );
+    check_named(&rt, NAMES_IN_BRACKETS);
 }
 
 /// A text with this date and an offset in its first bracket.
@@ -107,34 +106,33 @@ fn check_shifted(rt: &impl Abort, rows: &[Shifted]) {
     }
 }
 
+const OFFSETS_IN_BRACKETS: &[Shifted] = &[
+    Shifted {
+        text: "2020-04-08[-05:00]",
+        critical: false,
+        sign: Sign::Negative,
+        hour: 5,
+        minute: 0,
+    },
+    Shifted {
+        text: "2020-04-08[!+0530]",
+        critical: true,
+        sign: Sign::Positive,
+        hour: 5,
+        minute: 30,
+    },
+    Shifted {
+        text: "2020-04-08[+08]",
+        critical: false,
+        sign: Sign::Positive,
+        hour: 8,
+        minute: 0,
+    },
+];
+
 #[test]
 fn reads_offsets_in_brackets(rt: HostRuntime) {
-    check_shifted(
-        &rt,
-        &[
-            Shifted {
-                text: "2020-04-08[-05:00]",
-                critical: false,
-                sign: Sign::Negative,
-                hour: 5,
-                minute: 0,
-            },
-            Shifted {
-                text: "2020-04-08[!+0530]",
-                critical: true,
-                sign: Sign::Positive,
-                hour: 5,
-                minute: 30,
-            },
-            Shifted {
-                text: "2020-04-08[+08]",
-                critical: false,
-                sign: Sign::Positive,
-                hour: 8,
-                minute: 0,
-            },
-        ],
-    );
+    check_shifted(&rt, OFFSETS_IN_BRACKETS);
 }
 
 // A morning in New York with its offset, or with that of another place.
@@ -213,73 +211,71 @@ fn check_calendars(rt: &impl Abort, rows: &[Dated]) {
     }
 }
 
+const CALENDARS: &[Dated] = &[
+    Dated {
+        text: "2020-11-08[u-ca=iso8601]",
+        month: 11,
+        day: 8,
+        calendar: "iso8601",
+    },
+    Dated {
+        text: "2020-11-08[!u-ca=iso8601]",
+        month: 11,
+        day: 8,
+        calendar: "iso8601",
+    },
+    Dated {
+        text: "2020-11-08[u-ca=a-bc-d]",
+        month: 11,
+        day: 8,
+        calendar: "a-bc-d",
+    },
+    Dated {
+        text: "+0020201108[!u-ca=iso8601][f-1a2b=a0sa-2l4s]",
+        month: 11,
+        day: 8,
+        calendar: "iso8601",
+    },
+    Dated {
+        text: "2020-11-08[u-ca=a][u-ca=b][!u-ca=a]",
+        month: 11,
+        day: 8,
+        calendar: "a",
+    },
+    Dated {
+        text: "2020-11-08[_=x][u-ca=b][u-ca=c]",
+        month: 11,
+        day: 8,
+        calendar: "b",
+    },
+    Dated {
+        text: "2020-01-01[u-ca=a-bc-d]",
+        month: 1,
+        day: 1,
+        calendar: "a-bc-d",
+    },
+    Dated {
+        text: "2020-01-01[u-ca=a][u-ca=b][!u-ca=a]",
+        month: 1,
+        day: 1,
+        calendar: "a",
+    },
+];
+
 #[test]
 fn reads_calendars(rt: HostRuntime) {
-    check_calendars(
-        &rt,
-        &[
-            Dated {
-                text: "2020-11-08[u-ca=iso8601]",
-                month: 11,
-                day: 8,
-                calendar: "iso8601",
-            },
-            Dated {
-                text: "2020-11-08[!u-ca=iso8601]",
-                month: 11,
-                day: 8,
-                calendar: "iso8601",
-            },
-            Dated {
-                text: "2020-11-08[u-ca=a-bc-d]",
-                month: 11,
-                day: 8,
-                calendar: "a-bc-d",
-            },
-            Dated {
-                text: "+0020201108[!u-ca=iso8601][f-1a2b=a0sa-2l4s]",
-                month: 11,
-                day: 8,
-                calendar: "iso8601",
-            },
-            Dated {
-                text: "2020-11-08[u-ca=a][u-ca=b][!u-ca=a]",
-                month: 11,
-                day: 8,
-                calendar: "a",
-            },
-            Dated {
-                text: "2020-11-08[_=x][u-ca=b][u-ca=c]",
-                month: 11,
-                day: 8,
-                calendar: "b",
-            },
-            Dated {
-                text: "2020-01-01[u-ca=a-bc-d]",
-                month: 1,
-                day: 1,
-                calendar: "a-bc-d",
-            },
-            Dated {
-                text: "2020-01-01[u-ca=a][u-ca=b][!u-ca=a]",
-                month: 1,
-                day: 1,
-                calendar: "a",
-            },
-        ],
-    );
+    check_calendars(&rt, CALENDARS);
 }
+
+const PAIRS_OF_OTHER_KEYS: &[(&str, i32, u8, u8)] = &[
+    ("2020-11-08[a=b]", 2020, 11, 8),
+    ("2020-11-08[a=b][a=c]", 2020, 11, 8),
+    ("2020-11-08[_-9=Z-1]", 2020, 11, 8),
+];
 
 #[test]
 fn reads_pairs_of_other_keys(rt: HostRuntime) {
-    check_dates(
-        &rt,
-        &[
-            ("2020-11-08[a=b]", 2020, 11, 8),
-            ("2020-11-08[a=b][a=c]", 2020, 11, 8),
-            ("2020-11-08[_-9=Z-1]", 2020, 11, 8),
-        ],
-    );
+    check_dates(&rt, PAIRS_OF_OTHER_KEYS);
 }
 
 #[test]
@@ -307,14 +303,13 @@ fn check_iso8601(rt: &impl Abort, texts: &[&'static str]) {
     }
 }
 
+const AN_OFFSET_AND_CALENDARS: &[&str] = &[
+    "2024-03-02T08:48:00-05:00[u-ca=iso8601]",
+    "2024-03-02T08:48:00-05:00[u-ca=iso8601][u-ca=japanese]",
+    "2024-03-02T08:48:00-05:00[u-ca=iso8601][!u-ca=iso8601]",
+];
+
 #[test]
 fn reads_an_offset_and_calendars(rt: HostRuntime) {
-    check_iso8601(
-        &rt,
-        &[
-            "2024-03-02T08:48:00-05:00[u-ca=iso8601]",
-            "2024-03-02T08:48:00-05:00[u-ca=iso8601][u-ca=japanese]",
-            "2024-03-02T08:48:00-05:00[u-ca=iso8601][!u-ca=iso8601]",
-        ],
-    );
+    check_iso8601(&rt, AN_OFFSET_AND_CALENDARS);
 }

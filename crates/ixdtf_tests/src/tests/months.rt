@@ -9,19 +9,18 @@ fn check_year_months(rt: &impl Abort, rows: &[(&'static str, i32, u8)]) {
     }
 }
 
+const YEAR_MONTHS: &[(&str, i32, u8)] = &[
+    ("2020-01", 2020, 1),
+    ("202112", 2021, 12),
+    ("+002020-11", 2020, 11),
+    ("+00202011", 2020, 11),
+    ("-002020-11", -2020, 11),
+    ("+000000-02", 0, 2),
+];
+
 #[test]
 fn reads_year_months(rt: HostRuntime) {
-    check_year_months(
-        &rt,
-        &[
-            ("2020-01", 2020, 1),
-            ("202112", 2021, 12),
-            ("+002020-11", 2020, 11),
-            ("+00202011", 2020, 11),
-            ("-002020-11", -2020, 11),
-            ("+000000-02", 0, 2),
-        ],
-    );
+    check_year_months(&rt, YEAR_MONTHS);
 }
 
 fn check_month_days(rt: &impl Abort, rows: &[(&'static str, u8, u8)]) {
@@ -31,20 +30,19 @@ fn check_month_days(rt: &impl Abort, rows: &[(&'static str, u8, u8)]) {
     }
 }
 
+const MONTH_DAYS: &[(&str, u8, u8)] = &[
+    ("11-07", 11, 7),
+    ("1107", 11, 7),
+    ("--11-07", 11, 7),
+    ("11-00", 11, 0),
+    ("02-29", 2, 29),
+    ("--0430", 4, 30),
+    ("1231", 12, 31),
+];
+
 #[test]
 fn reads_month_days(rt: HostRuntime) {
-    check_month_days(
-        &rt,
-        &[
-            ("11-07", 11, 7),
-            ("1107", 11, 7),
-            ("--11-07", 11, 7),
-            ("11-00", 11, 0),
-            ("02-29", 2, 29),
-            ("--0430", 4, 30),
-            ("1231", 12, 31),
-        ],
-    );
+    check_month_days(&rt, MONTH_DAYS);
     let zone = minutes(Sign::Positive, 4, 0);
     let wanted = Found::Parts(shifted((0, 11, 7), None, None, false, zone));
     check_found(&rt, Reader::MonthDay, "--1107[+04:00]", &Ok(wanted));

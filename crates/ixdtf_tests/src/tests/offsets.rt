@@ -24,37 +24,36 @@ fn check_short(rt: &impl Abort, rows: &[Short]) {
     }
 }
 
+const OFFSETS: &[Short] = &[
+    Short {
+        text: "+05",
+        sign: Sign::Positive,
+        hour: 5,
+        minute: 0,
+    },
+    Short {
+        text: "-0530",
+        sign: Sign::Negative,
+        hour: 5,
+        minute: 30,
+    },
+    Short {
+        text: "-05:30",
+        sign: Sign::Negative,
+        hour: 5,
+        minute: 30,
+    },
+    Short {
+        text: "-00:00",
+        sign: Sign::Negative,
+        hour: 0,
+        minute: 0,
+    },
+];
+
 #[test]
 fn reads_offsets(rt: HostRuntime) {
-    check_short(
-        &rt,
-        &[
-            Short {
-                text: "+05",
-                sign: Sign::Positive,
-                hour: 5,
-                minute: 0,
-            },
-            Short {
-                text: "-0530",
-                sign: Sign::Negative,
-                hour: 5,
-                minute: 30,
-            },
-            Short {
-                text: "-05:30",
-                sign: Sign::Negative,
-                hour: 5,
-                minute: 30,
-            },
-            Short {
-                text: "-00:00",
-                sign: Sign::Negative,
-                hour: 0,
-                minute: 0,
-            },
-        ],
-    );
+    check_short(&rt, OFFSETS);
 }
 
 // East of Greenwich by hours, minutes and seconds.
@@ -79,16 +78,15 @@ fn check_fractional(rt: &impl Abort, rows: &[(&'static str, u32)]) {
     }
 }
 
+const OFFSETS_WITH_FRACTIONS: &[(&str, u32)] = &[
+    ("-050030,25", 250_000_000),
+    ("-05:00:30.5", 500_000_000),
+    ("-05:00:30.123456789", 123_456_789),
+];
+
 #[test]
 fn reads_offsets_with_fractions(rt: HostRuntime) {
-    check_fractional(
-        &rt,
-        &[
-            ("-050030,25", 250_000_000),
-            ("-05:00:30.5", 500_000_000),
-            ("-05:00:30.123456789", 123_456_789),
-        ],
-    );
+    check_fractional(&rt, OFFSETS_WITH_FRACTIONS);
 }
 
 fn check_morning(rt: &impl Abort, text: &'static str, offset: UtcOffsetRecord) {
@@ -102,37 +100,36 @@ fn check_mornings(rt: &impl Abort, rows: &[Short]) {
     }
 }
 
+const OFFSETS_AFTER_TIMES: &[Short] = &[
+    Short {
+        text: "2024-03-02T08:48:00-05:00",
+        sign: Sign::Negative,
+        hour: 5,
+        minute: 0,
+    },
+    Short {
+        text: "2024-03-02T08:48-05",
+        sign: Sign::Negative,
+        hour: 5,
+        minute: 0,
+    },
+    Short {
+        text: "20240302t084800-0530",
+        sign: Sign::Negative,
+        hour: 5,
+        minute: 30,
+    },
+    Short {
+        text: "2024-03-02 08:48:00-00:00",
+        sign: Sign::Negative,
+        hour: 0,
+        minute: 0,
+    },
+];
+
 #[test]
 fn reads_offsets_after_times(rt: HostRuntime) {
-    check_mornings(
-        &rt,
-        &[
-            Short {
-                text: "2024-03-02T08:48:00-05:00",
-                sign: Sign::Negative,
-                hour: 5,
-                minute: 0,
-            },
-            Short {
-                text: "2024-03-02T08:48-05",
-                sign: Sign::Negative,
-                hour: 5,
-                minute: 0,
-            },
-            Short {
-                text: "20240302t084800-0530",
-                sign: Sign::Negative,
-                hour: 5,
-                minute: 30,
-            },
-            Short {
-                text: "2024-03-02 08:48:00-00:00",
-                sign: Sign::Negative,
-                hour: 0,
-                minute: 0,
-            },
-        ],
-    );
+    check_mornings(&rt, OFFSETS_AFTER_TIMES);
     let hour = long(minutes(Sign::Positive, 1, 0), 0, None);
     check_morning(&rt, "2024-03-02 08:48:00+01:00:00", hour);
 }

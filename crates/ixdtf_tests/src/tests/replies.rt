@@ -263,32 +263,30 @@ pub(super) fn check_wide_calendars(
     }
 }
 
+const HEEDED: &[Asked] = &[
+    Asked {
+        form: Form::Parse,
+        text: "2020-01-01[a=a1]",
+        kind: Kind::HandsBack,
+        calls: "[a=a1]",
+    },
+    Asked {
+        form: Form::Parse,
+        text: "2020-01-01[u-ca=gregory][!u-ca=1][!u-ca=a0sa-2l4s][u-ca=k-H0EGv]",
+        kind: Kind::RepliesNone,
+        calls: "[u-ca=gregory][!u-ca=1][!u-ca=a0sa-2l4s][u-ca=k-H0EGv]",
+    },
+    Asked {
+        form: Form::Parse,
+        text: "2020-01-01[u-ca=japanese][!u-ca=FE-4-s-y]",
+        kind: Kind::RepliesNone,
+        calls: "[u-ca=japanese][!u-ca=FE-4-s-y]",
+    },
+];
+
 #[test]
 fn heeds_handlers(rt: HostRuntime) {
-    check_handled(
-        &rt,
-        &Ok(dated(2020, 1, 1, None)),
-        &[
-            Asked {
-                form: Form::Parse,
-                text: "2020-01-01[a=a1]",
-                kind: Kind::HandsBack,
-                calls: "[a=a1]",
-            },
-            Asked {
-                form: Form::Parse,
-                text: "2020-01-01[u-ca=gregory][!u-ca=1][!u-ca=a0sa-2l4s][u-ca=k-H0EGv]",
-                kind: Kind::RepliesNone,
-                calls: "[u-ca=gregory][!u-ca=1][!u-ca=a0sa-2l4s][u-ca=k-H0EGv]",
-            },
-            Asked {
-                form: Form::Parse,
-                text: "2020-01-01[u-ca=japanese][!u-ca=FE-4-s-y]",
-                kind: Kind::RepliesNone,
-                calls: "[u-ca=japanese][!u-ca=FE-4-s-y]",
-            },
-        ],
-    );
+    check_handled(&rt, &Ok(dated(2020, 1, 1, None)), HEEDED);
     check_handled(
         &rt,
         &Ok(parts(Some((2020, 1, 1)), None, None, None, Some("a0sa-2l4s"))),
@@ -376,120 +374,133 @@ fn heeds_handlers_after_times(rt: HostRuntime) {
     );
 }
 
+const CRITICAL_REPLIES: &[Asked] = &[
+    Asked {
+        form: Form::Parse,
+        text: "2020-01-01[x=y]",
+        kind: Kind::MakesCritical,
+        calls: "[x=y]",
+    },
+    Asked {
+        form: Form::Parse,
+        text: "2020-01-01[a=b][!c=d][e=f]",
+        kind: Kind::HandsBack,
+        calls: "[a=b][!c=d]",
+    },
+    Asked {
+        form: Form::Parse,
+        text: "2020-01-01[u-ca=a][!c=d]",
+        kind: Kind::HandsBack,
+        calls: "[u-ca=a][!c=d]",
+    },
+    Asked {
+        form: Form::Parse,
+        text: "2020-01-01[u-ca=4-aYg][!u_ca=dbto-3eyv22-fA-rtts]",
+        kind: Kind::HandsBack,
+        calls: "[u-ca=4-aYg][!u_ca=dbto-3eyv22-fA-rtts]",
+    },
+    Asked {
+        form: Form::Parse,
+        text: "20200101T12[yh=Vx-Qi-v0Zpe7-Nx1][foo=B1aoE-XS-yGk-7][u-cb=iWnJ0a][!u-cb=l][u-ca=uz5HNg-NV3x]",
+        kind: Kind::HandsBack,
+        calls: "[yh=Vx-Qi-v0Zpe7-Nx1][foo=B1aoE-XS-yGk-7][u-cb=iWnJ0a][!u-cb=l]",
+    },
+    Asked {
+        form: Form::Parse,
+        text: "20200101T12[u-ca=a][s=iE-Dn-NXDPL]",
+        kind: Kind::MakesCritical,
+        calls: "[u-ca=a][s=iE-Dn-NXDPL]",
+    },
+    Asked {
+        form: Form::Parse,
+        text: "20200101T12[u-ca=R2-uY40-cvb-w][x-y=WXTo]",
+        kind: Kind::TurnsCritical,
+        calls: "[u-ca=R2-uY40-cvb-w][x-y=WXTo]",
+    },
+];
+
+const DUPLICATE_CALENDARS: &[Asked] = &[
+    Asked {
+        form: Form::Parse,
+        text: "2020-01-01[xy=a0sa-2l4s][!u-ca=iso8601][!u-ca=A][u-ca=a][u-ca=a]",
+        kind: Kind::HandsBack,
+        calls: "[xy=a0sa-2l4s][!u-ca=iso8601][!u-ca=A]",
+    },
+    Asked {
+        form: Form::Parse,
+        text: "2020-01-01[!u-ca=a-b][!u-ca=a3Z-DL-Irpq-2U]",
+        kind: Kind::RepliesAnother,
+        calls: "[!u-ca=a-b][!u-ca=a3Z-DL-Irpq-2U]",
+    },
+    Asked {
+        form: Form::Parse,
+        text: "2020-01-01[!u-ca=1][u-ca=xjQk-E][u-ca=b][!u-ca=UAq-KMwlE][u-ca =okKb7P]",
+        kind: Kind::RepliesAnother,
+        calls: "[!u-ca=1][u-ca=xjQk-E][u-ca=b][!u-ca=UAq-KMwlE]",
+    },
+];
+
 #[test]
 fn refuses_replies(rt: HostRuntime) {
-    check_handled(
-        &rt,
-        &Err(UnrecognizedCritical),
-        &[
-            Asked {
-                form: Form::Parse,
-                text: "2020-01-01[x=y]",
-                kind: Kind::MakesCritical,
-                calls: "[x=y]",
-            },
-            Asked {
-                form: Form::Parse,
-                text: "2020-01-01[a=b][!c=d][e=f]",
-                kind: Kind::HandsBack,
-                calls: "[a=b][!c=d]",
-            },
-            Asked {
-                form: Form::Parse,
-                text: "2020-01-01[u-ca=a][!c=d]",
-                kind: Kind::HandsBack,
-                calls: "[u-ca=a][!c=d]",
-            },
-            Asked {
-                form: Form::Parse,
-                text: "2020-01-01[u-ca=4-aYg][!u_ca=dbto-3eyv22-fA-rtts]",
-                kind: Kind::HandsBack,
-                calls: "[u-ca=4-aYg][!u_ca=dbto-3eyv22-fA-rtts]",
-            },
-            Asked {
-                form: Form::Parse,
-                text: "20200101T12[yh=Vx-Qi-v0Zpe7-Nx1][foo=B1aoE-XS-yGk-7][u-cb=iWnJ0a][!u-cb=l][u-ca=uz5HNg-NV3x]",
-                kind: Kind::HandsBack,
-                calls: "[yh=Vx-Qi-v0Zpe7-Nx1][foo=B1aoE-XS-yGk-7][u-cb=iWnJ0a][!u-cb=l]",
-            },
-            Asked {
-                form: Form::Parse,
-                text: "20200101T12[u-ca=a][s=iE-Dn-NXDPL]",
-                kind: Kind::MakesCritical,
-                calls: "[u-ca=a][s=iE-Dn-NXDPL]",
-            },
-            Asked {
-                form: Form::Parse,
-                text: "20200101T12[u-ca=R2-uY40-cvb-w][x-y=WXTo]",
-                kind: Kind::TurnsCritical,
-                calls: "[u-ca=R2-uY40-cvb-w][x-y=WXTo]",
-            },
-        ],
-    );
-    check_handled(
-        &rt,
-        &Err(CriticalDuplicateCalendar),
-        &[
-            Asked {
-                form: Form::Parse,
-                text: "2020-01-01[xy=a0sa-2l4s][!u-ca=iso8601][!u-ca=A][u-ca=a][u-ca=a]",
-                kind: Kind::HandsBack,
-                calls: "[xy=a0sa-2l4s][!u-ca=iso8601][!u-ca=A]",
-            },
-            Asked {
-                form: Form::Parse,
-                text: "2020-01-01[!u-ca=a-b][!u-ca=a3Z-DL-Irpq-2U]",
-                kind: Kind::RepliesAnother,
-                calls: "[!u-ca=a-b][!u-ca=a3Z-DL-Irpq-2U]",
-            },
-            Asked {
-                form: Form::Parse,
-                text: "2020-01-01[!u-ca=1][u-ca=xjQk-E][u-ca=b][!u-ca=UAq-KMwlE][u-ca =okKb7P]",
-                kind: Kind::RepliesAnother,
-                calls: "[!u-ca=1][u-ca=xjQk-E][u-ca=b][!u-ca=UAq-KMwlE]",
-            },
-        ],
-    );
+    check_handled(&rt, &Err(UnrecognizedCritical), CRITICAL_REPLIES);
+    check_handled(&rt, &Err(CriticalDuplicateCalendar), DUPLICATE_CALENDARS);
 }
+
+const BEFORE_A_WRONG_KEY: &[Asked] = &[
+    Asked {
+        form: Form::Parse,
+        text: "2020-01-01[u-ca=Nl8-jswAuQ-H][",
+        kind: Kind::HandsBack,
+        calls: "[u-ca=Nl8-jswAuQ-H]",
+    },
+    Asked {
+        form: Form::Parse,
+        text: "20200101T12[answer-to-universe=xRozE-IPf-E3][u-ca=a0sa-2l4s][answer-to-universe=OMr-WGJ2kC-6pOrnn][u-ca=iso8601][u-ca=a][!",
+        kind: Kind::RepliesAnother,
+        calls: "[answer-to-universe=xRozE-IPf-E3][u-ca=a0sa-2l4s][answer-to-universe=OMr-WGJ2kC-6pOrnn][u-ca=iso8601][u-ca=a]",
+    },
+];
+
+const BEFORE_A_WRONG_VALUE: &[Asked] = &[
+    Asked {
+        form: Form::Parse,
+        text: "2020-01-01 00:00:00.5Z[bsgaqql7=4FH][!nk_8nl=",
+        kind: Kind::RepliesNone,
+        calls: "[bsgaqql7=4FH]",
+    },
+    Asked {
+        form: Form::Parse,
+        text: "2020-01-01[u-ca=Cwup_-X]",
+        kind: Kind::TurnsCritical,
+        calls: "",
+    },
+];
+
+const BEFORE_A_WRONG_END: &[Asked] = &[
+    Asked {
+        form: Form::Parse,
+        text: "20200101WT12[!u--=1]",
+        kind: Kind::RepliesAnother,
+        calls: "",
+    },
+    Asked {
+        form: Form::Parse,
+        text: "2020-01-01[a=b]junk",
+        kind: Kind::HandsBack,
+        calls: "[a=b]",
+    },
+    Asked {
+        form: Form::Parse,
+        text: "2020-01-01[a=b][c=d]junk",
+        kind: Kind::HandsBack,
+        calls: "[a=b][c=d]",
+    },
+];
 
 #[test]
 fn asks_before_a_fault(rt: HostRuntime) {
-    check_handled(
-        &rt,
-        &Err(AnnotationKeyLeadingChar),
-        &[
-            Asked {
-                form: Form::Parse,
-                text: "2020-01-01[u-ca=Nl8-jswAuQ-H][",
-                kind: Kind::HandsBack,
-                calls: "[u-ca=Nl8-jswAuQ-H]",
-            },
-            Asked {
-                form: Form::Parse,
-                text: "20200101T12[answer-to-universe=xRozE-IPf-E3][u-ca=a0sa-2l4s][answer-to-universe=OMr-WGJ2kC-6pOrnn][u-ca=iso8601][u-ca=a][!",
-                kind: Kind::RepliesAnother,
-                calls: "[answer-to-universe=xRozE-IPf-E3][u-ca=a0sa-2l4s][answer-to-universe=OMr-WGJ2kC-6pOrnn][u-ca=iso8601][u-ca=a]",
-            },
-        ],
-    );
-    check_handled(
-        &rt,
-        &Err(AnnotationValueChar),
-        &[
-            Asked {
-                form: Form::Parse,
-                text: "2020-01-01 00:00:00.5Z[bsgaqql7=4FH][!nk_8nl=",
-                kind: Kind::RepliesNone,
-                calls: "[bsgaqql7=4FH]",
-            },
-            Asked {
-                form: Form::Parse,
-                text: "2020-01-01[u-ca=Cwup_-X]",
-                kind: Kind::TurnsCritical,
-                calls: "",
-            },
-        ],
-    );
+    check_handled(&rt, &Err(AnnotationKeyLeadingChar), BEFORE_A_WRONG_KEY);
+    check_handled(&rt, &Err(AnnotationValueChar), BEFORE_A_WRONG_VALUE);
     check_handled(
         &rt,
         &Err(AnnotationKeyValueSeparator),
@@ -500,30 +511,7 @@ fn asks_before_a_fault(rt: HostRuntime) {
             calls: "[!u-ca=b][u-ca=AdUhu-LRdEB]",
         }],
     );
-    check_handled(
-        &rt,
-        &Err(InvalidEnd),
-        &[
-            Asked {
-                form: Form::Parse,
-                text: "20200101WT12[!u--=1]",
-                kind: Kind::RepliesAnother,
-                calls: "",
-            },
-            Asked {
-                form: Form::Parse,
-                text: "2020-01-01[a=b]junk",
-                kind: Kind::HandsBack,
-                calls: "[a=b]",
-            },
-            Asked {
-                form: Form::Parse,
-                text: "2020-01-01[a=b][c=d]junk",
-                kind: Kind::HandsBack,
-                calls: "[a=b][c=d]",
-            },
-        ],
-    );
+    check_handled(&rt, &Err(InvalidEnd), BEFORE_A_WRONG_END);
     check_handled(
         &rt,
         &Err(AnnotationClose),
@@ -536,26 +524,24 @@ fn asks_before_a_fault(rt: HostRuntime) {
     );
 }
 
+const BEFORE_A_FAULT_OF_A_DATE: &[Asked] = &[
+    Asked {
+        form: Form::Parse,
+        text: "2020-01-0",
+        kind: Kind::RepliesNone,
+        calls: "",
+    },
+    Asked {
+        form: Form::Parse,
+        text: "2020-0",
+        kind: Kind::TurnsCritical,
+        calls: "",
+    },
+];
+
 #[test]
 fn asks_nothing_before_a_fault_of_a_date(rt: HostRuntime) {
-    check_handled(
-        &rt,
-        &Err(AT_DIGIT),
-        &[
-            Asked {
-                form: Form::Parse,
-                text: "2020-01-0",
-                kind: Kind::RepliesNone,
-                calls: "",
-            },
-            Asked {
-                form: Form::Parse,
-                text: "2020-0",
-                kind: Kind::TurnsCritical,
-                calls: "",
-            },
-        ],
-    );
+    check_handled(&rt, &Err(AT_DIGIT), BEFORE_A_FAULT_OF_A_DATE);
     check_handled(
         &rt,
         &Err(DateYear),
@@ -602,6 +588,48 @@ fn heeds_handlers_of_wide_texts(rt: HostRuntime) {
     );
 }
 
+const WIDE_TEXTS: &[Asked] = &[
+    Asked {
+        form: Form::Parse,
+        text: "2020-01-01[18:01][!u-ca=japanese\u{7f}]",
+        kind: Kind::TurnsCritical,
+        calls: "",
+    },
+    Asked {
+        form: Form::Parse,
+        text: "2020-01-01[0u-ca=\u{7f}a8-2UZ-2b6iy]",
+        kind: Kind::MakesCritical,
+        calls: "",
+    },
+];
+
+const WIDE_NO_LETTER: &[Asked] = &[
+    Asked {
+        form: Form::Parse,
+        text: "2020-01-01 00:00:00.5Z[u-ca=CzQ0a3-PyM-ju][iwky-8bo=IwOJz-gjv-u4MDVT-zL4NDu][!jglkvdvm=XG\u{e9}Mqmt-Pe-Wz][u-ca=d-jX-Hmth-BXr]",
+        kind: Kind::RepliesNone,
+        calls: "[u-ca=CzQ0a3-PyM-ju][iwky-8bo=IwOJz-gjv-u4MDVT-zL4NDu]",
+    },
+    Asked {
+        form: Form::Parse,
+        text: "2020-01-01[u-\u{7f}ca=oQ-b-vC]",
+        kind: Kind::MakesCritical,
+        calls: "",
+    },
+    Asked {
+        form: Form::Parse,
+        text: "2020-01-01[u-ca=ZQ-PB9T][q-rrwv=jRSShrMIMY-5g-\u{ff}rE9][rs1tpdw=fua06i-bJ-VN5]",
+        kind: Kind::RepliesNone,
+        calls: "[u-ca=ZQ-PB9T]",
+    },
+    Asked {
+        form: Form::Parse,
+        text: "2020-01-01[!u-ca\u{130}=O8K-PA-73dBkw-WfIA9][!u-ca=japanese]",
+        kind: Kind::HandsBack,
+        calls: "",
+    },
+];
+
 #[test]
 fn refuses_wide_texts_with_handlers(rt: HostRuntime) {
     check_wide_refusals(
@@ -614,24 +642,7 @@ fn refuses_wide_texts_with_handlers(rt: HostRuntime) {
             calls: "[x-y=iso8601]",
         }],
     );
-    check_wide_refusals(
-        &rt,
-        TzLeadingChar,
-        &[
-            Asked {
-                form: Form::Parse,
-                text: "2020-01-01[18:01][!u-ca=japanese\u{7f}]",
-                kind: Kind::TurnsCritical,
-                calls: "",
-            },
-            Asked {
-                form: Form::Parse,
-                text: "2020-01-01[0u-ca=\u{7f}a8-2UZ-2b6iy]",
-                kind: Kind::MakesCritical,
-                calls: "",
-            },
-        ],
-    );
+    check_wide_refusals(&rt, TzLeadingChar, WIDE_TEXTS);
     check_wide_refusals(
         &rt,
         CriticalDuplicateCalendar,
@@ -642,34 +653,5 @@ fn refuses_wide_texts_with_handlers(rt: HostRuntime) {
             calls: "[u-ca=iso8601][u-ca=e6dVZ]",
         }],
     );
-    check_wide_refusals(
-        &rt,
-        NonAsciiCodePoint,
-        &[
-            Asked {
-                form: Form::Parse,
-                text: "2020-01-01 00:00:00.5Z[u-ca=CzQ0a3-PyM-ju][iwky-8bo=IwOJz-gjv-u4MDVT-zL4NDu][!jglkvdvm=XG\u{e9}Mqmt-Pe-Wz][u-ca=d-jX-Hmth-BXr]",
-                kind: Kind::RepliesNone,
-                calls: "[u-ca=CzQ0a3-PyM-ju][iwky-8bo=IwOJz-gjv-u4MDVT-zL4NDu]",
-            },
-            Asked {
-                form: Form::Parse,
-                text: "2020-01-01[u-\u{7f}ca=oQ-b-vC]",
-                kind: Kind::MakesCritical,
-                calls: "",
-            },
-            Asked {
-                form: Form::Parse,
-                text: "2020-01-01[u-ca=ZQ-PB9T][q-rrwv=jRSShrMIMY-5g-\u{ff}rE9][rs1tpdw=fua06i-bJ-VN5]",
-                kind: Kind::RepliesNone,
-                calls: "[u-ca=ZQ-PB9T]",
-            },
-            Asked {
-                form: Form::Parse,
-                text: "2020-01-01[!u-ca\u{130}=O8K-PA-73dBkw-WfIA9][!u-ca=japanese]",
-                kind: Kind::HandsBack,
-                calls: "",
-            },
-        ],
-    );
+    check_wide_refusals(&rt, NonAsciiCodePoint, WIDE_NO_LETTER);
 }

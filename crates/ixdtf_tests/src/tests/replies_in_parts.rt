@@ -8,26 +8,24 @@ use ixdtf::ParseError::{
 };
 use ixdtf::records::{Sign, UtcOffsetRecordOrZ};
 
+const YEAR_MONTHS: &[Asked] = &[
+    Asked {
+        form: Form::YearMonth,
+        text: "2020-01[_=iso8601]",
+        kind: Kind::HandsBack,
+        calls: "[_=iso8601]",
+    },
+    Asked {
+        form: Form::YearMonth,
+        text: "2020-01[!mr=A][!answer-to-universe=NLM-yw7][u-ca=eUfEnd]",
+        kind: Kind::RepliesNone,
+        calls: "[!mr=A][!answer-to-universe=NLM-yw7][u-ca=eUfEnd]",
+    },
+];
+
 #[test]
 fn heeds_handlers_of_year_months(rt: HostRuntime) {
-    check_handled(
-        &rt,
-        &Ok(dated(2020, 1, 1, None)),
-        &[
-            Asked {
-                form: Form::YearMonth,
-                text: "2020-01[_=iso8601]",
-                kind: Kind::HandsBack,
-                calls: "[_=iso8601]",
-            },
-            Asked {
-                form: Form::YearMonth,
-                text: "2020-01[!mr=A][!answer-to-universe=NLM-yw7][u-ca=eUfEnd]",
-                kind: Kind::RepliesNone,
-                calls: "[!mr=A][!answer-to-universe=NLM-yw7][u-ca=eUfEnd]",
-            },
-        ],
-    );
+    check_handled(&rt, &Ok(dated(2020, 1, 1, None)), YEAR_MONTHS);
     check_handled(
         &rt,
         &Ok(parts(Some((2020, 1, 1)), None, None, None, Some("a"))),
@@ -51,26 +49,24 @@ fn heeds_handlers_of_year_months(rt: HostRuntime) {
     );
 }
 
+const MONTH_DAYS: &[Asked] = &[
+    Asked {
+        form: Form::MonthDay,
+        text: "11-07[u-ca=Agregory]",
+        kind: Kind::RepliesNone,
+        calls: "[u-ca=Agregory]",
+    },
+    Asked {
+        form: Form::MonthDay,
+        text: "11-07[u-ca=1][u-c=Q1hBRV-7bzvj-opdF][u-caa=jKpQvd-FDtiq-Z][!u-ca=FDRH-KlFC-wT-B][!pd3v3t=04-LV2V]",
+        kind: Kind::RepliesNone,
+        calls: "[u-ca=1][u-c=Q1hBRV-7bzvj-opdF][u-caa=jKpQvd-FDtiq-Z][!u-ca=FDRH-KlFC-wT-B][!pd3v3t=04-LV2V]",
+    },
+];
+
 #[test]
 fn heeds_handlers_of_month_days(rt: HostRuntime) {
-    check_handled(
-        &rt,
-        &Ok(dated(0, 11, 7, None)),
-        &[
-            Asked {
-                form: Form::MonthDay,
-                text: "11-07[u-ca=Agregory]",
-                kind: Kind::RepliesNone,
-                calls: "[u-ca=Agregory]",
-            },
-            Asked {
-                form: Form::MonthDay,
-                text: "11-07[u-ca=1][u-c=Q1hBRV-7bzvj-opdF][u-caa=jKpQvd-FDtiq-Z][!u-ca=FDRH-KlFC-wT-B][!pd3v3t=04-LV2V]",
-                kind: Kind::RepliesNone,
-                calls: "[u-ca=1][u-c=Q1hBRV-7bzvj-opdF][u-caa=jKpQvd-FDtiq-Z][!u-ca=FDRH-KlFC-wT-B][!pd3v3t=04-LV2V]",
-            },
-        ],
-    );
+    check_handled(&rt, &Ok(dated(0, 11, 7, None)), MONTH_DAYS);
     check_handled(
         &rt,
         &Ok(parts(Some((0, 11, 7)), None, None, Some((true, "u-ca7a-b")), None)),
@@ -149,156 +145,171 @@ fn heeds_handlers_of_times_alone(rt: HostRuntime) {
     );
 }
 
+const CRITICAL_REPLIES: &[Asked] = &[
+    Asked {
+        form: Form::YearMonth,
+        text: "2020-01[a=b][!c=d][e=f]",
+        kind: Kind::HandsBack,
+        calls: "[a=b][!c=d]",
+    },
+    Asked {
+        form: Form::MonthDay,
+        text: "11-07[a=b][!c=d][e=f]",
+        kind: Kind::HandsBack,
+        calls: "[a=b][!c=d]",
+    },
+    Asked {
+        form: Form::Time,
+        text: "T12[a=b][!c=d][e=f]",
+        kind: Kind::HandsBack,
+        calls: "[a=b][!c=d]",
+    },
+    Asked {
+        form: Form::MonthDay,
+        text: "--0229[u-c=qabNyS-WtG-V4Y][u-ca=japanese][u-ca=d][!u-ca=Fymjh5-4BKyO-R40CBt][!u-ca=japanese]",
+        kind: Kind::TurnsCritical,
+        calls: "[u-c=qabNyS-WtG-V4Y]",
+    },
+    Asked {
+        form: Form::Time,
+        text: "T12[!MUa/M/CX][u_ca=1]",
+        kind: Kind::MakesCritical,
+        calls: "[u_ca=1]",
+    },
+    Asked {
+        form: Form::YearMonth,
+        text: "+00202001[u-c=aCmq-I][foo=vv-u-zWCeDV-6F][!u-ca=japanese][u-ca=1]",
+        kind: Kind::MakesCritical,
+        calls: "[u-c=aCmq-I]",
+    },
+    Asked {
+        form: Form::MonthDay,
+        text: "--0229[u-ca=H-LEFJ-LG][g=fGFm][u-ca=91Bl][!u-ca=b]",
+        kind: Kind::TurnsCritical,
+        calls: "[u-ca=H-LEFJ-LG][g=fGFm]",
+    },
+    Asked {
+        form: Form::YearMonth,
+        text: "2020-01[u-ca=a][wg5aq=APux-rHHIz-Z-9YeWjp][atvo=b][u-ca=a0sa-2l4s][u--=a0sa-2l4s]",
+        kind: Kind::TurnsCritical,
+        calls: "[u-ca=a][wg5aq=APux-rHHIz-Z-9YeWjp]",
+    },
+    Asked {
+        form: Form::MonthDay,
+        text: "11-07[u--=kLRPl-yjagjz][v=1dzhp-I1.wAH0F2][!z4=japanese][u-c=A][!f-1a2b=EWvXqV-Vm5SON-4oCP]",
+        kind: Kind::MakesCritical,
+        calls: "[u--=kLRPl-yjagjz]",
+    },
+    Asked {
+        form: Form::Time,
+        text: "12:00:00+01[!Kd/oHlj/T.Ffch+Ry-5efYE][rutuhpgs=b][!a=a0sa-2l4s][!u-ca=2FGZ-xmTuMi-C6-KbLjbX]",
+        kind: Kind::TurnsCritical,
+        calls: "[rutuhpgs=b]",
+    },
+    Asked {
+        form: Form::MonthDay,
+        text: "11-07[u-ca=gregory][!jt8pqa=a]",
+        kind: Kind::MakesCritical,
+        calls: "[u-ca=gregory][!jt8pqa=a]",
+    },
+    Asked {
+        form: Form::YearMonth,
+        text: "2020-01[!-10:12][!x-y=japanese][u-ca=a][oi2710bx=a][!df-=h3X-pGusqL][!u=g",
+        kind: Kind::HandsBack,
+        calls: "[!x-y=japanese]",
+    },
+];
+
+const DUPLICATE_CALENDARS: &[Asked] = &[
+    Asked {
+        form: Form::MonthDay,
+        text: "--0229[GMT0][!c74r=a0sa-2l4s][!u-ca=gregory][!_=A][!u-ca=gregory]",
+        kind: Kind::RepliesAnother,
+        calls: "[!c74r=a0sa-2l4s][!u-ca=gregory]",
+    },
+    Asked {
+        form: Form::YearMonth,
+        text: "+00202001[!u-ca=gregory][!u-ca=uh]",
+        kind: Kind::MakesCritical,
+        calls: "[!u-ca=gregory][!u-ca=uh]",
+    },
+    Asked {
+        form: Form::MonthDay,
+        text: "--0229[!u-ca=NJ-k3aIu-8][u-ca=hebrew][u-c=iso8601][!u-ca=nMsda-fPB4-jZaxDV]",
+        kind: Kind::HandsBack,
+        calls: "[!u-ca=NJ-k3aIu-8][u-ca=hebrew]",
+    },
+    Asked {
+        form: Form::YearMonth,
+        text: "+00202001[u-ca=b-TNXP-Tms-qJ][!u-ca=a][!u-cb=A][u-ca=1][!u_ca=b]",
+        kind: Kind::RepliesAnother,
+        calls: "[u-ca=b-TNXP-Tms-qJ][!u-ca=a]",
+    },
+    Asked {
+        form: Form::MonthDay,
+        text: "--0229[u-ca=0qjj-Y13Ki-cHTaU8-Ve4IKL][u-ca=7O-TEk-p][!",
+        kind: Kind::MakesCritical,
+        calls: "[u-ca=0qjj-Y13Ki-cHTaU8-Ve4IKL][u-ca=7O-TEk-p]",
+    },
+];
+
 #[test]
 fn refuses_replies_in_each_form(rt: HostRuntime) {
-    check_handled(
-        &rt,
-        &Err(UnrecognizedCritical),
-        &[
-            Asked {
-                form: Form::YearMonth,
-                text: "2020-01[a=b][!c=d][e=f]",
-                kind: Kind::HandsBack,
-                calls: "[a=b][!c=d]",
-            },
-            Asked {
-                form: Form::MonthDay,
-                text: "11-07[a=b][!c=d][e=f]",
-                kind: Kind::HandsBack,
-                calls: "[a=b][!c=d]",
-            },
-            Asked {
-                form: Form::Time,
-                text: "T12[a=b][!c=d][e=f]",
-                kind: Kind::HandsBack,
-                calls: "[a=b][!c=d]",
-            },
-            Asked {
-                form: Form::MonthDay,
-                text: "--0229[u-c=qabNyS-WtG-V4Y][u-ca=japanese][u-ca=d][!u-ca=Fymjh5-4BKyO-R40CBt][!u-ca=japanese]",
-                kind: Kind::TurnsCritical,
-                calls: "[u-c=qabNyS-WtG-V4Y]",
-            },
-            Asked {
-                form: Form::Time,
-                text: "T12[!MUa/M/CX][u_ca=1]",
-                kind: Kind::MakesCritical,
-                calls: "[u_ca=1]",
-            },
-            Asked {
-                form: Form::YearMonth,
-                text: "+00202001[u-c=aCmq-I][foo=vv-u-zWCeDV-6F][!u-ca=japanese][u-ca=1]",
-                kind: Kind::MakesCritical,
-                calls: "[u-c=aCmq-I]",
-            },
-            Asked {
-                form: Form::MonthDay,
-                text: "--0229[u-ca=H-LEFJ-LG][g=fGFm][u-ca=91Bl][!u-ca=b]",
-                kind: Kind::TurnsCritical,
-                calls: "[u-ca=H-LEFJ-LG][g=fGFm]",
-            },
-            Asked {
-                form: Form::YearMonth,
-                text: "2020-01[u-ca=a][wg5aq=APux-rHHIz-Z-9YeWjp][atvo=b][u-ca=a0sa-2l4s][u--=a0sa-2l4s]",
-                kind: Kind::TurnsCritical,
-                calls: "[u-ca=a][wg5aq=APux-rHHIz-Z-9YeWjp]",
-            },
-            Asked {
-                form: Form::MonthDay,
-                text: "11-07[u--=kLRPl-yjagjz][v=1dzhp-I1.wAH0F2][!z4=japanese][u-c=A][!f-1a2b=EWvXqV-Vm5SON-4oCP]",
-                kind: Kind::MakesCritical,
-                calls: "[u--=kLRPl-yjagjz]",
-            },
-            Asked {
-                form: Form::Time,
-                text: "12:00:00+01[!Kd/oHlj/T.Ffch+Ry-5efYE][rutuhpgs=b][!a=a0sa-2l4s][!u-ca=2FGZ-xmTuMi-C6-KbLjbX]",
-                kind: Kind::TurnsCritical,
-                calls: "[rutuhpgs=b]",
-            },
-            Asked {
-                form: Form::MonthDay,
-                text: "11-07[u-ca=gregory][!jt8pqa=a]",
-                kind: Kind::MakesCritical,
-                calls: "[u-ca=gregory][!jt8pqa=a]",
-            },
-            Asked {
-                form: Form::YearMonth,
-                text: "2020-01[!-10:12][!x-y=japanese][u-ca=a][oi2710bx=a][!df-=h3X-pGusqL][!u=g",
-                kind: Kind::HandsBack,
-                calls: "[!x-y=japanese]",
-            },
-        ],
-    );
-    check_handled(
-        &rt,
-        &Err(CriticalDuplicateCalendar),
-        &[
-            Asked {
-                form: Form::MonthDay,
-                text: "--0229[GMT0][!c74r=a0sa-2l4s][!u-ca=gregory][!_=A][!u-ca=gregory]",
-                kind: Kind::RepliesAnother,
-                calls: "[!c74r=a0sa-2l4s][!u-ca=gregory]",
-            },
-            Asked {
-                form: Form::YearMonth,
-                text: "+00202001[!u-ca=gregory][!u-ca=uh]",
-                kind: Kind::MakesCritical,
-                calls: "[!u-ca=gregory][!u-ca=uh]",
-            },
-            Asked {
-                form: Form::MonthDay,
-                text: "--0229[!u-ca=NJ-k3aIu-8][u-ca=hebrew][u-c=iso8601][!u-ca=nMsda-fPB4-jZaxDV]",
-                kind: Kind::HandsBack,
-                calls: "[!u-ca=NJ-k3aIu-8][u-ca=hebrew]",
-            },
-            Asked {
-                form: Form::YearMonth,
-                text: "+00202001[u-ca=b-TNXP-Tms-qJ][!u-ca=a][!u-cb=A][u-ca=1][!u_ca=b]",
-                kind: Kind::RepliesAnother,
-                calls: "[u-ca=b-TNXP-Tms-qJ][!u-ca=a]",
-            },
-            Asked {
-                form: Form::MonthDay,
-                text: "--0229[u-ca=0qjj-Y13Ki-cHTaU8-Ve4IKL][u-ca=7O-TEk-p][!",
-                kind: Kind::MakesCritical,
-                calls: "[u-ca=0qjj-Y13Ki-cHTaU8-Ve4IKL][u-ca=7O-TEk-p]",
-            },
-        ],
-    );
+    check_handled(&rt, &Err(UnrecognizedCritical), CRITICAL_REPLIES);
+    check_handled(&rt, &Err(CriticalDuplicateCalendar), DUPLICATE_CALENDARS);
 }
+
+const BEFORE_A_FAULT: &[Asked] = &[
+    Asked {
+        form: Form::Time,
+        text: "12:00:00+01[f3sd!m=b][izcf_p=japanese]",
+        kind: Kind::MakesCritical,
+        calls: "",
+    },
+    Asked {
+        form: Form::MonthDay,
+        text: "11-07[!u- a=R19-wrfA-MPRau][x-y=hebre",
+        kind: Kind::MakesCritical,
+        calls: "",
+    },
+    Asked {
+        form: Form::YearMonth,
+        text: "+00202001[u-ca=9d6Y4I][ytl3l31b][gybbs45=iso8601]",
+        kind: Kind::HandsBack,
+        calls: "[u-ca=9d6Y4I]",
+    },
+    Asked {
+        form: Form::YearMonth,
+        text: "+00202001[u--=hebrew][u-ca=aOIE0-q1GscW][u-ca=ib3zN-S-zq-OB][u]",
+        kind: Kind::RepliesNone,
+        calls: "[u--=hebrew][u-ca=aOIE0-q1GscW][u-ca=ib3zN-S-zq-OB]",
+    },
+];
+
+const BEFORE_A_WRONG_CLOSE: &[Asked] = &[
+    Asked {
+        form: Form::MonthDay,
+        text: "11-07[bn_=b][u-ca=8",
+        kind: Kind::RepliesNone,
+        calls: "[bn_=b]",
+    },
+    Asked {
+        form: Form::YearMonth,
+        text: "+00202001[!u-ca=mQCh-8Ubt",
+        kind: Kind::HandsBack,
+        calls: "",
+    },
+    Asked {
+        form: Form::YearMonth,
+        text: "+00202001[!u-a=D",
+        kind: Kind::MakesCritical,
+        calls: "",
+    },
+];
 
 #[test]
 fn asks_before_a_fault_in_each_form(rt: HostRuntime) {
-    check_handled(
-        &rt,
-        &Err(AnnotationKeyChar),
-        &[
-            Asked {
-                form: Form::Time,
-                text: "12:00:00+01[f3sd!m=b][izcf_p=japanese]",
-                kind: Kind::MakesCritical,
-                calls: "",
-            },
-            Asked {
-                form: Form::MonthDay,
-                text: "11-07[!u- a=R19-wrfA-MPRau][x-y=hebre",
-                kind: Kind::MakesCritical,
-                calls: "",
-            },
-            Asked {
-                form: Form::YearMonth,
-                text: "+00202001[u-ca=9d6Y4I][ytl3l31b][gybbs45=iso8601]",
-                kind: Kind::HandsBack,
-                calls: "[u-ca=9d6Y4I]",
-            },
-            Asked {
-                form: Form::YearMonth,
-                text: "+00202001[u--=hebrew][u-ca=aOIE0-q1GscW][u-ca=ib3zN-S-zq-OB][u]",
-                kind: Kind::RepliesNone,
-                calls: "[u--=hebrew][u-ca=aOIE0-q1GscW][u-ca=ib3zN-S-zq-OB]",
-            },
-        ],
-    );
+    check_handled(&rt, &Err(AnnotationKeyChar), BEFORE_A_FAULT);
     check_handled(
         &rt,
         &Err(InvalidEnd),
@@ -319,31 +330,23 @@ fn asks_before_a_fault_in_each_form(rt: HostRuntime) {
             calls: "",
         }],
     );
-    check_handled(
-        &rt,
-        &Err(AnnotationClose),
-        &[
-            Asked {
-                form: Form::MonthDay,
-                text: "11-07[bn_=b][u-ca=8",
-                kind: Kind::RepliesNone,
-                calls: "[bn_=b]",
-            },
-            Asked {
-                form: Form::YearMonth,
-                text: "+00202001[!u-ca=mQCh-8Ubt",
-                kind: Kind::HandsBack,
-                calls: "",
-            },
-            Asked {
-                form: Form::YearMonth,
-                text: "+00202001[!u-a=D",
-                kind: Kind::MakesCritical,
-                calls: "",
-            },
-        ],
-    );
+    check_handled(&rt, &Err(AnnotationClose), BEFORE_A_WRONG_CLOSE);
 }
+
+const BEFORE_A_FAULT_OF_A_CORE: &[Asked] = &[
+    Asked {
+        form: Form::Time,
+        text: "1200[!z=FPzSXt][answer-to-universe=a-b][!lc=1][u-ca=tZIyk]",
+        kind: Kind::RepliesNone,
+        calls: "",
+    },
+    Asked {
+        form: Form::Time,
+        text: "1200[a=b]",
+        kind: Kind::HandsBack,
+        calls: "",
+    },
+];
 
 #[test]
 fn asks_nothing_before_a_fault_of_a_core(rt: HostRuntime) {
@@ -357,46 +360,27 @@ fn asks_nothing_before_a_fault_of_a_core(rt: HostRuntime) {
             calls: "",
         }],
     );
-    check_handled(
-        &rt,
-        &Err(AmbiguousTimeMonthDay),
-        &[
-            Asked {
-                form: Form::Time,
-                text: "1200[!z=FPzSXt][answer-to-universe=a-b][!lc=1][u-ca=tZIyk]",
-                kind: Kind::RepliesNone,
-                calls: "",
-            },
-            Asked {
-                form: Form::Time,
-                text: "1200[a=b]",
-                kind: Kind::HandsBack,
-                calls: "",
-            },
-        ],
-    );
+    check_handled(&rt, &Err(AmbiguousTimeMonthDay), BEFORE_A_FAULT_OF_A_CORE);
 }
+
+const PASSED_OVER: &[Asked] = &[
+    Asked {
+        form: Form::Parse,
+        text: "2020-01-01[a=b][!c=d][e=f]",
+        kind: Kind::RepliesNone,
+        calls: "[a=b][!c=d][e=f]",
+    },
+    Asked {
+        form: Form::YearMonth,
+        text: "2020-01[a=b][!c=d][e=f]",
+        kind: Kind::RepliesNone,
+        calls: "[a=b][!c=d][e=f]",
+    },
+];
 
 #[test]
 fn asks_about_all_that_it_passes_over(rt: HostRuntime) {
-    check_handled(
-        &rt,
-        &Ok(dated(2020, 1, 1, None)),
-        &[
-            Asked {
-                form: Form::Parse,
-                text: "2020-01-01[a=b][!c=d][e=f]",
-                kind: Kind::RepliesNone,
-                calls: "[a=b][!c=d][e=f]",
-            },
-            Asked {
-                form: Form::YearMonth,
-                text: "2020-01[a=b][!c=d][e=f]",
-                kind: Kind::RepliesNone,
-                calls: "[a=b][!c=d][e=f]",
-            },
-        ],
-    );
+    check_handled(&rt, &Ok(dated(2020, 1, 1, None)), PASSED_OVER);
     check_handled(
         &rt,
         &Ok(dated(0, 11, 7, None)),
@@ -419,96 +403,90 @@ fn asks_about_all_that_it_passes_over(rt: HostRuntime) {
     );
 }
 
+const WIDE_CALENDARS: &[Asked] = &[
+    Asked {
+        form: Form::MonthDay,
+        text: "--0229[u-ca=rz44]",
+        kind: Kind::RepliesAnother,
+        calls: "[u-ca=rz44]",
+    },
+    Asked {
+        form: Form::Time,
+        text: "12:00:00+01[!u-cb=1][u-ca=LUnY-xN][!u-ca=b][u_ca=a][u-ca=p1-x-ZkQCD]",
+        kind: Kind::RepliesAnother,
+        calls: "[!u-cb=1][u-ca=LUnY-xN][!u-ca=b][u_ca=a][u-ca=p1-x-ZkQCD]",
+    },
+];
+
+const WIDE_WITHOUT_CALENDAR: &[Asked] = &[
+    Asked {
+        form: Form::Time,
+        text: "T12[u-ca=japanese][a=a-b]",
+        kind: Kind::RepliesNone,
+        calls: "[u-ca=japanese][a=a-b]",
+    },
+    Asked {
+        form: Form::YearMonth,
+        text: "2020-01[!mbpxmqurx=a][u-ca=evRyBU-ahbf]",
+        kind: Kind::RepliesNone,
+        calls: "[!mbpxmqurx=a][u-ca=evRyBU-ahbf]",
+    },
+];
+
 #[test]
 fn heeds_handlers_of_wide_texts_in_each_form(rt: HostRuntime) {
-    check_wide_calendars(
-        &rt,
-        Some("a"),
-        &[
-            Asked {
-                form: Form::MonthDay,
-                text: "--0229[u-ca=rz44]",
-                kind: Kind::RepliesAnother,
-                calls: "[u-ca=rz44]",
-            },
-            Asked {
-                form: Form::Time,
-                text: "12:00:00+01[!u-cb=1][u-ca=LUnY-xN][!u-ca=b][u_ca=a][u-ca=p1-x-ZkQCD]",
-                kind: Kind::RepliesAnother,
-                calls: "[!u-cb=1][u-ca=LUnY-xN][!u-ca=b][u_ca=a][u-ca=p1-x-ZkQCD]",
-            },
-        ],
-    );
-    check_wide_calendars(
-        &rt,
-        None,
-        &[
-            Asked {
-                form: Form::Time,
-                text: "T12[u-ca=japanese][a=a-b]",
-                kind: Kind::RepliesNone,
-                calls: "[u-ca=japanese][a=a-b]",
-            },
-            Asked {
-                form: Form::YearMonth,
-                text: "2020-01[!mbpxmqurx=a][u-ca=evRyBU-ahbf]",
-                kind: Kind::RepliesNone,
-                calls: "[!mbpxmqurx=a][u-ca=evRyBU-ahbf]",
-            },
-        ],
-    );
+    check_wide_calendars(&rt, Some("a"), WIDE_CALENDARS);
+    check_wide_calendars(&rt, None, WIDE_WITHOUT_CALENDAR);
 }
+
+const WIDE_TEXTS: &[Asked] = &[
+    Asked {
+        form: Form::YearMonth,
+        text: "2020-01[foo=a-b][u-ca=iso8601][_=ZjPsF3][u-ca=fm-wToEpf-y-05OR\u{13d}2][!u-ca=A]",
+        kind: Kind::RepliesNone,
+        calls: "[foo=a-b][u-ca=iso8601][_=ZjPsF3]",
+    },
+    Asked {
+        form: Form::YearMonth,
+        text: "+00202001[u-c\u{132}a=hebrew]",
+        kind: Kind::RepliesNone,
+        calls: "",
+    },
+    Asked {
+        form: Form::MonthDay,
+        text: "11-07[!GFtI8pE/0FKB][u-ca=O-tOg\u{15b}fi6]",
+        kind: Kind::MakesCritical,
+        calls: "",
+    },
+    Asked {
+        form: Form::Time,
+        text: "T12[x-y=buDYAD-vaR-P8Qz][zhbcf=gregory][u-ca=iso8601]\u{121}[u-ca=iso8601][!po-dtr=qOWsW-6sLMW-58PDWQ-VnRuMg]",
+        kind: Kind::HandsBack,
+        calls: "[x-y=buDYAD-vaR-P8Qz][zhbcf=gregory][u-ca=iso8601]",
+    },
+    Asked {
+        form: Form::MonthDay,
+        text: "--0229[u-ca=4o-bOYK][u-ca=Ed\u{e9}]",
+        kind: Kind::HandsBack,
+        calls: "[u-ca=4o-bOYK]",
+    },
+    Asked {
+        form: Form::YearMonth,
+        text: "+00202001[u-\u{80}ca=a-b]",
+        kind: Kind::HandsBack,
+        calls: "",
+    },
+    Asked {
+        form: Form::Time,
+        text: "12:00:00+01[u\u{7fff}-ca=japanese][u-ca=ZZMN-ieDCE-9usg]",
+        kind: Kind::RepliesNone,
+        calls: "",
+    },
+];
 
 #[test]
 fn refuses_wide_texts_with_handlers_in_each_form(rt: HostRuntime) {
-    check_wide_refusals(
-        &rt,
-        NonAsciiCodePoint,
-        &[
-            Asked {
-                form: Form::YearMonth,
-                text: "2020-01[foo=a-b][u-ca=iso8601][_=ZjPsF3][u-ca=fm-wToEpf-y-05OR\u{13d}2][!u-ca=A]",
-                kind: Kind::RepliesNone,
-                calls: "[foo=a-b][u-ca=iso8601][_=ZjPsF3]",
-            },
-            Asked {
-                form: Form::YearMonth,
-                text: "+00202001[u-c\u{132}a=hebrew]",
-                kind: Kind::RepliesNone,
-                calls: "",
-            },
-            Asked {
-                form: Form::MonthDay,
-                text: "11-07[!GFtI8pE/0FKB][u-ca=O-tOg\u{15b}fi6]",
-                kind: Kind::MakesCritical,
-                calls: "",
-            },
-            Asked {
-                form: Form::Time,
-                text: "T12[x-y=buDYAD-vaR-P8Qz][zhbcf=gregory][u-ca=iso8601]\u{121}[u-ca=iso8601][!po-dtr=qOWsW-6sLMW-58PDWQ-VnRuMg]",
-                kind: Kind::HandsBack,
-                calls: "[x-y=buDYAD-vaR-P8Qz][zhbcf=gregory][u-ca=iso8601]",
-            },
-            Asked {
-                form: Form::MonthDay,
-                text: "--0229[u-ca=4o-bOYK][u-ca=Ed\u{e9}]",
-                kind: Kind::HandsBack,
-                calls: "[u-ca=4o-bOYK]",
-            },
-            Asked {
-                form: Form::YearMonth,
-                text: "+00202001[u-\u{80}ca=a-b]",
-                kind: Kind::HandsBack,
-                calls: "",
-            },
-            Asked {
-                form: Form::Time,
-                text: "12:00:00+01[u\u{7fff}-ca=japanese][u-ca=ZZMN-ieDCE-9usg]",
-                kind: Kind::RepliesNone,
-                calls: "",
-            },
-        ],
-    );
+    check_wide_refusals(&rt, NonAsciiCodePoint, WIDE_TEXTS);
     check_wide_refusals(
         &rt,
         CriticalDuplicateCalendar,

@@ -22,43 +22,42 @@ pub(super) fn check_whole(rt: &impl Abort, rows: &[Whole]) {
     }
 }
 
+const TIMES: &[Whole] = &[
+    Whole {
+        text: "2020-01-01T05",
+        date: (2020, 1, 1),
+        time: (5, 0, 0),
+    },
+    Whole {
+        text: "2020-01-01T12",
+        date: (2020, 1, 1),
+        time: (12, 0, 0),
+    },
+    Whole {
+        text: "2020-01-01t0506",
+        date: (2020, 1, 1),
+        time: (5, 6, 0),
+    },
+    Whole {
+        text: "20200101 05:06",
+        date: (2020, 1, 1),
+        time: (5, 6, 0),
+    },
+    Whole {
+        text: "2020-01-01T050607",
+        date: (2020, 1, 1),
+        time: (5, 6, 7),
+    },
+    Whole {
+        text: "2020-01-01T23:59:60",
+        date: (2020, 1, 1),
+        time: (23, 59, 60),
+    },
+];
+
 #[test]
 fn reads_times(rt: HostRuntime) {
-    check_whole(
-        &rt,
-        &[
-            Whole {
-                text: "2020-01-01T05",
-                date: (2020, 1, 1),
-                time: (5, 0, 0),
-            },
-            Whole {
-                text: "2020-01-01T12",
-                date: (2020, 1, 1),
-                time: (12, 0, 0),
-            },
-            Whole {
-                text: "2020-01-01t0506",
-                date: (2020, 1, 1),
-                time: (5, 6, 0),
-            },
-            Whole {
-                text: "20200101 05:06",
-                date: (2020, 1, 1),
-                time: (5, 6, 0),
-            },
-            Whole {
-                text: "2020-01-01T050607",
-                date: (2020, 1, 1),
-                time: (5, 6, 7),
-            },
-            Whole {
-                text: "2020-01-01T23:59:60",
-                date: (2020, 1, 1),
-                time: (23, 59, 60),
-            },
-        ],
-    );
+    check_whole(&rt, TIMES);
 }
 
 /// A time with a fraction.
@@ -99,32 +98,34 @@ pub(super) fn check_fractional(
     }
 }
 
+const FRACTIONS_AFTER_DATES: &[Fractional] = &[
+    Fractional {
+        text: "2025-01-15T15:23:30.1",
+        time: (15, 23, 30),
+        nanoseconds: 100_000_000,
+        is_cut: false,
+    },
+    Fractional {
+        text: "2025-01-15T15:23:30.12345678",
+        time: (15, 23, 30),
+        nanoseconds: 123_456_780,
+        is_cut: false,
+    },
+    Fractional {
+        text: "2025-01-15T15:23:30.123456789",
+        time: (15, 23, 30),
+        nanoseconds: 123_456_789,
+        is_cut: false,
+    },
+];
+
 #[test]
 fn reads_fractions_after_dates(rt: HostRuntime) {
     check_fractional(
         &rt,
         Reader::Parse,
         Some((2025, 1, 15)),
-        &[
-            Fractional {
-                text: "2025-01-15T15:23:30.1",
-                time: (15, 23, 30),
-                nanoseconds: 100_000_000,
-                is_cut: false,
-            },
-            Fractional {
-                text: "2025-01-15T15:23:30.12345678",
-                time: (15, 23, 30),
-                nanoseconds: 123_456_780,
-                is_cut: false,
-            },
-            Fractional {
-                text: "2025-01-15T15:23:30.123456789",
-                time: (15, 23, 30),
-                nanoseconds: 123_456_789,
-                is_cut: false,
-            },
-        ],
+        FRACTIONS_AFTER_DATES,
     );
     check_fractional(
         &rt,
@@ -161,67 +162,64 @@ fn reads_fractions_after_dates(rt: HostRuntime) {
     );
 }
 
+const FRACTIONS_OF_TIMES_ALONE: &[Fractional] = &[
+    Fractional {
+        text: "15:23:30.1234567",
+        time: (15, 23, 30),
+        nanoseconds: 123_456_700,
+        is_cut: false,
+    },
+    Fractional {
+        text: "15:23:30.12345678",
+        time: (15, 23, 30),
+        nanoseconds: 123_456_780,
+        is_cut: false,
+    },
+    Fractional {
+        text: "15:23:30.123456789",
+        time: (15, 23, 30),
+        nanoseconds: 123_456_789,
+        is_cut: false,
+    },
+    Fractional {
+        text: "15:23:30.1234567890",
+        time: (15, 23, 30),
+        nanoseconds: 123_456_789,
+        is_cut: true,
+    },
+    Fractional {
+        text: "15:23:30.123456789876",
+        time: (15, 23, 30),
+        nanoseconds: 123_456_789,
+        is_cut: true,
+    },
+    Fractional {
+        text: "15:23:30.1234567898765",
+        time: (15, 23, 30),
+        nanoseconds: 123_456_789,
+        is_cut: true,
+    },
+    Fractional {
+        text: "15:23:30.123456789876543",
+        time: (15, 23, 30),
+        nanoseconds: 123_456_789,
+        is_cut: true,
+    },
+    Fractional {
+        text: "15:23:30.1234567898765432",
+        time: (15, 23, 30),
+        nanoseconds: 123_456_789,
+        is_cut: true,
+    },
+    Fractional {
+        text: "15:23:30.1234567898765432101234567890987654321",
+        time: (15, 23, 30),
+        nanoseconds: 123_456_789,
+        is_cut: true,
+    },
+];
+
 #[test]
 fn reads_fractions_of_times_alone(rt: HostRuntime) {
-    check_fractional(
-        &rt,
-        Reader::Time,
-        None,
-        &[
-            Fractional {
-                text: "15:23:30.1234567",
-                time: (15, 23, 30),
-                nanoseconds: 123_456_700,
-                is_cut: false,
-            },
-            Fractional {
-                text: "15:23:30.12345678",
-                time: (15, 23, 30),
-                nanoseconds: 123_456_780,
-                is_cut: false,
-            },
-            Fractional {
-                text: "15:23:30.123456789",
-                time: (15, 23, 30),
-                nanoseconds: 123_456_789,
-                is_cut: false,
-            },
-            Fractional {
-                text: "15:23:30.1234567890",
-                time: (15, 23, 30),
-                nanoseconds: 123_456_789,
-                is_cut: true,
-            },
-            Fractional {
-                text: "15:23:30.123456789876",
-                time: (15, 23, 30),
-                nanoseconds: 123_456_789,
-                is_cut: true,
-            },
-            Fractional {
-                text: "15:23:30.1234567898765",
-                time: (15, 23, 30),
-                nanoseconds: 123_456_789,
-                is_cut: true,
-            },
-            Fractional {
-                text: "15:23:30.123456789876543",
-                time: (15, 23, 30),
-                nanoseconds: 123_456_789,
-                is_cut: true,
-            },
-            Fractional {
-                text: "15:23:30.1234567898765432",
-                time: (15, 23, 30),
-                nanoseconds: 123_456_789,
-                is_cut: true,
-            },
-            Fractional {
-                text: "15:23:30.1234567898765432101234567890987654321",
-                time: (15, 23, 30),
-                nanoseconds: 123_456_789,
-                is_cut: true,
-            },
-        ],
-    );
+    check_fractional(&rt, Reader::Time, None, FRACTIONS_OF_TIMES_ALONE);
 }

@@ -121,17 +121,16 @@ fn check_wide_keys(rt: &impl Abort, keys: &[(&'static str, bool)]) {
     }
 }
 
+const WIDE_KEYS: &[(&str, bool)] = &[
+    ("u-ca", true),
+    ("u-cA", false),
+    ("u-c", false),
+    ("\u{175}-ca", false),
+];
+
 #[test]
 fn one_wide_key_is_of_calendars(rt: HostRuntime) {
-    check_wide_keys(
-        &rt,
-        &[
-            ("u-ca", true),
-            ("u-cA", false),
-            ("u-c", false),
-            ("\u{175}-ca", false),
-        ],
-    );
+    check_wide_keys(&rt, WIDE_KEYS);
 }
 
 #[test]

@@ -37,17 +37,16 @@ fn check_keys(rt: &impl Abort, keys: &[(&'static str, bool)]) {
     }
 }
 
+const KEYS: &[(&str, bool)] = &[
+    ("u-ca", true),
+    ("u-cA", false),
+    ("u-c", false),
+    ("u-ca-", false),
+    ("", false),
+];
+
 #[test]
 fn one_key_is_of_calendars() {
     let rt = HostRuntime;
-    check_keys(
-        &rt,
-        &[
-            ("u-ca", true),
-            ("u-cA", false),
-            ("u-c", false),
-            ("u-ca-", false),
-            ("", false),
-        ],
-    );
+    check_keys(&rt, KEYS);
 }

@@ -30,20 +30,19 @@ fn check_local(rt: &impl Abort, rows: &[(&'static str, (u8, u8, u8))]) {
     }
 }
 
+const TIMES_ALONE: &[(&str, (u8, u8, u8))] = &[
+    ("12", (12, 0, 0)),
+    ("T1200", (12, 0, 0)),
+    ("t121430", (12, 14, 30)),
+    ("0230", (2, 30, 0)),
+    ("0631", (6, 31, 0)),
+    ("1232", (12, 32, 0)),
+];
+
 #[test]
 fn reads_times_alone() {
     let rt = HostRuntime;
-    check_local(
-        &rt,
-        &[
-            ("12", (12, 0, 0)),
-            ("T1200", (12, 0, 0)),
-            ("t121430", (12, 14, 30)),
-            ("0230", (2, 30, 0)),
-            ("0631", (6, 31, 0)),
-            ("1232", (12, 32, 0)),
-        ],
-    );
+    check_local(&rt, TIMES_ALONE);
     check_alone(&rt, "T1214Z", (12, 14, 0), Some(UtcOffsetRecordOrZ::Z));
 }
 
@@ -54,18 +53,17 @@ fn check_west(rt: &impl Abort, rows: &[(&'static str, (u8, u8, u8), u8)]) {
 }
 
 // The sign of an offset stands where the hyphen of a date would.
+const OFFSETS_AFTER_TIMES_ALONE: &[(&str, (u8, u8, u8), u8)] = &[
+    ("13-14", (13, 0, 0), 14),
+    ("2021-13", (20, 21, 0), 13),
+    ("202113-13", (20, 21, 13), 13),
+    ("0000-00", (0, 0, 0), 0),
+];
+
 #[test]
 fn reads_offsets_after_times_alone() {
     let rt = HostRuntime;
-    check_west(
-        &rt,
-        &[
-            ("13-14", (13, 0, 0), 14),
-            ("2021-13", (20, 21, 0), 13),
-            ("202113-13", (20, 21, 13), 13),
-            ("0000-00", (0, 0, 0), 0),
-        ],
-    );
+    check_west(&rt, OFFSETS_AFTER_TIMES_ALONE);
 }
 
 #[test]

@@ -19,22 +19,21 @@ fn check_names(rt: &impl Abort, names: &[&'static str]) {
     }
 }
 
+const NAMES: &[&str] = &[
+    "Europe/Berlin",
+    "UTC",
+    "u",
+    "_x",
+    ".",
+    "Etc/GMT+5",
+    "America/Argentina/Buenos_Aires",
+    "a/-1",
+];
+
 #[test]
 fn reads_names() {
     let rt = HostRuntime;
-    check_names(
-        &rt,
-        &[
-            "Europe/Berlin",
-            "UTC",
-            "u",
-            "_x",
-            ".",
-            "Etc/GMT+5",
-            "America/Argentina/Buenos_Aires",
-            "a/-1",
-        ],
-    );
+    check_names(&rt, NAMES);
 }
 
 fn check_shifts(rt: &impl Abort, rows: &[(&'static str, Sign, u8, u8)]) {
@@ -44,17 +43,16 @@ fn check_shifts(rt: &impl Abort, rows: &[(&'static str, Sign, u8, u8)]) {
     }
 }
 
+const ZONES_THAT_ARE_OFFSETS: &[(&str, Sign, u8, u8)] = &[
+    ("+05:30", Sign::Positive, 5, 30),
+    ("-0530", Sign::Negative, 5, 30),
+    ("+08", Sign::Positive, 8, 0),
+];
+
 #[test]
 fn reads_zones_that_are_offsets() {
     let rt = HostRuntime;
-    check_shifts(
-        &rt,
-        &[
-            ("+05:30", Sign::Positive, 5, 30),
-            ("-0530", Sign::Negative, 5, 30),
-            ("+08", Sign::Positive, 8, 0),
-        ],
-    );
+    check_shifts(&rt, ZONES_THAT_ARE_OFFSETS);
 }
 
 #[test]
