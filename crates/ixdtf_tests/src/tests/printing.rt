@@ -60,17 +60,29 @@ fn prints_for_callers(rt: HostRuntime) {
 
 // ==== What is printed ====
 
+/// Bytes that are not printed to.
+const UNTOUCHED: [u8; 512] = [7; 512];
+
+fn is_untouched(bytes: &[u8]) -> bool {
+    bytes.iter().all(|byte| *byte == 7)
+}
+
 /// The record is printed as these bytes into as many bytes, and not into one less.
 fn check_canonical(rt: &impl Abort, parsed: &IxdtfParseRecord<'_, Utf8>, canonical: &[u8]) {
-    let mut out = [7; 512];
+    let mut out = UNTOUCHED;
     let count = canonical.len().min(512);
     assert_eq!(rt; print(parsed, &mut out[..count]), Ok(count));
     let printed = &out[..count];
     assert!(rt; printed == canonical);
-    let mut out = [7; 512];
-    let short = print(parsed, &mut out[..count.saturating_sub(1)]);
+    check_too_short(rt, parsed, count.saturating_sub(1));
+}
+
+/// The record is not printed into so many bytes, and these stay as they were.
+fn check_too_short(rt: &impl Abort, parsed: &IxdtfParseRecord<'_, Utf8>, count: usize) {
+    let mut out = UNTOUCHED;
+    let short = print(parsed, &mut out[..count.min(512)]);
     assert_eq!(rt; short, Err(PrintError::TooShort));
-    assert!(rt; out.iter().all(|byte| *byte == 7));
+    assert!(rt; is_untouched(&out));
 }
 
 /// The bytes are read as the record, under each profile, and as 16-bit units.
@@ -91,11 +103,11 @@ fn check_read_as(rt: &impl Abort, bytes: &[u8], parsed: &IxdtfParseRecord<'_, Ut
 
 /// The record is printed, and read back from what was printed.
 pub(super) fn check_read_back(rt: &impl Abort, parsed: &IxdtfParseRecord<'_, Utf8>) {
-    let mut out = [7; 512];
+    let mut out = UNTOUCHED;
     match print(parsed, &mut out) {
         Ok(count) => {
             let canonical = &out[..count];
-            assert!(rt; out[count..].iter().all(|byte| *byte == 7));
+            assert!(rt; is_untouched(&out[count..]));
             check_canonical(rt, parsed, canonical);
             check_read_as(rt, canonical, parsed);
         }
@@ -152,13 +164,17 @@ fn prints_three_hundred_digits(rt: HostRuntime) {
     check_printed(&rt, &text, &canonical);
 }
 
-#[test]
-fn prints_back_what_was_read(rt: HostRuntime) {
-    for text in SHARED {
+fn check_each_read_back(rt: &impl Abort, texts: &[&'static str]) {
+    for text in texts {
         if let Ok(parsed) = IxdtfParser::from_str(text).parse() {
-            check_read_back(&rt, &parsed);
+            check_read_back(rt, &parsed);
         }
     }
+}
+
+#[test]
+fn prints_back_what_was_read(rt: HostRuntime) {
+    check_each_read_back(&rt, &SHARED);
 }
 
 // ==== What is not ====
@@ -172,7 +188,7 @@ fn check_not_printable(rt: &impl Abort, what: &str, built: &ParserResult<Record>
     let mut out = [7; 64];
     let refused = print(parsed, &mut out);
     assert_eq!(rt; refused, Err(PrintError::NotPrintable), "{what}");
-    assert!(rt; out.iter().all(|byte| *byte == 7), "{what}");
+    assert!(rt; is_untouched(&out), "{what}");
     let refused = print(parsed, &mut out[..0]);
     assert_eq!(rt;
         refused,

@@ -112,6 +112,8 @@ struct Listener {
     length: usize,
 }
 
+const NOTHING_HEARD: [u8; 256] = [0; 256];
+
 impl Listener {
     fn write(&mut self, part: &[u8]) {
         for byte in part {
@@ -148,7 +150,7 @@ impl Listener {
         Listener {
             kind,
             calls: 0,
-            heard: [0; 256],
+            heard: NOTHING_HEARD,
             length: 0,
         }
     }
@@ -178,19 +180,12 @@ fn heard<'a, T: Foreign + 'static>(
     form: Form,
     listener: &mut Listener,
 ) -> ParserResult<IxdtfParseRecord<'a, T>> {
+    let handler = |annotation| listener.reply(annotation);
     match form {
-        Form::Parse => {
-            parser.parse_with_annotation_handler(|annotation| listener.reply(annotation))
-        }
-        Form::YearMonth => parser.parse_year_month_with_annotation_handler(
-            |annotation| listener.reply(annotation),
-        ),
-        Form::MonthDay => parser.parse_month_day_with_annotation_handler(
-            |annotation| listener.reply(annotation),
-        ),
-        Form::Time => {
-            parser.parse_time_with_annotation_handler(|annotation| listener.reply(annotation))
-        }
+        Form::Parse => parser.parse_with_annotation_handler(handler),
+        Form::YearMonth => parser.parse_year_month_with_annotation_handler(handler),
+        Form::MonthDay => parser.parse_month_day_with_annotation_handler(handler),
+        Form::Time => parser.parse_time_with_annotation_handler(handler),
     }
 }
 

@@ -17,10 +17,12 @@ pub(super) struct Wide {
     length: usize,
 }
 
+const NO_UNITS: [u16; 512] = [0; 512];
+
 impl Wide {
     fn empty() -> Wide {
         Wide {
-            units: [0; 512],
+            units: NO_UNITS,
             length: 0,
         }
     }
