@@ -1,5 +1,6 @@
 -- A handler that is asked about annotations in turn, and whose replies are handed over.
-use Rattle.std.proofs.Common.{◌≡◌, ◌≢◌, ◌≤◌, ℕ, List, [], ◌∷◌, ◌++◌, length, map, take, drop, get_or, ◌<◌, ◌+◌, Option, None, Result, Ok, Err, refl, sym, ◌∙◌, ap, inl, arith, option_map, Bool, true, false, if◌then◌else◌, ◌⊎◌, inr}
+use Rattle.std.proofs.Common.{◌≡◌, ◌≢◌, ◌≤◌, ℕ, List, [], ◌∷◌, ◌++◌, length, map, take, drop, get_or, ◌<◌, ◌+◌, Option, None}
+use Rattle.std.proofs.Common.{Result, Ok, Err, refl, sym, ◌∙◌, ap, inl, arith, option_map, Bool, true, false, if◌then◌else◌, ◌⊎◌, inr}
 use Rattle.std.proofs.SliceLists.{chained_more}
 use Rattle.std.proofs.lemmas.Bool.Decides.{eqb_tells}
 use Rattle.std.proofs.lemmas.List.{map-append, append-nil, length-append, take_more, take-append-drop, length-map}

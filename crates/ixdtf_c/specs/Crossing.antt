@@ -1,5 +1,6 @@
 -- What the numbers at the C boundary stand for.
-use Rattle.std.specs.Prelude.{◌≡◌, ◌≤◌, ℕ, Bool, true, false, not, nat_eq, if◌then◌else◌, List, [], ◌∷◌, ◌-◌, slice_index_or, Option, Some, None, Result, Ok, Err}
+use Rattle.std.specs.Prelude.{◌≡◌, ◌≤◌, ℕ, Bool, true, false, not, nat_eq, if◌then◌else◌, List}
+use Rattle.std.specs.Prelude.{[], ◌∷◌, ◌-◌, slice_index_or, Option, Some, None, Result, Ok, Err}
 use Rattle.ixdtf.specs.declared.records.DateRecord.{DateRecord}
 use Rattle.ixdtf.specs.declared.records.TimeRecord.{TimeRecord}
 use Rattle.ixdtf.specs.declared.records.MinutePrecisionOffset.{MinutePrecisionOffset}
@@ -18,10 +19,15 @@ use Rattle.ixdtf.specs.language.ZoneNames.Zone.{Name, Offset as ByOffset}
 use Rattle.ixdtf.specs.table.Faults.{Fault}
 use Rattle.ixdtf.specs.table.Faults.Fault.{ImplAssert, NonAsciiCodePoint, ParseFloat, AbruptEnd, InvalidEnd, InvalidMonthRange, InvalidDayRange, DateYear}
 use Rattle.ixdtf.specs.table.Faults.Fault.{DateExtendedYear, DateMonth, DateDay, DateUnexpectedEnd, TimeRequired, TimeHour, TimeMinuteSecond, TimeSecond}
-use Rattle.ixdtf.specs.table.Faults.Fault.{FractionPart, DateSeparator, TimeSeparator, DecimalSeparator, InvalidAnnotation, AnnotationOpen, AnnotationClose, AnnotationChar}
-use Rattle.ixdtf.specs.table.Faults.Fault.{AnnotationKeyValueSeparator, AnnotationKeyLeadingChar, AnnotationKeyChar, AnnotationValueCharPostHyphen, AnnotationValueChar, InvalidMinutePrecisionOffset, CriticalDuplicateCalendar, UnrecognizedCritical}
-use Rattle.ixdtf.specs.table.Faults.Fault.{TzLeadingChar, IanaCharPostSeparator, IanaChar, UtcTimeSeparator, OffsetNeedsSign, MonthDayHyphen, DurationDisgnator, DurationValueExceededRange}
-use Rattle.ixdtf.specs.table.Faults.Fault.{DateDurationPartOrder, TimeDurationPartOrder, TimeDurationDesignator, AmbiguousTimeMonthDay, AmbiguousTimeYearMonth, InvalidMonthDay}
+use Rattle.ixdtf.specs.table.Faults.Fault.{FractionPart, DateSeparator, TimeSeparator, DecimalSeparator}
+use Rattle.ixdtf.specs.table.Faults.Fault.{InvalidAnnotation, AnnotationOpen, AnnotationClose, AnnotationChar}
+use Rattle.ixdtf.specs.table.Faults.Fault.{AnnotationKeyValueSeparator, AnnotationKeyLeadingChar, AnnotationKeyChar}
+use Rattle.ixdtf.specs.table.Faults.Fault.{AnnotationValueCharPostHyphen, AnnotationValueChar, InvalidMinutePrecisionOffset}
+use Rattle.ixdtf.specs.table.Faults.Fault.{CriticalDuplicateCalendar, UnrecognizedCritical}
+use Rattle.ixdtf.specs.table.Faults.Fault.{TzLeadingChar, IanaCharPostSeparator, IanaChar, UtcTimeSeparator}
+use Rattle.ixdtf.specs.table.Faults.Fault.{OffsetNeedsSign, MonthDayHyphen, DurationDisgnator, DurationValueExceededRange}
+use Rattle.ixdtf.specs.table.Faults.Fault.{DateDurationPartOrder, TimeDurationPartOrder}
+use Rattle.ixdtf.specs.table.Faults.Fault.{TimeDurationDesignator, AmbiguousTimeMonthDay, AmbiguousTimeYearMonth, InvalidMonthDay}
 use Rattle.ixdtf_c.specs.declared.forms.Date.{Date}
 use Rattle.ixdtf_c.specs.declared.forms.Time.{Time}
 use Rattle.ixdtf_c.specs.declared.forms.Offset.{Offset}

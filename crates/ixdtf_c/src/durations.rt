@@ -97,7 +97,21 @@ impl<'a> Duration<'a> {
     /// Writes the fraction.
     #[inline(always)]
     fn put_fraction(&mut self, fraction: Option<Fraction>)
-        ensures rest { self.new ≡ record { fraction = self.new.fraction; fraction_digits = self.new.fraction_digits; days = self.old.days; hours = self.old.hours; minutes = self.old.minutes; seconds = self.old.seconds; years = self.old.years; months = self.old.months; weeks = self.old.weeks; time_form = self.old.time_form; has_date = self.old.has_date; is_negative = self.old.is_negative; location = self.old.location } }
+        ensures rest { self.new ≡ record {
+          fraction = self.new.fraction;
+          fraction_digits = self.new.fraction_digits;
+          days = self.old.days;
+          hours = self.old.hours;
+          minutes = self.old.minutes;
+          seconds = self.old.seconds;
+          years = self.old.years;
+          months = self.old.months;
+          weeks = self.old.weeks;
+          time_form = self.old.time_form;
+          has_date = self.old.has_date;
+          is_negative = self.old.is_negative;
+          location = self.old.location;
+        } }
         ensures fraction { fraction_by self.new.fraction_digits self.new.fraction ≡ fraction }
     {
         match fraction {

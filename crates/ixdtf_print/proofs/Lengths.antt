@@ -47,8 +47,8 @@ year_seven (pos n) (inl h) = many n (omega (arith, ints))
 year_seven (pos n) (inr h) = absurd (omega (arith, ints))
 year_seven (negsuc n) h = refl
 
-pub plain_date_long : (date : DateRecord) → pos 0 ≤ℤ date.year → date.year ≤ℤ pos 9999 → length (date_text date) ≡ 10
-plain_date_long date from to = omega (arith, date_long date, year_four date.year from to)
+pub four_digit_date_long : (date : DateRecord) → pos 0 ≤ℤ date.year → date.year ≤ℤ pos 9999 → length (date_text date) ≡ 10
+four_digit_date_long date from to = omega (arith, date_long date, year_four date.year from to)
 
 pub signed_date_long : (date : DateRecord) → ((pos 9999 <ℤ date.year) ⊎ (date.year <ℤ pos 0)) → length (date_text date) ≡ 13
 signed_date_long date h = omega (arith, date_long date, year_seven date.year h)

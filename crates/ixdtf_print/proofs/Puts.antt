@@ -1,5 +1,6 @@
 -- One text put after another.
-use Rattle.std.proofs.Common.{ℕ, suc, ◌+◌, ◌<◌, ◌≤◌, ◌≡◌, List, [], ◌∷◌, ◌++◌, map, length, take, drop, set, get_or, refl, sym, ◌∙◌, ap, arith, add-one, append_assoc}
+use Rattle.std.proofs.Common.{ℕ, suc, ◌+◌, ◌<◌, ◌≤◌, ◌≡◌, List, [], ◌∷◌, ◌++◌, map, length, take}
+use Rattle.std.proofs.Common.{drop, set, get_or, refl, sym, ◌∙◌, ap, arith, add-one, append_assoc}
 use Rattle.std.proofs.Math.Seq.{take-append_seam, take-suc}
 use Rattle.std.proofs.lemmas.List.{length-append, length-map, map-append, length-take-le, drop_at, set_split, take-append-drop, take-append-le, take-take}
 use Rattle.std.proofs.lemmas.List.{length-drop, drop-drop}

@@ -43,11 +43,11 @@ use Rattle.ixdtf_print.proofs.PaddedDigits.{padded_are, two_are, up_to, digits-a
 
 -- ---- dates
 
-plain_year : (n : ℕ) (b : Bool) → nat_le n 9999 ≡ b → n ≤ 999999 → Year (cond b (padded_digits 4 n) (Plain 43 ∷ padded_digits 6 n)) (pos n)
-plain_year n true h small =
+year_by_test : (n : ℕ) (b : Bool) → nat_le n 9999 ≡ b → n ≤ 999999 → Year (cond b (padded_digits 4 n) (Plain 43 ∷ padded_digits 6 n)) (pos n)
+year_by_test n true h small =
     let few : n ≤ 9999 = leb-true _ _ h in
     inl (padded_are 4 n, ap pos (sym (decimal-whole 4 n (omega arith))))
-plain_year n false h small = inr (record {
+year_by_test n false h small = inr (record {
   c = 43;
   ds = padded_digits 6 n;
   is = refl;
@@ -59,7 +59,7 @@ plain_year n false h small = inr (record {
 
 is_year : (year : ℤ) → nat_abs year ≤ 999999 → Year (year_text year) year
 unfolding year_text
-is_year (pos n) small = plain_year n (nat_le n 9999) refl small
+is_year (pos n) small = year_by_test n (nat_le n 9999) refl small
 is_year (negsuc n) small =
     let value : decimal (padded_digits 6 (suc n)) ≡ suc n = decimal-whole 6 (suc n) (omega arith) in
     inr (record {

@@ -16,9 +16,9 @@ by_test : (n : ℕ) (b : Bool) → nat_le n 9999 ≡ b → year_text (pos n) ≡
 unfolding year_text
 by_test n b e = rw e refl
 
-pub plain_year : (year : ℤ) (distance : ℕ) → distance ≡ nat_abs year → pos 0 ≤ℤ year → distance ≤ 9999 → year_text year ≡ padded_digits 4 distance
-plain_year (pos n) distance is h few = let test : nat_le n 9999 ≡ true = grind (arith, nat_tests, few, is) in rw is (by_test n true test)
-plain_year (negsuc n) distance is h few = absurd (omega (arith, ints))
+pub four_digit_year : (year : ℤ) (distance : ℕ) → distance ≡ nat_abs year → pos 0 ≤ℤ year → distance ≤ 9999 → year_text year ≡ padded_digits 4 distance
+four_digit_year (pos n) distance is h few = let test : nat_le n 9999 ≡ true = grind (arith, nat_tests, few, is) in rw is (by_test n true test)
+four_digit_year (negsuc n) distance is h few = absurd (omega (arith, ints))
 
 pub far_year : (year : ℤ) (distance : ℕ) → distance ≡ nat_abs year → pos 0 ≤ℤ year → 9999 < distance
     → year_text year ≡ (Plain 43 ∷ []) ++ padded_digits 6 distance

@@ -8,7 +8,7 @@ pub mod Zones
 pub mod Durations
 pub mod FirstBracket
 pub mod Pairs
-pub mod PlainResults
+pub mod UnhandledResults
 pub mod Replies
 pub mod Handlers
 pub mod Widths

@@ -112,9 +112,11 @@ pub enum ParseError {
     DurationDisgnator,
     /// A number of a duration is 2 to the 64th or more, or that of its years, months or weeks 2 to the 32nd or more.
     DurationValueExceededRange,
-    /// The years, months, weeks and days of a duration are not in this order.
+    /// The years, months, weeks and days of a duration are not in this order, or under the strict profile one of them
+    /// stands twice.
     DateDurationPartOrder,
-    /// The hours, minutes and seconds of a duration are not in this order.
+    /// The hours, minutes and seconds of a duration are not in this order, or under the strict profile one of them stands
+    /// twice.
     TimeDurationPartOrder,
     /// No digit follows the `T` of a duration. The end of the text there has this error too.
     TimeDurationDesignator,
@@ -122,7 +124,8 @@ pub enum ParseError {
     AmbiguousTimeMonthDay,
     /// A time that stands alone, with its offset, begins as a year and a month do, and not as a month and a day.
     AmbiguousTimeYearMonth,
-    /// The day of a month and a day is past the last day of its month, where February has 29.
+    /// The day of a month and a day is past the last day of its month, where February has 29, or under the strict profile
+    /// it is 00.
     InvalidMonthDay,
 }
 

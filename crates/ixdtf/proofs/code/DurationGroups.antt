@@ -1,5 +1,6 @@
 -- Groups of a duration, by what the loops over them keep: their numbers, and the least rank that may follow.
-use Rattle.std.proofs.Common.{◌≡◌, ℕ, ◌+◌, ◌≤◌, Bool, true, false, [], ◌∷◌, List, None, Result, Ok, Err, refl, sym, arith, nat_le, ◌&&◌, slice_set, if◌then◌else◌}
+use Rattle.std.proofs.Common.{◌≡◌, ℕ, ◌+◌, ◌≤◌, Bool, true, false, [], ◌∷◌, List, None, Result}
+use Rattle.std.proofs.Common.{Ok, Err, refl, sym, arith, nat_le, ◌&&◌, slice_set, if◌then◌else◌}
 use Rattle.std.proofs.lemmas.Bool.Decides.{nat_tests}
 use Rattle.ixdtf.specs.declared.parsers.profile.Profile.{Profile}
 use Rattle.ixdtf.specs.declared.parsers.duration.Number.{Number}

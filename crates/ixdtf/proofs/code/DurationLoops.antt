@@ -59,7 +59,7 @@ module _ (profile : Profile) (first : ℕ) (whole : Text) where
       → (s : Sign) → first_dates s ≡ Err fault
   date_fails rest values least c far fault refuses s = far.leads s ∙ refuses s far.dates
 
-  module _ (rest : Text) (values : List ℕ) (least c : ℕ) (far : DatesSoFar rest values least c) (n : Number) (mid : Text)
+  module _ {rest : Text} {values : List ℕ} {least c : ℕ} (far : DatesSoFar rest values least c) (n : Number) (mid : Text)
       (read : (s : Sign) (dates : List Group) → run_from profile (in_number (in_dates s dates) (Plain c ∷ [])) rest
       ≡ run_where profile (date_read profile dates n) (between (in_dates s (date_group_of n ∷ dates))) mid) where
     pub date_added_on : (r step : ℕ) → date_rank_from least n ≡ Ok r → step ≡ least_step profile → DatesRead mid (slice_set values r n.value) (r + step)
@@ -73,7 +73,7 @@ module _ (profile : Profile) (first : ℕ) (whole : Text) where
     pub date_refused_on : (fault : Fault) → date_rank_from least n ≡ Err fault → (s : Sign) → first_dates s ≡ Err fault
     date_refused_on fault is s = far.leads s ∙ read s far.dates ∙ rw (date_refused profile values least far.dates far.has n fault is) refl
 
-  module _ (rest : Text) (values : List ℕ) (least : ℕ) (far : DatesRead rest values least) where
+  module _ {rest : Text} {values : List ℕ} {least : ℕ} (far : DatesRead rest values least) where
     pub dates_small : HasSmallDates values
     dates_small = rw far.has.numbers (below _ _ far.has.small.0, below _ _ far.has.small.1, below _ _ far.has.small.2)
 
@@ -141,7 +141,7 @@ module _ (profile : Profile) (first : ℕ) (whole : Text) where
       → (s : Sign) (dates : List Group) → first_times s dates ≡ Err fault
   time_fails rest values least c far fault refuses s dates = far.leads s dates ∙ refuses s dates far.times
 
-  module _ (rest : Text) (values : List ℕ) (least c : ℕ) (far : TimesSoFar rest values least c) (g : TimeGroup) (mid : Text)
+  module _ {rest : Text} {values : List ℕ} {least c : ℕ} (far : TimesSoFar rest values least c) (g : TimeGroup) (mid : Text)
       (read : (s : Sign) (dates times : List Group) → run_from profile (in_number (in_times s dates times) (Plain c ∷ [])) rest
       ≡ after_time_group profile s dates times g mid) where
     pub time_added_on : (r step : ℕ) → time_rank_from least g.letter ≡ Ok r → step ≡ least_step profile
@@ -157,7 +157,7 @@ module _ (profile : Profile) (first : ℕ) (whole : Text) where
     time_refused_on fault is s dates =
         far.leads s dates ∙ read s dates far.times ∙ rw (time_refused profile values least far.times far.has g fault is) refl
 
-  module _ (rest : Text) (values : List ℕ) (least : ℕ) (g : TimeGroup) (r : ℕ) (far : TimesRead rest values least g r) where
+  module _ {rest : Text} {values : List ℕ} {least : ℕ} {g : TimeGroup} {r : ℕ} (far : TimesRead rest values least g r) where
     pub times_go_on : (next : Text) (c : ℕ) → look_at NonAsciiCodePoint rest ≡ Ok (Some c) → digit c ≡ true → g.fraction ≡ None → next ≡ drop 1 rest
         → TimesSoFar next values least c
     times_go_on next c found is none moved = record {

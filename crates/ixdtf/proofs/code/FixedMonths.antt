@@ -15,7 +15,8 @@ use Rattle.ixdtf.specs.language.Digits.{decimal}
 use Rattle.ixdtf.specs.reading.Dates.{date_of, year_at, four_digit_year_at, month_in_range, month_by}
 use Rattle.ixdtf.specs.reading.Looks.{Read, error_of, look_at, next_by, mark_by, digits_by}
 use Rattle.ixdtf.specs.reading.Months.{year_month_at, marks_at, month_day_at, lone_month_in_range, lone_day_at}
-use Rattle.ixdtf.specs.reading.FixedPlaces.{first_byte, byte_place, number_place, year_place, month_of_year_place, day_of_month_place, ranged_month, ranged_day, marks_place, unmarked_at}
+use Rattle.ixdtf.specs.reading.FixedPlaces.{first_byte, byte_place, number_place, year_place, month_of_year_place}
+use Rattle.ixdtf.specs.reading.FixedPlaces.{day_of_month_place, ranged_month, ranged_day, marks_place, unmarked_at}
 use Rattle.ixdtf.proofs.parts.Looks.{onto}
 use Rattle.ixdtf.proofs.code.DigitClasses.{digit_no_sign, digit_no_hyphen}
 use Rattle.ixdtf.proofs.code.FixedPlaces.{then_some, Number, number_at_place, hyphen_is, mark_at_place, over_two, year_is, byte_in_class}

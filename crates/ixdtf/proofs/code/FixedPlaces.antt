@@ -24,8 +24,9 @@ use Rattle.ixdtf.specs.table.LineNames.DateLine.{after_year}
 use Rattle.ixdtf.specs.reading.Looks.{Read, ◌>>=◌, error_of, look_at, next_by, mark_by, digits_by}
 use Rattle.ixdtf.proofs.parts.Looks.{in_turn, onto}
 use Rattle.ixdtf.proofs.code.DigitClasses.{digit_no_sign, digit_no_hyphen}
-use Rattle.ixdtf.specs.reading.FixedPlaces.{ranged, ◌>>?◌, first_in, letter_place, first_byte, byte_place, tens_value, ones_value, number_place, year_place, days_place, basic_days_place, date_place, basic_date_place, time_place, date_in_range, time_in_range}
-use Rattle.ixdtf.specs.reading.FixedPlaces.{date_time_place}
+use Rattle.ixdtf.specs.reading.FixedPlaces.{ranged, ◌>>?◌, first_in, letter_place, first_byte, byte_place, tens_value, ones_value, number_place}
+use Rattle.ixdtf.specs.reading.FixedPlaces.{year_place, days_place, basic_days_place, date_place, basic_date_place, time_place, date_in_range}
+use Rattle.ixdtf.specs.reading.FixedPlaces.{time_in_range, date_time_place}
 
 -- the letter that a look found, where it is of the class
 abbrev pub class_at_place : Class → Result (Option ℕ) Fault → Option ℕ

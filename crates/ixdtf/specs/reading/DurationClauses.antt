@@ -1,5 +1,6 @@
 -- Forms of the clauses of the private functions that read durations, and what their types stand for. No public clause cites one.
-use Rattle.std.specs.Prelude.{◌≡◌, ◌≤◌, ℕ, Bool, false, IsFalse, IsTrue, List, [], ◌∷◌, map, Option, Some, None, Result, Ok, Err, nat_le, slice_index_or, if◌then◌else◌}
+use Rattle.std.specs.Prelude.{◌≡◌, ◌≤◌, ℕ, Bool, false, IsFalse, IsTrue, List, [], ◌∷◌, map}
+use Rattle.std.specs.Prelude.{Option, Some, None, Result, Ok, Err, nat_le, slice_index_or, if◌then◌else◌}
 use Rattle.ixdtf.specs.declared.parsers.profile.Profile.{Profile}
 use Rattle.ixdtf.specs.declared.records.Sign.{Sign}
 use Rattle.ixdtf.specs.declared.records.DurationParseRecord.{DurationParseRecord}

@@ -1,6 +1,7 @@
 //! The reader of durations.
 
-ghost use Rattle.std.specs.Prelude.{◌≡◌, ◌↔◌, ◌+◌, ◌-◌, ◌*◌, ◌≤◌, List, [], ◌∷◌, map, length, nat_le, Ok, Err, Some, None, OnOk, IfOk, IfErr, IsTrue, IsFalse, IsSome};
+ghost use Rattle.std.specs.Prelude.{◌≡◌, ◌↔◌, ◌+◌, ◌-◌, ◌*◌, ◌≤◌, List, [], ◌∷◌, map, length, nat_le};
+ghost use Rattle.std.specs.Prelude.{Ok, Err, Some, None, OnOk, IfOk, IfErr, IsTrue, IsFalse, IsSome};
 ghost use Rattle.ixdtf.specs.declared.parsers.profile.Profile.{Profile};
 ghost use Rattle.ixdtf.specs.language.Letters.{Text, digit};
 ghost use Rattle.ixdtf.specs.language.Letters.Letter.{Plain};

@@ -15,7 +15,9 @@ ghost use Rattle.ixdtf.specs.reading.Clauses.{Spends, time_to_second};
 ghost use Rattle.ixdtf.specs.reading.Dates.{date_at};
 ghost use Rattle.ixdtf.specs.reading.Looks.{error_of};
 ghost use Rattle.ixdtf.specs.reading.Months.{year_month_at, month_day_at};
-ghost use Rattle.ixdtf.specs.reading.FixedPlaces.{letter_place, byte_place, number_place, month_of_year_place, day_of_month_place, ranged_month, ranged_day, marks_place, unmarked_at, date_in_range, time_in_range, ranged, year_place, days_place, basic_days_place, date_place, basic_date_place, time_place, date_time_place};
+ghost use Rattle.ixdtf.specs.reading.FixedPlaces.{letter_place, byte_place, number_place, month_of_year_place, day_of_month_place};
+ghost use Rattle.ixdtf.specs.reading.FixedPlaces.{ranged_month, ranged_day, marks_place, unmarked_at, date_in_range, time_in_range, ranged};
+ghost use Rattle.ixdtf.specs.reading.FixedPlaces.{year_place, days_place, basic_days_place, date_place, basic_date_place, time_place, date_time_place};
 
 use crate::cursor::Cursor;
 use crate::encoding::EncodingType;

@@ -1,7 +1,8 @@
 //! The classes of letters that the readers tell apart.
 
 ghost use Rattle.std.specs.Prelude.{◌≡◌, ◌+◌, ◌<◌, ◌≤◌, ◌∷◌, [], IsTrue};
-ghost use Rattle.ixdtf.specs.language.Letters.{digit, sign, hyphen, colon, decimal_mark, date_time_separator, time_letter, duration_designator, zulu, opening, closing, exclamation, equals, slash, zone_lead, zone_char, key_lead, key_char, value_char};
+ghost use Rattle.ixdtf.specs.language.Letters.{digit, sign, hyphen, colon, decimal_mark, date_time_separator, time_letter, duration_designator, zulu};
+ghost use Rattle.ixdtf.specs.language.Letters.{opening, closing, exclamation, equals, slash, zone_lead, zone_char, key_lead, key_char, value_char};
 ghost use Rattle.ixdtf.specs.language.Letters.Letter.{Plain};
 ghost use Rattle.ixdtf.specs.language.Digits.{decimal};
 ghost use Rattle.ixdtf.specs.reading.FixedPlaces.{tens_value, ones_value};

@@ -282,3 +282,15 @@ fn has_the_reader_of_durations() {
     let wide = IsoDurationParser::<Utf16>::from_utf8(&empty).parse();
     assert!(rt; wide.is_err());
 }
+
+#[test]
+fn has_each_profile() {
+    let rt = HostRuntime;
+    assert_ne!(rt; Profile::Crate, Profile::Strict);
+    let mut text = IxdtfParser::from_str("11-00").with_profile(Profile::Strict);
+    let day = text.parse_month_day();
+    assert!(rt; day.is_err());
+    let mut duration = IsoDurationParser::from_str("P1Y2Y").with_profile(Profile::Crate);
+    let years = duration.parse();
+    assert!(rt; years.is_ok());
+}

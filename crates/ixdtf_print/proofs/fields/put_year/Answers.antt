@@ -1,7 +1,7 @@
 use Rattle.std.proofs.Common.{pos, arith}
 use Rattle.std.specs.Prelude.{◌≤ℤ◌, ◌<ℤ◌}
 use Rattle.std.proofs.lemmas.Int.{ints}
-use Rattle.ixdtf_print.proofs.Years.{negative_year, plain_year, far_year}
+use Rattle.ixdtf_print.proofs.Years.{negative_year, four_digit_year, far_year}
 use Rattle.ixdtf_print.proofs.Puts.{puts_then, room_first, room_then}
 use Rattle.ixdtf_print.proofs.fields.put_year.Goals as goal
 
@@ -28,12 +28,12 @@ returns-then-date-lt0 c =
 pub put_digits-requires-then-distance-le9999 : goal.put_digits-requires-then-distance-le9999
 put_digits-requires-then-distance-le9999 c =
     let sign : pos 0 ≤ℤ c.args.date.year = omega (arith, ints) in
-    rw (plain_year _ _ c.distance_of-distance.ensures sign c.if-distance-le9999.true) at c.requires
+    rw (four_digit_year _ _ c.distance_of-distance.ensures sign c.if-distance-le9999.true) at c.requires
 
 pub returns-then-distance-le9999 : goal.returns-then-distance-le9999
 returns-then-distance-le9999 c =
     let sign : pos 0 ≤ℤ c.args.date.year = omega (arith, ints) in
-    rw (plain_year _ _ c.distance_of-distance.ensures sign c.if-distance-le9999.true) c.put_digits-then-distance-le9999.ensures
+    rw (four_digit_year _ _ c.distance_of-distance.ensures sign c.if-distance-le9999.true) c.put_digits-then-distance-le9999.ensures
 
 -- ---- later years
 

@@ -3,7 +3,7 @@ use Rattle.ixdtf.specs.Views.{returned, parsed_of}
 use Rattle.ixdtf.specs.language.Letters.{Text, byte_letter}
 use Rattle.ixdtf.specs.language.Letters.Letter.{Plain}
 use Rattle.ixdtf.specs.language.Readers.{parse}
-use Rattle.ixdtf_tests.proofs.PlainResults.{outcome_of, has_result, same_result}
+use Rattle.ixdtf_tests.proofs.UnhandledResults.{outcome_of, has_result, same_result}
 use Rattle.ixdtf_tests.proofs.tests.laws.read_both_forms.Goals as goal
 
 pub returns : goal.returns

@@ -4,7 +4,7 @@ use Rattle.ixdtf.specs.language.Letters.{Text, byte_letter}
 use Rattle.ixdtf.specs.language.Letters.Letter.{Plain}
 use Rattle.ixdtf.specs.language.Readers.{parse}
 use Rattle.ixdtf.specs.table.Faults.Fault.{DateSeparator}
-use Rattle.ixdtf_tests.proofs.PlainResults.{has_result, same_result}
+use Rattle.ixdtf_tests.proofs.UnhandledResults.{has_result, same_result}
 use Rattle.ixdtf_tests.proofs.tests.laws.refuses_one_hyphen.Goals as goal
 
 pub returns : goal.returns
