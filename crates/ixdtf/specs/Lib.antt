@@ -1,7 +1,6 @@
-pub mod language
-pub mod table
-pub mod Handlers
-pub mod Views
-pub mod Laws
-pub mod Widths
-pub mod reading
+pub use Rattle.ixdtf_grammar.specs.language
+pub use Rattle.ixdtf_grammar.specs.table
+pub use Rattle.ixdtf_grammar.specs.Handlers
+pub use Rattle.ixdtf_grammar.specs.Views
+pub use Rattle.ixdtf_grammar.specs.Laws
+pub use Rattle.ixdtf_grammar.specs.Widths

@@ -5,26 +5,26 @@
 //! that of [`IxdtfParser::parse_with_annotation_handler`] with the law beside it.
 
 ghost use Rattle.std.specs.Prelude.{◌≡◌, ◌≢◌, map, OnOk, IfOk, IfErr, IfSome, None, pos};
-ghost use Rattle.ixdtf.specs.table.Faults.{fault_of};
-ghost use Rattle.ixdtf.specs.table.Faults.Fault.{CriticalDuplicateCalendar, UnrecognizedCritical};
-ghost use Rattle.ixdtf.specs.language.Readers.{parse as reader_parse};
-ghost use Rattle.ixdtf.specs.Handlers.{Handled, pair_of};
-ghost use Rattle.ixdtf.specs.Laws.{EveryDateTimeIsRead, EveryNameIsAnIdentifier, LanguagesDisjoint, InNoOther};
-ghost use Rattle.ixdtf.specs.Laws.{OffsetsAgree, HyphensSayNothing, OneHyphenIsRefused, OneResult, OneChain};
-ghost use Rattle.ixdtf.specs.Laws.{DefaultIs, ClonesAreEqual, IsEqualityBy};
-ghost use Rattle.ixdtf.specs.Widths.{OneUnhandledOutcome, SameWhereShared, FaultWhereNotShared};
-ghost use Rattle.ixdtf.specs.table.Outcomes.{OneOutcome, FrontsBegin, NoRowFits};
-ghost use Rattle.ixdtf.specs.language.Fractions.{exact_nanoseconds_of, nanoseconds_of};
-ghost use Rattle.ixdtf.specs.Views.{unread_of, LeavesBehind, returned, returned_by, zone_of, note_of, parsed_of};
+ghost use Rattle.ixdtf_grammar.specs.table.Faults.{fault_of};
+ghost use Rattle.ixdtf_grammar.specs.table.Faults.Fault.{CriticalDuplicateCalendar, UnrecognizedCritical};
+ghost use Rattle.ixdtf_grammar.specs.language.Readers.{parse as reader_parse};
+ghost use Rattle.ixdtf_grammar.specs.Handlers.{Handled, pair_of};
+ghost use Rattle.ixdtf_grammar.specs.Laws.{EveryDateTimeIsRead, EveryNameIsAnIdentifier, LanguagesDisjoint, InNoOther};
+ghost use Rattle.ixdtf_grammar.specs.Laws.{OffsetsAgree, HyphensSayNothing, OneHyphenIsRefused, OneResult, OneChain};
+ghost use Rattle.ixdtf_grammar.specs.Laws.{DefaultIs, ClonesAreEqual, IsEqualityBy};
+ghost use Rattle.ixdtf_grammar.specs.Widths.{OneUnhandledOutcome, SameWhereShared, FaultWhereNotShared};
+ghost use Rattle.ixdtf_grammar.specs.table.Outcomes.{OneOutcome, FrontsBegin, NoRowFits};
+ghost use Rattle.ixdtf_grammar.specs.language.Fractions.{exact_nanoseconds_of, nanoseconds_of};
+ghost use Rattle.ixdtf_grammar.specs.Views.{unread_of, LeavesBehind, returned, returned_by, zone_of, note_of, parsed_of};
 
-use crate::encoding::EncodingType;
+use ixdtf_grammar::encoding::EncodingType;
 use crate::parsers::{DateTimes, IxdtfParser};
-use crate::records::{
+use ixdtf_grammar::records::{
     Annotation, DateDurationRecord, DateRecord, DurationParseRecord, Fraction, FullPrecisionOffset,
     IxdtfParseRecord, MinutePrecisionOffset, Sign, TimeDurationRecord, TimeRecord,
     TimeZoneAnnotation, TimeZoneRecord, UtcOffsetRecord, UtcOffsetRecordOrZ,
 };
-use crate::stop::Raised;
+use ixdtf_reading::stop::Raised;
 use crate::{ParseError, ParserResult};
 
 /// Every date-time of RFC 3339, section 5.6, is read: [`IxdtfParser::parse`] returns `Ok` for it. That section's `T` and `Z`

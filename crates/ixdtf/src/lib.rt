@@ -25,17 +25,11 @@
 //! text in `Handlers`.
 #![tactic(auto)]
 
-mod cursor;
-pub mod encoding;
-mod error;
 pub mod laws;
-mod looks;
-mod packed;
 pub mod parsers;
-pub mod records;
-mod stop;
 
-pub use error::ParseError;
+pub use ixdtf_grammar::ParseError;
+pub use ixdtf_grammar::encoding;
+pub use ixdtf_grammar::records;
 
-/// What a reader returns: what it found, or why it refused.
-pub type ParserResult<T> = Result<T, ParseError>;
+pub use ixdtf_grammar::ParserResult;

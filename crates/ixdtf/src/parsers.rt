@@ -6,47 +6,36 @@
 //! this error fits the source, or a reply is refused with it.
 
 ghost use Rattle.std.specs.Prelude.{◌≡◌, ◌↔◌, map, Ok, OnOk, IfErr};
-ghost use Rattle.ixdtf.specs.table.Faults.{fault_of};
-ghost use Rattle.ixdtf.specs.table.Outcomes.{NoRowFits};
-ghost use Rattle.ixdtf.specs.language.Readers.{parse as reader_parse, parse_year_month as reader_parse_year_month};
-ghost use Rattle.ixdtf.specs.language.Readers.{parse_month_day as reader_parse_month_day, parse_time as reader_parse_time};
-ghost use Rattle.ixdtf.specs.language.Readers.Reader.{bracketed};
-ghost use Rattle.ixdtf.specs.language.Languages.{Parsed};
-ghost use Rattle.ixdtf.specs.Handlers.{Handled, HandledTo, UnhandledRecord, UnhandledFault, UnhandledOnlyFault};
-ghost use Rattle.ixdtf.specs.Laws.{InNoOther};
-ghost use Rattle.ixdtf.specs.Views.{UnreadUnder, under, unread_of, LeavesBehind, IsEmptyRecord, returned, returned_by, parsed_of};
-ghost use Rattle.ixdtf.specs.reading.Chains.{TextRead};
-ghost use Rattle.ixdtf.specs.reading.Clauses.{UnhandledForm, yielded, fault_of_stop};
+ghost use Rattle.ixdtf_grammar.specs.table.Faults.{fault_of};
+ghost use Rattle.ixdtf_grammar.specs.table.Outcomes.{NoRowFits};
+ghost use Rattle.ixdtf_grammar.specs.language.Readers.{parse as reader_parse, parse_year_month as reader_parse_year_month};
+ghost use Rattle.ixdtf_grammar.specs.language.Readers.{parse_month_day as reader_parse_month_day, parse_time as reader_parse_time};
+ghost use Rattle.ixdtf_grammar.specs.language.Readers.Reader.{bracketed};
+ghost use Rattle.ixdtf_grammar.specs.language.Languages.{Parsed};
+ghost use Rattle.ixdtf_grammar.specs.Handlers.{Handled, HandledTo, UnhandledRecord, UnhandledFault, UnhandledOnlyFault};
+ghost use Rattle.ixdtf_grammar.specs.Laws.{InNoOther};
+ghost use Rattle.ixdtf_grammar.specs.Views.{UnreadUnder, under, unread_of, LeavesBehind, IsEmptyRecord, returned, returned_by, parsed_of};
+ghost use Rattle.ixdtf_reading.specs.reading.Chains.{TextRead};
+ghost use Rattle.ixdtf_reading.specs.reading.Clauses.{UnhandledForm, yielded, fault_of_stop};
 
-mod annotations;
-mod brackets;
 mod cores;
-mod dates;
-mod duration;
-mod fixed;
-mod grammar;
-mod letters;
-mod months;
-mod offsets;
-mod profile;
+mod replies;
 mod texts;
-mod time;
-mod timezone;
 mod zones;
 
 // For crates of this repository, and no part of the interface: what `read_by_reference` is generic in.
 #[doc(hidden)]
 pub use self::cores::{Cores, DateTimes, LoneTimes, MonthDays, YearMonths};
-pub use self::duration::IsoDurationParser;
-pub use self::profile::Profile;
+pub use ixdtf_durations::duration::IsoDurationParser;
+pub use ixdtf_grammar::profile::Profile;
 use self::texts::parse_text;
 pub use self::zones::TimeZoneParser;
-use crate::cursor::Cursor;
-use crate::encoding::{EncodingType, Utf8, Utf16};
-use crate::records::{Annotation, IxdtfParseRecord};
+use ixdtf_reading::cursor::Cursor;
+use ixdtf_grammar::encoding::{EncodingType, Utf8, Utf16};
+use ixdtf_grammar::records::{Annotation, IxdtfParseRecord};
 #[doc(hidden)]
-pub use crate::stop::Raised;
-use crate::stop::Stop;
+pub use ixdtf_reading::stop::Raised;
+use ixdtf_reading::stop::Stop;
 use crate::{ParseError, ParserResult};
 use std::marker::Model;
 

@@ -1,7 +1,7 @@
 -- From what a reader ensures to what an exported function ensures.
 use Rattle.std.proofs.Common.{◌≡◌, ◌≢◌, ◌⊎◌, ◌↔◌, ℕ, Bool, true, false, IsTrue, List, [], Some, Result, Ok, Err, IfErr, OnOk}
-use Rattle.ixdtf.specs.declared.error.ParseError.{ParseError}
-use Rattle.ixdtf.specs.declared.parsers.profile.Profile.{Profile}
+use Rattle.ixdtf_grammar.specs.declared.error.ParseError.{ParseError}
+use Rattle.ixdtf_grammar.specs.declared.profile.Profile.{Profile}
 use Rattle.ixdtf.specs.table.Faults.{Fault, fault_of}
 use Rattle.ixdtf.specs.table.Faults.Fault.{CriticalDuplicateCalendar}
 use Rattle.ixdtf.specs.table.Outcomes.{HasFault, OnlyFault, NoRowFits}

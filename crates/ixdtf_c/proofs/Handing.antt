@@ -5,8 +5,8 @@ use Rattle.std.proofs.SliceLists.{chained_more}
 use Rattle.std.proofs.lemmas.Bool.Decides.{eqb_tells}
 use Rattle.std.proofs.lemmas.List.{map-append, append-nil, length-append, take_more, take-append-drop, length-map}
 use Rattle.std.specs.Option.{option_or}
-use Rattle.ixdtf.specs.declared.parsers.profile.Profile.{Profile}
-use Rattle.ixdtf.specs.declared.records.Annotation.{Annotation}
+use Rattle.ixdtf_grammar.specs.declared.profile.Profile.{Profile}
+use Rattle.ixdtf_grammar.specs.declared.records.Annotation.{Annotation}
 use Rattle.ixdtf.specs.language.Brackets.{Pair}
 use Rattle.ixdtf.specs.language.Letters.{Text}
 use Rattle.ixdtf.specs.language.Readers.{CoreKind}
@@ -14,8 +14,8 @@ use Rattle.ixdtf.specs.language.Readers.Reader.{bracketed}
 use Rattle.ixdtf.specs.language.Languages.{Parsed}
 use Rattle.ixdtf.specs.table.Faults.{Fault}
 use Rattle.ixdtf.specs.Handlers.{calendar_key, with_calendar, first_calendar, NoneRefused, Calls, IsChain, Step, handed, replies_of, pair_of, Handled}
-use Rattle.ixdtf.proofs.code.OneMoreReply.{first_calendar-more, NoneRefused-nothing, NoneRefused-more}
-use Rattle.ixdtf.proofs.theorems.Handled.{handled as handled_by}
+use Rattle.ixdtf_reading.proofs.code.OneMoreReply.{first_calendar-more, NoneRefused-nothing, NoneRefused-more}
+use Rattle.ixdtf_reading.proofs.theorems.Handled.{handled as handled_by}
 use Rattle.ixdtf.specs.Laws.{GivesResult}
 use Rattle.ixdtf_c.specs.Crossing.{fault_by, either_by, where_there}
 use Rattle.ixdtf_c.specs.Listing.{Lists}

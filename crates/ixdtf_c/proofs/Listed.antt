@@ -2,8 +2,8 @@
 use Rattle.std.proofs.Common.{◌≡◌, ◌↔◌, ℕ, ◌+◌, ◌≤◌, min, List, [], ◌∷◌, ◌++◌, length, slice_set, map, Option}
 use Rattle.std.proofs.Common.{None, option_map, Result, Ok, Err, OnOk, refl, sym, ◌∙◌, ap, subst, inl, inr, arith}
 use Rattle.std.proofs.lemmas.List.{append-nil, append_assoc, length-append}
-use Rattle.ixdtf.specs.declared.parsers.profile.Profile.{Profile}
-use Rattle.ixdtf.specs.declared.records.Annotation.{Annotation}
+use Rattle.ixdtf_grammar.specs.declared.profile.Profile.{Profile}
+use Rattle.ixdtf_grammar.specs.declared.records.Annotation.{Annotation}
 use Rattle.ixdtf.specs.language.Brackets.{Pair}
 use Rattle.ixdtf.specs.language.Letters.{Text}
 use Rattle.ixdtf.specs.language.Readers.{Reader, CoreKind}
@@ -16,8 +16,8 @@ use Rattle.ixdtf.specs.table.Outcomes.{HasFault, NoRowFits}
 use Rattle.ixdtf.specs.Laws.{InNoOther}
 use Rattle.ixdtf.specs.Handlers.{Reply, first_calendar, calendar_value, with_calendar, RefusedBeside, NoneRefused, LastRefused, GivesRecord, GivesFault}
 use Rattle.ixdtf.specs.Handlers.{pair_of, Calls, handed, replies_of, Step, IsChain, HandledTo}
-use Rattle.ixdtf.proofs.theorems.OnlyOutcome.{only_fault}
-use Rattle.ixdtf.proofs.theorems.FewPairs.{derived_few, gives_few}
+use Rattle.ixdtf_reading.proofs.theorems.OnlyOutcome.{only_fault}
+use Rattle.ixdtf_grammar.proofs.theorems.FewPairs.{derived_few, gives_few}
 use Rattle.ixdtf_c.specs.Listing.{PassesOver, overwritten, Lists}
 
 -- ---- what is written

@@ -3,7 +3,7 @@ use Rattle.std.proofs.Common.{◌≡◌, ◌≢◌, ◌⊎◌, ℕ, zero, suc, �
 use Rattle.std.proofs.Common.{drop, Option, Some, None, Result, Ok, Err, refl, sym, ◌∙◌, ap, inl, inr, arith}
 use Rattle.std.specs.Option.{option_or}
 use Rattle.std.proofs.lemmas.List.{append-nil, append_assoc, length-append, length-map, length-take-le, take-append-drop}
-use Rattle.ixdtf.specs.declared.parsers.profile.Profile.{Profile}
+use Rattle.ixdtf_grammar.specs.declared.profile.Profile.{Profile}
 use Rattle.ixdtf.specs.language.Brackets.{Pair}
 use Rattle.ixdtf.specs.language.Letters.{Text}
 use Rattle.ixdtf.specs.language.Readers.{CoreKind}
@@ -12,8 +12,8 @@ use Rattle.ixdtf.specs.language.Languages.{Parsed}
 use Rattle.ixdtf.specs.table.Faults.{Fault}
 use Rattle.ixdtf.specs.Handlers.{Reply, first_calendar, NoneRefused, LastRefused, HasFront, Step, Handled, handed, replies_of}
 use Rattle.ixdtf.specs.Laws.{GivesResult}
-use Rattle.ixdtf.proofs.code.OneMoreReply.{first_calendar-more, NoneRefused-nothing, NoneRefused-more}
-use Rattle.ixdtf.proofs.theorems.OneChain.{Replying, GivesChain, only_chain, derived_front, row_front}
+use Rattle.ixdtf_reading.proofs.code.OneMoreReply.{first_calendar-more, NoneRefused-nothing, NoneRefused-more}
+use Rattle.ixdtf_reading.proofs.theorems.OneChain.{Replying, GivesChain, only_chain, derived_front, row_front}
 use Rattle.ixdtf_c.specs.Crossing.{fault_by}
 use Rattle.ixdtf_c.specs.Listing.{PassesOver, overwritten}
 use Rattle.ixdtf_c.specs.Replying.{with_kept, Replied, IsFront, ReplyingGives, ReplyingIsHandling}

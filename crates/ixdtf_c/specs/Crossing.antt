@@ -1,16 +1,16 @@
 -- What the numbers at the C boundary stand for.
 use Rattle.std.specs.Prelude.{◌≡◌, ◌≤◌, ℕ, Bool, true, false, not, nat_eq, if◌then◌else◌, List}
 use Rattle.std.specs.Prelude.{[], ◌∷◌, ◌-◌, slice_index_or, Option, Some, None, Result, Ok, Err}
-use Rattle.ixdtf.specs.declared.records.DateRecord.{DateRecord}
-use Rattle.ixdtf.specs.declared.records.TimeRecord.{TimeRecord}
-use Rattle.ixdtf.specs.declared.records.MinutePrecisionOffset.{MinutePrecisionOffset}
-use Rattle.ixdtf.specs.declared.records.DurationParseRecord.{DurationParseRecord}
-use Rattle.ixdtf.specs.declared.records.TimeDurationRecord.{TimeDurationRecord}
-use Rattle.ixdtf.specs.declared.records.TimeDurationRecord.TheVariants as times
-use Rattle.ixdtf.specs.declared.records.UtcOffsetRecord.{UtcOffsetRecord}
-use Rattle.ixdtf.specs.declared.records.UtcOffsetRecord.TheVariants as offsets
-use Rattle.ixdtf.specs.declared.records.UtcOffsetRecordOrZ.{UtcOffsetRecordOrZ}
-use Rattle.ixdtf.specs.declared.records.UtcOffsetRecordOrZ.TheVariants as shifts
+use Rattle.ixdtf_grammar.specs.declared.records.DateRecord.{DateRecord}
+use Rattle.ixdtf_grammar.specs.declared.records.TimeRecord.{TimeRecord}
+use Rattle.ixdtf_grammar.specs.declared.records.MinutePrecisionOffset.{MinutePrecisionOffset}
+use Rattle.ixdtf_grammar.specs.declared.records.DurationParseRecord.{DurationParseRecord}
+use Rattle.ixdtf_grammar.specs.declared.records.TimeDurationRecord.{TimeDurationRecord}
+use Rattle.ixdtf_grammar.specs.declared.records.TimeDurationRecord.TheVariants as times
+use Rattle.ixdtf_grammar.specs.declared.records.UtcOffsetRecord.{UtcOffsetRecord}
+use Rattle.ixdtf_grammar.specs.declared.records.UtcOffsetRecord.TheVariants as offsets
+use Rattle.ixdtf_grammar.specs.declared.records.UtcOffsetRecordOrZ.{UtcOffsetRecordOrZ}
+use Rattle.ixdtf_grammar.specs.declared.records.UtcOffsetRecordOrZ.TheVariants as shifts
 use Rattle.ixdtf.specs.language.Brackets.{ZoneNote}
 use Rattle.ixdtf.specs.language.Fractions.{FractionParts}
 use Rattle.ixdtf.specs.language.OffsetRecords.{sign_for}

@@ -1,6 +1,6 @@
 -- What a reader that lists annotations says of a text.
 use Rattle.std.specs.Prelude.{◌≡◌, ◌↔◌, ℕ, List, [], ◌∷◌, length, map, Result, Ok, Err, OnOk}
-use Rattle.ixdtf.specs.declared.parsers.profile.Profile.{Profile}
+use Rattle.ixdtf_grammar.specs.declared.profile.Profile.{Profile}
 use Rattle.ixdtf.specs.language.Brackets.{Pair}
 use Rattle.ixdtf.specs.language.Letters.{Text}
 use Rattle.ixdtf.specs.language.Languages.{Parsed, Derives}

@@ -1,7 +1,7 @@
 -- What records of 8-bit sources stand for.
 use Rattle.std.specs.Prelude.{◌≡◌, ℕ, List, map, Option, Result}
-use Rattle.ixdtf.specs.declared.records.UtcOffsetRecord.{UtcOffsetRecord}
-use Rattle.ixdtf.specs.declared.records.Annotation.{Annotation as Read}
+use Rattle.ixdtf_grammar.specs.declared.records.UtcOffsetRecord.{UtcOffsetRecord}
+use Rattle.ixdtf_grammar.specs.declared.records.Annotation.{Annotation as Read}
 use Rattle.ixdtf.specs.language.ZoneNames.{Zone as SomeZone}
 use Rattle.ixdtf.specs.language.Brackets.{ZoneNote, Pair}
 use Rattle.ixdtf.specs.language.Languages.{Parsed}

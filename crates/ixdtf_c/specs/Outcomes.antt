@@ -1,6 +1,6 @@
 -- What a reader's outcome says of a text: the clauses of the library's readers, with an outcome in the place of their result.
 use Rattle.std.specs.Prelude.{◌≡◌, ◌↔◌, [], Result, Ok, Err, OnOk}
-use Rattle.ixdtf.specs.declared.parsers.profile.Profile.{Profile}
+use Rattle.ixdtf_grammar.specs.declared.profile.Profile.{Profile}
 use Rattle.ixdtf.specs.language.Letters.{Text}
 use Rattle.ixdtf.specs.language.Languages.{Parsed, Found, Derives}
 use Rattle.ixdtf.specs.language.Readers.{Reader}

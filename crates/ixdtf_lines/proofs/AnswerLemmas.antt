@@ -4,7 +4,7 @@ use Rattle.std.proofs.Common.{ap, arith, codes, ◌++◌}
 use Rattle.std.proofs.lemmas.Bool.{le-ltb}
 use Rattle.std.proofs.lemmas.List.{take_all, length-drop}
 use Rattle.std.specs.Bool.{MatchBool}
-use Rattle.ixdtf.specs.declared.parsers.profile.Profile.{Profile}
+use Rattle.ixdtf_grammar.specs.declared.profile.Profile.{Profile}
 use Rattle.ixdtf.specs.table.Faults.{Fault}
 use Rattle.ixdtf.specs.language.Languages.{Found}
 use Rattle.ixdtf.specs.language.Readers.{Reader}

@@ -10,8 +10,8 @@ use Rattle.ixdtf.specs.language.Readers.Reader.{bracketed}
 use Rattle.ixdtf.specs.table.Faults.{Fault}
 use Rattle.ixdtf.specs.Widths.{UnhandledOutcome, HasUnhandledOutcome}
 use Rattle.ixdtf.specs.Widths.UnhandledOutcome.{read_as, faulted}
-use Rattle.ixdtf.proofs.theorems.OneChain.{same_bytes}
-use Rattle.ixdtf.proofs.theorems.OneUnhandledOutcome.{unhandled_outcome}
+use Rattle.ixdtf_reading.proofs.theorems.OneChain.{same_bytes}
+use Rattle.ixdtf_reading.proofs.theorems.OneUnhandledOutcome.{unhandled_outcome}
 use Rattle.ixdtf_lines.specs.Answer.{line_limit, too_long, unknown_reader, is_space, letters, ok_answer_of, error_answer_of, Gives, Refuses, IsOutcome}
 use Rattle.ixdtf_lines.specs.Answer.{IsReaderAnswer, IsAnswer}
 use Rattle.ixdtf_lines.specs.Lines.{newline}

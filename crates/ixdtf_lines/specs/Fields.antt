@@ -1,20 +1,20 @@
 -- The fields of what a reader derives, each after a space.
 use Rattle.std.specs.Prelude.{ℕ, Bool, true, false, List, [], ◌∷◌, ◌++◌, map, Option, Some, None, codes}
 use Rattle.std.specs.Fmt.{decimal, signed_decimal}
-use Rattle.ixdtf.specs.declared.records.DateDurationRecord.{DateDurationRecord}
-use Rattle.ixdtf.specs.declared.records.DateRecord.{DateRecord}
-use Rattle.ixdtf.specs.declared.records.DurationParseRecord.{DurationParseRecord}
-use Rattle.ixdtf.specs.declared.records.FullPrecisionOffset.{FullPrecisionOffset}
-use Rattle.ixdtf.specs.declared.records.MinutePrecisionOffset.{MinutePrecisionOffset}
-use Rattle.ixdtf.specs.declared.records.Sign.{Sign}
-use Rattle.ixdtf.specs.declared.records.Sign.TheVariants.{Negative, Positive}
-use Rattle.ixdtf.specs.declared.records.TimeDurationRecord.{TimeDurationRecord}
-use Rattle.ixdtf.specs.declared.records.TimeDurationRecord.TheVariants.{Hours, Minutes, Seconds}
-use Rattle.ixdtf.specs.declared.records.TimeRecord.{TimeRecord}
-use Rattle.ixdtf.specs.declared.records.UtcOffsetRecord.{UtcOffsetRecord}
-use Rattle.ixdtf.specs.declared.records.UtcOffsetRecord.TheVariants as offsets
-use Rattle.ixdtf.specs.declared.records.UtcOffsetRecordOrZ.{UtcOffsetRecordOrZ}
-use Rattle.ixdtf.specs.declared.records.UtcOffsetRecordOrZ.TheVariants as shifts
+use Rattle.ixdtf_grammar.specs.declared.records.DateDurationRecord.{DateDurationRecord}
+use Rattle.ixdtf_grammar.specs.declared.records.DateRecord.{DateRecord}
+use Rattle.ixdtf_grammar.specs.declared.records.DurationParseRecord.{DurationParseRecord}
+use Rattle.ixdtf_grammar.specs.declared.records.FullPrecisionOffset.{FullPrecisionOffset}
+use Rattle.ixdtf_grammar.specs.declared.records.MinutePrecisionOffset.{MinutePrecisionOffset}
+use Rattle.ixdtf_grammar.specs.declared.records.Sign.{Sign}
+use Rattle.ixdtf_grammar.specs.declared.records.Sign.TheVariants.{Negative, Positive}
+use Rattle.ixdtf_grammar.specs.declared.records.TimeDurationRecord.{TimeDurationRecord}
+use Rattle.ixdtf_grammar.specs.declared.records.TimeDurationRecord.TheVariants.{Hours, Minutes, Seconds}
+use Rattle.ixdtf_grammar.specs.declared.records.TimeRecord.{TimeRecord}
+use Rattle.ixdtf_grammar.specs.declared.records.UtcOffsetRecord.{UtcOffsetRecord}
+use Rattle.ixdtf_grammar.specs.declared.records.UtcOffsetRecord.TheVariants as offsets
+use Rattle.ixdtf_grammar.specs.declared.records.UtcOffsetRecordOrZ.{UtcOffsetRecordOrZ}
+use Rattle.ixdtf_grammar.specs.declared.records.UtcOffsetRecordOrZ.TheVariants as shifts
 use Rattle.ixdtf.specs.language.Digits.{padded_digits}
 use Rattle.ixdtf.specs.language.Fractions.{FractionParts, nanoseconds_of}
 use Rattle.ixdtf.specs.language.Brackets.{ZoneNote}

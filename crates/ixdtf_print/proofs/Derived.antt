@@ -5,14 +5,14 @@ use Rattle.std.proofs.lemmas.Bool.Decides.{nat_tests}
 use Rattle.std.proofs.lemmas.Bool.{leb-true}
 use Rattle.std.proofs.lemmas.List.{take_all, length-append, length-replicate}
 use Rattle.std.proofs.Math.Nat.{pow-succ', mul-le-mul_left}
-use Rattle.ixdtf.specs.declared.records.DateRecord.{DateRecord}
+use Rattle.ixdtf_grammar.specs.declared.records.DateRecord.{DateRecord}
 use Rattle.ixdtf.specs.language.Letters.{Text, digit, hyphen}
 use Rattle.ixdtf.specs.language.Letters.Letter.{Plain}
 use Rattle.ixdtf.specs.language.Shapes.{digits}
 use Rattle.ixdtf.specs.language.Digits.{decimal, padded_digits}
 use Rattle.ixdtf.specs.language.Dates.{Year, IsDate, DateText, IsDayOfMonth}
 use Rattle.ixdtf.specs.language.Fractions.{FractionParts, IsFraction, places_of}
-use Rattle.ixdtf.proofs.code.Nanoseconds.{length-padded}
+use Rattle.ixdtf_grammar.proofs.code.Nanoseconds.{length-padded}
 use Rattle.ixdtf_print.specs.Canonical.{two_digits, year_text, date_text, fraction_digits, fraction_text}
 use Rattle.ixdtf_print.specs.Spelled.{IsDay, AreDigits}
 

@@ -10,7 +10,7 @@ use Rattle.ixdtf.specs.language.Readers.{parse}
 use Rattle.ixdtf.specs.language.Readers.CoreKind.{date_time}
 use Rattle.ixdtf.specs.Handlers.{UnhandledRecord, NoneRefused, own_replies, calendar_value, first_calendar, with_calendar}
 use Rattle.ixdtf.specs.Widths.UnhandledOutcome.{read_as}
-use Rattle.ixdtf.proofs.theorems.OneUnhandledOutcome.{one_unhandled_outcome}
+use Rattle.ixdtf_reading.proofs.theorems.OneUnhandledOutcome.{one_unhandled_outcome}
 
 -- a record of these parts
 abbrev pub joined : Core → Option ZoneNote → List Pair → Parsed

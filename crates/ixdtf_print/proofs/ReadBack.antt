@@ -5,14 +5,14 @@ use Rattle.std.proofs.lemmas.Bool.Decides.{nat_tests}
 use Rattle.std.proofs.lemmas.Bool.{leb-true}
 use Rattle.std.proofs.lemmas.List.{take_all, nil_from_length, length-append, length-replicate}
 use Rattle.std.proofs.Math.Seq.{take-append_seam}
-use Rattle.ixdtf.specs.declared.records.DateRecord.{DateRecord}
-use Rattle.ixdtf.specs.declared.records.MinutePrecisionOffset.{MinutePrecisionOffset}
-use Rattle.ixdtf.specs.declared.records.Sign.{Sign}
-use Rattle.ixdtf.specs.declared.records.Sign.TheVariants.{Positive, Negative}
-use Rattle.ixdtf.specs.declared.records.TimeRecord.{TimeRecord}
-use Rattle.ixdtf.specs.declared.records.UtcOffsetRecord.TheVariants as offsets
-use Rattle.ixdtf.specs.declared.records.UtcOffsetRecordOrZ.{UtcOffsetRecordOrZ}
-use Rattle.ixdtf.specs.declared.records.UtcOffsetRecordOrZ.TheVariants as stands
+use Rattle.ixdtf_grammar.specs.declared.records.DateRecord.{DateRecord}
+use Rattle.ixdtf_grammar.specs.declared.records.MinutePrecisionOffset.{MinutePrecisionOffset}
+use Rattle.ixdtf_grammar.specs.declared.records.Sign.{Sign}
+use Rattle.ixdtf_grammar.specs.declared.records.Sign.TheVariants.{Positive, Negative}
+use Rattle.ixdtf_grammar.specs.declared.records.TimeRecord.{TimeRecord}
+use Rattle.ixdtf_grammar.specs.declared.records.UtcOffsetRecord.TheVariants as offsets
+use Rattle.ixdtf_grammar.specs.declared.records.UtcOffsetRecordOrZ.{UtcOffsetRecordOrZ}
+use Rattle.ixdtf_grammar.specs.declared.records.UtcOffsetRecordOrZ.TheVariants as stands
 use Rattle.ixdtf.specs.language.Letters.{Text, sign}
 use Rattle.ixdtf.specs.language.Letters.Letter.{Plain}
 use Rattle.ixdtf.specs.language.Digits.{decimal, padded_digits}
@@ -30,9 +30,9 @@ use Rattle.ixdtf.specs.language.Cores.{core_of, OptionalOffset, IsDateTimeCore}
 use Rattle.ixdtf.specs.language.Languages.{Parsed}
 use Rattle.ixdtf.specs.table.Faults.{Fault}
 use Rattle.ixdtf.specs.Handlers.{IsRefused, NoneRefused, own_replies, calendar_key, calendar_value, first_calendar}
-use Rattle.ixdtf.proofs.code.OneMoreReply.{NoneRefused-nothing, NoneRefused-more, neither_refused}
-use Rattle.ixdtf.specs.reading.Times.{time_of}
-use Rattle.ixdtf.proofs.code.Nanoseconds.{decimal-whole, length-padded}
+use Rattle.ixdtf_reading.proofs.code.OneMoreReply.{NoneRefused-nothing, NoneRefused-more, neither_refused}
+use Rattle.ixdtf_reading.specs.reading.Times.{time_of}
+use Rattle.ixdtf_grammar.proofs.code.Nanoseconds.{decimal-whole, length-padded}
 use Rattle.ixdtf_print.specs.Canonical.{two_digits, year_text, date_text, minutes_text, seconds_text, fraction_digits, clock_text, time_text, sign_of}
 use Rattle.ixdtf_print.specs.Canonical.{minute_offset_text, offset_text, zone_text, opening_text, bracket_text, calendar_text, optional_date_text, core_text}
 use Rattle.ixdtf_print.specs.Canonical.{canonical_text}

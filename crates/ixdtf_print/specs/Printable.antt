@@ -1,6 +1,6 @@
 -- Which records are printed, and that what is printed of them is read back.
 use Rattle.std.specs.Prelude.{◌≡◌, ℕ}
-use Rattle.ixdtf.specs.declared.records.IxdtfParseRecord.{IxdtfParseRecord}
+use Rattle.ixdtf_grammar.specs.declared.records.IxdtfParseRecord.{IxdtfParseRecord}
 use Rattle.ixdtf.specs.Handlers.{UnhandledRecord}
 use Rattle.ixdtf.specs.Views.{parsed_of}
 use Rattle.ixdtf.specs.language.Letters.{Text}

@@ -1,12 +1,12 @@
 -- Durations and their lines, computed.
 use Rattle.std.proofs.Common.{ℕ, List, [], ◌∷◌, ◌++◌, map, codes, Option, Some, None, refl}
-use Rattle.ixdtf.specs.declared.parsers.profile.Profile.{Profile}
-use Rattle.ixdtf.specs.declared.parsers.profile.Profile.TheVariants.{Crate, Strict}
-use Rattle.ixdtf.specs.declared.records.DateDurationRecord.{DateDurationRecord}
-use Rattle.ixdtf.specs.declared.records.Sign.{Sign}
-use Rattle.ixdtf.specs.declared.records.Sign.TheVariants.{Positive, Negative}
-use Rattle.ixdtf.specs.declared.records.TimeDurationRecord.{TimeDurationRecord}
-use Rattle.ixdtf.specs.declared.records.TimeDurationRecord.TheVariants.{Hours, Minutes, Seconds}
+use Rattle.ixdtf_grammar.specs.declared.profile.Profile.{Profile}
+use Rattle.ixdtf_grammar.specs.declared.profile.Profile.TheVariants.{Crate, Strict}
+use Rattle.ixdtf_grammar.specs.declared.records.DateDurationRecord.{DateDurationRecord}
+use Rattle.ixdtf_grammar.specs.declared.records.Sign.{Sign}
+use Rattle.ixdtf_grammar.specs.declared.records.Sign.TheVariants.{Positive, Negative}
+use Rattle.ixdtf_grammar.specs.declared.records.TimeDurationRecord.{TimeDurationRecord}
+use Rattle.ixdtf_grammar.specs.declared.records.TimeDurationRecord.TheVariants.{Hours, Minutes, Seconds}
 use Rattle.ixdtf.specs.language.Durations.Half.{date, time}
 use Rattle.ixdtf.specs.language.Fractions.{FractionParts}
 use Rattle.ixdtf.specs.language.Languages.Found.{lasting}

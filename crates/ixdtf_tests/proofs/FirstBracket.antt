@@ -1,9 +1,9 @@
 -- The first bracket of a text and the lines of brackets, computed.
 use Rattle.ixdtf.specs.table.Rows.{other}
 use Rattle.std.proofs.Common.{true, false, List, [], ◌∷◌, ◌++◌, codes, Some, None, refl}
-use Rattle.ixdtf.specs.declared.records.Sign.TheVariants.{Negative}
-use Rattle.ixdtf.specs.declared.records.UtcOffsetRecord.TheVariants.{MinutePrecision}
-use Rattle.ixdtf.specs.declared.records.UtcOffsetRecordOrZ.TheVariants.{Offset, Z}
+use Rattle.ixdtf_grammar.specs.declared.records.Sign.TheVariants.{Negative}
+use Rattle.ixdtf_grammar.specs.declared.records.UtcOffsetRecord.TheVariants.{MinutePrecision}
+use Rattle.ixdtf_grammar.specs.declared.records.UtcOffsetRecordOrZ.TheVariants.{Offset, Z}
 use Rattle.ixdtf.specs.language.Times.Clock.{MinuteOffset}
 use Rattle.ixdtf.specs.language.Readers.{parse}
 use Rattle.ixdtf.specs.table.Faults.Fault.{NonAsciiCodePoint, InvalidEnd, TzLeadingChar, TimeHour, IanaChar, AnnotationValueChar, AnnotationKeyChar}

@@ -1,8 +1,8 @@
 -- Texts with pairs, and what they and the replies to the pairs give.
 use Rattle.std.proofs.Common.{◌≡◌, ℕ, Bool, true, false, List, [], ◌∷◌, codes, Some, None, pos, refl, inl, inr}
-use Rattle.ixdtf.specs.declared.records.Sign.TheVariants.{Positive, Negative}
-use Rattle.ixdtf.specs.declared.records.UtcOffsetRecord.TheVariants.{MinutePrecision, FullPrecisionOffset}
-use Rattle.ixdtf.specs.declared.records.UtcOffsetRecordOrZ.TheVariants.{Offset}
+use Rattle.ixdtf_grammar.specs.declared.records.Sign.TheVariants.{Positive, Negative}
+use Rattle.ixdtf_grammar.specs.declared.records.UtcOffsetRecord.TheVariants.{MinutePrecision, FullPrecisionOffset}
+use Rattle.ixdtf_grammar.specs.declared.records.UtcOffsetRecordOrZ.TheVariants.{Offset}
 use Rattle.ixdtf.specs.Handlers.{calendar_key, first_calendar, NoneRefused, LastRefused, with_calendar, GivesRecord, GivesFault, own_replies, UnhandledRecord}
 use Rattle.ixdtf.specs.Handlers.{UnhandledFault}
 use Rattle.ixdtf.specs.language.Brackets.{Pair}
@@ -14,9 +14,9 @@ use Rattle.ixdtf.specs.table.LineNames.LineName.{of_bracket, of_pair}
 use Rattle.ixdtf.specs.table.LineNames.BracketLine.{after_bracket}
 use Rattle.ixdtf.specs.table.LineNames.PairLine.{key_start, in_key}
 use Rattle.ixdtf.specs.table.Rows.Place.{other}
-use Rattle.ixdtf.specs.reading.Looks.{row_of}
-use Rattle.ixdtf.specs.reading.Dates.{date_of}
-use Rattle.ixdtf.specs.reading.Times.{time_of}
+use Rattle.ixdtf_reading.specs.reading.Looks.{row_of}
+use Rattle.ixdtf_reading.specs.reading.Dates.{date_of}
+use Rattle.ixdtf_reading.specs.reading.Times.{time_of}
 use Rattle.ixdtf_tests.proofs.Helpers.{all_readings, text_of, new_years_day, tagged, zone_named}
 use Rattle.ixdtf_tests.proofs.Replies.{all_accepted, last_refused, gives, stops_with, refuses, unhandled_record, differ}
 

@@ -1,8 +1,8 @@
 -- What the examples are written with.
 use Rattle.std.proofs.Common.{◌≡◌, ℕ, Bool, List, [], ◌∷◌, ◌++◌, map, Option, Some, None, ℤ, pos}
-use Rattle.ixdtf.specs.declared.records.DateRecord.{DateRecord}
-use Rattle.ixdtf.specs.declared.records.TimeRecord.{TimeRecord}
-use Rattle.ixdtf.specs.declared.records.UtcOffsetRecordOrZ.{UtcOffsetRecordOrZ}
+use Rattle.ixdtf_grammar.specs.declared.records.DateRecord.{DateRecord}
+use Rattle.ixdtf_grammar.specs.declared.records.TimeRecord.{TimeRecord}
+use Rattle.ixdtf_grammar.specs.declared.records.UtcOffsetRecordOrZ.{UtcOffsetRecordOrZ}
 use Rattle.ixdtf.specs.language.Letters.{Text}
 use Rattle.ixdtf.specs.language.Letters.Letter.{Plain, Bad}
 use Rattle.ixdtf.specs.language.Fractions.{FractionParts}
@@ -22,18 +22,18 @@ use Rattle.ixdtf.specs.table.Rows.{Place}
 use Rattle.ixdtf.specs.table.Rows.Place.{end, other, bad, anywhere}
 use Rattle.ixdtf.specs.table.Outcomes.{Outcome}
 use Rattle.ixdtf.specs.table.Outcomes.Outcome.{derived, refused}
-use Rattle.ixdtf.specs.reading.Looks.{row_of, look_at, number_by}
-use Rattle.ixdtf.specs.reading.Dates.{date_of, date_readings}
-use Rattle.ixdtf.specs.reading.Months.{month_readings}
-use Rattle.ixdtf.specs.reading.Times.{time_of, time_readings}
-use Rattle.ixdtf.specs.reading.Zones.{name_run, zone_readings}
-use Rattle.ixdtf.specs.reading.Pairs.{key_run, value_run, pairs_at, pair_readings}
-use Rattle.ixdtf.specs.reading.Brackets.{sight_at, name_or_pair_at, bracket_readings}
-use Rattle.ixdtf.specs.reading.Cores.{core_end_at, offset_core_at, after_time_at, time_core_at, after_date_at, date_time_core_at}
-use Rattle.ixdtf.specs.reading.Cores.{lone_time_at, marked_time_at, marked_core_at, time_alone_core_at}
+use Rattle.ixdtf_reading.specs.reading.Looks.{row_of, look_at, number_by}
+use Rattle.ixdtf_reading.specs.reading.Dates.{date_of, date_readings}
+use Rattle.ixdtf_reading.specs.reading.Months.{month_readings}
+use Rattle.ixdtf_reading.specs.reading.Times.{time_of, time_readings}
+use Rattle.ixdtf_reading.specs.reading.Zones.{name_run, zone_readings}
+use Rattle.ixdtf_reading.specs.reading.Pairs.{key_run, value_run, pairs_at, pair_readings}
+use Rattle.ixdtf_reading.specs.reading.Brackets.{sight_at, name_or_pair_at, bracket_readings}
+use Rattle.ixdtf_reading.specs.reading.Cores.{core_end_at, offset_core_at, after_time_at, time_core_at, after_date_at, date_time_core_at}
+use Rattle.ixdtf_reading.specs.reading.Cores.{lone_time_at, marked_time_at, marked_core_at, time_alone_core_at}
 use Rattle.ixdtf.specs.language.Durations.{greatest_value}
-use Rattle.ixdtf.specs.reading.Durations.{step as duration_step, run as duration_run}
-use Rattle.ixdtf.specs.reading.Wholes.{bracketed_at, annotated_at, bracketed_text_at, outcome}
+use Rattle.ixdtf_reading.specs.reading.Durations.{step as duration_step, run as duration_run}
+use Rattle.ixdtf_reading.specs.reading.Wholes.{bracketed_at, annotated_at, bracketed_text_at, outcome}
 
 -- unfolding this unfolds every reading
 unfoldable pub all_readings : ℕ

@@ -1,12 +1,12 @@
 -- Times that stand alone, and their lines, computed.
 use Rattle.std.proofs.Common.{ℕ, List, [], ◌∷◌, ◌++◌, map, codes, Option, Some, None, false, refl}
-use Rattle.ixdtf.specs.declared.parsers.profile.Profile.{Profile}
-use Rattle.ixdtf.specs.declared.parsers.profile.Profile.TheVariants.{Crate, Strict}
-use Rattle.ixdtf.specs.declared.records.Sign.{Sign}
-use Rattle.ixdtf.specs.declared.records.Sign.TheVariants.{Negative}
-use Rattle.ixdtf.specs.declared.records.UtcOffsetRecord.TheVariants.{MinutePrecision}
-use Rattle.ixdtf.specs.declared.records.UtcOffsetRecordOrZ.{UtcOffsetRecordOrZ}
-use Rattle.ixdtf.specs.declared.records.UtcOffsetRecordOrZ.TheVariants.{Offset, Z}
+use Rattle.ixdtf_grammar.specs.declared.profile.Profile.{Profile}
+use Rattle.ixdtf_grammar.specs.declared.profile.Profile.TheVariants.{Crate, Strict}
+use Rattle.ixdtf_grammar.specs.declared.records.Sign.{Sign}
+use Rattle.ixdtf_grammar.specs.declared.records.Sign.TheVariants.{Negative}
+use Rattle.ixdtf_grammar.specs.declared.records.UtcOffsetRecord.TheVariants.{MinutePrecision}
+use Rattle.ixdtf_grammar.specs.declared.records.UtcOffsetRecordOrZ.{UtcOffsetRecordOrZ}
+use Rattle.ixdtf_grammar.specs.declared.records.UtcOffsetRecordOrZ.TheVariants.{Offset, Z}
 use Rattle.ixdtf.specs.language.Letters.Letter.{Bad}
 use Rattle.ixdtf.specs.language.Brackets.{ZoneNote}
 use Rattle.ixdtf.specs.language.Cores.{core_of}
@@ -27,7 +27,7 @@ use Rattle.ixdtf.specs.table.Lines.{abrupt_digit, abrupt_bracket}
 use Rattle.ixdtf.specs.table.Rows.Place.{bad}
 use Rattle.ixdtf.specs.table.Outcomes.{Outcome}
 use Rattle.ixdtf.specs.table.Outcomes.Outcome.{derived}
-use Rattle.ixdtf.specs.reading.Times.{time_of}
+use Rattle.ixdtf_reading.specs.reading.Times.{time_of}
 use Rattle.ixdtf_tests.proofs.Helpers.{all_readings, zone_named, Example, Compute, gives, ends, goes_off, meets_bad, stands, stops, one, three, ShowEachRow}
 use Rattle.ixdtf_tests.proofs.Times.{of_clock_time, time_lines, time_rows}
 use Rattle.ixdtf_tests.proofs.Offsets.{full_lines, full_rows}

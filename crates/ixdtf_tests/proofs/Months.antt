@@ -1,8 +1,8 @@
 -- Year-months and month-days, and their lines, computed.
 use Rattle.std.proofs.Common.{ℕ, List, [], ◌∷◌, ◌++◌, map, codes, ℤ, pos, neg_ℤ, Some, None, false, refl}
-use Rattle.ixdtf.specs.declared.parsers.profile.Profile.{Profile}
-use Rattle.ixdtf.specs.declared.parsers.profile.Profile.TheVariants.{Crate, Strict}
-use Rattle.ixdtf.specs.declared.records.Sign.TheVariants.{Positive}
+use Rattle.ixdtf_grammar.specs.declared.profile.Profile.{Profile}
+use Rattle.ixdtf_grammar.specs.declared.profile.Profile.TheVariants.{Crate, Strict}
+use Rattle.ixdtf_grammar.specs.declared.records.Sign.TheVariants.{Positive}
 use Rattle.ixdtf.specs.language.ZoneNames.Zone.{Offset}
 use Rattle.ixdtf.specs.language.Readers.{parse_year_month, parse_month_day}
 use Rattle.ixdtf.specs.table.Faults.Fault.{InvalidEnd, InvalidMonthRange, InvalidMonthDay, DateMonth, DateDay, MonthDayHyphen}
@@ -14,7 +14,7 @@ use Rattle.ixdtf.specs.table.LineNames.MonthDayLine.{after_month_day_month, mont
 use Rattle.ixdtf.specs.table.Lines.{abrupt_digit, abrupt_month_day}
 use Rattle.ixdtf.specs.table.Rows.Place.{anywhere}
 use Rattle.ixdtf.specs.table.Outcomes.{Outcome}
-use Rattle.ixdtf.specs.reading.Dates.{date_of}
+use Rattle.ixdtf_reading.specs.reading.Dates.{date_of}
 use Rattle.ixdtf_tests.proofs.Dates.{year_lines, year_rows, month_rows}
 use Rattle.ixdtf_tests.proofs.Helpers.{all_readings, and_bad, date, with, Example, Compute, gives, ends, goes_off, meets_bad, stands, stops}
 use Rattle.ixdtf_tests.proofs.Helpers.{one, two, three, ShowEachRow}

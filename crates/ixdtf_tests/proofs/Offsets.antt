@@ -1,10 +1,10 @@
 -- Offsets, with seconds and without, and the lines of offsets, computed.
 use Rattle.std.proofs.Common.{ℕ, Bool, true, false, List, [], ◌∷◌, ◌++◌, map, codes, Option, Some, None, refl}
-use Rattle.ixdtf.specs.declared.records.Sign.{Sign}
-use Rattle.ixdtf.specs.declared.records.Sign.TheVariants.{Positive, Negative}
-use Rattle.ixdtf.specs.declared.records.UtcOffsetRecord.{UtcOffsetRecord}
-use Rattle.ixdtf.specs.declared.records.UtcOffsetRecord.TheVariants.{MinutePrecision, FullPrecisionOffset}
-use Rattle.ixdtf.specs.declared.records.UtcOffsetRecordOrZ.TheVariants.{Offset, Z}
+use Rattle.ixdtf_grammar.specs.declared.records.Sign.{Sign}
+use Rattle.ixdtf_grammar.specs.declared.records.Sign.TheVariants.{Positive, Negative}
+use Rattle.ixdtf_grammar.specs.declared.records.UtcOffsetRecord.{UtcOffsetRecord}
+use Rattle.ixdtf_grammar.specs.declared.records.UtcOffsetRecord.TheVariants.{MinutePrecision, FullPrecisionOffset}
+use Rattle.ixdtf_grammar.specs.declared.records.UtcOffsetRecordOrZ.TheVariants.{Offset, Z}
 use Rattle.ixdtf.specs.language.Times.Clock.{Offset as OffsetClock, MinuteOffset}
 use Rattle.ixdtf.specs.language.Fractions.{FractionParts}
 use Rattle.ixdtf.specs.language.ZoneNames.Zone.{Offset as zone_offset}
@@ -23,7 +23,7 @@ use Rattle.ixdtf.specs.table.Lines.{abrupt_digit, abrupt_offset}
 use Rattle.ixdtf.specs.table.Rows.Place.{anywhere}
 use Rattle.ixdtf.specs.table.Outcomes.{Outcome}
 use Rattle.ixdtf.specs.table.Outcomes.Outcome.{derived}
-use Rattle.ixdtf.specs.reading.Times.{time_of}
+use Rattle.ixdtf_reading.specs.reading.Times.{time_of}
 use Rattle.ixdtf_tests.proofs.Times.{minute_lines, clock_lines}
 use Rattle.ixdtf_tests.proofs.Helpers.{all_readings, and_bad, morning, new_years_day, with, Example, Compute, gives, ends, goes_off, meets_bad, stands, stops}
 use Rattle.ixdtf_tests.proofs.Helpers.{one, two, three, ShowEachRow}

@@ -9,8 +9,8 @@ use Rattle.ixdtf.specs.table.LineNames.ClockLine.{hour_start, hour_digit, hour_r
 use Rattle.ixdtf.specs.table.LineNames.ClockLine.{after_colon_minute, second_digits, second_range, after_second, fraction_start, after_fraction}
 use Rattle.ixdtf.specs.table.Rows.Place.{anywhere}
 use Rattle.ixdtf.specs.table.Lines.{abrupt_digit}
-use Rattle.ixdtf.specs.reading.Dates.{date_of}
-use Rattle.ixdtf.specs.reading.Times.{time_of}
+use Rattle.ixdtf_reading.specs.reading.Dates.{date_of}
+use Rattle.ixdtf_reading.specs.reading.Times.{time_of}
 use Rattle.ixdtf_tests.proofs.Helpers.{all_readings, and_bad, new_year, with, Example, Compute, gives, ends, goes_off, meets_bad, stands, stops, one, two}
 use Rattle.ixdtf_tests.proofs.Helpers.{three, ShowEachRow}
 

@@ -1,6 +1,6 @@
 -- What `parse` returned is what the text has without a handler.
 use Rattle.std.proofs.Common.{◌≡◌, ◌↔◌, Result, Ok, Err, IfErr, refl, ap}
-use Rattle.ixdtf.specs.declared.error.ParseError.{ParseError}
+use Rattle.ixdtf_grammar.specs.declared.error.ParseError.{ParseError}
 use Rattle.ixdtf.specs.Handlers.{UnhandledRecord, UnhandledFault}
 use Rattle.ixdtf.specs.Views.{returned}
 use Rattle.ixdtf.specs.Widths.{UnhandledOutcome, HasUnhandledOutcome}

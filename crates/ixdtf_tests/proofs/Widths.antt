@@ -1,7 +1,7 @@
 -- Texts in 16-bit units and in 8-bit units, computed: the letters of units, and what the texts give.
 use Rattle.std.proofs.Common.{◌≡◌, ℕ, List, [], ◌∷◌, ◌++◌, map, codes, false, None, pos, refl}
-use Rattle.ixdtf.specs.declared.parsers.profile.Profile.{Profile}
-use Rattle.ixdtf.specs.declared.parsers.profile.Profile.TheVariants.{Crate, Strict}
+use Rattle.ixdtf_grammar.specs.declared.profile.Profile.{Profile}
+use Rattle.ixdtf_grammar.specs.declared.profile.Profile.TheVariants.{Crate, Strict}
 use Rattle.ixdtf.specs.language.Letters.{Text, byte_letter, wide_letter}
 use Rattle.ixdtf.specs.language.Letters.Letter.{Plain, Bad}
 use Rattle.ixdtf.specs.language.Readers.{parse}
@@ -16,7 +16,7 @@ use Rattle.ixdtf.specs.table.LineNames.PairLine.{value_start}
 use Rattle.ixdtf.specs.table.LineNames.BracketLine.{first_bracket_scan}
 use Rattle.ixdtf.specs.table.LineNames.DurationLine.{after_date_groups, group_value_range, after_fraction_group}
 use Rattle.ixdtf.specs.table.Rows.Place.{other, bad, anywhere}
-use Rattle.ixdtf.specs.reading.Dates.{date_of}
+use Rattle.ixdtf_reading.specs.reading.Dates.{date_of}
 use Rattle.ixdtf_tests.proofs.Helpers.{all_readings, zone_named, with, Compute, stops}
 
 abbrev wide : List ℕ → Text

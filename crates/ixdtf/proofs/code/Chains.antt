@@ -3,24 +3,24 @@ use Rattle.std.proofs.Common.{◌≡◌, ℕ, List, [], ◌∷◌, ◌++◌, Opt
 use Rattle.std.proofs.lemmas.List.{map-append, append-nil}
 use Rattle.std.proofs.SliceLists.{chained_more}
 use Rattle.std.specs.Option.{option_or}
-use Rattle.ixdtf.specs.declared.records.Annotation.{Annotation}
-use Rattle.ixdtf.specs.language.Letters.{Text}
-use Rattle.ixdtf.specs.table.Faults.{Fault}
-use Rattle.ixdtf.specs.language.Brackets.{Pair, IsPair, ArePairs}
-use Rattle.ixdtf.specs.language.Cores.{Core, IsCore}
-use Rattle.ixdtf.specs.language.Readers.{Reader, CoreKind}
-use Rattle.ixdtf.specs.language.Readers.Reader.{bracketed}
-use Rattle.ixdtf.specs.table.Rows.{Row, Fits}
-use Rattle.ixdtf.specs.language.Languages.Derives.{as_parsed}
-use Rattle.ixdtf.specs.language.Languages.{Parsed, parsed_with, IsBracketed}
-use Rattle.ixdtf.specs.table.Outcomes.{HasFault}
-use Rattle.ixdtf.specs.reading.Brackets.{Bracket, zone_in, pairs_in}
-use Rattle.ixdtf.specs.Handlers.{first_calendar, RefusedBeside, NoneRefused, LastRefused, calendar_value, with_calendar, GivesFault, pair_of, Calls, handed}
-use Rattle.ixdtf.specs.Handlers.{replies_of, Step, IsChain}
-use Rattle.ixdtf.specs.reading.Chains.{FitsAfterBrackets, PairsUpTo, PairsRead, TextRead}
-use Rattle.ixdtf.proofs.code.OneMoreReply.{first_calendar-more, NoneRefused-more, NoneRefused-nothing}
-use Rattle.ixdtf.proofs.to_grammar.FirstBracket.{IsBracket}
-use Rattle.ixdtf.proofs.to_grammar.Wholes.{after_brackets, tail_of, bracket_stands}
+use Rattle.ixdtf_grammar.specs.declared.records.Annotation.{Annotation}
+use Rattle.ixdtf_grammar.specs.language.Letters.{Text}
+use Rattle.ixdtf_grammar.specs.table.Faults.{Fault}
+use Rattle.ixdtf_grammar.specs.language.Brackets.{Pair, IsPair, ArePairs}
+use Rattle.ixdtf_grammar.specs.language.Cores.{Core, IsCore}
+use Rattle.ixdtf_grammar.specs.language.Readers.{Reader, CoreKind}
+use Rattle.ixdtf_grammar.specs.language.Readers.Reader.{bracketed}
+use Rattle.ixdtf_grammar.specs.table.Rows.{Row, Fits}
+use Rattle.ixdtf_grammar.specs.language.Languages.Derives.{as_parsed}
+use Rattle.ixdtf_grammar.specs.language.Languages.{Parsed, parsed_with, IsBracketed}
+use Rattle.ixdtf_grammar.specs.table.Outcomes.{HasFault}
+use Rattle.ixdtf_reading.specs.reading.Brackets.{Bracket, zone_in, pairs_in}
+use Rattle.ixdtf_grammar.specs.Handlers.{first_calendar, RefusedBeside, NoneRefused, LastRefused, calendar_value, with_calendar, GivesFault, pair_of, Calls, handed}
+use Rattle.ixdtf_grammar.specs.Handlers.{replies_of, Step, IsChain}
+use Rattle.ixdtf_reading.specs.reading.Chains.{FitsAfterBrackets, PairsUpTo, PairsRead, TextRead}
+use Rattle.ixdtf_reading.proofs.code.OneMoreReply.{first_calendar-more, NoneRefused-more, NoneRefused-nothing}
+use Rattle.ixdtf_reading.proofs.to_grammar.FirstBracket.{IsBracket}
+use Rattle.ixdtf_reading.proofs.to_grammar.Wholes.{after_brackets, tail_of, bracket_stands}
 
 -- ---- texts of pairs
 

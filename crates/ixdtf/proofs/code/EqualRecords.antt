@@ -4,18 +4,18 @@ use Rattle.std.specs.Bool.{one_answer}
 use Rattle.std.specs.Cmp.{first_so, second_so}
 use Rattle.std.specs.Cmp.Derive.{both_true}
 use Rattle.std.specs.Option.{option_eq}
-use Rattle.ixdtf.specs.declared.records.UtcOffsetRecord.{UtcOffsetRecord}
-use Rattle.ixdtf.specs.declared.records.UtcOffsetRecord.TheVariants as offsets
-use Rattle.ixdtf.specs.declared.records.UtcOffsetRecordOrZ.{UtcOffsetRecordOrZ}
-use Rattle.ixdtf.specs.declared.records.UtcOffsetRecordOrZ.TheVariants as offsets_or_z
-use Rattle.ixdtf.specs.declared.records.TimeZoneRecord.{TimeZoneRecord}
-use Rattle.ixdtf.specs.declared.records.TimeZoneRecord.TheVariants as zones
-use Rattle.ixdtf.specs.declared.records.TimeDurationRecord.{TimeDurationRecord}
-use Rattle.ixdtf.specs.declared.records.TimeDurationRecord.TheVariants as time_durations
-use Rattle.ixdtf.specs.language.Fractions.{FractionParts}
-use Rattle.ixdtf.specs.Laws.{IsEqualityBy}
-use Rattle.ixdtf.specs.Views.{zone_of}
-use Rattle.ixdtf.specs.language.ZoneNames.Zone.{Name, Offset}
+use Rattle.ixdtf_grammar.specs.declared.records.UtcOffsetRecord.{UtcOffsetRecord}
+use Rattle.ixdtf_grammar.specs.declared.records.UtcOffsetRecord.TheVariants as offsets
+use Rattle.ixdtf_grammar.specs.declared.records.UtcOffsetRecordOrZ.{UtcOffsetRecordOrZ}
+use Rattle.ixdtf_grammar.specs.declared.records.UtcOffsetRecordOrZ.TheVariants as offsets_or_z
+use Rattle.ixdtf_grammar.specs.declared.records.TimeZoneRecord.{TimeZoneRecord}
+use Rattle.ixdtf_grammar.specs.declared.records.TimeZoneRecord.TheVariants as zones
+use Rattle.ixdtf_grammar.specs.declared.records.TimeDurationRecord.{TimeDurationRecord}
+use Rattle.ixdtf_grammar.specs.declared.records.TimeDurationRecord.TheVariants as time_durations
+use Rattle.ixdtf_grammar.specs.language.Fractions.{FractionParts}
+use Rattle.ixdtf_grammar.specs.Laws.{IsEqualityBy}
+use Rattle.ixdtf_grammar.specs.Views.{zone_of}
+use Rattle.ixdtf_grammar.specs.language.ZoneNames.Zone.{Name, Offset}
 
 -- a test holds exactly where what is seen is one
 abbrev pub Exact : {K V : Type 0} → (K → V) → (K → K → Bool) → Type 0

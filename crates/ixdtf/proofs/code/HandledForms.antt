@@ -32,15 +32,15 @@ use Rattle.std.specs.declared.fmt.Debug as debug
 use Rattle.std.specs.contracts.fmt.Debug.TheBound as debug_bound
 use Rattle.std.specs.declared.clone.Clone as clone
 use Rattle.std.specs.contracts.clone.Clone.TheBound as clone_bound
-use Rattle.ixdtf.specs.declared.encoding.EncodingType as encoding
-use Rattle.ixdtf.specs.contracts.encoding.EncodingType.TheBound as encoding_bound
-use Rattle.ixdtf.specs.declared.encoding.private.Sealed as sealed
-use Rattle.ixdtf.specs.contracts.encoding.private.Sealed.TheBound as sealed_bound
+use Rattle.ixdtf_grammar.specs.declared.encoding.EncodingType as encoding
+use Rattle.ixdtf_grammar.specs.contracts.encoding.EncodingType.TheBound as encoding_bound
+use Rattle.ixdtf_grammar.specs.declared.encoding.private.Sealed as sealed
+use Rattle.ixdtf_grammar.specs.contracts.encoding.private.Sealed.TheBound as sealed_bound
 use Rattle.ixdtf.specs.declared.parsers.cores.Cores as cores
 use Rattle.ixdtf.specs.contracts.parsers.cores.Cores.TheBound as cores_bound
-use Rattle.ixdtf.specs.contracts.stop.ParseErrorRaised.TheImpl as raises
-use Rattle.ixdtf.proofs.stop.ParseErrorRaised.TheImpl.Met as raises_met
-use Rattle.ixdtf.proofs.stop.ParseErrorRaised.of_stop.Symbol as raise_symbol
+use Rattle.ixdtf_reading.specs.contracts.stop.ParseErrorRaised.TheImpl as raises
+use Rattle.ixdtf_reading.proofs.stop.ParseErrorRaised.TheImpl.Met as raises_met
+use Rattle.ixdtf_reading.proofs.stop.ParseErrorRaised.of_stop.Symbol as raise_symbol
 use Rattle.ixdtf.specs.contracts.parsers.IxdtfParser
 use Rattle.ixdtf.specs.contracts.parsers.IxdtfParser.parse_with_annotation_handler as R
 use Rattle.ixdtf.specs.contracts.parsers.IxdtfParser.read_as as G

@@ -13,10 +13,10 @@ use types.Logic.{Logic}
 use seplogic.Ra.Ura.{Ura}
 use Rattle.std.specs.contracts.result.Result
 use Rattle.std.proofs.result.Result.TheLaws as result_laws
-use Rattle.ixdtf.specs.contracts.error.ParseError
-use Rattle.ixdtf.proofs.error.ParseError.TheLaws as error_laws
-use Rattle.ixdtf.specs.contracts.records.IxdtfParseRecord
-use Rattle.ixdtf.proofs.records.IxdtfParseRecord.TheLaws as record_laws
+use Rattle.ixdtf_grammar.specs.contracts.error.ParseError
+use Rattle.ixdtf_grammar.proofs.error.ParseError.TheLaws as error_laws
+use Rattle.ixdtf_grammar.specs.contracts.records.IxdtfParseRecord
+use Rattle.ixdtf_grammar.proofs.records.IxdtfParseRecord.TheLaws as record_laws
 -- the names that such a proof cites besides
 pub use mathlib.Core.Path.{◌≡◌, refl, subst}
 pub use mathlib.Core.List.{[], ◌∷◌}

@@ -1,34 +1,35 @@
 //! Reading cores, which are what stands before the brackets of a text, into a record.
 
 ghost use Rattle.std.specs.Prelude.{◌≡◌, ◌+◌, ◌≤◌, List, map, length, Ok, Some, None, refl};
-ghost use Rattle.ixdtf.specs.Laws.{IsKindUnder};
-ghost use Rattle.ixdtf.specs.declared.parsers.profile.Profile.{Profile};
-ghost use Rattle.ixdtf.specs.declared.records.TimeRecord.{TimeRecord};
-ghost use Rattle.ixdtf.specs.language.Letters.{Text};
-ghost use Rattle.ixdtf.specs.language.Cores.{Core};
-ghost use Rattle.ixdtf.specs.language.Readers.{CoreKind};
-ghost use Rattle.ixdtf.specs.language.Readers.CoreKind.{date_time};
-ghost use Rattle.ixdtf.specs.table.LineNames.{LineName};
-ghost use Rattle.ixdtf.specs.reading.Clauses.{GoesOn, after_date_time_at, Reads, Spends, Yields, core_in, KeepsBrackets, open_time_of, timed_core_at};
-ghost use Rattle.ixdtf.specs.reading.Looks.{error_of};
-ghost use Rattle.ixdtf.specs.reading.Cores.{ClosedCore, core_end_at, offset_core_at, after_time_at, whole_time_core_at, after_date_at, unfronted, core_at};
+ghost use Rattle.ixdtf_grammar.specs.Laws.{IsKindUnder};
+ghost use Rattle.ixdtf_grammar.specs.declared.profile.Profile.{Profile};
+ghost use Rattle.ixdtf_grammar.specs.declared.records.TimeRecord.{TimeRecord};
+ghost use Rattle.ixdtf_grammar.specs.language.Letters.{Text};
+ghost use Rattle.ixdtf_grammar.specs.language.Cores.{Core};
+ghost use Rattle.ixdtf_grammar.specs.language.Readers.{CoreKind};
+ghost use Rattle.ixdtf_grammar.specs.language.Readers.CoreKind.{date_time};
+ghost use Rattle.ixdtf_grammar.specs.table.LineNames.{LineName};
+ghost use Rattle.ixdtf_reading.specs.reading.Clauses.{GoesOn, Reads, Spends, Yields, core_in, KeepsBrackets, timed_core_at};
+ghost use Rattle.ixdtf_times.specs.TimeTypes.{after_date_time_at, open_time_of};
+ghost use Rattle.ixdtf_reading.specs.reading.Looks.{error_of};
+ghost use Rattle.ixdtf_reading.specs.reading.Cores.{ClosedCore, core_end_at, offset_core_at, after_time_at, whole_time_core_at, after_date_at, unfronted, core_at};
 
-use crate::cursor::Cursor;
-use crate::encoding::EncodingType;
-use crate::parsers::dates::parse_date;
-use crate::parsers::fixed::fixed_date_time;
-use crate::parsers::grammar::{
+use ixdtf_reading::cursor::Cursor;
+use ixdtf_grammar::encoding::EncodingType;
+use ixdtf_times::dates::parse_date;
+use ixdtf_times::fixed::fixed_date_time;
+use ixdtf_reading::grammar::{
     is_annotation_open, is_ascii_sign, is_date_time_separator, is_time_designator,
     is_utc_designator,
 };
-use crate::parsers::months::{
+use ixdtf_times::months::{
     parse_month_day_date, parse_month_day_parts, parse_year_month_date, parse_year_month_parts,
 };
-use crate::parsers::offsets::{offset_from, take_fixed_offset};
-use crate::parsers::profile::Profile;
-use crate::parsers::time::{Clock, TimeShape, parse_after_second, parse_clock};
-use crate::records::{DateRecord, IxdtfParseRecord, TimeRecord, UtcOffsetRecordOrZ};
-use crate::stop::Stop;
+use ixdtf_times::offsets::{offset_from, take_fixed_offset};
+use ixdtf_grammar::profile::Profile;
+use ixdtf_times::time::{Clock, TimeShape, parse_after_second, parse_clock};
+use ixdtf_grammar::records::{DateRecord, IxdtfParseRecord, TimeRecord, UtcOffsetRecordOrZ};
+use ixdtf_reading::stop::Stop;
 
 /// Cores of one kind. What reads whole texts is generic in it, so that nothing asks for the kind when it runs.
 pub trait Cores {
@@ -57,7 +58,7 @@ pub trait Cores {
 pub struct DateTimes;
 
 impl Cores for DateTimes {
-    ghost use Rattle.ixdtf.specs.language.Readers.CoreKind.{date_time};
+    ghost use Rattle.ixdtf_grammar.specs.language.Readers.CoreKind.{date_time};
 
     ghost kind = { λ profile. date_time };
 
@@ -81,7 +82,7 @@ impl Cores for DateTimes {
 pub struct YearMonths;
 
 impl Cores for YearMonths {
-    ghost use Rattle.ixdtf.specs.language.Readers.CoreKind.{year_month};
+    ghost use Rattle.ixdtf_grammar.specs.language.Readers.CoreKind.{year_month};
 
     ghost kind = { λ profile. year_month };
 
@@ -103,7 +104,7 @@ impl Cores for YearMonths {
 pub struct MonthDays;
 
 impl Cores for MonthDays {
-    ghost use Rattle.ixdtf.specs.language.Readers.CoreKind.{month_day};
+    ghost use Rattle.ixdtf_grammar.specs.language.Readers.CoreKind.{month_day};
 
     ghost kind = { λ profile. month_day profile };
 
@@ -125,7 +126,7 @@ impl Cores for MonthDays {
 pub struct LoneTimes;
 
 impl Cores for LoneTimes {
-    ghost use Rattle.ixdtf.specs.language.Readers.CoreKind.{time_alone};
+    ghost use Rattle.ixdtf_grammar.specs.language.Readers.CoreKind.{time_alone};
 
     ghost kind = { λ profile. time_alone profile };
 
@@ -156,7 +157,7 @@ impl Cores for LoneTimes {
 
 /// Reads a date into the record, and a time where a separator follows, and returns how far the time was written.
 #[inline(always)]
-#[tactic(auto, unfolding(crate::specs::reading::Cores::date_time_readings))]
+#[tactic(auto, unfolding(ixdtf_reading::specs::reading::Cores::date_time_readings))]
 fn parse_date_time<'a, T: EncodingType>(
     cursor: &mut Cursor<'a, T>,
     time: &mut TimeRecord,
@@ -200,7 +201,7 @@ fn parse_date_time<'a, T: EncodingType>(
 
 /// Reads a time, and an offset or `Z` where there is one, behind the date that stands in the record, or none.
 #[inline(always)]
-#[tactic(auto, unfolding(crate::specs::reading::Clauses::timed_core_at))]
+#[tactic(auto, unfolding(ixdtf_reading::specs::reading::Clauses::timed_core_at))]
 fn parse_timed<'a, T: EncodingType>(
     cursor: &mut Cursor<'a, T>,
     found: &mut IxdtfParseRecord<'a, T>,
@@ -246,7 +247,7 @@ fn check_front<'a, T: EncodingType>(
 
 /// Reads an offset or `Z` after a time, where there is one.
 #[inline(always)]
-#[tactic(auto, unfolding(crate::specs::reading::Cores::after_time_at, crate::specs::reading::Cores::offset_core_at))]
+#[tactic(auto, unfolding(ixdtf_reading::specs::reading::Cores::after_time_at, ixdtf_reading::specs::reading::Cores::offset_core_at))]
 fn parse_after_time<'a, T: EncodingType>(
     cursor: &mut Cursor<'a, T>,
     time: TimeRecord,
@@ -299,7 +300,7 @@ fn parse_signed<'a, T: EncodingType>(
 
 /// Reads an offset of any form behind its sign. It is not inlined: most texts have their offset at its places.
 #[inline(never)]
-#[tactic(auto, unfolding(crate::specs::reading::Cores::offset_core_at))]
+#[tactic(auto, unfolding(ixdtf_reading::specs::reading::Cores::offset_core_at))]
 fn parse_any_offset<'a, T: EncodingType>(
     cursor: &mut Cursor<'a, T>,
     sign: u8,
@@ -321,7 +322,7 @@ fn parse_any_offset<'a, T: EncodingType>(
 /// Wants the end of the text or a `[` after a core, and returns whether it is the `[`, which is taken off: `InvalidEnd` at
 /// any other letter.
 #[inline(always)]
-#[tactic(auto, unfolding(crate::specs::reading::Cores::core_end_at, crate::specs::reading::Looks::peek_by))]
+#[tactic(auto, unfolding(ixdtf_reading::specs::reading::Cores::core_end_at, ixdtf_reading::specs::reading::Looks::peek_by))]
 fn close_core<'a, T: EncodingType>(cursor: &mut Cursor<'a, T>) -> Result<bool, Stop>
     ensures core { (name : LineName) (core : Core) →
         Reads T.letter (λ more. (core, more)) cursor.old result cursor.new

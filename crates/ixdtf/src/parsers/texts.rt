@@ -1,22 +1,23 @@
 //! Reading whole texts: a core, a first bracket and the brackets after it.
 
 ghost use Rattle.std.specs.Prelude.{◌≡◌, ◌+◌, ◌*◌, ◌≤◌, [], true, map, length, OnOk, None, option_map};
-ghost use Rattle.ixdtf.specs.language.Readers.Reader.{bracketed};
-ghost use Rattle.ixdtf.specs.language.Languages.{parsed_with};
-ghost use Rattle.ixdtf.specs.Handlers.{with_calendar, calendar_value, pair_of};
-ghost use Rattle.ixdtf.specs.Views.{IsEmptyRecord, parsed_of, most_looks};
-ghost use Rattle.ixdtf.specs.reading.Brackets.{zone_in, pairs_in};
-ghost use Rattle.ixdtf.specs.reading.Chains.{TextRead, TextReadAfter, first_pairs};
-ghost use Rattle.ixdtf.specs.reading.Clauses.{Spends, HasNoBrackets, yielded, core_in, bracket_of};
+ghost use Rattle.ixdtf_grammar.specs.language.Readers.Reader.{bracketed};
+ghost use Rattle.ixdtf_grammar.specs.language.Languages.{parsed_with};
+ghost use Rattle.ixdtf_grammar.specs.Handlers.{with_calendar, calendar_value, pair_of};
+ghost use Rattle.ixdtf_grammar.specs.Views.{IsEmptyRecord, parsed_of, most_looks};
+ghost use Rattle.ixdtf_reading.specs.reading.Brackets.{zone_in, pairs_in};
+ghost use Rattle.ixdtf_reading.specs.reading.Chains.{TextRead, TextReadAfter, first_pairs};
+ghost use Rattle.ixdtf_reading.specs.reading.Clauses.{Spends, HasNoBrackets, yielded, core_in};
+ghost use Rattle.ixdtf_brackets.specs.BracketTypes.{bracket_of};
 
-use crate::cursor::Cursor;
-use crate::encoding::EncodingType;
-use crate::parsers::annotations::parse_annotations;
-use crate::parsers::brackets::{Bracket, parse_first_bracket};
+use ixdtf_reading::cursor::Cursor;
+use ixdtf_grammar::encoding::EncodingType;
+use crate::parsers::replies::parse_annotations;
+use ixdtf_brackets::brackets::{Bracket, parse_first_bracket};
 use crate::parsers::cores::Cores;
-use crate::parsers::profile::Profile;
-use crate::records::{Annotation, IxdtfParseRecord};
-use crate::stop::Stop;
+use ixdtf_grammar::profile::Profile;
+use ixdtf_grammar::records::{Annotation, IxdtfParseRecord};
+use ixdtf_reading::stop::Stop;
 
 /// Reads a core of the kind under the profile, and the brackets after it to the end, into a record in which nothing stands
 /// yet. The handler is asked about each annotation of a key and a value.

@@ -1,20 +1,20 @@
 //! The reader of offsets and zones alone.
 
 ghost use Rattle.std.specs.Prelude.{◌≡◌, ◌↔◌, ℕ, List, [], map, Ok, OnOk, IfErr};
-ghost use Rattle.ixdtf.specs.declared.records.UtcOffsetRecord.{UtcOffsetRecord};
-ghost use Rattle.ixdtf.specs.table.Faults.{fault_of};
-ghost use Rattle.ixdtf.specs.table.Outcomes.{HasFault, NoRowFits, OnlyFault};
-ghost use Rattle.ixdtf.specs.language.Readers.Reader.{parse_offset, parse_identifier, parse_iana_identifier};
-ghost use Rattle.ixdtf.specs.language.ZoneNames.{Zone};
-ghost use Rattle.ixdtf.specs.language.Languages.{shifted, identified, named, Derives};
-ghost use Rattle.ixdtf.specs.Views.{Unread, LeavesBehind, returned, zone_of};
+ghost use Rattle.ixdtf_grammar.specs.declared.records.UtcOffsetRecord.{UtcOffsetRecord};
+ghost use Rattle.ixdtf_grammar.specs.table.Faults.{fault_of};
+ghost use Rattle.ixdtf_grammar.specs.table.Outcomes.{HasFault, NoRowFits, OnlyFault};
+ghost use Rattle.ixdtf_grammar.specs.language.Readers.Reader.{parse_offset, parse_identifier, parse_iana_identifier};
+ghost use Rattle.ixdtf_grammar.specs.language.ZoneNames.{Zone};
+ghost use Rattle.ixdtf_grammar.specs.language.Languages.{shifted, identified, named, Derives};
+ghost use Rattle.ixdtf_grammar.specs.Views.{Unread, LeavesBehind, returned, zone_of};
 
 use crate::ParserResult;
-use crate::cursor::Cursor;
-use crate::encoding::{EncodingType, Utf8, Utf16};
-use crate::parsers::offsets::parse_offset_text;
-use crate::parsers::timezone::{parse_iana_identifier_text, parse_identifier_text};
-use crate::records::{TimeZoneRecord, UtcOffsetRecord};
+use ixdtf_reading::cursor::Cursor;
+use ixdtf_grammar::encoding::{EncodingType, Utf8, Utf16};
+use ixdtf_times::offsets::parse_offset_text;
+use ixdtf_brackets::timezone::{parse_iana_identifier_text, parse_identifier_text};
+use ixdtf_grammar::records::{TimeZoneRecord, UtcOffsetRecord};
 use std::marker::Model;
 
 /// A reader of offsets from UTC and of time zones, where a text is one of these alone.

@@ -1,6 +1,6 @@
 use Rattle.std.proofs.Common.{inl, refl}
-use Rattle.ixdtf.specs.Laws.{EveryNameIsAnIdentifier}
-use Rattle.ixdtf.specs.language.Languages.Derives.{as_named, as_identified}
+use Rattle.ixdtf_grammar.specs.Laws.{EveryNameIsAnIdentifier}
+use Rattle.ixdtf_grammar.specs.language.Languages.Derives.{as_named, as_identified}
 use Rattle.ixdtf.proofs.laws.every_name_is_an_identifier.Goals as goal
 
 every_name_is_an_identifier : EveryNameIsAnIdentifier

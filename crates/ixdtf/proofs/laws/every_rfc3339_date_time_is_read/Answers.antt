@@ -1,4 +1,4 @@
-use Rattle.ixdtf.proofs.theorems.Rfc3339.{every_date_time_is_read}
+use Rattle.ixdtf_reading.proofs.theorems.Rfc3339.{every_date_time_is_read}
 use Rattle.ixdtf.proofs.laws.every_rfc3339_date_time_is_read.Goals as goal
 
 pub returns : goal.returns

@@ -1,4 +1,4 @@
-use Rattle.ixdtf.proofs.theorems.Hyphens.{hyphens_say_nothing, one_hyphen_is_refused}
+use Rattle.ixdtf_reading.proofs.theorems.Hyphens.{hyphens_say_nothing, one_hyphen_is_refused}
 use Rattle.ixdtf.proofs.laws.hyphens_say_nothing.Goals as goal
 
 pub returns-clause-same : goal.returns-clause-same

@@ -1,4 +1,4 @@
-use Rattle.ixdtf.proofs.theorems.Disjoint.{languages_disjoint}
+use Rattle.ixdtf_grammar.proofs.theorems.Disjoint.{languages_disjoint}
 use Rattle.ixdtf.proofs.laws.languages_disjoint.Goals as goal
 
 pub returns : goal.returns

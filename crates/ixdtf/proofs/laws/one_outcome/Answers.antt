@@ -1,5 +1,5 @@
-use Rattle.ixdtf.proofs.theorems.OneChain.{one_result, one_chain}
-use Rattle.ixdtf.proofs.theorems.OneOutcome.{one_outcome, fronts_begin}
+use Rattle.ixdtf_reading.proofs.theorems.OneChain.{one_result, one_chain}
+use Rattle.ixdtf_reading.proofs.theorems.OneOutcome.{one_outcome, fronts_begin}
 use Rattle.ixdtf.proofs.laws.one_outcome.Goals as goal
 
 pub returns-clause-outcome : goal.returns-clause-outcome

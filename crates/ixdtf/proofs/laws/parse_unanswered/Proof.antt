@@ -4,8 +4,8 @@ use Rattle.ixdtf.proofs.code.PublicErrors.{tables_of, Denots, param, NamedLft, t
 use Rattle.ixdtf.proofs.code.PublicErrors.{E_laws, Under, Got, lands}
 use denote.Param.Members as Members
 use Rattle.ixdtf.specs.contracts.parsers.IxdtfParser
-use Rattle.ixdtf.specs.contracts.stop.ParseErrorRaised.TheImpl as raises
-use Rattle.ixdtf.proofs.stop.ParseErrorRaised.TheImpl.Met as raises_met
+use Rattle.ixdtf_reading.specs.contracts.stop.ParseErrorRaised.TheImpl as raises
+use Rattle.ixdtf_reading.proofs.stop.ParseErrorRaised.TheImpl.Met as raises_met
 use Rattle.ixdtf.specs.contracts.laws.parse_unanswered as R
 use Rattle.ixdtf.specs.contracts.laws.parse_unanswered_as as G
 use Rattle.ixdtf.specs.contracts.laws.parse_unanswered_as.F-FnMut as GM
@@ -49,7 +49,7 @@ parse_unanswered_spec {M} 𝓤 𝓛 𝓜 𝓡 wired T' F U LT LF LU g₀ d₀ g�
     (λ τs a x r. id⊢ 𝓤 _)
     (G_met.met 𝓤 𝓛 𝓜 𝓡 (code.calls-ixdtf::laws::parse_unanswered_as 𝓡.env wired) T' E F U LT E_laws LF LU g₀ d₀ gₛ dₛ g₁ d₁ g₂ d₂ g₃ d₃ raises.ghosts
     raises.dict g d d' d'' d₄ Q b₀ bₛ b₁ b₂ b₃
-    (raises_met.passed 𝓡.env (code.calls-ixdtf::stop::ParseErrorRaised::of_stop 𝓡.env wired) M 𝓤 𝓛 𝓜 𝓡)
+    (raises_met.passed 𝓡.env (code.calls-ixdtf_reading::stop::ParseErrorRaised::of_stop 𝓡.env wired) M 𝓤 𝓛 𝓜 𝓡)
     (λ κs p. subst (λ (β : Lft). GM.Met 𝓛 𝓜 𝓡 𝓡.env β T' E F U g d × GM.Lawful T' E F U g) p.2 (b p.0 p.1))
     (λ κs p. subst (λ (β : Lft). GO.Met 𝓛 𝓜 𝓡 𝓡.env β T' E F U (Members.once g) d') p.2 (b' p.0 p.1))
     b'' b₄))

@@ -1,6 +1,6 @@
-use Rattle.ixdtf.specs.Views.{parsed_of}
-use Rattle.ixdtf.proofs.code.ReadersWithoutPairs.{each_err}
-use Rattle.ixdtf.proofs.theorems.Handled.{no_calendar, ignored_err}
+use Rattle.ixdtf_grammar.specs.Views.{parsed_of}
+use Rattle.ixdtf_reading.proofs.code.ReadersWithoutPairs.{each_err}
+use Rattle.ixdtf_reading.proofs.theorems.Handled.{no_calendar, ignored_err}
 use Rattle.ixdtf.proofs.laws.parse_unanswered_as.Goals as goal
 
 pub returns-clause-calendar : goal.returns-clause-calendar

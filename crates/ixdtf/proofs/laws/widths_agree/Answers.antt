@@ -1,5 +1,5 @@
-use Rattle.ixdtf.proofs.theorems.OneUnhandledOutcome.{one_unhandled_outcome}
-use Rattle.ixdtf.proofs.widths.Widths.{same_where_shared, fault_where_not_shared}
+use Rattle.ixdtf_reading.proofs.theorems.OneUnhandledOutcome.{one_unhandled_outcome}
+use Rattle.ixdtf_reading.proofs.widths.Widths.{same_where_shared, fault_where_not_shared}
 use Rattle.ixdtf.proofs.laws.widths_agree.Goals as goal
 
 pub returns-clause-one : goal.returns-clause-one

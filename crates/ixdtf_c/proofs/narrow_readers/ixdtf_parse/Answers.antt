@@ -1,6 +1,6 @@
 use Rattle.std.proofs.Common.{arith}
 use Rattle.std.proofs.lemmas.List.{length-map}
-use Rattle.ixdtf.specs.declared.parsers.profile.Profile.TheVariants as profiles
+use Rattle.ixdtf_grammar.specs.declared.profile.Profile.TheVariants as profiles
 use Rattle.ixdtf.specs.language.Letters.{byte_letter}
 use Rattle.ixdtf_c.proofs.Crossed.{crossed_record}
 use Rattle.ixdtf_c.proofs.Printed.{read_is_printable, read_fits}

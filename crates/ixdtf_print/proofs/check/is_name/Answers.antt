@@ -1,6 +1,6 @@
 use Rattle.std.proofs.Common.{◌↔◌, ◌≡◌, List, ℕ, map, [], Result, Ok, Err, IsTrue, refl}
 use Rattle.std.specs.Result.{is_ok}
-use Rattle.ixdtf.specs.declared.error.ParseError.{ParseError}
+use Rattle.ixdtf_grammar.specs.declared.error.ParseError.{ParseError}
 use Rattle.ixdtf.specs.Views.{returned}
 use Rattle.ixdtf.specs.language.Languages.{Derives}
 use Rattle.ixdtf.specs.language.Languages.Derives.{as_named}

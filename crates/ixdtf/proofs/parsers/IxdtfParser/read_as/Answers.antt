@@ -1,5 +1,5 @@
 use Rattle.std.proofs.Common.{refl}
-use Rattle.ixdtf.proofs.theorems.Handled.{handled, handled_accepted}
+use Rattle.ixdtf_reading.proofs.theorems.Handled.{handled, handled_accepted}
 use Rattle.ixdtf.proofs.parsers.IxdtfParser.read_as.Goals as goal
 
 pub returns-clause-handled : goal.returns-clause-handled

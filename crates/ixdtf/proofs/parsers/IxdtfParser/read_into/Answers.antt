@@ -1,5 +1,5 @@
 use Rattle.std.proofs.Common.{refl, rules}
-use Rattle.ixdtf.proofs.theorems.Handled.{handled, handled_comes}
+use Rattle.ixdtf_reading.proofs.theorems.Handled.{handled, handled_comes}
 use Rattle.ixdtf.proofs.parsers.IxdtfParser.read_into.Goals as goal
 
 pub returns-in-Ok-clause-replied : goal.returns-in-Ok-clause-replied

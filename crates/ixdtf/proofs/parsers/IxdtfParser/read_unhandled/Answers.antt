@@ -1,6 +1,6 @@
 -- The handler hands each annotation back.
 use Rattle.std.proofs.Common.{rules}
-use Rattle.ixdtf.proofs.theorems.Handled.{handled, unhandled_form}
+use Rattle.ixdtf_reading.proofs.theorems.Handled.{handled, unhandled_form}
 use Rattle.ixdtf.proofs.parsers.IxdtfParser.read_unhandled.Goals as goal
 
 pub returns-clause-unhandled : goal.returns-clause-unhandled

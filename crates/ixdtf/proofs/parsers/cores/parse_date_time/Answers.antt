@@ -1,6 +1,6 @@
 use Rattle.std.proofs.Common.{◌∙◌, refl}
 use Rattle.std.proofs.lemmas.Result.{err_from_is_err_and}
-use Rattle.ixdtf.specs.reading.Cores.{whole_time_core_at}
+use Rattle.ixdtf_reading.specs.reading.Cores.{whole_time_core_at}
 use Rattle.ixdtf.proofs.code.FixedCores.{fixed_core}
 use Rattle.ixdtf.proofs.parsers.cores.parse_date_time.Goals as goal
 

@@ -1,7 +1,7 @@
 use Rattle.std.proofs.Common.{ap, ◌∙◌, option_map, arith}
 use Rattle.std.proofs.lemmas.Result.{err_from_is_err_and}
-use Rattle.ixdtf.specs.language.Languages.{Parsed}
-use Rattle.ixdtf.specs.Handlers.{with_calendar, calendar_value, pair_of}
+use Rattle.ixdtf_grammar.specs.language.Languages.{Parsed}
+use Rattle.ixdtf_grammar.specs.Handlers.{with_calendar, calendar_value, pair_of}
 use Rattle.ixdtf.proofs.code.Tail.{bracket_shortens, first_refused}
 use Rattle.ixdtf.proofs.code.Placed.{placed, placed_fault}
 use Rattle.ixdtf.proofs.parsers.texts.parse_brackets.Goals as goal

@@ -1,6 +1,6 @@
 use Rattle.std.proofs.Common.{◌∙◌, arith}
 use Rattle.std.proofs.lemmas.Result.{err_from_is_err_and}
-use Rattle.ixdtf.proofs.code.Units.{no_units}
+use Rattle.ixdtf_reading.proofs.code.Units.{no_units}
 use Rattle.ixdtf.proofs.code.Tail.{core_shortens, core_ends_text, core_refused}
 use Rattle.ixdtf.proofs.code.Placed.{no_brackets, placed_alone}
 use Rattle.ixdtf.proofs.parsers.texts.parse_text.Goals as goal

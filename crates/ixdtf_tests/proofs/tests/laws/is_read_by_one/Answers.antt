@@ -1,5 +1,5 @@
 use Rattle.std.proofs.Common.{refl, map}
-use Rattle.ixdtf.specs.declared.parsers.profile.Profile.TheVariants.{Crate}
+use Rattle.ixdtf_grammar.specs.declared.profile.Profile.TheVariants.{Crate}
 use Rattle.ixdtf.specs.language.Letters.{Text, byte_letter}
 use Rattle.ixdtf.specs.language.Languages.Found.{parsed}
 use Rattle.ixdtf.specs.language.Readers.{parse, parse_year_month}

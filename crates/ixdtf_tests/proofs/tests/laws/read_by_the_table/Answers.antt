@@ -1,5 +1,5 @@
 use Rattle.std.proofs.Common.{◌≡◌, ◌↔◌, List, [], ◌∷◌, ◌++◌, Result, Ok, Err, IfErr, refl, sym, ap, ◌∙◌, inl, inr, map}
-use Rattle.ixdtf.specs.declared.error.ParseError.{ParseError}
+use Rattle.ixdtf_grammar.specs.declared.error.ParseError.{ParseError}
 use Rattle.ixdtf.specs.language.Brackets.{Pair}
 use Rattle.ixdtf.specs.language.Languages.{Parsed}
 use Rattle.ixdtf.specs.language.Languages.Found.{parsed}
@@ -11,7 +11,7 @@ use Rattle.ixdtf.specs.table.Outcomes.Outcome.{derived, refused}
 use Rattle.ixdtf.specs.table.Rows.{Row, Fits}
 use Rattle.ixdtf.specs.Handlers.{own_replies, LastRefused, UnhandledRecord, UnhandledFault}
 use Rattle.ixdtf.specs.Views.{returned, parsed_of}
-use Rattle.ixdtf.proofs.code.OneMoreReply.{nothing_split}
+use Rattle.ixdtf_reading.proofs.code.OneMoreReply.{nothing_split}
 use Rattle.ixdtf_tests.proofs.tests.laws.read_by_the_table.Goals as goal
 
 -- a reply that is refused is one to some pair

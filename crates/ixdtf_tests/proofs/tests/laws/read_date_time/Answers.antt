@@ -1,5 +1,5 @@
 use Rattle.std.proofs.Common.{refl, ◌≡◌, Result, Ok, Err, IsOk, map}
-use Rattle.ixdtf.specs.declared.error.ParseError.{ParseError}
+use Rattle.ixdtf_grammar.specs.declared.error.ParseError.{ParseError}
 use Rattle.ixdtf.specs.language.Letters.{byte_letter}
 use Rattle.ixdtf.specs.Views.{returned}
 use Rattle.ixdtf_tests.proofs.tests.laws.read_date_time.Goals as goal

@@ -1,5 +1,5 @@
 use Rattle.std.proofs.Common.{rules, ◌≡◌, ℕ, List, [], ◌∷◌, None, Option, Result, Ok, Err, refl, sym, ◌∙◌, ap, map, option_map}
-use Rattle.ixdtf.specs.declared.records.Annotation.{Annotation}
+use Rattle.ixdtf_grammar.specs.declared.records.Annotation.{Annotation}
 use Rattle.ixdtf.specs.Handlers.{pair_of, Calls, handed, replies_of, Step, IsChain, Handled}
 use Rattle.ixdtf.specs.Laws.{GivesResult, replies_to, OneChain}
 use Rattle.ixdtf.specs.language.Brackets.{Pair}

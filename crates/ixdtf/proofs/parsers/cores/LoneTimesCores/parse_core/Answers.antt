@@ -1,8 +1,8 @@
 use Rattle.std.proofs.Common.{◌≡◌, false, refl, sym, ◌∙◌}
 use Rattle.std.proofs.lemmas.Result.{err_from_is_err_and}
-use Rattle.ixdtf.specs.language.Letters.{time_letter}
-use Rattle.ixdtf.specs.reading.Brackets.{next_is}
-use Rattle.ixdtf.proofs.code.LoneTimes.{reads_as, marked_is, unmarked_is, bad_is}
+use Rattle.ixdtf_grammar.specs.language.Letters.{time_letter}
+use Rattle.ixdtf_reading.specs.reading.Brackets.{next_is}
+use Rattle.ixdtf_times.proofs.code.LoneTimes.{reads_as, marked_is, unmarked_is, bad_is}
 use Rattle.ixdtf.proofs.parsers.cores.LoneTimesCores.parse_core.Goals.{in_default-via-in-Some+else-is_time_designator, in_default-via-in_default}
 use Rattle.ixdtf.proofs.parsers.cores.LoneTimesCores.parse_core.Goals as goal
 

@@ -1,7 +1,7 @@
 use Rattle.std.proofs.Common.{refl, rules}
-use Rattle.ixdtf.specs.language.Readers.Reader.{parse_identifier}
-use Rattle.ixdtf.specs.language.Languages.Found.{identified}
-use Rattle.ixdtf.proofs.code.ReadersWithoutPairs.{exact}
+use Rattle.ixdtf_grammar.specs.language.Readers.Reader.{parse_identifier}
+use Rattle.ixdtf_grammar.specs.language.Languages.Found.{identified}
+use Rattle.ixdtf_reading.proofs.code.ReadersWithoutPairs.{exact}
 use Rattle.ixdtf.proofs.parsers.zones.TimeZoneParser.parse_identifier.Goals as goal
 
 pub returns : goal.returns

@@ -1,7 +1,7 @@
 use Rattle.std.proofs.Common.{refl, rules}
-use Rattle.ixdtf.specs.language.Readers.Reader.{parse_offset}
-use Rattle.ixdtf.specs.language.Languages.Found.{shifted}
-use Rattle.ixdtf.proofs.code.ReadersWithoutPairs.{exact}
+use Rattle.ixdtf_grammar.specs.language.Readers.Reader.{parse_offset}
+use Rattle.ixdtf_grammar.specs.language.Languages.Found.{shifted}
+use Rattle.ixdtf_reading.proofs.code.ReadersWithoutPairs.{exact}
 use Rattle.ixdtf.proofs.parsers.zones.TimeZoneParser.parse_offset.Goals as goal
 
 pub returns : goal.returns

@@ -1,7 +1,0 @@
-use Rattle.std.proofs.Common.{refl}
-use Rattle.ixdtf.proofs.code.FirstPass.{bracket_failed}
-use Rattle.ixdtf.proofs.parsers.brackets.refuse_bracket.Goals as goal
-
--- the look failed
-pub returns-in-Err-clause-stop : goal.returns-in-Err-clause-stop
-returns-in-Err-clause-stop g c = rw (bracket_failed _ _ _ c.in-Err.ensures.letters) refl

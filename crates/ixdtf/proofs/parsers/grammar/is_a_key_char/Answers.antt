@@ -1,7 +1,0 @@
-use Rattle.std.proofs.Common.{arith}
-use Rattle.ixdtf.proofs.code.Tables.{bits, bits_from, in_key}
-use Rattle.ixdtf.proofs.parsers.grammar.is_a_key_char.Goals as goal
-
-pub returns : goal.returns
-unfolding bits bits_from
-returns c = in_key c.args.byte (omega arith)

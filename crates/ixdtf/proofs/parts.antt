@@ -1,9 +1,0 @@
--- What readings are made of.
-pub mod CoreLetters
-pub mod DurationRuns
-pub mod Fronts
-pub mod LookAhead
-pub mod Looks
-pub mod Marks
-pub mod Years
-pub mod ZonesAlone

@@ -1,7 +1,0 @@
--- What a text of 16-bit units gives is what its 8-bit units give, up to the first unit that is no letter.
-pub mod PlainTexts
-pub mod PlainDurations
-pub mod FirstBad
-pub mod PlainLines
-pub mod PlainBefore
-pub mod Widths

@@ -1,0 +1,107 @@
+//! What a handler replies to the annotations of a text.
+
+#![tactic(auto, unfolding(ixdtf_reading::specs::reading::Pairs::pair_readings))]
+
+ghost use Rattle.std.specs.Prelude.{◌≡◌, ◌+◌, ◌≤◌, ◌<◌, ◌*◌, ◌↔◌, [], ◌∷◌, map, length, option_map, IsTrue, OnOk, IfOk, IfErr, IsSome};
+ghost use Rattle.std.specs.Option.{option_or};
+ghost use Rattle.ixdtf_reading.specs.declared.annotations.ValueState.TheVariants.{AtStart};
+ghost use Rattle.ixdtf_grammar.specs.table.Faults.{Fault};
+ghost use Rattle.ixdtf_reading.specs.reading.Clauses.{Reads, Spends, SpendsOr, fault_of_stop, yielded};
+ghost use Rattle.ixdtf_reading.specs.reading.Looks.{error_of};
+ghost use Rattle.ixdtf_reading.specs.reading.Runs.{key_after, value_after};
+ghost use Rattle.ixdtf_reading.specs.reading.Pairs.{key_run, value_run, value_step, value_end, value_other, pair_at, critical_pair_at, later_pair_at, next_pair_at};
+ghost use Rattle.ixdtf_grammar.specs.Handlers.{RefusedBeside, first_calendar, pair_of};
+ghost use Rattle.ixdtf_reading.specs.reading.Chains.{PairsRead, first_pairs};
+
+use ixdtf_reading::cursor::Cursor;
+use ixdtf_grammar::encoding::EncodingType;
+use ixdtf_reading::annotations::next_annotation;
+use ixdtf_grammar::records::Annotation;
+use ixdtf_reading::stop::Stop;
+
+/// Asks the handler about an annotation. This is the one place that calls it.
+#[inline(always)]
+fn ask<'a, T: EncodingType, F>(
+    handler: &mut F,
+    annotation: Annotation<'a, T>,
+) -> Option<Annotation<'a, T>>
+where
+    F: FnMut(Annotation<'a, T>) -> Option<Annotation<'a, T>>,
+    requires callable { F.IsAlwaysCallable handler.old }
+    ensures again { F.IsAlwaysCallable handler.new }
+    ensures step { F.step handler.old annotation.entry result handler.new }
+{
+    handler(annotation)
+}
+
+/// Whether two slices have equal units.
+fn has_same_units<T: EncodingType>(left: &[T::CodeUnit], right: &[T::CodeUnit]) -> bool
+    ensures { IsTrue result ↔ (map T.number left.now ≡ map T.number right.now) }
+{
+    left == right
+}
+
+/// The calendar that is kept after a reply: the first one. A reply that is critical and no calendar is
+/// `UnrecognizedCritical`, and a calendar with another value than the first is `CriticalDuplicateCalendar` where one of
+/// the two is critical.
+#[inline(always)]
+fn keep_first_calendar<'a, T: EncodingType>(
+    calendar: Option<Annotation<'a, T>>,
+    reply: Option<Annotation<'a, T>>,
+) -> Result<Option<Annotation<'a, T>>, Stop>
+    ensures accepted { IfOk result (λ next. (fault : Fault) →
+        ¬ (RefusedBeside (option_map (pair_of T.number) calendar.entry)
+        (option_map (pair_of T.number) reply.entry) fault)) }
+    ensures kept { IfOk result (λ next.
+        option_map (pair_of T.number) next ≡
+        option_or (option_map (pair_of T.number) calendar.entry)
+        (first_calendar (option_map (pair_of T.number) reply.entry ∷ []))) }
+    ensures err { IfErr result (λ e.
+        RefusedBeside (option_map (pair_of T.number) calendar.entry)
+        (option_map (pair_of T.number) reply.entry) (fault_of_stop e)) }
+{
+    let Some(found) = reply else {
+        return Ok(calendar);
+    };
+    if !T::check_calendar_key(found.key) {
+        if found.critical {
+            return Err(Stop::UnrecognizedCritical);
+        }
+        return Ok(calendar);
+    }
+    let Some(first) = calendar else {
+        return Ok(Some(found));
+    };
+    if !has_same_units::<T>(first.value, found.value) && (first.critical || found.critical) {
+        return Err(Stop::CriticalDuplicateCalendar);
+    }
+    Ok(Some(first))
+}
+
+/// Reads the pairs to the end, asks the handler about each as soon as it was read whole, and returns the calendar that is
+/// kept. A first pair may have been read already.
+pub fn parse_annotations<'a, T: EncodingType, F>(
+    cursor: &mut Cursor<'a, T>,
+    first: Option<Annotation<'a, T>>,
+    handler: &mut F,
+) -> Result<Option<Annotation<'a, T>>, Stop>
+where
+    F: FnMut(Annotation<'a, T>) -> Option<Annotation<'a, T>>,
+    requires callable { F.IsAlwaysCallable handler.old }
+    ensures pairs { PairsRead T.number F.step handler.old handler.new
+        (first_pairs (option_map (pair_of T.number) first.entry))
+        (map T.letter cursor.old.rest) (yielded (option_map (pair_of T.number)) result) }
+    ensures empty { OnOk result (cursor.new.rest ≡ []) }
+    ensures looks { Spends (length cursor.old.rest + 7) cursor.old cursor.new }
+{
+    let mut calendar = None;
+    if let Some(annotation) = first {
+        let reply = ask::<T, F>(handler, annotation);
+        calendar = keep_first_calendar::<T>(None, reply)?;
+    }
+    while let Some(annotation) = next_annotation(cursor)? {
+        let reply = ask::<T, F>(handler, annotation);
+        calendar = keep_first_calendar::<T>(calendar, reply)?;
+    }
+    Ok(calendar)
+}

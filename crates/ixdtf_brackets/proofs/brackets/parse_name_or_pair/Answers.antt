@@ -1,0 +1,50 @@
+use Rattle.std.proofs.Common.{◌≡◌, ◌&&◌, true, false, List, ◌++◌, map, ℕ, refl, sym, ap, ◌∙◌, append_assoc}
+use Rattle.std.proofs.lemmas.Result.{err_from_is_err_and}
+use Rattle.ixdtf_grammar.specs.language.Letters.{closing}
+use Rattle.ixdtf_reading.specs.reading.Brackets.{next_is}
+use Rattle.ixdtf_reading.proofs.code.LetterLoops.{front_is}
+use Rattle.ixdtf_brackets.proofs.code.FirstPass.{pass_failed, value_failed, pair_read, more_failed, name_read, name_refuses}
+use Rattle.ixdtf_brackets.proofs.brackets.parse_name_or_pair.Goals as goal
+use Rattle.ixdtf_brackets.proofs.brackets.parse_name_or_pair.Goals.{else-more-via-then-more+else-ends_bracket, else-more-via-else-more}
+
+pub returns-in_err-key-clause-bracket : goal.returns-in_err-key-clause-bracket
+returns-in_err-key-clause-bracket g c =
+    let p = err_from_is_err_and c.from_residual.result c.from_residual.ensures.1 in
+    rw (p.1, p.2) (pass_failed _ _ _ _ c.in_err-key.ensures.letters)
+
+pub returns-in_err-value-clause-bracket : goal.returns-in_err-value-clause-bracket
+returns-in_err-value-clause-bracket g c =
+    let p = err_from_is_err_and c.from_residual-in_err-value.result c.from_residual-in_err-value.ensures.1 in
+    rw (p.1, p.2) (value_failed _ _ _ _ _ c.in_ok-key.ensures.letters (sym c.ends_key.ensures ∙ c.if-ends_key.true) _
+    (rw c.step.ensures.letters at c.in_err-value.ensures.value))
+
+pub returns-then-ends_key-clause-bracket : goal.returns-then-ends_key-clause-bracket
+returns-then-ends_key-clause-bracket g c =
+    pair_read _ _ _ _ _ c.in_ok-key.ensures.letters (sym c.ends_key.ensures ∙ c.if-ends_key.true) _ _ (rw c.step.ensures.letters at c.in_ok-value.ensures.value)
+
+pub returns-in_err-more-clause-bracket : goal.returns-in_err-more-clause-bracket
+returns-in_err-more-clause-bracket g c =
+    let p = err_from_is_err_and c.from_residual-in_err-more.result c.from_residual-in_err-more.ensures.1 in
+    rw (p.1, p.2) (more_failed _ _ _ _ _ c.in_ok-key.ensures.letters _ c.in_err-more.ensures.letters)
+
+-- a name: its units are those of the letters of a key, and of the letters after them
+pub returns-then-ends_bracket-clause-bracket : goal.returns-then-ends_bracket-clause-bracket
+returns-then-ends_bracket-clause-bracket g c =
+    let key : List ℕ = map g.T.EncodingType.number c.in_ok-key.key.units.now in
+    let more : List ℕ = map g.T.EncodingType.number c.in_ok-more.more.units.now in
+    let split : c.args.cursor.now.rest ≡ (key ++ more) ++ c.take_letters-2.new.cursor.rest =
+    c.in_ok-key.ensures.units ∙ ap (λ (t : List ℕ). key ++ t) c.in_ok-more.ensures.units ∙ sym (append_assoc key more c.take_letters-2.new.cursor.rest) in
+    let front = front_is g.T.EncodingType.number c.rest-start.result.now c.rest.result.now (key ++ more) c.take_letters-2.new.cursor.rest _ c.rest-start.ensures
+    split c.rest.ensures in
+    let is : (c.in_ok-more.more.state.may_end && next_is closing c.in_ok-more.more.next) ≡ true =
+    rw c.if-more.true (sym c.ends_bracket.ensures ∙ c.if-ends_bracket.true) in
+    rw (front, c.step-then-ends_bracket.ensures.letters) (name_read _ _ _ _ _ c.in_ok-key.ensures.letters _ _ c.in_ok-more.ensures.letters is)
+
+pub returns-clause-bracket : goal.returns-clause-bracket
+returns-clause-bracket g c =
+    let is : (c.in_ok-more.more.state.may_end && next_is closing c.in_ok-more.more.next) ≡ false = elim c.else-more.branch [
+      | else-more-via-then-more+else-ends_bracket w ↦ rw w.if-more.true (sym w.ends_bracket.ensures ∙ w.if-ends_bracket.false)
+      | else-more-via-else-more w ↦ rw w.if-more.false refl
+    ] in
+    rw c.refuse_bracket.ensures.stop (name_refuses _ _ _ _ _ c.in_ok-key.ensures.letters _ _ c.in_ok-more.ensures.letters
+    (sym c.ends_key.ensures ∙ c.if-ends_key.false) is)

@@ -1,0 +1,3 @@
+-- code.
+pub mod FirstPass
+pub mod NameLoop

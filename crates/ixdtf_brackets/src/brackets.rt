@@ -1,0 +1,177 @@
+//! Reading the first bracket, which may name a zone.
+
+#![tactic(auto, unfolding(ixdtf_reading::specs::reading::Brackets::bracket_readings))]
+
+ghost use Rattle.std.specs.Prelude.{◌≡◌, map};
+ghost use Rattle.ixdtf_grammar.specs.language.Letters.{equals, closing};
+ghost use Rattle.ixdtf_brackets.specs.BracketTypes.{bracket_after};
+ghost use Rattle.ixdtf_reading.specs.reading.Clauses.{Reads, Spends, fault_of_stop};
+ghost use Rattle.ixdtf_brackets.specs.BracketTypes.{bracket_of};
+ghost use Rattle.ixdtf_reading.specs.reading.Looks.{error_of};
+ghost use Rattle.ixdtf_reading.specs.reading.Brackets.{refusal, name_fault, next_is, sight_at, name_or_pair_at, inside_at, critical_bracket_at, bracket_at};
+
+use ixdtf_reading::cursor::Cursor;
+use ixdtf_grammar::encoding::EncodingType;
+use ixdtf_reading::annotations::{KeyLetters, parse_annotation_value};
+use ixdtf_reading::grammar::{
+    is_a_key_leading_char, is_annotation_close, is_annotation_key_value_separator, is_ascii_sign,
+    is_critical_flag, is_tz_leading_char,
+};
+use ixdtf_reading::letters::{Letters, take_letters};
+use crate::timezone::{NameLetters, parse_name_in_bracket, parse_offset_in_bracket};
+use ixdtf_grammar::records::{Annotation, TimeZoneAnnotation, TimeZoneRecord};
+use ixdtf_reading::stop::Stop;
+
+/// A first bracket: a zone or a pair.
+#[derive(Drop)]
+pub enum Bracket<'a, T: EncodingType> {
+    Zone(TimeZoneAnnotation<'a, T>),
+    Pair(Annotation<'a, T>),
+}
+
+/// Reads a first bracket after its `[`.
+#[inline(always)]
+pub fn parse_first_bracket<'a, T: EncodingType>(
+    cursor: &mut Cursor<'a, T>,
+) -> Result<Bracket<'a, T>, Stop>
+    ensures bracket { Reads T.letter (bracket_of T.number) cursor.old result cursor.new
+        (bracket_at error_of) }
+    ensures looks { Spends 16 cursor.old cursor.new }
+{
+    match cursor.look()? {
+        None => Err(Stop::AbruptBracket),
+        Some(byte) if is_critical_flag(byte) => {
+            cursor.step();
+            parse_critical_bracket(cursor)
+        }
+        Some(byte) if is_ascii_sign(byte) || is_tz_leading_char(byte) => {
+            parse_inside(cursor, false, byte)
+        }
+        Some(_) => Err(Stop::TzLeadingChar),
+    }
+}
+
+/// Reads a first bracket after its `[` and `!`.
+#[inline(always)]
+fn parse_critical_bracket<'a, T: EncodingType>(
+    cursor: &mut Cursor<'a, T>,
+) -> Result<Bracket<'a, T>, Stop>
+    ensures bracket { Reads T.letter (bracket_of T.number) cursor.old result cursor.new
+        (critical_bracket_at error_of) }
+    ensures looks { Spends 15 cursor.old cursor.new }
+{
+    match cursor.look()? {
+        None => Err(Stop::AbruptBracket),
+        Some(byte) if is_ascii_sign(byte) || is_tz_leading_char(byte) => {
+            parse_inside(cursor, true, byte)
+        }
+        Some(_) => Err(Stop::TzLeadingChar),
+    }
+}
+
+/// Reads what stands in a first bracket from its first letter on, and its `]`.
+#[inline(always)]
+fn parse_inside<'a, T: EncodingType>(
+    cursor: &mut Cursor<'a, T>,
+    critical: bool,
+    lead: u8,
+) -> Result<Bracket<'a, T>, Stop>
+    ensures bracket { Reads T.letter (bracket_of T.number) cursor.old result cursor.new
+        (inside_at error_of critical lead) }
+    ensures looks { Spends 14 cursor.old cursor.new }
+{
+    if is_a_key_leading_char(lead) {
+        return parse_name_or_pair(cursor, critical);
+    }
+    let tz = if is_ascii_sign(lead) {
+        cursor.step();
+        parse_offset_in_bracket(cursor, lead)?
+    } else {
+        TimeZoneRecord::Name(parse_name_in_bracket(cursor)?)
+    };
+    Ok(Bracket::Zone(TimeZoneAnnotation { critical, tz }))
+}
+
+/// Whether the letter is the `=` after a key.
+#[inline(always)]
+fn ends_key(next: Option<u8>) -> bool
+    ensures { result ≡ next_is equals next }
+{
+    matches!(next, Some(byte) if is_annotation_key_value_separator(byte))
+}
+
+/// Whether the letter is the `]` of a bracket.
+#[inline(always)]
+fn ends_bracket(next: Option<u8>) -> bool
+    ensures { result ≡ next_is closing next }
+{
+    matches!(next, Some(byte) if is_annotation_close(byte))
+}
+
+/// Reads a pair where an `=` comes before any `]`, else a name, and the bracket's `]`. Letters of a key are letters of a
+/// name too, so it takes these first, and it looks further ahead only where it refuses.
+#[inline(always)]
+fn parse_name_or_pair<'a, T: EncodingType>(
+    cursor: &mut Cursor<'a, T>,
+    critical: bool,
+) -> Result<Bracket<'a, T>, Stop>
+    ensures bracket { Reads T.letter (bracket_of T.number) cursor.old result cursor.new
+        (name_or_pair_at error_of critical) }
+    ensures looks { Spends 3 cursor.old cursor.new }
+{
+    let start = cursor.rest();
+    let key = take_letters(cursor, KeyLetters)?;
+    if ends_key(key.next) {
+        cursor.step();
+        let value = parse_annotation_value(cursor)?;
+        return Ok(Bracket::Pair(Annotation {
+            critical,
+            key: key.units,
+            value,
+        }));
+    }
+    let more = take_letters(cursor, NameLetters { may_end: true })?;
+    if more.state.may_end && ends_bracket(more.next) {
+        let count = start.len() - cursor.rest().len();
+        cursor.step();
+        return Ok(Bracket::Zone(TimeZoneAnnotation {
+            critical,
+            tz: TimeZoneRecord::Name(&start[..count]),
+        }));
+    }
+    Err(refuse_bracket(cursor, more.state))
+}
+
+/// The letters of a first bracket before an `=` or a `]`.
+#[derive(Clone, Copy)]
+pub struct BracketLetters;
+
+impl Letters for BracketLetters {
+    ghost after = { bracket_after };
+
+    #[inline(always)]
+    fn go_on(self, byte: u8) -> Option<Self> {
+        let skipped = !is_annotation_key_value_separator(byte) && !is_annotation_close(byte);
+        skipped.then_some(self)
+    }
+}
+
+/// Why a first bracket is refused that is no name, after the letters of one: with an `=` before any `]` it is a pair, whose
+/// key does not go on.
+#[cold]
+#[tactic(auto, using(crate::proofs::code::FirstPass::sights))]
+fn refuse_bracket<'a, T: EncodingType>(cursor: &mut Cursor<'a, T>, name: NameLetters) -> Stop
+    ensures stop { fault_of_stop result ≡
+        refusal (sight_at error_of (map T.letter cursor.old.rest)) (name_fault name.may_end) }
+    ensures looks { Spends 1 cursor.old cursor.new }
+{
+    match take_letters(cursor, BracketLetters) {
+        Err(stop) => stop,
+        Ok(taken) => match taken.next {
+            None => Stop::AbruptBracket,
+            Some(byte) if is_annotation_key_value_separator(byte) => Stop::AnnotationKeyChar,
+            Some(_) if name.may_end => Stop::IanaChar,
+            Some(_) => Stop::IanaCharPostSeparator,
+        },
+    }
+}

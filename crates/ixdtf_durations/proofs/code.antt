@@ -1,0 +1,8 @@
+-- code.
+pub mod DurationFractions
+pub mod DurationGroups
+pub mod DurationLetters
+pub mod DurationLoops
+pub mod DurationNumbers
+pub mod DurationRanks
+pub mod DurationSteps

@@ -1,0 +1,119 @@
+-- The letter after the digits of a group, and the groups that it ends.
+use Rattle.std.proofs.Common.{◌≡◌, ℕ, Bool, true, false, [], ◌∷◌, List, None, IsSome, IfOk, Result, Ok, Err, map, refl, sym, ◌∙◌, arith, nat_le, if◌then◌else◌}
+use Rattle.std.proofs.lemmas.Bool.Decides.{nat_tests}
+use Rattle.ixdtf_grammar.specs.declared.profile.Profile.{Profile}
+use Rattle.ixdtf_grammar.specs.declared.records.Sign.{Sign}
+use Rattle.ixdtf_grammar.specs.declared.records.DurationParseRecord.{DurationParseRecord}
+use Rattle.ixdtf_reading.specs.declared.stop.Stop.{Stop}
+use Rattle.ixdtf_durations.specs.declared.duration.TimeGroup.{TimeGroup}
+use Rattle.ixdtf_durations.specs.declared.duration.Number.{Number}
+use Rattle.ixdtf_grammar.specs.language.Letters.{Letter, Text, digit, decimal_mark, hour_letter, minute_letter}
+use Rattle.ixdtf_grammar.specs.language.Letters.Letter.{Plain}
+use Rattle.ixdtf_grammar.specs.language.Durations.{Half, Group, designator, unit_of, greatest, greatest_value, in_order}
+use Rattle.ixdtf_grammar.specs.language.Durations.Half.{date, time}
+use Rattle.ixdtf_grammar.specs.language.Durations.DurationUnit.{hours, minutes, seconds}
+use Rattle.ixdtf_grammar.specs.table.Faults.{Fault}
+use Rattle.ixdtf_grammar.specs.table.DurationFronts.{Context}
+use Rattle.ixdtf_grammar.specs.table.DurationFronts.Context.{in_dates, in_times}
+use Rattle.ixdtf_reading.specs.reading.Looks.{Read, ◌>>=◌, error_of}
+use Rattle.ixdtf_reading.specs.reading.Durations.{State, add_group, end_group, step, run, integer_group}
+use Rattle.ixdtf_reading.specs.reading.Durations.State.{between, in_number, at_mark, ended}
+use Rattle.ixdtf_durations.specs.reading.DurationClauses.{run_from, run_where, IsNumber, date_group_of, date_read, after_time_group}
+use Rattle.ixdtf_durations.specs.reading.DurationClauses.{date_group_fits, time_group_fits}
+
+-- ---- letters
+
+-- a letter that ends a group is no digit, and neither is a decimal mark
+designator_no_digit : (half : Half) (c : ℕ) → designator half c ≡ true → digit c ≡ false
+designator_no_digit date c is = grind (arith, nat_tests)
+designator_no_digit time c is = grind (arith, nat_tests)
+
+mark_no_digit : (c : ℕ) → decimal_mark c ≡ true → digit c ≡ false
+mark_no_digit c is = grind (arith, nat_tests)
+
+mark_no_designator : (c : ℕ) → decimal_mark c ≡ true → designator time c ≡ false
+mark_no_designator c is = grind (arith, nat_tests)
+
+-- ---- groups
+
+-- reading goes on where both tests hold
+both_tests : (profile : Profile) (a b : Bool) (x y : Fault) (state : State) (text : Text)
+    → (((if a then (if b then Ok state else Err x) else Err y) >>= λ next. run_from profile next text))
+    ≡ run_where profile (if a then (if b then Ok tt else Err x) else Err y) state text
+both_tests profile true true x y state text = refl
+both_tests profile true false x y state text = refl
+both_tests profile false b x y state text = refl
+
+one_test : (profile : Profile) (a : Bool) (y : Fault) (state : State) (text : Text)
+    → (((if a then Ok state else Err y) >>= λ next. run_from profile next text)) ≡ run_where profile (if a then Ok tt else Err y) state text
+one_test profile true y state text = refl
+one_test profile false y state text = refl
+
+-- what comes of a group that is another
+date_step : (profile : Profile) (s : Sign) (dates : List Group) (h g : Group) (text : Text) → h ≡ g
+    → (add_group error_of profile (in_dates s dates) h >>= λ next. run_from profile next text)
+    ≡ run_where profile (date_group_fits profile dates g) (between (in_dates s (g ∷ dates))) text
+date_step profile s dates h g text is = rw is (both_tests profile (in_order profile dates g.unit) (nat_le g.value (greatest g.unit)) _ _ _ text)
+
+time_step : (profile : Profile) (s : Sign) (dates times : List Group) (h g : Group) (text : Text) → h ≡ g → nat_le g.value (greatest g.unit) ≡ true
+    → (add_group error_of profile (in_times s dates times) h >>= λ next. run_from profile next text)
+    ≡ run_where profile (time_group_fits profile times g) (between (in_times s dates (g ∷ times))) text
+time_step profile s dates times h g text is small = rw (is, small) (one_test profile (in_order profile times g.unit) _ _ text)
+
+pub end_step : (profile : Profile) (s : Sign) (dates times : List Group) (h g : Group) (text : Text) → h ≡ g
+    → (end_group error_of profile s dates times h >>= λ next. run_from profile next text)
+    ≡ run_where profile (time_group_fits profile times g) (ended s dates times g) text
+end_step profile s dates times h g text is = rw is (one_test profile (in_order profile times g.unit) _ _ text)
+
+module _ (letter : ℕ → Letter) (first : ℕ) (old : List ℕ) (number : Number) (new : List ℕ) (reads : IsNumber letter first old number new) where
+  -- what is read from the first digit on
+  abbrev from_first : Profile → Context → Read Fault DurationParseRecord
+  from_first profile context = run_from profile (in_number context (Plain first ∷ [])) (map letter old)
+
+  no_digit : digit number.next ≡ false
+  no_digit = reads.other
+
+  group_is : (half : Half)
+      → ◌≡◌ {A = Group} (integer_group half reads.ds number.next) (record { unit = unit_of half number.next; value = number.value; fraction = None })
+  group_is half i = record { unit = unit_of half number.next; value = sym reads.value i; fraction = None }
+
+  -- a date group ends there, or none
+  pub ends_date : (profile : Profile) (s : Sign) (dates : List Group) → from_first profile (in_dates s dates)
+      ≡ run_where profile (date_read profile dates number) (between (in_dates s (date_group_of number ∷ dates))) (map letter new)
+  unfolding run step
+  ends_date profile s dates = reads.leads profile _ ∙ go (designator date number.next) refl
+    where
+      go : (b : Bool) → designator date number.next ≡ b → run_from profile (in_number (in_dates s dates) reads.ds) (Plain number.next ∷ map letter new)
+          ≡ run_where profile (date_read profile dates number) (between (in_dates s (date_group_of number ∷ dates))) (map letter new)
+      go true is = rw (no_digit, is) (date_step profile s dates _ _ (map letter new) (group_is date))
+      go false is = rw (no_digit, is) refl
+
+  -- a time group ends there, or none
+  pub ends_time : (profile : Profile) (s : Sign) (dates times : List Group) → decimal_mark number.next ≡ false → nat_le number.value greatest_value ≡ true
+      → from_first profile (in_times s dates times)
+      ≡ after_time_group profile s dates times (record { value = number.value; fraction = None; letter = number.next }) (map letter new)
+  unfolding run step
+  ends_time profile s dates times miss small = reads.leads profile _ ∙ go (designator time number.next) refl
+    where
+      in_range : (h m : Bool) → nat_le number.value (greatest (if h then hours else (if m then minutes else seconds))) ≡ true
+      in_range true m = small
+      in_range false true = small
+      in_range false false = small
+
+      go : (b : Bool) → designator time number.next ≡ b → run_from profile (in_number (in_times s dates times) reads.ds) (Plain number.next ∷ map letter new)
+          ≡ after_time_group profile s dates times (record { value = number.value; fraction = None; letter = number.next }) (map letter new)
+      go true is = rw (no_digit, is)
+          (time_step profile s dates times _ _ (map letter new) (group_is time) (in_range (hour_letter number.next) (minute_letter number.next)))
+      go false is = rw (no_digit, is, miss) refl
+
+  -- a decimal mark
+  pub at_decimal_mark : (profile : Profile) (s : Sign) (dates times : List Group) → decimal_mark number.next ≡ true
+      → from_first profile (in_times s dates times) ≡ run_from profile (at_mark s dates times reads.ds) (map letter new)
+  unfolding run step
+  at_decimal_mark profile s dates times is = reads.leads profile _ ∙ rw (no_digit, mark_no_designator _ is, is) refl
+
+-- a group that has a fraction is not one without
+pub has_fraction : (result : Result TimeGroup Stop) (otherwise : Type 0) → IfOk result (λ g. IsSome g.fraction)
+    → IfOk result (λ g. g.fraction ≡ None → otherwise)
+has_fraction (Err stop) otherwise some = tt
+has_fraction (Ok g) otherwise some = λ none. let never = rw none at some in absurd cc

@@ -1,0 +1,197 @@
+-- The groups of a duration, read one by one.
+use Rattle.std.proofs.Common.{◌≡◌, ℕ, Bool, true, false, [], ◌∷◌, List, ◌+◌, slice_set, drop, map, Option, Some, None, Ok, Err, refl, ◌∙◌}
+use Rattle.ixdtf_grammar.specs.declared.profile.Profile.{Profile}
+use Rattle.ixdtf_grammar.specs.declared.records.Sign.{Sign}
+use Rattle.ixdtf_grammar.specs.declared.records.DurationParseRecord.{DurationParseRecord}
+use Rattle.ixdtf_grammar.specs.declared.records.TimeDurationRecord.{TimeDurationRecord}
+use Rattle.ixdtf_grammar.specs.declared.records.DateDurationRecord.{DateDurationRecord}
+use Rattle.ixdtf_durations.specs.declared.duration.Number.{Number}
+use Rattle.ixdtf_durations.specs.declared.duration.TimeGroup.{TimeGroup}
+use Rattle.ixdtf_grammar.specs.language.Letters.{Letter, Text, digit, time_letter}
+use Rattle.ixdtf_grammar.specs.language.Letters.Letter.{Plain}
+use Rattle.ixdtf_grammar.specs.language.Fractions.{FractionParts}
+use Rattle.ixdtf_grammar.specs.language.Durations.{Group, unit_of, least_step, date_duration, time_duration_to}
+use Rattle.ixdtf_grammar.specs.language.Durations.Half.{time}
+use Rattle.ixdtf_grammar.specs.table.Faults.{Fault}
+use Rattle.ixdtf_grammar.specs.table.Faults.Fault.{NonAsciiCodePoint, InvalidEnd}
+use Rattle.ixdtf_grammar.specs.table.DurationFronts.Context.{in_dates, in_times}
+use Rattle.ixdtf_reading.specs.reading.Looks.{Read, look_at}
+use Rattle.ixdtf_reading.specs.reading.Durations.State.{between, in_number}
+use Rattle.ixdtf_durations.specs.reading.DurationClauses.{run_from, run_where, date_group_of, time_group_of, rank, date_rank_from, time_rank_from, date_read}
+use Rattle.ixdtf_durations.specs.reading.DurationClauses.{after_group, after_time_group, begins_group, HasSmallDates, IsDateRecord, IsTimeRecord, AreDates, dated}
+use Rattle.ixdtf_durations.proofs.code.DurationRanks.{below}
+use Rattle.ixdtf_durations.proofs.code.DurationGroups.{HasDates, HasTimes, date_added, date_refused, time_added, time_refused}
+use Rattle.ixdtf_durations.proofs.code.DurationSteps.{fails, at_digit, dates_end, dates_at_mark, dates_at_other, times_end, fraction_end, more_times_at_other}
+use Rattle.ixdtf_durations.proofs.code.DurationSteps.{fraction_at_other}
+
+-- a letter that begins one more group, and one that begins none
+pub begins_is : (fraction : Option FractionParts) (c : ℕ) → begins_group fraction c ≡ true → (fraction ≡ None) × (digit c ≡ true)
+begins_is None c is = (refl, is)
+begins_is (Some f) c is = absurd cc
+
+pub begins_none : (fraction : Option FractionParts) (c : ℕ) → begins_group fraction c ≡ false → digit c ≡ true → fraction ≡ None → ⊥
+begins_none None c miss is none = cc
+begins_none (Some f) c miss is none = cc
+
+-- ---- dates
+
+module _ (profile : Profile) (first : ℕ) (whole : Text) where
+  -- what is read from the first digit of date groups on
+  abbrev first_dates : Sign → Read Fault DurationParseRecord
+  first_dates s = run_from profile (in_number (in_dates s []) (Plain first ∷ [])) whole
+
+  -- So far date groups were read, and the first digit of one more.
+  pub record DatesSoFar (rest : Text) (values : List ℕ) (least c : ℕ) : Type 0 where
+    pub dates : List Group
+    pub has : HasDates profile values least dates
+    pub leads : (s : Sign) → first_dates s ≡ run_from profile (in_number (in_dates s dates) (Plain c ∷ [])) rest
+
+  -- So far date groups were read, and at least one.
+  pub record DatesRead (rest : Text) (values : List ℕ) (least : ℕ) : Type 0 where
+    pub last : Group
+    pub earlier : List Group
+    pub has : HasDates profile values least (last ∷ earlier)
+    pub leads : (s : Sign) → first_dates s ≡ run_from profile (between (in_dates s (last ∷ earlier))) rest
+
+  -- where one more date group is refused by its digits
+  pub date_fails : (rest : Text) (values : List ℕ) (least c : ℕ) → DatesSoFar rest values least c → (fault : Fault)
+      → ((s : Sign) (dates : List Group) → run_from profile (in_number (in_dates s dates) (Plain c ∷ [])) rest ≡ Err fault)
+      → (s : Sign) → first_dates s ≡ Err fault
+  date_fails rest values least c far fault refuses s = far.leads s ∙ refuses s far.dates
+
+  module _ {rest : Text} {values : List ℕ} {least c : ℕ} (far : DatesSoFar rest values least c) (n : Number) (mid : Text)
+      (read : (s : Sign) (dates : List Group) → run_from profile (in_number (in_dates s dates) (Plain c ∷ [])) rest
+      ≡ run_where profile (date_read profile dates n) (between (in_dates s (date_group_of n ∷ dates))) mid) where
+    pub date_added_on : (r step : ℕ) → date_rank_from least n ≡ Ok r → step ≡ least_step profile → DatesRead mid (slice_set values r n.value) (r + step)
+    date_added_on r step is stepped = let added = date_added profile values least far.dates far.has n r is in record {
+      last = date_group_of n;
+      earlier = far.dates;
+      has = rw stepped added.1;
+      leads = λ s. far.leads s ∙ read s far.dates ∙ rw added.0 refl;
+    }
+
+    pub date_refused_on : (fault : Fault) → date_rank_from least n ≡ Err fault → (s : Sign) → first_dates s ≡ Err fault
+    date_refused_on fault is s = far.leads s ∙ read s far.dates ∙ rw (date_refused profile values least far.dates far.has n fault is) refl
+
+  module _ {rest : Text} {values : List ℕ} {least : ℕ} (far : DatesRead rest values least) where
+    pub dates_small : HasSmallDates values
+    dates_small = rw far.has.numbers (below _ _ far.has.small.0, below _ _ far.has.small.1, below _ _ far.has.small.2)
+
+    pub dates_go_on : (next : Text) (c : ℕ) → look_at NonAsciiCodePoint rest ≡ Ok (Some c) → digit c ≡ true → next ≡ drop 1 rest
+        → DatesSoFar next values least c
+    dates_go_on next c found is moved = record {
+      dates = far.last ∷ far.earlier;
+      has = far.has;
+      leads = λ s. far.leads s ∙ at_digit profile rest c found _ is ∙ rw moved refl;
+    }
+
+    pub dates_stop : (c : ℕ) → look_at NonAsciiCodePoint rest ≡ Ok (Some c) → digit c ≡ false → time_letter c ≡ false
+        → (s : Sign) → first_dates s ≡ Err InvalidEnd
+    dates_stop c found miss nor s = far.leads s ∙ dates_at_other profile rest c found s _ miss nor
+
+    pub dates_break : (fault : Fault) → look_at NonAsciiCodePoint rest ≡ Err fault → (s : Sign) → first_dates s ≡ Err fault
+    dates_break fault bad s = far.leads s ∙ fails _ _ rest fault bad
+
+    module _ (letter : ℕ → Letter) (old : List ℕ) (is_whole : whole ≡ map letter old) (new : List ℕ) (found : DateDurationRecord)
+        (is : IsDateRecord values found) where
+      record_is : date_duration (far.last ∷ far.earlier) ≡ Some found
+      record_is = is far.last far.earlier far.has.numbers
+
+      pub dates_timed : (c : ℕ) → look_at NonAsciiCodePoint rest ≡ Ok (Some c) → time_letter c ≡ true → map letter new ≡ drop 1 rest
+          → AreDates profile letter first old (record { «record» = found; timed = true }) new
+      dates_timed c looked mark moved = record {
+        groups = far.last ∷ far.earlier;
+        has = record_is;
+        timed = λ yes s. rw (← is_whole, moved) (far.leads s ∙ dates_at_mark profile rest c looked s _ mark);
+        alone = λ never. absurd cc;
+      }
+
+      pub dates_alone : look_at NonAsciiCodePoint rest ≡ Ok None → map letter new ≡ rest
+          → AreDates profile letter first old (record { «record» = found; timed = false }) new
+      dates_alone none stayed = record {
+        groups = far.last ∷ far.earlier;
+        has = record_is;
+        timed = λ never. absurd cc;
+        alone = λ yes s. rw (← is_whole, stayed) (far.leads s ∙ dates_end profile rest none s far.last far.earlier ∙ rw record_is refl);
+      }
+
+-- ---- times
+
+module _ (profile : Profile) (first : ℕ) (whole : Text) where
+  -- what is read from the first digit of time groups on
+  abbrev first_times : Sign → List Group → Read Fault DurationParseRecord
+  first_times s dates = run_from profile (in_number (in_times s dates []) (Plain first ∷ [])) whole
+
+  -- So far time groups were read, and the first digit of one more.
+  pub record TimesSoFar (rest : Text) (values : List ℕ) (least c : ℕ) : Type 0 where
+    pub times : List Group
+    pub has : HasTimes profile values least times
+    pub leads : (s : Sign) (dates : List Group) → first_times s dates ≡ run_from profile (in_number (in_times s dates times) (Plain c ∷ [])) rest
+
+  -- So far time groups were read, and this one at last.
+  pub record TimesRead (rest : Text) (values : List ℕ) (least : ℕ) (g : TimeGroup) (r : ℕ) : Type 0 where
+    pub earlier : List Group
+    pub has : HasTimes profile values least (time_group_of g ∷ earlier)
+    pub ranked : r ≡ rank (unit_of time g.letter)
+    pub leads : (s : Sign) (dates : List Group) → first_times s dates ≡ run_from profile (after_group g.fraction s dates earlier (time_group_of g)) rest
+
+  -- where one more time group is refused by its digits
+  pub time_fails : (rest : Text) (values : List ℕ) (least c : ℕ) → TimesSoFar rest values least c → (fault : Fault)
+      → ((s : Sign) (dates times : List Group) → run_from profile (in_number (in_times s dates times) (Plain c ∷ [])) rest ≡ Err fault)
+      → (s : Sign) (dates : List Group) → first_times s dates ≡ Err fault
+  time_fails rest values least c far fault refuses s dates = far.leads s dates ∙ refuses s dates far.times
+
+  module _ {rest : Text} {values : List ℕ} {least c : ℕ} (far : TimesSoFar rest values least c) (g : TimeGroup) (mid : Text)
+      (read : (s : Sign) (dates times : List Group) → run_from profile (in_number (in_times s dates times) (Plain c ∷ [])) rest
+      ≡ after_time_group profile s dates times g mid) where
+    pub time_added_on : (r step : ℕ) → time_rank_from least g.letter ≡ Ok r → step ≡ least_step profile
+        → TimesRead mid (slice_set values r g.value) (r + step) g r
+    time_added_on r step is stepped = let added = time_added profile values least far.times far.has g r is in record {
+      earlier = far.times;
+      has = rw stepped added.2;
+      ranked = added.1;
+      leads = λ s dates. far.leads s dates ∙ read s dates far.times ∙ rw added.0 refl;
+    }
+
+    pub time_refused_on : (fault : Fault) → time_rank_from least g.letter ≡ Err fault → (s : Sign) (dates : List Group) → first_times s dates ≡ Err fault
+    time_refused_on fault is s dates =
+        far.leads s dates ∙ read s dates far.times ∙ rw (time_refused profile values least far.times far.has g fault is) refl
+
+  module _ {rest : Text} {values : List ℕ} {least : ℕ} {g : TimeGroup} {r : ℕ} (far : TimesRead rest values least g r) where
+    pub times_go_on : (next : Text) (c : ℕ) → look_at NonAsciiCodePoint rest ≡ Ok (Some c) → digit c ≡ true → g.fraction ≡ None → next ≡ drop 1 rest
+        → TimesSoFar next values least c
+    times_go_on next c found is none moved = record {
+      times = time_group_of g ∷ far.earlier;
+      has = far.has;
+      leads = λ s dates. far.leads s dates ∙ go s dates g.fraction none ∙ rw moved refl;
+    }
+      where
+        go : (s : Sign) (dates : List Group) (fraction : Option FractionParts) → fraction ≡ None
+            → run_from profile (after_group fraction s dates far.earlier (time_group_of g)) rest
+            ≡ run_from profile (in_number (in_times s dates (time_group_of g ∷ far.earlier)) (Plain c ∷ [])) (drop 1 rest)
+        go s dates None without = at_digit profile rest c found (in_times s dates (time_group_of g ∷ far.earlier)) is
+        go s dates (Some fraction) without = absurd cc
+
+    pub times_stop : (c : ℕ) → look_at NonAsciiCodePoint rest ≡ Ok (Some c) → (digit c ≡ true → g.fraction ≡ None → ⊥)
+        → (s : Sign) (dates : List Group) → first_times s dates ≡ Err InvalidEnd
+    times_stop c found never s dates = far.leads s dates ∙ go g.fraction refl (digit c) refl
+      where
+        go : (fraction : Option FractionParts) → g.fraction ≡ fraction → (b : Bool) → digit c ≡ b
+            → run_from profile (after_group fraction s dates far.earlier (time_group_of g)) rest ≡ Err InvalidEnd
+        go None none true is = absurd (never is none)
+        go None none false is = more_times_at_other profile rest c found s dates (time_group_of g) far.earlier is
+        go (Some fraction) some b is = fraction_at_other profile rest c found s dates far.earlier (time_group_of g)
+
+    pub times_break : (fault : Fault) → look_at NonAsciiCodePoint rest ≡ Err fault → (s : Sign) (dates : List Group) → first_times s dates ≡ Err fault
+    times_break fault bad s dates = far.leads s dates ∙ fails _ _ rest fault bad
+
+    pub times_end_with : (found : TimeDurationRecord) → look_at NonAsciiCodePoint rest ≡ Ok None → IsTimeRecord values r g.fraction found
+        → (s : Sign) (dates : List Group) → first_times s dates ≡ Ok (dated s (date_duration dates) (Some found), rest)
+    times_end_with found none is s dates =
+        far.leads s dates ∙ go g.fraction ∙ rw (is g.letter (time_group_of g ∷ far.earlier) far.ranked far.has.numbers) refl
+      where
+        go : (fraction : Option FractionParts)
+            → run_from profile (after_group fraction s dates far.earlier (time_group_of g)) rest
+            ≡ Ok (dated s (date_duration dates) (time_duration_to (unit_of time g.letter) g.fraction (time_group_of g ∷ far.earlier)), rest)
+        go None = times_end profile rest none s dates (time_group_of g) far.earlier
+        go (Some fraction) = fraction_end profile rest none s dates far.earlier (time_group_of g)

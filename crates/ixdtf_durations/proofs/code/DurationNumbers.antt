@@ -1,0 +1,63 @@
+-- The digits of a number of a duration, taken off one by one.
+use Rattle.std.proofs.Common.{◌≡◌, ℕ, ◌+◌, ◌-◌, ◌*◌, true, false, [], ◌∷◌, ◌++◌, drop, Some, None, Ok, Err, refl, sym, ◌∙◌, nat_le}
+use Rattle.ixdtf_grammar.specs.declared.profile.Profile.{Profile}
+use Rattle.ixdtf_grammar.specs.language.Letters.{Text, digit}
+use Rattle.ixdtf_grammar.specs.language.Letters.Letter.{Plain}
+use Rattle.ixdtf_grammar.specs.language.Digits.{decimal}
+use Rattle.ixdtf_grammar.specs.language.Durations.{greatest_value}
+use Rattle.ixdtf_grammar.specs.table.Faults.{Fault}
+use Rattle.ixdtf_grammar.specs.table.Faults.Fault.{NonAsciiCodePoint, DurationValueExceededRange}
+use Rattle.ixdtf_grammar.specs.table.Lines.{no_designator}
+use Rattle.ixdtf_grammar.specs.table.DurationFronts.{Context, half_of}
+use Rattle.ixdtf_reading.specs.reading.Looks.{look_at}
+use Rattle.ixdtf_reading.specs.reading.Durations.{step, run}
+use Rattle.ixdtf_reading.specs.reading.Durations.State.{in_number}
+use Rattle.ixdtf_durations.specs.reading.DurationClauses.{run_from}
+use Rattle.ixdtf_reading.proofs.code.GrowingDigits.{decimal_snoc}
+use Rattle.ixdtf_durations.proofs.code.DurationSteps.{fails}
+use Rattle.ixdtf_reading.proofs.code.FirstLetter.{first_is, nothing_is}
+
+-- So far digits of this number were taken off, and the rest is still to be read.
+pub record IsSoFar (first : ℕ) (whole rest : Text) (value : ℕ) : Type 0 where
+  pub ds : Text
+  pub number : value ≡ decimal ds
+  pub leads : (profile : Profile) (context : Context)
+      → run_from profile (in_number context (Plain first ∷ [])) whole ≡ run_from profile (in_number context ds) rest
+
+pub begins : (first : ℕ) (whole : Text) (value : ℕ) → value ≡ decimal (Plain first ∷ []) → IsSoFar first whole whole value
+begins first whole value is = record { ds = Plain first ∷ []; number = is; leads = λ profile context. refl }
+
+module _ (first : ℕ) (whole rest : Text) (value : ℕ) (far : IsSoFar first whole rest value) where
+  module _ (c : ℕ) (found : look_at NonAsciiCodePoint rest ≡ Ok (Some c)) where
+    module _ (is : digit c ≡ true) where
+      grown : value * 10 + (c - 48) ≡ decimal (far.ds ++ (Plain c ∷ []))
+      grown = sym (rw (decimal_snoc far.ds (Plain c), far.number) refl)
+
+      pub goes_on : (next : Text) (sum : ℕ) → next ≡ drop 1 rest → sum ≡ value * 10 + (c - 48) → nat_le (value * 10 + (c - 48)) greatest_value ≡ true
+          → IsSoFar first whole next sum
+      unfolding run step
+      goes_on next sum moved sums small = record {
+        ds = far.ds ++ (Plain c ∷ []);
+        number = sums ∙ grown;
+        leads = λ profile context. far.leads profile context ∙ rw (first_is rest c found, is, ← grown, small, moved) refl;
+      }
+
+      -- the number is past the greatest
+      pub passes : nat_le (value * 10 + (c - 48)) greatest_value ≡ false → (profile : Profile) (context : Context)
+          → run_from profile (in_number context (Plain first ∷ [])) whole ≡ Err DurationValueExceededRange
+      unfolding run step
+      passes past profile context = far.leads profile context ∙ rw (first_is rest c found, is, ← grown, past) refl
+
+    -- the letter is no digit
+    pub stops : (next : Text) → next ≡ drop 1 rest → (profile : Profile) (context : Context)
+        → run_from profile (in_number context (Plain first ∷ [])) whole ≡ run_from profile (in_number context far.ds) (Plain c ∷ next)
+    stops next moved profile context = far.leads profile context ∙ rw (first_is rest c found, moved) refl
+
+  pub ends : look_at NonAsciiCodePoint rest ≡ Ok None → (profile : Profile) (context : Context)
+      → run_from profile (in_number context (Plain first ∷ [])) whole ≡ Err (no_designator (half_of context))
+  unfolding run
+  ends none profile context = far.leads profile context ∙ rw (nothing_is rest none) refl
+
+  pub breaks : (fault : Fault) → look_at NonAsciiCodePoint rest ≡ Err fault → (profile : Profile) (context : Context)
+      → run_from profile (in_number context (Plain first ∷ [])) whole ≡ Err fault
+  breaks fault bad profile context = far.leads profile context ∙ fails _ _ rest fault bad

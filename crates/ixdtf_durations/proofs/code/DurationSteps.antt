@@ -1,0 +1,153 @@
+-- Reading a duration from a state on, by what the first look finds.
+use Rattle.std.proofs.Common.{◌≡◌, ℕ, true, false, List, [], ◌∷◌, drop, map, Some, None, Result, Ok, Err, refl, ◌∙◌, arith, nat_le}
+use Rattle.std.proofs.lemmas.Bool.Decides.{nat_tests}
+use Rattle.ixdtf_grammar.specs.declared.profile.Profile.{Profile}
+use Rattle.ixdtf_grammar.specs.declared.records.Sign.{Sign}
+use Rattle.ixdtf_grammar.specs.declared.records.Sign.TheVariants.{Positive}
+use Rattle.ixdtf_reading.specs.declared.stop.Stop.{Stop}
+use Rattle.ixdtf_grammar.specs.declared.records.DurationParseRecord.{DurationParseRecord}
+use Rattle.ixdtf_grammar.specs.Views.{Unread}
+use Rattle.ixdtf_grammar.specs.language.Letters.{Letter, Text, digit, sign, duration_designator, time_letter}
+use Rattle.ixdtf_grammar.specs.language.Letters.Letter.{Plain, Bad}
+use Rattle.ixdtf_grammar.specs.language.Digits.{decimal}
+use Rattle.ixdtf_grammar.specs.language.Offsets.{sign_of}
+use Rattle.ixdtf_grammar.specs.language.Durations.{Group, greatest_value, duration_of}
+use Rattle.ixdtf_grammar.specs.table.Faults.{Fault}
+use Rattle.ixdtf_grammar.specs.table.Faults.Fault.{NonAsciiCodePoint, InvalidEnd, DurationDisgnator, TimeDurationDesignator}
+use Rattle.ixdtf_grammar.specs.table.Lines.{abrupt_duration_start, abrupt_duration_designator, abrupt_duration}
+use Rattle.ixdtf_grammar.specs.table.DurationFronts.{Context}
+use Rattle.ixdtf_grammar.specs.table.DurationFronts.Context.{in_dates, in_times}
+use Rattle.ixdtf_reading.specs.reading.Looks.{Read, error_of, look_at}
+use Rattle.ixdtf_reading.specs.reading.Durations.{State, state_look, step, run}
+use Rattle.ixdtf_reading.specs.reading.Durations.State.{started, signed, between, in_number, ended}
+use Rattle.ixdtf_durations.specs.reading.DurationClauses.{run_from, ReadsOn}
+use Rattle.ixdtf_reading.proofs.code.FirstLetter.{first_is, nothing_is}
+
+at_bad_is : (profile : Profile) (s : State) → (state_look error_of profile s).at_bad ≡ NonAsciiCodePoint
+at_bad_is profile (between (in_dates s [])) = refl
+at_bad_is profile (between (in_times s dates [])) = refl
+at_bad_is profile s = refl
+
+-- a look failed
+pub fails : (profile : Profile) (s : State) (text : Text) (fault : Fault) → look_at NonAsciiCodePoint text ≡ Err fault → run_from profile s text ≡ Err fault
+unfolding look_at run
+fails profile s (Bad ∷ more) fault e = let same : NonAsciiCodePoint ≡ fault = cc in rw (at_bad_is profile s, same) refl
+fails profile s text fault e = absurd cc
+
+module _ (profile : Profile) (text : Text) where
+  -- there is no letter
+  module _ (none : look_at NonAsciiCodePoint text ≡ Ok None) where
+    pub start_at_end : run_from profile started text ≡ Err abrupt_duration_start
+    unfolding run
+    start_at_end = rw (nothing_is text none) refl
+
+    pub signed_at_end : (s : Sign) → run_from profile (signed s) text ≡ Err abrupt_duration_designator
+    unfolding run
+    signed_at_end s = rw (nothing_is text none) refl
+
+    pub opened_at_end : (s : Sign) → run_from profile (between (in_dates s [])) text ≡ Err abrupt_duration
+    unfolding run
+    opened_at_end s = rw (nothing_is text none) refl
+
+    pub times_at_end : (s : Sign) (dates : _) → run_from profile (between (in_times s dates [])) text ≡ Err TimeDurationDesignator
+    unfolding run
+    times_at_end s dates = rw (nothing_is text none) refl
+
+    pub dates_end : (s : Sign) (g : Group) (dates : _) → run_from profile (between (in_dates s (g ∷ dates))) text ≡ Ok (duration_of s (g ∷ dates) [], text)
+    unfolding run
+    dates_end s g dates = rw (nothing_is text none) refl
+
+    pub times_end : (s : Sign) (dates : _) (g : Group) (times : _)
+        → run_from profile (between (in_times s dates (g ∷ times))) text ≡ Ok (duration_of s dates (g ∷ times), text)
+    unfolding run
+    times_end s dates g times = rw (nothing_is text none) refl
+
+    pub fraction_end : (s : Sign) (dates times : _) (g : Group) → run_from profile (ended s dates times g) text ≡ Ok (duration_of s dates (g ∷ times), text)
+    unfolding run
+    fraction_end s dates times g = rw (nothing_is text none) refl
+
+  -- this letter is first
+  module _ (c : ℕ) (first : look_at NonAsciiCodePoint text ≡ Ok (Some c)) where
+    pub start_at_sign : sign c ≡ true → run_from profile started text ≡ run_from profile (signed (sign_of c)) (drop 1 text)
+    unfolding run step
+    start_at_sign is = rw (first_is text c first, is) refl
+
+    pub start_at_designator : sign c ≡ false → duration_designator c ≡ true
+        → run_from profile started text ≡ run_from profile (between (in_dates Positive [])) (drop 1 text)
+    unfolding run step
+    start_at_designator miss is = rw (first_is text c first, miss, is) refl
+
+    pub start_at_other : sign c ≡ false → duration_designator c ≡ false → run_from profile started text ≡ Err DurationDisgnator
+    unfolding run
+    start_at_other miss nor = rw (first_is text c first, miss, nor) refl
+
+    pub signed_at_designator : (s : Sign) → duration_designator c ≡ true
+        → run_from profile (signed s) text ≡ run_from profile (between (in_dates s [])) (drop 1 text)
+    unfolding run step
+    signed_at_designator s is = rw (first_is text c first, is) refl
+
+    pub signed_at_other : (s : Sign) → duration_designator c ≡ false → run_from profile (signed s) text ≡ Err DurationDisgnator
+    unfolding run
+    signed_at_other s miss = rw (first_is text c first, miss) refl
+
+    no_digit : time_letter c ≡ true → digit c ≡ false
+    no_digit is = grind (arith, nat_tests)
+
+    -- a `T` after `P` or after date groups
+    pub dates_at_mark : (s : Sign) (dates : _) → time_letter c ≡ true
+        → run_from profile (between (in_dates s dates)) text ≡ run_from profile (between (in_times s dates [])) (drop 1 text)
+    unfolding run step
+    dates_at_mark s [] is = rw (first_is text c first, no_digit is, is) refl
+    dates_at_mark s (g ∷ dates) is = rw (first_is text c first, no_digit is, is) refl
+
+    pub dates_at_other : (s : Sign) (dates : _) → digit c ≡ false → time_letter c ≡ false → run_from profile (between (in_dates s dates)) text ≡ Err InvalidEnd
+    unfolding run
+    dates_at_other s [] miss nor = rw (first_is text c first, miss, nor) refl
+    dates_at_other s (g ∷ dates) miss nor = rw (first_is text c first, miss, nor) refl
+
+    pub times_at_other : (s : Sign) (dates : _) → digit c ≡ false → run_from profile (between (in_times s dates [])) text ≡ Err TimeDurationDesignator
+    unfolding run
+    times_at_other s dates miss = rw (first_is text c first, miss) refl
+
+    pub more_times_at_other : (s : Sign) (dates : _) (g : Group) (times : _) → digit c ≡ false
+        → run_from profile (between (in_times s dates (g ∷ times))) text ≡ Err InvalidEnd
+    unfolding run
+    more_times_at_other s dates g times miss = rw (first_is text c first, miss) refl
+
+    pub fraction_at_other : (s : Sign) (dates times : _) (g : Group) → run_from profile (ended s dates times g) text ≡ Err InvalidEnd
+    unfolding run
+    fraction_at_other s dates times g = rw (first_is text c first) refl
+
+    one_digit : digit c ≡ true → nat_le (decimal (Plain c ∷ [])) greatest_value ≡ true
+    unfolding greatest_value
+    one_digit is = grind (arith, nat_tests)
+
+    -- a group begins at a digit
+    pub at_digit : (context : Context) → digit c ≡ true
+        → run_from profile (between context) text ≡ run_from profile (in_number context (Plain c ∷ [])) (drop 1 text)
+    unfolding run step
+    at_digit (in_dates s []) is = rw (first_is text c first, is, one_digit is) refl
+    at_digit (in_dates s (g ∷ dates)) is = rw (first_is text c first, is, one_digit is) refl
+    at_digit (in_times s dates []) is = rw (first_is text c first, is, one_digit is) refl
+    at_digit (in_times s dates (g ∷ times)) is = rw (first_is text c first, is, one_digit is) refl
+
+-- a group begins, and its first digit was taken off
+pub to_digit : (profile : Profile) (text next : Text) (c : ℕ) → look_at NonAsciiCodePoint text ≡ Ok (Some c) → digit c ≡ true → next ≡ drop 1 text
+    → (context : Context) → run_from profile (between context) text ≡ run_from profile (in_number context (Plain c ∷ [])) next
+to_digit profile text next c first is moved context = at_digit profile text c first context is ∙ rw moved refl
+
+-- a `T` stands behind `P` or behind date groups, and was taken off
+pub to_mark : (profile : Profile) (text next : Text) (c : ℕ) → look_at NonAsciiCodePoint text ≡ Ok (Some c) → time_letter c ≡ true → next ≡ drop 1 text
+    → (s : Sign) (dates : List Group) → run_from profile (between (in_dates s dates)) text ≡ run_from profile (between (in_times s dates [])) next
+to_mark profile text next c first is moved s dates = dates_at_mark profile text c first s dates is ∙ rw moved refl
+
+-- what a function reads from one state is what it reads from another, where reading goes from there to here
+pub reads_on_earlier : {X : Type 0} (letter : ℕ → Letter) (profile : Profile) (from here : State) (old mid new : Unread) (result : Result X Stop)
+    (next : X → Text → Read Fault DurationParseRecord)
+    → run_from profile from (map letter old.rest) ≡ run_from profile here (map letter mid.rest) → ReadsOn letter profile here mid result new next
+    → ReadsOn letter profile from old result new next
+reads_on_earlier letter profile from here old mid new (Ok x) next e is = e ∙ is
+reads_on_earlier letter profile from here old mid new (Err stop) next e is = e ∙ is
+
+-- what stands between the parts of a duration
+pub ruleset openings = (fails, start_at_end, signed_at_end, start_at_sign, start_at_designator, start_at_other, signed_at_designator, signed_at_other)

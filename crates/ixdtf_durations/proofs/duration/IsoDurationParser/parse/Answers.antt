@@ -1,0 +1,12 @@
+use Rattle.std.proofs.Common.{refl, rules}
+use Rattle.ixdtf_grammar.specs.language.Readers.Reader.{parse_duration}
+use Rattle.ixdtf_grammar.specs.language.Languages.Found.{lasting}
+use Rattle.ixdtf_reading.proofs.code.ReadersWithoutPairs.{exact}
+use Rattle.ixdtf_durations.proofs.duration.IsoDurationParser.parse.Goals as goal
+
+pub returns : goal.returns
+returns g c =
+    let gives = exact _ _ (parse_duration c.self.inside.profile) lasting (λ x y e. cc) tt _ c.take-here.result c.parse_duration_text-read.new.cursor refl _ _
+    c.parse_duration_text-read.ensures.duration c.settle.ensures.settled in
+    let alone = gives.alone c.self.inside.profile refl in
+    rw (← c.self.view_is, ← c.take-here.ensures.same) (search rules)

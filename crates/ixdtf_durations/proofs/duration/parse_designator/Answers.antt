@@ -1,0 +1,9 @@
+use Rattle.std.proofs.lemmas.Result.{err_from_is_err_and}
+use Rattle.ixdtf_durations.proofs.code.DurationSteps.{fails}
+use Rattle.ixdtf_durations.proofs.duration.parse_designator.Goals as goal
+
+-- the look failed
+pub returns-in_err-look-clause-sign : goal.returns-in_err-look-clause-sign
+returns-in_err-look-clause-sign g c profile =
+    let p = err_from_is_err_and c.from_residual.result c.from_residual.ensures.1 in
+    rw (p.1, p.2) (fails _ _ _ _ c.in_err-look.ensures.letter)

@@ -1,0 +1,2 @@
+-- reading.
+pub mod DurationClauses

@@ -1,0 +1,158 @@
+-- Forms of the clauses of the private functions that read durations, and what their types stand for. No public clause cites one.
+use Rattle.std.specs.Prelude.{◌≡◌, ◌≤◌, ℕ, Bool, false, IsFalse, IsTrue, List, [], ◌∷◌, map}
+use Rattle.std.specs.Prelude.{Option, Some, None, Result, Ok, Err, nat_le, slice_index_or, if◌then◌else◌}
+use Rattle.ixdtf_grammar.specs.declared.profile.Profile.{Profile}
+use Rattle.ixdtf_grammar.specs.declared.records.Sign.{Sign}
+use Rattle.ixdtf_grammar.specs.declared.records.DurationParseRecord.{DurationParseRecord}
+use Rattle.ixdtf_grammar.specs.declared.records.DateDurationRecord.{DateDurationRecord}
+use Rattle.ixdtf_grammar.specs.declared.records.TimeDurationRecord.{TimeDurationRecord}
+use Rattle.ixdtf_reading.specs.declared.stop.Stop.{Stop}
+use Rattle.ixdtf_durations.specs.declared.duration.Number.{Number}
+use Rattle.ixdtf_durations.specs.declared.duration.Dates.{Dates}
+use Rattle.ixdtf_durations.specs.declared.duration.TimeGroup.{TimeGroup}
+use Rattle.ixdtf_grammar.specs.language.Letters.{Letter, Text, digit}
+use Rattle.ixdtf_grammar.specs.language.Letters.Letter.{Plain}
+use Rattle.ixdtf_grammar.specs.language.Digits.{decimal}
+use Rattle.ixdtf_grammar.specs.language.Fractions.{FractionParts}
+use Rattle.ixdtf_grammar.specs.language.Durations.{Half, DurationUnit, Group, designator, unit_of, greatest, in_order, number_of, date_duration, time_duration_to}
+use Rattle.ixdtf_grammar.specs.language.Durations.Half.{date, time}
+use Rattle.ixdtf_grammar.specs.language.Durations.DurationUnit.{years, months, weeks, days, hours, minutes, seconds}
+use Rattle.ixdtf_grammar.specs.table.Faults.{Fault}
+use Rattle.ixdtf_grammar.specs.table.Faults.Fault.{DurationValueExceededRange, DateDurationPartOrder, TimeDurationPartOrder}
+use Rattle.ixdtf_grammar.specs.table.DurationFronts.{Context, half_of}
+use Rattle.ixdtf_grammar.specs.table.DurationFronts.Context.{in_dates, in_times}
+use Rattle.ixdtf_grammar.specs.table.Lines.{no_designator}
+use Rattle.ixdtf_grammar.specs.Views.{Unread}
+use Rattle.ixdtf_reading.specs.reading.Looks.{Read, error_of}
+use Rattle.ixdtf_reading.specs.reading.Clauses.{fault_of_stop}
+use Rattle.ixdtf_reading.specs.reading.Durations.{State, run}
+use Rattle.ixdtf_reading.specs.reading.Durations.State.{between, in_number, ended}
+
+-- reading a duration from a state on, by errors
+abbrev pub run_from : Profile → State → Text → Read Fault DurationParseRecord
+run_from profile state text = run error_of profile state text
+
+-- Reading from a state on, over what the function took off, is what comes of its value; or it is the fault of its stop.
+abbrev pub ReadsOn : {X : Type 0} → (ℕ → Letter) → Profile → State → Unread → Result X Stop → Unread → (X → Text → Read Fault DurationParseRecord) → Type 0
+ReadsOn letter profile from old (Ok x) new next = run_from profile from (map letter old.rest) ≡ next x (map letter new.rest)
+ReadsOn letter profile from old (Err e) new next = run_from profile from (map letter old.rest) ≡ Err (fault_of_stop e)
+
+-- ---- numbers
+
+-- reading, in a number of any context, goes over digits of this number, and to a letter that is no digit
+pub record IsNumber (letter : ℕ → Letter) (first : ℕ) (old : List ℕ) (number : Number) (new : List ℕ) : Type 0 where
+  pub ds : Text
+  pub value : number.value ≡ decimal ds
+  pub other : IsFalse (digit number.next)
+  pub leads : (profile : Profile) (context : Context) →
+      run_from profile (in_number context (Plain first ∷ [])) (map letter old) ≡ run_from profile (in_number context ds) (Plain number.next ∷ map letter new)
+
+-- a number after its first digit, where the end is this fault
+abbrev pub ReadsNumber : (ℕ → Letter) → ℕ → Fault → Unread → Result Number Stop → Unread → Type 0
+ReadsNumber letter first end old (Ok number) new = IsNumber letter first old.rest number new.rest
+ReadsNumber letter first end old (Err e) new =
+    (profile : Profile) (context : Context) → no_designator (half_of context) ≡ end
+    → run_from profile (in_number context (Plain first ∷ [])) (map letter old.rest) ≡ Err (fault_of_stop e)
+
+-- ---- groups
+
+-- the group of a number and the letter after it, which ends a date group
+abbrev pub date_group_of : Number → Group
+date_group_of n = record { unit = unit_of date n.next; value = n.value; fraction = None }
+
+-- the same of times
+abbrev pub time_group_of : TimeGroup → Group
+time_group_of g = record { unit = unit_of time g.letter; value = g.value; fraction = g.fraction }
+
+-- the rank of a unit among those of its half, from the longest to the shortest
+abbrev pub rank : DurationUnit → ℕ
+rank years = 1
+rank months = 2
+rank weeks = 3
+rank days = 4
+rank hours = 1
+rank minutes = 2
+rank seconds = 3
+
+-- the rank of the unit of the letter that ends a group, and 0 where it ends none
+abbrev pub rank_seen : Half → ℕ → ℕ
+rank_seen half c = if designator half c then rank (unit_of half c) else 0
+
+-- the rank of a group that may stand from this rank on, or why it may not
+abbrev pub date_rank_from : ℕ → Number → Result ℕ Fault
+date_rank_from least n =
+    let unit = unit_of date n.next in
+    if designator date n.next then (if nat_le least (rank unit) then (if nat_le n.value (greatest unit) then Ok (rank unit) else Err DurationValueExceededRange)
+    else Err DateDurationPartOrder) else Err (no_designator date)
+
+abbrev pub time_rank_from : ℕ → ℕ → Result ℕ Fault
+time_rank_from least c =
+    let unit = unit_of time c in
+    if designator time c then (if nat_le least (rank unit) then Ok (rank unit) else Err TimeDurationPartOrder) else Err (no_designator time)
+
+-- a group may stand behind these, by its unit and its number, or why it may not
+abbrev pub date_group_fits : Profile → List Group → Group → Result (Unit {0}) Fault
+date_group_fits profile dates g =
+    if in_order profile dates g.unit then (if nat_le g.value (greatest g.unit) then Ok tt else Err DurationValueExceededRange) else Err DateDurationPartOrder
+
+abbrev pub time_group_fits : Profile → List Group → Group → Result (Unit {0}) Fault
+time_group_fits profile times g = if in_order profile times g.unit then Ok tt else Err TimeDurationPartOrder
+
+-- reading from a state on, where this is so
+abbrev pub run_where : Profile → Result (Unit {0}) Fault → State → Text → Read Fault DurationParseRecord
+run_where profile (Ok x) state text = run_from profile state text
+run_where profile (Err e) state text = Err e
+
+-- after a group with a fraction only the end may follow
+abbrev pub after_group : Option FractionParts → Sign → List Group → List Group → Group → State
+after_group None s dates times g = between (in_times s dates (g ∷ times))
+after_group (Some fraction) s dates times g = ended s dates times g
+
+-- what comes of the letter that ends a group, in a text behind these groups
+abbrev pub date_read : Profile → List Group → Number → Result (Unit {0}) Fault
+date_read profile dates n = if designator date n.next then date_group_fits profile dates (date_group_of n) else Err (no_designator date)
+
+abbrev pub time_read : Profile → List Group → TimeGroup → Result (Unit {0}) Fault
+time_read profile times g = if designator time g.letter then time_group_fits profile times (time_group_of g) else Err (no_designator time)
+
+-- reading after a time group, where its letter ends one and it may stand there
+abbrev pub after_time_group : Profile → Sign → List Group → List Group → TimeGroup → Text → Read Fault DurationParseRecord
+after_time_group profile s dates times g = run_where profile (time_read profile times g) (after_group g.fraction s dates times (time_group_of g))
+
+-- whether the letter begins one more time group, after one with a fraction or without
+abbrev pub begins_group : Option FractionParts → ℕ → Bool
+begins_group None c = digit c
+begins_group (Some fraction) c = false
+
+-- the numbers of groups, by the ranks of their units
+abbrev pub date_numbers : List Group → List ℕ
+date_numbers dates = 0 ∷ number_of years dates ∷ number_of months dates ∷ number_of weeks dates ∷ number_of days dates ∷ []
+
+abbrev pub time_numbers : List Group → List ℕ
+time_numbers times = 0 ∷ number_of hours times ∷ number_of minutes times ∷ number_of seconds times ∷ []
+
+-- years, months and weeks are in their range
+abbrev pub HasSmallDates : List ℕ → Type 0
+HasSmallDates values = (slice_index_or values 1 0 ≤ 4294967295) × (slice_index_or values 2 0 ≤ 4294967295) × (slice_index_or values 3 0 ≤ 4294967295)
+
+-- the record has these numbers
+abbrev pub IsDateRecord : List ℕ → DateDurationRecord → Type 0
+IsDateRecord values dates = (g : Group) (earlier : List Group) → values ≡ date_numbers (g ∷ earlier) → date_duration (g ∷ earlier) ≡ Some dates
+
+-- the same of times, where the last group has a unit of this rank, and this fraction
+abbrev pub IsTimeRecord : List ℕ → ℕ → Option FractionParts → TimeDurationRecord → Type 0
+IsTimeRecord values last fraction found =
+    (c : ℕ) (times : List Group) → last ≡ rank (unit_of time c) → values ≡ time_numbers times
+    → time_duration_to (unit_of time c) fraction times ≡ Some found
+
+abbrev pub dated : Sign → Option DateDurationRecord → Option TimeDurationRecord → DurationParseRecord
+dated s dates times = record { sign = s; date = dates; time = times }
+
+-- date groups, after the first digit: reading goes over them, to the end or to behind a `T`
+pub record AreDates (profile : Profile) (letter : ℕ → Letter) (first : ℕ) (old : List ℕ) (dates : Dates) (new : List ℕ) : Type 0 where
+  pub groups : List Group
+  pub has : date_duration groups ≡ Some dates.record
+  pub timed : IsTrue dates.timed → (s : Sign) →
+      run_from profile (in_number (in_dates s []) (Plain first ∷ [])) (map letter old) ≡ run_from profile (between (in_times s groups [])) (map letter new)
+  pub alone : IsFalse dates.timed → (s : Sign) →
+      run_from profile (in_number (in_dates s []) (Plain first ∷ [])) (map letter old) ≡ Ok (dated s (Some dates.record) None, map letter new)

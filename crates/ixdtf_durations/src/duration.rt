@@ -1,0 +1,672 @@
+//! The reader of durations.
+
+ghost use Rattle.std.specs.Prelude.{◌≡◌, ◌↔◌, ◌+◌, ◌-◌, ◌*◌, ◌≤◌, List, [], ◌∷◌, map, length, nat_le};
+ghost use Rattle.std.specs.Prelude.{Ok, Err, Some, None, OnOk, IfOk, IfErr, IsTrue, IsFalse, IsSome};
+ghost use Rattle.ixdtf_grammar.specs.declared.profile.Profile.{Profile};
+ghost use Rattle.ixdtf_grammar.specs.language.Letters.{Text, digit};
+ghost use Rattle.ixdtf_grammar.specs.language.Letters.Letter.{Plain};
+ghost use Rattle.ixdtf_grammar.specs.language.Digits.{decimal};
+ghost use Rattle.ixdtf_grammar.specs.language.Durations.{Group, greatest_value, date_duration};
+ghost use Rattle.ixdtf_grammar.specs.language.Durations.Half.{date, time};
+ghost use Rattle.ixdtf_grammar.specs.declared.records.Sign.{Sign};
+ghost use Rattle.ixdtf_grammar.specs.table.Faults.Fault.{DurationValueExceededRange};
+ghost use Rattle.ixdtf_grammar.specs.table.DurationFronts.Context.{in_dates, in_times};
+ghost use Rattle.ixdtf_grammar.specs.declared.records.DurationParseRecord.{DurationParseRecord};
+ghost use Rattle.ixdtf_grammar.specs.language.Readers.Reader.{parse_duration};
+ghost use Rattle.ixdtf_grammar.specs.language.Languages.{lasting, Derives};
+ghost use Rattle.ixdtf_grammar.specs.table.Faults.{fault_of};
+ghost use Rattle.ixdtf_grammar.specs.table.Outcomes.{HasFault, NoRowFits, OnlyFault};
+ghost use Rattle.ixdtf_grammar.specs.Laws.{InNoOther};
+ghost use Rattle.ixdtf_grammar.specs.Views.{UnreadUnder, under, unread_of, LeavesBehind, returned};
+ghost use Rattle.ixdtf_reading.specs.reading.Looks.{error_of};
+ghost use Rattle.ixdtf_reading.specs.reading.Clauses.{Reads, Spends, SpendsOr, Checks, Yields, fault_of_stop};
+ghost use Rattle.ixdtf_reading.specs.reading.Durations.{duration_at};
+ghost use Rattle.ixdtf_reading.specs.reading.Durations.State.{started, signed, between, in_number, at_mark};
+ghost use Rattle.ixdtf_durations.specs.reading.DurationClauses.{run_from, ReadsOn, ReadsNumber, AreDates, HasSmallDates, IsDateRecord, IsTimeRecord};
+ghost use Rattle.ixdtf_durations.specs.reading.DurationClauses.{rank_seen, date_rank_from, time_rank_from, after_time_group, begins_group, dated};
+
+use ixdtf_grammar::ParserResult;
+use ixdtf_reading::cursor::Cursor;
+use ixdtf_grammar::encoding::{EncodingType, Utf8, Utf16};
+use ixdtf_reading::grammar::{
+    is_ascii_sign, is_decimal_separator, is_duration_designator, is_time_designator,
+};
+use ixdtf_times::offsets::sign_from;
+use ixdtf_grammar::profile::Profile;
+use ixdtf_times::time::parse_fraction;
+use ixdtf_grammar::records::{DateDurationRecord, DurationParseRecord, Fraction, Sign, TimeDurationRecord};
+use ixdtf_reading::stop::Stop;
+use std::marker::Model;
+
+/// A reader of durations.
+///
+/// It borrows its source, and is as large as the slice of units that are still to be read and its
+/// profile.
+#[derive(Drop)]
+#[derive_where(Debug)]
+pub struct IsoDurationParser<'a, T: EncodingType> {
+    cursor: Cursor<'a, T>,
+    profile: Profile,
+}
+
+impl<'a, T: EncodingType> Model for IsoDurationParser<'a, T> {
+    // A contract sees a parser as the units that are still to be read, by their numbers, the count
+    // of looks that were made at them, and the profile.
+    ghost Value = { UnreadUnder };
+
+    ghost view = { λ p. under p.profile p.cursor };
+}
+
+impl<'a> IsoDurationParser<'a, Utf8> {
+    /// A parser of a text's UTF-8 bytes. All of them are still to be read.
+    pub fn from_str(value: &'a str) -> Self
+        ensures rest { result.rest ≡ value.now }
+        ensures looks { result.looks ≡ 0 }
+        ensures profile { result.profile ≡ Profile.Crate }
+    {
+        Self::new(value.as_bytes())
+    }
+
+    /// A parser of bytes, which need not be UTF-8. All of them are still to be read.
+    pub fn from_utf8(value: &'a [u8]) -> Self
+        ensures rest { result.rest ≡ value.now }
+        ensures looks { result.looks ≡ 0 }
+        ensures profile { result.profile ≡ Profile.Crate }
+    {
+        IsoDurationParser::new(value)
+    }
+}
+
+impl<'a> IsoDurationParser<'a, Utf16> {
+    /// A parser of 16-bit units, which need not be UTF-16. All of them are still to be read. It is named as in the Rust
+    /// crate: a caller names the encoding, as `IsoDurationParser::<Utf16>::from_utf8`.
+    pub fn from_utf8(value: &'a [u16]) -> Self
+        ensures rest { result.rest ≡ value.now }
+        ensures looks { result.looks ≡ 0 }
+        ensures profile { result.profile ≡ Profile.Crate }
+    {
+        Self::new(value)
+    }
+}
+
+impl<'a, T: EncodingType> IsoDurationParser<'a, T> {
+    /// A parser of units of any encoding. All of them are still to be read.
+    pub fn new(value: &'a [T::CodeUnit]) -> Self
+        ensures rest { result.rest ≡ map T.number value.now }
+        ensures looks { result.looks ≡ 0 }
+        ensures profile { result.profile ≡ Profile.Crate }
+    {
+        IsoDurationParser {
+            cursor: Cursor::new(value),
+            profile: Profile::Crate,
+        }
+    }
+
+    /// The parser with this profile, which decides whether a unit may stand again. What is still to be read stays.
+    pub fn with_profile(self, profile: Profile) -> Self
+        ensures profile { result.profile ≡ profile }
+        ensures rest { result.rest ≡ self.entry.rest }
+        ensures looks { result.looks ≡ self.entry.looks }
+    {
+        IsoDurationParser {
+            cursor: self.cursor,
+            profile,
+        }
+    }
+
+    /// Reads all that is still to be read, as a duration (`Duration` of the Temporal grammar; ISO 8601, section 5.5.2).
+    ///
+    /// An optional sign stands first, then `P`, then date groups, and then, behind a `T`, time groups; a group at all, and one
+    /// behind a `T`. A group is a number and its unit: `Y`, `M`, `W` and `D` for years, months, weeks and days, and `H`, `M` and
+    /// `S` for hours, minutes and seconds. No unit may stand behind a shorter one of its half; a unit may be repeated, and its
+    /// last number counts, but under [`Profile::Strict`] none may. The last time group may have a fraction, as `.25` or `,25`.
+    /// All letters may be small.
+    ///
+    /// A number is below 2^64, and below 2^32 of years, months and weeks. The record has the date groups where any stand there,
+    /// and the time groups where a `T` does.
+    ///
+    /// ```text
+    /// P1Y2M3W4D           Ok: 1 year, 2 months, 3 weeks and 4 days
+    /// -pt1h0,5m           Ok: negative, 1 hour, 0 minutes and a fraction of one digit, 5
+    /// P1Y2Y               Ok: 2 years; strictly Err(DateDurationPartOrder)
+    /// P1D1Y               Err(DateDurationPartOrder)
+    /// PT0.5H1M            Err(InvalidEnd)
+    /// P4294967296Y        Err(DurationValueExceededRange)
+    /// ```
+    ///
+    /// After `Ok` nothing is left to be read, so each later call is refused as one on the empty text is. After an error all
+    /// that was still to be read still is.
+    ///
+    /// # Errors
+    ///
+    /// The first part that is wrong decides. Of a group the order comes before the range of its unit.
+    ///
+    /// - `AbruptEnd` where the source ends before anything (at `DurationStart`), behind a sign (at `DurationDesignator`) and
+    ///   behind `P` (at `Duration`), and where the digits of a group are followed by no letter of its half, or by nothing (at
+    ///   `DateDurationDesignator` and `TimeDurationDesignator`);
+    /// - `DurationDisgnator` where neither a sign nor `P` stands first, or no `P` behind a sign;
+    /// - `TimeDurationDesignator` where no digit follows a `T`;
+    /// - `DateDurationPartOrder` and `TimeDurationPartOrder` for a group behind one of a shorter unit, and under
+    ///   [`Profile::Strict`] for one behind another of its unit;
+    /// - `DurationValueExceededRange` at a digit with which a number is no more below 2^64, and for years, months and weeks
+    ///   that are not below 2^32;
+    /// - `FractionPart` where no digit follows a decimal mark;
+    /// - `InvalidEnd` at any other letter behind `P` or behind a group;
+    /// - `NonAsciiCodePoint` at a unit that stands for no letter, which no 8-bit unit does.
+    pub fn parse(&mut self) -> ParserResult<DurationParseRecord>
+        // `Ok` exactly where the language derives the duration.
+        ensures ok { (duration : DurationParseRecord) →
+            (returned (λ duration. duration) result ≡ Ok duration) ↔
+            Derives (parse_duration self.old.profile) (map T.letter self.old.rest)
+            (lasting duration) [] }
+        // `Err` only where a row of the fault table with this error fits.
+        ensures err { IfErr result
+            (λ e. HasFault (parse_duration self.old.profile) (map T.letter self.old.rest) []
+            (fault_of e)) }
+
+        // `Ok` only where no row fits, and where no other reader of dates, times and durations has the text.
+        ensures no_row { OnOk result (NoRowFits (parse_duration self.old.profile)
+            (map T.letter self.old.rest)) }
+        ensures alone { OnOk result (InNoOther self.old.profile (parse_duration self.old.profile)
+            (map T.letter self.old.rest)) }
+        // `Err` only where no other row fits, and nothing is derived.
+        ensures only { IfErr result
+            (λ e. OnlyFault (parse_duration self.old.profile) (map T.letter self.old.rest) []
+            (fault_of e)) }
+
+        // What it leaves: nothing to be read after `Ok`, and all of it after an error.
+        ensures leaves { LeavesBehind fault_of (unread_of self.old) result (unread_of self.new) }
+        ensures profile { self.new.profile ≡ self.old.profile }
+    {
+        let mut here = self.cursor.take();
+        let read = parse_duration_text(&mut here, self.profile);
+        self.cursor.settle(here, read)
+    }
+}
+
+// ==== Numbers ====
+
+/// A number, and the letter after it, which is no digit.
+#[derive(Clone, Copy)]
+struct Number {
+    value: u64,
+    next: u8,
+}
+
+/// The number with one more digit behind it where it is below 2^64.
+#[inline(always)]
+#[tactic(auto, unfolding(ixdtf_grammar::specs::language::Durations::greatest_value))]
+fn add_digit(value: u64, byte: u8) -> Result<u64, Stop>
+    requires digit { IsTrue (digit byte) }
+    ensures { Checks (λ sum. sum) result (value * 10 + (byte - 48))
+        (nat_le (value * 10 + (byte - 48)) greatest_value) DurationValueExceededRange }
+{
+    match value.checked_mul(10) {
+        None => Err(Stop::DurationValueExceededRange),
+        Some(tens) => match tens.checked_add(u64::from(byte - b'0')) {
+            None => Err(Stop::DurationValueExceededRange),
+            Some(sum) => Ok(sum),
+        },
+    }
+}
+
+/// Takes the other digits of a number off, and the letter after them. The end is this stop.
+#[inline(always)]
+fn parse_number<'a, T: EncodingType>(
+    cursor: &mut Cursor<'a, T>,
+    first: u8,
+    end: Stop,
+) -> Result<Number, Stop>
+    requires digit { IsTrue (digit first) }
+    ensures number { ReadsNumber T.letter first (fault_of_stop end) cursor.old result cursor.new }
+    ensures small { IfOk result (λ number. IsTrue (nat_le number.value greatest_value)) }
+    ensures looks { SpendsOr 1 0 cursor.old result cursor.new }
+{
+    let mut value = u64::from(first - b'0');
+    while let Some(byte) = cursor.look()? {
+        cursor.step();
+        if !byte.is_ascii_digit() {
+            return Ok(Number { value, next: byte });
+        }
+        value = add_digit(value, byte)?;
+    }
+    Err(end)
+}
+
+// ==== Dates ====
+
+// The greatest number of years, and of months, and of weeks.
+const MOST_OF_LONG_UNITS: u64 = 0xffff_ffff;
+
+// The rank of the unit that a letter ends a date group of: years are 1, months 2, weeks 3 and days 4. A letter that ends none
+// has 0.
+#[rattlefmt::skip]
+static DATE_RANKS: [u8; 256] = [
+    0, 0, 0, 0, 0, 0, 0, 0, 0, 0, 0, 0, 0, 0, 0, 0,
+    0, 0, 0, 0, 0, 0, 0, 0, 0, 0, 0, 0, 0, 0, 0, 0,
+    0, 0, 0, 0, 0, 0, 0, 0, 0, 0, 0, 0, 0, 0, 0, 0,
+    0, 0, 0, 0, 0, 0, 0, 0, 0, 0, 0, 0, 0, 0, 0, 0,
+    0, 0, 0, 0, 4, 0, 0, 0, 0, 0, 0, 0, 0, 2, 0, 0, // @ to O
+    0, 0, 0, 0, 0, 0, 0, 3, 0, 1, 0, 0, 0, 0, 0, 0, // P to _
+    0, 0, 0, 0, 4, 0, 0, 0, 0, 0, 0, 0, 0, 2, 0, 0, // ` to o
+    0, 0, 0, 0, 0, 0, 0, 3, 0, 1, 0, 0, 0, 0, 0, 0, // p to the last
+    0, 0, 0, 0, 0, 0, 0, 0, 0, 0, 0, 0, 0, 0, 0, 0,
+    0, 0, 0, 0, 0, 0, 0, 0, 0, 0, 0, 0, 0, 0, 0, 0,
+    0, 0, 0, 0, 0, 0, 0, 0, 0, 0, 0, 0, 0, 0, 0, 0,
+    0, 0, 0, 0, 0, 0, 0, 0, 0, 0, 0, 0, 0, 0, 0, 0,
+    0, 0, 0, 0, 0, 0, 0, 0, 0, 0, 0, 0, 0, 0, 0, 0,
+    0, 0, 0, 0, 0, 0, 0, 0, 0, 0, 0, 0, 0, 0, 0, 0,
+    0, 0, 0, 0, 0, 0, 0, 0, 0, 0, 0, 0, 0, 0, 0, 0,
+    0, 0, 0, 0, 0, 0, 0, 0, 0, 0, 0, 0, 0, 0, 0, 0,
+];
+
+/// The rank of the unit that a letter ends a date group of, or 0 where it ends none.
+#[inline(always)]
+fn date_rank(letter: u8) -> u8
+    ensures rank { result ≡ rank_seen date letter }
+    ensures small { result ≤ 4 }
+{
+    DATE_RANKS[letter as usize]
+}
+
+/// The rank of a date group that may stand from this rank on, where its number is in the range of its unit.
+#[inline(always)]
+fn check_date_rank(number: Number, least: u8) -> Result<u8, Stop>
+    requires least { 1 ≤ least }
+    requires small { IsTrue (nat_le number.value greatest_value) }
+    ensures rank { Yields (λ rank. rank) result (date_rank_from least number) }
+    ensures small { IfOk result (λ rank. rank ≤ 4) }
+{
+    let rank = date_rank(number.next);
+    if rank < least {
+        return Err(if rank == 0 {
+            Stop::AbruptDateDesignator
+        } else {
+            Stop::DateDurationPartOrder
+        });
+    }
+    if number.value > MOST_OF_LONG_UNITS && rank < 4 {
+        return Err(Stop::DurationValueExceededRange);
+    }
+    Ok(rank)
+}
+
+/// The record of the numbers of date groups, which stand by their ranks.
+#[inline(always)]
+fn date_record(values: [u64; 5]) -> DateDurationRecord
+    requires small { HasSmallDates values }
+    ensures { IsDateRecord values result }
+{
+    DateDurationRecord {
+        years: values[1] as u32,
+        months: values[2] as u32,
+        weeks: values[3] as u32,
+        days: values[4],
+    }
+}
+
+/// Date groups that were read, and whether a `T` follows them, which is taken off.
+#[derive(Clone, Copy)]
+struct Dates {
+    record: DateDurationRecord,
+    timed: bool,
+}
+
+/// Reads date groups after their first digit, and what follows them: the end, or a `T`.
+#[inline(always)]
+fn parse_dates<'a, T: EncodingType>(
+    cursor: &mut Cursor<'a, T>,
+    first: u8,
+    profile: Profile,
+) -> Result<Dates, Stop>
+    requires digit { IsTrue (digit first) }
+    ensures dates { IfOk result
+        (λ dates. AreDates profile T.letter first cursor.old.rest dates cursor.new.rest) }
+    ensures refused { IfErr result (λ e. (s : Sign) →
+        run_from profile (in_number (in_dates s []) (Plain first ∷ []))
+        (map T.letter cursor.old.rest)
+        ≡ Err (fault_of_stop e)) }
+    ensures looks { Spends 1 cursor.old cursor.new }
+{
+    let mut values = [0; 5];
+    let mut least = 1;
+    let mut digit = first;
+    loop {
+        let number = parse_number(cursor, digit, Stop::AbruptDateDesignator)?;
+        let rank = check_date_rank(number, least)?;
+        values[rank as usize] = number.value;
+        least = rank + profile.least_step();
+        match cursor.look()? {
+            None => {
+                return Ok(Dates {
+                    record: date_record(values),
+                    timed: false,
+                });
+            }
+            Some(byte) if byte.is_ascii_digit() => {
+                cursor.step();
+                digit = byte;
+            }
+            Some(byte) if is_time_designator(byte) => {
+                cursor.step();
+                return Ok(Dates {
+                    record: date_record(values),
+                    timed: true,
+                });
+            }
+            Some(_) => return Err(Stop::InvalidEnd),
+        }
+    }
+}
+
+// ==== Times ====
+
+// The rank of the unit that a letter ends a time group of: hours are 1, minutes 2 and seconds 3. A letter that ends none has
+// 0.
+#[rattlefmt::skip]
+static TIME_RANKS: [u8; 256] = [
+    0, 0, 0, 0, 0, 0, 0, 0, 0, 0, 0, 0, 0, 0, 0, 0,
+    0, 0, 0, 0, 0, 0, 0, 0, 0, 0, 0, 0, 0, 0, 0, 0,
+    0, 0, 0, 0, 0, 0, 0, 0, 0, 0, 0, 0, 0, 0, 0, 0,
+    0, 0, 0, 0, 0, 0, 0, 0, 0, 0, 0, 0, 0, 0, 0, 0,
+    0, 0, 0, 0, 0, 0, 0, 0, 1, 0, 0, 0, 0, 2, 0, 0, // @ to O
+    0, 0, 0, 3, 0, 0, 0, 0, 0, 0, 0, 0, 0, 0, 0, 0, // P to _
+    0, 0, 0, 0, 0, 0, 0, 0, 1, 0, 0, 0, 0, 2, 0, 0, // ` to o
+    0, 0, 0, 3, 0, 0, 0, 0, 0, 0, 0, 0, 0, 0, 0, 0, // p to the last
+    0, 0, 0, 0, 0, 0, 0, 0, 0, 0, 0, 0, 0, 0, 0, 0,
+    0, 0, 0, 0, 0, 0, 0, 0, 0, 0, 0, 0, 0, 0, 0, 0,
+    0, 0, 0, 0, 0, 0, 0, 0, 0, 0, 0, 0, 0, 0, 0, 0,
+    0, 0, 0, 0, 0, 0, 0, 0, 0, 0, 0, 0, 0, 0, 0, 0,
+    0, 0, 0, 0, 0, 0, 0, 0, 0, 0, 0, 0, 0, 0, 0, 0,
+    0, 0, 0, 0, 0, 0, 0, 0, 0, 0, 0, 0, 0, 0, 0, 0,
+    0, 0, 0, 0, 0, 0, 0, 0, 0, 0, 0, 0, 0, 0, 0, 0,
+    0, 0, 0, 0, 0, 0, 0, 0, 0, 0, 0, 0, 0, 0, 0, 0,
+];
+
+/// The rank of the unit that a letter ends a time group of, or 0 where it ends none.
+#[inline(always)]
+fn time_rank(letter: u8) -> u8
+    ensures rank { result ≡ rank_seen time letter }
+    ensures small { result ≤ 3 }
+{
+    TIME_RANKS[letter as usize]
+}
+
+/// A time group: a number, the part of a unit beyond it, and the letter after them.
+#[derive(Clone, Copy)]
+struct TimeGroup {
+    value: u64,
+    fraction: Option<Fraction>,
+    letter: u8,
+}
+
+/// The rank of a time group that may stand from this rank on.
+#[inline(always)]
+fn check_time_rank(letter: u8, least: u8) -> Result<u8, Stop>
+    requires least { 1 ≤ least }
+    ensures rank { Yields (λ rank. rank) result (time_rank_from least letter) }
+    ensures small { IfOk result (λ rank. rank ≤ 3) }
+{
+    let rank = time_rank(letter);
+    if rank < least {
+        return Err(if rank == 0 {
+            Stop::AbruptTimeDesignator
+        } else {
+            Stop::TimeDurationPartOrder
+        });
+    }
+    Ok(rank)
+}
+
+/// The record of the numbers of time groups, which stand by their ranks, by the rank of the last.
+#[inline(always)]
+fn time_record(values: [u64; 4], rank: u8, fraction: Option<Fraction>) -> TimeDurationRecord
+    requires rank { 1 ≤ rank }
+    ensures { IsTimeRecord values rank fraction result }
+{
+    match rank {
+        1 => TimeDurationRecord::Hours {
+            hours: values[1],
+            fraction,
+        },
+        2 => TimeDurationRecord::Minutes {
+            hours: values[1],
+            minutes: values[2],
+            fraction,
+        },
+        _ => TimeDurationRecord::Seconds {
+            hours: values[1],
+            minutes: values[2],
+            seconds: values[3],
+            fraction,
+        },
+    }
+}
+
+/// Whether the byte begins one more group after one with this fraction: a digit does, where there is none.
+#[inline(always)]
+fn begins_time_group(byte: u8, fraction: Option<Fraction>) -> bool
+    ensures { result ≡ begins_group fraction byte }
+{
+    byte.is_ascii_digit() && fraction.is_none()
+}
+
+/// Reads the digits of a fraction after its decimal mark, and the letter after them.
+#[inline(always)]
+fn parse_fraction_group<'a, T: EncodingType>(
+    cursor: &mut Cursor<'a, T>,
+    value: u64,
+) -> Result<TimeGroup, Stop>
+    ensures group { (profile : Profile) (s : Sign) (dates times : List Group) (ds : Text) →
+        value ≡ decimal ds → ReadsOn T.letter profile (at_mark s dates times ds)
+        cursor.old result cursor.new (after_time_group profile s dates times) }
+    ensures fraction { IfOk result (λ g. IsSome g.fraction) }
+    ensures looks { Spends 3 cursor.old cursor.new }
+{
+    let fraction = parse_fraction(cursor)?;
+    match cursor.look()? {
+        None => Err(Stop::AbruptTimeDesignator),
+        Some(letter) => {
+            cursor.step();
+            Ok(TimeGroup {
+                value,
+                fraction: Some(fraction),
+                letter,
+            })
+        }
+    }
+}
+
+/// Reads a time group after its first digit. Its letter is not tested.
+#[inline(always)]
+fn parse_time_group<'a, T: EncodingType>(
+    cursor: &mut Cursor<'a, T>,
+    first: u8,
+) -> Result<TimeGroup, Stop>
+    requires digit { IsTrue (digit first) }
+    ensures group { (profile : Profile) (s : Sign) (dates times : List Group) →
+        ReadsOn T.letter profile (in_number (in_times s dates times) (Plain first ∷ []))
+        cursor.old result cursor.new (after_time_group profile s dates times) }
+    ensures looks { Spends 3 cursor.old cursor.new }
+    ensures paid { IfOk result (λ g. g.fraction ≡ None → Spends 0 cursor.old cursor.new) }
+{
+    let number = parse_number(cursor, first, Stop::AbruptTimeDesignator)?;
+    if is_decimal_separator(number.next) {
+        return parse_fraction_group(cursor, number.value);
+    }
+    Ok(TimeGroup {
+        value: number.value,
+        fraction: None,
+        letter: number.next,
+    })
+}
+
+/// Reads time groups after their first digit, and wants the end.
+#[inline(always)]
+fn parse_time_groups<'a, T: EncodingType>(
+    cursor: &mut Cursor<'a, T>,
+    first: u8,
+    profile: Profile,
+) -> Result<TimeDurationRecord, Stop>
+    requires digit { IsTrue (digit first) }
+    ensures times { (s : Sign) (dates : List Group) →
+        ReadsOn T.letter profile (in_number (in_times s dates []) (Plain first ∷ []))
+        cursor.old result cursor.new
+        (λ time text. Ok (dated s (date_duration dates) (Some time), text)) }
+    ensures looks { Spends 4 cursor.old cursor.new }
+{
+    let mut values = [0; 4];
+    let mut least = 1;
+    let mut digit = first;
+    loop {
+        let group = parse_time_group(cursor, digit)?;
+        let rank = check_time_rank(group.letter, least)?;
+        values[rank as usize] = group.value;
+        least = rank + profile.least_step();
+        match cursor.look()? {
+            None => return Ok(time_record(values, rank, group.fraction)),
+            Some(byte) if begins_time_group(byte, group.fraction) => {
+                cursor.step();
+                digit = byte;
+            }
+            Some(_) => return Err(Stop::InvalidEnd),
+        }
+    }
+}
+
+/// Reads time groups after their `T`, and wants the end.
+#[inline(always)]
+fn parse_times<'a, T: EncodingType>(
+    cursor: &mut Cursor<'a, T>,
+    sign: Sign,
+    date: Option<DateDurationRecord>,
+    profile: Profile,
+) -> Result<DurationParseRecord, Stop>
+    ensures duration { (dates : List Group) → date_duration dates ≡ date →
+        ReadsOn T.letter profile (between (in_times sign dates []))
+        cursor.old result cursor.new (λ d text. Ok (d, text)) }
+    ensures looks { Spends 5 cursor.old cursor.new }
+{
+    match cursor.look()? {
+        Some(byte) if byte.is_ascii_digit() => {
+            cursor.step();
+            match parse_time_groups(cursor, byte, profile) {
+                Ok(time) => Ok(DurationParseRecord {
+                    sign,
+                    date,
+                    time: Some(time),
+                }),
+                Err(stop) => Err(stop),
+            }
+        }
+        _ => Err(Stop::TimeDurationDesignator),
+    }
+}
+
+// ==== Durations ====
+
+/// Takes `P` or `p` off after a sign, which it returns.
+#[inline(always)]
+#[tactic(auto, using(crate::proofs::code::DurationSteps::openings))]
+fn parse_designator<'a, T: EncodingType>(
+    cursor: &mut Cursor<'a, T>,
+    sign: Sign,
+) -> Result<Sign, Stop>
+    ensures sign { (profile : Profile) → ReadsOn T.letter profile (signed sign)
+        cursor.old result cursor.new (λ s. run_from profile (between (in_dates s []))) }
+    ensures looks { Spends 1 cursor.old cursor.new }
+{
+    match cursor.look()? {
+        None => Err(Stop::AbruptDurationDesignator),
+        Some(byte) if is_duration_designator(byte) => {
+            cursor.step();
+            Ok(sign)
+        }
+        Some(_) => Err(Stop::DurationDisgnator),
+    }
+}
+
+/// Reads what a duration begins with, up to `P` or `p`, and returns its sign.
+#[inline(always)]
+#[tactic(auto, using(crate::proofs::code::DurationSteps::openings))]
+fn parse_opening<'a, T: EncodingType>(cursor: &mut Cursor<'a, T>) -> Result<Sign, Stop>
+    ensures sign { (profile : Profile) → ReadsOn T.letter profile started
+        cursor.old result cursor.new (λ s. run_from profile (between (in_dates s []))) }
+    ensures looks { Spends 2 cursor.old cursor.new }
+{
+    match cursor.look()? {
+        None => Err(Stop::AbruptDurationStart),
+        Some(byte) if is_ascii_sign(byte) => {
+            cursor.step();
+            parse_designator(cursor, sign_from(byte))
+        }
+        Some(byte) if is_duration_designator(byte) => {
+            cursor.step();
+            Ok(Sign::Positive)
+        }
+        Some(_) => Err(Stop::DurationDisgnator),
+    }
+}
+
+/// Reads a duration that begins with date groups, after their first digit, and wants the end.
+#[inline(always)]
+fn parse_dated<'a, T: EncodingType>(
+    cursor: &mut Cursor<'a, T>,
+    sign: Sign,
+    first: u8,
+    profile: Profile,
+) -> Result<DurationParseRecord, Stop>
+    requires digit { IsTrue (digit first) }
+    ensures duration { ReadsOn T.letter profile (in_number (in_dates sign []) (Plain first ∷ []))
+        cursor.old result cursor.new (λ d text. Ok (d, text)) }
+    ensures looks { Spends 6 cursor.old cursor.new }
+{
+    let dates = parse_dates(cursor, first, profile)?;
+    if dates.timed {
+        return parse_times(cursor, sign, Some(dates.record), profile);
+    }
+    Ok(DurationParseRecord {
+        sign,
+        date: Some(dates.record),
+        time: None,
+    })
+}
+
+/// Reads a duration after its sign and its `P` or `p`, and wants the end.
+#[inline(always)]
+fn parse_after_designator<'a, T: EncodingType>(
+    cursor: &mut Cursor<'a, T>,
+    sign: Sign,
+    profile: Profile,
+) -> Result<DurationParseRecord, Stop>
+    ensures duration { ReadsOn T.letter profile (between (in_dates sign []))
+        cursor.old result cursor.new (λ d text. Ok (d, text)) }
+    ensures looks { Spends 7 cursor.old cursor.new }
+{
+    match cursor.look()? {
+        None => Err(Stop::AbruptDuration),
+        Some(byte) if is_time_designator(byte) => {
+            cursor.step();
+            parse_times(cursor, sign, None, profile)
+        }
+        Some(byte) if byte.is_ascii_digit() => {
+            cursor.step();
+            parse_dated(cursor, sign, byte, profile)
+        }
+        Some(_) => Err(Stop::InvalidEnd),
+    }
+}
+
+/// Reads a duration, and wants the end.
+#[inline(always)]
+fn parse_duration_text<'a, T: EncodingType>(
+    cursor: &mut Cursor<'a, T>,
+    profile: Profile,
+) -> Result<DurationParseRecord, Stop>
+    ensures duration { Reads T.letter (λ d. d) cursor.old result cursor.new
+        (duration_at error_of profile) }
+    ensures looks { Spends 9 cursor.old cursor.new }
+{
+    let sign = parse_opening(cursor)?;
+    parse_after_designator(cursor, sign, profile)
+}

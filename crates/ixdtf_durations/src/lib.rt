@@ -1,0 +1,4 @@
+//! A layer of the library `ixdtf`: ixdtf_durations.
+#![tactic(auto)]
+
+pub mod duration;

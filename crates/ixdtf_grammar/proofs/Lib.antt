@@ -1,0 +1,4 @@
+pub mod code
+pub mod parts
+pub mod theorems
+pub mod widths

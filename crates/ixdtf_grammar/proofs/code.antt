@@ -1,0 +1,2 @@
+-- code.
+pub mod Nanoseconds

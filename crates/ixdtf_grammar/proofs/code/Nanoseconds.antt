@@ -1,0 +1,141 @@
+-- The nanoseconds of a fraction: the number that its digits stand for, from its value.
+use Rattle.std.proofs.Common.{true, cond, nat_le, Some, None, ◌≡◌, ◌<◌, ◌≤◌, ℕ, zero, suc, ◌+◌, ◌-◌, ◌*◌, ◌/◌, ◌%◌, ◌^◌, min, [], ◌∷◌, ◌++◌, length, take}
+use Rattle.std.proofs.Common.{take_all, refl, sym, ap, ◌∙◌, arith}
+use Rattle.std.proofs.lemmas.Bool.Decides.{nat_tests}
+use Rattle.std.proofs.Math.Nat.{pow-succ', one-le-pow, pow-le-pow_right, div-one, mod-one, zero-div, zero-mod, mod-eq_of_lt, div-div-eq-div-mul, min-le_right}
+use Rattle.std.proofs.Math.Nat.{mul-lt-mul_of_pos_right}
+use Rattle.std.proofs.Math.Arith.{mod-mul}
+use Rattle.std.proofs.Math.Seq.{take-append-add}
+use Rattle.std.proofs.lemmas.Nat.{pow-add, div_below}
+use Rattle.std.proofs.lemmas.List.{length-append, length-take-le, take-append-le}
+use Rattle.ixdtf_grammar.specs.language.Letters.{Text}
+use Rattle.ixdtf_grammar.specs.language.Digits.{decimal, padded_digits}
+use Rattle.ixdtf_grammar.specs.language.Fractions.{FractionParts, exact_nanoseconds_of, nanoseconds_of}
+
+-- a power of ten is above zero
+pub ten_pos : (k : ℕ) → 0 < 10 ^ k
+ten_pos k = omega (arith, one-le-pow k 10 (omega arith))
+
+-- a number has as many padded digits as were asked for
+pub length-padded : (count number : ℕ) → length (padded_digits count number) ≡ count
+length-padded zero number = refl
+length-padded (suc count) number = omega (arith, length-padded count number)
+
+-- the number of two texts, one after the other
+pub decimal-append : (a b : Text) → decimal (a ++ b) ≡ decimal a * 10 ^ length b + decimal b
+decimal-append [] b = omega arith
+decimal-append (c ∷ a) b = rw (length-append a b, pow-add 10 _ _, decimal-append a b) (omega arith)
+
+-- divided by a power of ten, and then by another
+divided_twice : (i j number : ℕ) → number / 10 ^ (i + j) ≡ number / 10 ^ i / 10 ^ j
+divided_twice i j number = ap (λ p. number / p) (pow-add 10 i j) ∙ sym (div-div-eq-div-mul number (10 ^ i) (10 ^ j))
+
+-- one more digit in front
+digit_in_front : (k w : ℕ) → (48 + w / 10 ^ k % 10 - 48) * 10 ^ k + w % 10 ^ k ≡ w % 10 ^ suc k
+digit_in_front k w =
+    let bare : 48 + w / 10 ^ k % 10 - 48 ≡ w / 10 ^ k % 10 = omega arith in
+    rw (bare, pow-succ' 10 k) (sym (mod-mul w {m = 10} {c = 10 ^ k} (omega arith) (ten_pos k)))
+
+-- the first padded digits are those of the number without its last ones
+pub decimal-padded : (first left count number : ℕ) → count ≡ first + left → decimal (take first (padded_digits count number)) ≡ number / 10 ^ left % 10 ^ first
+decimal-padded zero left count number e = sym (mod-one (number / 10 ^ left))
+decimal-padded (suc first) left zero number e = absurd (omega arith)
+decimal-padded (suc first) left (suc count) number e =
+    let split : count ≡ left + first = omega arith in
+    let enough : first ≤ length (padded_digits count number) = omega (arith, length-padded count number) in
+    let power : number / 10 ^ count ≡ number / 10 ^ left / 10 ^ first = ap (λ k. number / 10 ^ k) split ∙ divided_twice left first number in
+    let tail : decimal (take first (padded_digits count number)) ≡ number / 10 ^ left % 10 ^ first = decimal-padded first left count number (omega arith) in
+    rw (length-take-le first _ enough, tail, power) (digit_in_front first (number / 10 ^ left))
+
+-- the first digits of zero are zero
+pub decimal-zeros : (first count : ℕ) → first ≤ count → decimal (take first (padded_digits count 0)) ≡ 0
+decimal-zeros first count h =
+    decimal-padded first (count - first) count 0 (omega arith) ∙ rw zero-div (zero-mod (10 ^ first))
+
+-- the number of all padded digits of a number that fits
+pub decimal-whole : (count number : ℕ) → number < 10 ^ count → decimal (padded_digits count number) ≡ number
+decimal-whole count number fits =
+    let all : take count (padded_digits count number) ≡ padded_digits count number = take_all count _ (omega (arith, length-padded count number)) in
+    sym (ap decimal all) ∙ decimal-padded count 0 count number (omega arith) ∙ rw div-one (mod-eq_of_lt fits)
+
+-- fewer digits than are wanted: zeros fill the number on the right
+pub filled : (wanted count more number : ℕ) → wanted ≡ count + more → number < 10 ^ count
+    → decimal (take wanted (padded_digits count number ++ padded_digits wanted 0)) ≡ number * 10 ^ more
+filled wanted count more number e fits =
+    let digits = padded_digits count number in let zeros = padded_digits wanted 0 in
+    let room : wanted ≡ length digits + more = omega (arith, length-padded count number) in
+    let enough : more ≤ length zeros = omega (arith, length-padded wanted 0) in
+    let none : decimal (take more zeros) ≡ 0 = decimal-zeros more wanted (omega arith) in
+    ap (λ k. decimal (take k (digits ++ zeros))) room ∙
+    ap decimal (take-append-add digits zeros more) ∙
+    decimal-append digits _ ∙
+    rw (length-take-le more zeros enough, none, decimal-whole count number fits) (omega arith)
+
+-- without its last digits a number has the others
+many-small : (left wanted count number : ℕ) → count ≡ wanted + left → number < 10 ^ count → number / 10 ^ left < 10 ^ wanted
+many-small left wanted count number e fits =
+    div_below number (10 ^ left) (10 ^ wanted) (ten_pos left) (omega (arith, ap (λ k. 10 ^ k) e, pow-add 10 wanted left))
+
+-- more digits than are wanted: the last ones are divided off
+pub cut : (wanted left count number : ℕ) (after : Text) → count ≡ wanted + left → number < 10 ^ count
+    → decimal (take wanted (padded_digits count number ++ after)) ≡ number / 10 ^ left
+cut wanted left count number after e fits =
+    let digits = padded_digits count number in
+    let enough : wanted ≤ length digits = omega (arith, length-padded count number) in
+    let small : number / 10 ^ left < 10 ^ wanted = many-small left wanted count number e fits in
+    ap decimal (take-append-le wanted digits after enough) ∙
+    decimal-padded wanted left count number e ∙
+    mod-eq_of_lt small
+
+-- a number of so many digits, with zeros behind it, is below the power of ten of all these digits
+few-small : (count more wanted number : ℕ) → wanted ≡ count + more → number < 10 ^ count → number * 10 ^ more < 10 ^ wanted
+few-small count more wanted number e fits =
+    let moved : number * 10 ^ more < 10 ^ count * 10 ^ more = mul-lt-mul_of_pos_right fits (ten_pos more) in
+    omega (arith, moved, pow-add 10 count more, ap (λ k. 10 ^ k) e)
+
+-- these are the nanoseconds of the fraction, and fewer than those of a second
+pub record AreNanoseconds (fraction : FractionParts) (nanoseconds : ℕ) : Type 0 where
+  pub value : nanoseconds ≡ nanoseconds_of fraction
+  pub small : nanoseconds < 10 ^ 9
+
+-- the nanoseconds of a fraction of at most nine digits
+pub nanoseconds-few : (count value power : ℕ) → count ≤ 9 → value < 10 ^ min count 18 → power ≡ 10 ^ (9 - count)
+    → AreNanoseconds (record { count = count; value = value }) (value * power)
+nanoseconds-few count value power few fits is_power =
+    let places : min count 18 ≡ count = omega arith in
+    let all : value < 10 ^ count = omega (arith, ap (λ k. 10 ^ k) places) in
+    rw is_power (record {
+      value =
+          sym (ap (λ k. decimal (take 9 (padded_digits k value ++ padded_digits 9 0))) places ∙
+          filled 9 count (9 - count) value (omega arith) all);
+      small = few-small count (9 - count) 9 value (omega arith) all;
+    })
+
+-- the nanoseconds of a fraction of more than nine digits
+pub nanoseconds-many : (count value power : ℕ) → 9 < count → value < 10 ^ min count 18 → power ≡ 10 ^ (min count 18 - 9)
+    → AreNanoseconds (record { count = count; value = value }) (value / power)
+nanoseconds-many count value power many fits is_power =
+    let more : min count 18 ≡ 9 + (min count 18 - 9) = omega arith in
+    rw is_power (record {
+      value = sym (cut 9 (min count 18 - 9) (min count 18) value _ more fits);
+      small = many-small (min count 18 - 9) 9 (min count 18) value more fits;
+    })
+
+-- the nanoseconds of a fraction of at most nine digits are exact
+pub exact_few : (fraction : FractionParts) → fraction.count ≤ 9 → fraction.value < 10 ^ min fraction.count 18
+    → Some (nanoseconds_of fraction) ≡ exact_nanoseconds_of fraction
+exact_few fraction few fits =
+    let test : true ≡ nat_le fraction.count 9 = grind (arith, nat_tests, few) in
+    let value = (nanoseconds-few fraction.count fraction.value _ few fits refl).value in
+    ap Some (sym value) ∙ ap (λ b. cond b (Some (fraction.value * 10 ^ (9 - fraction.count))) None) test
+
+-- one more digit behind a number of fewer than 18 digits
+pub one_more : (count number digit : ℕ) → count < 18 → number < 10 ^ min count 18 → digit ≤ 9 → number * 10 + digit < 10 ^ min (count + 1) 18
+one_more count number digit few fits small =
+    let before : min count 18 ≡ count = omega arith in
+    let after : min (count + 1) 18 ≡ suc count = omega arith in
+    omega (arith, ap (λ k. 10 ^ k) before, ap (λ k. 10 ^ k) after, pow-succ' 10 count)
+
+-- 18 digits at most
+pub eighteen : (count : ℕ) → 10 ^ min count 18 ≤ 10 ^ 18
+eighteen count = pow-le-pow_right (omega arith) (min-le_right count 18)

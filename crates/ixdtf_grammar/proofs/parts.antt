@@ -1,0 +1,2 @@
+-- parts.
+pub mod CoreLetters

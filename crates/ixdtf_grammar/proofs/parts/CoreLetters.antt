@@ -1,0 +1,134 @@
+-- Letters that no core has: `[`, and `P` and `p`, which begin a duration. So where cores stand before the end or a bracket,
+-- those of one text are one core's text, a front without these letters is a front of the core, and none begins as a duration.
+use Rattle.std.proofs.Common.{◌≡◌, ℕ, zero, suc, IsTrue, IsFalse, ◌⊎◌, ℤ, [], ◌∷◌, ◌++◌, refl, sym, ◌∙◌, subst, inl, inr, arith}
+use Rattle.std.proofs.lemmas.Bool.{both_ways, eqb-true, or_parts}
+use Rattle.std.proofs.lemmas.Bool.Decides.{nat_tests}
+use Rattle.ixdtf_grammar.specs.declared.records.DateRecord.{DateRecord}
+use Rattle.ixdtf_grammar.specs.declared.records.Sign.{Sign}
+use Rattle.ixdtf_grammar.specs.language.Letters.{Class, ◌or◌, Letter, Text, digit, hyphen, sign, opening, duration_designator}
+use Rattle.ixdtf_grammar.specs.language.Letters.Letter.{Plain, Bad}
+use Rattle.ixdtf_grammar.specs.language.Shapes.{Shape, one, digits}
+use Rattle.ixdtf_grammar.specs.language.Dates.{Year}
+use Rattle.ixdtf_grammar.specs.language.Durations.{SignedDesignator}
+use Rattle.ixdtf_grammar.specs.language.Months.{OptionalHyphen, Marks, IsYearMonth, MonthDayText}
+use Rattle.ixdtf_grammar.specs.table.Before.{AtCoreEnd}
+
+abbrev pub outside : Class
+outside = opening or duration_designator
+
+-- no such letter
+abbrev pub Inside : Letter → Type 0
+Inside (Plain c) = IsFalse (outside c)
+Inside Bad = Unit {0}
+
+-- none anywhere
+abbrev pub AllInside : Shape
+AllInside [] = Unit {0}
+AllInside (c ∷ rest) = Inside c × AllInside rest
+
+-- ---- what stands after a core
+
+-- the end, or a bracket: what a core may stand before
+abbrev pub CoreEnds : Text → Type 0
+CoreEnds rest = (rest ≡ []) ⊎ ((more : Text) × (rest ≡ Plain 91 ∷ more))
+
+pub core_ends : (rest : Text) → AtCoreEnd rest → CoreEnds rest
+core_ends rest (inl is) = inl is
+core_ends rest (inr h) = let bracket : h.3.0 ≡ 91 = eqb-true h.3.0 91 h.3.2 in inr (h.1, rw (h.2, h.3.1, bracket) refl)
+
+not_at_end : (c : Letter) (more rest : Text) → Inside c → CoreEnds rest → rest ≡ c ∷ more → ⊥
+not_at_end c more rest none (inl h) is = let cells : [] ≡ c ∷ more = sym h ∙ is in absurd cc
+not_at_end c more rest none (inr h) is =
+    let cells : c ∷ more ≡ Plain 91 ∷ h.0 = sym is ∙ h.1 in
+    let same : c ≡ Plain 91 = cc in
+    both_ways _ (subst Inside same none) refl
+
+-- a front with none of these letters is one of the core
+pub in_core : (front after cores rest : Text) → AllInside front → CoreEnds rest → cores ++ rest ≡ front ++ after → (more : Text) × (cores ≡ front ++ more)
+in_core [] after cores rest none ends is = (cores, refl)
+in_core (c ∷ front) after [] rest none ends is = absurd (not_at_end c (front ++ after) rest none.0 ends is)
+in_core (c ∷ front) after (d ∷ cores) rest none ends is =
+    let heads : d ≡ c = cc in
+    let tails : cores ++ rest ≡ front ++ after = cc in
+    let inner = in_core front after cores rest none.1 ends tails in
+    (inner.0, λ i. heads i ∷ inner.1 i)
+
+-- so the cores of a text are one text
+pub same_core : (a b s t : Text) → AllInside a → AllInside b → CoreEnds s → CoreEnds t → a ++ s ≡ b ++ t → a ≡ b
+same_core [] [] s t f g x y is = refl
+same_core [] (d ∷ b) s t f g x y is = absurd (not_at_end d (b ++ t) s g.0 x is)
+same_core (c ∷ a) [] s t f g x y is = absurd (not_at_end c (a ++ s) t f.0 y (sym is))
+same_core (c ∷ a) (d ∷ b) s t f g x y is =
+    let heads : c ≡ d = cc in
+    let tails : a ++ s ≡ b ++ t = cc in
+    let inner = same_core a b s t f.1 g.1 x y tails in
+    λ i. heads i ∷ inner i
+
+-- ---- no core begins as a duration
+
+-- with its designator
+no_designator : (cores rest after : Text) (c : ℕ) → AllInside cores → CoreEnds rest → IsTrue (duration_designator c) → cores ++ rest ≡ Plain c ∷ after → ⊥
+no_designator [] rest after c inside (inl h) designates is = let cells : [] ≡ Plain c ∷ after = sym h ∙ is in absurd cc
+no_designator [] rest after c inside (inr h) designates is =
+    let cells : Plain c ∷ after ≡ Plain 91 ∷ h.0 = sym is ∙ h.1 in
+    let same : c ≡ 91 = cc in
+    both_ways (duration_designator 91) refl (subst (λ n. IsTrue (duration_designator n)) same designates)
+no_designator (d ∷ cores) rest after c inside ends designates is =
+    let same : d ≡ Plain c = cc in
+    both_ways (duration_designator c) (or_parts _ _ (subst Inside same inside.0)).1 designates
+
+-- with its designator, or with a sign and its designator
+pub no_duration : (cores rest start after : Text) (s : Sign) → AllInside cores → CoreEnds rest → SignedDesignator start s → cores ++ rest ≡ start ++ after → ⊥
+no_duration cores rest start after s inside ends (inl h) is = no_designator cores rest after h.0.0 inside ends h.0.2 (is ∙ rw h.0.1 refl)
+no_duration [] rest start after s inside (inl none) (inr h) is = let cells : [] ≡ Plain h.0 ∷ (h.1 ++ after) = sym none ∙ is ∙ rw h.2 refl in absurd cc
+no_duration [] rest start after s inside (inr opens) (inr h) is =
+    let cells : Plain 91 ∷ opens.0 ≡ Plain h.0 ∷ (h.1 ++ after) = sym opens.1 ∙ is ∙ rw h.2 refl in
+    let same : h.0 ≡ 91 = cc in
+    both_ways (sign 91) refl (subst (λ n. IsTrue (sign n)) same h.3)
+no_duration (d ∷ cores) rest start after s inside ends (inr h) is =
+    let cells : d ∷ (cores ++ rest) ≡ Plain h.0 ∷ (Plain h.4.0 ∷ after) = is ∙ rw (h.2, h.4.1) refl in
+    no_designator cores rest after h.4.0 inside.1 ends h.4.2 cc
+
+-- ---- the parts of dates
+
+pub inside_append : (a b : Text) → AllInside a → AllInside b → AllInside (a ++ b)
+inside_append [] b f g = g
+inside_append (c ∷ a) b f g = (f.0, inside_append a b f.1 g)
+
+of_digit : (c : ℕ) → IsTrue (digit c) → IsFalse (outside c)
+of_digit c h = grind (arith, nat_tests, h)
+
+pub of_sign : (c : ℕ) → IsTrue (sign c) → IsFalse (outside c)
+of_sign c h = grind (arith, nat_tests, h)
+
+of_hyphen : (c : ℕ) → IsTrue (hyphen c) → IsFalse (outside c)
+of_hyphen c h = grind (arith, nat_tests, h)
+
+pub in_one : (class : Class) → ((c : ℕ) → IsTrue (class c) → IsFalse (outside c)) → (text : Text) → one class text → AllInside text
+in_one class none text h = rw h.1 (none h.0 h.2, tt)
+
+pub in_digits : (n : ℕ) (text : Text) → digits n text → AllInside text
+in_digits zero text h = rw h tt
+in_digits (suc n) text h = rw h.2 (of_digit h.0 h.3, in_digits n h.1 h.4)
+
+pub in_year : (text : Text) (year : ℤ) → Year text year → AllInside text
+in_year text year (inl h) = in_digits 4 text h.0
+in_year text year (inr h) = rw h.is (of_sign h.c h.sign, in_digits 6 h.ds h.digits)
+
+in_hyphens : (text : Text) → OptionalHyphen text → AllInside text
+in_hyphens text (inl none) = rw none tt
+in_hyphens text (inr h) = in_one hyphen of_hyphen text h
+
+in_marks : (text : Text) → Marks text → AllInside text
+in_marks text (inl none) = rw none tt
+in_marks text (inr h) = rw h.2 (inside_append h.0 h.1 (in_one hyphen of_hyphen h.0 h.3) (in_one hyphen of_hyphen h.1 h.4))
+
+pub in_year_month : (text : Text) (date : DateRecord) → IsYearMonth text date → AllInside text
+in_year_month text date h =
+    rw h.is (inside_append h.years _ (in_year h.years date.year h.year)
+    (inside_append h.hyphens _ (in_hyphens h.hyphens h.hyphen) (in_digits 2 h.months h.month.0.0)))
+
+pub in_month_day : (text : Text) (date : DateRecord) → MonthDayText text date → AllInside text
+in_month_day text date h =
+    rw h.is (inside_append h.marks _ (in_marks h.marks h.mark) (inside_append h.months _ (in_digits 2 h.months h.month.0.0)
+    (inside_append h.hyphens _ (in_hyphens h.hyphens h.hyphen) (in_digits 2 h.days h.day.0))))

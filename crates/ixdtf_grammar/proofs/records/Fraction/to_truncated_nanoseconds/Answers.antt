@@ -1,0 +1,48 @@
+-- Both branches give the number of the first nine digits.
+use Rattle.std.proofs.Common.{◌^◌, ◌-◌, ap, ◌∙◌, arith}
+use Rattle.ixdtf_grammar.specs.language.Fractions.{nanoseconds_of}
+use Rattle.ixdtf_grammar.proofs.code.Nanoseconds.{ten_pos, nanoseconds-few, nanoseconds-many}
+use Rattle.ixdtf_grammar.proofs.records.Fraction.to_truncated_nanoseconds.Goals as goal
+
+pub overflow_cast-result : goal.overflow_cast-result
+overflow_cast-result c =
+    rw c.number-value.ensures (omega (
+      arith,
+      nanoseconds-few c.self.inside.digits c.self.inside.value c.pow.result c.if-self-le9.true c.self.invariant.1
+          (c.pow.ensures ∙ ap (λ k. 10 ^ k) c.from.ensures),
+    ))
+
+pub returns-then-self-le9-clause-value : goal.returns-then-self-le9-clause-value
+returns-then-self-le9-clause-value c =
+    let few = nanoseconds-few c.self.inside.digits c.self.inside.value c.pow.result c.if-self-le9.true c.self.invariant.1
+    (c.pow.ensures ∙ ap (λ k. 10 ^ k) c.from.ensures) in
+    rw c.number-value.ensures (few.value ∙ ap nanoseconds_of c.self.view_is)
+
+pub returns-then-self-le9-clause-small : goal.returns-then-self-le9-clause-small
+returns-then-self-le9-clause-small c =
+    let few = nanoseconds-few c.self.inside.digits c.self.inside.value c.pow.result c.if-self-le9.true c.self.invariant.1
+    (c.pow.ensures ∙ ap (λ k. 10 ^ k) c.from.ensures) in
+    rw c.number-value.ensures few.small
+
+pub nonzero_div-result : goal.nonzero_div-result
+nonzero_div-result c = omega (arith, ten_pos c.from-else-self-le9.result)
+
+pub overflow_cast-result-else-self-le9 : goal.overflow_cast-result-else-self-le9
+overflow_cast-result-else-self-le9 c =
+    rw c.number-value.ensures (omega (
+      arith,
+      nanoseconds-many c.self.inside.digits c.self.inside.value c.pow-else-self-le9.result c.if-self-le9.false c.self.invariant.1
+          (c.pow-else-self-le9.ensures ∙ ap (λ k. 10 ^ k) (c.from-else-self-le9.ensures ∙ ap (λ n. n - 9) c.min.ensures)),
+    ))
+
+pub returns-else-self-le9-clause-value : goal.returns-else-self-le9-clause-value
+returns-else-self-le9-clause-value c =
+    let many = nanoseconds-many c.self.inside.digits c.self.inside.value c.pow-else-self-le9.result c.if-self-le9.false c.self.invariant.1
+    (c.pow-else-self-le9.ensures ∙ ap (λ k. 10 ^ k) (c.from-else-self-le9.ensures ∙ ap (λ n. n - 9) c.min.ensures)) in
+    rw c.number-value.ensures (many.value ∙ ap nanoseconds_of c.self.view_is)
+
+pub returns-else-self-le9-clause-small : goal.returns-else-self-le9-clause-small
+returns-else-self-le9-clause-small c =
+    let many = nanoseconds-many c.self.inside.digits c.self.inside.value c.pow-else-self-le9.result c.if-self-le9.false c.self.invariant.1
+    (c.pow-else-self-le9.ensures ∙ ap (λ k. 10 ^ k) (c.from-else-self-le9.ensures ∙ ap (λ n. n - 9) c.min.ensures)) in
+    rw c.number-value.ensures many.small

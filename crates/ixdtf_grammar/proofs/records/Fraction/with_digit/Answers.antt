@@ -1,0 +1,23 @@
+-- One more digit makes less than 10 ^ 18 of a value of fewer than 18 digits.
+use Rattle.std.proofs.Common.{◌+◌, ap, arith}
+use Rattle.ixdtf_grammar.proofs.code.Nanoseconds.{one_more, eighteen}
+use Rattle.ixdtf_grammar.proofs.records.Fraction.with_digit.Goals as goal
+
+pub overflow_mul-value : goal.overflow_mul-value
+overflow_mul-value c =
+    omega (
+      arith,
+      c.number-value.ensures,
+      one_more c.self.inside.digits c.self.inside.value 0 (omega (arith, c.requires.short, ap (λ f. f.count) c.self.view_is)) c.self.invariant.1 (omega arith),
+      eighteen (c.self.inside.digits + 1),
+    )
+
+pub overflow_add-value : goal.overflow_add-value
+overflow_add-value c =
+    omega (
+      arith,
+      c.number-value.ensures,
+      one_more c.self.inside.digits c.self.inside.value c.from.result (omega (arith, c.requires.short, ap (λ f. f.count) c.self.view_is)) c.self.invariant.1
+          (omega arith),
+      eighteen (c.self.inside.digits + 1),
+    )

@@ -1,0 +1,6 @@
+-- theorems.
+pub mod CoreEnds
+pub mod CoreSizes
+pub mod Disjoint
+pub mod FewPairs
+pub mod NoRow

@@ -1,0 +1,99 @@
+-- Where the core of a text ends: no core has a letter that stands outside, and what stands after one is the end or a bracket.
+use Rattle.std.proofs.Common.{◌≡◌, ℕ, suc, Bool, true, false, IsTrue, IsFalse, List, [], ◌∷◌, ◌++◌, Option, Some, None, refl, ◌∙◌, inl, inr, arith}
+use Rattle.std.proofs.Common.{append_assoc}
+use Rattle.std.proofs.lemmas.Bool.Decides.{nat_tests}
+use Rattle.ixdtf_grammar.specs.declared.records.DateRecord.{DateRecord}
+use Rattle.ixdtf_grammar.specs.declared.records.TimeRecord.{TimeRecord}
+use Rattle.ixdtf_grammar.specs.declared.records.UtcOffsetRecordOrZ.{UtcOffsetRecordOrZ}
+use Rattle.ixdtf_grammar.specs.language.Letters.{Text, opening, zulu, decimal_mark, time_letter, date_time_separator}
+use Rattle.ixdtf_grammar.specs.language.Fractions.{FractionParts, IsFraction}
+use Rattle.ixdtf_grammar.specs.language.Dates.{DateText}
+use Rattle.ixdtf_grammar.specs.language.Times.{Clock, Clock as clocks, TimeShape, SecondText, ClockOf}
+use Rattle.ixdtf_grammar.specs.language.Times.TimeShape.{hours, basic_minutes, colon_minutes, seconds, fractions}
+use Rattle.ixdtf_grammar.specs.language.Brackets.{ZoneNote, Opens, Pair, IsTail}
+use Rattle.ixdtf_grammar.specs.language.Cores.{Core, OptionalOffset, IsDateTimeCore, TimeMark, MarkedTime, IsCore}
+use Rattle.ixdtf_grammar.specs.language.Readers.{CoreKind}
+use Rattle.ixdtf_grammar.specs.language.Readers.CoreKind.{date_time, year_month, month_day, time_alone}
+use Rattle.ixdtf_grammar.proofs.parts.CoreLetters.{outside, AllInside, CoreEnds, inside_append, of_sign, in_one, in_digits, in_year, in_year_month, in_month_day}
+
+-- ---- what stands after a core
+
+opening_is : (c : ℕ) → IsTrue (opening c) → c ≡ 91
+opening_is c h = grind (arith, nat_tests, h)
+
+opens_end : (start more : Text) (critical : Bool) → Opens start critical → CoreEnds (start ++ more)
+opens_end start more true h = let same : h.3.0 ≡ 91 = opening_is h.3.0 h.3.2 in inr (h.1 ++ more, rw (h.2, h.3.1, same) refl)
+opens_end start more false h = let same : h.0 ≡ 91 = opening_is h.0 h.2 in inr (more, rw (h.1, same) refl)
+
+pub tail_ends : (text : Text) (zone : Option ZoneNote) (pairs : List Pair) → IsTail text zone pairs → CoreEnds text
+tail_ends text None [] h = inl (h.2 ∙ rw (h.3, h.4) refl)
+tail_ends text None (pair ∷ pairs) h = let p = h.4.3 in rw (h.2, h.3, h.4.2, p.is, append_assoc) (opens_end p.start _ pair.critical p.opens)
+tail_ends text (Some note) pairs h = let z = h.3 in rw (h.2, z.is, append_assoc) (opens_end z.start _ note.critical z.opens)
+
+-- ---- the parts of cores
+
+of_zulu : (c : ℕ) → IsTrue (zulu c) → IsFalse (outside c)
+of_zulu c h = grind (arith, nat_tests, h)
+
+of_mark : (c : ℕ) → IsTrue (decimal_mark c) → IsFalse (outside c)
+of_mark c h = grind (arith, nat_tests, h)
+
+of_time_letter : (c : ℕ) → IsTrue (time_letter c) → IsFalse (outside c)
+of_time_letter c h = grind (arith, nat_tests, h)
+
+of_separator : (c : ℕ) → IsTrue (date_time_separator c) → IsFalse (outside c)
+of_separator c h = grind (arith, nat_tests, h)
+
+in_date : (text : Text) (date : DateRecord) → DateText text date → AllInside text
+in_date text date (inl h) =
+    rw h.is (inside_append h.years _ (in_year h.years date.year h.year)
+    (inside_append h.months _ (in_digits 2 h.months h.month.0.0) (in_digits 2 h.days h.day.0)))
+in_date text date (inr h) =
+    rw h.is (inside_append h.years _ (in_year h.years date.year h.year)
+    (refl, inside_append h.months _ (in_digits 2 h.months h.month.0.0) (refl, in_digits 2 h.days h.day.0)))
+
+in_seconds : (clock : Clock) (text : Text) (time : TimeRecord) → SecondText clock text time → AllInside text
+in_seconds clock text time (inl h) =
+    rw h.is (inside_append h.hs _ (in_digits 2 h.hs h.hour.0) (inside_append h.ms _ (in_digits 2 h.ms h.minute.0) (in_digits 2 h.ss h.second.0)))
+in_seconds clock text time (inr h) =
+    rw h.is (inside_append h.hs _ (in_digits 2 h.hs h.hour.0) (refl, inside_append h.ms _ (in_digits 2 h.ms h.minute.0) (refl, in_digits 2 h.ss h.second.0)))
+
+in_fraction : (text : Text) (fraction : FractionParts) → IsFraction text fraction → AllInside text
+in_fraction text fraction h = rw h.is (of_mark h.mark h.marks, in_digits (suc h.some.0) h.ds h.some.1)
+
+in_clock : (clock : Clock) (shape : TimeShape) (text : Text) (time : TimeRecord) → ClockOf clock shape text time → AllInside text
+in_clock clock hours text time h = in_digits 2 text h.hour.0
+in_clock clock basic_minutes text time h = rw h.is (inside_append h.hs _ (in_digits 2 h.hs h.hour.0) (in_digits 2 h.ms h.minute.0))
+in_clock clock colon_minutes text time h = rw h.is (inside_append h.hs _ (in_digits 2 h.hs h.hour.0) (refl, in_digits 2 h.ms h.minute.0))
+in_clock clock seconds text time h = in_seconds clock text time h
+in_clock clock fractions text time h = rw h.is (inside_append h.whole _ (in_seconds clock h.whole _ h.second) (in_fraction h.part h.fraction h.is_fraction))
+
+in_offset : (text : Text) (offset : Option UtcOffsetRecordOrZ) → OptionalOffset text offset → AllInside text
+in_offset text None h = rw h tt
+in_offset text (Some offset) (inl h) = let o = h.1 in rw o.is (of_sign o.c o.sign, in_clock clocks.Offset o.shape o.body o.time o.clock)
+in_offset text (Some offset) (inr h) = in_one zulu of_zulu text h.0
+
+in_time_mark : (text : Text) → TimeMark text → AllInside text
+in_time_mark text (inl none) = rw none tt
+in_time_mark text (inr h) = in_one time_letter of_time_letter text h
+
+-- ---- cores
+
+in_date_time : (text : Text) (core : Core) → IsDateTimeCore text core → AllInside text
+in_date_time text core (inl h) = in_date text h.0 h.1.0
+in_date_time text core (inr h) =
+    rw h.is (inside_append h.dates _ (in_date h.dates h.date h.is_date.0)
+    (inside_append h.separator _ (in_one date_time_separator of_separator h.separator h.separates)
+    (inside_append h.times _ (in_clock clocks.Time h.is_time.0 h.times h.time h.is_time.1) (in_offset h.offsets h.offset h.is_offset))))
+
+in_marked_time : (text : Text) (core : Core) → MarkedTime text core → AllInside text
+in_marked_time text core h =
+    rw h.is (inside_append h.marks _ (in_time_mark h.marks h.mark)
+    (inside_append h.times _ (in_clock clocks.Time h.is_time.0 h.times h.time h.is_time.1) (in_offset h.offsets h.offset h.is_offset)))
+
+-- no core has a letter that stands outside
+pub core_inside : (kind : CoreKind) (text : Text) (core : Core) → IsCore kind text core → AllInside text
+core_inside date_time text core h = in_date_time text core h
+core_inside year_month text core h = in_year_month text h.0 h.1
+core_inside (month_day profile) text core h = in_month_day text h.0 h.1.0
+core_inside (time_alone profile) text core h = in_marked_time text core h.0

@@ -1,0 +1,84 @@
+-- A text has no more pairs than letters.
+use Rattle.std.proofs.Common.{◌≡◌, ℕ, ◌≤◌, List, [], ◌∷◌, ◌++◌, length, inl, inr, arith}
+use Rattle.std.proofs.lemmas.List.{length-append}
+use Rattle.ixdtf_grammar.specs.language.Letters.{Text}
+use Rattle.ixdtf_grammar.specs.language.Times.Clock.{Time, Offset, MinuteOffset}
+use Rattle.ixdtf_grammar.specs.language.Brackets.{Pair, IsPair, ArePairs}
+use Rattle.ixdtf_grammar.specs.language.Readers.{CoreKind}
+use Rattle.ixdtf_grammar.specs.language.Readers.Reader.{bracketed}
+use Rattle.ixdtf_grammar.specs.language.Languages.{Found, Derives}
+use Rattle.ixdtf_grammar.specs.language.Languages.Derives.{as_parsed}
+use Rattle.ixdtf_grammar.specs.table.Faults.{Fault}
+use Rattle.ixdtf_grammar.specs.table.LineNames.{LineName}
+use Rattle.ixdtf_grammar.specs.table.LineNames.ZoneLine.{identifier_start, zone_name_start, in_zone_name, after_zone_slash}
+use Rattle.ixdtf_grammar.specs.table.LineNames.BracketLine.{first_bracket_start, first_critical_start, first_bracket_scan, after_bracket}
+use Rattle.ixdtf_grammar.specs.table.LineNames.PairLine.{key_start, critical_key_start, in_key, value_start, in_value, after_value_hyphen}
+use Rattle.ixdtf_grammar.specs.table.LineNames.LineName.{of_core, of_clock, of_offset, of_zone, of_bracket, of_pair, of_duration}
+use Rattle.ixdtf_grammar.specs.table.Before.{BeforeBracketed, Bracketed, BeforeKey}
+use Rattle.ixdtf_grammar.specs.table.Outcomes.{HasFault}
+use Rattle.ixdtf_grammar.specs.Handlers.{Reply, GivesFault}
+
+-- a part of a text is no longer than it
+part_few : (front rest : Text) (n : ℕ) → n ≤ length rest → n ≤ length (front ++ rest)
+part_few front rest n few = omega (arith, length-append front rest, few)
+
+front_few : (front rest : Text) (n : ℕ) → n ≤ length front → n ≤ length (front ++ rest)
+front_few front rest n few = omega (arith, length-append front rest, few)
+
+-- a pair has a letter
+pair_some : (text : Text) (pair : Pair) → IsPair text pair → 1 ≤ length text
+pair_some text pair is = rw is.is (part_few is.start _ 1 (part_few is.keys _ 1 (omega arith)))
+
+are_few : (text : Text) (pairs : List Pair) → ArePairs text pairs → length pairs ≤ length text
+are_few text [] are = omega arith
+are_few text (pair ∷ pairs) (first, rest, is, one, are) = rw is
+    (omega (arith, length-append first rest, pair_some first pair one, are_few rest pairs are))
+
+bracketed_few : (kind : CoreKind) (pairs : List Pair) (before : Text) → Bracketed kind pairs before → length pairs ≤ length before
+bracketed_few kind pairs before (cores, brackets, is, core, _, (first, rest, whole, bracket, are), some) =
+    rw (is, whole) (part_few cores _ _ (part_few first rest _ (are_few rest pairs are)))
+
+none_few : (pairs : List Pair) (before : Text) → pairs ≡ [] → length pairs ≤ length before
+none_few pairs before none = rw none (omega arith)
+
+key_few : (kind : CoreKind) (pairs : List Pair) (before rest : Text) → BeforeKey kind pairs before rest → length pairs ≤ length before
+key_few kind pairs before rest (inl p) = none_few pairs before p.2
+key_few kind pairs before rest (inr (first, second, is, brackets, opens)) = rw is (front_few first second _ (bracketed_few kind pairs first brackets))
+
+before_few : (kind : CoreKind) (name : LineName) (pairs : List Pair) (before rest : Text) → BeforeBracketed kind name pairs before rest
+    → length pairs ≤ length before
+before_few kind (of_core line) pairs before rest p = none_few pairs before p.1
+before_few kind (of_clock Time line) pairs before rest p = none_few pairs before p.1
+before_few kind (of_clock Offset line) pairs before rest p = none_few pairs before p.1
+before_few kind (of_clock MinuteOffset line) pairs before rest p = none_few pairs before p.1
+before_few kind (of_offset line) pairs before rest p = none_few pairs before p.1
+before_few kind (of_zone identifier_start) pairs before rest p = absurd p
+before_few kind (of_zone zone_name_start) pairs before rest p = absurd p
+before_few kind (of_zone in_zone_name) pairs before rest p = none_few pairs before p.1
+before_few kind (of_zone after_zone_slash) pairs before rest p = none_few pairs before p.1
+before_few kind (of_bracket first_bracket_start) pairs before rest p = none_few pairs before p.1
+before_few kind (of_bracket first_critical_start) pairs before rest p = none_few pairs before p.1
+before_few kind (of_bracket first_bracket_scan) pairs before rest p = none_few pairs before p.1
+before_few kind (of_bracket after_bracket) pairs before rest p = bracketed_few kind pairs before p
+before_few kind (of_pair key_start) pairs before rest p = bracketed_few kind pairs before p
+before_few kind (of_pair critical_key_start) pairs before rest p = bracketed_few kind pairs before p
+before_few kind (of_pair in_key) pairs before rest p = key_few kind pairs before rest p
+before_few kind (of_pair value_start) pairs before rest p = key_few kind pairs before rest p
+before_few kind (of_pair in_value) pairs before rest p = key_few kind pairs before rest p
+before_few kind (of_pair after_value_hyphen) pairs before rest p = key_few kind pairs before rest p
+before_few kind (of_duration profile line) pairs before rest p = absurd p
+
+fault_few : (kind : CoreKind) (text : Text) (pairs : List Pair) (fault : Fault) → HasFault (bracketed kind) text pairs fault → length pairs ≤ length text
+fault_few kind text pairs fault (row, (before, rest, is, stands, here), has) =
+    rw is (front_few before rest _ (before_few kind row.name pairs before rest stands))
+
+-- the pairs of a text that is derived
+pub derived_few : (kind : CoreKind) (text : Text) (found : Found) (pairs : List Pair) → Derives (bracketed kind) text found pairs → length pairs ≤ length text
+derived_few kind text found pairs (as_parsed whole) = let tail = whole.is_tail in
+    rw (whole.is, tail.2) (part_few whole.cores _ _ (part_few tail.0 tail.1 _ (are_few tail.1 pairs tail.4)))
+
+-- the pairs before a fault
+pub gives_few : (kind : CoreKind) (text : Text) (pairs : List Pair) (replies : List Reply) (fault : Fault)
+    → GivesFault (bracketed kind) text pairs replies fault → length pairs ≤ length text
+gives_few kind text pairs replies fault (inl ((front, rest, is, read, whole), last)) = rw is (front_few front rest _ (derived_few kind front _ pairs whole))
+gives_few kind text pairs replies fault (inr p) = fault_few kind text pairs fault p.0

@@ -1,0 +1,145 @@
+-- The errors that no row of the fault table has: those that never come, and those of refused replies.
+use Rattle.std.proofs.Common.{◌≡◌, ℕ, Bool, true, false, ◌||◌, cond, IsFalse, List, refl, sym, ap, ◌∙◌, ◌≢◌}
+use Rattle.ixdtf_grammar.specs.language.Letters.{Text}
+use Rattle.ixdtf_grammar.specs.language.Letters.{hyphen, colon, digit}
+use Rattle.ixdtf_grammar.specs.language.Times.{Clock}
+use Rattle.ixdtf_grammar.specs.language.Times.{Clock as clocks}
+use Rattle.ixdtf_grammar.specs.language.Durations.{Half}
+use Rattle.ixdtf_grammar.specs.language.Durations.{Half as halves}
+use Rattle.ixdtf_grammar.specs.table.Faults.{Fault, never_comes, is_refusal}
+use Rattle.ixdtf_grammar.specs.table.Faults.Fault.{UnrecognizedCritical, CriticalDuplicateCalendar, DateSeparator, DateDay, InvalidEnd, IanaChar}
+use Rattle.ixdtf_grammar.specs.language.Brackets.{Pair}
+use Rattle.ixdtf_grammar.specs.language.Readers.{Reader, has_brackets}
+use Rattle.ixdtf_grammar.specs.table.LineNames.{LineName}
+use Rattle.ixdtf_grammar.specs.table.LineNames.DateLine.{minus_zero_year}
+use Rattle.ixdtf_grammar.specs.table.LineNames.DateLine.{month_range, after_basic_month, day_range, after_date}
+use Rattle.ixdtf_grammar.specs.table.LineNames.YearMonthLine.{after_year_month}
+use Rattle.ixdtf_grammar.specs.table.LineNames.MonthDayLine.{month_day_month_range}
+use Rattle.ixdtf_grammar.specs.table.LineNames.MonthDayLine.{month_day_range, after_month_day}
+use Rattle.ixdtf_grammar.specs.table.LineNames.TimeLine.{time_reads_as_month_day, time_reads_as_year_month}
+use Rattle.ixdtf_grammar.specs.table.LineNames.ClockLine.{hour_range, after_hour, minute_range, after_basic_minute}
+use Rattle.ixdtf_grammar.specs.table.LineNames.ClockLine.{after_colon_minute, second_digits, second_range, after_second, after_fraction}
+use Rattle.ixdtf_grammar.specs.table.LineNames.OffsetLine.{after_zulu}
+use Rattle.ixdtf_grammar.specs.table.LineNames.ZoneLine.{in_zone_name}
+use Rattle.ixdtf_grammar.specs.table.LineNames.BracketLine.{first_bracket_scan, after_bracket}
+use Rattle.ixdtf_grammar.specs.table.LineNames.PairLine.{key_start}
+use Rattle.ixdtf_grammar.specs.table.LineNames.DurationLine.{after_date_groups}
+use Rattle.ixdtf_grammar.specs.table.LineNames.DurationLine.{group_digits, group_value_range, unit_order, date_unit_range}
+use Rattle.ixdtf_grammar.specs.table.LineNames.DurationLine.{after_time_groups, after_fraction_group}
+use Rattle.ixdtf_grammar.specs.table.LineNames.{of_date, of_year_month, of_month_day, of_time}
+use Rattle.ixdtf_grammar.specs.table.LineNames.LineName.{of_clock, of_offset, of_zone, of_bracket, of_pair, of_duration}
+use Rattle.ixdtf_grammar.specs.table.Lines.{Line, Ending, Follow, follow_of, mixed, second_fault, zone_line, no_designator, order_fault, line_of}
+use Rattle.ixdtf_grammar.specs.table.Lines.Line.{line, scanned, whole}
+use Rattle.ixdtf_grammar.specs.table.Lines.Ending.{ok, error}
+use Rattle.ixdtf_grammar.specs.table.Rows.{Place, Stops}
+use Rattle.ixdtf_grammar.specs.table.Rows.Place.{end, other, bad, anywhere}
+use Rattle.ixdtf_grammar.specs.table.Outcomes.{HasFault}
+use Rattle.std.proofs.lemmas.Bool.{both_ways, or_parts}
+
+abbrev no_row : Fault → Bool
+no_row fault = never_comes fault || is_refusal fault
+
+abbrev EndHas : Ending → Type 0
+EndHas ok = Unit {0}
+EndHas (error fault) = IsFalse (no_row fault)
+
+-- each error of the line is one that a row may have
+abbrev LineHas : Line → Type 0
+LineHas (line front goes_on at_end at_other) = EndHas at_end × ((c : ℕ) → IsFalse (no_row (at_other c)))
+LineHas (scanned front fault) = IsFalse (no_row fault)
+LineHas (whole front fault) = IsFalse (no_row fault)
+
+either_has : (b : Bool) (x y : Fault) → IsFalse (no_row x) → IsFalse (no_row y) → IsFalse (no_row (cond b x y))
+either_has true x y p q = p
+either_has false x y p q = q
+
+-- each error of what may follow is one that a row may have
+abbrev FollowHas : Follow → Type 0
+FollowHas follow = EndHas follow.at_end × IsFalse (no_row follow.at_other)
+
+follow_has : (brackets : Bool) (clock : Clock) → FollowHas (follow_of brackets clock)
+follow_has true clocks.MinuteOffset = (refl, refl)
+follow_has brackets clock = (tt, refl)
+
+clock_has : (clock : Clock) → IsFalse (no_row (mixed clock)) × IsFalse (no_row (second_fault clock))
+clock_has clocks.Time = (refl, refl)
+clock_has clocks.Offset = (refl, refl)
+clock_has clocks.MinuteOffset = (refl, refl)
+
+zone_has : (brackets : Bool) → LineHas (zone_line brackets in_zone_name)
+zone_has true = (refl, λ c. refl)
+zone_has false = (tt, λ c. either_has _ InvalidEnd IanaChar refl refl)
+
+half_has : (half : Half) → IsFalse (no_row (no_designator half)) × IsFalse (no_row (order_fault half))
+half_has halves.date = (refl, refl)
+half_has halves.time = (refl, refl)
+
+line_has : (brackets : Bool) (name : LineName) → LineHas (line_of brackets name)
+line_has brackets (of_date minus_zero_year) = refl
+line_has brackets (of_date month_range) = refl
+line_has brackets (of_date after_basic_month) = (refl, λ c. either_has (hyphen c) DateSeparator DateDay refl refl)
+line_has brackets (of_date day_range) = refl
+line_has brackets (of_date after_date) = (tt, λ c. refl)
+line_has brackets (of_year_month after_year_month) = (tt, λ c. refl)
+line_has brackets (of_month_day month_day_month_range) = refl
+line_has brackets (of_month_day (month_day_range profile)) = refl
+line_has brackets (of_month_day (after_month_day profile)) = (tt, λ c. refl)
+line_has brackets (of_time (time_reads_as_month_day profile)) = refl
+line_has brackets (of_time time_reads_as_year_month) = refl
+line_has brackets (of_clock clock hour_range) = refl
+line_has brackets (of_clock clock after_hour) = let f = follow_has brackets clock in (f.0, λ c. f.1)
+line_has brackets (of_clock clock minute_range) = refl
+line_has brackets (of_clock clock after_basic_minute) =
+    let f = follow_has brackets clock in (f.0, λ c. either_has (colon c || digit c) (mixed clock) (follow_of brackets clock).at_other (clock_has clock).0 f.1)
+line_has brackets (of_clock clock after_colon_minute) =
+    let f = follow_has brackets clock in (f.0, λ c. either_has (colon c || digit c) (mixed clock) (follow_of brackets clock).at_other (clock_has clock).0 f.1)
+line_has brackets (of_clock clock second_digits) = (refl, λ c. (clock_has clock).1)
+line_has brackets (of_clock clock second_range) = (clock_has clock).1
+line_has brackets (of_clock clock after_second) = let f = follow_has brackets clock in (f.0, λ c. f.1)
+line_has brackets (of_clock clock after_fraction) = let f = follow_has brackets clock in (f.0, λ c. f.1)
+line_has brackets (of_offset after_zulu) = (tt, λ c. refl)
+line_has brackets (of_zone in_zone_name) = zone_has brackets
+line_has brackets (of_bracket first_bracket_scan) = refl
+line_has brackets (of_bracket after_bracket) = (tt, λ c. refl)
+line_has brackets (of_pair key_start) = (refl, λ c. refl)
+line_has brackets (of_duration profile after_date_groups) = (tt, λ c. refl)
+line_has brackets (of_duration profile (group_digits half)) = let has = (half_has half).0 in (has, λ c. has)
+line_has brackets (of_duration profile (group_value_range half)) = refl
+line_has brackets (of_duration profile (unit_order half)) = (half_has half).1
+line_has brackets (of_duration profile date_unit_range) = refl
+line_has brackets (of_duration profile after_time_groups) = (tt, λ c. refl)
+line_has brackets (of_duration profile after_fraction_group) = (tt, λ c. refl)
+line_has brackets name = (refl, λ c. refl)
+
+end_has : (at_end : Ending) (fault : Fault) → EndHas at_end → at_end ≡ error fault → IsFalse (no_row fault)
+end_has ok fault has is = absurd cc
+end_has (error e) fault has is = let same : e ≡ fault = cc in ap no_row (sym same) ∙ has
+
+stop_has : (l : Line) (place : Place) (fault : Fault) (rest : Text) → LineHas l → Stops l place fault rest → IsFalse (no_row fault)
+stop_has (line front goes_on at_end at_other) end fault rest has h = end_has at_end fault has.0 h.1
+stop_has (line front goes_on at_end at_other) other fault rest has h = ap no_row h.4 ∙ has.1 h.0
+stop_has (line front goes_on at_end at_other) bad fault rest has h = ap no_row h.2
+stop_has (scanned front e) end fault rest has h = ap no_row h.1 ∙ has
+stop_has (scanned front e) bad fault rest has h = ap no_row h.2
+stop_has (whole front e) anywhere fault rest has h = ap no_row h ∙ has
+stop_has l place fault rest has h = absurd h
+
+row_has : (reader : Reader) (text : Text) (pairs : List Pair) (fault : Fault) → HasFault reader text pairs fault → IsFalse (no_row fault)
+row_has reader text pairs fault h =
+    let row = h.0 in
+    let here = h.1.4 in
+    ap no_row (sym h.2) ∙ stop_has _ row.place row.error here.1 (line_has (has_brackets reader) row.name) here.4
+
+-- a fault that a text has is one that comes
+pub fault_comes : (reader : Reader) (text : Text) (pairs : List Pair) (fault : Fault) → HasFault reader text pairs fault → IsFalse (never_comes fault)
+fault_comes reader text pairs fault h = (or_parts _ _ (row_has reader text pairs fault h)).0
+
+-- a fault that a text has is no refusal of a reply
+pub fault_refuses_none : (reader : Reader) (text : Text) (pairs : List Pair) (fault : Fault) → HasFault reader text pairs fault → IsFalse (is_refusal fault)
+fault_refuses_none reader text pairs fault h = (or_parts _ _ (row_has reader text pairs fault h)).1
+
+pub row_is_no_refusal : (reader : Reader) (text : Text) (pairs : List Pair) (fault : Fault) → HasFault reader text pairs fault
+    → (fault ≢ UnrecognizedCritical) × (fault ≢ CriticalDuplicateCalendar)
+row_is_no_refusal reader text pairs fault h =
+    let never : ¬ (is_refusal fault ≡ true) = both_ways _ (fault_refuses_none reader text pairs fault h) in
+    (λ is. never (ap is_refusal is), λ is. never (ap is_refusal is))

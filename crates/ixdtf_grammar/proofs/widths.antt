@@ -1,0 +1,5 @@
+-- widths.
+pub mod FirstBad
+pub mod PlainDurations
+pub mod PlainLines
+pub mod PlainTexts

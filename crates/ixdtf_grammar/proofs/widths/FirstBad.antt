@@ -1,0 +1,116 @@
+-- What holds of a text with Bad in it holds of each text with the same letters before the first Bad.
+use Rattle.std.proofs.Common.{◌≡◌, ◌⊎◌, [], ◌∷◌, ◌++◌, refl, ◌∙◌, ap, subst, inl, inr}
+use Rattle.ixdtf_grammar.specs.language.Letters.{Text, Class}
+use Rattle.ixdtf_grammar.specs.language.Letters.Letter.{Plain, Bad}
+use Rattle.ixdtf_grammar.specs.language.Shapes.{Shape, nothing, ◌then◌, ◌either◌, anything}
+use Rattle.ixdtf_grammar.specs.language.Brackets.{FirstIs}
+use Rattle.ixdtf_grammar.specs.table.Faults.{Fault}
+use Rattle.ixdtf_grammar.specs.table.Faults.Fault.{NonAsciiCodePoint}
+use Rattle.ixdtf_grammar.specs.table.Lines.{Line}
+use Rattle.ixdtf_grammar.specs.table.Lines.Line.{line, scanned, whole}
+use Rattle.ixdtf_grammar.specs.table.Rows.{Place, Stops}
+use Rattle.ixdtf_grammar.specs.table.Rows.Place.{end, other, bad, anywhere}
+use Rattle.ixdtf_grammar.proofs.widths.PlainTexts.{IsPlain, PlainShape, plain_nowhere, plain_one, plain_many}
+
+-- The text has a Bad, and the other text has the letters before the first one.
+abbrev pub Sees : Text → Text → Type 0
+Sees [] other_text = ⊥
+Sees (Bad ∷ rest) other_text = Unit {0}
+Sees (Plain c ∷ rest) other_text = (more : Text) × (other_text ≡ Plain c ∷ more) × Sees rest more
+
+pub plain_sees_nothing : (text other_text : Text) → IsPlain text → ¬ (Sees text other_text)
+plain_sees_nothing [] other_text plain sees = sees
+plain_sees_nothing (Bad ∷ text) other_text plain sees = plain
+plain_sees_nothing (Plain c ∷ text) other_text plain sees = plain_sees_nothing text sees.0 plain sees.2
+
+-- what is plain in front of a text with Bad is in front of the other
+pub sees_after : (front rest other_text : Text) → IsPlain front → Sees (front ++ rest) other_text
+    → (more : Text) × (other_text ≡ front ++ more) × Sees rest more
+sees_after [] rest other_text plain sees = (other_text, refl, sees)
+sees_after (Bad ∷ front) rest other_text plain sees = absurd plain
+sees_after (Plain c ∷ front) rest other_text plain sees =
+    let next = sees_after front rest sees.0 plain sees.2 in
+    (next.0, sees.1 ∙ ap (λ t. Plain c ∷ t) next.1, next.2)
+
+-- ---- what a text has up to the first Bad
+
+-- where the text has the shape, so has the other
+pub record Moves (shape : Shape) : Type 0 where
+  pub moved : (text other_text : Text) → Sees text other_text → shape text → shape other_text
+
+pub moves_anything : Moves anything
+moves_anything = record { moved = λ text other_text sees h. tt }
+
+pub moves_nothing : Moves nothing
+moves_nothing = record { moved = λ text other_text sees h. absurd (subst (λ t. Sees t other_text) h sees) }
+
+pub moves_then : {a b : Shape} → PlainShape a → Moves b → Moves (a then b)
+moves_then x y = record {
+  moved = λ text other_text sees h.
+      let next = sees_after h.0 h.1 other_text (x.plain h.0 h.3) (rw (← h.2) sees) in
+      (h.0, next.0, next.1, h.3, y.moved h.1 next.0 next.2 h.4);
+}
+
+pub moves_either : {a b : Shape} → Moves a → Moves b → Moves (a either b)
+moves_either x y = record {
+  moved = λ text other_text sees h. elim h [
+    | inl p ↦ inl (x.moved text other_text sees p)
+    | inr p ↦ inr (y.moved text other_text sees p)
+  ];
+}
+
+pub moves_first : {class : Class} → Moves (FirstIs class)
+moves_first = moves_then (plain_many plain_one) (moves_then plain_one moves_anything)
+
+-- ---- what stands before a front, and from it on
+
+-- What stands before is plain, and what is known of the rest is known of the other.
+pub record Stands (known : Text → Text → Type 0) : Type 0 where
+  pub plain : (before rest : Text) → known before rest → IsPlain before
+  pub moved : (before rest other_rest : Text) → Sees rest other_rest → known before rest → known before other_rest
+
+-- nothing is asked of the rest
+pub alone : {shape : Shape} → PlainShape shape → Stands (λ before rest. shape before)
+alone x = record { plain = λ before rest h. x.plain before h; moved = λ before rest other_rest sees h. h }
+
+-- something is asked of the rest
+pub ahead : {shape seen : Shape} → PlainShape shape → Moves seen → Stands (λ before rest. shape before × seen rest)
+ahead x y = record { plain = λ before rest h. x.plain before h.0; moved = λ before rest other_rest sees h. (h.0, y.moved rest other_rest sees h.1) }
+
+-- the same, and more is known
+pub ahead_where : {shape seen : Shape} {more : Type 0} → PlainShape shape → Moves seen → Stands (λ before rest. shape before × seen rest × more)
+ahead_where x y = record { plain = λ before rest h. x.plain before h.0; moved = λ before rest other_rest sees h. (h.0, y.moved rest other_rest sees h.1, h.2) }
+
+-- more is known
+pub besides : {known : Text → Text → Type 0} {more : Type 0} → Stands known → Stands (λ before rest. known before rest × more)
+besides x = record { plain = λ before rest h. x.plain before rest h.0; moved = λ before rest other_rest sees h. (x.moved before rest other_rest sees h.0, h.1) }
+
+pub stands_either : {known known' : Text → Text → Type 0} → Stands known → Stands known' → Stands (λ before rest. known before rest ⊎ known' before rest)
+stands_either x y = record {
+  plain = λ before rest h. elim h [
+    | inl p ↦ x.plain before rest p
+    | inr p ↦ y.plain before rest p
+  ];
+  moved = λ before rest other_rest sees h. elim h [
+    | inl p ↦ inl (x.moved before rest other_rest sees p)
+    | inr p ↦ inr (y.moved before rest other_rest sees p)
+  ];
+}
+
+-- the line is not looked at
+pub never : Stands (λ before rest. ⊥)
+never = alone plain_nowhere
+
+-- ---- where a row stops
+
+-- a row stops at a Bad, or at the same place in the other text
+pub stops_move : (l : Line) (place : Place) (fault : Fault) (rest other_rest : Text) → Sees rest other_rest → Stops l place fault rest
+    → (fault ≡ NonAsciiCodePoint) ⊎ Stops l place fault other_rest
+stops_move (line front goes_on at_end at_other) end fault rest other_rest sees h = absurd (subst (λ t. Sees t other_rest) h.0 sees)
+stops_move (line front goes_on at_end at_other) other fault rest other_rest sees h =
+    let next = subst (λ t. Sees t other_rest) h.2 sees in inr (h.0, next.0, next.1, h.3, h.4)
+stops_move (line front goes_on at_end at_other) bad fault rest other_rest sees h = inl h.2
+stops_move (scanned front e) end fault rest other_rest sees h = absurd (subst (λ t. Sees t other_rest) h.0 sees)
+stops_move (scanned front e) bad fault rest other_rest sees h = inl h.2
+stops_move (whole front e) anywhere fault rest other_rest sees h = inr h
+stops_move l place fault rest other_rest sees h = absurd h

@@ -1,0 +1,164 @@
+-- The front of each line is plain.
+use Rattle.std.proofs.Common.{Bool}
+use Rattle.ixdtf_grammar.specs.declared.profile.Profile.{Profile}
+use Rattle.ixdtf_grammar.specs.language.Shapes.{some}
+use Rattle.ixdtf_grammar.specs.language.Times.{Clock, TimeShape, BasicMinuteText, ColonMinuteText, ClockOf}
+use Rattle.ixdtf_grammar.specs.language.Times.Clock.{Time}
+use Rattle.ixdtf_grammar.specs.language.Times.TimeShape.{hours, basic_minutes, colon_minutes, seconds, fractions}
+use Rattle.ixdtf_grammar.specs.table.LineNames.{DateLine, YearMonthLine, MonthDayLine, TimeLine, CoreLine, ClockLine, OffsetLine, ZoneLine, BracketLine, PairLine}
+use Rattle.ixdtf_grammar.specs.table.LineNames.{DurationLine, LineName}
+use Rattle.ixdtf_grammar.specs.table.LineNames.DateLine.{year_start, year_digits, extended_year_digits, minus_zero_year, after_year, month_digits, month_range}
+use Rattle.ixdtf_grammar.specs.table.LineNames.DateLine.{after_hyphened_month, after_basic_month, day_digits, day_range, after_date}
+use Rattle.ixdtf_grammar.specs.table.LineNames.YearMonthLine.{after_year_in_year_month, after_year_month}
+use Rattle.ixdtf_grammar.specs.table.LineNames.MonthDayLine.{month_day_start, month_day_hyphen, month_day_month_digits, month_day_month_range}
+use Rattle.ixdtf_grammar.specs.table.LineNames.MonthDayLine.{after_month_day_month, month_day_day_digits, month_day_range, after_month_day}
+use Rattle.ixdtf_grammar.specs.table.LineNames.TimeLine.{time_start, time_reads_as_month_day, time_reads_as_year_month}
+use Rattle.ixdtf_grammar.specs.table.LineNames.CoreLine.{dates, year_months, month_days, times}
+use Rattle.ixdtf_grammar.specs.table.LineNames.ClockLine.{hour_start, hour_digit, hour_range, after_hour, minute_digits, minute_range, after_basic_minute}
+use Rattle.ixdtf_grammar.specs.table.LineNames.ClockLine.{after_colon_minute, second_digits, second_range, after_second, fraction_start, after_fraction}
+use Rattle.ixdtf_grammar.specs.table.LineNames.OffsetLine.{offset_start, after_zulu}
+use Rattle.ixdtf_grammar.specs.table.LineNames.ZoneLine.{identifier_start, zone_name_start, in_zone_name, after_zone_slash}
+use Rattle.ixdtf_grammar.specs.table.LineNames.BracketLine.{first_bracket_start, first_critical_start, first_bracket_scan, after_bracket}
+use Rattle.ixdtf_grammar.specs.table.LineNames.PairLine.{key_start, critical_key_start, in_key, value_start, in_value, after_value_hyphen}
+use Rattle.ixdtf_grammar.specs.table.LineNames.DurationLine.{duration_start, after_duration_sign, after_duration_designator, after_date_groups}
+use Rattle.ixdtf_grammar.specs.table.LineNames.DurationLine.{after_time_designator, group_digits, group_value_range, unit_order, date_unit_range}
+use Rattle.ixdtf_grammar.specs.table.LineNames.DurationLine.{group_fraction_start, group_fraction_digits, after_time_groups, after_fraction_group}
+use Rattle.ixdtf_grammar.specs.table.LineNames.LineName.{of_core, of_clock, of_offset, of_zone, of_bracket, of_pair, of_duration}
+use Rattle.ixdtf_grammar.specs.table.Lines.{Follow, date_line, year_month_line, month_day_line, time_line, core_line, clock_line, offset_line, zone_line, bracket_line}
+use Rattle.ixdtf_grammar.specs.table.Lines.{pair_line, duration_line}
+use Rattle.ixdtf_grammar.specs.table.Lines.{Hour, line_of}
+use Rattle.ixdtf_grammar.specs.table.Rows.{front_of}
+use Rattle.ixdtf_grammar.proofs.widths.PlainTexts.{PlainShape, plain_nothing, plain_one, ◌and_then◌, ◌or_else◌, plain_digits, plain_fewer, plain_some_digits}
+use Rattle.ixdtf_grammar.proofs.widths.PlainTexts.{plain_many}
+use Rattle.ixdtf_grammar.proofs.widths.PlainTexts.{plain_with, plain_where, plain_some, year_plain, month_plain, date_text_plain, date_plain, plain_hyphen, plain_marks}
+use Rattle.ixdtf_grammar.proofs.widths.PlainTexts.{year_month_plain, month_day_text_plain, month_day_plain, clock_plain, plain_name, plain_key, plain_value}
+use Rattle.ixdtf_grammar.proofs.widths.PlainDurations.{designator_plain, plain_number, plain_in_context, plain_after_dates, plain_after_time, plain_after_times}
+use Rattle.ixdtf_grammar.proofs.widths.PlainDurations.{plain_value_past, plain_out_of_order, plain_unit_past, plain_last_group}
+
+-- ---- cores
+
+plain_date_line : (name : DateLine) → PlainShape (front_of (date_line name))
+plain_date_line year_start = plain_nothing
+plain_date_line year_digits = plain_one and_then plain_fewer
+plain_date_line extended_year_digits = plain_one and_then plain_fewer
+plain_date_line minus_zero_year = plain_one and_then plain_with (plain_digits 6)
+plain_date_line after_year = plain_some year_plain
+plain_date_line month_digits = plain_some year_plain and_then (plain_one or_else plain_one and_then plain_one or_else plain_one)
+plain_date_line month_range = plain_some year_plain and_then (plain_nothing or_else plain_one) and_then plain_with (plain_digits 2)
+plain_date_line after_hyphened_month = plain_some year_plain and_then plain_one and_then plain_some month_plain
+plain_date_line after_basic_month = plain_some year_plain and_then plain_some month_plain
+plain_date_line day_digits =
+    plain_some year_plain and_then plain_some month_plain and_then plain_one
+    or_else plain_some year_plain and_then plain_one and_then plain_some month_plain and_then plain_one and_then plain_fewer
+plain_date_line day_range = plain_some (λ text date h. date_text_plain text date h.0)
+plain_date_line after_date = plain_some date_plain
+
+plain_year_month_line : (name : YearMonthLine) → PlainShape (front_of (year_month_line name))
+plain_year_month_line after_year_in_year_month = plain_some year_plain
+plain_year_month_line after_year_month = plain_some year_month_plain
+
+plain_month_day_line : (name : MonthDayLine) → PlainShape (front_of (month_day_line name))
+plain_month_day_line month_day_start = plain_nothing
+plain_month_day_line month_day_hyphen = plain_one
+plain_month_day_line month_day_month_digits = plain_one and_then plain_one or_else plain_marks and_then plain_one
+plain_month_day_line month_day_month_range = plain_marks and_then plain_with (plain_digits 2)
+plain_month_day_line after_month_day_month = plain_marks and_then plain_some month_plain
+plain_month_day_line month_day_day_digits = plain_marks and_then plain_some month_plain and_then (plain_one or_else plain_hyphen and_then plain_one)
+plain_month_day_line (month_day_range profile) = plain_some (λ text date h. month_day_text_plain text date h.0)
+plain_month_day_line (after_month_day profile) = plain_some (month_day_plain profile)
+
+plain_time_line : (name : TimeLine) → PlainShape (front_of (time_line name))
+plain_time_line time_start = plain_nothing
+plain_time_line (time_reads_as_month_day profile) = plain_some (month_day_plain profile)
+plain_time_line time_reads_as_year_month = plain_some year_month_plain
+
+plain_core_line : (name : CoreLine) → PlainShape (front_of (core_line name))
+plain_core_line (dates name) = plain_date_line name
+plain_core_line (year_months name) = plain_year_month_line name
+plain_core_line (month_days name) = plain_month_day_line name
+plain_core_line (times name) = plain_time_line name
+
+-- ---- times, and offsets after their sign
+
+plain_clock : (clock : Clock) (shape : TimeShape) → PlainShape (some (ClockOf clock shape))
+plain_clock clock shape = plain_some (clock_plain clock shape)
+
+plain_hour : PlainShape (some Hour)
+plain_hour = plain_some (λ text hour h. (plain_digits 2).plain text h.0)
+
+-- a minute, before the digits of a second
+plain_minute : PlainShape (some BasicMinuteText)
+plain_minute = plain_some (clock_plain Time basic_minutes)
+
+colon_minute : PlainShape (some ColonMinuteText)
+colon_minute = plain_some (clock_plain Time colon_minutes)
+
+plain_clock_line : (follow : Follow) (clock : Clock) (name : ClockLine) → PlainShape (front_of (clock_line follow clock name))
+plain_clock_line follow clock hour_start = plain_nothing
+plain_clock_line follow clock hour_digit = plain_one
+plain_clock_line follow clock hour_range = plain_with (plain_digits 2)
+plain_clock_line follow clock after_hour = plain_clock clock hours
+plain_clock_line follow clock minute_digits = plain_hour and_then (plain_one or_else plain_one and_then plain_one or_else plain_one)
+plain_clock_line follow clock minute_range = plain_hour and_then (plain_nothing or_else plain_one) and_then plain_with (plain_digits 2)
+plain_clock_line follow clock after_basic_minute = plain_clock clock basic_minutes
+plain_clock_line follow clock after_colon_minute = plain_clock clock colon_minutes
+plain_clock_line follow clock second_digits = plain_where (plain_minute and_then plain_one or_else colon_minute and_then plain_one and_then plain_fewer)
+plain_clock_line follow clock second_range =
+    plain_where (plain_minute and_then plain_with (plain_digits 2) or_else colon_minute and_then plain_one and_then plain_with (plain_digits 2))
+plain_clock_line follow clock after_second = plain_clock clock seconds
+plain_clock_line follow clock fraction_start = plain_clock clock seconds and_then plain_one
+plain_clock_line follow clock after_fraction = plain_clock clock fractions
+
+-- ---- offsets, zones and brackets
+
+plain_offset_line : (name : OffsetLine) → PlainShape (front_of (offset_line name))
+plain_offset_line offset_start = plain_nothing
+plain_offset_line after_zulu = plain_one
+
+plain_zone_line : (brackets : Bool) (name : ZoneLine) → PlainShape (front_of (zone_line brackets name))
+plain_zone_line brackets identifier_start = plain_nothing
+plain_zone_line brackets zone_name_start = plain_nothing
+plain_zone_line brackets in_zone_name = plain_name
+plain_zone_line brackets after_zone_slash = plain_name and_then plain_one
+
+plain_bracket_line : (name : BracketLine) → PlainShape (front_of (bracket_line name))
+plain_bracket_line first_bracket_start = plain_one
+plain_bracket_line first_critical_start = plain_one and_then plain_one
+plain_bracket_line first_bracket_scan = plain_one and_then plain_many plain_one
+plain_bracket_line after_bracket = plain_nothing
+
+plain_pair_line : (name : PairLine) → PlainShape (front_of (pair_line name))
+plain_pair_line key_start = plain_one
+plain_pair_line critical_key_start = plain_one and_then plain_one
+plain_pair_line in_key = plain_key
+plain_pair_line value_start = plain_key and_then plain_one
+plain_pair_line in_value = plain_key and_then plain_one and_then plain_value
+plain_pair_line after_value_hyphen = plain_key and_then plain_one and_then plain_value and_then plain_one
+
+-- ---- durations
+
+plain_duration_line : (profile : Profile) (name : DurationLine) → PlainShape (front_of (duration_line profile name))
+plain_duration_line profile duration_start = plain_nothing
+plain_duration_line profile after_duration_sign = plain_one
+plain_duration_line profile after_duration_designator = plain_some designator_plain
+plain_duration_line profile after_date_groups = plain_after_dates profile
+plain_duration_line profile after_time_designator = plain_after_time profile
+plain_duration_line profile after_time_groups = plain_after_times profile
+plain_duration_line profile (group_digits half) = plain_in_context profile (λ context. plain_number)
+plain_duration_line profile (group_value_range half) = plain_in_context profile (λ context. plain_value_past)
+plain_duration_line profile (unit_order half) = plain_in_context profile (plain_out_of_order profile half)
+plain_duration_line profile date_unit_range = plain_in_context profile (plain_unit_past profile)
+plain_duration_line profile group_fraction_start = plain_in_context profile (λ context. plain_number and_then plain_one)
+plain_duration_line profile group_fraction_digits = plain_in_context profile (λ context. plain_number and_then plain_one and_then plain_some_digits)
+plain_duration_line profile after_fraction_group = plain_in_context profile (plain_last_group profile)
+
+-- ---- any line
+
+pub plain_line : (brackets : Bool) (name : LineName) → PlainShape (front_of (line_of brackets name))
+plain_line brackets (of_core name) = plain_core_line name
+plain_line brackets (of_clock clock name) = plain_clock_line _ clock name
+plain_line brackets (of_offset name) = plain_offset_line name
+plain_line brackets (of_zone name) = plain_zone_line brackets name
+plain_line brackets (of_bracket name) = plain_bracket_line name
+plain_line brackets (of_pair name) = plain_pair_line name
+plain_line brackets (of_duration profile name) = plain_duration_line profile name

@@ -1,0 +1,125 @@
+-- What the laws say, each for every text.
+use Rattle.std.specs.Prelude.{◌≡◌, ◌≢◌, ◌↔◌, ℕ, Bool, IsTrue, List, [], ◌∷◌, ◌++◌, map, Result, Ok, Err}
+use Rattle.std.specs.Cmp.{IsEquivalence}
+use Rattle.ixdtf_grammar.specs.declared.profile.Profile.{Profile}
+use Rattle.ixdtf_grammar.specs.declared.records.MinutePrecisionOffset.{MinutePrecisionOffset}
+use Rattle.ixdtf_grammar.specs.declared.records.UtcOffsetRecord.{UtcOffsetRecord}
+use Rattle.ixdtf_grammar.specs.declared.records.UtcOffsetRecord.TheVariants.{MinutePrecision}
+use Rattle.ixdtf_grammar.specs.Handlers.{Reply, GivesRecord, GivesFault, UnhandledRecord}
+use Rattle.ixdtf_grammar.specs.language.Brackets.{Pair}
+use Rattle.ixdtf_grammar.specs.language.Dates.{Year, Month}
+use Rattle.ixdtf_grammar.specs.language.Languages.{Parsed, Found, Derives}
+use Rattle.ixdtf_grammar.specs.language.Languages.Found.{parsed, shifted, identified, named}
+use Rattle.ixdtf_grammar.specs.language.Letters.{Text}
+use Rattle.ixdtf_grammar.specs.language.Letters.Letter.{Plain}
+use Rattle.ixdtf_grammar.specs.language.Readers.{Reader, CoreKind, parse}
+use Rattle.ixdtf_grammar.specs.language.Readers.CoreKind.{date_time, year_month, month_day, time_alone}
+use Rattle.ixdtf_grammar.specs.language.Readers.Reader.{bracketed, parse_offset, parse_identifier, parse_iana_identifier, parse_duration}
+use Rattle.ixdtf_grammar.specs.language.Rfc3339.{IsRfcDateTime}
+use Rattle.ixdtf_grammar.specs.language.Shapes.{digits, some}
+use Rattle.ixdtf_grammar.specs.language.ZoneNames.{Zone}
+use Rattle.ixdtf_grammar.specs.language.ZoneNames.Zone.{Name, Offset}
+use Rattle.ixdtf_grammar.specs.table.Faults.{Fault}
+use Rattle.ixdtf_grammar.specs.table.Faults.Fault.{DateSeparator}
+use Rattle.ixdtf_grammar.specs.table.Outcomes.{ExactlyOne}
+use Rattle.ixdtf_grammar.specs.Widths.{UnhandledOutcome, HasUnhandledOutcome}
+use Rattle.ixdtf_grammar.specs.Widths.UnhandledOutcome.{faulted}
+
+-- a record is derived from every date-time of RFC 3339 section 5.6, with no pairs, and `parse` has it for this text
+abbrev pub EveryDateTimeIsRead : Type 0
+EveryDateTimeIsRead = (text : Text) → IsRfcDateTime text → (found : Parsed) × Derives parse text (parsed found) [] × UnhandledRecord parse text found
+
+-- every name of a time zone is the whole of its text, and the time zone of this name is derived from the text
+abbrev pub EveryNameIsAnIdentifier : Type 0
+EveryNameIsAnIdentifier = (text : Text) (name : List ℕ) → Derives parse_iana_identifier text (named name) [] →
+    (text ≡ map Plain name) × Derives parse_identifier text (identified (Name name)) []
+
+-- where an offset and a zone are derived from one text, both are its sign, hour and minute
+abbrev pub OffsetsAgree : Type 0
+OffsetsAgree = (text : Text) (offset : UtcOffsetRecord) (zone : Zone) → Derives parse_offset text (shifted offset) [] →
+    Derives parse_identifier text (identified zone) [] → (minutes : MinutePrecisionOffset) × (offset ≡ MinutePrecision minutes) × (zone ≡ Offset minutes)
+
+-- ---- the hyphens of a date
+
+-- a year, a month and two digits of a day
+abbrev pub IsDateParts : Text → Text → Text → Type 0
+IsDateParts years months days = some Year years × some Month months × digits 2 days
+
+-- whatever follows a date, `parse` returns the same for it without hyphens and with both
+abbrev pub HyphensSayNothing : Type 0
+HyphensSayNothing = (years months days rest : Text) → IsDateParts years months days → (outcome : UnhandledOutcome) →
+    HasUnhandledOutcome parse (years ++ (months ++ (days ++ rest))) outcome ↔ HasUnhandledOutcome parse
+    (years ++ (Plain 45 ∷ (months ++ (Plain 45 ∷ (days ++ rest))))) outcome
+
+-- whatever follows it, a date with one hyphen alone is refused
+abbrev pub OneHyphenIsRefused : Type 0
+OneHyphenIsRefused = (years months days rest : Text) → IsDateParts years months days →
+    HasUnhandledOutcome parse (years ++ (Plain 45 ∷ (months ++ (days ++ rest)))) (faulted DateSeparator)
+    × HasUnhandledOutcome parse (years ++ (months ++ (Plain 45 ∷ (days ++ rest)))) (faulted DateSeparator)
+
+-- ---- the languages of the readers of dates, times and durations
+
+-- the kinds of cores under the profile
+abbrev pub IsKindUnder : Profile → CoreKind → Type 0
+IsKindUnder profile date_time = Unit {0}
+IsKindUnder profile year_month = Unit {0}
+IsKindUnder profile (month_day other) = other ≡ profile
+IsKindUnder profile (time_alone other) = other ≡ profile
+
+-- the readers of dates, times and durations under the profile, and not those of an offset or a zone alone
+abbrev pub IsTextReader : Profile → Reader → Type 0
+IsTextReader profile (bracketed kind) = IsKindUnder profile kind
+IsTextReader profile parse_offset = ⊥
+IsTextReader profile parse_identifier = ⊥
+IsTextReader profile parse_iana_identifier = ⊥
+IsTextReader profile (parse_duration other) = other ≡ profile
+
+-- something is derived from the text in the reader
+abbrev pub InLanguage : Reader → Text → Type 0
+InLanguage reader text = (found : Found) × (pairs : List Pair) × Derives reader text found pairs
+
+-- under each profile, no text is in the languages of two of these readers
+abbrev pub LanguagesDisjoint : Type 0
+LanguagesDisjoint = (profile : Profile) (text : Text) (first second : Reader) → IsTextReader profile first → IsTextReader profile second →
+    InLanguage first text → InLanguage second text → first ≡ second
+
+-- under the profile, the text is in the language of none of these readers but this one
+abbrev pub InNoOther : Profile → Reader → Text → Type 0
+InNoOther profile reader text = (other : Reader) → IsTextReader profile other → reader ≢ other → ¬ (InLanguage other text)
+
+-- ---- replies
+
+-- the text with these pairs and these replies gives the record, or the fault
+abbrev pub GivesResult : Reader → Text → List Pair → List Reply → Result Parsed Fault → Type 0
+GivesResult reader text pairs replies (Ok found) = GivesRecord reader text pairs replies found
+GivesResult reader text pairs replies (Err fault) = GivesFault reader text pairs replies fault
+
+-- a text with the same pairs and the same replies gives one result
+abbrev pub OneResult : Type 0
+OneResult = (reader : Reader) (text : Text) (pairs : List Pair) (replies : List Reply) (result other : Result Parsed Fault) →
+    GivesResult reader text pairs replies result → GivesResult reader text pairs replies other → result ≡ other
+
+-- the replies to these pairs of who replies to each by the pairs so far, the last of which is the one that is asked about
+abbrev pub replies_to : (List Pair → Reply) → List Pair → List Reply
+replies_to reply [] = []
+replies_to reply (pair ∷ pairs) = reply (pair ∷ []) ∷ replies_to (λ more. reply (pair ∷ more)) pairs
+
+-- whoever replies so is asked about one list of pairs, and gets one result
+abbrev pub OneChain : Type 0
+OneChain = (kind : CoreKind) (text : Text) (reply : List Pair → Reply) →
+    ExactlyOne (λ (x : List Pair × Result Parsed Fault). GivesResult (bracketed kind) text x.0 (replies_to reply x.0) x.1)
+
+-- ---- defaults, clones and equality
+
+-- no other value is a default
+abbrev pub DefaultIs : {K : Type 0} → (K → Type 0) → K → Type 0
+DefaultIs {K} is_default value = (it : K) → is_default it → it ≡ value
+
+-- cloning never fails, and each clone is its source
+abbrev pub ClonesAreEqual : {K : Type 0} → (K → K → Type 0) → (K → Type 0) → Type 0
+ClonesAreEqual {K} is_clone is_infallible = (source : K) → is_infallible source × ((copy : K) → is_clone source copy → copy ≡ source)
+
+-- values are equal by this test exactly where they are seen as one, so the test is reflexive, symmetric and transitive
+pub record IsEqualityBy {K V : Type 0} (seen : K → V) (eq : K → K → Bool) : Type 0 where
+  pub exact : (a b : K) → IsTrue (eq a b) ↔ (seen a ≡ seen b)
+  pub equivalence : IsEquivalence eq

@@ -1,0 +1,98 @@
+-- What public clauses see: a parser, a result, and the records that the code returns.
+use Rattle.std.specs.Prelude.{◌≡◌, ℕ, ◌+◌, ◌*◌, List, map, length, Option, Some, None, option_map, slice_get, Result, Ok, Err, OnOk, OnErr, IfErr, IsFalse, []}
+use Rattle.std.specs.Prelude.{◌≤◌}
+use Rattle.ixdtf_grammar.specs.declared.error.ParseError.{ParseError}
+use Rattle.ixdtf_grammar.specs.declared.profile.Profile.{Profile}
+use Rattle.ixdtf_grammar.specs.declared.records.TimeZoneRecord.{TimeZoneRecord}
+use Rattle.ixdtf_grammar.specs.declared.records.TimeZoneRecord.TheVariants as zones
+use Rattle.ixdtf_grammar.specs.declared.records.TimeZoneAnnotation.{TimeZoneAnnotation}
+use Rattle.ixdtf_grammar.specs.declared.records.IxdtfParseRecord.{IxdtfParseRecord}
+use Rattle.ixdtf_grammar.specs.language.Letters.{Letter}
+use Rattle.ixdtf_grammar.specs.language.Letters.Letter.{Plain, Bad}
+use Rattle.ixdtf_grammar.specs.table.Faults.{Fault, fault_of, never_comes}
+use Rattle.ixdtf_grammar.specs.table.Faults.Fault.{NonAsciiCodePoint}
+use Rattle.ixdtf_grammar.specs.language.ZoneNames.{Zone}
+use Rattle.ixdtf_grammar.specs.language.Brackets.{ZoneNote}
+use Rattle.ixdtf_grammar.specs.language.Languages.{Parsed}
+use Rattle.ixdtf_grammar.specs.language.ZoneNames.Zone.{Name, Offset}
+
+-- what a parser is to its callers: the numbers of the units still to be read, and how many looks were made
+pub record Unread : Type 0 where
+  pub rest : List ℕ
+  pub looks : ℕ
+
+-- what a parser that has a profile is to its callers: the same, and the profile
+pub record UnreadUnder : Type 0 where
+  pub rest : List ℕ
+  pub looks : ℕ
+  pub profile : Profile
+
+abbrev pub under : Profile → Unread → UnreadUnder
+under profile unread = record { rest = unread.rest; looks = unread.looks; profile = profile }
+
+-- what it has besides its profile
+abbrev pub unread_of : UnreadUnder → Unread
+unread_of parser = record { rest = parser.rest; looks = parser.looks }
+
+-- what a look finds: a letter's number, or nothing past the end
+abbrev pub looked : Option Letter → Result (Option ℕ) Fault
+looked None = Ok None
+looked (Some (Plain n)) = Ok (Some n)
+looked (Some Bad) = Err NonAsciiCodePoint
+
+-- what a look at a place of a source finds, where a unit's number has that letter
+abbrev pub ascii_at : (ℕ → Letter) → ℕ → List ℕ → Result (Option ℕ) Fault
+ascii_at letter place units = looked (option_map letter (slice_get units place))
+
+-- what a function returned, with its value and its error each seen by a view
+abbrev pub returned_by : {X Y E : Type 0} → (E → Fault) → (X → Y) → Result X E → Result Y Fault
+returned_by fault view (Ok x) = Ok (view x)
+returned_by fault view (Err e) = Err (fault e)
+
+-- what a function returned, with its value seen by a view, and its error by its fault
+abbrev pub returned : {X Y : Type 0} → (X → Y) → Result X ParseError → Result Y Fault
+returned = returned_by fault_of
+
+-- what a function returned, seen so, is what is wanted
+abbrev pub Returns : {X Y : Type 0} → (X → Y) → Result X ParseError → Result Y Fault → Type 0
+Returns view (Ok x) wanted = wanted ≡ Ok (view x)
+Returns view (Err e) wanted = wanted ≡ Err (fault_of e)
+
+-- a zone, with its name by the numbers of its units
+abbrev pub zone_of : {T U : Type 0} → (U → ℕ) → TimeZoneRecord T U → Zone
+zone_of number (zones.Name units) = Name (map number units.now)
+zone_of number (zones.Offset offset) = Offset offset
+
+abbrev pub note_of : {T U : Type 0} → (U → ℕ) → TimeZoneAnnotation T U → ZoneNote
+note_of number annotation = record { critical = annotation.critical; zone = zone_of number annotation.tz }
+
+-- a record, with its names by the numbers of their units
+abbrev pub parsed_of : {T U : Type 0} → (U → ℕ) → IxdtfParseRecord T U → Parsed
+parsed_of number r = record {
+  date = r.date;
+  time = r.time;
+  offset = r.offset;
+  zone = option_map (note_of number) r.tz;
+  calendar = option_map (λ units. map number units.now) r.calendar;
+}
+
+-- a record in which nothing stands
+pub record IsEmptyRecord {T U : Type 0} (r : IxdtfParseRecord T U) : Type 0 where
+  pub date : r.date ≡ None
+  pub time : r.time ≡ None
+  pub offset : r.offset ≡ None
+  pub tz : r.tz ≡ None
+  pub calendar : r.calendar ≡ None
+
+-- the most looks that a reader makes at a text
+abbrev pub most_looks : List ℕ → ℕ
+most_looks rest = 4 * length rest + 64
+
+-- What a reader leaves behind, whose errors are seen by their faults: nothing to be read where it succeeds, and all of it where
+-- it refuses, with none of the errors that no reader gives; and a count of looks that did not go down, nor up by more than the most.
+pub record LeavesBehind {X E : Type 0} (fault : E → Fault) (old : Unread) (result : Result X E) (new : Unread) : Type 0 where
+  pub empty : OnOk result (new.rest ≡ [])
+  pub unchanged : OnErr result (new.rest ≡ old.rest)
+  pub comes : IfErr result (λ e. IsFalse (never_comes (fault e)))
+  pub looks : new.looks ≤ old.looks + most_looks old.rest
+  pub counted : old.looks ≤ new.looks

@@ -1,0 +1,72 @@
+-- Two widths: what a reader without a handler returns for numbers as 16-bit units, and as 8-bit units.
+use Rattle.std.specs.Prelude.{◌≡◌, ◌↔◌, ◌⊎◌, ℕ, Bool, IsTrue, IsFalse, List, [], map, All, Any, nat_le, ◌&&◌, if◌then◌else◌}
+use Rattle.ixdtf_grammar.specs.language.Letters.{Text, byte_letter, wide_letter}
+use Rattle.ixdtf_grammar.specs.language.Readers.{Reader, CoreKind}
+use Rattle.ixdtf_grammar.specs.language.Readers.Reader.{bracketed, parse_offset, parse_identifier, parse_iana_identifier, parse_duration}
+use Rattle.ixdtf_grammar.specs.language.Languages.{Found, Derives}
+use Rattle.ixdtf_grammar.specs.language.Languages.Found.{parsed, shifted, identified, named, lasting}
+use Rattle.ixdtf_grammar.specs.table.Faults.{Fault}
+use Rattle.ixdtf_grammar.specs.table.Faults.Fault.{NonAsciiCodePoint}
+use Rattle.ixdtf_grammar.specs.table.Outcomes.{HasFault, ExactlyOne}
+use Rattle.ixdtf_grammar.specs.Handlers.{UnhandledRecord, UnhandledFault}
+
+-- ---- outcomes without a handler
+
+-- what a reader without a handler returns: slices stand in it by the numbers of their units
+pub data UnhandledOutcome : Type 0 where
+  read_as : Found → UnhandledOutcome
+  faulted : Fault → UnhandledOutcome
+
+-- the text has the outcome in a reader with brackets, where each pair is its own reply
+abbrev pub HasWithPairs : CoreKind → Text → UnhandledOutcome → Type 0
+HasWithPairs kind text (read_as (parsed found)) = UnhandledRecord (bracketed kind) text found
+HasWithPairs kind text (read_as (shifted offset)) = ⊥
+HasWithPairs kind text (read_as (identified zone)) = ⊥
+HasWithPairs kind text (read_as (named units)) = ⊥
+HasWithPairs kind text (read_as (lasting duration)) = ⊥
+HasWithPairs kind text (faulted fault) = UnhandledFault (bracketed kind) text fault
+
+-- the text has the outcome in a reader without brackets
+abbrev pub HasAlone : Reader → Text → UnhandledOutcome → Type 0
+HasAlone reader text (read_as found) = Derives reader text found []
+HasAlone reader text (faulted fault) = HasFault reader text [] fault
+
+-- the text has the outcome in the reader
+abbrev pub HasUnhandledOutcome : Reader → Text → UnhandledOutcome → Type 0
+HasUnhandledOutcome (bracketed kind) text outcome = HasWithPairs kind text outcome
+HasUnhandledOutcome parse_offset text outcome = HasAlone parse_offset text outcome
+HasUnhandledOutcome parse_identifier text outcome = HasAlone parse_identifier text outcome
+HasUnhandledOutcome parse_iana_identifier text outcome = HasAlone parse_iana_identifier text outcome
+HasUnhandledOutcome (parse_duration profile) text outcome = HasAlone (parse_duration profile) text outcome
+
+-- each text has exactly one outcome in each reader without a handler
+abbrev pub OneUnhandledOutcome : Type 0
+OneUnhandledOutcome = (reader : Reader) (text : Text) → ExactlyOne (HasUnhandledOutcome reader text)
+
+-- ---- two widths
+
+-- 1 to 126: the numbers whose units are letters in both widths
+abbrev pub is_shared : ℕ → Bool
+is_shared n = nat_le 1 n && nat_le n 126
+
+-- what the numbers are as 16-bit units, and as 8-bit units
+abbrev pub wide_text : List ℕ → Text
+wide_text numbers = map wide_letter numbers
+
+abbrev pub byte_text : List ℕ → Text
+byte_text numbers = map byte_letter numbers
+
+-- the numbers, with 128 in place of each that is not from 1 to 126
+abbrev pub mask : List ℕ → List ℕ
+mask numbers = map (λ n. if is_shared n then n else 128) numbers
+
+-- On numbers from 1 to 126 the two readings have the same outcome.
+abbrev pub SameWhereShared : Type 0
+SameWhereShared = (reader : Reader) (numbers : List ℕ) → All (λ n. IsTrue (is_shared n)) numbers
+    → (outcome : UnhandledOutcome) → HasUnhandledOutcome reader (wide_text numbers) outcome ↔ HasUnhandledOutcome reader (byte_text numbers) outcome
+
+-- With another number the outcome of the 16-bit reading is a fault: `NonAsciiCodePoint`, or the outcome of the mask as 8-bit units.
+abbrev pub FaultWhereNotShared : Type 0
+FaultWhereNotShared = (reader : Reader) (numbers : List ℕ) → Any (λ n. IsFalse (is_shared n)) numbers
+    → (fault : Fault) × HasUnhandledOutcome reader (wide_text numbers) (faulted fault)
+    × ((fault ≡ NonAsciiCodePoint) ⊎ HasUnhandledOutcome reader (byte_text (mask numbers)) (faulted fault))

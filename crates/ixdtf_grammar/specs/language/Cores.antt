@@ -1,0 +1,89 @@
+-- Cores: what stands before the brackets of a text.
+use Rattle.std.specs.Prelude.{◌≡◌, ◌⊎◌, [], ◌++◌, Option, Some, None}
+use Rattle.ixdtf_grammar.specs.declared.profile.Profile.{Profile}
+use Rattle.ixdtf_grammar.specs.declared.records.DateRecord.{DateRecord}
+use Rattle.ixdtf_grammar.specs.declared.records.TimeRecord.{TimeRecord}
+use Rattle.ixdtf_grammar.specs.declared.records.UtcOffsetRecordOrZ.{UtcOffsetRecordOrZ}
+use Rattle.ixdtf_grammar.specs.language.Letters.{Text, date_time_separator, time_letter}
+use Rattle.ixdtf_grammar.specs.language.Shapes.{Shape, nothing, one, ◌then◌, ◌either◌, some, anything}
+use Rattle.ixdtf_grammar.specs.language.Dates.{IsDate}
+use Rattle.ixdtf_grammar.specs.language.Months.{IsYearMonth, IsMonthDay}
+use Rattle.ixdtf_grammar.specs.language.Times.{IsTime}
+use Rattle.ixdtf_grammar.specs.language.Offsets.{IsOffsetOrZ}
+use Rattle.ixdtf_grammar.specs.language.Readers.{CoreKind}
+use Rattle.ixdtf_grammar.specs.language.Readers.CoreKind.{date_time, year_month, month_day, time_alone}
+
+-- what stands before the brackets
+pub record Core : Type 0 where
+  pub date : Option DateRecord
+  pub time : Option TimeRecord
+  pub offset : Option UtcOffsetRecordOrZ
+
+abbrev pub core_of : Option DateRecord → Option TimeRecord → Option UtcOffsetRecordOrZ → Core
+core_of date time offset = record { date = date; time = time; offset = offset }
+
+abbrev pub OptionalOffset : Text → Option UtcOffsetRecordOrZ → Type 0
+OptionalOffset text None = text ≡ []
+OptionalOffset text (Some offset) = IsOffsetOrZ text offset
+
+-- a core that is a date of the part alone
+abbrev pub DateAlone : (Text → DateRecord → Type 0) → Text → Core → Type 0
+DateAlone part text core = (date : DateRecord) × part text date × (core ≡ core_of (Some date) None None)
+
+-- `Date`, one of `T`, `t` and space, `Time`, and an offset or `Z` where there is one
+pub record DateAndTime (text : Text) (core : Core) : Type 0 where
+  pub dates : Text
+  pub separator : Text
+  pub times : Text
+  pub offsets : Text
+  pub date : DateRecord
+  pub time : TimeRecord
+  pub offset : Option UtcOffsetRecordOrZ
+  pub is : text ≡ dates ++ (separator ++ (times ++ offsets))
+  pub is_date : IsDate dates date
+  pub separates : one date_time_separator separator
+  pub is_time : IsTime times time
+  pub is_offset : OptionalOffset offsets offset
+  pub has : core ≡ core_of (Some date) (Some time) offset
+
+abbrev pub IsDateTimeCore : Text → Core → Type 0
+IsDateTimeCore text core = DateAlone IsDate text core ⊎ DateAndTime text core
+
+-- ---- times that stand alone
+
+-- `T` or `t` or neither
+abbrev pub TimeMark : Shape
+TimeMark = nothing either one time_letter
+
+-- `T` or `t` or neither, a time, and an offset or `Z` where there is one
+pub record MarkedTime (text : Text) (core : Core) : Type 0 where
+  pub marks : Text
+  pub times : Text
+  pub offsets : Text
+  pub time : TimeRecord
+  pub offset : Option UtcOffsetRecordOrZ
+  pub is : text ≡ marks ++ (times ++ offsets)
+  pub mark : TimeMark marks
+  pub is_time : IsTime times time
+  pub is_offset : OptionalOffset offsets offset
+  pub has : core ≡ core_of None (Some time) offset
+
+-- a front of the text has the shape
+abbrev pub HasFront : Shape → Shape
+HasFront shape = shape then anything
+
+-- no front of the text is a month-day, and none a year-month
+abbrev pub HasNoDateFront : Profile → Shape
+HasNoDateFront profile text = ¬ (HasFront (some (IsMonthDay profile)) text) × ¬ (HasFront (some IsYearMonth) text)
+
+-- a time that does not begin as a month-day or a year-month
+abbrev pub IsTimeCore : Profile → Text → Core → Type 0
+IsTimeCore profile text core = MarkedTime text core × HasNoDateFront profile text
+
+-- ---- a core of the kind
+
+abbrev pub IsCore : CoreKind → Text → Core → Type 0
+IsCore date_time text core = IsDateTimeCore text core
+IsCore year_month text core = DateAlone IsYearMonth text core
+IsCore (month_day profile) text core = DateAlone (IsMonthDay profile) text core
+IsCore (time_alone profile) text core = IsTimeCore profile text core

@@ -1,0 +1,73 @@
+-- Dates: which texts stand for which dates (RFC 3339 section 5.6, ISO 8601; signed years by the Temporal grammar).
+use Rattle.std.specs.Prelude.{Bool, ◌≡◌, ◌≢◌, ℕ, ◌%◌, ◌≤◌, IsTrue, ◌⊎◌, ◌∷◌, ◌++◌, ℤ, pos, neg_ℤ, nat_abs, nat_eq, ◌&&◌, ◌||◌, not, if◌then◌else◌}
+use Rattle.ixdtf_grammar.specs.declared.records.DateRecord.{DateRecord}
+use Rattle.ixdtf_grammar.specs.language.Letters.{Text}
+use Rattle.ixdtf_grammar.specs.language.Letters.Letter.{Plain}
+use Rattle.ixdtf_grammar.specs.language.Letters.{sign, hyphen}
+use Rattle.ixdtf_grammar.specs.language.Shapes.{digits}
+use Rattle.ixdtf_grammar.specs.language.Digits.{decimal, TwoDigits}
+
+-- a number with its sign
+abbrev pub signed : ℕ → ℕ → ℤ
+signed c n = if hyphen c then neg_ℤ (pos n) else pos n
+
+-- four digits
+abbrev pub FourDigitYear : Text → ℤ → Type 0
+FourDigitYear text year = digits 4 text × (year ≡ pos (decimal text))
+
+-- a sign and six digits, and not `-000000`
+pub record ExtendedYear (text : Text) (year : ℤ) : Type 0 where
+  pub c : ℕ
+  pub ds : Text
+  pub is : text ≡ Plain c ∷ ds
+  pub sign : IsTrue (sign c)
+  pub digits : digits 6 ds
+  pub no_minus_zero : IsTrue (hyphen c) → decimal ds ≢ 0
+  pub value : year ≡ signed c (decimal ds)
+
+abbrev pub Year : Text → ℤ → Type 0
+Year text year = FourDigitYear text year ⊎ ExtendedYear text year
+
+-- 01 to 12
+abbrev pub Month : Text → ℕ → Type 0
+Month text month = TwoDigits text month × (1 ≤ month) × (month ≤ 12)
+
+-- divisible by 4 and not by 100, or by 400
+abbrev pub is_leap : ℤ → Bool
+is_leap year = (nat_eq (nat_abs year % 4) 0 && not (nat_eq (nat_abs year % 100) 0)) || nat_eq (nat_abs year % 400) 0
+
+-- the Gregorian length of a month, also in year 0 and in negative years
+abbrev pub month_length : ℤ → ℕ → ℕ
+month_length year month =
+    if nat_eq month 2 then (if is_leap year then 29 else 28)
+    else (if nat_eq month 4 || nat_eq month 6 || nat_eq month 9 || nat_eq month 11 then 30 else 31)
+
+-- year, month and day in a row; the day is any two digits
+pub record BasicDate (text : Text) (date : DateRecord) : Type 0 where
+  pub years : Text
+  pub months : Text
+  pub days : Text
+  pub is : text ≡ years ++ (months ++ days)
+  pub year : Year years date.year
+  pub month : Month months date.month
+  pub day : TwoDigits days date.day
+
+-- the same with a hyphen between each two
+pub record HyphenedDate (text : Text) (date : DateRecord) : Type 0 where
+  pub years : Text
+  pub months : Text
+  pub days : Text
+  pub is : text ≡ years ++ (Plain 45 ∷ (months ++ (Plain 45 ∷ days)))
+  pub year : Year years date.year
+  pub month : Month months date.month
+  pub day : TwoDigits days date.day
+
+-- a date's text, whatever its day
+abbrev pub DateText : Text → DateRecord → Type 0
+DateText text date = BasicDate text date ⊎ HyphenedDate text date
+
+abbrev pub IsDayOfMonth : DateRecord → Type 0
+IsDayOfMonth date = (1 ≤ date.day) × (date.day ≤ month_length date.year date.month)
+
+abbrev pub IsDate : Text → DateRecord → Type 0
+IsDate text date = DateText text date × IsDayOfMonth date

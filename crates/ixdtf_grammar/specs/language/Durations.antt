@@ -1,0 +1,193 @@
+-- Durations: which texts stand for which durations (ISO 8601 section 5.5.2, `TemporalDurationString` of the Temporal grammar).
+-- Unlike there, a unit may be repeated, but not under the strict profile.
+use Rattle.std.specs.Prelude.{◌≡◌, ℕ, ◌+◌, ◌≤◌, ◌⊎◌, Bool, true, IsTrue, List, [], ◌∷◌, ◌++◌, Option, Some, None, nat_eq, nat_le, ◌&&◌, if◌then◌else◌}
+use Rattle.ixdtf_grammar.specs.declared.profile.Profile.{Profile}
+use Rattle.ixdtf_grammar.specs.declared.profile.Profile.TheVariants.{Crate, Strict}
+use Rattle.ixdtf_grammar.specs.declared.records.Sign.{Sign}
+use Rattle.ixdtf_grammar.specs.declared.records.Sign.TheVariants.{Positive}
+use Rattle.ixdtf_grammar.specs.declared.records.DurationParseRecord.{DurationParseRecord}
+use Rattle.ixdtf_grammar.specs.declared.records.DateDurationRecord.{DateDurationRecord}
+use Rattle.ixdtf_grammar.specs.declared.records.TimeDurationRecord.{TimeDurationRecord}
+use Rattle.ixdtf_grammar.specs.declared.records.TimeDurationRecord.TheVariants.{Hours, Minutes, Seconds}
+use Rattle.ixdtf_grammar.specs.language.Letters.{Text, Class, ◌or◌, sign, duration_designator, time_letter}
+use Rattle.ixdtf_grammar.specs.language.Letters.{year_letter, month_letter, week_letter, day_letter, hour_letter, minute_letter, second_letter}
+use Rattle.ixdtf_grammar.specs.language.Letters.Letter.{Plain}
+use Rattle.ixdtf_grammar.specs.language.Shapes.{one}
+use Rattle.ixdtf_grammar.specs.language.Digits.{decimal}
+use Rattle.ixdtf_grammar.specs.language.Fractions.{FractionParts, SomeDigits, IsFraction}
+use Rattle.ixdtf_grammar.specs.language.Offsets.{sign_of}
+
+-- ---- units
+
+-- the two halves of a duration: date groups, and time groups after a `T` (`DurationDate` and `DurationTime`)
+pub data Half : Type 0 where
+  date time : Half
+
+-- the units of both (`YearsDesignator` to `SecondsDesignator`)
+pub data DurationUnit : Type 0 where
+  years months weeks days hours minutes seconds : DurationUnit
+
+-- the place of a unit in the list of them, from the longest to the shortest
+abbrev pub place : DurationUnit → ℕ
+place years = 0
+place months = 1
+place weeks = 2
+place days = 3
+place hours = 4
+place minutes = 5
+place seconds = 6
+
+abbrev pub same_unit : DurationUnit → DurationUnit → Bool
+same_unit a b = nat_eq (place a) (place b)
+
+-- the letters that end a group of the half
+abbrev pub designator : Half → Class
+designator date = year_letter or month_letter or week_letter or day_letter
+designator time = hour_letter or minute_letter or second_letter
+
+-- the unit of a letter that ends a group
+abbrev pub unit_of : Half → ℕ → DurationUnit
+unit_of date c = if year_letter c then years else (if month_letter c then months else (if week_letter c then weeks else days))
+unit_of time c = if hour_letter c then hours else (if minute_letter c then minutes else seconds)
+
+-- no number of a group is greater: it is 2 ^ 64 - 1
+unfoldable pub greatest_value : ℕ
+greatest_value = 18446744073709551615
+
+-- the greatest number of the unit: 2 ^ 32 - 1 for years, months and weeks
+abbrev pub greatest : DurationUnit → ℕ
+greatest years = 4294967295
+greatest months = 4294967295
+greatest weeks = 4294967295
+greatest days = greatest_value
+greatest hours = greatest_value
+greatest minutes = greatest_value
+greatest seconds = greatest_value
+
+-- ---- groups
+
+-- a number and its unit, and a fraction or none (`DurationYearsPart` to `DurationSecondsPart`)
+pub record Group : Type 0 where
+  pub unit : DurationUnit
+  pub value : ℕ
+  pub fraction : Option FractionParts
+
+-- one or more digits, and their number, which some unit may have
+abbrev pub Number : Text → ℕ → Type 0
+Number text n = SomeDigits text × (n ≡ decimal text) × (n ≤ greatest_value)
+
+-- a number, and a letter of the half
+pub record IntegerGroup (half : Half) (text : Text) (g : Group) : Type 0 where
+  pub ds : Text
+  pub c : ℕ
+  pub is : text ≡ ds ++ (Plain c ∷ [])
+  pub number : Number ds g.value
+  pub ends : IsTrue (designator half c)
+  pub unit : g.unit ≡ unit_of half c
+  pub fraction : g.fraction ≡ None
+
+-- a number, a fraction (`TemporalDecimalFraction`), and a letter of times
+pub record FractionGroup (text : Text) (g : Group) : Type 0 where
+  pub ds : Text
+  pub fs : Text
+  pub c : ℕ
+  pub parts : FractionParts
+  pub is : text ≡ ds ++ (fs ++ (Plain c ∷ []))
+  pub number : Number ds g.value
+  pub is_fraction : IsFraction fs parts
+  pub ends : IsTrue (designator time c)
+  pub unit : g.unit ≡ unit_of time c
+  pub fraction : g.fraction ≡ Some parts
+
+-- the least step from the place of a unit to that of the next: an equal one may follow, or none
+abbrev pub least_step : Profile → ℕ
+least_step Crate = 0
+least_step Strict = 1
+
+-- whether a group of the second unit may stand behind one of the first
+abbrev pub may_follow : Profile → DurationUnit → DurationUnit → Bool
+may_follow profile before after = nat_le (place before + least_step profile) (place after)
+
+-- whether a group of the unit may stand behind all of these
+abbrev pub in_order : Profile → List Group → DurationUnit → Bool
+in_order profile [] unit = true
+in_order profile (g ∷ earlier) unit = may_follow profile g.unit unit && in_order profile earlier unit
+
+-- Groups of the half without fractions, in order and in the ranges of their units. The last group stands first in the list.
+abbrev pub Groups : Profile → Half → Text → List Group → Type 0
+Groups profile half text [] = text ≡ []
+Groups profile half text (g ∷ earlier) =
+    (before last : Text) × (text ≡ before ++ last) × Groups profile half before earlier × IntegerGroup half last g
+    × IsTrue (in_order profile earlier g.unit) × (g.value ≤ greatest g.unit)
+
+-- ---- the parts of a duration
+
+-- an optional sign, and `P` (`DurationDesignator`)
+abbrev pub SignedDesignator : Text → Sign → Type 0
+SignedDesignator text s =
+    (one duration_designator text × (s ≡ Positive))
+    ⊎ ((c : ℕ) × (rest : Text) × (text ≡ Plain c ∷ rest) × IsTrue (sign c) × one duration_designator rest × (s ≡ sign_of c))
+
+-- one or more time groups, the last one first; it alone may have a fraction
+abbrev pub TimeGroups : Profile → Text → List Group → Type 0
+TimeGroups profile text [] = ⊥
+TimeGroups profile text (g ∷ earlier) =
+    Groups profile time text (g ∷ earlier)
+    ⊎ ((before last : Text) × (text ≡ before ++ last) × Groups profile time before earlier × FractionGroup last g × IsTrue (in_order profile earlier g.unit))
+
+-- nothing, or `T` and time groups (`DurationTime`)
+abbrev pub TimePart : Profile → Text → List Group → Type 0
+TimePart profile text times =
+    ((text ≡ []) × (times ≡ []))
+    ⊎ ((c : ℕ) × (groups : Text) × (text ≡ Plain c ∷ groups) × IsTrue (time_letter c) × TimeGroups profile groups times)
+
+-- a group of dates, or of times
+abbrev pub AtLeastOne : List Group → List Group → Type 0
+AtLeastOne [] [] = ⊥
+AtLeastOne [] (t ∷ times) = Unit {0}
+AtLeastOne (d ∷ dates) times = Unit {0}
+
+-- ---- the record; the last group stands first in the lists
+
+-- the number of the last group of the unit, or 0
+abbrev pub number_of : DurationUnit → List Group → ℕ
+number_of unit [] = 0
+number_of unit (g ∷ earlier) = if same_unit g.unit unit then g.value else number_of unit earlier
+
+abbrev pub date_duration : List Group → Option DateDurationRecord
+date_duration [] = None
+date_duration (g ∷ earlier) =
+    let groups = g ∷ earlier in
+    Some (record { years = number_of years groups; months = number_of months groups; weeks = number_of weeks groups; days = number_of days groups })
+
+-- time groups of which the last has this unit and this fraction; a unit of dates is none of times
+abbrev pub time_duration_to : DurationUnit → Option FractionParts → List Group → Option TimeDurationRecord
+time_duration_to hours fraction groups = Some (Hours (number_of hours groups) fraction)
+time_duration_to minutes fraction groups = Some (Minutes (number_of hours groups) (number_of minutes groups) fraction)
+time_duration_to seconds fraction groups = Some (Seconds (number_of hours groups) (number_of minutes groups) (number_of seconds groups) fraction)
+time_duration_to years fraction groups = None
+time_duration_to months fraction groups = None
+time_duration_to weeks fraction groups = None
+time_duration_to days fraction groups = None
+
+abbrev pub time_duration : List Group → Option TimeDurationRecord
+time_duration [] = None
+time_duration (g ∷ earlier) = time_duration_to g.unit g.fraction (g ∷ earlier)
+
+abbrev pub duration_of : Sign → List Group → List Group → DurationParseRecord
+duration_of s dates times = record { sign = s; date = date_duration dates; time = time_duration times }
+
+-- An optional sign, `P`, date groups, and `T` and time groups; at least one group (`Duration`).
+pub record IsDuration (profile : Profile) (text : Text) (duration : DurationParseRecord) : Type 0 where
+  pub start : Text
+  pub date_text : Text
+  pub time_text : Text
+  pub sign : Sign
+  pub dates : List Group
+  pub times : List Group
+  pub is : text ≡ start ++ (date_text ++ time_text)
+  pub is_start : SignedDesignator start sign
+  pub are_dates : Groups profile date date_text dates
+  pub are_times : TimePart profile time_text times
+  pub least : AtLeastOne dates times
+  pub value : duration ≡ duration_of sign dates times

@@ -1,0 +1,36 @@
+-- A date and a time whose letters stand at fixed places, `YYYY-MM-DD`, a separator and `HH:MM:SS`: `full-date` and `partial-time`
+-- of RFC 3339 section 5.6, without a fraction.
+use Rattle.std.specs.Prelude.{◌≡◌, ℕ, IsTrue, ◌∷◌, ◌++◌}
+use Rattle.ixdtf_grammar.specs.declared.records.DateRecord.{DateRecord}
+use Rattle.ixdtf_grammar.specs.declared.records.TimeRecord.{TimeRecord}
+use Rattle.ixdtf_grammar.specs.language.Letters.{Text, date_time_separator}
+use Rattle.ixdtf_grammar.specs.language.Letters.Letter.{Plain}
+use Rattle.ixdtf_grammar.specs.language.Digits.{TwoDigits}
+use Rattle.ixdtf_grammar.specs.language.Dates.{FourDigitYear, Month, IsDayOfMonth}
+use Rattle.ixdtf_grammar.specs.language.Times.{ColonSecondText}
+use Rattle.ixdtf_grammar.specs.language.Times.Clock.{Time}
+
+-- a date of ten letters, with a year of four digits
+pub record FixedDate (text : Text) (date : DateRecord) : Type 0 where
+  pub years : Text
+  pub months : Text
+  pub days : Text
+  pub is : text ≡ years ++ (Plain 45 ∷ (months ++ (Plain 45 ∷ days)))
+  pub year : FourDigitYear years date.year
+  pub month : Month months date.month
+  pub day : TwoDigits days date.day
+  pub in_month : IsDayOfMonth date
+
+-- a time of eight letters
+abbrev pub FixedTime : Text → TimeRecord → Type 0
+FixedTime = ColonSecondText Time
+
+-- the date, a separator and the time in the first nineteen letters, and the text after them
+pub record FixedDateTime (text : Text) (date : DateRecord) (time : TimeRecord) (rest : Text) : Type 0 where
+  pub dates : Text
+  pub separator : ℕ
+  pub times : Text
+  pub is : text ≡ dates ++ (Plain separator ∷ (times ++ rest))
+  pub is_date : FixedDate dates date
+  pub separates : IsTrue (date_time_separator separator)
+  pub is_time : FixedTime times time

@@ -1,0 +1,47 @@
+-- The parts of an offset from UTC (RFC 3339 section 5.6, RFC 9557 section 2).
+use Rattle.std.specs.Prelude.{ℕ, Bool, true, false, Option, Some, None}
+use Rattle.ixdtf_grammar.specs.declared.records.Sign.{Sign}
+use Rattle.ixdtf_grammar.specs.declared.records.Sign.TheVariants.{Positive, Negative}
+use Rattle.ixdtf_grammar.specs.declared.records.MinutePrecisionOffset.{MinutePrecisionOffset}
+use Rattle.ixdtf_grammar.specs.declared.records.UtcOffsetRecord.{UtcOffsetRecord}
+use Rattle.ixdtf_grammar.specs.declared.records.UtcOffsetRecord.TheVariants as offsets
+use Rattle.ixdtf_grammar.specs.declared.records.UtcOffsetRecordOrZ.{UtcOffsetRecordOrZ}
+use Rattle.ixdtf_grammar.specs.declared.records.UtcOffsetRecordOrZ.TheVariants as stands
+use Rattle.ixdtf_grammar.specs.language.Fractions.{FractionParts}
+
+-- the sign of what is counted forwards, or is not
+abbrev pub sign_for : Bool → Sign
+sign_for true = Positive
+sign_for false = Negative
+
+-- +00:00
+abbrev pub zero_offset : MinutePrecisionOffset
+zero_offset = record { sign = Positive; hour = 0; minute = 0 }
+
+-- -00:00: UTC is known, and the local offset is not
+abbrev pub unknown_offset : MinutePrecisionOffset
+unknown_offset = record { sign = Negative; hour = 0; minute = 0 }
+
+-- the sign, the hours and the minutes, which an offset of either precision has
+abbrev pub minute_part_of : UtcOffsetRecord → MinutePrecisionOffset
+minute_part_of (offsets.MinutePrecision minutes) = minutes
+minute_part_of (offsets.FullPrecisionOffset full) = full.minute_precision_offset
+
+abbrev pub is_minute_precision : UtcOffsetRecord → Bool
+is_minute_precision (offsets.MinutePrecision _) = true
+is_minute_precision (offsets.FullPrecisionOffset _) = false
+
+-- only an offset of full precision has seconds
+abbrev pub second_of : UtcOffsetRecord → Option ℕ
+second_of (offsets.MinutePrecision _) = None
+second_of (offsets.FullPrecisionOffset full) = Some full.second
+
+-- only an offset of full precision can have a fraction
+abbrev pub fraction_of_offset : UtcOffsetRecord → Option FractionParts
+fraction_of_offset (offsets.MinutePrecision _) = None
+fraction_of_offset (offsets.FullPrecisionOffset full) = full.fraction
+
+-- `Z` says as much of the local offset as -00:00 does
+abbrev pub resolved_offset : UtcOffsetRecordOrZ → UtcOffsetRecord
+resolved_offset (stands.Offset offset) = offset
+resolved_offset stands.Z = offsets.MinutePrecision unknown_offset

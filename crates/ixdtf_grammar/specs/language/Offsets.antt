@@ -1,0 +1,54 @@
+-- Offsets from UTC: which texts stand for which offsets (RFC 3339 section 5.6, Temporal grammar).
+use Rattle.std.specs.Prelude.{◌≡◌, ℕ, Bool, IsTrue, ◌⊎◌, ◌∷◌, if◌then◌else◌}
+use Rattle.ixdtf_grammar.specs.language.Times.{Clock as clocks}
+use Rattle.ixdtf_grammar.specs.declared.records.Sign.{Sign}
+use Rattle.ixdtf_grammar.specs.declared.records.Sign.TheVariants.{Positive, Negative}
+use Rattle.ixdtf_grammar.specs.declared.records.TimeRecord.{TimeRecord}
+use Rattle.ixdtf_grammar.specs.declared.records.MinutePrecisionOffset.{MinutePrecisionOffset}
+use Rattle.ixdtf_grammar.specs.declared.records.UtcOffsetRecord.{UtcOffsetRecord}
+use Rattle.ixdtf_grammar.specs.declared.records.UtcOffsetRecord.TheVariants.{MinutePrecision, FullPrecisionOffset}
+use Rattle.ixdtf_grammar.specs.declared.records.UtcOffsetRecordOrZ.{UtcOffsetRecordOrZ}
+use Rattle.ixdtf_grammar.specs.declared.records.UtcOffsetRecordOrZ.TheVariants.{Offset, Z}
+use Rattle.ixdtf_grammar.specs.language.Letters.{Text}
+use Rattle.ixdtf_grammar.specs.language.Letters.Letter.{Plain}
+use Rattle.ixdtf_grammar.specs.language.Letters.{sign, hyphen, zulu}
+use Rattle.ixdtf_grammar.specs.language.Shapes.{one}
+use Rattle.ixdtf_grammar.specs.language.Times.{Clock, TimeShape, ClockOf, writes_seconds}
+
+-- `-` is negative
+abbrev pub sign_of : ℕ → Sign
+sign_of c = if hyphen c then Negative else Positive
+
+-- sign, hour and minute
+abbrev pub minutes_of : ℕ → TimeRecord → MinutePrecisionOffset
+minutes_of c time = record { sign = sign_of c; hour = time.hour; minute = time.minute }
+
+-- the same with the second and its fraction
+abbrev pub full_of : ℕ → TimeRecord → UtcOffsetRecord
+full_of c time = FullPrecisionOffset (record { minute_precision_offset = minutes_of c time; second = time.second; fraction = time.fraction })
+
+-- the record of a sign and what is written after it as a time is: in full where it has seconds
+abbrev pub offset_of : ℕ → Bool → TimeRecord → UtcOffsetRecord
+offset_of c in_full time = if in_full then full_of c time else MinutePrecision (minutes_of c time)
+
+-- a sign, and a time of a shape that the clock has, and what they stand for
+pub record IsSigned {O : Type 0} (written_as : Clock) (record_of : ℕ → TimeShape → TimeRecord → O) (text : Text) (offset : O) : Type 0 where
+  pub c : ℕ
+  pub body : Text
+  pub shape : TimeShape
+  pub time : TimeRecord
+  pub is : text ≡ Plain c ∷ body
+  pub sign : IsTrue (sign c)
+  pub clock : ClockOf written_as shape body time
+  pub value : offset ≡ record_of c shape time
+
+-- a sign, and one of the five shapes of a time
+abbrev pub IsOffset : Text → UtcOffsetRecord → Type 0
+IsOffset text offset = IsSigned clocks.Offset (λ c shape time. offset_of c (writes_seconds shape) time) text offset
+
+abbrev pub IsOffsetOrZ : Text → UtcOffsetRecordOrZ → Type 0
+IsOffsetOrZ text found = ((offset : UtcOffsetRecord) × IsOffset text offset × (found ≡ Offset offset)) ⊎ (one zulu text × (found ≡ Z))
+
+-- the same without seconds
+abbrev pub IsMinuteOffset : Text → MinutePrecisionOffset → Type 0
+IsMinuteOffset text offset = IsSigned clocks.MinuteOffset (λ c shape time. minutes_of c time) text offset

@@ -1,0 +1,36 @@
+-- The readers.
+use Rattle.std.specs.Prelude.{Bool, true, false}
+use Rattle.ixdtf_grammar.specs.declared.profile.Profile.{Profile}
+
+-- what stands before the brackets of a text: a date, or a date and a time; a year and a month; and, of a profile, a month and
+-- a day; a time
+pub data CoreKind : Type 0 where
+  date_time year_month : CoreKind
+  month_day time_alone : Profile → CoreKind
+
+-- the readers: of a core and the brackets after it, of an offset, of a time zone, of the name of one, and of a duration under
+-- a profile
+pub data Reader : Type 0 where
+  bracketed : CoreKind → Reader
+  parse_offset parse_identifier parse_iana_identifier : Reader
+  parse_duration : Profile → Reader
+
+abbrev pub parse : Reader
+parse = bracketed date_time
+
+abbrev pub parse_year_month : Reader
+parse_year_month = bracketed year_month
+
+abbrev pub parse_month_day : Profile → Reader
+parse_month_day profile = bracketed (month_day profile)
+
+abbrev pub parse_time : Profile → Reader
+parse_time profile = bracketed (time_alone profile)
+
+-- whether brackets may follow what the reader reads; what may follow a part of it depends on this
+abbrev pub has_brackets : Reader → Bool
+has_brackets (bracketed kind) = true
+has_brackets parse_offset = false
+has_brackets parse_identifier = false
+has_brackets parse_iana_identifier = false
+has_brackets (parse_duration profile) = false

@@ -1,0 +1,46 @@
+-- The date-times of RFC 3339 section 5.6, by its own productions.
+use Rattle.std.specs.Prelude.{◌≡◌, ◌≤◌, ℕ, suc, [], ◌∷◌, ◌++◌, pos}
+use Rattle.ixdtf_grammar.specs.language.Letters.{Text}
+use Rattle.ixdtf_grammar.specs.language.Letters.Letter.{Plain}
+use Rattle.ixdtf_grammar.specs.language.Letters.{sign, zulu, time_letter}
+use Rattle.ixdtf_grammar.specs.language.Shapes.{Shape, nothing, one, ◌then◌, ◌either◌, digits}
+use Rattle.ixdtf_grammar.specs.language.Digits.{decimal, TwoDigits, UpTo}
+use Rattle.ixdtf_grammar.specs.language.Dates.{Month, month_length}
+
+-- `date-fullyear "-" date-month "-" date-mday`, the day within the month
+pub record FullDate (text : Text) : Type 0 where
+  pub years : Text
+  pub months : Text
+  pub days : Text
+  pub month : ℕ
+  pub day : ℕ
+  pub is : text ≡ years ++ (Plain 45 ∷ (months ++ (Plain 45 ∷ days)))
+  pub is_year : digits 4 years
+  pub is_month : Month months month
+  pub is_day : TwoDigits days day
+  pub from_one : 1 ≤ day
+  pub in_month : day ≤ month_length (pos (decimal years)) month
+
+-- `:`
+abbrev pub colon_mark : Shape
+colon_mark text = text ≡ Plain 58 ∷ []
+
+-- a number of two digits, at most so great
+abbrev pub AtMost : ℕ → Shape
+AtMost greatest text = (n : ℕ) × UpTo greatest text n
+
+-- `time-hour ":" time-minute ":" time-second`
+abbrev pub WholeTime : Shape
+WholeTime = AtMost 23 then colon_mark then AtMost 59 then colon_mark then AtMost 60
+
+-- `time-secfrac`: `.` and one or more digits
+abbrev pub SecondFraction : Shape
+SecondFraction text = (ds : Text) × (n : ℕ) × (text ≡ Plain 46 ∷ ds) × digits (suc n) ds
+
+-- `time-offset`: `Z`, or a sign, hours, `:` and minutes
+abbrev pub TimeOffset : Shape
+TimeOffset = one zulu either (one sign then AtMost 23 then colon_mark then AtMost 59)
+
+-- `full-date "T" full-time`, with `T` and `Z` in either case
+abbrev pub IsRfcDateTime : Shape
+IsRfcDateTime = FullDate then one time_letter then WholeTime then (nothing either SecondFraction) then TimeOffset

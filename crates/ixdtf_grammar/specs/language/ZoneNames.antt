@@ -1,0 +1,30 @@
+-- Zones: which texts are names of time zones (`time-zone-name` of RFC 9557 section 4.1), and what a zone is.
+use Rattle.std.specs.Prelude.{◌≡◌, ℕ, ◌⊎◌, List, map}
+use Rattle.ixdtf_grammar.specs.declared.records.MinutePrecisionOffset.{MinutePrecisionOffset}
+use Rattle.ixdtf_grammar.specs.language.Letters.{Text}
+use Rattle.ixdtf_grammar.specs.language.Letters.Letter.{Plain}
+use Rattle.ixdtf_grammar.specs.language.Letters.{zone_lead, zone_char, slash}
+use Rattle.ixdtf_grammar.specs.language.Shapes.{Shape, one, ◌then◌, ◌either◌, many}
+use Rattle.ixdtf_grammar.specs.language.Offsets.{IsMinuteOffset}
+
+-- a letter of a name, or a slash and a letter
+abbrev pub NameItem : Shape
+NameItem = one zone_char either (one slash then one zone_char)
+
+abbrev pub ZoneName : Shape
+ZoneName = one zone_lead then many NameItem
+
+-- the name, by the numbers of its units
+abbrev pub IsZoneName : Text → List ℕ → Type 0
+IsZoneName text name = ZoneName text × (text ≡ map Plain name)
+
+-- a zone: a name by the numbers of its units, or an offset
+pub data Zone : Type 0 where
+  Name : List ℕ → Zone
+  Offset : MinutePrecisionOffset → Zone
+
+-- a name, or an offset without seconds
+abbrev pub IsZone : Text → Zone → Type 0
+IsZone text zone =
+    ((name : List ℕ) × IsZoneName text name × (zone ≡ Name name))
+    ⊎ ((offset : MinutePrecisionOffset) × IsMinuteOffset text offset × (zone ≡ Offset offset))

@@ -1,0 +1,10 @@
+-- table.
+pub mod Before
+pub mod DurationFronts
+pub mod ErrorEquality
+pub mod ErrorTexts
+pub mod Faults
+pub mod LineNames
+pub mod Lines
+pub mod Outcomes
+pub mod Rows

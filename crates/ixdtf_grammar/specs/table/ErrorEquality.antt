@@ -1,0 +1,154 @@
+-- When two errors are equal: where they are one variant, and their locations have equal bytes.
+use Rattle.std.specs.Prelude.{◌≡◌, ℕ, Bool, List, [], ◌∷◌, slice_index_or, refl}
+use Rattle.std.proofs.Common.{sym, ap, ◌∙◌}
+use Rattle.std.specs.Bool.{Decides}
+use Rattle.std.specs.Ordering.{on}
+use Rattle.std.specs.Str.{bytes_eq}
+use Rattle.std.specs.Cmp.{IsPartialEquivalence, partial_equiv_from_equiv}
+use Rattle.std.specs.Cmp.Lexicographic.{on_texts_equal}
+use Rattle.std.proofs.lemmas.Slice.Eq.{bytes_eq-Decides}
+use Rattle.ixdtf_grammar.specs.declared.error.ParseError.{ParseError}
+use Rattle.ixdtf_grammar.specs.table.Faults.{Fault, fault_of}
+use Rattle.ixdtf_grammar.specs.table.Faults.Fault.{ImplAssert, NonAsciiCodePoint, ParseFloat, AbruptEnd, InvalidEnd, InvalidMonthRange, InvalidDayRange, DateYear}
+use Rattle.ixdtf_grammar.specs.table.Faults.Fault.{DateExtendedYear, DateMonth, DateDay, DateUnexpectedEnd, TimeRequired, TimeHour, TimeMinuteSecond, TimeSecond}
+use Rattle.ixdtf_grammar.specs.table.Faults.Fault.{FractionPart, DateSeparator, TimeSeparator, DecimalSeparator, InvalidAnnotation, AnnotationOpen, AnnotationClose}
+use Rattle.ixdtf_grammar.specs.table.Faults.Fault.{AnnotationChar, AnnotationKeyValueSeparator, AnnotationKeyLeadingChar, AnnotationKeyChar}
+use Rattle.ixdtf_grammar.specs.table.Faults.Fault.{AnnotationValueCharPostHyphen, AnnotationValueChar, InvalidMinutePrecisionOffset, CriticalDuplicateCalendar}
+use Rattle.ixdtf_grammar.specs.table.Faults.Fault.{UnrecognizedCritical, TzLeadingChar, IanaCharPostSeparator, IanaChar, UtcTimeSeparator, OffsetNeedsSign}
+use Rattle.ixdtf_grammar.specs.table.Faults.Fault.{MonthDayHyphen, DurationDisgnator, DurationValueExceededRange, DateDurationPartOrder, TimeDurationPartOrder}
+use Rattle.ixdtf_grammar.specs.table.Faults.Fault.{TimeDurationDesignator, AmbiguousTimeMonthDay, AmbiguousTimeYearMonth, InvalidMonthDay}
+
+-- the place of a fault in the list of faults
+abbrev pub place_of : Fault → ℕ
+place_of ImplAssert = 0
+place_of NonAsciiCodePoint = 1
+place_of ParseFloat = 2
+place_of (AbruptEnd location) = 3
+place_of InvalidEnd = 4
+place_of InvalidMonthRange = 5
+place_of InvalidDayRange = 6
+place_of DateYear = 7
+place_of DateExtendedYear = 8
+place_of DateMonth = 9
+place_of DateDay = 10
+place_of DateUnexpectedEnd = 11
+place_of TimeRequired = 12
+place_of TimeHour = 13
+place_of TimeMinuteSecond = 14
+place_of TimeSecond = 15
+place_of FractionPart = 16
+place_of DateSeparator = 17
+place_of TimeSeparator = 18
+place_of DecimalSeparator = 19
+place_of InvalidAnnotation = 20
+place_of AnnotationOpen = 21
+place_of AnnotationClose = 22
+place_of AnnotationChar = 23
+place_of AnnotationKeyValueSeparator = 24
+place_of AnnotationKeyLeadingChar = 25
+place_of AnnotationKeyChar = 26
+place_of AnnotationValueCharPostHyphen = 27
+place_of AnnotationValueChar = 28
+place_of InvalidMinutePrecisionOffset = 29
+place_of CriticalDuplicateCalendar = 30
+place_of UnrecognizedCritical = 31
+place_of TzLeadingChar = 32
+place_of IanaCharPostSeparator = 33
+place_of IanaChar = 34
+place_of UtcTimeSeparator = 35
+place_of OffsetNeedsSign = 36
+place_of MonthDayHyphen = 37
+place_of DurationDisgnator = 38
+place_of DurationValueExceededRange = 39
+place_of DateDurationPartOrder = 40
+place_of TimeDurationPartOrder = 41
+place_of TimeDurationDesignator = 42
+place_of AmbiguousTimeMonthDay = 43
+place_of AmbiguousTimeYearMonth = 44
+place_of InvalidMonthDay = 45
+
+-- the location of a fault, or nothing
+abbrev pub location_of : Fault → List ℕ
+location_of (AbruptEnd location) = location
+location_of fault = []
+
+-- the place and the location in one list
+abbrev pub spelled : Fault → List ℕ
+spelled f = place_of f ∷ location_of f
+
+-- whether two errors are one
+abbrev pub same_error : ParseError → ParseError → Bool
+same_error = on (λ e. spelled (fault_of e)) bytes_eq
+
+pub same_error-laws : IsPartialEquivalence same_error
+same_error-laws = partial_equiv_from_equiv (on_texts_equal (λ e. spelled (fault_of e)))
+
+-- each fault, in the order of their places
+faults : List ℕ → List Fault
+faults location =
+    ImplAssert ∷ NonAsciiCodePoint ∷ ParseFloat ∷ AbruptEnd location ∷ InvalidEnd ∷ InvalidMonthRange ∷ InvalidDayRange ∷ DateYear ∷
+    DateExtendedYear ∷ DateMonth ∷ DateDay ∷ DateUnexpectedEnd ∷ TimeRequired ∷ TimeHour ∷ TimeMinuteSecond ∷ TimeSecond ∷ FractionPart ∷
+    DateSeparator ∷ TimeSeparator ∷ DecimalSeparator ∷ InvalidAnnotation ∷ AnnotationOpen ∷ AnnotationClose ∷ AnnotationChar ∷
+    AnnotationKeyValueSeparator ∷ AnnotationKeyLeadingChar ∷ AnnotationKeyChar ∷ AnnotationValueCharPostHyphen ∷ AnnotationValueChar ∷
+    InvalidMinutePrecisionOffset ∷ CriticalDuplicateCalendar ∷ UnrecognizedCritical ∷ TzLeadingChar ∷ IanaCharPostSeparator ∷ IanaChar ∷
+    UtcTimeSeparator ∷ OffsetNeedsSign ∷ MonthDayHyphen ∷ DurationDisgnator ∷ DurationValueExceededRange ∷ DateDurationPartOrder ∷
+    TimeDurationPartOrder ∷ TimeDurationDesignator ∷ AmbiguousTimeMonthDay ∷ AmbiguousTimeYearMonth ∷ InvalidMonthDay ∷ []
+
+-- the fault that is spelled so
+fault_at : List ℕ → Fault
+fault_at [] = ImplAssert
+fault_at (place ∷ location) = slice_index_or (faults location) place ImplAssert
+
+fault_at-spelled : (f : Fault) → fault_at (spelled f) ≡ f
+unfolding fault_at faults
+fault_at-spelled ImplAssert = refl
+fault_at-spelled NonAsciiCodePoint = refl
+fault_at-spelled ParseFloat = refl
+fault_at-spelled (AbruptEnd location) = refl
+fault_at-spelled InvalidEnd = refl
+fault_at-spelled InvalidMonthRange = refl
+fault_at-spelled InvalidDayRange = refl
+fault_at-spelled DateYear = refl
+fault_at-spelled DateExtendedYear = refl
+fault_at-spelled DateMonth = refl
+fault_at-spelled DateDay = refl
+fault_at-spelled DateUnexpectedEnd = refl
+fault_at-spelled TimeRequired = refl
+fault_at-spelled TimeHour = refl
+fault_at-spelled TimeMinuteSecond = refl
+fault_at-spelled TimeSecond = refl
+fault_at-spelled FractionPart = refl
+fault_at-spelled DateSeparator = refl
+fault_at-spelled TimeSeparator = refl
+fault_at-spelled DecimalSeparator = refl
+fault_at-spelled InvalidAnnotation = refl
+fault_at-spelled AnnotationOpen = refl
+fault_at-spelled AnnotationClose = refl
+fault_at-spelled AnnotationChar = refl
+fault_at-spelled AnnotationKeyValueSeparator = refl
+fault_at-spelled AnnotationKeyLeadingChar = refl
+fault_at-spelled AnnotationKeyChar = refl
+fault_at-spelled AnnotationValueCharPostHyphen = refl
+fault_at-spelled AnnotationValueChar = refl
+fault_at-spelled InvalidMinutePrecisionOffset = refl
+fault_at-spelled CriticalDuplicateCalendar = refl
+fault_at-spelled UnrecognizedCritical = refl
+fault_at-spelled TzLeadingChar = refl
+fault_at-spelled IanaCharPostSeparator = refl
+fault_at-spelled IanaChar = refl
+fault_at-spelled UtcTimeSeparator = refl
+fault_at-spelled OffsetNeedsSign = refl
+fault_at-spelled MonthDayHyphen = refl
+fault_at-spelled DurationDisgnator = refl
+fault_at-spelled DurationValueExceededRange = refl
+fault_at-spelled DateDurationPartOrder = refl
+fault_at-spelled TimeDurationPartOrder = refl
+fault_at-spelled TimeDurationDesignator = refl
+fault_at-spelled AmbiguousTimeMonthDay = refl
+fault_at-spelled AmbiguousTimeYearMonth = refl
+fault_at-spelled InvalidMonthDay = refl
+
+pub same_error-Decides : (a b : ParseError) → Decides (same_error a b) (fault_of a ≡ fault_of b)
+same_error-Decides a b =
+    let both = bytes_eq-Decides (spelled (fault_of a)) (spelled (fault_of b)) in
+    (λ h. sym (fault_at-spelled (fault_of a)) ∙ ap fault_at (both.0 h) ∙ fault_at-spelled (fault_of b), λ e. both.1 (ap spelled e))

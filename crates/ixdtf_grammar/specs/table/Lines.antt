@@ -1,0 +1,420 @@
+-- The fault table, line by line.
+use Rattle.std.specs.Prelude.{◌≡◌, ◌⊎◌, IsTrue, ℕ, ◌<◌, ◌&&◌, ◌||◌, Bool, codes, if◌then◌else◌}
+use Rattle.ixdtf_grammar.specs.declared.profile.Profile.{Profile}
+use Rattle.ixdtf_grammar.specs.declared.records.DateRecord.{DateRecord}
+use Rattle.ixdtf_grammar.specs.language.Letters.{Text, Class, ◌or◌, none, digit, sign, hyphen, colon, decimal_mark, date_time_separator, zulu, opening, closing}
+use Rattle.ixdtf_grammar.specs.language.Letters.{time_letter}
+use Rattle.ixdtf_grammar.specs.language.Letters.{exclamation, equals, slash, zone_lead, zone_char, key_lead, key_char, value_char, duration_designator}
+use Rattle.ixdtf_grammar.specs.language.Shapes.{Shape, nothing, one, ◌then◌, ◌either◌, digits, fewer_digits_than, some, many}
+use Rattle.ixdtf_grammar.specs.language.Digits.{decimal, UpTo}
+use Rattle.ixdtf_grammar.specs.table.Faults.{Fault}
+use Rattle.ixdtf_grammar.specs.table.Faults.Fault.{AbruptEnd, InvalidEnd, InvalidMonthRange, InvalidDayRange, DateYear, DateExtendedYear, DateMonth, DateDay}
+use Rattle.ixdtf_grammar.specs.table.Faults.Fault.{DateSeparator, TimeHour, TimeMinuteSecond, TimeSecond, TimeSeparator, FractionPart, UtcTimeSeparator}
+use Rattle.ixdtf_grammar.specs.table.Faults.Fault.{InvalidMinutePrecisionOffset, OffsetNeedsSign, TzLeadingChar, IanaChar, IanaCharPostSeparator, AnnotationClose}
+use Rattle.ixdtf_grammar.specs.table.Faults.Fault.{AnnotationKeyLeadingChar, AnnotationKeyChar, AnnotationKeyValueSeparator, AnnotationValueChar}
+use Rattle.ixdtf_grammar.specs.table.Faults.Fault.{DurationDisgnator, DurationValueExceededRange, DateDurationPartOrder, TimeDurationPartOrder, TimeDurationDesignator}
+use Rattle.ixdtf_grammar.specs.table.Faults.Fault.{AnnotationValueCharPostHyphen, MonthDayHyphen, InvalidMonthDay, AmbiguousTimeMonthDay, AmbiguousTimeYearMonth}
+use Rattle.ixdtf_grammar.specs.language.Dates.{Year, Month, DateText, IsDayOfMonth, IsDate}
+use Rattle.ixdtf_grammar.specs.language.Months.{Marks, OptionalHyphen, IsYearMonth, MonthDayText, IsDayOfSomeYear, IsMonthDay}
+use Rattle.ixdtf_grammar.specs.language.Times.{Clock, ClockOf, BasicMinuteText, ColonMinuteText, greatest_second, has_seconds}
+use Rattle.ixdtf_grammar.specs.language.Times.Clock.{Time, Offset, MinuteOffset}
+use Rattle.ixdtf_grammar.specs.language.Times.TimeShape.{hours, basic_minutes, colon_minutes, seconds, fractions}
+use Rattle.ixdtf_grammar.specs.language.ZoneNames.{ZoneName}
+use Rattle.ixdtf_grammar.specs.language.Brackets.{skipped, Key, Value}
+use Rattle.ixdtf_grammar.specs.language.Readers.{Reader, has_brackets}
+use Rattle.ixdtf_grammar.specs.language.Fractions.{SomeDigits}
+use Rattle.ixdtf_grammar.specs.language.Durations.{Half, Number, SignedDesignator, designator}
+use Rattle.ixdtf_grammar.specs.language.Durations.{Half as halves}
+use Rattle.ixdtf_grammar.specs.table.DurationFronts.{InContext, AfterDateGroups, AfterTimeDesignator, AfterTimeGroups, ValuePast, OutOfOrder, UnitPast, LastGroup}
+use Rattle.ixdtf_grammar.specs.table.DurationFronts.{group_mark}
+use Rattle.ixdtf_grammar.specs.table.LineNames.{DateLine, YearMonthLine, MonthDayLine, TimeLine, CoreLine, ClockLine, OffsetLine, ZoneLine, BracketLine, PairLine}
+use Rattle.ixdtf_grammar.specs.table.LineNames.{DurationLine, LineName}
+use Rattle.ixdtf_grammar.specs.table.LineNames.DateLine.{year_start, year_digits, extended_year_digits, minus_zero_year, after_year, month_digits, month_range}
+use Rattle.ixdtf_grammar.specs.table.LineNames.DateLine.{after_hyphened_month, after_basic_month, day_digits, day_range, after_date}
+use Rattle.ixdtf_grammar.specs.table.LineNames.YearMonthLine.{after_year_in_year_month, after_year_month}
+use Rattle.ixdtf_grammar.specs.table.LineNames.MonthDayLine.{month_day_start, month_day_hyphen, month_day_month_digits, month_day_month_range}
+use Rattle.ixdtf_grammar.specs.table.LineNames.MonthDayLine.{after_month_day_month, month_day_day_digits, month_day_range, after_month_day}
+use Rattle.ixdtf_grammar.specs.table.LineNames.TimeLine.{time_start, time_reads_as_month_day, time_reads_as_year_month}
+use Rattle.ixdtf_grammar.specs.table.LineNames.CoreLine.{dates, year_months, month_days, times}
+use Rattle.ixdtf_grammar.specs.table.LineNames.ClockLine.{hour_start, hour_digit, hour_range, after_hour, minute_digits, minute_range, after_basic_minute}
+use Rattle.ixdtf_grammar.specs.table.LineNames.ClockLine.{after_colon_minute, second_digits, second_range, after_second, fraction_start, after_fraction}
+use Rattle.ixdtf_grammar.specs.table.LineNames.OffsetLine.{offset_start, after_zulu}
+use Rattle.ixdtf_grammar.specs.table.LineNames.ZoneLine.{identifier_start, zone_name_start, in_zone_name, after_zone_slash}
+use Rattle.ixdtf_grammar.specs.table.LineNames.BracketLine.{first_bracket_start, first_critical_start, first_bracket_scan, after_bracket}
+use Rattle.ixdtf_grammar.specs.table.LineNames.PairLine.{key_start, critical_key_start, in_key, value_start, in_value, after_value_hyphen}
+use Rattle.ixdtf_grammar.specs.table.LineNames.DurationLine.{duration_start, after_duration_sign, after_duration_designator, after_date_groups}
+use Rattle.ixdtf_grammar.specs.table.LineNames.DurationLine.{after_time_designator, group_digits, group_value_range, unit_order, date_unit_range}
+use Rattle.ixdtf_grammar.specs.table.LineNames.DurationLine.{group_fraction_start, group_fraction_digits, after_time_groups, after_fraction_group}
+use Rattle.ixdtf_grammar.specs.table.LineNames.LineName.{of_core, of_clock, of_offset, of_zone, of_bracket, of_pair, of_duration}
+
+-- what the end of the text is after a front: no fault, or an error
+pub data Ending : Type 0 where
+  ok : Ending
+  error : Fault → Ending
+
+-- A line has a front, the letters that go on, what the end is, and the error at each other letter.
+-- A scanned line goes on with any letter, and the end is its error.
+-- A whole line has a front, and its error stands whatever follows.
+pub data Line : Type 1 where
+  line : Shape → Class → Ending → (ℕ → Fault) → Line
+  scanned : Shape → Fault → Line
+  whole : Shape → Fault → Line
+
+-- one error at every other letter
+abbrev pub always : Fault → ℕ → Fault
+always fault c = fault
+
+abbrev pub abrupt_digit : Fault
+abrupt_digit = AbruptEnd (codes "digit")
+
+abbrev pub abrupt_date : Fault
+abrupt_date = AbruptEnd (codes "Date")
+
+abbrev pub abrupt_month_day : Fault
+abrupt_month_day = AbruptEnd (codes "MonthDay")
+
+abbrev pub abrupt_offset : Fault
+abrupt_offset = AbruptEnd (codes "time-numoffset")
+
+abbrev pub abrupt_zone : Fault
+abrupt_zone = AbruptEnd (codes "TimeZoneAnnotation")
+
+abbrev pub abrupt_bracket : Fault
+abrupt_bracket = AbruptEnd (codes "AmbiguousAnnotation")
+
+abbrev pub abrupt_duration_start : Fault
+abrupt_duration_start = AbruptEnd (codes "DurationStart")
+
+abbrev pub abrupt_duration_designator : Fault
+abrupt_duration_designator = AbruptEnd (codes "DurationDesignator")
+
+abbrev pub abrupt_duration : Fault
+abrupt_duration = AbruptEnd (codes "Duration")
+
+abbrev pub abrupt_date_designator : Fault
+abrupt_date_designator = AbruptEnd (codes "DateDurationDesignator")
+
+abbrev pub abrupt_time_designator : Fault
+abrupt_time_designator = AbruptEnd (codes "TimeDurationDesignator")
+
+-- ---- shapes of fronts
+
+-- `-000000`
+abbrev pub MinusZero : Shape
+MinusZero = one hyphen then (λ ds. digits 6 ds × (decimal ds ≡ 0))
+
+-- a hyphen, a hyphen and a digit, or a digit
+abbrev pub HyphenOrDigit : Shape
+HyphenOrDigit = one hyphen either (one hyphen then one digit) either one digit
+
+-- two digits that are no month
+abbrev pub NoMonth : Shape
+NoMonth text = digits 2 text × ((decimal text ≡ 0) ⊎ (12 < decimal text))
+
+abbrev pub BasicDay : Shape
+BasicDay = some Year then some Month then one digit
+
+abbrev pub HyphenedDay : Shape
+HyphenedDay = some Year then one hyphen then some Month then one hyphen then fewer_digits_than 2
+
+-- a date's shape, and a day that the month does not have
+abbrev pub NoDayOfMonth : Text → DateRecord → Type 0
+NoDayOfMonth text date = DateText text date × ¬ (IsDayOfMonth date)
+
+-- two digits past the greatest number of their place
+abbrev pub Past : ℕ → Shape
+Past greatest text = digits 2 text × (greatest < decimal text)
+
+abbrev pub Hour : Text → ℕ → Type 0
+Hour = UpTo 23
+
+-- a colon, a colon and a digit, or a digit
+abbrev pub ColonOrDigit : Shape
+ColonOrDigit = one colon either (one colon then one digit) either one digit
+
+-- a minute, and fewer than two digits of a second, where seconds may be written
+abbrev pub SecondDigits : Clock → Shape
+SecondDigits clock text = IsTrue (has_seconds clock)
+    × ((some BasicMinuteText then one digit) either (some ColonMinuteText then one colon then fewer_digits_than 2)) text
+
+abbrev pub SecondPast : Clock → Shape
+SecondPast clock text = IsTrue (has_seconds clock)
+    × ((some BasicMinuteText then Past (greatest_second clock)) either (some ColonMinuteText then one colon then Past (greatest_second clock))) text
+
+-- ---- dates
+
+abbrev pub date_line : DateLine → Line
+-- no letter of a year yet
+date_line year_start = line nothing (digit or sign) (error abrupt_digit) (always DateYear)
+-- one to three digits of a year
+date_line year_digits = line (one digit then fewer_digits_than 3) digit (error abrupt_digit) (always DateYear)
+-- a sign, and fewer than six digits
+date_line extended_year_digits = line (one sign then fewer_digits_than 6) digit (error abrupt_digit) (always DateExtendedYear)
+-- `-000000`
+date_line minus_zero_year = whole MinusZero DateExtendedYear
+-- a year
+date_line after_year = line (some Year) (hyphen or digit) (error abrupt_date) (always DateMonth)
+-- a year, and the beginning of a month
+date_line month_digits = line (some Year then HyphenOrDigit) digit (error abrupt_digit) (always DateMonth)
+-- two digits in a month's place that are no month
+date_line month_range = whole (some Year then (nothing either one hyphen) then NoMonth) InvalidMonthRange
+-- a year, a hyphen and a month
+date_line after_hyphened_month = line (some Year then one hyphen then some Month) hyphen (error DateSeparator) (always DateSeparator)
+-- a year and a month
+date_line after_basic_month = line (some Year then some Month) digit (error abrupt_digit) (λ c. if hyphen c then DateSeparator else DateDay)
+-- what stands before a day, and fewer than two digits of it
+date_line day_digits = line (BasicDay either HyphenedDay) digit (error abrupt_digit) (always DateDay)
+-- a date's shape, with a day that the month does not have
+date_line day_range = whole (some NoDayOfMonth) InvalidDayRange
+-- a date
+date_line after_date = line (some IsDate) (date_time_separator or opening) ok (always InvalidEnd)
+
+-- ---- year-months
+
+abbrev pub year_month_line : YearMonthLine → Line
+-- a year, where no date may follow
+year_month_line after_year_in_year_month = line (some Year) (hyphen or digit) (error abrupt_digit) (always DateMonth)
+-- a year-month
+year_month_line after_year_month = line (some IsYearMonth) opening ok (always InvalidEnd)
+
+-- ---- month-days
+
+-- two hyphens, or one digit of a month
+abbrev pub MonthDayMonthDigits : Shape
+MonthDayMonthDigits = (one hyphen then one hyphen) either (Marks then one digit)
+
+-- a month and a hyphen, or one digit of a day
+abbrev pub MonthDayDayDigits : Shape
+MonthDayDayDigits = Marks then some Month then (one hyphen either (OptionalHyphen then one digit))
+
+-- a month-day's shape, with a day that its month never has, or below the least
+abbrev pub NoMonthDay : Profile → Text → DateRecord → Type 0
+NoMonthDay profile text date = MonthDayText text date × ¬ (IsDayOfSomeYear profile date)
+
+abbrev pub month_day_line : MonthDayLine → Line
+-- no letter of a month-day yet
+month_day_line month_day_start = line nothing (hyphen or digit) (error abrupt_month_day) (always DateMonth)
+-- the first of two hyphens
+month_day_line month_day_hyphen = line (one hyphen) hyphen (error abrupt_month_day) (always MonthDayHyphen)
+-- what stands before a month, and fewer than two digits of it
+month_day_line month_day_month_digits = line MonthDayMonthDigits digit (error abrupt_digit) (always DateMonth)
+-- two digits that are no month
+month_day_line month_day_month_range = whole (Marks then NoMonth) InvalidMonthRange
+-- a month
+month_day_line after_month_day_month = line (Marks then some Month) (hyphen or digit) (error abrupt_digit) (always DateDay)
+-- what stands before a day, and fewer than two digits of it
+month_day_line month_day_day_digits = line MonthDayDayDigits digit (error abrupt_digit) (always DateDay)
+-- a month-day's shape, with a day out of range
+month_day_line (month_day_range profile) = whole (some (NoMonthDay profile)) InvalidMonthDay
+-- a month-day
+month_day_line (after_month_day profile) = line (some (IsMonthDay profile)) opening ok (always InvalidEnd)
+
+-- ---- the other lines of times that stand alone
+
+abbrev pub time_line : TimeLine → Line
+-- no letter of a time yet
+time_line time_start = line nothing (digit or time_letter) (error abrupt_digit) (always TimeHour)
+-- a month-day
+time_line (time_reads_as_month_day profile) = whole (some (IsMonthDay profile)) AmbiguousTimeMonthDay
+-- a year-month
+time_line time_reads_as_year_month = whole (some IsYearMonth) AmbiguousTimeYearMonth
+
+abbrev pub core_line : CoreLine → Line
+core_line (dates name) = date_line name
+core_line (year_months name) = year_month_line name
+core_line (month_days name) = month_day_line name
+core_line (times name) = time_line name
+
+-- ---- times, and offsets after their sign
+
+-- what may follow a part: the letters, what the end is, and the error at another letter
+pub record Follow : Type 0 where
+  pub letters : Class
+  pub at_end : Ending
+  pub at_other : Fault
+
+-- letters of the class where seconds may be written, else none
+abbrev pub seconds_after : Clock → Class → Class
+seconds_after clock class c = has_seconds clock && class c
+
+-- the error at a colon or a digit that does not go on after a minute
+abbrev pub mixed : Clock → Fault
+mixed Time = TimeSeparator
+mixed Offset = UtcTimeSeparator
+mixed MinuteOffset = InvalidMinutePrecisionOffset
+
+-- the error at a second
+abbrev pub second_fault : Clock → Fault
+second_fault Time = TimeSecond
+second_fault Offset = TimeMinuteSecond
+second_fault MinuteOffset = TimeMinuteSecond
+
+-- the error at another letter after a minute
+abbrev pub after_minute : Follow → Clock → ℕ → Fault
+after_minute follow clock c = if colon c || digit c then mixed clock else follow.at_other
+
+abbrev pub clock_line : Follow → Clock → ClockLine → Line
+-- no digit of an hour yet
+clock_line follow clock hour_start = line nothing digit (error abrupt_digit) (always TimeHour)
+-- one digit of an hour
+clock_line follow clock hour_digit = line (one digit) digit (error abrupt_digit) (always TimeHour)
+-- two digits that are no hour
+clock_line follow clock hour_range = whole (Past 23) TimeHour
+-- an hour
+clock_line follow clock after_hour = line (some (ClockOf clock hours)) (colon or digit or follow.letters) follow.at_end (always follow.at_other)
+-- an hour, and the beginning of a minute
+clock_line follow clock minute_digits = line (some Hour then ColonOrDigit) digit (error abrupt_digit) (always TimeMinuteSecond)
+-- two digits that are no minute
+clock_line follow clock minute_range = whole (some Hour then (nothing either one colon) then Past 59) TimeMinuteSecond
+-- an hour and a minute
+clock_line follow clock after_basic_minute =
+    line (some (ClockOf clock basic_minutes)) (seconds_after clock digit or follow.letters) follow.at_end (after_minute follow clock)
+-- an hour, a colon and a minute
+clock_line follow clock after_colon_minute =
+    line (some (ClockOf clock colon_minutes)) (seconds_after clock colon or follow.letters) follow.at_end (after_minute follow clock)
+-- what stands before a second, and fewer than two digits of it
+clock_line follow clock second_digits = line (SecondDigits clock) digit (error abrupt_digit) (always (second_fault clock))
+-- two digits that are no second
+clock_line follow clock second_range = whole (SecondPast clock) (second_fault clock)
+-- seconds, and no fraction
+clock_line follow clock after_second = line (some (ClockOf clock seconds)) (decimal_mark or follow.letters) follow.at_end (always follow.at_other)
+-- seconds, and a decimal mark
+clock_line follow clock fraction_start = line (some (ClockOf clock seconds) then one decimal_mark) digit (error FractionPart) (always FractionPart)
+-- a fraction
+clock_line follow clock after_fraction = line (some (ClockOf clock fractions)) (digit or follow.letters) follow.at_end (always follow.at_other)
+
+-- ---- the other lines of offsets
+
+abbrev pub offset_line : OffsetLine → Line
+-- no sign yet
+offset_line offset_start = line nothing sign (error abrupt_offset) (always OffsetNeedsSign)
+-- `Z` or `z`
+offset_line after_zulu = line (one zulu) opening ok (always InvalidEnd)
+
+-- ---- zone names
+
+-- what may follow a zone name, in a bracket or where the name stands alone
+abbrev pub zone_end : Bool → Ending
+zone_end in_bracket = if in_bracket then error AnnotationClose else ok
+
+abbrev pub zone_letters : Bool → Class
+zone_letters in_bracket = if in_bracket then zone_char or slash or closing else zone_char or slash
+
+abbrev pub zone_other : Bool → ℕ → Fault
+zone_other in_bracket c = if in_bracket then IanaChar else (if closing c then InvalidEnd else IanaChar)
+
+abbrev pub zone_line : Bool → ZoneLine → Line
+-- no letter of a name or an offset yet
+zone_line in_bracket identifier_start = line nothing (zone_lead or sign) (error abrupt_zone) (always TzLeadingChar)
+-- no letter of a name yet
+zone_line in_bracket zone_name_start = line nothing zone_lead (error TzLeadingChar) (always TzLeadingChar)
+-- a name
+zone_line in_bracket in_zone_name = line ZoneName (zone_letters in_bracket) (zone_end in_bracket) (zone_other in_bracket)
+-- a name and a slash
+zone_line in_bracket after_zone_slash = line (ZoneName then one slash) zone_char (error IanaCharPostSeparator) (always IanaCharPostSeparator)
+
+-- ---- brackets
+
+-- a letter that a key may begin with, and letters that are neither `=` nor `]`
+abbrev pub LetterOfKey : Shape
+LetterOfKey = one key_lead then many (one skipped)
+
+abbrev pub bracket_line : BracketLine → Line
+-- `[`
+bracket_line first_bracket_start = line (one opening) (zone_lead or sign or exclamation) (error abrupt_bracket) (always TzLeadingChar)
+-- `[` and `!`
+bracket_line first_critical_start = line (one opening then one exclamation) (zone_lead or sign) (error abrupt_bracket) (always TzLeadingChar)
+-- neither `=` nor `]` yet
+bracket_line first_bracket_scan = scanned LetterOfKey abrupt_bracket
+-- whole brackets
+bracket_line after_bracket = line nothing opening ok (always InvalidEnd)
+
+-- ---- pairs
+
+abbrev pub pair_line : PairLine → Line
+-- the `[` of a bracket after others
+pair_line key_start = line (one opening) (key_lead or exclamation) (error AnnotationKeyLeadingChar) (always AnnotationKeyLeadingChar)
+-- the `[` of a bracket after others, and `!`
+pair_line critical_key_start = line (one opening then one exclamation) key_lead (error AnnotationKeyLeadingChar) (always AnnotationKeyLeadingChar)
+-- a key
+pair_line in_key = line Key (key_char or equals) (error AnnotationKeyValueSeparator) (always AnnotationKeyChar)
+-- a key and `=`
+pair_line value_start = line (Key then one equals) value_char (error AnnotationValueChar) (always AnnotationValueChar)
+-- a key, `=` and a value
+pair_line in_value = line (Key then one equals then Value) (value_char or hyphen or closing) (error AnnotationClose) (always AnnotationValueChar)
+-- a key, `=`, a value and a hyphen
+pair_line after_value_hyphen =
+    line (Key then one equals then Value then one hyphen) value_char (error AnnotationValueCharPostHyphen) (always AnnotationValueCharPostHyphen)
+
+-- ---- durations
+
+-- the error where a group has no letter of its half
+abbrev pub no_designator : Half → Fault
+no_designator halves.date = abrupt_date_designator
+no_designator halves.time = abrupt_time_designator
+
+-- the error of a group out of order
+abbrev pub order_fault : Half → Fault
+order_fault halves.date = DateDurationPartOrder
+order_fault halves.time = TimeDurationPartOrder
+
+abbrev pub duration_line : Profile → DurationLine → Line
+-- no sign and no `P` yet
+duration_line profile duration_start = line nothing (sign or duration_designator) (error abrupt_duration_start) (always DurationDisgnator)
+-- a sign
+duration_line profile after_duration_sign = line (one sign) duration_designator (error abrupt_duration_designator) (always DurationDisgnator)
+-- `P`
+duration_line profile after_duration_designator = line (some SignedDesignator) (digit or time_letter) (error abrupt_duration) (always InvalidEnd)
+-- date groups
+duration_line profile after_date_groups = line (AfterDateGroups profile) (digit or time_letter) ok (always InvalidEnd)
+-- `T`
+duration_line profile after_time_designator = line (AfterTimeDesignator profile) digit (error TimeDurationDesignator) (always TimeDurationDesignator)
+-- the digits of a group
+duration_line profile (group_digits half) =
+    line (InContext profile half (λ context. some Number)) (digit or designator half or group_mark half) (error (no_designator half))
+    (always (no_designator half))
+-- digits whose number is too great for any unit
+duration_line profile (group_value_range half) = whole (InContext profile half (λ context. ValuePast)) DurationValueExceededRange
+-- a group behind one of a shorter unit
+duration_line profile (unit_order half) = whole (InContext profile half (OutOfOrder profile half)) (order_fault half)
+-- a group in order whose number is too great for its unit
+duration_line profile date_unit_range = whole (InContext profile halves.date (UnitPast profile)) DurationValueExceededRange
+-- a number of times and a decimal mark
+duration_line profile group_fraction_start =
+    line (InContext profile halves.time (λ context. some Number then one decimal_mark)) digit (error FractionPart) (always FractionPart)
+-- a number of times, a decimal mark and digits
+duration_line profile group_fraction_digits =
+    line (InContext profile halves.time (λ context. some Number then one decimal_mark then SomeDigits)) (digit or designator halves.time)
+    (error abrupt_time_designator) (always abrupt_time_designator)
+-- time groups without fractions
+duration_line profile after_time_groups = line (AfterTimeGroups profile) digit ok (always InvalidEnd)
+-- time groups, the last with a fraction
+duration_line profile after_fraction_group = line (InContext profile halves.time (LastGroup profile)) none ok (always InvalidEnd)
+
+-- ---- the table of a reader
+
+-- what may follow a time or an offset where brackets may follow what the reader reads
+abbrev pub follow_before_brackets : Clock → Follow
+follow_before_brackets Time = record { letters = sign or zulu or opening; at_end = ok; at_other = InvalidEnd }
+follow_before_brackets Offset = record { letters = opening; at_end = ok; at_other = InvalidEnd }
+follow_before_brackets MinuteOffset = record { letters = closing; at_end = error AnnotationClose; at_other = AnnotationClose }
+
+-- nothing but the end
+abbrev pub end_alone : Follow
+end_alone = record { letters = none; at_end = ok; at_other = InvalidEnd }
+
+abbrev pub follow_of : Bool → Clock → Follow
+follow_of brackets clock = if brackets then follow_before_brackets clock else end_alone
+
+-- the lines, for a reader that has brackets or has none
+abbrev pub line_of : Bool → LineName → Line
+line_of brackets (of_core name) = core_line name
+line_of brackets (of_clock clock name) = clock_line (follow_of brackets clock) clock name
+line_of brackets (of_offset name) = offset_line name
+line_of brackets (of_zone name) = zone_line brackets name
+line_of brackets (of_bracket name) = bracket_line name
+line_of brackets (of_pair name) = pair_line name
+line_of brackets (of_duration profile name) = duration_line profile name
+
+abbrev pub table : Reader → LineName → Line
+table reader name = line_of (has_brackets reader) name

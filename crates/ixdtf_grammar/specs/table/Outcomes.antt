@@ -1,0 +1,56 @@
+-- The outcomes of a text: what is derived, or the row that fits.
+use Rattle.std.specs.Prelude.{◌≡◌, List, ◌++◌}
+use Rattle.ixdtf_grammar.specs.language.Letters.{Text}
+use Rattle.ixdtf_grammar.specs.language.Brackets.{Pair}
+use Rattle.ixdtf_grammar.specs.language.Readers.{Reader}
+use Rattle.ixdtf_grammar.specs.language.Languages.{Found, Derives}
+use Rattle.ixdtf_grammar.specs.table.Faults.{Fault}
+use Rattle.ixdtf_grammar.specs.table.Rows.{Row, Fits}
+
+-- a row with the error fits, with these whole pairs before it
+abbrev pub HasFault : Reader → Text → List Pair → Fault → Type 0
+HasFault reader text pairs fault = (row : Row) × Fits reader row pairs text × (row.error ≡ fault)
+
+-- no row fits the text
+abbrev pub NoRowFits : Reader → Text → Type 0
+NoRowFits reader text = (row : Row) (pairs : List Pair) → ¬ (Fits reader row pairs text)
+
+-- A row with the error fits, with these whole pairs before it. No other row fits, nor this one with other pairs, and nothing
+-- is derived.
+pub record OnlyFault (reader : Reader) (text : Text) (pairs : List Pair) (fault : Fault) : Type 0 where
+  pub row : Row
+  pub fits : Fits reader row pairs text
+  pub has : row.error ≡ fault
+  pub only : (other : Row) (before : List Pair) → Fits reader other before text → (other ≡ row) × (before ≡ pairs)
+  pub underived : (found : Found) (all : List Pair) → ¬ (Derives reader text found all)
+
+-- an outcome: what is derived, or a row of the fault table, with the pairs of the text or of the row's front
+pub data Outcome : Type 0 where
+  derived : Found → List Pair → Outcome
+  refused : Row → List Pair → Outcome
+
+-- the reader derives the record from the text, or the row fits the text
+abbrev pub Holds : Reader → Text → Outcome → Type 0
+Holds reader text (derived found pairs) = Derives reader text found pairs
+Holds reader text (refused row pairs) = Fits reader row pairs text
+
+abbrev pub ExactlyOne : {A : Type 0} → (A → Type 0) → Type 0
+ExactlyOne {A} p = (x : A) × p x × ((y : A) → p y → y ≡ x)
+
+-- each text has exactly one outcome in each reader
+abbrev pub OneOutcome : Type 0
+OneOutcome = (reader : Reader) (text : Text) → ExactlyOne (Holds reader text)
+
+-- the pairs of an outcome
+abbrev pub pairs_of : Outcome → List Pair
+pairs_of (derived found pairs) = pairs
+pairs_of (refused row pairs) = pairs
+
+-- the pairs are the first of all
+abbrev pub Begins : List Pair → List Pair → Type 0
+Begins pairs all = (more : List Pair) × (all ≡ pairs ++ more)
+
+-- the pairs of a front that is derived are the first of the whole text's outcome
+abbrev pub FrontsBegin : Type 0
+FrontsBegin = (reader : Reader) (front rest : Text) (found : Found) (pairs : List Pair) (outcome : Outcome) →
+    Derives reader front found pairs → Holds reader (front ++ rest) outcome → Begins pairs (pairs_of outcome)

@@ -1,0 +1,140 @@
+//! The encodings that a source may have.
+//!
+//! The readers are written once for all encodings. They see a unit by the ASCII byte that it stands for, and an encoding
+//! says which byte that is, or that it stands for none.
+
+ghost use Rattle.std.specs.Prelude.{◌≡◌, ℕ, ◌<◌, ◌≤◌, ◌↔◌, ◌^◌, List, map, length, All, IsTrue, IsSome, IfSome, slice_range, codes};
+ghost use Rattle.std.specs.Cmp.{unsigned_Decides};
+ghost use Rattle.ixdtf_grammar.specs.language.Letters.{Letter, Plain, byte_letter, wide_letter, byte_letter-faithful, wide_letter-faithful};
+ghost use Rattle.ixdtf_grammar.specs.Views.{Returns, ascii_at};
+
+use crate::{ParseError, ParserResult};
+
+mod private {
+    /// Only this crate's encodings are encodings.
+    pub trait Sealed {}
+}
+
+/// An encoding of a source in code units.
+///
+/// Each unit is a number, and the number stands for a letter: for itself, or for none that a reader
+/// takes. No crate but this one can write an encoding.
+pub trait EncodingType: private::Sealed {
+    /// The unit of a source.
+    type CodeUnit: PartialEq + std::fmt::Debug + Clone;
+
+    /// The number that a unit is.
+    ghost number: { Self.CodeUnit → ℕ };
+
+    /// The letter that a unit of this number stands for.
+    ghost letter: { ℕ → Letter };
+
+    /// The numbers of units are below this.
+    ghost limit: { ℕ };
+
+    /// The units from `start` up to `end`, or `None` where these are not places in order within the source.
+    fn slice(source: &[Self::CodeUnit], start: usize, end: usize) -> Option<&[Self::CodeUnit]>
+        ensures within { IsSome result ↔ ((start ≤ end) × (end ≤ length source.now)) }
+        ensures units { IfSome result (λ units. units.now ≡ slice_range source.now start end) };
+
+    /// The letter at a place of the source, as a byte, or `None` past its end. The readers take ASCII letters alone, so a
+    /// byte from 128 up is a letter that none of them goes on with.
+    ///
+    /// The error `NonAsciiCodePoint` comes exactly where the unit there stands for no letter.
+    fn get_ascii(source: &[Self::CodeUnit], index: usize) -> ParserResult<Option<u8>>
+        ensures letter { Returns (λ found. found) result
+            (ascii_at letter index (map number source.now)) }
+        ensures small { All (λ unit. number unit < limit) source.now };
+
+    /// Whether the key is `u-ca`, the key of calendars (RFC 9557 section 4.1).
+    fn check_calendar_key(key: &[Self::CodeUnit]) -> bool
+        ensures { IsTrue result ↔ (map number key.now ≡ codes "u-ca") };
+
+    /// A plain letter is its unit's number.
+    ghost faithful: { (unit letter_number : ℕ) →
+        letter unit ≡ Plain letter_number → letter_number ≡ unit };
+
+    /// Units with one number are one unit.
+    ghost injective: { (a b : Self.CodeUnit) → number a ≡ number b → a ≡ b };
+
+    /// Equal units are those with equal numbers.
+    ghost equal: { (a b : Self.CodeUnit) → IsTrue (Self.CodeUnit.eq a b) ↔ (number a ≡ number b) };
+}
+
+/// Sources in 8-bit units, as UTF-8. Each unit is its own letter, also 0 and those from 128 up, and `get_ascii` returns no
+/// error. That the units are UTF-8 is not tested.
+#[derive(Clone, Debug, Drop, PartialEq)]
+pub struct Utf8;
+
+impl private::Sealed for Utf8 {}
+
+impl EncodingType for Utf8 {
+    type CodeUnit = u8;
+
+    ghost number = { λ unit. unit };
+
+    ghost letter = { byte_letter };
+
+    ghost limit = { 2 ^ 8 };
+
+    fn slice(source: &[u8], start: usize, end: usize) -> Option<&[u8]> {
+        source.get(start..end)
+    }
+
+    #[inline(always)]
+    fn get_ascii(source: &[u8], index: usize) -> ParserResult<Option<u8>> {
+        Ok(source.get(index).copied())
+    }
+
+    #[inline(always)]
+    fn check_calendar_key(key: &[u8]) -> bool {
+        matches!(key, [b'u', b'-', b'c', b'a'])
+    }
+
+    ghost faithful = { byte_letter-faithful };
+
+    ghost injective = { λ a b same. same };
+
+    ghost equal = { unsigned_Decides };
+}
+
+/// Sources in 16-bit units, as UTF-16. Units from 1 to 126 are their own letters, and every other stands for none, also 0 and
+/// 127. That the units are UTF-16 is not tested.
+#[derive(Clone, Debug, Drop, PartialEq)]
+pub struct Utf16;
+
+impl private::Sealed for Utf16 {}
+
+impl EncodingType for Utf16 {
+    type CodeUnit = u16;
+
+    ghost number = { λ unit. unit };
+
+    ghost letter = { wide_letter };
+
+    ghost limit = { 2 ^ 16 };
+
+    fn slice(source: &[u16], start: usize, end: usize) -> Option<&[u16]> {
+        source.get(start..end)
+    }
+
+    #[inline(always)]
+    fn get_ascii(source: &[u16], index: usize) -> ParserResult<Option<u8>> {
+        match source.get(index) {
+            None => Ok(None),
+            Some(unit) if *unit < 1 || *unit > 126 => Err(ParseError::NonAsciiCodePoint),
+            Some(unit) => Ok(Some(*unit as u8)),
+        }
+    }
+
+    #[inline(always)]
+    fn check_calendar_key(key: &[u16]) -> bool {
+        matches!(key, [0x75, 0x2d, 0x63, 0x61])
+    }
+
+    ghost faithful = { wide_letter-faithful };
+
+    ghost injective = { λ a b same. same };
+
+    ghost equal = { unsigned_Decides };
+}

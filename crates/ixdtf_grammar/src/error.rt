@@ -1,0 +1,303 @@
+//! What a text, or a reply to an annotation, can be refused for, and what is written of it.
+
+ghost use Rattle.std.specs.Prelude.{◌≡◌};
+ghost use Rattle.ixdtf_grammar.specs.table.Faults.{fault_of};
+ghost use Rattle.ixdtf_grammar.specs.table.ErrorTexts.{text_of};
+ghost use Rattle.ixdtf_grammar.specs.table.ErrorEquality.{place_of, location_of};
+
+use std::error::Error;
+use std::fmt;
+
+/// Why a reader refused a text, or a reply to an annotation.
+///
+/// Each error that a reader returns for a text has a row in the fault table (`docs/FAULTS.md`), which says at which place of
+/// the text it comes. `CriticalDuplicateCalendar` and `UnrecognizedCritical` come for replies. The names and the texts are
+/// those of `ixdtf` 0.6.7 of ICU4X, as they are spelled there.
+#[derive(Clone, Copy, Debug)]
+pub enum ParseError {
+    /// A mistake of the reader itself. No reader returns it.
+    ImplAssert,
+    /// The next unit stands for no letter. Each 8-bit unit stands for one, so a `Utf8` source never has this error.
+    NonAsciiCodePoint,
+    /// No reader returns it.
+    ParseFloat,
+    /// The text ends where more has to follow. The location is `digit` where a digit has to follow, `Date` right after the
+    /// year of a date, and `AmbiguousAnnotation` after the `[` or `[!` of a first bracket, or in a first bracket that begins
+    /// with a small letter or `_` and has no `=` and no `]`. Where there is nothing at all it is `time-numoffset` from
+    /// `parse_offset` and `TimeZoneAnnotation` from `parse_identifier`, and from `parse_month_day` it is `MonthDay` there and
+    /// after one hyphen. In a duration it is `DurationStart` where there is nothing at all, `DurationDesignator` after a sign,
+    /// `Duration` after the `P`, and `DateDurationDesignator` and `TimeDurationDesignator` in a number before its unit, where
+    /// another letter than a unit has these errors too.
+    AbruptEnd { location: &'static str },
+    /// A letter stands after a whole date, year and month, month and day, time, offset, bracket or duration, and the text does
+    /// not go on with it. In a text that is a name alone, a `]` after the name has this error, and in a duration a letter
+    /// after the `P` that is neither a digit nor a `T`.
+    InvalidEnd,
+    /// The two digits of a month are not 01 to 12.
+    InvalidMonthRange,
+    /// The day of a date is 00, or past the last day of that month in that year.
+    InvalidDayRange,
+    /// The text begins with neither a digit nor a sign, or another letter stands among the four digits of a year.
+    DateYear,
+    /// Another letter stands among the six digits of a year with a sign, or the year is `-000000`.
+    DateExtendedYear,
+    /// Neither a hyphen nor a digit stands after a year, another letter stands in the place of a month's digit, or a month and
+    /// a day begin with neither a digit nor a hyphen.
+    DateMonth,
+    /// Another letter stands in the place of a day's digit, or neither a hyphen nor a digit stands after the month of a month
+    /// and a day.
+    DateDay,
+    /// No reader returns it.
+    DateUnexpectedEnd,
+    /// No reader returns it.
+    TimeRequired,
+    /// Another letter stands in the place of an hour's digit, or the hour is past 23, in a time or in an offset; or a time that
+    /// stands alone begins with neither a digit nor a `T`.
+    TimeHour,
+    /// Another letter stands in the place of a minute's digit, or the minute is past 59, in a time or in an offset. The same
+    /// for an offset's second.
+    TimeMinuteSecond,
+    /// Another letter stands in the place of a digit of a time's second, or the second is past 60.
+    TimeSecond,
+    /// No digit stands after the `.` or `,` of a fraction. The end of the text there has this error too.
+    FractionPart,
+    /// A date has one of its two hyphens: after `2020-01` no hyphen follows, or after `202001` one does. The end of the text
+    /// after `2020-01` has this error too.
+    DateSeparator,
+    /// A time has one of its two colons: after `12:00` a digit follows, or after `1200` a colon does.
+    TimeSeparator,
+    /// No reader returns it.
+    DecimalSeparator,
+    /// No reader returns it.
+    InvalidAnnotation,
+    /// No reader returns it.
+    AnnotationOpen,
+    /// A bracket is not closed: the text ends after the zone name or the annotation's value in it, or after the offset in it
+    /// the text ends or another letter stands.
+    AnnotationClose,
+    /// No reader returns it.
+    AnnotationChar,
+    /// The text ends in the key of an annotation, before its `=`.
+    AnnotationKeyValueSeparator,
+    /// A letter stands where the key of an annotation begins, in a bracket after others, and no key begins so. The end of the
+    /// text there has this error too.
+    AnnotationKeyLeadingChar,
+    /// A letter stands in the key of an annotation that no key has, and that is not the `=` after it.
+    AnnotationKeyChar,
+    /// No ASCII letter or digit follows a hyphen in the value of an annotation. The end of the text there has this error too.
+    AnnotationValueCharPostHyphen,
+    /// A letter stands in the value of an annotation that no value has, and that does not close the bracket; or no ASCII
+    /// letter or digit follows the `=`, where the end of the text has this error too.
+    AnnotationValueChar,
+    /// A colon or a digit follows the minute of an offset that may have no seconds: one in brackets, or one that
+    /// `parse_identifier` reads.
+    InvalidMinutePrecisionOffset,
+    /// A reply to an annotation has the key `u-ca` and another value than the first reply with this key, and one of the
+    /// two is critical. Without a handler each annotation is its own reply.
+    CriticalDuplicateCalendar,
+    /// A reply to an annotation is critical, and its key is not `u-ca`. Without a handler each annotation is its own reply.
+    UnrecognizedCritical,
+    /// A letter stands where a time zone begins, and none begins so. From `parse_iana_identifier` the empty text has this
+    /// error too.
+    TzLeadingChar,
+    /// No letter of a name follows a `/` in the name of a time zone. The end of the text there has this error too.
+    IanaCharPostSeparator,
+    /// A letter stands in the name of a time zone that no name has, and that does not close a bracket.
+    IanaChar,
+    /// An offset has one of its two colons: after `+05:00` a digit follows, or after `+0500` a colon does.
+    UtcTimeSeparator,
+    /// A text that is an offset alone begins with another letter than a sign.
+    OffsetNeedsSign,
+    /// One hyphen stands before a month and a day, where there may be two or none.
+    MonthDayHyphen,
+    /// Another letter stands where the `P` of a duration has to, or its sign.
+    DurationDisgnator,
+    /// A number of a duration is 2 to the 64th or more, or that of its years, months or weeks 2 to the 32nd or more.
+    DurationValueExceededRange,
+    /// The years, months, weeks and days of a duration are not in this order, or under the strict profile one of them
+    /// stands twice.
+    DateDurationPartOrder,
+    /// The hours, minutes and seconds of a duration are not in this order, or under the strict profile one of them stands
+    /// twice.
+    TimeDurationPartOrder,
+    /// No digit follows the `T` of a duration. The end of the text there has this error too.
+    TimeDurationDesignator,
+    /// A time that stands alone, with its offset, begins as a month and a day do.
+    AmbiguousTimeMonthDay,
+    /// A time that stands alone, with its offset, begins as a year and a month do, and not as a month and a day.
+    AmbiguousTimeYearMonth,
+    /// The day of a month and a day is past the last day of its month, where February has 29, or under the strict profile
+    /// it is 00.
+    InvalidMonthDay,
+}
+
+impl ParseError {
+    /// The text of the error, the same for each `AbruptEnd`. Display also writes the location of an `AbruptEnd`.
+    pub fn to_static_string(&self) -> &'static str
+        ensures { result.now ≡ text_of (fault_of self.now) }
+    {
+        match *self {
+            ParseError::ImplAssert => "Implementation error: this error must not throw.",
+            ParseError::NonAsciiCodePoint => "Code point was not ASCII",
+            ParseError::ParseFloat => "Invalid float while parsing fraction part.",
+            ParseError::AbruptEnd { .. } => "Parsing ended abruptly.",
+            ParseError::InvalidEnd => "Unexpected character found after parsing was completed.",
+            ParseError::InvalidMonthRange => "Parsed month value not in a valid range.",
+            ParseError::InvalidDayRange => "Parsed day value not in a valid range.",
+            ParseError::DateYear => "Invalid chracter while parsing year value.",
+            ParseError::DateExtendedYear => "Invalid character while parsing extended year value.",
+            ParseError::DateMonth => "Invalid character while parsing month value.",
+            ParseError::DateDay => "Invalid character while parsing day value.",
+            ParseError::DateUnexpectedEnd => "Unexpected end while parsing a date value.",
+            ParseError::TimeRequired => "Time is required.",
+            ParseError::TimeHour => "Invalid character while parsing hour value.",
+            ParseError::TimeMinuteSecond =>
+                "Invalid character while parsing minute/second value in (0, 59] range.",
+            ParseError::TimeSecond =>
+                "Invalid character while parsing second value in (0, 60] range.",
+            ParseError::FractionPart => "Invalid character while parsing fraction part value.",
+            ParseError::DateSeparator => "Invalid character while parsing date separator.",
+            ParseError::TimeSeparator => "Invalid character while parsing time separator.",
+            ParseError::DecimalSeparator => "Invalid character while parsing decimal separator.",
+            ParseError::InvalidAnnotation => "Invalid annotation.",
+            ParseError::AnnotationOpen => "Invalid annotation open character.",
+            ParseError::AnnotationClose => "Invalid annotation close character.",
+            ParseError::AnnotationChar => "Invalid annotation character.",
+            ParseError::AnnotationKeyValueSeparator =>
+                "Invalid annotation key-value separator character.",
+            ParseError::AnnotationKeyLeadingChar => "Invalid annotation key leading character.",
+            ParseError::AnnotationKeyChar => "Invalid annotation key character.",
+            ParseError::AnnotationValueCharPostHyphen =>
+                "Expected annotation value character must exist after hyphen.",
+            ParseError::AnnotationValueChar => "Invalid annotation value character.",
+            ParseError::InvalidMinutePrecisionOffset => "Offset must be minute precision",
+            ParseError::CriticalDuplicateCalendar =>
+                "Duplicate calendars cannot be provided when one is critical.",
+            ParseError::UnrecognizedCritical => "Unrecognized annoation is marked as critical.",
+            ParseError::TzLeadingChar => "Invalid time zone leading character.",
+            ParseError::IanaCharPostSeparator => "Expected time zone character after '/'.",
+            ParseError::IanaChar => "Invalid IANA time zone character after '/'.",
+            ParseError::UtcTimeSeparator => "Invalid time zone character after '/'.",
+            ParseError::OffsetNeedsSign => "UTC offset needs a sign",
+            ParseError::MonthDayHyphen => "MonthDay must begin with a month or '--'",
+            ParseError::DurationDisgnator => "Invalid duration designator.",
+            ParseError::DurationValueExceededRange =>
+                "Provided Duration field value exceeds supported range.",
+            ParseError::DateDurationPartOrder => "Invalid date duration part order.",
+            ParseError::TimeDurationPartOrder => "Invalid time duration part order.",
+            ParseError::TimeDurationDesignator => "Invalid time duration designator.",
+            ParseError::AmbiguousTimeMonthDay => "Time is ambiguous with MonthDay",
+            ParseError::AmbiguousTimeYearMonth => "Time is ambiguous with YearMonth",
+            ParseError::InvalidMonthDay => "MonthDay was not valid.",
+        }
+    }
+}
+
+impl ParseError {
+    /// The place of the variant in the list of variants.
+    fn place(&self) -> u8
+        ensures { result ≡ place_of (fault_of self.now) }
+    {
+        match *self {
+            ParseError::ImplAssert => 0,
+            ParseError::NonAsciiCodePoint => 1,
+            ParseError::ParseFloat => 2,
+            ParseError::AbruptEnd { .. } => 3,
+            ParseError::InvalidEnd => 4,
+            ParseError::InvalidMonthRange => 5,
+            ParseError::InvalidDayRange => 6,
+            ParseError::DateYear => 7,
+            ParseError::DateExtendedYear => 8,
+            ParseError::DateMonth => 9,
+            ParseError::DateDay => 10,
+            ParseError::DateUnexpectedEnd => 11,
+            ParseError::TimeRequired => 12,
+            ParseError::TimeHour => 13,
+            ParseError::TimeMinuteSecond => 14,
+            ParseError::TimeSecond => 15,
+            ParseError::FractionPart => 16,
+            ParseError::DateSeparator => 17,
+            ParseError::TimeSeparator => 18,
+            ParseError::DecimalSeparator => 19,
+            ParseError::InvalidAnnotation => 20,
+            ParseError::AnnotationOpen => 21,
+            ParseError::AnnotationClose => 22,
+            ParseError::AnnotationChar => 23,
+            ParseError::AnnotationKeyValueSeparator => 24,
+            ParseError::AnnotationKeyLeadingChar => 25,
+            ParseError::AnnotationKeyChar => 26,
+            ParseError::AnnotationValueCharPostHyphen => 27,
+            ParseError::AnnotationValueChar => 28,
+            ParseError::InvalidMinutePrecisionOffset => 29,
+            ParseError::CriticalDuplicateCalendar => 30,
+            ParseError::UnrecognizedCritical => 31,
+            ParseError::TzLeadingChar => 32,
+            ParseError::IanaCharPostSeparator => 33,
+            ParseError::IanaChar => 34,
+            ParseError::UtcTimeSeparator => 35,
+            ParseError::OffsetNeedsSign => 36,
+            ParseError::MonthDayHyphen => 37,
+            ParseError::DurationDisgnator => 38,
+            ParseError::DurationValueExceededRange => 39,
+            ParseError::DateDurationPartOrder => 40,
+            ParseError::TimeDurationPartOrder => 41,
+            ParseError::TimeDurationDesignator => 42,
+            ParseError::AmbiguousTimeMonthDay => 43,
+            ParseError::AmbiguousTimeYearMonth => 44,
+            ParseError::InvalidMonthDay => 45,
+        }
+    }
+}
+
+impl ParseError {
+    /// Where the text ended, and nothing for every other error.
+    fn location(&self) -> &'static str
+        ensures { result.now ≡ location_of (fault_of self.now) }
+    {
+        match *self {
+            ParseError::AbruptEnd { location } => location,
+            _ => "",
+        }
+    }
+}
+
+impl PartialEq for ParseError {
+    ghost use Rattle.std.specs.Prelude.{◌≡◌, ◌↔◌, IsTrue};
+    ghost use Rattle.ixdtf_grammar.specs.table.Faults.{fault_of};
+    ghost use Rattle.ixdtf_grammar.specs.table.ErrorEquality.{same_error, same_error-laws};
+
+    ghost eq = { same_error };
+
+    ghost laws = { same_error-laws };
+
+    /// Whether the errors are one variant, and their locations have equal bytes.
+    fn eq(&self, other: &ParseError) -> bool
+        ensures computes { result ≡ same_error self.now other.now }
+        ensures equal { IsTrue result ↔ (fault_of self.now ≡ fault_of other.now) }
+    {
+        self.place() == other.place() && self.location() == other.location()
+    }
+}
+
+// Display writes the text of the error, and for `AbruptEnd` `Parsing ended abruptly while parsing ` and the location. It
+// heeds no width and no fill.
+impl fmt::Display for ParseError {
+    ghost use Rattle.std.specs.Prelude.{Some};
+    ghost use Rattle.ixdtf_grammar.specs.table.Faults.{fault_of};
+    ghost use Rattle.ixdtf_grammar.specs.table.ErrorTexts.{message_of};
+
+    ghost output = { λ e. Some (message_of (fault_of e)) };
+
+    ghost styled_output = { λ e _. Some (message_of (fault_of e)) };
+
+    fn fmt<W: fmt::Write>(&self, f: &mut fmt::Formatter<W>) -> fmt::Result {
+        if let ParseError::AbruptEnd { location } = *self {
+            f.write_str("Parsing ended abruptly while parsing ")?;
+            f.write_str(location)
+        } else {
+            f.write_str(self.to_static_string())
+        }
+    }
+}
+
+impl Error for ParseError {}

@@ -1,0 +1,44 @@
+//! Which of two readings a parser makes.
+
+ghost use Rattle.std.specs.Prelude.{◌≡◌};
+ghost use Rattle.ixdtf_grammar.specs.language.Months.{least_day};
+ghost use Rattle.ixdtf_grammar.specs.language.Durations.{least_step};
+
+/// Which reading a parser makes: that of `ixdtf` 0.6.7 of ICU4X, or one that is stricter with month-days and
+/// durations.
+///
+/// A new parser has [`Profile::Crate`]. Dates, year-months, offsets and zones are read alike under both.
+#[derive(Clone, Copy, Debug, PartialEq)]
+pub enum Profile {
+    /// The reading of `ixdtf` 0.6.7 of ICU4X: a month-day may have the day 0, and a unit of a duration may be repeated.
+    Crate,
+    /// The stricter reading: the day of a month-day is at least 1, also where a time is told from one, and each unit of a
+    /// duration is shorter than the one before it.
+    Strict,
+}
+
+impl Profile {
+    /// The least day of a month-day.
+    #[inline(always)]
+    #[doc(hidden)]
+    pub fn least_day(self) -> u8
+        ensures { result ≡ least_day self }
+    {
+        match self {
+            Profile::Crate => 0,
+            Profile::Strict => 1,
+        }
+    }
+
+    /// The least step from the place of a unit of a duration to that of the next.
+    #[inline(always)]
+    #[doc(hidden)]
+    pub fn least_step(self) -> u8
+        ensures { result ≡ least_step self }
+    {
+        match self {
+            Profile::Crate => 0,
+            Profile::Strict => 1,
+        }
+    }
+}

@@ -1,0 +1,23 @@
+use Rattle.std.proofs.Common.{◌≡◌, true, false, rules}
+use Rattle.std.proofs.lemmas.Result.{err_from_is_err_and}
+use Rattle.ixdtf_grammar.specs.language.Letters.{equals}
+use Rattle.ixdtf_reading.proofs.code.PairLoops.{key_failed, key_ended, key_closed, key_refused}
+use Rattle.ixdtf_reading.proofs.annotations.parse_annotation_key.Goals as goal
+
+pub returns-in_err-key-clause-key : goal.returns-in_err-key-clause-key
+returns-in_err-key-clause-key g c =
+    let p = err_from_is_err_and c.from_residual.result c.from_residual.ensures.1 in
+    rw (p.1, p.2) (key_failed _ _ _ c.in_err-key.ensures.letters)
+
+pub returns-in-None-clause-key : goal.returns-in-None-clause-key
+returns-in-None-clause-key g c = key_ended _ _ _ _ c.in_ok-key.ensures.letters c.in-None.is
+
+pub returns-in-Some-clause-key : goal.returns-in-Some-clause-key
+returns-in-Some-clause-key g c =
+    let closes : equals c.in-Some.byte ≡ true = search rules in
+    rw c.step.ensures.letters (key_closed _ _ _ _ _ c.in_ok-key.ensures.letters c.in-Some.is closes)
+
+pub returns-in-Some-2-clause-key : goal.returns-in-Some-2-clause-key
+returns-in-Some-2-clause-key g c =
+    let refuses : equals c.in-Some.byte ≡ false = search rules in
+    key_refused _ _ _ _ _ c.in_ok-key.ensures.letters c.in-Some.is refuses

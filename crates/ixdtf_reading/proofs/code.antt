@@ -1,0 +1,14 @@
+-- code.
+pub mod DigitClasses
+pub mod FirstLetter
+pub mod FixedPlaces
+pub mod FractionLoop
+pub mod GrowingDigits
+pub mod LetterLoops
+pub mod OneMoreReply
+pub mod PairLoops
+pub mod ReadersWithoutPairs
+pub mod Tables
+pub mod TwoDigits
+pub mod Units
+pub mod WalkNames

@@ -1,0 +1,19 @@
+-- What a look found is the first letter of the text, or there is none.
+use Rattle.std.proofs.Common.{◌≡◌, ℕ, [], ◌∷◌, drop, Some, None, Ok, refl, ap}
+use Rattle.ixdtf_grammar.specs.language.Letters.{Text}
+use Rattle.ixdtf_grammar.specs.language.Letters.Letter.{Plain, Bad}
+use Rattle.ixdtf_grammar.specs.table.Faults.Fault.{NonAsciiCodePoint}
+use Rattle.ixdtf_reading.specs.reading.Looks.{look_at}
+
+-- a look found this letter first
+pub first_is : (text : Text) (c : ℕ) → look_at NonAsciiCodePoint text ≡ Ok (Some c) → text ≡ Plain c ∷ drop 1 text
+unfolding look_at
+first_is (Plain n ∷ more) c e = ap (λ m. Plain m ∷ more) cc
+first_is text c e = absurd cc
+
+-- a look found no letter
+pub nothing_is : (text : Text) → look_at NonAsciiCodePoint text ≡ Ok None → text ≡ []
+unfolding look_at
+nothing_is [] e = refl
+nothing_is (Plain n ∷ more) e = absurd cc
+nothing_is (Bad ∷ more) e = absurd cc

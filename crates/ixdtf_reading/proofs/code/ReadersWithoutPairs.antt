@@ -1,0 +1,138 @@
+-- The clauses of a reader that reads no pairs, from what its reading returns.
+use Rattle.std.proofs.Common.{refl, ◌≡◌, ℕ, List, [], map, Result, Ok, Err, sym, ap, ◌∙◌, IfErr, OnOk, IsFalse}
+use Rattle.ixdtf_grammar.specs.declared.profile.Profile.{Profile}
+use Rattle.ixdtf_grammar.specs.language.Letters.{Letter, Text}
+use Rattle.ixdtf_grammar.specs.table.Faults.{Fault, fault_of, never_comes}
+use Rattle.ixdtf_reading.specs.declared.stop.Stop.{Stop}
+use Rattle.ixdtf_grammar.specs.declared.error.ParseError.{ParseError}
+use Rattle.ixdtf_grammar.specs.Views.{Unread, returned, returned_by}
+use Rattle.ixdtf_reading.specs.reading.Clauses.{Reads, Settles, fault_of_stop}
+use Rattle.ixdtf_grammar.specs.language.Brackets.{Pair}
+use Rattle.ixdtf_grammar.specs.language.Readers.{Reader}
+use Rattle.ixdtf_grammar.specs.language.Readers.Reader.{bracketed, parse_offset, parse_identifier, parse_iana_identifier, parse_duration}
+use Rattle.ixdtf_grammar.specs.table.Rows.{Row, Fits}
+use Rattle.ixdtf_grammar.specs.language.Languages.{Found, Derives}
+use Rattle.ixdtf_grammar.specs.table.Outcomes.{HasFault, NoRowFits, OnlyFault}
+use Rattle.ixdtf_grammar.specs.Laws.{IsTextReader, InNoOther}
+use Rattle.ixdtf_reading.specs.reading.Looks.{Read}
+use Rattle.ixdtf_reading.specs.reading.Wholes.{finding, read_at}
+use Rattle.ixdtf_reading.proofs.to_grammar.Wholes.{OnWhole, whole_read}
+use Rattle.ixdtf_reading.proofs.to_reading.Wholes.{takes}
+use Rattle.ixdtf_grammar.proofs.theorems.NoRow.{fault_comes}
+use Rattle.ixdtf_reading.proofs.theorems.OnlyOutcome.{Accepted, accepted, only_fault}
+use Rattle.ixdtf_reading.proofs.code.Units.{no_units}
+
+abbrev done : {A : Type 0} → A → Result A Fault
+done x = Ok x
+
+abbrev failed : {A : Type 0} → Fault → Result A Fault
+failed fault = Err fault
+
+done_is : {A : Type 0} (x y : A) → done x ≡ done y → x ≡ y
+done_is x y e = cc
+
+failed_is : {A : Type 0} (x : A) (fault : Fault) → failed fault ≡ done x → ⊥
+failed_is x fault e = cc
+
+-- the fault is a row's error, whatever pairs stand before it
+abbrev pub error_after : List Pair → Row → Fault
+error_after pairs row = row.error
+
+-- the reader reads no pairs
+abbrev pub ReadsNoPairs : Reader → Type 0
+ReadsNoPairs (bracketed kind) = ⊥
+ReadsNoPairs parse_offset = Unit {0}
+ReadsNoPairs parse_identifier = Unit {0}
+ReadsNoPairs parse_iana_identifier = Unit {0}
+ReadsNoPairs (parse_duration profile) = Unit {0}
+
+-- no pairs stand before its rows
+no_pairs : (reader : Reader) (row : Row) (pairs : List Pair) (text : Text) → ReadsNoPairs reader → Fits reader row pairs text → Fits reader row [] text
+no_pairs (bracketed kind) row pairs text none f = absurd none
+no_pairs parse_offset row pairs text none f = rw f.3.1 at f
+no_pairs parse_identifier row pairs text none f = rw f.3.1 at f
+no_pairs parse_iana_identifier row pairs text none f = rw f.3.1 at f
+no_pairs (parse_duration profile) row pairs text none f = rw f.3.1 at f
+
+-- What a reader returned at a text: a kind of what readers find, told apart from each other of the kind.
+module _ {A : Type 0} (reader : Reader) (found : A → Found) (same : (x y : A) → found x ≡ found y → x ≡ y) (text : Text) (reading : Read Fault A)
+    (reads : read_at error_after reader text ≡ finding found reading) where
+  abbrev Returned : Read Fault (Found × List Pair) → Type 0
+  Returned read = OnWhole error_after reader text read
+
+  returned_here : (read : Read Fault A) → reading ≡ read → Returned (finding found read)
+  returned_here read is = rw (← (reads ∙ ap (finding found) is)) (whole_read error_after reader text)
+
+  -- all of the text was read
+  nothing_left : (x : A) (rest : Text) → reading ≡ Ok (x, rest) → rest ≡ []
+  nothing_left x rest is = (returned_here (Ok (x, rest)) is).0
+
+  -- `Ok` exactly where it is derived
+  ok_where_derived : (x : A) (rest : Text) → reading ≡ Ok (x, rest) → (y : A)
+      → (done x ≡ done y → Derives reader text (found y) []) × (Derives reader text (found y) [] → done x ≡ done y)
+  ok_where_derived x rest is y = (
+    λ e. rw (← (done_is x y e)) (returned_here (Ok (x, rest)) is).1,
+    λ d.
+        let read = done_is ((found x, []), rest) ((found y, []), []) (sym (reads ∙ ap (finding found) is) ∙ takes error_after reader text (found y) [] d) in
+        ap done (same x y (ap (λ p. p.0.0) read)),
+  )
+
+  -- what that says of the text
+  accepted_where_read : (x : A) (rest : Text) → reading ≡ Ok (x, rest) → Accepted reader text
+  accepted_where_read x rest is = accepted reader text (found x, [], (returned_here (Ok (x, rest)) is).1)
+
+  -- nothing is derived where reading returned a fault
+  err_where_refused : (fault : Fault) → reading ≡ Err fault → (y : A)
+      → (failed fault ≡ done y → Derives reader text (found y) []) × (Derives reader text (found y) [] → failed fault ≡ done y)
+  err_where_refused fault is y = (
+    λ e. absurd (failed_is y fault e),
+    λ d. absurd (failed_is ((found y, []), []) fault (sym (reads ∙ ap (finding found) is) ∙ takes error_after reader text (found y) [] d)),
+  )
+
+  -- a fault is the error of a row that fits
+  err_where_fits : (fault : Fault) → reading ≡ Err fault → ReadsNoPairs reader → HasFault reader text [] fault
+  err_where_fits fault is none = let row = returned_here _ is in (row.1, no_pairs reader row.1 row.0 text none row.3, sym row.2)
+
+-- What a public reader returned, where its private one read so and its cursor settled with that.
+module _ {U A : Type 0} (letter : ℕ → Letter) (view : U → A) (reader : Reader) (found : A → Found) (same : (x y : A) → found x ≡ found y → x ≡ y)
+    (none : ReadsNoPairs reader) (reading : Text → Read Fault A) (old new : Unread)
+    (reads : read_at error_after reader (map letter old.rest) ≡ finding found (reading (map letter old.rest))) where
+  -- the clauses of the reader
+  pub record Exact (result : Result U ParseError) : Type 0 where
+    pub ok : (y : A) → (returned view result ≡ Ok y → Derives reader (map letter old.rest) (found y) [])
+        × (Derives reader (map letter old.rest) (found y) [] → returned view result ≡ Ok y)
+    pub err : IfErr result (λ e. HasFault reader (map letter old.rest) [] (fault_of e))
+    pub comes : IfErr result (λ e. IsFalse (never_comes (fault_of e)))
+    pub no_row : OnOk result (NoRowFits reader (map letter old.rest))
+    pub alone : (profile : Profile) → IsTextReader profile reader → OnOk result (InNoOther profile reader (map letter old.rest))
+    pub only : IfErr result (λ e. OnlyFault reader (map letter old.rest) [] (fault_of e))
+    pub empty : (left : List ℕ) → OnOk result (left ≡ new.rest) → OnOk result (left ≡ [])
+
+  pub exact : (read : Result U Stop) (result : Result U ParseError) → Reads letter view old read new reading → Settles fault_of read result → Exact result
+  exact (Ok x) (Ok y) h s = let read = accepted_where_read reader found same _ _ reads (view x) _ h in record {
+    ok = rw s (ok_where_derived reader found same (map letter old.rest) _ reads (view x) (map letter new.rest) h);
+    err = tt;
+    comes = tt;
+    no_row = read.no_row;
+    alone = read.alone;
+    only = tt;
+    empty = λ left is. is ∙ no_units letter new.rest (nothing_left reader found same (map letter old.rest) _ reads (view x) (map letter new.rest) h);
+  }
+  exact (Ok x) (Err e) h s = absurd s
+  exact (Err stop) (Ok y) h s = absurd s
+  exact (Err stop) (Err e) h s = let fits : HasFault reader (map letter old.rest) [] (fault_of e) =
+      rw s (err_where_fits reader found same (map letter old.rest) _ reads (fault_of_stop stop) h none) in record {
+        ok = rw s (err_where_refused reader found same (map letter old.rest) _ reads (fault_of_stop stop) h);
+        err = fits;
+        comes = fault_comes reader _ [] (fault_of e) fits;
+        no_row = tt;
+        alone = λ profile is. tt;
+        only = only_fault reader _ [] (fault_of e) fits;
+        empty = λ left is. tt;
+      }
+
+-- what holds of each fault that was returned
+pub each_err : {X Y E : Type 0} (named : E → Fault) (view : X → Y) (holds : Fault → Type 0) (r : Result X E)
+    → ((fault : Fault) → returned_by named view r ≡ Err fault → holds fault) → IfErr r (λ e. holds (named e))
+each_err named view holds (Ok x) h = tt
+each_err named view holds (Err e) h = h (named e) refl

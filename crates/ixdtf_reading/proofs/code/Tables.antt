@@ -1,0 +1,90 @@
+-- Tables, held against what they are tables of at each place by computing.
+use Rattle.std.proofs.Common.{◌≡◌, ℕ, zero, suc, ◌+◌, ◌<◌, ◌≤◌, Bool, true, false, ◌&&◌, nat_eq, List, [], ◌∷◌, slice_index_or, bit_and, refl, arith, inl, inr}
+use Rattle.std.specs.Prelude.{not}
+use Rattle.std.specs.Bool.{beq}
+use Rattle.std.proofs.lemmas.Bool.Decides.{nat_tests}
+use Rattle.std.proofs.lemmas.Bool.{cases_eq}
+use Rattle.ixdtf_grammar.specs.language.Letters.{zone_char, key_char, value_char}
+use Rattle.ixdtf_reading.specs.reading.FixedPlaces.{tens_value, ones_value}
+
+-- the two tests agree below n
+unfoldable pub agree_below : (ℕ → Bool) → (ℕ → Bool) → ℕ → Bool
+agree_below f g zero = true
+agree_below f g (suc n) = beq (f n) (g n) && agree_below f g n
+
+both_of : (x y rest : Bool) → (beq x y && rest) ≡ true → (x ≡ y) × (rest ≡ true)
+both_of true true rest h = (refl, h)
+both_of true false rest h = cc
+both_of false true rest h = cc
+both_of false false rest h = (refl, h)
+
+pub agree_at : (f g : ℕ → Bool) (n : ℕ) → agree_below f g n ≡ true → (b : ℕ) → b < n → f b ≡ g b
+unfolding agree_below
+agree_at f g zero h b lt = absurd (omega arith)
+agree_at f g (suc n) h b lt =
+    let both = both_of (f n) (g n) (agree_below f g n) h in
+    elim (cases_eq b n) [ inl same ↦ rw same both.0 | inr other ↦ agree_at f g n both.1 b (omega arith) ]
+
+-- ---- the table of classes
+
+abbrev bit : Bool → ℕ → ℕ
+bit true n = n
+bit false n = 0
+
+-- a byte's classes, one bit for each
+unfoldable pub bits : ℕ → ℕ
+bits c = bit (key_char c) 1 + bit (zone_char c) 2 + bit (value_char c) 4
+
+-- what the table has from a place on, so many places
+unfoldable pub bits_from : ℕ → ℕ → List ℕ
+bits_from zero c = []
+bits_from (suc n) c = bits c ∷ bits_from n (c + 1)
+
+abbrev pub has_bit : ℕ → ℕ → Bool
+has_bit b bit = not (nat_eq (bit_and (slice_index_or (bits_from 256 0) b 0) bit) 0)
+
+pub in_key : (b : ℕ) → b < 256 → has_bit b 1 ≡ key_char b
+unfolding agree_below bits bits_from
+in_key b lt = agree_at (λ c. has_bit c 1) key_char 256 refl b lt
+
+pub in_name : (b : ℕ) → b < 256 → has_bit b 2 ≡ zone_char b
+unfolding agree_below bits bits_from
+in_name b lt = agree_at (λ c. has_bit c 2) zone_char 256 refl b lt
+
+pub in_value : (b : ℕ) → b < 256 → has_bit b 4 ≡ value_char b
+unfolding agree_below bits bits_from
+in_value b lt = agree_at (λ c. has_bit c 4) value_char 256 refl b lt
+
+-- ---- the tables of digits
+
+same_number : (a b : ℕ) → nat_eq a b ≡ true → a ≡ b
+same_number a b h = grind (arith, nat_tests)
+
+-- what the tables have from a place on, so many places
+unfoldable pub tens_from : ℕ → ℕ → List ℕ
+tens_from zero c = []
+tens_from (suc n) c = tens_value c ∷ tens_from n (c + 1)
+
+unfoldable pub ones_from : ℕ → ℕ → List ℕ
+ones_from zero c = []
+ones_from (suc n) c = ones_value c ∷ ones_from n (c + 1)
+
+abbrev pub tens_at : ℕ → ℕ
+tens_at b = slice_index_or (tens_from 256 0) b 0
+
+abbrev pub ones_at : ℕ → ℕ
+ones_at b = slice_index_or (ones_from 256 0) b 0
+
+pub in_tens : (b : ℕ) → b < 256 → tens_at b ≡ tens_value b
+unfolding agree_below tens_from
+in_tens b lt = same_number (tens_at b) (tens_value b) (agree_at (λ c. nat_eq (tens_at c) (tens_value c)) (λ c. true) 256 refl b lt)
+
+pub in_ones : (b : ℕ) → b < 256 → ones_at b ≡ ones_value b
+unfolding agree_below ones_from
+in_ones b lt = same_number (ones_at b) (ones_value b) (agree_at (λ c. nat_eq (ones_at c) (ones_value c)) (λ c. true) 256 refl b lt)
+
+pub tens_small : (c : ℕ) → tens_value c ≤ 100
+tens_small c = grind (arith, nat_tests)
+
+pub ones_small : (c : ℕ) → ones_value c ≤ 100
+ones_small c = grind (arith, nat_tests)

@@ -1,0 +1,8 @@
+-- parts.
+pub mod DurationRuns
+pub mod Fronts
+pub mod LookAhead
+pub mod Looks
+pub mod Marks
+pub mod Years
+pub mod ZonesAlone

@@ -1,0 +1,137 @@
+-- Durations letter by letter: a letter that goes on leads to the next state, and the row of a state's line is returned where it fits.
+use Rattle.std.proofs.Common.{◌≡◌, ℕ, zero, suc, ◌≤◌, IsTrue, [], ◌∷◌, ◌++◌, Ok, Err, refl, ◌∙◌, arith, append_assoc, append-nil, nat_le, if◌then◌else◌}
+use Rattle.std.proofs.lemmas.Bool.{leb-true, le-leb}
+use Rattle.ixdtf_grammar.specs.declared.profile.Profile.{Profile}
+use Rattle.ixdtf_grammar.specs.language.Letters.{Text, digit}
+use Rattle.ixdtf_grammar.specs.language.Letters.Letter.{Plain, Bad}
+use Rattle.ixdtf_grammar.specs.language.Shapes.{digits}
+use Rattle.ixdtf_grammar.specs.language.Digits.{decimal}
+use Rattle.ixdtf_grammar.specs.language.Fractions.{SomeDigits}
+use Rattle.ixdtf_grammar.specs.table.Faults.{Fault}
+use Rattle.ixdtf_grammar.specs.table.LineNames.{LineName}
+use Rattle.ixdtf_grammar.specs.table.LineNames.LineName.{of_duration}
+use Rattle.ixdtf_grammar.specs.table.Lines.{Line, duration_line}
+use Rattle.ixdtf_grammar.specs.table.Lines.Line.{line, scanned, whole}
+use Rattle.ixdtf_grammar.specs.table.DurationFronts.Context.{in_dates, in_times}
+use Rattle.ixdtf_grammar.specs.table.Rows.{Row, Place, Stops}
+use Rattle.ixdtf_grammar.specs.table.Rows.Place.{end, other, bad, anywhere}
+use Rattle.ixdtf_reading.specs.reading.Looks.{Read, ◌>>=◌, row_of, look_of}
+use Rattle.ixdtf_reading.specs.reading.Durations.{State, line_of_state, step, at_end, run}
+use Rattle.ixdtf_reading.specs.reading.Durations.State.{between}
+use Rattle.ixdtf_reading.proofs.parts.Looks.{ReadsOver, Halts, Goes}
+use Rattle.ixdtf_reading.proofs.code.GrowingDigits.{decimal_snoc}
+
+-- ---- digits
+
+-- each letter is a digit
+abbrev pub AllDigits : Text → Type 0
+AllDigits [] = Unit {0}
+AllDigits (Plain c ∷ rest) = IsTrue (digit c) × AllDigits rest
+AllDigits (Bad ∷ rest) = ⊥
+
+pub all_digits : (n : ℕ) (ds : Text) → digits n ds → AllDigits ds
+all_digits zero ds h = rw h tt
+all_digits (suc n) ds h = rw h.2 (h.3, all_digits n h.1 h.4)
+
+pub some_all : (ds : Text) → SomeDigits ds → AllDigits ds
+some_all ds h = all_digits (suc h.0) ds h.1
+
+-- the last of some digits, and those before it
+pub digits_snoc : (ds : Text) (c : ℕ) → AllDigits (ds ++ (Plain c ∷ [])) → AllDigits ds × IsTrue (digit c)
+digits_snoc [] c h = (tt, h.0)
+digits_snoc (Plain d ∷ ds) c h = let r = digits_snoc ds c h.1 in ((h.0, r.0), r.1)
+digits_snoc (Bad ∷ ds) c h = absurd h
+
+longer : (n : ℕ) (ds : Text) (c : ℕ) → digits n ds → IsTrue (digit c) → digits (suc n) (ds ++ (Plain c ∷ []))
+longer zero ds c h d = rw h (c, [], refl, d, refl)
+longer (suc n) ds c h d = rw h.2 (h.0, h.1 ++ (Plain c ∷ []), refl, h.3, longer n h.1 c h.4 d)
+
+pub one_digit : (c : ℕ) → IsTrue (digit c) → SomeDigits (Plain c ∷ [])
+one_digit c d = (zero, (c, [], refl, d, refl))
+
+pub digits_longer : (ds : Text) (c : ℕ) → SomeDigits ds → IsTrue (digit c) → SomeDigits (ds ++ (Plain c ∷ []))
+digits_longer ds c h d = (suc h.0, longer (suc h.0) ds c h.1 d)
+
+decimal_grows : (ds more : Text) → decimal ds ≤ decimal (ds ++ more)
+decimal_grows ds [] = rw append-nil (omega arith)
+decimal_grows ds (c ∷ more) =
+    let all : decimal (ds ++ (c ∷ [])) ≤ decimal (ds ++ (c ∷ more)) = rw append_assoc at (decimal_grows (ds ++ (c ∷ [])) more) in
+    omega (arith, decimal_snoc ds c)
+
+-- digits in front of others have no greater number
+pub below_front : (greatest : ℕ) (ds more : Text) → IsTrue (nat_le (decimal (ds ++ more)) greatest) → IsTrue (nat_le (decimal ds) greatest)
+below_front greatest ds more h = let a = leb-true _ _ h in let b = decimal_grows ds more in le-leb _ _ (omega arith)
+
+-- ---- lines
+
+-- a line at which a letter is looked at
+abbrev pub Asks : Line → Type 0
+Asks (line front goes_on ends at_other) = Unit {0}
+Asks (scanned front e) = ⊥
+Asks (whole front e) = ⊥
+
+pub state_asks : (profile : Profile) (s : State) → Asks (duration_line profile (line_of_state s))
+state_asks profile (between (in_dates s [])) = tt
+state_asks profile (between (in_times s dates [])) = tt
+state_asks profile s = tt
+
+module _ {E : Type 0} (fault : Row → E) (profile : Profile) where
+  -- ---- a letter that goes on
+
+  by_look : {A : Type 0} (name : LineName) (l : Line) (c : ℕ) (x y : Read E A) → Goes l c → (if (look_of fault name l).goes_on c then x else y) ≡ x
+  by_look name (line front goes_on ends at_other) c x y h = rw h refl
+  by_look name other_line c x y h = absurd h
+
+  -- reading goes from a state over a front to a state
+  abbrev pub Over : State → Text → State → Type 0
+  Over s front to = ReadsOver (run fault profile s) front (run fault profile to)
+
+  -- reading from a state ends at a row, over a front and at a rest
+  abbrev pub Stays : State → Text → Text → Row → Type 0
+  Stays s front rest row = Halts (run fault profile s) front rest (fault row)
+
+  pub stays : (s : State) → Over s [] s
+  stays s = record { over = λ rest. refl }
+
+  pub one_letter : (s : State) (c : ℕ) {to : State} → Goes (duration_line profile (line_of_state s)) c → step fault profile s c ≡ Ok to
+      → Over s (Plain c ∷ []) to
+  unfolding run
+  one_letter s c h is = record { over = λ rest. by_look _ _ c _ _ h ∙ rw is refl }
+
+  pub letter_stops : (s : State) (c : ℕ) {rest : Text} {row : Row} → Goes (duration_line profile (line_of_state s)) c → step fault profile s c ≡ Err (fault row)
+      → Stays s (Plain c ∷ []) rest row
+  unfolding run
+  letter_stops s c h is = record { halts = by_look _ _ c _ _ h ∙ rw is refl }
+
+  -- ---- the row of a state's line
+
+  stops_end : {A : Type 0} (name : LineName) (l : Line) (x : A) (e : Fault) (rest : Text) → Asks l → Stops l end e rest
+      → (rest ≡ []) × (at_end (look_of fault name l).at_end x ≡ Err (fault (row_of name end e)))
+  stops_end name (line front goes_on ends at_other) x e rest asks h = (h.0, rw h.1 refl)
+  stops_end name other_line x e rest asks h = absurd asks
+
+  stops_other : {A : Type 0} (name : LineName) (l : Line) (next : ℕ → Text → Read E A) (e : Fault) (rest : Text) → Asks l → Stops l other e rest
+      → (c : ℕ) × (more : Text) × (rest ≡ Plain c ∷ more)
+      × ((if (look_of fault name l).goes_on c then next c more else Err ((look_of fault name l).at_other c)) ≡ Err (fault (row_of name other e)))
+  stops_other name (line front goes_on ends at_other) next e rest asks h = (h.0, h.1, h.2, rw (h.3, h.4) refl)
+  stops_other name other_line next e rest asks h = absurd asks
+
+  stops_bad : (name : LineName) (l : Line) (e : Fault) (rest : Text) → Asks l → Stops l bad e rest
+      → (more : Text) × (rest ≡ Bad ∷ more) × ((look_of fault name l).at_bad ≡ fault (row_of name bad e))
+  stops_bad name (line front goes_on ends at_other) e rest asks h = (h.0, h.1, rw h.2 refl)
+  stops_bad name other_line e rest asks h = absurd asks
+
+  stops_nowhere : (l : Line) (e : Fault) (rest : Text) → Asks l → Stops l anywhere e rest → ⊥
+  stops_nowhere (line front goes_on ends at_other) e rest asks h = h
+  stops_nowhere other_line e rest asks h = asks
+
+  pub run_stops : (s : State) (place : Place) (e : Fault) (rest : Text) → Stops (duration_line profile (line_of_state s)) place e rest
+      → run fault profile s rest ≡ Err (fault (row_of (of_duration profile (line_of_state s)) place e))
+  unfolding run
+  run_stops s end e rest h = let p = stops_end _ _ _ e rest (state_asks profile s) h in rw p.0 p.1
+  run_stops s other e rest h =
+      let p = stops_other _ _ (λ c more. step fault profile s c >>= λ next. run fault profile next more) e rest (state_asks profile s) h in
+      rw p.2 p.3
+  run_stops s bad e rest h = let p =
+      stops_bad (of_duration profile (line_of_state s)) (duration_line profile (line_of_state s)) e rest (state_asks profile s) h in rw (p.1, p.2) refl
+  run_stops s anywhere e rest h = absurd (stops_nowhere _ e rest (state_asks profile s) h)

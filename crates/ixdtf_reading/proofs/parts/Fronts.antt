@@ -1,0 +1,120 @@
+-- The test of a time's front: reading a month-day, or a year-month, from the start of a text succeeds exactly where one
+-- stands in front, and where a core stands before the end or a bracket, it is one in front of the core.
+use Rattle.std.proofs.Common.{◌≡◌, Bool, false, IsTrue, IsFalse, ◌++◌, Ok, Err, refl, ap, ◌∙◌}
+use Rattle.std.proofs.Common.{append_assoc}
+use Rattle.std.proofs.lemmas.Bool.{both_ways, false_from_ne_true}
+use Rattle.ixdtf_grammar.specs.declared.profile.Profile.{Profile}
+use Rattle.ixdtf_grammar.specs.declared.records.DateRecord.{DateRecord}
+use Rattle.ixdtf_grammar.specs.language.Letters.{Text}
+use Rattle.ixdtf_grammar.specs.language.Shapes.{Shape, some}
+use Rattle.ixdtf_grammar.specs.language.Months.{IsYearMonth, IsMonthDay}
+use Rattle.ixdtf_grammar.specs.language.Cores.{HasFront, HasNoDateFront}
+use Rattle.ixdtf_grammar.specs.table.Faults.{Fault}
+use Rattle.ixdtf_grammar.specs.table.Faults.Fault.{AmbiguousTimeMonthDay, AmbiguousTimeYearMonth}
+use Rattle.ixdtf_grammar.specs.table.LineNames.{of_time}
+use Rattle.ixdtf_grammar.specs.table.LineNames.TimeLine.{time_reads_as_month_day, time_reads_as_year_month}
+use Rattle.ixdtf_grammar.specs.table.Rows.{Row}
+use Rattle.ixdtf_grammar.specs.table.Rows.Place.{anywhere}
+use Rattle.ixdtf_reading.specs.reading.Looks.{Read, row_of, error_of}
+use Rattle.ixdtf_reading.specs.reading.Months.{year_month_at, month_day_at, is_read, month_day_begins, year_month_begins}
+use Rattle.ixdtf_reading.specs.reading.Cores.{unfronted}
+use Rattle.ixdtf_grammar.proofs.parts.CoreLetters.{AllInside, CoreEnds, in_core, in_month_day, in_year_month}
+use Rattle.ixdtf_reading.proofs.parts.Looks.{OnRead, read_if}
+use Rattle.ixdtf_reading.proofs.to_reading.Months.{year_month_takes, month_day_takes}
+use Rattle.ixdtf_reading.proofs.to_grammar.Months.{FrontIs, year_month_read, month_day_read}
+
+-- ---- what is read from the start
+
+-- true exactly where it holds
+abbrev pub Exact : Bool → Type 0 → Type 0
+Exact test holds = (IsTrue test → holds) × (holds → IsTrue test)
+
+not_there : (test : Bool) (holds : Type 0) → Exact test holds → ¬ holds → IsFalse test
+not_there test holds h none = false_from_ne_true test (λ yes. none (h.0 yes))
+
+none_there : (test : Bool) (holds : Type 0) → Exact test holds → IsFalse test → ¬ holds
+none_there test holds h fails there = both_ways test fails (h.1 there)
+
+-- a reading that takes each front of the part, and gives nothing else, tells whether one stands in front
+exact : (part : Text → DateRecord → Type 0) (text : Text) (read : Read Fault DateRecord) (stopped : Row → Type 0)
+    → OnRead error_of read (FrontIs part text) stopped
+    → ((front : Text) (date : DateRecord) (rest : Text) → text ≡ front ++ rest → part front date → read ≡ Ok (date, rest))
+    → Exact (is_read read) (HasFront (some part) text)
+exact part text (Ok x) stopped gives takes = (λ h. (gives.0, x.1, gives.1, (x.0, gives.2), tt), λ h. refl)
+exact part text (Err e) stopped gives takes = (λ h. absurd (both_ways false refl h), λ h. ap is_read (takes h.0 h.3.0 h.1 h.2 h.3.1))
+
+pub month_day_begins_exact : (profile : Profile) (text : Text) → Exact (month_day_begins profile text) (HasFront (some (IsMonthDay profile)) text)
+month_day_begins_exact profile text = exact _ text _ _ (month_day_read error_of profile text)
+    (λ front date rest is h. ap (month_day_at error_of profile) is ∙ month_day_takes error_of profile front date rest h)
+
+pub year_month_begins_exact : (text : Text) → Exact (year_month_begins text) (HasFront (some IsYearMonth) text)
+year_month_begins_exact text = exact IsYearMonth text _ _ (year_month_read error_of text)
+    (λ front date rest is h. ap (year_month_at error_of) is ∙ year_month_takes error_of front date rest h)
+
+-- ---- fronts of a core, and of the text with what stands after the core
+
+front_in_core : (shape : Shape) → ((text : Text) → shape text → AllInside text) → (cores rest : Text) → CoreEnds rest → HasFront shape (cores ++ rest)
+    → HasFront shape cores
+front_in_core shape inside cores rest ends h = let more = in_core h.0 h.1 cores rest (inside h.0 h.3) ends h.2 in (h.0, more.0, more.1, h.3, tt)
+
+-- what stands after a core makes no front of the text
+pub no_front_after : (profile : Profile) (cores rest : Text) → CoreEnds rest → HasNoDateFront profile cores → HasNoDateFront profile (cores ++ rest)
+no_front_after profile cores rest ends none = (
+  (λ h. none.0 (front_in_core _ (λ t front. in_month_day t front.0 front.1.0) cores rest ends h)),
+  λ h. none.1 (front_in_core _ (λ t front. in_year_month t front.0 front.1) cores rest ends h),
+)
+
+longer_front : (shape : Shape) (cores rest : Text) → HasFront shape cores → HasFront shape (cores ++ rest)
+longer_front shape cores rest h = (h.0, h.1 ++ rest, ap (λ t. t ++ rest) h.2 ∙ append_assoc h.0 h.1 rest, h.3, tt)
+
+-- a month-day in front of a core and what stands after it is one whatever stands after
+pub month_day_front_stays : (profile : Profile) (cores rest other_rest : Text) → CoreEnds rest → HasFront (some (IsMonthDay profile)) (cores ++ rest)
+    → HasFront (some (IsMonthDay profile)) (cores ++ other_rest)
+month_day_front_stays profile cores rest other_rest ends h =
+    longer_front _ cores other_rest (front_in_core _ (λ t front. in_month_day t front.0 front.1.0) cores rest ends h)
+
+-- a front of the core is one of the text
+pub no_front_of : (profile : Profile) (cores rest : Text) → HasNoDateFront profile (cores ++ rest) → HasNoDateFront profile cores
+no_front_of profile cores rest none =
+    ((λ h. none.0 (longer_front (some (IsMonthDay profile)) cores rest h)), λ h. none.1 (longer_front (some IsYearMonth) cores rest h))
+
+-- ---- the test
+
+abbrev pub month_day_front : Profile → Row
+month_day_front profile = row_of (of_time (time_reads_as_month_day profile)) anywhere AmbiguousTimeMonthDay
+
+abbrev pub year_month_front : Row
+year_month_front = row_of (of_time time_reads_as_year_month) anywhere AmbiguousTimeYearMonth
+
+module _ (profile : Profile) (text : Text) where
+  abbrev pub MonthDayBegins : Type 0
+  MonthDayBegins = HasFront (some (IsMonthDay profile)) text
+
+  abbrev pub YearMonthBegins : Type 0
+  YearMonthBegins = HasFront (some IsYearMonth) text
+
+  module _ {E A : Type 0} (fault : Row → E) (read : Read E A) where
+    -- each row of a time's front is returned
+    pub month_day_stops : MonthDayBegins → unfronted fault profile text read ≡ Err (fault (month_day_front profile))
+    month_day_stops h = rw ((month_day_begins_exact profile text).1 h) refl
+
+    pub year_month_stops : YearMonthBegins → ¬ MonthDayBegins → unfronted fault profile text read ≡ Err (fault year_month_front)
+    year_month_stops h none = rw (not_there _ _ (month_day_begins_exact profile text) none, (year_month_begins_exact text).1 h) refl
+
+    -- without such a front reading goes on
+    pub unfronted_goes : HasNoDateFront profile text → unfronted fault profile text read ≡ read
+    unfronted_goes none =
+        let no_month_day = not_there _ _ (month_day_begins_exact profile text) none.0 in
+        let no_year_month = not_there _ _ (year_month_begins_exact text) none.1 in
+        rw (no_month_day, no_year_month) refl
+
+    -- and back
+    pub unfronted_read : (found : A → Text → Type 0) (stopped : Row → Type 0) → (MonthDayBegins → stopped (month_day_front profile))
+        → (YearMonthBegins → ¬ MonthDayBegins → stopped year_month_front) → (HasNoDateFront profile text → OnRead fault read found stopped)
+        → OnRead fault (unfronted fault profile text read) found stopped
+    unfronted_read found stopped at_month_day at_year_month goes = read_if fault _ _ _ found stopped
+        (λ yes. ((month_day_front profile), refl, at_month_day ((month_day_begins_exact profile text).0 yes)))
+        (λ fails. let none = none_there _ _ (month_day_begins_exact profile text) fails in
+        read_if fault _ _ _ found stopped
+        (λ yes. (year_month_front, refl, at_year_month ((year_month_begins_exact text).0 yes) none))
+        (λ neither. goes (none, none_there (year_month_begins text) _ (year_month_begins_exact text) neither)))

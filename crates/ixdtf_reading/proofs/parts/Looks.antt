@@ -1,0 +1,373 @@
+-- One look at a line: a letter that goes on is read further, a row that fits is returned; and back.
+use Rattle.std.proofs.Common.{◌≡◌, ℕ, zero, suc, ◌<◌, ◌⊎◌, Bool, true, false, IsTrue, IsFalse, [], ◌∷◌, ◌++◌, Ok, Err, Option, Some, None, refl, sym, ap, ◌∙◌}
+use Rattle.std.proofs.Common.{inl, inr, arith, append_assoc, if◌then◌else◌}
+use Rattle.ixdtf_grammar.specs.language.Letters.{Text, Class, digit}
+use Rattle.ixdtf_grammar.specs.language.Letters.Letter.{Plain, Bad}
+use Rattle.ixdtf_grammar.specs.language.Shapes.{Shape, one, digits}
+use Rattle.ixdtf_grammar.specs.table.Faults.{Fault}
+use Rattle.ixdtf_grammar.specs.table.Faults.Fault.{NonAsciiCodePoint}
+use Rattle.ixdtf_grammar.specs.language.Readers.{Reader, has_brackets}
+use Rattle.ixdtf_grammar.specs.table.LineNames.{LineName}
+use Rattle.ixdtf_grammar.specs.table.Lines.{Line, line_of}
+use Rattle.ixdtf_grammar.specs.table.Lines.Line.{line, scanned, whole}
+use Rattle.ixdtf_grammar.specs.table.Lines.Ending.{ok, error}
+use Rattle.ixdtf_grammar.specs.table.Before.{Before}
+use Rattle.ixdtf_grammar.specs.table.Rows.{Row, Place, Stops, front_of, FitsHere, Fits}
+use Rattle.ixdtf_grammar.specs.table.Rows.Place.{end, other, bad, anywhere}
+use Rattle.ixdtf_reading.specs.reading.Looks.{Read, Look, ◌>>=◌, row_of, look_of, look_at, next_by, letter_at, digits_by, digits_at, peek_by, on_next, digit_run}
+
+-- the fault is that of a row of which something is known
+abbrev pub IsRowFault : {E : Type 0} → (Row → E) → E → (Row → Type 0) → Type 0
+IsRowFault fault e stopped = (row : Row) × (e ≡ fault row) × stopped row
+
+-- what is known of the value and the rest that a reading returned, or of the row of its fault
+abbrev pub OnRead : {E A : Type 0} → (Row → E) → Read E A → (A → Text → Type 0) → (Row → Type 0) → Type 0
+OnRead fault (Ok x) found stopped = found x.0 x.1
+OnRead fault (Err e) found stopped = (row : Row) × (e ≡ fault row) × stopped row
+
+-- ---- texts
+
+pub onto : (c : ℕ) {t u : Text} → t ≡ u → Plain c ∷ t ≡ Plain c ∷ u
+onto c e = ap (λ t. Plain c ∷ t) e
+
+-- ---- from reading to reading
+
+-- a reading after a reading after a reading
+pub in_turn : {E A B C : Type 0} (r : Read E A) (f : A × Text → Read E B) (g : B × Text → Read E C) → ((r >>= f) >>= g) ≡ (r >>= λ x. f x >>= g)
+in_turn (Ok x) f g = refl
+in_turn (Err e) f g = refl
+
+-- from a reading to the reading after it
+pub then_read : {E A B : Type 0} (fault : Row → E) (r : Read E A) (f : A × Text → Read E B) (found : A → Text → Type 0) (stopped : Row → Type 0)
+    (found' : B → Text → Type 0) (stopped' : Row → Type 0) → OnRead fault r found stopped
+    → ((x : A) (rest : Text) → found x rest → OnRead fault (f (x, rest)) found' stopped') → ((row : Row) → stopped row → stopped' row)
+    → OnRead fault (r >>= f) found' stopped'
+then_read fault (Ok x) f found stopped found' stopped' h next lifts = next x.0 x.1 h
+then_read fault (Err e) f found stopped found' stopped' h next lifts = (h.0, h.1, lifts h.0 h.2)
+
+pub read_weaker : {E A : Type 0} (fault : Row → E) (r : Read E A) (found found' : A → Text → Type 0) (stopped stopped' : Row → Type 0)
+    → OnRead fault r found stopped → ((x : A) (rest : Text) → found x rest → found' x rest) → ((row : Row) → stopped row → stopped' row)
+    → OnRead fault r found' stopped'
+read_weaker fault (Ok x) found found' stopped stopped' h next lifts = next x.0 x.1 h
+read_weaker fault (Err e) found found' stopped stopped' h next lifts = (h.0, h.1, lifts h.0 h.2)
+
+-- a choice between two readings
+pub read_if : {E A : Type 0} (fault : Row → E) (b : Bool) (x y : Read E A) (found : A → Text → Type 0) (stopped : Row → Type 0)
+    → (IsTrue b → OnRead fault x found stopped) → (IsFalse b → OnRead fault y found stopped) → OnRead fault (if b then x else y) found stopped
+read_if fault true x y found stopped yes_case no_case = yes_case refl
+read_if fault false x y found stopped yes_case no_case = no_case refl
+
+-- reading goes over a front from a stage to a stage
+pub record ReadsOver {E A : Type 0} (start : Text → Read E A) (front : Text) (stage : Text → Read E A) : Type 0 where
+  pub over : (rest : Text) → start (front ++ rest) ≡ stage rest
+
+infixr 30 ◌before◌
+pub ◌before◌ : {E A : Type 0} {start middle stage : Text → Read E A} {first second : Text} → ReadsOver start first middle → ReadsOver middle second stage
+    → ReadsOver start (first ++ second) stage
+(to before from) = record { over = λ rest. rw append_assoc (to.over _ ∙ from.over rest) }
+
+-- reading returns so, over a front and at a rest
+pub record Yields {E A : Type 0} (start : Text → Read E A) (front rest : Text) (given : Read E A) : Type 0 where
+  pub yields : start (front ++ rest) ≡ given
+
+infixr 30 ◌upto◌
+pub ◌upto◌ : {E A : Type 0} {start middle : Text → Read E A} {first second rest : Text} {given : Read E A} → ReadsOver start first middle
+    → Yields middle second rest given → Yields start (first ++ second) rest given
+◌upto◌ {second} {rest} to from = record { yields = rw append_assoc (to.over _ ∙ from.yields) }
+
+-- reading halts at a fault, over a front and at a rest
+pub record Halts {E A : Type 0} (start : Text → Read E A) (front rest : Text) (e : E) : Type 0 where
+  pub halts : start (front ++ rest) ≡ Err e
+
+infixr 30 ◌till◌
+pub ◌till◌ : {E A : Type 0} {start middle : Text → Read E A} {first second rest : Text} {e : E} → ReadsOver start first middle → Halts middle second rest e
+    → Halts start (first ++ second) rest e
+◌till◌ {second} {rest} to from = record { halts = rw append_assoc (to.over _ ∙ from.halts) }
+
+-- ---- rows
+
+-- where a row of the line fits, reading returns it
+abbrev pub RowsRead : {E A : Type 0} → (Row → E) → Bool → (Text → Read E A) → LineName → Type 0
+RowsRead fault brackets read name = (place : Place) (e : Fault) (front rest : Text) → front_of (line_of brackets name) front
+    → Stops (line_of brackets name) place e rest → read (front ++ rest) ≡ Err (fault (row_of name place e))
+
+abbrev pub IsWhole : Line → Type 0
+IsWhole (line front goes_on at_end at_other) = ⊥
+IsWhole (scanned front e) = ⊥
+IsWhole (whole front e) = Unit {0}
+
+-- a whole line has one row
+pub whole_row : {E A : Type 0} (fault : Row → E) (brackets : Bool) (read : Text → Read E A) (name : LineName) → IsWhole (line_of brackets name)
+    → ((e : Fault) (front rest : Text) → front_of (line_of brackets name) front → Stops (line_of brackets name) anywhere e rest
+    → read (front ++ rest) ≡ Err (fault (row_of name anywhere e))) → RowsRead fault brackets read name
+whole_row fault brackets read name is h place e front rest f at =
+    rw (one_row (line_of brackets name) is place at)
+    (h e front rest f (rw (← (one_row (line_of brackets name) is place at)) at))
+  where
+    one_row : (l : Line) → IsWhole l → (p : Place) → Stops l p e rest → p ≡ anywhere
+    one_row (whole f d) is anywhere at = refl
+    one_row (whole f d) is p at = absurd at
+    one_row other_line is p at = absurd is
+
+-- the row is of a line of a part, and fits here
+abbrev pub FitsIn : {L : Type 0} → (L → LineName) → Bool → Row → Text → Type 0
+FitsIn {L} part brackets row text = (l : L) × (row.name ≡ part l) × FitsHere brackets row text
+
+pub fits_in : {L : Type 0} (part : L → LineName) (brackets : Bool) (l : L) (row : Row) (text front rest : Text) → row.name ≡ part l → text ≡ front ++ rest
+    → front_of (line_of brackets (part l)) front → Stops (line_of brackets (part l)) row.place row.error rest → FitsIn part brackets row text
+fits_in part brackets l row text front rest is split shape stops =
+    (l, is, rw is (front, rest, split, shape, stops))
+
+-- the row fits the text, where it fits what stands after the parts before it
+pub lift : {L : Type 0} (part : L → LineName) (reader : Reader) (row : Row) (text prior body : Text) → text ≡ prior ++ body
+    → ((l : L) → Before reader (part l) [] prior body) → FitsIn part (has_brackets reader) row body → Fits reader row [] text
+lift part reader row text prior body is at h = (prior, body, is, rw h.1 (at h.0), h.2)
+
+-- the row of a whole line
+pub fits_whole_in : {E L : Type 0} (fault : Row → E) (part : L → LineName) (brackets : Bool) (l : L) (e : Fault) (text front rest : Text) → text ≡ front ++ rest
+    → front_of (line_of brackets (part l)) front → Stops (line_of brackets (part l)) anywhere e rest
+    → IsRowFault fault (fault (row_of (part l) anywhere e)) (λ row. FitsIn part brackets row text)
+fits_whole_in fault part brackets l e text front rest split shape at = (row_of (part l) anywhere e, refl, (l, refl, (front, rest, split, shape, at)))
+
+-- ---- a line at which the text may not end
+
+abbrev pub Looks : Line → Type 0
+Looks (line front goes_on (error e) at_other) = Unit {0}
+Looks (line front goes_on ok at_other) = ⊥
+Looks (scanned front e) = ⊥
+Looks (whole front e) = ⊥
+
+abbrev pub Goes : Line → ℕ → Type 0
+Goes (line front goes_on at_end at_other) c = IsTrue (goes_on c)
+Goes (scanned front e) c = ⊥
+Goes (whole front e) c = ⊥
+
+abbrev pub LooksForDigit : Line → Type 0
+LooksForDigit (line front goes_on (error e) at_other) = (c : ℕ) → goes_on c ≡ digit c
+LooksForDigit (line front goes_on ok at_other) = ⊥
+LooksForDigit (scanned front e) = ⊥
+LooksForDigit (whole front e) = ⊥
+
+-- the row is the line's, and fits at this rest
+abbrev pub StopsHere : LineName → Text → Row → Type 0
+StopsHere name rest row = (row.name ≡ name) × Stops (line_of true name) row.place row.error rest
+
+-- fewer digits than wanted, and the line's row after them
+abbrev pub DigitsStop : LineName → ℕ → Text → Row → Type 0
+DigitsStop name n text row = (k : ℕ) × (k < n) × (ds rest : Text) × (text ≡ ds ++ rest) × digits k ds × StopsHere name rest row
+
+module _ {E : Type 0} (fault : Row → E) (name : LineName) (front : Shape) (goes_on : Class) (e : Fault) (at_other : ℕ → Fault) where
+  abbrev here : Line
+  here = line front goes_on (error e) at_other
+
+  letter_goes : (c : ℕ) (rest : Text) → IsTrue (goes_on c) → next_by (look_of fault name here) (Plain c ∷ rest) ≡ Ok (c, rest)
+  unfolding next_by look_at
+  letter_goes c rest h = rw h refl
+
+  letter_stops : (place : Place) (d : Fault) (rest : Text) → Stops here place d rest
+      → next_by (look_of fault name here) rest ≡ Err (fault (row_of name place d))
+  unfolding next_by look_at
+  letter_stops end d rest h = rw h.0 (grind (arith, h.1))
+  letter_stops other d rest h = rw (h.2, h.3, h.4) refl
+  letter_stops bad d rest h = rw (h.1, h.2) refl
+  letter_stops anywhere d rest h = absurd h
+
+  letter_read : (text : Text) → OnRead fault (next_by (look_of fault name here) text) (λ c rest. (text ≡ Plain c ∷ rest) × IsTrue (goes_on c))
+      (λ row. (row.name ≡ name) × Stops here row.place row.error text)
+  unfolding next_by look_at
+  letter_read [] = (row_of name end e, refl, (refl, (refl, refl)))
+  letter_read (Bad ∷ rest) = (row_of name bad NonAsciiCodePoint, refl, (refl, (rest, refl, refl)))
+  letter_read (Plain c ∷ rest) =
+      read_if fault (goes_on c) _ _ _ _ (λ h. (refl, h)) (λ h. (row_of name other (at_other c), refl, (refl, (c, rest, refl, h, refl))))
+
+module _ {E : Type 0} (fault : Row → E) (name : LineName) where
+  pub goes : (c : ℕ) (rest : Text) → Looks (line_of true name) → Goes (line_of true name) c → letter_at fault name (Plain c ∷ rest) ≡ Ok (c, rest)
+  goes c rest looks h = go _ looks h
+    where
+      go : (l : Line) → Looks l → Goes l c → next_by (look_of fault name l) (Plain c ∷ rest) ≡ Ok (c, rest)
+      go (line front goes_on (error e) at_other) looks h = letter_goes fault name front goes_on e at_other c rest h
+      go other_line looks h = absurd looks
+
+  pub stops : (place : Place) (e : Fault) (rest : Text) → Looks (line_of true name) → Stops (line_of true name) place e rest
+      → letter_at fault name rest ≡ Err (fault (row_of name place e))
+  stops place d rest looks h = go _ looks h
+    where
+      go : (l : Line) → Looks l → Stops l place d rest → next_by (look_of fault name l) rest ≡ Err (fault (row_of name place d))
+      go (line front goes_on (error e) at_other) looks h = letter_stops fault name front goes_on e at_other place d rest h
+      go other_line looks h = absurd looks
+
+  pub read_letter : (text : Text) → Looks (line_of true name)
+      → OnRead fault (letter_at fault name text) (λ c rest. (text ≡ Plain c ∷ rest) × Goes (line_of true name) c) (StopsHere name text)
+  read_letter text looks = go _ looks
+    where
+      go : (l : Line) → Looks l → OnRead fault (next_by (look_of fault name l) text) (λ c rest. (text ≡ Plain c ∷ rest) × Goes l c)
+          (λ row. (row.name ≡ name) × Stops l row.place row.error text)
+      go (line front goes_on (error e) at_other) looks = letter_read fault name front goes_on e at_other text
+      go other_line looks = absurd looks
+
+  pub digit_goes : (l : Line) (c : ℕ) → LooksForDigit l → IsTrue (digit c) → Goes l c
+  digit_goes (line front goes_on (error e) at_other) c same h = same c ∙ h
+  digit_goes other_line c same h = absurd same
+
+  goes_digit : (l : Line) (c : ℕ) → LooksForDigit l → Goes l c → IsTrue (digit c)
+  goes_digit (line front goes_on (error e) at_other) c same h = sym (same c) ∙ h
+  goes_digit other_line c same h = absurd same
+
+  pub digit_looks : (l : Line) → LooksForDigit l → Looks l
+  digit_looks (line front goes_on (error e) at_other) same = tt
+  digit_looks other_line same = absurd same
+
+  module _ (asks : LooksForDigit (line_of true name)) where
+    looks : Looks (line_of true name)
+    looks = digit_looks _ asks
+
+    pub digits_go : (n : ℕ) (ds rest : Text) → digits n ds → digits_at fault name n (ds ++ rest) ≡ Ok (ds, rest)
+    unfolding digits_by
+    digits_go zero ds rest h = rw h refl
+    digits_go (suc n) ds rest h =
+        rw h.2
+        (rw (goes h.0 _ looks (digit_goes (line_of true name) h.0 asks h.3), digits_go n h.1 rest h.4) refl)
+
+    pub digits_stop : (n k : ℕ) (ds rest : Text) (place : Place) (e : Fault) → k < n → digits k ds → Stops (line_of true name) place e rest
+        → digits_at fault name n (ds ++ rest) ≡ Err (fault (row_of name place e))
+    unfolding digits_by
+    digits_stop zero k ds rest place e less h at = absurd (omega arith)
+    digits_stop (suc n) zero ds rest place e less h at = rw (h, stops place e rest looks at) refl
+    digits_stop (suc n) (suc k) ds rest place e less h at =
+        rw h.2
+        (rw (goes h.0 _ looks (digit_goes (line_of true name) h.0 asks h.3), digits_stop n k h.1 rest place e (omega arith) h.4 at) refl)
+
+    pub digits_read : (n : ℕ) (text : Text) → OnRead fault (digits_at fault name n text) (λ ds rest. (text ≡ ds ++ rest) × digits n ds) (DigitsStop name n text)
+    unfolding digits_by
+    digits_read zero text = (refl, refl)
+    digits_read (suc n) text =
+        then_read fault (letter_at fault name text) _ _ _ _ _ (read_letter text looks)
+        (λ c rest h. then_read fault (digits_at fault name n rest) _ _ _ _ _ (digits_read n rest)
+        (λ ds more g. (h.0 ∙ onto c g.0, (c, ds, refl, goes_digit (line_of true name) c asks h.1, g.1)))
+        (λ r g. (suc g.0, omega (arith, g.1), Plain c ∷ g.2, g.3, h.0 ∙ onto c g.4, (c, g.2, refl, goes_digit (line_of true name) c asks h.1, g.5), g.6)))
+        (λ r h. (zero, omega arith, [], text, refl, refl, h))
+
+-- where one digit is wanted, the row fits at once
+pub no_digit : (name : LineName) (text : Text) (row : Row) → DigitsStop name 1 text row → StopsHere name text row
+no_digit name text row g = go g.0 g.1 g.5
+  where
+    go : (k : ℕ) → k < 1 → digits k g.2 → StopsHere name text row
+    go zero less h = rw (g.4, h) g.6
+    go (suc k) less h = absurd (omega arith)
+
+pub none_or_one : (k : ℕ) (ds : Text) → k < 2 → digits k ds → (ds ≡ []) ⊎ one digit ds
+none_or_one zero ds less h = inl h
+none_or_one (suc zero) ds less h = inr (h.0, rw h.4 at h.2, h.3)
+none_or_one (suc (suc k)) ds less h = absurd (omega arith)
+
+pub one_as_digits : (t : Text) → one digit t → digits 1 t
+one_as_digits t h = (h.0, [], h.1, h.2, refl)
+
+-- ---- looks where the text may end
+
+-- the text ends, or goes on with a letter of the class
+abbrev pub Peeked : Class → Text → Option ℕ → Text → Type 0
+Peeked class text None rest = (text ≡ []) × (rest ≡ [])
+Peeked class text (Some c) rest = (text ≡ Plain c ∷ rest) × IsTrue (class c)
+
+module _ {E : Type 0} (l : Look E) where
+  pub peek_end : peek_by l [] ≡ Ok (None, [])
+  unfolding peek_by look_at
+  peek_end = refl
+
+  pub peek_goes : (c : ℕ) (rest : Text) → IsTrue (l.goes_on c) → peek_by l (Plain c ∷ rest) ≡ Ok (Some c, rest)
+  unfolding peek_by look_at
+  peek_goes c rest h = rw h refl
+
+  pub peek_other : (c : ℕ) (rest : Text) → IsFalse (l.goes_on c) → peek_by l (Plain c ∷ rest) ≡ Err (l.at_other c)
+  unfolding peek_by look_at
+  peek_other c rest h = rw h refl
+
+  pub peek_bad : (rest : Text) → peek_by l (Bad ∷ rest) ≡ Err l.at_bad
+  unfolding peek_by look_at
+  peek_bad rest = refl
+
+  pub peek_read : (fault : Row → E) (text : Text) (stopped : Row → Type 0)
+      → ((c : ℕ) (rest : Text) → text ≡ Plain c ∷ rest → IsFalse (l.goes_on c) → IsRowFault fault (l.at_other c) stopped)
+      → ((rest : Text) → text ≡ Bad ∷ rest → IsRowFault fault l.at_bad stopped) → OnRead fault (peek_by l text) (Peeked l.goes_on text) stopped
+  unfolding peek_by look_at
+  peek_read fault [] stopped at_other at_bad = (refl, refl)
+  peek_read fault (Bad ∷ rest) stopped at_other at_bad = at_bad rest refl
+  peek_read fault (Plain c ∷ rest) stopped at_other at_bad = read_if fault (l.goes_on c) _ _ _ _ (λ h. (refl, h)) (λ h. at_other c rest refl h)
+
+-- the look of a line at which the text may end
+module _ {E : Type 0} (fault : Row → E) (name : LineName) (front : Shape) (goes_on : Class) (at_other : ℕ → Fault) where
+  abbrev ends : Line
+  ends = line front goes_on ok at_other
+
+  pub peek_stops : (place : Place) (e : Fault) (rest : Text) → Stops ends place e rest
+      → peek_by (look_of fault name ends) rest ≡ Err (fault (row_of name place e))
+  peek_stops end e rest h = absurd (grind (arith, h.1))
+  peek_stops other e rest h = rw (h.2, h.4) (peek_other (look_of fault name ends) h.0 h.1 h.3)
+  peek_stops bad e rest h = rw (h.1, h.2) (peek_bad (look_of fault name ends) h.0)
+  peek_stops anywhere e rest h = absurd h
+
+  pub peek_line_read : (text : Text) → OnRead fault (peek_by (look_of fault name ends) text) (Peeked goes_on text)
+      (λ row. (row.name ≡ name) × Stops ends row.place row.error text)
+  peek_line_read text = peek_read _ fault text _
+      (λ c rest next out. (row_of name other (at_other c), refl, (refl, (c, rest, next, out, refl))))
+      (λ rest next. (row_of name bad NonAsciiCodePoint, refl, (refl, (rest, next, refl))))
+
+-- ---- going on, or staying
+
+-- the text ends, or another letter than one of the class stands next, and not Bad
+abbrev pub NotNext : Class → Text → Type 0
+NotNext class [] = Unit {0}
+NotNext class (Bad ∷ rest) = ⊥
+NotNext class (Plain c ∷ rest) = IsFalse (class c)
+
+module _ {E A : Type 0} (at_bad : E) (class : Class) (go : ℕ → Text → Read E A) (stay : Text → Read E A) where
+  pub next_read : (fault : Row → E) (text : Text) (found : A → Text → Type 0) (stopped : Row → Type 0)
+      → ((rest : Text) → text ≡ Bad ∷ rest → IsRowFault fault at_bad stopped)
+      → ((c : ℕ) (rest : Text) → text ≡ Plain c ∷ rest → IsTrue (class c) → OnRead fault (go c rest) found stopped)
+      → (NotNext class text → OnRead fault (stay text) found stopped) → OnRead fault (on_next at_bad class go stay text) found stopped
+  unfolding look_at
+  next_read fault [] found stopped bad_case goes_case stays_case = stays_case tt
+  next_read fault (Bad ∷ rest) found stopped bad_case goes_case stays_case = bad_case rest refl
+  next_read fault (Plain c ∷ rest) found stopped bad_case goes_case stays_case =
+      read_if fault (class c) _ _ _ _ (λ h. goes_case c rest refl h) (λ h. stays_case h)
+
+-- the digits in front, and no digit and not Bad after them; or digits, and Bad after them
+abbrev pub OnRun : {E : Type 0} → E → Text → Read E Text → Type 0
+OnRun at_bad text (Ok x) = (text ≡ x.0 ++ x.1) × ((n : ℕ) × digits n x.0) × NotNext digit x.1
+OnRun at_bad text (Err e) = (e ≡ at_bad) × (ds rest : Text) × (text ≡ ds ++ (Bad ∷ rest)) × (n : ℕ) × digits n ds
+
+module _ {E : Type 0} (at_bad : E) where
+  pub run_takes : (n : ℕ) (ds rest : Text) → digits n ds → NotNext digit rest → digit_run at_bad (ds ++ rest) ≡ Ok (ds, rest)
+  unfolding digit_run
+  run_takes zero ds [] h closed = rw h refl
+  run_takes zero ds (Bad ∷ rest) h closed = absurd closed
+  run_takes zero ds (Plain c ∷ rest) h closed = rw h (rw closed refl)
+  run_takes (suc n) ds rest h closed = rw h.2 (rw (h.3, run_takes n h.1 rest h.4 closed) refl)
+
+  pub run_bad : (n : ℕ) (ds rest : Text) → digits n ds → digit_run at_bad (ds ++ (Bad ∷ rest)) ≡ Err at_bad
+  unfolding digit_run
+  run_bad zero ds rest h = rw h refl
+  run_bad (suc n) ds rest h = rw h.2 (rw (h.3, run_bad n h.1 rest h.4) refl)
+
+  more_run : (c : ℕ) (rest : Text) → IsTrue (digit c) → (r : Read E Text) → OnRun at_bad rest r
+      → OnRun at_bad (Plain c ∷ rest) (r >>= λ more. Ok (Plain c ∷ more.0, more.1))
+  more_run c rest d (Ok x) h = (onto c h.0, (suc h.1.0, (c, x.0, refl, d, h.1.1)), h.2)
+  more_run c rest d (Err e) h = (h.0, Plain c ∷ h.1, h.2, onto c h.3, suc h.4, (c, h.1, refl, d, h.5))
+
+  pub run_read : (text : Text) → OnRun at_bad text (digit_run at_bad text)
+  unfolding digit_run
+  run_read [] = (refl, (zero, refl), tt)
+  run_read (Bad ∷ rest) = (refl, [], rest, refl, zero, refl)
+  run_read (Plain c ∷ rest) = go (digit c) refl (run_read rest)
+    where
+      go : (b : Bool) → digit c ≡ b → OnRun at_bad rest (digit_run at_bad rest)
+          → OnRun at_bad (Plain c ∷ rest) (if b then (digit_run at_bad rest >>= λ more. Ok (Plain c ∷ more.0, more.1)) else Ok ([], Plain c ∷ rest))
+      go true h more = more_run c rest h _ more
+      go false h more = (refl, (zero, refl), h)
+
+-- ---- texts
+
+-- a longer front
+pub further : (text front rest second more : Text) → text ≡ front ++ rest → rest ≡ second ++ more → text ≡ (front ++ second) ++ more
+further text front rest second more is next = rw append_assoc (is ∙ ap (λ t. front ++ t) next)

@@ -1,0 +1,327 @@
+-- The readers of an offset, of a zone and of a zone's name: what holds of a text decides what they value, and back.
+use Rattle.std.proofs.Common.{◌≡◌, ℕ, true, IsTrue, IsFalse, ◌⊎◌, List, [], ◌∷◌, ◌++◌, Option, Some, None, Ok, Err, refl, sym, ap, ◌∙◌, inl, inr, arith}
+use Rattle.std.proofs.Common.{append_assoc, append-nil, false}
+use Rattle.std.proofs.lemmas.Bool.{or_from, or_cases, or_left, or_right, both_ways, true≢false}
+use Rattle.std.proofs.lemmas.Bool.Decides.{nat_tests}
+use Rattle.ixdtf_grammar.specs.language.Times.{Clock as clocks}
+use Rattle.ixdtf_grammar.specs.declared.records.TimeRecord.{TimeRecord}
+use Rattle.ixdtf_grammar.specs.declared.records.MinutePrecisionOffset.{MinutePrecisionOffset}
+use Rattle.ixdtf_grammar.specs.declared.records.UtcOffsetRecord.{UtcOffsetRecord}
+use Rattle.ixdtf_grammar.specs.language.Letters.{Text}
+use Rattle.ixdtf_grammar.specs.language.Letters.Letter.{Plain}
+use Rattle.ixdtf_grammar.specs.language.Letters.{◌or◌, none, sign, slash, zone_lead, zone_char}
+use Rattle.ixdtf_grammar.specs.table.Faults.{Fault}
+use Rattle.ixdtf_grammar.specs.language.Offsets.{IsSigned, IsOffset, IsMinuteOffset, offset_of, minutes_of}
+use Rattle.ixdtf_grammar.specs.language.Times.{Clock, TimeShape, writes_seconds}
+use Rattle.ixdtf_grammar.specs.language.ZoneNames.{Zone, ZoneName, IsZone, IsZoneName}
+use Rattle.ixdtf_grammar.specs.language.ZoneNames.Zone.{Offset}
+use Rattle.ixdtf_grammar.specs.language.Brackets.{Pair}
+use Rattle.ixdtf_grammar.specs.language.Readers.{Reader, has_brackets}
+use Rattle.ixdtf_grammar.specs.table.LineNames.{LineName}
+use Rattle.ixdtf_grammar.specs.language.Readers.Reader.{parse_offset, parse_identifier, parse_iana_identifier}
+use Rattle.ixdtf_grammar.specs.table.LineNames.LineName.{of_clock, of_offset, of_zone}
+use Rattle.ixdtf_grammar.specs.table.LineNames.OffsetLine.{offset_start}
+use Rattle.ixdtf_grammar.specs.table.LineNames.ZoneLine.{identifier_start, zone_name_start, in_zone_name, after_zone_slash}
+use Rattle.ixdtf_grammar.specs.table.Lines.{table, line_of, follow_of}
+use Rattle.ixdtf_grammar.specs.table.Before.{Before}
+use Rattle.ixdtf_grammar.specs.table.Rows.{Row, Place, Stops, Fits, front_of}
+use Rattle.ixdtf_grammar.specs.table.Rows.Place.{end, other, bad, anywhere}
+use Rattle.ixdtf_reading.specs.reading.Looks.{Read, ◌>>=◌, row_of, letter_at, peek_by}
+use Rattle.ixdtf_reading.specs.reading.Times.{OpenTime, line_after, clock_at}
+use Rattle.ixdtf_reading.specs.reading.Zones.{follow_look, name_run, name_look, name_alone_at, iana_identifier_at, signed_alone_at, offset_alone_at, offset_at}
+use Rattle.ixdtf_reading.specs.reading.Zones.{minute_offset_alone_at, as_zone, identifier_at}
+use Rattle.ixdtf_reading.proofs.parts.Looks.{lift, OnRead, then_read, read_weaker, read_if, FitsIn, goes, stops, read_letter, Peeked, peek_end, peek_other, peek_read}
+use Rattle.ixdtf_reading.proofs.parts.Looks.{NotNext}
+use Rattle.ixdtf_reading.proofs.to_reading.ZoneNames.{StopsName, name_takes, name_row, slash_row}
+use Rattle.ixdtf_reading.proofs.to_grammar.ZoneNames.{NameFront, name_read, name_stops_here, name_lines}
+use Rattle.ixdtf_reading.proofs.to_reading.Times.{closed_at_end, Closed, StopsAfter}
+use Rattle.ixdtf_reading.proofs.to_reading.ClockRows.{over_clock, clock_rows, peek_stops_after}
+use Rattle.ixdtf_reading.proofs.to_grammar.Times.{TimeFront, clock_read, clock_peek_read}
+
+-- what a name begins with is no sign
+pub lead_no_sign : (c : ℕ) → IsTrue (zone_lead c) → IsFalse (sign c)
+lead_no_sign c h = grind (arith, h, nat_tests)
+
+-- what begins a zone and is no sign begins a name
+no_sign_lead : (c : ℕ) → IsTrue ((zone_lead or sign) c) → IsFalse (sign c) → IsTrue (zone_lead c)
+no_sign_lead c h unsigned = at (or_cases _ (sign c) h)
+  where
+    at : (IsTrue (zone_lead c)) ⊎ (IsTrue (sign c)) → IsTrue (zone_lead c)
+    at (inl g) = g
+    at (inr g) = absurd (both_ways _ unsigned g)
+
+-- a name begins with a letter that a name begins with
+pub first_letter : (text : Text) → ZoneName text → (c : ℕ) × (more : Text) × (text ≡ Plain c ∷ more) × IsTrue (zone_lead c)
+first_letter text h = (h.3.0, h.1, rw (h.2, h.3.1) refl, h.3.2)
+
+-- the same for the row where a name stops
+lift_name : (reader : Reader) (row : Row) (c : ℕ) (text more : Text) → text ≡ Plain c ∷ more → IsTrue (zone_lead c)
+    → Before reader (of_zone in_zone_name) [] [] text → Before reader (of_zone after_zone_slash) [] [] text → FitsIn of_zone (has_brackets reader) row text
+    → Fits reader row [] text
+lift_name reader row c text more is lead inside slashed f = ([], text, refl, at (name_lines _ row c text more is lead f), f.2)
+  where
+    at : (row.name ≡ of_zone in_zone_name) ⊎ (row.name ≡ of_zone after_zone_slash) → Before reader row.name [] [] text
+    at (inl h) = rw h inside
+    at (inr h) = rw h slashed
+
+-- the row at which the first letter is looked for
+lift_start : (reader : Reader) (name : LineName) (row : Row) (text : Text) → row.name ≡ name → Before reader name [] [] text → front_of (table reader name) []
+    → Stops (table reader name) row.place row.error text → Fits reader row [] text
+lift_start reader name row text is stands shape at = ([], text, refl, rw is stands, ([], text, refl, rw is shape, rw is at))
+
+module _ {E : Type 0} (fault : Row → E) where
+  -- each row of the reader's lines is returned
+  abbrev ReadsAllRows : {A : Type 0} → Reader → (Text → Read E A) → Type 0
+  ReadsAllRows reader read = (name : LineName) (pairs : List Pair) (place : Place) (e : Fault) (prior front rest : Text)
+      → Before reader name pairs prior (front ++ rest) → front_of (table reader name) front → Stops (table reader name) place e rest
+      → read (prior ++ (front ++ rest)) ≡ Err (fault (row_of name place e))
+
+  -- ---- a sign and a time
+
+  module _ {O : Type 0} (clock : Clock) (record_of : ℕ → TimeShape → TimeRecord → O) where
+    -- what is read after the time
+    abbrev signed_after : ℕ → OpenTime × Text → Read E O
+    signed_after c time = peek_by (follow_look fault false clock time.0) time.1 >>= λ next. Ok (record_of c time.0.0 time.0.1, next.1)
+
+    -- a reader that a sign leads to a time
+    abbrev StartsWithSign : (Text → Read E O) → Type 0
+    StartsWithSign read = (c : ℕ) → IsTrue (sign c) → (body : Text) → read (Plain c ∷ body) ≡ (clock_at fault clock body >>= signed_after c)
+
+    signed_takes : (read : Text → Read E O) → StartsWithSign read → (text : Text) (found : O) → IsSigned clock record_of text found → read text ≡ Ok (found, [])
+    signed_takes read lead text found h =
+        rw (h.is, h.value) (ap (λ t. read (Plain h.c ∷ t)) (sym (append-nil h.body))
+        ∙ over_clock fault false clock read (signed_after h.c) (Plain h.c ∷ []) (lead h.c h.sign) h.shape h.body h.time [] h.clock (closed_at_end clock h.shape)
+        ∙ rw (peek_end (follow_look fault false clock (h.shape, h.time))) refl)
+
+    -- the row after a whole time
+    signed_refuses : (c : ℕ) (shape : TimeShape) (t : TimeRecord) (place : Place) (e : Fault) (rest : Text) → Closed clock shape rest
+        → StopsAfter (follow_of false clock) place e rest → signed_after c ((shape, t), rest) ≡ Err (fault (row_of (line_after clock shape) place e))
+    signed_refuses c shape t place e rest closed at = rw (peek_stops_after fault false clock (shape, t) place e rest refl at) refl
+
+    signed_alone_read : (c : ℕ) (body : Text) → IsTrue (sign c)
+        → OnRead fault (signed_alone_at fault clock record_of c body) (λ found rest. (rest ≡ []) × IsSigned clock record_of (Plain c ∷ body) found)
+        (λ row. FitsIn (of_clock clock) false row body)
+    unfolding signed_alone_at
+    signed_alone_read c body signed = then_read fault _ _ _ _ _ _ (clock_read fault false clock body)
+        (λ x left g. then_read fault _ _ _ _ _ _ (clock_peek_read fault false clock body x left g refl)
+        (λ next last k. at_next x left g next last k)
+        (λ r k. k))
+        (λ r g. g)
+      where
+        at_next : (x : OpenTime) (left : Text) → TimeFront clock body x left → (next : Option ℕ) (last : Text) → Peeked none left next last
+            → (last ≡ []) × IsSigned clock record_of (Plain c ∷ body) (record_of c x.0 x.1)
+        at_next x left g None last k = (
+          k.1,
+          record {
+            c = c;
+            body = body;
+            shape = x.0;
+            time = x.1;
+            is = refl;
+            sign = signed;
+            clock = rw (g.1, k.0, append-nil) g.2;
+            value = refl;
+          },
+        )
+        at_next x left g (Some d) last k = absurd (true≢false (sym k.1))
+
+  -- ---- offsets
+
+  -- the record of an offset
+  abbrev offset_record : ℕ → TimeShape → TimeRecord → UtcOffsetRecord
+  offset_record c shape time = offset_of c (writes_seconds shape) time
+
+  -- a sign leads to a time
+  offset_lead : StartsWithSign clocks.Offset offset_record (offset_at fault)
+  unfolding offset_at signed_alone_at
+  offset_lead c h body = rw (goes fault _ c body tt h) refl
+
+  pub offset_takes : (text : Text) (offset : UtcOffsetRecord) → IsOffset text offset → offset_at fault text ≡ Ok (offset, [])
+  offset_takes = signed_takes clocks.Offset offset_record _ offset_lead
+
+  pub offset_rows : ReadsAllRows parse_offset (offset_at fault)
+  unfolding offset_at
+  offset_rows (of_offset offset_start) pairs place e prior front rest b f at = rw (b.0, f, stops fault (of_offset offset_start) place e rest tt at) refl
+  offset_rows (of_clock clocks.Offset l) pairs place e prior front rest b f at =
+      rw b.0.1 (clock_rows fault false clocks.Offset (offset_at fault) (signed_after clocks.Offset offset_record b.0.0) (Plain b.0.0 ∷ [])
+      (offset_lead b.0.0 b.0.2) (signed_refuses clocks.Offset offset_record b.0.0) l place e front rest f at)
+  offset_rows name pairs place e prior front rest b f at = absurd b.0
+
+  pub offset_read : (text : Text) → OnRead fault (offset_at fault text) (λ offset rest. (rest ≡ []) × IsOffset text offset)
+      (λ row. Fits parse_offset row [] text)
+  unfolding offset_at
+  offset_read text = then_read fault (letter_at fault (of_offset offset_start) text) _ _ _ _ _ (read_letter fault (of_offset offset_start) text tt)
+      (λ c body h. rw h.0 (read_weaker fault (offset_alone_at fault c body) _ _ _ _ (signed_alone_read clocks.Offset offset_record c body h.1)
+      (λ offset rest g. g)
+      (λ r g. lift (of_clock clocks.Offset) parse_offset r (Plain c ∷ body) (Plain c ∷ []) body refl (λ l. ((c, refl, h.1), refl)) g)))
+      (λ r h. lift_start parse_offset (of_offset offset_start) r text h.0 (refl, refl) refl h.1)
+
+  -- ---- names
+
+  -- a name, and what comes after it left out
+  abbrev name_after : List ℕ → Option ℕ × Text → Read E (List ℕ)
+  name_after name next = Ok (name, next.1)
+
+  alone_takes : (text : Text) (name : List ℕ) → IsZoneName text name → name_alone_at fault text ≡ Ok (name, [])
+  unfolding name_alone_at
+  alone_takes text name h = rw (← append-nil text, name_takes fault text name [] h.0 h.1 (tt, tt), peek_end _) refl
+
+  -- the row after a name, and the row after its slash
+  alone_row : (place : Place) (e : Fault) (front rest : Text) → ZoneName front → Stops (line_of false (of_zone in_zone_name)) place e rest
+      → name_alone_at fault (front ++ rest) ≡ Err (fault (row_of (of_zone in_zone_name) place e))
+  unfolding name_alone_at
+  alone_row place e front rest f at = by_row (name_row fault false place e front rest f at)
+    where
+      after : (place : Place) (name : List ℕ) → StopsName false place e rest
+          → (peek_by (name_look fault false none) rest >>= name_after name) ≡ Err (fault (row_of (of_zone in_zone_name) place e))
+      after end name g = absurd (grind (arith, g.1))
+      after other name g = rw (g.2, g.4, peek_other (name_look fault false none) g.0 g.1 refl) refl
+      after bad name g = absurd g
+      after anywhere name g = absurd g
+
+      by_row : (name_run fault true (front ++ rest) ≡ Err (fault (row_of (of_zone in_zone_name) place e)))
+          ⊎ ((name : List ℕ) × (name_run fault true (front ++ rest) ≡ Ok (name, rest)) × StopsName false place e rest)
+          → name_alone_at fault (front ++ rest) ≡ Err (fault (row_of (of_zone in_zone_name) place e))
+      by_row (inl h) = rw h refl
+      by_row (inr h) = rw h.1 (after place h.0 h.2)
+
+  alone_slash_row : (place : Place) (e : Fault) (front rest : Text) → front_of (line_of false (of_zone after_zone_slash)) front
+      → Stops (line_of false (of_zone after_zone_slash)) place e rest
+      → name_alone_at fault (front ++ rest) ≡ Err (fault (row_of (of_zone after_zone_slash) place e))
+  unfolding name_alone_at
+  alone_slash_row place e front rest f at = rw (slash_row fault false place e front rest f at) refl
+
+  -- from its first letter on
+  alone_read : (c : ℕ) (text more : Text) → text ≡ Plain c ∷ more → IsTrue (zone_lead c)
+      → OnRead fault (name_alone_at fault text) (λ name rest. (rest ≡ []) × IsZoneName text name) (λ row. FitsIn of_zone false row text)
+  unfolding name_alone_at
+  alone_read c text more is lead = then_read fault _ _ _ _ _ _ (name_read fault false c text more is lead)
+      (λ name rest h. then_read fault _ _ _ _ _ _
+      (peek_read _ fault rest (λ row. FitsIn of_zone false row text)
+      (λ d left next out. let apart : NotNext zone_char (Plain d ∷ left) × NotNext slash (Plain d ∷ left) = rw next at h.4 in
+      (row_of _ other _, refl, name_stops_here fault false other _ text h.0 rest h.1 h.2 (d, left, next, or_from _ _ apart.0 apart.1, refl)))
+      (λ left next. absurd ((rw next at h.4).0)))
+      (λ next left g. at_next name rest h next left g)
+      (λ r g. g))
+      (λ r h. h)
+    where
+      at_next : (name : List ℕ) (rest : Text) → NameFront text name rest → (next : Option ℕ) (left : Text) → Peeked none rest next left
+          → (left ≡ []) × IsZoneName text name
+      at_next name rest h None left g = let whole : text ≡ h.0 = h.1 ∙ rw g.0 (append-nil h.0) in (g.1, rw whole (h.2, h.3))
+      at_next name rest h (Some d) left g = absurd (true≢false (sym g.1))
+
+  -- a name is read from its first letter on
+  iana_lead : (text rest : Text) → ZoneName text → iana_identifier_at fault (text ++ rest) ≡ name_alone_at fault (text ++ rest)
+  unfolding iana_identifier_at
+  iana_lead text rest h = let first = first_letter text h in rw first.2 (rw (goes fault _ first.0 _ tt first.3) refl)
+
+  pub iana_identifier_takes : (text : Text) (name : List ℕ) → IsZoneName text name → iana_identifier_at fault text ≡ Ok (name, [])
+  iana_identifier_takes text name h =
+      ap (iana_identifier_at fault) (sym (append-nil text)) ∙ iana_lead text [] h.0 ∙ ap (name_alone_at fault) (append-nil text) ∙ alone_takes text name h
+
+  pub iana_identifier_rows : ReadsAllRows parse_iana_identifier (iana_identifier_at fault)
+  unfolding iana_identifier_at
+  iana_identifier_rows (of_zone zone_name_start) pairs place e prior front rest b f at =
+      rw (b.0, f, stops fault (of_zone zone_name_start) place e rest tt at) refl
+  iana_identifier_rows (of_zone in_zone_name) pairs place e prior front rest b f at = rw b.0 (iana_lead front rest f ∙ alone_row place e front rest f at)
+  iana_identifier_rows (of_zone after_zone_slash) pairs place e prior front rest b f at =
+      let name : iana_identifier_at fault (front ++ rest) ≡ name_alone_at fault (front ++ rest) = rw (f.2, append_assoc) (iana_lead f.0 (f.1 ++ rest) f.3) in
+      rw b.0 (name ∙ alone_slash_row place e front rest f at)
+  iana_identifier_rows name pairs place e prior front rest b f at = absurd b.0
+
+  pub iana_identifier_read : (text : Text)
+      → OnRead fault (iana_identifier_at fault text) (λ name rest. (rest ≡ []) × IsZoneName text name) (λ row. Fits parse_iana_identifier row [] text)
+  unfolding iana_identifier_at
+  iana_identifier_read text = then_read fault (letter_at fault (of_zone zone_name_start) text) _ _ _ _ _ (read_letter fault (of_zone zone_name_start) text tt)
+      (λ c more h. read_weaker fault (name_alone_at fault text) _ _ _ _ (alone_read c text more h.0 h.1)
+      (λ name rest g. g)
+      (λ r g. lift_name parse_iana_identifier r c text more h.0 h.1 (refl, refl) (refl, refl) g))
+      (λ r h. lift_start parse_iana_identifier (of_zone zone_name_start) r text h.0 (refl, refl) refl h.1)
+
+  -- ---- zones
+
+  -- the zone of an offset without seconds
+  abbrev zone_record : ℕ → TimeShape → TimeRecord → Zone
+  zone_record c shape time = Offset (minutes_of c time)
+
+  -- a sign leads to a time, and the first letter of a name to a name
+  zone_sign_lead : StartsWithSign clocks.MinuteOffset zone_record (identifier_at fault)
+  unfolding identifier_at signed_alone_at
+  zone_sign_lead c h body = rw (goes fault _ c body tt (or_right _ _ h), h) refl
+
+  zone_name_lead : (text rest : Text) → ZoneName text → identifier_at fault (text ++ rest) ≡ as_zone (name_alone_at fault (text ++ rest))
+  unfolding identifier_at
+  zone_name_lead text rest h = let first = first_letter text h in
+      rw first.2 (rw (goes fault _ first.0 _ tt (or_left _ _ first.3), lead_no_sign first.0 first.3) refl)
+
+  -- the offset of a zone, as the zone
+  zone_of_offset : (text : Text) (zone : Zone) (offset : MinutePrecisionOffset) → IsMinuteOffset text offset → zone ≡ Offset offset
+      → IsSigned clocks.MinuteOffset zone_record text zone
+  zone_of_offset text zone offset h is = record {
+    c = h.c;
+    body = h.body;
+    shape = h.shape;
+    time = h.time;
+    is = h.is;
+    sign = h.sign;
+    clock = h.clock;
+    value = is ∙ ap (λ o. Offset o) h.value;
+  }
+
+  pub identifier_takes : (text : Text) (zone : Zone) → IsZone text zone → identifier_at fault text ≡ Ok (zone, [])
+  identifier_takes text zone (inl h) = rw h.2
+      (ap (identifier_at fault) (sym (append-nil text)) ∙ zone_name_lead text [] h.1.0 ∙ ap (λ t. as_zone (name_alone_at fault t)) (append-nil text)
+      ∙ rw (alone_takes text h.0 h.1) refl)
+  identifier_takes text zone (inr (offset, h, is)) =
+      signed_takes clocks.MinuteOffset zone_record (identifier_at fault) zone_sign_lead text zone (zone_of_offset text zone offset h is)
+
+  pub identifier_rows : ReadsAllRows parse_identifier (identifier_at fault)
+  unfolding identifier_at
+  identifier_rows (of_zone identifier_start) pairs place e prior front rest b f at = rw (b.0, f, stops fault (of_zone identifier_start) place e rest tt at) refl
+  identifier_rows (of_zone in_zone_name) pairs place e prior front rest b f at =
+      rw b.0 (zone_name_lead front rest f ∙ rw (alone_row place e front rest f at) refl)
+  identifier_rows (of_zone after_zone_slash) pairs place e prior front rest b f at =
+      let name : identifier_at fault (front ++ rest) ≡ as_zone (name_alone_at fault (front ++ rest)) =
+      rw (f.2, append_assoc) (zone_name_lead f.0 (f.1 ++ rest) f.3) in
+      rw b.0 (name ∙ rw (alone_slash_row place e front rest f at) refl)
+  identifier_rows (of_clock clocks.MinuteOffset l) pairs place e prior front rest b f at =
+      rw b.0.1 (clock_rows fault false clocks.MinuteOffset (identifier_at fault) (signed_after clocks.MinuteOffset zone_record b.0.0) (Plain b.0.0 ∷ [])
+      (zone_sign_lead b.0.0 b.0.2) (signed_refuses clocks.MinuteOffset zone_record b.0.0) l place e front rest f at)
+  identifier_rows name pairs place e prior front rest b f at = absurd b.0
+
+  -- an offset that was read is a zone
+  offset_is_zone : (text : Text) (zone : Zone) → IsSigned clocks.MinuteOffset zone_record text zone → IsZone text zone
+  offset_is_zone text zone h = inr (
+    minutes_of h.c h.time,
+    record {
+      c = h.c;
+      body = h.body;
+      shape = h.shape;
+      time = h.time;
+      is = h.is;
+      sign = h.sign;
+      clock = h.clock;
+      value = refl;
+    },
+    h.value,
+  )
+
+  -- a name that was read is a zone
+  zone_of_name : (text : Text) (stopped : Row → Type 0) (r : Read E (List ℕ)) → OnRead fault r (λ name rest. (rest ≡ []) × IsZoneName text name) stopped
+      → OnRead fault (as_zone r) (λ zone rest. (rest ≡ []) × IsZone text zone) stopped
+  zone_of_name text stopped (Ok x) h = (h.0, inl (x.0, h.1, refl))
+  zone_of_name text stopped (Err e) h = h
+
+  pub identifier_read : (text : Text) → OnRead fault (identifier_at fault text) (λ zone rest. (rest ≡ []) × IsZone text zone)
+      (λ row. Fits parse_identifier row [] text)
+  unfolding identifier_at
+  identifier_read text = then_read fault (letter_at fault (of_zone identifier_start) text) _ _ _ _ _ (read_letter fault (of_zone identifier_start) text tt)
+      (λ c more h. read_if fault (sign c) _ _ _ _
+      (λ signed. rw h.0 (read_weaker fault (minute_offset_alone_at fault c more) _ _ _ _ (signed_alone_read clocks.MinuteOffset zone_record c more signed)
+      (λ zone rest g. (g.0, offset_is_zone (Plain c ∷ more) zone g.1))
+      (λ r g. lift (of_clock clocks.MinuteOffset) parse_identifier r (Plain c ∷ more) (Plain c ∷ []) more refl (λ l. ((c, refl, signed), refl)) g)))
+      (λ no_sign. let lead : IsTrue (zone_lead c) = no_sign_lead c h.1 no_sign in
+      zone_of_name text _ (name_alone_at fault text) (read_weaker fault (name_alone_at fault text) _ _ _ _ (alone_read c text more h.0 lead)
+      (λ name rest g. g)
+      (λ r g. lift_name parse_identifier r c text more h.0 lead (refl, refl) (refl, refl) g))))
+      (λ r h. lift_start parse_identifier (of_zone identifier_start) r text h.0 (refl, refl) refl h.1)

@@ -1,0 +1,9 @@
+-- theorems.
+pub mod Handled
+pub mod Hyphens
+pub mod Offsets
+pub mod OneChain
+pub mod OneOutcome
+pub mod OneUnhandledOutcome
+pub mod OnlyOutcome
+pub mod Rfc3339

@@ -1,0 +1,104 @@
+-- A date's hyphens say nothing where both stand, and are refused where one does.
+use Rattle.std.proofs.Common.{◌≡◌, ℕ, IsTrue, IsFalse, ◌∷◌, ◌++◌, [], refl, sym, ◌∙◌, ap, inl, inr, append_assoc, arith}
+use Rattle.std.proofs.lemmas.Bool.Decides.{nat_tests}
+use Rattle.ixdtf_grammar.specs.declared.records.DateRecord.{DateRecord}
+use Rattle.ixdtf_grammar.specs.Laws.{HyphensSayNothing, OneHyphenIsRefused, IsDateParts}
+use Rattle.ixdtf_grammar.specs.Widths.{UnhandledOutcome, HasUnhandledOutcome}
+use Rattle.ixdtf_grammar.specs.Widths.UnhandledOutcome.{faulted}
+use Rattle.ixdtf_grammar.specs.language.Dates.{DateText}
+use Rattle.ixdtf_grammar.specs.language.Digits.{decimal}
+use Rattle.ixdtf_grammar.specs.language.Letters.{Text, digit, hyphen}
+use Rattle.ixdtf_grammar.specs.language.Letters.Letter.{Plain}
+use Rattle.ixdtf_grammar.specs.language.Readers.{parse}
+use Rattle.ixdtf_grammar.specs.language.Readers.CoreKind.{date_time}
+use Rattle.ixdtf_grammar.specs.table.Faults.Fault.{DateSeparator}
+use Rattle.ixdtf_grammar.specs.table.LineNames.{of_date}
+use Rattle.ixdtf_grammar.specs.table.LineNames.DateLine.{after_hyphened_month, after_basic_month}
+use Rattle.ixdtf_grammar.specs.table.Outcomes.{HasFault}
+use Rattle.ixdtf_grammar.specs.table.Rows.Place.{other}
+use Rattle.ixdtf_reading.specs.reading.Cores.{date_time_core_at}
+use Rattle.ixdtf_reading.specs.reading.Dates.{date_of}
+use Rattle.ixdtf_reading.specs.reading.Looks.{row_of}
+use Rattle.ixdtf_reading.specs.reading.Wholes.{row_behind, bracketed_text_at, outcome}
+use Rattle.ixdtf_reading.proofs.code.OneMoreReply.{NoneRefused-nothing}
+use Rattle.ixdtf_reading.proofs.theorems.OneOutcome.{outcome_holds}
+use Rattle.ixdtf_reading.proofs.theorems.OneUnhandledOutcome.{same_plain}
+use Rattle.ixdtf_reading.proofs.to_reading.Dates.{over_date}
+
+-- the date of these parts
+abbrev date_with : (years months days : Text) → IsDateParts years months days → DateRecord
+date_with years months days h = date_of h.0.0 h.1.0 (decimal days)
+
+plain_shape : (years months days : Text) (h : IsDateParts years months days) → DateText (years ++ (months ++ days)) (date_with years months days h)
+plain_shape years months days h =
+    inl (record { years = years; months = months; days = days; is = refl; year = h.0.1; month = h.1.1; day = (h.2, refl) })
+
+hyphened_shape : (years months days : Text) (h : IsDateParts years months days)
+    → DateText (years ++ (Plain 45 ∷ (months ++ (Plain 45 ∷ days)))) (date_with years months days h)
+hyphened_shape years months days h =
+    inr (record { years = years; months = months; days = days; is = refl; year = h.0.1; month = h.1.1; day = (h.2, refl) })
+
+-- reading goes alike over two shapes of first date
+alike_read : (first second rest : Text) (date : DateRecord) → DateText first date → DateText second date
+    → outcome parse (first ++ rest) ≡ outcome parse (second ++ rest)
+unfolding bracketed_text_at date_time_core_at
+alike_read first second rest date h g = rw ((over_date (row_behind []) first date h).over rest, (over_date (row_behind []) second date g).over rest) refl
+
+alike_plain : (first second : Text) → outcome parse first ≡ outcome parse second → (x : UnhandledOutcome) → HasUnhandledOutcome parse first x
+    → HasUnhandledOutcome parse second x
+alike_plain first second same = same_plain date_time first second (outcome parse first) (outcome_holds parse first) (rw same (outcome_holds parse second))
+
+pub hyphens_say_nothing : HyphensSayNothing
+hyphens_say_nothing years months days rest h x =
+    let plain : (years ++ (months ++ days)) ++ rest ≡ years ++ (months ++ (days ++ rest)) = simp append_assoc in
+    let hyphened : (years ++ (Plain 45 ∷ (months ++ (Plain 45 ∷ days)))) ++ rest ≡ years ++ (Plain 45 ∷ (months ++ (Plain 45 ∷ (days ++ rest)))) =
+    simp append_assoc in
+    let alike = alike_read _ _ rest _ (plain_shape years months days h) (hyphened_shape years months days h) in
+    let same = ap (outcome parse) (sym plain) ∙ alike ∙ ap (outcome parse) hyphened in
+    (alike_plain _ _ same x, alike_plain _ _ (sym same) x)
+
+-- a digit is no hyphen
+digit_no_hyphen : (c : ℕ) → IsTrue (digit c) → IsFalse (hyphen c)
+digit_no_hyphen c h = grind (arith, h, nat_tests)
+
+-- a fault before any pair is what comes
+refused_at_once : (text : Text) → HasFault parse text [] DateSeparator → HasUnhandledOutcome parse text (faulted DateSeparator)
+refused_at_once text h = ([], inr (h, NoneRefused-nothing))
+
+pub one_hyphen_is_refused : OneHyphenIsRefused
+one_hyphen_is_refused years months days rest ((y, year), (m, month), (c, more, is, digit, others)) = (
+  refused_at_once _ (
+    row_of (of_date after_hyphened_month) other DateSeparator,
+    (
+      [],
+      _,
+      refl,
+      (refl, refl),
+      (
+        years ++ (Plain 45 ∷ months),
+        days ++ rest,
+        simp append_assoc,
+        (years, Plain 45 ∷ months, refl, (y, year), (Plain 45 ∷ [], months, refl, (45, refl, refl), (m, month))),
+        (c, more ++ rest, ap (λ t. t ++ rest) is, digit_no_hyphen c digit, refl),
+      ),
+    ),
+    refl,
+  ),
+  refused_at_once _ (
+    row_of (of_date after_basic_month) other DateSeparator,
+    (
+      [],
+      _,
+      refl,
+      (refl, refl),
+      (
+        years ++ months,
+        Plain 45 ∷ (days ++ rest),
+        simp append_assoc,
+        (years, months, refl, (y, year), (m, month)),
+        (45, days ++ rest, refl, refl, refl),
+      ),
+    ),
+    refl,
+  ),
+)

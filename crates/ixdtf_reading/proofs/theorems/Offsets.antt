@@ -1,0 +1,54 @@
+-- An offset and a zone that are derived from one text are one.
+use Rattle.std.proofs.Common.{◌≡◌, ℕ, IsTrue, List, [], ◌∷◌, inl, inr, refl, sym, ◌∙◌, true≢false}
+use Rattle.std.proofs.lemmas.Bool.{both_ways}
+use Rattle.ixdtf_grammar.specs.declared.records.TimeRecord.{TimeRecord}
+use Rattle.ixdtf_grammar.specs.declared.records.UtcOffsetRecord.{UtcOffsetRecord}
+use Rattle.ixdtf_grammar.specs.declared.records.UtcOffsetRecord.TheVariants.{MinutePrecision}
+use Rattle.ixdtf_grammar.specs.Laws.{OffsetsAgree}
+use Rattle.ixdtf_grammar.specs.language.Languages.Derives.{as_shifted, as_identified}
+use Rattle.ixdtf_grammar.specs.language.Languages.Found.{shifted}
+use Rattle.ixdtf_grammar.specs.language.Letters.{Text, sign}
+use Rattle.ixdtf_grammar.specs.language.Letters.Letter.{Plain}
+use Rattle.ixdtf_grammar.specs.language.Offsets.{IsOffset, minutes_of}
+use Rattle.ixdtf_grammar.specs.language.Readers.Reader.{parse_offset}
+use Rattle.ixdtf_grammar.specs.language.Times.{TimeShape, ClockOf, SecondText}
+use Rattle.ixdtf_grammar.specs.language.Times.{Clock as clocks}
+use Rattle.ixdtf_grammar.specs.language.Times.TimeShape.{hours, basic_minutes, colon_minutes, seconds, fractions}
+use Rattle.ixdtf_grammar.specs.language.ZoneNames.{IsZoneName}
+use Rattle.ixdtf_grammar.specs.table.Outcomes.Outcome.{derived}
+use Rattle.ixdtf_reading.proofs.parts.ZonesAlone.{lead_no_sign, first_letter}
+use Rattle.ixdtf_reading.proofs.theorems.OneOutcome.{same_outcome}
+
+-- a name does not begin as an offset
+no_name : (text : Text) (offset : UtcOffsetRecord) (name : List ℕ) → IsOffset text offset → ¬ (IsZoneName text name)
+no_name text offset name h g =
+    let lead = first_letter text g.0 in
+    let same : Plain h.c ∷ h.body ≡ Plain lead.0 ∷ lead.1 = sym h.is ∙ lead.2 in
+    let letters : lead.0 ≡ h.c = cc in
+    both_ways _ (rw (← letters) (lead_no_sign lead.0 lead.3)) h.sign
+
+-- no seconds are written there
+no_second : (text : Text) (time : TimeRecord) → ¬ (SecondText clocks.MinuteOffset text time)
+no_second text time (inl h) = true≢false (sym h.may)
+no_second text time (inr h) = true≢false (sym h.may)
+
+-- so an offset without seconds is an offset
+minutes_alone : (c : ℕ) (shape : TimeShape) (body : Text) (time : TimeRecord) → IsTrue (sign c) → ClockOf clocks.MinuteOffset shape body time
+    → IsOffset (Plain c ∷ body) (MinutePrecision (minutes_of c time))
+minutes_alone c hours body time signed clock =
+    record { c = c; body = body; shape = hours; time = time; is = refl; sign = signed; clock = clock; value = refl }
+minutes_alone c basic_minutes body time signed clock =
+    record { c = c; body = body; shape = basic_minutes; time = time; is = refl; sign = signed; clock = clock; value = refl }
+minutes_alone c colon_minutes body time signed clock =
+    record { c = c; body = body; shape = colon_minutes; time = time; is = refl; sign = signed; clock = clock; value = refl }
+minutes_alone c seconds body time signed clock = absurd (no_second body time clock)
+minutes_alone c fractions body time signed clock = absurd (no_second clock.whole _ clock.second)
+
+pub offsets_agree : OffsetsAgree
+offsets_agree text offset zone (as_shifted d) (as_identified (inl (name, is_name, is))) = absurd (no_name text offset name d is_name)
+offsets_agree text offset zone (as_shifted d) (as_identified (inr (minutes, h, is))) =
+    let whole : IsOffset text (MinutePrecision minutes) = rw (h.is, h.value) (minutes_alone h.c h.shape h.body h.time h.sign h.clock) in
+    let same : derived (shifted offset) [] ≡ derived (shifted (MinutePrecision minutes)) [] =
+    same_outcome parse_offset text (derived (shifted offset) []) (derived (shifted (MinutePrecision minutes)) []) (as_shifted d) (as_shifted whole) in
+    let found : shifted offset ≡ shifted (MinutePrecision minutes) = cc in
+    (minutes, cc, is)

@@ -1,0 +1,98 @@
+-- Each text has exactly one outcome, and the pairs of a front begin those of the text.
+use Rattle.std.proofs.Common.{◌≡◌, ◌⊎◌, List, [], ◌++◌, Option, Ok, Err, refl, sym, ap, ◌∙◌, subst, inl, inr, append_assoc}
+use Rattle.ixdtf_grammar.specs.language.Letters.{Text}
+use Rattle.ixdtf_grammar.specs.table.Faults.{Fault}
+use Rattle.ixdtf_grammar.specs.language.Brackets.{ZoneNote}
+use Rattle.ixdtf_grammar.specs.language.Brackets.{Pair}
+use Rattle.ixdtf_grammar.specs.language.Cores.{Core}
+use Rattle.ixdtf_grammar.specs.language.Readers.{Reader}
+use Rattle.ixdtf_grammar.specs.language.Languages.Derives.{as_parsed, as_shifted, as_identified, as_named, as_lasting}
+use Rattle.ixdtf_grammar.specs.language.Languages.{Parsed, parsed_with, Found, Derives}
+use Rattle.ixdtf_grammar.specs.table.Outcomes.{HasFault, NoRowFits, Outcome, Holds, OneOutcome, pairs_of, Begins, FrontsBegin}
+use Rattle.ixdtf_grammar.specs.language.Languages.Found.{parsed}
+use Rattle.ixdtf_grammar.specs.table.Outcomes.Outcome.{derived, refused}
+use Rattle.ixdtf_grammar.specs.Laws.{InLanguage}
+use Rattle.ixdtf_reading.specs.reading.Looks.{Read, ◌>>=◌}
+use Rattle.ixdtf_reading.specs.reading.Pairs.{pairs_at}
+use Rattle.ixdtf_reading.specs.reading.Wholes.{bracketed_text_at, with_pairs, read_at, RowBehind, row_behind, outcome_of, outcome}
+use Rattle.ixdtf_reading.proofs.to_grammar.MorePairs.{OnPairs, pairs_read}
+use Rattle.ixdtf_reading.proofs.to_reading.Wholes.{NoBrackets, Brackets, brackets_of, over_brackets, takes, row_read}
+use Rattle.ixdtf_reading.proofs.to_grammar.Wholes.{OnWhole, whole_read}
+
+-- what holds of a text is what reading returns
+decides : (reader : Reader) (text : Text) (x : Outcome) → Holds reader text x → x ≡ outcome reader text
+decides reader text (derived found pairs) h = sym (ap outcome_of (takes row_behind reader text found pairs h))
+decides reader text (refused row pairs) h = sym (ap outcome_of (row_read row_behind reader text row pairs h))
+
+-- what reading returns holds
+pub outcome_holds : (reader : Reader) (text : Text) → Holds reader text (outcome reader text)
+outcome_holds reader text = go _ (whole_read row_behind reader text)
+  where
+    go : (r : Read RowBehind (Found × List Pair)) → OnWhole row_behind reader text r → Holds reader text (outcome_of r)
+    go (Ok x) h = h.1
+    go (Err stop) h = rw h.2 h.3
+
+pub one_outcome : OneOutcome
+one_outcome reader text = (outcome reader text, outcome_holds reader text, decides reader text)
+
+pub same_outcome : (reader : Reader) (text : Text) (x y : Outcome) → Holds reader text x → Holds reader text y → x ≡ y
+same_outcome reader text x y h g = decides reader text x h ∙ sym (decides reader text y g)
+
+-- where something is derived from a text, no row fits it
+pub no_row_fits : (reader : Reader) (text : Text) → InLanguage reader text → NoRowFits reader text
+no_row_fits reader text h row pairs fits = let same : derived h.0 h.1 ≡ refused row pairs = same_outcome reader text _ _ h.2 fits in absurd cc
+
+-- the faults of a text are one, with the same pairs before them
+pub fault_once : (reader : Reader) (text : Text) (xs ys : List Pair) (x y : Fault) → HasFault reader text xs x → HasFault reader text ys y → (x ≡ y) × (xs ≡ ys)
+fault_once reader text xs ys x y h g =
+    let same : refused h.0 xs ≡ refused g.0 ys = same_outcome reader text (refused h.0 xs) (refused g.0 ys) h.1 g.1 in
+    let rows : h.0 ≡ g.0 = cc in
+    (sym h.2 ∙ ap (λ r. r.error) rows ∙ g.2, cc)
+
+-- the pairs of the front begin those that reading returned
+abbrev OnBegins : List Pair → Read RowBehind (Found × List Pair) → Type 0
+OnBegins pairs (Ok x) = Begins pairs x.0.1
+OnBegins pairs (Err stop) = Begins pairs stop.0
+
+none_begins : (r : Read RowBehind (Found × List Pair)) → OnBegins [] r
+none_begins (Ok x) = (x.0.1, refl)
+none_begins (Err stop) = (stop.0, refl)
+
+more_begins : (core : Core) (first_zone : Option ZoneNote) (pairs : List Pair) (rest : Text) (r : Read RowBehind (List Pair)) → OnPairs row_behind pairs rest r
+    → OnBegins pairs (with_pairs (r >>= λ all. Ok ((parsed_with core first_zone, all.0), all.1)))
+more_begins core first_zone pairs rest (Ok x) h = (h.1, h.2)
+more_begins core first_zone pairs rest (Err stop) h = (h.0, ap (λ s. s.0) h.4)
+
+-- reading goes over the front to the pairs after it
+front_begins : (reader : Reader) (front rest : Text) (read : Parsed) (pairs : List Pair) → Derives reader front (parsed read) pairs
+    → OnBegins pairs (read_at row_behind reader (front ++ rest))
+front_begins reader front rest read pairs (as_parsed {kind = kind} d) = go (brackets_of d.brackets d.zone pairs d.is_tail)
+  where
+    go : NoBrackets d.brackets d.zone pairs ⊎ Brackets d.brackets d.zone pairs → OnBegins pairs (with_pairs (bracketed_text_at row_behind kind (front ++ rest)))
+    go (inl h) = rw h.pairs_are (none_begins (with_pairs (bracketed_text_at row_behind kind (front ++ rest))))
+    go (inr h) =
+        let over = over_brackets row_behind kind d.cores d.brackets rest d.core d.zone pairs d.is_core h in
+        let is : bracketed_text_at row_behind kind (front ++ rest)
+        ≡ (pairs_at row_behind over.0 pairs rest >>= λ all. Ok ((parsed_with d.core d.zone, all.0), all.1)) =
+        ap (bracketed_text_at row_behind kind) (rw d.is (simp append_assoc)) ∙ over.2 in
+        rw is (more_begins d.core d.zone pairs rest _ (pairs_read row_behind over.0 pairs rest over.1))
+
+-- the pairs of a front that is derived begin those of the text, whether it is derived or has a fault
+pub derived_begins : (reader : Reader) (front rest : Text) (read whole : Parsed) (pairs all : List Pair) → Derives reader front (parsed read) pairs
+    → Derives reader (front ++ rest) (parsed whole) all → Begins pairs all
+derived_begins reader front rest read whole pairs all d h =
+    subst (OnBegins pairs) (takes row_behind reader (front ++ rest) (parsed whole) all h) (front_begins reader front rest read pairs d)
+
+pub fault_begins : (reader : Reader) (front rest : Text) (read : Parsed) (pairs all : List Pair) (fault : Fault) → Derives reader front (parsed read) pairs
+    → HasFault reader (front ++ rest) all fault → Begins pairs all
+fault_begins reader front rest read pairs all fault d h =
+    subst (OnBegins pairs) (row_read row_behind reader (front ++ rest) h.0 all h.1) (front_begins reader front rest read pairs d)
+
+pub fronts_begin : FrontsBegin
+fronts_begin reader front rest found pairs (derived whole all) (as_parsed d) (as_parsed h) =
+    derived_begins reader front rest _ _ pairs all (as_parsed d) (as_parsed h)
+fronts_begin reader front rest found pairs (refused row all) (as_parsed d) h = fault_begins reader front rest _ pairs all row.error (as_parsed d) (row, h, refl)
+fronts_begin reader front rest found pairs outcome (as_shifted d) h = (pairs_of outcome, refl)
+fronts_begin reader front rest found pairs outcome (as_identified d) h = (pairs_of outcome, refl)
+fronts_begin reader front rest found pairs outcome (as_named d) h = (pairs_of outcome, refl)
+fronts_begin reader front rest found pairs outcome (as_lasting d) h = (pairs_of outcome, refl)

@@ -1,0 +1,358 @@
+-- What reading a duration returns is a duration, or the fault of a row that fits.
+use Rattle.std.proofs.Common.{◌≡◌, ℕ, ◌≤◌, ◌<◌, ◌||◌, Bool, true, false, IsTrue, IsFalse, List, [], ◌∷◌, ◌++◌, Result, Ok, Err, refl, inl, inr, arith}
+use Rattle.std.proofs.{Common.{append_assoc, append-nil, nat_le, if◌then◌else◌}, lemmas.{Bool.{or_from, both_ways, leb-true}, Bool.Decides.nat_tests}}
+use Rattle.ixdtf_grammar.specs.declared.profile.Profile.{Profile}
+use Rattle.ixdtf_grammar.specs.declared.records.DurationParseRecord.{DurationParseRecord}
+use Rattle.ixdtf_grammar.specs.language.Letters.Letter.{Plain, Bad}
+use Rattle.ixdtf_grammar.specs.language.Letters.{Text, digit, sign, decimal_mark, hour_letter, minute_letter}
+use Rattle.ixdtf_grammar.specs.language.Digits.{decimal}
+use Rattle.ixdtf_grammar.specs.language.Fractions.{SomeDigits, IsFraction, fraction_of}
+use Rattle.ixdtf_grammar.specs.language.Offsets.{sign_of}
+use Rattle.ixdtf_grammar.specs.language.Durations.{Half, Group, IntegerGroup, FractionGroup}
+use Rattle.ixdtf_grammar.specs.language.Durations.Half.{date}
+use Rattle.ixdtf_grammar.specs.language.Durations.{AtLeastOne, unit_of, designator, in_order, greatest, greatest_value, IsDuration, DurationUnit as units}
+use Rattle.ixdtf_grammar.specs.language.Durations.Half.{time}
+use Rattle.ixdtf_grammar.specs.language.Readers.Reader.{parse_duration}
+use Rattle.ixdtf_grammar.specs.table.Faults.Fault.{NonAsciiCodePoint}
+use Rattle.ixdtf_grammar.specs.table.Faults.{Fault}
+use Rattle.ixdtf_grammar.specs.table.LineNames.LineName.{of_duration}
+use Rattle.ixdtf_grammar.specs.table.LineNames.{LineName}
+use Rattle.ixdtf_grammar.specs.table.DurationFronts.Context.{in_dates, in_times}
+use Rattle.ixdtf_grammar.specs.table.DurationFronts.{Context, half_of, groups_of, IsContext, AnyGroup, group_mark}
+use Rattle.ixdtf_grammar.specs.table.Lines.Line.{line}
+use Rattle.ixdtf_grammar.specs.table.Lines.Ending.{ok, error}
+use Rattle.ixdtf_grammar.specs.table.Lines.{Line, duration_line, line_of}
+use Rattle.ixdtf_grammar.specs.table.Before.{InDuration}
+use Rattle.ixdtf_grammar.specs.table.Rows.Place.{end, other, bad}
+use Rattle.ixdtf_grammar.specs.table.Rows.{Row, Stops, Fits, front_of}
+use Rattle.ixdtf_reading.specs.reading.Looks.{Read, ◌>>=◌, row_of, look_of}
+use Rattle.ixdtf_reading.specs.reading.Durations.{State, line_of_state, add, integer_group, fraction_group, unit_past, grow}
+use Rattle.ixdtf_reading.specs.reading.Durations.State.{started}
+use Rattle.ixdtf_reading.specs.reading.Durations.{add_in_range, in_its_order, to_times, to_fraction, step, finished, at_end, run, duration_at}
+use Rattle.ixdtf_reading.specs.reading.Durations.State.{signed, between, in_number, at_mark, in_fraction, ended}
+use Rattle.ixdtf_reading.proofs.parts.Looks.{IsRowFault, OnRead, read_if, Goes}
+use Rattle.ixdtf_reading.proofs.parts.DurationRuns.{Asks, state_asks, one_digit, digits_longer}
+
+-- ---- what a state says of the text that was read
+
+-- digits of a group, whose number is in range
+abbrev InRange : Text → Type 0
+InRange ds = SomeDigits ds × (decimal ds ≤ greatest_value)
+
+abbrev Here : Profile → State → Text → Type 0
+Here profile started front = front ≡ []
+Here profile (signed s) front = (c : ℕ) × (front ≡ Plain c ∷ []) × IsTrue (sign c) × (s ≡ sign_of c)
+Here profile (between context) front = IsContext profile front context
+Here profile (in_number context ds) front = (prior : Text) × (front ≡ prior ++ ds) × IsContext profile prior context × InRange ds
+Here profile (at_mark s dates times ds) front =
+    (prior : Text) × (mark : ℕ) × (front ≡ prior ++ (ds ++ (Plain mark ∷ []))) × IsContext profile prior (in_times s dates times) × InRange ds
+    × IsTrue (decimal_mark mark)
+Here profile (in_fraction s dates times ds fs) front =
+    (prior : Text) × (mark : ℕ) × (front ≡ prior ++ (ds ++ (Plain mark ∷ fs))) × IsContext profile prior (in_times s dates times) × InRange ds
+    × IsTrue (decimal_mark mark) × SomeDigits fs
+Here profile (ended s dates times g) front =
+    (prior last : Text) × (front ≡ prior ++ last) × IsContext profile prior (in_times s dates times) × FractionGroup last g
+    × IsTrue (in_order profile times g.unit)
+
+-- the row fits at this front, whatever follows
+abbrev FitsAnywhere : Profile → Text → Row → Type 0
+FitsAnywhere profile front row =
+    InDuration profile row.name [] × front_of (line_of false row.name) front × ((rest : Text) → Stops (line_of false row.name) row.place row.error rest)
+
+-- ---- letters and numbers
+
+or_other : (x y : Bool) → IsTrue (x || y) → IsFalse x → IsTrue y
+or_other true y h misses = absurd (both_ways _ misses refl)
+or_other false y h misses = h
+
+not_below : (n m : ℕ) → IsFalse (nat_le n m) → m < n
+not_below n m h = grind (arith, nat_tests, h)
+
+time_greatest : (c : ℕ) → greatest (unit_of time c) ≡ greatest_value
+time_greatest c = go (hour_letter c) (minute_letter c)
+  where
+    go : (h m : Bool) → greatest (if h then units.hours else (if m then units.minutes else units.seconds)) ≡ greatest_value
+    go true m = refl
+    go false true = refl
+    go false false = refl
+
+any_integer : (half : Half) (text : Text) (g : Group) → IntegerGroup half text g → AnyGroup half text g
+any_integer date text g h = h
+any_integer time text g h = inl h
+
+module _ {E : Type 0} (fault : Row → E) (profile : Profile) where
+  -- what is known of the state after a letter, or of the row of its fault
+  abbrev OnState : Result State E → (State → Type 0) → (Row → Type 0) → Type 0
+  OnState (Ok to) found stopped = found to
+  OnState (Err e) found stopped = IsRowFault fault e stopped
+
+  state_if : (b : Bool) (x y : Result State E) (found : State → Type 0) (stopped : Row → Type 0) → (IsTrue b → OnState x found stopped)
+      → (IsFalse b → OnState y found stopped) → OnState (if b then x else y) found stopped
+  state_if true x y found stopped yes_case no_case = yes_case refl
+  state_if false x y found stopped yes_case no_case = no_case refl
+
+  -- ---- one letter more
+
+  -- a state that says so of the front, or a row that fits at it
+  abbrev Kept : Text → Result State E → Type 0
+  Kept front r = OnState r (λ to. Here profile to front) (FitsAnywhere profile front)
+
+  added_after : (context : Context) (prior last : Text) (g : Group) → IsContext profile prior context → IntegerGroup (half_of context) last g
+      → IsTrue (in_order profile (groups_of context) g.unit) → g.value ≤ greatest g.unit → IsContext profile (prior ++ last) (add context g)
+  added_after (in_dates s dates) prior last g b h order range = (b.0, b.1 ++ last, rw b.2 (simp append_assoc), b.3, (b.1, last, refl, b.4, h, order, range))
+  added_after (in_times s dates times) prior last g b h order range =
+      (b.0, b.1, b.2 ++ last, b.3, rw b.4 (simp append_assoc), b.5, b.6, b.7, (b.2, last, refl, b.8, h, order, range))
+
+  grow_kept : (context : Context) (prior ds : Text) (c : ℕ) (front : Text) → front ≡ prior ++ (ds ++ (Plain c ∷ [])) → IsContext profile prior context
+      → decimal ds ≤ greatest_value → SomeDigits (ds ++ (Plain c ∷ [])) → Kept front (grow fault profile context (ds ++ (Plain c ∷ [])))
+  grow_kept context prior ds c front is b below all = state_if (nat_le (decimal (ds ++ (Plain c ∷ []))) greatest_value) _ _ _ _
+      (λ fits. (prior, is, b, (all, leb-true _ _ fits)))
+      (λ past. (_, refl, ((refl, refl), (context, prior, ds ++ (Plain c ∷ []), refl, is, b, (ds, c, refl, all, below, not_below _ _ past)), λ rest. refl)))
+
+  after_between : (context : Context) (c : ℕ) (front : Text) → IsContext profile front context
+      → Goes (duration_line profile (line_of_state (between context))) c
+      → IsFalse (digit c) → Here profile (to_times context) (front ++ (Plain c ∷ []))
+  after_between (in_dates s []) c front b g misses = (b.0, b.1, [], c, rw b.2 (simp append_assoc), b.3, b.4, or_other _ _ g misses, refl)
+  after_between (in_dates s (h ∷ earlier)) c front b g misses = (b.0, b.1, [], c, rw b.2 (simp append_assoc), b.3, b.4, or_other _ _ g misses, refl)
+  after_between (in_times s dates []) c front b g misses = absurd (both_ways _ misses g)
+  after_between (in_times s dates (h ∷ earlier)) c front b g misses = absurd (both_ways _ misses g)
+
+  -- a number past the greatest of its unit is one of dates
+  unit_kept : (context : Context) (prior last : Text) (g : Group) (c : ℕ) (front : Text) → front ≡ prior ++ last → IsContext profile prior context
+      → IntegerGroup (half_of context) last g → g.unit ≡ unit_of (half_of context) c → g.value ≤ greatest_value
+      → IsTrue (in_order profile (groups_of context) g.unit)
+      → greatest g.unit < g.value → FitsAnywhere profile front (unit_past profile)
+  unit_kept (in_dates s dates) prior last g c front is b h unit below order past =
+      ((refl, refl), (in_dates s dates, prior, last, refl, is, b, (g, h, order, past)), λ rest. refl)
+  unit_kept (in_times s dates times) prior last g c front is b h unit below order past =
+      let none : greatest_value < g.value = rw (unit, time_greatest c) at past in absurd (omega arith)
+
+  range_kept : (context : Context) (prior last : Text) (g : Group) (c : ℕ) (front : Text) → front ≡ prior ++ last → IsContext profile prior context
+      → IntegerGroup (half_of context) last g → g.unit ≡ unit_of (half_of context) c → g.value ≤ greatest_value
+      → IsTrue (in_order profile (groups_of context) g.unit)
+      → Kept front (add_in_range fault profile context g)
+  range_kept context prior last g c front is b h unit below order = state_if (nat_le g.value (greatest g.unit)) _ _ _ _
+      (λ range. rw is (added_after context prior last g b h order (leb-true _ _ range)))
+      (λ past. ((unit_past profile), refl, unit_kept context prior last g c front is b h unit below order (not_below _ _ past)))
+
+  order_kept : (context : Context) (prior last : Text) (g : Group) (next : Result State E) (front : Text) → front ≡ prior ++ last
+      → IsContext profile prior context
+      → AnyGroup (half_of context) last g → (IsTrue (in_order profile (groups_of context) g.unit) → Kept front next)
+      → Kept front (in_its_order fault profile context g next)
+  order_kept context prior last g next front is b h go = state_if (in_order profile (groups_of context) g.unit) _ _ _ _
+      go
+      (λ order. (_, refl, ((refl, refl), (context, prior, last, refl, is, b, (g, h, order)), λ rest. refl)))
+
+  to_mark : (context : Context) (prior ds : Text) (c : ℕ) (front : Text) → front ≡ prior ++ (ds ++ (Plain c ∷ [])) → IsContext profile prior context
+      → InRange ds
+      → IsTrue (group_mark (half_of context) c) → Here profile (to_fraction context ds) front
+  to_mark (in_dates s dates) prior ds c front is b in_range mark = absurd (both_ways _ refl mark)
+  to_mark (in_times s dates times) prior ds c front is b in_range mark = (prior, c, is, b, in_range, mark)
+
+  -- a letter of a group behind its digits
+  group_kept : (context : Context) (prior ds : Text) (c : ℕ) (front : Text) → front ≡ prior ++ (ds ++ (Plain c ∷ [])) → IsContext profile prior context
+      → InRange ds
+      → IsTrue (designator (half_of context) c)
+      → Kept front (in_its_order fault profile context (integer_group (half_of context) ds c)
+      (add_in_range fault profile context (integer_group (half_of context) ds c)))
+  group_kept context prior ds c front is b in_range d =
+      let g = integer_group (half_of context) ds c in
+      let integer : IntegerGroup (half_of context) (ds ++ (Plain c ∷ [])) (integer_group (half_of context) ds c) = record {
+        ds = ds;
+        c = c;
+        is = refl;
+        number = (in_range.0, refl, in_range.1);
+        ends = d;
+        unit = refl;
+        fraction = refl;
+      } in
+      order_kept context prior (ds ++ (Plain c ∷ [])) g _ front is b (any_integer (half_of context) _ _ integer)
+      (range_kept context prior (ds ++ (Plain c ∷ [])) g c front is b integer refl in_range.1)
+
+  kept : (s : State) (c : ℕ) (front : Text) → Here profile s front → Goes (duration_line profile (line_of_state s)) c
+      → Kept (front ++ (Plain c ∷ [])) (step fault profile s c)
+  unfolding step
+  kept started c front h g = state_if (sign c) _ _ _ _
+      (λ is. (c, rw h, is, refl))
+      (λ misses. (Plain c ∷ [], [], rw h, inl ((c, refl, or_other _ _ g misses), refl), refl))
+  kept (signed s) c front h g = (Plain h.0 ∷ (Plain c ∷ []), [], rw h.1, inr (h.0, Plain c ∷ [], refl, h.2, (c, refl, g), h.3), refl)
+  kept (between context) c front h g = state_if (digit c) _ _ _ _
+      (λ d. grow_kept context front [] c (front ++ (Plain c ∷ [])) refl h (omega arith) (one_digit c d))
+      (after_between context c front h g)
+  kept (in_number context ds) c front h g =
+      let is : front ++ (Plain c ∷ []) ≡ h.0 ++ (ds ++ (Plain c ∷ [])) = rw h.1 (simp append_assoc) in
+      state_if (digit c) _ _ _ _
+      (λ d. grow_kept context h.0 ds c _ is h.2 h.3.1 (digits_longer ds c h.3.0 d))
+      (λ no_digit. state_if (designator (half_of context) c) _ _ _ _
+      (group_kept context h.0 ds c _ is h.2 h.3)
+      (λ no_designator. to_mark context h.0 ds c _ is h.2 h.3 (or_other _ _ g (or_from _ _ no_digit no_designator))))
+  kept (at_mark s dates times ds) c front h g = (h.0, h.1, rw h.2 (simp append_assoc), h.3, h.4, h.5, one_digit c g)
+  kept (in_fraction s dates times ds fs) c front h g =
+      let is : front ++ (Plain c ∷ []) ≡ h.0 ++ (ds ++ ((Plain h.1 ∷ fs) ++ (Plain c ∷ []))) = rw h.2 (simp append_assoc) in
+      state_if (digit c) _ _ _ _
+      (λ d. (h.0, h.1, is, h.3, h.4, h.5, digits_longer fs c h.6 d))
+      (λ misses. let part : IsFraction (Plain h.1 ∷ fs) (fraction_of fs) = record { mark = h.1; ds = fs; is = refl; marks = h.5; some = h.6; value = refl } in
+      let last : FractionGroup (ds ++ ((Plain h.1 ∷ fs) ++ (Plain c ∷ []))) (fraction_group ds fs c) = record {
+        ds = ds;
+        fs = Plain h.1 ∷ fs;
+        c = c;
+        parts = fraction_of fs;
+        is = refl;
+        number = (h.4.0, refl, h.4.1);
+        is_fraction = part;
+        ends = or_other _ _ g misses;
+        unit = refl;
+        fraction = refl;
+      } in
+      order_kept (in_times s dates times) h.0 _ (fraction_group ds fs c) _ _ is h.3 (inr last)
+      (λ order. (h.0, _, is, h.3, last, order)))
+  kept (ended s dates times g) c front h goes = absurd (both_ways _ refl goes)
+
+-- ---- a state shows the front of its line, and a duration where the text may end
+
+shown : (profile : Profile) (s : State) (front : Text) → Here profile s front → front_of (duration_line profile (line_of_state s)) front
+shown profile started front h = h
+shown profile (signed s) front h = (h.0, h.1, h.2)
+shown profile (between (in_dates s [])) front h = (s, rw (h.2, h.4, append-nil) h.3)
+shown profile (between (in_dates s (g ∷ earlier))) front h = (s, g, earlier, h)
+shown profile (between (in_times s dates [])) front h = (s, dates, h)
+shown profile (between (in_times s dates (g ∷ earlier))) front h = (s, dates, g, earlier, h)
+shown profile (in_number context ds) front h = (context, h.0, ds, refl, h.1, h.2, (decimal ds, (h.3.0, refl, h.3.1)))
+shown profile (at_mark s dates times ds) front h =
+    (in_times s dates times, h.0, _, refl, h.2, h.3, (ds, _, refl, (decimal ds, (h.4.0, refl, h.4.1)), (h.1, refl, h.5)))
+shown profile (in_fraction s dates times ds fs) front h = (
+  in_times s dates times,
+  h.0,
+  _,
+  refl,
+  h.2,
+  h.3,
+  (ds, Plain h.1 ∷ fs, refl, (decimal ds, (h.4.0, refl, h.4.1)), (Plain h.1 ∷ [], fs, refl, (h.1, refl, h.5), h.6)),
+)
+shown profile (ended s dates times g) front h = (in_times s dates times, h.0, h.1, refl, h.2, h.3, (g, h.4, h.5))
+
+abbrev MayEnd : Line → Type 0
+MayEnd (line front goes_on ok at_other) = Unit {0}
+MayEnd l = ⊥
+
+least_time : (dates : List Group) (g : Group) (times : List Group) → AtLeastOne dates (g ∷ times)
+least_time [] g times = tt
+least_time (d ∷ dates) g times = tt
+
+is_duration : (profile : Profile) (s : State) (front : Text) → Here profile s front → MayEnd (duration_line profile (line_of_state s))
+    → IsDuration profile front (finished s)
+is_duration profile (between (in_dates s (g ∷ earlier))) front h ends =
+    record {
+      start = h.0;
+      date_text = h.1;
+      time_text = [];
+      sign = s;
+      dates = g ∷ earlier;
+      times = [];
+      is = rw (append-nil, h.2);
+      is_start = h.3;
+      are_dates = h.4;
+      are_times = inl (refl, refl);
+      least = tt;
+      value = refl;
+    }
+is_duration profile (between (in_times s dates (g ∷ earlier))) front h ends =
+    record {
+      start = h.0;
+      date_text = h.1;
+      time_text = Plain h.3 ∷ h.2;
+      sign = s;
+      dates = dates;
+      times = g ∷ earlier;
+      is = h.4;
+      is_start = h.5;
+      are_dates = h.6;
+      are_times = inr (h.3, h.2, refl, h.7, inl h.8);
+      least = least_time dates g earlier;
+      value = refl;
+    }
+is_duration profile (ended s dates times g) front h ends =
+    let b = h.3 in
+    record {
+      start =
+          b.0;
+      date_text = b.1;
+      time_text = Plain b.3 ∷ (b.2 ++ h.1);
+      sign = s;
+      dates = dates;
+      times = g ∷ times;
+      is = rw (h.2, b.4)
+          (simp append_assoc);
+      is_start = b.5;
+      are_dates = b.6;
+      are_times = inr
+          (b.3, b.2 ++ h.1, refl, b.7, inr (b.2, h.1, refl, b.8, h.4, h.5));
+      least = least_time dates g times;
+      value = refl;
+    }
+is_duration profile s front h ends = absurd ends
+
+-- ---- what reading returns
+
+bad_stops : (l : Line) (rest : Text) → Asks l → Stops l bad NonAsciiCodePoint (Bad ∷ rest)
+bad_stops (line front goes_on ends at_other) rest asks = (rest, refl, refl)
+bad_stops l rest asks = absurd asks
+
+module _ {E : Type 0} (fault : Row → E) (profile : Profile) where
+  bad_row : (name : LineName) (l : Line) → Asks l → (look_of fault name l).at_bad ≡ fault (row_of name bad NonAsciiCodePoint)
+  bad_row name (line front goes_on ends at_other) asks = refl
+  bad_row name l asks = absurd asks
+
+  end_read : (name : LineName) (l : Line) (d : DurationParseRecord) (found : DurationParseRecord → Type 0) (stopped : Row → Type 0) → Asks l
+      → (MayEnd l → found d) → ((e : Fault) → Stops l end e [] → stopped (row_of name end e))
+      → OnRead fault (at_end (look_of fault name l).at_end d) (λ x left. (left ≡ []) × found x) stopped
+  end_read name (line front goes_on ok at_other) d found stopped asks good at = (refl, good tt)
+  end_read name (line front goes_on (error e) at_other) d found stopped asks good at = (row_of name end e, refl, at e (refl, refl))
+  end_read name l d found stopped asks good at = absurd asks
+
+  letter_read : {A : Type 0} (name : LineName) (l : Line) (c : ℕ) (rest : Text) (x : Read E A) (found : A → Text → Type 0) (stopped : Row → Type 0) → Asks l
+      → (Goes l c → OnRead fault x found stopped) → ((e : Fault) → Stops l other e (Plain c ∷ rest) → stopped (row_of name other e))
+      → OnRead fault (if (look_of fault name l).goes_on c then x else Err ((look_of fault name l).at_other c)) found stopped
+  letter_read name (line front goes_on ends at_other) c rest x found stopped asks good at = read_if fault (goes_on c) x _ found stopped
+      good
+      (λ h. (row_of name other (at_other c), refl, at (at_other c) (c, rest, refl, h, refl)))
+  letter_read name l c rest x found stopped asks good at = absurd asks
+
+  then_state : {A : Type 0} (r : Result State E) (go : State → Read E A) (to_found : State → Type 0) (at_row : Row → Type 0) (found : A → Text → Type 0)
+      (stopped : Row → Type 0) → OnState fault profile r to_found at_row → ((to : State) → to_found to → OnRead fault (go to) found stopped)
+      → ((row : Row) → at_row row → stopped row) → OnRead fault (r >>= go) found stopped
+  then_state (Ok to) go to_found at_row found stopped h next lifts = next to h
+  then_state (Err e) go to_found at_row found stopped h next lifts = (h.0, h.1, lifts h.0 h.2)
+
+  -- a front of the line of the state, and what its row asks for
+  abbrev FitsThere : Text → Row → Type 0
+  FitsThere text row = Fits (parse_duration profile) row [] text
+
+  run_read : (s : State) (front rest text : Text) → Here profile s front → text ≡ front ++ rest
+      → OnRead fault (run fault profile s rest) (λ d left. (left ≡ []) × IsDuration profile text d) (FitsThere text)
+  unfolding run
+  run_read s front [] text h is =
+      end_read (of_duration profile (line_of_state s)) (duration_line profile (line_of_state s)) (finished s) _ _ (state_asks profile s)
+      (λ ends. rw (is, append-nil) (is_duration profile s front h ends))
+      (λ e at. ([], text, refl, ((refl, refl), refl), (front, [], is, shown profile s front h, at)))
+  run_read s front (Bad ∷ rest) text h is = (
+    row_of (of_duration profile (line_of_state s)) bad NonAsciiCodePoint,
+    bad_row (of_duration profile (line_of_state s)) (duration_line profile (line_of_state s)) (state_asks profile s),
+    (
+      [],
+      text,
+      refl,
+      ((refl, refl), refl),
+      (front, Bad ∷ rest, is, shown profile s front h, bad_stops (duration_line profile (line_of_state s)) rest (state_asks profile s)),
+    ),
+  )
+  run_read s front (Plain c ∷ rest) text h is =
+      letter_read (of_duration profile (line_of_state s)) (duration_line profile (line_of_state s)) c rest _ _ _ (state_asks profile s)
+      (λ g. then_state (step fault profile s c) _ _ _ _ _ (kept fault profile s c front h g)
+      (λ to there. run_read to (front ++ (Plain c ∷ [])) rest text there (rw append_assoc is))
+      (λ row w. ([], text, refl, (w.0, refl), (front ++ (Plain c ∷ []), rest, rw append_assoc is, w.1, w.2 rest))))
+      (λ e at. ([], text, refl, ((refl, refl), refl), (front, Plain c ∷ rest, is, shown profile s front h, at)))
+
+  pub duration_read : (text : Text) → OnRead fault (duration_at fault profile text) (λ d rest. (rest ≡ []) × IsDuration profile text d)
+      (λ row. Fits (parse_duration profile) row [] text)
+  duration_read text = run_read started [] text text refl refl

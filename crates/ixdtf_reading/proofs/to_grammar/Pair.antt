@@ -1,0 +1,342 @@
+-- What reading a pair returns is a pair, or a row that fits.
+use Rattle.std.proofs.Common.{◌≡◌, ℕ, Bool, true, false, IsTrue, IsFalse, List, [], ◌∷◌, ◌++◌, map, Ok, Err, refl, sym, ap, ◌∙◌, subst, inl, inr, arith}
+use Rattle.std.proofs.{Common.append_assoc, lemmas.{Bool.eqb-true, Bool.Decides.nat_tests}}
+use Rattle.ixdtf_grammar.specs.language.Letters.Letter.{Plain, Bad}
+use Rattle.ixdtf_grammar.specs.language.Letters.{Text, ◌or◌, hyphen, equals, opening, closing, exclamation, key_lead, key_char, value_char}
+use Rattle.ixdtf_grammar.specs.language.Shapes.{Shape, nothing, one, ◌then◌, ◌either◌, some, many}
+use Rattle.ixdtf_grammar.specs.language.Brackets.{Opens, Pair, Key, ValueRun, Value, IsPair}
+use Rattle.ixdtf_grammar.specs.table.Faults.Fault.{NonAsciiCodePoint, AnnotationKeyValueSeparator, AnnotationKeyChar}
+use Rattle.ixdtf_grammar.specs.table.LineNames.PairLine.{key_start}
+use Rattle.ixdtf_grammar.specs.table.LineNames.{PairLine}
+use Rattle.ixdtf_grammar.specs.table.LineNames.PairLine.{critical_key_start, in_key, value_start, in_value, after_value_hyphen}
+use Rattle.ixdtf_grammar.specs.table.LineNames.LineName.{of_pair}
+use Rattle.ixdtf_grammar.specs.table.Lines.{line_of, pair_line}
+use Rattle.ixdtf_grammar.specs.table.Rows.Place.{end, other, bad}
+use Rattle.ixdtf_grammar.specs.table.Rows.{Row, Stops, FitsHere, front_of}
+use Rattle.ixdtf_reading.specs.reading.Looks.{Read, row_of, letter_at}
+use Rattle.ixdtf_reading.specs.reading.Zones.{with_letter}
+use Rattle.ixdtf_reading.specs.reading.Pairs.{value_line, value_end, value_other, value_step, key_run, value_run}
+use Rattle.ixdtf_reading.specs.reading.Pairs.{pair_at, critical_pair_at, later_pair_at}
+use Rattle.ixdtf_reading.specs.reading.Chains.{AfterBrackets, FitsAfterBrackets}
+use Rattle.ixdtf_reading.specs.declared.annotations.ValueState.{ValueState}
+use Rattle.ixdtf_reading.specs.declared.annotations.ValueState.TheVariants.{AtStart, Inside, AfterHyphen}
+use Rattle.ixdtf_reading.specs.declared.annotations.ValueStep.{ValueStep}
+use Rattle.ixdtf_reading.specs.declared.annotations.ValueStep.TheVariants.{GoesOn, Ends}
+use Rattle.ixdtf_reading.proofs.parts.Looks.{OnRead, then_read, read_if, read_letter, onto}
+use Rattle.ixdtf_reading.proofs.to_reading.Pair.{InPair, PairText, stepped, by_step}
+use Rattle.ixdtf_reading.specs.declared.annotations.ValueStep.TheVariants as steps
+
+-- what reading a pair gave, from its key on
+abbrev pub PairFront : Bool → Text → Pair → Text → Type 0
+PairFront critical text pair rest = (front : Text) × (text ≡ front ++ rest) × PairText front pair × (pair.critical ≡ critical)
+
+-- the row is of a line from the key on, and fits here
+abbrev pub FitsInPair : Text → Row → Type 0
+FitsInPair text row = (l : PairLine) × InPair l × (row.name ≡ of_pair l) × FitsHere true row text
+
+-- ---- shapes that grow in front
+
+one_more : (shape : Shape) (c : ℕ) (text : Text) → shape (Plain c ∷ []) → many shape text → many shape (Plain c ∷ text)
+one_more shape c text h m = ((Plain c ∷ []) ∷ m.0, (text, refl, h, m.1))
+
+-- what a value has after its first letter
+abbrev Tail : Shape
+Tail = many (one value_char) then many (one hyphen then ValueRun)
+
+char_tail : (c : ℕ) (text : Text) → IsTrue (value_char c) → Tail text → Tail (Plain c ∷ text)
+char_tail c text h t = (Plain c ∷ t.0, t.1, onto c t.2, one_more (one value_char) c t.0 (c, refl, h) t.3, t.4)
+
+char_value : (c : ℕ) (text : Text) → IsTrue (value_char c) → Tail text → Value (Plain c ∷ text)
+char_value c text h t = (Plain c ∷ t.0, t.1, onto c t.2, (Plain c ∷ [], t.0, refl, (c, refl, h), t.3), t.4)
+
+hyphen_tail : (c : ℕ) (text : Text) → IsTrue (hyphen c) → Value text → Tail (Plain c ∷ text)
+hyphen_tail c text h v =
+    ([], Plain c ∷ text, refl, ([], refl), ((Plain c ∷ v.0) ∷ v.4.0, (v.1, onto c v.2, (Plain c ∷ [], v.0, refl, (c, refl, h), v.3), v.4.1)))
+
+no_tail : Tail []
+no_tail = ([], [], refl, ([], refl), ([], refl))
+
+grow_then : (a b last : Shape) (c : ℕ) → ((text : Text) → a text → b (Plain c ∷ text)) → (text : Text) → (a then last) text → (b then last) (Plain c ∷ text)
+grow_then a b last c grow text h = (Plain c ∷ h.0, h.1, onto c h.2, grow h.0 h.3, h.4)
+
+-- ---- from state to state
+
+-- the texts that lead from a state to a state
+abbrev Reach : ValueState → ValueState → Shape
+Reach AtStart AtStart = nothing
+Reach AtStart Inside = Value
+Reach AtStart AfterHyphen = Value then one hyphen
+Reach Inside AtStart = λ text. ⊥
+Reach Inside Inside = Tail
+Reach Inside AfterHyphen = Tail then one hyphen
+Reach AfterHyphen AtStart = λ text. ⊥
+Reach AfterHyphen Inside = Value
+Reach AfterHyphen AfterHyphen = nothing either (Value then one hyphen)
+
+stays : (state : ValueState) → Reach state state []
+stays AtStart = refl
+stays Inside = no_tail
+stays AfterHyphen = inl refl
+
+-- a letter leads so from a state to the next
+abbrev Grows : ℕ → ValueState → ValueState → Type 0
+Grows c state next = (last : ValueState) (text : Text) → Reach next last text → Reach state last (Plain c ∷ text)
+
+grows_start : (c : ℕ) → IsTrue (value_char c) → Grows c AtStart Inside
+grows_start c h AtStart text r = absurd r
+grows_start c h Inside text r = char_value c text h r
+grows_start c h AfterHyphen text r = grow_then Tail Value (one hyphen) c (λ t. char_value c t h) text r
+
+grows_inside : (c : ℕ) → IsTrue (value_char c) → Grows c Inside Inside
+grows_inside c h AtStart text r = absurd r
+grows_inside c h Inside text r = char_tail c text h r
+grows_inside c h AfterHyphen text r = grow_then Tail Tail (one hyphen) c (λ t. char_tail c t h) text r
+
+grows_hyphen : (c : ℕ) → IsTrue (hyphen c) → Grows c Inside AfterHyphen
+grows_hyphen c h AtStart text r = absurd r
+grows_hyphen c h Inside text r = hyphen_tail c text h r
+grows_hyphen c h AfterHyphen text (inl r) = ([], Plain c ∷ text, refl, no_tail, (c, rw r, h))
+grows_hyphen c h AfterHyphen text (inr r) = grow_then Value Tail (one hyphen) c (λ t. hyphen_tail c t h) text r
+
+grows_again : (c : ℕ) → IsTrue (value_char c) → Grows c AfterHyphen Inside
+grows_again c h AtStart text r = absurd r
+grows_again c h Inside text r = char_value c text h r
+grows_again c h AfterHyphen text r = inr (grow_then Tail Value (one hyphen) c (λ t. char_value c t h) text r)
+
+-- ---- letters
+
+key_lead_goes : (c : ℕ) → IsTrue (key_lead c) → IsTrue (key_char c)
+key_lead_goes c h = grind (arith, nat_tests)
+
+starts_key : (c : ℕ) → IsTrue ((key_lead or exclamation) c) → IsFalse (exclamation c) → IsTrue (key_lead c)
+starts_key c h g = grind (arith, nat_tests)
+
+-- ---- rows
+
+-- the row is the line's, after a front and at what stands there
+abbrev At : PairLine → Shape → Text → Row → Type 0
+At l shape text row = (part rest : Text) × (text ≡ part ++ rest) × shape part × (row.name ≡ of_pair l) × Stops (pair_line l) row.place row.error rest
+
+fits_here : (l : PairLine) (row : Row) (text : Text) → At l (front_of (pair_line l)) text row → FitsHere true row text
+fits_here l row text h =
+    subst (λ n. (f x : Text) × (text ≡ f ++ x) × front_of (line_of true n) f × Stops (line_of true n) row.place row.error x) (sym h.4)
+    (h.0, h.1, h.2, h.3, h.5)
+
+-- what reading the rest of a key gave
+abbrev KeyFront : Text → List ℕ → Text → Type 0
+KeyFront text key rest = (part : Text) × (text ≡ part ++ (Plain 61 ∷ rest)) × many (one key_char) part × (part ≡ map Plain key)
+
+-- what reading a value gave from a state on, and where it stopped
+abbrev ValueFront : ValueState → Text → List ℕ → Text → Type 0
+ValueFront state text value rest = (part : Text) × (text ≡ part ++ (Plain 93 ∷ rest)) × Reach state Inside part × (part ≡ map Plain value)
+
+abbrev ValueHalts : ValueState → Text → Row → Type 0
+ValueHalts state text row = (last : ValueState) × At (value_line last) (Reach state last) text row
+
+-- a pair's text, after what opens its bracket
+pub opened_pair : (start text : Text) (critical : Bool) (pair : Pair) → Opens start critical → PairText text pair → pair.critical ≡ critical
+    → IsPair (start ++ text) pair
+opened_pair start text critical pair opens h flag =
+    record {
+      start =
+          start;
+      keys = h.keys;
+      values = h.values;
+      is = ap (λ t. start ++ t) h.is;
+      opens = subst (Opens start)
+          (sym flag) opens;
+      is_key = h.is_key;
+      is_value = h.is_value;
+      key = h.key;
+      value = h.value;
+    }
+
+module _ {E : Type 0} (fault : Row → E) where
+  -- ---- keys
+
+  key_more : (c : ℕ) (rest : Text) → IsTrue (key_char c) → (r : Read E (List ℕ)) → OnRead fault r (KeyFront rest) (At in_key (many (one key_char)) rest)
+      → OnRead fault (with_letter c r) (KeyFront (Plain c ∷ rest)) (At in_key (many (one key_char)) (Plain c ∷ rest))
+  key_more c rest is (Ok x) h = (Plain c ∷ h.0, onto c h.1, one_more (one key_char) c h.0 (c, refl, is) h.2, onto c h.3)
+  key_more c rest is (Err e) h = (h.0, h.1, (Plain c ∷ h.2.0, h.2.1, onto c h.2.2, one_more (one key_char) c h.2.0 (c, refl, is) h.2.3, h.2.4, h.2.5))
+
+  key_read : (text : Text) → OnRead fault (key_run fault text) (KeyFront text) (At in_key (many (one key_char)) text)
+  unfolding key_run
+  key_read [] = (row_of (of_pair in_key) end AnnotationKeyValueSeparator, refl, ([], [], refl, ([], refl), refl, (refl, refl)))
+  key_read (Bad ∷ rest) = (row_of (of_pair in_key) bad NonAsciiCodePoint, refl, ([], Bad ∷ rest, refl, ([], refl), refl, (rest, refl, refl)))
+  key_read (Plain c ∷ rest) = read_if fault (key_char c) _ _ _ _
+      (λ goes. key_more c rest goes (key_run fault rest) (key_read rest))
+      (λ no_key. read_if fault (equals c) _ _ _ _
+      (λ marks. ([], ap (λ n. Plain n ∷ rest) (eqb-true c 61 marks), ([], refl), refl))
+      (λ no_equals. (
+        row_of (of_pair in_key) other AnnotationKeyChar,
+        refl,
+        ([], Plain c ∷ rest, refl, ([], refl), refl, (c, rest, refl, rw (no_key, no_equals), refl)),
+      )))
+
+  -- from its first letter on
+  abbrev WholeKey : Text → List ℕ → Text → Type 0
+  WholeKey text key rest = (part : Text) × (text ≡ part ++ (Plain 61 ∷ rest)) × Key part × (part ≡ map Plain key)
+
+  whole_key : (c : ℕ) (rest : Text) → IsTrue (key_lead c) → (r : Read E (List ℕ)) → OnRead fault r (KeyFront rest) (At in_key (many (one key_char)) rest)
+      → OnRead fault (with_letter c r) (WholeKey (Plain c ∷ rest)) (At in_key Key (Plain c ∷ rest))
+  whole_key c rest is (Ok x) h = (Plain c ∷ h.0, onto c h.1, (Plain c ∷ [], h.0, refl, (c, refl, is), h.2), onto c h.3)
+  whole_key c rest is (Err e) h = (h.0, h.1, (Plain c ∷ h.2.0, h.2.1, onto c h.2.2, (Plain c ∷ [], h.2.0, refl, (c, refl, is), h.2.3), h.2.4, h.2.5))
+
+  whole_key_read : (c : ℕ) (text more : Text) → text ≡ Plain c ∷ more → IsTrue (key_lead c)
+      → OnRead fault (key_run fault text) (WholeKey text) (At in_key Key text)
+  unfolding key_run
+  whole_key_read c text more is lead = rw is (rw (key_lead_goes c lead) (whole_key c more lead (key_run fault more) (key_read more)))
+
+  -- ---- values
+
+  abbrev ReadsValue : ValueState → Text → Read E (List ℕ) → Type 0
+  ReadsValue state text r = OnRead fault r (ValueFront state text) (ValueHalts state text)
+
+  value_more : (state next : ValueState) (c : ℕ) (rest : Text) → Grows c state next → (r : Read E (List ℕ)) → ReadsValue next rest r
+      → ReadsValue state (Plain c ∷ rest) (with_letter c r)
+  value_more state next c rest grows (Ok x) h = (Plain c ∷ h.0, onto c h.1, grows Inside h.0 h.2, onto c h.3)
+  value_more state next c rest grows (Err e) h =
+      (h.0, h.1, (h.2.0, (Plain c ∷ h.2.1.0, h.2.1.1, onto c h.2.1.2, grows h.2.0 h.2.1.0 h.2.1.3, h.2.1.4, h.2.1.5)))
+
+  -- another letter
+  value_out : (state : ValueState) (c : ℕ) (rest : Text) → Stops (pair_line (value_line state)) other (value_other state) (Plain c ∷ rest)
+      → ReadsValue state (Plain c ∷ rest) (stepped fault state c rest steps.Stops)
+  value_out state c rest at = (row_of (of_pair (value_line state)) other (value_other state), refl, (state, ([], Plain c ∷ rest, refl, stays state, refl, at)))
+
+  -- the rest of a value is read from each of its states
+  abbrev ReadsRest : Text → Type 0
+  ReadsRest rest = (state : ValueState) → ReadsValue state rest (value_run fault state rest)
+
+  -- at a letter that takes this step
+  at_letter : (state : ValueState) (c : ℕ) (rest : Text) (step : ValueStep) → value_step state c ≡ step
+      → ReadsValue state (Plain c ∷ rest) (stepped fault state c rest step) → ReadsValue state (Plain c ∷ rest) (value_run fault state (Plain c ∷ rest))
+  at_letter state c rest step is h = subst (ReadsValue state (Plain c ∷ rest)) (sym (by_step fault state c rest step is)) h
+
+  start_letter : (c : ℕ) (rest : Text) → ReadsRest rest → (b : Bool) → value_char c ≡ b
+      → ReadsValue AtStart (Plain c ∷ rest) (value_run fault AtStart (Plain c ∷ rest))
+  start_letter c rest more true is =
+      at_letter AtStart c rest (GoesOn Inside) (rw is) (value_more AtStart Inside c rest (grows_start c is) (value_run fault Inside rest) (more Inside))
+  start_letter c rest more false is = at_letter AtStart c rest steps.Stops (rw is) (value_out AtStart c rest (c, rest, refl, is, refl))
+
+  again_letter : (c : ℕ) (rest : Text) → ReadsRest rest → (b : Bool) → value_char c ≡ b
+      → ReadsValue AfterHyphen (Plain c ∷ rest) (value_run fault AfterHyphen (Plain c ∷ rest))
+  again_letter c rest more true is =
+      at_letter AfterHyphen c rest (GoesOn Inside) (rw is) (value_more AfterHyphen Inside c rest (grows_again c is) (value_run fault Inside rest) (more Inside))
+  again_letter c rest more false is = at_letter AfterHyphen c rest steps.Stops (rw is) (value_out AfterHyphen c rest (c, rest, refl, is, refl))
+
+  inside_letter : (c : ℕ) (rest : Text) → ReadsRest rest → (b d f : Bool) → value_char c ≡ b → hyphen c ≡ d → closing c ≡ f
+      → ReadsValue Inside (Plain c ∷ rest) (value_run fault Inside (Plain c ∷ rest))
+  inside_letter c rest more true d f is dash shut =
+      at_letter Inside c rest (GoesOn Inside) (rw is) (value_more Inside Inside c rest (grows_inside c is) (value_run fault Inside rest) (more Inside))
+  inside_letter c rest more false true f is dash shut =
+      at_letter Inside c rest (GoesOn AfterHyphen) (rw (is, dash)) (value_more Inside AfterHyphen c rest (grows_hyphen c dash)
+      (value_run fault AfterHyphen rest) (more AfterHyphen))
+  inside_letter c rest more false false true is dash shut =
+      at_letter Inside c rest Ends (rw (is, dash, shut)) ([], ap (λ n. Plain n ∷ rest) (eqb-true c 93 shut), no_tail, refl)
+  inside_letter c rest more false false false is dash shut =
+      at_letter Inside c rest steps.Stops (rw (is, dash, shut)) (value_out Inside c rest (c, rest, refl, rw (is, dash, shut), refl))
+
+  any_letter : (c : ℕ) (rest : Text) → ReadsRest rest → ReadsRest (Plain c ∷ rest)
+  any_letter c rest more AtStart = start_letter c rest more (value_char c) refl
+  any_letter c rest more Inside = inside_letter c rest more (value_char c) (hyphen c) (closing c) refl refl refl
+  any_letter c rest more AfterHyphen = again_letter c rest more (value_char c) refl
+
+  at_end : (state : ValueState) → Stops (pair_line (value_line state)) end (value_end state) []
+  at_end AtStart = (refl, refl)
+  at_end state = (refl, refl)
+
+  at_bad : (state : ValueState) (rest : Text) → Stops (pair_line (value_line state)) bad NonAsciiCodePoint (Bad ∷ rest)
+  at_bad AtStart rest = (rest, refl, refl)
+  at_bad state rest = (rest, refl, refl)
+
+  value_read : (text : Text) → ReadsRest text
+  unfolding value_run
+  value_read [] state = (row_of (of_pair (value_line state)) end (value_end state), refl, (state, ([], [], refl, stays state, refl, at_end state)))
+  value_read (Bad ∷ rest) state =
+      (row_of (of_pair (value_line state)) bad NonAsciiCodePoint, refl, (state, ([], Bad ∷ rest, refl, stays state, refl, at_bad state rest)))
+  value_read (Plain c ∷ rest) state = any_letter c rest (value_read rest) state
+
+  -- ---- pairs from the key on
+
+  -- a row after a key and `=`
+  after_key : (text middle : Text) (row : Row) (keys : Text) → text ≡ keys ++ (Plain 61 ∷ middle) → Key keys → ValueHalts AtStart middle row
+      → FitsInPair text row
+  after_key text middle row keys is key h = by_state h.0 h.1
+    where
+      split : (part rest : Text) → middle ≡ part ++ rest → text ≡ (keys ++ (Plain 61 ∷ part)) ++ rest
+      split part rest same = is ∙ rw same (simp append_assoc)
+
+      front : (shape : Shape) (part : Text) → shape part → (Key then one equals then shape) (keys ++ (Plain 61 ∷ part))
+      front shape part h = (keys, Plain 61 ∷ part, refl, key, (Plain 61 ∷ [], part, refl, (61, refl, refl), h))
+
+      by_state : (last : ValueState) → At (value_line last) (Reach AtStart last) middle row → FitsInPair text row
+      by_state AtStart g =
+          let shown : front_of (pair_line value_start) (keys ++ (Plain 61 ∷ [])) = (keys, Plain 61 ∷ [], refl, key, (61, refl, refl)) in
+          (value_start, tt, g.4, fits_here value_start row text (keys ++ (Plain 61 ∷ []), g.1, split [] g.1 (rw g.3 at g.2), shown, g.4, g.5))
+      by_state Inside g =
+          (in_value, tt, g.4, fits_here in_value row text (keys ++ (Plain 61 ∷ g.0), g.1, split g.0 g.1 g.2, front Value g.0 g.3, g.4, g.5))
+      by_state AfterHyphen g =
+          let shown = front (Value then one hyphen) g.0 g.3 in
+          (after_value_hyphen, tt, g.4, fits_here after_value_hyphen row text (keys ++ (Plain 61 ∷ g.0), g.1, split g.0 g.1 g.2, shown, g.4, g.5))
+
+  pub pair_read : (critical : Bool) (c : ℕ) (text more : Text) → text ≡ Plain c ∷ more → IsTrue (key_lead c)
+      → OnRead fault (pair_at fault critical text) (PairFront critical text) (FitsInPair text)
+  unfolding pair_at
+  pair_read critical c text more is lead = then_read fault (key_run fault text) _ _ _ _ _ (whole_key_read c text more is lead)
+      (λ key middle h. then_read fault (value_run fault AtStart middle) _ _ _ _ _ (value_read middle AtStart)
+      (λ value rest g. (
+        h.0 ++ (Plain 61 ∷ (g.0 ++ (Plain 93 ∷ []))),
+        h.1 ∙ rw g.1 (simp append_assoc),
+        record { keys = h.0; values = g.0; is = refl; is_key = h.2; is_value = g.2; key = h.3; value = g.3 },
+        refl,
+      ))
+      (λ row g. after_key text middle row h.0 h.1 h.2 g))
+      (λ row h. (in_key, tt, h.4, fits_here in_key row text h))
+
+  -- ---- pairs after their `[`
+
+  -- what reading a pair returns, from `[` on
+  abbrev LaterRead : Text → Read E Pair → Type 0
+  LaterRead body r = OnRead fault r (λ pair rest. (front : Text) × (body ≡ front ++ rest) × IsPair front pair) (λ row. FitsAfterBrackets row body)
+
+  -- a row of a line from the key on, after what opens the bracket
+  opened_row : (start text : Text) (row : Row) → some Opens start → FitsInPair text row → FitsAfterBrackets row (start ++ text)
+  opened_row start text row opens h = (start, text, refl, subst (λ n. AfterBrackets n start) (sym h.2) (by_line h.0 h.1), h.3)
+    where
+      by_line : (l : PairLine) → InPair l → AfterBrackets (of_pair l) start
+      by_line key_start within = absurd within
+      by_line critical_key_start within = absurd within
+      by_line l within = opens
+
+  -- a pair's text, after what opens its bracket
+  opened_read : (start text : Text) (critical : Bool) → Opens start critical → (r : Read E Pair) → OnRead fault r (PairFront critical text) (FitsInPair text)
+      → LaterRead (start ++ text) r
+  opened_read start text critical opens (Ok x) h = (start ++ h.0, rw h.1 (simp append_assoc), opened_pair start h.0 critical x.0 opens h.2 h.3)
+  opened_read start text critical opens (Err e) h = (h.0, h.1, opened_row start text h.0 (critical, opens) h.2)
+
+  -- a row of a line with nothing before it
+  first_row : (l : PairLine) (row : Row) (body : Text) → AfterBrackets (of_pair l) [] → At l (front_of (pair_line l)) body row → FitsAfterBrackets row body
+  first_row l row body b h = ([], body, refl, subst (λ n. AfterBrackets n []) (sym h.4) b, fits_here l row body h)
+
+  critical_read : (text : Text) → LaterRead (Plain 91 ∷ (Plain 33 ∷ text)) (critical_pair_at fault text)
+  unfolding critical_pair_at
+  critical_read text = then_read fault (letter_at fault (of_pair critical_key_start) text) _ _ _ _ _ (read_letter fault (of_pair critical_key_start) text tt)
+      (λ c rest h. opened_read (Plain 91 ∷ (Plain 33 ∷ [])) text true starts _ (pair_read true c text rest h.0 h.1))
+      (λ r h. first_row critical_key_start r (Plain 91 ∷ (Plain 33 ∷ text)) refl (Plain 91 ∷ (Plain 33 ∷ []), text, refl, starts, h.0, h.1))
+    where
+      starts : (one opening then one exclamation) (Plain 91 ∷ (Plain 33 ∷ []))
+      starts = (Plain 91 ∷ [], Plain 33 ∷ [], refl, (91, refl, refl), (33, refl, refl))
+
+  from_opening : (text : Text) → LaterRead (Plain 91 ∷ text) (later_pair_at fault text)
+  unfolding later_pair_at
+  from_opening text = then_read fault (letter_at fault (of_pair key_start) text) _ _ _ _ _ (read_letter fault (of_pair key_start) text tt)
+      (λ c rest h. read_if fault (exclamation c) _ _ _ _
+      (λ critical. subst (λ t. LaterRead (Plain 91 ∷ t) (critical_pair_at fault rest)) (sym (h.0 ∙ ap (λ n. Plain n ∷ rest) (eqb-true c 33 critical)))
+      (critical_read rest))
+      (λ no_mark. opened_read (Plain 91 ∷ []) text false (91, refl, refl) _ (pair_read false c text rest h.0 (starts_key c h.1 no_mark))))
+      (λ r h. first_row key_start r (Plain 91 ∷ text) refl (Plain 91 ∷ [], text, refl, (91, refl, refl), h.0, h.1))
+
+  -- after `[`
+  pub later_pair_read : (body text : Text) → body ≡ Plain 91 ∷ text
+      → OnRead fault (later_pair_at fault text) (λ pair rest. (front : Text) × (body ≡ front ++ rest) × IsPair front pair) (λ row. FitsAfterBrackets row body)
+  later_pair_read body text is = rw is (from_opening text)

@@ -1,0 +1,135 @@
+-- A reading that has gone over what stands before a time or an offset, and goes on after it, returns each row of their lines.
+use Rattle.std.proofs.Common.{◌≡◌, ℕ, IsTrue, [], ◌∷◌, ◌++◌, Err, refl, ◌∙◌, inl, inr, arith, Bool}
+use Rattle.ixdtf_grammar.specs.declared.records.TimeRecord.{TimeRecord}
+use Rattle.ixdtf_grammar.specs.language.Shapes.{some}
+use Rattle.ixdtf_grammar.specs.language.Times.TimeShape.{hours, basic_minutes, colon_minutes, seconds, fractions}
+use Rattle.ixdtf_grammar.specs.language.Times.{Clock, TimeShape, ClockOf}
+use Rattle.ixdtf_grammar.specs.language.Letters.Letter.{Plain}
+use Rattle.ixdtf_grammar.specs.language.Letters.{Text, digit}
+use Rattle.ixdtf_grammar.specs.table.Faults.{Fault}
+use Rattle.ixdtf_grammar.specs.table.LineNames.LineName.{of_clock}
+use Rattle.ixdtf_grammar.specs.table.LineNames.ClockLine.{hour_start, hour_digit, hour_range, after_hour}
+use Rattle.ixdtf_grammar.specs.table.LineNames.{ClockLine, LineName}
+use Rattle.ixdtf_grammar.specs.table.LineNames.ClockLine.{minute_digits, minute_range, after_basic_minute, after_colon_minute, second_digits, second_range}
+use Rattle.ixdtf_grammar.specs.table.LineNames.ClockLine.{after_second, fraction_start, after_fraction}
+use Rattle.ixdtf_grammar.specs.table.Lines.Ending.{ok}
+use Rattle.ixdtf_grammar.specs.table.Lines.{line_of, follow_of}
+use Rattle.ixdtf_grammar.specs.table.Rows.Place.{end, other}
+use Rattle.ixdtf_grammar.specs.table.Rows.{Row, Place, Stops}
+use Rattle.ixdtf_reading.specs.reading.Looks.{Read, ◌>>=◌, row_of, look_at, peek_by, next_by}
+use Rattle.ixdtf_reading.specs.reading.Times.{OpenTime, line_after, hour_from, clock_at}
+use Rattle.ixdtf_reading.specs.reading.Zones.{follow_look}
+use Rattle.ixdtf_reading.proofs.parts.Looks.{ReadsOver, RowsRead, goes, stops, peek_other}
+use Rattle.ixdtf_reading.proofs.to_reading.Times.{Closed, IsLater, StopsAfter, OpenRow, time_takes, open_row, hour_digit_row, hour_range_row, minute_digits_row}
+use Rattle.ixdtf_reading.proofs.to_reading.Times.{minute_range_row, second_digits_row, second_range_row, fraction_start_row}
+
+-- each row of the line is returned, behind what stands before it
+abbrev pub RowsBehind : {E A : Type 0} → (Row → E) → Bool → (Text → Read E A) → Text → LineName → Type 0
+RowsBehind fault brackets whole_at prior name = RowsRead fault brackets (λ body. whole_at (prior ++ body)) name
+
+-- what follows a time refuses, by each row of the line at which the time stops
+abbrev pub Refuses : {E A : Type 0} → (Row → E) → Bool → Clock → (OpenTime × Text → Read E A) → Type 0
+Refuses fault brackets clock after = (shape : TimeShape) (t : TimeRecord) (place : Place) (e : Fault) (rest : Text)
+    → Closed clock shape rest → StopsAfter (follow_of brackets clock) place e rest
+    → after ((shape, t), rest) ≡ Err (fault (row_of (line_after clock shape) place e))
+
+-- over what stands before a time reading goes on to the time, which starts in any way, and then to what follows it
+pub record TimeLead {E A : Type 0} (fault : Row → E) (clock : Clock) (whole_at : Text → Read E A) (after : OpenTime × Text → Read E A)
+    (prior : Text) : Type 0 where
+  pub start : Text → Read E OpenTime
+  pub starts : (c : ℕ) → IsTrue (digit c) → ReadsOver start (Plain c ∷ []) (hour_from fault clock c)
+  pub over : (body : Text) → whole_at (prior ++ body) ≡ (start body >>= after)
+
+-- ---- a time that starts with its hour
+
+module _ {E : Type 0} (fault : Row → E) (clock : Clock) where
+  pub clock_starts : (c : ℕ) → IsTrue (digit c) → ReadsOver (clock_at fault clock) (Plain c ∷ []) (hour_from fault clock c)
+  unfolding clock_at
+  clock_starts c d = record { over = λ rest. rw (goes fault (of_clock clock hour_start) c rest tt d) refl }
+
+  pub hour_start_row : (brackets : Bool) → RowsRead fault brackets (clock_at fault clock) (of_clock clock hour_start)
+  unfolding clock_at
+  hour_start_row brackets place e front rest f at = rw (f, stops fault (of_clock clock hour_start) place e rest tt at)
+
+  abbrev pub clock_lead : {A : Type 0} (whole_at : Text → Read E A) (after : OpenTime × Text → Read E A) (prior : Text)
+      → ((body : Text) → whole_at (prior ++ body) ≡ (clock_at fault clock body >>= after)) → TimeLead fault clock whole_at after prior
+  clock_lead whole_at after prior over = record { start = clock_at fault clock; starts = clock_starts; over = over }
+
+-- ---- a reading that goes on after a time
+
+module _ {E A : Type 0} (fault : Row → E) (clock : Clock) (whole_at : Text → Read E A) (after : OpenTime × Text → Read E A) (prior : Text)
+    (lead : TimeLead fault clock whole_at after prior) where
+  -- a time is read as far as it goes
+  pub over_time : (shape : TimeShape) (ts : Text) (t : TimeRecord) (rest : Text) → ClockOf clock shape ts t → Closed clock shape rest
+      → whole_at (prior ++ (ts ++ rest)) ≡ after ((shape, t), rest)
+  over_time shape ts t rest x closed = lead.over (ts ++ rest) ∙ rw (time_takes fault clock lead.start lead.starts shape ts t rest x closed)
+
+  -- a fault in the time is returned
+  in_time : (body : Text) (e : E) → lead.start body ≡ Err e → whole_at (prior ++ body) ≡ Err e
+  in_time body e h = lead.over body ∙ rw h
+
+  module _ (brackets : Bool) where
+    -- a row of the start is returned
+    pub start_rows : (name : LineName) → RowsRead fault brackets lead.start name → RowsBehind fault brackets whole_at prior name
+    start_rows name h place e front rest f at = in_time (front ++ rest) _ (h place e front rest f at)
+
+    module _ (refuses : Refuses fault brackets clock after) where
+      open_rows : (shape : TimeShape) (place : Place) (e : Fault) (front rest : Text) → some (ClockOf clock shape) front
+          → Stops (line_of brackets (line_after clock shape)) place e rest
+          → whole_at (prior ++ (front ++ rest)) ≡ Err (fault (row_of (line_after clock shape) place e))
+      open_rows shape place e front rest (t, x) at = by_row (open_row fault clock lead.start lead.starts brackets shape place e front rest t x at)
+        where
+          by_row : OpenRow fault clock lead.start lead.starts brackets shape place e front rest
+              → whole_at (prior ++ (front ++ rest)) ≡ Err (fault (row_of (line_after clock shape) place e))
+          by_row (inl h) = in_time (front ++ rest) _ h
+          by_row (inr h) = over_time shape front t rest x h.0 ∙ refuses shape t place e rest h.0 h.1
+
+      -- every row of a time's lines but that of the first digit
+      pub later_rows : (l : ClockLine) → IsLater l → RowsBehind fault brackets whole_at prior (of_clock clock l)
+      later_rows hour_start is_later = absurd is_later
+      later_rows hour_digit is_later = start_rows _ (hour_digit_row fault clock lead.start lead.starts brackets)
+      later_rows hour_range is_later = start_rows _ (hour_range_row fault clock lead.start lead.starts brackets)
+      later_rows after_hour is_later = open_rows hours
+      later_rows minute_digits is_later = start_rows _ (minute_digits_row fault clock lead.start lead.starts brackets)
+      later_rows minute_range is_later = start_rows _ (minute_range_row fault clock lead.start lead.starts brackets)
+      later_rows after_basic_minute is_later = open_rows basic_minutes
+      later_rows after_colon_minute is_later = open_rows colon_minutes
+      later_rows second_digits is_later = start_rows _ (second_digits_row fault clock lead.start lead.starts brackets)
+      later_rows second_range is_later = start_rows _ (second_range_row fault clock lead.start lead.starts brackets)
+      later_rows after_second is_later = open_rows seconds
+      later_rows fraction_start is_later = start_rows _ (fraction_start_row fault clock lead.start lead.starts brackets)
+      later_rows after_fraction is_later = open_rows fractions
+
+-- ---- a reading that goes on after a time which starts with its hour
+
+module _ {E A : Type 0} (fault : Row → E) (brackets : Bool) (clock : Clock) (whole_at : Text → Read E A) (after : OpenTime × Text → Read E A) (prior : Text)
+    (over : (body : Text) → whole_at (prior ++ body) ≡ (clock_at fault clock body >>= after)) where
+  abbrev lead : TimeLead fault clock whole_at after prior
+  lead = clock_lead fault clock whole_at after prior over
+
+  pub over_clock : (shape : TimeShape) (ts : Text) (t : TimeRecord) (rest : Text) → ClockOf clock shape ts t → Closed clock shape rest
+      → whole_at (prior ++ (ts ++ rest)) ≡ after ((shape, t), rest)
+  over_clock = over_time fault clock whole_at after prior lead
+
+  -- every row of a time's lines
+  pub clock_rows : Refuses fault brackets clock after → (l : ClockLine) → RowsBehind fault brackets whole_at prior (of_clock clock l)
+  clock_rows refuses hour_start = start_rows fault clock whole_at after prior lead brackets (of_clock clock hour_start) (hour_start_row fault clock brackets)
+  clock_rows refuses l = later_rows fault clock whole_at after prior lead brackets refuses l tt
+
+-- ---- the look at what follows a time
+
+module _ {E : Type 0} (fault : Row → E) (brackets : Bool) (clock : Clock) where
+  -- the look at what follows a time returns the row that fits: where the text may end, and where it may not
+  pub peek_stops_after : (x : OpenTime) (place : Place) (e : Fault) (rest : Text) → (follow_of brackets clock).at_end ≡ ok
+      → StopsAfter (follow_of brackets clock) place e rest
+      → peek_by (follow_look fault brackets clock x) rest ≡ Err (fault (row_of (line_after clock x.0) place e))
+  peek_stops_after x end e rest ends at = absurd (grind (arith, ends, at.1))
+  peek_stops_after x other e rest ends at = rw (at.2, at.4) (peek_other (follow_look fault brackets clock x) at.0 at.1 at.3)
+  peek_stops_after x place e rest ends at = absurd at
+
+  pub next_stops_after : (x : OpenTime) (place : Place) (e : Fault) (rest : Text) → StopsAfter (follow_of brackets clock) place e rest
+      → next_by (follow_look fault brackets clock x) rest ≡ Err (fault (row_of (line_after clock x.0) place e))
+  unfolding next_by look_at
+  next_stops_after x end e rest at = rw (at.0, at.1)
+  next_stops_after x other e rest at = rw (at.2, at.3, at.4)
+  next_stops_after x place e rest at = absurd at

@@ -1,0 +1,243 @@
+-- A date gives its record and the rest, and each row of a date's lines is returned.
+use Rattle.std.proofs.Common.{◌≡◌, ℕ, ◌<◌, ◌⊎◌, Bool, true, false, [], ◌++◌, Ok, Err, refl, sym, ap, ◌∙◌, inl, inr, arith, append_assoc, ℤ, nat_le, ◌&&◌}
+use Rattle.std.proofs.lemmas.{Bool.{and_parts, and_from, leb-true, le-leb, false_from_ne_true}, Bool.Decides.nat_tests}
+use Rattle.ixdtf_grammar.specs.declared.records.DateRecord.{DateRecord}
+use Rattle.ixdtf_grammar.specs.language.Letters.{Text, hyphen}
+use Rattle.ixdtf_grammar.specs.language.Digits.{decimal, TwoDigits}
+use Rattle.ixdtf_grammar.specs.language.Months.{OptionalHyphen}
+use Rattle.ixdtf_grammar.specs.language.Dates.{Year, Month, DateText, IsDayOfMonth}
+use Rattle.ixdtf_grammar.specs.language.Dates.{IsDate, month_length}
+use Rattle.ixdtf_grammar.specs.language.Readers.CoreKind.{year_month}
+use Rattle.ixdtf_grammar.specs.table.Faults.Fault.{InvalidMonthRange, InvalidDayRange}
+use Rattle.ixdtf_grammar.specs.table.Faults.{Fault}
+use Rattle.ixdtf_grammar.specs.table.LineNames.DateLine.{year_start}
+use Rattle.ixdtf_grammar.specs.table.LineNames.{DateLine, LineName, of_date}
+use Rattle.ixdtf_grammar.specs.table.LineNames.DateLine.{year_digits, extended_year_digits, minus_zero_year, after_year, month_digits, month_range}
+use Rattle.ixdtf_grammar.specs.table.LineNames.DateLine.{after_hyphened_month, after_basic_month, day_digits, day_range, after_date}
+use Rattle.ixdtf_grammar.specs.table.Lines.{line_of, date_line, HyphenOrDigit, NoMonth}
+use Rattle.ixdtf_grammar.specs.table.Before.{BeforeDate}
+use Rattle.ixdtf_grammar.specs.table.Rows.Place.{anywhere}
+use Rattle.ixdtf_grammar.specs.table.Rows.{Row, Place, Stops}
+use Rattle.ixdtf_reading.specs.reading.Looks.{Read, ◌>>=◌, row_of, mark_at}
+use Rattle.ixdtf_reading.specs.reading.Dates.{date_of, year_at, month_in_range, month_by, month_at, line_after_month}
+use Rattle.ixdtf_reading.specs.reading.Dates.{day_in_range, day_at, date_at}
+use Rattle.ixdtf_reading.proofs.parts.Looks.{ReadsOver, ◌before◌, Halts, ◌till◌, RowsRead, whole_row, digits_go, none_or_one}
+use Rattle.ixdtf_reading.proofs.parts.Marks.{hyphens_of, Starts, Begun}
+use Rattle.ixdtf_reading.proofs.parts.Marks.{LooksForHyphen, hyphen_is, begun_starts, digits_start, hyphen_looks, hyphen_over, mark_over, mark_stops}
+use Rattle.ixdtf_reading.proofs.parts.Marks.{digits_stop_after}
+use Rattle.ixdtf_reading.proofs.parts.Years.{year_takes, year_start_row, year_digits_row, extended_year_digits_row, minus_zero_year_row}
+
+-- the lines that a date's own reading returns
+abbrev pub IsInside : DateLine → Type 0
+IsInside after_date = ⊥
+IsInside _ = Unit {0}
+
+-- the row of two digits that are no month
+abbrev pub no_month : Row
+no_month = row_of (of_date month_range) anywhere InvalidMonthRange
+
+-- what stands of a month, by whether a hyphen does
+begun_month : (t : Text) → HyphenOrDigit t → (b : Bool) × (ds : Text) × (t ≡ hyphens_of b ++ ds) × Begun b ds
+begun_month t (inl h) = (true, [], hyphen_is t h, inl refl)
+begun_month t (inr (inl h)) = (true, h.1, h.2 ∙ ap (λ u. u ++ h.1) (hyphen_is h.0 h.3), inr h.4)
+begun_month t (inr (inr h)) = (false, t, refl, h)
+
+pub hyphens_are : (hs : Text) → OptionalHyphen hs → (b : Bool) × (hs ≡ hyphens_of b)
+hyphens_are hs (inl h) = (false, h)
+hyphens_are hs (inr h) = (true, hyphen_is hs h)
+
+-- whether the number of two digits is that of a month
+pub month_is : {ds : Text} {m : ℕ} → Month ds m → (nat_le 1 (decimal ds) && nat_le (decimal ds) 12) ≡ true
+month_is {ds} {m} h = rw (sym h.0.1) (and_from _ _ (le-leb 1 m h.1) (le-leb m 12 h.2))
+
+pub month_is_none : (ds : Text) → (decimal ds ≡ 0) ⊎ (12 < decimal ds) → (nat_le 1 (decimal ds) && nat_le (decimal ds) 12) ≡ false
+month_is_none ds h = grind (arith, nat_tests)
+
+module _ {E : Type 0} (fault : Row → E) where
+  -- ---- a year and a month
+
+  -- the year stops at this line
+  module _ (name : LineName) (asks : LooksForHyphen (line_of true name)) where
+    month_takes : (b : Bool) (ms : Text) (m : ℕ) (rest : Text) → Month ms m → month_at fault name ((hyphens_of b ++ ms) ++ rest) ≡ Ok ((m, b), rest)
+    unfolding month_by month_in_range
+    month_takes b ms m rest h =
+        rw (
+          append_assoc,
+          hyphen_over fault name b (ms ++ rest) asks (digits_start b 1 ms rest h.0.0),
+          digits_go fault (of_date month_digits) (λ c. refl) 2 ms rest h.0.0,
+          month_is h,
+          h.0.1,
+        ) refl
+
+    month_stops : (b : Bool) (ds rest : Text) (place : Place) (e : Fault) → Begun b ds → Stops (date_line month_digits) place e rest
+        → month_at fault name ((hyphens_of b ++ ds) ++ rest) ≡ Err (fault (row_of (of_date month_digits) place e))
+    unfolding month_by
+    month_stops b ds rest place e h at =
+        rw (
+          append_assoc,
+          hyphen_over fault name b (ds ++ rest) asks (begun_starts b ds rest h),
+          digits_stop_after fault (of_date month_digits) b ds rest place e (λ c. refl) h at,
+        ) refl
+
+    month_out : (b : Bool) (ds rest : Text) → NoMonth ds → month_at fault name ((hyphens_of b ++ ds) ++ rest) ≡ Err (fault no_month)
+    unfolding month_by month_in_range
+    month_out b ds rest h =
+        rw (
+          append_assoc,
+          hyphen_over fault name b (ds ++ rest) asks (digits_start b 1 ds rest h.0),
+          digits_go fault (of_date month_digits) (λ c. refl) 2 ds rest h.0,
+          month_is_none ds h.1,
+        ) refl
+
+    -- a year and a month, and what is read with them from there
+    module _ {A : Type 0} (go : ℤ → (ℕ × Bool) × Text → Read E A) where
+      abbrev from_year : Text → Read E A
+      from_year text = year_at fault text >>= λ year. month_at fault name year.1 >>= λ month. go year.0 month
+
+      abbrev from_month : ℤ → Text → Read E A
+      from_month y text = month_at fault name text >>= λ month. go y month
+
+      pub over_year : (ys : Text) (y : ℤ) → Year ys y → ReadsOver from_year ys (from_month y)
+      over_year ys y h = record { over = λ rest. rw (year_takes fault ys y rest h) refl }
+
+      pub over_month : (y : ℤ) (b : Bool) (ms : Text) (m : ℕ) → Month ms m → ReadsOver (from_month y) (hyphens_of b ++ ms) (λ rest. go y ((m, b), rest))
+      over_month y b ms m h = record { over = λ rest. rw (month_takes b ms m rest h) refl }
+
+      pub year_stops : (ys : Text) (y : ℤ) (place : Place) (e : Fault) (rest : Text) → Year ys y → Stops (line_of true name) place e rest
+          → from_year (ys ++ rest) ≡ Err (fault (row_of name place e))
+      unfolding month_by
+      year_stops ys y place e rest h at = (over_year ys y h).over rest ∙ rw (mark_stops fault name place e rest (hyphen_looks (line_of true name) asks) at)
+
+      module _ (brackets : Bool) where
+        year_rows : (l : LineName) → RowsRead fault brackets (year_at fault) l → RowsRead fault brackets from_year l
+        year_rows l h place e front rest f at = rw (h place e front rest f at)
+
+        month_digits_row : RowsRead fault brackets from_year (of_date month_digits)
+        month_digits_row place e front rest f at =
+            let t = begun_month f.1 f.4 in
+            rw (f.2, t.2) ((over_year f.0 f.3.0 f.3.1 till halted t.0 t.1 t.3).halts)
+          where
+            halted : (b : Bool) (ds : Text) → Begun b ds → Halts (from_month f.3.0) (hyphens_of b ++ ds) rest (fault (row_of (of_date month_digits) place e))
+            halted b ds h = record { halts = rw (month_stops b ds rest place e h at) refl }
+
+        month_range_row : RowsRead fault brackets from_year (of_date month_range)
+        month_range_row = whole_row fault brackets from_year (of_date month_range) tt λ e front rest f at.
+            let t = hyphens_are f.4.0 f.4.3 in
+            rw (f.2, f.4.2, t.1, at) ((over_year f.0 f.3.0 f.3.1 till halted f.3.0 t.0 f.4.1 rest f.4.4).halts)
+          where
+            halted : (y : ℤ) (b : Bool) (ds rest : Text) → NoMonth ds → Halts (from_month y) (hyphens_of b ++ ds) rest (fault no_month)
+            halted y b ds rest h = record { halts = rw (month_out b ds rest h) refl }
+
+        -- every row of a year and of a month after it
+        pub year_and_month_row : (l : DateLine) → BeforeDate year_month l [] → RowsRead fault brackets from_year (of_date l)
+        year_and_month_row year_start h = year_rows (of_date year_start) (year_start_row fault brackets)
+        year_and_month_row year_digits h = year_rows (of_date year_digits) (year_digits_row fault brackets)
+        year_and_month_row extended_year_digits h = year_rows (of_date extended_year_digits) (extended_year_digits_row fault brackets)
+        year_and_month_row minus_zero_year h = year_rows (of_date minus_zero_year) (minus_zero_year_row fault brackets)
+        year_and_month_row month_digits h = month_digits_row
+        year_and_month_row month_range h = month_range_row
+        year_and_month_row l h = absurd h
+
+  -- ---- the day after them
+
+  day_fits : (date : DateRecord) (rest : Text) → IsDayOfMonth date → day_in_range fault date rest ≡ Ok (date, rest)
+  unfolding day_in_range
+  day_fits date rest h = rw (and_from _ _ (le-leb 1 date.day h.0) (le-leb date.day _ h.1))
+
+  day_refused : (date : DateRecord) (rest : Text) → ¬ (IsDayOfMonth date)
+      → day_in_range fault date rest ≡ Err (fault (row_of (of_date day_range) anywhere InvalidDayRange))
+  unfolding day_in_range
+  day_refused date rest h = rw (false_from_ne_true _ (λ test. h (
+      let both = and_parts (nat_le 1 date.day) (nat_le date.day (month_length date.year date.month)) test in
+      (leb-true _ _ both.0, leb-true _ _ both.1)))) refl
+
+  over_separator : (b : Bool) (text : Text) → Starts b text → mark_at fault (line_after_month b) hyphen (hyphens_of b ++ text) ≡ Ok (b, text)
+  over_separator true text starts = mark_over fault (of_date after_hyphened_month) true text tt refl starts
+  over_separator false text starts = mark_over fault (of_date after_basic_month) false text tt (λ c h. h) starts
+
+  over_day : (y : ℤ) (m : ℕ) (b : Bool) (ds : Text) (d : ℕ) → TwoDigits ds d
+      → ReadsOver (day_at fault y (m, b)) (hyphens_of b ++ ds) (day_in_range fault (date_of y m d))
+  unfolding day_at
+  over_day y m b ds d h = record {
+    over = λ rest. rw (
+      append_assoc,
+      over_separator b (ds ++ rest) (digits_start b 1 ds rest h.0),
+      digits_go fault (of_date day_digits) (λ c. refl) 2 ds rest h.0,
+      h.1,
+    ) refl;
+  }
+
+  day_stops : (y : ℤ) (m : ℕ) (b : Bool) (ds rest : Text) (place : Place) (e : Fault) → Begun b ds → Stops (date_line day_digits) place e rest
+      → Halts (day_at fault y (m, b)) (hyphens_of b ++ ds) rest (fault (row_of (of_date day_digits) place e))
+  unfolding day_at
+  day_stops y m b ds rest place e h at = record {
+    halts = rw (
+      append_assoc,
+      over_separator b (ds ++ rest) (begun_starts b ds rest h),
+      digits_stop_after fault (of_date day_digits) b ds rest place e (λ c. refl) h at,
+    ) refl;
+  }
+
+  -- ---- dates
+
+  abbrev day_from : ℤ → (ℕ × Bool) × Text → Read E DateRecord
+  day_from y month = day_at fault y month.0 month.1
+
+  to_year : (ys : Text) (y : ℤ) → Year ys y → ReadsOver (date_at fault) ys (from_month (of_date after_year) (λ c. refl) day_from y)
+  unfolding date_at
+  to_year = over_year (of_date after_year) (λ c. refl) day_from
+
+  to_month : (y : ℤ) (b : Bool) (ms : Text) (m : ℕ) → Month ms m
+      → ReadsOver (from_month (of_date after_year) (λ c. refl) day_from y) (hyphens_of b ++ ms) (day_at fault y (m, b))
+  to_month = over_month (of_date after_year) (λ c. refl) day_from
+
+  pub over_date : (text : Text) (date : DateRecord) → DateText text date → ReadsOver (date_at fault) text (day_in_range fault date)
+  over_date text date (inl h) = rw h.is (to_year _ _ h.year before to_month _ false _ _ h.month before over_day _ _ false _ _ h.day)
+  over_date text date (inr h) = rw h.is (to_year _ _ h.year before to_month _ true _ _ h.month before over_day _ _ true _ _ h.day)
+
+  pub date_takes : (text : Text) (date : DateRecord) (rest : Text) → IsDate text date → date_at fault (text ++ rest) ≡ Ok (date, rest)
+  date_takes text date rest h = (over_date text date h.0).over rest ∙ day_fits date rest h.1
+
+  -- ---- each row is returned
+
+  module _ (brackets : Bool) where
+    year_or_month_row : (l : DateLine) → BeforeDate year_month l [] → RowsRead fault brackets (date_at fault) (of_date l)
+    unfolding date_at
+    year_or_month_row = year_and_month_row (of_date after_year) (λ c. refl) day_from brackets
+
+    after_year_row : RowsRead fault brackets (date_at fault) (of_date after_year)
+    unfolding date_at
+    after_year_row place e front rest f at = year_stops (of_date after_year) (λ c. refl) day_from front f.0 place e rest f.1 at
+
+    after_hyphened_month_row : RowsRead fault brackets (date_at fault) (of_date after_hyphened_month)
+    unfolding day_at
+    after_hyphened_month_row place e front rest f at =
+        rw (f.2, f.4.2, hyphen_is f.4.0 f.4.3)
+        ((to_year _ _ f.3.1 before to_month _ true _ _ f.4.4.1).over rest ∙ rw (mark_stops fault (of_date after_hyphened_month) place e rest tt at))
+
+    after_basic_month_row : RowsRead fault brackets (date_at fault) (of_date after_basic_month)
+    unfolding day_at
+    after_basic_month_row place e front rest f at =
+        rw f.2 ((to_year _ _ f.3.1 before to_month _ false _ _ f.4.1).over rest ∙ rw (mark_stops fault (of_date after_basic_month) place e rest tt at))
+
+    day_digits_row : RowsRead fault brackets (date_at fault) (of_date day_digits)
+    day_digits_row place e front rest (inl f) at =
+        rw (f.2, f.4.2) ((to_year _ _ f.3.1 till to_month _ false _ _ f.4.3.1 till day_stops _ _ false f.4.1 rest place e f.4.4 at).halts)
+    day_digits_row place e front rest (inr f) at =
+        let last = f.4.4.4 in
+        rw (f.2, f.4.2, f.4.4.2, last.2, hyphen_is f.4.0 f.4.3, hyphen_is last.0 last.3) ((to_year _ _ f.3.1 till to_month _ true _ _ f.4.4.3.1
+        till day_stops _ _ true last.1 rest place e (none_or_one last.4.0 last.1 last.4.1 last.4.2) at).halts)
+
+    day_range_row : RowsRead fault brackets (date_at fault) (of_date day_range)
+    day_range_row = whole_row fault brackets (date_at fault) (of_date day_range) tt λ e front rest f at.
+        rw at ((over_date front f.0 f.1.0).over rest ∙ day_refused f.0 rest f.1.1)
+
+    -- every row of a date but those after it
+    pub date_row_read : (l : DateLine) → IsInside l → RowsRead fault brackets (date_at fault) (of_date l)
+    date_row_read after_year h = after_year_row
+    date_row_read after_hyphened_month h = after_hyphened_month_row
+    date_row_read after_basic_month h = after_basic_month_row
+    date_row_read day_digits h = day_digits_row
+    date_row_read day_range h = day_range_row
+    date_row_read after_date h = absurd h
+    date_row_read l h = year_or_month_row l refl

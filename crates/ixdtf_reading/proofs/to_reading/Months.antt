@@ -1,0 +1,242 @@
+-- A year-month and a month-day give their record and the rest, and each row of their lines is returned.
+use Rattle.std.proofs.Common.{◌≡◌, ℕ, Bool, true, false, [], ◌∷◌, ◌++◌, Ok, Err, refl, sym, ap, ◌∙◌, subst, inl, inr, append_assoc, ℤ, pos, nat_le}
+use Rattle.std.proofs.lemmas.{Bool.{and_parts, and_from, leb-true, le-leb, false_from_ne_true}}
+use Rattle.ixdtf_grammar.specs.declared.profile.Profile.{Profile}
+use Rattle.ixdtf_grammar.specs.declared.records.DateRecord.{DateRecord}
+use Rattle.ixdtf_grammar.specs.language.Letters.Letter.{Plain}
+use Rattle.ixdtf_grammar.specs.language.Letters.{Text, digit, hyphen}
+use Rattle.ixdtf_grammar.specs.language.Shapes.{one, ◌then◌, ◌either◌}
+use Rattle.ixdtf_grammar.specs.language.Digits.{TwoDigits}
+use Rattle.ixdtf_grammar.specs.language.Dates.{Month}
+use Rattle.ixdtf_grammar.specs.language.Months.{Marks, OptionalHyphen, IsYearMonth, MonthDayText, IsDayOfSomeYear, IsMonthDay, greatest_day, least_day}
+use Rattle.ixdtf_grammar.specs.language.Readers.CoreKind.{year_month}
+use Rattle.ixdtf_grammar.specs.table.Faults.Fault.{InvalidMonthRange, InvalidMonthDay}
+use Rattle.ixdtf_grammar.specs.table.Faults.{Fault}
+use Rattle.ixdtf_grammar.specs.table.LineNames.{DateLine, MonthDayLine, of_date, of_year_month}
+use Rattle.ixdtf_grammar.specs.table.LineNames.YearMonthLine.{after_year_in_year_month}
+use Rattle.ixdtf_grammar.specs.table.LineNames.MonthDayLine.{month_day_start, month_day_hyphen}
+use Rattle.ixdtf_grammar.specs.table.LineNames.{of_month_day}
+use Rattle.ixdtf_grammar.specs.table.LineNames.MonthDayLine.{month_day_month_digits, month_day_month_range, after_month_day_month, month_day_day_digits}
+use Rattle.ixdtf_grammar.specs.table.LineNames.MonthDayLine.{month_day_range, after_month_day}
+use Rattle.ixdtf_grammar.specs.table.Lines.{month_day_line, MonthDayMonthDigits, NoMonth}
+use Rattle.ixdtf_grammar.specs.table.Before.{BeforeDate}
+use Rattle.ixdtf_grammar.specs.table.Rows.Place.{anywhere}
+use Rattle.ixdtf_grammar.specs.table.Rows.{Row, Place, Stops}
+use Rattle.ixdtf_reading.specs.reading.Looks.{Read, row_of}
+use Rattle.ixdtf_reading.specs.reading.Dates.{date_of}
+use Rattle.ixdtf_reading.specs.reading.Months.{year_month_at, marks_at, lone_month_in_range, lone_day_in_range, lone_day_at}
+use Rattle.ixdtf_reading.specs.reading.Months.{month_day_at}
+use Rattle.ixdtf_reading.proofs.parts.Looks.{ReadsOver, ◌before◌, Halts, ◌till◌, RowsRead, whole_row, digits_go}
+use Rattle.ixdtf_reading.proofs.parts.Marks.{hyphens_of, Starts, Begun, hyphen_is}
+use Rattle.ixdtf_reading.proofs.parts.Marks.{begun_starts, digits_start, hyphen_over, mark_over, mark_stops, digits_stop_after}
+use Rattle.ixdtf_reading.proofs.to_reading.Dates.{hyphens_are, month_is, month_is_none, over_year, over_month, year_stops, year_and_month_row}
+
+-- ---- year-months
+
+module _ {E : Type 0} (fault : Row → E) where
+  -- the first of the month
+  abbrev first_of : ℤ → (ℕ × Bool) × Text → Read E DateRecord
+  first_of y month = Ok (date_of y month.0.0 1, month.1)
+
+  over_year_month : (text : Text) (date : DateRecord) → IsYearMonth text date
+      → ReadsOver (year_month_at fault) text (λ rest. Ok (date_of date.year date.month 1, rest))
+  unfolding year_month_at
+  over_year_month text date h =
+      let t = hyphens_are h.hyphens h.hyphen in
+      rw (h.is, t.1)
+      (over_year fault (of_year_month after_year_in_year_month) (λ c. refl) first_of _ _ h.year
+      before over_month fault (of_year_month after_year_in_year_month) (λ c. refl) first_of _ t.0 _ _ h.month)
+
+  pub year_month_takes : (text : Text) (date : DateRecord) (rest : Text) → IsYearMonth text date → year_month_at fault (text ++ rest) ≡ Ok (date, rest)
+  year_month_takes text date rest h = (over_year_month text date h).over rest ∙ λ i. Ok (date_of date.year date.month (sym h.first_day i), rest)
+
+  -- every row of a year and of a month after it
+  pub year_month_date_row : (l : DateLine) → BeforeDate year_month l [] → RowsRead fault true (year_month_at fault) (of_date l)
+  unfolding year_month_at
+  year_month_date_row = year_and_month_row fault (of_year_month after_year_in_year_month) (λ c. refl) first_of true
+
+  pub year_month_row : RowsRead fault true (year_month_at fault) (of_year_month after_year_in_year_month)
+  unfolding year_month_at
+  year_month_row place e front rest f at = year_stops fault (of_year_month after_year_in_year_month) (λ c. refl) first_of front f.0 place e rest f.1 at
+
+-- ---- month-days
+
+-- the row of two digits that are no month
+abbrev pub no_lone_month : Row
+no_lone_month = row_of (of_month_day month_day_month_range) anywhere InvalidMonthRange
+
+-- two hyphens, or nothing
+abbrev pub marks_of : Bool → Text
+marks_of true = Plain 45 ∷ (Plain 45 ∷ [])
+marks_of false = []
+
+two_marks : (t : Text) → (one hyphen then one hyphen) t → t ≡ marks_of true
+two_marks t h = h.2 ∙ rw (hyphen_is h.0 h.3, hyphen_is h.1 h.4)
+
+marks_are : (t : Text) → Marks t → (b : Bool) × (t ≡ marks_of b)
+marks_are t (inl h) = (false, h)
+marks_are t (inr h) = (true, two_marks t h)
+
+begun : (b : Bool) (ds : Text) → one digit ds → Begun b ds
+begun true ds h = inr h
+begun false ds h = h
+
+-- what stands of a month, by whether two hyphens do
+begun_month : (t : Text) → MonthDayMonthDigits t → (b : Bool) × (ds : Text) × (t ≡ marks_of b ++ ds) × Begun b ds
+begun_month t (inl h) = (true, [], two_marks t h, inl refl)
+begun_month t (inr h) = let m = marks_are h.0 h.3 in (m.0, h.1, h.2 ∙ ap (λ u. u ++ h.1) m.1, begun m.0 h.1 h.4)
+
+-- what stands of a day, by whether a hyphen does
+begun_day : (t : Text) → (one hyphen either (OptionalHyphen then one digit)) t → (b : Bool) × (ds : Text) × (t ≡ hyphens_of b ++ ds) × Begun b ds
+begun_day t (inl h) = (true, [], hyphen_is t h, inl refl)
+begun_day t (inr h) = let m = hyphens_are h.0 h.3 in (m.0, h.1, h.2 ∙ ap (λ u. u ++ h.1) m.1, begun m.0 h.1 h.4)
+
+-- the lines that a month-day's own reading returns
+abbrev pub IsInMonthDay : Profile → MonthDayLine → Type 0
+IsInMonthDay profile (month_day_range other) = other ≡ profile
+IsInMonthDay profile (after_month_day other) = ⊥
+IsInMonthDay profile line = Unit {0}
+
+module _ {E : Type 0} (fault : Row → E) (profile : Profile) where
+  day_fits : (m d : ℕ) (rest : Text) → IsDayOfSomeYear profile (date_of (pos 0) m d) → lone_day_in_range fault profile m d rest ≡ Ok (date_of (pos 0) m d, rest)
+  unfolding lone_day_in_range
+  day_fits m d rest h = rw (and_from _ _ (le-leb (least_day profile) d h.0) (le-leb d _ h.1))
+
+  day_refused : (m d : ℕ) (rest : Text) → ¬ (IsDayOfSomeYear profile (date_of (pos 0) m d))
+      → lone_day_in_range fault profile m d rest ≡ Err (fault (row_of (of_month_day (month_day_range profile)) anywhere InvalidMonthDay))
+  unfolding lone_day_in_range
+  day_refused m d rest h = rw (false_from_ne_true _ (λ test. h (
+      let both = and_parts (nat_le (least_day profile) d) (nat_le d (greatest_day m)) test in
+      (leb-true _ _ both.0, leb-true _ _ both.1)))) refl
+
+  -- ---- from stage to stage
+
+  over_marks : (b : Bool) (text : Text) → Starts b text → marks_at fault (marks_of b ++ text) ≡ Ok (b, text)
+  unfolding marks_at
+  over_marks true text starts = rw (
+    hyphen_over fault (of_month_day month_day_start) true (Plain 45 ∷ text) (λ c. refl) tt,
+    mark_over fault (of_month_day month_day_hyphen) true text tt refl tt,
+  ) refl
+  over_marks false text starts = rw (hyphen_over fault (of_month_day month_day_start) false text (λ c. refl) starts)
+
+  over_lone_month : (b : Bool) (ms : Text) (m : ℕ) → Month ms m → ReadsOver (month_day_at fault profile) (marks_of b ++ ms) (lone_day_at fault profile m)
+  unfolding month_day_at lone_month_in_range
+  over_lone_month b ms m h = record {
+    over = λ rest.
+        rw (
+          append_assoc,
+          over_marks b (ms ++ rest) (digits_start b 1 ms rest h.0.0),
+          digits_go fault (of_month_day month_day_month_digits) (λ c. refl) 2 ms rest h.0.0,
+          month_is h,
+          h.0.1,
+        ) refl;
+  }
+
+  month_stops : (b : Bool) (ds rest : Text) (place : Place) (e : Fault) → Begun b ds → Stops (month_day_line month_day_month_digits) place e rest
+      → month_day_at fault profile ((marks_of b ++ ds) ++ rest) ≡ Err (fault (row_of (of_month_day month_day_month_digits) place e))
+  unfolding month_day_at
+  month_stops b ds rest place e h at =
+      rw (
+        append_assoc,
+        over_marks b (ds ++ rest) (begun_starts b ds rest h),
+        digits_stop_after fault (of_month_day month_day_month_digits) b ds rest place e (λ c. refl) h at,
+      ) refl
+
+  month_out : (b : Bool) (ds rest : Text) → NoMonth ds → month_day_at fault profile ((marks_of b ++ ds) ++ rest) ≡ Err (fault no_lone_month)
+  unfolding month_day_at lone_month_in_range
+  month_out b ds rest h =
+      rw (
+        append_assoc,
+        over_marks b (ds ++ rest) (digits_start b 1 ds rest h.0),
+        digits_go fault (of_month_day month_day_month_digits) (λ c. refl) 2 ds rest h.0,
+        month_is_none ds h.1,
+      ) refl
+
+  over_lone_day : (m : ℕ) (b : Bool) (ds : Text) (d : ℕ) → TwoDigits ds d
+      → ReadsOver (lone_day_at fault profile m) (hyphens_of b ++ ds) (lone_day_in_range fault profile m d)
+  unfolding lone_day_at
+  over_lone_day m b ds d h = record {
+    over = λ rest.
+        rw (
+          append_assoc,
+          hyphen_over fault (of_month_day after_month_day_month) b (ds ++ rest) (λ c. refl) (digits_start b 1 ds rest h.0),
+          digits_go fault (of_month_day month_day_day_digits) (λ c. refl) 2 ds rest h.0,
+          h.1,
+        ) refl;
+  }
+
+  day_stops : (m : ℕ) (b : Bool) (ds rest : Text) (place : Place) (e : Fault) → Begun b ds → Stops (month_day_line month_day_day_digits) place e rest
+      → Halts (lone_day_at fault profile m) (hyphens_of b ++ ds) rest (fault (row_of (of_month_day month_day_day_digits) place e))
+  unfolding lone_day_at
+  day_stops m b ds rest place e h at = record {
+    halts = rw (
+      append_assoc,
+      hyphen_over fault (of_month_day after_month_day_month) b (ds ++ rest) (λ c. refl) (begun_starts b ds rest h),
+      digits_stop_after fault (of_month_day month_day_day_digits) b ds rest place e (λ c. refl) h at,
+    ) refl;
+  }
+
+  over_month_day : (text : Text) (date : DateRecord) → MonthDayText text date
+      → ReadsOver (month_day_at fault profile) text (lone_day_in_range fault profile date.month date.day)
+  over_month_day text date h =
+      let marks = marks_are h.marks h.mark in
+      let hyphens = hyphens_are h.hyphens h.hyphen in
+      rw (h.is, ← append_assoc h.marks h.months (h.hyphens ++ h.days), marks.1, hyphens.1)
+      (over_lone_month marks.0 _ _ h.month before over_lone_day _ hyphens.0 _ _ h.day)
+
+  pub month_day_takes : (text : Text) (date : DateRecord) (rest : Text) → IsMonthDay profile text date
+      → month_day_at fault profile (text ++ rest) ≡ Ok (date, rest)
+  month_day_takes text date rest h = (over_month_day text date h.0).over rest ∙ day_fits date.month date.day rest h.1
+      ∙ λ i. Ok (date_of (sym h.0.no_year i) date.month date.day, rest)
+
+  -- ---- each row is returned
+
+  start_row : RowsRead fault true (month_day_at fault profile) (of_month_day month_day_start)
+  unfolding month_day_at marks_at
+  start_row place e front rest f at = rw (f, mark_stops fault (of_month_day month_day_start) place e rest tt at)
+
+  hyphen_row : RowsRead fault true (month_day_at fault profile) (of_month_day month_day_hyphen)
+  unfolding month_day_at marks_at
+  hyphen_row place e front rest f at =
+      rw (
+        hyphen_is front f,
+        hyphen_over fault (of_month_day month_day_start) true rest (λ c. refl) tt,
+        mark_stops fault (of_month_day month_day_hyphen) place e rest tt at,
+      ) refl
+
+  month_digits_row : RowsRead fault true (month_day_at fault profile) (of_month_day month_day_month_digits)
+  month_digits_row place e front rest f at = let t = begun_month front f in rw t.2 (month_stops t.0 t.1 rest place e t.3 at)
+
+  month_range_row : RowsRead fault true (month_day_at fault profile) (of_month_day month_day_month_range)
+  month_range_row = whole_row fault true (month_day_at fault profile) (of_month_day month_day_month_range) tt λ e front rest f at.
+      let t = marks_are f.0 f.3 in
+      rw (f.2, t.1, at) (month_out t.0 f.1 rest f.4)
+
+  after_month_row : RowsRead fault true (month_day_at fault profile) (of_month_day after_month_day_month)
+  unfolding lone_day_at
+  after_month_row place e front rest f at =
+      let t = marks_are f.0 f.3 in
+      rw (f.2, t.1) ((over_lone_month t.0 f.1 f.4.0 f.4.1).over rest ∙ rw (mark_stops fault (of_month_day after_month_day_month) place e rest tt at))
+
+  day_digits_row : RowsRead fault true (month_day_at fault profile) (of_month_day month_day_day_digits)
+  day_digits_row place e front rest f at =
+      let t = marks_are f.0 f.3 in
+      let s = begun_day f.4.1 f.4.4 in
+      rw (f.2, f.4.2, ← append_assoc f.0 f.4.0 f.4.1, t.1, s.2)
+      ((over_lone_month t.0 f.4.0 f.4.3.0 f.4.3.1 till day_stops f.4.3.0 s.0 s.1 rest place e s.3 at).halts)
+
+  day_range_row : RowsRead fault true (month_day_at fault profile) (of_month_day (month_day_range profile))
+  day_range_row = whole_row fault true (month_day_at fault profile) (of_month_day (month_day_range profile)) tt λ e front rest f at.
+      rw at ((over_month_day front f.0 f.1.0).over rest ∙ day_refused f.0.month f.0.day rest f.1.1)
+
+  -- every row of a month-day but those after it
+  pub month_day_row : (l : MonthDayLine) → IsInMonthDay profile l → RowsRead fault true (month_day_at fault profile) (of_month_day l)
+  month_day_row month_day_start h = start_row
+  month_day_row month_day_hyphen h = hyphen_row
+  month_day_row month_day_month_digits h = month_digits_row
+  month_day_row month_day_month_range h = month_range_row
+  month_day_row after_month_day_month h = after_month_row
+  month_day_row month_day_day_digits h = day_digits_row
+  month_day_row (month_day_range other) h =
+      subst (λ p. RowsRead fault true (month_day_at fault profile) (of_month_day (month_day_range p))) (sym h) day_range_row
+  month_day_row (after_month_day other) h = absurd h

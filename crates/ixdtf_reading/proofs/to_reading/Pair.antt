@@ -1,0 +1,292 @@
+-- A pair is read, and each row of a pair's lines is returned.
+use Rattle.std.proofs.Common.{◌≡◌, ℕ, Bool, true, false, IsTrue, IsFalse, List, [], ◌∷◌, ◌++◌, map, Ok, Err, refl, sym, ap, ◌∙◌, arith, append_assoc}
+use Rattle.std.proofs.lemmas.{Bool.{or_parts, or_left, or_right, eqb-true}, Bool.Decides.nat_tests, List.map-append}
+use Rattle.ixdtf_grammar.specs.language.Letters.Letter.{Plain}
+use Rattle.ixdtf_grammar.specs.language.Letters.{Text, ◌or◌, hyphen, equals, opening, closing, exclamation, key_lead, key_char, value_char}
+use Rattle.ixdtf_grammar.specs.language.Shapes.{Shape, one, ◌then◌, Joined}
+use Rattle.ixdtf_grammar.specs.language.Brackets.{Pair, Key, ValueRun, Value, IsPair, Opens}
+use Rattle.ixdtf_grammar.specs.table.Faults.{Fault}
+use Rattle.ixdtf_grammar.specs.table.LineNames.LineName.{of_pair}
+use Rattle.ixdtf_grammar.specs.table.LineNames.PairLine.{key_start, critical_key_start, in_key, value_start, in_value}
+use Rattle.ixdtf_grammar.specs.table.LineNames.{PairLine}
+use Rattle.ixdtf_grammar.specs.table.LineNames.PairLine.{after_value_hyphen}
+use Rattle.ixdtf_grammar.specs.table.Lines.{line_of, pair_line}
+use Rattle.ixdtf_grammar.specs.table.Rows.Place.{end, other, bad}
+use Rattle.ixdtf_grammar.specs.table.Rows.{Row, Place, Stops, front_of}
+use Rattle.ixdtf_grammar.specs.table.Rows.Place.{anywhere}
+use Rattle.ixdtf_reading.specs.reading.Looks.{Read, row_of}
+use Rattle.ixdtf_reading.specs.reading.Zones.{with_letter}
+use Rattle.ixdtf_reading.specs.reading.Pairs.{value_line, value_other, value_step, key_run, value_run, pair_at}
+use Rattle.ixdtf_reading.specs.reading.Pairs.{critical_pair_at, later_pair_at}
+use Rattle.ixdtf_reading.specs.reading.Chains.{AfterBrackets}
+use Rattle.ixdtf_reading.specs.declared.annotations.ValueState.{ValueState}
+use Rattle.ixdtf_reading.specs.declared.annotations.ValueState.TheVariants.{AtStart, Inside, AfterHyphen}
+use Rattle.ixdtf_reading.specs.declared.annotations.ValueStep.{ValueStep}
+use Rattle.ixdtf_reading.specs.declared.annotations.ValueStep.TheVariants.{GoesOn, Ends}
+use Rattle.ixdtf_reading.proofs.parts.Looks.{goes, stops}
+use Rattle.ixdtf_reading.proofs.to_reading.ZoneNames.{with_letters, letters_err, letters_ok, plain_faithful}
+use Rattle.ixdtf_reading.specs.declared.annotations.ValueStep.TheVariants as steps
+
+-- the lines from the key on
+abbrev pub InPair : PairLine → Type 0
+InPair key_start = ⊥
+InPair critical_key_start = ⊥
+InPair line = Unit {0}
+
+-- a key, `=`, a value and `]`
+pub record PairText (text : Text) (pair : Pair) : Type 0 where
+  pub keys : Text
+  pub values : Text
+  pub is : text ≡ keys ++ (Plain 61 ∷ (values ++ (Plain 93 ∷ [])))
+  pub is_key : Key keys
+  pub is_value : Value values
+  pub key : keys ≡ map Plain pair.key
+  pub value : values ≡ map Plain pair.value
+
+pub pair_text : {text : Text} {pair : Pair} (h : IsPair text pair) → PairText (h.keys ++ (Plain 61 ∷ (h.values ++ (Plain 93 ∷ [])))) pair
+pair_text h = record { keys = h.keys; values = h.values; is = refl; is_key = h.is_key; is_value = h.is_value; key = h.key; value = h.value }
+
+-- ---- letters
+
+key_lead_goes : (c : ℕ) → IsTrue (key_lead c) → IsTrue (key_char c)
+key_lead_goes c h = grind (arith, nat_tests)
+
+equals_no_key : (c : ℕ) → IsTrue (equals c) → IsFalse (key_char c)
+equals_no_key c h = rw (eqb-true c 61 h)
+
+hyphen_no_value : (c : ℕ) → IsTrue (hyphen c) → IsFalse (value_char c)
+hyphen_no_value c h = rw (eqb-true c 45 h)
+
+lead_no_exclamation : (c : ℕ) → IsTrue (key_lead c) → IsFalse (exclamation c)
+lead_no_exclamation c h = grind (arith, nat_tests)
+
+-- what stops in a value
+no_value : (c : ℕ) → IsFalse ((value_char or hyphen or closing) c) → IsFalse (value_char c) × IsFalse (hyphen c) × IsFalse (closing c)
+no_value c h = (grind (arith, nat_tests), grind (arith, nat_tests), grind (arith, nat_tests))
+
+-- ---- letters that are read over
+
+-- the letters of two runs in a row
+letters_more : {E : Type 0} (front more : List ℕ) (r : Read E (List ℕ)) → with_letters front (with_letters more r) ≡ with_letters (front ++ more) r
+letters_more [] more r = refl
+letters_more (c ∷ front) more r = rw (letters_more front more r)
+
+module _ {E : Type 0} where
+  -- the text is letters that lead from a run to a run
+  record IsOver (run next : Text → Read E (List ℕ)) (text : Text) : Type 0 where
+    letters : List ℕ
+    is : text ≡ map Plain letters
+    over : (rest : Text) → run (text ++ rest) ≡ with_letters letters (next rest)
+
+  over_one : {run next : Text → Read E (List ℕ)} (c : ℕ) → ((rest : Text) → run (Plain c ∷ rest) ≡ with_letter c (next rest)) → IsOver run next (Plain c ∷ [])
+  over_one c h = record { letters = c ∷ []; is = refl; over = h }
+
+  over_both : {run last : Text → Read E (List ℕ)} {first second : Text} (next : Text → Read E (List ℕ)) → IsOver run next first → IsOver next last second
+      → IsOver run last (first ++ second)
+  over_both {last} {second} next a b = record {
+    letters = a.letters ++ b.letters;
+    is = rw (a.is, b.is) (sym (map-append Plain a.letters b.letters));
+    over = λ rest. rw append_assoc (a.over (second ++ rest) ∙ rw (b.over rest) (letters_more a.letters b.letters (last rest)));
+  }
+
+  over_many : {run : Text → Read E (List ℕ)} {shape : Shape} → ((text : Text) → shape text → IsOver run run text) → (parts : List Text) (text : Text)
+      → Joined shape parts text → IsOver run run text
+  over_many each [] text h = record { letters = []; is = h; over = λ rest. rw h refl }
+  over_many each (part ∷ parts) text h = rw h.1 (over_both _ (each part h.2) (over_many each parts h.0 h.3))
+
+  -- a whole run is read, and a fault after it is returned
+  over_ok : {run next : Text → Read E (List ℕ)} {text : Text} (letters : List ℕ) (rest more : Text) → IsOver run next text → text ≡ map Plain letters
+      → next rest ≡ Ok ([], more) → run (text ++ rest) ≡ Ok (letters, more)
+  over_ok letters rest more o is h = rw (o.over rest, h, letters_ok {E = E} o.letters more, plain_faithful o.letters letters (sym o.is ∙ is))
+
+  over_err : {run next : Text → Read E (List ℕ)} {text : Text} (rest : Text) (e : E) → IsOver run next text → next rest ≡ Err e → run (text ++ rest) ≡ Err e
+  over_err rest e o h = rw (o.over rest, h) (letters_err o.letters e)
+
+module _ {E : Type 0} (fault : Row → E) where
+  -- ---- keys
+
+  key_letter : (c : ℕ) → IsTrue (key_char c) → IsOver (key_run fault) (key_run fault) (Plain c ∷ [])
+  unfolding key_run
+  key_letter c h = over_one c (λ rest. rw h)
+
+  over_key : (text : Text) → Key text → IsOver (key_run fault) (key_run fault) text
+  over_key text h =
+      rw (h.2, h.3.1) (over_both (key_run fault) (key_letter h.3.0 (key_lead_goes h.3.0 h.3.2))
+      (over_many (λ t g. rw g.1 (key_letter g.0 g.2)) h.4.0 h.1 h.4.1))
+
+  key_ends : (c : ℕ) (rest : Text) → IsTrue (equals c) → key_run fault (Plain c ∷ rest) ≡ Ok ([], rest)
+  unfolding key_run
+  key_ends c rest h = rw (equals_no_key c h, h)
+
+  key_stops : (place : Place) (e : Fault) (rest : Text) → Stops (pair_line in_key) place e rest
+      → key_run fault rest ≡ Err (fault (row_of (of_pair in_key) place e))
+  unfolding key_run
+  key_stops end e rest at = rw at.0 (grind (arith, at.1))
+  key_stops other e rest at = let out = or_parts (key_char at.0) (equals at.0) at.3 in rw (at.2, at.4) (rw (out.0, out.1))
+  key_stops bad e rest at = rw (at.1, at.2)
+  key_stops anywhere e rest at = absurd at
+
+  -- ---- values
+
+  -- what the step at a letter returns
+  abbrev pub stepped : ValueState → ℕ → Text → ValueStep → Read E (List ℕ)
+  stepped state c rest step =
+      elim step [
+        | GoesOn next ↦ with_letter c (value_run fault next rest)
+        | Ends ↦ Ok ([], rest)
+        | steps.Stops ↦ Err (fault (row_of (of_pair (value_line state)) other (value_other state)))
+      ]
+
+  pub by_step : (state : ValueState) (c : ℕ) (rest : Text) (step : ValueStep) → value_step state c ≡ step
+      → value_run fault state (Plain c ∷ rest) ≡ stepped state c rest step
+  unfolding value_run
+  by_step state c rest step h = ap (stepped state c rest) h
+
+  -- a letter leads into a value from each of its states
+  value_letter : (state : ValueState) (c : ℕ) → IsTrue (value_char c) → IsOver (value_run fault state) (value_run fault Inside) (Plain c ∷ [])
+  value_letter state c h = over_one c (λ rest. by_step state c rest (GoesOn Inside) (rw h))
+
+  value_hyphen : (c : ℕ) → IsTrue (hyphen c) → IsOver (value_run fault Inside) (value_run fault AfterHyphen) (Plain c ∷ [])
+  value_hyphen c h = over_one c (λ rest. by_step Inside c rest (GoesOn AfterHyphen) (rw (hyphen_no_value c h, h)))
+
+  over_run : (state : ValueState) (text : Text) → ValueRun text → IsOver (value_run fault state) (value_run fault Inside) text
+  over_run state text h =
+      rw (h.2, h.3.1) (over_both (value_run fault Inside) (value_letter state h.3.0 h.3.2)
+      (over_many (λ t g. rw g.1 (value_letter Inside g.0 g.2)) h.4.0 h.1 h.4.1))
+
+  over_hyphened : (text : Text) → (one hyphen then ValueRun) text → IsOver (value_run fault Inside) (value_run fault Inside) text
+  over_hyphened text h = rw (h.2, h.3.1) (over_both (value_run fault AfterHyphen) (value_hyphen h.3.0 h.3.2) (over_run AfterHyphen h.1 h.4))
+
+  over_value : (text : Text) → Value text → IsOver (value_run fault AtStart) (value_run fault Inside) text
+  over_value text h = rw h.2 (over_both (value_run fault Inside) (over_run AtStart h.0 h.3) (over_many over_hyphened h.4.0 h.1 h.4.1))
+
+  value_closed : (rest : Text) → value_run fault Inside (Plain 93 ∷ rest) ≡ Ok ([], rest)
+  unfolding value_run
+  value_closed rest = refl
+
+  value_stops : (state : ValueState) (place : Place) (e : Fault) (rest : Text) → Stops (pair_line (value_line state)) place e rest
+      → value_run fault state rest ≡ Err (fault (row_of (of_pair (value_line state)) place e))
+  unfolding value_run
+  value_stops AtStart other e rest at = rw (at.2, at.4) (by_step AtStart at.0 at.1 steps.Stops (rw at.3))
+  value_stops Inside other e rest at =
+      let out : IsFalse (value_char at.0) × IsFalse (hyphen at.0) × IsFalse (closing at.0) = no_value at.0 at.3 in
+      rw (at.2, at.4) (by_step Inside at.0 at.1 steps.Stops (rw (out.0, out.1, out.2)))
+  value_stops AfterHyphen other e rest at = rw (at.2, at.4) (by_step AfterHyphen at.0 at.1 steps.Stops (rw at.3))
+  value_stops state end e rest at = rw at.0 (grind (arith, at.1))
+  value_stops state bad e rest at = rw (at.1, at.2)
+  value_stops state place e rest at = absurd at
+
+  -- ---- pairs from the key on
+
+  -- from its key on
+  pub pair_takes : (text rest : Text) (pair : Pair) → PairText text pair → pair_at fault pair.critical (text ++ rest) ≡ Ok (pair, rest)
+  unfolding pair_at
+  pair_takes text rest pair h =
+      let after : Text = (h.values ++ (Plain 93 ∷ [])) ++ rest in
+      let value = over_ok pair.value (Plain 93 ∷ rest) rest (over_value h.values h.is_value) h.value (value_closed rest) in
+      rw (h.is, append_assoc, over_ok pair.key (Plain 61 ∷ after) after (over_key h.keys h.is_key) h.key (key_ends 61 after refl), append_assoc, value)
+
+  -- a fault after a key and `=`
+  after_key : (critical : Bool) (keys marks rest : Text) (e : E) → Key keys → one equals marks → value_run fault AtStart rest ≡ Err e
+      → pair_at fault critical (keys ++ (marks ++ rest)) ≡ Err e
+  unfolding pair_at
+  after_key critical keys marks rest e key mark h =
+      let o = over_key keys key in rw (over_ok o.letters (marks ++ rest) rest o o.is (rw mark.1 (key_ends mark.0 rest mark.2)), h)
+
+  pub pair_rows : (critical : Bool) (l : PairLine) (place : Place) (e : Fault) (front rest : Text) → InPair l → front_of (line_of true (of_pair l)) front
+      → Stops (line_of true (of_pair l)) place e rest → pair_at fault critical (front ++ rest) ≡ Err (fault (row_of (of_pair l) place e))
+  unfolding pair_at
+  pair_rows critical in_key place e front rest within f at = rw (over_err rest _ (over_key front f) (key_stops place e rest at))
+  pair_rows critical value_start place e front rest within f at =
+      rw (f.2, append_assoc) (after_key critical f.0 f.1 rest _ f.3 f.4 (value_stops AtStart place e rest at))
+  pair_rows critical in_value place e front rest within f at =
+      let g = f.4 in
+      rw (f.2, g.2) (simp append_assoc (after_key critical f.0 g.0 (g.1 ++ rest) _ f.3 g.3
+      (over_err rest _ (over_value g.1 g.4) (value_stops Inside place e rest at))))
+  pair_rows critical after_value_hyphen place e front rest within f at =
+      let g = f.4 in
+      let v = g.4 in
+      let dash : IsOver (value_run fault Inside) (value_run fault AfterHyphen) v.1 = rw v.4.1 (value_hyphen v.4.0 v.4.2) in
+      rw (f.2, g.2, v.2) (simp append_assoc (after_key critical f.0 g.0 (v.0 ++ (v.1 ++ rest)) _ f.3 g.3
+      (over_err (v.1 ++ rest) _ (over_value v.0 v.3)
+      (over_err rest _ dash (value_stops AfterHyphen place e rest at)))))
+  pair_rows critical l place e front rest within f at = absurd within
+
+  -- ---- pairs after their `[`
+
+  -- the text after `[`, and the reading of a pair that follows
+  abbrev Starts : Text → Bool → Type 0
+  Starts start critical =
+      (inner : Text) × (start ≡ Plain 91 ∷ inner) × ((c : ℕ) (more : Text) → IsTrue (key_lead c) → later_pair_at fault
+      (inner ++ (Plain c ∷ more)) ≡ pair_at fault critical (Plain c ∷ more))
+
+  starts : (start : Text) (critical : Bool) → Opens start critical → Starts start critical
+  unfolding later_pair_at critical_pair_at
+  starts start true h = (
+    h.1,
+    h.2 ∙ rw (h.3.1, eqb-true h.3.0 91 h.3.2),
+    λ c more lead. rw (
+      h.4.1,
+      goes fault (of_pair key_start) h.4.0 (Plain c ∷ more) tt (or_right _ _ h.4.2),
+      h.4.2,
+      goes fault (of_pair critical_key_start) c more tt lead,
+    ),
+  )
+  starts start false h =
+      ([], h.1 ∙ rw (eqb-true h.0 91 h.2), λ c more lead. rw (goes fault (of_pair key_start) c more tt (or_left _ _ lead), lead_no_exclamation c lead))
+
+  -- what begins as a key does, after what opens its bracket
+  at_key : (start text : Text) (critical : Bool) (keys rest : Text) (given : Read E Pair) → Opens start critical → Key keys → text ≡ keys ++ rest
+      → pair_at fault critical text ≡ given → (inner : Text) × (start ++ text ≡ Plain 91 ∷ inner) × (later_pair_at fault inner ≡ given)
+  at_key start text critical keys rest given opens key is h =
+      let o = starts start critical opens in
+      let whole : text ≡ Plain key.3.0 ∷ (key.1 ++ rest) = is ∙ rw (key.2, key.3.1) refl in (
+        o.0 ++ text,
+        ap (λ t. t ++ text) o.1,
+        ap (λ t. later_pair_at fault (o.0 ++ t)) whole ∙ o.2 key.3.0 (key.1 ++ rest) key.3.2
+            ∙ ap (pair_at fault critical) (sym whole) ∙ h,
+      )
+
+  -- a whole pair, after its `[`
+  pub later_pair_takes : (front rest : Text) (pair : Pair) → IsPair front pair
+      → (inner : Text) × (front ≡ Plain 91 ∷ inner) × (later_pair_at fault (inner ++ rest) ≡ Ok (pair, rest))
+  later_pair_takes front rest pair h =
+      let o = starts h.start pair.critical h.opens in
+      let body : Text = h.keys ++ (Plain 61 ∷ (h.values ++ (Plain 93 ∷ []))) in
+      let key : Key h.keys = h.is_key in
+      let whole : body ++ rest ≡ Plain key.3.0 ∷ (key.1 ++ ((Plain 61 ∷ (h.values ++ (Plain 93 ∷ []))) ++ rest)) = simp append_assoc
+      (rw (key.2, key.3.1) (simp append_assoc)) in
+      let is : (o.0 ++ body) ++ rest ≡ o.0 ++ (body ++ rest) = simp append_assoc in (
+        o.0 ++ body,
+        h.is ∙ ap (λ t. t ++ body) o.1,
+        ap (later_pair_at fault) (is ∙ ap (λ t. o.0 ++ t) whole) ∙ o.2 key.3.0 _ key.3.2 ∙ ap (pair_at fault pair.critical) (sym whole)
+            ∙ pair_takes body rest pair (pair_text h),
+      )
+
+  -- the text is `[` and more, after which reading a pair returns this
+  abbrev Returned : Text → Read E Pair → Type 0
+  Returned text given = (inner : Text) × (text ≡ Plain 91 ∷ inner) × (later_pair_at fault inner ≡ given)
+
+  start_row : (place : Place) (e : Fault) (front rest : Text) → one opening front → Stops (pair_line key_start) place e rest
+      → Returned (front ++ rest) (Err (fault (row_of (of_pair key_start) place e)))
+  unfolding later_pair_at
+  start_row place e front rest f at = (rest, rw (f.1, eqb-true f.0 91 f.2), rw (stops fault (of_pair key_start) place e rest tt at))
+
+  critical_row : (place : Place) (e : Fault) (front rest : Text) → (one opening then one exclamation) front
+      → Stops (pair_line critical_key_start) place e rest → Returned (front ++ rest) (Err (fault (row_of (of_pair critical_key_start) place e)))
+  unfolding later_pair_at critical_pair_at
+  critical_row place e front rest f at = (
+    f.1 ++ rest,
+    rw (f.2, f.3.1, eqb-true f.3.0 91 f.3.2),
+    rw (f.4.1, goes fault (of_pair key_start) f.4.0 rest tt (or_right _ _ f.4.2), f.4.2, stops fault (of_pair critical_key_start) place e rest tt at),
+  )
+
+  pub later_pair_rows : (l : PairLine) (place : Place) (e : Fault) (before_front front rest : Text) → AfterBrackets (of_pair l) before_front
+      → front_of (line_of true (of_pair l)) front → Stops (line_of true (of_pair l)) place e rest
+      → (inner : Text) × (before_front ++ (front ++ rest) ≡ Plain 91 ∷ inner) × (later_pair_at fault inner ≡ Err (fault (row_of (of_pair l) place e)))
+  later_pair_rows key_start place e start front rest b f at = rw b (start_row place e front rest f at)
+  later_pair_rows critical_key_start place e start front rest b f at = rw b (critical_row place e front rest f at)
+  later_pair_rows in_key place e start front rest b f at =
+      at_key start (front ++ rest) b.0 front rest _ b.1 f refl (pair_rows b.0 in_key place e front rest tt f at)
+  later_pair_rows l place e start front rest b f at =
+      at_key start (front ++ rest) b.0 f.0 (f.1 ++ rest) _ b.1 f.3 (rw f.2 (simp append_assoc)) (pair_rows b.0 l place e front rest tt f at)

@@ -1,0 +1,3 @@
+-- widths.
+pub mod PlainBefore
+pub mod Widths

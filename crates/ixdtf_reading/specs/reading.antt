@@ -1,0 +1,15 @@
+-- reading.
+pub mod Brackets
+pub mod Chains
+pub mod Clauses
+pub mod Cores
+pub mod Dates
+pub mod Durations
+pub mod FixedPlaces
+pub mod Looks
+pub mod Months
+pub mod Pairs
+pub mod Runs
+pub mod Times
+pub mod Wholes
+pub mod Zones

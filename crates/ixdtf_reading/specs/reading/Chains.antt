@@ -1,0 +1,81 @@
+-- What the code returns for the pairs after whole brackets, and for a whole text, for the calls of the handler that it made.
+-- No public clause cites this.
+use Rattle.std.specs.Prelude.{◌≡◌, ◌⊎◌, true, ℕ, Bool, List, ◌++◌, Option, Result, Ok, Err, [], Some, None, ◌∷◌}
+use Rattle.ixdtf_grammar.specs.language.Letters.{Text}
+use Rattle.ixdtf_grammar.specs.language.Shapes.{some}
+use Rattle.ixdtf_grammar.specs.language.Brackets.{Pair, ArePairs, Opens}
+use Rattle.ixdtf_grammar.specs.language.Cores.{Core}
+use Rattle.ixdtf_grammar.specs.language.Languages.{Parsed}
+use Rattle.ixdtf_grammar.specs.language.Readers.{Reader, CoreKind}
+use Rattle.ixdtf_grammar.specs.language.Readers.Reader.{bracketed}
+use Rattle.ixdtf_grammar.specs.table.Faults.{Fault}
+use Rattle.ixdtf_grammar.specs.table.LineNames.{LineName, PairLine}
+use Rattle.ixdtf_grammar.specs.table.LineNames.LineName.{of_core, of_clock, of_offset, of_zone, of_bracket, of_pair, of_duration}
+use Rattle.ixdtf_grammar.specs.table.LineNames.BracketLine.{first_bracket_start, first_critical_start, first_bracket_scan, after_bracket}
+use Rattle.ixdtf_grammar.specs.table.LineNames.PairLine.{key_start, critical_key_start, in_key, value_start, in_value, after_value_hyphen}
+use Rattle.ixdtf_grammar.specs.table.Rows.{Row, FitsHere}
+use Rattle.ixdtf_grammar.specs.Handlers.{Reply, first_calendar, NoneRefused, LastRefused, Calls, handed, replies_of, Step, IsChain}
+use Rattle.ixdtf_grammar.specs.Laws.{GivesResult}
+use Rattle.ixdtf_reading.specs.reading.Looks.{error_of}
+use Rattle.ixdtf_reading.specs.reading.Cores.{core_at}
+
+-- what stands between whole brackets and the front of a line of pairs
+abbrev pub BeforePair : PairLine → Text → Type 0
+BeforePair key_start before = before ≡ []
+BeforePair critical_key_start before = before ≡ []
+BeforePair in_key before = some Opens before
+BeforePair value_start before = some Opens before
+BeforePair in_value before = some Opens before
+BeforePair after_value_hyphen before = some Opens before
+
+-- the same for a line of what follows whole brackets
+abbrev pub AfterBrackets : LineName → Text → Type 0
+AfterBrackets (of_pair line) before = BeforePair line before
+AfterBrackets (of_bracket after_bracket) before = before ≡ []
+AfterBrackets (of_bracket first_bracket_start) before = ⊥
+AfterBrackets (of_bracket first_critical_start) before = ⊥
+AfterBrackets (of_bracket first_bracket_scan) before = ⊥
+AfterBrackets (of_core line) before = ⊥
+AfterBrackets (of_clock clock line) before = ⊥
+AfterBrackets (of_offset line) before = ⊥
+AfterBrackets (of_zone line) before = ⊥
+AfterBrackets (of_duration profile line) before = ⊥
+
+-- the row fits what stands after whole brackets
+abbrev pub FitsAfterBrackets : Row → Text → Type 0
+FitsAfterBrackets row text = (before rest : Text) × (text ≡ before ++ rest) × AfterBrackets row.name before × FitsHere true row rest
+
+-- the text after whole brackets is these pairs, as far as the rest
+abbrev pub PairsUpTo : Text → List Pair → Text → Type 0
+PairsUpTo text pairs rest = (front : Text) × (text ≡ front ++ rest) × ArePairs front pairs
+
+-- After these first pairs, and more in the text: what the replies to all of them and the rest of the text make of it.
+abbrev pub PairsGive : Text → List Pair → List Reply → Result (Option Pair) Fault → Type 0
+PairsGive text more replies (Ok calendar) = ArePairs text more × NoneRefused replies × (calendar ≡ first_calendar replies)
+PairsGive text more replies (Err fault) = (rest : Text) × PairsUpTo text more rest
+    × (LastRefused replies fault ⊎ (((row : Row) × FitsAfterBrackets row rest × (row.error ≡ fault)) × NoneRefused replies))
+
+-- a first pair where there is one
+abbrev pub first_pairs : Option Pair → List Pair
+first_pairs None = []
+first_pairs (Some pair) = pair ∷ []
+
+module _ {T U F : Type 0} (number : U → ℕ) (step : Step T U F) (handler last : F) where
+  -- For a chain of calls on these first pairs and more of the text.
+  pub record PairsRead (first : List Pair) (text : Text) (result : Result (Option Pair) Fault) : Type 0 where
+    pub calls : Calls T U
+    pub chain : IsChain step handler calls last
+    pub more : List Pair
+    pub all : handed number calls ≡ first ++ more
+    pub gives : PairsGive text more (replies_of number calls) result
+
+  -- For a chain of calls on pairs of the text.
+  pub record TextRead (reader : Reader) (text : Text) (result : Result Parsed Fault) : Type 0 where
+    pub calls : Calls T U
+    pub chain : IsChain step handler calls last
+    pub gives : GivesResult reader text (handed number calls) (replies_of number calls) result
+
+  -- For any text of which this core was read, with a bracket after it or none, and this rest is left.
+  abbrev pub TextReadAfter : Core → Bool → Text → Result Parsed Fault → Type 0
+  TextReadAfter core has_bracket rest result =
+      (kind : CoreKind) (text : Text) → core_at error_of kind text ≡ Ok ((core, has_bracket), rest) → TextRead (bracketed kind) text result

@@ -1,0 +1,170 @@
+-- Forms of the clauses of private functions, and what the code's own types stand for. No public clause cites one.
+use Rattle.std.specs.Prelude.{◌≡◌, ◌↔◌, ℕ, Bool, IsTrue, IsFalse, OnOk, IfErr, ◌+◌, ◌≤◌, map, length, Option, Some, None, Result, Ok, Err, ◌++◌, if◌then◌else◌}
+use Rattle.ixdtf_grammar.specs.declared.profile.Profile.{Profile}
+use Rattle.ixdtf_grammar.specs.declared.records.DateRecord.{DateRecord}
+use Rattle.ixdtf_grammar.specs.declared.records.IxdtfParseRecord.{IxdtfParseRecord}
+use Rattle.ixdtf_reading.specs.declared.stop.Stop.{Stop}
+use Rattle.ixdtf_reading.specs.declared.stop.Stop.TheVariants as stops
+use Rattle.ixdtf_grammar.specs.language.Letters.{Letter, Text, ◌or◌, none, digit, hyphen, closing}
+use Rattle.ixdtf_grammar.specs.language.Fractions.{FractionParts, fraction_of}
+use Rattle.ixdtf_grammar.specs.language.Times.{Clock as clocks}
+use Rattle.ixdtf_grammar.specs.language.Cores.{Core, core_of}
+use Rattle.ixdtf_grammar.specs.language.Readers.{Reader}
+use Rattle.ixdtf_grammar.specs.language.Languages.{Parsed}
+use Rattle.ixdtf_grammar.specs.table.Faults.{Fault}
+use Rattle.ixdtf_grammar.specs.table.Faults.{Fault as faults}
+use Rattle.ixdtf_grammar.specs.table.Outcomes.{NoRowFits}
+use Rattle.ixdtf_grammar.specs.table.Lines.{always, abrupt_digit, abrupt_date, abrupt_month_day, abrupt_bracket, abrupt_offset, abrupt_zone}
+use Rattle.ixdtf_grammar.specs.table.Lines.{abrupt_duration_start, abrupt_duration_designator, abrupt_duration, abrupt_date_designator, abrupt_time_designator}
+use Rattle.ixdtf_grammar.specs.Views.{Unread}
+use Rattle.ixdtf_grammar.specs.Handlers.{UnhandledRecord, UnhandledFault, UnhandledOnlyFault}
+use Rattle.ixdtf_grammar.specs.Laws.{IsTextReader, InNoOther}
+use Rattle.ixdtf_reading.specs.reading.Looks.{Read, Look, ◌>>=◌, error_of, digit_run}
+use Rattle.ixdtf_reading.specs.reading.Times.{clock_at}
+use Rattle.ixdtf_reading.specs.reading.Cores.{ClosedCore, after_time_at}
+
+-- the fault of the error that a stop is
+abbrev pub fault_of_stop : Stop → Fault
+fault_of_stop stops.NonAsciiCodePoint = faults.NonAsciiCodePoint
+fault_of_stop stops.AbruptDigit = abrupt_digit
+fault_of_stop stops.AbruptDate = abrupt_date
+fault_of_stop stops.AbruptBracket = abrupt_bracket
+fault_of_stop stops.AbruptOffset = abrupt_offset
+fault_of_stop stops.AbruptZone = abrupt_zone
+fault_of_stop stops.InvalidEnd = faults.InvalidEnd
+fault_of_stop stops.InvalidMonthRange = faults.InvalidMonthRange
+fault_of_stop stops.InvalidDayRange = faults.InvalidDayRange
+fault_of_stop stops.DateYear = faults.DateYear
+fault_of_stop stops.DateExtendedYear = faults.DateExtendedYear
+fault_of_stop stops.DateMonth = faults.DateMonth
+fault_of_stop stops.DateDay = faults.DateDay
+fault_of_stop stops.TimeHour = faults.TimeHour
+fault_of_stop stops.TimeMinuteSecond = faults.TimeMinuteSecond
+fault_of_stop stops.TimeSecond = faults.TimeSecond
+fault_of_stop stops.FractionPart = faults.FractionPart
+fault_of_stop stops.DateSeparator = faults.DateSeparator
+fault_of_stop stops.TimeSeparator = faults.TimeSeparator
+fault_of_stop stops.AnnotationClose = faults.AnnotationClose
+fault_of_stop stops.AnnotationKeyValueSeparator = faults.AnnotationKeyValueSeparator
+fault_of_stop stops.AnnotationKeyLeadingChar = faults.AnnotationKeyLeadingChar
+fault_of_stop stops.AnnotationKeyChar = faults.AnnotationKeyChar
+fault_of_stop stops.AnnotationValueCharPostHyphen = faults.AnnotationValueCharPostHyphen
+fault_of_stop stops.AnnotationValueChar = faults.AnnotationValueChar
+fault_of_stop stops.InvalidMinutePrecisionOffset = faults.InvalidMinutePrecisionOffset
+fault_of_stop stops.CriticalDuplicateCalendar = faults.CriticalDuplicateCalendar
+fault_of_stop stops.UnrecognizedCritical = faults.UnrecognizedCritical
+fault_of_stop stops.TzLeadingChar = faults.TzLeadingChar
+fault_of_stop stops.IanaCharPostSeparator = faults.IanaCharPostSeparator
+fault_of_stop stops.IanaChar = faults.IanaChar
+fault_of_stop stops.UtcTimeSeparator = faults.UtcTimeSeparator
+fault_of_stop stops.OffsetNeedsSign = faults.OffsetNeedsSign
+fault_of_stop stops.AbruptMonthDay = abrupt_month_day
+fault_of_stop stops.MonthDayHyphen = faults.MonthDayHyphen
+fault_of_stop stops.InvalidMonthDay = faults.InvalidMonthDay
+fault_of_stop stops.AmbiguousTimeMonthDay = faults.AmbiguousTimeMonthDay
+fault_of_stop stops.AmbiguousTimeYearMonth = faults.AmbiguousTimeYearMonth
+fault_of_stop stops.AbruptDurationStart = abrupt_duration_start
+fault_of_stop stops.AbruptDurationDesignator = abrupt_duration_designator
+fault_of_stop stops.AbruptDuration = abrupt_duration
+fault_of_stop stops.AbruptDateDesignator = abrupt_date_designator
+fault_of_stop stops.AbruptTimeDesignator = abrupt_time_designator
+fault_of_stop stops.DurationDisgnator = faults.DurationDisgnator
+fault_of_stop stops.DurationValueExceededRange = faults.DurationValueExceededRange
+fault_of_stop stops.DateDurationPartOrder = faults.DateDurationPartOrder
+fault_of_stop stops.TimeDurationPartOrder = faults.TimeDurationPartOrder
+fault_of_stop stops.TimeDurationDesignator = faults.TimeDurationDesignator
+
+-- what a private function returned, with its value seen by a view, and its stop by its fault
+abbrev pub yielded : {X Y : Type 0} → (X → Y) → Result X Stop → Result Y Fault
+yielded view (Ok x) = Ok (view x)
+yielded view (Err e) = Err (fault_of_stop e)
+
+-- what a private function returned, seen so, is what is wanted
+abbrev pub Yields : {X Y : Type 0} → (X → Y) → Result X Stop → Result Y Fault → Type 0
+Yields view (Ok x) wanted = wanted ≡ Ok (view x)
+Yields view (Err e) wanted = wanted ≡ Err (fault_of_stop e)
+
+-- what a function returned of the letters that were still to be read, and what it left of them, is what reading gives
+abbrev pub Reads : {X Y : Type 0} → (ℕ → Letter) → (X → Y) → Unread → Result X Stop → Unread → (Text → Result (Y × Text) Fault) → Type 0
+Reads letter view old (Ok x) new reading = reading (map letter old.rest) ≡ Ok (view x, map letter new.rest)
+Reads letter view old (Err e) new reading = reading (map letter old.rest) ≡ Err (fault_of_stop e)
+
+-- what reading gives of the letters that were still to be read is what it gives from where a function left them, or its stop
+abbrev pub GoesOn : {X Y : Type 0} → (ℕ → Letter) → Unread → Result X Stop → Unread → (Text → Read Fault Y) → (X → Text → Read Fault Y) → Type 0
+GoesOn letter old (Ok x) new reading further = reading (map letter old.rest) ≡ further x (map letter new.rest)
+GoesOn letter old (Err e) new reading further = reading (map letter old.rest) ≡ Err (fault_of_stop e)
+
+-- what a public function returned is what a private one did, with the error of its stop
+abbrev pub Settles : {X E : Type 0} → (E → Fault) → Result X Stop → Result X E → Type 0
+Settles named (Ok x) (Ok y) = y ≡ x
+Settles named (Ok x) (Err e) = ⊥
+Settles named (Err stop) (Ok y) = ⊥
+Settles named (Err stop) (Err e) = named e ≡ fault_of_stop stop
+
+-- looks at letters that are then taken are paid for by the letters; so many looks more were made at most, and none is lost
+abbrev pub Spends : ℕ → Unread → Unread → Type 0
+Spends more old new = (new.looks + length new.rest ≤ old.looks + length old.rest + more) × (old.looks ≤ new.looks)
+
+-- so many looks more than the letters pay for, and no more than so many in all
+abbrev pub SpendsInAll : ℕ → ℕ → Unread → Unread → Type 0
+SpendsInAll more all old new = Spends more old new × (new.looks ≤ old.looks + all)
+
+-- so many looks more than the letters pay for, and so many where nothing stopped
+abbrev pub SpendsOr : {X : Type 0} → ℕ → ℕ → Unread → Result X Stop → Unread → Type 0
+SpendsOr more found old (Ok x) new = Spends found old new
+SpendsOr more found old (Err e) new = Spends more old new
+
+-- what a form without a handler promises, where each pair replies for itself
+pub record UnhandledForm (reader : Reader) (text : Text) (result : Result Parsed Fault) : Type 0 where
+  pub ok : (found : Parsed) → (result ≡ Ok found) ↔ UnhandledRecord reader text found
+  pub err : IfErr result (λ fault. UnhandledFault reader text fault)
+  pub no_row : OnOk result (NoRowFits reader text)
+  pub alone : OnOk result ((profile : Profile) → IsTextReader profile reader → InNoOther profile reader text)
+  pub only : IfErr result (λ fault. UnhandledOnlyFault reader text fault)
+
+-- a test held of a number that was handed back, or else the stop came
+abbrev pub Checks : {X Y : Type 0} → (X → Y) → Result X Stop → Y → Bool → Fault → Type 0
+Checks view (Ok x) wanted test fault = (view x ≡ wanted) × IsTrue test
+Checks view (Err e) wanted test fault = (fault_of_stop e ≡ fault) × IsFalse test
+
+-- ---- looks, as the code makes them: it returns errors, and does not tell the line
+
+-- the look for the end of the text
+abbrev pub end_look : Look Fault
+end_look = record { goes_on = none; at_end = None; at_other = always faults.InvalidEnd; at_bad = faults.NonAsciiCodePoint }
+
+-- the look for a hyphen or a digit, with the errors at the end and at another letter
+abbrev pub hyphen_look : Fault → Fault → Look Fault
+hyphen_look at_end other = record { goes_on = hyphen or digit; at_end = Some at_end; at_other = always other; at_bad = faults.NonAsciiCodePoint }
+
+-- the look for the end of a bracket
+abbrev pub closing_look : Fault → Look Fault
+closing_look fault = record { goes_on = closing; at_end = Some faults.AnnotationClose; at_other = always fault; at_bad = faults.NonAsciiCodePoint }
+
+-- what a look for a digit finds, with the error at another letter
+abbrev pub digit_seen : Fault → Result (Option ℕ) Fault → Result ℕ Fault
+digit_seen other (Ok None) = Err abrupt_digit
+digit_seen other (Ok (Some c)) = if digit c then Ok c else Err other
+digit_seen other (Err e) = Err e
+
+-- the digits of a fraction behind its first ones, and the fraction
+abbrev pub more_digits_at : Text → Text → Read Fault FractionParts
+more_digits_at front text = digit_run faults.NonAsciiCodePoint text >>= λ more. Ok (fraction_of (front ++ more.0), more.1)
+
+-- a time, and an offset where there is one, behind a date or none
+unfoldable pub timed_core_at : Option DateRecord → Text → Read Fault ClosedCore
+timed_core_at date text = clock_at error_of clocks.Time text >>= λ time. after_time_at error_of date time.0 time.1
+
+-- ---- records
+
+-- the core that stands in a record
+abbrev pub core_in : {T U : Type 0} → IxdtfParseRecord T U → Core
+core_in found = core_of found.date found.time found.offset
+
+-- nothing stands in a record of what brackets write
+abbrev pub HasNoBrackets : {T U : Type 0} → IxdtfParseRecord T U → Type 0
+HasNoBrackets found = (found.tz ≡ None) × (found.calendar ≡ None)
+
+-- what brackets write in a record is as before
+abbrev pub KeepsBrackets : {T U : Type 0} → IxdtfParseRecord T U → IxdtfParseRecord T U → Type 0
+KeepsBrackets old new = (new.tz ≡ old.tz) × (new.calendar ≡ old.calendar)

@@ -1,0 +1,147 @@
+-- Reading a core, and whether a bracket follows it.
+use Rattle.std.specs.Prelude.{ℕ, Bool, Option, Some, None, is_some, Ok, Err, if◌then◌else◌}
+use Rattle.ixdtf_grammar.specs.declared.profile.Profile.{Profile}
+use Rattle.ixdtf_grammar.specs.declared.records.DateRecord.{DateRecord}
+use Rattle.ixdtf_grammar.specs.declared.records.TimeRecord.{TimeRecord}
+use Rattle.ixdtf_grammar.specs.declared.records.UtcOffsetRecord.{UtcOffsetRecord}
+use Rattle.ixdtf_grammar.specs.declared.records.UtcOffsetRecordOrZ.TheVariants.{Offset, Z}
+use Rattle.ixdtf_grammar.specs.language.Letters.{Text, digit, sign, zulu, opening, date_time_separator, time_letter}
+use Rattle.ixdtf_grammar.specs.language.Times.{Clock as clocks}
+use Rattle.ixdtf_grammar.specs.language.Times.{writes_seconds}
+use Rattle.ixdtf_grammar.specs.language.Offsets.{offset_of}
+use Rattle.ixdtf_grammar.specs.language.Cores.{Core, core_of}
+use Rattle.ixdtf_grammar.specs.language.Readers.{CoreKind}
+use Rattle.ixdtf_grammar.specs.language.Readers.CoreKind.{date_time, year_month, month_day, time_alone}
+use Rattle.ixdtf_grammar.specs.table.Faults.Fault.{NonAsciiCodePoint, InvalidEnd, TimeHour, AmbiguousTimeMonthDay, AmbiguousTimeYearMonth}
+use Rattle.ixdtf_grammar.specs.table.LineNames.{LineName}
+use Rattle.ixdtf_grammar.specs.table.LineNames.{of_date, of_year_month, of_month_day, of_time}
+use Rattle.ixdtf_grammar.specs.table.LineNames.YearMonthLine.{after_year_month}
+use Rattle.ixdtf_grammar.specs.table.LineNames.MonthDayLine.{after_month_day}
+use Rattle.ixdtf_grammar.specs.table.LineNames.TimeLine.{time_start, time_reads_as_month_day, time_reads_as_year_month}
+use Rattle.ixdtf_grammar.specs.table.Lines.{abrupt_digit}
+use Rattle.ixdtf_grammar.specs.table.LineNames.LineName.{of_offset}
+use Rattle.ixdtf_grammar.specs.table.LineNames.DateLine.{after_date}
+use Rattle.ixdtf_grammar.specs.table.LineNames.OffsetLine.{after_zulu}
+use Rattle.ixdtf_grammar.specs.table.Rows.{Row}
+use Rattle.ixdtf_grammar.specs.table.Rows.Place.{end, other, bad, anywhere}
+use Rattle.ixdtf_reading.specs.reading.Looks.{Read, Look, ◌>>=◌, row_of, next_by, peek_by, on_next}
+use Rattle.ixdtf_reading.specs.reading.Dates.{date_at}
+use Rattle.ixdtf_reading.specs.reading.Months.{year_month_at, month_day_at, month_day_begins, year_month_begins}
+use Rattle.ixdtf_reading.specs.reading.Times.{OpenTime, line_after, bad_after, after_second_at, hour_from, clock_at}
+
+-- the look for the first digit of a time that stands alone and begins without `T` or `t`
+abbrev pub hour_look : {E : Type 0} → (Row → E) → Look E
+hour_look fault = record {
+  goes_on = digit;
+  at_end = Some (fault (row_of (of_time time_start) end abrupt_digit));
+  at_other = λ c. fault (row_of (of_time time_start) other TimeHour);
+  at_bad = fault (row_of (of_time time_start) bad NonAsciiCodePoint);
+}
+
+-- a core, and whether a bracket follows, whose `[` is taken off; else the text ends
+abbrev pub ClosedCore : Type 0
+ClosedCore = Core × Bool
+
+-- the look at what follows a core, which stops at the line
+abbrev pub core_look : {E : Type 0} → (Row → E) → LineName → Look E
+core_look fault name = record {
+  goes_on = opening;
+  at_end = None;
+  at_other = λ c. fault (row_of name other InvalidEnd);
+  at_bad = fault (row_of name bad NonAsciiCodePoint);
+}
+
+-- the end of a core, which stops at the line
+unfoldable pub core_end_at : {E : Type 0} → (Row → E) → LineName → Core → Text → Read E ClosedCore
+core_end_at fault name core text = do
+  next ← peek_by (core_look fault name) text
+  Ok ((core, is_some next.0), next.1)
+
+abbrev pub with_offset : Option DateRecord → TimeRecord → UtcOffsetRecord → Core
+with_offset date time offset = core_of date (Some time) (Some (Offset offset))
+
+-- after a time and a sign, and the date before it
+unfoldable pub offset_core_at : {E : Type 0} → (Row → E) → Option DateRecord → TimeRecord → ℕ → Text → Read E ClosedCore
+offset_core_at fault date time c text = do
+  offset ← clock_at fault clocks.Offset text
+  core_end_at fault (line_after clocks.Offset offset.0.0) (with_offset date time (offset_of c (writes_seconds offset.0.0) offset.0.1)) offset.1
+
+-- after a time, and the date before it
+unfoldable pub after_time_at : {E : Type 0} → (Row → E) → Option DateRecord → OpenTime → Text → Read E ClosedCore
+after_time_at fault date time text = on_next (bad_after fault clocks.Time time.0) sign
+    (λ c rest. offset_core_at fault date time.1 c rest)
+    (on_next (bad_after fault clocks.Time time.0) zulu
+    (λ c rest. core_end_at fault (of_offset after_zulu) (core_of date (Some time.1) (Some Z)) rest)
+    (λ rest. core_end_at fault (line_after clocks.Time time.0) (core_of date (Some time.1) None) rest)) text
+
+-- a time, and an offset where there is one, after a date and a separator
+unfoldable pub time_core_at : {E : Type 0} → (Row → E) → DateRecord → Text → Read E ClosedCore
+time_core_at fault date text = do
+  time ← clock_at fault clocks.Time text
+  after_time_at fault (Some date) time.0 time.1
+
+-- the same, after a date, a separator and a time to its second
+unfoldable pub whole_time_core_at : {E : Type 0} → (Row → E) → DateRecord → ℕ → ℕ → ℕ → Text → Read E ClosedCore
+whole_time_core_at fault date hour minute second text = do
+  time ← after_second_at fault clocks.Time hour minute second text
+  after_time_at fault (Some date) time.0 time.1
+
+-- what stands after a date
+unfoldable pub after_date_at : {E : Type 0} → (Row → E) → DateRecord → Text → Read E ClosedCore
+after_date_at fault date text = on_next (fault (row_of (of_date after_date) bad NonAsciiCodePoint)) date_time_separator
+    (λ c rest. time_core_at fault date rest)
+    (λ rest. core_end_at fault (of_date after_date) (core_of (Some date) None None) rest) text
+
+-- a date, and a time and an offset where there are
+unfoldable pub date_time_core_at : {E : Type 0} → (Row → E) → Text → Read E ClosedCore
+date_time_core_at fault text = do
+  date ← date_at fault text
+  after_date_at fault date.0 date.1
+
+-- a date that was read, alone, and the end of the core, which stops at the line
+abbrev pub date_alone_at : {E : Type 0} → (Row → E) → LineName → Read E DateRecord → Read E ClosedCore
+date_alone_at fault name date = date >>= λ date. core_end_at fault name (core_of (Some date.0) None None) date.1
+
+-- ---- a time that stands alone
+
+-- the hour of a time that begins without `T` or `t`
+unfoldable pub lone_time_at : {E : Type 0} → (Row → E) → Text → Read E OpenTime
+lone_time_at fault text = do
+  tens ← next_by (hour_look fault) text
+  hour_from fault clocks.Time tens.0 tens.1
+
+-- `T` or `t` or neither, and a time
+unfoldable pub marked_time_at : {E : Type 0} → (Row → E) → Text → Read E OpenTime
+marked_time_at fault text = on_next (fault (row_of (of_time time_start) bad NonAsciiCodePoint)) time_letter
+    (λ c rest. clock_at fault clocks.Time rest)
+    (λ rest. lone_time_at fault rest) text
+
+-- the same with its offset, before the end or a bracket
+unfoldable pub marked_core_at : {E : Type 0} → (Row → E) → Text → Read E ClosedCore
+marked_core_at fault text = do
+  time ← marked_time_at fault text
+  after_time_at fault None time.0 time.1
+
+-- The test of a time's front: where the text begins as a month-day or a year-month, this is the fault.
+abbrev pub unfronted : {E A : Type 0} → (Row → E) → Profile → Text → Read E A → Read E A
+unfronted fault profile text read =
+    if month_day_begins profile text then Err (fault (row_of (of_time (time_reads_as_month_day profile)) anywhere AmbiguousTimeMonthDay))
+    else (if year_month_begins text then Err (fault (row_of (of_time time_reads_as_year_month) anywhere AmbiguousTimeYearMonth)) else read)
+
+-- a time and its offset, before the end or a bracket; and then the test of its front
+unfoldable pub time_alone_core_at : {E : Type 0} → (Row → E) → Profile → Text → Read E ClosedCore
+time_alone_core_at fault profile text = do
+  core ← marked_core_at fault text
+  unfronted fault profile text (Ok core)
+
+-- a core of the kind
+abbrev pub core_at : {E : Type 0} → (Row → E) → CoreKind → Text → Read E ClosedCore
+core_at fault date_time text = date_time_core_at fault text
+core_at fault year_month text = date_alone_at fault (of_year_month after_year_month) (year_month_at fault text)
+core_at fault (month_day profile) text = date_alone_at fault (of_month_day (after_month_day profile)) (month_day_at fault profile text)
+core_at fault (time_alone profile) text = time_alone_core_at fault profile text
+
+-- opening this opens the readings of a date and of what stands behind it, up to the end of its time
+unfoldable pub date_time_readings : ℕ
+unfolding date_time_core_at whole_time_core_at after_date_at time_core_at
+date_time_readings = 0

@@ -1,0 +1,83 @@
+-- Reading a date.
+use Rattle.std.specs.Prelude.{ℕ, Bool, true, false, ◌∷◌, Ok, Err, ℤ, pos, nat_eq, nat_le, ◌&&◌, if◌then◌else◌}
+use Rattle.ixdtf_grammar.specs.declared.records.DateRecord.{DateRecord}
+use Rattle.ixdtf_grammar.specs.language.Letters.{Text}
+use Rattle.ixdtf_grammar.specs.language.Letters.Letter.{Plain}
+use Rattle.ixdtf_grammar.specs.language.Letters.{sign, hyphen}
+use Rattle.ixdtf_grammar.specs.language.Digits.{decimal}
+use Rattle.ixdtf_grammar.specs.table.Faults.Fault.{DateExtendedYear, InvalidMonthRange, InvalidDayRange}
+use Rattle.ixdtf_grammar.specs.language.Dates.{signed, month_length}
+use Rattle.ixdtf_grammar.specs.table.LineNames.{LineName, of_date}
+use Rattle.ixdtf_grammar.specs.table.LineNames.DateLine.{year_start, year_digits, extended_year_digits, minus_zero_year, after_year, month_digits}
+use Rattle.ixdtf_grammar.specs.table.LineNames.DateLine.{month_range, after_hyphened_month, after_basic_month, day_digits, day_range}
+use Rattle.ixdtf_grammar.specs.table.Rows.{Row}
+use Rattle.ixdtf_grammar.specs.table.Rows.Place.{anywhere}
+use Rattle.ixdtf_reading.specs.reading.Looks.{Read, Look, ◌>>=◌, row_of, look_at_line, letter_at, digits_at, mark_by, mark_at, look_readings}
+
+-- after a sign
+unfoldable pub extended_year_at : {E : Type 0} → (Row → E) → ℕ → Text → Read E ℤ
+extended_year_at fault c text = do
+  ds ← digits_at fault (of_date extended_year_digits) 6 text
+  if hyphen c && nat_eq (decimal ds.0) 0 then Err (fault (row_of (of_date minus_zero_year) anywhere DateExtendedYear))
+      else Ok (signed c (decimal ds.0), ds.1)
+
+-- after the first digit
+unfoldable pub four_digit_year_at : {E : Type 0} → (Row → E) → ℕ → Text → Read E ℤ
+four_digit_year_at fault c text = do
+  ds ← digits_at fault (of_date year_digits) 3 text
+  Ok (pos (decimal (Plain c ∷ ds.0)), ds.1)
+
+unfoldable pub year_at : {E : Type 0} → (Row → E) → Text → Read E ℤ
+year_at fault text = do
+  first ← letter_at fault (of_date year_start) text
+  if sign first.0 then extended_year_at fault first.0 first.1 else four_digit_year_at fault first.0 first.1
+
+-- the month of the two digits that were read
+unfoldable pub month_in_range : {E : Type 0} → (Row → E) → Text × Text → Read E ℕ
+month_in_range fault ds =
+    if nat_le 1 (decimal ds.0) && nat_le (decimal ds.0) 12 then Ok (decimal ds.0, ds.1)
+    else Err (fault (row_of (of_date month_range) anywhere InvalidMonthRange))
+
+-- the date, where the day is in the month
+unfoldable pub day_in_range : {E : Type 0} → (Row → E) → DateRecord → Text → Read E DateRecord
+day_in_range fault date rest =
+    if nat_le 1 date.day && nat_le date.day (month_length date.year date.month) then Ok (date, rest)
+    else Err (fault (row_of (of_date day_range) anywhere InvalidDayRange))
+
+abbrev pub date_of : ℤ → ℕ → ℕ → DateRecord
+date_of year month day = record { year = year; month = month; day = day }
+
+-- the month after a year, with or without a hyphen before it, and whether one stands, by the look at what follows the year
+unfoldable pub month_by : {E : Type 0} → (Row → E) → Look E → Text → Read E (ℕ × Bool)
+month_by fault l text = do
+  mark ← mark_by l hyphen text
+  ds ← digits_at fault (of_date month_digits) 2 mark.1
+  month ← month_in_range fault ds
+  Ok ((month.0, mark.0), month.1)
+
+-- the same, where the year stops at the line
+abbrev pub month_at : {E : Type 0} → (Row → E) → LineName → Text → Read E (ℕ × Bool)
+month_at fault name text = month_by fault (look_at_line fault name) text
+
+-- the line after a month, which has a hyphen before it or has none
+abbrev pub line_after_month : Bool → LineName
+line_after_month true = of_date after_hyphened_month
+line_after_month false = of_date after_basic_month
+
+-- after a year and a month, which has a hyphen before it or has none
+unfoldable pub day_at : {E : Type 0} → (Row → E) → ℤ → ℕ × Bool → Text → Read E DateRecord
+day_at fault year month text = do
+  mark ← mark_at fault (line_after_month month.1) hyphen text
+  ds ← digits_at fault (of_date day_digits) 2 mark.1
+  day_in_range fault (date_of year month.0 (decimal ds.0)) ds.1
+
+unfoldable pub date_at : {E : Type 0} → (Row → E) → Text → Read E DateRecord
+date_at fault text = do
+  year ← year_at fault text
+  month ← month_at fault (of_date after_year) year.1
+  day_at fault year.0 month.0 month.1
+
+-- opening this opens the readings of dates
+unfoldable pub date_readings : ℕ
+unfolding look_readings extended_year_at four_digit_year_at year_at month_in_range month_by day_in_range day_at date_at
+date_readings = 0

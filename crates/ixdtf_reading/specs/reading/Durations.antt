@@ -1,0 +1,151 @@
+-- Reading a duration, letter by letter.
+use Rattle.std.specs.Prelude.{ℕ, List, [], ◌∷◌, ◌++◌, Option, Result, Ok, Err, Some, None, nat_le, if◌then◌else◌}
+use Rattle.ixdtf_grammar.specs.declared.profile.Profile.{Profile}
+use Rattle.ixdtf_grammar.specs.declared.records.Sign.{Sign}
+use Rattle.ixdtf_grammar.specs.declared.records.Sign.TheVariants.{Positive}
+use Rattle.ixdtf_grammar.specs.declared.records.DurationParseRecord.{DurationParseRecord}
+use Rattle.ixdtf_grammar.specs.language.Letters.{Text, digit, sign}
+use Rattle.ixdtf_grammar.specs.language.Letters.Letter.{Plain, Bad}
+use Rattle.ixdtf_grammar.specs.language.Digits.{decimal}
+use Rattle.ixdtf_grammar.specs.language.Fractions.{fraction_of}
+use Rattle.ixdtf_grammar.specs.language.Offsets.{sign_of}
+use Rattle.ixdtf_grammar.specs.language.Durations.{Half, Group, unit_of, designator, in_order, greatest, greatest_value, duration_of}
+use Rattle.ixdtf_grammar.specs.language.Durations.Half.{time}
+use Rattle.ixdtf_grammar.specs.table.Faults.Fault.{DurationValueExceededRange}
+use Rattle.ixdtf_grammar.specs.table.LineNames.{DurationLine}
+use Rattle.ixdtf_grammar.specs.table.LineNames.DurationLine.{duration_start, after_duration_sign, after_duration_designator, after_date_groups}
+use Rattle.ixdtf_grammar.specs.table.LineNames.DurationLine.{after_time_designator, group_digits, group_value_range, unit_order, date_unit_range}
+use Rattle.ixdtf_grammar.specs.table.LineNames.DurationLine.{group_fraction_start, group_fraction_digits, after_time_groups, after_fraction_group}
+use Rattle.ixdtf_grammar.specs.table.LineNames.LineName.{of_duration}
+use Rattle.ixdtf_grammar.specs.table.DurationFronts.{Context, half_of, groups_of}
+use Rattle.ixdtf_grammar.specs.table.DurationFronts.Context.{in_dates, in_times}
+use Rattle.ixdtf_grammar.specs.table.Lines.{order_fault}
+use Rattle.ixdtf_grammar.specs.table.Rows.{Row}
+use Rattle.ixdtf_grammar.specs.table.Rows.Place.{anywhere}
+use Rattle.ixdtf_reading.specs.reading.Looks.{Read, Look, ◌>>=◌, row_of, look_at_line}
+
+-- How far the text was read: nothing, a sign, up to where a group may begin, digits of a group, a number and its decimal mark,
+-- digits behind it, a group with a fraction.
+pub data State : Type 0 where
+  started : State
+  signed : Sign → State
+  between : Context → State
+  in_number : Context → Text → State
+  at_mark : Sign → List Group → List Group → Text → State
+  in_fraction : Sign → List Group → List Group → Text → Text → State
+  ended : Sign → List Group → List Group → Group → State
+
+-- the line at which each state looks
+abbrev pub line_of_state : State → DurationLine
+line_of_state started = duration_start
+line_of_state (signed s) = after_duration_sign
+line_of_state (between (in_dates s [])) = after_duration_designator
+line_of_state (between (in_dates s (g ∷ earlier))) = after_date_groups
+line_of_state (between (in_times s dates [])) = after_time_designator
+line_of_state (between (in_times s dates (g ∷ earlier))) = after_time_groups
+line_of_state (in_number context ds) = group_digits (half_of context)
+line_of_state (at_mark s dates times ds) = group_fraction_start
+line_of_state (in_fraction s dates times ds fs) = group_fraction_digits
+line_of_state (ended s dates times g) = after_fraction_group
+
+-- ---- groups
+
+-- one more group
+abbrev pub add : Context → Group → Context
+add (in_dates s dates) g = in_dates s (g ∷ dates)
+add (in_times s dates times) g = in_times s dates (g ∷ times)
+
+abbrev pub integer_group : Half → Text → ℕ → Group
+integer_group half ds c = record { unit = unit_of half c; value = decimal ds; fraction = None }
+
+abbrev pub fraction_group : Text → Text → ℕ → Group
+fraction_group ds fs c = record { unit = unit_of time c; value = decimal ds; fraction = Some (fraction_of fs) }
+
+-- the rows of numbers that are too great, and of a group out of order
+abbrev pub value_past : Profile → Half → Row
+value_past profile half = row_of (of_duration profile (group_value_range half)) anywhere DurationValueExceededRange
+
+abbrev pub unit_past : Profile → Row
+unit_past profile = row_of (of_duration profile date_unit_range) anywhere DurationValueExceededRange
+
+abbrev pub out_of_order : Profile → Half → Row
+out_of_order profile half = row_of (of_duration profile (unit_order half)) anywhere (order_fault half)
+
+module _ {E : Type 0} (fault : Row → E) (profile : Profile) where
+  -- these digits of a group, where their number is in range
+  abbrev pub grow : Context → Text → Result State E
+  grow context ds = if nat_le (decimal ds) greatest_value then Ok (in_number context ds) else Err (fault (value_past profile (half_of context)))
+
+  -- a group, where its number is in the range of its unit
+  abbrev pub add_in_range : Context → Group → Result State E
+  add_in_range context g = if nat_le g.value (greatest g.unit) then Ok (between (add context g)) else Err (fault (unit_past profile))
+
+  -- what comes of a group, where it may stand behind those before it
+  abbrev pub in_its_order : Context → Group → Result State E → Result State E
+  in_its_order context g next = if in_order profile (groups_of context) g.unit then next else Err (fault (out_of_order profile (half_of context)))
+
+  -- a group without a fraction
+  abbrev pub add_group : Context → Group → Result State E
+  add_group context g = in_its_order context g (add_in_range context g)
+
+  -- a group with a fraction
+  abbrev pub end_group : Sign → List Group → List Group → Group → Result State E
+  end_group s dates times g = in_its_order (in_times s dates times) g (Ok (ended s dates times g))
+
+-- at a time designator
+abbrev pub to_times : Context → State
+to_times (in_dates s dates) = between (in_times s dates [])
+to_times (in_times s dates times) = started
+
+-- at a decimal mark
+abbrev pub to_fraction : Context → Text → State
+to_fraction (in_dates s dates) ds = started
+to_fraction (in_times s dates times) ds = at_mark s dates times ds
+
+-- The state after a letter with which the state's line goes on, or the fault of a whole line.
+unfoldable pub step : {E : Type 0} → (Row → E) → Profile → State → ℕ → Result State E
+step fault profile started c = if sign c then Ok (signed (sign_of c)) else Ok (between (in_dates Positive []))
+step fault profile (signed s) c = Ok (between (in_dates s []))
+step fault profile (between context) c = if digit c then grow fault profile context (Plain c ∷ []) else Ok (to_times context)
+step fault profile (in_number context ds) c =
+    if digit c then grow fault profile context (ds ++ (Plain c ∷ []))
+    else (if designator (half_of context) c then add_group fault profile context (integer_group (half_of context) ds c)
+    else Ok (to_fraction context ds))
+step fault profile (at_mark s dates times ds) c = Ok (in_fraction s dates times ds (Plain c ∷ []))
+step fault profile (in_fraction s dates times ds fs) c =
+    if digit c then Ok (in_fraction s dates times ds (fs ++ (Plain c ∷ []))) else end_group fault profile s dates times (fraction_group ds fs c)
+step fault profile (ended s dates times g) c = Ok (ended s dates times g)
+
+-- what was read, where the text may end
+abbrev pub finished : State → DurationParseRecord
+finished (between (in_dates s dates)) = duration_of s dates []
+finished (between (in_times s dates times)) = duration_of s dates times
+finished (ended s dates times g) = duration_of s dates (g ∷ times)
+finished started = duration_of Positive [] []
+finished (signed s) = duration_of s [] []
+finished (in_number context ds) = duration_of Positive [] []
+finished (at_mark s dates times ds) = duration_of s dates times
+finished (in_fraction s dates times ds fs) = duration_of s dates times
+
+-- ---- texts
+
+-- the look of the line at which a state looks
+abbrev pub state_look : {E : Type 0} → (Row → E) → Profile → State → Look E
+state_look fault profile s = look_at_line fault (of_duration profile (line_of_state s))
+
+-- the end of the text
+abbrev pub at_end : {E A : Type 0} → Option E → A → Read E A
+at_end None x = Ok (x, [])
+at_end (Some e) x = Err e
+
+-- The text from a state on.
+unfoldable pub run : {E : Type 0} → (Row → E) → Profile → State → Text → Read E DurationParseRecord
+run fault profile s [] = at_end (state_look fault profile s).at_end (finished s)
+run fault profile s (Bad ∷ rest) = Err (state_look fault profile s).at_bad
+run fault profile s (Plain c ∷ rest) =
+    if (state_look fault profile s).goes_on c then (step fault profile s c >>= λ next. run fault profile next rest) else Err
+    ((state_look fault profile s).at_other c)
+
+-- a duration, and the end
+abbrev pub duration_at : {E : Type 0} → (Row → E) → Profile → Text → Read E DurationParseRecord
+duration_at fault profile text = run fault profile started text

@@ -1,0 +1,144 @@
+-- Reading at fixed places: each place is looked at in turn, and nothing is read where one does not fit.
+use Rattle.std.specs.Prelude.{ℕ, Bool, pos, [], ◌∷◌, ◌+◌, ◌*◌, drop, Option, Some, None, Ok, Err, nat_le, ◌&&◌, if◌then◌else◌}
+use Rattle.ixdtf_grammar.specs.declared.profile.Profile.{Profile}
+use Rattle.ixdtf_grammar.specs.declared.records.DateRecord.{DateRecord}
+use Rattle.ixdtf_grammar.specs.declared.records.MinutePrecisionOffset.{MinutePrecisionOffset}
+use Rattle.ixdtf_grammar.specs.declared.records.TimeRecord.{TimeRecord}
+use Rattle.ixdtf_grammar.specs.language.Letters.{Text, Class, digit, hyphen, colon, date_time_separator}
+use Rattle.ixdtf_grammar.specs.language.Letters.Letter.{Plain, Bad}
+use Rattle.ixdtf_grammar.specs.language.Digits.{digit_value, decimal}
+use Rattle.ixdtf_grammar.specs.language.Dates.{month_length}
+use Rattle.ixdtf_grammar.specs.language.Offsets.{minutes_of}
+use Rattle.ixdtf_grammar.specs.table.Faults.{Fault}
+use Rattle.ixdtf_grammar.specs.table.Faults.Fault.{InvalidMonthRange}
+use Rattle.ixdtf_grammar.specs.table.LineNames.{of_month_day}
+use Rattle.ixdtf_grammar.specs.table.LineNames.MonthDayLine.{month_day_month_digits}
+use Rattle.ixdtf_reading.specs.reading.Looks.{Read, ◌>>=◌, error_of, digits_at}
+use Rattle.ixdtf_reading.specs.reading.Dates.{date_of, day_in_range}
+use Rattle.ixdtf_reading.specs.reading.Months.{lone_month_in_range, lone_day_in_range, lone_day_at}
+use Rattle.ixdtf_reading.specs.reading.Times.{time_of}
+
+-- from what was found to what is found with it
+infixl 10 ◌>>?◌
+abbrev pub ◌>>?◌ : {A B : Type 0} → Option A → (A → Option B) → Option B
+None >>? go = None
+(Some x) >>? go = go x
+
+-- the first letter, where it is of the class
+abbrev pub first_in : Class → Text → Option ℕ
+first_in class [] = None
+first_in class (Bad ∷ rest) = None
+first_in class (Plain c ∷ rest) = if class c then Some c else None
+
+-- the letter at a place, where it is of the class
+abbrev pub letter_place : Class → ℕ → Text → Option ℕ
+letter_place class place text = first_in class (drop place text)
+
+-- the letter at a place, or 0 where none stands there
+abbrev pub first_byte : Text → ℕ
+first_byte [] = 0
+first_byte (Bad ∷ rest) = 0
+first_byte (Plain c ∷ rest) = c
+
+abbrev pub byte_place : ℕ → Text → ℕ
+byte_place place text = first_byte (drop place text)
+
+-- what a digit counts as the first of two and as the second, and 100 for a letter that is none
+abbrev pub tens_value : ℕ → ℕ
+tens_value c = if digit c then 10 * digit_value (Plain c) else 100
+
+abbrev pub ones_value : ℕ → ℕ
+ones_value c = if digit c then digit_value (Plain c) else 100
+
+-- the number of two digits at a place and the next
+unfoldable pub number_place : ℕ → Text → Option ℕ
+number_place place text =
+    letter_place digit place text >>? λ tens. letter_place digit (place + 1) text >>? λ ones. Some (decimal (Plain tens ∷ Plain ones ∷ []))
+
+-- the year at the first four places
+unfoldable pub year_place : Text → Option ℕ
+year_place text = number_place 0 text >>? λ century. number_place 2 text >>? λ year. Some (100 * century + year)
+
+-- the date of a year and of the month and the day at their places behind a hyphen, whatever these are
+unfoldable pub days_place : ℕ → Text → Option DateRecord
+days_place year text =
+    number_place 5 text >>? λ month. letter_place hyphen 7 text >>? λ _. number_place 8 text >>? λ day. Some (date_of (pos year) month day)
+
+-- the same without hyphens
+unfoldable pub basic_days_place : ℕ → Text → Option DateRecord
+basic_days_place year text = number_place 4 text >>? λ month. number_place 6 text >>? λ day. Some (date_of (pos year) month day)
+
+-- the date at the first ten places, whatever its month and its day
+unfoldable pub date_place : Text → Option DateRecord
+date_place text = year_place text >>? λ year. letter_place hyphen 4 text >>? λ _. days_place year text
+
+-- the date at the eight places of one without hyphens, whatever its month and its day
+unfoldable pub basic_date_place : Text → Option DateRecord
+basic_date_place text = year_place text >>? λ year. basic_days_place year text
+
+-- the time at the eight places after a date and a separator, whatever its numbers
+unfoldable pub time_place : Text → Option TimeRecord
+time_place text =
+    number_place 11 text >>? λ hour. letter_place colon 13 text >>? λ _. number_place 14 text >>? λ minute.
+    letter_place colon 16 text >>? λ _. number_place 17 text >>? λ second. Some (time_of hour minute second None)
+
+-- the date with the text after it, where its month and its day are in range
+abbrev pub ranged : DateRecord → Text → Read Fault DateRecord
+ranged date rest =
+    if nat_le 1 date.month && nat_le date.month 12 then day_in_range error_of date rest else Err InvalidMonthRange
+
+-- whether the month is one and has the day
+abbrev pub date_in_range : DateRecord → Bool
+date_in_range date =
+    nat_le 1 date.month && nat_le date.month 12 && nat_le 1 date.day && nat_le date.day (month_length date.year date.month)
+
+-- whether the numbers are at most the greatest of their places
+abbrev pub time_in_range : TimeRecord → Bool
+time_in_range time = nat_le time.hour 23 && nat_le time.minute 59 && nat_le time.second 60
+
+-- the date and the time, where their numbers are in range
+unfoldable pub date_time_place : Text → Option (DateRecord × TimeRecord)
+date_time_place text =
+    date_place text >>? λ date. letter_place date_time_separator 10 text >>? λ _. time_place text >>? λ time.
+    if date_in_range date && time_in_range time then Some (date, time) else None
+
+-- the offset of a sign, and of the hour and the minute at the first five places behind it, where these are in range
+unfoldable pub offset_place : ℕ → Text → Option MinutePrecisionOffset
+offset_place c text =
+    number_place 0 text >>? λ hour. letter_place colon 2 text >>? λ _. number_place 3 text >>? λ minute.
+    if nat_le hour 23 && nat_le minute 59 then Some (minutes_of c (time_of hour minute 0 None)) else None
+
+-- the first day of a year's month that stands at a place and the next, whatever it is
+unfoldable pub month_of_year_place : ℕ → ℕ → Text → Option DateRecord
+month_of_year_place year place text = number_place place text >>? λ month. Some (date_of (pos year) month 1)
+
+-- the month-day of a month's day that stands at a place and the next, whatever these are
+unfoldable pub day_of_month_place : ℕ → ℕ → Text → Option DateRecord
+day_of_month_place month place text = number_place place text >>? λ day. Some (date_of (pos 0) month day)
+
+-- the year-month with the text after it, where its month is one
+abbrev pub ranged_month : DateRecord → Text → Read Fault DateRecord
+ranged_month date rest = if nat_le 1 date.month && nat_le date.month 12 then Ok (date, rest) else Err InvalidMonthRange
+
+-- the month-day with the text after it, where its month is one and the profile has its day
+abbrev pub ranged_day : Profile → DateRecord → Text → Read Fault DateRecord
+ranged_day profile date rest =
+    if nat_le 1 date.month && nat_le date.month 12 then lone_day_in_range error_of profile date.month date.day rest
+    else Err InvalidMonthRange
+
+-- whether two hyphens stand in front
+abbrev pub marks_place : Text → Bool
+marks_place text = hyphen (byte_place 0 text) && hyphen (byte_place 1 text)
+
+-- a month-day, without the hyphens that may stand before its month
+abbrev pub unmarked_at : Profile → Text → Read Fault DateRecord
+unmarked_at profile text = do
+  ds ← digits_at error_of (of_month_day month_day_month_digits) 2 text
+  month ← lone_month_in_range error_of ds
+  lone_day_at error_of profile month.0 month.1
+
+-- opening this opens the readings of parts at fixed places
+unfoldable pub fixed_readings : ℕ
+unfolding number_place year_place days_place basic_days_place date_place basic_date_place time_place date_time_place
+    offset_place month_of_year_place day_of_month_place
+fixed_readings = 0

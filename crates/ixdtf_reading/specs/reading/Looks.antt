@@ -1,0 +1,155 @@
+-- What every reading is made of. A reading is a function on texts, in the shape of the code; no public clause
+-- cites one. It returns a value and the text after it, or a fault. What a fault is comes from outside, by what is made
+-- of a row: the row itself, or its error.
+use Rattle.std.specs.Prelude.{ℕ, Bool, true, zero, suc, [], ◌∷◌, drop, Option, Some, None, Result, Ok, Err, nat_le, if◌then◌else◌}
+use Rattle.ixdtf_grammar.specs.language.Letters.{Text}
+use Rattle.ixdtf_grammar.specs.language.Letters.Letter.{Plain, Bad}
+use Rattle.ixdtf_grammar.specs.language.Letters.{Class, digit, none, any}
+use Rattle.ixdtf_grammar.specs.language.Digits.{decimal}
+use Rattle.ixdtf_grammar.specs.table.Faults.{Fault}
+use Rattle.ixdtf_grammar.specs.table.Faults.Fault.{NonAsciiCodePoint}
+use Rattle.ixdtf_grammar.specs.table.LineNames.{LineName}
+use Rattle.ixdtf_grammar.specs.table.Lines.{Line, Ending, line_of, always, abrupt_digit}
+use Rattle.ixdtf_grammar.specs.table.Lines.Line.{line, scanned, whole}
+use Rattle.ixdtf_grammar.specs.table.Lines.Ending.{ok, error}
+use Rattle.ixdtf_grammar.specs.table.Rows.{Row, Place}
+use Rattle.ixdtf_grammar.specs.table.Rows.Place.{end, other, bad, anywhere}
+
+-- a value and the text after it, or a fault
+abbrev pub Read : Type 0 → Type 0 → Type 0
+Read E A = Result (A × Text) E
+
+infixl 10 ◌>>=◌
+abbrev pub ◌>>=◌ : {E A B : Type 0} → Result A E → (A → Result B E) → Result B E
+(Ok x) >>= f = f x
+(Err e) >>= f = Err e
+
+abbrev pub row_of : LineName → Place → Fault → Row
+row_of name place fault = record { name = name; place = place; error = fault }
+
+-- the fault is a row's error
+abbrev pub error_of : Row → Fault
+error_of row = row.error
+
+-- one look: the letters that go on, and the faults at the end, at another letter and at Bad
+pub record Look (E : Type 0) : Type 0 where
+  pub goes_on : Class
+  pub at_end : Option E
+  pub at_other : ℕ → E
+  pub at_bad : E
+
+abbrev pub end_of : {E : Type 0} → (Row → E) → LineName → Ending → Option E
+end_of fault name ok = None
+end_of fault name (error e) = Some (fault (row_of name end e))
+
+abbrev pub look_of : {E : Type 0} → (Row → E) → LineName → Line → Look E
+look_of fault name (line front goes_on at_end at_other) = record {
+  goes_on = goes_on;
+  at_end = end_of fault name at_end;
+  at_other = λ c. fault (row_of name other (at_other c));
+  at_bad = fault (row_of name bad NonAsciiCodePoint);
+}
+look_of fault name (scanned front e) = record {
+  goes_on = any;
+  at_end = Some (fault (row_of name end e));
+  at_other = λ c. fault (row_of name other e);
+  at_bad = fault (row_of name bad NonAsciiCodePoint);
+}
+look_of fault name (whole front e) = record {
+  goes_on = none;
+  at_end = Some (fault (row_of name anywhere e));
+  at_other = λ c. fault (row_of name anywhere e);
+  at_bad = fault (row_of name anywhere e);
+}
+
+-- the look that a line inside a part asks for: it is the same in each reader
+abbrev pub look_at_line : {E : Type 0} → (Row → E) → LineName → Look E
+look_at_line fault name = look_of fault name (line_of true name)
+
+-- the look for a digit, with the error at another letter
+abbrev pub digit_look : Fault → Look Fault
+digit_look fault = record { goes_on = digit; at_end = Some abrupt_digit; at_other = always fault; at_bad = NonAsciiCodePoint }
+
+-- the next letter, or nothing at the end
+unfoldable pub look_at : {E : Type 0} → E → Text → Result (Option ℕ) E
+look_at at_bad [] = Ok None
+look_at at_bad (Bad ∷ rest) = Err at_bad
+look_at at_bad (Plain c ∷ rest) = Ok (Some c)
+
+abbrev pub missing : {E A : Type 0} → Option E → E → Result A E
+missing None at_bad = Err at_bad
+missing (Some e) at_bad = Err e
+
+abbrev pub needed : {E : Type 0} → Look E → Option ℕ → Text → Read E ℕ
+needed l None rest = missing l.at_end l.at_bad
+needed l (Some c) rest = if l.goes_on c then Ok (c, rest) else Err (l.at_other c)
+
+-- the next letter, taken off where the line goes on with it
+unfoldable pub next_by : {E : Type 0} → Look E → Text → Read E ℕ
+next_by l text = do
+  next ← look_at l.at_bad text
+  needed l next (drop 1 text)
+
+abbrev pub letter_at : {E : Type 0} → (Row → E) → LineName → Text → Read E ℕ
+letter_at fault name text = next_by (look_at_line fault name) text
+
+-- so many letters of the line, one after the other
+unfoldable pub digits_by : {E : Type 0} → Look E → ℕ → Text → Read E Text
+digits_by l zero text = Ok ([], text)
+digits_by l (suc n) text =
+    next_by l text >>= λ next. digits_by l n next.1 >>= λ more. Ok (Plain next.0 ∷ more.0, more.1)
+
+abbrev pub digits_at : {E : Type 0} → (Row → E) → LineName → ℕ → Text → Read E Text
+digits_at fault name n text = digits_by (look_at_line fault name) n text
+
+-- the number of the digits that were read
+abbrev pub number_of : {E : Type 0} → Read E Text → Read E ℕ
+number_of (Ok x) = Ok (decimal x.0, x.1)
+number_of (Err e) = Err e
+
+-- where the text may end: nothing, or the next letter, taken off
+abbrev pub peeked : {E : Type 0} → Look E → Option ℕ → Text → Read E (Option ℕ)
+peeked l None text = Ok (None, text)
+peeked l (Some c) text = if l.goes_on c then Ok (Some c, drop 1 text) else Err (l.at_other c)
+
+unfoldable pub peek_by : {E : Type 0} → Look E → Text → Read E (Option ℕ)
+peek_by l text = do
+  next ← look_at l.at_bad text
+  peeked l next text
+
+-- a letter of the class is taken off and read on from; else reading stays
+abbrev pub chosen : {E A : Type 0} → Class → (ℕ → Text → Result A E) → (Text → Result A E) → Option ℕ → Text → Result A E
+chosen class go stay None text = stay text
+chosen class go stay (Some c) text = if class c then go c (drop 1 text) else stay text
+
+abbrev pub on_next : {E A : Type 0} → E → Class → (ℕ → Text → Result A E) → (Text → Result A E) → Text → Result A E
+on_next at_bad class go stay text = look_at at_bad text >>= λ next. chosen class go stay next text
+
+-- whether a mark stands where the line goes on with it or without it; it is taken off, and any other letter stays
+unfoldable pub mark_by : {E : Type 0} → Look E → Class → Text → Read E Bool
+mark_by l mark text = do
+  next ← next_by l text
+  Ok (mark next.0, if mark next.0 then next.1 else text)
+
+abbrev pub mark_at : {E : Type 0} → (Row → E) → LineName → Class → Text → Read E Bool
+mark_at fault name mark text = mark_by (look_at_line fault name) mark text
+
+-- a number that is at most the greatest of its place
+unfoldable pub in_range : {E : Type 0} → ℕ → E → Text × Text → Read E ℕ
+in_range greatest fault ds = if nat_le (decimal ds.0) greatest then Ok (decimal ds.0, ds.1) else Err fault
+
+-- two digits, whose number is at most the greatest of its place
+unfoldable pub number_by : {E : Type 0} → Look E → ℕ → E → Text → Read E ℕ
+number_by l greatest past text = digits_by l 2 text >>= in_range greatest past
+
+-- all the digits in front, and the text after them
+unfoldable pub digit_run : {E : Type 0} → E → Text → Read E Text
+digit_run at_bad [] = Ok ([], [])
+digit_run at_bad (Bad ∷ rest) = Err at_bad
+digit_run at_bad (Plain c ∷ rest) =
+    if digit c then (digit_run at_bad rest >>= λ more. Ok (Plain c ∷ more.0, more.1)) else Ok ([], Plain c ∷ rest)
+
+-- opening this opens the looks at single letters
+unfoldable pub look_readings : ℕ
+unfolding next_by digits_by peek_by mark_by in_range digit_run
+look_readings = 0

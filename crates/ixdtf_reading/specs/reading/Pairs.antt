@@ -1,0 +1,115 @@
+-- Reading pairs.
+use Rattle.std.specs.Prelude.{ℕ, zero, suc, Bool, true, false, List, [], ◌∷◌, ◌++◌, Option, Some, None, Ok, Err, if◌then◌else◌}
+use Rattle.ixdtf_reading.specs.declared.annotations.ValueState.{ValueState}
+use Rattle.ixdtf_reading.specs.declared.annotations.ValueState.TheVariants.{AtStart, Inside, AfterHyphen}
+use Rattle.ixdtf_reading.specs.declared.annotations.ValueStep.{ValueStep}
+use Rattle.ixdtf_reading.specs.declared.annotations.ValueStep.TheVariants.{GoesOn, Ends, Stops}
+use Rattle.ixdtf_grammar.specs.language.Letters.{Text}
+use Rattle.ixdtf_grammar.specs.language.Letters.Letter.{Plain, Bad}
+use Rattle.ixdtf_grammar.specs.language.Letters.{hyphen, equals, closing, exclamation, key_char, value_char}
+use Rattle.ixdtf_grammar.specs.table.Faults.{Fault}
+use Rattle.ixdtf_grammar.specs.table.Faults.Fault.{NonAsciiCodePoint, AnnotationKeyValueSeparator, AnnotationKeyChar}
+use Rattle.ixdtf_grammar.specs.table.Faults.Fault.{AnnotationValueChar, AnnotationClose, AnnotationValueCharPostHyphen}
+use Rattle.ixdtf_grammar.specs.language.Brackets.{Pair}
+use Rattle.ixdtf_grammar.specs.table.LineNames.{PairLine}
+use Rattle.ixdtf_grammar.specs.table.LineNames.LineName.{of_bracket, of_pair}
+use Rattle.ixdtf_grammar.specs.table.LineNames.BracketLine.{after_bracket}
+use Rattle.ixdtf_grammar.specs.table.LineNames.PairLine.{key_start, critical_key_start, in_key, value_start, in_value, after_value_hyphen}
+use Rattle.ixdtf_grammar.specs.table.Rows.{Row}
+use Rattle.ixdtf_grammar.specs.table.Rows.Place.{end, other, bad}
+use Rattle.ixdtf_reading.specs.reading.Looks.{Read, ◌>>=◌, row_of, look_at_line, letter_at, peek_by, look_readings}
+use Rattle.ixdtf_reading.specs.reading.Zones.{with_letter}
+
+-- The letters of a key and the `=` after them.
+unfoldable pub key_run : {E : Type 0} → (Row → E) → Text → Read E (List ℕ)
+key_run fault [] = Err (fault (row_of (of_pair in_key) end AnnotationKeyValueSeparator))
+key_run fault (Bad ∷ rest) = Err (fault (row_of (of_pair in_key) bad NonAsciiCodePoint))
+key_run fault (Plain c ∷ rest) =
+    if key_char c then with_letter c (key_run fault rest)
+    else (if equals c then Ok ([], rest) else Err (fault (row_of (of_pair in_key) other AnnotationKeyChar)))
+
+-- the line of a value, by how far reading of it is
+abbrev pub value_line : ValueState → PairLine
+value_line AtStart = value_start
+value_line Inside = in_value
+value_line AfterHyphen = after_value_hyphen
+
+-- the error at the end of the text, and at another letter
+abbrev pub value_end : ValueState → Fault
+value_end AtStart = AnnotationValueChar
+value_end Inside = AnnotationClose
+value_end AfterHyphen = AnnotationValueCharPostHyphen
+
+abbrev pub value_other : ValueState → Fault
+value_other AtStart = AnnotationValueChar
+value_other Inside = AnnotationValueChar
+value_other AfterHyphen = AnnotationValueCharPostHyphen
+
+-- a letter that is no letter of a value
+abbrev pub value_mark : ValueState → ℕ → ValueStep
+value_mark Inside c = if hyphen c then GoesOn AfterHyphen else (if closing c then Ends else Stops)
+value_mark AtStart c = Stops
+value_mark AfterHyphen c = Stops
+
+abbrev pub value_step : ValueState → ℕ → ValueStep
+value_step state c = if value_char c then GoesOn Inside else value_mark state c
+
+-- how far reading is after a letter that goes on in a value
+abbrev pub value_goes_on : ValueStep → Option ValueState
+value_goes_on (GoesOn next) = Some next
+value_goes_on Ends = None
+value_goes_on Stops = None
+
+-- The letters of a value and the `]` after them.
+unfoldable pub value_run : {E : Type 0} → (Row → E) → ValueState → Text → Read E (List ℕ)
+value_run fault state [] = Err (fault (row_of (of_pair (value_line state)) end (value_end state)))
+value_run fault state (Bad ∷ rest) = Err (fault (row_of (of_pair (value_line state)) bad NonAsciiCodePoint))
+value_run fault state (Plain c ∷ rest) =
+    elim (value_step state c) [
+      | GoesOn next ↦ with_letter c (value_run fault next rest)
+      | Ends ↦ Ok ([], rest)
+      | Stops ↦ Err (fault (row_of (of_pair (value_line state)) other (value_other state)))
+    ]
+
+-- a key, `=`, a value and `]`, as a pair with the flag
+unfoldable pub pair_at : {E : Type 0} → (Row → E) → Bool → Text → Read E Pair
+pair_at fault critical text = do
+  key ← key_run fault text
+  value ← value_run fault AtStart key.1
+  Ok (record { critical = critical; key = key.0; value = value.0 }, value.1)
+
+-- after `[` and `!`
+unfoldable pub critical_pair_at : {E : Type 0} → (Row → E) → Text → Read E Pair
+critical_pair_at fault text = do
+  lead ← letter_at fault (of_pair critical_key_start) text
+  pair_at fault true text
+
+-- after the `[` of a bracket after others
+unfoldable pub later_pair_at : {E : Type 0} → (Row → E) → Text → Read E Pair
+later_pair_at fault text = do
+  lead ← letter_at fault (of_pair key_start) text
+  if exclamation lead.0 then critical_pair_at fault lead.1 else pair_at fault false text
+
+-- the next pair after whole brackets, or none at the end
+unfoldable pub next_pair_at : {E : Type 0} → (Row → E) → Text → Read E (Option Pair)
+next_pair_at fault text =
+    peek_by (look_at_line fault (of_bracket after_bracket)) text >>= λ next.
+    elim next.0 [
+      | None ↦ Ok (None, next.1)
+      | Some c ↦ later_pair_at fault next.1 >>= λ pair. Ok (Some pair.0, pair.1)
+    ]
+
+-- The other pairs, after whole brackets with the pairs before them, and the end: at most so many.
+unfoldable pub pairs_at : {E : Type 0} → (List Pair → Row → E) → ℕ → List Pair → Text → Read E (List Pair)
+pairs_at fault zero pairs text = Ok (pairs, text)
+pairs_at fault (suc n) pairs text =
+    next_pair_at (fault pairs) text >>= λ next.
+    elim next.0 [
+      | None ↦ Ok (pairs, next.1)
+      | Some pair ↦ pairs_at fault n (pairs ++ (pair ∷ [])) next.1
+    ]
+
+-- opening this opens the readings of pairs, but for the loops
+unfoldable pub pair_readings : ℕ
+unfolding look_readings pair_at critical_pair_at later_pair_at next_pair_at
+pair_readings = 0

@@ -1,0 +1,47 @@
+-- Letters that are taken off one by one, by where reading of them is.
+use Rattle.std.specs.Prelude.{ℕ, List, [], ◌∷◌, map, Option, Some, None, Ok, Err, if◌then◌else◌}
+use Rattle.ixdtf_reading.specs.declared.annotations.KeyLetters.{KeyLetters}
+use Rattle.ixdtf_reading.specs.declared.annotations.ValueState.{ValueState}
+use Rattle.ixdtf_reading.specs.declared.letters.Taken.{Taken as CodeTaken}
+use Rattle.ixdtf_grammar.specs.language.Letters.{Text, key_char}
+use Rattle.ixdtf_grammar.specs.language.Letters.Letter.{Plain, Bad}
+use Rattle.ixdtf_grammar.specs.table.Faults.{Fault}
+use Rattle.ixdtf_grammar.specs.table.Faults.Fault.{NonAsciiCodePoint}
+use Rattle.ixdtf_reading.specs.reading.Looks.{Read}
+use Rattle.ixdtf_reading.specs.reading.Pairs.{value_step, value_goes_on}
+
+-- the letters that were taken off, where reading is after them, and the letter that does not go on
+pub record Taken (S : Type 0) : Type 0 where
+  pub letters : List ℕ
+  pub state : S
+  pub next : Option ℕ
+
+abbrev pub nothing_taken : {S : Type 0} → S → Option ℕ → Taken S
+nothing_taken state next = record { letters = []; state = state; next = next }
+
+-- one more letter in front
+abbrev pub one_more : {S : Type 0} → ℕ → Read Fault (Taken S) → Read Fault (Taken S)
+one_more c (Ok x) = Ok (record { letters = c ∷ x.0.letters; state = x.0.state; next = x.0.next }, x.1)
+one_more c (Err e) = Err e
+
+-- what comes of a letter that goes on, or does not
+abbrev pub on_letter : {S A : Type 0} → Option S → (S → A) → A → A
+on_letter None go stay = stay
+on_letter (Some next) go stay = go next
+
+-- The letters as far as they go.
+unfoldable pub letters_by : {S : Type 0} → (S → ℕ → Option S) → S → Text → Read Fault (Taken S)
+letters_by after state [] = Ok (nothing_taken state None, [])
+letters_by after state (Bad ∷ rest) = Err NonAsciiCodePoint
+letters_by after state (Plain c ∷ rest) =
+    on_letter (after state c) (λ next. one_more c (letters_by after next rest)) (Ok (nothing_taken state (Some c), Plain c ∷ rest))
+
+abbrev pub taken_of : {T S U : Type 0} → (U → ℕ) → CodeTaken T S U → Taken S
+taken_of number taken = record { letters = map number taken.units.now; state = taken.state; next = taken.next }
+
+-- where reading of a key is after a letter, and of a value
+abbrev pub key_after : KeyLetters → ℕ → Option KeyLetters
+key_after letters c = if key_char c then Some letters else None
+
+abbrev pub value_after : ValueState → ℕ → Option ValueState
+value_after state c = value_goes_on (value_step state c)

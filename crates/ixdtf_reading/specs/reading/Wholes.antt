@@ -1,0 +1,72 @@
+-- Reading a whole text.
+use Rattle.std.specs.Prelude.{None, Ok, Err, List, [], suc, length, if◌then◌else◌}
+use Rattle.ixdtf_grammar.specs.language.Letters.{Text}
+use Rattle.ixdtf_grammar.specs.language.Cores.{Core}
+use Rattle.ixdtf_grammar.specs.language.Brackets.{Pair}
+use Rattle.ixdtf_grammar.specs.language.Readers.{Reader, CoreKind}
+use Rattle.ixdtf_grammar.specs.language.Readers.Reader.{bracketed, parse_offset, parse_identifier, parse_iana_identifier, parse_duration}
+use Rattle.ixdtf_grammar.specs.table.Rows.{Row}
+use Rattle.ixdtf_grammar.specs.language.Languages.{Parsed, parsed_with, Found}
+use Rattle.ixdtf_grammar.specs.table.Outcomes.{Outcome}
+use Rattle.ixdtf_grammar.specs.language.Languages.Found.{parsed, shifted, identified, named, lasting}
+use Rattle.ixdtf_grammar.specs.table.Outcomes.Outcome.{derived, refused}
+use Rattle.ixdtf_reading.specs.reading.Looks.{Read, ◌>>=◌}
+use Rattle.ixdtf_reading.specs.reading.Durations.{duration_at}
+use Rattle.ixdtf_reading.specs.reading.Zones.{offset_at, identifier_at, iana_identifier_at}
+use Rattle.ixdtf_reading.specs.reading.Pairs.{pairs_at}
+use Rattle.ixdtf_reading.specs.reading.Cores.{ClosedCore, core_at}
+use Rattle.ixdtf_reading.specs.reading.Brackets.{Bracket, zone_in, pairs_in, bracket_at}
+
+-- after a core and a first bracket
+unfoldable pub bracketed_at : {E : Type 0} → (List Pair → Row → E) → Core → Bracket → Text → Read E (Parsed × List Pair)
+bracketed_at fault core bracket text = do
+  pairs ← pairs_at fault (suc (length text)) (pairs_in bracket) text
+  Ok ((parsed_with core (zone_in bracket), pairs.0), pairs.1)
+
+-- after a core and `[`
+unfoldable pub annotated_at : {E : Type 0} → (List Pair → Row → E) → Core → Text → Read E (Parsed × List Pair)
+annotated_at fault core text = do
+  bracket ← bracket_at (fault []) text
+  bracketed_at fault core bracket.0 bracket.1
+
+-- after a core, and its `[` where there is one
+abbrev pub tail_at : {E : Type 0} → (List Pair → Row → E) → ClosedCore → Text → Read E (Parsed × List Pair)
+tail_at fault core text = if core.1 then annotated_at fault core.0 text else Ok ((parsed_with core.0 None, []), text)
+
+-- a core of the kind, a zone bracket and pairs where there are, and the end
+unfoldable pub bracketed_text_at : {E : Type 0} → (List Pair → Row → E) → CoreKind → Text → Read E (Parsed × List Pair)
+bracketed_text_at fault kind text = do
+  core ← core_at (fault []) kind text
+  tail_at fault core.0 core.1
+
+-- what was read, as what a reader finds, with the pairs
+abbrev pub with_pairs : {E : Type 0} → Read E (Parsed × List Pair) → Read E (Found × List Pair)
+with_pairs (Ok x) = Ok ((parsed x.0.0, x.0.1), x.1)
+with_pairs (Err e) = Err e
+
+-- what was read, as what a reader finds that reads no pairs
+abbrev pub finding : {E A : Type 0} → (A → Found) → Read E A → Read E (Found × List Pair)
+finding found (Ok x) = Ok ((found x.0, []), x.1)
+finding found (Err e) = Err e
+
+abbrev pub read_at : {E : Type 0} → (List Pair → Row → E) → Reader → Text → Read E (Found × List Pair)
+read_at fault (bracketed kind) text = with_pairs (bracketed_text_at fault kind text)
+read_at fault parse_offset text = finding shifted (offset_at (fault []) text)
+read_at fault parse_identifier text = finding identified (identifier_at (fault []) text)
+read_at fault parse_iana_identifier text = finding named (iana_identifier_at (fault []) text)
+read_at fault (parse_duration profile) text = finding lasting (duration_at (fault []) profile text)
+
+-- a row, with the pairs before it
+abbrev pub RowBehind : Type 0
+RowBehind = List Pair × Row
+
+abbrev pub row_behind : List Pair → Row → RowBehind
+row_behind pairs row = (pairs, row)
+
+-- the outcome of a reading
+abbrev pub outcome_of : Read RowBehind (Found × List Pair) → Outcome
+outcome_of (Ok x) = derived x.0.0 x.0.1
+outcome_of (Err e) = refused e.1 e.0
+
+abbrev pub outcome : Reader → Text → Outcome
+outcome reader text = outcome_of (read_at row_behind reader text)

@@ -1,0 +1,120 @@
+-- Reading zone names and offsets.
+use Rattle.std.specs.Prelude.{ℕ, Bool, true, false, List, [], ◌∷◌, Option, Some, None, Ok, Err, ◌&&◌, if◌then◌else◌}
+use Rattle.ixdtf_grammar.specs.language.Times.{Clock as clocks}
+use Rattle.ixdtf_grammar.specs.declared.records.UtcOffsetRecord.{UtcOffsetRecord}
+use Rattle.ixdtf_grammar.specs.language.Letters.{Text}
+use Rattle.ixdtf_grammar.specs.language.Letters.Letter.{Plain, Bad}
+use Rattle.ixdtf_grammar.specs.language.Letters.{Class, none, sign, slash, zone_char}
+use Rattle.ixdtf_grammar.specs.table.Faults.Fault.{NonAsciiCodePoint, IanaCharPostSeparator}
+use Rattle.ixdtf_grammar.specs.language.Offsets.{offset_of, minutes_of}
+use Rattle.ixdtf_grammar.specs.declared.records.TimeRecord.{TimeRecord}
+use Rattle.ixdtf_grammar.specs.language.Times.{Clock, TimeShape, writes_seconds}
+use Rattle.ixdtf_grammar.specs.language.ZoneNames.{Zone}
+use Rattle.ixdtf_grammar.specs.language.ZoneNames.Zone.{Name, Offset}
+use Rattle.ixdtf_grammar.specs.table.LineNames.{LineName}
+use Rattle.ixdtf_grammar.specs.table.LineNames.LineName.{of_offset, of_zone}
+use Rattle.ixdtf_grammar.specs.table.LineNames.OffsetLine.{offset_start}
+use Rattle.ixdtf_grammar.specs.table.LineNames.ZoneLine.{identifier_start, zone_name_start, in_zone_name, after_zone_slash}
+use Rattle.ixdtf_grammar.specs.table.Lines.{follow_of, zone_end, zone_other}
+use Rattle.ixdtf_grammar.specs.table.Rows.{Row}
+use Rattle.ixdtf_grammar.specs.table.Rows.Place.{end, other, bad}
+use Rattle.ixdtf_reading.specs.reading.Looks.{Read, Look, ◌>>=◌, row_of, end_of, letter_at, peek_by, look_readings}
+use Rattle.ixdtf_reading.specs.reading.Times.{OpenTime, line_after, bad_after, clock_at}
+
+-- the look at what follows a time or an offset that does not go on as its shape does, where brackets may follow or not
+abbrev pub follow_look : {E : Type 0} → (Row → E) → Bool → Clock → OpenTime → Look E
+follow_look fault brackets clock time = record {
+  goes_on = (follow_of brackets clock).letters;
+  at_end = end_of fault (line_after clock time.0) (follow_of brackets clock).at_end;
+  at_other = λ c. fault (row_of (line_after clock time.0) other (follow_of brackets clock).at_other);
+  at_bad = bad_after fault clock time.0;
+}
+
+-- ---- names
+
+-- the line of a name that may end, and of one that ends with a slash
+abbrev pub name_line : Bool → LineName
+name_line true = of_zone in_zone_name
+name_line false = of_zone after_zone_slash
+
+-- whether the name may end after the letter, or None where the letter does not go on in it
+abbrev pub name_step : ℕ → Bool → Option Bool
+name_step c may_end = if zone_char c then Some true else (if slash c && may_end then Some false else None)
+
+-- a letter in front of the others
+abbrev pub with_letter : {E : Type 0} → ℕ → Read E (List ℕ) → Read E (List ℕ)
+with_letter c (Ok x) = Ok (c ∷ x.0, x.1)
+with_letter c (Err e) = Err e
+
+-- the name ends here, where it may
+abbrev pub name_stops : {E : Type 0} → E → Bool → Text → Read E (List ℕ)
+name_stops after_slash true text = Ok ([], text)
+name_stops after_slash false text = Err after_slash
+
+-- The letters of a name as far as they go: it may end here, or a slash stands before.
+unfoldable pub name_run : {E : Type 0} → (Row → E) → Bool → Text → Read E (List ℕ)
+name_run fault may_end [] = name_stops (fault (row_of (of_zone after_zone_slash) end IanaCharPostSeparator)) may_end []
+name_run fault may_end (Bad ∷ rest) = Err (fault (row_of (name_line may_end) bad NonAsciiCodePoint))
+name_run fault may_end (Plain c ∷ rest) =
+    if zone_char c then with_letter c (name_run fault true rest)
+    else (if slash c && may_end then with_letter c (name_run fault false rest)
+    else name_stops (fault (row_of (of_zone after_zone_slash) other IanaCharPostSeparator)) may_end (Plain c ∷ rest))
+
+-- the look at what follows a name, in a bracket or where it stands alone, where the letters of the class go on
+abbrev pub name_look : {E : Type 0} → (Row → E) → Bool → Class → Look E
+name_look fault in_bracket class = record {
+  goes_on = class;
+  at_end = end_of fault (of_zone in_zone_name) (zone_end in_bracket);
+  at_other = λ c. fault (row_of (of_zone in_zone_name) other (zone_other in_bracket c));
+  at_bad = fault (row_of (of_zone in_zone_name) bad NonAsciiCodePoint);
+}
+
+-- ---- texts that are an offset or a zone
+
+-- a name, and the end
+unfoldable pub name_alone_at : {E : Type 0} → (Row → E) → Text → Read E (List ℕ)
+name_alone_at fault text = do
+  name ← name_run fault true text
+  next ← peek_by (name_look fault false none) name.1
+  Ok (name.0, next.1)
+
+-- a name that begins with a letter of the line, and the end
+unfoldable pub iana_identifier_at : {E : Type 0} → (Row → E) → Text → Read E (List ℕ)
+iana_identifier_at fault text = do
+  lead ← letter_at fault (of_zone zone_name_start) text
+  name_alone_at fault text
+
+-- what a sign and a time of the clock stand for, after the sign, and the end
+unfoldable pub signed_alone_at : {E O : Type 0} → (Row → E) → Clock → (ℕ → TimeShape → TimeRecord → O) → ℕ → Text → Read E O
+signed_alone_at fault clock record_of c text = do
+  time ← clock_at fault clock text
+  next ← peek_by (follow_look fault false clock time.0) time.1
+  Ok (record_of c time.0.0 time.0.1, next.1)
+
+-- an offset after its sign, and the end
+abbrev pub offset_alone_at : {E : Type 0} → (Row → E) → ℕ → Text → Read E UtcOffsetRecord
+offset_alone_at fault = signed_alone_at fault clocks.Offset (λ c shape time. offset_of c (writes_seconds shape) time)
+
+unfoldable pub offset_at : {E : Type 0} → (Row → E) → Text → Read E UtcOffsetRecord
+offset_at fault text = do
+  lead ← letter_at fault (of_offset offset_start) text
+  offset_alone_at fault lead.0 lead.1
+
+-- an offset without seconds after its sign, and the end
+abbrev pub minute_offset_alone_at : {E : Type 0} → (Row → E) → ℕ → Text → Read E Zone
+minute_offset_alone_at fault = signed_alone_at fault clocks.MinuteOffset (λ c shape time. Offset (minutes_of c time))
+
+-- a zone that is a name
+abbrev pub as_zone : {E : Type 0} → Read E (List ℕ) → Read E Zone
+as_zone (Ok x) = Ok (Name x.0, x.1)
+as_zone (Err e) = Err e
+
+unfoldable pub identifier_at : {E : Type 0} → (Row → E) → Text → Read E Zone
+identifier_at fault text = do
+  lead ← letter_at fault (of_zone identifier_start) text
+  if sign lead.0 then minute_offset_alone_at fault lead.0 lead.1 else as_zone (name_alone_at fault text)
+
+-- opening this opens the readings of offsets and zones, but for the loop over a name
+unfoldable pub zone_readings : ℕ
+unfolding look_readings name_alone_at iana_identifier_at signed_alone_at offset_at identifier_at
+zone_readings = 0

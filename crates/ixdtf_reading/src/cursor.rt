@@ -1,0 +1,270 @@
+//! A place in a source: the units that are still to be read.
+//!
+//! There is no index: a cursor keeps the end of the source that is still to be read, as one slice. So a place past the end
+//! cannot be, and a reader that refuses puts back the slice that it began with.
+
+#![tactic(auto, unfolding(crate::specs::reading::Looks::look_readings))]
+
+ghost use Rattle.std.specs.Prelude.{◌≡◌, ℕ, ◌+◌, ◌-◌, ◌<◌, ◌≤◌, ◌∷◌, List, [], map, length, drop, Ok, Some, None, IfOk, OnOk, OnErr, IsTrue, nat_eq};
+ghost use Rattle.ixdtf_grammar.specs.language.Letters.{digit};
+ghost use Rattle.ixdtf_grammar.specs.language.Letters.Letter.{Plain};
+ghost use Rattle.ixdtf_grammar.specs.table.Faults.{NonAsciiCodePoint};
+ghost use Rattle.ixdtf_grammar.specs.Views.{Unread, ascii_at};
+ghost use Rattle.ixdtf_reading.specs.reading.Clauses.{Reads, Settles, Spends, SpendsOr, Yields, fault_of_stop, digit_seen, end_look};
+ghost use Rattle.ixdtf_reading.specs.reading.FixedPlaces.{letter_place, byte_place};
+ghost use Rattle.ixdtf_reading.specs.reading.Looks.{look_at, next_by, peek_by, digit_look, digits_by};
+
+use ixdtf_grammar::encoding::EncodingType;
+use crate::looks::Looks;
+use crate::stop::{Raised, Stop};
+use std::marker::Model;
+
+/// The units that are still to be read, and a count of looks at them, which takes no byte.
+#[derive(Drop)]
+#[derive_where(Debug)]
+pub struct Cursor<'a, T: EncodingType> {
+    rest: &'a [T::CodeUnit],
+    looks: Looks,
+}
+
+impl<'a, T: EncodingType> Model for Cursor<'a, T> {
+    ghost Value = { Unread };
+
+    ghost view = { λ c. record { rest = map T.number c.rest.now; looks = c.looks.count } };
+}
+
+impl<'a, T: EncodingType> Cursor<'a, T> {
+    /// A cursor at the front of a source.
+    pub fn new(source: &'a [T::CodeUnit]) -> Self
+        ensures rest { result.rest ≡ map T.number source.now }
+        ensures looks { result.looks ≡ 0 }
+    {
+        Cursor {
+            rest: source,
+            looks: Looks::none(),
+        }
+    }
+
+    /// The units that are still to be read. They are a part of the source, and outlive the cursor.
+    #[inline(always)]
+    pub fn rest(&self) -> &'a [T::CodeUnit]
+        ensures { map T.number result.now ≡ self.now.rest }
+    {
+        self.rest
+    }
+
+    /// How many units are still to be read.
+    #[inline(always)]
+    pub fn remaining(&self) -> usize
+        ensures { result ≡ length self.now.rest }
+    {
+        self.rest.len()
+    }
+
+    /// A cursor of its own at the same place, with the looks that were made: this one keeps its rest, and no count. So a
+    /// reader and its loops work on a value that nothing else sees, and put it back at their end.
+    #[inline(always)]
+    pub fn take(&mut self) -> Self
+        ensures same { result ≡ self.old }
+        ensures rest { self.new.rest ≡ self.old.rest }
+    {
+        Cursor {
+            rest: self.rest,
+            looks: std::mem::replace(&mut self.looks, Looks::none()),
+        }
+    }
+
+    /// A cursor of its own at a rest that was kept, with the looks that were made: this one keeps its rest, and no count.
+    #[inline(always)]
+    pub fn at(&mut self, rest: &'a [T::CodeUnit]) -> Self
+        ensures there { result.rest ≡ map T.number rest.now }
+        ensures looks { result.looks ≡ self.old.looks }
+        ensures rest { self.new.rest ≡ self.old.rest }
+    {
+        Cursor {
+            rest,
+            looks: std::mem::replace(&mut self.looks, Looks::none()),
+        }
+    }
+
+    /// Stays where it is, and counts the looks of a cursor that went on from here.
+    #[inline(always)]
+    pub fn count(&mut self, here: Self)
+        ensures rest { self.new.rest ≡ self.old.rest }
+        ensures looks { self.new.looks ≡ here.entry.looks }
+    {
+        self.looks = here.looks;
+    }
+
+    /// Ends a reader that worked on a cursor of its own. Where it found something, this cursor goes on from there; where it
+    /// stopped, this one keeps its rest and counts the looks, and the stop becomes the error.
+    #[inline(always)]
+    pub fn settle<R, E: Raised>(&mut self, here: Self, read: Result<R, Stop>) -> Result<R, E>
+        ensures settled { Settles E.fault read result }
+        ensures ended { OnOk result (self.new.rest ≡ here.entry.rest) }
+        ensures unchanged { OnErr result (self.new.rest ≡ self.old.rest) }
+        ensures looks { self.new.looks ≡ here.entry.looks }
+    {
+        match read {
+            Ok(found) => {
+                *self = here;
+                Ok(found)
+            }
+            Err(stop) => {
+                self.count(here);
+                Err(E::of_stop(stop))
+            }
+        }
+    }
+
+    /// Looks at a place of the rest: `None` past its end, and `NonAsciiCodePoint` at a unit that stands for no letter.
+    /// This is the one place that calls `get_ascii`.
+    #[inline(always)]
+    pub fn look_at(&mut self, index: usize) -> Result<Option<u8>, Stop>
+        ensures letter { Yields (λ found. found) result (ascii_at T.letter index self.old.rest) }
+        ensures rest { self.new.rest ≡ self.old.rest }
+        ensures looks { self.new.looks ≡ self.old.looks + 1 }
+    {
+        self.looks.tick();
+        match T::get_ascii(self.rest, index) {
+            Ok(found) => Ok(found),
+            Err(_) => Err(Stop::NonAsciiCodePoint),
+        }
+    }
+
+    /// Looks at the first letter of the rest.
+    #[inline(always)]
+    #[tactic(auto, using(crate::proofs::code::Units::first_look))]
+    pub fn look(&mut self) -> Result<Option<u8>, Stop>
+        ensures letter { Yields (λ found. found) result
+            (look_at NonAsciiCodePoint (map T.letter self.old.rest)) }
+        ensures rest { self.new.rest ≡ self.old.rest }
+        ensures looks { self.new.looks ≡ self.old.looks + 1 }
+    {
+        self.look_at(0)
+    }
+
+    /// Takes the first unit off, where there is one.
+    #[inline(always)]
+    #[tactic(auto, using(crate::proofs::code::Units::texts))]
+    pub fn step(&mut self)
+        ensures rest { self.new.rest ≡ drop 1 self.old.rest }
+        ensures shorter { length self.new.rest ≤ length self.old.rest }
+        ensures letters { map T.letter self.new.rest ≡ drop 1 (map T.letter self.old.rest) }
+        ensures looks { self.new.looks ≡ self.old.looks }
+    {
+        if let [_, rest @ ..] = self.rest {
+            self.rest = rest;
+        }
+    }
+
+    /// Takes a digit off and returns it, as an ASCII byte. The end is `AbruptDigit`, and another letter this stop; both
+    /// stay.
+    #[inline(always)]
+    pub fn next_digit(&mut self, other: Stop) -> Result<u8, Stop>
+        ensures digit { Reads T.letter (λ byte. byte) self.old result self.new
+            (next_by (digit_look (fault_of_stop other))) }
+        ensures is_digit { IfOk result (λ byte. IsTrue (digit byte)) }
+        ensures looks { SpendsOr 1 0 self.old result self.new }
+        ensures few { self.new.looks ≤ self.old.looks + 1 }
+    {
+        match self.look()? {
+            None => Err(Stop::AbruptDigit),
+            Some(byte) if byte.is_ascii_digit() => {
+                self.step();
+                Ok(byte)
+            }
+            Some(_) => Err(other),
+        }
+    }
+
+    /// The digit at a place of the rest, as an ASCII byte. The end is `AbruptDigit`, and another letter this stop.
+    #[inline(always)]
+    fn digit_at(&mut self, index: usize, other: Stop) -> Result<u8, Stop>
+        ensures digit { Yields (λ byte. byte) result
+            (digit_seen (fault_of_stop other) (ascii_at T.letter index self.old.rest)) }
+        ensures is_digit { IfOk result (λ byte. IsTrue (digit byte)) }
+        ensures rest { self.new.rest ≡ self.old.rest }
+        ensures looks { self.new.looks ≡ self.old.looks + 1 }
+    {
+        match self.look_at(index)? {
+            None => Err(Stop::AbruptDigit),
+            Some(byte) if byte.is_ascii_digit() => Ok(byte),
+            Some(_) => Err(other),
+        }
+    }
+
+    /// Takes two digits off and returns them, as ASCII bytes, with one test for the end.
+    #[inline(always)]
+    pub fn two_digits(&mut self, other: Stop) -> Result<(u8, u8), Stop>
+        ensures digits { Reads T.letter (λ ds. Plain ds.0 ∷ Plain ds.1 ∷ [])
+            self.old result self.new
+            (digits_by (digit_look (fault_of_stop other)) 2) }
+        ensures are_digits { IfOk result (λ ds. IsTrue (digit ds.0) × IsTrue (digit ds.1)) }
+        ensures looks { SpendsOr 2 0 self.old result self.new }
+        ensures few { self.new.looks ≤ self.old.looks + 2 }
+    {
+        if self.rest.len() < 2 {
+            self.digit_at(0, other)?;
+            return Err(Stop::AbruptDigit);
+        }
+        let tens = self.digit_at(0, other)?;
+        let ones = self.digit_at(1, other)?;
+        self.skip(2);
+        Ok((tens, ones))
+    }
+
+    /// Takes so many units off.
+    #[inline(always)]
+    pub fn skip(&mut self, count: usize)
+        requires { count ≤ length self.old.rest }
+        ensures rest { self.new.rest ≡ drop count self.old.rest }
+        ensures shorter { length self.new.rest + count ≡ length self.old.rest }
+        ensures looks { self.new.looks ≡ self.old.looks }
+    {
+        self.rest = &self.rest[count..];
+    }
+
+    /// The letter at a fixed place of the rest, as an ASCII byte, or 0 where none stands there: 0 is of no class that the
+    /// readers tell apart.
+    #[inline(always)]
+    #[tactic(auto, using(crate::proofs::code::FixedPlaces::byte_looked))]
+    pub fn byte_at(&mut self, index: usize) -> u8
+        ensures there { result ≡ byte_place index (map T.letter self.old.rest) }
+        ensures rest { self.new.rest ≡ self.old.rest }
+        ensures looks { self.new.looks ≡ self.old.looks + 1 }
+    {
+        match self.look_at(index) {
+            Ok(Some(byte)) => byte,
+            _ => 0,
+        }
+    }
+
+    /// The letter, where it stands at a fixed place of the rest, or `None`.
+    #[inline(always)]
+    #[tactic(auto, using(crate::proofs::code::FixedPlaces::place_looked))]
+    pub fn fixed_letter(&mut self, index: usize, letter: u8) -> Option<u8>
+        ensures there { result ≡
+            letter_place (λ c. nat_eq c letter) index (map T.letter self.old.rest) }
+        ensures rest { self.new.rest ≡ self.old.rest }
+        ensures looks { self.new.looks ≡ self.old.looks + 1 }
+    {
+        match self.look_at(index) {
+            Ok(Some(byte)) if byte == letter => Some(byte),
+            _ => None,
+        }
+    }
+
+    /// Wants the end of the source: `InvalidEnd` at any letter.
+    #[inline(always)]
+    pub fn close(&mut self) -> Result<(), Stop>
+        ensures end { Reads T.letter (λ _. None) self.old result self.new (peek_by end_look) }
+        ensures rest { self.new.rest ≡ self.old.rest }
+        ensures looks { Spends 1 self.old self.new }
+    {
+        match self.look()? {
+            None => Ok(()),
+            Some(_) => Err(Stop::InvalidEnd),
+        }
+    }
+}

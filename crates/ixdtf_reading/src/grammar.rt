@@ -1,0 +1,252 @@
+//! The classes of letters that the readers tell apart.
+
+ghost use Rattle.std.specs.Prelude.{◌≡◌, ◌+◌, ◌<◌, ◌≤◌, ◌∷◌, [], IsTrue};
+ghost use Rattle.ixdtf_grammar.specs.language.Letters.{digit, sign, hyphen, colon, decimal_mark, date_time_separator, time_letter, duration_designator, zulu};
+ghost use Rattle.ixdtf_grammar.specs.language.Letters.{opening, closing, exclamation, equals, slash, zone_lead, zone_char, key_lead, key_char, value_char};
+ghost use Rattle.ixdtf_grammar.specs.language.Letters.Letter.{Plain};
+ghost use Rattle.ixdtf_grammar.specs.language.Digits.{decimal};
+ghost use Rattle.ixdtf_reading.specs.reading.FixedPlaces.{tens_value, ones_value};
+
+// The classes that a byte is of, one bit for each: 1 goes on in a key, 2 in a zone name, 4 stands in a value.
+#[rattlefmt::skip]
+static CLASSES: [u8; 256] = [
+    0, 0, 0, 0, 0, 0, 0, 0, 0, 0, 0, 0, 0, 0, 0, 0,
+    0, 0, 0, 0, 0, 0, 0, 0, 0, 0, 0, 0, 0, 0, 0, 0,
+    0, 0, 0, 0, 0, 0, 0, 0, 0, 0, 0, 2, 0, 3, 2, 0,
+    7, 7, 7, 7, 7, 7, 7, 7, 7, 7, 0, 0, 0, 0, 0, 0,
+    0, 6, 6, 6, 6, 6, 6, 6, 6, 6, 6, 6, 6, 6, 6, 6,
+    6, 6, 6, 6, 6, 6, 6, 6, 6, 6, 6, 0, 0, 0, 0, 3,
+    0, 7, 7, 7, 7, 7, 7, 7, 7, 7, 7, 7, 7, 7, 7, 7,
+    7, 7, 7, 7, 7, 7, 7, 7, 7, 7, 7, 0, 0, 0, 0, 0,
+    0, 0, 0, 0, 0, 0, 0, 0, 0, 0, 0, 0, 0, 0, 0, 0,
+    0, 0, 0, 0, 0, 0, 0, 0, 0, 0, 0, 0, 0, 0, 0, 0,
+    0, 0, 0, 0, 0, 0, 0, 0, 0, 0, 0, 0, 0, 0, 0, 0,
+    0, 0, 0, 0, 0, 0, 0, 0, 0, 0, 0, 0, 0, 0, 0, 0,
+    0, 0, 0, 0, 0, 0, 0, 0, 0, 0, 0, 0, 0, 0, 0, 0,
+    0, 0, 0, 0, 0, 0, 0, 0, 0, 0, 0, 0, 0, 0, 0, 0,
+    0, 0, 0, 0, 0, 0, 0, 0, 0, 0, 0, 0, 0, 0, 0, 0,
+    0, 0, 0, 0, 0, 0, 0, 0, 0, 0, 0, 0, 0, 0, 0, 0,
+];
+
+// Ten times the number of each digit, and 100 at each byte that is none.
+#[rattlefmt::skip]
+static TENS: [u8; 256] = [
+    100, 100, 100, 100, 100, 100, 100, 100, 100, 100, 100, 100, 100, 100, 100, 100,
+    100, 100, 100, 100, 100, 100, 100, 100, 100, 100, 100, 100, 100, 100, 100, 100,
+    100, 100, 100, 100, 100, 100, 100, 100, 100, 100, 100, 100, 100, 100, 100, 100,
+    0, 10, 20, 30, 40, 50, 60, 70, 80, 90, 100, 100, 100, 100, 100, 100,
+    100, 100, 100, 100, 100, 100, 100, 100, 100, 100, 100, 100, 100, 100, 100, 100,
+    100, 100, 100, 100, 100, 100, 100, 100, 100, 100, 100, 100, 100, 100, 100, 100,
+    100, 100, 100, 100, 100, 100, 100, 100, 100, 100, 100, 100, 100, 100, 100, 100,
+    100, 100, 100, 100, 100, 100, 100, 100, 100, 100, 100, 100, 100, 100, 100, 100,
+    100, 100, 100, 100, 100, 100, 100, 100, 100, 100, 100, 100, 100, 100, 100, 100,
+    100, 100, 100, 100, 100, 100, 100, 100, 100, 100, 100, 100, 100, 100, 100, 100,
+    100, 100, 100, 100, 100, 100, 100, 100, 100, 100, 100, 100, 100, 100, 100, 100,
+    100, 100, 100, 100, 100, 100, 100, 100, 100, 100, 100, 100, 100, 100, 100, 100,
+    100, 100, 100, 100, 100, 100, 100, 100, 100, 100, 100, 100, 100, 100, 100, 100,
+    100, 100, 100, 100, 100, 100, 100, 100, 100, 100, 100, 100, 100, 100, 100, 100,
+    100, 100, 100, 100, 100, 100, 100, 100, 100, 100, 100, 100, 100, 100, 100, 100,
+    100, 100, 100, 100, 100, 100, 100, 100, 100, 100, 100, 100, 100, 100, 100, 100,
+];
+
+// The number of each digit, and 100 at each byte that is none.
+#[rattlefmt::skip]
+static ONES: [u8; 256] = [
+    100, 100, 100, 100, 100, 100, 100, 100, 100, 100, 100, 100, 100, 100, 100, 100,
+    100, 100, 100, 100, 100, 100, 100, 100, 100, 100, 100, 100, 100, 100, 100, 100,
+    100, 100, 100, 100, 100, 100, 100, 100, 100, 100, 100, 100, 100, 100, 100, 100,
+    0, 1, 2, 3, 4, 5, 6, 7, 8, 9, 100, 100, 100, 100, 100, 100,
+    100, 100, 100, 100, 100, 100, 100, 100, 100, 100, 100, 100, 100, 100, 100, 100,
+    100, 100, 100, 100, 100, 100, 100, 100, 100, 100, 100, 100, 100, 100, 100, 100,
+    100, 100, 100, 100, 100, 100, 100, 100, 100, 100, 100, 100, 100, 100, 100, 100,
+    100, 100, 100, 100, 100, 100, 100, 100, 100, 100, 100, 100, 100, 100, 100, 100,
+    100, 100, 100, 100, 100, 100, 100, 100, 100, 100, 100, 100, 100, 100, 100, 100,
+    100, 100, 100, 100, 100, 100, 100, 100, 100, 100, 100, 100, 100, 100, 100, 100,
+    100, 100, 100, 100, 100, 100, 100, 100, 100, 100, 100, 100, 100, 100, 100, 100,
+    100, 100, 100, 100, 100, 100, 100, 100, 100, 100, 100, 100, 100, 100, 100, 100,
+    100, 100, 100, 100, 100, 100, 100, 100, 100, 100, 100, 100, 100, 100, 100, 100,
+    100, 100, 100, 100, 100, 100, 100, 100, 100, 100, 100, 100, 100, 100, 100, 100,
+    100, 100, 100, 100, 100, 100, 100, 100, 100, 100, 100, 100, 100, 100, 100, 100,
+    100, 100, 100, 100, 100, 100, 100, 100, 100, 100, 100, 100, 100, 100, 100, 100,
+];
+
+/// `+` or `-`.
+#[inline(always)]
+pub fn is_ascii_sign(byte: u8) -> bool
+    ensures { result ≡ sign byte }
+{
+    byte == b'+' || byte == b'-'
+}
+
+/// `-`.
+#[inline(always)]
+pub fn is_hyphen(byte: u8) -> bool
+    ensures { result ≡ hyphen byte }
+{
+    byte == b'-'
+}
+
+/// `:`.
+#[inline(always)]
+pub fn is_time_separator(byte: u8) -> bool
+    ensures { result ≡ colon byte }
+{
+    byte == b':'
+}
+
+/// `.` or `,`.
+#[inline(always)]
+pub fn is_decimal_separator(byte: u8) -> bool
+    ensures { result ≡ decimal_mark byte }
+{
+    byte == b'.' || byte == b','
+}
+
+/// `T`, `t` or a space.
+#[inline(always)]
+pub fn is_date_time_separator(byte: u8) -> bool
+    ensures { result ≡ date_time_separator byte }
+{
+    byte == b'T' || byte == b't' || byte == b' '
+}
+
+/// `T` or `t`.
+#[inline(always)]
+pub fn is_time_designator(byte: u8) -> bool
+    ensures { result ≡ time_letter byte }
+{
+    byte == b'T' || byte == b't'
+}
+
+/// `P` or `p`.
+#[inline(always)]
+pub fn is_duration_designator(byte: u8) -> bool
+    ensures { result ≡ duration_designator byte }
+{
+    byte == b'P' || byte == b'p'
+}
+
+/// `Z` or `z`.
+#[inline(always)]
+pub fn is_utc_designator(byte: u8) -> bool
+    ensures { result ≡ zulu byte }
+{
+    byte == b'Z' || byte == b'z'
+}
+
+/// `[`.
+#[inline(always)]
+pub fn is_annotation_open(byte: u8) -> bool
+    ensures { result ≡ opening byte }
+{
+    byte == b'['
+}
+
+/// `]`.
+#[inline(always)]
+pub fn is_annotation_close(byte: u8) -> bool
+    ensures { result ≡ closing byte }
+{
+    byte == b']'
+}
+
+/// `!`.
+#[inline(always)]
+pub fn is_critical_flag(byte: u8) -> bool
+    ensures { result ≡ exclamation byte }
+{
+    byte == b'!'
+}
+
+/// `=`.
+#[inline(always)]
+pub fn is_annotation_key_value_separator(byte: u8) -> bool
+    ensures { result ≡ equals byte }
+{
+    byte == b'='
+}
+
+/// `/`.
+#[inline(always)]
+pub fn is_tz_name_separator(byte: u8) -> bool
+    ensures { result ≡ slash byte }
+{
+    byte == b'/'
+}
+
+/// What a zone name begins with: an ASCII letter, `_` or `.`.
+#[inline(always)]
+pub fn is_tz_leading_char(byte: u8) -> bool
+    ensures { result ≡ zone_lead byte }
+{
+    byte.is_ascii_alphabetic() || byte == b'_' || byte == b'.'
+}
+
+/// What goes on in a zone name: what begins one, a digit, `+` or `-`.
+#[inline(always)]
+pub fn is_tz_char(byte: u8) -> bool
+    ensures { result ≡ zone_char byte }
+{
+    CLASSES[byte as usize] & 2 != 0
+}
+
+/// What a key begins with: a small ASCII letter or `_`.
+#[inline(always)]
+pub fn is_a_key_leading_char(byte: u8) -> bool
+    ensures { result ≡ key_lead byte }
+{
+    byte.is_ascii_lowercase() || byte == b'_'
+}
+
+/// What goes on in a key: what begins one, a digit or `-`.
+#[inline(always)]
+pub fn is_a_key_char(byte: u8) -> bool
+    ensures { result ≡ key_char byte }
+{
+    CLASSES[byte as usize] & 1 != 0
+}
+
+/// What stands in a value: an ASCII letter or a digit.
+#[inline(always)]
+pub fn is_annotation_value_component(byte: u8) -> bool
+    ensures { result ≡ value_char byte }
+{
+    CLASSES[byte as usize] & 4 != 0
+}
+
+/// The number of two digits.
+#[inline(always)]
+pub fn digits_value(tens: u8, ones: u8) -> u8
+    requires tens { IsTrue (digit tens) }
+    requires ones { IsTrue (digit ones) }
+    ensures value { result ≡ decimal (Plain tens ∷ Plain ones ∷ []) }
+    ensures small { result < 100 }
+{
+    10 * (tens - b'0') + (ones - b'0')
+}
+
+/// The number of two digits, or at least 100 where one of the bytes is no digit.
+#[inline(always)]
+pub fn number_of(tens: u8, ones: u8) -> u8
+    ensures { result ≡ tens_value tens + ones_value ones }
+{
+    tens_of(tens) + ones_of(ones)
+}
+
+/// Ten times the number of a digit, or 100 where the byte is none.
+#[inline(always)]
+fn tens_of(byte: u8) -> u8
+    ensures value { result ≡ tens_value byte }
+    ensures small { result ≤ 100 }
+{
+    TENS[byte as usize]
+}
+
+/// The number of a digit, or 100 where the byte is none.
+#[inline(always)]
+fn ones_of(byte: u8) -> u8
+    ensures value { result ≡ ones_value byte }
+    ensures small { result ≤ 100 }
+{
+    ONES[byte as usize]
+}

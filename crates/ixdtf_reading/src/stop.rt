@@ -1,0 +1,150 @@
+//! Why a reading stopped, in one byte.
+
+ghost use Rattle.std.specs.Prelude.{◌≡◌};
+ghost use Rattle.ixdtf_grammar.specs.table.Faults.{Fault, fault_of};
+ghost use Rattle.ixdtf_reading.specs.reading.Clauses.{fault_of_stop};
+
+use ixdtf_grammar::ParseError;
+
+/// Why a reading stopped: an error that a reader returns, with `AbruptEnd` once for each location. It takes one byte,
+/// and the error is made of it only where a public reader returns.
+#[derive(Clone, Copy)]
+pub enum Stop {
+    NonAsciiCodePoint,
+    AbruptDigit,
+    AbruptDate,
+    AbruptBracket,
+    AbruptOffset,
+    AbruptZone,
+    InvalidEnd,
+    InvalidMonthRange,
+    InvalidDayRange,
+    DateYear,
+    DateExtendedYear,
+    DateMonth,
+    DateDay,
+    TimeHour,
+    TimeMinuteSecond,
+    TimeSecond,
+    FractionPart,
+    DateSeparator,
+    TimeSeparator,
+    AnnotationClose,
+    AnnotationKeyValueSeparator,
+    AnnotationKeyLeadingChar,
+    AnnotationKeyChar,
+    AnnotationValueCharPostHyphen,
+    AnnotationValueChar,
+    InvalidMinutePrecisionOffset,
+    CriticalDuplicateCalendar,
+    UnrecognizedCritical,
+    TzLeadingChar,
+    IanaCharPostSeparator,
+    IanaChar,
+    UtcTimeSeparator,
+    OffsetNeedsSign,
+    AbruptMonthDay,
+    MonthDayHyphen,
+    InvalidMonthDay,
+    AmbiguousTimeMonthDay,
+    AmbiguousTimeYearMonth,
+    AbruptDurationStart,
+    AbruptDurationDesignator,
+    AbruptDuration,
+    AbruptDateDesignator,
+    AbruptTimeDesignator,
+    DurationDisgnator,
+    DurationValueExceededRange,
+    DateDurationPartOrder,
+    TimeDurationPartOrder,
+    TimeDurationDesignator,
+}
+
+impl Stop {
+    /// The error of it. It is inlined, so that a reader of records makes no call for it.
+    #[inline(always)]
+    #[rattlefmt::skip]
+    pub fn error(self) -> ParseError
+        ensures { fault_of result ≡ fault_of_stop self }
+    {
+        match self {
+            Stop::NonAsciiCodePoint => ParseError::NonAsciiCodePoint,
+            Stop::AbruptDigit => ParseError::AbruptEnd { location: "digit" },
+            Stop::AbruptDate => ParseError::AbruptEnd { location: "Date" },
+            Stop::AbruptBracket => ParseError::AbruptEnd { location: "AmbiguousAnnotation" },
+            Stop::AbruptOffset => ParseError::AbruptEnd { location: "time-numoffset" },
+            Stop::AbruptZone => ParseError::AbruptEnd { location: "TimeZoneAnnotation" },
+            Stop::InvalidEnd => ParseError::InvalidEnd,
+            Stop::InvalidMonthRange => ParseError::InvalidMonthRange,
+            Stop::InvalidDayRange => ParseError::InvalidDayRange,
+            Stop::DateYear => ParseError::DateYear,
+            Stop::DateExtendedYear => ParseError::DateExtendedYear,
+            Stop::DateMonth => ParseError::DateMonth,
+            Stop::DateDay => ParseError::DateDay,
+            Stop::TimeHour => ParseError::TimeHour,
+            Stop::TimeMinuteSecond => ParseError::TimeMinuteSecond,
+            Stop::TimeSecond => ParseError::TimeSecond,
+            Stop::FractionPart => ParseError::FractionPart,
+            Stop::DateSeparator => ParseError::DateSeparator,
+            Stop::TimeSeparator => ParseError::TimeSeparator,
+            Stop::AnnotationClose => ParseError::AnnotationClose,
+            Stop::AnnotationKeyValueSeparator => ParseError::AnnotationKeyValueSeparator,
+            Stop::AnnotationKeyLeadingChar => ParseError::AnnotationKeyLeadingChar,
+            Stop::AnnotationKeyChar => ParseError::AnnotationKeyChar,
+            Stop::AnnotationValueCharPostHyphen => ParseError::AnnotationValueCharPostHyphen,
+            Stop::AnnotationValueChar => ParseError::AnnotationValueChar,
+            Stop::InvalidMinutePrecisionOffset => ParseError::InvalidMinutePrecisionOffset,
+            Stop::CriticalDuplicateCalendar => ParseError::CriticalDuplicateCalendar,
+            Stop::UnrecognizedCritical => ParseError::UnrecognizedCritical,
+            Stop::TzLeadingChar => ParseError::TzLeadingChar,
+            Stop::IanaCharPostSeparator => ParseError::IanaCharPostSeparator,
+            Stop::IanaChar => ParseError::IanaChar,
+            Stop::UtcTimeSeparator => ParseError::UtcTimeSeparator,
+            Stop::OffsetNeedsSign => ParseError::OffsetNeedsSign,
+            Stop::AbruptMonthDay => ParseError::AbruptEnd { location: "MonthDay" },
+            Stop::MonthDayHyphen => ParseError::MonthDayHyphen,
+            Stop::InvalidMonthDay => ParseError::InvalidMonthDay,
+            Stop::AmbiguousTimeMonthDay => ParseError::AmbiguousTimeMonthDay,
+            Stop::AmbiguousTimeYearMonth => ParseError::AmbiguousTimeYearMonth,
+            Stop::AbruptDurationStart => ParseError::AbruptEnd { location: "DurationStart" },
+            Stop::AbruptDurationDesignator => ParseError::AbruptEnd { location: "DurationDesignator" },
+            Stop::AbruptDuration => ParseError::AbruptEnd { location: "Duration" },
+            Stop::AbruptDateDesignator => ParseError::AbruptEnd { location: "DateDurationDesignator" },
+            Stop::AbruptTimeDesignator => ParseError::AbruptEnd { location: "TimeDurationDesignator" },
+            Stop::DurationDisgnator => ParseError::DurationDisgnator,
+            Stop::DurationValueExceededRange => ParseError::DurationValueExceededRange,
+            Stop::DateDurationPartOrder => ParseError::DateDurationPartOrder,
+            Stop::TimeDurationPartOrder => ParseError::TimeDurationPartOrder,
+            Stop::TimeDurationDesignator => ParseError::TimeDurationDesignator,
+        }
+    }
+}
+
+const _: () = prove!(size_of::<Stop>() == 1);
+
+/// An error that a stop gives.
+///
+/// What calls a handler is generic in its error by this bound, and is used at `ParseError` alone:
+/// in Rattle a function that makes such a call may not name `'static` in its own signature, as
+/// `ParseError` does.
+pub trait Raised {
+    /// The fault that an error names.
+    ghost fault: { Self → Fault };
+
+    /// The error of a stop.
+    fn of_stop(stop: Stop) -> Self
+        ensures { fault result ≡ fault_of_stop stop };
+}
+
+impl Raised for ParseError {
+    ghost use Rattle.ixdtf_grammar.specs.table.Faults.{fault_of};
+
+    ghost fault = { fault_of };
+
+    /// The error of the stop. It is not inlined, so that a loop over a name keeps to itself.
+    #[cold]
+    #[inline(never)]
+    fn of_stop(stop: Stop) -> ParseError {
+        stop.error()
+    }
+}

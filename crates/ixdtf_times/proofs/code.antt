@@ -1,0 +1,5 @@
+-- code.
+pub mod FixedMonths
+pub mod FixedOffsets
+pub mod LoneTimes
+pub mod YearDigits

@@ -1,0 +1,104 @@
+-- An offset that stands at its places behind its sign, where the core ends with it, is read so.
+use Rattle.std.proofs.Common.{◌≡◌, ℕ, ◌≤◌, IsTrue, ◌∷◌, [], ◌++◌, drop, Option, Some, None, Ok, true, false, nat_le, ◌&&◌, refl, ap, ◌∙◌, arith}
+use Rattle.std.proofs.lemmas.Bool.Decides.{nat_tests}
+use Rattle.ixdtf_grammar.specs.declared.records.DateRecord.{DateRecord}
+use Rattle.ixdtf_grammar.specs.declared.records.TimeRecord.{TimeRecord}
+use Rattle.ixdtf_grammar.specs.declared.records.MinutePrecisionOffset.{MinutePrecisionOffset}
+use Rattle.ixdtf_grammar.specs.declared.records.UtcOffsetRecord.TheVariants.{MinutePrecision}
+use Rattle.ixdtf_grammar.specs.language.Letters.{Text, colon}
+use Rattle.ixdtf_grammar.specs.language.Letters.Letter.{Plain}
+use Rattle.ixdtf_grammar.specs.language.Offsets.{minutes_of}
+use Rattle.ixdtf_grammar.specs.language.ZoneNames.{Zone}
+use Rattle.ixdtf_grammar.specs.language.Times.Clock.{Offset, MinuteOffset}
+use Rattle.ixdtf_grammar.specs.language.Times.TimeShape.{colon_minutes}
+use Rattle.ixdtf_grammar.specs.language.Times.{ColonMinuteText, Clock}
+use Rattle.ixdtf_reading.specs.reading.Looks.{error_of, look_at, peek_by}
+use Rattle.ixdtf_reading.specs.reading.FixedPlaces.{letter_place, number_place, offset_place}
+use Rattle.ixdtf_reading.specs.reading.Times.{time_of, line_after, clock_at}
+use Rattle.ixdtf_reading.specs.reading.Zones.{signed_alone_at, offset_alone_at, minute_offset_alone_at}
+use Rattle.ixdtf_reading.specs.reading.Cores.{with_offset, offset_core_at, core_end_at}
+use Rattle.ixdtf_reading.proofs.parts.Looks.{onto}
+use Rattle.ixdtf_reading.proofs.code.FixedPlaces.{then_some, then_held, Number, number_at_place, mark_at_place, colon_is, two, two_digits, over_two}
+use Rattle.ixdtf_reading.proofs.to_reading.Times.{Closed, time_takes}
+use Rattle.ixdtf_reading.proofs.to_reading.ClockRows.{clock_starts}
+
+-- the letters of an hour, a colon and a minute, the text after them, and the offset that they are
+record OffsetLetters (c : ℕ) (text : Text) (offset : MinutePrecisionOffset) : Type 0 where
+  letters : Text
+  time : TimeRecord
+  is : text ≡ letters ++ drop 5 text
+  minutes : ColonMinuteText letters time
+  value : minutes_of c time ≡ offset
+
+ranges : (hour minute : ℕ) → IsTrue (nat_le hour 23 && nat_le minute 59) → (hour ≤ 23) × (minute ≤ 59)
+ranges hour minute h = (grind (arith, nat_tests), grind (arith, nat_tests))
+
+of_numbers : (c : ℕ) (text : Text) (offset : MinutePrecisionOffset) (hour minute : ℕ) → (h : Number 0 text hour) → drop 2 text ≡ Plain 58 ∷ drop 3 text
+    → (m : Number 3 text minute) → IsTrue (nat_le hour 23 && nat_le minute 59) × (minutes_of c (time_of hour minute 0 None) ≡ offset)
+    → OffsetLetters c text offset
+of_numbers c text offset hour minute h mark m held =
+    let most = ranges hour minute held.0 in
+    let hours = two_digits h refl in
+    let minutes = two_digits m refl in
+    record {
+      letters = two h ++ (Plain 58 ∷ two m);
+      time = time_of hour minute 0 None;
+      is = over_two h (mark ∙ onto 58 (over_two m refl));
+      minutes = record {
+        hs = two h;
+        ms = two m;
+        is = refl;
+        hour = (hours.0, hours.1, most.0);
+        minute = (minutes.0, minutes.1, most.1);
+        no_second = refl;
+        no_fraction = refl;
+      };
+      value = held.1;
+    }
+
+offset_letters : (c : ℕ) (text : Text) (offset : MinutePrecisionOffset) → offset_place c text ≡ Some offset → OffsetLetters c text offset
+unfolding offset_place
+offset_letters c text offset e =
+    then_some (number_place 0 text) _ offset e λ hour f0 e0.
+    then_some (letter_place colon 2 text) _ offset e0 λ mark f1 e1.
+    then_some (number_place 3 text) _ offset e1 λ minute f2 e2.
+    of_numbers c text offset hour minute (number_at_place 0 text hour f0) (mark_at_place colon 58 2 text mark colon_is f1) (number_at_place 3 text minute f2)
+    (then_held _ _ offset e2)
+
+module _ (c : ℕ) (text : Text) (offset : MinutePrecisionOffset) (found : offset_place c text ≡ Some offset) where
+  abbrev there : OffsetLetters c text offset
+  there = offset_letters c text offset found
+
+  -- its letters are read as those of an hour and a minute, where nothing goes on behind them
+  is_read : (clock : Clock) → Closed clock colon_minutes (drop 5 text) → clock_at error_of clock text ≡ Ok ((colon_minutes, there.time), drop 5 text)
+  is_read clock closed =
+      ap (clock_at error_of clock) there.is ∙ time_takes error_of clock _ (clock_starts error_of clock) colon_minutes there.letters there.time
+      (drop 5 text) there.minutes closed
+
+  module _ (is : drop 5 text ≡ []) where
+    pub ends_the_text : offset_alone_at error_of c text ≡ Ok (MinutePrecision offset, [])
+    unfolding signed_alone_at peek_by look_at
+    ends_the_text = rw (is_read Offset (rw is (tt, tt)), is) (ap (λ m. Ok (MinutePrecision m, [])) there.value)
+
+    pub ends_a_zone : minute_offset_alone_at error_of c text ≡ Ok (Zone.Offset offset, [])
+    unfolding signed_alone_at peek_by look_at
+    ends_a_zone = rw (is_read MinuteOffset (rw is (tt, tt)), is) (ap (λ m. Ok (Zone.Offset m, [])) there.value)
+
+  module _ (date : Option DateRecord) (time : TimeRecord) where
+    -- what follows is looked at behind the five places
+    goes_on : Closed Offset colon_minutes (drop 5 text)
+        → offset_core_at error_of date time c text
+        ≡ core_end_at error_of (line_after Offset colon_minutes) (with_offset date time (MinutePrecision offset)) (drop 5 text)
+    unfolding offset_core_at
+    goes_on closed =
+        rw (is_read Offset closed)
+        (ap (λ m. core_end_at error_of (line_after Offset colon_minutes) (with_offset date time (MinutePrecision m)) (drop 5 text)) there.value)
+
+    pub ends : drop 5 text ≡ [] → offset_core_at error_of date time c text ≡ Ok ((with_offset date time (MinutePrecision offset), false), [])
+    unfolding core_end_at peek_by look_at
+    ends is = goes_on (rw is (tt, tt)) ∙ rw is refl
+
+    pub goes_into_a_bracket : (rest : Text) → drop 5 text ≡ Plain 91 ∷ rest
+        → offset_core_at error_of date time c text ≡ Ok ((with_offset date time (MinutePrecision offset), true), rest)
+    unfolding core_end_at peek_by look_at
+    goes_into_a_bracket rest is = goes_on (rw is (refl, refl)) ∙ rw is refl

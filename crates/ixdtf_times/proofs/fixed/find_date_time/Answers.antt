@@ -1,0 +1,10 @@
+use Rattle.std.proofs.Common.{map, sym, arith}
+use Rattle.std.proofs.lemmas.List.{length-map}
+use Rattle.ixdtf_reading.proofs.code.FixedPlaces.{too_short}
+use Rattle.ixdtf_times.proofs.fixed.find_date_time.Goals as goal
+
+pub returns-then-remaining-lt19-clause-there : goal.returns-then-remaining-lt19-clause-there
+returns-then-remaining-lt19-clause-there g c =
+    let letter = g.T.EncodingType.letter in
+    let units = c.args.cursor.now.rest in
+    sym (too_short (map letter units) (omega (arith, length-map units letter)))

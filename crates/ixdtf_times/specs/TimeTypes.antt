@@ -1,0 +1,45 @@
+-- What the code's own types of times stand for.
+use Rattle.std.specs.Prelude.{Option, Some, None}
+use Rattle.ixdtf_grammar.specs.declared.records.DateRecord.{DateRecord}
+use Rattle.ixdtf_times.specs.declared.time.Clock.{Clock as CodeClock}
+use Rattle.ixdtf_times.specs.declared.time.Clock.TheVariants as code_clocks
+use Rattle.ixdtf_times.specs.declared.time.TimeShape.{TimeShape as CodeTimeShape}
+use Rattle.ixdtf_times.specs.declared.time.TimeShape.TheVariants as code_shapes
+use Rattle.ixdtf_times.specs.declared.fixed.WholeTime.{WholeTime}
+use Rattle.ixdtf_grammar.specs.declared.records.TimeRecord.{TimeRecord}
+use Rattle.ixdtf_grammar.specs.language.Letters.{Text}
+use Rattle.ixdtf_grammar.specs.language.Times.{Clock, TimeShape}
+use Rattle.ixdtf_grammar.specs.language.Times.{Clock as clocks}
+use Rattle.ixdtf_grammar.specs.language.Times.{TimeShape as shapes}
+use Rattle.ixdtf_grammar.specs.language.Cores.{core_of}
+use Rattle.ixdtf_grammar.specs.table.Faults.{Fault}
+use Rattle.ixdtf_reading.specs.reading.Looks.{Read, error_of}
+use Rattle.ixdtf_reading.specs.reading.Times.{OpenTime, time_of}
+use Rattle.ixdtf_reading.specs.reading.Cores.{ClosedCore, core_end_at, after_time_at}
+use Rattle.ixdtf_grammar.specs.table.LineNames.{of_date}
+use Rattle.ixdtf_grammar.specs.table.LineNames.DateLine.{after_date}
+
+abbrev pub clock_of : CodeClock → Clock
+clock_of code_clocks.Time = clocks.Time
+clock_of code_clocks.Offset = clocks.Offset
+clock_of code_clocks.MinuteOffset = clocks.MinuteOffset
+
+abbrev pub shape_of : CodeTimeShape → TimeShape
+shape_of code_shapes.Hours = shapes.hours
+shape_of code_shapes.BasicMinutes = shapes.basic_minutes
+shape_of code_shapes.ColonMinutes = shapes.colon_minutes
+shape_of code_shapes.Seconds = shapes.seconds
+shape_of code_shapes.Fractions = shapes.fractions
+
+-- a time that ends with its second
+abbrev pub time_to_second : WholeTime → TimeRecord
+time_to_second time = time_of time.hour time.minute time.second None
+
+-- a time that was written, and how far
+abbrev pub open_time_of : TimeRecord → CodeTimeShape → OpenTime
+open_time_of time shape = (shape_of shape, time)
+
+-- what is read behind a date, with a time behind it or without
+abbrev pub after_date_time_at : Option DateRecord → TimeRecord → Option CodeTimeShape → Text → Read Fault ClosedCore
+after_date_time_at date time None text = core_end_at error_of (of_date after_date) (core_of date None None) text
+after_date_time_at date time (Some shape) text = after_time_at error_of date (open_time_of time shape) text

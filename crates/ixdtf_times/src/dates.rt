@@ -1,0 +1,345 @@
+//! Reading dates.
+
+#![tactic(auto, unfolding(ixdtf_reading::specs::reading::Dates::date_readings))]
+
+ghost use Rattle.std.specs.Prelude.{◌≡◌, ◌&&◌, ◌+◌, ◌*◌, ◌-◌, ◌<◌, ◌≤◌, map, nat_le, length, None, IsTrue, IfOk, IfSome, OnOk};
+ghost use Rattle.ixdtf_grammar.specs.language.Letters.{Text, digit, hyphen};
+ghost use Rattle.ixdtf_grammar.specs.language.Dates.{is_leap, month_length};
+ghost use Rattle.ixdtf_grammar.specs.table.Faults.Fault.{DateExtendedYear, DateMonth, InvalidMonthRange, InvalidDayRange};
+ghost use Rattle.ixdtf_reading.specs.reading.Clauses.{Reads, Spends, SpendsInAll, SpendsOr, Checks, Yields, fault_of_stop, hyphen_look};
+ghost use Rattle.ixdtf_reading.specs.reading.FixedPlaces.{ranged};
+ghost use Rattle.ixdtf_reading.specs.reading.Looks.{error_of, number_of, digits_by, digit_look, mark_by, mark_at};
+ghost use Rattle.ixdtf_reading.specs.reading.Dates.{date_of, year_at, four_digit_year_at, extended_year_at, date_at, month_by, day_at, line_after_month};
+
+use ixdtf_reading::cursor::Cursor;
+use ixdtf_grammar::encoding::EncodingType;
+use crate::fixed::take_fixed_date;
+use ixdtf_reading::grammar::{digits_value, is_ascii_sign, is_hyphen};
+use ixdtf_grammar::records::DateRecord;
+use ixdtf_reading::stop::Stop;
+
+/// Reads a date: at its ten places or its eight where these fit, and else part by part. Fewer units than eight are no date.
+#[inline(always)]
+pub fn parse_date<'a, T: EncodingType>(cursor: &mut Cursor<'a, T>) -> Result<DateRecord, Stop>
+    ensures date { Reads T.letter (λ date. date) cursor.old result cursor.new
+        (date_at error_of) }
+    ensures looks { Spends 16 cursor.old cursor.new }
+{
+    if cursor.remaining() < 8 {
+        return parse_short_date(cursor);
+    }
+    match take_fixed_date(cursor) {
+        Some(date) => check_ranges(date),
+        None => parse_other_date(cursor),
+    }
+}
+
+/// Finds the fault of fewer units than a date has: without a call where the first letter begins no year.
+#[inline(always)]
+#[tactic(auto, unfolding(ixdtf_reading::specs::reading::Dates::date_at, ixdtf_reading::specs::reading::Dates::year_at, ixdtf_reading::specs::reading::Looks::next_by))]
+fn parse_short_date<'a, T: EncodingType>(cursor: &mut Cursor<'a, T>) -> Result<DateRecord, Stop>
+    ensures date { Reads T.letter (λ date. date) cursor.old result cursor.new
+        (date_at error_of) }
+    ensures looks { Spends 7 cursor.old cursor.new }
+{
+    match cursor.look()? {
+        None => Err(Stop::AbruptDigit),
+        Some(byte) if byte.is_ascii_digit() || is_ascii_sign(byte) => parse_other_date(cursor),
+        Some(_) => Err(Stop::DateYear),
+    }
+}
+
+/// Reads a date part by part, by a cursor of its own.
+#[inline(always)]
+fn parse_other_date<'a, T: EncodingType>(cursor: &mut Cursor<'a, T>) -> Result<DateRecord, Stop>
+    ensures date { Reads T.letter (λ date. date) cursor.old result cursor.new
+        (date_at error_of) }
+    ensures looks { Spends 6 cursor.old cursor.new }
+{
+    let mut here = cursor.take();
+    let read = parse_any_date(&mut here);
+    *cursor = here;
+    read
+}
+
+/// Reads a date of any form. It is not inlined: most texts have their date at fixed places.
+#[inline(never)]
+fn parse_any_date<'a, T: EncodingType>(cursor: &mut Cursor<'a, T>) -> Result<DateRecord, Stop>
+    ensures date { Reads T.letter (λ date. date) cursor.old result cursor.new
+        (date_at error_of) }
+    ensures looks { Spends 6 cursor.old cursor.new }
+{
+    let year = parse_date_year(cursor)?;
+    let (month, hyphened) = parse_month(cursor, Stop::AbruptDate)?;
+    parse_day(cursor, year, month, hyphened)
+}
+
+/// The date, where its month is one and has the day.
+#[inline(always)]
+fn check_ranges(date: DateRecord) -> Result<DateRecord, Stop>
+    ensures { (rest : Text) → Yields (λ date. (date, rest)) result (ranged date rest) }
+{
+    check_month(date.month)?;
+    check_date(date.year, date.month, date.day)
+}
+
+// ==== Years ====
+
+/// Reads a year: four digits, or a sign and six digits.
+#[inline(always)]
+#[tactic(auto, using(ixdtf_reading::proofs::code::DigitClasses::digit_no_sign), unfolding(ixdtf_reading::specs::reading::Dates::year_at, ixdtf_reading::specs::reading::Looks::next_by))]
+pub fn parse_date_year<'a, T: EncodingType>(cursor: &mut Cursor<'a, T>) -> Result<i32, Stop>
+    ensures year { Reads T.letter (λ year. year) cursor.old result cursor.new
+        (year_at error_of) }
+    ensures looks { SpendsInAll 2 7 cursor.old cursor.new }
+{
+    match cursor.look()? {
+        None => Err(Stop::AbruptDigit),
+        Some(byte) if byte.is_ascii_digit() => {
+            cursor.step();
+            parse_four_digit_year(cursor, byte)
+        }
+        Some(byte) if is_ascii_sign(byte) => {
+            cursor.step();
+            parse_extended_year(cursor, byte)
+        }
+        Some(_) => Err(Stop::DateYear),
+    }
+}
+
+/// Reads the other three digits of a year of four.
+#[inline(always)]
+fn parse_four_digit_year<'a, T: EncodingType>(
+    cursor: &mut Cursor<'a, T>,
+    thousands: u8,
+) -> Result<i32, Stop>
+    requires digit { IsTrue (digit thousands) }
+    ensures year { Reads T.letter (λ year. year) cursor.old result cursor.new
+        (four_digit_year_at error_of thousands) }
+    ensures looks { SpendsInAll 1 3 cursor.old cursor.new }
+{
+    let ones = parse_three_digits(cursor, Stop::DateYear)?;
+    Ok((1000 * u32::from(thousands - b'0') + ones) as i32)
+}
+
+/// Reads the six digits of a year with a sign, by a cursor of its own.
+#[inline(always)]
+fn parse_extended_year<'a, T: EncodingType>(
+    cursor: &mut Cursor<'a, T>,
+    sign: u8,
+) -> Result<i32, Stop>
+    ensures year { Reads T.letter (λ year. year) cursor.old result cursor.new
+        (extended_year_at error_of sign) }
+    ensures looks { SpendsInAll 2 6 cursor.old cursor.new }
+{
+    let mut here = cursor.take();
+    let read = parse_signed_year(&mut here, sign);
+    *cursor = here;
+    read
+}
+
+/// Reads the six digits of a year with a sign.
+#[inline(always)]
+fn parse_signed_year<'a, T: EncodingType>(cursor: &mut Cursor<'a, T>, sign: u8) -> Result<i32, Stop>
+    ensures year { Reads T.letter (λ year. year) cursor.old result cursor.new
+        (extended_year_at error_of sign) }
+    ensures looks { SpendsInAll 2 6 cursor.old cursor.new }
+{
+    let value = parse_six_digits(cursor)?;
+    if !is_hyphen(sign) {
+        return Ok(value as i32);
+    }
+    if value == 0 {
+        return Err(Stop::DateExtendedYear);
+    }
+    Ok(-(value as i32))
+}
+
+/// Reads six digits, two by two, and returns their number.
+#[inline(always)]
+#[tactic(auto, using(crate::proofs::code::YearDigits::six_digits))]
+fn parse_six_digits<'a, T: EncodingType>(cursor: &mut Cursor<'a, T>) -> Result<u32, Stop>
+    ensures number { Reads T.letter (λ number. number) cursor.old result cursor.new
+        (λ text. number_of (digits_by (digit_look DateExtendedYear) 6 text)) }
+    ensures small { IfOk result (λ number. number < 1000000) }
+    ensures looks { SpendsInAll 2 6 cursor.old cursor.new }
+{
+    let high = parse_year_pair(cursor)?;
+    let middle = parse_year_pair(cursor)?;
+    let low = parse_year_pair(cursor)?;
+    Ok(10_000 * u32::from(high) + 100 * u32::from(middle) + u32::from(low))
+}
+
+/// Reads two of the six digits of a year, and returns their number.
+#[inline(always)]
+fn parse_year_pair<'a, T: EncodingType>(cursor: &mut Cursor<'a, T>) -> Result<u8, Stop>
+    ensures number { Reads T.letter (λ number. number) cursor.old result cursor.new
+        (λ text. number_of (digits_by (digit_look DateExtendedYear) 2 text)) }
+    ensures small { IfOk result (λ number. number < 100) }
+    ensures looks { SpendsOr 2 0 cursor.old result cursor.new }
+    ensures few { cursor.new.looks ≤ cursor.old.looks + 2 }
+{
+    let (tens, ones) = cursor.two_digits(Stop::DateExtendedYear)?;
+    Ok(digits_value(tens, ones))
+}
+
+/// Reads three digits, and returns their number. Another letter is this stop.
+#[inline(always)]
+#[tactic(auto, unfolding(ixdtf_reading::specs::reading::Looks::digits_by))]
+fn parse_three_digits<'a, T: EncodingType>(
+    cursor: &mut Cursor<'a, T>,
+    other: Stop,
+) -> Result<u32, Stop>
+    ensures number { Reads T.letter (λ number. number) cursor.old result cursor.new
+        (λ text. number_of (digits_by (digit_look (fault_of_stop other)) 3 text)) }
+    ensures small { IfOk result (λ number. number < 1000) }
+    ensures looks { Spends 1 cursor.old cursor.new }
+    ensures few { cursor.new.looks ≤ cursor.old.looks + 3 }
+    ensures paid { OnOk result (Spends 0 cursor.old cursor.new) }
+{
+    let hundreds = cursor.next_digit(other)?;
+    let tens = cursor.next_digit(other)?;
+    let ones = cursor.next_digit(other)?;
+    Ok(100 * u32::from(hundreds - b'0') + 10 * u32::from(tens - b'0') + u32::from(ones - b'0'))
+}
+
+// ==== Months and days ====
+
+/// Takes a hyphen off, and returns whether one stands there: a digit stays. The end is one stop, and another letter the
+/// other.
+#[inline(always)]
+pub fn take_hyphen<'a, T: EncodingType>(
+    cursor: &mut Cursor<'a, T>,
+    at_end: Stop,
+    other: Stop,
+) -> Result<bool, Stop>
+    ensures hyphen { Reads T.letter (λ stands. stands) cursor.old result cursor.new
+        (mark_by (hyphen_look (fault_of_stop at_end) (fault_of_stop other)) hyphen) }
+    ensures looks { SpendsInAll 1 1 cursor.old cursor.new }
+{
+    match cursor.look()? {
+        None => Err(at_end),
+        Some(byte) if byte.is_ascii_digit() => Ok(false),
+        Some(byte) if is_hyphen(byte) => {
+            cursor.step();
+            Ok(true)
+        }
+        Some(_) => Err(other),
+    }
+}
+
+/// Reads a month after a year, and returns whether a hyphen stands before it. The end of the text after the year is this
+/// stop.
+#[inline(always)]
+pub fn parse_month<'a, T: EncodingType>(
+    cursor: &mut Cursor<'a, T>,
+    at_end: Stop,
+) -> Result<(u8, bool), Stop>
+    ensures month { Reads T.letter (λ month. month) cursor.old result cursor.new
+        (month_by error_of (hyphen_look (fault_of_stop at_end) DateMonth)) }
+    ensures looks { SpendsOr 3 1 cursor.old result cursor.new }
+    ensures few { cursor.new.looks ≤ cursor.old.looks + 3 }
+{
+    let hyphened = take_hyphen(cursor, at_end, Stop::DateMonth)?;
+    let (tens, ones) = cursor.two_digits(Stop::DateMonth)?;
+    let month = check_month(digits_value(tens, ones))?;
+    Ok((month, hyphened))
+}
+
+/// Reads the day after a month, with a hyphen before it where one stands before the month.
+#[inline(always)]
+fn parse_day<'a, T: EncodingType>(
+    cursor: &mut Cursor<'a, T>,
+    year: i32,
+    month: u8,
+    hyphened: bool,
+) -> Result<DateRecord, Stop>
+    ensures date { Reads T.letter (λ date. date) cursor.old result cursor.new
+        (day_at error_of year (month, hyphened)) }
+    ensures looks { Spends 3 cursor.old cursor.new }
+{
+    take_separator(cursor, hyphened)?;
+    let (tens, ones) = cursor.two_digits(Stop::DateDay)?;
+    check_date(year, month, digits_value(tens, ones))
+}
+
+/// Takes the hyphen after a month off where one stands before the month, and else wants a digit, which stays.
+#[inline(always)]
+fn take_separator<'a, T: EncodingType>(
+    cursor: &mut Cursor<'a, T>,
+    hyphened: bool,
+) -> Result<(), Stop>
+    ensures separator { Reads T.letter (λ _. hyphened) cursor.old result cursor.new
+        (mark_at error_of (line_after_month hyphened) hyphen) }
+    ensures looks { Spends 1 cursor.old cursor.new }
+{
+    let next = cursor.look()?;
+    if hyphened {
+        return match next {
+            Some(byte) if is_hyphen(byte) => {
+                cursor.step();
+                Ok(())
+            }
+            _ => Err(Stop::DateSeparator),
+        };
+    }
+    match next {
+        None => Err(Stop::AbruptDigit),
+        Some(byte) if byte.is_ascii_digit() => Ok(()),
+        Some(byte) if is_hyphen(byte) => Err(Stop::DateSeparator),
+        Some(_) => Err(Stop::DateDay),
+    }
+}
+
+/// The month, where it is one.
+#[inline(always)]
+pub fn check_month(month: u8) -> Result<u8, Stop>
+    ensures { Checks (λ month. month) result month (nat_le 1 month && nat_le month 12)
+        InvalidMonthRange }
+{
+    if month < 1 || month > 12 {
+        return Err(Stop::InvalidMonthRange);
+    }
+    Ok(month)
+}
+
+/// The date, where its month has the day.
+#[inline(always)]
+fn check_date(year: i32, month: u8, day: u8) -> Result<DateRecord, Stop>
+    ensures { Checks (λ date. date) result (date_of year month day)
+        (nat_le 1 day && nat_le day (month_length year month)) InvalidDayRange }
+{
+    if !has_day(year, month, day) {
+        return Err(Stop::InvalidDayRange);
+    }
+    Ok(DateRecord { year, month, day })
+}
+
+/// Whether the month of the year has the day. Each month has the first 28.
+#[inline(always)]
+pub fn has_day(year: i32, month: u8, day: u8) -> bool
+    ensures { result ≡ (nat_le 1 day && nat_le day (month_length year month)) }
+{
+    day >= 1 && (day <= 28 || day <= days_in_month(year, month))
+}
+
+/// The length of a month in the Gregorian calendar.
+#[inline(always)]
+pub fn days_in_month(year: i32, month: u8) -> u8
+    ensures { result ≡ month_length year month }
+{
+    match month {
+        2 => { if is_leap_year(year) { 29 } else { 28 } }
+        4 | 6 | 9 | 11 => 30,
+        _ => 31,
+    }
+}
+
+/// Whether the year has 29 days in February.
+#[inline(always)]
+fn is_leap_year(year: i32) -> bool
+    ensures { result ≡ is_leap year }
+{
+    let distance = year.unsigned_abs();
+    (distance % 4 == 0 && distance % 100 != 0) || distance % 400 == 0
+}

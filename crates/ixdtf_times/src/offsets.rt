@@ -1,0 +1,181 @@
+//! Reading offsets from UTC.
+
+#![tactic(auto, unfolding(ixdtf_reading::specs::reading::Zones::zone_readings))]
+
+ghost use Rattle.std.specs.Prelude.{◌≡◌, ◌+◌, ◌≤◌, map, length, Option, Ok, Some, None, IfSome};
+ghost use Rattle.ixdtf_grammar.specs.declared.records.DateRecord.{DateRecord};
+ghost use Rattle.ixdtf_grammar.specs.declared.records.TimeRecord.{TimeRecord};
+ghost use Rattle.ixdtf_grammar.specs.declared.records.UtcOffsetRecord.TheVariants.{MinutePrecision};
+ghost use Rattle.ixdtf_grammar.specs.language.Cores.{core_of};
+ghost use Rattle.ixdtf_grammar.specs.language.ZoneNames.{Zone};
+ghost use Rattle.ixdtf_grammar.specs.language.Offsets.{sign_of, minutes_of, offset_of};
+ghost use Rattle.ixdtf_grammar.specs.language.Times.{writes_seconds};
+ghost use Rattle.ixdtf_reading.specs.reading.Clauses.{Reads, Spends};
+ghost use Rattle.ixdtf_times.specs.TimeTypes.{shape_of};
+ghost use Rattle.ixdtf_reading.specs.reading.Looks.{error_of};
+ghost use Rattle.ixdtf_reading.specs.reading.FixedPlaces.{offset_place};
+ghost use Rattle.ixdtf_reading.specs.reading.Cores.{offset_core_at};
+ghost use Rattle.ixdtf_reading.specs.reading.Zones.{offset_at, offset_alone_at, minute_offset_alone_at};
+
+use ixdtf_reading::cursor::Cursor;
+use ixdtf_grammar::encoding::EncodingType;
+use crate::fixed::fixed_number;
+use ixdtf_reading::grammar::{is_annotation_open, is_ascii_sign, is_hyphen};
+use crate::time::{Clock, TimeShape, parse_clock};
+use ixdtf_grammar::records::{
+    FullPrecisionOffset, MinutePrecisionOffset, Sign, TimeRecord, UtcOffsetRecord,
+    UtcOffsetRecordOrZ,
+};
+use ixdtf_reading::stop::Stop;
+
+/// The sign of a `+` or a `-`.
+#[inline(always)]
+pub fn sign_from(byte: u8) -> Sign
+    ensures { result ≡ sign_of byte }
+{
+    if is_hyphen(byte) {
+        Sign::Negative
+    } else {
+        Sign::Positive
+    }
+}
+
+/// The sign, hour and minute of an offset.
+#[inline(always)]
+pub fn minute_offset(sign: u8, time: TimeRecord) -> MinutePrecisionOffset
+    ensures { result ≡ minutes_of sign time }
+{
+    MinutePrecisionOffset {
+        sign: sign_from(sign),
+        hour: time.hour,
+        minute: time.minute,
+    }
+}
+
+/// The offset of a sign, and of the hour and the minute at the first five places behind it, or `None` at the first place
+/// that does not fit, and where a number is too great.
+#[inline(always)]
+#[tactic(auto, unfolding(ixdtf_reading::specs::reading::FixedPlaces::fixed_readings))]
+fn fixed_offset<'a, T: EncodingType>(
+    cursor: &mut Cursor<'a, T>,
+    sign: u8,
+) -> Option<MinutePrecisionOffset>
+    ensures there { result ≡ offset_place sign (map T.letter cursor.old.rest) }
+    ensures rest { cursor.new.rest ≡ cursor.old.rest }
+    ensures few { cursor.new.looks ≤ cursor.old.looks + 5 }
+    ensures counted { cursor.old.looks ≤ cursor.new.looks }
+{
+    let hour = fixed_number(cursor, 0)?;
+    cursor.fixed_letter(2, b':')?;
+    let minute = fixed_number(cursor, 3)?;
+    if hour > 23 || minute > 59 {
+        return None;
+    }
+    Some(MinutePrecisionOffset {
+        sign: sign_from(sign),
+        hour,
+        minute,
+    })
+}
+
+/// Takes off an offset that stands behind its sign at the first five places, where the text ends there or a `[` follows,
+/// and that `[`, writes the offset and returns whether the `[` follows. It is `None`, with the rest unchanged, where one of
+/// them does not fit.
+#[inline(always)]
+pub fn take_fixed_offset<'a, T: EncodingType>(
+    cursor: &mut Cursor<'a, T>,
+    sign: u8,
+    found: &mut Option<UtcOffsetRecordOrZ>,
+) -> Option<bool>
+    ensures read { IfSome result (λ more. (date : Option DateRecord) (time : TimeRecord) →
+        offset_core_at error_of date time sign (map T.letter cursor.old.rest) ≡
+        Ok ((core_of date (Some time) found.new, more), map T.letter cursor.new.rest)) }
+    ensures rest { result ≡ None → cursor.new.rest ≡ cursor.old.rest }
+    ensures shorter { length cursor.new.rest ≤ length cursor.old.rest }
+    ensures few { cursor.new.looks ≤ cursor.old.looks + 6 }
+    ensures counted { cursor.old.looks ≤ cursor.new.looks }
+{
+    if cursor.remaining() < 5 {
+        return None;
+    }
+    let offset = fixed_offset(cursor, sign)?;
+    if cursor.remaining() == 5 {
+        cursor.skip(5);
+        *found = Some(UtcOffsetRecordOrZ::Offset(UtcOffsetRecord::MinutePrecision(offset)));
+        return Some(false);
+    }
+    let next = cursor.byte_at(5);
+    if !is_annotation_open(next) {
+        return None;
+    }
+    cursor.skip(6);
+    *found = Some(UtcOffsetRecordOrZ::Offset(UtcOffsetRecord::MinutePrecision(offset)));
+    Some(true)
+}
+
+/// Takes off an offset that stands behind its sign at the last five places of a text. It is `None`, with the rest unchanged,
+/// where there are more or fewer, or one of them does not fit.
+#[inline(always)]
+pub fn take_last_offset<'a, T: EncodingType>(
+    cursor: &mut Cursor<'a, T>,
+    sign: u8,
+) -> Option<MinutePrecisionOffset>
+    ensures offset { IfSome result (λ offset. offset_alone_at error_of sign (map T.letter cursor.old.rest) ≡
+        Ok (MinutePrecision offset, map T.letter cursor.new.rest)) }
+    ensures zone { IfSome result (λ offset. minute_offset_alone_at error_of sign (map T.letter cursor.old.rest) ≡
+        Ok (Zone.Offset offset, map T.letter cursor.new.rest)) }
+    ensures rest { result ≡ None → cursor.new.rest ≡ cursor.old.rest }
+    ensures shorter { length cursor.new.rest ≤ length cursor.old.rest }
+    ensures few { cursor.new.looks ≤ cursor.old.looks + 5 }
+    ensures counted { cursor.old.looks ≤ cursor.new.looks }
+{
+    if cursor.remaining() != 5 {
+        return None;
+    }
+    let offset = fixed_offset(cursor, sign)?;
+    cursor.skip(5);
+    Some(offset)
+}
+
+/// The record of an offset: in full where it has seconds.
+#[inline(always)]
+pub fn offset_from(sign: u8, shape: TimeShape, time: TimeRecord) -> UtcOffsetRecord
+    ensures { result ≡ offset_of sign (writes_seconds (shape_of shape)) time }
+{
+    let second = time.second;
+    let fraction = time.fraction;
+    let minute_precision_offset = minute_offset(sign, time);
+    if !shape.writes_seconds() {
+        return UtcOffsetRecord::MinutePrecision(minute_precision_offset);
+    }
+    UtcOffsetRecord::FullPrecisionOffset(FullPrecisionOffset {
+        minute_precision_offset,
+        second,
+        fraction,
+    })
+}
+
+/// Reads an offset, and wants the end.
+#[inline(always)]
+pub fn parse_offset_text<'a, T: EncodingType>(
+    cursor: &mut Cursor<'a, T>,
+) -> Result<UtcOffsetRecord, Stop>
+    ensures offset { Reads T.letter (λ offset. offset) cursor.old result cursor.new
+        (offset_at error_of) }
+    ensures looks { Spends 15 cursor.old cursor.new }
+{
+    match cursor.look()? {
+        None => Err(Stop::AbruptOffset),
+        Some(byte) if is_ascii_sign(byte) => {
+            cursor.step();
+            if let Some(offset) = take_last_offset(cursor, byte) {
+                return Ok(UtcOffsetRecord::MinutePrecision(offset));
+            }
+            let mut time = TimeRecord::default();
+            let shape = parse_clock(cursor, Clock::Offset, &mut time)?;
+            cursor.close()?;
+            Ok(offset_from(byte, shape, time))
+        }
+        Some(_) => Err(Stop::OffsetNeedsSign),
+    }
+}

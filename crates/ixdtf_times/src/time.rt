@@ -1,0 +1,361 @@
+//! Reading times of day, and offsets after their sign, which are written as times are.
+
+#![tactic(auto, unfolding(ixdtf_reading::specs::reading::Times::time_readings))]
+
+ghost use Rattle.std.specs.Prelude.{◌≡◌, ◌+◌, ◌≤◌, ◌∷◌, [], map, nat_le, length, false, true, None, IsTrue, IfSome, OnOk};
+ghost use Rattle.ixdtf_grammar.specs.language.Letters.{Text, digit};
+ghost use Rattle.ixdtf_grammar.specs.language.Letters.Letter.{Plain};
+ghost use Rattle.ixdtf_grammar.specs.language.Fractions.{fraction_of};
+ghost use Rattle.ixdtf_grammar.specs.language.Times.{Clock as clocks, greatest_second, writes_seconds};
+ghost use Rattle.ixdtf_grammar.specs.table.Lines.{mixed, second_fault, seconds_after};
+ghost use Rattle.ixdtf_reading.specs.reading.Clauses.{Reads, Spends, SpendsOr, Checks, more_digits_at, fault_of_stop};
+ghost use Rattle.ixdtf_times.specs.TimeTypes.{clock_of, shape_of, open_time_of};
+ghost use Rattle.ixdtf_reading.specs.reading.Looks.{error_of, digit_look, number_by};
+ghost use Rattle.ixdtf_reading.specs.reading.Times.{time_of, second_start, clock_at, minute_at, second_at, after_second_at, fraction_at};
+
+use ixdtf_reading::cursor::Cursor;
+use ixdtf_grammar::encoding::EncodingType;
+use ixdtf_reading::grammar::{digits_value, is_decimal_separator, is_time_separator};
+use ixdtf_grammar::records::{Fraction, TimeRecord};
+use ixdtf_reading::stop::Stop;
+
+/// What is written as a time is.
+#[derive(Clone, Copy)]
+pub enum Clock {
+    /// A time of day.
+    Time,
+    /// An offset from UTC, after its sign.
+    Offset,
+    /// An offset without seconds, after its sign.
+    MinuteOffset,
+}
+
+impl Clock {
+    /// Whether a second starts at the byte after a minute: at a colon where colons are written, and else at a digit.
+    #[inline(always)]
+    fn starts_second(self, colons: bool, byte: u8) -> bool
+        ensures { result ≡ seconds_after (clock_of self) (second_start colons) byte }
+    {
+        match self {
+            Clock::Time | Clock::Offset if colons => is_time_separator(byte),
+            Clock::Time | Clock::Offset => byte.is_ascii_digit(),
+            Clock::MinuteOffset => false,
+        }
+    }
+
+    /// Why reading stops at a colon or a digit after a minute that no second may follow so.
+    #[inline(always)]
+    fn mixed(self) -> Stop
+        ensures { fault_of_stop result ≡ mixed (clock_of self) }
+    {
+        match self {
+            Clock::Time => Stop::TimeSeparator,
+            Clock::Offset => Stop::UtcTimeSeparator,
+            Clock::MinuteOffset => Stop::InvalidMinutePrecisionOffset,
+        }
+    }
+}
+
+/// How far a time was written.
+#[derive(Clone, Copy)]
+pub enum TimeShape {
+    /// An hour alone.
+    Hours,
+    /// An hour and a minute right after it.
+    BasicMinutes,
+    /// An hour, a colon and a minute.
+    ColonMinutes,
+    /// A second too.
+    Seconds,
+    /// A fraction of a second too.
+    Fractions,
+}
+
+impl TimeShape {
+    /// Whether a second stands in it.
+    #[inline(always)]
+    pub fn writes_seconds(self) -> bool
+        ensures { result ≡ writes_seconds (shape_of self) }
+    {
+        match self {
+            TimeShape::Seconds | TimeShape::Fractions => true,
+            TimeShape::Hours | TimeShape::BasicMinutes | TimeShape::ColonMinutes => false,
+        }
+    }
+}
+
+/// Writes a time of these parts, as far as the shape.
+#[inline(always)]
+fn write_time(time: &mut TimeRecord, hour: u8, minute: u8, second: u8, fraction: Option<Fraction>)
+    ensures { time.new ≡ time_of hour minute second fraction }
+{
+    *time = TimeRecord {
+        hour,
+        minute,
+        second,
+        fraction,
+    };
+}
+
+/// The number, where it is at most the greatest of its place, else the stop.
+#[inline(always)]
+fn check_most(number: u8, greatest: u8, stop: Stop) -> Result<u8, Stop>
+    ensures { Checks (λ number. number) result number
+        (nat_le number greatest) (fault_of_stop stop) }
+{
+    if number > greatest {
+        return Err(stop);
+    }
+    Ok(number)
+}
+
+/// Takes two digits off and returns their number, which is at most the greatest of its place. The end is `AbruptDigit`, and
+/// another letter or a greater number this stop.
+#[inline(always)]
+#[tactic(auto, unfolding(ixdtf_reading::specs::reading::Looks::number_by, ixdtf_reading::specs::reading::Looks::in_range))]
+fn next_number<'a, T: EncodingType>(
+    cursor: &mut Cursor<'a, T>,
+    greatest: u8,
+    stop: Stop,
+) -> Result<u8, Stop>
+    ensures number { Reads T.letter (λ number. number) cursor.old result cursor.new
+        (number_by (digit_look (fault_of_stop stop)) greatest (fault_of_stop stop)) }
+    ensures looks { SpendsOr 2 0 cursor.old result cursor.new }
+{
+    let (tens, ones) = cursor.two_digits(stop)?;
+    check_most(digits_value(tens, ones), greatest, stop)
+}
+
+/// Reads a time, as far as it goes.
+#[inline(always)]
+pub fn parse_clock<'a, T: EncodingType>(
+    cursor: &mut Cursor<'a, T>,
+    clock: Clock,
+    time: &mut TimeRecord,
+) -> Result<TimeShape, Stop>
+    ensures time { Reads T.letter (open_time_of time.new) cursor.old result cursor.new
+        (clock_at error_of (clock_of clock)) }
+    ensures looks { Spends 5 cursor.old cursor.new }
+{
+    let tens = cursor.next_digit(Stop::TimeHour)?;
+    let ones = cursor.next_digit(Stop::TimeHour)?;
+    let hour = check_most(digits_value(tens, ones), 23, Stop::TimeHour)?;
+    match cursor.look()? {
+        Some(byte) if is_time_separator(byte) => {
+            cursor.step();
+            parse_minute(cursor, clock, true, hour, time)
+        }
+        Some(byte) if byte.is_ascii_digit() => parse_basic_minute(cursor, clock, hour, time),
+        _ => {
+            write_time(time, hour, 0, 0, None);
+            Ok(TimeShape::Hours)
+        }
+    }
+}
+
+/// Reads the minute right after an hour, and what of the time stands after it, by a cursor of its own.
+#[inline(always)]
+fn parse_basic_minute<'a, T: EncodingType>(
+    cursor: &mut Cursor<'a, T>,
+    clock: Clock,
+    hour: u8,
+    time: &mut TimeRecord,
+) -> Result<TimeShape, Stop>
+    ensures time { Reads T.letter (open_time_of time.new) cursor.old result cursor.new
+        (minute_at error_of (clock_of clock) false hour) }
+    ensures looks { Spends 4 cursor.old cursor.new }
+{
+    let mut here = cursor.take();
+    let mut there = *time;
+    let read = parse_basic_rest(&mut here, clock, hour, &mut there);
+    *cursor = here;
+    *time = there;
+    read
+}
+
+/// Reads the minute right after an hour, and what of the time stands after it. It is not inlined: few texts have no colons.
+#[inline(never)]
+fn parse_basic_rest<'a, T: EncodingType>(
+    cursor: &mut Cursor<'a, T>,
+    clock: Clock,
+    hour: u8,
+    time: &mut TimeRecord,
+) -> Result<TimeShape, Stop>
+    ensures time { Reads T.letter (open_time_of time.new) cursor.old result cursor.new
+        (minute_at error_of (clock_of clock) false hour) }
+    ensures looks { Spends 4 cursor.old cursor.new }
+{
+    parse_minute(cursor, clock, false, hour, time)
+}
+
+/// Reads the minute, where its colon is taken off if colons are written, and what of the time stands after it. A colon and
+/// a digit go on there as they did before the minute, where seconds may be, and are errors else.
+#[inline(always)]
+fn parse_minute<'a, T: EncodingType>(
+    cursor: &mut Cursor<'a, T>,
+    clock: Clock,
+    colons: bool,
+    hour: u8,
+    time: &mut TimeRecord,
+) -> Result<TimeShape, Stop>
+    ensures time { Reads T.letter (open_time_of time.new) cursor.old result cursor.new
+        (minute_at error_of (clock_of clock) colons hour) }
+    ensures looks { Spends 4 cursor.old cursor.new }
+{
+    let minute = next_number(cursor, 59, Stop::TimeMinuteSecond)?;
+    match cursor.look()? {
+        Some(byte) if clock.starts_second(colons, byte) => {
+            if colons {
+                cursor.step();
+            }
+            parse_second(cursor, clock, hour, minute, time)
+        }
+        Some(byte) if is_time_separator(byte) || byte.is_ascii_digit() => Err(clock.mixed()),
+        _ => {
+            write_time(time, hour, minute, 0, None);
+            Ok(if colons {
+                TimeShape::ColonMinutes
+            } else {
+                TimeShape::BasicMinutes
+            })
+        }
+    }
+}
+
+/// Takes the two digits of a second off and returns their number.
+#[inline(always)]
+fn next_second<'a, T: EncodingType>(cursor: &mut Cursor<'a, T>, clock: Clock) -> Result<u8, Stop>
+    ensures second { Reads T.letter (λ number. number) cursor.old result cursor.new
+        (number_by (digit_look (second_fault (clock_of clock)))
+        (greatest_second (clock_of clock)) (second_fault (clock_of clock))) }
+    ensures looks { SpendsOr 2 0 cursor.old result cursor.new }
+{
+    match clock {
+        Clock::Time => next_number(cursor, 60, Stop::TimeSecond),
+        Clock::Offset | Clock::MinuteOffset => next_number(cursor, 59, Stop::TimeMinuteSecond),
+    }
+}
+
+/// Reads the second, and a fraction where there is one.
+#[inline(always)]
+fn parse_second<'a, T: EncodingType>(
+    cursor: &mut Cursor<'a, T>,
+    clock: Clock,
+    hour: u8,
+    minute: u8,
+    time: &mut TimeRecord,
+) -> Result<TimeShape, Stop>
+    ensures time { Reads T.letter (open_time_of time.new) cursor.old result cursor.new
+        (second_at error_of (clock_of clock) hour minute) }
+    ensures looks { Spends 3 cursor.old cursor.new }
+{
+    let second = next_second(cursor, clock)?;
+    parse_after_second(cursor, hour, minute, second, time)
+}
+
+/// Reads a fraction after a second, where there is one. It is read alike for each clock, as its digits are.
+#[inline(always)]
+pub fn parse_after_second<'a, T: EncodingType>(
+    cursor: &mut Cursor<'a, T>,
+    hour: u8,
+    minute: u8,
+    second: u8,
+    time: &mut TimeRecord,
+) -> Result<TimeShape, Stop>
+    ensures time { Reads T.letter (open_time_of time.new) cursor.old result cursor.new
+        (after_second_at error_of clocks.Time hour minute second) }
+    ensures looks { Spends 3 cursor.old cursor.new }
+{
+    match cursor.look()? {
+        Some(byte) if is_decimal_separator(byte) => {
+            cursor.step();
+            let fraction = parse_fraction(cursor)?;
+            write_time(time, hour, minute, second, Some(fraction));
+            Ok(TimeShape::Fractions)
+        }
+        _ => {
+            write_time(time, hour, minute, second, None);
+            Ok(TimeShape::Seconds)
+        }
+    }
+}
+
+/// Reads the digits of a fraction after its decimal mark: `FractionPart` where there is none.
+#[inline(always)]
+pub fn parse_fraction<'a, T: EncodingType>(cursor: &mut Cursor<'a, T>) -> Result<Fraction, Stop>
+    ensures fraction { Reads T.letter (λ fraction. fraction) cursor.old result cursor.new
+        (fraction_at error_of clocks.Time) }
+    ensures looks { Spends 2 cursor.old cursor.new }
+{
+    let mut here = cursor.take();
+    let read = parse_digits(&mut here);
+    *cursor = here;
+    read
+}
+
+/// Reads the digits of a fraction. It is not inlined: few texts have one.
+#[inline(never)]
+fn parse_digits<'a, T: EncodingType>(cursor: &mut Cursor<'a, T>) -> Result<Fraction, Stop>
+    ensures fraction { Reads T.letter (λ fraction. fraction) cursor.old result cursor.new
+        (fraction_at error_of clocks.Time) }
+    ensures looks { Spends 2 cursor.old cursor.new }
+{
+    let mut here = cursor.take();
+    let read = match here.look() {
+        Ok(Some(byte)) if byte.is_ascii_digit() => {
+            here.step();
+            parse_more_digits(&mut here, byte)
+        }
+        Ok(_) => Err(Stop::FractionPart),
+        Err(stop) => Err(stop),
+    };
+    *cursor = here;
+    read
+}
+
+/// Reads the other digits of a fraction: of the first 18 it makes the number, and those behind them it only counts.
+#[inline(always)]
+fn parse_more_digits<'a, T: EncodingType>(
+    cursor: &mut Cursor<'a, T>,
+    first: u8,
+) -> Result<Fraction, Stop>
+    requires digit { IsTrue (digit first) }
+    ensures fraction { Reads T.letter (λ fraction. fraction) cursor.old result cursor.new
+        (more_digits_at (Plain first ∷ [])) }
+    ensures looks { Spends 1 cursor.old cursor.new }
+{
+    let mut fraction = Fraction::start(first);
+    while fraction.is_short() {
+        match cursor.look()? {
+            Some(byte) if byte.is_ascii_digit() => {
+                cursor.step();
+                fraction = fraction.with_digit(byte);
+            }
+            _ => return Ok(fraction),
+        }
+    }
+    count_more_digits(cursor, fraction)
+}
+
+/// Counts the digits behind the first 18 of a fraction.
+#[inline(always)]
+fn count_more_digits<'a, T: EncodingType>(
+    cursor: &mut Cursor<'a, T>,
+    leading: Fraction,
+) -> Result<Fraction, Stop>
+    requires long { 18 ≤ leading.count }
+    ensures fraction { (front : Text) → leading ≡ fraction_of front →
+        Reads T.letter (λ fraction. fraction) cursor.old result cursor.new
+        (more_digits_at front) }
+    ensures looks { Spends 1 cursor.old cursor.new }
+{
+    let mut fraction = leading;
+    while let Some(byte) = cursor.look()? {
+        if !byte.is_ascii_digit() {
+            break;
+        }
+        cursor.step();
+        fraction = fraction.with_more();
+    }
+    Ok(fraction)
+}
