@@ -12,8 +12,14 @@ TOP = os.path.abspath(os.path.join(os.path.dirname(os.path.abspath(__file__)), '
 PAIRS = [('crates/ixdtf/src', 'rust/ixdtf/src'), ('crates/ixdtf_tests/src', 'rust/ixdtf/src'),
          ('crates/ixdtf_callers/src', 'rust/ixdtf/src'),
          ('crates/ixdtf_print/src', 'rust/ixdtf_print/src'), ('crates/ixdtf_lines/src', 'rust/ixdtf_lines/src')]
+# the layers of the library, whose modules stand at the root of the made crate, or else in `parsers`
+LAYERS = ['grammar', 'reading', 'times', 'brackets', 'durations']
+AT_THE_ROOT = {'encoding', 'error', 'packed', 'records', 'cursor', 'looks', 'stop'}
+PAIRS += [(f'crates/ixdtf_{layer}/src', 'rust/ixdtf/src') for layer in LAYERS]
 
 
+# crates whose root file is made
+WITH_ROOTS = {'crates/ixdtf/src', 'crates/ixdtf_print/src', 'crates/ixdtf_lines/src'}
 # files of the made crates that are written by hand, by their modules
 BY_HAND = {'main', 'tests/printing'}
 
@@ -105,6 +111,7 @@ CHANGED = [(phrase(a), phrase(b)) for a, b in [
     ('use std::alloc::{AllocError, Global};', 'use crate::runtime::{AllocError, Global, String};'),
     ('use std::alloc::Global;', 'use crate::runtime::Global;')]]
 ADDED = [phrase(t) for t in [
+    'pub type ParserResult<T> = Result<T, ParseError>;',
     '#[non_exhaustive]', '#[repr(i8)]', '#![no_std]', '#![cfg_attr(not(test), no_std)]', '#![forbid(unsafe_code)]', '#[cfg(not(test))] extern crate core as std;',
     'extern crate core as std;', '#[cfg(test)] extern crate self as ixdtf;', '#[cfg(test)] #[macro_use] mod runtime; #[cfg(test)] mod callers; #[cfg(test)] mod tests;',
     '#[cfg(doctest)] #[doc = include_str!("../README.md")] struct Readme;',
@@ -142,9 +149,35 @@ def as_rust(words, kept):
     return out
 
 
-def difference(source, made, kept=()):
-    """The first place where what was made has other tokens than the source, but for those that may be added. Phrases that are kept here are else removed."""
-    wanted, found = as_rust(tokens_of(source), kept), tokens_of(made)
+def without_layers(words):
+    """The tokens without what the layers change: their names in paths, the folder `parsers`, and how a hidden function is shown."""
+    text = ' ' + ' '.join(words) + ' '
+    for layer in LAYERS:
+        text = text.replace(f' ixdtf_{layer} : : ', ' crate : : ')
+    text = text.replace(' self : : ', ' crate : : ').replace(' crate : : parsers : : ', ' crate : : ')
+    return text.replace(' # [ doc ( hidden ) ] pub fn ', ' pub fn ').replace(' pub ( crate ) fn ', ' pub fn ').split()
+
+
+def without_heads(words):
+    """The tokens without the modules and the imports that have no attribute: they differ in the two files that declare the modules of the layers."""
+    out, at = [], 0
+    while at < len(words):
+        if words[at] in ('mod', 'use') and ']' not in (words[at - 1], words[at - 1 - (words[at - 1] == 'pub')]):
+            at = words.index(';', at) + 1
+            if out[-1:] == ['pub']:
+                out.pop()
+        else:
+            out.append(words[at])
+            at += 1
+    return out
+
+
+def difference(source, made, kept=(), heads=False):
+    """The first place where what was made has other tokens than the source, but for those that may be added. Phrases that are kept here are else removed,
+    and modules and imports are left out with `heads`."""
+    wanted, found = (without_layers(words) for words in (as_rust(tokens_of(source), kept), tokens_of(made)))
+    if heads:
+        wanted, found = without_heads(wanted), without_heads(found)
     i = j = 0
     while j < len(found):
         if i < len(wanted) and wanted[i] == found[j]:
@@ -197,7 +230,6 @@ class Copied(unittest.TestCase):
             file.write(text.replace(old, new))
 
 
-STEP = '    pub fn step(&mut self)\n'
 BAD_BODIES = [
     'unsafe { self.rest }', 'self.rest.iter().rev().count();', 'std::process::exit(1);', 'println!("x");', 'self.rest.take();', 'panic!("x");',
     'let all = self.rest; all.skip(1);', 'self.looks.count();', 'Other::take(self);', 'async { 1 };', 'r"raw";', 'static mut X: u8 = 1;', 'size_of::<u8>();',
@@ -207,7 +239,7 @@ BAD_BODIES = [
 
 class Refuses(Copied):
     def body(self, body):
-        path = os.path.join(self.top, 'crates/ixdtf/src/cursor.rt')
+        path = os.path.join(self.top, 'crates/ixdtf_reading/src/cursor.rt')
         with open(path, encoding='utf-8') as file:
             text = file.read()
         with open(path, 'w', encoding='utf-8') as file:
@@ -221,11 +253,11 @@ class Refuses(Copied):
         for body in BAD_BODIES[:13] + BAD_BODIES[14:17]:
             answer = self.body(body)
             self.assertNotEqual(answer.returncode, 0, body)
-            self.assertIn('crates/ixdtf/src/cursor.rt', answer.stderr, body)
+            self.assertIn('crates/ixdtf_reading/src/cursor.rt', answer.stderr, body)
 
     def test_attributes_and_macros(self):
         for old, new in [('#[inline(always)]\n    pub fn step', '#[no_mangle]\n    pub fn step'), ('ghost use', 'ghost user')]:
-            path = os.path.join(self.top, 'crates/ixdtf/src/cursor.rt')
+            path = os.path.join(self.top, 'crates/ixdtf_reading/src/cursor.rt')
             with open(path, encoding='utf-8') as file:
                 text = file.read()
             with open(path, 'w', encoding='utf-8') as file:
@@ -247,7 +279,7 @@ class Checks(Copied):
         self.assertEqual((answer.returncode, answer.stdout), (1, 'rust/ixdtf/src/parsers/dates.rs is not what tools/to_rust.py makes\n'))
 
     def test_a_source_was_changed(self):
-        self.change('crates/ixdtf/src/parsers/dates.rt', '_ => 31,', '_ => 30,')
+        self.change('crates/ixdtf_times/src/dates.rt', '_ => 31,', '_ => 30,')
         self.assertEqual(run(self.top, '--check').returncode, 1)
 
     def test_a_file_was_added(self):
@@ -262,21 +294,23 @@ class Checks(Copied):
 
 class SameTokens(unittest.TestCase):
     def test_every_file(self):
-        compared = 0
+        compared, layers = 0, {f'crates/ixdtf_{layer}/src' for layer in LAYERS}
         for source, target in PAIRS:
             kept = [phrase('mod laws;')] if source == 'crates/ixdtf_print/src' else []
             for folder, _, names in os.walk(os.path.join(TOP, source)):
                 for name in names:
                     path = os.path.relpath(os.path.join(folder, name), os.path.join(TOP, source))[:-3]
-                    made = os.path.join(TOP, target, path + '.rs')
-                    if path == 'lib' and source in ('crates/ixdtf_tests/src', 'crates/ixdtf_callers/src') or path in BY_HAND or not os.path.exists(made):
+                    place = path if source not in layers or path in AT_THE_ROOT else f'parsers/{path}'
+                    made = os.path.join(TOP, target, place + '.rs')
+                    if path == 'lib' and source not in WITH_ROOTS or path in BY_HAND or not os.path.exists(made):
                         continue
                     with open(os.path.join(folder, name), encoding='utf-8') as file:
                         text = file.read()
                     with open(made, encoding='utf-8') as file:
-                        self.assertEqual(difference(text, file.read(), kept), '', f'{source}/{path}.rt')
+                        heads = source == 'crates/ixdtf/src' and path in ('lib', 'parsers')
+                        self.assertEqual(difference(text, file.read(), kept, heads), '', f'{source}/{path}.rt')
                     compared += 1
-        self.assertGreater(compared, 50)
+        self.assertGreater(compared, 60)
 
     def test_a_difference_is_seen(self):
         self.assertNotEqual(difference('fn one() -> u8 { 1 }', 'fn one() -> u8 { 2 }'), '')

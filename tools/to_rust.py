@@ -9,6 +9,10 @@ The tokens of the sources are kept in their order. What is removed:
   attributes     `#[tactic(..)]`, `#[rattlefmt::skip]`, and `Drop` in a `#[derive(..)]`
   modules        those that a crate of CRATES omits, which have no code that another module calls
 
+The library stands in layers, crates of their own (LAYERS), which are one crate here: a module of a layer stands where LAYERS has it,
+a path through a layer goes through `crate`, the root of a layer gives way to what the root of the library re-exports of it, and
+what is public for the layers above alone, `#[doc(hidden)] pub fn`, is `pub(crate) fn`.
+
 What is put in the place of something else, and there is nothing more of it:
 
   1 fmt          `fn fmt<W: fmt::Write>(&self, f: &mut fmt::Formatter<W>)` is `fn fmt(&self, f: &mut fmt::Formatter<'_>)`
@@ -45,13 +49,32 @@ PRINTER = ('#![no_std]\n#![forbid(unsafe_code)]\n\nextern crate core as std;\n',
 PROGRAM = ('#![forbid(unsafe_code)]\n', '')
 
 
+# the layers of the library, and where their modules stand in the crate that is made of all of them
+LAYERS = {
+    'ixdtf_grammar': 'encoding error packed records parsers/profile'.split(),
+    'ixdtf_reading': 'cursor looks stop parsers/annotations parsers/grammar parsers/letters'.split(),
+    'ixdtf_times': 'parsers/dates parsers/fixed parsers/months parsers/offsets parsers/time'.split(),
+    'ixdtf_brackets': 'parsers/brackets parsers/timezone'.split(),
+    'ixdtf_durations': 'parsers/duration'.split(),
+}
+PLACES = {(layer, place.rpartition('/')[2]): place for layer, places in LAYERS.items() for place in places}
+
+
 class Crate:
     """A crate that is made: its sources, its folder, the modules that are left out, the file that is its root, and the head
-    and the end of that file. `tests` are made by the rules of tests; a crate `above` stands on the library."""
+    and the end of that file. `tests` are made by the rules of tests; a crate `above` stands on the library; a `layer` is a part of it."""
 
-    def __init__(self, source, target, omitted=(), root='lib', ends=('', ''), tests=False, above=False):
+    def __init__(self, source, target, omitted=(), root='lib', ends=('', ''), tests=False, above=False, layer=None):
         self.source, self.target, self.omitted, self.root, self.ends = source, target, set(omitted), root, ends
-        self.tests, self.above = tests, above
+        self.tests, self.above, self.layer = tests, above, layer
+
+    def place(self, module):
+        """Where a module of the crate stands in the crate that is made."""
+        if not self.layer:
+            return module
+        if (self.layer, module) not in PLACES:
+            raise SystemExit(f'to_rust.py: {self.source}/{module}.rt: LAYERS has no place for it')
+        return PLACES[self.layer, module]
 
     def left_out(self, module):
         """The modules that a file of this name declares and that are left out."""
@@ -62,6 +85,7 @@ class Crate:
 
 CRATES = [
     Crate('crates/ixdtf/src', 'rust/ixdtf/src', ['laws'], ends=LIBRARY),
+    *(Crate(f'crates/{layer}/src', 'rust/ixdtf/src', ['lib'], layer=layer) for layer in LAYERS),
     Crate('crates/ixdtf_callers/src', 'rust/ixdtf/src', ['lib'], root='callers', tests=True),
     Crate('crates/ixdtf_tests/src', 'rust/ixdtf/src', ['lib', 'tests/laws', 'tests/printing'], root='tests', tests=True),
     Crate('crates/ixdtf_print/src', 'rust/ixdtf_print/src', ends=PRINTER, above=True),
@@ -97,6 +121,9 @@ STD_METHODS = set('get len is_ascii_digit is_ascii_alphabetic is_ascii_lowercase
                   ' is_none to_le_bytes saturating_add saturating_sub min map copied checked_mul checked_add unsigned_abs'
                   ' is_ascii_alphanumeric as_slice iter position is_empty copy_from_slice read write flush digit_count leading_value'.split())
 OWN_PATHS = {'self', 'crate', 'Self', 'T', 'C', 'E', 'L'}
+HIDDEN = '# [ doc ( hidden ) ] pub fn'.split()
+# hidden, and called by crates above the library too
+CALLED_FROM_ABOVE = {'of_parts'}
 STD_CALLS = {'u64::from', 'u64::from_le_bytes', 'u32::from', 'u16::from', 'usize::from', 'u128::from', 'i32::from', 'u32::try_from', 'fmt::Debug::fmt'}
 # the names of the methods of `core`, as its documents of Rust 1.95 have them (`id="method.NAME"` and `id="tymethod.NAME"`)
 with open(os.path.join(os.path.dirname(os.path.abspath(__file__)), 'core_methods.txt'), encoding='ascii') as names:
@@ -250,8 +277,12 @@ def rewrite(tokens, module, crate):
             at += 1
             continue
         places = solid(tokens, at)
-        if token.kind == 'mark' and token.text == '#':
+        if crate.layer and is_here(tokens, places, 0, HIDDEN) and tokens[places[9]].text not in CALLED_FROM_ABOVE:
+            put(tokens, at, places[7], 'pub(crate)')
+        elif token.kind == 'mark' and token.text == '#':
             attribute(tokens, at, crate)
+        elif token.kind == 'word' and (token.text in LAYERS or token.text == 'crate' and crate.layer) and tokens[at + 1].text == '::':
+            through_layer(tokens, at, module, crate)
         elif token.kind == 'word' and token.text == 'impl':
             head = []
             for i in places:
@@ -295,6 +326,37 @@ def rewrite(tokens, module, crate):
                 tokens.insert(at - 2, Token('put', added + '\n', token.at))
                 at += 1
         at += 1
+
+
+def through_layer(tokens, at, module, crate):
+    """Has a path that begins with a layer, or in a layer with `crate`, go to the place of its module."""
+    layer = crate.layer if tokens[at].text == 'crate' else tokens[at].text
+    folder = PLACES.get((layer, tokens[at + 2].text), '').rpartition('/')[0]
+    start = 'self' if folder and folder == module else f'crate::{folder}' if folder else 'crate'
+    tokens[at] = Token('put', start, tokens[at].at)
+
+
+def of_layers(module, plain, roots):
+    """A file of the library with the modules of the layers, where it is the one that declares them, and with what it re-exports of
+    their roots."""
+    names = {place.rpartition('/')[2] for places in LAYERS.values() for place in places if place.rpartition('/')[0] == ('' if module == 'lib' else module)}
+    shown = [name for line in re.findall(r'pub use crate::(?:\{([A-Za-z, _]+)\}|([a-z_]+));\n', plain) for name in ''.join(line).split(', ')]
+    lines = [line for line in plain.splitlines(True)]
+    block = [line for line in lines if re.match(r'(pub )?mod [a-z_]+;', line)]
+    first = lines.index(block[0])
+    block += [f'{"pub " if name in shown else ""}mod {name};\n' for name in names]
+    lines = [line for line in lines if line not in block]
+    lines[first:first] = sorted(block, key=lambda line: line.split()[-1])
+    items = ''.join(of_root(name, roots) for name in shown if name not in names)
+    return re.sub(r'(?:pub use crate::(?:\{[A-Za-z, _]+\}|[a-z_]+);\n)+', lambda m: items, ''.join(lines))
+
+
+def of_root(name, roots):
+    """The item that the root of a layer has under this name."""
+    found = [m[0] for text in roots for m in re.finditer(rf'pub use [a-z_]+::{name};\n|\n(?:///[^\n]*\n)*pub type {name}[^\n]*\n', text)]
+    if len(found) != 1:
+        raise Refused(f'{len(found)} items of the layers that are {name}')
+    return found[0]
 
 
 TEST_HEAD = '( rt : HostRuntime )'.split()
@@ -608,7 +670,15 @@ def written(crate, module, text):
     """What a source is in Rust."""
     tokens = scan(text)
     rewrite(tokens, module, crate)
-    return lay_out(tokens)
+    plain = lay_out(tokens)
+    if crate.source == 'crates/ixdtf/src' and module in ('lib', 'parsers'):
+        return of_layers(module, plain, [source_of(layer, 'lib') for layer in LAYERS])
+    return plain
+
+
+def source_of(crate, module):
+    with open(os.path.join(TOP, 'crates', crate, 'src', f'{module}.rt'), encoding='utf-8') as file:
+        return file.read()
 
 
 def headed(crate, module, plain):
@@ -631,7 +701,7 @@ def made():
             continue
         for module, text in sorted(sources(crate).items()):
             try:
-                out[crate, module] = written(crate, module, text)
+                out[crate, module] = written(crate, crate.place(module), text)
             except Refused as why:
                 raise SystemExit(f'to_rust.py: {crate.source}/{module}.rt: {why}')
             if not crate.tests:
@@ -648,7 +718,8 @@ def made():
             raise SystemExit(f'to_rust.py: {crate.source}/{module}.rt: {why}')
     if added != len(ADDED):
         raise SystemExit(f'to_rust.py: {added} of {len(ADDED)} types of ADDED were found')
-    return {f'{crate.target}/{module}.rs': MADE.format(f'{crate.source}/{module}.rt') + headed(crate, module, plain) for (crate, module), plain in out.items()}
+    return {f'{crate.target}/{crate.place(module)}.rs': MADE.format(f'{crate.source}/{module}.rt') + headed(crate, module, plain)
+            for (crate, module), plain in out.items()}
 
 
 def main():

@@ -1,4 +1,4 @@
--- code.
+-- What the functions of the code use.
 pub mod Chains
 pub mod EqualRecords
 pub mod EqualUnits

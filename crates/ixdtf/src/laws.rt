@@ -17,15 +17,15 @@ ghost use Rattle.ixdtf_grammar.specs.table.Outcomes.{OneOutcome, FrontsBegin, No
 ghost use Rattle.ixdtf_grammar.specs.language.Fractions.{exact_nanoseconds_of, nanoseconds_of};
 ghost use Rattle.ixdtf_grammar.specs.Views.{unread_of, LeavesBehind, returned, returned_by, zone_of, note_of, parsed_of};
 
-use ixdtf_grammar::encoding::EncodingType;
 use crate::parsers::{DateTimes, IxdtfParser};
+use crate::{ParseError, ParserResult};
+use ixdtf_grammar::encoding::EncodingType;
 use ixdtf_grammar::records::{
     Annotation, DateDurationRecord, DateRecord, DurationParseRecord, Fraction, FullPrecisionOffset,
     IxdtfParseRecord, MinutePrecisionOffset, Sign, TimeDurationRecord, TimeRecord,
     TimeZoneAnnotation, TimeZoneRecord, UtcOffsetRecord, UtcOffsetRecordOrZ,
 };
 use ixdtf_reading::stop::Raised;
-use crate::{ParseError, ParserResult};
 
 /// Every date-time of RFC 3339, section 5.6, is read: [`IxdtfParser::parse`] returns `Ok` for it. That section's `T` and `Z`
 /// may be small letters.

@@ -20,7 +20,7 @@
 //! - [`laws`]: what follows from their contracts, for callers to cite.
 //!
 //! The repository tells the grammar in words in `docs/GRAMMAR.md`, and the fault table in
-//! `docs/FAULTS.md`. The definitions that the reader was proved by are in `crates/ixdtf/specs`: the
+//! `docs/FAULTS.md`. The definitions that the reader was proved by are in `crates/ixdtf_grammar/specs`: the
 //! grammar in `language`, the fault table in `table`, and what replies to annotations make of a
 //! text in `Handlers`.
 #![tactic(auto)]
@@ -28,8 +28,4 @@
 pub mod laws;
 pub mod parsers;
 
-pub use ixdtf_grammar::ParseError;
-pub use ixdtf_grammar::encoding;
-pub use ixdtf_grammar::records;
-
-pub use ixdtf_grammar::ParserResult;
+pub use ixdtf_grammar::{ParseError, ParserResult, encoding, records};

@@ -26,17 +26,17 @@ mod zones;
 // For crates of this repository, and no part of the interface: what `read_by_reference` is generic in.
 #[doc(hidden)]
 pub use self::cores::{Cores, DateTimes, LoneTimes, MonthDays, YearMonths};
-pub use ixdtf_durations::duration::IsoDurationParser;
-pub use ixdtf_grammar::profile::Profile;
 use self::texts::parse_text;
 pub use self::zones::TimeZoneParser;
-use ixdtf_reading::cursor::Cursor;
+use crate::{ParseError, ParserResult};
+pub use ixdtf_durations::duration::IsoDurationParser;
 use ixdtf_grammar::encoding::{EncodingType, Utf8, Utf16};
+pub use ixdtf_grammar::profile::Profile;
 use ixdtf_grammar::records::{Annotation, IxdtfParseRecord};
+use ixdtf_reading::cursor::Cursor;
 #[doc(hidden)]
 pub use ixdtf_reading::stop::Raised;
 use ixdtf_reading::stop::Stop;
-use crate::{ParseError, ParserResult};
 use std::marker::Model;
 
 /// A reader of dates and times, with an offset, a time zone and annotations.

@@ -1,3 +1,3 @@
--- code.
+-- What the functions of the code use.
 pub mod FirstPass
 pub mod NameLoop

@@ -10,16 +10,16 @@ ghost use Rattle.ixdtf_brackets.specs.BracketTypes.{bracket_of};
 ghost use Rattle.ixdtf_reading.specs.reading.Looks.{error_of};
 ghost use Rattle.ixdtf_reading.specs.reading.Brackets.{refusal, name_fault, next_is, sight_at, name_or_pair_at, inside_at, critical_bracket_at, bracket_at};
 
-use ixdtf_reading::cursor::Cursor;
+use crate::timezone::{NameLetters, parse_name_in_bracket, parse_offset_in_bracket};
 use ixdtf_grammar::encoding::EncodingType;
+use ixdtf_grammar::records::{Annotation, TimeZoneAnnotation, TimeZoneRecord};
 use ixdtf_reading::annotations::{KeyLetters, parse_annotation_value};
+use ixdtf_reading::cursor::Cursor;
 use ixdtf_reading::grammar::{
     is_a_key_leading_char, is_annotation_close, is_annotation_key_value_separator, is_ascii_sign,
     is_critical_flag, is_tz_leading_char,
 };
 use ixdtf_reading::letters::{Letters, take_letters};
-use crate::timezone::{NameLetters, parse_name_in_bracket, parse_offset_in_bracket};
-use ixdtf_grammar::records::{Annotation, TimeZoneAnnotation, TimeZoneRecord};
 use ixdtf_reading::stop::Stop;
 
 /// A first bracket: a zone or a pair.

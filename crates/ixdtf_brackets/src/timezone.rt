@@ -11,16 +11,16 @@ ghost use Rattle.ixdtf_reading.specs.reading.Zones.{name_run, name_alone_at, ian
 ghost use Rattle.ixdtf_brackets.specs.BracketTypes.{name_after};
 ghost use Rattle.ixdtf_reading.specs.reading.Brackets.{name_in_bracket_at, offset_in_bracket_at};
 
-use ixdtf_reading::cursor::Cursor;
 use ixdtf_grammar::encoding::EncodingType;
+use ixdtf_grammar::records::{TimeRecord, TimeZoneRecord};
+use ixdtf_reading::cursor::Cursor;
 use ixdtf_reading::grammar::{
     is_annotation_close, is_ascii_sign, is_tz_char, is_tz_leading_char, is_tz_name_separator,
 };
 use ixdtf_reading::letters::{Letters, take_letters};
+use ixdtf_reading::stop::Stop;
 use ixdtf_times::offsets::{minute_offset, take_last_offset};
 use ixdtf_times::time::{Clock, parse_clock};
-use ixdtf_grammar::records::{TimeRecord, TimeZoneRecord};
-use ixdtf_reading::stop::Stop;
 
 // ==== Names ====
 

@@ -1,4 +1,4 @@
--- code.
+-- What the functions of the code use.
 pub mod DurationFractions
 pub mod DurationGroups
 pub mod DurationLetters

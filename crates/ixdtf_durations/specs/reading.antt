@@ -1,2 +1,2 @@
--- reading.
+-- Reading: functions on texts in the shape of the code, which private clauses cite. No public clause cites one.
 pub mod DurationClauses

@@ -26,16 +26,18 @@ ghost use Rattle.ixdtf_durations.specs.reading.DurationClauses.{run_from, ReadsO
 ghost use Rattle.ixdtf_durations.specs.reading.DurationClauses.{rank_seen, date_rank_from, time_rank_from, after_time_group, begins_group, dated};
 
 use ixdtf_grammar::ParserResult;
-use ixdtf_reading::cursor::Cursor;
 use ixdtf_grammar::encoding::{EncodingType, Utf8, Utf16};
+use ixdtf_grammar::profile::Profile;
+use ixdtf_grammar::records::{
+    DateDurationRecord, DurationParseRecord, Fraction, Sign, TimeDurationRecord,
+};
+use ixdtf_reading::cursor::Cursor;
 use ixdtf_reading::grammar::{
     is_ascii_sign, is_decimal_separator, is_duration_designator, is_time_designator,
 };
-use ixdtf_times::offsets::sign_from;
-use ixdtf_grammar::profile::Profile;
-use ixdtf_times::time::parse_fraction;
-use ixdtf_grammar::records::{DateDurationRecord, DurationParseRecord, Fraction, Sign, TimeDurationRecord};
 use ixdtf_reading::stop::Stop;
+use ixdtf_times::offsets::sign_from;
+use ixdtf_times::time::parse_fraction;
 use std::marker::Model;
 
 /// A reader of durations.

@@ -1,2 +1,2 @@
--- code.
+-- What the functions of the code use.
 pub mod Nanoseconds

@@ -1,2 +1,2 @@
--- parts.
+-- What readings are made of.
 pub mod CoreLetters

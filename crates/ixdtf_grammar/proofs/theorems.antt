@@ -1,4 +1,4 @@
--- theorems.
+-- What follows for every text.
 pub mod CoreEnds
 pub mod CoreSizes
 pub mod Disjoint

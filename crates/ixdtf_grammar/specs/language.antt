@@ -1,4 +1,4 @@
--- language.
+-- The grammar: which texts stand for what.
 pub mod Brackets
 pub mod Cores
 pub mod Dates

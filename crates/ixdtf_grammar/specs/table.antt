@@ -1,4 +1,4 @@
--- table.
+-- The fault table: the errors, and where each fits.
 pub mod Before
 pub mod DurationFronts
 pub mod ErrorEquality

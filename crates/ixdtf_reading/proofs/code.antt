@@ -1,4 +1,4 @@
--- code.
+-- What the functions of the code use.
 pub mod DigitClasses
 pub mod FirstLetter
 pub mod FixedPlaces

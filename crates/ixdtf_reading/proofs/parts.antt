@@ -1,4 +1,4 @@
--- parts.
+-- What readings are made of.
 pub mod DurationRuns
 pub mod Fronts
 pub mod LookAhead

@@ -1,4 +1,4 @@
--- theorems.
+-- What follows for every text.
 pub mod Handled
 pub mod Hyphens
 pub mod Offsets

@@ -1,4 +1,4 @@
--- to_grammar.
+-- From reading to the grammar and the table: what is read is derived, and each fault is that of a row that fits.
 pub mod Cores
 pub mod Dates
 pub mod Durations

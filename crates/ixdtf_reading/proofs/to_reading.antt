@@ -1,4 +1,4 @@
--- to_reading.
+-- From the grammar and the table to reading: what is derived is read, and each row that fits is found.
 pub mod ClockRows
 pub mod Cores
 pub mod Dates

@@ -1,4 +1,4 @@
--- reading.
+-- Reading: functions on texts in the shape of the code, which private clauses cite. No public clause cites one.
 pub mod Brackets
 pub mod Chains
 pub mod Clauses

@@ -1,4 +1,4 @@
-//! Reading annotations of a key and a value, and what is kept of the replies to them.
+//! Reading annotations of a key and a value.
 
 #![tactic(auto, unfolding(crate::specs::reading::Pairs::pair_readings))]
 
@@ -14,14 +14,14 @@ ghost use Rattle.ixdtf_grammar.specs.Handlers.{RefusedBeside, first_calendar, pa
 ghost use Rattle.ixdtf_reading.specs.reading.Chains.{PairsRead, first_pairs};
 
 use crate::cursor::Cursor;
-use ixdtf_grammar::encoding::EncodingType;
 use crate::grammar::{
     is_a_key_char, is_a_key_leading_char, is_annotation_close, is_annotation_key_value_separator,
     is_annotation_open, is_annotation_value_component, is_critical_flag, is_hyphen,
 };
 use crate::letters::{Letters, take_letters};
-use ixdtf_grammar::records::Annotation;
 use crate::stop::Stop;
+use ixdtf_grammar::encoding::EncodingType;
+use ixdtf_grammar::records::Annotation;
 
 // ==== Keys and values ====
 
@@ -237,5 +237,3 @@ pub fn next_annotation<'a, T: EncodingType>(
         Some(_) => Err(Stop::InvalidEnd),
     }
 }
-
-// ==== Replies ====

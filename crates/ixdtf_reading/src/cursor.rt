@@ -14,9 +14,9 @@ ghost use Rattle.ixdtf_reading.specs.reading.Clauses.{Reads, Settles, Spends, Sp
 ghost use Rattle.ixdtf_reading.specs.reading.FixedPlaces.{letter_place, byte_place};
 ghost use Rattle.ixdtf_reading.specs.reading.Looks.{look_at, next_by, peek_by, digit_look, digits_by};
 
-use ixdtf_grammar::encoding::EncodingType;
 use crate::looks::Looks;
 use crate::stop::{Raised, Stop};
+use ixdtf_grammar::encoding::EncodingType;
 use std::marker::Model;
 
 /// The units that are still to be read, and a count of looks at them, which takes no byte.

@@ -5,8 +5,8 @@ ghost use Rattle.ixdtf_reading.specs.reading.Clauses.{Reads, Spends};
 ghost use Rattle.ixdtf_reading.specs.reading.Runs.{letters_by, taken_of};
 
 use crate::cursor::Cursor;
-use ixdtf_grammar::encoding::EncodingType;
 use crate::stop::Stop;
+use ixdtf_grammar::encoding::EncodingType;
 
 /// Letters of one kind, by where reading of them is.
 pub trait Letters: Copy {

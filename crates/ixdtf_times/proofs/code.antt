@@ -1,4 +1,4 @@
--- code.
+-- What the functions of the code use.
 pub mod FixedMonths
 pub mod FixedOffsets
 pub mod LoneTimes

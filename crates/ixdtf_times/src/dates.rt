@@ -11,11 +11,11 @@ ghost use Rattle.ixdtf_reading.specs.reading.FixedPlaces.{ranged};
 ghost use Rattle.ixdtf_reading.specs.reading.Looks.{error_of, number_of, digits_by, digit_look, mark_by, mark_at};
 ghost use Rattle.ixdtf_reading.specs.reading.Dates.{date_of, year_at, four_digit_year_at, extended_year_at, date_at, month_by, day_at, line_after_month};
 
-use ixdtf_reading::cursor::Cursor;
-use ixdtf_grammar::encoding::EncodingType;
 use crate::fixed::take_fixed_date;
-use ixdtf_reading::grammar::{digits_value, is_ascii_sign, is_hyphen};
+use ixdtf_grammar::encoding::EncodingType;
 use ixdtf_grammar::records::DateRecord;
+use ixdtf_reading::cursor::Cursor;
+use ixdtf_reading::grammar::{digits_value, is_ascii_sign, is_hyphen};
 use ixdtf_reading::stop::Stop;
 
 /// Reads a date: at its ten places or its eight where these fit, and else part by part. Fewer units than eight are no date.

@@ -20,11 +20,11 @@ ghost use Rattle.ixdtf_reading.specs.reading.FixedPlaces.{letter_place, byte_pla
 ghost use Rattle.ixdtf_reading.specs.reading.FixedPlaces.{ranged_month, ranged_day, marks_place, unmarked_at, date_in_range, time_in_range, ranged};
 ghost use Rattle.ixdtf_reading.specs.reading.FixedPlaces.{year_place, days_place, basic_days_place, date_place, basic_date_place, time_place, date_time_place};
 
-use ixdtf_reading::cursor::Cursor;
-use ixdtf_grammar::encoding::EncodingType;
 use crate::dates::has_day;
-use ixdtf_reading::grammar::{is_date_time_separator, is_hyphen, number_of};
+use ixdtf_grammar::encoding::EncodingType;
 use ixdtf_grammar::records::DateRecord;
+use ixdtf_reading::cursor::Cursor;
+use ixdtf_reading::grammar::{is_date_time_separator, is_hyphen, number_of};
 
 /// A time to its second.
 #[derive(Clone, Copy)]

@@ -12,15 +12,13 @@ ghost use Rattle.ixdtf_reading.specs.reading.Dates.{date_of};
 ghost use Rattle.ixdtf_reading.specs.reading.Months.{year_month_at, marks_at, month_day_at};
 ghost use Rattle.ixdtf_reading.specs.reading.FixedPlaces.{ranged_month, ranged_day};
 
-use ixdtf_reading::cursor::Cursor;
-use ixdtf_grammar::encoding::EncodingType;
-use crate::dates::{
-    check_month, days_in_month, parse_date_year, parse_month, take_hyphen,
-};
+use crate::dates::{check_month, days_in_month, parse_date_year, parse_month, take_hyphen};
 use crate::fixed::{take_fixed_month_day, take_fixed_year_month};
-use ixdtf_reading::grammar::{digits_value, is_hyphen};
+use ixdtf_grammar::encoding::EncodingType;
 use ixdtf_grammar::profile::Profile;
 use ixdtf_grammar::records::DateRecord;
+use ixdtf_reading::cursor::Cursor;
+use ixdtf_reading::grammar::{digits_value, is_hyphen};
 use ixdtf_reading::stop::Stop;
 
 // ==== Year-months ====

@@ -17,15 +17,15 @@ ghost use Rattle.ixdtf_reading.specs.reading.FixedPlaces.{offset_place};
 ghost use Rattle.ixdtf_reading.specs.reading.Cores.{offset_core_at};
 ghost use Rattle.ixdtf_reading.specs.reading.Zones.{offset_at, offset_alone_at, minute_offset_alone_at};
 
-use ixdtf_reading::cursor::Cursor;
-use ixdtf_grammar::encoding::EncodingType;
 use crate::fixed::fixed_number;
-use ixdtf_reading::grammar::{is_annotation_open, is_ascii_sign, is_hyphen};
 use crate::time::{Clock, TimeShape, parse_clock};
+use ixdtf_grammar::encoding::EncodingType;
 use ixdtf_grammar::records::{
     FullPrecisionOffset, MinutePrecisionOffset, Sign, TimeRecord, UtcOffsetRecord,
     UtcOffsetRecordOrZ,
 };
+use ixdtf_reading::cursor::Cursor;
+use ixdtf_reading::grammar::{is_annotation_open, is_ascii_sign, is_hyphen};
 use ixdtf_reading::stop::Stop;
 
 /// The sign of a `+` or a `-`.

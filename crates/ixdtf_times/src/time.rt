@@ -13,10 +13,10 @@ ghost use Rattle.ixdtf_times.specs.TimeTypes.{clock_of, shape_of, open_time_of};
 ghost use Rattle.ixdtf_reading.specs.reading.Looks.{error_of, digit_look, number_by};
 ghost use Rattle.ixdtf_reading.specs.reading.Times.{time_of, second_start, clock_at, minute_at, second_at, after_second_at, fraction_at};
 
-use ixdtf_reading::cursor::Cursor;
 use ixdtf_grammar::encoding::EncodingType;
-use ixdtf_reading::grammar::{digits_value, is_decimal_separator, is_time_separator};
 use ixdtf_grammar::records::{Fraction, TimeRecord};
+use ixdtf_reading::cursor::Cursor;
+use ixdtf_reading::grammar::{digits_value, is_decimal_separator, is_time_separator};
 use ixdtf_reading::stop::Stop;
 
 /// What is written as a time is.

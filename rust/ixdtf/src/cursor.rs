@@ -1,13 +1,13 @@
-// Made by tools/to_rust.py of crates/ixdtf/src/cursor.rt. Do not edit.
+// Made by tools/to_rust.py of crates/ixdtf_reading/src/cursor.rt. Do not edit.
 
 //! A place in a source: the units that are still to be read.
 //!
 //! There is no index: a cursor keeps the end of the source that is still to be read, as one slice. So a place past the end
 //! cannot be, and a reader that refuses puts back the slice that it began with.
 
-use crate::encoding::EncodingType;
 use crate::looks::Looks;
 use crate::stop::{Raised, Stop};
+use crate::encoding::EncodingType;
 
 /// The units that are still to be read, and a count of looks at them, which takes no byte.
 #[derive(Debug)]

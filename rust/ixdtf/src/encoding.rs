@@ -1,4 +1,4 @@
-// Made by tools/to_rust.py of crates/ixdtf/src/encoding.rt. Do not edit.
+// Made by tools/to_rust.py of crates/ixdtf_grammar/src/encoding.rt. Do not edit.
 
 //! The encodings that a source may have.
 //!

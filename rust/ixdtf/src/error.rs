@@ -1,4 +1,4 @@
-// Made by tools/to_rust.py of crates/ixdtf/src/error.rt. Do not edit.
+// Made by tools/to_rust.py of crates/ixdtf_grammar/src/error.rt. Do not edit.
 
 //! What a text, or a reply to an annotation, can be refused for, and what is written of it.
 

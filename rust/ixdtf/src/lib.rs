@@ -21,7 +21,7 @@
 //! - [`encoding`]: the units of a source.
 //!
 //! The repository tells the grammar in words in `docs/GRAMMAR.md`, and the fault table in
-//! `docs/FAULTS.md`. The definitions that the reader was proved by are in `crates/ixdtf/specs`: the
+//! `docs/FAULTS.md`. The definitions that the reader was proved by are in `crates/ixdtf_grammar/specs`: the
 //! grammar in `language`, the fault table in `table`, and what replies to annotations make of a
 //! text in `Handlers`.
 

@@ -1,4 +1,4 @@
-// Made by tools/to_rust.py of crates/ixdtf/src/looks.rt. Do not edit.
+// Made by tools/to_rust.py of crates/ixdtf_reading/src/looks.rt. Do not edit.
 
 //! How many looks were made.
 

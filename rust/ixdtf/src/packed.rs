@@ -1,4 +1,4 @@
-// Made by tools/to_rust.py of crates/ixdtf/src/packed.rt. Do not edit.
+// Made by tools/to_rust.py of crates/ixdtf_grammar/src/packed.rt. Do not edit.
 
 //! Numbers that stand at any address.
 

@@ -18,6 +18,7 @@ mod letters;
 mod months;
 mod offsets;
 mod profile;
+mod replies;
 mod texts;
 mod time;
 mod timezone;
@@ -26,17 +27,17 @@ mod zones;
 // For crates of this repository, and no part of the interface: what `read_by_reference` is generic in.
 #[doc(hidden)]
 pub use self::cores::{Cores, DateTimes, LoneTimes, MonthDays, YearMonths};
-pub use self::duration::IsoDurationParser;
-pub use self::profile::Profile;
 use self::texts::parse_text;
 pub use self::zones::TimeZoneParser;
-use crate::cursor::Cursor;
+use crate::{ParseError, ParserResult};
+pub use self::duration::IsoDurationParser;
 use crate::encoding::{EncodingType, Utf8, Utf16};
+pub use self::profile::Profile;
 use crate::records::{Annotation, IxdtfParseRecord};
+use crate::cursor::Cursor;
 #[doc(hidden)]
 pub use crate::stop::Raised;
 use crate::stop::Stop;
-use crate::{ParseError, ParserResult};
 
 /// A reader of dates and times, with an offset, a time zone and annotations.
 ///

@@ -1,4 +1,4 @@
-// Made by tools/to_rust.py of crates/ixdtf/src/records.rt. Do not edit.
+// Made by tools/to_rust.py of crates/ixdtf_grammar/src/records.rt. Do not edit.
 
 //! The records that the readers return: dates, times, offsets, time zones, durations and fractions.
 

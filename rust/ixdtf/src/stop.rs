@@ -1,8 +1,8 @@
-// Made by tools/to_rust.py of crates/ixdtf/src/stop.rt. Do not edit.
+// Made by tools/to_rust.py of crates/ixdtf_reading/src/stop.rt. Do not edit.
 
 //! Why a reading stopped, in one byte.
 
-use crate::error::ParseError;
+use crate::ParseError;
 
 /// Why a reading stopped: an error that a reader returns, with `AbruptEnd` once for each location. It takes one byte,
 /// and the error is made of it only where a public reader returns.

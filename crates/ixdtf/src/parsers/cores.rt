@@ -14,22 +14,22 @@ ghost use Rattle.ixdtf_times.specs.TimeTypes.{after_date_time_at, open_time_of};
 ghost use Rattle.ixdtf_reading.specs.reading.Looks.{error_of};
 ghost use Rattle.ixdtf_reading.specs.reading.Cores.{ClosedCore, core_end_at, offset_core_at, after_time_at, whole_time_core_at, after_date_at, unfronted, core_at};
 
-use ixdtf_reading::cursor::Cursor;
 use ixdtf_grammar::encoding::EncodingType;
-use ixdtf_times::dates::parse_date;
-use ixdtf_times::fixed::fixed_date_time;
+use ixdtf_grammar::profile::Profile;
+use ixdtf_grammar::records::{DateRecord, IxdtfParseRecord, TimeRecord, UtcOffsetRecordOrZ};
+use ixdtf_reading::cursor::Cursor;
 use ixdtf_reading::grammar::{
     is_annotation_open, is_ascii_sign, is_date_time_separator, is_time_designator,
     is_utc_designator,
 };
+use ixdtf_reading::stop::Stop;
+use ixdtf_times::dates::parse_date;
+use ixdtf_times::fixed::fixed_date_time;
 use ixdtf_times::months::{
     parse_month_day_date, parse_month_day_parts, parse_year_month_date, parse_year_month_parts,
 };
 use ixdtf_times::offsets::{offset_from, take_fixed_offset};
-use ixdtf_grammar::profile::Profile;
 use ixdtf_times::time::{Clock, TimeShape, parse_after_second, parse_clock};
-use ixdtf_grammar::records::{DateRecord, IxdtfParseRecord, TimeRecord, UtcOffsetRecordOrZ};
-use ixdtf_reading::stop::Stop;
 
 /// Cores of one kind. What reads whole texts is generic in it, so that nothing asks for the kind when it runs.
 pub trait Cores {

@@ -1,4 +1,4 @@
-//! What a handler replies to the annotations of a text.
+//! What a handler replies to the annotations of a text, and what is kept of it.
 
 #![tactic(auto, unfolding(ixdtf_reading::specs::reading::Pairs::pair_readings))]
 
@@ -13,10 +13,10 @@ ghost use Rattle.ixdtf_reading.specs.reading.Pairs.{key_run, value_run, value_st
 ghost use Rattle.ixdtf_grammar.specs.Handlers.{RefusedBeside, first_calendar, pair_of};
 ghost use Rattle.ixdtf_reading.specs.reading.Chains.{PairsRead, first_pairs};
 
-use ixdtf_reading::cursor::Cursor;
 use ixdtf_grammar::encoding::EncodingType;
-use ixdtf_reading::annotations::next_annotation;
 use ixdtf_grammar::records::Annotation;
+use ixdtf_reading::annotations::next_annotation;
+use ixdtf_reading::cursor::Cursor;
 use ixdtf_reading::stop::Stop;
 
 /// Asks the handler about an annotation. This is the one place that calls it.

@@ -10,13 +10,13 @@ ghost use Rattle.ixdtf_reading.specs.reading.Chains.{TextRead, TextReadAfter, fi
 ghost use Rattle.ixdtf_reading.specs.reading.Clauses.{Spends, HasNoBrackets, yielded, core_in};
 ghost use Rattle.ixdtf_brackets.specs.BracketTypes.{bracket_of};
 
-use ixdtf_reading::cursor::Cursor;
-use ixdtf_grammar::encoding::EncodingType;
+use crate::parsers::cores::Cores;
 use crate::parsers::replies::parse_annotations;
 use ixdtf_brackets::brackets::{Bracket, parse_first_bracket};
-use crate::parsers::cores::Cores;
+use ixdtf_grammar::encoding::EncodingType;
 use ixdtf_grammar::profile::Profile;
 use ixdtf_grammar::records::{Annotation, IxdtfParseRecord};
+use ixdtf_reading::cursor::Cursor;
 use ixdtf_reading::stop::Stop;
 
 /// Reads a core of the kind under the profile, and the brackets after it to the end, into a record in which nothing stands

@@ -10,11 +10,11 @@ ghost use Rattle.ixdtf_grammar.specs.language.Languages.{shifted, identified, na
 ghost use Rattle.ixdtf_grammar.specs.Views.{Unread, LeavesBehind, returned, zone_of};
 
 use crate::ParserResult;
-use ixdtf_reading::cursor::Cursor;
-use ixdtf_grammar::encoding::{EncodingType, Utf8, Utf16};
-use ixdtf_times::offsets::parse_offset_text;
 use ixdtf_brackets::timezone::{parse_iana_identifier_text, parse_identifier_text};
+use ixdtf_grammar::encoding::{EncodingType, Utf8, Utf16};
 use ixdtf_grammar::records::{TimeZoneRecord, UtcOffsetRecord};
+use ixdtf_reading::cursor::Cursor;
+use ixdtf_times::offsets::parse_offset_text;
 use std::marker::Model;
 
 /// A reader of offsets from UTC and of time zones, where a text is one of these alone.

@@ -1,16 +1,16 @@
-// Made by tools/to_rust.py of crates/ixdtf/src/parsers/annotations.rt. Do not edit.
+// Made by tools/to_rust.py of crates/ixdtf_reading/src/annotations.rt. Do not edit.
 
-//! Reading annotations of a key and a value, and what is kept of the replies to them.
+//! Reading annotations of a key and a value.
 
 use crate::cursor::Cursor;
-use crate::encoding::EncodingType;
 use crate::parsers::grammar::{
     is_a_key_char, is_a_key_leading_char, is_annotation_close, is_annotation_key_value_separator,
     is_annotation_open, is_annotation_value_component, is_critical_flag, is_hyphen,
 };
 use crate::parsers::letters::{Letters, take_letters};
-use crate::records::Annotation;
 use crate::stop::Stop;
+use crate::encoding::EncodingType;
+use crate::records::Annotation;
 
 // ==== Keys and values ====
 
@@ -168,7 +168,7 @@ fn parse_critical_pair<'a, T: EncodingType>(
 
 /// Reads the next pair after whole brackets, or `None` at the end.
 #[inline(always)]
-fn next_annotation<'a, T: EncodingType>(
+pub fn next_annotation<'a, T: EncodingType>(
     cursor: &mut Cursor<'a, T>,
 ) -> Result<Option<Annotation<'a, T>>, Stop> {
     match cursor.look()? {
@@ -180,71 +180,4 @@ fn next_annotation<'a, T: EncodingType>(
         }
         Some(_) => Err(Stop::InvalidEnd),
     }
-}
-
-// ==== Replies ====
-
-/// Asks the handler about an annotation. This is the one place that calls it.
-#[inline(always)]
-fn ask<'a, T: EncodingType, F>(
-    handler: &mut F,
-    annotation: Annotation<'a, T>,
-) -> Option<Annotation<'a, T>>
-where
-    F: FnMut(Annotation<'a, T>) -> Option<Annotation<'a, T>>,
-{
-    handler(annotation)
-}
-
-/// Whether two slices have equal units.
-fn has_same_units<T: EncodingType>(left: &[T::CodeUnit], right: &[T::CodeUnit]) -> bool {
-    left == right
-}
-
-/// The calendar that is kept after a reply: the first one. A reply that is critical and no calendar is
-/// `UnrecognizedCritical`, and a calendar with another value than the first is `CriticalDuplicateCalendar` where one of
-/// the two is critical.
-#[inline(always)]
-fn keep_first_calendar<'a, T: EncodingType>(
-    calendar: Option<Annotation<'a, T>>,
-    reply: Option<Annotation<'a, T>>,
-) -> Result<Option<Annotation<'a, T>>, Stop> {
-    let Some(found) = reply else {
-        return Ok(calendar);
-    };
-    if !T::check_calendar_key(found.key) {
-        if found.critical {
-            return Err(Stop::UnrecognizedCritical);
-        }
-        return Ok(calendar);
-    }
-    let Some(first) = calendar else {
-        return Ok(Some(found));
-    };
-    if !has_same_units::<T>(first.value, found.value) && (first.critical || found.critical) {
-        return Err(Stop::CriticalDuplicateCalendar);
-    }
-    Ok(Some(first))
-}
-
-/// Reads the pairs to the end, asks the handler about each as soon as it was read whole, and returns the calendar that is
-/// kept. A first pair may have been read already.
-pub fn parse_annotations<'a, T: EncodingType, F>(
-    cursor: &mut Cursor<'a, T>,
-    first: Option<Annotation<'a, T>>,
-    handler: &mut F,
-) -> Result<Option<Annotation<'a, T>>, Stop>
-where
-    F: FnMut(Annotation<'a, T>) -> Option<Annotation<'a, T>>,
-{
-    let mut calendar = None;
-    if let Some(annotation) = first {
-        let reply = ask::<T, F>(handler, annotation);
-        calendar = keep_first_calendar::<T>(None, reply)?;
-    }
-    while let Some(annotation) = next_annotation(cursor)? {
-        let reply = ask::<T, F>(handler, annotation);
-        calendar = keep_first_calendar::<T>(calendar, reply)?;
-    }
-    Ok(calendar)
 }

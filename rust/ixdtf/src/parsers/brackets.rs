@@ -1,17 +1,17 @@
-// Made by tools/to_rust.py of crates/ixdtf/src/parsers/brackets.rt. Do not edit.
+// Made by tools/to_rust.py of crates/ixdtf_brackets/src/brackets.rt. Do not edit.
 
 //! Reading the first bracket, which may name a zone.
 
-use crate::cursor::Cursor;
+use crate::parsers::timezone::{NameLetters, parse_name_in_bracket, parse_offset_in_bracket};
 use crate::encoding::EncodingType;
+use crate::records::{Annotation, TimeZoneAnnotation, TimeZoneRecord};
 use crate::parsers::annotations::{KeyLetters, parse_annotation_value};
+use crate::cursor::Cursor;
 use crate::parsers::grammar::{
     is_a_key_leading_char, is_annotation_close, is_annotation_key_value_separator, is_ascii_sign,
     is_critical_flag, is_tz_leading_char,
 };
 use crate::parsers::letters::{Letters, take_letters};
-use crate::parsers::timezone::{NameLetters, parse_name_in_bracket, parse_offset_in_bracket};
-use crate::records::{Annotation, TimeZoneAnnotation, TimeZoneRecord};
 use crate::stop::Stop;
 
 /// A first bracket: a zone or a pair.

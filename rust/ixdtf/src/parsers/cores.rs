@@ -2,22 +2,22 @@
 
 //! Reading cores, which are what stands before the brackets of a text, into a record.
 
-use crate::cursor::Cursor;
 use crate::encoding::EncodingType;
-use crate::parsers::dates::parse_date;
-use crate::parsers::fixed::fixed_date_time;
+use crate::parsers::profile::Profile;
+use crate::records::{DateRecord, IxdtfParseRecord, TimeRecord, UtcOffsetRecordOrZ};
+use crate::cursor::Cursor;
 use crate::parsers::grammar::{
     is_annotation_open, is_ascii_sign, is_date_time_separator, is_time_designator,
     is_utc_designator,
 };
+use crate::stop::Stop;
+use crate::parsers::dates::parse_date;
+use crate::parsers::fixed::fixed_date_time;
 use crate::parsers::months::{
     parse_month_day_date, parse_month_day_parts, parse_year_month_date, parse_year_month_parts,
 };
 use crate::parsers::offsets::{offset_from, take_fixed_offset};
-use crate::parsers::profile::Profile;
 use crate::parsers::time::{Clock, TimeShape, parse_after_second, parse_clock};
-use crate::records::{DateRecord, IxdtfParseRecord, TimeRecord, UtcOffsetRecordOrZ};
-use crate::stop::Stop;
 
 /// Cores of one kind. What reads whole texts is generic in it, so that nothing asks for the kind when it runs.
 pub trait Cores {

@@ -1,12 +1,12 @@
-// Made by tools/to_rust.py of crates/ixdtf/src/parsers/dates.rt. Do not edit.
+// Made by tools/to_rust.py of crates/ixdtf_times/src/dates.rt. Do not edit.
 
 //! Reading dates.
 
-use crate::cursor::Cursor;
-use crate::encoding::EncodingType;
 use crate::parsers::fixed::take_fixed_date;
-use crate::parsers::grammar::{digits_value, is_ascii_sign, is_hyphen};
+use crate::encoding::EncodingType;
 use crate::records::DateRecord;
+use crate::cursor::Cursor;
+use crate::parsers::grammar::{digits_value, is_ascii_sign, is_hyphen};
 use crate::stop::Stop;
 
 /// Reads a date: at its ten places or its eight where these fit, and else part by part. Fewer units than eight are no date.

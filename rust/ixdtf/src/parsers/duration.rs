@@ -1,18 +1,20 @@
-// Made by tools/to_rust.py of crates/ixdtf/src/parsers/duration.rt. Do not edit.
+// Made by tools/to_rust.py of crates/ixdtf_durations/src/duration.rt. Do not edit.
 
 //! The reader of durations.
 
 use crate::ParserResult;
-use crate::cursor::Cursor;
 use crate::encoding::{EncodingType, Utf8, Utf16};
+use crate::parsers::profile::Profile;
+use crate::records::{
+    DateDurationRecord, DurationParseRecord, Fraction, Sign, TimeDurationRecord,
+};
+use crate::cursor::Cursor;
 use crate::parsers::grammar::{
     is_ascii_sign, is_decimal_separator, is_duration_designator, is_time_designator,
 };
-use crate::parsers::offsets::sign_from;
-use crate::parsers::profile::Profile;
-use crate::parsers::time::parse_fraction;
-use crate::records::{DateDurationRecord, DurationParseRecord, Fraction, Sign, TimeDurationRecord};
 use crate::stop::Stop;
+use crate::parsers::offsets::sign_from;
+use crate::parsers::time::parse_fraction;
 
 /// A reader of durations.
 ///

@@ -1,4 +1,4 @@
-// Made by tools/to_rust.py of crates/ixdtf/src/parsers/fixed.rt. Do not edit.
+// Made by tools/to_rust.py of crates/ixdtf_times/src/fixed.rt. Do not edit.
 
 //! Reading a date and a time at fixed places, as most texts have them: `YYYY-MM-DD`, a separator and `HH:MM:SS`; and a
 //! year-month and a month-day, `YYYY-MM` and `MM-DD`.
@@ -6,11 +6,11 @@
 //! The places are looked at in order, and nothing is taken off where one does not fit: the text is then read part by part,
 //! which finds the record or the fault.
 
-use crate::cursor::Cursor;
-use crate::encoding::EncodingType;
 use crate::parsers::dates::has_day;
-use crate::parsers::grammar::{is_date_time_separator, is_hyphen, number_of};
+use crate::encoding::EncodingType;
 use crate::records::DateRecord;
+use crate::cursor::Cursor;
+use crate::parsers::grammar::{is_date_time_separator, is_hyphen, number_of};
 
 /// A time to its second.
 #[derive(Clone, Copy)]

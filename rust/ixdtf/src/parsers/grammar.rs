@@ -1,4 +1,4 @@
-// Made by tools/to_rust.py of crates/ixdtf/src/parsers/grammar.rt. Do not edit.
+// Made by tools/to_rust.py of crates/ixdtf_reading/src/grammar.rt. Do not edit.
 
 //! The classes of letters that the readers tell apart.
 

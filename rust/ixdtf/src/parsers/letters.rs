@@ -1,10 +1,10 @@
-// Made by tools/to_rust.py of crates/ixdtf/src/parsers/letters.rt. Do not edit.
+// Made by tools/to_rust.py of crates/ixdtf_reading/src/letters.rt. Do not edit.
 
 //! Taking letters off one by one.
 
 use crate::cursor::Cursor;
-use crate::encoding::EncodingType;
 use crate::stop::Stop;
+use crate::encoding::EncodingType;
 
 /// Letters of one kind, by where reading of them is.
 pub trait Letters: Copy {

@@ -1,16 +1,14 @@
-// Made by tools/to_rust.py of crates/ixdtf/src/parsers/months.rt. Do not edit.
+// Made by tools/to_rust.py of crates/ixdtf_times/src/months.rt. Do not edit.
 
 //! Reading year-months and month-days.
 
-use crate::cursor::Cursor;
-use crate::encoding::EncodingType;
-use crate::parsers::dates::{
-    check_month, days_in_month, parse_date_year, parse_month, take_hyphen,
-};
+use crate::parsers::dates::{check_month, days_in_month, parse_date_year, parse_month, take_hyphen};
 use crate::parsers::fixed::{take_fixed_month_day, take_fixed_year_month};
-use crate::parsers::grammar::{digits_value, is_hyphen};
+use crate::encoding::EncodingType;
 use crate::parsers::profile::Profile;
 use crate::records::DateRecord;
+use crate::cursor::Cursor;
+use crate::parsers::grammar::{digits_value, is_hyphen};
 use crate::stop::Stop;
 
 // ==== Year-months ====

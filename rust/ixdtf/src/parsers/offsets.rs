@@ -1,16 +1,16 @@
-// Made by tools/to_rust.py of crates/ixdtf/src/parsers/offsets.rt. Do not edit.
+// Made by tools/to_rust.py of crates/ixdtf_times/src/offsets.rt. Do not edit.
 
 //! Reading offsets from UTC.
 
-use crate::cursor::Cursor;
-use crate::encoding::EncodingType;
 use crate::parsers::fixed::fixed_number;
-use crate::parsers::grammar::{is_annotation_open, is_ascii_sign, is_hyphen};
 use crate::parsers::time::{Clock, TimeShape, parse_clock};
+use crate::encoding::EncodingType;
 use crate::records::{
     FullPrecisionOffset, MinutePrecisionOffset, Sign, TimeRecord, UtcOffsetRecord,
     UtcOffsetRecordOrZ,
 };
+use crate::cursor::Cursor;
+use crate::parsers::grammar::{is_annotation_open, is_ascii_sign, is_hyphen};
 use crate::stop::Stop;
 
 /// The sign of a `+` or a `-`.

@@ -1,4 +1,4 @@
-// Made by tools/to_rust.py of crates/ixdtf/src/parsers/profile.rt. Do not edit.
+// Made by tools/to_rust.py of crates/ixdtf_grammar/src/profile.rt. Do not edit.
 
 //! Which of two readings a parser makes.
 

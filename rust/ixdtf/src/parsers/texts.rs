@@ -2,13 +2,13 @@
 
 //! Reading whole texts: a core, a first bracket and the brackets after it.
 
-use crate::cursor::Cursor;
-use crate::encoding::EncodingType;
-use crate::parsers::annotations::parse_annotations;
-use crate::parsers::brackets::{Bracket, parse_first_bracket};
 use crate::parsers::cores::Cores;
+use crate::parsers::replies::parse_annotations;
+use crate::parsers::brackets::{Bracket, parse_first_bracket};
+use crate::encoding::EncodingType;
 use crate::parsers::profile::Profile;
 use crate::records::{Annotation, IxdtfParseRecord};
+use crate::cursor::Cursor;
 use crate::stop::Stop;
 
 /// Reads a core of the kind under the profile, and the brackets after it to the end, into a record in which nothing stands

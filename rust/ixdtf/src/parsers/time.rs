@@ -1,11 +1,11 @@
-// Made by tools/to_rust.py of crates/ixdtf/src/parsers/time.rt. Do not edit.
+// Made by tools/to_rust.py of crates/ixdtf_times/src/time.rt. Do not edit.
 
 //! Reading times of day, and offsets after their sign, which are written as times are.
 
-use crate::cursor::Cursor;
 use crate::encoding::EncodingType;
-use crate::parsers::grammar::{digits_value, is_decimal_separator, is_time_separator};
 use crate::records::{Fraction, TimeRecord};
+use crate::cursor::Cursor;
+use crate::parsers::grammar::{digits_value, is_decimal_separator, is_time_separator};
 use crate::stop::Stop;
 
 /// What is written as a time is.

@@ -1,17 +1,17 @@
-// Made by tools/to_rust.py of crates/ixdtf/src/parsers/timezone.rt. Do not edit.
+// Made by tools/to_rust.py of crates/ixdtf_brackets/src/timezone.rt. Do not edit.
 
 //! Reading zone names, and texts that are a time zone.
 
-use crate::cursor::Cursor;
 use crate::encoding::EncodingType;
+use crate::records::{TimeRecord, TimeZoneRecord};
+use crate::cursor::Cursor;
 use crate::parsers::grammar::{
     is_annotation_close, is_ascii_sign, is_tz_char, is_tz_leading_char, is_tz_name_separator,
 };
 use crate::parsers::letters::{Letters, take_letters};
+use crate::stop::Stop;
 use crate::parsers::offsets::{minute_offset, take_last_offset};
 use crate::parsers::time::{Clock, parse_clock};
-use crate::records::{TimeRecord, TimeZoneRecord};
-use crate::stop::Stop;
 
 // ==== Names ====
 

@@ -3,11 +3,11 @@
 //! The reader of offsets and zones alone.
 
 use crate::ParserResult;
-use crate::cursor::Cursor;
-use crate::encoding::{EncodingType, Utf8, Utf16};
-use crate::parsers::offsets::parse_offset_text;
 use crate::parsers::timezone::{parse_iana_identifier_text, parse_identifier_text};
+use crate::encoding::{EncodingType, Utf8, Utf16};
 use crate::records::{TimeZoneRecord, UtcOffsetRecord};
+use crate::cursor::Cursor;
+use crate::parsers::offsets::parse_offset_text;
 
 /// A reader of offsets from UTC and of time zones, where a text is one of these alone.
 ///
