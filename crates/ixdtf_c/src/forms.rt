@@ -1,10 +1,10 @@
 //! Numbers of records, as C sees them.
 
-ghost use Rattle.std.specs.Prelude.{◌≡◌, ◌≤◌, not};
-ghost use Rattle.ixdtf.specs.language.OffsetRecords.{sign_for};
-ghost use Rattle.ixdtf_c.specs.Crossing.{date_by, time_by, offset_by, shift_by};
+ghost use Rattle.std.specs.Prelude.{◌≡◌};
+ghost use Rattle.ixdtf_c.specs.Crossing.{digits_for, value_for, date_for, time_for, offset_of_form, shift_for, offset_for};
+ghost use Rattle.ixdtf_c.specs.Crossing.{is_negative as has_minus};
 
-use ixdtf::records::{DateRecord, Sign, TimeRecord, UtcOffsetRecord, UtcOffsetRecordOrZ};
+use ixdtf::records::{DateRecord, Fraction, Sign, TimeRecord, UtcOffsetRecord, UtcOffsetRecordOrZ};
 
 /// A date, where it is there.
 #[derive(Clone, Copy)]
@@ -61,7 +61,7 @@ pub struct Offset {
 /// Whether the sign is a `-`.
 #[inline(always)]
 pub fn is_negative(sign: Sign) -> bool
-    ensures { sign_for (not result) ≡ sign }
+    ensures { result ≡ has_minus sign }
 {
     match sign {
         Sign::Negative => true,
@@ -69,43 +69,79 @@ pub fn is_negative(sign: Sign) -> bool
     }
 }
 
-impl Date {
-    /// Writes the date.
+/// The numbers of a fraction, where it is there.
+#[derive(Clone, Copy)]
+pub struct Digits {
+    /// How many digits it has.
+    pub count: u8,
+    /// The number of the first 18 of them.
+    pub value: u64,
+}
+
+impl Digits {
+    /// The numbers of the fraction, and zeros where there is none.
     #[inline(always)]
-    pub(crate) fn put(&mut self, date: Option<DateRecord>)
-        ensures { date_by self.new ≡ date }
+    pub fn of(fraction: Option<Fraction>) -> Digits
+        ensures count { result.count ≡ digits_for fraction }
+        ensures value { result.value ≡ value_for fraction }
+    {
+        match fraction {
+            None => Digits { count: 0, value: 0 },
+            Some(it) => Digits {
+                count: it.digit_count(),
+                value: it.leading_value(),
+            },
+        }
+    }
+}
+
+impl Date {
+    /// The numbers of the date, and zeros where there is none.
+    #[inline(always)]
+    pub(crate) fn of(date: Option<DateRecord>) -> Date
+        ensures { result ≡ date_for date }
     {
         match date {
-            None => self.is_there = false,
-            Some(it) => {
-                self.year = it.year;
-                self.month = it.month;
-                self.day = it.day;
-                self.is_there = true;
-            }
+            None => Date {
+                year: 0,
+                month: 0,
+                day: 0,
+                is_there: false,
+            },
+            Some(it) => Date {
+                year: it.year,
+                month: it.month,
+                day: it.day,
+                is_there: true,
+            },
         }
     }
 }
 
 impl Time {
-    /// Writes the time.
+    /// The numbers of the time, and zeros where there is none.
     #[inline(always)]
-    pub(crate) fn put(&mut self, time: Option<TimeRecord>)
-        ensures { time_by self.new ≡ time }
+    pub(crate) fn of(time: Option<TimeRecord>) -> Time
+        ensures { result ≡ time_for time }
     {
         match time {
-            None => self.is_there = false,
+            None => Time {
+                fraction: 0,
+                fraction_digits: 0,
+                hour: 0,
+                minute: 0,
+                second: 0,
+                is_there: false,
+            },
             Some(it) => {
-                self.hour = it.hour;
-                self.minute = it.minute;
-                self.second = it.second;
-                self.is_there = true;
-                match it.fraction {
-                    None => self.fraction_digits = 0,
-                    Some(fraction) => {
-                        self.fraction = fraction.leading_value();
-                        self.fraction_digits = fraction.digit_count();
-                    }
+                let digits = Digits::of(it.fraction);
+                Time {
+                    fraction: digits.value,
+                    fraction_digits: digits.count,
+                    hour: it.hour,
+                    minute: it.minute,
+                    second: it.second,
+                    is_there: true,
                 }
             }
         }
@@ -113,44 +149,60 @@ impl Time {
 }
 
 impl Offset {
-    /// Writes the offset, where there is one.
+    /// The numbers of the offset, and zeros where there is none.
     #[inline(always)]
-    pub(crate) fn put(&mut self, offset: Option<UtcOffsetRecordOrZ>)
-        ensures { offset_by self.new ≡ offset }
+    pub(crate) fn of(offset: Option<UtcOffsetRecordOrZ>) -> Offset
+        ensures { result ≡ offset_for offset }
     {
         match offset {
-            None => self.form = 0,
-            Some(UtcOffsetRecordOrZ::Z) => self.form = 1,
-            Some(UtcOffsetRecordOrZ::Offset(it)) => self.put_shift(it),
+            None => Offset::of_form(0),
+            Some(UtcOffsetRecordOrZ::Z) => Offset::of_form(1),
+            Some(UtcOffsetRecordOrZ::Offset(it)) => Offset::of_shift(it),
         }
     }
 
-    /// Writes the offset.
+    // An offset of which nothing but the form is written.
     #[inline(always)]
-    pub(crate) fn put_shift(&mut self, offset: UtcOffsetRecord)
-        ensures shift { shift_by self.new ≡ offset }
-        ensures form { 2 ≤ self.new.form }
+    fn of_form(form: u8) -> Offset
+        ensures { result ≡ offset_of_form form }
+    {
+        Offset {
+            fraction: 0,
+            fraction_digits: 0,
+            form,
+            is_negative: false,
+            hour: 0,
+            minute: 0,
+            second: 0,
+        }
+    }
+
+    /// The numbers of an offset from UTC.
+    #[inline(always)]
+    pub(crate) fn of_shift(offset: UtcOffsetRecord) -> Offset
+        ensures { result ≡ shift_for offset }
     {
         match offset {
-            UtcOffsetRecord::MinutePrecision(it) => {
-                self.form = 2;
-                self.is_negative = is_negative(it.sign);
-                self.hour = it.hour;
-                self.minute = it.minute;
-            }
+            UtcOffsetRecord::MinutePrecision(it) => Offset {
+                fraction: 0,
+                fraction_digits: 0,
+                form: 2,
+                is_negative: is_negative(it.sign),
+                hour: it.hour,
+                minute: it.minute,
+                second: 0,
+            },
             UtcOffsetRecord::FullPrecisionOffset(it) => {
                 let minutes = it.minute_precision_offset;
-                self.form = 3;
-                self.is_negative = is_negative(minutes.sign);
-                self.hour = minutes.hour;
-                self.minute = minutes.minute;
-                self.second = it.second;
-                match it.fraction {
-                    None => self.fraction_digits = 0,
-                    Some(fraction) => {
-                        self.fraction = fraction.leading_value();
-                        self.fraction_digits = fraction.digit_count();
-                    }
+                let digits = Digits::of(it.fraction);
+                Offset {
+                    fraction: digits.value,
+                    fraction_digits: digits.count,
+                    form: 3,
+                    is_negative: is_negative(minutes.sign),
+                    hour: minutes.hour,
+                    minute: minutes.minute,
+                    second: it.second,
                 }
             }
         }
