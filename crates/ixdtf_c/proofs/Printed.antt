@@ -45,7 +45,7 @@ offset_of_both (Some time) (Some offset) has = has.1
 module _ (r : Contents) where
   printed_parts : (offset : Option (Option UtcOffsetRecordOrZ)) (zone : Option (Option ZoneNote)) → IsSomeAnd (parsed_by r offset zone) IsPrintable
       → IfSome (time_by r.time) IsDayTime × IsSomeAnd offset (λ it. IfSome it IsShift) × (zone ≢ None)
-  printed_parts (Some offset) (Some note) is =
+  printed_parts (Some offset) (Some it) is =
       let has = ((printable_iff _).0 is).time in
       (time_of_both (time_by r.time) offset has, offset_of_both (time_by r.time) offset has, λ none. cc)
   printed_parts (Some _) None is = absurd is

@@ -136,15 +136,14 @@ impl<'a> Duration<'a> {
         self.fraction_digits = digits.count;
     }
 
-    /// The numbers of a duration.
+    // Writes what was read, and clears what was not.
     #[inline(always)]
-    fn of(found: &DurationParseRecord) -> Duration<'a>
-        ensures { contents result ≡ duration_for found.now }
+    fn fill(&mut self, found: &DurationParseRecord)
+        ensures { contents self.new ≡ duration_for found.now }
     {
-        let mut duration = Duration::of_sign(is_negative(found.sign));
-        duration.put_date(found.date);
-        duration.put_time(found.time);
-        duration
+        *self = Duration::of_sign(is_negative(found.sign));
+        self.put_date(found.date);
+        self.put_time(found.time);
     }
 }
 
@@ -157,7 +156,7 @@ pub fn give_duration<'a>(outcome: &ParserResult<DurationParseRecord>, out: &mut 
 {
     match outcome {
         Ok(found) => {
-            *out = Duration::of(found);
+            out.fill(found);
             0
         }
         Err(error) => {

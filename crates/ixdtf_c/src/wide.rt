@@ -77,55 +77,55 @@ pub struct Calendar<'a> {
 }
 
 impl<'a> Zone<'a> {
-    // The numbers of the zone, and zeros where there is none.
+    // Writes the numbers of the zone, and zeros where there is none.
     #[inline(always)]
-    fn of(zone: &Option<TimeZoneAnnotation<'a, Utf16>>) -> Zone<'a>
-        ensures { zone_contents result ≡ zone_for (option_map (note_of (λ unit. unit)) zone.now) }
+    fn put(&mut self, zone: &Option<TimeZoneAnnotation<'a, Utf16>>)
+        ensures { zone_contents self.new ≡ zone_for (option_map (note_of (λ unit. unit)) zone.now) }
     {
         match zone {
-            None => Zone {
-                name: &[],
-                form: 0,
-                is_critical: false,
-                is_negative: false,
-                hour: 0,
-                minute: 0,
-            },
-            Some(it) => Zone::of_area(it.critical, &it.tz),
+            None => {
+                *self = Zone {
+                    name: &[],
+                    form: 0,
+                    is_critical: false,
+                    is_negative: false,
+                    hour: 0,
+                    minute: 0,
+                }
+            }
+            Some(it) => self.put_area(it.critical, &it.tz),
         }
     }
 
-    // The numbers of a name.
+    // Writes the numbers of a name or an offset.
     #[inline(always)]
-    fn of_name(is_critical: bool, name: &'a [u16]) -> Zone<'a>
-        ensures { zone_contents result ≡ area_for is_critical (Name (map (λ unit. unit) name.now)) }
+    fn put_area(&mut self, is_critical: bool, zone: &TimeZoneRecord<'a, Utf16>)
+        ensures { zone_contents self.new ≡ area_for is_critical (zone_of (λ unit. unit) zone.now) }
     {
-        Zone {
-            name,
-            form: 1,
-            is_critical,
-            is_negative: false,
-            hour: 0,
-            minute: 0,
+        match zone {
+            TimeZoneRecord::Name(name) => self.put_name(is_critical, name),
+            TimeZoneRecord::Offset(offset) => {
+                self.name = &[];
+                self.form = 2;
+                self.is_critical = is_critical;
+                self.is_negative = is_negative(offset.sign);
+                self.hour = offset.hour;
+                self.minute = offset.minute;
+            }
         }
     }
 
-    // The numbers of a name or an offset.
+    // Writes the numbers of a name.
     #[inline(always)]
-    fn of_area(is_critical: bool, zone: &TimeZoneRecord<'a, Utf16>) -> Zone<'a>
-        ensures { zone_contents result ≡ area_for is_critical (zone_of (λ unit. unit) zone.now) }
+    fn put_name(&mut self, is_critical: bool, name: &'a [u16])
+        ensures { zone_contents self.new ≡ area_for is_critical (Name (map (λ unit. unit) name.now)) }
     {
-        match zone {
-            TimeZoneRecord::Name(name) => Zone::of_name(is_critical, name),
-            TimeZoneRecord::Offset(offset) => Zone {
-                name: &[],
-                form: 2,
-                is_critical,
-                is_negative: is_negative(offset.sign),
-                hour: offset.hour,
-                minute: offset.minute,
-            },
-        }
+        self.name = name;
+        self.form = 1;
+        self.is_critical = is_critical;
+        self.is_negative = false;
+        self.hour = 0;
+        self.minute = 0;
     }
 }
 
@@ -149,10 +149,10 @@ impl<'a> Record<'a> {
     fn fill(&mut self, found: &IxdtfParseRecord<'a, Utf16>)
         ensures { contents self.new ≡ record_for (parsed_of (λ unit. unit) found.now) }
     {
-        self.date = Date::of(found.date);
-        self.time = Time::of(found.time);
-        self.offset = Offset::of(found.offset);
-        self.zone = Zone::of(&found.tz);
+        self.date.put(found.date);
+        self.time.put(found.time);
+        self.offset.put(found.offset);
+        self.zone.put(&found.tz);
         match found.calendar {
             None => {
                 self.calendar = &[];
@@ -206,7 +206,7 @@ pub fn give_offset<'a>(outcome: &ParserResult<UtcOffsetRecord>, out: &mut Record
     match outcome {
         Ok(offset) => {
             out.clear();
-            out.offset = Offset::of_shift(*offset);
+            out.offset.put_shift(*offset);
             0
         }
         Err(error) => out.refuse(*error),
@@ -223,7 +223,7 @@ pub fn give_zone<'a>(outcome: &ParserResult<TimeZoneRecord<'a, Utf16>>, out: &mu
     match outcome {
         Ok(zone) => {
             out.clear();
-            out.zone = Zone::of_area(false, zone);
+            out.zone.put_area(false, zone);
             0
         }
         Err(error) => out.refuse(*error),
@@ -241,7 +241,7 @@ pub fn give_name<'a>(outcome: &ParserResult<&'a [u16]>, out: &mut Record<'a>) ->
     match outcome {
         Ok(name) => {
             out.clear();
-            out.zone = Zone::of_name(false, name);
+            out.zone.put_name(false, name);
             0
         }
         Err(error) => out.refuse(*error),
