@@ -12,7 +12,7 @@ use Rattle.ixdtf.specs.language.Brackets.{Pair}
 use Rattle.ixdtf.specs.language.Languages.{Parsed, Found, Derives}
 use Rattle.ixdtf.specs.language.Letters.{Text}
 use Rattle.ixdtf.specs.language.Readers.{Reader}
-use Rattle.ixdtf_c.specs.Crossing.{where_there}
+use Rattle.ixdtf_c.specs.Standing.{where_there}
 use Rattle.ixdtf_c.specs.Outcomes.{ReadsRecord, ReadsPart}
 
 -- what holds of each error holds of the fault that is seen

@@ -1,8 +1,7 @@
 -- A handler that is asked about annotations in turn, and whose replies are handed over.
 use Rattle.std.proofs.Common.{◌≡◌, ◌≢◌, ◌≤◌, ℕ, List, [], ◌∷◌, ◌++◌, length, map, take, drop, get_or, ◌<◌, ◌+◌, Option, None}
-use Rattle.std.proofs.Common.{Result, Ok, Err, refl, sym, ◌∙◌, ap, inl, arith, option_map, Bool, true, false, if◌then◌else◌, ◌⊎◌, inr}
+use Rattle.std.proofs.Common.{Result, Ok, Err, refl, sym, ◌∙◌, ap, inl, arith, option_map, Bool, true, false}
 use Rattle.std.proofs.SliceLists.{chained_more}
-use Rattle.std.proofs.lemmas.Bool.Decides.{eqb_tells}
 use Rattle.std.proofs.lemmas.List.{map-append, append-nil, length-append, take_more, take-append-drop, length-map}
 use Rattle.std.specs.Option.{option_or}
 use Rattle.ixdtf_grammar.specs.declared.profile.Profile.{Profile}
@@ -13,15 +12,17 @@ use Rattle.ixdtf.specs.language.Readers.{CoreKind}
 use Rattle.ixdtf.specs.language.Readers.Reader.{bracketed}
 use Rattle.ixdtf.specs.language.Languages.{Parsed}
 use Rattle.ixdtf.specs.table.Faults.{Fault}
-use Rattle.ixdtf.specs.Handlers.{calendar_key, with_calendar, first_calendar, NoneRefused, Calls, IsChain, Step, handed, replies_of, pair_of, Handled}
+use Rattle.ixdtf.specs.Handlers.{Reply, calendar_value, first_calendar, NoneRefused, LastRefused, Calls, IsChain, Step, handed, replies_of, pair_of, Handled}
 use Rattle.ixdtf_reading.proofs.code.OneMoreReply.{first_calendar-more, NoneRefused-nothing, NoneRefused-more}
 use Rattle.ixdtf_reading.proofs.theorems.Handled.{handled as handled_by}
-use Rattle.ixdtf.specs.Laws.{GivesResult}
-use Rattle.ixdtf_c.specs.Crossing.{fault_by, either_by, where_there}
+use Rattle.ixdtf_c.specs.Crossing.{Contents, Gives, units_for, is_there}
 use Rattle.ixdtf_c.specs.Listing.{Lists}
 use Rattle.ixdtf_c.specs.Replying.{with_kept}
+use Rattle.ixdtf_c.specs.Standing.{where_there}
 use Rattle.ixdtf_c.specs.Turns.{HandsOver, InTurn}
-use Rattle.ixdtf_c.proofs.Replying.{zero_or_not, overwritten-front, gives_all, front_of}
+use Rattle.ixdtf_c.specs.Numbers.{number_for}
+use Rattle.ixdtf_c.proofs.Numbers.{number_some, nowhere}
+use Rattle.ixdtf_c.proofs.Replying.{overwritten-front, gives_all, front_of}
 
 -- ---- annotations in turn
 
@@ -91,13 +92,17 @@ module _ {T U F : Type 0} (number : U → ℕ) (step : Step T U F) (handler : F)
       all = λ zeroed. absurd (refused zeroed);
       accepted = λ zeroed. absurd (refused zeroed);
       first = λ zeroed. absurd (refused zeroed);
-      refused = λ other. record {
-        earlier = replies_of number so_far.calls;
-        reply = option_map (pair_of number) reply;
-        split = more_replies;
-        none = so_far.accepted;
-        refused = rw (← so_far.first) (over.refused refused);
-      };
+      refused = λ other. let (fault, named, beside) = over.refused refused in (
+        fault,
+        named,
+        record {
+          earlier = replies_of number so_far.calls;
+          reply = option_map (pair_of number) reply;
+          split = more_replies;
+          none = so_far.accepted;
+          refused = rw (← so_far.first) beside;
+        },
+      );
     }
 
   -- it was asked about all
@@ -114,57 +119,65 @@ module _ {T U F : Type 0} (number : U → ℕ) (step : Step T U F) (handler : F)
 
 -- ---- the outcome
 
-pub refused_by : {A : Type 0} (number : ℕ) (location : List ℕ) (read : A) → number ≢ 0 → either_by number location read ≡ Err (fault_by number location)
-refused_by number location read some = elim (eqb_tells number 0) [
-  | inl p ↦ absurd (some p.1)
-  | inr p ↦ ap (λ test. if test then Ok read else Err (fault_by number location)) p.0
-]
+-- a record gets the calendar that is kept
+pub kept_given : (number : ℕ) (old new : Contents) (listed : Result Parsed Fault) (kept : Option Pair) (units : List ℕ) (there : Bool)
+    → Gives (λ found. found) listed number old new → number ≡ 0 → units ≡ units_for (calendar_value kept) → there ≡ is_there (calendar_value kept)
+    → Gives (λ found. found) (with_kept kept listed) number old (record new { calendar = units; has_calendar = there })
+kept_given number old new (Ok found) kept units there given zeroed is_units is_there = (given.0, rw (given.1, is_units, is_there) refl)
+kept_given number old new (Err fault) kept units there given zeroed is_units is_there = absurd (number_some fault (sym given.0 ∙ zeroed))
+
+pub there_kept : (there : Bool) (pair : Pair) → there ≡ is_there (calendar_value (where_there there pair))
+there_kept true pair = refl
+there_kept false pair = refl
 
 -- a refusal is kept
-pub kept_refused : (number : ℕ) (location : List ℕ) (read : Parsed) (kept : Option Pair) → number ≢ 0
-    → either_by number location read ≡ with_kept kept (either_by number location read)
-kept_refused number location read kept some = rw (refused_by number location read some) refl
+pub kept_refused : (number : ℕ) (old new : Contents) (listed : Result Parsed Fault) (kept : Option Pair)
+    → Gives (λ found. found) listed number old new → number ≢ 0 → Gives (λ found. found) (with_kept kept listed) number old new
+kept_refused number old new (Ok found) kept given some = absurd (some given.0)
+kept_refused number old new (Err fault) kept given some = given
 
--- a record gets the calendar that is kept
-pub kept_read : (number : ℕ) (location : List ℕ) (old : Parsed) (there critical : Bool) (value : List ℕ) → number ≡ 0
-    → either_by number location (with_calendar old (where_there there value))
-    ≡ with_kept (where_there there (record { critical = critical; key = calendar_key; value = value })) (either_by number location old)
-kept_read number location old true critical value zeroed = rw zeroed refl
-kept_read number location old false critical value zeroed = rw zeroed refl
+-- the record of a refused reply has no location
+pub refused_given : (number : ℕ) (old : Contents) (replies : List Reply) (fault : Fault) → number ≡ number_for fault → LastRefused replies fault
+    → Gives (λ found. found) (Err fault) number old (record old { location = [] })
+refused_given number old replies fault named last =
+    (named, λ i. record old { location = sym (nowhere (first_calendar last.earlier) last.reply fault last.refused) i })
 
 -- where the annotations were listed with room for all, and the handler was asked about them in turn, this is what a form with a handler says
-pub handled_in_turn : {T U F A : Type 0} {number : U → ℕ} {step : Step T U F} {handler last : F} {view : A → Pair} {profile : Profile} {kind : CoreKind}
-    {text : Text}
-    {old new : List A} {count result : ℕ} {listed outcome : Result Parsed Fault} {kept : Option Pair}
-    → Lists view profile (bracketed kind) text old new count listed → count ≤ length old
-    → InTurn number step handler last (map view (take count new)) kept result
-    → (result ≡ 0 → outcome ≡ with_kept kept listed) → (result ≢ 0 → outcome ≡ Err (fault_by result []))
-    → Handled number step handler (bracketed kind) text outcome
-handled_in_turn {T} {U} {F} {A} {number} {step} {handler} {last} {view} {profile} {kind} {text} {old} {new} {count} {result} {listed} {outcome}
-    {kept} listing room turns whole stopped =
-    handled_by number step handler (bracketed kind) text outcome last record { calls = turns.calls; chain = turns.chain; gives = gives (zero_or_not result) }
-  where
-    shown : map view (take count new) ≡ map view listing.annotations
-    shown = ap (map view) (rw (listing.counted, listing.written) (overwritten-front old listing.annotations (rw (← listing.counted) room)))
+module _ {T U F A : Type 0} {number : U → ℕ} {step : Step T U F} {handler last : F} {view : A → Pair} {profile : Profile} {kind : CoreKind}
+    {text : Text} {old new : List A} {count result : ℕ} {listed : Result Parsed Fault} {kept : Option Pair}
+    (listing : Lists view profile (bracketed kind) text old new count listed) (room : count ≤ length old)
+    (turns : InTurn number step handler last (map view (take count new)) kept result) where
+  shown : map view (take count new) ≡ map view listing.annotations
+  shown = ap (map view) (rw (listing.counted, listing.written) (overwritten-front old listing.annotations (rw (← listing.counted) room)))
 
-    gives : (result ≡ 0) ⊎ (result ≢ 0) → GivesResult (bracketed kind) text (handed number turns.calls) (replies_of number turns.calls) outcome
-    gives (inl zeroed) =
-        rw (whole zeroed, turns.first zeroed, turns.all zeroed ∙ shown)
-        (gives_all profile kind text (map view listing.annotations) listed (replies_of number turns.calls) listing.read (turns.accepted zeroed))
-    gives (inr refused) =
-        let stop = turns.refused refused in
-        let (behind, is) = turns.asked in
-        let split : map view listing.annotations ≡ handed number turns.calls ++ behind = sym shown ∙ is in
-        let lengths : length (replies_of number turns.calls) ≡ length (handed number turns.calls) = length-map turns.calls _ ∙ sym (length-map turns.calls _) in
-        let some : handed number turns.calls ++ behind ≢ [] = λ none. omega (
-          arith,
-          lengths,
-          ap length stop.split,
-          length-append stop.earlier (stop.reply ∷ []),
-          ap length none,
-          length-append (handed number turns.calls) behind,
-        ) in
-        rw (stopped refused) (inl (
+  -- none of its replies was refused
+  pub handled_all : result ≡ 0 → Handled number step handler (bracketed kind) text (with_kept kept listed)
+  handled_all zeroed = handled_by number step handler (bracketed kind) text (with_kept kept listed) last record {
+    calls = turns.calls;
+    chain = turns.chain;
+    gives = rw (turns.first zeroed, turns.all zeroed ∙ shown)
+        (gives_all profile kind text (map view listing.annotations) listed (replies_of number turns.calls) listing.read (turns.accepted zeroed));
+  }
+
+  -- the last of its replies was refused
+  pub handled_refused : (fault : Fault) → LastRefused (replies_of number turns.calls) fault → Handled number step handler (bracketed kind) text (Err fault)
+  handled_refused fault stop =
+      let (behind, is) = turns.asked in
+      let split : map view listing.annotations ≡ handed number turns.calls ++ behind = sym shown ∙ is in
+      let lengths : length (replies_of number turns.calls) ≡ length (handed number turns.calls) = length-map turns.calls _ ∙ sym (length-map turns.calls _) in
+      let some : handed number turns.calls ++ behind ≢ [] = λ none. omega (
+        arith,
+        lengths,
+        ap length stop.split,
+        length-append stop.earlier (stop.reply ∷ []),
+        ap length none,
+        length-append (handed number turns.calls) behind,
+      ) in
+      handled_by number step handler (bracketed kind) text (Err fault) last record {
+        calls = turns.calls;
+        chain = turns.chain;
+        gives = inl (
           front_of profile kind text (map view listing.annotations) listed (handed number turns.calls) behind listing.read split some,
           stop,
-        ))
+        );
+      }

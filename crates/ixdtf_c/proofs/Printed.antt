@@ -1,19 +1,34 @@
 -- Records that have a text, and records that were read.
-use Rattle.std.proofs.Common.{refl, ◌≡◌, ◌≤◌, ◌+◌, ℕ, List, length, Option, Some, None, IfSome}
+use Rattle.std.proofs.Common.{refl, sym, ◌∙◌, ◌≡◌, ◌≢◌, ◌≤◌, ◌+◌, ℕ, Bool, not, inl, inr, ap, if◌then◌else◌, List, length, Option, Some, None, IfSome, IsSomeAnd, Ok, Err, arith}
+use Rattle.std.proofs.lemmas.Bool.Decides.{eqb_tells}
 use Rattle.ixdtf_grammar.specs.declared.profile.Profile.{Profile}
+use Rattle.ixdtf_grammar.specs.declared.records.DateRecord.{DateRecord}
+use Rattle.ixdtf_grammar.specs.declared.records.MinutePrecisionOffset.{MinutePrecisionOffset}
+use Rattle.ixdtf_grammar.specs.declared.records.Sign.{Sign}
+use Rattle.ixdtf_grammar.specs.declared.records.Sign.TheVariants.{Positive, Negative}
 use Rattle.ixdtf_grammar.specs.declared.records.TimeRecord.{TimeRecord}
+use Rattle.ixdtf_grammar.specs.declared.records.UtcOffsetRecord.TheVariants as offsets
 use Rattle.ixdtf_grammar.specs.declared.records.UtcOffsetRecordOrZ.{UtcOffsetRecordOrZ}
+use Rattle.ixdtf_grammar.specs.declared.records.UtcOffsetRecordOrZ.TheVariants as shifts
+use Rattle.ixdtf.specs.language.Brackets.{ZoneNote}
+use Rattle.ixdtf.specs.language.Fractions.{FractionParts}
 use Rattle.ixdtf.specs.language.Languages.{Parsed}
 use Rattle.ixdtf.specs.language.Letters.{Text}
+use Rattle.ixdtf.specs.language.OffsetRecords.{sign_for}
 use Rattle.ixdtf.specs.language.Readers.{parse}
+use Rattle.ixdtf.specs.language.ZoneNames.{Zone as SomeZone}
+use Rattle.ixdtf.specs.language.ZoneNames.Zone.{Name, Offset as ByOffset}
 use Rattle.ixdtf.specs.Handlers.{UnhandledRecord}
-use Rattle.ixdtf_c.specs.Crossing.{either_by}
-use Rattle.ixdtf_c.specs.Outcomes.{ReadsRecord}
+use Rattle.ixdtf_c.specs.Crossing.{Contents, digits_for, value_for, is_negative, date_for, time_for, offset_for, area_for, zone_for}
+use Rattle.ixdtf_c.specs.Crossing.{units_for, is_there, record_for}
+use Rattle.ixdtf_c.specs.Outcomes.{GivesRecord}
+use Rattle.ixdtf_c.specs.Standing.{where_there, fraction_by, date_by, time_by, minutes_by, offset_by, zone_by, parsed_by, record_by}
 use Rattle.ixdtf_print.specs.Canonical.{canonical_text}
 use Rattle.ixdtf_print.specs.Printable.{IsPrintable}
-use Rattle.ixdtf_print.specs.Spelled.{HasTime, IsDayTime, IsShift}
+use Rattle.ixdtf_print.specs.Spelled.{HasTime, HasDigits, IsDayTime, IsShift}
 use Rattle.ixdtf_print.proofs.Parse.{to_parts}
 use Rattle.ixdtf_print.proofs.Printable.{printable_iff, of_record}
+use Rattle.ixdtf_c.proofs.Numbers.{number_some}
 
 time_of_both : (time : Option TimeRecord) (offset : Option UtcOffsetRecordOrZ) → HasTime time offset → IfSome time IsDayTime
 time_of_both None offset has = tt
@@ -26,22 +41,108 @@ offset_of_both None (Some offset) has = absurd has
 offset_of_both (Some time) None has = tt
 offset_of_both (Some time) (Some offset) has = has.1
 
-pub printed_time : (found : Parsed) → IsPrintable found → IfSome found.time IsDayTime
-printed_time found is = time_of_both found.time found.offset ((printable_iff found).0 is).time
+-- what the numbers of a record stand for that is printed
+module _ (r : Contents) where
+  printed_parts : (offset : Option (Option UtcOffsetRecordOrZ)) (zone : Option (Option ZoneNote)) → IsSomeAnd (parsed_by r offset zone) IsPrintable
+      → IfSome (time_by r.time) IsDayTime × IsSomeAnd offset (λ it. IfSome it IsShift) × (zone ≢ None)
+  printed_parts (Some offset) (Some it) is =
+      let has = ((printable_iff _).0 is).time in
+      (time_of_both (time_by r.time) offset has, offset_of_both (time_by r.time) offset has, λ none. cc)
+  printed_parts (Some _) None is = absurd is
+  printed_parts None _ is = absurd is
 
-pub printed_offset : (found : Parsed) → IsPrintable found → IfSome found.offset IsShift
-printed_offset found is = offset_of_both found.time found.offset ((printable_iff found).0 is).time
+  pub printed_time : IsSomeAnd (record_by r) IsPrintable → IfSome (time_by r.time) IsDayTime
+  printed_time is = (printed_parts (offset_by r.offset) (zone_by r.zone) is).0
 
--- what a reader of dates returned is what its text gives
-read_gives : (profile : Profile) (text : Text) (number : ℕ) (location : List ℕ) (found : Parsed)
-    → ReadsRecord profile parse text (either_by number location found) → number ≡ 0 → UnhandledRecord parse text found
-read_gives profile text number location found reads zero = (reads.ok found).0 (rw zero refl)
+  pub printed_offset : IsSomeAnd (record_by r) IsPrintable → IsSomeAnd (offset_by r.offset) (λ it. IfSome it IsShift)
+  printed_offset is = (printed_parts (offset_by r.offset) (zone_by r.zone) is).1
 
-pub read_is_printable : (profile : Profile) (text : Text) (number : ℕ) (location : List ℕ) (found : Parsed)
-    → ReadsRecord profile parse text (either_by number location found) → number ≡ 0 → IsPrintable found
-read_is_printable profile text number location found reads zero = (text, read_gives profile text number location found reads zero)
+  pub printed_zone : IsSomeAnd (record_by r) IsPrintable → zone_by r.zone ≢ None
+  printed_zone is = (printed_parts (offset_by r.offset) (zone_by r.zone) is).2
 
-pub read_fits : (profile : Profile) (text : Text) (number : ℕ) (location : List ℕ) (found : Parsed)
-    → ReadsRecord profile parse text (either_by number location found) → number ≡ 0 → length (canonical_text found) ≤ length text + 14
-read_fits profile text number location found reads zero =
-    (of_record text found (to_parts text found (read_gives profile text number location found reads zero))).1
+-- ---- what is written of a record that has a text stands for it
+
+sign_back : (sign : Sign) → sign_for (not (is_negative sign)) ≡ sign
+sign_back Positive = refl
+sign_back Negative = refl
+
+minutes_back : (it : MinutePrecisionOffset) → minutes_by (is_negative it.sign) it.hour it.minute ≡ it
+minutes_back it = λ i. record { sign = sign_back it.sign i; hour = it.hour; minute = it.minute }
+
+fraction_back : (part : Option FractionParts) → HasDigits part → fraction_by (digits_for part) (value_for part) ≡ part
+fraction_back None has = refl
+fraction_back (Some it) has = counted it.count it.value has.count_from
+  where
+    counted : (count value : ℕ) → 1 ≤ count → fraction_by count value ≡ Some (record { count = count; value = value })
+    counted count value from = elim (eqb_tells count 0) [
+      | inl p ↦ absurd (omega (arith, from, p.1))
+      | inr p ↦ ap (λ test. if test then None else Some (record { count = count; value = value })) p.0
+    ]
+
+date_back : (date : Option DateRecord) → date_by (date_for date) ≡ date
+date_back None = refl
+date_back (Some it) = refl
+
+time_back : (time : Option TimeRecord) → IfSome time IsDayTime → time_by (time_for time) ≡ time
+time_back None is = refl
+time_back (Some it) is =
+    λ i. Some (record { hour = it.hour; minute = it.minute; second = it.second; fraction = fraction_back it.fraction is.fraction i })
+
+offset_back : (offset : Option UtcOffsetRecordOrZ) → IfSome offset IsShift → offset_by (offset_for offset) ≡ Some offset
+offset_back None is = refl
+offset_back (Some shifts.Z) is = refl
+offset_back (Some (shifts.Offset (offsets.MinutePrecision it))) is =
+    λ i. Some (Some (shifts.Offset (offsets.MinutePrecision (minutes_back it i))))
+offset_back (Some (shifts.Offset (offsets.FullPrecisionOffset it))) is = λ i. Some (Some (shifts.Offset (offsets.FullPrecisionOffset (record {
+  minute_precision_offset = minutes_back it.minute_precision_offset i;
+  second = it.second;
+  fraction = fraction_back it.fraction is.fraction i;
+}))))
+
+zone_back : (zone : Option ZoneNote) → zone_by (zone_for zone) ≡ Some zone
+zone_back None = refl
+zone_back (Some it) = of it.critical it.zone
+  where
+    of : (critical : Bool) (zone : SomeZone) → zone_by (area_for critical zone) ≡ Some (Some (record { critical = critical; zone = zone }))
+    of critical (Name units) = refl
+    of critical (ByOffset it) = λ i. Some (Some (record { critical = critical; zone = ByOffset (minutes_back it i) }))
+
+calendar_back : (calendar : Option (List ℕ)) → where_there (is_there calendar) (units_for calendar) ≡ calendar
+calendar_back None = refl
+calendar_back (Some units) = refl
+
+pub record_back : (found : Parsed) → IsPrintable found → record_by (record_for found) ≡ Some found
+record_back found is =
+    let has = ((printable_iff found).0 is).time in
+    rw (offset_back found.offset (offset_of_both found.time found.offset has), zone_back found.zone)
+    (λ i. Some (record {
+      date = date_back found.date i;
+      time = time_back found.time (time_of_both found.time found.offset has) i;
+      offset = found.offset;
+      zone = found.zone;
+      calendar = calendar_back found.calendar i;
+    }))
+
+-- ---- what was read
+
+-- a record that a reader of dates returned and wrote is what its text gives
+read_back : (profile : Profile) (text : Text) (number : ℕ) (old new : Contents)
+    → GivesRecord profile parse text number old new → number ≡ 0
+    → (found : Parsed) × UnhandledRecord parse text found × (record_by new ≡ Some found)
+read_back profile text number old new (Ok found, reads, given) zeroed =
+    let gives = (reads.ok found).0 refl in
+    (found, gives, rw given.1 (record_back found (text, gives)))
+read_back profile text number old new (Err fault, reads, given) zeroed = absurd (number_some fault (sym given.0 ∙ zeroed))
+
+pub read_is_printable : (profile : Profile) (text : Text) (number : ℕ) (old new : Contents)
+    → GivesRecord profile parse text number old new → number ≡ 0 → IsSomeAnd (record_by new) IsPrintable
+read_is_printable profile text number old new read zeroed =
+    let (found, gives, is) = read_back profile text number old new read zeroed in
+    rw is (text, gives)
+
+pub read_fits : (profile : Profile) (text : Text) (number : ℕ) (old new : Contents)
+    → GivesRecord profile parse text number old new → number ≡ 0
+    → IsSomeAnd (record_by new) (λ found. length (canonical_text found) ≤ length text + 14)
+read_fits profile text number old new read zeroed =
+    let (found, gives, is) = read_back profile text number old new read zeroed in
+    rw is (of_record text found (to_parts text found gives)).1

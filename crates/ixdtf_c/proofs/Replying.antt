@@ -14,7 +14,6 @@ use Rattle.ixdtf.specs.Handlers.{Reply, first_calendar, NoneRefused, LastRefused
 use Rattle.ixdtf.specs.Laws.{GivesResult}
 use Rattle.ixdtf_reading.proofs.code.OneMoreReply.{first_calendar-more, NoneRefused-nothing, NoneRefused-more}
 use Rattle.ixdtf_reading.proofs.theorems.OneChain.{Replying, GivesChain, only_chain, derived_front, row_front}
-use Rattle.ixdtf_c.specs.Crossing.{fault_by}
 use Rattle.ixdtf_c.specs.Listing.{PassesOver, overwritten}
 use Rattle.ixdtf_c.specs.Replying.{with_kept, Replied, IsFront, ReplyingGives, ReplyingIsHandling}
 
@@ -59,19 +58,19 @@ module _ (listed outcome : Result Parsed Fault) where
         rw (← (append_assoc given (Some reply ∷ []) rest)) (settled (given ++ Some reply ∷ []) rest next
         (NoneRefused-more given (Some reply) none accepted) same (on zeroed))
     | inr refused ↦
+        let (fault, named) = takes.named refused in
         inr (
           given ++ Some reply ∷ [],
           rest,
           sym (append_assoc given (Some reply ∷ []) rest),
-          fault_by number [],
-          stop refused,
+          fault,
+          stop fault named,
           record {
             earlier = given;
             reply = Some reply;
             split = refl;
             none = none;
-            refused =
-                rw (← is) ((takes.refused (fault_by number [])).0 (refused, refl));
+            refused = rw (← is) ((takes.refused fault).0 named);
           },
         )
   ]

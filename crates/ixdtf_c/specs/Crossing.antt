@@ -1,9 +1,10 @@
--- What the numbers at the C boundary stand for.
-use Rattle.std.specs.Prelude.{◌≡◌, ◌≤◌, ℕ, Bool, true, false, not, nat_eq, if◌then◌else◌, List}
-use Rattle.std.specs.Prelude.{[], ◌∷◌, ◌-◌, slice_index_or, Option, Some, None, Result, Ok, Err}
+-- The records that calls write: each field of what was read, and zero of what was not there.
+use Rattle.std.specs.Prelude.{◌≡◌, ℕ, Bool, true, false, List, [], Option, Some, None, Result, Ok, Err, pos}
 use Rattle.ixdtf_grammar.specs.declared.records.DateRecord.{DateRecord}
 use Rattle.ixdtf_grammar.specs.declared.records.TimeRecord.{TimeRecord}
-use Rattle.ixdtf_grammar.specs.declared.records.MinutePrecisionOffset.{MinutePrecisionOffset}
+use Rattle.ixdtf_grammar.specs.declared.records.Sign.{Sign}
+use Rattle.ixdtf_grammar.specs.declared.records.Sign.TheVariants.{Positive, Negative}
+use Rattle.ixdtf_grammar.specs.declared.records.DateDurationRecord.{DateDurationRecord}
 use Rattle.ixdtf_grammar.specs.declared.records.DurationParseRecord.{DurationParseRecord}
 use Rattle.ixdtf_grammar.specs.declared.records.TimeDurationRecord.{TimeDurationRecord}
 use Rattle.ixdtf_grammar.specs.declared.records.TimeDurationRecord.TheVariants as times
@@ -13,119 +14,221 @@ use Rattle.ixdtf_grammar.specs.declared.records.UtcOffsetRecordOrZ.{UtcOffsetRec
 use Rattle.ixdtf_grammar.specs.declared.records.UtcOffsetRecordOrZ.TheVariants as shifts
 use Rattle.ixdtf.specs.language.Brackets.{ZoneNote}
 use Rattle.ixdtf.specs.language.Fractions.{FractionParts}
-use Rattle.ixdtf.specs.language.OffsetRecords.{sign_for}
+use Rattle.ixdtf.specs.language.Languages.{Parsed}
 use Rattle.ixdtf.specs.language.ZoneNames.{Zone as SomeZone}
 use Rattle.ixdtf.specs.language.ZoneNames.Zone.{Name, Offset as ByOffset}
 use Rattle.ixdtf.specs.table.Faults.{Fault}
-use Rattle.ixdtf.specs.table.Faults.Fault.{ImplAssert, NonAsciiCodePoint, ParseFloat, AbruptEnd, InvalidEnd, InvalidMonthRange, InvalidDayRange, DateYear}
-use Rattle.ixdtf.specs.table.Faults.Fault.{DateExtendedYear, DateMonth, DateDay, DateUnexpectedEnd, TimeRequired, TimeHour, TimeMinuteSecond, TimeSecond}
-use Rattle.ixdtf.specs.table.Faults.Fault.{FractionPart, DateSeparator, TimeSeparator, DecimalSeparator}
-use Rattle.ixdtf.specs.table.Faults.Fault.{InvalidAnnotation, AnnotationOpen, AnnotationClose, AnnotationChar}
-use Rattle.ixdtf.specs.table.Faults.Fault.{AnnotationKeyValueSeparator, AnnotationKeyLeadingChar, AnnotationKeyChar}
-use Rattle.ixdtf.specs.table.Faults.Fault.{AnnotationValueCharPostHyphen, AnnotationValueChar, InvalidMinutePrecisionOffset}
-use Rattle.ixdtf.specs.table.Faults.Fault.{CriticalDuplicateCalendar, UnrecognizedCritical}
-use Rattle.ixdtf.specs.table.Faults.Fault.{TzLeadingChar, IanaCharPostSeparator, IanaChar, UtcTimeSeparator}
-use Rattle.ixdtf.specs.table.Faults.Fault.{OffsetNeedsSign, MonthDayHyphen, DurationDisgnator, DurationValueExceededRange}
-use Rattle.ixdtf.specs.table.Faults.Fault.{DateDurationPartOrder, TimeDurationPartOrder}
-use Rattle.ixdtf.specs.table.Faults.Fault.{TimeDurationDesignator, AmbiguousTimeMonthDay, AmbiguousTimeYearMonth, InvalidMonthDay}
 use Rattle.ixdtf_c.specs.declared.forms.Date.{Date}
 use Rattle.ixdtf_c.specs.declared.forms.Time.{Time}
 use Rattle.ixdtf_c.specs.declared.forms.Offset.{Offset}
-use Rattle.ixdtf_c.specs.declared.durations.Duration.{Duration}
+use Rattle.ixdtf_c.specs.Numbers.{location_of, number_of}
 
--- a value, where it is there
-abbrev pub where_there : {A : Type 0} → Bool → A → Option A
-where_there true a = Some a
-where_there false a = None
+-- ---- the contents of a record: its fields, with the units of its slices
 
--- a fraction by how many digits it has, and none of no digits
-abbrev pub fraction_by : ℕ → ℕ → Option FractionParts
-fraction_by digits value = if nat_eq digits 0 then None else Some (record { count = digits; value = value })
+pub record ZoneContents : Type 0 where
+  pub name : List ℕ
+  pub form : ℕ
+  pub is_critical : Bool
+  pub is_negative : Bool
+  pub hour : ℕ
+  pub minute : ℕ
 
-abbrev pub date_by : Date → Option DateRecord
-date_by d = where_there d.is_there (record { year = d.year; month = d.month; day = d.day })
+pub record Contents : Type 0 where
+  pub date : Date
+  pub time : Time
+  pub offset : Offset
+  pub zone : ZoneContents
+  pub calendar : List ℕ
+  pub has_calendar : Bool
+  pub location : List ℕ
 
-abbrev pub time_by : Time → Option TimeRecord
-time_by t = where_there t.is_there (record { hour = t.hour; minute = t.minute; second = t.second; fraction = fraction_by t.fraction_digits t.fraction })
+pub record DurationContents : Type 0 where
+  pub days : ℕ
+  pub hours : ℕ
+  pub minutes : ℕ
+  pub seconds : ℕ
+  pub fraction : ℕ
+  pub years : ℕ
+  pub months : ℕ
+  pub weeks : ℕ
+  pub fraction_digits : ℕ
+  pub time_form : ℕ
+  pub has_date : Bool
+  pub is_negative : Bool
+  pub location : List ℕ
 
--- an offset in hours and minutes
-abbrev pub minutes_by : Bool → ℕ → ℕ → MinutePrecisionOffset
-minutes_by is_negative hour minute = record { sign = sign_for (not is_negative); hour = hour; minute = minute }
+-- ---- what is written of a part, where it is there
 
--- 2: hours and minutes. 3: hours, minutes and seconds.
-abbrev pub shift_by : Offset → UtcOffsetRecord
-shift_by o =
-    if nat_eq o.form 2 then offsets.MinutePrecision (minutes_by o.is_negative o.hour o.minute)
-    else offsets.FullPrecisionOffset (record {
-      minute_precision_offset = minutes_by o.is_negative o.hour o.minute;
-      second = o.second;
-      fraction = fraction_by o.fraction_digits o.fraction;
-    })
+-- how many digits a fraction has
+abbrev pub digits_for : Option FractionParts → ℕ
+digits_for None = 0
+digits_for (Some fraction) = fraction.count
 
--- 0: none. 1: Z. Another number: an offset.
-abbrev pub offset_by : Offset → Option UtcOffsetRecordOrZ
-offset_by o = if nat_eq o.form 0 then None else (if nat_eq o.form 1 then Some shifts.Z else Some (shifts.Offset (shift_by o)))
+-- and the number of the first of them
+abbrev pub value_for : Option FractionParts → ℕ
+value_for None = 0
+value_for (Some fraction) = fraction.value
 
--- 1: a name. 2: an offset.
-abbrev pub area_by : ℕ → List ℕ → MinutePrecisionOffset → SomeZone
-area_by form name offset = if nat_eq form 1 then Name name else ByOffset offset
+abbrev pub is_negative : Sign → Bool
+is_negative Positive = false
+is_negative Negative = true
 
--- 0: none. Another number: a zone.
-abbrev pub note_by : ℕ → Bool → List ℕ → MinutePrecisionOffset → Option ZoneNote
-note_by form critical name offset = if nat_eq form 0 then None else Some (record { critical = critical; zone = area_by form name offset })
+abbrev pub date_for : Option DateRecord → Date
+date_for None = record { year = pos 0; month = 0; day = 0; is_there = false }
+date_for (Some it) = record { year = it.year; month = it.month; day = it.day; is_there = true }
 
--- 0: none. 1, 2 and 3: the last unit is hours, minutes, seconds.
-abbrev pub clock_by : Duration → Option TimeDurationRecord
-clock_by d =
-    if nat_eq d.time_form 0 then None
-    else (if nat_eq d.time_form 1 then Some (times.Hours d.hours (fraction_by d.fraction_digits d.fraction))
-    else (if nat_eq d.time_form 2 then Some (times.Minutes d.hours d.minutes (fraction_by d.fraction_digits d.fraction))
-    else Some (times.Seconds d.hours d.minutes d.seconds (fraction_by d.fraction_digits d.fraction))))
-
-abbrev pub duration_by : Duration → DurationParseRecord
-duration_by d = record {
-  sign = sign_for (not d.is_negative);
-  date = where_there d.has_date (record { years = d.years; months = d.months; weeks = d.weeks; days = d.days });
-  time = clock_by d;
+abbrev pub time_for : Option TimeRecord → Time
+time_for None = record { fraction = 0; fraction_digits = 0; hour = 0; minute = 0; second = 0; is_there = false }
+time_for (Some it) = record {
+  fraction = value_for it.fraction;
+  fraction_digits = digits_for it.fraction;
+  hour = it.hour;
+  minute = it.minute;
+  second = it.second;
+  is_there = true;
 }
 
--- the errors in the order of their numbers, from 1 on
-abbrev pub faults_at : List ℕ → List Fault
-faults_at location =
-    ImplAssert ∷ NonAsciiCodePoint ∷ ParseFloat ∷ AbruptEnd location ∷ InvalidEnd ∷ InvalidMonthRange ∷
-    InvalidDayRange ∷ DateYear ∷ DateExtendedYear ∷ DateMonth ∷ DateDay ∷ DateUnexpectedEnd ∷
-    TimeRequired ∷ TimeHour ∷ TimeMinuteSecond ∷ TimeSecond ∷ FractionPart ∷ DateSeparator ∷
-    TimeSeparator ∷ DecimalSeparator ∷ InvalidAnnotation ∷ AnnotationOpen ∷ AnnotationClose ∷ AnnotationChar ∷
-    AnnotationKeyValueSeparator ∷ AnnotationKeyLeadingChar ∷ AnnotationKeyChar ∷ AnnotationValueCharPostHyphen ∷
-    AnnotationValueChar ∷ InvalidMinutePrecisionOffset ∷
-    CriticalDuplicateCalendar ∷ UnrecognizedCritical ∷ TzLeadingChar ∷ IanaCharPostSeparator ∷ IanaChar ∷ UtcTimeSeparator ∷
-    OffsetNeedsSign ∷ MonthDayHyphen ∷ DurationDisgnator ∷ DurationValueExceededRange ∷ DateDurationPartOrder ∷ TimeDurationPartOrder ∷
-    TimeDurationDesignator ∷ AmbiguousTimeMonthDay ∷ AmbiguousTimeYearMonth ∷ InvalidMonthDay ∷ []
+-- an offset of which nothing but the form is written
+abbrev pub offset_of_form : ℕ → Offset
+offset_of_form form = record { fraction = 0; fraction_digits = 0; form = form; is_negative = false; hour = 0; minute = 0; second = 0 }
 
--- the error of a number from 1 on, with its location
-abbrev pub fault_by : ℕ → List ℕ → Fault
-fault_by number location = slice_index_or (faults_at location) (number - 1) ImplAssert
+-- 2: hours and minutes. 3: hours, minutes and seconds.
+abbrev pub shift_for : UtcOffsetRecord → Offset
+shift_for (offsets.MinutePrecision it) = record {
+  fraction = 0;
+  fraction_digits = 0;
+  form = 2;
+  is_negative = is_negative it.sign;
+  hour = it.hour;
+  minute = it.minute;
+  second = 0;
+}
+shift_for (offsets.FullPrecisionOffset it) = record {
+  fraction = value_for it.fraction;
+  fraction_digits = digits_for it.fraction;
+  form = 3;
+  is_negative = is_negative it.minute_precision_offset.sign;
+  hour = it.minute_precision_offset.hour;
+  minute = it.minute_precision_offset.minute;
+  second = it.second;
+}
 
--- the numbers that errors have
-abbrev pub IsErrorNumber : ℕ → Type 0
-IsErrorNumber number = (1 ≤ number) × (number ≤ 46)
+-- 0: none. 1: Z.
+abbrev pub offset_for : Option UtcOffsetRecordOrZ → Offset
+offset_for None = offset_of_form 0
+offset_for (Some shifts.Z) = offset_of_form 1
+offset_for (Some (shifts.Offset it)) = shift_for it
 
--- 0: what was read. Another number: the error of that number.
-abbrev pub either_by : {A : Type 0} → ℕ → List ℕ → A → Result A Fault
-either_by number location read = if nat_eq number 0 then Ok read else Err (fault_by number location)
+-- 1: a name. 2: an offset.
+abbrev pub area_for : Bool → SomeZone → ZoneContents
+area_for critical (Name units) = record { name = units; form = 1; is_critical = critical; is_negative = false; hour = 0; minute = 0 }
+area_for critical (ByOffset it) = record {
+  name = [];
+  form = 2;
+  is_critical = critical;
+  is_negative = is_negative it.sign;
+  hour = it.hour;
+  minute = it.minute;
+}
 
-abbrev pub duration_outcome_by : ℕ → Duration → Result DurationParseRecord Fault
-duration_outcome_by number d = either_by number d.location.now (duration_by d)
+-- 0: none.
+abbrev pub zone_for : Option ZoneNote → ZoneContents
+zone_for None = record { name = []; form = 0; is_critical = false; is_negative = false; hour = 0; minute = 0 }
+zone_for (Some it) = area_for it.critical it.zone
 
--- where a text broke off, of `AbruptEnd`, and of another error nothing
-abbrev pub location_of : Fault → List ℕ
-location_of (AbruptEnd location) = location
-location_of fault = []
+abbrev pub units_for : Option (List ℕ) → List ℕ
+units_for None = []
+units_for (Some units) = units
 
--- the location is that of the error of this number
-abbrev pub IsLocation : ℕ → List ℕ → Type 0
-IsLocation number location = location ≡ location_of (fault_by number location)
+abbrev pub is_there : Option (List ℕ) → Bool
+is_there None = false
+is_there (Some units) = true
 
--- the duration is as it was, but for the location, which is that of the error of this number
-abbrev pub SameDurationButLocation : ℕ → Duration → Duration → Type 0
-SameDurationButLocation number old new = (new ≡ record old { location = new.location }) × IsLocation number new.location.now
+-- ---- what is written of a text
+
+-- all of a record
+abbrev pub record_for : Parsed → Contents
+record_for found = record {
+  date = date_for found.date;
+  time = time_for found.time;
+  offset = offset_for found.offset;
+  zone = zone_for found.zone;
+  calendar = units_for found.calendar;
+  has_calendar = is_there found.calendar;
+  location = [];
+}
+
+abbrev pub nothing : Parsed
+nothing = record { date = None; time = None; offset = None; zone = None; calendar = None }
+
+-- an offset, a zone or the name of a zone alone, as of a text in which nothing else stands
+abbrev pub offset_alone : UtcOffsetRecord → Parsed
+offset_alone shift = record nothing { offset = Some (shifts.Offset shift) }
+
+abbrev pub zone_alone : SomeZone → Parsed
+zone_alone zone = record nothing { zone = Some (record { critical = false; zone = zone }) }
+
+abbrev pub name_alone : List ℕ → Parsed
+name_alone units = zone_alone (Name units)
+
+-- years, months, weeks and days, where there are
+abbrev pub with_date : DurationContents → Option DateDurationRecord → DurationContents
+with_date contents None = contents
+with_date contents (Some it) = record contents { years = it.years; months = it.months; weeks = it.weeks; days = it.days; has_date = true }
+
+-- 1, 2 and 3: the last unit is hours, minutes, seconds.
+abbrev pub with_time : DurationContents → Option TimeDurationRecord → DurationContents
+with_time contents None = contents
+with_time contents (Some (times.Hours hours fraction)) =
+    record contents { hours = hours; fraction = value_for fraction; fraction_digits = digits_for fraction; time_form = 1 }
+with_time contents (Some (times.Minutes hours minutes fraction)) =
+    record contents { hours = hours; minutes = minutes; fraction = value_for fraction; fraction_digits = digits_for fraction; time_form = 2 }
+with_time contents (Some (times.Seconds hours minutes seconds fraction)) =
+    record contents {
+      hours = hours;
+      minutes = minutes;
+      seconds = seconds;
+      fraction = value_for fraction;
+      fraction_digits = digits_for fraction;
+      time_form = 3;
+    }
+
+-- a duration of this sign, in which nothing stands
+abbrev pub no_duration : Bool → DurationContents
+no_duration is_negative = record {
+  days = 0;
+  hours = 0;
+  minutes = 0;
+  seconds = 0;
+  fraction = 0;
+  years = 0;
+  months = 0;
+  weeks = 0;
+  fraction_digits = 0;
+  time_form = 0;
+  has_date = false;
+  is_negative = is_negative;
+  location = [];
+}
+
+-- all of a duration
+abbrev pub duration_for : DurationParseRecord → DurationContents
+duration_for found = with_time (with_date (no_duration (is_negative found.sign)) found.date) found.time
+
+-- ---- what a call returns and writes
+
+-- after `Ok` the record is that of the text; after an error it is as it was, but for the location, which is the error's
+abbrev pub record_after : {A : Type 0} → (A → Parsed) → Contents → Result A Fault → Contents
+record_after whole old (Ok found) = record_for (whole found)
+record_after whole old (Err fault) = record old { location = location_of fault }
+
+abbrev pub duration_after : DurationContents → Result DurationParseRecord Fault → DurationContents
+duration_after old (Ok found) = duration_for found
+duration_after old (Err fault) = record old { location = location_of fault }
+
+-- the number is that of the outcome, and the record is that of the outcome
+abbrev pub Gives : {A : Type 0} → (A → Parsed) → Result A Fault → ℕ → Contents → Contents → Type 0
+Gives whole outcome number old new = (number ≡ number_of outcome) × (new ≡ record_after whole old outcome)
+
+abbrev pub GivesDuration : Result DurationParseRecord Fault → ℕ → DurationContents → DurationContents → Type 0
+GivesDuration outcome number old new = (number ≡ number_of outcome) × (new ≡ duration_after old outcome)

@@ -1,7 +1,10 @@
 pub mod Crossing
+pub mod Lasting
 pub mod Listing
 pub mod Narrow
+pub mod Numbers
 pub mod Outcomes
 pub mod Replying
+pub mod Standing
 pub mod Turns
 pub mod Wide

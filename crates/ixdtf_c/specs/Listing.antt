@@ -9,6 +9,7 @@ use Rattle.ixdtf.specs.language.Readers.{Reader}
 use Rattle.ixdtf.specs.table.Faults.{Fault}
 use Rattle.ixdtf.specs.table.Outcomes.{HasFault, OnlyFault, NoRowFits}
 use Rattle.ixdtf.specs.Laws.{InNoOther}
+use Rattle.ixdtf_c.specs.Crossing.{Contents, Gives}
 
 -- Of a text with these annotations before its end or its fault, all of which are passed over: `Ok` exactly with the record that
 -- the language derives with them, and only where no row of the fault table fits and no other reader has the text; and `Err` only
@@ -34,3 +35,8 @@ pub record Lists {A : Type 0} (view : A → Pair) (profile : Profile) (reader : 
   pub counted : count ≡ length annotations
   pub written : new ≡ overwritten old annotations
   pub read : PassesOver profile reader text (map view annotations) outcome
+
+-- the text has an outcome with these annotations, and the outcome is returned and written
+abbrev pub ListsRecord : {A : Type 0} → (A → Pair) → Profile → Reader → Text → List A → List A → ℕ → ℕ → Contents → Contents → Type 0
+ListsRecord view profile reader text old new count number record_old record_new =
+    (outcome : Result Parsed Fault) × Lists view profile reader text old new count outcome × Gives (λ found. found) outcome number record_old record_new

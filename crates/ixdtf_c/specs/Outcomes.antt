@@ -1,6 +1,8 @@
--- What a reader's outcome says of a text: the clauses of the library's readers, with an outcome in the place of their result.
-use Rattle.std.specs.Prelude.{◌≡◌, ◌↔◌, [], Result, Ok, Err, OnOk}
+-- What a call that reads says of a text: the clauses of the library's readers, with an outcome in the place of their result; and
+-- that what it returns and writes is this outcome.
+use Rattle.std.specs.Prelude.{◌≡◌, ◌↔◌, ℕ, [], Result, Ok, Err, OnOk}
 use Rattle.ixdtf_grammar.specs.declared.profile.Profile.{Profile}
+use Rattle.ixdtf_grammar.specs.declared.records.DurationParseRecord.{DurationParseRecord}
 use Rattle.ixdtf.specs.language.Letters.{Text}
 use Rattle.ixdtf.specs.language.Languages.{Parsed, Found, Derives}
 use Rattle.ixdtf.specs.language.Readers.{Reader}
@@ -8,6 +10,9 @@ use Rattle.ixdtf.specs.table.Faults.{Fault}
 use Rattle.ixdtf.specs.table.Outcomes.{HasFault, OnlyFault, NoRowFits}
 use Rattle.ixdtf.specs.Handlers.{UnhandledRecord, UnhandledFault, UnhandledOnlyFault}
 use Rattle.ixdtf.specs.Laws.{InNoOther}
+use Rattle.ixdtf.specs.language.Languages.Found.{lasting}
+use Rattle.ixdtf.specs.language.Readers.Reader.{parse_duration}
+use Rattle.ixdtf_c.specs.Crossing.{Contents, DurationContents, Gives, GivesDuration}
 
 -- Of a text with brackets, where each pair replies for itself: `Ok` exactly with the record that the text gives, and only where
 -- no row of the fault table fits and no other reader has the text; and `Err` only with the one fault that it gives.
@@ -25,3 +30,19 @@ pub record ReadsPart {A : Type 0} (reader : Reader) (part : A → Found) (text :
   pub err : (fault : Fault) → outcome ≡ Err fault → HasFault reader text [] fault
   pub no_row : OnOk outcome (NoRowFits reader text)
   pub only : (fault : Fault) → outcome ≡ Err fault → OnlyFault reader text [] fault
+
+-- a text with brackets has an outcome, which is returned and written
+abbrev pub GivesRecord : Profile → Reader → Text → ℕ → Contents → Contents → Type 0
+GivesRecord profile reader text number old new =
+    (outcome : Result Parsed Fault) × ReadsRecord profile reader text outcome × Gives (λ found. found) outcome number old new
+
+-- a text that is one part alone has an outcome, which is returned and written, in a record in which nothing else stands
+abbrev pub GivesPart : {A : Type 0} → Reader → (A → Found) → (A → Parsed) → Text → ℕ → Contents → Contents → Type 0
+GivesPart {A} reader part alone text number old new =
+    (outcome : Result A Fault) × ReadsPart reader part text outcome × Gives alone outcome number old new
+
+-- a text that is a duration has an outcome, which is returned and written; `Ok` only where no other reader has the text
+abbrev pub GivesLasting : Profile → Text → ℕ → DurationContents → DurationContents → Type 0
+GivesLasting profile text number old new =
+    (outcome : Result DurationParseRecord Fault) × ReadsPart (parse_duration profile) lasting text outcome
+    × OnOk outcome (InNoOther profile (parse_duration profile) text) × GivesDuration outcome number old new

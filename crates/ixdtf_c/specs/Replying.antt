@@ -10,15 +10,16 @@ use Rattle.ixdtf.specs.language.Readers.Reader.{bracketed}
 use Rattle.ixdtf.specs.table.Faults.{Fault}
 use Rattle.ixdtf.specs.Handlers.{Reply, RefusedBeside, first_calendar, calendar_value, with_calendar, Step, Handled, handed, replies_of}
 use Rattle.ixdtf.specs.Laws.{GivesResult}
-use Rattle.ixdtf_c.specs.Crossing.{fault_by}
+use Rattle.ixdtf_c.specs.Numbers.{number_for}
 use Rattle.ixdtf_c.specs.Listing.{Lists}
 
 -- A reply is taken beside the calendar that is kept before it, with the number 0 exactly where it is not refused, and then the
--- first calendar is kept; or else with the number of a fault that it is refused with.
+-- first calendar is kept; or else with the number of the fault that it is refused with.
 pub record TakesReply (old new : Option Pair) (reply : Pair) (number : ℕ) : Type 0 where
   pub accepted : (number ≡ 0) ↔ ((fault : Fault) → ¬ (RefusedBeside old (Some reply) fault))
   pub kept : number ≡ 0 → new ≡ option_or old (first_calendar (Some reply ∷ []))
-  pub refused : (fault : Fault) → ((number ≢ 0) × (fault_by number [] ≡ fault)) ↔ RefusedBeside old (Some reply) fault
+  pub refused : (fault : Fault) → (number ≡ number_for fault) ↔ RefusedBeside old (Some reply) fault
+  pub named : number ≢ 0 → (fault : Fault) × (number ≡ number_for fault)
 
 -- the outcome of the reader that listed, and where that is a record, with the calendar that is kept
 abbrev pub with_kept : Option Pair → Result Parsed Fault → Result Parsed Fault
@@ -31,7 +32,7 @@ abbrev pub Replied : Option Pair → List Reply → Result Parsed Fault → Resu
 Replied kept [] listed outcome = outcome ≡ with_kept kept listed
 Replied kept (None ∷ replies) listed outcome = Replied kept replies listed outcome
 Replied kept (Some reply ∷ replies) listed outcome = (number : ℕ) × (next : Option Pair) × TakesReply kept next reply number
-    × (number ≡ 0 → Replied next replies listed outcome) × (number ≢ 0 → outcome ≡ Err (fault_by number []))
+    × (number ≡ 0 → Replied next replies listed outcome) × ((fault : Fault) → number ≡ number_for fault → outcome ≡ Err fault)
 
 -- A reader lists the annotations of a text, with room for all of them; each is replied to in turn, beside no calendar at first,
 -- and this comes of it.

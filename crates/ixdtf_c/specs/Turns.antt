@@ -4,7 +4,7 @@ use Rattle.std.specs.Option.{option_or}
 use Rattle.ixdtf.specs.language.Brackets.{Pair}
 use Rattle.ixdtf.specs.table.Faults.{Fault}
 use Rattle.ixdtf.specs.Handlers.{Reply, RefusedBeside, first_calendar, NoneRefused, LastRefused, Calls, IsChain, Step, handed, replies_of}
-use Rattle.ixdtf_c.specs.Crossing.{fault_by}
+use Rattle.ixdtf_c.specs.Numbers.{number_for}
 use Rattle.ixdtf_c.specs.Replying.{IsFront}
 
 -- A reply, or none, is handed over, beside the calendar that is kept before it: with 0 it is not refused, and the first calendar
@@ -12,7 +12,7 @@ use Rattle.ixdtf_c.specs.Replying.{IsFront}
 pub record HandsOver (old new : Option Pair) (reply : Reply) (number : ℕ) : Type 0 where
   pub accepted : number ≡ 0 → (fault : Fault) → ¬ (RefusedBeside old reply fault)
   pub kept : number ≡ 0 → new ≡ option_or old (first_calendar (reply ∷ []))
-  pub refused : number ≢ 0 → RefusedBeside old reply (fault_by number [])
+  pub refused : number ≢ 0 → (fault : Fault) × (number ≡ number_for fault) × RefusedBeside old reply fault
 
 -- The handler was asked about these annotations in turn: with 0 about all of them, no reply was refused, and the first calendar
 -- is kept; with another number up to the one whose reply was refused with the fault of that number.
@@ -23,4 +23,4 @@ pub record InTurn {T U F : Type 0} (number : U → ℕ) (step : Step T U F) (han
   pub all : result ≡ 0 → handed number calls ≡ pairs
   pub accepted : result ≡ 0 → NoneRefused (replies_of number calls)
   pub first : result ≡ 0 → kept ≡ first_calendar (replies_of number calls)
-  pub refused : result ≢ 0 → LastRefused (replies_of number calls) (fault_by result [])
+  pub refused : result ≢ 0 → (fault : Fault) × (result ≡ number_for fault) × LastRefused (replies_of number calls) fault

@@ -2,12 +2,13 @@
 
 ghost use Rattle.std.specs.Prelude.{◌≡◌, ◌≢◌};
 ghost use Rattle.ixdtf.specs.Views.{returned};
-ghost use Rattle.ixdtf_c.specs.Crossing.{duration_by, duration_outcome_by, fraction_by, SameDurationButLocation};
+ghost use Rattle.ixdtf_c.specs.Crossing.{duration_for, with_date, with_time, no_duration, digits_for, value_for, GivesDuration};
+ghost use Rattle.ixdtf_c.specs.Lasting.{contents, SameButLocation};
 
 use crate::errors::number_of;
-use crate::forms::is_negative;
+use crate::forms::{Digits, is_negative};
 use ixdtf::ParserResult;
-use ixdtf::records::{DurationParseRecord, Fraction, TimeDurationRecord};
+use ixdtf::records::{DateDurationRecord, DurationParseRecord, Fraction, TimeDurationRecord};
 
 /// A duration.
 #[derive(Clone, Copy)]
@@ -42,24 +43,52 @@ pub struct Duration<'a> {
 }
 
 impl<'a> Duration<'a> {
-    /// Writes what was read.
+    // A duration in which nothing stands but its sign.
     #[inline(always)]
-    fn fill(&mut self, found: &DurationParseRecord)
-        ensures { duration_by self.new ≡ found.now }
+    fn of_sign(is_negative: bool) -> Duration<'a>
+        ensures { contents result ≡ no_duration is_negative }
     {
-        self.is_negative = is_negative(found.sign);
-        match found.date {
-            None => self.has_date = false,
-            Some(date) => {
+        Duration {
+            days: 0,
+            hours: 0,
+            minutes: 0,
+            seconds: 0,
+            fraction: 0,
+            years: 0,
+            months: 0,
+            weeks: 0,
+            fraction_digits: 0,
+            time_form: 0,
+            has_date: false,
+            is_negative,
+            location: &[],
+        }
+    }
+
+    // Writes the years, months, weeks and days, where there are.
+    #[inline(always)]
+    fn put_date(&mut self, date: Option<DateDurationRecord>)
+        ensures { contents self.new ≡ with_date (contents self.old) date }
+    {
+        match date {
+            None => {}
+            Some(it) => {
                 self.has_date = true;
-                self.years = date.years;
-                self.months = date.months;
-                self.weeks = date.weeks;
-                self.days = date.days;
+                self.years = it.years;
+                self.months = it.months;
+                self.weeks = it.weeks;
+                self.days = it.days;
             }
         }
-        match found.time {
-            None => self.time_form = 0,
+    }
+
+    // Writes the hours, minutes and seconds, where there are.
+    #[inline(always)]
+    fn put_time(&mut self, time: Option<TimeDurationRecord>)
+        ensures { contents self.new ≡ with_time (contents self.old) time }
+    {
+        match time {
+            None => {}
             Some(TimeDurationRecord::Hours { hours, fraction }) => {
                 self.time_form = 1;
                 self.hours = hours;
@@ -94,42 +123,36 @@ impl<'a> Duration<'a> {
         }
     }
 
-    /// Writes the fraction.
+    // Writes the numbers of the fraction.
     #[inline(always)]
     fn put_fraction(&mut self, fraction: Option<Fraction>)
-        ensures rest { self.new ≡ record {
-          fraction = self.new.fraction;
-          fraction_digits = self.new.fraction_digits;
-          days = self.old.days;
-          hours = self.old.hours;
-          minutes = self.old.minutes;
-          seconds = self.old.seconds;
-          years = self.old.years;
-          months = self.old.months;
-          weeks = self.old.weeks;
-          time_form = self.old.time_form;
-          has_date = self.old.has_date;
-          is_negative = self.old.is_negative;
-          location = self.old.location;
+        ensures { self.new ≡ record (self.old) {
+          fraction = value_for fraction;
+          fraction_digits = digits_for fraction;
         } }
-        ensures fraction { fraction_by self.new.fraction_digits self.new.fraction ≡ fraction }
     {
-        match fraction {
-            None => self.fraction_digits = 0,
-            Some(fraction) => {
-                self.fraction = fraction.leading_value();
-                self.fraction_digits = fraction.digit_count();
-            }
-        }
+        let digits = Digits::of(fraction);
+        self.fraction = digits.value;
+        self.fraction_digits = digits.count;
+    }
+
+    // Writes what was read, and clears what was not.
+    #[inline(always)]
+    fn fill(&mut self, found: &DurationParseRecord)
+        ensures { contents self.new ≡ duration_for found.now }
+    {
+        *self = Duration::of_sign(is_negative(found.sign));
+        self.put_date(found.date);
+        self.put_time(found.time);
     }
 }
 
 /// Writes what a reader of durations returned, and returns 0, or the number of the error.
 #[inline(always)]
 pub fn give_duration<'a>(outcome: &ParserResult<DurationParseRecord>, out: &mut Duration<'a>) -> u32
-    ensures outcome { duration_outcome_by result out.new ≡
-        returned (λ duration. duration) outcome.now }
-    ensures unchanged { result ≢ 0 → SameDurationButLocation result out.old out.new }
+    ensures given { GivesDuration (returned (λ duration. duration) outcome.now) result
+        (contents out.old) (contents out.new) }
+    ensures unchanged { result ≢ 0 → SameButLocation out.old out.new }
 {
     match outcome {
         Ok(found) => {

@@ -1,10 +1,10 @@
 //! Numbers of records, as C sees them.
 
-ghost use Rattle.std.specs.Prelude.{◌≡◌, ◌≤◌, not};
-ghost use Rattle.ixdtf.specs.language.OffsetRecords.{sign_for};
-ghost use Rattle.ixdtf_c.specs.Crossing.{date_by, time_by, offset_by, shift_by};
+ghost use Rattle.std.specs.Prelude.{◌≡◌};
+ghost use Rattle.ixdtf_c.specs.Crossing.{digits_for, value_for, date_for, time_for, offset_of_form, shift_for, offset_for};
+ghost use Rattle.ixdtf_c.specs.Crossing.{is_negative as has_minus};
 
-use ixdtf::records::{DateRecord, Sign, TimeRecord, UtcOffsetRecord, UtcOffsetRecordOrZ};
+use ixdtf::records::{DateRecord, Fraction, Sign, TimeRecord, UtcOffsetRecord, UtcOffsetRecordOrZ};
 
 /// A date, where it is there.
 #[derive(Clone, Copy)]
@@ -61,7 +61,7 @@ pub struct Offset {
 /// Whether the sign is a `-`.
 #[inline(always)]
 pub fn is_negative(sign: Sign) -> bool
-    ensures { sign_for (not result) ≡ sign }
+    ensures { result ≡ has_minus sign }
 {
     match sign {
         Sign::Negative => true,
@@ -69,14 +69,47 @@ pub fn is_negative(sign: Sign) -> bool
     }
 }
 
+/// The numbers of a fraction, where it is there.
+#[derive(Clone, Copy)]
+pub struct Digits {
+    /// How many digits it has.
+    pub count: u8,
+    /// The number of the first 18 of them.
+    pub value: u64,
+}
+
+impl Digits {
+    /// The numbers of the fraction, and zeros where there is none.
+    #[inline(always)]
+    pub fn of(fraction: Option<Fraction>) -> Digits
+        ensures count { result.count ≡ digits_for fraction }
+        ensures value { result.value ≡ value_for fraction }
+    {
+        match fraction {
+            None => Digits { count: 0, value: 0 },
+            Some(it) => Digits {
+                count: it.digit_count(),
+                value: it.leading_value(),
+            },
+        }
+    }
+}
+
 impl Date {
-    /// Writes the date.
+    /// Writes the numbers of the date, and zeros where there is none.
     #[inline(always)]
     pub(crate) fn put(&mut self, date: Option<DateRecord>)
-        ensures { date_by self.new ≡ date }
+        ensures { self.new ≡ date_for date }
     {
         match date {
-            None => self.is_there = false,
+            None => {
+                *self = Date {
+                    year: 0,
+                    month: 0,
+                    day: 0,
+                    is_there: false,
+                }
+            }
             Some(it) => {
                 self.year = it.year;
                 self.month = it.month;
@@ -88,70 +121,89 @@ impl Date {
 }
 
 impl Time {
-    /// Writes the time.
+    /// Writes the numbers of the time, and zeros where there is none.
     #[inline(always)]
     pub(crate) fn put(&mut self, time: Option<TimeRecord>)
-        ensures { time_by self.new ≡ time }
+        ensures { self.new ≡ time_for time }
     {
         match time {
-            None => self.is_there = false,
+            None => {
+                *self = Time {
+                    fraction: 0,
+                    fraction_digits: 0,
+                    hour: 0,
+                    minute: 0,
+                    second: 0,
+                    is_there: false,
+                }
+            }
             Some(it) => {
+                let digits = Digits::of(it.fraction);
+                self.fraction = digits.value;
+                self.fraction_digits = digits.count;
                 self.hour = it.hour;
                 self.minute = it.minute;
                 self.second = it.second;
                 self.is_there = true;
-                match it.fraction {
-                    None => self.fraction_digits = 0,
-                    Some(fraction) => {
-                        self.fraction = fraction.leading_value();
-                        self.fraction_digits = fraction.digit_count();
-                    }
-                }
             }
         }
     }
 }
 
 impl Offset {
-    /// Writes the offset, where there is one.
+    /// Writes the numbers of the offset, and zeros where there is none.
     #[inline(always)]
     pub(crate) fn put(&mut self, offset: Option<UtcOffsetRecordOrZ>)
-        ensures { offset_by self.new ≡ offset }
+        ensures { self.new ≡ offset_for offset }
     {
         match offset {
-            None => self.form = 0,
-            Some(UtcOffsetRecordOrZ::Z) => self.form = 1,
+            None => self.put_form(0),
+            Some(UtcOffsetRecordOrZ::Z) => self.put_form(1),
             Some(UtcOffsetRecordOrZ::Offset(it)) => self.put_shift(it),
         }
     }
 
-    /// Writes the offset.
+    // Writes a form, and zeros for all else.
+    #[inline(always)]
+    fn put_form(&mut self, form: u8)
+        ensures { self.new ≡ offset_of_form form }
+    {
+        *self = Offset {
+            fraction: 0,
+            fraction_digits: 0,
+            form,
+            is_negative: false,
+            hour: 0,
+            minute: 0,
+            second: 0,
+        };
+    }
+
+    /// Writes the numbers of an offset from UTC.
     #[inline(always)]
     pub(crate) fn put_shift(&mut self, offset: UtcOffsetRecord)
-        ensures shift { shift_by self.new ≡ offset }
-        ensures form { 2 ≤ self.new.form }
+        ensures { self.new ≡ shift_for offset }
     {
         match offset {
             UtcOffsetRecord::MinutePrecision(it) => {
+                self.fraction = 0;
+                self.fraction_digits = 0;
                 self.form = 2;
                 self.is_negative = is_negative(it.sign);
                 self.hour = it.hour;
                 self.minute = it.minute;
+                self.second = 0;
             }
             UtcOffsetRecord::FullPrecisionOffset(it) => {
                 let minutes = it.minute_precision_offset;
+                let digits = Digits::of(it.fraction);
+                self.fraction = digits.value;
+                self.fraction_digits = digits.count;
                 self.form = 3;
                 self.is_negative = is_negative(minutes.sign);
                 self.hour = minutes.hour;
                 self.minute = minutes.minute;
                 self.second = it.second;
-                match it.fraction {
-                    None => self.fraction_digits = 0,
-                    Some(fraction) => {
-                        self.fraction = fraction.leading_value();
-                        self.fraction_digits = fraction.digit_count();
-                    }
-                }
             }
         }
     }

@@ -1,15 +1,15 @@
 //! The readers of 8-bit sources.
 
-ghost use Rattle.std.specs.Prelude.{◌≡◌, ◌≢◌, ◌+◌, ◌≤◌, length, map, OnOk};
-ghost use Rattle.ixdtf.specs.language.Languages.Found.{lasting, shifted, identified, named};
+ghost use Rattle.std.specs.Prelude.{◌≡◌, ◌≢◌, ◌+◌, ◌≤◌, length, map, IsSomeAnd};
+ghost use Rattle.ixdtf.specs.language.Languages.Found.{shifted, identified, named};
 ghost use Rattle.ixdtf.specs.language.Letters.{byte_letter};
 ghost use Rattle.ixdtf.specs.language.Readers.{parse, parse_year_month, parse_month_day, parse_time};
-ghost use Rattle.ixdtf.specs.language.Readers.Reader.{parse_duration, parse_offset, parse_identifier, parse_iana_identifier};
-ghost use Rattle.ixdtf_c.specs.Crossing.{duration_outcome_by, SameDurationButLocation};
-ghost use Rattle.ixdtf_c.specs.Narrow.{outcome_by, offset_outcome_by, zone_outcome_by, name_outcome_by, record_by};
-ghost use Rattle.ixdtf_c.specs.Narrow.{SameButLocation, SameButOffset, SameButZone, SameButName};
-ghost use Rattle.ixdtf.specs.Laws.{InNoOther};
-ghost use Rattle.ixdtf_c.specs.Outcomes.{ReadsRecord, ReadsPart};
+ghost use Rattle.ixdtf.specs.language.Readers.Reader.{parse_offset, parse_identifier, parse_iana_identifier};
+ghost use Rattle.ixdtf_c.specs.Crossing.{offset_alone, zone_alone, name_alone};
+ghost use Rattle.ixdtf_c.specs.Lasting.{contents as lasting_contents, SameButLocation as SameLastingButLocation};
+ghost use Rattle.ixdtf_c.specs.Narrow.{contents, SameButLocation};
+ghost use Rattle.ixdtf_c.specs.Outcomes.{GivesRecord, GivesPart, GivesLasting};
+ghost use Rattle.ixdtf_c.specs.Standing.{record_by};
 ghost use Rattle.ixdtf_print.specs.Canonical.{canonical_text};
 ghost use Rattle.ixdtf_print.specs.Printable.{IsPrintable};
 
@@ -21,15 +21,15 @@ use ixdtf::parsers::{IsoDurationParser, IxdtfParser, Profile, TimeZoneParser};
 /// Reads a date, or a date and a time, and the brackets after it.
 #[unsafe(no_mangle)]
 pub extern "C" fn ixdtf_parse<'a>(text: &'a [u8], out: &mut Record<'a>) -> u32
-    // What the number and the record stand for is what the library's reader returns of the text.
-    ensures read { ReadsRecord Profile.Crate parse (map byte_letter text.now)
-        (outcome_by result out.new) }
+    // The number and the record, all of it, are those of what the library's reader returns of the text.
+    ensures read { GivesRecord Profile.Crate parse (map byte_letter text.now) result
+        (contents out.old) (contents out.new) }
     // What was read has a canonical text, of at most 14 bytes more than the text.
-    ensures printable { result ≡ 0 → IsPrintable (record_by out.new) }
-    ensures fits { result ≡ 0 →
-        length (canonical_text (record_by out.new)) ≤ length text.now + 14 }
-    // After a refusal the record is as it was, but for the location, which is the error's.
-    ensures unchanged { result ≢ 0 → SameButLocation result out.old out.new }
+    ensures printable { result ≡ 0 → IsSomeAnd (record_by (contents out.new)) IsPrintable }
+    ensures fits { result ≡ 0 → IsSomeAnd (record_by (contents out.new))
+        (λ found. length (canonical_text found) ≤ length text.now + 14) }
+    // After a refusal the record is as it was, its slices too, but for the location.
+    ensures unchanged { result ≢ 0 → SameButLocation out.old out.new }
 {
     give(&IxdtfParser::from_utf8(text).parse(), out)
 }
@@ -37,11 +37,11 @@ pub extern "C" fn ixdtf_parse<'a>(text: &'a [u8], out: &mut Record<'a>) -> u32
 /// Reads a year and a month, and the brackets after it.
 #[unsafe(no_mangle)]
 pub extern "C" fn ixdtf_parse_year_month<'a>(text: &'a [u8], out: &mut Record<'a>) -> u32
-    // What the number and the record stand for is what the library's reader returns of the text.
-    ensures read { ReadsRecord Profile.Crate parse_year_month (map byte_letter text.now)
-        (outcome_by result out.new) }
-    // After a refusal the record is as it was, but for the location, which is the error's.
-    ensures unchanged { result ≢ 0 → SameButLocation result out.old out.new }
+    // The number and the record, all of it, are those of what the library's reader returns of the text.
+    ensures read { GivesRecord Profile.Crate parse_year_month (map byte_letter text.now) result
+        (contents out.old) (contents out.new) }
+    // After a refusal the record is as it was, its slices too, but for the location.
+    ensures unchanged { result ≢ 0 → SameButLocation out.old out.new }
 {
     give(&IxdtfParser::from_utf8(text).parse_year_month(), out)
 }
@@ -49,11 +49,11 @@ pub extern "C" fn ixdtf_parse_year_month<'a>(text: &'a [u8], out: &mut Record<'a
 /// Reads a month and a day, and the brackets after it.
 #[unsafe(no_mangle)]
 pub extern "C" fn ixdtf_parse_month_day<'a>(text: &'a [u8], out: &mut Record<'a>) -> u32
-    // What the number and the record stand for is what the library's reader returns of the text.
-    ensures read { ReadsRecord Profile.Crate (parse_month_day Profile.Crate) (map byte_letter text.now)
-        (outcome_by result out.new) }
-    // After a refusal the record is as it was, but for the location, which is the error's.
-    ensures unchanged { result ≢ 0 → SameButLocation result out.old out.new }
+    // The number and the record, all of it, are those of what the library's reader returns of the text.
+    ensures read { GivesRecord Profile.Crate (parse_month_day Profile.Crate) (map byte_letter text.now) result
+        (contents out.old) (contents out.new) }
+    // After a refusal the record is as it was, its slices too, but for the location.
+    ensures unchanged { result ≢ 0 → SameButLocation out.old out.new }
 {
     give(&IxdtfParser::from_utf8(text).parse_month_day(), out)
 }
@@ -61,11 +61,11 @@ pub extern "C" fn ixdtf_parse_month_day<'a>(text: &'a [u8], out: &mut Record<'a>
 /// Reads a time, and the brackets after it.
 #[unsafe(no_mangle)]
 pub extern "C" fn ixdtf_parse_time<'a>(text: &'a [u8], out: &mut Record<'a>) -> u32
-    // What the number and the record stand for is what the library's reader returns of the text.
-    ensures read { ReadsRecord Profile.Crate (parse_time Profile.Crate) (map byte_letter text.now)
-        (outcome_by result out.new) }
-    // After a refusal the record is as it was, but for the location, which is the error's.
-    ensures unchanged { result ≢ 0 → SameButLocation result out.old out.new }
+    // The number and the record, all of it, are those of what the library's reader returns of the text.
+    ensures read { GivesRecord Profile.Crate (parse_time Profile.Crate) (map byte_letter text.now) result
+        (contents out.old) (contents out.new) }
+    // After a refusal the record is as it was, its slices too, but for the location.
+    ensures unchanged { result ≢ 0 → SameButLocation out.old out.new }
 {
     give(&IxdtfParser::from_utf8(text).parse_time(), out)
 }
@@ -73,11 +73,11 @@ pub extern "C" fn ixdtf_parse_time<'a>(text: &'a [u8], out: &mut Record<'a>) -> 
 /// Reads a month and a day, and the brackets after it, under the strict profile.
 #[unsafe(no_mangle)]
 pub extern "C" fn ixdtf_parse_month_day_strict<'a>(text: &'a [u8], out: &mut Record<'a>) -> u32
-    // What the number and the record stand for is what the library's reader returns of the text.
-    ensures read { ReadsRecord Profile.Strict (parse_month_day Profile.Strict) (map byte_letter text.now)
-        (outcome_by result out.new) }
-    // After a refusal the record is as it was, but for the location, which is the error's.
-    ensures unchanged { result ≢ 0 → SameButLocation result out.old out.new }
+    // The number and the record, all of it, are those of what the library's reader returns of the text.
+    ensures read { GivesRecord Profile.Strict (parse_month_day Profile.Strict) (map byte_letter text.now) result
+        (contents out.old) (contents out.new) }
+    // After a refusal the record is as it was, its slices too, but for the location.
+    ensures unchanged { result ≢ 0 → SameButLocation out.old out.new }
 {
     let mut parser = IxdtfParser::from_utf8(text).with_profile(Profile::Strict);
     give(&parser.parse_month_day(), out)
@@ -86,11 +86,11 @@ pub extern "C" fn ixdtf_parse_month_day_strict<'a>(text: &'a [u8], out: &mut Rec
 /// Reads a time, and the brackets after it, under the strict profile.
 #[unsafe(no_mangle)]
 pub extern "C" fn ixdtf_parse_time_strict<'a>(text: &'a [u8], out: &mut Record<'a>) -> u32
-    // What the number and the record stand for is what the library's reader returns of the text.
-    ensures read { ReadsRecord Profile.Strict (parse_time Profile.Strict) (map byte_letter text.now)
-        (outcome_by result out.new) }
-    // After a refusal the record is as it was, but for the location, which is the error's.
-    ensures unchanged { result ≢ 0 → SameButLocation result out.old out.new }
+    // The number and the record, all of it, are those of what the library's reader returns of the text.
+    ensures read { GivesRecord Profile.Strict (parse_time Profile.Strict) (map byte_letter text.now) result
+        (contents out.old) (contents out.new) }
+    // After a refusal the record is as it was, its slices too, but for the location.
+    ensures unchanged { result ≢ 0 → SameButLocation out.old out.new }
 {
     let mut parser = IxdtfParser::from_utf8(text).with_profile(Profile::Strict);
     give(&parser.parse_time(), out)
@@ -99,13 +99,11 @@ pub extern "C" fn ixdtf_parse_time_strict<'a>(text: &'a [u8], out: &mut Record<'
 /// Reads an offset.
 #[unsafe(no_mangle)]
 pub extern "C" fn ixdtf_parse_offset<'a>(text: &'a [u8], out: &mut Record<'a>) -> u32
-    // What the number and the record stand for is what the library's reader returns of the text.
-    ensures read { ReadsPart parse_offset shifted (map byte_letter text.now)
-        (offset_outcome_by result out.new) }
-    // Where it reads the text, the record is as it was, but for the offset.
-    ensures rest { result ≡ 0 → SameButOffset out.old out.new }
-    // After a refusal the record is as it was, but for the location, which is the error's.
-    ensures unchanged { result ≢ 0 → SameButLocation result out.old out.new }
+    // The number and the record, all of it, are those of what the library's reader returns of the text.
+    ensures read { GivesPart parse_offset shifted offset_alone (map byte_letter text.now) result
+        (contents out.old) (contents out.new) }
+    // After a refusal the record is as it was, its slices too, but for the location.
+    ensures unchanged { result ≢ 0 → SameButLocation out.old out.new }
 {
     give_offset(&TimeZoneParser::from_utf8(text).parse_offset(), out)
 }
@@ -113,13 +111,11 @@ pub extern "C" fn ixdtf_parse_offset<'a>(text: &'a [u8], out: &mut Record<'a>) -
 /// Reads a time zone.
 #[unsafe(no_mangle)]
 pub extern "C" fn ixdtf_parse_identifier<'a>(text: &'a [u8], out: &mut Record<'a>) -> u32
-    // What the number and the record stand for is what the library's reader returns of the text.
-    ensures read { ReadsPart parse_identifier identified (map byte_letter text.now)
-        (zone_outcome_by result out.new) }
-    // Where it reads the text, the record is as it was, but for the zone, and of this but for whether it is critical.
-    ensures rest { result ≡ 0 → SameButZone out.old out.new }
-    // After a refusal the record is as it was, but for the location, which is the error's.
-    ensures unchanged { result ≢ 0 → SameButLocation result out.old out.new }
+    // The number and the record, all of it, are those of what the library's reader returns of the text.
+    ensures read { GivesPart parse_identifier identified zone_alone (map byte_letter text.now) result
+        (contents out.old) (contents out.new) }
+    // After a refusal the record is as it was, its slices too, but for the location.
+    ensures unchanged { result ≢ 0 → SameButLocation out.old out.new }
 {
     give_zone(&TimeZoneParser::from_utf8(text).parse_identifier(), out)
 }
@@ -127,13 +123,11 @@ pub extern "C" fn ixdtf_parse_identifier<'a>(text: &'a [u8], out: &mut Record<'a
 /// Reads the name of a time zone.
 #[unsafe(no_mangle)]
 pub extern "C" fn ixdtf_parse_iana_identifier<'a>(text: &'a [u8], out: &mut Record<'a>) -> u32
-    // What the number and the record stand for is what the library's reader returns of the text.
-    ensures read { ReadsPart parse_iana_identifier named (map byte_letter text.now)
-        (name_outcome_by result out.new) }
-    // Where it reads the text, the record is as it was, but for the name of the zone.
-    ensures rest { result ≡ 0 → SameButName out.old out.new }
-    // After a refusal the record is as it was, but for the location, which is the error's.
-    ensures unchanged { result ≢ 0 → SameButLocation result out.old out.new }
+    // The number and the record, all of it, are those of what the library's reader returns of the text.
+    ensures read { GivesPart parse_iana_identifier named name_alone (map byte_letter text.now) result
+        (contents out.old) (contents out.new) }
+    // After a refusal the record is as it was, its slices too, but for the location.
+    ensures unchanged { result ≢ 0 → SameButLocation out.old out.new }
 {
     give_name(
         &TimeZoneParser::from_utf8(text).parse_iana_identifier(),
@@ -144,14 +138,12 @@ pub extern "C" fn ixdtf_parse_iana_identifier<'a>(text: &'a [u8], out: &mut Reco
 /// Reads a duration.
 #[unsafe(no_mangle)]
 pub extern "C" fn ixdtf_parse_duration(text: &[u8], out: &mut Duration<'_>) -> u32
-    // What the number and the duration stand for is what the library's reader returns of the text.
-    ensures read { ReadsPart (parse_duration Profile.Crate) lasting (map byte_letter text.now)
-        (duration_outcome_by result out.new) }
-    // `Ok` only where no other reader of dates, times and durations has the text.
-    ensures alone { OnOk (duration_outcome_by result out.new)
-        (InNoOther Profile.Crate (parse_duration Profile.Crate) (map byte_letter text.now)) }
-    // After a refusal the duration is as it was, but for the location, which is the error's.
-    ensures unchanged { result ≢ 0 → SameDurationButLocation result out.old out.new }
+    // The number and the duration, all of it, are those of what the library's reader returns of the text, and 0 comes only
+    // where no other reader of dates, times and durations has the text.
+    ensures read { GivesLasting Profile.Crate (map byte_letter text.now) result
+        (lasting_contents out.old) (lasting_contents out.new) }
+    // After a refusal the duration is as it was, but for the location.
+    ensures unchanged { result ≢ 0 → SameLastingButLocation out.old out.new }
 {
     give_duration(&IsoDurationParser::<Utf8>::from_utf8(text).parse(), out)
 }
@@ -159,14 +151,12 @@ pub extern "C" fn ixdtf_parse_duration(text: &[u8], out: &mut Duration<'_>) -> u
 /// Reads a duration, under the strict profile.
 #[unsafe(no_mangle)]
 pub extern "C" fn ixdtf_parse_duration_strict(text: &[u8], out: &mut Duration<'_>) -> u32
-    // What the number and the duration stand for is what the library's reader returns of the text.
-    ensures read { ReadsPart (parse_duration Profile.Strict) lasting (map byte_letter text.now)
-        (duration_outcome_by result out.new) }
-    // `Ok` only where no other reader of dates, times and durations has the text.
-    ensures alone { OnOk (duration_outcome_by result out.new)
-        (InNoOther Profile.Strict (parse_duration Profile.Strict) (map byte_letter text.now)) }
-    // After a refusal the duration is as it was, but for the location, which is the error's.
-    ensures unchanged { result ≢ 0 → SameDurationButLocation result out.old out.new }
+    // The number and the duration, all of it, are those of what the library's reader returns of the text, and 0 comes only
+    // where no other reader of dates, times and durations has the text.
+    ensures read { GivesLasting Profile.Strict (map byte_letter text.now) result
+        (lasting_contents out.old) (lasting_contents out.new) }
+    // After a refusal the duration is as it was, but for the location.
+    ensures unchanged { result ≢ 0 → SameLastingButLocation out.old out.new }
 {
     let mut parser = IsoDurationParser::<Utf8>::from_utf8(text).with_profile(Profile::Strict);
     give_duration(&parser.parse(), out)

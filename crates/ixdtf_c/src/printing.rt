@@ -1,10 +1,10 @@
 //! Printing records that C hands in.
 
-ghost use Rattle.std.specs.Prelude.{◌≡◌, ◌≢◌, ◌↔◌, ◌<◌, ◌≤◌, length, map, min, take, drop, option_map, IfSome, IfNone};
+ghost use Rattle.std.specs.Prelude.{◌≡◌, ◌≢◌, ◌↔◌, ◌<◌, ◌≤◌, Some, None, length, map, min, take, drop, option_map, IfSome, IfNone, IsSomeAnd};
 ghost use Rattle.ixdtf.specs.language.Letters.{byte_letter};
 ghost use Rattle.ixdtf.specs.Views.{parsed_of, note_of};
-ghost use Rattle.ixdtf_c.specs.Crossing.{fraction_by, date_by, time_by, minutes_by, offset_by};
-ghost use Rattle.ixdtf_c.specs.Narrow.{zone_by, record_by};
+ghost use Rattle.ixdtf_c.specs.Narrow.{contents, zone_contents};
+ghost use Rattle.ixdtf_c.specs.Standing.{fraction_by, date_by, time_by, minutes_by, offset_by, zone_by, record_by};
 ghost use Rattle.ixdtf_print.specs.Canonical.{canonical_text};
 ghost use Rattle.ixdtf_print.specs.Printable.{IsPrintable, IsReadBack};
 ghost use Rattle.ixdtf_print.specs.Spelled.{HasDigits, IsDayTime, IsShift};
@@ -76,10 +76,10 @@ fn minutes_of(is_negative: bool, hour: u8, minute: u8) -> MinutePrecisionOffset
     }
 }
 
-/// The offset, where its fraction is one.
+/// The offset, where its form has a name and its fraction is one.
 fn offset_of(offset: &Offset) -> Option<Option<UtcOffsetRecordOrZ>>
-    ensures found { IfSome result (λ found. found ≡ offset_by offset.now) }
-    ensures none { IfNone result (¬ (IfSome (offset_by offset.now) IsShift)) }
+    ensures found { IfSome result (λ found. offset_by offset.now ≡ Some found) }
+    ensures none { IfNone result (¬ (IsSomeAnd (offset_by offset.now) (λ it. IfSome it IsShift))) }
 {
     if offset.form == 0 {
         return Some(None);
@@ -91,6 +91,9 @@ fn offset_of(offset: &Offset) -> Option<Option<UtcOffsetRecordOrZ>>
     if offset.form == 2 {
         let shift = UtcOffsetRecord::MinutePrecision(minutes);
         return Some(Some(UtcOffsetRecordOrZ::Offset(shift)));
+    }
+    if offset.form != 3 {
+        return None;
     }
     match fraction_of(offset.fraction_digits, offset.fraction) {
         None => None,
@@ -105,34 +108,43 @@ fn offset_of(offset: &Offset) -> Option<Option<UtcOffsetRecordOrZ>>
     }
 }
 
-/// The time zone.
-fn zone_of<'a>(zone: &Zone<'a>) -> Option<TimeZoneAnnotation<'a, Utf8>>
-    ensures { option_map (note_of (λ unit. unit)) result ≡ zone_by zone.now }
+/// The time zone, where its form has a name.
+fn zone_of<'a>(zone: &Zone<'a>) -> Option<Option<TimeZoneAnnotation<'a, Utf8>>>
+    ensures found { IfSome result (λ found.
+        zone_by (zone_contents zone.now) ≡ Some (option_map (note_of (λ unit. unit)) found)) }
+    ensures none { IfNone result (zone_by (zone_contents zone.now) ≡ None) }
 {
     if zone.form == 0 {
+        return Some(None);
+    }
+    if zone.form == 1 {
+        return Some(Some(TimeZoneAnnotation {
+            critical: zone.is_critical,
+            tz: TimeZoneRecord::Name(zone.name),
+        }));
+    }
+    if zone.form != 2 {
         return None;
     }
-    let tz = if zone.form == 1 {
-        TimeZoneRecord::Name(zone.name)
-    } else {
-        TimeZoneRecord::Offset(minutes_of(zone.is_negative, zone.hour, zone.minute))
-    };
-    Some(TimeZoneAnnotation {
+    Some(Some(TimeZoneAnnotation {
         critical: zone.is_critical,
-        tz,
-    })
+        tz: TimeZoneRecord::Offset(minutes_of(zone.is_negative, zone.hour, zone.minute)),
+    }))
 }
 
-/// The record, where its fractions are such.
+/// The record, where its forms have names and its fractions are such.
 fn record_of<'a>(given: &Record<'a>) -> Option<IxdtfParseRecord<'a, Utf8>>
     ensures found { IfSome result
-        (λ found. parsed_of (λ unit. unit) found ≡ record_by given.now) }
-    ensures none { IfNone result (¬ (IsPrintable (record_by given.now))) }
+        (λ found. record_by (contents given.now) ≡ Some (parsed_of (λ unit. unit) found)) }
+    ensures none { IfNone result (¬ (IsSomeAnd (record_by (contents given.now)) IsPrintable)) }
 {
     let Some(time) = time_of(&given.time) else {
         return None;
     };
     let Some(offset) = offset_of(&given.offset) else {
+        return None;
+    };
+    let Some(tz) = zone_of(&given.zone) else {
         return None;
     };
     let calendar = if given.has_calendar {
@@ -144,9 +156,42 @@ fn record_of<'a>(given: &Record<'a>) -> Option<IxdtfParseRecord<'a, Utf8>>
         date: date_of(&given.date),
         time,
         offset,
-        tz: zone_of(&given.zone),
+        tz,
         calendar,
     })
+}
+
+/// Prints a record of the library, as [`ixdtf_print`] does what its numbers stand for.
+#[inline(always)]
+fn print_found(found: &IxdtfParseRecord<'_, Utf8>, out: &mut [u8], count: &mut usize) -> u32
+    ensures printed { (result ≡ 0) ↔ (IsPrintable (parsed_of (λ unit. unit) found.now) ×
+        (length (canonical_text (parsed_of (λ unit. unit) found.now)) ≤ length out.old)) }
+    ensures not_printable { (result ≡ 101) ↔ ¬ (IsPrintable (parsed_of (λ unit. unit) found.now)) }
+    ensures too_short { (result ≡ 102) ↔ (IsPrintable (parsed_of (λ unit. unit) found.now) ×
+        (length out.old < length (canonical_text (parsed_of (λ unit. unit) found.now)))) }
+    ensures count { result ≡ 0 →
+        count.new ≡ length (canonical_text (parsed_of (λ unit. unit) found.now)) }
+    ensures fits { result ≡ 0 → count.new ≤ length out.new }
+    ensures text { result ≡ 0 → map byte_letter (take count.new out.new) ≡
+        canonical_text (parsed_of (λ unit. unit) found.now) }
+    ensures read_back { result ≡ 0 → IsReadBack (parsed_of (λ unit. unit) found.now) }
+    ensures rest { result ≡ 0 → drop count.new out.new ≡ drop count.new out.old }
+    ensures unchanged { result ≢ 0 → out.new ≡ out.old }
+    ensures uncounted { result ≡ 101 → count.new ≡ count.old }
+    ensures needed { result ≡ 102 → count.new ≡
+        min (length (canonical_text (parsed_of (λ unit. unit) found.now))) usize.MAX }
+{
+    match print(found, out) {
+        Ok(written) => {
+            *count = written;
+            0
+        }
+        Err(PrintError::NotPrintable) => 101,
+        Err(PrintError::TooShort) => {
+            *count = length_of(found).min(usize::MAX as u128) as usize;
+            102
+        }
+    }
 }
 
 /// Writes the canonical text of the record into the front of the bytes, and how many bytes these are. It returns 0; or 101
@@ -155,37 +200,29 @@ fn record_of<'a>(given: &Record<'a>) -> Option<IxdtfParseRecord<'a, Utf8>>
 #[unsafe(no_mangle)]
 pub extern "C" fn ixdtf_print(given: &Record<'_>, out: &mut [u8], count: &mut usize) -> u32
     // Of each record and room, one of the three is returned.
-    ensures printed { (result ≡ 0) ↔ (IsPrintable (record_by given.now) ×
-        (length (canonical_text (record_by given.now)) ≤ length out.old)) }
-    ensures not_printable { (result ≡ 101) ↔ ¬ (IsPrintable (record_by given.now)) }
-    ensures too_short { (result ≡ 102) ↔ (IsPrintable (record_by given.now) ×
-        (length out.old < length (canonical_text (record_by given.now)))) }
+    ensures printed { (result ≡ 0) ↔ IsSomeAnd (record_by (contents given.now)) (λ found.
+        IsPrintable found × (length (canonical_text found) ≤ length out.old)) }
+    ensures not_printable { (result ≡ 101) ↔
+        ¬ (IsSomeAnd (record_by (contents given.now)) IsPrintable) }
+    ensures too_short { (result ≡ 102) ↔ IsSomeAnd (record_by (contents given.now)) (λ found.
+        IsPrintable found × (length out.old < length (canonical_text found))) }
     // After 0 the first bytes are the canonical text of what the numbers stand for, which is read back as it, and the others
     // are as they were.
-    ensures count { result ≡ 0 → count.new ≡ length (canonical_text (record_by given.now)) }
+    ensures count { result ≡ 0 → IsSomeAnd (record_by (contents given.now))
+        (λ found. count.new ≡ length (canonical_text found)) }
     ensures fits { result ≡ 0 → count.new ≤ length out.new }
-    ensures text { result ≡ 0 →
-        map byte_letter (take count.new out.new) ≡ canonical_text (record_by given.now) }
-    ensures read_back { result ≡ 0 → IsReadBack (record_by given.now) }
+    ensures text { result ≡ 0 → IsSomeAnd (record_by (contents given.now))
+        (λ found. map byte_letter (take count.new out.new) ≡ canonical_text found) }
+    ensures read_back { result ≡ 0 → IsSomeAnd (record_by (contents given.now)) IsReadBack }
     ensures rest { result ≡ 0 → drop count.new out.new ≡ drop count.new out.old }
     // Else the bytes are as they were; and after 102 the count is that of the bytes that it takes, as far as the number goes.
     ensures unchanged { result ≢ 0 → out.new ≡ out.old }
     ensures uncounted { result ≡ 101 → count.new ≡ count.old }
-    ensures needed { result ≡ 102 →
-        count.new ≡ min (length (canonical_text (record_by given.now))) usize.MAX }
+    ensures needed { result ≡ 102 → IsSomeAnd (record_by (contents given.now))
+        (λ found. count.new ≡ min (length (canonical_text found)) usize.MAX) }
 {
     let Some(found) = record_of(given) else {
         return 101;
     };
-    match print(&found, out) {
-        Ok(written) => {
-            *count = written;
-            0
-        }
-        Err(PrintError::NotPrintable) => 101,
-        Err(PrintError::TooShort) => {
-            *count = length_of(&found).min(usize::MAX as u128) as usize;
-            102
-        }
-    }
+    print_found(&found, out, count)
 }

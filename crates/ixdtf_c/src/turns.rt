@@ -1,10 +1,13 @@
 //! A caller of the library for C who has a handler.
 
-ghost use Rattle.std.specs.Prelude.{◌≡◌, ◌≢◌, ◌≤◌, None, length, map, option_map};
-ghost use Rattle.ixdtf.specs.Handlers.{Handled, pair_of};
+ghost use Rattle.std.specs.Prelude.{◌≡◌, ◌≤◌, None, length, map, option_map, Result};
+ghost use Rattle.ixdtf.specs.Handlers.{Handled, calendar_value, pair_of};
 ghost use Rattle.ixdtf.specs.language.Letters.{byte_letter};
 ghost use Rattle.ixdtf.specs.language.Readers.{parse};
-ghost use Rattle.ixdtf_c.specs.Narrow.{annotation_by, calendar_by, outcome_by};
+ghost use Rattle.ixdtf.specs.language.Languages.{Parsed};
+ghost use Rattle.ixdtf.specs.table.Faults.{Fault};
+ghost use Rattle.ixdtf_c.specs.Crossing.{Contents, Gives, units_for};
+ghost use Rattle.ixdtf_c.specs.Narrow.{annotation_by, calendar_by, contents};
 ghost use Rattle.ixdtf_c.specs.Turns.{HandsOver, InTurn};
 
 use crate::narrow::{Annotation, Calendar, Record};
@@ -72,6 +75,17 @@ where
     0
 }
 
+/// The units of the calendar, and none where there is none.
+fn units_of<'a>(calendar: &Calendar<'a>) -> &'a [u8]
+    ensures { map (λ unit. unit) result.now ≡ units_for (calendar_value (calendar_by calendar.now)) }
+{
+    if calendar.is_there {
+        calendar.value
+    } else {
+        &[]
+    }
+}
+
 /// Reads as [`ixdtf_parse_with_annotations`] does, asks the handler about each annotation, hands each of its replies to
 /// [`ixdtf_reply`], and stops at the first that is refused. With room for all annotations this is the library's
 /// `parse_with_annotation_handler`.
@@ -85,8 +99,9 @@ pub fn parse_in_turn<'a, F>(
 where
     F: FnMut(records::Annotation<'a, Utf8>) -> Option<records::Annotation<'a, Utf8>>,
     requires callable { F.IsAlwaysCallable handler }
-    ensures handled { count.new ≤ length annotations.old → Handled (λ unit. unit) F.step handler
-        parse (map byte_letter text.now) (outcome_by result out.new) }
+    ensures handled { count.new ≤ length annotations.old → (outcome : Result Parsed Fault)
+        × Handled (λ unit. unit) F.step handler parse (map byte_letter text.now) outcome
+        × (before : Contents) × Gives (λ found. found) outcome result before (contents out.new) }
 {
     let read = ixdtf_parse_with_annotations(text, annotations, count, out);
     if *count > annotations.len() {
@@ -103,7 +118,7 @@ where
         return refused;
     }
     if read == 0 {
-        out.calendar = calendar.value;
+        out.calendar = units_of(&calendar);
         out.has_calendar = calendar.is_there;
     }
     read

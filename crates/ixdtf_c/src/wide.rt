@@ -1,12 +1,12 @@
 //! Records of 16-bit sources, as C sees them.
 
-ghost use Rattle.std.specs.Prelude.{◌≡◌, ◌≢◌, ◌≤◌, map, option_map};
+ghost use Rattle.std.specs.Prelude.{◌≡◌, ◌≢◌, map, option_map};
 ghost use Rattle.ixdtf.specs.table.Faults.{fault_of};
 ghost use Rattle.ixdtf.specs.Views.{parsed_of, note_of, zone_of, returned};
-ghost use Rattle.ixdtf_c.specs.Crossing.{fault_by};
-ghost use Rattle.ixdtf_c.specs.Wide.{zone_by, zone_alone_by, record_by};
-ghost use Rattle.ixdtf_c.specs.Wide.{SameButLocation, SameButOffset, SameButZone, SameButName};
-ghost use Rattle.ixdtf_c.specs.Wide.{outcome_by, offset_outcome_by, zone_outcome_by, name_outcome_by};
+ghost use Rattle.ixdtf_c.specs.Numbers.{number_for, location_of};
+ghost use Rattle.ixdtf_c.specs.Crossing.{area_for, zone_for, record_for, nothing, offset_alone, zone_alone, name_alone, Gives};
+ghost use Rattle.ixdtf.specs.language.ZoneNames.Zone.{Name};
+ghost use Rattle.ixdtf_c.specs.Wide.{zone_contents, contents, SameButLocation};
 
 use crate::errors::number_of;
 use crate::forms::{Date, Offset, Time, is_negative};
@@ -77,69 +77,102 @@ pub struct Calendar<'a> {
 }
 
 impl<'a> Zone<'a> {
-    /// Writes the zone, where there is one.
+    // Writes the numbers of the zone, and zeros where there is none.
     #[inline(always)]
     fn put(&mut self, zone: &Option<TimeZoneAnnotation<'a, Utf16>>)
-        ensures { zone_by self.new ≡ option_map (note_of (λ unit. unit)) zone.now }
+        ensures { zone_contents self.new ≡ zone_for (option_map (note_of (λ unit. unit)) zone.now) }
     {
         match zone {
-            None => self.form = 0,
-            Some(it) => {
-                self.put_area(&it.tz);
-                self.is_critical = it.critical;
+            None => {
+                *self = Zone {
+                    name: &[],
+                    form: 0,
+                    is_critical: false,
+                    is_negative: false,
+                    hour: 0,
+                    minute: 0,
+                }
             }
+            Some(it) => self.put_area(it.critical, &it.tz),
         }
     }
 
-    /// Writes the zone.
+    // Writes the numbers of a name or an offset.
     #[inline(always)]
-    fn put_area(&mut self, zone: &TimeZoneRecord<'a, Utf16>)
-        ensures area { zone_alone_by self.new ≡ zone_of (λ unit. unit) zone.now }
-        ensures form { 1 ≤ self.new.form }
-        ensures critical { self.new.is_critical ≡ self.old.is_critical }
+    fn put_area(&mut self, is_critical: bool, zone: &TimeZoneRecord<'a, Utf16>)
+        ensures { zone_contents self.new ≡ area_for is_critical (zone_of (λ unit. unit) zone.now) }
     {
         match zone {
-            TimeZoneRecord::Name(name) => {
-                self.form = 1;
-                self.name = name;
-            }
+            TimeZoneRecord::Name(name) => self.put_name(is_critical, name),
             TimeZoneRecord::Offset(offset) => {
+                self.name = &[];
                 self.form = 2;
+                self.is_critical = is_critical;
                 self.is_negative = is_negative(offset.sign);
                 self.hour = offset.hour;
                 self.minute = offset.minute;
             }
         }
     }
+
+    // Writes the numbers of a name.
+    #[inline(always)]
+    fn put_name(&mut self, is_critical: bool, name: &'a [u16])
+        ensures { zone_contents self.new ≡ area_for is_critical (Name (map (λ unit. unit) name.now)) }
+    {
+        self.name = name;
+        self.form = 1;
+        self.is_critical = is_critical;
+        self.is_negative = false;
+        self.hour = 0;
+        self.minute = 0;
+    }
 }
 
 impl<'a> Record<'a> {
-    /// Writes what was read.
+    /// Clears all of it.
+    #[inline(always)]
+    fn clear(&mut self)
+        ensures { contents self.new ≡ record_for nothing }
+    {
+        self.fill(&IxdtfParseRecord {
+            date: None,
+            time: None,
+            offset: None,
+            tz: None,
+            calendar: None,
+        });
+    }
+
+    /// Writes what was read, and clears what was not.
     #[inline(never)]
     fn fill(&mut self, found: &IxdtfParseRecord<'a, Utf16>)
-        ensures { record_by self.new ≡ parsed_of (λ unit. unit) found.now }
+        ensures { contents self.new ≡ record_for (parsed_of (λ unit. unit) found.now) }
     {
         self.date.put(found.date);
         self.time.put(found.time);
         self.offset.put(found.offset);
         self.zone.put(&found.tz);
         match found.calendar {
-            None => self.has_calendar = false,
+            None => {
+                self.calendar = &[];
+                self.has_calendar = false;
+            }
             Some(calendar) => {
                 self.calendar = calendar;
                 self.has_calendar = true;
             }
         }
+        self.location = &[];
     }
-}
 
-impl<'a> Record<'a> {
     /// Writes where the text ended, of an error, and returns the error's number.
     #[inline(always)]
     fn refuse(&mut self, error: ParseError) -> u32
-        ensures fault { fault_by result self.new.location.now ≡ fault_of error }
+        ensures number { result ≡ number_for (fault_of error) }
         ensures some { result ≢ 0 }
-        ensures unchanged { SameButLocation result self.old self.new }
+        ensures location { self.new.location.now ≡ location_of (fault_of error) }
+        ensures unchanged { SameButLocation self.old self.new }
     {
         let (number, location) = number_of(error);
         self.location = location;
@@ -150,8 +183,9 @@ impl<'a> Record<'a> {
 /// Writes what a reader of records returned, and returns 0, or the number of the error.
 #[inline(always)]
 pub fn give<'a>(outcome: &ParserResult<IxdtfParseRecord<'a, Utf16>>, out: &mut Record<'a>) -> u32
-    ensures outcome { outcome_by result out.new ≡ returned (parsed_of (λ unit. unit)) outcome.now }
-    ensures unchanged { result ≢ 0 → SameButLocation result out.old out.new }
+    ensures given { Gives (λ found. found) (returned (parsed_of (λ unit. unit)) outcome.now) result
+        (contents out.old) (contents out.new) }
+    ensures unchanged { result ≢ 0 → SameButLocation out.old out.new }
 {
     match outcome {
         Ok(found) => {
@@ -165,12 +199,13 @@ pub fn give<'a>(outcome: &ParserResult<IxdtfParseRecord<'a, Utf16>>, out: &mut R
 /// Writes what a reader of offsets returned, and returns 0, or the number of the error.
 #[inline(always)]
 pub fn give_offset<'a>(outcome: &ParserResult<UtcOffsetRecord>, out: &mut Record<'a>) -> u32
-    ensures outcome { offset_outcome_by result out.new ≡ returned (λ offset. offset) outcome.now }
-    ensures rest { result ≡ 0 → SameButOffset out.old out.new }
-    ensures unchanged { result ≢ 0 → SameButLocation result out.old out.new }
+    ensures given { Gives offset_alone (returned (λ offset. offset) outcome.now) result
+        (contents out.old) (contents out.new) }
+    ensures unchanged { result ≢ 0 → SameButLocation out.old out.new }
 {
     match outcome {
         Ok(offset) => {
+            out.clear();
             out.offset.put_shift(*offset);
             0
         }
@@ -181,13 +216,14 @@ pub fn give_offset<'a>(outcome: &ParserResult<UtcOffsetRecord>, out: &mut Record
 /// Writes what a reader of zones returned, and returns 0, or the number of the error.
 #[inline(always)]
 pub fn give_zone<'a>(outcome: &ParserResult<TimeZoneRecord<'a, Utf16>>, out: &mut Record<'a>) -> u32
-    ensures outcome { zone_outcome_by result out.new ≡ returned (zone_of (λ unit. unit)) outcome.now }
-    ensures rest { result ≡ 0 → SameButZone out.old out.new }
-    ensures unchanged { result ≢ 0 → SameButLocation result out.old out.new }
+    ensures given { Gives zone_alone (returned (zone_of (λ unit. unit)) outcome.now) result
+        (contents out.old) (contents out.new) }
+    ensures unchanged { result ≢ 0 → SameButLocation out.old out.new }
 {
     match outcome {
         Ok(zone) => {
-            out.zone.put_area(zone);
+            out.clear();
+            out.zone.put_area(false, zone);
             0
         }
         Err(error) => out.refuse(*error),
@@ -197,14 +233,15 @@ pub fn give_zone<'a>(outcome: &ParserResult<TimeZoneRecord<'a, Utf16>>, out: &mu
 /// Writes what a reader of names returned, and returns 0, or the number of the error.
 #[inline(always)]
 pub fn give_name<'a>(outcome: &ParserResult<&'a [u16]>, out: &mut Record<'a>) -> u32
-    ensures outcome { name_outcome_by result out.new ≡
-        returned (λ units. map (λ unit. unit) units.now) outcome.now }
-    ensures rest { result ≡ 0 → SameButName out.old out.new }
-    ensures unchanged { result ≢ 0 → SameButLocation result out.old out.new }
+    ensures given { Gives name_alone
+        (returned (λ units. map (λ unit. unit) units.now) outcome.now) result
+        (contents out.old) (contents out.new) }
+    ensures unchanged { result ≢ 0 → SameButLocation out.old out.new }
 {
     match outcome {
         Ok(name) => {
-            out.zone.name = name;
+            out.clear();
+            out.zone.put_name(false, name);
             0
         }
         Err(error) => out.refuse(*error),

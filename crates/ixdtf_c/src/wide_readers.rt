@@ -1,15 +1,14 @@
 //! The readers of 16-bit sources.
 
-ghost use Rattle.std.specs.Prelude.{◌≡◌, ◌≢◌, map, OnOk};
-ghost use Rattle.ixdtf.specs.language.Languages.Found.{lasting, shifted, identified, named};
+ghost use Rattle.std.specs.Prelude.{◌≡◌, ◌≢◌, map};
+ghost use Rattle.ixdtf.specs.language.Languages.Found.{shifted, identified, named};
 ghost use Rattle.ixdtf.specs.language.Letters.{wide_letter};
 ghost use Rattle.ixdtf.specs.language.Readers.{parse, parse_year_month, parse_month_day, parse_time};
-ghost use Rattle.ixdtf.specs.language.Readers.Reader.{parse_duration, parse_offset, parse_identifier, parse_iana_identifier};
-ghost use Rattle.ixdtf_c.specs.Crossing.{duration_outcome_by, SameDurationButLocation};
-ghost use Rattle.ixdtf_c.specs.Wide.{outcome_by, offset_outcome_by, zone_outcome_by, name_outcome_by};
-ghost use Rattle.ixdtf_c.specs.Wide.{SameButLocation, SameButOffset, SameButZone, SameButName};
-ghost use Rattle.ixdtf.specs.Laws.{InNoOther};
-ghost use Rattle.ixdtf_c.specs.Outcomes.{ReadsRecord, ReadsPart};
+ghost use Rattle.ixdtf.specs.language.Readers.Reader.{parse_offset, parse_identifier, parse_iana_identifier};
+ghost use Rattle.ixdtf_c.specs.Crossing.{offset_alone, zone_alone, name_alone};
+ghost use Rattle.ixdtf_c.specs.Lasting.{contents as lasting_contents, SameButLocation as SameLastingButLocation};
+ghost use Rattle.ixdtf_c.specs.Wide.{contents, SameButLocation};
+ghost use Rattle.ixdtf_c.specs.Outcomes.{GivesRecord, GivesPart, GivesLasting};
 
 use crate::durations::{Duration, give_duration};
 use crate::wide::{Record, give, give_name, give_offset, give_zone};
@@ -19,11 +18,11 @@ use ixdtf::parsers::{IsoDurationParser, IxdtfParser, Profile, TimeZoneParser};
 /// Reads a date, or a date and a time, and the brackets after it.
 #[unsafe(no_mangle)]
 pub extern "C" fn ixdtf16_parse<'a>(text: &'a [u16], out: &mut Record<'a>) -> u32
-    // What the number and the record stand for is what the library's reader returns of the text.
-    ensures read { ReadsRecord Profile.Crate parse (map wide_letter text.now)
-        (outcome_by result out.new) }
-    // After a refusal the record is as it was, but for the location, which is the error's.
-    ensures unchanged { result ≢ 0 → SameButLocation result out.old out.new }
+    // The number and the record, all of it, are those of what the library's reader returns of the text.
+    ensures read { GivesRecord Profile.Crate parse (map wide_letter text.now) result
+        (contents out.old) (contents out.new) }
+    // After a refusal the record is as it was, its slices too, but for the location.
+    ensures unchanged { result ≢ 0 → SameButLocation out.old out.new }
 {
     give(&IxdtfParser::from_utf16(text).parse(), out)
 }
@@ -31,11 +30,11 @@ pub extern "C" fn ixdtf16_parse<'a>(text: &'a [u16], out: &mut Record<'a>) -> u3
 /// Reads a year and a month, and the brackets after it.
 #[unsafe(no_mangle)]
 pub extern "C" fn ixdtf16_parse_year_month<'a>(text: &'a [u16], out: &mut Record<'a>) -> u32
-    // What the number and the record stand for is what the library's reader returns of the text.
-    ensures read { ReadsRecord Profile.Crate parse_year_month (map wide_letter text.now)
-        (outcome_by result out.new) }
-    // After a refusal the record is as it was, but for the location, which is the error's.
-    ensures unchanged { result ≢ 0 → SameButLocation result out.old out.new }
+    // The number and the record, all of it, are those of what the library's reader returns of the text.
+    ensures read { GivesRecord Profile.Crate parse_year_month (map wide_letter text.now) result
+        (contents out.old) (contents out.new) }
+    // After a refusal the record is as it was, its slices too, but for the location.
+    ensures unchanged { result ≢ 0 → SameButLocation out.old out.new }
 {
     give(&IxdtfParser::from_utf16(text).parse_year_month(), out)
 }
@@ -43,11 +42,11 @@ pub extern "C" fn ixdtf16_parse_year_month<'a>(text: &'a [u16], out: &mut Record
 /// Reads a month and a day, and the brackets after it.
 #[unsafe(no_mangle)]
 pub extern "C" fn ixdtf16_parse_month_day<'a>(text: &'a [u16], out: &mut Record<'a>) -> u32
-    // What the number and the record stand for is what the library's reader returns of the text.
-    ensures read { ReadsRecord Profile.Crate (parse_month_day Profile.Crate) (map wide_letter text.now)
-        (outcome_by result out.new) }
-    // After a refusal the record is as it was, but for the location, which is the error's.
-    ensures unchanged { result ≢ 0 → SameButLocation result out.old out.new }
+    // The number and the record, all of it, are those of what the library's reader returns of the text.
+    ensures read { GivesRecord Profile.Crate (parse_month_day Profile.Crate) (map wide_letter text.now) result
+        (contents out.old) (contents out.new) }
+    // After a refusal the record is as it was, its slices too, but for the location.
+    ensures unchanged { result ≢ 0 → SameButLocation out.old out.new }
 {
     give(&IxdtfParser::from_utf16(text).parse_month_day(), out)
 }
@@ -55,11 +54,11 @@ pub extern "C" fn ixdtf16_parse_month_day<'a>(text: &'a [u16], out: &mut Record<
 /// Reads a time, and the brackets after it.
 #[unsafe(no_mangle)]
 pub extern "C" fn ixdtf16_parse_time<'a>(text: &'a [u16], out: &mut Record<'a>) -> u32
-    // What the number and the record stand for is what the library's reader returns of the text.
-    ensures read { ReadsRecord Profile.Crate (parse_time Profile.Crate) (map wide_letter text.now)
-        (outcome_by result out.new) }
-    // After a refusal the record is as it was, but for the location, which is the error's.
-    ensures unchanged { result ≢ 0 → SameButLocation result out.old out.new }
+    // The number and the record, all of it, are those of what the library's reader returns of the text.
+    ensures read { GivesRecord Profile.Crate (parse_time Profile.Crate) (map wide_letter text.now) result
+        (contents out.old) (contents out.new) }
+    // After a refusal the record is as it was, its slices too, but for the location.
+    ensures unchanged { result ≢ 0 → SameButLocation out.old out.new }
 {
     give(&IxdtfParser::from_utf16(text).parse_time(), out)
 }
@@ -67,11 +66,11 @@ pub extern "C" fn ixdtf16_parse_time<'a>(text: &'a [u16], out: &mut Record<'a>) 
 /// Reads a month and a day, and the brackets after it, under the strict profile.
 #[unsafe(no_mangle)]
 pub extern "C" fn ixdtf16_parse_month_day_strict<'a>(text: &'a [u16], out: &mut Record<'a>) -> u32
-    // What the number and the record stand for is what the library's reader returns of the text.
-    ensures read { ReadsRecord Profile.Strict (parse_month_day Profile.Strict) (map wide_letter text.now)
-        (outcome_by result out.new) }
-    // After a refusal the record is as it was, but for the location, which is the error's.
-    ensures unchanged { result ≢ 0 → SameButLocation result out.old out.new }
+    // The number and the record, all of it, are those of what the library's reader returns of the text.
+    ensures read { GivesRecord Profile.Strict (parse_month_day Profile.Strict) (map wide_letter text.now) result
+        (contents out.old) (contents out.new) }
+    // After a refusal the record is as it was, its slices too, but for the location.
+    ensures unchanged { result ≢ 0 → SameButLocation out.old out.new }
 {
     let mut parser = IxdtfParser::from_utf16(text).with_profile(Profile::Strict);
     give(&parser.parse_month_day(), out)
@@ -80,11 +79,11 @@ pub extern "C" fn ixdtf16_parse_month_day_strict<'a>(text: &'a [u16], out: &mut 
 /// Reads a time, and the brackets after it, under the strict profile.
 #[unsafe(no_mangle)]
 pub extern "C" fn ixdtf16_parse_time_strict<'a>(text: &'a [u16], out: &mut Record<'a>) -> u32
-    // What the number and the record stand for is what the library's reader returns of the text.
-    ensures read { ReadsRecord Profile.Strict (parse_time Profile.Strict) (map wide_letter text.now)
-        (outcome_by result out.new) }
-    // After a refusal the record is as it was, but for the location, which is the error's.
-    ensures unchanged { result ≢ 0 → SameButLocation result out.old out.new }
+    // The number and the record, all of it, are those of what the library's reader returns of the text.
+    ensures read { GivesRecord Profile.Strict (parse_time Profile.Strict) (map wide_letter text.now) result
+        (contents out.old) (contents out.new) }
+    // After a refusal the record is as it was, its slices too, but for the location.
+    ensures unchanged { result ≢ 0 → SameButLocation out.old out.new }
 {
     let mut parser = IxdtfParser::from_utf16(text).with_profile(Profile::Strict);
     give(&parser.parse_time(), out)
@@ -93,13 +92,11 @@ pub extern "C" fn ixdtf16_parse_time_strict<'a>(text: &'a [u16], out: &mut Recor
 /// Reads an offset.
 #[unsafe(no_mangle)]
 pub extern "C" fn ixdtf16_parse_offset<'a>(text: &'a [u16], out: &mut Record<'a>) -> u32
-    // What the number and the record stand for is what the library's reader returns of the text.
-    ensures read { ReadsPart parse_offset shifted (map wide_letter text.now)
-        (offset_outcome_by result out.new) }
-    // Where it reads the text, the record is as it was, but for the offset.
-    ensures rest { result ≡ 0 → SameButOffset out.old out.new }
-    // After a refusal the record is as it was, but for the location, which is the error's.
-    ensures unchanged { result ≢ 0 → SameButLocation result out.old out.new }
+    // The number and the record, all of it, are those of what the library's reader returns of the text.
+    ensures read { GivesPart parse_offset shifted offset_alone (map wide_letter text.now) result
+        (contents out.old) (contents out.new) }
+    // After a refusal the record is as it was, its slices too, but for the location.
+    ensures unchanged { result ≢ 0 → SameButLocation out.old out.new }
 {
     give_offset(&TimeZoneParser::from_utf16(text).parse_offset(), out)
 }
@@ -107,13 +104,11 @@ pub extern "C" fn ixdtf16_parse_offset<'a>(text: &'a [u16], out: &mut Record<'a>
 /// Reads a time zone.
 #[unsafe(no_mangle)]
 pub extern "C" fn ixdtf16_parse_identifier<'a>(text: &'a [u16], out: &mut Record<'a>) -> u32
-    // What the number and the record stand for is what the library's reader returns of the text.
-    ensures read { ReadsPart parse_identifier identified (map wide_letter text.now)
-        (zone_outcome_by result out.new) }
-    // Where it reads the text, the record is as it was, but for the zone, and of this but for whether it is critical.
-    ensures rest { result ≡ 0 → SameButZone out.old out.new }
-    // After a refusal the record is as it was, but for the location, which is the error's.
-    ensures unchanged { result ≢ 0 → SameButLocation result out.old out.new }
+    // The number and the record, all of it, are those of what the library's reader returns of the text.
+    ensures read { GivesPart parse_identifier identified zone_alone (map wide_letter text.now) result
+        (contents out.old) (contents out.new) }
+    // After a refusal the record is as it was, its slices too, but for the location.
+    ensures unchanged { result ≢ 0 → SameButLocation out.old out.new }
 {
     give_zone(&TimeZoneParser::from_utf16(text).parse_identifier(), out)
 }
@@ -121,13 +116,11 @@ pub extern "C" fn ixdtf16_parse_identifier<'a>(text: &'a [u16], out: &mut Record
 /// Reads the name of a time zone.
 #[unsafe(no_mangle)]
 pub extern "C" fn ixdtf16_parse_iana_identifier<'a>(text: &'a [u16], out: &mut Record<'a>) -> u32
-    // What the number and the record stand for is what the library's reader returns of the text.
-    ensures read { ReadsPart parse_iana_identifier named (map wide_letter text.now)
-        (name_outcome_by result out.new) }
-    // Where it reads the text, the record is as it was, but for the name of the zone.
-    ensures rest { result ≡ 0 → SameButName out.old out.new }
-    // After a refusal the record is as it was, but for the location, which is the error's.
-    ensures unchanged { result ≢ 0 → SameButLocation result out.old out.new }
+    // The number and the record, all of it, are those of what the library's reader returns of the text.
+    ensures read { GivesPart parse_iana_identifier named name_alone (map wide_letter text.now) result
+        (contents out.old) (contents out.new) }
+    // After a refusal the record is as it was, its slices too, but for the location.
+    ensures unchanged { result ≢ 0 → SameButLocation out.old out.new }
 {
     give_name(
         &TimeZoneParser::from_utf16(text).parse_iana_identifier(),
@@ -138,14 +131,12 @@ pub extern "C" fn ixdtf16_parse_iana_identifier<'a>(text: &'a [u16], out: &mut R
 /// Reads a duration.
 #[unsafe(no_mangle)]
 pub extern "C" fn ixdtf16_parse_duration(text: &[u16], out: &mut Duration<'_>) -> u32
-    // What the number and the duration stand for is what the library's reader returns of the text.
-    ensures read { ReadsPart (parse_duration Profile.Crate) lasting (map wide_letter text.now)
-        (duration_outcome_by result out.new) }
-    // `Ok` only where no other reader of dates, times and durations has the text.
-    ensures alone { OnOk (duration_outcome_by result out.new)
-        (InNoOther Profile.Crate (parse_duration Profile.Crate) (map wide_letter text.now)) }
-    // After a refusal the duration is as it was, but for the location, which is the error's.
-    ensures unchanged { result ≢ 0 → SameDurationButLocation result out.old out.new }
+    // The number and the duration, all of it, are those of what the library's reader returns of the text, and 0 comes only
+    // where no other reader of dates, times and durations has the text.
+    ensures read { GivesLasting Profile.Crate (map wide_letter text.now) result
+        (lasting_contents out.old) (lasting_contents out.new) }
+    // After a refusal the duration is as it was, but for the location.
+    ensures unchanged { result ≢ 0 → SameLastingButLocation out.old out.new }
 {
     give_duration(&IsoDurationParser::<Utf16>::from_utf8(text).parse(), out)
 }
@@ -153,14 +144,12 @@ pub extern "C" fn ixdtf16_parse_duration(text: &[u16], out: &mut Duration<'_>) -
 /// Reads a duration, under the strict profile.
 #[unsafe(no_mangle)]
 pub extern "C" fn ixdtf16_parse_duration_strict(text: &[u16], out: &mut Duration<'_>) -> u32
-    // What the number and the duration stand for is what the library's reader returns of the text.
-    ensures read { ReadsPart (parse_duration Profile.Strict) lasting (map wide_letter text.now)
-        (duration_outcome_by result out.new) }
-    // `Ok` only where no other reader of dates, times and durations has the text.
-    ensures alone { OnOk (duration_outcome_by result out.new)
-        (InNoOther Profile.Strict (parse_duration Profile.Strict) (map wide_letter text.now)) }
-    // After a refusal the duration is as it was, but for the location, which is the error's.
-    ensures unchanged { result ≢ 0 → SameDurationButLocation result out.old out.new }
+    // The number and the duration, all of it, are those of what the library's reader returns of the text, and 0 comes only
+    // where no other reader of dates, times and durations has the text.
+    ensures read { GivesLasting Profile.Strict (map wide_letter text.now) result
+        (lasting_contents out.old) (lasting_contents out.new) }
+    // After a refusal the duration is as it was, but for the location.
+    ensures unchanged { result ≢ 0 → SameLastingButLocation out.old out.new }
 {
     let mut parser = IsoDurationParser::<Utf16>::from_utf8(text).with_profile(Profile::Strict);
     give_duration(&parser.parse(), out)

@@ -68,6 +68,13 @@ fn prints_no_record_without_a_text(rt: HostRuntime) {
     record.offset.is_negative = true;
     let canonical = units(b"2024-02-29T08:48:00-01:00");
     check_printed(&rt, &record, &canonical);
+    record.offset.form = 4;
+    check_refused(&rt, &record);
+    record.offset.form = 0;
+    record.zone.form = 3;
+    check_refused(&rt, &record);
+    record.zone.form = 0;
+    record.offset.form = 1;
     record.time.is_there = false;
     check_refused(&rt, &record);
 }

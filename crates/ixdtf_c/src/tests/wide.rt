@@ -148,6 +148,42 @@ fn reads_parts(rt: HostRuntime) {
 }
 
 #[test]
+fn clears_what_a_text_does_not_have(rt: HostRuntime) {
+    let mut record = no_record();
+    let text = units(b"2024-03-02T08:48:00.25-05:00:01.5[!-05:30][u-ca=hebrew]");
+    assert_eq!(rt; ixdtf16_parse(&text, &mut record), 0);
+    let text = units(b"2024-03-02");
+    assert_eq!(rt; ixdtf16_parse(&text, &mut record), 0);
+    assert_eq!(rt;
+        (
+            record.time.hour,
+            record.time.fraction,
+            record.time.fraction_digits
+        ),
+        (0, 0, 0)
+    );
+    assert_eq!(rt;
+        (
+            record.offset.form,
+            record.offset.second,
+            record.offset.fraction
+        ),
+        (0, 0, 0)
+    );
+    assert_eq!(rt;
+        (record.zone.form, record.zone.is_critical, record.zone.hour),
+        (0, false, 0)
+    );
+    assert_eq!(rt; (record.has_calendar, record.calendar.len()), (false, 0));
+    let text = units(b"Europe/Berlin");
+    assert_eq!(rt; ixdtf16_parse_iana_identifier(&text, &mut record), 0);
+    assert_eq!(rt;
+        (record.zone.form, record.date.is_there, record.date.year),
+        (1, false, 0)
+    );
+}
+
+#[test]
 fn lists_annotations(rt: HostRuntime) {
     let mut record = no_record();
     let mut slots = [no_annotation(), no_annotation()];

@@ -2,18 +2,9 @@ use Rattle.ixdtf_c.proofs.Crossed.{crossed_part, crossed_ok}
 use Rattle.ixdtf_c.proofs.narrow_readers.ixdtf_parse_duration_strict.Goals as goal
 
 pub returns-clause-read : goal.returns-clause-read
-returns-clause-read c = rw (
-  c.give_duration.ensures.outcome,
-  ← c.from_utf8.ensures.rest,
-  ← c.with_profile-parser.ensures.rest,
-  ← c.with_profile-parser.ensures.profile,
+returns-clause-read c = rw (← c.from_utf8.ensures.rest, ← c.with_profile-parser.ensures.rest, ← c.with_profile-parser.ensures.profile) (
+  _,
+  crossed_part _ _ _ _ c.parse.result c.parse.ensures.ok c.parse.ensures.err c.parse.ensures.no_row c.parse.ensures.only,
+  crossed_ok _ _ c.parse.result c.parse.ensures.alone,
+  c.give_duration.ensures.given,
 )
-    (crossed_part _ _ _ _ c.parse.result c.parse.ensures.ok c.parse.ensures.err c.parse.ensures.no_row c.parse.ensures.only)
-
-pub returns-clause-alone : goal.returns-clause-alone
-returns-clause-alone c = rw (
-  c.give_duration.ensures.outcome,
-  ← c.from_utf8.ensures.rest,
-  ← c.with_profile-parser.ensures.rest,
-  ← c.with_profile-parser.ensures.profile,
-) (crossed_ok _ _ c.parse.result c.parse.ensures.alone)

@@ -1,20 +1,37 @@
-use Rattle.std.proofs.Common.{◌∙◌, ap}
-use Rattle.ixdtf_c.specs.Narrow.{outcome_by}
-use Rattle.ixdtf_c.proofs.Handing.{handled_in_turn, refused_by, kept_refused, kept_read}
+use Rattle.std.proofs.Common.{Err, subst, sym}
+use Rattle.ixdtf_c.specs.Crossing.{Gives}
+use Rattle.ixdtf_c.specs.Narrow.{calendar_by, contents}
+use Rattle.ixdtf_c.specs.Replying.{with_kept}
+use Rattle.ixdtf_c.proofs.Handing.{handled_all, handled_refused, kept_given, kept_refused, refused_given, there_kept}
 use Rattle.ixdtf_c.proofs.turns.parse_in_turn.Goals as goal
 use Rattle.ixdtf_c.proofs.turns.parse_in_turn.Goals.{then-read-eq0, else-read-eq0}
 
 pub returns-then-refused-ne0 : goal.returns-then-refused-ne0
 returns-then-refused-ne0 g c = record {
-  handled = λ room. handled_in_turn c.ixdtf_parse_with_annotations-read.ensures.lists room c.reply_in_turn-refused.ensures
-      (λ zeroed. absurd (c.if-refused-ne0.true zeroed)) (λ refused. refused_by _ _ _ refused);
+  handled = λ room.
+      let (listed, listing, given) = c.ixdtf_parse_with_annotations-read.ensures.lists in
+      let (fault, named, last) = c.reply_in_turn-refused.ensures.refused c.if-refused-ne0.true in
+      let read = contents c.ixdtf_parse_with_annotations-read.new.out in
+      (Err fault, handled_refused listing room c.reply_in_turn-refused.ensures fault last, read, refused_given _ read _ fault named last);
 }
 
 pub returns : goal.returns
 returns g c = record {
-  handled = λ room. handled_in_turn c.ixdtf_parse_with_annotations-read.ensures.lists room c.reply_in_turn-refused.ensures
-      (λ zeroed. elim c.if-read-eq0.branch [
-        | then-read-eq0 w ↦ ap (outcome_by c.ixdtf_parse_with_annotations-read.result) w.out-is ∙ kept_read _ _ _ _ _ _ w.if-read-eq0.true
-        | else-read-eq0 w ↦ ap (outcome_by c.ixdtf_parse_with_annotations-read.result) w.out-is ∙ kept_refused _ _ _ _ w.if-read-eq0.false
-      ]) (λ refused. absurd (refused c.if-refused-ne0.false));
+  handled = λ room.
+      let (listed, listing, given) = c.ixdtf_parse_with_annotations-read.ensures.lists in
+      let before = contents c.args.out.now in
+      let read = contents c.ixdtf_parse_with_annotations-read.new.out in
+      let kept = calendar_by c.reply_in_turn-refused.new.calendar in (
+        with_kept kept listed,
+        handled_all listing room c.reply_in_turn-refused.ensures c.if-refused-ne0.false,
+        before,
+        elim c.if-read-eq0.branch [
+          | then-read-eq0 w ↦
+              subst (λ out. Gives (λ found. found) (with_kept kept listed) c.ixdtf_parse_with_annotations-read.result before (contents out)) (sym w.out-is)
+              (kept_given _ before read listed kept _ _ given w.if-read-eq0.true w.units_of-out.ensures (there_kept _ _))
+          | else-read-eq0 w ↦
+              subst (λ out. Gives (λ found. found) (with_kept kept listed) c.ixdtf_parse_with_annotations-read.result before (contents out)) (sym w.out-is)
+              (kept_refused _ before read listed kept given w.if-read-eq0.false)
+        ],
+      );
 }

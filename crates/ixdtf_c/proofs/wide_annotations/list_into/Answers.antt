@@ -4,4 +4,8 @@ use Rattle.ixdtf_c.proofs.Listed.{lists_left}
 use Rattle.ixdtf_c.proofs.wide_annotations.list_into.Goals as goal
 
 pub returns-clause-lists : goal.returns-clause-lists
-returns-clause-lists g c = rw c.give.ensures.outcome (lists_left (search rules) refl c.list_as-read.ensures.lists)
+returns-clause-lists g c = (
+  _,
+  lists_left (search rules) refl c.list_as-read.ensures.lists,
+  c.give.ensures.given,
+)

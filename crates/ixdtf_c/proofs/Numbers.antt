@@ -1,0 +1,223 @@
+-- The numbers of errors: each is that of one error, but for its location.
+use Rattle.std.proofs.Common.{◌≡◌, ◌≢◌, ℕ, ◌+◌, ◌-◌, ◌≤◌, ◌<◌, suc, zero, List, [], ◌∷◌, get_or, map, Option, Some, None, refl, sym, ◌∙◌, ap, arith, lit≤}
+use Rattle.std.proofs.Math.ListN.{get_or-map}
+use Rattle.ixdtf.specs.table.ErrorTexts.{text_of}
+use Rattle.ixdtf.specs.table.Faults.{Fault}
+use Rattle.ixdtf.specs.table.Faults.Fault.{ImplAssert, NonAsciiCodePoint, ParseFloat, AbruptEnd, InvalidEnd, InvalidMonthRange, InvalidDayRange, DateYear}
+use Rattle.ixdtf.specs.table.Faults.Fault.{DateExtendedYear, DateMonth, DateDay, DateUnexpectedEnd, TimeRequired, TimeHour, TimeMinuteSecond, TimeSecond}
+use Rattle.ixdtf.specs.table.Faults.Fault.{FractionPart, DateSeparator, TimeSeparator, DecimalSeparator}
+use Rattle.ixdtf.specs.table.Faults.Fault.{InvalidAnnotation, AnnotationOpen, AnnotationClose, AnnotationChar}
+use Rattle.ixdtf.specs.table.Faults.Fault.{AnnotationKeyValueSeparator, AnnotationKeyLeadingChar, AnnotationKeyChar}
+use Rattle.ixdtf.specs.table.Faults.Fault.{AnnotationValueCharPostHyphen, AnnotationValueChar, InvalidMinutePrecisionOffset}
+use Rattle.ixdtf.specs.table.Faults.Fault.{CriticalDuplicateCalendar, UnrecognizedCritical}
+use Rattle.ixdtf.specs.table.Faults.Fault.{TzLeadingChar, IanaCharPostSeparator, IanaChar, UtcTimeSeparator}
+use Rattle.ixdtf.specs.table.Faults.Fault.{OffsetNeedsSign, MonthDayHyphen, DurationDisgnator, DurationValueExceededRange}
+use Rattle.ixdtf.specs.table.Faults.Fault.{DateDurationPartOrder, TimeDurationPartOrder}
+use Rattle.ixdtf.specs.table.Faults.Fault.{TimeDurationDesignator, AmbiguousTimeMonthDay, AmbiguousTimeYearMonth, InvalidMonthDay}
+use Rattle.ixdtf.specs.language.Brackets.{Pair}
+use Rattle.ixdtf.specs.Handlers.{Reply, RefusedBeside}
+use Rattle.ixdtf_c.specs.Numbers.{number_for, location_of}
+
+-- the errors in the order of their numbers, from 1 on
+abbrev faults_at : List ℕ → List Fault
+faults_at location =
+    ImplAssert ∷ NonAsciiCodePoint ∷ ParseFloat ∷ AbruptEnd location ∷ InvalidEnd
+    ∷ InvalidMonthRange ∷ InvalidDayRange ∷ DateYear ∷ DateExtendedYear ∷ DateMonth
+    ∷ DateDay ∷ DateUnexpectedEnd ∷ TimeRequired ∷ TimeHour ∷ TimeMinuteSecond
+    ∷ TimeSecond ∷ FractionPart ∷ DateSeparator ∷ TimeSeparator ∷ DecimalSeparator
+    ∷ InvalidAnnotation ∷ AnnotationOpen ∷ AnnotationClose ∷ AnnotationChar ∷ AnnotationKeyValueSeparator
+    ∷ AnnotationKeyLeadingChar ∷ AnnotationKeyChar ∷ AnnotationValueCharPostHyphen ∷ AnnotationValueChar ∷ InvalidMinutePrecisionOffset
+    ∷ CriticalDuplicateCalendar ∷ UnrecognizedCritical ∷ TzLeadingChar ∷ IanaCharPostSeparator ∷ IanaChar
+    ∷ UtcTimeSeparator ∷ OffsetNeedsSign ∷ MonthDayHyphen ∷ DurationDisgnator ∷ DurationValueExceededRange
+    ∷ DateDurationPartOrder ∷ TimeDurationPartOrder ∷ TimeDurationDesignator ∷ AmbiguousTimeMonthDay ∷ AmbiguousTimeYearMonth
+    ∷ InvalidMonthDay ∷ []
+
+abbrev fault_by : ℕ → List ℕ → Fault
+fault_by number location = get_or (faults_at location) (number - 1) ImplAssert
+
+by_number : (fault : Fault) → fault_by (number_for fault) (location_of fault) ≡ fault
+by_number ImplAssert = refl
+by_number NonAsciiCodePoint = refl
+by_number ParseFloat = refl
+by_number (AbruptEnd location) = refl
+by_number InvalidEnd = refl
+by_number InvalidMonthRange = refl
+by_number InvalidDayRange = refl
+by_number DateYear = refl
+by_number DateExtendedYear = refl
+by_number DateMonth = refl
+by_number DateDay = refl
+by_number DateUnexpectedEnd = refl
+by_number TimeRequired = refl
+by_number TimeHour = refl
+by_number TimeMinuteSecond = refl
+by_number TimeSecond = refl
+by_number FractionPart = refl
+by_number DateSeparator = refl
+by_number TimeSeparator = refl
+by_number DecimalSeparator = refl
+by_number InvalidAnnotation = refl
+by_number AnnotationOpen = refl
+by_number AnnotationClose = refl
+by_number AnnotationChar = refl
+by_number AnnotationKeyValueSeparator = refl
+by_number AnnotationKeyLeadingChar = refl
+by_number AnnotationKeyChar = refl
+by_number AnnotationValueCharPostHyphen = refl
+by_number AnnotationValueChar = refl
+by_number InvalidMinutePrecisionOffset = refl
+by_number CriticalDuplicateCalendar = refl
+by_number UnrecognizedCritical = refl
+by_number TzLeadingChar = refl
+by_number IanaCharPostSeparator = refl
+by_number IanaChar = refl
+by_number UtcTimeSeparator = refl
+by_number OffsetNeedsSign = refl
+by_number MonthDayHyphen = refl
+by_number DurationDisgnator = refl
+by_number DurationValueExceededRange = refl
+by_number DateDurationPartOrder = refl
+by_number TimeDurationPartOrder = refl
+by_number TimeDurationDesignator = refl
+by_number AmbiguousTimeMonthDay = refl
+by_number AmbiguousTimeYearMonth = refl
+by_number InvalidMonthDay = refl
+
+pub bounds : (fault : Fault) → (1 ≤ number_for fault) × (number_for fault ≤ 46)
+bounds ImplAssert = (lit≤ tt, lit≤ tt)
+bounds NonAsciiCodePoint = (lit≤ tt, lit≤ tt)
+bounds ParseFloat = (lit≤ tt, lit≤ tt)
+bounds (AbruptEnd location) = (lit≤ tt, lit≤ tt)
+bounds InvalidEnd = (lit≤ tt, lit≤ tt)
+bounds InvalidMonthRange = (lit≤ tt, lit≤ tt)
+bounds InvalidDayRange = (lit≤ tt, lit≤ tt)
+bounds DateYear = (lit≤ tt, lit≤ tt)
+bounds DateExtendedYear = (lit≤ tt, lit≤ tt)
+bounds DateMonth = (lit≤ tt, lit≤ tt)
+bounds DateDay = (lit≤ tt, lit≤ tt)
+bounds DateUnexpectedEnd = (lit≤ tt, lit≤ tt)
+bounds TimeRequired = (lit≤ tt, lit≤ tt)
+bounds TimeHour = (lit≤ tt, lit≤ tt)
+bounds TimeMinuteSecond = (lit≤ tt, lit≤ tt)
+bounds TimeSecond = (lit≤ tt, lit≤ tt)
+bounds FractionPart = (lit≤ tt, lit≤ tt)
+bounds DateSeparator = (lit≤ tt, lit≤ tt)
+bounds TimeSeparator = (lit≤ tt, lit≤ tt)
+bounds DecimalSeparator = (lit≤ tt, lit≤ tt)
+bounds InvalidAnnotation = (lit≤ tt, lit≤ tt)
+bounds AnnotationOpen = (lit≤ tt, lit≤ tt)
+bounds AnnotationClose = (lit≤ tt, lit≤ tt)
+bounds AnnotationChar = (lit≤ tt, lit≤ tt)
+bounds AnnotationKeyValueSeparator = (lit≤ tt, lit≤ tt)
+bounds AnnotationKeyLeadingChar = (lit≤ tt, lit≤ tt)
+bounds AnnotationKeyChar = (lit≤ tt, lit≤ tt)
+bounds AnnotationValueCharPostHyphen = (lit≤ tt, lit≤ tt)
+bounds AnnotationValueChar = (lit≤ tt, lit≤ tt)
+bounds InvalidMinutePrecisionOffset = (lit≤ tt, lit≤ tt)
+bounds CriticalDuplicateCalendar = (lit≤ tt, lit≤ tt)
+bounds UnrecognizedCritical = (lit≤ tt, lit≤ tt)
+bounds TzLeadingChar = (lit≤ tt, lit≤ tt)
+bounds IanaCharPostSeparator = (lit≤ tt, lit≤ tt)
+bounds IanaChar = (lit≤ tt, lit≤ tt)
+bounds UtcTimeSeparator = (lit≤ tt, lit≤ tt)
+bounds OffsetNeedsSign = (lit≤ tt, lit≤ tt)
+bounds MonthDayHyphen = (lit≤ tt, lit≤ tt)
+bounds DurationDisgnator = (lit≤ tt, lit≤ tt)
+bounds DurationValueExceededRange = (lit≤ tt, lit≤ tt)
+bounds DateDurationPartOrder = (lit≤ tt, lit≤ tt)
+bounds TimeDurationPartOrder = (lit≤ tt, lit≤ tt)
+bounds TimeDurationDesignator = (lit≤ tt, lit≤ tt)
+bounds AmbiguousTimeMonthDay = (lit≤ tt, lit≤ tt)
+bounds AmbiguousTimeYearMonth = (lit≤ tt, lit≤ tt)
+bounds InvalidMonthDay = (lit≤ tt, lit≤ tt)
+
+pub number_some : (fault : Fault) → number_for fault ≢ 0
+number_some fault is = omega (arith, (bounds fault).0, is)
+
+-- an error by its number and its location
+fault_is : (number : ℕ) (fault : Fault) → number ≡ number_for fault → fault_by number (location_of fault) ≡ fault
+fault_is number fault is = rw is (by_number fault)
+
+-- two errors with one number have one text
+pub same_text : (a b : Fault) → number_for a ≡ number_for b → text_of a ≡ text_of b
+same_text a b is =
+    ap text_of (sym (by_number a)) ∙ texts (number_for a) (location_of a) (location_of b) ∙ ap text_of (fault_is (number_for a) b is)
+  where
+    texts : (number : ℕ) (here there : List ℕ) → text_of (fault_by number here) ≡ text_of (fault_by number there)
+    texts number here there = let at : (location : List ℕ) → text_of (fault_by number location) ≡ get_or (map text_of (faults_at [])) (number - 1) (text_of ImplAssert) =
+        λ location. rw (← get_or-map text_of) refl in at here ∙ sym (at there)
+
+-- the numbers from one on
+counted : ℕ → ℕ → List ℕ
+counted from zero = []
+counted from (suc n) = from ∷ counted (from + 1) n
+
+counted_at : (from n i d : ℕ) → i < n → get_or (counted from n) i d ≡ from + i
+unfolding counted
+counted_at from zero i d less = absurd (omega (arith, less))
+counted_at from (suc n) zero d less = omega arith
+counted_at from (suc n) (suc i) d less = counted_at (from + 1) n i d (omega (arith, less)) ∙ omega arith
+
+-- the error at the place of a number has that number
+pub numbered : (number : ℕ) (other : Fault) → 1 ≤ number → number ≤ 46 → number_for (get_or (faults_at []) (number - 1) other) ≡ number
+unfolding counted
+numbered number other from to =
+    let at : number_for (get_or (faults_at []) (number - 1) other) ≡ get_or (counted 1 46) (number - 1) (number_for other) = rw (← get_or-map number_for) refl in
+    at ∙ counted_at 1 46 (number - 1) (number_for other) (omega (arith, from, to)) ∙ omega (arith, from)
+
+-- the error of the number of a refusal
+pub is_unrecognized : (fault : Fault) → 32 ≡ number_for fault → UnrecognizedCritical ≡ fault
+is_unrecognized fault is = fault_is 32 fault is
+
+pub is_duplicate : (fault : Fault) → 31 ≡ number_for fault → CriticalDuplicateCalendar ≡ fault
+is_duplicate fault is = fault_is 31 fault is
+
+-- a reply that is refused is so without a location
+pub nowhere : (first : Option Pair) (reply : Reply) (fault : Fault) → RefusedBeside first reply fault → location_of fault ≡ []
+nowhere first None fault refused = absurd refused
+nowhere first (Some pair) ImplAssert refused = refl
+nowhere first (Some pair) NonAsciiCodePoint refused = refl
+nowhere first (Some pair) ParseFloat refused = refl
+nowhere first (Some pair) (AbruptEnd location) refused = absurd refused
+nowhere first (Some pair) InvalidEnd refused = refl
+nowhere first (Some pair) InvalidMonthRange refused = refl
+nowhere first (Some pair) InvalidDayRange refused = refl
+nowhere first (Some pair) DateYear refused = refl
+nowhere first (Some pair) DateExtendedYear refused = refl
+nowhere first (Some pair) DateMonth refused = refl
+nowhere first (Some pair) DateDay refused = refl
+nowhere first (Some pair) DateUnexpectedEnd refused = refl
+nowhere first (Some pair) TimeRequired refused = refl
+nowhere first (Some pair) TimeHour refused = refl
+nowhere first (Some pair) TimeMinuteSecond refused = refl
+nowhere first (Some pair) TimeSecond refused = refl
+nowhere first (Some pair) FractionPart refused = refl
+nowhere first (Some pair) DateSeparator refused = refl
+nowhere first (Some pair) TimeSeparator refused = refl
+nowhere first (Some pair) DecimalSeparator refused = refl
+nowhere first (Some pair) InvalidAnnotation refused = refl
+nowhere first (Some pair) AnnotationOpen refused = refl
+nowhere first (Some pair) AnnotationClose refused = refl
+nowhere first (Some pair) AnnotationChar refused = refl
+nowhere first (Some pair) AnnotationKeyValueSeparator refused = refl
+nowhere first (Some pair) AnnotationKeyLeadingChar refused = refl
+nowhere first (Some pair) AnnotationKeyChar refused = refl
+nowhere first (Some pair) AnnotationValueCharPostHyphen refused = refl
+nowhere first (Some pair) AnnotationValueChar refused = refl
+nowhere first (Some pair) InvalidMinutePrecisionOffset refused = refl
+nowhere first (Some pair) CriticalDuplicateCalendar refused = refl
+nowhere first (Some pair) UnrecognizedCritical refused = refl
+nowhere first (Some pair) TzLeadingChar refused = refl
+nowhere first (Some pair) IanaCharPostSeparator refused = refl
+nowhere first (Some pair) IanaChar refused = refl
+nowhere first (Some pair) UtcTimeSeparator refused = refl
+nowhere first (Some pair) OffsetNeedsSign refused = refl
+nowhere first (Some pair) MonthDayHyphen refused = refl
+nowhere first (Some pair) DurationDisgnator refused = refl
+nowhere first (Some pair) DurationValueExceededRange refused = refl
+nowhere first (Some pair) DateDurationPartOrder refused = refl
+nowhere first (Some pair) TimeDurationPartOrder refused = refl
+nowhere first (Some pair) TimeDurationDesignator refused = refl
+nowhere first (Some pair) AmbiguousTimeMonthDay refused = refl
+nowhere first (Some pair) AmbiguousTimeYearMonth refused = refl
+nowhere first (Some pair) InvalidMonthDay refused = refl

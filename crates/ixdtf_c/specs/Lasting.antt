@@ -1,0 +1,25 @@
+-- Durations.
+use Rattle.std.specs.Prelude.{◌≡◌}
+use Rattle.ixdtf_c.specs.declared.durations.Duration.{Duration}
+use Rattle.ixdtf_c.specs.Crossing.{DurationContents}
+
+abbrev pub contents : Duration → DurationContents
+contents d = record {
+  days = d.days;
+  hours = d.hours;
+  minutes = d.minutes;
+  seconds = d.seconds;
+  fraction = d.fraction;
+  years = d.years;
+  months = d.months;
+  weeks = d.weeks;
+  fraction_digits = d.fraction_digits;
+  time_form = d.time_form;
+  has_date = d.has_date;
+  is_negative = d.is_negative;
+  location = d.location.now;
+}
+
+-- the duration is as it was, its slice too, but for the location
+abbrev pub SameButLocation : Duration → Duration → Type 0
+SameButLocation old new = new ≡ record old { location = new.location }

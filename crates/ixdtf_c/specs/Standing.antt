@@ -1,0 +1,72 @@
+-- What the numbers of a record stand for that is printed, where they stand for something: the fields of a part that is not there are not looked at.
+use Rattle.std.specs.Prelude.{ℕ, Bool, true, false, not, nat_eq, if◌then◌else◌, Option, Some, None}
+use Rattle.ixdtf_grammar.specs.declared.records.DateRecord.{DateRecord}
+use Rattle.ixdtf_grammar.specs.declared.records.TimeRecord.{TimeRecord}
+use Rattle.ixdtf_grammar.specs.declared.records.MinutePrecisionOffset.{MinutePrecisionOffset}
+use Rattle.ixdtf_grammar.specs.declared.records.UtcOffsetRecord.TheVariants as offsets
+use Rattle.ixdtf_grammar.specs.declared.records.UtcOffsetRecordOrZ.{UtcOffsetRecordOrZ}
+use Rattle.ixdtf_grammar.specs.declared.records.UtcOffsetRecordOrZ.TheVariants as shifts
+use Rattle.ixdtf.specs.language.Brackets.{ZoneNote}
+use Rattle.ixdtf.specs.language.Fractions.{FractionParts}
+use Rattle.ixdtf.specs.language.Languages.{Parsed}
+use Rattle.ixdtf.specs.language.OffsetRecords.{sign_for}
+use Rattle.ixdtf.specs.language.ZoneNames.Zone.{Name, Offset as ByOffset}
+use Rattle.ixdtf_c.specs.declared.forms.Date.{Date}
+use Rattle.ixdtf_c.specs.declared.forms.Time.{Time}
+use Rattle.ixdtf_c.specs.declared.forms.Offset.{Offset}
+use Rattle.ixdtf_c.specs.Crossing.{Contents, ZoneContents}
+
+-- a value, where it is there
+abbrev pub where_there : {A : Type 0} → Bool → A → Option A
+where_there true a = Some a
+where_there false a = None
+
+-- a fraction by how many digits it has, and none of no digits
+abbrev pub fraction_by : ℕ → ℕ → Option FractionParts
+fraction_by digits value = if nat_eq digits 0 then None else Some (record { count = digits; value = value })
+
+abbrev pub date_by : Date → Option DateRecord
+date_by d = where_there d.is_there (record { year = d.year; month = d.month; day = d.day })
+
+abbrev pub time_by : Time → Option TimeRecord
+time_by t = where_there t.is_there (record { hour = t.hour; minute = t.minute; second = t.second; fraction = fraction_by t.fraction_digits t.fraction })
+
+-- an offset in hours and minutes
+abbrev pub minutes_by : Bool → ℕ → ℕ → MinutePrecisionOffset
+minutes_by is_negative hour minute = record { sign = sign_for (not is_negative); hour = hour; minute = minute }
+
+-- 0: no offset. 1: Z. 2: hours and minutes. 3: hours, minutes and seconds. Another number stands for nothing.
+abbrev pub offset_by : Offset → Option (Option UtcOffsetRecordOrZ)
+offset_by o =
+    if nat_eq o.form 0 then Some None
+    else (if nat_eq o.form 1 then Some (Some shifts.Z)
+    else (if nat_eq o.form 2 then Some (Some (shifts.Offset (offsets.MinutePrecision (minutes_by o.is_negative o.hour o.minute))))
+    else (if nat_eq o.form 3 then Some (Some (shifts.Offset (offsets.FullPrecisionOffset (record {
+      minute_precision_offset = minutes_by o.is_negative o.hour o.minute;
+      second = o.second;
+      fraction = fraction_by o.fraction_digits o.fraction;
+    }))))
+    else None)))
+
+-- 0: no zone. 1: a name. 2: an offset. Another number stands for nothing.
+abbrev pub zone_by : ZoneContents → Option (Option ZoneNote)
+zone_by z =
+    if nat_eq z.form 0 then Some None
+    else (if nat_eq z.form 1 then Some (Some (record { critical = z.is_critical; zone = Name z.name }))
+    else (if nat_eq z.form 2 then Some (Some (record { critical = z.is_critical; zone = ByOffset (minutes_by z.is_negative z.hour z.minute) }))
+    else None))
+
+-- a record, where its offset and its zone stand for something
+abbrev pub parsed_by : Contents → Option (Option UtcOffsetRecordOrZ) → Option (Option ZoneNote) → Option Parsed
+parsed_by r (Some offset) (Some zone) = Some (record {
+  date = date_by r.date;
+  time = time_by r.time;
+  offset = offset;
+  zone = zone;
+  calendar = where_there r.has_calendar r.calendar;
+})
+parsed_by r (Some offset) None = None
+parsed_by r None _ = None
+
+abbrev pub record_by : Contents → Option Parsed
+record_by r = parsed_by r (offset_by r.offset) (zone_by r.zone)
