@@ -9,14 +9,15 @@
  * inside the length, and need not be UTF-8 or UTF-16. The pointer is never NULL, also with length 0: pass "" for an empty text. A text of
  * 16-bit units is aligned as uint16_t is. A length is at most PTRDIFF_MAX bytes, as that of every object in C.
  *
- * RESULTS. Each reader returns 0 (IXDTF_OK) or the number of the error that the text is refused with. After 0 the record has
- * what was read. After an error it is as it was, but for `location`, which IXDTF_ABRUPT_END sets to what the text broke off in, as "digit",
- * and every other error to nothing.
+ * RESULTS. Each reader returns 0 (IXDTF_OK) or the number of the error that the text is refused with. After 0 every field of the record
+ * is what the text gives, whatever stood there before: of a part that the text does not have all fields are 0, false or a slice of length 0,
+ * and so is `location`. After an error the record is as it was, but for `location`, which IXDTF_ABRUPT_END sets to what the text broke off
+ * in, as "digit", and every other error to nothing.
  *
  * RECORDS. The caller owns every record, array and text. A record is handed in initialised, by the macro of its type (IXDTF_RECORD for an
  * ixdtf_record) or by a call before, and aligned as its type; whatever a call left in it may stand there, also slices of a text that is
- * gone, since no reader reads them; ixdtf_print reads those of the parts that are there. Only the parts that a text has are written: look
- * at `is_there`, `form`, `has_..` first, since the other fields of a part that is not there keep what they had.
+ * gone, since no reader reads them; ixdtf_print reads those of the parts that are there. `is_there`, `form` and `has_..` say which parts are
+ * there. After 0 no `form` is another one than those that are named below.
  * No pointer handed in is NULL, and what a call writes overlaps nothing else that is handed in with it.
  *
  * SLICES. A name, a calendar, a key or a value in a record is a pointer into the text that was read, and a length. It is not ended by
@@ -111,17 +112,16 @@ typedef struct ixdtf_date {
     int32_t year;  /* -999999 to 999999; 0 for a month and a day alone */
     uint8_t month; /* 1 to 12 */
     uint8_t day;   /* 1 to 31; 1 for a year and a month alone; 0 where ixdtf_parse_month_day reads a day 00 */
-    bool is_there; /* else the other fields say nothing */
+    bool is_there; /* else the other fields are 0 */
 } ixdtf_date;
 
 typedef struct ixdtf_time {
-    uint64_t fraction;       /* where fraction_digits is not 0: the number of the first 18 digits of the fraction, or of all where
-                              * there are fewer */
+    uint64_t fraction;       /* the number of the first 18 digits of the fraction, or of all where there are fewer; 0 of none */
     uint8_t fraction_digits; /* how many digits the fraction has, and 255 of more; 0: the time has none */
     uint8_t hour;            /* 0 to 23 */
     uint8_t minute;          /* 0 to 59 */
     uint8_t second;          /* 0 to 60 */
-    bool is_there;           /* else the other fields say nothing */
+    bool is_there;           /* else the other fields are 0 */
 } ixdtf_time;
 
 /* The values of `form` of an offset. */
@@ -130,19 +130,19 @@ typedef struct ixdtf_offset {
     uint64_t fraction;       /* where form is IXDTF_SECONDS, as in ixdtf_time */
     uint8_t fraction_digits; /* where form is IXDTF_SECONDS, as in ixdtf_time */
     uint8_t form;            /* IXDTF_NO_OFFSET; IXDTF_UTC for Z, which says nothing of local time; IXDTF_MINUTES or IXDTF_SECONDS */
-    bool is_negative;        /* this and the next two where form is IXDTF_MINUTES or IXDTF_SECONDS; true for -00:00 */
+    bool is_negative;        /* this and the next two where form is IXDTF_MINUTES or IXDTF_SECONDS, and else 0; true for -00:00 */
     uint8_t hour;
     uint8_t minute;
-    uint8_t second;          /* where form is IXDTF_SECONDS */
+    uint8_t second;          /* where form is IXDTF_SECONDS, and else 0 */
 } ixdtf_offset;
 
 /* The values of `form` of a time zone. */
 enum { IXDTF_NO_ZONE = 0, IXDTF_NAME = 1, IXDTF_ZONE_OFFSET = 2 };
 typedef struct ixdtf_zone {
-    ixdtf_units name; /* where form is IXDTF_NAME */
+    ixdtf_units name; /* where form is IXDTF_NAME, and else of length 0 */
     uint8_t form;     /* IXDTF_NO_ZONE, IXDTF_NAME or IXDTF_ZONE_OFFSET */
     bool is_critical; /* whether a ! stands before it: then honour the zone, or reject the text */
-    bool is_negative; /* this and the next two where form is IXDTF_ZONE_OFFSET */
+    bool is_negative; /* this and the next two where form is IXDTF_ZONE_OFFSET, and else 0 */
     uint8_t hour;
     uint8_t minute;
 } ixdtf_zone;
@@ -153,7 +153,7 @@ typedef struct ixdtf_record {
     ixdtf_time time;
     ixdtf_offset offset;
     ixdtf_zone zone;
-    ixdtf_units calendar; /* where has_calendar */
+    ixdtf_units calendar; /* where has_calendar, and else of length 0 */
     bool has_calendar;
     ixdtf_text location;  /* after IXDTF_ABRUPT_END: what the text broke off in */
 } ixdtf_record;
@@ -178,13 +178,13 @@ typedef struct ixdtf16_calendar { ixdtf16_units value; bool is_critical, is_ther
 /* The values of `time_form`: there is no time, or its last unit. */
 enum { IXDTF_NO_TIME = 0, IXDTF_LAST_HOURS = 1, IXDTF_LAST_MINUTES = 2, IXDTF_LAST_SECONDS = 3 };
 typedef struct ixdtf_duration {
-    uint64_t days;           /* where has_date */
-    uint64_t hours;          /* where time_form is not IXDTF_NO_TIME */
-    uint64_t minutes;        /* where time_form is IXDTF_LAST_MINUTES or IXDTF_LAST_SECONDS */
-    uint64_t seconds;        /* where time_form is IXDTF_LAST_SECONDS */
+    uint64_t days;           /* where has_date, and else 0 */
+    uint64_t hours;          /* where time_form is not IXDTF_NO_TIME, and else 0 */
+    uint64_t minutes;        /* where time_form is IXDTF_LAST_MINUTES or IXDTF_LAST_SECONDS, and else 0 */
+    uint64_t seconds;        /* where time_form is IXDTF_LAST_SECONDS, and else 0 */
     uint64_t fraction;       /* of the last unit of the time; as in ixdtf_time */
-    uint32_t years, months, weeks; /* where has_date */
-    uint8_t fraction_digits; /* where time_form is not IXDTF_NO_TIME; as in ixdtf_time */
+    uint32_t years, months, weeks; /* where has_date, and else 0 */
+    uint8_t fraction_digits; /* as in ixdtf_time */
     uint8_t time_form;       /* IXDTF_NO_TIME, or the last unit of the time */
     bool has_date;           /* whether there are years, months, weeks or days */
     bool is_negative;
@@ -219,11 +219,11 @@ uint32_t ixdtf_parse_year_month(const uint8_t *text, size_t length, ixdtf_record
 uint32_t ixdtf_parse_month_day(const uint8_t *text, size_t length, ixdtf_record *out);
 /* A time: T12:30. */
 uint32_t ixdtf_parse_time(const uint8_t *text, size_t length, ixdtf_record *out);
-/* An offset, +05:30, into `offset`, whose form is then IXDTF_MINUTES or IXDTF_SECONDS. Nothing else is written. */
+/* An offset, +05:30, into `offset`, whose form is then IXDTF_MINUTES or IXDTF_SECONDS. No other part is there then. */
 uint32_t ixdtf_parse_offset(const uint8_t *text, size_t length, ixdtf_record *out);
-/* A time zone by its name or its offset, Europe/Berlin or +05:30, into `zone`, of which `is_critical` stays. Nothing else is written. */
+/* A time zone by its name or its offset, Europe/Berlin or +05:30, into `zone`, which is not critical. No other part is there then. */
 uint32_t ixdtf_parse_identifier(const uint8_t *text, size_t length, ixdtf_record *out);
-/* The name of a time zone, Europe/Berlin, into `zone.name`. Nothing else is written, not even `zone.form`. */
+/* The name of a time zone, Europe/Berlin, into `zone`, whose form is then IXDTF_NAME, and which is not critical. No other part is there then. */
 uint32_t ixdtf_parse_iana_identifier(const uint8_t *text, size_t length, ixdtf_record *out);
 /* A duration: -P1Y2M3W4DT5H6M7.5S. */
 uint32_t ixdtf_parse_duration(const uint8_t *text, size_t length, ixdtf_duration *out);
@@ -260,12 +260,12 @@ uint32_t ixdtf_reply(ixdtf_calendar *calendar, const ixdtf_annotation *reply);
 /* Prints a record as its one canonical text, in ASCII: writes the text, without a zero behind it, into the first bytes of
  * `out`, which has `room` of them, and to `count` how many these are. ixdtf_parse reads that text as the same record, and no other record
  * is printed so. It is 0; or else IXDTF_NOT_PRINTABLE where ixdtf_parse gives the record for no text, as one of the 30th of February, without
- * a date, or with a fraction whose number has more digits than it counts; or else IXDTF_TOO_SHORT, where `count` is how much room the text
+ * a date, with a `form` that is not named above, or with a fraction whose number has more digits than it counts; or else IXDTF_TOO_SHORT, where `count` is how much room the text
  * takes (SIZE_MAX where that is no size_t). The other bytes of `out` are as they were, after an error all of them, and after
  * IXDTF_NOT_PRINTABLE `count` too. With room 0 `out` is still not NULL.
  * A record that ixdtf_parse gave of a text of n bytes is always printed where there is room for n + 14. Its slices are read, so that text
- * is still there. A record may also be filled in by hand: then the fields of each part that is there are set, and no slice is NULL;
- * `location` is not read. A `form` beyond those that are named is taken as IXDTF_SECONDS, or as IXDTF_ZONE_OFFSET. */
+ * is still there. A record may also be filled in by hand: then the fields of each part that is there are set, and no slice is NULL; what
+ * stands in the other fields does not matter. */
 uint32_t ixdtf_print(const ixdtf_record *record, uint8_t *out, size_t room, size_t *count);
 
 /* The same of 16-bit texts, but for ixdtf_print. A unit outside 1 to 126 stands for no letter: where a letter has to stand it is

@@ -130,6 +130,33 @@ static int same_offset(const ixdtf_offset *a, const ixdtf_offset *b) {
         && a->hour == b->hour && a->minute == b->minute && a->second == b->second;
 }
 
+/* Of a part that is not there, each field is zero. */
+static void check_cleared_date(const ixdtf_date *it) {
+    check(it->is_there || (it->year == 0 && it->month == 0 && it->day == 0), "a date that is not there is zero");
+}
+
+static void check_cleared_time(const ixdtf_time *it) {
+    check(it->fraction_digits != 0 || it->fraction == 0, "a fraction that is not there is zero");
+    check(it->is_there || (it->fraction_digits == 0 && it->hour == 0 && it->minute == 0 && it->second == 0), "a time that is not there is zero");
+}
+
+static void check_cleared_offset(const ixdtf_offset *it) {
+    check(it->form <= IXDTF_SECONDS, "the form of an offset has a name");
+    check(it->fraction_digits != 0 || it->fraction == 0, "a fraction that is not there is zero");
+    check(it->form == IXDTF_SECONDS || (it->fraction_digits == 0 && it->second == 0), "a second that is not there is zero");
+    check(it->form >= IXDTF_MINUTES || (!it->is_negative && it->hour == 0 && it->minute == 0), "an offset that is not there is zero");
+}
+
+static void check_cleared_duration(const ixdtf_duration *it) {
+    check(it->time_form <= IXDTF_LAST_SECONDS, "the form of a duration has a name");
+    check(it->has_date || (it->years == 0 && it->months == 0 && it->weeks == 0 && it->days == 0), "a date that is not there is zero");
+    check(it->fraction_digits != 0 || it->fraction == 0, "a fraction that is not there is zero");
+    check(it->time_form != IXDTF_NO_TIME || (it->hours == 0 && it->fraction_digits == 0), "a time that is not there is zero");
+    check(it->time_form >= IXDTF_LAST_MINUTES || it->minutes == 0, "minutes that are not there are zero");
+    check(it->time_form == IXDTF_LAST_SECONDS || it->seconds == 0, "seconds that are not there are zero");
+    check(it->location.length == 0, "a duration that is read has no location");
+}
+
 static int same_duration_but_location(const ixdtf_duration *a, const ixdtf_duration *b) {
     return a->days == b->days && a->hours == b->hours && a->minutes == b->minutes && a->seconds == b->seconds && a->fraction == b->fraction
         && a->years == b->years && a->months == b->months && a->weeks == b->weeks && a->fraction_digits == b->fraction_digits
@@ -417,7 +444,8 @@ static void test_by_hand(void) {
     CHANGED(it.offset.form = IXDTF_NO_OFFSET, IXDTF_OK, "2024-02-29T23:59:60.5[!Abc/d][u-ca=ef-g]");
     CHANGED(it.offset.form = IXDTF_UTC, IXDTF_OK, "2024-02-29T23:59:60.5Z[!Abc/d][u-ca=ef-g]");
     CHANGED(it.offset.form = IXDTF_MINUTES, IXDTF_OK, "2024-02-29T23:59:60.5-23:59[!Abc/d][u-ca=ef-g]");
-    CHANGED(it.offset.form = 200, IXDTF_OK, whole);
+    CHANGED(it.offset.form = 4, IXDTF_NOT_PRINTABLE, "");
+    CHANGED(it.offset.form = 200, IXDTF_NOT_PRINTABLE, "");
     CHANGED(it.offset.is_negative = false, IXDTF_OK, "2024-02-29T23:59:60.5+23:59:59.25[!Abc/d][u-ca=ef-g]");
     CHANGED(it.offset.hour = 24, IXDTF_NOT_PRINTABLE, "");
     CHANGED(it.offset.minute = 60, IXDTF_NOT_PRINTABLE, "");
@@ -427,7 +455,8 @@ static void test_by_hand(void) {
     CHANGED((it.offset.fraction = 100, it.offset.form = IXDTF_UTC), IXDTF_OK, "2024-02-29T23:59:60.5Z[!Abc/d][u-ca=ef-g]");
     CHANGED(it.zone.form = IXDTF_NO_ZONE, IXDTF_OK, "2024-02-29T23:59:60.5-23:59:59.25[u-ca=ef-g]");
     CHANGED((it.zone.form = IXDTF_ZONE_OFFSET, it.zone.hour = 1, it.zone.minute = 2), IXDTF_OK, "2024-02-29T23:59:60.5-23:59:59.25[!+01:02][u-ca=ef-g]");
-    CHANGED((it.zone.form = 3, it.zone.hour = 1, it.zone.is_negative = true), IXDTF_OK, "2024-02-29T23:59:60.5-23:59:59.25[!-01:00][u-ca=ef-g]");
+    CHANGED(it.zone.form = 3, IXDTF_NOT_PRINTABLE, "");
+    CHANGED(it.zone.form = 255, IXDTF_NOT_PRINTABLE, "");
     CHANGED((it.zone.form = IXDTF_ZONE_OFFSET, it.zone.hour = 24), IXDTF_NOT_PRINTABLE, "");
     CHANGED(it.zone.is_critical = false, IXDTF_OK, "2024-02-29T23:59:60.5-23:59:59.25[Abc/d][u-ca=ef-g]");
     CHANGED(it.zone.name.length = 3, IXDTF_OK, "2024-02-29T23:59:60.5-23:59:59.25[!Abc][u-ca=ef-g]");

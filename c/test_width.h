@@ -141,6 +141,26 @@ static int OWN(same_but_location)(const CALL(record) *a, const CALL(record) *b) 
         && OWN(same_units)(a->calendar, b->calendar) && a->has_calendar == b->has_calendar;
 }
 
+/* Of what a text does not have, each field is zero. */
+static void OWN(check_cleared)(const CALL(record) *it) {
+    check_cleared_date(&it->date);
+    check_cleared_time(&it->time);
+    check_cleared_offset(&it->offset);
+    check(it->zone.form <= IXDTF_ZONE_OFFSET, "the form of a zone has a name");
+    check(it->zone.form == IXDTF_NAME || it->zone.name.length == 0, "a name that is not there has no units");
+    check(it->zone.form == IXDTF_ZONE_OFFSET || (!it->zone.is_negative && it->zone.hour == 0 && it->zone.minute == 0),
+        "an offset of a zone that is not there is zero");
+    check(it->zone.form != IXDTF_NO_ZONE || !it->zone.is_critical, "a zone that is not there is not critical");
+    check(it->has_calendar || it->calendar.length == 0, "a calendar that is not there has no units");
+    check(it->location.length == 0, "a record that is read has no location");
+    check(it->zone.name.at != NULL && it->calendar.at != NULL && it->location.at != NULL, "no slice is NULL");
+}
+
+/* Whether nothing stands in a record but its offset and its zone. */
+static int OWN(has_no_more)(const CALL(record) *it) {
+    return !it->date.is_there && !it->time.is_there && !it->has_calendar;
+}
+
 /* A record in which every part stands already, with slices that cannot be read. */
 static CALL(record) OWN(used_record)(void) {
     CALL(record) record = NEW_RECORD;
@@ -189,24 +209,18 @@ static void OWN(test_row)(const struct row *row, int strict) {
         if (error != 0) {
             check(OWN(same_but_location)(&record, &before), "a refusal leaves the record");
             check(same_duration_but_location(&duration, &duration_before), "a refusal leaves the duration");
+        } else if (!strcmp(row->reader, "duration")) {
+            check_cleared_duration(&duration);
         } else {
-            check(record.location.length == before.location.length, "a record that is read has no new location");
-            if (strcmp(row->reader, "duration") && strcmp(row->reader, "offset")) {
-                check(record.zone.form != IXDTF_NAME || !strcmp(row->reader, "iana") || OWN(is_part)(record.zone.name, text, length),
-                    "a name is a part of the text");
-                check(!strcmp(row->reader, "zone") || !strcmp(row->reader, "iana") || !record.has_calendar
-                        || OWN(is_part)(record.calendar, text, length),
-                    "a calendar is a part of the text");
-            }
-            if (!strcmp(row->reader, "offset") || !strcmp(row->reader, "zone") || !strcmp(row->reader, "iana")) {
-                CALL(record) rest = record;
-                if (!strcmp(row->reader, "offset")) {
-                    rest.offset = before.offset;
-                } else {
-                    check(record.zone.is_critical == before.zone.is_critical, "a zone alone is not said to be critical");
-                    rest.zone = before.zone;
-                }
-                check(OWN(same_but_location)(&rest, &before), "the other parts stay");
+            OWN(check_cleared)(&record);
+            check(record.zone.form != IXDTF_NAME || OWN(is_part)(record.zone.name, text, length), "a name is a part of the text");
+            check(!record.has_calendar || OWN(is_part)(record.calendar, text, length), "a calendar is a part of the text");
+            if (!strcmp(row->reader, "offset")) {
+                check(OWN(has_no_more)(&record) && record.zone.form == IXDTF_NO_ZONE, "an offset stands alone");
+            } else if (!strcmp(row->reader, "zone") || !strcmp(row->reader, "iana")) {
+                check(OWN(has_no_more)(&record) && record.offset.form == IXDTF_NO_OFFSET, "a zone stands alone");
+                check(!record.zone.is_critical, "a zone alone is not critical");
+                check(record.zone.form == IXDTF_NAME || !strcmp(row->reader, "zone"), "the name of a zone is a name");
             }
         }
     }
@@ -245,6 +259,7 @@ static size_t OWN(test_listing)(const struct handler_row *row, const UNIT *text,
     CALL(annotation) all[64], some[64];
     CALL(annotation) none = NEW_ANNOTATION;
     CALL(record) record = NEW_RECORD, again = NEW_RECORD;
+    CALL(record) used = OWN(used_record)();
     size_t count = 7, places, i;
     uint32_t error = OWN(list)(row->reader, 0, text, length, all, 0, &count, &record);
     check(count <= 60, "a row has few annotations");
@@ -255,9 +270,15 @@ static size_t OWN(test_listing)(const struct handler_row *row, const UNIT *text,
         for (i = 0; i < 64; i++) {
             some[i] = none;
         }
+        if (error == 0) {
+            again = used;
+        }
         check(OWN(list)(row->reader, 0, text, length, some, places, &found, &again) == error, "the room changes no outcome");
         check(found == count, "the room changes no count");
         check(OWN(same_but_location)(&record, &again), "the room changes no record");
+        if (error == 0) {
+            OWN(check_cleared)(&again);
+        }
         for (i = 0; i < 64; i++) {
             if (i < places && i < count) {
                 check(OWN(is_part)(some[i].key, text, length) && OWN(is_part)(some[i].value, text, length)

@@ -1,10 +1,11 @@
 //! Records of 8-bit sources, as C sees them.
 
-ghost use Rattle.std.specs.Prelude.{◌≡◌, ◌≢◌, map, option_map};
+ghost use Rattle.std.specs.Prelude.{◌≡◌, ◌≢◌, [], map, option_map};
 ghost use Rattle.ixdtf.specs.table.Faults.{fault_of};
 ghost use Rattle.ixdtf.specs.Views.{parsed_of, note_of, zone_of, returned};
 ghost use Rattle.ixdtf_c.specs.Numbers.{number_for, location_of};
-ghost use Rattle.ixdtf_c.specs.Crossing.{area_for, zone_for, record_for, nothing, offset_alone, zone_alone, name_alone, Gives};
+ghost use Rattle.ixdtf_c.specs.Crossing.{area_for, zone_for, units_for, is_there, record_for, nothing, Gives};
+ghost use Rattle.ixdtf_c.specs.Crossing.{offset_alone, zone_alone, name_alone};
 ghost use Rattle.ixdtf.specs.language.ZoneNames.Zone.{Name};
 ghost use Rattle.ixdtf_c.specs.Narrow.{zone_contents, contents, SameButLocation};
 
@@ -135,13 +136,11 @@ impl<'a> Record<'a> {
     fn clear(&mut self)
         ensures { contents self.new ≡ record_for nothing }
     {
-        self.fill(&IxdtfParseRecord {
-            date: None,
-            time: None,
-            offset: None,
-            tz: None,
-            calendar: None,
-        });
+        self.date.put(None);
+        self.time.put(None);
+        self.offset.put(None);
+        self.zone.put(&None);
+        self.put_rest(None);
     }
 
     /// Writes what was read, and clears what was not.
@@ -153,13 +152,25 @@ impl<'a> Record<'a> {
         self.time.put(found.time);
         self.offset.put(found.offset);
         self.zone.put(&found.tz);
-        match found.calendar {
+        self.put_rest(found.calendar);
+    }
+
+    /// Writes the calendar, where there is one, and that the text did not break off.
+    #[inline(always)]
+    fn put_rest(&mut self, calendar: Option<&'a [u8]>)
+        ensures { contents self.new ≡ record (contents self.old) {
+          calendar = units_for (option_map (λ units. map (λ unit. unit) units.now) calendar.entry);
+          has_calendar = is_there (option_map (λ units. map (λ unit. unit) units.now) calendar.entry);
+          location = [];
+        } }
+    {
+        match calendar {
             None => {
                 self.calendar = &[];
                 self.has_calendar = false;
             }
-            Some(calendar) => {
-                self.calendar = calendar;
+            Some(units) => {
+                self.calendar = units;
                 self.has_calendar = true;
             }
         }
