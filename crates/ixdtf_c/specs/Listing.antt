@@ -39,4 +39,5 @@ pub record Lists {A : Type 0} (view : A → Pair) (profile : Profile) (reader : 
 -- the text has an outcome with these annotations, and the outcome is returned and written
 abbrev pub ListsRecord : {A : Type 0} → (A → Pair) → Profile → Reader → Text → List A → List A → ℕ → ℕ → Contents → Contents → Type 0
 ListsRecord view profile reader text old new count number record_old record_new =
-    (outcome : Result Parsed Fault) × Lists view profile reader text old new count outcome × Gives (λ found. found) outcome number record_old record_new
+    (outcome : Result Parsed Fault) × Lists view profile reader text old new count outcome
+    × Gives (λ found. found) outcome number record_old record_new

@@ -1,6 +1,7 @@
 //! Printing records that C hands in.
 
-ghost use Rattle.std.specs.Prelude.{◌≡◌, ◌≢◌, ◌↔◌, ◌<◌, ◌≤◌, Some, None, length, map, min, take, drop, option_map, IfSome, IfNone, IsSomeAnd};
+ghost use Rattle.std.specs.Prelude.{◌≡◌, ◌≢◌, ◌↔◌, ◌<◌, ◌≤◌, Some, None, length, map, min, take, drop};
+ghost use Rattle.std.specs.Prelude.{option_map, IfSome, IfNone, IsSomeAnd};
 ghost use Rattle.ixdtf.specs.language.Letters.{byte_letter};
 ghost use Rattle.ixdtf.specs.Views.{parsed_of, note_of};
 ghost use Rattle.ixdtf_c.specs.Narrow.{contents, zone_contents};
