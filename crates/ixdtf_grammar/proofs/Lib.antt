@@ -1,3 +1,4 @@
+pub mod PaddedDigits
 pub mod code
 pub mod parts
 pub mod theorems

@@ -1,7 +1,8 @@
 -- Each line has an answer.
 use Rattle.std.proofs.Common.{◌≡◌, ◌≢◌, ◌⊎◌, ℕ, ◌+◌, Bool, true, false, List, [], ◌∷◌, ◌++◌, length, take, drop, Option, Some, None, MatchOption, position}
-use Rattle.std.proofs.Common.{refl, sym, ap, subst, ◌∙◌, inl, inr, append_assoc, nat_lt}
+use Rattle.std.proofs.Common.{refl, sym, ap, subst, true≢false, ◌∙◌, inl, inr, append_assoc, nat_lt}
 use Rattle.std.specs.Bool.{MatchBool}
+use Rattle.std.proofs.lemmas.Slice.Eq.{bytes_eq-Decides}
 use Rattle.ixdtf.specs.language.Languages.{Found}
 use Rattle.ixdtf.specs.language.Languages.Found.{parsed}
 use Rattle.ixdtf.specs.language.Letters.{Text}
@@ -10,8 +11,7 @@ use Rattle.ixdtf.specs.language.Readers.Reader.{bracketed}
 use Rattle.ixdtf.specs.table.Faults.{Fault}
 use Rattle.ixdtf.specs.Widths.{UnhandledOutcome, HasUnhandledOutcome}
 use Rattle.ixdtf.specs.Widths.UnhandledOutcome.{read_as, faulted}
-use Rattle.ixdtf_reading.proofs.theorems.OneChain.{same_bytes}
-use Rattle.ixdtf_reading.proofs.theorems.OneUnhandledOutcome.{unhandled_outcome}
+use Rattle.ixdtf_reading.proofs.theorems.OneUnhandledOutcome.{one_unhandled_outcome}
 use Rattle.ixdtf_lines.specs.Answer.{line_limit, too_long, unknown_reader, is_space, letters, ok_answer_of, error_answer_of, Gives, Refuses, IsOutcome}
 use Rattle.ixdtf_lines.specs.Answer.{IsReaderAnswer, IsAnswer}
 use Rattle.ixdtf_lines.specs.Lines.{newline}
@@ -34,7 +34,7 @@ of_plain reader text (read_as found) h = inl (found, h)
 of_plain reader text (faulted fault) h = inr (fault, h)
 
 each_outcome : (reader : Reader) (text : Text) → HasOutcome reader text
-each_outcome reader text = let outcome = unhandled_outcome reader text in of_plain reader text outcome.0 outcome.1
+each_outcome reader text = let outcome = one_unhandled_outcome reader text in of_plain reader text outcome.0 outcome.1
 
 -- ---- each line has an answer
 
@@ -43,6 +43,14 @@ outcome_answer word text = elim (each_outcome (reader_of word) (letters text)) [
   | inl p ↦ (ok_answer_of word p.0, inl (p.0, p.1, refl))
   | inr p ↦ (error_answer_of p.0, inr (p.0, p.1, refl))
 ]
+
+-- two lists of bytes are equal, or not
+same_bytes : (xs ys : List ℕ) → (xs ≡ ys) ⊎ (xs ≢ ys)
+same_bytes xs ys = by_test _ (bytes_eq-Decides xs ys)
+  where
+    by_test : (test : Bool) → (test ≡ true → xs ≡ ys) × (xs ≡ ys → test ≡ true) → (xs ≡ ys) ⊎ (xs ≢ ys)
+    by_test true p = inl (p.0 refl)
+    by_test false p = inr (λ same. true≢false (sym (p.1 same)))
 
 -- none of these words has the name
 abbrev NoneOf : List ℕ → List Word → Type 0

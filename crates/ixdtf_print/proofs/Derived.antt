@@ -12,7 +12,7 @@ use Rattle.ixdtf.specs.language.Shapes.{digits}
 use Rattle.ixdtf.specs.language.Digits.{decimal, padded_digits}
 use Rattle.ixdtf.specs.language.Dates.{Year, IsDate, DateText, IsDayOfMonth}
 use Rattle.ixdtf.specs.language.Fractions.{FractionParts, IsFraction, places_of}
-use Rattle.ixdtf_grammar.proofs.code.Nanoseconds.{length-padded}
+use Rattle.ixdtf_grammar.proofs.PaddedDigits.{length-padded}
 use Rattle.ixdtf_print.specs.Canonical.{two_digits, year_text, date_text, fraction_digits, fraction_text}
 use Rattle.ixdtf_print.specs.Spelled.{IsDay, AreDigits}
 

@@ -6,7 +6,7 @@ use Rattle.std.proofs.lemmas.List.{length-append}
 use Rattle.ixdtf.specs.language.Letters.{Text}
 use Rattle.ixdtf.specs.language.Letters.Letter.{Plain}
 use Rattle.ixdtf.specs.language.Digits.{padded_digits}
-use Rattle.ixdtf_grammar.proofs.code.Nanoseconds.{length-padded}
+use Rattle.ixdtf_grammar.proofs.PaddedDigits.{length-padded}
 use Rattle.ixdtf_print.specs.Puts.{HasRoom, Puts}
 use Rattle.ixdtf_print.proofs.Puts.{text_long, puts_length, puts_nothing, puts_before}
 

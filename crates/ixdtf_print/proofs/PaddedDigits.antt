@@ -7,7 +7,7 @@ use Rattle.ixdtf.specs.language.Letters.{Text, digit}
 use Rattle.ixdtf.specs.language.Letters.Letter.{Plain}
 use Rattle.ixdtf.specs.language.Shapes.{digits}
 use Rattle.ixdtf.specs.language.Digits.{padded_digits, TwoDigits, UpTo}
-use Rattle.ixdtf_grammar.proofs.code.Nanoseconds.{decimal-whole}
+use Rattle.ixdtf_grammar.proofs.PaddedDigits.{decimal-whole}
 use Rattle.ixdtf.specs.language.Fractions.{FractionParts}
 use Rattle.ixdtf_print.specs.Canonical.{two_digits, minutes_text, seconds_text, clock_text, fraction_digits, fraction_text}
 

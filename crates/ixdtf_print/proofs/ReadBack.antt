@@ -29,10 +29,9 @@ use Rattle.ixdtf.specs.language.Brackets.{ZoneNote, Opens, OptionalBracket, Pair
 use Rattle.ixdtf.specs.language.Cores.{core_of, OptionalOffset, IsDateTimeCore}
 use Rattle.ixdtf.specs.language.Languages.{Parsed}
 use Rattle.ixdtf.specs.table.Faults.{Fault}
-use Rattle.ixdtf.specs.Handlers.{IsRefused, NoneRefused, own_replies, calendar_key, calendar_value, first_calendar}
-use Rattle.ixdtf_reading.proofs.code.OneMoreReply.{NoneRefused-nothing, NoneRefused-more, neither_refused}
-use Rattle.ixdtf_reading.specs.reading.Times.{time_of}
-use Rattle.ixdtf_grammar.proofs.code.Nanoseconds.{decimal-whole, length-padded}
+use Rattle.ixdtf.specs.table.Faults.Fault.{UnrecognizedCritical}
+use Rattle.ixdtf.specs.Handlers.{Reply, RefusedBeside, NoneRefused, own_replies, calendar_key, calendar_value, first_calendar}
+use Rattle.ixdtf_grammar.proofs.PaddedDigits.{decimal-whole, length-padded}
 use Rattle.ixdtf_print.specs.Canonical.{two_digits, year_text, date_text, minutes_text, seconds_text, fraction_digits, clock_text, time_text, sign_of}
 use Rattle.ixdtf_print.specs.Canonical.{minute_offset_text, offset_text, zone_text, opening_text, bracket_text, calendar_text, optional_date_text, core_text}
 use Rattle.ixdtf_print.specs.Canonical.{canonical_text}
@@ -138,6 +137,10 @@ is_fraction fraction d =
       );
       value = λ i. record { count = count i; value = number i };
     }
+
+-- a time of these numbers
+abbrev time_of : ℕ → ℕ → ℕ → Option FractionParts → TimeRecord
+time_of hour minute second fraction = record { hour = hour; minute = minute; second = second; fraction = fraction }
 
 -- the digits of a clock
 module _ (clock : Clock) (may : IsTrue (has_seconds clock)) (small : greatest_second clock < 100) (h m s : ℕ) (part : Option FractionParts)
@@ -307,6 +310,11 @@ is_calendar_pair value h = record {
   value = refl;
 }
 
+-- no reply stands in the empty list
+nothing_split : (earlier later : List Reply) (reply : Reply) → [] ≡ earlier ++ reply ∷ later → ⊥
+nothing_split [] later reply split = cc
+nothing_split (first ∷ earlier) later reply split = cc
+
 -- the pairs of a canonical text
 abbrev calendar_pairs : Option (List ℕ) → List Pair
 calendar_pairs None = []
@@ -316,12 +324,21 @@ are_pairs : (calendar : Option (List ℕ)) → HasCalendar calendar → ArePairs
 are_pairs None h = refl
 are_pairs (Some value) h = (calendar_text (Some value), [], sym (append-nil _), is_calendar_pair value h, refl)
 
-not_refused : (value : List ℕ) (fault : Fault) → ¬ (IsRefused [] (Some (calendar_pair value)) fault)
-not_refused value = neither_refused None (Some (calendar_pair value)) (λ h. absurd cc) (λ h. h)
+-- a calendar that is not critical is not refused beside none
+not_refused : (value : List ℕ) (fault : Fault) → ¬ (RefusedBeside None (Some (calendar_pair value)) fault)
+not_refused value UnrecognizedCritical h = absurd cc
+not_refused value fault h = h
 
+-- no reply is refused where there is one such calendar, or none
 none_refused : (calendar : Option (List ℕ)) → NoneRefused (own_replies (calendar_pairs calendar))
-none_refused None = NoneRefused-nothing
-none_refused (Some value) = NoneRefused-more [] (Some (calendar_pair value)) NoneRefused-nothing (not_refused value)
+none_refused None = record { none = λ earlier later reply fault split refused. nothing_split earlier later reply split }
+none_refused (Some value) = record { none = λ earlier later reply fault split refused. at_first earlier later reply fault split refused }
+  where
+    at_first : (earlier later : List Reply) (reply : Reply) (fault : Fault) → Some (calendar_pair value) ∷ [] ≡ earlier ++ reply ∷ later
+        → ¬ (RefusedBeside (first_calendar earlier) reply fault)
+    at_first [] later reply fault split refused =
+        let same : reply ≡ Some (calendar_pair value) = cc in not_refused value fault (subst (λ r. RefusedBeside None r fault) same refused)
+    at_first (first ∷ earlier) later reply fault split refused = let more : [] ≡ earlier ++ reply ∷ later = cc in nothing_split earlier later reply more
 
 -- they give the calendar
 gives_calendar : (calendar : Option (List ℕ)) → calendar ≡ calendar_value (first_calendar (own_replies (calendar_pairs calendar)))

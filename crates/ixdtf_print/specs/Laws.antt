@@ -5,7 +5,12 @@ use Rattle.ixdtf.specs.language.Letters.{Text}
 use Rattle.ixdtf.specs.language.Languages.{Parsed}
 use Rattle.ixdtf.specs.language.Readers.{parse}
 use Rattle.ixdtf_print.specs.Canonical.{canonical_text}
+use Rattle.ixdtf_print.specs.Printable.{IsPrintable, IsReadBack}
 
 -- the canonical text of a record that `parse` reads from a text, with each pair its own reply, has at most 14 letters more
 abbrev pub CanonicalFits : Type 0
 CanonicalFits = (text : Text) (found : Parsed) → UnhandledRecord parse text found → length (canonical_text found) ≤ length text + 14
+
+-- each printable record is read back from its canonical text, which is that of no other printable record
+abbrev pub CanonicalIsReadBack : Type 0
+CanonicalIsReadBack = (found : Parsed) → IsPrintable found → IsReadBack found

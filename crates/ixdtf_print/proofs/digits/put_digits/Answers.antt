@@ -1,5 +1,5 @@
 use Rattle.std.proofs.Common.{arith}
-use Rattle.ixdtf_grammar.proofs.code.Nanoseconds.{length-padded}
+use Rattle.ixdtf_grammar.proofs.PaddedDigits.{length-padded}
 use Rattle.ixdtf_print.proofs.DigitLoop.{inside_room, next_digit}
 use Rattle.ixdtf_print.proofs.digits.put_digits.Goals as goal
 

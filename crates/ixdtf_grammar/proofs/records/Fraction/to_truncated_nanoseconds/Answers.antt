@@ -1,7 +1,8 @@
 -- Both branches give the number of the first nine digits.
 use Rattle.std.proofs.Common.{◌^◌, ◌-◌, ap, ◌∙◌, arith}
 use Rattle.ixdtf_grammar.specs.language.Fractions.{nanoseconds_of}
-use Rattle.ixdtf_grammar.proofs.code.Nanoseconds.{ten_pos, nanoseconds-few, nanoseconds-many}
+use Rattle.ixdtf_grammar.proofs.PaddedDigits.{ten_pos}
+use Rattle.ixdtf_grammar.proofs.code.Nanoseconds.{nanoseconds-few, nanoseconds-many}
 use Rattle.ixdtf_grammar.proofs.records.Fraction.to_truncated_nanoseconds.Goals as goal
 
 pub overflow_cast-result : goal.overflow_cast-result
