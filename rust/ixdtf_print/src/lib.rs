@@ -23,7 +23,7 @@ pub use error::PrintError;
 use fields::put_record;
 use ixdtf::encoding::Utf8;
 use ixdtf::records::IxdtfParseRecord;
-pub use laws::canonical_fits;
+pub use laws::{canonical_fits, canonical_is_read_back};
 // For crates of this repository, and no part of the interface.
 #[doc(hidden)]
 pub use length::length_of;

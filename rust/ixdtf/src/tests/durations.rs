@@ -3,6 +3,7 @@
 
 #[allow(unused_imports)]
 use crate::runtime::{HostRuntime, TryClone};
+use super::times::{Digits, check_digits};
 use super::{Found, Reader, check_found, check_fraction, check_kept};
 use ixdtf::ParseError;
 use ixdtf::encoding::Utf8;
@@ -380,6 +381,37 @@ const DATES_AND_FRACTIONS_OF_DURATIONS: &[Fractional] = &[
 fn reads_dates_and_fractions_of_durations() {
     let rt = HostRuntime;
     check_fractions(&rt, DATES_AND_FRACTIONS_OF_DURATIONS);
+}
+
+const DIGITS_OF_DURATIONS: &[Digits] = &[
+    Digits {
+        text: "PT0,5H",
+        count: 1,
+        value: 5,
+    },
+    Digits {
+        text: "PT1.50M",
+        count: 2,
+        value: 50,
+    },
+    Digits {
+        text: "PT1H1.123456789123M",
+        count: 12,
+        value: 123_456_789_123,
+    },
+    Digits {
+        text: "PT1S2.1234567898765432101234567890987654321S",
+        count: 37,
+        value: 123_456_789_876_543_210,
+    },
+];
+
+#[test]
+fn keeps_digits_of_durations() {
+    let rt = HostRuntime;
+    for row in DIGITS_OF_DURATIONS {
+        check_digits(&rt, row, fraction_of_duration(row.text));
+    }
 }
 
 #[test]

@@ -8,7 +8,7 @@ use crate::runtime::{HostRuntime, TryClone};
 use super::{
     Found, Parsers, Reader, check_found, check_fraction, check_parsed, dated, parts, timed,
 };
-use ixdtf::records::TimeRecord;
+use ixdtf::records::{Fraction, TimeRecord};
 use crate::runtime::Abort;
 
 /// A date with a time that has no fraction.
@@ -230,4 +230,50 @@ const FRACTIONS_OF_TIMES_ALONE: &[Fractional] = &[
 fn reads_fractions_of_times_alone() {
     let rt = HostRuntime;
     check_fractional(&rt, Reader::Time, None, FRACTIONS_OF_TIMES_ALONE);
+}
+
+/// A text whose fraction is kept by these two numbers.
+pub(super) struct Digits {
+    pub(super) text: &'static str,
+    /// How many digits there are, up to 255.
+    pub(super) count: u8,
+    /// The number of the first 18 of them.
+    pub(super) value: u64,
+}
+
+/// The fraction that the text has been read to has this count of digits and this value.
+pub(super) fn check_digits(rt: &impl Abort, row: &Digits, fraction: Option<Fraction>) {
+    let digits = fraction.map(|fraction| (fraction.digit_count(), fraction.leading_value()));
+    assert_eq!(rt; digits, Some((row.count, row.value)), "at {}", row.text);
+}
+
+// The last has 300 digits.
+const DIGITS_OF_TIMES_ALONE: &[Digits] = &[
+    Digits {
+        text: "15:23:30.12345678",
+        count: 8,
+        value: 12_345_678,
+    },
+    Digits {
+        text: "15:23:30.1234567898765432101234567890987654321",
+        count: 37,
+        value: 123_456_789_876_543_210,
+    },
+    Digits {
+        text: "15:23:30.123456789876543210123456789098765432112345678987654321012345678909876543211234567898765432101234567890987654321123456789876543210123456789098765432112345678987654321012345678909876543211234567898765432101234567890987654321123456789876543210123456789098765432112345678987654321012345678909876543211234",
+        count: 255,
+        value: 123_456_789_876_543_210,
+    },
+];
+
+#[test]
+fn keeps_digits_of_times_alone() {
+    let rt = HostRuntime;
+    for row in DIGITS_OF_TIMES_ALONE {
+        let fraction = match time_of(Reader::Time, row.text) {
+            Some(time) => time.fraction,
+            None => None,
+        };
+        check_digits(&rt, row, fraction);
+    }
 }
