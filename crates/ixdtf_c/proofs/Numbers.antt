@@ -1,7 +1,6 @@
--- The numbers of errors: each is that of one error, but for its location.
-use Rattle.std.proofs.Common.{◌≡◌, ◌≢◌, ℕ, ◌+◌, ◌-◌, ◌≤◌, ◌<◌, suc, zero, List, [], ◌∷◌, get_or, map, Option, Some, None, refl, sym, ◌∙◌, ap, arith, lit≤}
+-- The numbers of errors.
+use Rattle.std.proofs.Common.{◌≡◌, ◌≢◌, ℕ, ◌+◌, ◌-◌, ◌≤◌, ◌<◌, suc, zero, List, [], ◌∷◌, get_or, Option, Some, None, refl, ◌∙◌, arith, lit≤}
 use Rattle.std.proofs.Math.ListN.{get_or-map}
-use Rattle.ixdtf.specs.table.ErrorTexts.{text_of}
 use Rattle.ixdtf.specs.table.Faults.{Fault}
 use Rattle.ixdtf.specs.table.Faults.Fault.{ImplAssert, NonAsciiCodePoint, ParseFloat, AbruptEnd, InvalidEnd, InvalidMonthRange, InvalidDayRange, DateYear}
 use Rattle.ixdtf.specs.table.Faults.Fault.{DateExtendedYear, DateMonth, DateDay, DateUnexpectedEnd, TimeRequired, TimeHour, TimeMinuteSecond, TimeSecond}
@@ -31,57 +30,6 @@ faults_at location =
     ∷ UtcTimeSeparator ∷ OffsetNeedsSign ∷ MonthDayHyphen ∷ DurationDisgnator ∷ DurationValueExceededRange
     ∷ DateDurationPartOrder ∷ TimeDurationPartOrder ∷ TimeDurationDesignator ∷ AmbiguousTimeMonthDay ∷ AmbiguousTimeYearMonth
     ∷ InvalidMonthDay ∷ []
-
-abbrev fault_by : ℕ → List ℕ → Fault
-fault_by number location = get_or (faults_at location) (number - 1) ImplAssert
-
-by_number : (fault : Fault) → fault_by (number_for fault) (location_of fault) ≡ fault
-by_number ImplAssert = refl
-by_number NonAsciiCodePoint = refl
-by_number ParseFloat = refl
-by_number (AbruptEnd location) = refl
-by_number InvalidEnd = refl
-by_number InvalidMonthRange = refl
-by_number InvalidDayRange = refl
-by_number DateYear = refl
-by_number DateExtendedYear = refl
-by_number DateMonth = refl
-by_number DateDay = refl
-by_number DateUnexpectedEnd = refl
-by_number TimeRequired = refl
-by_number TimeHour = refl
-by_number TimeMinuteSecond = refl
-by_number TimeSecond = refl
-by_number FractionPart = refl
-by_number DateSeparator = refl
-by_number TimeSeparator = refl
-by_number DecimalSeparator = refl
-by_number InvalidAnnotation = refl
-by_number AnnotationOpen = refl
-by_number AnnotationClose = refl
-by_number AnnotationChar = refl
-by_number AnnotationKeyValueSeparator = refl
-by_number AnnotationKeyLeadingChar = refl
-by_number AnnotationKeyChar = refl
-by_number AnnotationValueCharPostHyphen = refl
-by_number AnnotationValueChar = refl
-by_number InvalidMinutePrecisionOffset = refl
-by_number CriticalDuplicateCalendar = refl
-by_number UnrecognizedCritical = refl
-by_number TzLeadingChar = refl
-by_number IanaCharPostSeparator = refl
-by_number IanaChar = refl
-by_number UtcTimeSeparator = refl
-by_number OffsetNeedsSign = refl
-by_number MonthDayHyphen = refl
-by_number DurationDisgnator = refl
-by_number DurationValueExceededRange = refl
-by_number DateDurationPartOrder = refl
-by_number TimeDurationPartOrder = refl
-by_number TimeDurationDesignator = refl
-by_number AmbiguousTimeMonthDay = refl
-by_number AmbiguousTimeYearMonth = refl
-by_number InvalidMonthDay = refl
 
 pub bounds : (fault : Fault) → (1 ≤ number_for fault) × (number_for fault ≤ 46)
 bounds ImplAssert = (lit≤ tt, lit≤ tt)
@@ -134,19 +82,6 @@ bounds InvalidMonthDay = (lit≤ tt, lit≤ tt)
 pub number_some : (fault : Fault) → number_for fault ≢ 0
 number_some fault is = omega (arith, (bounds fault).0, is)
 
--- an error by its number and its location
-fault_is : (number : ℕ) (fault : Fault) → number ≡ number_for fault → fault_by number (location_of fault) ≡ fault
-fault_is number fault is = rw is (by_number fault)
-
--- two errors with one number have one text
-pub same_text : (a b : Fault) → number_for a ≡ number_for b → text_of a ≡ text_of b
-same_text a b is =
-    ap text_of (sym (by_number a)) ∙ texts (number_for a) (location_of a) (location_of b) ∙ ap text_of (fault_is (number_for a) b is)
-  where
-    texts : (number : ℕ) (here there : List ℕ) → text_of (fault_by number here) ≡ text_of (fault_by number there)
-    texts number here there = let at : (location : List ℕ) → text_of (fault_by number location) ≡ get_or (map text_of (faults_at [])) (number - 1) (text_of ImplAssert) =
-        λ location. rw (← get_or-map text_of) refl in at here ∙ sym (at there)
-
 -- the numbers from one on
 counted : ℕ → ℕ → List ℕ
 counted from zero = []
@@ -164,13 +99,6 @@ unfolding counted
 numbered number other from to =
     let at : number_for (get_or (faults_at []) (number - 1) other) ≡ get_or (counted 1 46) (number - 1) (number_for other) = rw (← get_or-map number_for) refl in
     at ∙ counted_at 1 46 (number - 1) (number_for other) (omega (arith, from, to)) ∙ omega (arith, from)
-
--- the error of the number of a refusal
-pub is_unrecognized : (fault : Fault) → 32 ≡ number_for fault → UnrecognizedCritical ≡ fault
-is_unrecognized fault is = fault_is 32 fault is
-
-pub is_duplicate : (fault : Fault) → 31 ≡ number_for fault → CriticalDuplicateCalendar ≡ fault
-is_duplicate fault is = fault_is 31 fault is
 
 -- a reply that is refused is so without a location
 pub nowhere : (first : Option Pair) (reply : Reply) (fault : Fault) → RefusedBeside first reply fault → location_of fault ≡ []
