@@ -14,7 +14,7 @@ PAIRS = [('crates/ixdtf/src', 'rust/ixdtf/src'), ('crates/ixdtf_tests/src', 'rus
          ('crates/ixdtf_print/src', 'rust/ixdtf_print/src'), ('crates/ixdtf_lines/src', 'rust/ixdtf_lines/src')]
 # the layers of the library, whose modules stand at the root of the made crate, or else in `parsers`
 LAYERS = ['grammar', 'reading', 'times', 'brackets', 'durations']
-AT_THE_ROOT = {'encoding', 'error', 'packed', 'records', 'cursor', 'looks', 'stop'}
+AT_THE_ROOT = {'encoding', 'error', 'located', 'packed', 'pointed', 'records', 'cursor', 'looks', 'stop'}
 PAIRS += [(f'crates/ixdtf_{layer}/src', 'rust/ixdtf/src') for layer in LAYERS]
 
 
@@ -104,7 +104,7 @@ REMOVED = [phrase(t) for t in ['#![tactic(auto)]', '#[rattlefmt::skip]', 'use st
                                '#[cfg(test)]']]
 CHANGED = [(phrase(a), phrase(b)) for a, b in [
     ('use std::marker::{Model, PhantomData};', 'use std::marker::PhantomData;'),
-    ('fn fmt<W: fmt::Write>(&self, f: &mut fmt::Formatter<W>) -> fmt::Result', "fn fmt(&self, f: &mut fmt::Formatter<'_>) -> fmt::Result"),
+    ('<W: fmt::Write>(', '('), ('fmt::Formatter<W>', "fmt::Formatter<'_>"),
     ('#[derive_where(', '#[derive('), ('Drop,', ''), (', Drop', ''), ('const _: () = prove!(', 'const _: () = assert!('),
     ('(rt: HostRuntime)', '()'), ('.clone()', '.try_clone()'), ('use std::process::Abort;', 'use crate::runtime::Abort;'),
     ('use std::test::Fail;', 'use crate::runtime::Fail;'),
@@ -233,7 +233,8 @@ class Copied(unittest.TestCase):
 BAD_BODIES = [
     'unsafe { self.rest }', 'self.rest.iter().rev().count();', 'std::process::exit(1);', 'println!("x");', 'self.rest.take();', 'panic!("x");',
     'let all = self.rest; all.skip(1);', 'self.looks.count();', 'Other::take(self);', 'async { 1 };', 'r"raw";', 'static mut X: u8 = 1;', 'size_of::<u8>();',
-    'let x = 1.0;', '/* a comment */', 'dyn_call(1);', 'u8::try_from(1);', 'x as _;',
+    '/* a comment */', 'dyn_call(1);', 'u8::try_from(1);', 'self.rest.iter().take(1);', 'self.rest.chars().rev();',
+    'let all = self.rest.chars(); all.skip(1);', 'self.rest.chars().count().take();', 'eprint!("x");',
 ]
 
 
@@ -250,10 +251,14 @@ class Refuses(Copied):
         return answer
 
     def test_bad_bodies(self):
-        for body in BAD_BODIES[:13] + BAD_BODIES[14:17]:
+        for body in BAD_BODIES:
             answer = self.body(body)
             self.assertNotEqual(answer.returncode, 0, body)
             self.assertIn('crates/ixdtf_reading/src/cursor.rt', answer.stderr, body)
+
+    def test_characters(self):
+        answer = self.body('let text = "text"; text.chars().count(); for _ in text.chars().take(3).skip(1) {}')
+        self.assertEqual((answer.returncode, answer.stderr), (0, ''))
 
     def test_attributes_and_macros(self):
         for old, new in [('#[inline(always)]\n    pub fn step', '#[no_mangle]\n    pub fn step'), ('ghost use', 'ghost user')]:

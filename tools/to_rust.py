@@ -15,7 +15,7 @@ what is public for the layers above alone, `#[doc(hidden)] pub fn`, is `pub(crat
 
 What is put in the place of something else, and there is nothing more of it:
 
-  1 fmt          `fn fmt<W: fmt::Write>(&self, f: &mut fmt::Formatter<W>)` is `fn fmt(&self, f: &mut fmt::Formatter<'_>)`
+  1 fmt          `<W: fmt::Write>` behind the name of a function is left out, and `fmt::Formatter<W>` is `fmt::Formatter<'_>`
   2 derive_where `#[derive_where(..)]` is `#[derive(..)]`
   3 prove        `const _: () = prove!(..)` is `const _: () = assert!(..)`
   4 ADDED        attributes on types, which bind users of the crate and not its own code
@@ -31,7 +31,8 @@ Of a test, besides (TESTS):
 
 What is not known here is refused: an attribute, a macro, a keyword, or a name of the standard library that is not listed.
 Whether Rust's and Rattle's name mean the same was looked up once for each listed one. A method of a crate's own that has
-the name of a method of `core` (core_methods.txt) is called only on what is known to be of a type of its own that has it.
+the name of a method of `core` (core_methods.txt) is called only on what is known to be of a type of its own that has it, or
+on the characters of a text (ON_CHARACTERS).
 
 --check writes nothing, and says which files of the crates are not what would be written."""
 import os
@@ -51,7 +52,7 @@ PROGRAM = ('#![forbid(unsafe_code)]\n', '')
 
 # the layers of the library, and where their modules stand in the crate that is made of all of them
 LAYERS = {
-    'ixdtf_grammar': 'encoding error packed records parsers/profile'.split(),
+    'ixdtf_grammar': 'encoding error located packed pointed records parsers/profile'.split(),
     'ixdtf_reading': 'cursor looks stop parsers/annotations parsers/grammar parsers/letters'.split(),
     'ixdtf_times': 'parsers/dates parsers/fixed parsers/months parsers/offsets parsers/time'.split(),
     'ixdtf_brackets': 'parsers/brackets parsers/timezone'.split(),
@@ -102,13 +103,12 @@ ADDED = {
     ('records', 'Sign'): '#[repr(i8)]',
 }
 OPEN = {name for (_, name), attribute in ADDED.items() if attribute == '#[non_exhaustive]'}
-FMT = ('fn fmt < W : fmt :: Write > ( & self , f : & mut fmt :: Formatter < W > ) -> fmt :: Result'.split(),
-       "fn fmt(&self, f: &mut fmt::Formatter<'_>) -> fmt::Result")
+WRITER, FORMATTER = '< W : fmt :: Write >'.split(), 'fmt :: Formatter < W >'.split()
 USES = {'std::marker::Model': '', 'std::marker::{Model,PhantomData}': 'use std::marker::PhantomData;'}
 TEST_USES = {'std::process::Abort': 'Abort', 'std::test::Fail': 'Fail', 'std::alloc::{AllocError,Global}': '{AllocError, Global, String}', 'std::alloc::Global': 'Global'}
 TEST_USE = '\n#[allow(unused_imports)]\nuse crate::runtime::{HostRuntime, TryClone};\n'
 PROVE = 'const _ : ( ) = prove ! ('.split()
-MACROS = {'matches', 'assert', 'unreachable'}
+MACROS = {'matches', 'assert', 'unreachable', 'write'}
 TEST_MACROS = {'matches', 'assert', 'assert_eq', 'assert_ne', 'format', 'unreachable'}
 REFUSED = set('unsafe extern dyn async await macro_rules union yield move box raw global_asm asm prove_eq prove_ne'
               ' requires ensures ghost Model tactic derive_where invariant decreases alloc Global'.split())
@@ -119,7 +119,10 @@ STD_PATHS = {'std::fmt', 'std::error::Error', 'std::marker::PhantomData', 'std::
              'std::io::Write'}
 STD_METHODS = set('get len is_ascii_digit is_ascii_alphabetic is_ascii_lowercase write_str as_bytes then_some pow is_ok'
                   ' is_none to_le_bytes saturating_add saturating_sub min map copied checked_mul checked_add unsigned_abs'
-                  ' is_ascii_alphanumeric as_slice iter position is_empty copy_from_slice read write flush digit_count leading_value'.split())
+                  ' is_ascii_alphanumeric as_slice iter position is_empty copy_from_slice read write flush digit_count leading_value'
+                  ' chars len_utf8 is_control encode_utf8'.split())
+# methods of the iterators over the characters of a text, and the heads of what they give
+ON_CHARACTERS = {('Chars', 'take'): 'Chars', ('Chars', 'skip'): 'Chars', ('Chars', 'count'): 'usize'}
 OWN_PATHS = {'self', 'crate', 'Self', 'T', 'C', 'E', 'L'}
 HIDDEN = '# [ doc ( hidden ) ] pub fn'.split()
 # hidden, and called by crates above the library too
@@ -307,8 +310,10 @@ def rewrite(tokens, module, crate):
             test_head(tokens, at, places)
         elif crate.tests and is_here(tokens, places, 0, TEST_CLONE):
             put(tokens, places[1], places[1], 'try_clone')
-        elif is_here(tokens, places, 0, FMT[0]):
-            put(tokens, at, places[len(FMT[0]) - 1], FMT[1])
+        elif token.text == 'fn' and is_here(tokens, places, 2, WRITER):
+            put(tokens, places[2], places[len(WRITER) + 1], '')
+        elif is_here(tokens, places, 0, FORMATTER):
+            put(tokens, at, places[len(FORMATTER) - 1], "fmt::Formatter<'_>")
         elif is_here(tokens, places, 0, PROVE):
             put(tokens, places[6], places[6], 'assert')
         elif token.kind == 'word' and token.text == 'mod' and tokens[places[1]].text in crate.left_out(module):
@@ -347,7 +352,7 @@ def of_layers(module, plain, roots):
     block += [f'{"pub " if name in shown else ""}mod {name};\n' for name in names]
     lines = [line for line in lines if line not in block]
     lines[first:first] = sorted(block, key=lambda line: line.split()[-1])
-    items = ''.join(of_root(name, roots) for name in shown if name not in names)
+    items = ''.join(sorted((of_root(name, roots) for name in shown if name not in names), key=lambda item: (item.startswith('\n'), item)))
     return re.sub(r'(?:pub use crate::(?:\{[A-Za-z, _]+\}|[a-z_]+);\n)+', lambda m: items, ''.join(lines))
 
 
@@ -545,6 +550,8 @@ def receivers(text, types):
     """Refuses a method with the name of one of `core` whose receiver is not known to be of a type of the crate's that has it."""
     words = [t.text for t in solid_tokens(text)]
     own = {method for _, method in types.methods}
+    if 'chars' in own:
+        raise Refused('a method chars of its own')
     known, owner = {}, ''
     functions = {at: (name, signature) for at, kind, name, signature in items(text) if kind == 'fn'}
     for at, word in enumerate(words):
@@ -573,12 +580,14 @@ def receivers(text, types):
                 path.insert(0, '.')
                 back -= 2
             here = type_of(path, known, types) or made_by(words, at - 1, types)
-            if (here, words[at + 1]) not in types.methods and words[at + 1] not in STD_METHODS:
+            call = here, words[at + 1]
+            if call not in types.methods and call not in ON_CHARACTERS and words[at + 1] not in STD_METHODS:
                 raise Refused(f'the method {words[at + 1]}, which is one of `core` too, on {"".join(path) or "what is not known"}')
 
 
 def made_by(words, at, types):
-    """The head of the type that a call of `TYPE::NAME(..)` or `TYPE::<..>::NAME(..)` gives, where its `)` stands here."""
+    """The head of the type that a call of `NAME(..)`, `TYPE::NAME(..)` or `TYPE::<..>::NAME(..)` gives, or a chain of calls from
+    `.chars()` on, where its `)` stands here."""
     depth, start = 0, at
     while start >= 0:
         depth += (words[start] in ')') - (words[start] in '(')
@@ -589,9 +598,9 @@ def made_by(words, at, types):
         return ''
     if words[start - 2] not in ('::', '.'):
         return types.methods.get(('', words[start - 1]), '')
-    if words[start - 2] == '.':
-        return ''
     name, back = words[start - 1], start - 3
+    if words[start - 2] == '.':
+        return 'Chars' if name == 'chars' else ON_CHARACTERS.get((made_by(words, back, types), name), '')
     if words[back] == '>':
         back = max(i for i in range(back) if words[i] == '<') - 2
     return types.methods.get((words[back], name), '')

@@ -8,3 +8,5 @@ pub mod HandsOn
 pub mod Placed
 pub mod PublicErrors
 pub mod Tail
+pub mod LocatedErrors
+pub mod LocatedForms

@@ -28,4 +28,4 @@
 pub mod laws;
 pub mod parsers;
 
-pub use ixdtf_grammar::{ParseError, ParserResult, encoding, records};
+pub use ixdtf_grammar::{LocatedError, ParseError, ParserResult, PointedText, encoding, records};

@@ -6,7 +6,7 @@
 //! this error fits the source, or a reply is refused with it.
 
 ghost use Rattle.std.specs.Prelude.{◌≡◌, ◌↔◌, map, Ok, OnOk, IfErr};
-ghost use Rattle.ixdtf_grammar.specs.table.Faults.{fault_of};
+ghost use Rattle.ixdtf_grammar.specs.table.Faults.{fault_of, fault_of_located, stands_behind};
 ghost use Rattle.ixdtf_grammar.specs.table.Outcomes.{NoRowFits};
 ghost use Rattle.ixdtf_grammar.specs.language.Readers.{parse as reader_parse, parse_year_month as reader_parse_year_month};
 ghost use Rattle.ixdtf_grammar.specs.language.Readers.{parse_month_day as reader_parse_month_day, parse_time as reader_parse_time};
@@ -15,8 +15,9 @@ ghost use Rattle.ixdtf_grammar.specs.language.Languages.{Parsed};
 ghost use Rattle.ixdtf_grammar.specs.Handlers.{Handled, HandledTo, UnhandledRecord, UnhandledFault, UnhandledOnlyFault};
 ghost use Rattle.ixdtf_grammar.specs.Laws.{InNoOther};
 ghost use Rattle.ixdtf_grammar.specs.Views.{UnreadUnder, under, unread_of, LeavesBehind, IsEmptyRecord, returned, returned_by, parsed_of};
-ghost use Rattle.ixdtf_reading.specs.reading.Chains.{TextRead};
-ghost use Rattle.ixdtf_reading.specs.reading.Clauses.{UnhandledForm, yielded, fault_of_stop};
+ghost use Rattle.ixdtf_grammar.specs.Places.{HandledAt, UnhandledFaultAt};
+ghost use Rattle.ixdtf_reading.specs.reading.Chains.{TextReadTo};
+ghost use Rattle.ixdtf_reading.specs.reading.Clauses.{UnhandledForm, fault_of_stop_at};
 
 mod cores;
 mod replies;
@@ -28,7 +29,7 @@ mod zones;
 pub use self::cores::{Cores, DateTimes, LoneTimes, MonthDays, YearMonths};
 use self::texts::parse_text;
 pub use self::zones::TimeZoneParser;
-use crate::{ParseError, ParserResult};
+use crate::{LocatedError, ParseError, ParserResult};
 pub use ixdtf_durations::duration::IsoDurationParser;
 use ixdtf_grammar::encoding::{EncodingType, Utf8, Utf16};
 pub use ixdtf_grammar::profile::Profile;
@@ -36,7 +37,7 @@ use ixdtf_grammar::records::{Annotation, IxdtfParseRecord};
 use ixdtf_reading::cursor::Cursor;
 #[doc(hidden)]
 pub use ixdtf_reading::stop::Raised;
-use ixdtf_reading::stop::Stop;
+use ixdtf_reading::stop::StopAt;
 use std::marker::Model;
 
 /// A reader of dates and times, with an offset, a time zone and annotations.
@@ -201,7 +202,7 @@ impl<'a, T: EncodingType> IxdtfParser<'a, T> {
         let mut found = IxdtfParseRecord::default();
         match self.read_unhandled::<DateTimes>(&mut found) {
             Ok(()) => Ok(found),
-            Err(stop) => return Err(stop.error()),
+            Err(why) => return Err(why.stop.error()),
         }
     }
 
@@ -311,7 +312,7 @@ impl<'a, T: EncodingType> IxdtfParser<'a, T> {
         let mut found = IxdtfParseRecord::default();
         match self.read_unhandled::<YearMonths>(&mut found) {
             Ok(()) => Ok(found),
-            Err(stop) => return Err(stop.error()),
+            Err(why) => return Err(why.stop.error()),
         }
     }
 
@@ -412,7 +413,7 @@ impl<'a, T: EncodingType> IxdtfParser<'a, T> {
         let mut found = IxdtfParseRecord::default();
         match self.read_unhandled::<MonthDays>(&mut found) {
             Ok(()) => Ok(found),
-            Err(stop) => return Err(stop.error()),
+            Err(why) => return Err(why.stop.error()),
         }
     }
 
@@ -512,7 +513,7 @@ impl<'a, T: EncodingType> IxdtfParser<'a, T> {
         let mut found = IxdtfParseRecord::default();
         match self.read_unhandled::<LoneTimes>(&mut found) {
             Ok(()) => Ok(found),
-            Err(stop) => return Err(stop.error()),
+            Err(why) => return Err(why.stop.error()),
         }
     }
 
@@ -550,6 +551,332 @@ impl<'a, T: EncodingType> IxdtfParser<'a, T> {
         self.read_as::<ParseError, LoneTimes, F>(handler)
     }
 
+    /// Reads as [`parse`](Self::parse) does, and tells where an error is: behind how many units of what was still to be read.
+    ///
+    /// A letter that does not fit, or a unit that stands for no letter, is the place of its error, and the end where the source ends
+    /// too soon. A number that is out of its range has its place behind it, and an annotation that is refused behind its bracket.
+    ///
+    /// ```text
+    /// 2021-02-29              Err(InvalidDayRange) at 10, behind the day
+    /// 2024-03-02T08:4800      Err(TimeSeparator) at 16, where the next digit stands
+    /// 2024-03-02[!a=b][c=d]   Err(UnrecognizedCritical) at 16, behind the bracket
+    /// 2024-03-02T08:          Err(AbruptEnd { location: "digit" }) at 14, the end
+    /// ```
+    ///
+    /// # Errors
+    ///
+    /// Those of [`parse`](Self::parse), each with its place.
+    #[inline(always)]
+    pub fn parse_located(&mut self) -> Result<IxdtfParseRecord<'a, T>, LocatedError>
+        // `Ok` exactly with the record that the text gives, where each pair replies for itself.
+        ensures ok { (p : Parsed) →
+            (returned_by fault_of_located (parsed_of T.number) result ≡ Ok p) ↔
+            UnhandledRecord reader_parse (map T.letter self.old.rest) p }
+        // `Err` only with a fault that it gives so, behind so many units.
+        ensures err { IfErr result
+            (λ e. UnhandledFaultAt reader_parse (map T.letter self.old.rest)
+            (fault_of_located e) e.at) }
+
+        // `Ok` only where no row of the fault table fits, and where no other reader of dates, times and durations has the text.
+        ensures no_row { OnOk result (NoRowFits reader_parse (map T.letter self.old.rest)) }
+        ensures alone { OnOk result (InNoOther self.old.profile reader_parse
+            (map T.letter self.old.rest)) }
+        // `Err` only with the one fault that it gives, that of the last pair, which is refused, or of the only row that fits.
+        ensures only { IfErr result
+            (λ e. UnhandledOnlyFault reader_parse (map T.letter self.old.rest)
+            (fault_of_located e)) }
+
+        // What it leaves: nothing to be read after `Ok`, and all of it after an error.
+        ensures leaves { LeavesBehind fault_of_located
+            (unread_of self.old) result (unread_of self.new) }
+        ensures profile { self.new.profile ≡ self.old.profile }
+    {
+        let mut parsed = IxdtfParseRecord::default();
+        match self.read_unhandled::<DateTimes>(&mut parsed) {
+            Ok(()) => Ok(parsed),
+            Err(why) => return Err(LocatedError {
+                error: why.stop.error(),
+                at: why.at,
+            }),
+        }
+    }
+
+    /// Reads as [`parse_with_annotation_handler`](Self::parse_with_annotation_handler) does, and tells where an error is, as
+    /// [`parse_located`](Self::parse_located) does.
+    ///
+    /// # Errors
+    ///
+    /// Those of [`parse_with_annotation_handler`](Self::parse_with_annotation_handler), each with its place: that of a reply
+    /// that is refused stands behind its annotation's bracket.
+    pub fn parse_with_annotation_handler_located<F>(
+        &mut self,
+        handler: F,
+    ) -> Result<IxdtfParseRecord<'a, T>, LocatedError>
+    where
+        F: FnMut(Annotation<'a, T>) -> Option<Annotation<'a, T>>,
+        // The handler may be called at any time, in any state that it reached, on any annotation.
+        requires callable { F.IsAlwaysCallable handler }
+        // For the one chain of its calls: `Ok` exactly with the record, and `Err` only with the one fault, behind so many units,
+        // that the text and the replies give.
+        ensures handled { HandledAt T.number F.step handler reader_parse (map T.letter self.old.rest)
+            fault_of_located stands_behind (parsed_of T.number) result }
+
+        // `Ok` only where no row of the fault table fits, and where no other reader of dates, times and durations has the text.
+        ensures no_row { OnOk result (NoRowFits reader_parse (map T.letter self.old.rest)) }
+        ensures alone { OnOk result (InNoOther self.old.profile reader_parse
+            (map T.letter self.old.rest)) }
+
+        // What it leaves: nothing to be read after `Ok`, and all of it after an error.
+        ensures leaves { LeavesBehind fault_of_located
+            (unread_of self.old) result (unread_of self.new) }
+        ensures profile { self.new.profile ≡ self.old.profile }
+    {
+        self.read_located_as::<LocatedError, DateTimes, F>(handler)
+    }
+
+    /// Reads as [`parse_year_month`](Self::parse_year_month) does, and tells where an error is: behind how many units of what was still to be read.
+    ///
+    /// A letter that does not fit, or a unit that stands for no letter, is the place of its error, and the end where the source ends
+    /// too soon. A number that is out of its range has its place behind it, and an annotation that is refused behind its bracket.
+    ///
+    /// ```text
+    /// 2020-13             Err(InvalidMonthRange) at 7, behind the month
+    /// 2020-11-08          Err(InvalidEnd) at 7, where the second hyphen stands
+    /// ```
+    ///
+    /// # Errors
+    ///
+    /// Those of [`parse_year_month`](Self::parse_year_month), each with its place.
+    #[inline(always)]
+    pub fn parse_year_month_located(&mut self) -> Result<IxdtfParseRecord<'a, T>, LocatedError>
+        // `Ok` exactly with the record that the text gives, where each pair replies for itself.
+        ensures ok { (p : Parsed) →
+            (returned_by fault_of_located (parsed_of T.number) result ≡ Ok p) ↔
+            UnhandledRecord reader_parse_year_month (map T.letter self.old.rest) p }
+        // `Err` only with a fault that it gives so, behind so many units.
+        ensures err { IfErr result
+            (λ e. UnhandledFaultAt reader_parse_year_month (map T.letter self.old.rest)
+            (fault_of_located e) e.at) }
+
+        // `Ok` only where no row of the fault table fits, and where no other reader of dates, times and durations has the text.
+        ensures no_row { OnOk result (NoRowFits reader_parse_year_month (map T.letter self.old.rest)) }
+        ensures alone { OnOk result (InNoOther self.old.profile reader_parse_year_month
+            (map T.letter self.old.rest)) }
+        // `Err` only with the one fault that it gives, that of the last pair, which is refused, or of the only row that fits.
+        ensures only { IfErr result
+            (λ e. UnhandledOnlyFault reader_parse_year_month (map T.letter self.old.rest)
+            (fault_of_located e)) }
+
+        // What it leaves: nothing to be read after `Ok`, and all of it after an error.
+        ensures leaves { LeavesBehind fault_of_located
+            (unread_of self.old) result (unread_of self.new) }
+        ensures profile { self.new.profile ≡ self.old.profile }
+    {
+        let mut parsed = IxdtfParseRecord::default();
+        match self.read_unhandled::<YearMonths>(&mut parsed) {
+            Ok(()) => Ok(parsed),
+            Err(why) => return Err(LocatedError {
+                error: why.stop.error(),
+                at: why.at,
+            }),
+        }
+    }
+
+    /// Reads as [`parse_year_month_with_annotation_handler`](Self::parse_year_month_with_annotation_handler) does, and tells where an error is, as
+    /// [`parse_year_month_located`](Self::parse_year_month_located) does.
+    ///
+    /// # Errors
+    ///
+    /// Those of [`parse_year_month_with_annotation_handler`](Self::parse_year_month_with_annotation_handler), each with its place: that of a reply
+    /// that is refused stands behind its annotation's bracket.
+    pub fn parse_year_month_with_annotation_handler_located<F>(
+        &mut self,
+        handler: F,
+    ) -> Result<IxdtfParseRecord<'a, T>, LocatedError>
+    where
+        F: FnMut(Annotation<'a, T>) -> Option<Annotation<'a, T>>,
+        // The handler may be called at any time, in any state that it reached, on any annotation.
+        requires callable { F.IsAlwaysCallable handler }
+        // For the one chain of its calls: `Ok` exactly with the record, and `Err` only with the one fault, behind so many units,
+        // that the text and the replies give.
+        ensures handled { HandledAt T.number F.step handler reader_parse_year_month (map T.letter self.old.rest)
+            fault_of_located stands_behind (parsed_of T.number) result }
+
+        // `Ok` only where no row of the fault table fits, and where no other reader of dates, times and durations has the text.
+        ensures no_row { OnOk result (NoRowFits reader_parse_year_month (map T.letter self.old.rest)) }
+        ensures alone { OnOk result (InNoOther self.old.profile reader_parse_year_month
+            (map T.letter self.old.rest)) }
+
+        // What it leaves: nothing to be read after `Ok`, and all of it after an error.
+        ensures leaves { LeavesBehind fault_of_located
+            (unread_of self.old) result (unread_of self.new) }
+        ensures profile { self.new.profile ≡ self.old.profile }
+    {
+        self.read_located_as::<LocatedError, YearMonths, F>(handler)
+    }
+
+    /// Reads as [`parse_month_day`](Self::parse_month_day) does, and tells where an error is: behind how many units of what was still to be read.
+    ///
+    /// A letter that does not fit, or a unit that stands for no letter, is the place of its error, and the end where the source ends
+    /// too soon. A number that is out of its range has its place behind it, and an annotation that is refused behind its bracket.
+    ///
+    /// ```text
+    /// 02-30               Err(InvalidMonthDay) at 5, behind the day
+    /// 11-8                Err(AbruptEnd { location: "digit" }) at 4, the end
+    /// ```
+    ///
+    /// # Errors
+    ///
+    /// Those of [`parse_month_day`](Self::parse_month_day), each with its place.
+    #[inline(always)]
+    pub fn parse_month_day_located(&mut self) -> Result<IxdtfParseRecord<'a, T>, LocatedError>
+        // `Ok` exactly with the record that the text gives, where each pair replies for itself.
+        ensures ok { (p : Parsed) →
+            (returned_by fault_of_located (parsed_of T.number) result ≡ Ok p) ↔
+            UnhandledRecord (reader_parse_month_day self.old.profile) (map T.letter self.old.rest) p }
+        // `Err` only with a fault that it gives so, behind so many units.
+        ensures err { IfErr result
+            (λ e. UnhandledFaultAt (reader_parse_month_day self.old.profile) (map T.letter self.old.rest)
+            (fault_of_located e) e.at) }
+
+        // `Ok` only where no row of the fault table fits, and where no other reader of dates, times and durations has the text.
+        ensures no_row { OnOk result (NoRowFits (reader_parse_month_day self.old.profile) (map T.letter self.old.rest)) }
+        ensures alone { OnOk result (InNoOther self.old.profile (reader_parse_month_day self.old.profile)
+            (map T.letter self.old.rest)) }
+        // `Err` only with the one fault that it gives, that of the last pair, which is refused, or of the only row that fits.
+        ensures only { IfErr result
+            (λ e. UnhandledOnlyFault (reader_parse_month_day self.old.profile) (map T.letter self.old.rest)
+            (fault_of_located e)) }
+
+        // What it leaves: nothing to be read after `Ok`, and all of it after an error.
+        ensures leaves { LeavesBehind fault_of_located
+            (unread_of self.old) result (unread_of self.new) }
+        ensures profile { self.new.profile ≡ self.old.profile }
+    {
+        let mut parsed = IxdtfParseRecord::default();
+        match self.read_unhandled::<MonthDays>(&mut parsed) {
+            Ok(()) => Ok(parsed),
+            Err(why) => return Err(LocatedError {
+                error: why.stop.error(),
+                at: why.at,
+            }),
+        }
+    }
+
+    /// Reads as [`parse_month_day_with_annotation_handler`](Self::parse_month_day_with_annotation_handler) does, and tells where an error is, as
+    /// [`parse_month_day_located`](Self::parse_month_day_located) does.
+    ///
+    /// # Errors
+    ///
+    /// Those of [`parse_month_day_with_annotation_handler`](Self::parse_month_day_with_annotation_handler), each with its place: that of a reply
+    /// that is refused stands behind its annotation's bracket.
+    pub fn parse_month_day_with_annotation_handler_located<F>(
+        &mut self,
+        handler: F,
+    ) -> Result<IxdtfParseRecord<'a, T>, LocatedError>
+    where
+        F: FnMut(Annotation<'a, T>) -> Option<Annotation<'a, T>>,
+        // The handler may be called at any time, in any state that it reached, on any annotation.
+        requires callable { F.IsAlwaysCallable handler }
+        // For the one chain of its calls: `Ok` exactly with the record, and `Err` only with the one fault, behind so many units,
+        // that the text and the replies give.
+        ensures handled { HandledAt T.number F.step handler (reader_parse_month_day self.old.profile) (map T.letter self.old.rest)
+            fault_of_located stands_behind (parsed_of T.number) result }
+
+        // `Ok` only where no row of the fault table fits, and where no other reader of dates, times and durations has the text.
+        ensures no_row { OnOk result (NoRowFits (reader_parse_month_day self.old.profile) (map T.letter self.old.rest)) }
+        ensures alone { OnOk result (InNoOther self.old.profile (reader_parse_month_day self.old.profile)
+            (map T.letter self.old.rest)) }
+
+        // What it leaves: nothing to be read after `Ok`, and all of it after an error.
+        ensures leaves { LeavesBehind fault_of_located
+            (unread_of self.old) result (unread_of self.new) }
+        ensures profile { self.new.profile ≡ self.old.profile }
+    {
+        self.read_located_as::<LocatedError, MonthDays, F>(handler)
+    }
+
+    /// Reads as [`parse_time`](Self::parse_time) does, and tells where an error is: behind how many units of what was still to be read.
+    ///
+    /// A letter that does not fit, or a unit that stands for no letter, is the place of its error, and the end where the source ends
+    /// too soon. A number that is out of its range has its place behind it, and an annotation that is refused behind its bracket.
+    ///
+    /// ```text
+    /// 1214Z               Err(AmbiguousTimeMonthDay) at 4, behind the month and the day
+    /// 12:60               Err(TimeMinuteSecond) at 5, behind the minute
+    /// ```
+    ///
+    /// # Errors
+    ///
+    /// Those of [`parse_time`](Self::parse_time), each with its place.
+    #[inline(always)]
+    pub fn parse_time_located(&mut self) -> Result<IxdtfParseRecord<'a, T>, LocatedError>
+        // `Ok` exactly with the record that the text gives, where each pair replies for itself.
+        ensures ok { (p : Parsed) →
+            (returned_by fault_of_located (parsed_of T.number) result ≡ Ok p) ↔
+            UnhandledRecord (reader_parse_time self.old.profile) (map T.letter self.old.rest) p }
+        // `Err` only with a fault that it gives so, behind so many units.
+        ensures err { IfErr result
+            (λ e. UnhandledFaultAt (reader_parse_time self.old.profile) (map T.letter self.old.rest)
+            (fault_of_located e) e.at) }
+
+        // `Ok` only where no row of the fault table fits, and where no other reader of dates, times and durations has the text.
+        ensures no_row { OnOk result (NoRowFits (reader_parse_time self.old.profile) (map T.letter self.old.rest)) }
+        ensures alone { OnOk result (InNoOther self.old.profile (reader_parse_time self.old.profile)
+            (map T.letter self.old.rest)) }
+        // `Err` only with the one fault that it gives, that of the last pair, which is refused, or of the only row that fits.
+        ensures only { IfErr result
+            (λ e. UnhandledOnlyFault (reader_parse_time self.old.profile) (map T.letter self.old.rest)
+            (fault_of_located e)) }
+
+        // What it leaves: nothing to be read after `Ok`, and all of it after an error.
+        ensures leaves { LeavesBehind fault_of_located
+            (unread_of self.old) result (unread_of self.new) }
+        ensures profile { self.new.profile ≡ self.old.profile }
+    {
+        let mut parsed = IxdtfParseRecord::default();
+        match self.read_unhandled::<LoneTimes>(&mut parsed) {
+            Ok(()) => Ok(parsed),
+            Err(why) => return Err(LocatedError {
+                error: why.stop.error(),
+                at: why.at,
+            }),
+        }
+    }
+
+    /// Reads as [`parse_time_with_annotation_handler`](Self::parse_time_with_annotation_handler) does, and tells where an error is, as
+    /// [`parse_time_located`](Self::parse_time_located) does.
+    ///
+    /// # Errors
+    ///
+    /// Those of [`parse_time_with_annotation_handler`](Self::parse_time_with_annotation_handler), each with its place: that of a reply
+    /// that is refused stands behind its annotation's bracket.
+    pub fn parse_time_with_annotation_handler_located<F>(
+        &mut self,
+        handler: F,
+    ) -> Result<IxdtfParseRecord<'a, T>, LocatedError>
+    where
+        F: FnMut(Annotation<'a, T>) -> Option<Annotation<'a, T>>,
+        // The handler may be called at any time, in any state that it reached, on any annotation.
+        requires callable { F.IsAlwaysCallable handler }
+        // For the one chain of its calls: `Ok` exactly with the record, and `Err` only with the one fault, behind so many units,
+        // that the text and the replies give.
+        ensures handled { HandledAt T.number F.step handler (reader_parse_time self.old.profile) (map T.letter self.old.rest)
+            fault_of_located stands_behind (parsed_of T.number) result }
+
+        // `Ok` only where no row of the fault table fits, and where no other reader of dates, times and durations has the text.
+        ensures no_row { OnOk result (NoRowFits (reader_parse_time self.old.profile) (map T.letter self.old.rest)) }
+        ensures alone { OnOk result (InNoOther self.old.profile (reader_parse_time self.old.profile)
+            (map T.letter self.old.rest)) }
+
+        // What it leaves: nothing to be read after `Ok`, and all of it after an error.
+        ensures leaves { LeavesBehind fault_of_located
+            (unread_of self.old) result (unread_of self.new) }
+        ensures profile { self.new.profile ≡ self.old.profile }
+    {
+        self.read_located_as::<LocatedError, LoneTimes, F>(handler)
+    }
+
     /// Reads a text with a core of the kind, as [`parse_with_annotation_handler`](Self::parse_with_annotation_handler) does, with
     /// an error that a stop gives.
     #[inline(always)]
@@ -580,7 +907,39 @@ impl<'a, T: EncodingType> IxdtfParser<'a, T> {
         let mut found = IxdtfParseRecord::default();
         match self.read_into::<C, F>(&mut handler, &mut found) {
             Ok(()) => Ok(found),
-            Err(stop) => return Err(E::of_stop(stop)),
+            Err(why) => return Err(E::of_stop(why.stop, why.at)),
+        }
+    }
+
+    /// Reads as [`read_as`](Self::read_as) does, with an error that tells its place where it has one.
+    #[inline(always)]
+    pub(crate) fn read_located_as<E: Raised, C: Cores, F>(
+        &mut self,
+        mut handler: F,
+    ) -> Result<IxdtfParseRecord<'a, T>, E>
+    where
+        F: FnMut(Annotation<'a, T>) -> Option<Annotation<'a, T>>,
+        // The handler may be called at any time, in any state that it reached, on any annotation.
+        requires callable { F.IsAlwaysCallable handler }
+        // For the one chain of its calls: `Ok` exactly with the record, and `Err` only with the one fault, behind so many units,
+        // that the text and the replies give.
+        ensures handled { HandledAt T.number F.step handler (bracketed (C.kind self.old.profile))
+            (map T.letter self.old.rest) E.fault E.stands (parsed_of T.number) result }
+
+        // `Ok` only where no row of the fault table fits, and where no other reader of dates, times and durations has the text.
+        ensures no_row { OnOk result (NoRowFits (bracketed (C.kind self.old.profile))
+            (map T.letter self.old.rest)) }
+        ensures alone { OnOk result (InNoOther self.old.profile
+            (bracketed (C.kind self.old.profile)) (map T.letter self.old.rest)) }
+
+        // What it leaves: nothing to be read after `Ok`, and all of it after an error.
+        ensures leaves { LeavesBehind E.fault (unread_of self.old) result (unread_of self.new) }
+        ensures profile { self.new.profile ≡ self.old.profile }
+    {
+        let mut found = IxdtfParseRecord::default();
+        match self.read_into::<C, F>(&mut handler, &mut found) {
+            Ok(()) => Ok(found),
+            Err(located) => return Err(E::of_stop(located.stop, located.at)),
         }
     }
 
@@ -621,17 +980,24 @@ impl<'a, T: EncodingType> IxdtfParser<'a, T> {
         let mut found = IxdtfParseRecord::default();
         match self.read_into::<C, F>(handler, &mut found) {
             Ok(()) => Ok(found),
-            Err(why) => return Err(E::of_stop(why)),
+            Err(refused) => return Err(E::of_stop(refused.stop, refused.at)),
         }
     }
 
     /// Reads as [`read_into`](Self::read_into) does, with a handler that hands each annotation back.
     #[inline(always)]
-    fn read_unhandled<C: Cores>(&mut self, found: &mut IxdtfParseRecord<'a, T>) -> Result<(), Stop>
+    fn read_unhandled<C: Cores>(
+        &mut self,
+        found: &mut IxdtfParseRecord<'a, T>,
+    ) -> Result<(), StopAt>
         requires { IsEmptyRecord found.old }
         ensures unhandled { UnhandledForm (bracketed (C.kind self.old.profile))
-            (map T.letter self.old.rest) (yielded (λ _. parsed_of T.number found.new) result) }
-        ensures leaves { LeavesBehind fault_of_stop
+            (map T.letter self.old.rest)
+            (returned_by fault_of_stop_at (λ _. parsed_of T.number found.new) result) }
+        ensures place { IfErr result
+            (λ why. UnhandledFaultAt (bracketed (C.kind self.old.profile))
+            (map T.letter self.old.rest) (fault_of_stop_at why) why.at) }
+        ensures leaves { LeavesBehind fault_of_stop_at
             (unread_of self.old) result (unread_of self.new) }
         ensures profile { self.new.profile ≡ self.old.profile }
     {
@@ -648,15 +1014,15 @@ impl<'a, T: EncodingType> IxdtfParser<'a, T> {
         &mut self,
         handler: &mut F,
         found: &mut IxdtfParseRecord<'a, T>,
-    ) -> Result<(), Stop>
+    ) -> Result<(), StopAt>
     where
         F: FnMut(Annotation<'a, T>) -> Option<Annotation<'a, T>>,
         requires callable { F.IsAlwaysCallable handler.old }
         requires empty { IsEmptyRecord found.old }
-        ensures replied { TextRead T.number F.step handler.old handler.new
-            (bracketed (C.kind self.old.profile)) (map T.letter self.old.rest)
-            (yielded (λ _. parsed_of T.number found.new) result) }
-        ensures leaves { LeavesBehind fault_of_stop
+        ensures replied { TextReadTo T.number F.step handler.old handler.new
+            (λ _. parsed_of T.number found.new)
+            (bracketed (C.kind self.old.profile)) (map T.letter self.old.rest) result }
+        ensures leaves { LeavesBehind fault_of_stop_at
             (unread_of self.old) result (unread_of self.new) }
         ensures profile { self.new.profile ≡ self.old.profile }
     {
@@ -667,8 +1033,9 @@ impl<'a, T: EncodingType> IxdtfParser<'a, T> {
                 Ok(())
             }
             Err(stop) => {
+                let at = self.cursor.remaining().saturating_sub(here.remaining());
                 self.cursor.count(here);
-                Err(stop)
+                Err(StopAt { stop, at })
             }
         }
     }

@@ -2,10 +2,10 @@
 
 #![tactic(auto, unfolding(ixdtf_reading::specs::reading::Brackets::bracket_readings))]
 
-ghost use Rattle.std.specs.Prelude.{◌≡◌, map};
+ghost use Rattle.std.specs.Prelude.{◌≡◌, ◌+◌, ◌*◌, map, length};
 ghost use Rattle.ixdtf_grammar.specs.language.Letters.{equals, closing};
 ghost use Rattle.ixdtf_brackets.specs.BracketTypes.{bracket_after};
-ghost use Rattle.ixdtf_reading.specs.reading.Clauses.{Reads, Spends, fault_of_stop};
+ghost use Rattle.ixdtf_reading.specs.reading.Clauses.{Reads, Spends, SpendsOr, fault_of_stop};
 ghost use Rattle.ixdtf_brackets.specs.BracketTypes.{bracket_of};
 ghost use Rattle.ixdtf_reading.specs.reading.Looks.{error_of};
 ghost use Rattle.ixdtf_reading.specs.reading.Brackets.{refusal, name_fault, next_is, sight_at, name_or_pair_at, inside_at, critical_bracket_at, bracket_at};
@@ -36,7 +36,7 @@ pub fn parse_first_bracket<'a, T: EncodingType>(
 ) -> Result<Bracket<'a, T>, Stop>
     ensures bracket { Reads T.letter (bracket_of T.number) cursor.old result cursor.new
         (bracket_at error_of) }
-    ensures looks { Spends 16 cursor.old cursor.new }
+    ensures looks { SpendsOr (2 * length cursor.old.rest + 16) 16 cursor.old result cursor.new }
 {
     match cursor.look()? {
         None => Err(Stop::AbruptBracket),
@@ -58,7 +58,7 @@ fn parse_critical_bracket<'a, T: EncodingType>(
 ) -> Result<Bracket<'a, T>, Stop>
     ensures bracket { Reads T.letter (bracket_of T.number) cursor.old result cursor.new
         (critical_bracket_at error_of) }
-    ensures looks { Spends 15 cursor.old cursor.new }
+    ensures looks { SpendsOr (2 * length cursor.old.rest + 15) 15 cursor.old result cursor.new }
 {
     match cursor.look()? {
         None => Err(Stop::AbruptBracket),
@@ -78,7 +78,7 @@ fn parse_inside<'a, T: EncodingType>(
 ) -> Result<Bracket<'a, T>, Stop>
     ensures bracket { Reads T.letter (bracket_of T.number) cursor.old result cursor.new
         (inside_at error_of critical lead) }
-    ensures looks { Spends 14 cursor.old cursor.new }
+    ensures looks { SpendsOr (2 * length cursor.old.rest + 14) 14 cursor.old result cursor.new }
 {
     if is_a_key_leading_char(lead) {
         return parse_name_or_pair(cursor, critical);
@@ -117,7 +117,7 @@ fn parse_name_or_pair<'a, T: EncodingType>(
 ) -> Result<Bracket<'a, T>, Stop>
     ensures bracket { Reads T.letter (bracket_of T.number) cursor.old result cursor.new
         (name_or_pair_at error_of critical) }
-    ensures looks { Spends 3 cursor.old cursor.new }
+    ensures looks { SpendsOr (2 * length cursor.old.rest + 3) 3 cursor.old result cursor.new }
 {
     let start = cursor.rest();
     let key = take_letters(cursor, KeyLetters)?;
@@ -130,6 +130,7 @@ fn parse_name_or_pair<'a, T: EncodingType>(
             value,
         }));
     }
+    let behind_key = cursor.rest();
     let more = take_letters(cursor, NameLetters { may_end: true })?;
     if more.state.may_end && ends_bracket(more.next) {
         let count = start.len() - cursor.rest().len();
@@ -139,7 +140,7 @@ fn parse_name_or_pair<'a, T: EncodingType>(
             tz: TimeZoneRecord::Name(&start[..count]),
         }));
     }
-    Err(refuse_bracket(cursor, more.state))
+    Err(refuse_bracket(cursor, behind_key, more.state))
 }
 
 /// The letters of a first bracket before an `=` or a `]`.
@@ -157,21 +158,32 @@ impl Letters for BracketLetters {
 }
 
 /// Why a first bracket is refused that is no name, after the letters of one: with an `=` before any `]` it is a pair, whose
-/// key does not go on.
+/// key does not go on. The cursor is left where the key or the name goes no further, or where the look ahead ended.
 #[cold]
 #[tactic(auto, using(crate::proofs::code::FirstPass::sights))]
-fn refuse_bracket<'a, T: EncodingType>(cursor: &mut Cursor<'a, T>, name: NameLetters) -> Stop
-    ensures stop { fault_of_stop result ≡
-        refusal (sight_at error_of (map T.letter cursor.old.rest)) (name_fault name.may_end) }
-    ensures looks { Spends 1 cursor.old cursor.new }
+fn refuse_bracket<'a, T: EncodingType>(
+    cursor: &mut Cursor<'a, T>,
+    behind_key: &'a [T::CodeUnit],
+    name: NameLetters,
+) -> Stop
+    ensures stop { (fault_of_stop result, map T.letter cursor.new.rest) ≡
+        refusal (sight_at error_of (map T.letter cursor.old.rest)) (name_fault name.may_end)
+        (map T.letter (map T.number behind_key.now)) (map T.letter cursor.old.rest) }
+    ensures looks { Spends (length behind_key.now + length cursor.old.rest + 1) cursor.old cursor.new }
 {
+    let behind_name = cursor.rest();
     match take_letters(cursor, BracketLetters) {
         Err(stop) => stop,
         Ok(taken) => match taken.next {
             None => Stop::AbruptBracket,
-            Some(byte) if is_annotation_key_value_separator(byte) => Stop::AnnotationKeyChar,
-            Some(_) if name.may_end => Stop::IanaChar,
-            Some(_) => Stop::IanaCharPostSeparator,
+            Some(byte) if is_annotation_key_value_separator(byte) => {
+                *cursor = cursor.at(behind_key);
+                Stop::AnnotationKeyChar
+            }
+            Some(_) => {
+                *cursor = cursor.at(behind_name);
+                name.stop()
+            }
         },
     }
 }

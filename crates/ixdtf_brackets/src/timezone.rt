@@ -9,7 +9,7 @@ ghost use Rattle.ixdtf_reading.specs.reading.Clauses.{Reads, Spends, fault_of_st
 ghost use Rattle.ixdtf_reading.specs.reading.Looks.{error_of, next_by};
 ghost use Rattle.ixdtf_reading.specs.reading.Zones.{name_run, name_alone_at, iana_identifier_at, identifier_at};
 ghost use Rattle.ixdtf_brackets.specs.BracketTypes.{name_after};
-ghost use Rattle.ixdtf_reading.specs.reading.Brackets.{name_in_bracket_at, offset_in_bracket_at};
+ghost use Rattle.ixdtf_reading.specs.reading.Brackets.{name_fault, name_in_bracket_at, offset_in_bracket_at};
 
 use ixdtf_grammar::encoding::EncodingType;
 use ixdtf_grammar::records::{TimeRecord, TimeZoneRecord};
@@ -56,6 +56,18 @@ impl NameLetters {
             Some(NameLetters { may_end: false })
         } else {
             None
+        }
+    }
+
+    /// Why a name is refused where its letters go no further.
+    #[inline(always)]
+    pub fn stop(self) -> Stop
+        ensures { fault_of_stop result ≡ name_fault self.may_end }
+    {
+        if self.may_end {
+            Stop::IanaChar
+        } else {
+            Stop::IanaCharPostSeparator
         }
     }
 }

@@ -14,23 +14,23 @@ ghost use Rattle.ixdtf_grammar.specs.table.DurationFronts.Context.{in_dates, in_
 ghost use Rattle.ixdtf_grammar.specs.declared.records.DurationParseRecord.{DurationParseRecord};
 ghost use Rattle.ixdtf_grammar.specs.language.Readers.Reader.{parse_duration};
 ghost use Rattle.ixdtf_grammar.specs.language.Languages.{lasting, Derives};
-ghost use Rattle.ixdtf_grammar.specs.table.Faults.{fault_of};
-ghost use Rattle.ixdtf_grammar.specs.table.Outcomes.{HasFault, NoRowFits, OnlyFault};
+ghost use Rattle.ixdtf_grammar.specs.table.Faults.{fault_of, fault_of_located};
+ghost use Rattle.ixdtf_grammar.specs.table.Outcomes.{HasFault, HasFaultAt, OnlyPlace, NoRowFits, OnlyFault};
 ghost use Rattle.ixdtf_grammar.specs.Laws.{InNoOther};
-ghost use Rattle.ixdtf_grammar.specs.Views.{UnreadUnder, under, unread_of, LeavesBehind, returned};
+ghost use Rattle.ixdtf_grammar.specs.Views.{UnreadUnder, under, unread_of, LeavesBehind, returned, returned_by};
 ghost use Rattle.ixdtf_reading.specs.reading.Looks.{error_of};
-ghost use Rattle.ixdtf_reading.specs.reading.Clauses.{Reads, Spends, SpendsOr, Checks, Yields, fault_of_stop};
+ghost use Rattle.ixdtf_reading.specs.reading.Clauses.{Reads, Spends, Checks, Yields, fault_of_stop};
 ghost use Rattle.ixdtf_reading.specs.reading.Durations.{duration_at};
 ghost use Rattle.ixdtf_reading.specs.reading.Durations.State.{started, signed, between, in_number, at_mark};
 ghost use Rattle.ixdtf_durations.specs.reading.DurationClauses.{run_from, ReadsOn, ReadsNumber, AreDates, HasSmallDates, IsDateRecord, IsTimeRecord};
-ghost use Rattle.ixdtf_durations.specs.reading.DurationClauses.{rank_seen, date_rank_from, time_rank_from, after_time_group, begins_group, dated};
+ghost use Rattle.ixdtf_durations.specs.reading.DurationClauses.{rank_seen, date_rank_from, time_rank_from, after_time_group, begins_group, behind_unit, dated};
 
-use ixdtf_grammar::ParserResult;
 use ixdtf_grammar::encoding::{EncodingType, Utf8, Utf16};
 use ixdtf_grammar::profile::Profile;
 use ixdtf_grammar::records::{
     DateDurationRecord, DurationParseRecord, Fraction, Sign, TimeDurationRecord,
 };
+use ixdtf_grammar::{LocatedError, ParserResult};
 use ixdtf_reading::cursor::Cursor;
 use ixdtf_reading::grammar::{
     is_ascii_sign, is_decimal_separator, is_duration_designator, is_time_designator,
@@ -184,11 +184,60 @@ impl<'a, T: EncodingType> IsoDurationParser<'a, T> {
         let read = parse_duration_text(&mut here, self.profile);
         self.cursor.settle(here, read)
     }
+
+    /// The same as [`parse`](Self::parse), with where the error stands: how many units stand before its place.
+    ///
+    /// At another letter and at a unit that stands for no letter that is its index, and at the end the length of what was to
+    /// be read. A number that is too great has its place behind the digit with which it is, or behind the letter of its years,
+    /// months or weeks, and a group that is out of order has it behind its letter.
+    ///
+    /// ```text
+    /// P1Y2X               Err(AbruptEnd) at 4, where the X stands
+    /// P1D1Y               Err(DateDurationPartOrder) at 5, behind the second group
+    /// PT                  Err(TimeDurationDesignator) at 2, the end
+    /// ```
+    ///
+    /// # Errors
+    ///
+    /// Those of [`parse`](Self::parse), each with its place.
+    pub fn parse_located(&mut self) -> Result<DurationParseRecord, LocatedError>
+        // `Ok` exactly where the language derives the duration.
+        ensures ok { (duration : DurationParseRecord) →
+            (returned_by fault_of_located (λ duration. duration) result ≡ Ok duration) ↔
+            Derives (parse_duration self.old.profile) (map T.letter self.old.rest)
+            (lasting duration) [] }
+        // `Err` only where a row of the fault table with this error fits, whose place stands behind so many units.
+        ensures err { IfErr result
+            (λ e. HasFaultAt (parse_duration self.old.profile) (map T.letter self.old.rest) []
+            (fault_of_located e) e.at) }
+
+        // `Ok` only where no row fits, and where no other reader of dates, times and durations has the text.
+        ensures no_row { OnOk result (NoRowFits (parse_duration self.old.profile)
+            (map T.letter self.old.rest)) }
+        ensures alone { OnOk result (InNoOther self.old.profile (parse_duration self.old.profile)
+            (map T.letter self.old.rest)) }
+        // `Err` only where no other row fits, and nothing is derived; and no other error or place has a row that fits.
+        ensures only { IfErr result
+            (λ e. OnlyFault (parse_duration self.old.profile) (map T.letter self.old.rest) []
+            (fault_of_located e)) }
+        ensures place { IfErr result
+            (λ e. OnlyPlace (parse_duration self.old.profile) (map T.letter self.old.rest)
+            (fault_of_located e) e.at) }
+
+        // What it leaves: nothing to be read after `Ok`, and all of it after an error.
+        ensures leaves { LeavesBehind fault_of_located (unread_of self.old) result
+            (unread_of self.new) }
+        ensures profile { self.new.profile ≡ self.old.profile }
+    {
+        let mut here = self.cursor.take();
+        let outcome = parse_duration_text(&mut here, self.profile);
+        self.cursor.settle(here, outcome)
+    }
 }
 
 // ==== Numbers ====
 
-/// A number, and the letter after it, which is no digit.
+/// A number, and the letter after it, which is no digit and is still to be taken off.
 #[derive(Clone, Copy)]
 struct Number {
     value: u64,
@@ -212,7 +261,7 @@ fn add_digit(value: u64, byte: u8) -> Result<u64, Stop>
     }
 }
 
-/// Takes the other digits of a number off, and the letter after them. The end is this stop.
+/// Takes the other digits of a number off, and returns it with the letter after them, which stays. The end is this stop.
 #[inline(always)]
 fn parse_number<'a, T: EncodingType>(
     cursor: &mut Cursor<'a, T>,
@@ -222,15 +271,17 @@ fn parse_number<'a, T: EncodingType>(
     requires digit { IsTrue (digit first) }
     ensures number { ReadsNumber T.letter first (fault_of_stop end) cursor.old result cursor.new }
     ensures small { IfOk result (λ number. IsTrue (nat_le number.value greatest_value)) }
-    ensures looks { SpendsOr 1 0 cursor.old result cursor.new }
+    ensures more { OnOk result (1 ≤ length cursor.new.rest) }
+    ensures looks { Spends 1 cursor.old cursor.new }
 {
     let mut value = u64::from(first - b'0');
     while let Some(byte) = cursor.look()? {
-        cursor.step();
         if !byte.is_ascii_digit() {
             return Ok(Number { value, next: byte });
         }
-        value = add_digit(value, byte)?;
+        let grown = add_digit(value, byte);
+        cursor.step();
+        value = grown?;
     }
     Err(end)
 }
@@ -271,22 +322,35 @@ fn date_rank(letter: u8) -> u8
     DATE_RANKS[letter as usize]
 }
 
-/// The rank of a date group that may stand from this rank on, where its number is in the range of its unit.
+/// Takes the letter after a number off, which ends a date group, and returns the rank of its unit where the group may stand
+/// from this rank on and its number is in the range of the unit. A letter that ends none stays.
 #[inline(always)]
-fn check_date_rank(number: Number, least: u8) -> Result<u8, Stop>
+#[tactic(auto, using(crate::proofs::code::DurationSteps::letters_left))]
+fn take_date_unit<'a, T: EncodingType>(
+    cursor: &mut Cursor<'a, T>,
+    number: Number,
+    least: u8,
+) -> Result<u8, Stop>
     requires least { 1 ≤ least }
     requires small { IsTrue (nat_le number.value greatest_value) }
+    requires more { 1 ≤ length cursor.old.rest }
     ensures rank { Yields (λ rank. rank) result (date_rank_from least number) }
     ensures small { IfOk result (λ rank. rank ≤ 4) }
+    ensures left { map T.letter cursor.new.rest ≡
+        behind_unit date number.next (map T.letter cursor.old.rest) }
+    ensures taken { OnOk result (length cursor.new.rest + 1 ≡ length cursor.old.rest) }
+    ensures shorter { length cursor.new.rest ≤ length cursor.old.rest }
+    ensures looks { cursor.new.looks ≡ cursor.old.looks }
 {
     let rank = date_rank(number.next);
     if rank < least {
-        return Err(if rank == 0 {
-            Stop::AbruptDateDesignator
-        } else {
-            Stop::DateDurationPartOrder
-        });
+        if rank == 0 {
+            return Err(Stop::AbruptDateDesignator);
+        }
+        cursor.skip(1);
+        return Err(Stop::DateDurationPartOrder);
     }
+    cursor.skip(1);
     if number.value > MOST_OF_LONG_UNITS && rank < 4 {
         return Err(Stop::DurationValueExceededRange);
     }
@@ -327,7 +391,7 @@ fn parse_dates<'a, T: EncodingType>(
     ensures refused { IfErr result (λ e. (s : Sign) →
         run_from profile (in_number (in_dates s []) (Plain first ∷ []))
         (map T.letter cursor.old.rest)
-        ≡ Err (fault_of_stop e)) }
+        ≡ Err (fault_of_stop e, map T.letter cursor.new.rest)) }
     ensures looks { Spends 1 cursor.old cursor.new }
 {
     let mut values = [0; 5];
@@ -335,7 +399,7 @@ fn parse_dates<'a, T: EncodingType>(
     let mut digit = first;
     loop {
         let number = parse_number(cursor, digit, Stop::AbruptDateDesignator)?;
-        let rank = check_date_rank(number, least)?;
+        let rank = take_date_unit(cursor, number, least)?;
         values[rank as usize] = number.value;
         least = rank + profile.least_step();
         match cursor.look()? {
@@ -394,7 +458,7 @@ fn time_rank(letter: u8) -> u8
     TIME_RANKS[letter as usize]
 }
 
-/// A time group: a number, the part of a unit beyond it, and the letter after them.
+/// A time group: a number, the part of a unit beyond it, and the letter after them, which is still to be taken off.
 #[derive(Clone, Copy)]
 struct TimeGroup {
     value: u64,
@@ -402,21 +466,34 @@ struct TimeGroup {
     letter: u8,
 }
 
-/// The rank of a time group that may stand from this rank on.
+/// Takes the letter of a time group off, and returns the rank of its unit where the group may stand from this rank on. A
+/// letter that ends none stays.
 #[inline(always)]
-fn check_time_rank(letter: u8, least: u8) -> Result<u8, Stop>
+#[tactic(auto, using(crate::proofs::code::DurationSteps::letters_left))]
+fn take_time_unit<'a, T: EncodingType>(
+    cursor: &mut Cursor<'a, T>,
+    letter: u8,
+    least: u8,
+) -> Result<u8, Stop>
     requires least { 1 ≤ least }
+    requires more { 1 ≤ length cursor.old.rest }
     ensures rank { Yields (λ rank. rank) result (time_rank_from least letter) }
     ensures small { IfOk result (λ rank. rank ≤ 3) }
+    ensures left { map T.letter cursor.new.rest ≡
+        behind_unit time letter (map T.letter cursor.old.rest) }
+    ensures taken { OnOk result (length cursor.new.rest + 1 ≡ length cursor.old.rest) }
+    ensures shorter { length cursor.new.rest ≤ length cursor.old.rest }
+    ensures looks { cursor.new.looks ≡ cursor.old.looks }
 {
     let rank = time_rank(letter);
     if rank < least {
-        return Err(if rank == 0 {
-            Stop::AbruptTimeDesignator
-        } else {
-            Stop::TimeDurationPartOrder
-        });
+        if rank == 0 {
+            return Err(Stop::AbruptTimeDesignator);
+        }
+        cursor.skip(1);
+        return Err(Stop::TimeDurationPartOrder);
     }
+    cursor.skip(1);
     Ok(rank)
 }
 
@@ -453,7 +530,7 @@ fn begins_time_group(byte: u8, fraction: Option<Fraction>) -> bool
     byte.is_ascii_digit() && fraction.is_none()
 }
 
-/// Reads the digits of a fraction after its decimal mark, and the letter after them.
+/// Reads the digits of a fraction after its decimal mark, and returns them with the letter after them, which stays.
 #[inline(always)]
 fn parse_fraction_group<'a, T: EncodingType>(
     cursor: &mut Cursor<'a, T>,
@@ -463,23 +540,21 @@ fn parse_fraction_group<'a, T: EncodingType>(
         value ≡ decimal ds → ReadsOn T.letter profile (at_mark s dates times ds)
         cursor.old result cursor.new (after_time_group profile s dates times) }
     ensures fraction { IfOk result (λ g. IsSome g.fraction) }
+    ensures more { OnOk result (1 ≤ length cursor.new.rest) }
     ensures looks { Spends 3 cursor.old cursor.new }
 {
     let fraction = parse_fraction(cursor)?;
     match cursor.look()? {
         None => Err(Stop::AbruptTimeDesignator),
-        Some(letter) => {
-            cursor.step();
-            Ok(TimeGroup {
-                value,
-                fraction: Some(fraction),
-                letter,
-            })
-        }
+        Some(letter) => Ok(TimeGroup {
+            value,
+            fraction: Some(fraction),
+            letter,
+        }),
     }
 }
 
-/// Reads a time group after its first digit. Its letter is not tested.
+/// Reads a time group after its first digit, up to its letter, which is not tested and stays.
 #[inline(always)]
 fn parse_time_group<'a, T: EncodingType>(
     cursor: &mut Cursor<'a, T>,
@@ -489,11 +564,13 @@ fn parse_time_group<'a, T: EncodingType>(
     ensures group { (profile : Profile) (s : Sign) (dates times : List Group) →
         ReadsOn T.letter profile (in_number (in_times s dates times) (Plain first ∷ []))
         cursor.old result cursor.new (after_time_group profile s dates times) }
+    ensures more { OnOk result (1 ≤ length cursor.new.rest) }
     ensures looks { Spends 3 cursor.old cursor.new }
-    ensures paid { IfOk result (λ g. g.fraction ≡ None → Spends 0 cursor.old cursor.new) }
+    ensures paid { IfOk result (λ g. g.fraction ≡ None → Spends 1 cursor.old cursor.new) }
 {
     let number = parse_number(cursor, first, Stop::AbruptTimeDesignator)?;
     if is_decimal_separator(number.next) {
+        cursor.skip(1);
         return parse_fraction_group(cursor, number.value);
     }
     Ok(TimeGroup {
@@ -522,7 +599,7 @@ fn parse_time_groups<'a, T: EncodingType>(
     let mut digit = first;
     loop {
         let group = parse_time_group(cursor, digit)?;
-        let rank = check_time_rank(group.letter, least)?;
+        let rank = take_time_unit(cursor, group.letter, least)?;
         values[rank as usize] = group.value;
         least = rank + profile.least_step();
         match cursor.look()? {

@@ -1,5 +1,8 @@
 pub mod Handlers
 pub mod Laws
+pub mod LocatedEquality
+pub mod LocatedTexts
+pub mod Places
 pub mod Views
 pub mod Widths
 pub mod language

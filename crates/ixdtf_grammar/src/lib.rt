@@ -10,11 +10,15 @@
 
 pub mod encoding;
 mod error;
+mod located;
 pub mod packed;
+mod pointed;
 pub mod profile;
 pub mod records;
 
 pub use error::ParseError;
+pub use located::LocatedError;
+pub use pointed::PointedText;
 
 /// What a reader returns: what it found, or why it refused.
 pub type ParserResult<T> = Result<T, ParseError>;

@@ -5,6 +5,7 @@ pub mod FixedPlaces
 pub mod FractionLoop
 pub mod GrowingDigits
 pub mod LetterLoops
+pub mod Located
 pub mod OneMoreReply
 pub mod PairLoops
 pub mod ReadersWithoutPairs

@@ -7,3 +7,4 @@ pub mod OneOutcome
 pub mod OneUnhandledOutcome
 pub mod OnlyOutcome
 pub mod Rfc3339
+pub mod OnePlace

@@ -5,14 +5,13 @@
 
 #![tactic(auto, unfolding(crate::specs::reading::Looks::look_readings))]
 
-ghost use Rattle.std.specs.Prelude.{◌≡◌, ℕ, ◌+◌, ◌-◌, ◌<◌, ◌≤◌, ◌∷◌, List, [], map, length, drop, Ok, Some, None, IfOk, OnOk, OnErr, IsTrue, nat_eq};
+ghost use Rattle.std.specs.Prelude.{◌≡◌, ℕ, ◌+◌, ◌-◌, ◌<◌, ◌≤◌, ◌∷◌, List, [], map, length, drop, Ok, Some, None, IfOk, IfErr, OnOk, OnErr, IsTrue, nat_eq};
 ghost use Rattle.ixdtf_grammar.specs.language.Letters.{digit};
 ghost use Rattle.ixdtf_grammar.specs.language.Letters.Letter.{Plain};
-ghost use Rattle.ixdtf_grammar.specs.table.Faults.{NonAsciiCodePoint};
 ghost use Rattle.ixdtf_grammar.specs.Views.{Unread, ascii_at};
-ghost use Rattle.ixdtf_reading.specs.reading.Clauses.{Reads, Settles, Spends, SpendsOr, Yields, fault_of_stop, digit_seen, end_look};
+ghost use Rattle.ixdtf_reading.specs.reading.Clauses.{Reads, Settles, Spends, SpendsOr, Yields, YieldsAt, fault_of_stop, digit_seen, end_look};
 ghost use Rattle.ixdtf_reading.specs.reading.FixedPlaces.{letter_place, byte_place};
-ghost use Rattle.ixdtf_reading.specs.reading.Looks.{look_at, next_by, peek_by, digit_look, digits_by};
+ghost use Rattle.ixdtf_reading.specs.reading.Looks.{seen, next_by, peek_by, digit_look, digits_by};
 
 use crate::looks::Looks;
 use crate::stop::{Raised, Stop};
@@ -97,10 +96,12 @@ impl<'a, T: EncodingType> Cursor<'a, T> {
     }
 
     /// Ends a reader that worked on a cursor of its own. Where it found something, this cursor goes on from there; where it
-    /// stopped, this one keeps its rest and counts the looks, and the stop becomes the error.
+    /// stopped, this one keeps its rest and counts the looks, and the stop becomes the error, at the place where it stopped.
     #[inline(always)]
     pub fn settle<R, E: Raised>(&mut self, here: Self, read: Result<R, Stop>) -> Result<R, E>
         ensures settled { Settles E.fault read result }
+        ensures place { IfErr result
+            (E.stands (length self.old.rest - length here.entry.rest)) }
         ensures ended { OnOk result (self.new.rest ≡ here.entry.rest) }
         ensures unchanged { OnErr result (self.new.rest ≡ self.old.rest) }
         ensures looks { self.new.looks ≡ here.entry.looks }
@@ -111,8 +112,9 @@ impl<'a, T: EncodingType> Cursor<'a, T> {
                 Ok(found)
             }
             Err(stop) => {
+                let at = self.remaining().saturating_sub(here.remaining());
                 self.count(here);
-                Err(E::of_stop(stop))
+                Err(E::of_stop(stop, at))
             }
         }
     }
@@ -136,8 +138,8 @@ impl<'a, T: EncodingType> Cursor<'a, T> {
     #[inline(always)]
     #[tactic(auto, using(crate::proofs::code::Units::first_look))]
     pub fn look(&mut self) -> Result<Option<u8>, Stop>
-        ensures letter { Yields (λ found. found) result
-            (look_at NonAsciiCodePoint (map T.letter self.old.rest)) }
+        ensures letter { YieldsAt (λ found. found) result
+            (map T.letter self.old.rest) (seen (map T.letter self.old.rest)) }
         ensures rest { self.new.rest ≡ self.old.rest }
         ensures looks { self.new.looks ≡ self.old.looks + 1 }
     {
@@ -206,12 +208,20 @@ impl<'a, T: EncodingType> Cursor<'a, T> {
     {
         if self.rest.len() < 2 {
             self.digit_at(0, other)?;
+            self.step();
             return Err(Stop::AbruptDigit);
         }
         let tens = self.digit_at(0, other)?;
-        let ones = self.digit_at(1, other)?;
-        self.skip(2);
-        Ok((tens, ones))
+        match self.digit_at(1, other) {
+            Err(stop) => {
+                self.step();
+                Err(stop)
+            }
+            Ok(ones) => {
+                self.skip(2);
+                Ok((tens, ones))
+            }
+        }
     }
 
     /// Takes so many units off.

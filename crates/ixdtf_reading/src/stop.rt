@@ -1,10 +1,10 @@
 //! Why a reading stopped, in one byte.
 
-ghost use Rattle.std.specs.Prelude.{◌≡◌};
+ghost use Rattle.std.specs.Prelude.{◌≡◌, ℕ};
 ghost use Rattle.ixdtf_grammar.specs.table.Faults.{Fault, fault_of};
 ghost use Rattle.ixdtf_reading.specs.reading.Clauses.{fault_of_stop};
 
-use ixdtf_grammar::ParseError;
+use ixdtf_grammar::{LocatedError, ParseError};
 
 /// Why a reading stopped: an error that a reader returns, with `AbruptEnd` once for each location. It takes one byte,
 /// and the error is made of it only where a public reader returns.
@@ -122,29 +122,70 @@ impl Stop {
 
 const _: () = prove!(size_of::<Stop>() == 1);
 
-/// An error that a stop gives.
+/// A stop, and how many units stand before its place.
+#[derive(Clone, Copy)]
+pub struct StopAt {
+    /// The stop.
+    pub stop: Stop,
+    /// How many units stand before its place.
+    pub at: usize,
+}
+
+/// An error that a stop gives, with its place or without.
 ///
-/// What calls a handler is generic in its error by this bound, and is used at `ParseError` alone:
+/// What calls a handler is generic in its error by this bound, and is used at `ParseError` and at `LocatedError`:
 /// in Rattle a function that makes such a call may not name `'static` in its own signature, as
 /// `ParseError` does.
 pub trait Raised {
     /// The fault that an error names.
     ghost fault: { Self → Fault };
 
-    /// The error of a stop.
-    fn of_stop(stop: Stop) -> Self
-        ensures { fault result ≡ fault_of_stop stop };
+    /// That an error stands behind so many units, where it has a place.
+    ghost stands: { ℕ → Self → Type 0 };
+
+    /// The error of a stop, behind so many units.
+    fn of_stop(stop: Stop, at: usize) -> Self
+        ensures fault { fault result ≡ fault_of_stop stop }
+        ensures place { stands at result };
 }
 
-impl Raised for ParseError {
-    ghost use Rattle.ixdtf_grammar.specs.table.Faults.{fault_of};
+impl Raised for LocatedError {
+    ghost use Rattle.ixdtf_grammar.specs.table.Faults.{fault_of_located, stands_behind};
 
-    ghost fault = { fault_of };
+    ghost fault = { fault_of_located };
+
+    ghost stands = { stands_behind };
 
     /// The error of the stop. It is not inlined, so that a loop over a name keeps to itself.
     #[cold]
     #[inline(never)]
-    fn of_stop(stop: Stop) -> ParseError {
-        stop.error()
+    fn of_stop(stop: Stop, at: usize) -> LocatedError {
+        LocatedError {
+            error: stop.error(),
+            at,
+        }
     }
+}
+
+impl Raised for ParseError {
+    ghost use Rattle.ixdtf_grammar.specs.table.Faults.{fault_of, stands_anywhere};
+
+    ghost fault = { fault_of };
+
+    ghost stands = { stands_anywhere };
+
+    /// The error of the stop, whatever stands before it.
+    #[inline(always)]
+    fn of_stop(stop: Stop, _at: usize) -> ParseError {
+        plain_error(stop)
+    }
+}
+
+/// The error of the stop. It is not inlined, so that a loop over a name keeps to itself.
+#[cold]
+#[inline(never)]
+fn plain_error(stop: Stop) -> ParseError
+    ensures { fault_of result ≡ fault_of_stop stop }
+{
+    stop.error()
 }

@@ -74,50 +74,50 @@ dates = refl
 no_year : Compute parse (
     ends (codes "2") (of_date year_digits) abrupt_digit
     ∷ ends (codes "20") (of_date year_digits) abrupt_digit
-    ∷ goes_off (codes "20-06-05") (of_date year_digits) DateYear
+    ∷ goes_off (codes "20") (codes "-06-05") (of_date year_digits) DateYear
     ∷ ends (codes "+") (of_date extended_year_digits) abrupt_digit
     ∷ ends (codes "-00000") (of_date extended_year_digits) abrupt_digit
-    ∷ goes_off (codes "-P12Y") (of_date extended_year_digits) DateExtendedYear
-    ∷ stands (codes "-000000-11-08") (of_date minus_zero_year) DateExtendedYear
+    ∷ goes_off (codes "-") (codes "P12Y") (of_date extended_year_digits) DateExtendedYear
+    ∷ stands (codes "-000000") (codes "-11-08") (of_date minus_zero_year) DateExtendedYear
     ∷ [])
 unfolding all_readings
 no_year = refl
 
 -- in a month
 no_month : Compute parse (
-    goes_off (codes "02020-01-01") (of_date month_digits) DateMonth
-    ∷ goes_off (codes "2020-W01-1") (of_date month_digits) DateMonth
-    ∷ goes_off (codes "-1000000-11-08") (of_date month_digits) DateMonth
+    goes_off (codes "02020") (codes "-01-01") (of_date month_digits) DateMonth
+    ∷ goes_off (codes "2020-") (codes "W01-1") (of_date month_digits) DateMonth
+    ∷ goes_off (codes "-1000000") (codes "-11-08") (of_date month_digits) DateMonth
     ∷ ends (codes "2020-0") (of_date month_digits) abrupt_digit
     ∷ ends (codes "20200") (of_date month_digits) abrupt_digit
     ∷ meets_bad (codes "2020-0") (of_date month_digits)
     ∷ meets_bad (codes "20200") (of_date month_digits)
-    ∷ stands (codes "2020-001") (of_date month_range) InvalidMonthRange
-    ∷ stands (codes "202000") (of_date month_range) InvalidMonthRange
-    ∷ stands (codes "2020-13-01") (of_date month_range) InvalidMonthRange
-    ∷ stands (codes "2020-13x") (of_date month_range) InvalidMonthRange
+    ∷ stands (codes "2020-00") (codes "1") (of_date month_range) InvalidMonthRange
+    ∷ stands (codes "202000") [] (of_date month_range) InvalidMonthRange
+    ∷ stands (codes "2020-13") (codes "-01") (of_date month_range) InvalidMonthRange
+    ∷ stands (codes "2020-13") (codes "x") (of_date month_range) InvalidMonthRange
     ∷ [])
 unfolding all_readings
 no_month = refl
 
 -- in a day, and after it
 no_day : Compute parse (
-    goes_off (codes "2020-0101") (of_date after_hyphened_month) DateSeparator
-    ∷ goes_off (codes "202206-05") (of_date after_basic_month) DateSeparator
+    goes_off (codes "2020-01") (codes "01") (of_date after_hyphened_month) DateSeparator
+    ∷ goes_off (codes "202206") (codes "-05") (of_date after_basic_month) DateSeparator
     ∷ ends (codes "2020010") (of_date day_digits) abrupt_digit
     ∷ ends (codes "2020-01-0") (of_date day_digits) abrupt_digit
-    ∷ goes_off (codes "2020010x") (of_date day_digits) DateDay
-    ∷ goes_off (codes "2020-01-0x") (of_date day_digits) DateDay
+    ∷ goes_off (codes "2020010") (codes "x") (of_date day_digits) DateDay
+    ∷ goes_off (codes "2020-01-0") (codes "x") (of_date day_digits) DateDay
     ∷ meets_bad (codes "2020010") (of_date day_digits)
     ∷ meets_bad (codes "2020-01-0") (of_date day_digits)
-    ∷ stands (codes "2020-01-001") (of_date day_range) InvalidDayRange
-    ∷ stands (codes "20200132") (of_date day_range) InvalidDayRange
-    ∷ stands (codes "2020-04-31") (of_date day_range) InvalidDayRange
-    ∷ stands (codes "2021-02-29") (of_date day_range) InvalidDayRange
-    ∷ stands (codes "-000100-02-29") (of_date day_range) InvalidDayRange
-    ∷ goes_off (codes "+10000001108") (of_date after_date) InvalidEnd
-    ∷ goes_off (codes "2020-01-01+05:00") (of_date after_date) InvalidEnd
-    ∷ goes_off (codes "2020-01-01Z") (of_date after_date) InvalidEnd
+    ∷ stands (codes "2020-01-00") (codes "1") (of_date day_range) InvalidDayRange
+    ∷ stands (codes "20200132") [] (of_date day_range) InvalidDayRange
+    ∷ stands (codes "2020-04-31") [] (of_date day_range) InvalidDayRange
+    ∷ stands (codes "2021-02-29") [] (of_date day_range) InvalidDayRange
+    ∷ stands (codes "-000100-02-29") [] (of_date day_range) InvalidDayRange
+    ∷ goes_off (codes "+1000000110") (codes "8") (of_date after_date) InvalidEnd
+    ∷ goes_off (codes "2020-01-01") (codes "+05:00") (of_date after_date) InvalidEnd
+    ∷ goes_off (codes "2020-01-01") (codes "Z") (of_date after_date) InvalidEnd
     ∷ [])
 unfolding all_readings
 no_day = refl
@@ -125,20 +125,20 @@ no_day = refl
 -- ---- units that stand for no letter, and the mask, which has 128 in their place
 
 bad_in_dates : Compute parse (
-    (Bad ∷ text_of (codes "020-01-01"), stops (of_date year_start) bad NonAsciiCodePoint)
-    ∷ (and_bad (codes "2020-13-01"), stops (of_date month_range) anywhere InvalidMonthRange)
-    ∷ (and_bad (codes "2020-02-30"), stops (of_date day_range) anywhere InvalidDayRange)
-    ∷ (and_bad (codes "-000000"), stops (of_date minus_zero_year) anywhere DateExtendedYear)
+    (Bad ∷ text_of (codes "020-01-01"), stops (of_date year_start) (bad ((Bad ∷ []) ++ text_of (codes "020-01-01"))) NonAsciiCodePoint)
+    ∷ (and_bad (codes "2020-13-01"), stops (of_date month_range) (anywhere (text_of (codes "-01") ++ (Bad ∷ []))) InvalidMonthRange)
+    ∷ (and_bad (codes "2020-02-30"), stops (of_date day_range) (anywhere (Bad ∷ [])) InvalidDayRange)
+    ∷ (and_bad (codes "-000000"), stops (of_date minus_zero_year) (anywhere (Bad ∷ [])) DateExtendedYear)
     ∷ [])
 unfolding all_readings
 bad_in_dates = refl
 
 masked_dates : Compute parse (
-    goes_off (128 ∷ codes "020-01-01") (of_date year_start) DateYear
-    ∷ stands (codes "2020-13-01" ++ (128 ∷ [])) (of_date month_range) InvalidMonthRange
-    ∷ goes_off (codes "2020-01-01" ++ (128 ∷ [])) (of_date after_date) InvalidEnd
+    goes_off [] ((128 ∷ []) ++ codes "020-01-01") (of_date year_start) DateYear
+    ∷ stands (codes "2020-13") (codes "-01" ++ (128 ∷ [])) (of_date month_range) InvalidMonthRange
+    ∷ goes_off (codes "2020-01-01") (128 ∷ []) (of_date after_date) InvalidEnd
     -- `é` in UTF-8
-    ∷ goes_off (codes "2020-01-01" ++ (195 ∷ 169 ∷ [])) (of_date after_date) InvalidEnd
+    ∷ goes_off (codes "2020-01-01") (195 ∷ 169 ∷ []) (of_date after_date) InvalidEnd
     ∷ [])
 unfolding all_readings
 masked_dates = refl

@@ -1,5 +1,6 @@
 -- Durations and their lines, computed.
 use Rattle.std.proofs.Common.{ℕ, List, [], ◌∷◌, ◌++◌, map, codes, Option, Some, None, refl}
+use Rattle.ixdtf.specs.language.Letters.Letter.{Bad}
 use Rattle.ixdtf_grammar.specs.declared.profile.Profile.{Profile}
 use Rattle.ixdtf_grammar.specs.declared.profile.Profile.TheVariants.{Crate, Strict}
 use Rattle.ixdtf_grammar.specs.declared.records.DateDurationRecord.{DateDurationRecord}
@@ -92,19 +93,19 @@ repeated_units : Compute (parse_duration Crate) (
     ∷ gives (codes "P1M2M0m3W") (lasts Positive (dated 0 0 3 0) None)
     ∷ gives (codes "PT1H2H") (lasts Positive None (Some (Hours 2 None)))
     ∷ gives (codes "PT1M2M0.50M") (lasts Positive None (Some (Minutes 0 0 (fraction 2 50))))
-    ∷ stands (codes "P1Y4294967296Y") (of_duration Crate date_unit_range) DurationValueExceededRange
+    ∷ stands (codes "P1Y4294967296Y") [] (of_duration Crate date_unit_range) DurationValueExceededRange
     ∷ [])
 unfolding all_readings
 repeated_units = refl
 
 -- and under the strict profile none stands again; the order comes before the range
 no_repeated_unit : Compute (parse_duration Strict) (
-    stands (codes "P1Y2Y") (of_duration Strict (unit_order date)) DateDurationPartOrder
-    ∷ stands (codes "P1M2M0m3W") (of_duration Strict (unit_order date)) DateDurationPartOrder
-    ∷ stands (codes "P1Y4294967296Y") (of_duration Strict (unit_order date)) DateDurationPartOrder
-    ∷ stands (codes "PT1S2S") (of_duration Strict (unit_order time)) TimeDurationPartOrder
-    ∷ stands (codes "PT1H2H") (of_duration Strict (unit_order time)) TimeDurationPartOrder
-    ∷ stands (codes "PT1M0.50M") (of_duration Strict (unit_order time)) TimeDurationPartOrder
+    stands (codes "P1Y2Y") [] (of_duration Strict (unit_order date)) DateDurationPartOrder
+    ∷ stands (codes "P1M2M") (codes "0m3W") (of_duration Strict (unit_order date)) DateDurationPartOrder
+    ∷ stands (codes "P1Y4294967296Y") [] (of_duration Strict (unit_order date)) DateDurationPartOrder
+    ∷ stands (codes "PT1S2S") [] (of_duration Strict (unit_order time)) TimeDurationPartOrder
+    ∷ stands (codes "PT1H2H") [] (of_duration Strict (unit_order time)) TimeDurationPartOrder
+    ∷ stands (codes "PT1M0.50M") [] (of_duration Strict (unit_order time)) TimeDurationPartOrder
     ∷ [])
 unfolding all_readings
 no_repeated_unit = refl
@@ -112,16 +113,16 @@ no_repeated_unit = refl
 -- ---- texts that are no duration
 
 no_duration : (profile : Profile) → Compute (parse_duration profile) (
-    goes_off (codes "--P1Y") (of_duration profile after_duration_sign) DurationDisgnator
+    goes_off (codes "-") (codes "-P1Y") (of_duration profile after_duration_sign) DurationDisgnator
     ∷ ends (codes "-p") (of_duration profile after_duration_designator) abrupt_duration
-    ∷ goes_off (codes "P1Y[u-ca=iso8601]") (of_duration profile after_date_groups) InvalidEnd
+    ∷ goes_off (codes "P1Y") (codes "[u-ca=iso8601]") (of_duration profile after_date_groups) InvalidEnd
     ∷ ends (codes "+PT") (of_duration profile after_time_designator) TimeDurationDesignator
     ∷ ends (codes "-PT") (of_duration profile after_time_designator) TimeDurationDesignator
-    ∷ goes_off (codes "PT1HT1M") (of_duration profile after_time_groups) InvalidEnd
-    ∷ goes_off (codes "PT0.5H1M") (of_duration profile after_fraction_group) InvalidEnd
-    ∷ goes_off (codes "PT0.5M1H") (of_duration profile after_fraction_group) InvalidEnd
-    ∷ goes_off (codes "PT0.5H1H") (of_duration profile after_fraction_group) InvalidEnd
-    ∷ goes_off (codes "P1Y1M1W1DT1H0.5M0.5S") (of_duration profile after_fraction_group) InvalidEnd
+    ∷ goes_off (codes "PT1H") (codes "T1M") (of_duration profile after_time_groups) InvalidEnd
+    ∷ goes_off (codes "PT0.5H") (codes "1M") (of_duration profile after_fraction_group) InvalidEnd
+    ∷ goes_off (codes "PT0.5M") (codes "1H") (of_duration profile after_fraction_group) InvalidEnd
+    ∷ goes_off (codes "PT0.5H") (codes "1H") (of_duration profile after_fraction_group) InvalidEnd
+    ∷ goes_off (codes "P1Y1M1W1DT1H0.5M") (codes "0.5S") (of_duration profile after_fraction_group) InvalidEnd
     ∷ meets_bad (codes "P1Y1") (of_duration profile (group_digits date))
     ∷ meets_bad (codes "PT1H1") (of_duration profile (group_digits time))
     ∷ [])
@@ -131,16 +132,16 @@ no_duration Strict = refl
 
 -- what is wrong with a number, or with the letter after it
 no_group : (profile : Profile) → Compute (parse_duration profile) (
-    goes_off (codes "P1Y1M1W0,5D") (of_duration profile (group_digits date)) abrupt_date_designator
-    ∷ goes_off (codes "P4294967296X") (of_duration profile (group_digits date)) abrupt_date_designator
-    ∷ goes_off (codes "P1H") (of_duration profile (group_digits date)) abrupt_date_designator
-    ∷ stands (codes "P18446744073709551616D") (of_duration profile (group_value_range date)) DurationValueExceededRange
-    ∷ stands (codes "P99999999999999999999X") (of_duration profile (group_value_range date)) DurationValueExceededRange
-    ∷ stands (codes "PT18446744073709551616S") (of_duration profile (group_value_range time)) DurationValueExceededRange
-    ∷ stands (codes "P1YT1000000000000000000000000000000000000000H") (of_duration profile (group_value_range time)) DurationValueExceededRange
-    ∷ (and_bad (codes "P18446744073709551616"), stops (of_duration profile (group_value_range date)) anywhere DurationValueExceededRange)
-    ∷ stands (codes "P4294967296W") (of_duration profile date_unit_range) DurationValueExceededRange
-    ∷ (and_bad (codes "P4294967296m"), stops (of_duration profile date_unit_range) anywhere DurationValueExceededRange)
+    goes_off (codes "P1Y1M1W0") (codes ",5D") (of_duration profile (group_digits date)) abrupt_date_designator
+    ∷ goes_off (codes "P4294967296") (codes "X") (of_duration profile (group_digits date)) abrupt_date_designator
+    ∷ goes_off (codes "P1") (codes "H") (of_duration profile (group_digits date)) abrupt_date_designator
+    ∷ stands (codes "P18446744073709551616") (codes "D") (of_duration profile (group_value_range date)) DurationValueExceededRange
+    ∷ stands (codes "P99999999999999999999") (codes "X") (of_duration profile (group_value_range date)) DurationValueExceededRange
+    ∷ stands (codes "PT18446744073709551616") (codes "S") (of_duration profile (group_value_range time)) DurationValueExceededRange
+    ∷ stands (codes "P1YT100000000000000000000") (codes "0000000000000000000H") (of_duration profile (group_value_range time)) DurationValueExceededRange
+    ∷ (and_bad (codes "P18446744073709551616"), stops (of_duration profile (group_value_range date)) (anywhere (Bad ∷ [])) DurationValueExceededRange)
+    ∷ stands (codes "P4294967296W") [] (of_duration profile date_unit_range) DurationValueExceededRange
+    ∷ (and_bad (codes "P4294967296m"), stops (of_duration profile date_unit_range) (anywhere (Bad ∷ [])) DurationValueExceededRange)
     ∷ [])
 unfolding all_readings
 no_group Crate = refl
@@ -148,13 +149,13 @@ no_group Strict = refl
 
 -- a group behind one of a shorter unit
 no_order : (profile : Profile) → Compute (parse_duration profile) (
-    stands (codes "P1Y1M1Y") (of_duration profile (unit_order date)) DateDurationPartOrder
-    ∷ stands (codes "P1D1Y1") (of_duration profile (unit_order date)) DateDurationPartOrder
+    stands (codes "P1Y1M1Y") [] (of_duration profile (unit_order date)) DateDurationPartOrder
+    ∷ stands (codes "P1D1Y") (codes "1") (of_duration profile (unit_order date)) DateDurationPartOrder
     -- the order comes before the range
-    ∷ stands (codes "P1D4294967296Y") (of_duration profile (unit_order date)) DateDurationPartOrder
-    ∷ (and_bad (codes "P1W1M"), stops (of_duration profile (unit_order date)) anywhere DateDurationPartOrder)
-    ∷ stands (codes "PT1S1M") (of_duration profile (unit_order time)) TimeDurationPartOrder
-    ∷ stands (codes "PT1M1H") (of_duration profile (unit_order time)) TimeDurationPartOrder
+    ∷ stands (codes "P1D4294967296Y") [] (of_duration profile (unit_order date)) DateDurationPartOrder
+    ∷ (and_bad (codes "P1W1M"), stops (of_duration profile (unit_order date)) (anywhere (Bad ∷ [])) DateDurationPartOrder)
+    ∷ stands (codes "PT1S1M") [] (of_duration profile (unit_order time)) TimeDurationPartOrder
+    ∷ stands (codes "PT1M1H") [] (of_duration profile (unit_order time)) TimeDurationPartOrder
     ∷ [])
 unfolding all_readings
 no_order Crate = refl

@@ -1,4 +1,5 @@
 -- The first bracket of a text and the lines of brackets, computed.
+use Rattle.ixdtf.specs.language.Letters.Letter.{Bad}
 use Rattle.ixdtf.specs.table.Rows.{other}
 use Rattle.std.proofs.Common.{true, false, List, [], ◌∷◌, ◌++◌, codes, Some, None, refl}
 use Rattle.ixdtf_grammar.specs.declared.records.Sign.TheVariants.{Negative}
@@ -54,19 +55,19 @@ open_brackets : Compute parse (
     ∷ ends (codes "2020-01-01[a!") (of_bracket first_bracket_scan) abrupt_bracket
     ∷ meets_bad (codes "2020-01-01[a!") (of_bracket first_bracket_scan)
     ∷ meets_bad (codes "2020-01-01[!a") (of_bracket first_bracket_scan)
-    ∷ (and_bad (codes "2020-01-01[cet!") ++ text_of (codes "]"), stops (of_bracket first_bracket_scan) bad NonAsciiCodePoint)
-    ∷ (and_bad (codes "2020-01-01[a") ++ text_of (codes "=b]"), stops (of_bracket first_bracket_scan) bad NonAsciiCodePoint)
+    ∷ (and_bad (codes "2020-01-01[cet!") ++ text_of (codes "]"), stops (of_bracket first_bracket_scan) (bad ((Bad ∷ []) ++ text_of (codes "]"))) NonAsciiCodePoint)
+    ∷ (and_bad (codes "2020-01-01[a") ++ text_of (codes "=b]"), stops (of_bracket first_bracket_scan) (bad ((Bad ∷ []) ++ text_of (codes "=b]"))) NonAsciiCodePoint)
     ∷ [])
 unfolding all_readings
 open_brackets = refl
 
 -- with a `]` first it is a name, and with a `=` first a key
 told_brackets : Compute parse (
-    goes_off (codes "2020-01-01[a!]=") (of_zone in_zone_name) IanaChar
-    ∷ goes_off (codes "2020-01-01[a!=]") (of_pair in_key) AnnotationKeyChar
-    ∷ (and_bad (codes "2020-01-01[a!]"), stops (of_zone in_zone_name) other IanaChar)
-    ∷ (and_bad (codes "2020-01-01[a=!"), stops (of_pair value_start) other AnnotationValueChar)
-    ∷ (and_bad (codes "2020-01-01[A!"), stops (of_zone in_zone_name) other IanaChar)
+    goes_off (codes "2020-01-01[a") (codes "!]=") (of_zone in_zone_name) IanaChar
+    ∷ goes_off (codes "2020-01-01[a") (codes "!=]") (of_pair in_key) AnnotationKeyChar
+    ∷ (and_bad (codes "2020-01-01[a!]"), stops (of_zone in_zone_name) (other (text_of (codes "!]") ++ (Bad ∷ []))) IanaChar)
+    ∷ (and_bad (codes "2020-01-01[a=!"), stops (of_pair value_start) (other (text_of (codes "!") ++ (Bad ∷ []))) AnnotationValueChar)
+    ∷ (and_bad (codes "2020-01-01[A!"), stops (of_zone in_zone_name) (other (text_of (codes "!") ++ (Bad ∷ []))) IanaChar)
     ∷ [])
 unfolding all_readings
 told_brackets = refl
@@ -74,20 +75,20 @@ told_brackets = refl
 -- ---- texts with another bracket
 
 no_bracket : Compute parse (
-    goes_off (codes "2020-01-01[!]") (of_bracket first_critical_start) TzLeadingChar
-    ∷ goes_off (codes "2020-01-01[!!UTC]") (of_bracket first_critical_start) TzLeadingChar
-    ∷ goes_off (codes "2020-01-01[1]") (of_bracket first_bracket_start) TzLeadingChar
-    ∷ goes_off (codes "2020-01-01[=a]") (of_bracket first_bracket_start) TzLeadingChar
-    ∷ goes_off (codes "2020-01-01[+]") (of_clock MinuteOffset hour_start) TimeHour
-    ∷ goes_off (codes "2020-01-01T00:00:00+00:00[UTC]junk") (of_bracket after_bracket) InvalidEnd
+    goes_off (codes "2020-01-01[!") (codes "]") (of_bracket first_critical_start) TzLeadingChar
+    ∷ goes_off (codes "2020-01-01[!") (codes "!UTC]") (of_bracket first_critical_start) TzLeadingChar
+    ∷ goes_off (codes "2020-01-01[") (codes "1]") (of_bracket first_bracket_start) TzLeadingChar
+    ∷ goes_off (codes "2020-01-01[") (codes "=a]") (of_bracket first_bracket_start) TzLeadingChar
+    ∷ goes_off (codes "2020-01-01[+") (codes "]") (of_clock MinuteOffset hour_start) TimeHour
+    ∷ goes_off (codes "2020-01-01T00:00:00+00:00[UTC]") (codes "junk") (of_bracket after_bracket) InvalidEnd
     ∷ [])
 unfolding all_readings
 no_bracket = refl
 
 -- after a bracket with a pair
 after_a_pair : Compute parse (
-    (text_of (codes "2020-01-01[a=b]junk"), stops_after (tagged false (codes "a") (codes "b") ∷ []) (of_bracket after_bracket) other InvalidEnd)
-    ∷ (and_bad (codes "2020-01-01[a=b]"), stops_after (tagged false (codes "a") (codes "b") ∷ []) (of_bracket after_bracket) bad NonAsciiCodePoint)
+    (text_of (codes "2020-01-01[a=b]junk"), stops_after (tagged false (codes "a") (codes "b") ∷ []) (of_bracket after_bracket) (other (text_of (codes "junk"))) InvalidEnd)
+    ∷ (and_bad (codes "2020-01-01[a=b]"), stops_after (tagged false (codes "a") (codes "b") ∷ []) (of_bracket after_bracket) (bad (Bad ∷ [])) NonAsciiCodePoint)
     ∷ [])
 unfolding all_readings
 after_a_pair = refl

@@ -146,7 +146,7 @@ zone_after_a_calendar : UnhandledFault parse (text_of (codes "2020-01-01[u-ca=a]
 unfolding all_readings
 zone_after_a_calendar = (
   _,
-  stops_with (codes "2020-01-01[u-ca=a][Europe/London]") (row_of (of_pair key_start) other AnnotationKeyLeadingChar)
+  stops_with (codes "2020-01-01[u-ca=a][Europe/London]") (row_of (of_pair key_start) (other (text_of (codes "Europe/London]"))) AnnotationKeyLeadingChar)
       (calendar false (codes "a") ∷ []) (own_replies (calendar false (codes "a") ∷ [])) refl refl,
 )
 
@@ -154,7 +154,7 @@ zone_after_a_pair : UnhandledFault parse (text_of (codes "2020-01-01[a=b][u]")) 
 unfolding all_readings
 zone_after_a_pair = (
   _,
-  stops_with (codes "2020-01-01[a=b][u]") (row_of (of_pair in_key) other AnnotationKeyChar)
+  stops_with (codes "2020-01-01[a=b][u]") (row_of (of_pair in_key) (other (text_of (codes "]"))) AnnotationKeyChar)
       (elective (codes "a") (codes "b") ∷ []) (own_replies (elective (codes "a") (codes "b") ∷ [])) refl refl,
 )
 
@@ -188,7 +188,7 @@ two_calls_and_an_error : GivesFault parse (text_of (codes "2020-01-01[a=b][c=d]j
     (elective (codes "a") (codes "b") ∷ elective (codes "c") (codes "d") ∷ [])
     (Some (elective (codes "a") (codes "b")) ∷ Some (elective (codes "c") (codes "d")) ∷ []) InvalidEnd
 unfolding all_readings
-two_calls_and_an_error = stops_with (codes "2020-01-01[a=b][c=d]junk") (row_of (of_bracket after_bracket) other InvalidEnd)
+two_calls_and_an_error = stops_with (codes "2020-01-01[a=b][c=d]junk") (row_of (of_bracket after_bracket) (other (text_of (codes "junk"))) InvalidEnd)
     (elective (codes "a") (codes "b") ∷ elective (codes "c") (codes "d") ∷ [])
     (Some (elective (codes "a") (codes "b")) ∷ Some (elective (codes "c") (codes "d")) ∷ []) refl refl
 

@@ -117,30 +117,30 @@ gives units outcome = (text_of units, outcome)
 
 -- a text that ends there, and its row
 abbrev pub ends : List ℕ → LineName → Fault → Example
-ends front name fault = (text_of front, stops name end fault)
+ends front name fault = (text_of front, stops name (end []) fault)
 
--- a text with another letter there, and its row
-abbrev pub goes_off : List ℕ → LineName → Fault → Example
-goes_off front name fault = (text_of front, stops name other fault)
+-- a text with another letter there, what stands before the place and what stands from it on, and its row
+abbrev pub goes_off : List ℕ → List ℕ → LineName → Fault → Example
+goes_off front rest name fault = (text_of (front ++ rest), stops name (other (text_of rest)) fault)
 
 -- a text that ends with Bad, and its row
 abbrev pub meets_bad : List ℕ → LineName → Example
-meets_bad front name = (and_bad front, stops name bad NonAsciiCodePoint)
+meets_bad front name = (and_bad front, stops name (bad (Bad ∷ [])) NonAsciiCodePoint)
 
--- a text that begins with a front of a whole line, and its row
-abbrev pub stands : List ℕ → LineName → Fault → Example
-stands front name fault = (text_of front, stops name anywhere fault)
+-- a text that begins with a front of a whole line, this front and what stands behind it, and its row
+abbrev pub stands : List ℕ → List ℕ → LineName → Fault → Example
+stands front rest name fault = (text_of (front ++ rest), stops name (anywhere (text_of rest)) fault)
 
 -- The rows of a line where the text may end, after these pairs: a text with a front of the line, at another letter and at Bad.
 abbrev pub two_after : List Pair → LineName → List ℕ → List ℕ → Fault → List Example
 two_after pairs name front letter at_other =
-    (text_of (front ++ letter), stops_after pairs name other at_other)
-    ∷ ((and_bad front, stops_after pairs name bad NonAsciiCodePoint) ∷ [])
+    (text_of (front ++ letter), stops_after pairs name (other (text_of letter)) at_other)
+    ∷ ((and_bad front, stops_after pairs name (bad (Bad ∷ [])) NonAsciiCodePoint) ∷ [])
 
 -- The rows of a line where the text may not end, after these pairs: at the end, at another letter and at Bad.
 abbrev pub three_after : List Pair → LineName → List ℕ → Fault → List ℕ → Fault → List Example
 three_after pairs name front at_end letter at_other =
-    (text_of front, stops_after pairs name end at_end) ∷ two_after pairs name front letter at_other
+    (text_of front, stops_after pairs name (end []) at_end) ∷ two_after pairs name front letter at_other
 
 abbrev pub two : LineName → List ℕ → List ℕ → Fault → List Example
 two name front letter at_other = two_after [] name front letter at_other
@@ -150,16 +150,23 @@ three name front at_end letter at_other = three_after [] name front at_end lette
 
 -- the row of a whole line
 abbrev pub one : LineName → List ℕ → Fault → List Example
-one name front fault = stands front name fault ∷ []
+one name front fault = stands front [] name fault ∷ []
 
 -- ---- each row of the table
 
--- the places at which a line has rows
+-- a place, without what is left of the text there
+abbrev pub kind_of : Place → Place
+kind_of (end left) = end []
+kind_of (other left) = other []
+kind_of (bad left) = bad []
+kind_of (anywhere left) = anywhere []
+
+-- the kinds of places at which a line has rows
 abbrev pub places_of : Line → List Place
-places_of (line front goes_on (error fault) at_other) = end ∷ (other ∷ (bad ∷ []))
-places_of (line front goes_on ok at_other) = other ∷ (bad ∷ [])
-places_of (scanned front fault) = end ∷ (bad ∷ [])
-places_of (whole front fault) = anywhere ∷ []
+places_of (line front goes_on (error fault) at_other) = end [] ∷ (other [] ∷ (bad [] ∷ []))
+places_of (line front goes_on ok at_other) = other [] ∷ (bad [] ∷ [])
+places_of (scanned front fault) = end [] ∷ (bad [] ∷ [])
+places_of (whole front fault) = anywhere [] ∷ []
 
 -- the rows of these lines in a reader, each by its line and its place
 abbrev pub rows_of : Reader → List LineName → List (LineName × Place)
@@ -168,7 +175,7 @@ rows_of reader (name ∷ names) = map (λ place. (name, place)) (places_of (tabl
 
 abbrev pub row_shown : Outcome → List (LineName × Place)
 row_shown (derived found pairs) = []
-row_shown (refused row pairs) = (row.name, row.place) ∷ []
+row_shown (refused row pairs) = (row.name, kind_of row.place) ∷ []
 
 -- the rows that a table of examples shows
 abbrev pub shown : List Example → List (LineName × Place)

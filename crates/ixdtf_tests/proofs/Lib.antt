@@ -12,3 +12,4 @@ pub mod UnhandledResults
 pub mod Replies
 pub mod Handlers
 pub mod Widths
+pub mod LocatedTexts

@@ -1,5 +1,6 @@
 -- Year-months and month-days, and their lines, computed.
 use Rattle.std.proofs.Common.{ℕ, List, [], ◌∷◌, ◌++◌, map, codes, ℤ, pos, neg_ℤ, Some, None, false, refl}
+use Rattle.ixdtf.specs.language.Letters.Letter.{Bad}
 use Rattle.ixdtf_grammar.specs.declared.profile.Profile.{Profile}
 use Rattle.ixdtf_grammar.specs.declared.profile.Profile.TheVariants.{Crate, Strict}
 use Rattle.ixdtf_grammar.specs.declared.records.Sign.TheVariants.{Positive}
@@ -52,15 +53,15 @@ unfolding all_readings
 year_months = refl
 
 no_year_month : Compute parse_year_month (
-    goes_off (codes "-202011[!u-ca=iso8601]") (of_year_month after_year_in_year_month) DateMonth
-    ∷ goes_off (codes "-00202011Z[Europe/Berlin]") (of_year_month after_year_month) InvalidEnd
-    ∷ goes_off (codes "2020-01-01") (of_year_month after_year_month) InvalidEnd
+    goes_off (codes "-202011") (codes "[!u-ca=iso8601]") (of_year_month after_year_in_year_month) DateMonth
+    ∷ goes_off (codes "-00202011") (codes "Z[Europe/Berlin]") (of_year_month after_year_month) InvalidEnd
+    ∷ goes_off (codes "2020-01") (codes "-01") (of_year_month after_year_month) InvalidEnd
     ∷ ends (codes "2020-0") (of_date month_digits) abrupt_digit
     ∷ ends (codes "20200") (of_date month_digits) abrupt_digit
-    ∷ goes_off (codes "20200x") (of_date month_digits) DateMonth
+    ∷ goes_off (codes "20200") (codes "x") (of_date month_digits) DateMonth
     ∷ meets_bad (codes "20200") (of_date month_digits)
-    ∷ stands (codes "202000") (of_date month_range) InvalidMonthRange
-    ∷ (and_bad (codes "2020-13"), stops (of_date month_range) anywhere InvalidMonthRange)
+    ∷ stands (codes "202000") [] (of_date month_range) InvalidMonthRange
+    ∷ (and_bad (codes "2020-13"), stops (of_date month_range) (anywhere (Bad ∷ [])) InvalidMonthRange)
     ∷ [])
 unfolding all_readings
 no_year_month = refl
@@ -108,25 +109,25 @@ month_days Crate = refl
 month_days Strict = refl
 
 no_month_day : (profile : Profile) → Compute (parse_month_day profile) (
-    goes_off (codes "-11-07") (of_month_day month_day_hyphen) MonthDayHyphen
+    goes_off (codes "-") (codes "11-07") (of_month_day month_day_hyphen) MonthDayHyphen
     ∷ ends (codes "1") (of_month_day month_day_month_digits) abrupt_digit
     ∷ ends (codes "--1") (of_month_day month_day_month_digits) abrupt_digit
-    ∷ goes_off (codes "1-07") (of_month_day month_day_month_digits) DateMonth
-    ∷ goes_off (codes "---07") (of_month_day month_day_month_digits) DateMonth
+    ∷ goes_off (codes "1") (codes "-07") (of_month_day month_day_month_digits) DateMonth
+    ∷ goes_off (codes "--") (codes "-07") (of_month_day month_day_month_digits) DateMonth
     ∷ meets_bad (codes "--1") (of_month_day month_day_month_digits)
-    ∷ stands (codes "00-07") (of_month_day month_day_month_range) InvalidMonthRange
-    ∷ stands (codes "--13") (of_month_day month_day_month_range) InvalidMonthRange
-    ∷ stands (codes "2020-01") (of_month_day month_day_month_range) InvalidMonthRange
-    ∷ goes_off (codes "11/07") (of_month_day after_month_day_month) DateDay
+    ∷ stands (codes "00") (codes "-07") (of_month_day month_day_month_range) InvalidMonthRange
+    ∷ stands (codes "--13") [] (of_month_day month_day_month_range) InvalidMonthRange
+    ∷ stands (codes "20") (codes "20-01") (of_month_day month_day_month_range) InvalidMonthRange
+    ∷ goes_off (codes "11") (codes "/07") (of_month_day after_month_day_month) DateDay
     ∷ ends (codes "110") (of_month_day month_day_day_digits) abrupt_digit
     ∷ ends (codes "11-0") (of_month_day month_day_day_digits) abrupt_digit
-    ∷ goes_off (codes "11-0x") (of_month_day month_day_day_digits) DateDay
-    ∷ goes_off (codes "11--7") (of_month_day month_day_day_digits) DateDay
+    ∷ goes_off (codes "11-0") (codes "x") (of_month_day month_day_day_digits) DateDay
+    ∷ goes_off (codes "11-") (codes "-7") (of_month_day month_day_day_digits) DateDay
     ∷ meets_bad (codes "110") (of_month_day month_day_day_digits)
-    ∷ stands (codes "0230") (of_month_day (month_day_range profile)) InvalidMonthDay
-    ∷ stands (codes "04-31") (of_month_day (month_day_range profile)) InvalidMonthDay
-    ∷ stands (codes "12-32x") (of_month_day (month_day_range profile)) InvalidMonthDay
-    ∷ goes_off (codes "11-071") (of_month_day (after_month_day profile)) InvalidEnd
+    ∷ stands (codes "0230") [] (of_month_day (month_day_range profile)) InvalidMonthDay
+    ∷ stands (codes "04-31") [] (of_month_day (month_day_range profile)) InvalidMonthDay
+    ∷ stands (codes "12-32") (codes "x") (of_month_day (month_day_range profile)) InvalidMonthDay
+    ∷ goes_off (codes "11-07") (codes "1") (of_month_day (after_month_day profile)) InvalidEnd
     ∷ [])
 unfolding all_readings
 no_month_day Crate = refl
@@ -138,17 +139,17 @@ day_zero : Compute (parse_month_day Crate) (
     gives (codes "11-00") (month_day 11 0)
     ∷ gives (codes "--11-00") (month_day 11 0)
     ∷ gives (codes "0200") (month_day 2 0)
-    ∷ goes_off (codes "11-001") (of_month_day (after_month_day Crate)) InvalidEnd
+    ∷ goes_off (codes "11-00") (codes "1") (of_month_day (after_month_day Crate)) InvalidEnd
     ∷ [])
 unfolding all_readings
 day_zero = refl
 
 no_day_zero : Compute (parse_month_day Strict) (
-    stands (codes "11-00") (of_month_day (month_day_range Strict)) InvalidMonthDay
-    ∷ stands (codes "--11-00") (of_month_day (month_day_range Strict)) InvalidMonthDay
-    ∷ stands (codes "0200") (of_month_day (month_day_range Strict)) InvalidMonthDay
-    ∷ stands (codes "11-001") (of_month_day (month_day_range Strict)) InvalidMonthDay
-    ∷ (and_bad (codes "1100"), stops (of_month_day (month_day_range Strict)) anywhere InvalidMonthDay)
+    stands (codes "11-00") [] (of_month_day (month_day_range Strict)) InvalidMonthDay
+    ∷ stands (codes "--11-00") [] (of_month_day (month_day_range Strict)) InvalidMonthDay
+    ∷ stands (codes "0200") [] (of_month_day (month_day_range Strict)) InvalidMonthDay
+    ∷ stands (codes "11-00") (codes "1") (of_month_day (month_day_range Strict)) InvalidMonthDay
+    ∷ (and_bad (codes "1100"), stops (of_month_day (month_day_range Strict)) (anywhere (Bad ∷ [])) InvalidMonthDay)
     ∷ gives (codes "11-01") (month_day 11 1)
     ∷ [])
 unfolding all_readings

@@ -1,5 +1,6 @@
 -- Offsets, with seconds and without, and the lines of offsets, computed.
 use Rattle.std.proofs.Common.{ℕ, Bool, true, false, List, [], ◌∷◌, ◌++◌, map, codes, Option, Some, None, refl}
+use Rattle.ixdtf.specs.language.Letters.Letter.{Bad}
 use Rattle.ixdtf_grammar.specs.declared.records.Sign.{Sign}
 use Rattle.ixdtf_grammar.specs.declared.records.Sign.TheVariants.{Positive, Negative}
 use Rattle.ixdtf_grammar.specs.declared.records.UtcOffsetRecord.{UtcOffsetRecord}
@@ -183,58 +184,58 @@ offsets_in_brackets = refl
 -- ---- texts that are no offset
 
 no_offset : Compute parse_offset (
-    goes_off (codes "00:00") (of_offset offset_start) OffsetNeedsSign
-    ∷ goes_off (codes "Z") (of_offset offset_start) OffsetNeedsSign
-    ∷ goes_off (codes "+05.5") (of_full after_hour) InvalidEnd
+    goes_off [] (codes "00:00") (of_offset offset_start) OffsetNeedsSign
+    ∷ goes_off [] (codes "Z") (of_offset offset_start) OffsetNeedsSign
+    ∷ goes_off (codes "+05") (codes ".5") (of_full after_hour) InvalidEnd
     ∷ ends (codes "+08:0") (of_full minute_digits) abrupt_digit
     ∷ ends (codes "+080") (of_full minute_digits) abrupt_digit
-    ∷ goes_off (codes "+08:0x") (of_full minute_digits) TimeMinuteSecond
-    ∷ goes_off (codes "+080x") (of_full minute_digits) TimeMinuteSecond
-    ∷ stands (codes "+0860") (of_full minute_range) TimeMinuteSecond
-    ∷ goes_off (codes "+0800:00") (of_full after_basic_minute) UtcTimeSeparator
-    ∷ goes_off (codes "+08:0000") (of_full after_colon_minute) UtcTimeSeparator
-    ∷ goes_off (codes "+08:00:5x") (of_full second_digits) TimeMinuteSecond
+    ∷ goes_off (codes "+08:0") (codes "x") (of_full minute_digits) TimeMinuteSecond
+    ∷ goes_off (codes "+080") (codes "x") (of_full minute_digits) TimeMinuteSecond
+    ∷ stands (codes "+0860") [] (of_full minute_range) TimeMinuteSecond
+    ∷ goes_off (codes "+0800") (codes ":00") (of_full after_basic_minute) UtcTimeSeparator
+    ∷ goes_off (codes "+08:00") (codes "00") (of_full after_colon_minute) UtcTimeSeparator
+    ∷ goes_off (codes "+08:00:5") (codes "x") (of_full second_digits) TimeMinuteSecond
     ∷ ends (codes "+08005") (of_full second_digits) abrupt_digit
     ∷ meets_bad (codes "+08005") (of_full second_digits)
-    ∷ stands (codes "+080060") (of_full second_range) TimeMinuteSecond
-    ∷ goes_off (codes "+08:00:00[") (of_full after_second) InvalidEnd
-    ∷ (and_bad (codes "+24"), stops (of_full hour_range) anywhere TimeHour)
+    ∷ stands (codes "+080060") [] (of_full second_range) TimeMinuteSecond
+    ∷ goes_off (codes "+08:00:00") (codes "[") (of_full after_second) InvalidEnd
+    ∷ (and_bad (codes "+24"), stops (of_full hour_range) (anywhere (Bad ∷ [])) TimeHour)
     ∷ [])
 unfolding all_readings
 no_offset = refl
 
 no_offset_after_a_time : Compute parse (
-    goes_off (codes "2020-01-01T00:00:00+01:00Z") (of_full after_colon_minute) InvalidEnd
-    ∷ stands (codes "2024-08-24T14:00:00-05:00:60") (of_full second_range) TimeMinuteSecond
-    ∷ stands (codes "2024-08-24T14:00:00-050060") (of_full second_range) TimeMinuteSecond
-    ∷ goes_off (codes "2024-08-24T14:00:00-05:0060") (of_full after_colon_minute) UtcTimeSeparator
-    ∷ goes_off (codes "2024-08-24T14:00:00-0500:60") (of_full after_basic_minute) UtcTimeSeparator
-    ∷ goes_off (codes "2024-08-24T14:00:00-5:00") (of_full hour_digit) TimeHour
-    ∷ goes_off (codes "2024-08-24T14:00:00Z+") (of_offset after_zulu) InvalidEnd
+    goes_off (codes "2020-01-01T00:00:00+01:00") (codes "Z") (of_full after_colon_minute) InvalidEnd
+    ∷ stands (codes "2024-08-24T14:00:00-05:00:60") [] (of_full second_range) TimeMinuteSecond
+    ∷ stands (codes "2024-08-24T14:00:00-050060") [] (of_full second_range) TimeMinuteSecond
+    ∷ goes_off (codes "2024-08-24T14:00:00-05:00") (codes "60") (of_full after_colon_minute) UtcTimeSeparator
+    ∷ goes_off (codes "2024-08-24T14:00:00-0500") (codes ":60") (of_full after_basic_minute) UtcTimeSeparator
+    ∷ goes_off (codes "2024-08-24T14:00:00-5") (codes ":00") (of_full hour_digit) TimeHour
+    ∷ goes_off (codes "2024-08-24T14:00:00Z") (codes "+") (of_offset after_zulu) InvalidEnd
     ∷ [])
 unfolding all_readings
 no_offset_after_a_time = refl
 
 -- an offset without seconds, with seconds or a fraction
 no_short_offset : Compute parse_identifier (
-    goes_off (codes "+00:00:00") (of_short after_colon_minute) InvalidMinutePrecisionOffset
-    ∷ goes_off (codes "+00:000") (of_short after_colon_minute) InvalidMinutePrecisionOffset
-    ∷ goes_off (codes "+000000") (of_short after_basic_minute) InvalidMinutePrecisionOffset
-    ∷ goes_off (codes "+0000:00") (of_short after_basic_minute) InvalidMinutePrecisionOffset
-    ∷ goes_off (codes "+00:00.1") (of_short after_colon_minute) InvalidEnd
-    ∷ stands (codes "+24:00") (of_short hour_range) TimeHour
-    ∷ stands (codes "+0060") (of_short minute_range) TimeMinuteSecond
+    goes_off (codes "+00:00") (codes ":00") (of_short after_colon_minute) InvalidMinutePrecisionOffset
+    ∷ goes_off (codes "+00:00") (codes "0") (of_short after_colon_minute) InvalidMinutePrecisionOffset
+    ∷ goes_off (codes "+0000") (codes "00") (of_short after_basic_minute) InvalidMinutePrecisionOffset
+    ∷ goes_off (codes "+0000") (codes ":00") (of_short after_basic_minute) InvalidMinutePrecisionOffset
+    ∷ goes_off (codes "+00:00") (codes ".1") (of_short after_colon_minute) InvalidEnd
+    ∷ stands (codes "+24") (codes ":00") (of_short hour_range) TimeHour
+    ∷ stands (codes "+0060") [] (of_short minute_range) TimeMinuteSecond
     ∷ [])
 unfolding all_readings
 no_short_offset = refl
 
 no_short_offset_in_a_bracket : Compute parse (
-    goes_off (codes "2020-01-01[-05:00:60]") (of_short after_colon_minute) InvalidMinutePrecisionOffset
-    ∷ goes_off (codes "2020-01-01[-05:000]") (of_short after_colon_minute) InvalidMinutePrecisionOffset
-    ∷ goes_off (codes "2020-01-01[-050000]") (of_short after_basic_minute) InvalidMinutePrecisionOffset
-    ∷ goes_off (codes "2020-01-01[!-0500:]") (of_short after_basic_minute) InvalidMinutePrecisionOffset
-    ∷ goes_off (codes "2024-08-24T14:00:00-05:00[-05:00.1]") (of_short after_colon_minute) AnnotationClose
-    ∷ goes_off (codes "2020-01-01[+05=]") (of_short after_hour) AnnotationClose
+    goes_off (codes "2020-01-01[-05:00") (codes ":60]") (of_short after_colon_minute) InvalidMinutePrecisionOffset
+    ∷ goes_off (codes "2020-01-01[-05:00") (codes "0]") (of_short after_colon_minute) InvalidMinutePrecisionOffset
+    ∷ goes_off (codes "2020-01-01[-0500") (codes "00]") (of_short after_basic_minute) InvalidMinutePrecisionOffset
+    ∷ goes_off (codes "2020-01-01[!-0500") (codes ":]") (of_short after_basic_minute) InvalidMinutePrecisionOffset
+    ∷ goes_off (codes "2024-08-24T14:00:00-05:00[-05:00") (codes ".1]") (of_short after_colon_minute) AnnotationClose
+    ∷ goes_off (codes "2020-01-01[+05") (codes "=]") (of_short after_hour) AnnotationClose
     ∷ [])
 unfolding all_readings
 no_short_offset_in_a_bracket = refl

@@ -61,9 +61,9 @@ unfolding all_readings
 each_row_in_a_first_bracket = (refl, refl)
 
 keys_in_a_first_bracket : Compute parse (
-    goes_off (codes "2020-01-01[u-cA=iso8601]") (of_pair in_key) AnnotationKeyChar
-    ∷ goes_off (codes "2020-01-01[_!=]") (of_pair in_key) AnnotationKeyChar
-    ∷ goes_off (codes "2020-01-01[!a/b=c]") (of_pair in_key) AnnotationKeyChar
+    goes_off (codes "2020-01-01[u-c") (codes "A=iso8601]") (of_pair in_key) AnnotationKeyChar
+    ∷ goes_off (codes "2020-01-01[_") (codes "!=]") (of_pair in_key) AnnotationKeyChar
+    ∷ goes_off (codes "2020-01-01[!a") (codes "/b=c]") (of_pair in_key) AnnotationKeyChar
     ∷ [])
 unfolding all_readings
 keys_in_a_first_bracket = refl
@@ -84,13 +84,13 @@ pairs = refl
 -- ---- texts with another pair
 
 no_pair : Compute parse (
-    goes_off (codes "2020-01-01[u-ca=iso8601)") (of_pair in_value) AnnotationValueChar
-    ∷ goes_off (codes "2020-01-01[u-ca=-iso]") (of_pair value_start) AnnotationValueChar
-    ∷ goes_off (codes "2020-01-01[u-ca=iso-]") (of_pair after_value_hyphen) AnnotationValueCharPostHyphen
-    ∷ goes_off (codes "2020-01-01[u-ca=iso--8601]") (of_pair after_value_hyphen) AnnotationValueCharPostHyphen
-    ∷ goes_off (codes "2020-01-01[u][Europe/London]") (of_pair key_start) AnnotationKeyLeadingChar
-    ∷ goes_off (codes "2020-01-01[u][]") (of_pair key_start) AnnotationKeyLeadingChar
-    ∷ goes_off (codes "2020-01-01[u][!]") (of_pair critical_key_start) AnnotationKeyLeadingChar
+    goes_off (codes "2020-01-01[u-ca=iso8601") (codes ")") (of_pair in_value) AnnotationValueChar
+    ∷ goes_off (codes "2020-01-01[u-ca=") (codes "-iso]") (of_pair value_start) AnnotationValueChar
+    ∷ goes_off (codes "2020-01-01[u-ca=iso-") (codes "]") (of_pair after_value_hyphen) AnnotationValueCharPostHyphen
+    ∷ goes_off (codes "2020-01-01[u-ca=iso-") (codes "-8601]") (of_pair after_value_hyphen) AnnotationValueCharPostHyphen
+    ∷ goes_off (codes "2020-01-01[u][") (codes "Europe/London]") (of_pair key_start) AnnotationKeyLeadingChar
+    ∷ goes_off (codes "2020-01-01[u][") (codes "]") (of_pair key_start) AnnotationKeyLeadingChar
+    ∷ goes_off (codes "2020-01-01[u][!") (codes "]") (of_pair critical_key_start) AnnotationKeyLeadingChar
     ∷ ends (codes "2020-01-01[u][a-1") (of_pair in_key) AnnotationKeyValueSeparator
     ∷ ends (codes "2020-01-01[a=b-c") (of_pair in_value) AnnotationClose
     ∷ meets_bad (codes "2020-01-01[a=b-c") (of_pair in_value)

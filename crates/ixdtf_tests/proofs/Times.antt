@@ -1,5 +1,6 @@
 -- Times after a date and a separator, and the lines of times, computed.
 use Rattle.std.proofs.Common.{ℕ, List, [], ◌∷◌, ◌++◌, map, codes, Some, None, pos, refl}
+use Rattle.ixdtf.specs.language.Letters.Letter.{Bad}
 use Rattle.ixdtf.specs.language.Times.Clock.{Time}
 use Rattle.ixdtf.specs.language.Readers.{parse}
 use Rattle.ixdtf.specs.table.Faults.Fault.{InvalidEnd, TimeHour, TimeMinuteSecond, TimeSecond, TimeSeparator, FractionPart}
@@ -82,52 +83,52 @@ fractions = refl
 
 no_time : Compute parse (
     ends (at (codes "1")) (of_clock_time hour_digit) abrupt_digit
-    ∷ goes_off (at (codes "1x")) (of_clock_time hour_digit) TimeHour
-    ∷ stands (at (codes "24:00")) (of_clock_time hour_range) TimeHour
+    ∷ goes_off (at (codes "1")) (codes "x") (of_clock_time hour_digit) TimeHour
+    ∷ stands (at (codes "24")) (codes ":00") (of_clock_time hour_range) TimeHour
     ∷ ends (at (codes "001")) (of_clock_time minute_digits) abrupt_digit
     ∷ ends (at (codes "12:3")) (of_clock_time minute_digits) abrupt_digit
-    ∷ goes_off (at (codes "12:3x")) (of_clock_time minute_digits) TimeMinuteSecond
-    ∷ goes_off (at (codes "123x")) (of_clock_time minute_digits) TimeMinuteSecond
+    ∷ goes_off (at (codes "12:3")) (codes "x") (of_clock_time minute_digits) TimeMinuteSecond
+    ∷ goes_off (at (codes "123")) (codes "x") (of_clock_time minute_digits) TimeMinuteSecond
     ∷ meets_bad (at (codes "12:3")) (of_clock_time minute_digits)
     ∷ meets_bad (at (codes "123")) (of_clock_time minute_digits)
-    ∷ stands (at (codes "01:60:61")) (of_clock_time minute_range) TimeMinuteSecond
-    ∷ stands (at (codes "0160")) (of_clock_time minute_range) TimeMinuteSecond
+    ∷ stands (at (codes "01:60")) (codes ":61") (of_clock_time minute_range) TimeMinuteSecond
+    ∷ stands (at (codes "0160")) [] (of_clock_time minute_range) TimeMinuteSecond
     ∷ [])
 unfolding all_readings
 no_time = refl
 
 -- a colon or a digit that does not go on
 mixed_times : Compute parse (
-    goes_off (codes "2022-06-05 0434:22.000") (of_clock_time after_basic_minute) TimeSeparator
-    ∷ goes_off (at (codes "01:001")) (of_clock_time after_colon_minute) TimeSeparator
-    ∷ goes_off (at (codes "01:0000")) (of_clock_time after_colon_minute) TimeSeparator
+    goes_off (codes "2022-06-05 0434") (codes ":22.000") (of_clock_time after_basic_minute) TimeSeparator
+    ∷ goes_off (at (codes "01:00")) (codes "1") (of_clock_time after_colon_minute) TimeSeparator
+    ∷ goes_off (at (codes "01:00")) (codes "00") (of_clock_time after_colon_minute) TimeSeparator
     ∷ [])
 unfolding all_readings
 mixed_times = refl
 
 no_second : Compute parse (
-    goes_off (codes "2022-06-05 03422.000") (of_clock_time second_digits) TimeSecond
+    goes_off (codes "2022-06-05 03422") (codes ".000") (of_clock_time second_digits) TimeSecond
     ∷ ends (at (codes "12300")) (of_clock_time second_digits) abrupt_digit
     ∷ ends (at (codes "12:30:0")) (of_clock_time second_digits) abrupt_digit
-    ∷ goes_off (at (codes "12:30:0x")) (of_clock_time second_digits) TimeSecond
+    ∷ goes_off (at (codes "12:30:0")) (codes "x") (of_clock_time second_digits) TimeSecond
     ∷ meets_bad (at (codes "12300")) (of_clock_time second_digits)
     ∷ meets_bad (at (codes "12:30:0")) (of_clock_time second_digits)
-    ∷ stands (at (codes "000061")) (of_clock_time second_range) TimeSecond
-    ∷ goes_off (at (codes "01:01:001")) (of_clock_time after_second) InvalidEnd
+    ∷ stands (at (codes "000061")) [] (of_clock_time second_range) TimeSecond
+    ∷ goes_off (at (codes "01:01:00")) (codes "1") (of_clock_time after_second) InvalidEnd
     ∷ ends (at (codes "00:00:00,")) (of_clock_time fraction_start) FractionPart
-    ∷ goes_off (at (codes "00:00:00..5")) (of_clock_time fraction_start) FractionPart
-    ∷ goes_off (at (codes "12.5")) (of_clock_time after_hour) InvalidEnd
-    ∷ goes_off (at (codes "12:30.5")) (of_clock_time after_colon_minute) InvalidEnd
-    ∷ goes_off (at (codes "00:00:00.5.5")) (of_clock_time after_fraction) InvalidEnd
+    ∷ goes_off (at (codes "00:00:00.")) (codes ".5") (of_clock_time fraction_start) FractionPart
+    ∷ goes_off (at (codes "12")) (codes ".5") (of_clock_time after_hour) InvalidEnd
+    ∷ goes_off (at (codes "12:30")) (codes ".5") (of_clock_time after_colon_minute) InvalidEnd
+    ∷ goes_off (at (codes "00:00:00.5")) (codes ".5") (of_clock_time after_fraction) InvalidEnd
     ∷ [])
 unfolding all_readings
 no_second = refl
 
 -- a unit that stands for no letter, after what is refused whatever follows
 bad_after_a_range : Compute parse (
-    (and_bad (at (codes "24")), stops (of_clock_time hour_range) anywhere TimeHour)
-    ∷ (and_bad (at (codes "12:60")), stops (of_clock_time minute_range) anywhere TimeMinuteSecond)
-    ∷ (and_bad (at (codes "00:00:61")), stops (of_clock_time second_range) anywhere TimeSecond)
+    (and_bad (at (codes "24")), stops (of_clock_time hour_range) (anywhere (Bad ∷ [])) TimeHour)
+    ∷ (and_bad (at (codes "12:60")), stops (of_clock_time minute_range) (anywhere (Bad ∷ [])) TimeMinuteSecond)
+    ∷ (and_bad (at (codes "00:00:61")), stops (of_clock_time second_range) (anywhere (Bad ∷ [])) TimeSecond)
     ∷ [])
 unfolding all_readings
 bad_after_a_range = refl

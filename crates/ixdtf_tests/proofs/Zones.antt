@@ -50,11 +50,11 @@ each_row_in_brackets = (refl, refl)
 -- The name may begin as a key may. Then a `]` comes before any `=`, the end and any unit that stands for no letter, and so
 -- the rows for the end and for such a unit fit no text.
 names_like_keys : Compute parse (
-    goes_off (codes "2020-01-01[cet!]") (of_zone in_zone_name) IanaChar
-    ∷ goes_off (codes "2020-01-01[_x/]") (of_zone after_zone_slash) IanaCharPostSeparator
-    ∷ goes_off (codes "2020-01-01[a//b]") (of_zone after_zone_slash) IanaCharPostSeparator
+    goes_off (codes "2020-01-01[cet") (codes "!]") (of_zone in_zone_name) IanaChar
+    ∷ goes_off (codes "2020-01-01[_x/") (codes "]") (of_zone after_zone_slash) IanaCharPostSeparator
+    ∷ goes_off (codes "2020-01-01[a/") (codes "/b]") (of_zone after_zone_slash) IanaCharPostSeparator
     -- the mask of a unit that stands for no letter
-    ∷ goes_off (codes "2020-01-01[cet!" ++ (128 ∷ codes "]")) (of_zone in_zone_name) IanaChar
+    ∷ goes_off (codes "2020-01-01[cet") (codes "!" ++ (128 ∷ []) ++ codes "]") (of_zone in_zone_name) IanaChar
     ∷ [])
 unfolding all_readings
 names_like_keys = refl
@@ -92,36 +92,36 @@ names_in_brackets = refl
 -- ---- texts that are no name
 
 no_identifier : Compute parse_identifier (
-    goes_off (codes "1UTC") (of_zone identifier_start) TzLeadingChar
-    ∷ goes_off (codes "UTC]") (of_zone in_zone_name) InvalidEnd
-    ∷ goes_off (codes "UTC=x") (of_zone in_zone_name) IanaChar
-    ∷ goes_off (codes "a/b]") (of_zone in_zone_name) InvalidEnd
+    goes_off [] (codes "1UTC") (of_zone identifier_start) TzLeadingChar
+    ∷ goes_off (codes "UTC") (codes "]") (of_zone in_zone_name) InvalidEnd
+    ∷ goes_off (codes "UTC") (codes "=x") (of_zone in_zone_name) IanaChar
+    ∷ goes_off (codes "a/b") (codes "]") (of_zone in_zone_name) InvalidEnd
     ∷ ends (codes "America/") (of_zone after_zone_slash) IanaCharPostSeparator
     ∷ [])
 unfolding all_readings
 no_identifier = refl
 
 no_name : Compute parse_iana_identifier (
-    goes_off (codes "+05:00") (of_zone zone_name_start) TzLeadingChar
-    ∷ goes_off (codes "1UTC") (of_zone zone_name_start) TzLeadingChar
+    goes_off [] (codes "+05:00") (of_zone zone_name_start) TzLeadingChar
+    ∷ goes_off [] (codes "1UTC") (of_zone zone_name_start) TzLeadingChar
     -- `é` in UTF-8
-    ∷ goes_off (195 ∷ 169 ∷ []) (of_zone zone_name_start) TzLeadingChar
-    ∷ goes_off (codes "UTC]") (of_zone in_zone_name) InvalidEnd
-    ∷ goes_off (codes "UTC=x") (of_zone in_zone_name) IanaChar
-    ∷ goes_off (codes "America//Chicago") (of_zone after_zone_slash) IanaCharPostSeparator
+    ∷ goes_off [] (195 ∷ 169 ∷ []) (of_zone zone_name_start) TzLeadingChar
+    ∷ goes_off (codes "UTC") (codes "]") (of_zone in_zone_name) InvalidEnd
+    ∷ goes_off (codes "UTC") (codes "=x") (of_zone in_zone_name) IanaChar
+    ∷ goes_off (codes "America/") (codes "/Chicago") (of_zone after_zone_slash) IanaCharPostSeparator
     ∷ [])
 unfolding all_readings
 no_name = refl
 
 no_name_in_a_bracket : Compute parse (
-    goes_off (codes "2020-04-08[America/Chicago)") (of_zone in_zone_name) IanaChar
-    ∷ goes_off (codes "2020-04-08[America/ Chicago)") (of_zone after_zone_slash) IanaCharPostSeparator
-    ∷ goes_off (codes "2020-01-01[America//Chicago]") (of_zone after_zone_slash) IanaCharPostSeparator
-    ∷ goes_off (codes "2020-01-01[UTC=x]") (of_zone in_zone_name) IanaChar
-    ∷ goes_off (codes "2020-01-01[A=b]") (of_zone in_zone_name) IanaChar
+    goes_off [] []") (of_zone in_zone_name) IanaChar
+    ∷ goes_off [] []") (of_zone after_zone_slash) IanaCharPostSeparator
+    ∷ goes_off (codes "2020-01-01[America/") (codes "/Chicago]") (of_zone after_zone_slash) IanaCharPostSeparator
+    ∷ goes_off (codes "2020-01-01[UTC") (codes "=x]") (of_zone in_zone_name) IanaChar
+    ∷ goes_off (codes "2020-01-01[A") (codes "=b]") (of_zone in_zone_name) IanaChar
     ∷ ends (codes "2020-01-01[!UTC") (of_zone in_zone_name) AnnotationClose
     ∷ meets_bad (codes "2020-01-01[!UTC") (of_zone in_zone_name)
-    ∷ goes_off (codes "2020-01-01[A!" ++ (128 ∷ [])) (of_zone in_zone_name) IanaChar
+    ∷ goes_off (codes "2020-01-01[A") (codes "!" ++ (128 ∷ [])) (of_zone in_zone_name) IanaChar
     ∷ [])
 unfolding all_readings
 no_name_in_a_bracket = refl

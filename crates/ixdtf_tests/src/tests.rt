@@ -11,6 +11,7 @@ mod handlers;
 mod languages;
 mod large;
 mod laws;
+mod located;
 mod lone_times;
 mod months;
 mod odd;

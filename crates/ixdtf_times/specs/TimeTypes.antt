@@ -12,8 +12,7 @@ use Rattle.ixdtf_grammar.specs.language.Times.{Clock, TimeShape}
 use Rattle.ixdtf_grammar.specs.language.Times.{Clock as clocks}
 use Rattle.ixdtf_grammar.specs.language.Times.{TimeShape as shapes}
 use Rattle.ixdtf_grammar.specs.language.Cores.{core_of}
-use Rattle.ixdtf_grammar.specs.table.Faults.{Fault}
-use Rattle.ixdtf_reading.specs.reading.Looks.{Read, error_of}
+use Rattle.ixdtf_reading.specs.reading.Looks.{Read, Placed, error_of}
 use Rattle.ixdtf_reading.specs.reading.Times.{OpenTime, time_of}
 use Rattle.ixdtf_reading.specs.reading.Cores.{ClosedCore, core_end_at, after_time_at}
 use Rattle.ixdtf_grammar.specs.table.LineNames.{of_date}
@@ -40,6 +39,6 @@ abbrev pub open_time_of : TimeRecord → CodeTimeShape → OpenTime
 open_time_of time shape = (shape_of shape, time)
 
 -- what is read behind a date, with a time behind it or without
-abbrev pub after_date_time_at : Option DateRecord → TimeRecord → Option CodeTimeShape → Text → Read Fault ClosedCore
+abbrev pub after_date_time_at : Option DateRecord → TimeRecord → Option CodeTimeShape → Text → Read Placed ClosedCore
 after_date_time_at date time None text = core_end_at error_of (of_date after_date) (core_of date None None) text
 after_date_time_at date time (Some shape) text = after_time_at error_of date (open_time_of time shape) text

@@ -29,7 +29,7 @@ pub fn parse_date<'a, T: EncodingType>(cursor: &mut Cursor<'a, T>) -> Result<Dat
         return parse_short_date(cursor);
     }
     match take_fixed_date(cursor) {
-        Some(date) => check_ranges(date),
+        Some(read) => read,
         None => parse_other_date(cursor),
     }
 }
@@ -72,15 +72,6 @@ fn parse_any_date<'a, T: EncodingType>(cursor: &mut Cursor<'a, T>) -> Result<Dat
     let year = parse_date_year(cursor)?;
     let (month, hyphened) = parse_month(cursor, Stop::AbruptDate)?;
     parse_day(cursor, year, month, hyphened)
-}
-
-/// The date, where its month is one and has the day.
-#[inline(always)]
-fn check_ranges(date: DateRecord) -> Result<DateRecord, Stop>
-    ensures { (rest : Text) → Yields (λ date. (date, rest)) result (ranged date rest) }
-{
-    check_month(date.month)?;
-    check_date(date.year, date.month, date.day)
 }
 
 // ==== Years ====
@@ -305,7 +296,7 @@ pub fn check_month(month: u8) -> Result<u8, Stop>
 
 /// The date, where its month has the day.
 #[inline(always)]
-fn check_date(year: i32, month: u8, day: u8) -> Result<DateRecord, Stop>
+pub fn check_date(year: i32, month: u8, day: u8) -> Result<DateRecord, Stop>
     ensures { Checks (λ date. date) result (date_of year month day)
         (nat_le 1 day && nat_le day (month_length year month)) InvalidDayRange }
 {

@@ -4,14 +4,14 @@
 //! The places are looked at in order, and nothing is taken off where one does not fit: the text is then read part by part,
 //! which finds the record or the fault.
 
-#![tactic(auto, unfolding(ixdtf_reading::specs::reading::FixedPlaces::fixed_readings))]
+#![tactic(auto, unfolding(ixdtf_reading::specs::reading::FixedPlaces::fixed_readings, ixdtf_reading::specs::reading::Dates::day_in_range, ixdtf_reading::specs::reading::Months::lone_day_in_range))]
 
 ghost use Rattle.std.specs.Prelude.{◌≡◌, ◌+◌, ◌<◌, ◌≤◌, map, drop, length, option_map, None, IfSome, IsTrue};
 ghost use Rattle.ixdtf_grammar.specs.declared.profile.Profile.{Profile};
 ghost use Rattle.ixdtf_grammar.specs.declared.records.TimeRecord.{TimeRecord};
 ghost use Rattle.ixdtf_grammar.specs.language.Letters.{Text, digit, date_time_separator};
 ghost use Rattle.ixdtf_grammar.specs.language.FixedPlaces.{FixedDateTime};
-ghost use Rattle.ixdtf_reading.specs.reading.Clauses.{Spends};
+ghost use Rattle.ixdtf_reading.specs.reading.Clauses.{Reads, Spends, YieldsAt};
 ghost use Rattle.ixdtf_times.specs.TimeTypes.{time_to_second};
 ghost use Rattle.ixdtf_reading.specs.reading.Dates.{date_at};
 ghost use Rattle.ixdtf_reading.specs.reading.Looks.{error_of};
@@ -20,11 +20,14 @@ ghost use Rattle.ixdtf_reading.specs.reading.FixedPlaces.{letter_place, byte_pla
 ghost use Rattle.ixdtf_reading.specs.reading.FixedPlaces.{ranged_month, ranged_day, marks_place, unmarked_at, date_in_range, time_in_range, ranged};
 ghost use Rattle.ixdtf_reading.specs.reading.FixedPlaces.{year_place, days_place, basic_days_place, date_place, basic_date_place, time_place, date_time_place};
 
-use crate::dates::has_day;
+use crate::dates::{check_date, check_month, has_day};
+use crate::months::check_month_day;
 use ixdtf_grammar::encoding::EncodingType;
+use ixdtf_grammar::profile::Profile;
 use ixdtf_grammar::records::DateRecord;
 use ixdtf_reading::cursor::Cursor;
 use ixdtf_reading::grammar::{is_date_time_separator, is_hyphen, number_of};
+use ixdtf_reading::stop::Stop;
 
 /// A time to its second.
 #[derive(Clone, Copy)]
@@ -99,12 +102,14 @@ fn fixed_date<'a, T: EncodingType>(cursor: &mut Cursor<'a, T>) -> Option<DateRec
     fixed_days(cursor, year)
 }
 
-/// Takes off the date that stands at the first ten places, or at the eight of one without hyphens. It is `None`, with the
-/// rest unchanged, at the first place that does not fit. Its month and its day are not checked.
+/// Reads the date that stands at the first ten places, or at the eight of one without hyphens. It is `None`, with the rest
+/// unchanged, at the first place that does not fit.
 #[inline(always)]
-pub fn take_fixed_date<'a, T: EncodingType>(cursor: &mut Cursor<'a, T>) -> Option<DateRecord>
-    ensures read { IfSome result (λ date. date_at error_of (map T.letter cursor.old.rest) ≡
-        ranged date (map T.letter cursor.new.rest)) }
+pub fn take_fixed_date<'a, T: EncodingType>(
+    cursor: &mut Cursor<'a, T>,
+) -> Option<Result<DateRecord, Stop>>
+    ensures read { IfSome result (λ read. Reads T.letter (λ date. date) cursor.old read cursor.new
+        (date_at error_of)) }
     ensures rest { result ≡ None → cursor.new.rest ≡ cursor.old.rest }
     ensures shorter { length cursor.new.rest ≤ length cursor.old.rest }
     ensures few { cursor.new.looks ≤ cursor.old.looks + 10 }
@@ -116,12 +121,36 @@ pub fn take_fixed_date<'a, T: EncodingType>(cursor: &mut Cursor<'a, T>) -> Optio
     let year = fixed_year(cursor)?;
     if is_hyphen(cursor.byte_at(4)) {
         let date = fixed_days(cursor, year)?;
-        cursor.skip(10);
-        return Some(date);
+        return Some(take_date(cursor, date, 7, 10));
     }
     let date = fixed_basic_days(cursor, year)?;
-    cursor.skip(8);
-    Some(date)
+    Some(take_date(cursor, date, 6, 8))
+}
+
+/// Takes a date off, whose month and whose day end behind so many units. Where its month is none, what stands behind the
+/// month stays.
+#[inline(always)]
+fn take_date<'a, T: EncodingType>(
+    cursor: &mut Cursor<'a, T>,
+    date: DateRecord,
+    month_end: usize,
+    day_end: usize,
+) -> Result<DateRecord, Stop>
+    requires month { month_end ≤ length cursor.old.rest }
+    requires day { day_end ≤ length cursor.old.rest }
+    ensures ranged { YieldsAt (λ date. (date, map T.letter cursor.new.rest)) result
+        (map T.letter cursor.new.rest)
+        (ranged date (map T.letter (drop month_end cursor.old.rest))
+        (map T.letter (drop day_end cursor.old.rest))) }
+    ensures shorter { length cursor.new.rest ≤ length cursor.old.rest }
+    ensures looks { cursor.new.looks ≡ cursor.old.looks }
+{
+    if let Err(stop) = check_month(date.month) {
+        cursor.skip(month_end);
+        return Err(stop);
+    }
+    cursor.skip(day_end);
+    check_date(date.year, date.month, date.day)
 }
 
 /// The year at the first four places, or `None` where one of them is no digit.
@@ -303,22 +332,24 @@ fn fixed_month_of<'a, T: EncodingType>(
     })
 }
 
-/// Takes off the month-day that stands at its five places, or at the four of one without a hyphen, with two hyphens before
-/// it or none, as a date with year 0. It is `None`, with the rest unchanged, at the first place that does not fit. Its month
-/// and its day are not checked.
+/// Reads the month-day that stands at its five places, or at the four of one without a hyphen, with two hyphens before it or
+/// none, as a date with year 0. It is `None`, with the rest unchanged, at the first place that does not fit.
 #[inline(always)]
-pub fn take_fixed_month_day<'a, T: EncodingType>(cursor: &mut Cursor<'a, T>) -> Option<DateRecord>
-    ensures read { IfSome result (λ date. (profile : Profile) → month_day_at error_of profile
-        (map T.letter cursor.old.rest) ≡ ranged_day profile date (map T.letter cursor.new.rest)) }
+pub fn take_fixed_month_day<'a, T: EncodingType>(
+    cursor: &mut Cursor<'a, T>,
+    profile: Profile,
+) -> Option<Result<DateRecord, Stop>>
+    ensures read { IfSome result (λ read. Reads T.letter (λ date. date) cursor.old read cursor.new
+        (month_day_at error_of profile)) }
     ensures rest { result ≡ None → cursor.new.rest ≡ cursor.old.rest }
     ensures shorter { length cursor.new.rest ≤ length cursor.old.rest }
     ensures few { cursor.new.looks ≤ cursor.old.looks + 7 }
     ensures counted { cursor.old.looks ≤ cursor.new.looks }
 {
     if has_marks(cursor) {
-        return fixed_month_day(cursor, 2);
+        return fixed_month_day(cursor, profile, 2);
     }
-    fixed_month_day(cursor, 0)
+    fixed_month_day(cursor, profile, 0)
 }
 
 /// Whether two hyphens stand in front of four units or more.
@@ -332,18 +363,19 @@ fn has_marks<'a, T: EncodingType>(cursor: &mut Cursor<'a, T>) -> bool
     cursor.remaining() >= 6 && is_hyphen(cursor.byte_at(0)) && is_hyphen(cursor.byte_at(1))
 }
 
-/// Takes off the month-day whose month stands at a place and the next, with what stands before it, or `None`, with the rest
-/// unchanged.
+/// Reads the month-day whose month stands at a place and the next, and takes off what stands before it too. It is `None`, with
+/// the rest unchanged, at the first place that does not fit.
 #[inline(always)]
 #[tactic(auto, using(crate::proofs::code::FixedMonths::first_digit))]
 fn fixed_month_day<'a, T: EncodingType>(
     cursor: &mut Cursor<'a, T>,
+    profile: Profile,
     start: usize,
-) -> Option<DateRecord>
+) -> Option<Result<DateRecord, Stop>>
     requires early { start ≤ 2 }
-    ensures read { IfSome result (λ date. (profile : Profile) → unmarked_at profile
-        (drop start (map T.letter cursor.old.rest)) ≡
-        ranged_day profile date (map T.letter cursor.new.rest)) }
+    ensures read { IfSome result (λ read. YieldsAt (λ date. (date, map T.letter cursor.new.rest))
+        read (map T.letter cursor.new.rest)
+        (unmarked_at profile (drop start (map T.letter cursor.old.rest)))) }
     ensures digit { IfSome result (λ _.
         IsTrue (digit (byte_place start (map T.letter cursor.old.rest)))) }
     ensures rest { result ≡ None → cursor.new.rest ≡ cursor.old.rest }
@@ -360,12 +392,37 @@ fn fixed_month_day<'a, T: EncodingType>(
             return None;
         }
         let date = fixed_day_of(cursor, month, start + 3)?;
-        cursor.skip(start + 5);
-        return Some(date);
+        return Some(take_month_day(cursor, profile, date, start + 2, start + 5));
     }
     let date = fixed_day_of(cursor, month, start + 2)?;
-    cursor.skip(start + 4);
-    Some(date)
+    Some(take_month_day(cursor, profile, date, start + 2, start + 4))
+}
+
+/// Takes a month-day off, whose month and whose day end behind so many units. Where its month is none, what stands behind the
+/// month stays.
+#[inline(always)]
+fn take_month_day<'a, T: EncodingType>(
+    cursor: &mut Cursor<'a, T>,
+    profile: Profile,
+    date: DateRecord,
+    month_end: usize,
+    day_end: usize,
+) -> Result<DateRecord, Stop>
+    requires month { month_end ≤ length cursor.old.rest }
+    requires day { day_end ≤ length cursor.old.rest }
+    ensures ranged { YieldsAt (λ date. (date, map T.letter cursor.new.rest)) result
+        (map T.letter cursor.new.rest)
+        (ranged_day profile date (map T.letter (drop month_end cursor.old.rest))
+        (map T.letter (drop day_end cursor.old.rest))) }
+    ensures shorter { length cursor.new.rest ≤ length cursor.old.rest }
+    ensures looks { cursor.new.looks ≡ cursor.old.looks }
+{
+    if let Err(stop) = check_month(date.month) {
+        cursor.skip(month_end);
+        return Err(stop);
+    }
+    cursor.skip(day_end);
+    check_month_day(profile, date.month, date.day)
 }
 
 /// The month-day of the month and of the day whose two digits stand at a place and the next, or `None`. It is not checked.

@@ -6,11 +6,11 @@ ghost use Rattle.std.specs.Prelude.{◌≡◌, ◌+◌, ◌≤◌, ◌&&◌, nat
 ghost use Rattle.ixdtf_grammar.specs.language.Letters.{Text};
 ghost use Rattle.ixdtf_grammar.specs.language.Months.{greatest_day, least_day};
 ghost use Rattle.ixdtf_grammar.specs.table.Faults.Fault.{InvalidMonthDay};
-ghost use Rattle.ixdtf_reading.specs.reading.Clauses.{Reads, Checks, Yields, Spends, SpendsInAll};
+ghost use Rattle.ixdtf_reading.specs.reading.Clauses.{Reads, Checks, YieldsAt, Spends, SpendsInAll};
 ghost use Rattle.ixdtf_reading.specs.reading.Looks.{error_of};
 ghost use Rattle.ixdtf_reading.specs.reading.Dates.{date_of};
 ghost use Rattle.ixdtf_reading.specs.reading.Months.{year_month_at, marks_at, month_day_at};
-ghost use Rattle.ixdtf_reading.specs.reading.FixedPlaces.{ranged_month, ranged_day};
+ghost use Rattle.ixdtf_reading.specs.reading.FixedPlaces.{ranged_month};
 
 use crate::dates::{check_month, days_in_month, parse_date_year, parse_month, take_hyphen};
 use crate::fixed::{take_fixed_month_day, take_fixed_year_month};
@@ -41,7 +41,8 @@ pub fn parse_year_month_date<'a, T: EncodingType>(
 /// The year-month that begins with the day, where its month is one.
 #[inline(always)]
 fn check_year_month(first: DateRecord) -> Result<DateRecord, Stop>
-    ensures { (rest : Text) → Yields (λ date. (date, rest)) result (ranged_month first rest) }
+    ensures { (rest : Text) → YieldsAt (λ date. (date, rest)) result rest
+        (ranged_month first rest) }
 {
     check_month(first.month)?;
     Ok(first)
@@ -103,19 +104,10 @@ pub fn parse_month_day_date<'a, T: EncodingType>(
         (month_day_at error_of profile) }
     ensures looks { Spends 14 cursor.old cursor.new }
 {
-    match take_fixed_month_day(cursor) {
-        Some(date) => check_lone_day(profile, date),
+    match take_fixed_month_day(cursor, profile) {
+        Some(read) => read,
         None => parse_other_month_day(cursor, profile),
     }
-}
-
-/// The month-day, where its month is one and the profile has its day.
-#[inline(always)]
-fn check_lone_day(profile: Profile, date: DateRecord) -> Result<DateRecord, Stop>
-    ensures { (rest : Text) → Yields (λ date. (date, rest)) result (ranged_day profile date rest) }
-{
-    check_month(date.month)?;
-    check_month_day(profile, date.month, date.day)
 }
 
 /// Reads a month-day part by part, by a cursor of its own.
@@ -187,7 +179,7 @@ fn take_marks<'a, T: EncodingType>(cursor: &mut Cursor<'a, T>) -> Result<bool, S
 
 /// The month-day, where its month has the day in some year. Day 0 is taken too, but not under the strict profile.
 #[inline(always)]
-fn check_month_day(profile: Profile, month: u8, day: u8) -> Result<DateRecord, Stop>
+pub fn check_month_day(profile: Profile, month: u8, day: u8) -> Result<DateRecord, Stop>
     ensures { Checks (λ date. date) result (date_of (pos 0) month day)
         (nat_le (least_day profile) day && nat_le day (greatest_day month)) InvalidMonthDay }
 {

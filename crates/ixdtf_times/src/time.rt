@@ -10,7 +10,7 @@ ghost use Rattle.ixdtf_grammar.specs.language.Times.{Clock as clocks, greatest_s
 ghost use Rattle.ixdtf_grammar.specs.table.Lines.{mixed, second_fault, seconds_after};
 ghost use Rattle.ixdtf_reading.specs.reading.Clauses.{Reads, Spends, SpendsOr, Checks, more_digits_at, fault_of_stop};
 ghost use Rattle.ixdtf_times.specs.TimeTypes.{clock_of, shape_of, open_time_of};
-ghost use Rattle.ixdtf_reading.specs.reading.Looks.{error_of, digit_look, number_by};
+ghost use Rattle.ixdtf_reading.specs.reading.Looks.{error_of, before, digit_look, number_by};
 ghost use Rattle.ixdtf_reading.specs.reading.Times.{time_of, second_start, clock_at, minute_at, second_at, after_second_at, fraction_at};
 
 use ixdtf_grammar::encoding::EncodingType;
@@ -119,7 +119,7 @@ fn next_number<'a, T: EncodingType>(
     stop: Stop,
 ) -> Result<u8, Stop>
     ensures number { Reads T.letter (λ number. number) cursor.old result cursor.new
-        (number_by (digit_look (fault_of_stop stop)) greatest (fault_of_stop stop)) }
+        (number_by (digit_look (fault_of_stop stop)) greatest (before (fault_of_stop stop))) }
     ensures looks { SpendsOr 2 0 cursor.old result cursor.new }
 {
     let (tens, ones) = cursor.two_digits(stop)?;
@@ -227,7 +227,7 @@ fn parse_minute<'a, T: EncodingType>(
 fn next_second<'a, T: EncodingType>(cursor: &mut Cursor<'a, T>, clock: Clock) -> Result<u8, Stop>
     ensures second { Reads T.letter (λ number. number) cursor.old result cursor.new
         (number_by (digit_look (second_fault (clock_of clock)))
-        (greatest_second (clock_of clock)) (second_fault (clock_of clock))) }
+        (greatest_second (clock_of clock)) (before (second_fault (clock_of clock)))) }
     ensures looks { SpendsOr 2 0 cursor.old result cursor.new }
 {
     match clock {

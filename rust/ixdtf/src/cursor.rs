@@ -63,7 +63,7 @@ impl<'a, T: EncodingType> Cursor<'a, T> {
     }
 
     /// Ends a reader that worked on a cursor of its own. Where it found something, this cursor goes on from there; where it
-    /// stopped, this one keeps its rest and counts the looks, and the stop becomes the error.
+    /// stopped, this one keeps its rest and counts the looks, and the stop becomes the error, at the place where it stopped.
     #[inline(always)]
     pub fn settle<R, E: Raised>(&mut self, here: Self, read: Result<R, Stop>) -> Result<R, E> {
         match read {
@@ -72,8 +72,9 @@ impl<'a, T: EncodingType> Cursor<'a, T> {
                 Ok(found)
             }
             Err(stop) => {
+                let at = self.remaining().saturating_sub(here.remaining());
                 self.count(here);
-                Err(E::of_stop(stop))
+                Err(E::of_stop(stop, at))
             }
         }
     }
@@ -132,12 +133,20 @@ impl<'a, T: EncodingType> Cursor<'a, T> {
     pub fn two_digits(&mut self, other: Stop) -> Result<(u8, u8), Stop> {
         if self.rest.len() < 2 {
             self.digit_at(0, other)?;
+            self.step();
             return Err(Stop::AbruptDigit);
         }
         let tens = self.digit_at(0, other)?;
-        let ones = self.digit_at(1, other)?;
-        self.skip(2);
-        Ok((tens, ones))
+        match self.digit_at(1, other) {
+            Err(stop) => {
+                self.step();
+                Err(stop)
+            }
+            Ok(ones) => {
+                self.skip(2);
+                Ok((tens, ones))
+            }
+        }
     }
 
     /// Takes so many units off.

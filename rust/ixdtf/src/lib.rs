@@ -36,13 +36,17 @@ extern crate self as ixdtf;
 mod cursor;
 pub mod encoding;
 mod error;
+mod located;
 mod looks;
 mod packed;
 pub mod parsers;
+mod pointed;
 pub mod records;
 mod stop;
 
 pub use error::ParseError;
+pub use located::LocatedError;
+pub use pointed::PointedText;
 
 /// What a reader returns: what it found, or why it refused.
 pub type ParserResult<T> = Result<T, ParseError>;

@@ -29,7 +29,7 @@ mod zones;
 pub use self::cores::{Cores, DateTimes, LoneTimes, MonthDays, YearMonths};
 use self::texts::parse_text;
 pub use self::zones::TimeZoneParser;
-use crate::{ParseError, ParserResult};
+use crate::{LocatedError, ParseError, ParserResult};
 pub use self::duration::IsoDurationParser;
 use crate::encoding::{EncodingType, Utf8, Utf16};
 pub use self::profile::Profile;
@@ -37,7 +37,7 @@ use crate::records::{Annotation, IxdtfParseRecord};
 use crate::cursor::Cursor;
 #[doc(hidden)]
 pub use crate::stop::Raised;
-use crate::stop::Stop;
+use crate::stop::StopAt;
 
 /// A reader of dates and times, with an offset, a time zone and annotations.
 ///
@@ -153,7 +153,7 @@ impl<'a, T: EncodingType> IxdtfParser<'a, T> {
         let mut found = IxdtfParseRecord::default();
         match self.read_unhandled::<DateTimes>(&mut found) {
             Ok(()) => Ok(found),
-            Err(stop) => return Err(stop.error()),
+            Err(why) => return Err(why.stop.error()),
         }
     }
 
@@ -225,7 +225,7 @@ impl<'a, T: EncodingType> IxdtfParser<'a, T> {
         let mut found = IxdtfParseRecord::default();
         match self.read_unhandled::<YearMonths>(&mut found) {
             Ok(()) => Ok(found),
-            Err(stop) => return Err(stop.error()),
+            Err(why) => return Err(why.stop.error()),
         }
     }
 
@@ -282,7 +282,7 @@ impl<'a, T: EncodingType> IxdtfParser<'a, T> {
         let mut found = IxdtfParseRecord::default();
         match self.read_unhandled::<MonthDays>(&mut found) {
             Ok(()) => Ok(found),
-            Err(stop) => return Err(stop.error()),
+            Err(why) => return Err(why.stop.error()),
         }
     }
 
@@ -340,7 +340,7 @@ impl<'a, T: EncodingType> IxdtfParser<'a, T> {
         let mut found = IxdtfParseRecord::default();
         match self.read_unhandled::<LoneTimes>(&mut found) {
             Ok(()) => Ok(found),
-            Err(stop) => return Err(stop.error()),
+            Err(why) => return Err(why.stop.error()),
         }
     }
 
@@ -361,6 +361,176 @@ impl<'a, T: EncodingType> IxdtfParser<'a, T> {
         self.read_as::<ParseError, LoneTimes, F>(handler)
     }
 
+    /// Reads as [`parse`](Self::parse) does, and tells where an error is: behind how many units of what was still to be read.
+    ///
+    /// A letter that does not fit, or a unit that stands for no letter, is the place of its error, and the end where the source ends
+    /// too soon. A number that is out of its range has its place behind it, and an annotation that is refused behind its bracket.
+    ///
+    /// ```text
+    /// 2021-02-29              Err(InvalidDayRange) at 10, behind the day
+    /// 2024-03-02T08:4800      Err(TimeSeparator) at 16, where the next digit stands
+    /// 2024-03-02[!a=b][c=d]   Err(UnrecognizedCritical) at 16, behind the bracket
+    /// 2024-03-02T08:          Err(AbruptEnd { location: "digit" }) at 14, the end
+    /// ```
+    ///
+    /// # Errors
+    ///
+    /// Those of [`parse`](Self::parse), each with its place.
+    #[inline(always)]
+    pub fn parse_located(&mut self) -> Result<IxdtfParseRecord<'a, T>, LocatedError> {
+        let mut parsed = IxdtfParseRecord::default();
+        match self.read_unhandled::<DateTimes>(&mut parsed) {
+            Ok(()) => Ok(parsed),
+            Err(why) => return Err(LocatedError {
+                error: why.stop.error(),
+                at: why.at,
+            }),
+        }
+    }
+
+    /// Reads as [`parse_with_annotation_handler`](Self::parse_with_annotation_handler) does, and tells where an error is, as
+    /// [`parse_located`](Self::parse_located) does.
+    ///
+    /// # Errors
+    ///
+    /// Those of [`parse_with_annotation_handler`](Self::parse_with_annotation_handler), each with its place: that of a reply
+    /// that is refused stands behind its annotation's bracket.
+    pub fn parse_with_annotation_handler_located<F>(
+        &mut self,
+        handler: F,
+    ) -> Result<IxdtfParseRecord<'a, T>, LocatedError>
+    where
+        F: FnMut(Annotation<'a, T>) -> Option<Annotation<'a, T>>,
+    {
+        self.read_located_as::<LocatedError, DateTimes, F>(handler)
+    }
+
+    /// Reads as [`parse_year_month`](Self::parse_year_month) does, and tells where an error is: behind how many units of what was still to be read.
+    ///
+    /// A letter that does not fit, or a unit that stands for no letter, is the place of its error, and the end where the source ends
+    /// too soon. A number that is out of its range has its place behind it, and an annotation that is refused behind its bracket.
+    ///
+    /// ```text
+    /// 2020-13             Err(InvalidMonthRange) at 7, behind the month
+    /// 2020-11-08          Err(InvalidEnd) at 7, where the second hyphen stands
+    /// ```
+    ///
+    /// # Errors
+    ///
+    /// Those of [`parse_year_month`](Self::parse_year_month), each with its place.
+    #[inline(always)]
+    pub fn parse_year_month_located(&mut self) -> Result<IxdtfParseRecord<'a, T>, LocatedError> {
+        let mut parsed = IxdtfParseRecord::default();
+        match self.read_unhandled::<YearMonths>(&mut parsed) {
+            Ok(()) => Ok(parsed),
+            Err(why) => return Err(LocatedError {
+                error: why.stop.error(),
+                at: why.at,
+            }),
+        }
+    }
+
+    /// Reads as [`parse_year_month_with_annotation_handler`](Self::parse_year_month_with_annotation_handler) does, and tells where an error is, as
+    /// [`parse_year_month_located`](Self::parse_year_month_located) does.
+    ///
+    /// # Errors
+    ///
+    /// Those of [`parse_year_month_with_annotation_handler`](Self::parse_year_month_with_annotation_handler), each with its place: that of a reply
+    /// that is refused stands behind its annotation's bracket.
+    pub fn parse_year_month_with_annotation_handler_located<F>(
+        &mut self,
+        handler: F,
+    ) -> Result<IxdtfParseRecord<'a, T>, LocatedError>
+    where
+        F: FnMut(Annotation<'a, T>) -> Option<Annotation<'a, T>>,
+    {
+        self.read_located_as::<LocatedError, YearMonths, F>(handler)
+    }
+
+    /// Reads as [`parse_month_day`](Self::parse_month_day) does, and tells where an error is: behind how many units of what was still to be read.
+    ///
+    /// A letter that does not fit, or a unit that stands for no letter, is the place of its error, and the end where the source ends
+    /// too soon. A number that is out of its range has its place behind it, and an annotation that is refused behind its bracket.
+    ///
+    /// ```text
+    /// 02-30               Err(InvalidMonthDay) at 5, behind the day
+    /// 11-8                Err(AbruptEnd { location: "digit" }) at 4, the end
+    /// ```
+    ///
+    /// # Errors
+    ///
+    /// Those of [`parse_month_day`](Self::parse_month_day), each with its place.
+    #[inline(always)]
+    pub fn parse_month_day_located(&mut self) -> Result<IxdtfParseRecord<'a, T>, LocatedError> {
+        let mut parsed = IxdtfParseRecord::default();
+        match self.read_unhandled::<MonthDays>(&mut parsed) {
+            Ok(()) => Ok(parsed),
+            Err(why) => return Err(LocatedError {
+                error: why.stop.error(),
+                at: why.at,
+            }),
+        }
+    }
+
+    /// Reads as [`parse_month_day_with_annotation_handler`](Self::parse_month_day_with_annotation_handler) does, and tells where an error is, as
+    /// [`parse_month_day_located`](Self::parse_month_day_located) does.
+    ///
+    /// # Errors
+    ///
+    /// Those of [`parse_month_day_with_annotation_handler`](Self::parse_month_day_with_annotation_handler), each with its place: that of a reply
+    /// that is refused stands behind its annotation's bracket.
+    pub fn parse_month_day_with_annotation_handler_located<F>(
+        &mut self,
+        handler: F,
+    ) -> Result<IxdtfParseRecord<'a, T>, LocatedError>
+    where
+        F: FnMut(Annotation<'a, T>) -> Option<Annotation<'a, T>>,
+    {
+        self.read_located_as::<LocatedError, MonthDays, F>(handler)
+    }
+
+    /// Reads as [`parse_time`](Self::parse_time) does, and tells where an error is: behind how many units of what was still to be read.
+    ///
+    /// A letter that does not fit, or a unit that stands for no letter, is the place of its error, and the end where the source ends
+    /// too soon. A number that is out of its range has its place behind it, and an annotation that is refused behind its bracket.
+    ///
+    /// ```text
+    /// 1214Z               Err(AmbiguousTimeMonthDay) at 4, behind the month and the day
+    /// 12:60               Err(TimeMinuteSecond) at 5, behind the minute
+    /// ```
+    ///
+    /// # Errors
+    ///
+    /// Those of [`parse_time`](Self::parse_time), each with its place.
+    #[inline(always)]
+    pub fn parse_time_located(&mut self) -> Result<IxdtfParseRecord<'a, T>, LocatedError> {
+        let mut parsed = IxdtfParseRecord::default();
+        match self.read_unhandled::<LoneTimes>(&mut parsed) {
+            Ok(()) => Ok(parsed),
+            Err(why) => return Err(LocatedError {
+                error: why.stop.error(),
+                at: why.at,
+            }),
+        }
+    }
+
+    /// Reads as [`parse_time_with_annotation_handler`](Self::parse_time_with_annotation_handler) does, and tells where an error is, as
+    /// [`parse_time_located`](Self::parse_time_located) does.
+    ///
+    /// # Errors
+    ///
+    /// Those of [`parse_time_with_annotation_handler`](Self::parse_time_with_annotation_handler), each with its place: that of a reply
+    /// that is refused stands behind its annotation's bracket.
+    pub fn parse_time_with_annotation_handler_located<F>(
+        &mut self,
+        handler: F,
+    ) -> Result<IxdtfParseRecord<'a, T>, LocatedError>
+    where
+        F: FnMut(Annotation<'a, T>) -> Option<Annotation<'a, T>>,
+    {
+        self.read_located_as::<LocatedError, LoneTimes, F>(handler)
+    }
+
     /// Reads a text with a core of the kind, as [`parse_with_annotation_handler`](Self::parse_with_annotation_handler) does, with
     /// an error that a stop gives.
     #[inline(always)]
@@ -374,7 +544,23 @@ impl<'a, T: EncodingType> IxdtfParser<'a, T> {
         let mut found = IxdtfParseRecord::default();
         match self.read_into::<C, F>(&mut handler, &mut found) {
             Ok(()) => Ok(found),
-            Err(stop) => return Err(E::of_stop(stop)),
+            Err(why) => return Err(E::of_stop(why.stop, why.at)),
+        }
+    }
+
+    /// Reads as [`read_as`](Self::read_as) does, with an error that tells its place where it has one.
+    #[inline(always)]
+    pub(crate) fn read_located_as<E: Raised, C: Cores, F>(
+        &mut self,
+        mut handler: F,
+    ) -> Result<IxdtfParseRecord<'a, T>, E>
+    where
+        F: FnMut(Annotation<'a, T>) -> Option<Annotation<'a, T>>,
+    {
+        let mut found = IxdtfParseRecord::default();
+        match self.read_into::<C, F>(&mut handler, &mut found) {
+            Ok(()) => Ok(found),
+            Err(located) => return Err(E::of_stop(located.stop, located.at)),
         }
     }
 
@@ -398,13 +584,16 @@ impl<'a, T: EncodingType> IxdtfParser<'a, T> {
         let mut found = IxdtfParseRecord::default();
         match self.read_into::<C, F>(handler, &mut found) {
             Ok(()) => Ok(found),
-            Err(why) => return Err(E::of_stop(why)),
+            Err(refused) => return Err(E::of_stop(refused.stop, refused.at)),
         }
     }
 
     /// Reads as [`read_into`](Self::read_into) does, with a handler that hands each annotation back.
     #[inline(always)]
-    fn read_unhandled<C: Cores>(&mut self, found: &mut IxdtfParseRecord<'a, T>) -> Result<(), Stop> {
+    fn read_unhandled<C: Cores>(
+        &mut self,
+        found: &mut IxdtfParseRecord<'a, T>,
+    ) -> Result<(), StopAt> {
         self.read_into::<C, _>(&mut |annotation| Some(annotation), found)
     }
 
@@ -418,7 +607,7 @@ impl<'a, T: EncodingType> IxdtfParser<'a, T> {
         &mut self,
         handler: &mut F,
         found: &mut IxdtfParseRecord<'a, T>,
-    ) -> Result<(), Stop>
+    ) -> Result<(), StopAt>
     where
         F: FnMut(Annotation<'a, T>) -> Option<Annotation<'a, T>>,
     {
@@ -429,8 +618,9 @@ impl<'a, T: EncodingType> IxdtfParser<'a, T> {
                 Ok(())
             }
             Err(stop) => {
+                let at = self.cursor.remaining().saturating_sub(here.remaining());
                 self.cursor.count(here);
-                Err(stop)
+                Err(StopAt { stop, at })
             }
         }
     }

@@ -45,6 +45,10 @@ impl String {
         String(Text::new())
     }
 
+    pub fn of(text: Text) -> String {
+        String(text)
+    }
+
     pub fn push_str(&mut self, text: &str) -> Result<(), AllocError> {
         self.0.push_str(text);
         Ok(())
@@ -77,5 +81,5 @@ macro_rules! assert_ne {
 }
 
 macro_rules! format {
-    (in $alloc:expr; $($rest:tt)*) => {{ let _ = $alloc; Ok::<_, $crate::runtime::AllocError>(std::format!($($rest)*)) }};
+    (in $alloc:expr; $($rest:tt)*) => {{ let _ = $alloc; Ok::<_, $crate::runtime::AllocError>($crate::runtime::String::of(std::format!($($rest)*))) }};
 }

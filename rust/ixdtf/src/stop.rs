@@ -2,7 +2,7 @@
 
 //! Why a reading stopped, in one byte.
 
-use crate::ParseError;
+use crate::{LocatedError, ParseError};
 
 /// Why a reading stopped: an error that a reader returns, with `AbruptEnd` once for each location. It takes one byte,
 /// and the error is made of it only where a public reader returns.
@@ -117,21 +117,48 @@ impl Stop {
 
 const _: () = assert!(size_of::<Stop>() == 1);
 
-/// An error that a stop gives.
+/// A stop, and how many units stand before its place.
+#[derive(Clone, Copy)]
+pub struct StopAt {
+    /// The stop.
+    pub stop: Stop,
+    /// How many units stand before its place.
+    pub at: usize,
+}
+
+/// An error that a stop gives, with its place or without.
 ///
-/// What calls a handler is generic in its error by this bound, and is used at `ParseError` alone:
+/// What calls a handler is generic in its error by this bound, and is used at `ParseError` and at `LocatedError`:
 /// in Rattle a function that makes such a call may not name `'static` in its own signature, as
 /// `ParseError` does.
 pub trait Raised {
-    /// The error of a stop.
-    fn of_stop(stop: Stop) -> Self;
+    /// The error of a stop, behind so many units.
+    fn of_stop(stop: Stop, at: usize) -> Self;
 }
 
-impl Raised for ParseError {
+impl Raised for LocatedError {
     /// The error of the stop. It is not inlined, so that a loop over a name keeps to itself.
     #[cold]
     #[inline(never)]
-    fn of_stop(stop: Stop) -> ParseError {
-        stop.error()
+    fn of_stop(stop: Stop, at: usize) -> LocatedError {
+        LocatedError {
+            error: stop.error(),
+            at,
+        }
     }
+}
+
+impl Raised for ParseError {
+    /// The error of the stop, whatever stands before it.
+    #[inline(always)]
+    fn of_stop(stop: Stop, _at: usize) -> ParseError {
+        plain_error(stop)
+    }
+}
+
+/// The error of the stop. It is not inlined, so that a loop over a name keeps to itself.
+#[cold]
+#[inline(never)]
+fn plain_error(stop: Stop) -> ParseError {
+    stop.error()
 }

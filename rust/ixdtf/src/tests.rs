@@ -15,6 +15,7 @@ mod fixed_places;
 mod handlers;
 mod languages;
 mod large;
+mod located;
 mod lone_times;
 mod months;
 mod odd;

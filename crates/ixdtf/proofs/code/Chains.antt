@@ -13,11 +13,11 @@ use Rattle.ixdtf_grammar.specs.language.Readers.Reader.{bracketed}
 use Rattle.ixdtf_grammar.specs.table.Rows.{Row, Fits}
 use Rattle.ixdtf_grammar.specs.language.Languages.Derives.{as_parsed}
 use Rattle.ixdtf_grammar.specs.language.Languages.{Parsed, parsed_with, IsBracketed}
-use Rattle.ixdtf_grammar.specs.table.Outcomes.{HasFault}
+use Rattle.ixdtf_reading.specs.reading.Looks.{Placed, error_of}
 use Rattle.ixdtf_reading.specs.reading.Brackets.{Bracket, zone_in, pairs_in}
-use Rattle.ixdtf_grammar.specs.Handlers.{first_calendar, RefusedBeside, NoneRefused, LastRefused, calendar_value, with_calendar, GivesFault, pair_of, Calls, handed}
+use Rattle.ixdtf_grammar.specs.Handlers.{first_calendar, RefusedBeside, NoneRefused, LastRefused, calendar_value, with_calendar, pair_of, Calls, handed}
 use Rattle.ixdtf_grammar.specs.Handlers.{replies_of, Step, IsChain}
-use Rattle.ixdtf_reading.specs.reading.Chains.{FitsAfterBrackets, PairsUpTo, PairsRead, TextRead}
+use Rattle.ixdtf_reading.specs.reading.Chains.{FitsAfterBrackets, PairsUpTo, PairsRead, TextGives, TextRead}
 use Rattle.ixdtf_reading.proofs.code.OneMoreReply.{first_calendar-more, NoneRefused-more, NoneRefused-nothing}
 use Rattle.ixdtf_reading.proofs.to_grammar.FirstBracket.{IsBracket}
 use Rattle.ixdtf_reading.proofs.to_grammar.Wholes.{after_brackets, tail_of, bracket_stands}
@@ -96,7 +96,7 @@ module _ {T U F : Type 0} (number : U → ℕ) (step : Step T U F) (handler : F)
       kept = is ∙ sym (first_calendar-more [] (reply_of reply)) ∙ ap first_calendar (sym one_reply);
     }
 
-    pub read_first_refused : (fault : Fault) → RefusedBeside None (reply_of reply) fault → PairsRead number step handler next first text (Err fault)
+    pub read_first_refused : (fault : Fault) → RefusedBeside None (reply_of reply) fault → PairsRead number step handler next first text (Err (fault, text))
     read_first_refused fault refused =
         let last : LastRefused (replies_of number one_call) fault = record {
           earlier = [];
@@ -105,7 +105,7 @@ module _ {T U F : Type 0} (number : U → ℕ) (step : Step T U F) (handler : F)
           none = NoneRefused-nothing;
           refused = refused;
         } in
-        record { calls = one_call; chain = one_chain; more = []; all = one_handed; gives = (text, ([], refl, refl), inl last) }
+        record { calls = one_call; chain = one_chain; more = []; all = one_handed; gives = (text, ([], refl, refl), inl (last, refl)) }
 
   -- a call on one more pair
   module _ {state : F} {rest : Text} {calendar : Option Pair} {annotation : Annotation T U} {bracket : Text} (after : Text)
@@ -149,7 +149,7 @@ module _ {T U F : Type 0} (number : U → ℕ) (step : Step T U F) (handler : F)
     }
 
     -- its reply is refused
-    pub read_refused : (fault : Fault) → RefusedBeside calendar (reply_of reply) fault → PairsRead number step handler next first text (Err fault)
+    pub read_refused : (fault : Fault) → RefusedBeside calendar (reply_of reply) fault → PairsRead number step handler next first text (Err (fault, after))
     read_refused fault refused =
         let last : LastRefused (replies_of number more_calls) fault = record {
           earlier = replies_of number so_far.calls;
@@ -163,7 +163,7 @@ module _ {T U F : Type 0} (number : U → ℕ) (step : Step T U F) (handler : F)
           chain = more_chain;
           more = so_far.more ++ pair_of number annotation ∷ [];
           all = more_handed;
-          gives = (after, more_upto, inl last);
+          gives = (after, more_upto, inl (last, refl));
         }
 
   -- nothing is left of the text
@@ -181,10 +181,10 @@ module _ {T U F : Type 0} (number : U → ℕ) (step : Step T U F) (handler : F)
       }
 
   -- a row fits what is left
-  pub read_fault : {state : F} {rest : Text} {calendar : Option Pair} → SoFar state rest calendar → (row : Row) (fault : Fault) → FitsAfterBrackets row rest
-      → row.error ≡ fault
-      → PairsRead number step handler state first text (Err fault)
-  read_fault {rest} so_far row fault fits is = record {
+  pub read_fault : {state : F} {rest : Text} {calendar : Option Pair} → SoFar state rest calendar → (row : Row) (placed : Placed) → FitsAfterBrackets row rest
+      → error_of row ≡ placed
+      → PairsRead number step handler state first text (Err placed)
+  read_fault {rest} so_far row placed fits is = record {
     calls = so_far.calls;
     chain = so_far.chain;
     more = so_far.more;
@@ -195,9 +195,9 @@ module _ {T U F : Type 0} (number : U → ℕ) (step : Step T U F) (handler : F)
 -- ---- the whole text
 
 -- what the code returns for the whole text, for what it returns for the pairs
-abbrev pub text_result : Core → Bracket → Result (Option Pair) Fault → Result Parsed Fault
+abbrev pub text_result : Core → Bracket → Result (Option Pair) Placed → Result Parsed Placed
 text_result core b (Ok calendar) = Ok (with_calendar (parsed_with core (zone_in b)) (calendar_value calendar))
-text_result core b (Err fault) = Err fault
+text_result core b (Err placed) = Err placed
 
 module _ (kind : CoreKind) (text cores bracket rest : Text) (core : Core) (b : Bracket) (is : text ≡ cores ++ (bracket ++ rest))
     (is_core : IsCore kind cores core) (is_bracket : IsBracket bracket b) where
@@ -235,7 +235,7 @@ module _ (kind : CoreKind) (text cores bracket rest : Text) (core : Core) (b : B
 
   module _ {T U F : Type 0} (number : U → ℕ) (step : Step T U F) (handler last : F) where
     -- what the code returns for the pairs, for the whole text
-    pub text_read : (result : Result (Option Pair) Fault) → PairsRead number step handler last (pairs_in b) rest result
+    pub text_read : (result : Result (Option Pair) Placed) → PairsRead number step handler last (pairs_in b) rest result
         → TextRead number step handler last (bracketed kind) text (text_result core b result)
     text_read (Ok calendar) h = record {
       calls = h.calls;
@@ -248,20 +248,19 @@ module _ (kind : CoreKind) (text cores bracket rest : Text) (core : Core) (b : B
         has = ap (λ c. with_calendar (parsed_with core (zone_in b)) (calendar_value c)) h.gives.2;
       };
     }
-    text_read (Err fault) h =
+    text_read (Err placed) h =
         let left = h.gives.0 in
         let front = h.gives.1 in
-        let gives : GivesFault (bracketed kind) text (pairs_in b ++ h.more) (replies_of number h.calls) fault =
+        let gives : TextGives (bracketed kind) text (pairs_in b ++ h.more) (replies_of number h.calls) (Err placed) =
         elim h.gives.2 [
-          | inl last_refused ↦ inl (
+          | inl p ↦ inl (
             (
               cores ++ (bracket ++ front.0),
-              left,
-              split_of front.0 left front.1,
+              split_of front.0 left front.1 ∙ ap (λ t. (cores ++ (bracket ++ front.0)) ++ t) p.1,
               parsed_with core (zone_in b),
               as_parsed (whole_of front.0 h.more front.2),
             ),
-            last_refused,
+            p.0,
           )
           | inr p ↦ inr ((p.0.0, fits_text h.more left p.0.0 front p.0.1, p.0.2), p.1)
         ] in
@@ -271,8 +270,9 @@ module _ (kind : CoreKind) (text cores bracket rest : Text) (core : Core) (b : B
 
 module _ {T U F : Type 0} (number : U → ℕ) (step : Step T U F) (handler : F) (text : Text) where
   -- a text with a fault before any pair
-  pub text_fault : (reader : Reader) (fault : Fault) → HasFault reader text [] fault → TextRead number step handler handler reader text (Err fault)
-  text_fault reader fault h = record { calls = []; chain = refl; gives = inr (h, NoneRefused-nothing) }
+  pub text_fault : (reader : Reader) (placed : Placed) → (row : Row) × Fits reader row [] text × (error_of row ≡ placed)
+      → TextRead number step handler handler reader text (Err placed)
+  text_fault reader placed h = record { calls = []; chain = refl; gives = inr (h, NoneRefused-nothing) }
 
   -- a core alone
   pub text_derived : (kind : CoreKind) (core : Core) → IsCore kind text core

@@ -11,7 +11,7 @@ use Rattle.ixdtf_grammar.specs.language.Readers.{CoreKind}
 use Rattle.ixdtf_grammar.specs.language.Readers.Reader.{bracketed}
 use Rattle.ixdtf_grammar.specs.table.Faults.{Fault}
 use Rattle.ixdtf_grammar.specs.Handlers.{Step, with_calendar}
-use Rattle.ixdtf_reading.specs.reading.Looks.{Read, error_of}
+use Rattle.ixdtf_reading.specs.reading.Looks.{Read, Placed, error_of}
 use Rattle.ixdtf_reading.specs.reading.Cores.{ClosedCore, core_at}
 use Rattle.ixdtf_reading.specs.reading.Brackets.{Bracket, pairs_in, bracket_at}
 use Rattle.ixdtf_reading.specs.reading.Chains.{PairsRead, TextRead, TextReadAfter}
@@ -47,7 +47,7 @@ core_ends_text kind text rest core is = (core_is kind text rest (core, false) is
 abbrev BracketFront : Text → Bracket → Text → Type 0
 BracketFront body bracket rest = (front : Text) × (body ≡ front ++ rest) × IsBracket front bracket
 
-abbrev OnBracket : Text → Read Fault Bracket → Type 0
+abbrev OnBracket : Text → Read Placed Bracket → Type 0
 OnBracket inner r = OnRead error_of r (BracketFront (Plain 91 ∷ inner)) (λ row. FitsAfterCore row (Plain 91 ∷ inner))
 
 bracket_is : (inner rest : Text) (bracket : Bracket) → bracket_at error_of inner ≡ Ok (bracket, rest) → BracketFront (Plain 91 ∷ inner) bracket rest
@@ -64,7 +64,7 @@ bracket_shortens letter units left bracket is =
 
 module _ {T U F : Type 0} (number : U → ℕ) (step : Step T U F) (handler : F) where
   -- a core that is refused
-  pub core_refused : (kind : CoreKind) (text : Text) (fault : Fault) → core_at error_of kind text ≡ Err fault
+  pub core_refused : (kind : CoreKind) (text : Text) (fault : Placed) → core_at error_of kind text ≡ Err fault
       → TextRead number step handler handler (bracketed kind) text (Err fault)
   core_refused kind text fault is =
       let row = subst (ReadsCore error_of kind text) is (core_read error_of text kind) in
@@ -77,7 +77,7 @@ module _ {T U F : Type 0} (number : U → ℕ) (step : Step T U F) (handler : F)
       text_derived number step handler text kind core (rw h.1.0 h.2)
 
   -- a first bracket that is refused
-  pub first_refused : (core : Core) (inner : Text) (fault : Fault) → bracket_at error_of inner ≡ Err fault
+  pub first_refused : (core : Core) (inner : Text) (fault : Placed) → bracket_at error_of inner ≡ Err fault
       → TextReadAfter number step handler handler core true inner (Err fault)
   first_refused core inner fault refused kind text is =
       let h = core_is kind text inner (core, true) is in
@@ -85,7 +85,7 @@ module _ {T U F : Type 0} (number : U → ℕ) (step : Step T U F) (handler : F)
       text_fault number step handler text _ fault (row.0, after_core kind row.0 text h.0 (Plain 91 ∷ inner) h.1 (core, h.2) row.2, sym row.1)
 
   -- a first bracket, and the pairs after it
-  pub first_read : (core : Core) (inner : Text) (last : F) (bracket : Bracket) (rest : Text) (result : Result (Option Pair) Fault)
+  pub first_read : (core : Core) (inner : Text) (last : F) (bracket : Bracket) (rest : Text) (result : Result (Option Pair) Placed)
       → bracket_at error_of inner ≡ Ok (bracket, rest) → PairsRead number step handler last (pairs_in bracket) rest result
       → TextReadAfter number step handler last core true inner (text_result core bracket result)
   first_read core inner last bracket rest result read pairs kind text is =

@@ -1,6 +1,6 @@
 //! Reading cores, which are what stands before the brackets of a text, into a record.
 
-ghost use Rattle.std.specs.Prelude.{◌≡◌, ◌+◌, ◌≤◌, List, map, length, Ok, Some, None, refl};
+ghost use Rattle.std.specs.Prelude.{◌≡◌, ◌+◌, ◌≤◌, List, map, length, Ok, OnOk, Some, None, refl};
 ghost use Rattle.ixdtf_grammar.specs.Laws.{IsKindUnder};
 ghost use Rattle.ixdtf_grammar.specs.declared.profile.Profile.{Profile};
 ghost use Rattle.ixdtf_grammar.specs.declared.records.TimeRecord.{TimeRecord};
@@ -9,7 +9,7 @@ ghost use Rattle.ixdtf_grammar.specs.language.Cores.{Core};
 ghost use Rattle.ixdtf_grammar.specs.language.Readers.{CoreKind};
 ghost use Rattle.ixdtf_grammar.specs.language.Readers.CoreKind.{date_time};
 ghost use Rattle.ixdtf_grammar.specs.table.LineNames.{LineName};
-ghost use Rattle.ixdtf_reading.specs.reading.Clauses.{GoesOn, Reads, Spends, Yields, core_in, KeepsBrackets, timed_core_at};
+ghost use Rattle.ixdtf_reading.specs.reading.Clauses.{GoesOn, Reads, Spends, SpendsOr, YieldsAt, core_in, KeepsBrackets, timed_core_at};
 ghost use Rattle.ixdtf_times.specs.TimeTypes.{after_date_time_at, open_time_of};
 ghost use Rattle.ixdtf_reading.specs.reading.Looks.{error_of};
 ghost use Rattle.ixdtf_reading.specs.reading.Cores.{ClosedCore, core_end_at, offset_core_at, after_time_at, whole_time_core_at, after_date_at, unfronted, core_at};
@@ -218,30 +218,34 @@ fn parse_timed<'a, T: EncodingType>(
     parse_after_time(cursor, time, found)
 }
 
-/// Refuses a time whose text began as a month-day or as a year-month does. The cursor stays, and counts the looks that are
-/// made at the start.
+/// Refuses a time whose text began as a month-day or as a year-month does, with the cursor behind these. Otherwise it stays,
+/// and counts the looks that are made at the start.
 #[inline(always)]
 fn check_front<'a, T: EncodingType>(
     cursor: &mut Cursor<'a, T>,
     start: &'a [T::CodeUnit],
     profile: Profile,
 ) -> Result<(), Stop>
-    ensures front { (core : ClosedCore) (rest : Text) → Yields (λ _. (core, rest)) result
+    ensures front { (core : ClosedCore) (rest : Text) →
+        YieldsAt (λ _. (core, rest)) result (map T.letter cursor.new.rest)
         (unfronted error_of profile (map T.letter (map T.number start.now)) (Ok (core, rest))) }
-    ensures rest { cursor.new.rest ≡ cursor.old.rest }
-    ensures looks { Spends 17 cursor.old cursor.new }
+    ensures rest { OnOk result (cursor.new.rest ≡ cursor.old.rest) }
+    ensures looks { SpendsOr (length start.now + 17) 17 cursor.old result cursor.new }
 {
     let mut front = cursor.at(start);
     let month_day = parse_month_day_parts(&mut front, profile).is_ok();
+    let behind_month_day = front.rest();
     let mut again = front.at(start);
     let year_month = parse_year_month_parts(&mut again).is_ok();
-    cursor.count(again);
     if month_day {
+        *cursor = again.at(behind_month_day);
         return Err(Stop::AmbiguousTimeMonthDay);
     }
     if year_month {
+        *cursor = again;
         return Err(Stop::AmbiguousTimeYearMonth);
     }
+    cursor.count(again);
     Ok(())
 }
 

@@ -6,7 +6,7 @@ ghost use Rattle.std.specs.Prelude.{◌≡◌, ◌+◌, ◌≤◌, ◌<◌, ◌*
 ghost use Rattle.std.specs.Option.{option_or};
 ghost use Rattle.ixdtf_reading.specs.declared.annotations.ValueState.TheVariants.{AtStart};
 ghost use Rattle.ixdtf_grammar.specs.table.Faults.{Fault};
-ghost use Rattle.ixdtf_reading.specs.reading.Clauses.{Reads, Spends, SpendsOr, fault_of_stop, yielded};
+ghost use Rattle.ixdtf_reading.specs.reading.Clauses.{Reads, Spends, SpendsOr, fault_of_stop, yielded_at};
 ghost use Rattle.ixdtf_reading.specs.reading.Looks.{error_of};
 ghost use Rattle.ixdtf_reading.specs.reading.Runs.{key_after, value_after};
 ghost use Rattle.ixdtf_reading.specs.reading.Pairs.{key_run, value_run, value_step, value_end, value_other, pair_at, critical_pair_at, later_pair_at, next_pair_at};
@@ -90,7 +90,8 @@ where
     requires callable { F.IsAlwaysCallable handler.old }
     ensures pairs { PairsRead T.number F.step handler.old handler.new
         (first_pairs (option_map (pair_of T.number) first.entry))
-        (map T.letter cursor.old.rest) (yielded (option_map (pair_of T.number)) result) }
+        (map T.letter cursor.old.rest)
+        (yielded_at (option_map (pair_of T.number)) result (map T.letter cursor.new.rest)) }
     ensures empty { OnOk result (cursor.new.rest ≡ []) }
     ensures looks { Spends (length cursor.old.rest + 7) cursor.old cursor.new }
 {

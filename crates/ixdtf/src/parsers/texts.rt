@@ -7,7 +7,7 @@ ghost use Rattle.ixdtf_grammar.specs.Handlers.{with_calendar, calendar_value, pa
 ghost use Rattle.ixdtf_grammar.specs.Views.{IsEmptyRecord, parsed_of, most_looks};
 ghost use Rattle.ixdtf_reading.specs.reading.Brackets.{zone_in, pairs_in};
 ghost use Rattle.ixdtf_reading.specs.reading.Chains.{TextRead, TextReadAfter, first_pairs};
-ghost use Rattle.ixdtf_reading.specs.reading.Clauses.{Spends, HasNoBrackets, yielded, core_in};
+ghost use Rattle.ixdtf_reading.specs.reading.Clauses.{Spends, HasNoBrackets, yielded_at, core_in};
 ghost use Rattle.ixdtf_brackets.specs.BracketTypes.{bracket_of};
 
 use crate::parsers::cores::Cores;
@@ -32,7 +32,8 @@ where
     requires callable { F.IsAlwaysCallable handler.old }
     requires empty { IsEmptyRecord found.old }
     ensures replied { TextRead T.number F.step handler.old handler.new (bracketed (C.kind profile))
-        (map T.letter cursor.old.rest) (yielded (λ _. parsed_of T.number found.new) result) }
+        (map T.letter cursor.old.rest)
+        (yielded_at (λ _. parsed_of T.number found.new) result (map T.letter cursor.new.rest)) }
     ensures empty { OnOk result (cursor.new.rest ≡ []) }
     ensures looks { cursor.new.looks ≤ cursor.old.looks + most_looks cursor.old.rest }
     ensures counted { cursor.old.looks ≤ cursor.new.looks }
@@ -58,7 +59,8 @@ where
     requires callable { F.IsAlwaysCallable handler.old }
     requires unbracketed { HasNoBrackets found.old }
     ensures replied { TextReadAfter T.number F.step handler.old handler.new (core_in found.old) true
-        (map T.letter cursor.old.rest) (yielded (λ _. parsed_of T.number found.new) result) }
+        (map T.letter cursor.old.rest)
+        (yielded_at (λ _. parsed_of T.number found.new) result (map T.letter cursor.new.rest)) }
     ensures empty { OnOk result (cursor.new.rest ≡ []) }
     ensures looks { Spends (2 * length cursor.old.rest + 24) cursor.old cursor.new }
 {

@@ -2,15 +2,16 @@
 
 ghost use Rattle.std.specs.Prelude.{◌≡◌, ◌↔◌, ℕ, List, [], map, Ok, OnOk, IfErr};
 ghost use Rattle.ixdtf_grammar.specs.declared.records.UtcOffsetRecord.{UtcOffsetRecord};
-ghost use Rattle.ixdtf_grammar.specs.table.Faults.{fault_of};
-ghost use Rattle.ixdtf_grammar.specs.table.Outcomes.{HasFault, NoRowFits, OnlyFault};
+ghost use Rattle.ixdtf_grammar.specs.table.Faults.{fault_of, fault_of_located};
+ghost use Rattle.ixdtf_grammar.specs.table.Outcomes.{HasFault, HasFaultAt, OnlyPlace, NoRowFits, OnlyFault};
 ghost use Rattle.ixdtf_grammar.specs.language.Readers.Reader.{parse_offset, parse_identifier, parse_iana_identifier};
 ghost use Rattle.ixdtf_grammar.specs.language.ZoneNames.{Zone};
 ghost use Rattle.ixdtf_grammar.specs.language.Languages.{shifted, identified, named, Derives};
-ghost use Rattle.ixdtf_grammar.specs.Views.{Unread, LeavesBehind, returned, zone_of};
+ghost use Rattle.ixdtf_grammar.specs.Views.{Unread, LeavesBehind, returned, returned_by, zone_of};
 
 use crate::ParserResult;
 use ixdtf_brackets::timezone::{parse_iana_identifier_text, parse_identifier_text};
+use ixdtf_grammar::LocatedError;
 use ixdtf_grammar::encoding::{EncodingType, Utf8, Utf16};
 use ixdtf_grammar::records::{TimeZoneRecord, UtcOffsetRecord};
 use ixdtf_reading::cursor::Cursor;
@@ -211,5 +212,113 @@ impl<'a, T: EncodingType> TimeZoneParser<'a, T> {
         let mut here = self.cursor.take();
         let read = parse_iana_identifier_text(&mut here);
         self.cursor.settle(here, read)
+    }
+
+    /// Reads as [`parse_offset`](Self::parse_offset) does, and tells where the error is: behind how many units of what was still to be read.
+    /// A number that
+    /// is out of its range has its place behind its second digit.
+    ///
+    /// ```text
+    /// +05:30x             Err(InvalidEnd) at 6, where the x stands
+    /// +05:60              Err(TimeMinuteSecond) at 6, behind the 60
+    /// +05:                Err(AbruptEnd { location: "digit" }) at 4, the end
+    /// ```
+    ///
+    /// # Errors
+    ///
+    /// Those of [`parse_offset`](Self::parse_offset), each with its place.
+    pub fn parse_offset_located(&mut self) -> Result<UtcOffsetRecord, LocatedError>
+        // `Ok` exactly where the language derives the offset.
+        ensures ok { (offset : UtcOffsetRecord) →
+            (returned_by fault_of_located (λ offset. offset) result ≡ Ok offset) ↔
+            Derives parse_offset (map T.letter self.old.rest) (shifted offset) [] }
+        // `Err` only where a row of the fault table with this error fits, whose place stands behind so many units.
+        ensures err { IfErr result
+            (λ e. HasFaultAt parse_offset (map T.letter self.old.rest) [] (fault_of_located e) e.at) }
+
+        // `Ok` only where no row fits.
+        ensures no_row { OnOk result (NoRowFits parse_offset (map T.letter self.old.rest)) }
+        // `Err` only where no other row fits, and nothing is derived; and no other error or place has a row that fits.
+        ensures only { IfErr result
+            (λ e. OnlyFault parse_offset (map T.letter self.old.rest) [] (fault_of_located e)) }
+        ensures place { IfErr result
+            (λ e. OnlyPlace parse_offset (map T.letter self.old.rest) (fault_of_located e) e.at) }
+
+        // What it leaves: nothing to be read after `Ok`, and all of it after an error.
+        ensures leaves { LeavesBehind fault_of_located self.old result self.new }
+    {
+        let mut here = self.cursor.take();
+        let outcome = parse_offset_text(&mut here);
+        self.cursor.settle(here, outcome)
+    }
+
+    /// Reads as [`parse_iana_identifier`](Self::parse_iana_identifier) does, and tells where the error is: behind how many units of what was still to be read.
+    ///
+    /// ```text
+    /// America/!           Err(IanaCharPostSeparator) at 8, where the ! stands
+    /// America/            Err(IanaCharPostSeparator) at 8, the end
+    /// ```
+    ///
+    /// # Errors
+    ///
+    /// Those of [`parse_iana_identifier`](Self::parse_iana_identifier), each with its place.
+    pub fn parse_iana_identifier_located(&mut self) -> Result<&'a [T::CodeUnit], LocatedError>
+        // `Ok` exactly where the language derives the name.
+        ensures ok { (name : List ℕ) →
+            (returned_by fault_of_located (λ units. map T.number units.now) result ≡ Ok name) ↔
+            Derives parse_iana_identifier (map T.letter self.old.rest) (named name) [] }
+        // `Err` only where a row of the fault table with this error fits, whose place stands behind so many units.
+        ensures err { IfErr result
+            (λ e. HasFaultAt parse_iana_identifier (map T.letter self.old.rest) [] (fault_of_located e) e.at) }
+
+        // `Ok` only where no row fits.
+        ensures no_row { OnOk result (NoRowFits parse_iana_identifier (map T.letter self.old.rest)) }
+        // `Err` only where no other row fits, and nothing is derived; and no other error or place has a row that fits.
+        ensures only { IfErr result
+            (λ e. OnlyFault parse_iana_identifier (map T.letter self.old.rest) [] (fault_of_located e)) }
+        ensures place { IfErr result
+            (λ e. OnlyPlace parse_iana_identifier (map T.letter self.old.rest) (fault_of_located e) e.at) }
+
+        // What it leaves: nothing to be read after `Ok`, and all of it after an error.
+        ensures leaves { LeavesBehind fault_of_located self.old result self.new }
+    {
+        let mut here = self.cursor.take();
+        let outcome = parse_iana_identifier_text(&mut here);
+        self.cursor.settle(here, outcome)
+    }
+
+    /// Reads as [`parse_identifier`](Self::parse_identifier) does, and tells where the error is: behind how many units of what was still to be read.
+    ///
+    /// ```text
+    /// +04:30:15           Err(InvalidMinutePrecisionOffset) at 6, where the second colon stands
+    /// Europe//Berlin      Err(IanaCharPostSeparator) at 7, where the second / stands
+    /// ```
+    ///
+    /// # Errors
+    ///
+    /// Those of [`parse_identifier`](Self::parse_identifier), each with its place.
+    pub fn parse_identifier_located(&mut self) -> Result<TimeZoneRecord<'a, T>, LocatedError>
+        // `Ok` exactly where the language derives the zone.
+        ensures ok { (zone : Zone) →
+            (returned_by fault_of_located (zone_of T.number) result ≡ Ok zone) ↔
+            Derives parse_identifier (map T.letter self.old.rest) (identified zone) [] }
+        // `Err` only where a row of the fault table with this error fits, whose place stands behind so many units.
+        ensures err { IfErr result
+            (λ e. HasFaultAt parse_identifier (map T.letter self.old.rest) [] (fault_of_located e) e.at) }
+
+        // `Ok` only where no row fits.
+        ensures no_row { OnOk result (NoRowFits parse_identifier (map T.letter self.old.rest)) }
+        // `Err` only where no other row fits, and nothing is derived; and no other error or place has a row that fits.
+        ensures only { IfErr result
+            (λ e. OnlyFault parse_identifier (map T.letter self.old.rest) [] (fault_of_located e)) }
+        ensures place { IfErr result
+            (λ e. OnlyPlace parse_identifier (map T.letter self.old.rest) (fault_of_located e) e.at) }
+
+        // What it leaves: nothing to be read after `Ok`, and all of it after an error.
+        ensures leaves { LeavesBehind fault_of_located self.old result self.new }
+    {
+        let mut here = self.cursor.take();
+        let outcome = parse_identifier_text(&mut here);
+        self.cursor.settle(here, outcome)
     }
 }

@@ -15,7 +15,7 @@ use Rattle.ixdtf_grammar.specs.language.Brackets.{skipped}
 use Rattle.ixdtf_grammar.specs.table.Faults.{Fault}
 use Rattle.ixdtf_grammar.specs.table.Faults.Fault.{NonAsciiCodePoint, AnnotationKeyChar, IanaCharPostSeparator}
 use Rattle.ixdtf_grammar.specs.table.Lines.{abrupt_bracket}
-use Rattle.ixdtf_reading.specs.reading.Looks.{Read, ◌>>=◌, look_at, next_by, error_of}
+use Rattle.ixdtf_reading.specs.reading.Looks.{Placed, Read, ◌>>=◌, look_at, seen, next_by, error_of}
 use Rattle.ixdtf_reading.specs.reading.Zones.{with_letter, name_run, as_zone}
 use Rattle.ixdtf_reading.specs.reading.Pairs.{value_run, pair_at}
 use Rattle.ixdtf_reading.specs.reading.Runs.{Taken, one_more, nothing_taken, on_letter, letters_by, key_after}
@@ -26,7 +26,7 @@ use Rattle.ixdtf_brackets.proofs.code.NameLoop.{name_ended, name_refused}
 use Rattle.ixdtf_reading.proofs.code.PairLoops.{key_closed, key_refused}
 use Rattle.ixdtf_reading.proofs.parts.LookAhead.{over_letter, zone_char_skipped, slash_skipped, key_char_skipped}
 
-abbrev sight : Text → Result Bool Fault
+abbrev sight : Text → Result Bool Placed
 sight text = sight_at error_of text
 
 -- ---- the look ahead over letters
@@ -36,11 +36,11 @@ module _ {S : Type 0} (after : S → ℕ → Option S) where
   Stays state None = Unit {0}
   Stays state (Some c) = after state c ≡ None
 
-  abbrev Shown : Read Fault (Taken S) → Type 0
-  Shown (Ok x) = (look_at NonAsciiCodePoint x.1 ≡ Ok x.0.next) × Stays x.0.state x.0.next
+  abbrev Shown : Read Placed (Taken S) → Type 0
+  Shown (Ok x) = (seen x.1 ≡ Ok x.0.next) × Stays x.0.state x.0.next
   Shown (Err e) = Unit {0}
 
-  shown_more : (c : ℕ) (read : Read Fault (Taken S)) → Shown read → Shown (one_more c read)
+  shown_more : (c : ℕ) (read : Read Placed (Taken S)) → Shown read → Shown (one_more c read)
   shown_more c (Ok x) h = h
   shown_more c (Err e) h = tt
 
@@ -58,7 +58,7 @@ module _ {S : Type 0} (after : S → ℕ → Option S) where
 
   -- the letter that does not go on stands next
   pub next_shown : (state : S) (text rest : Text) (taken : Taken S) → letters_by after state text ≡ Ok (taken, rest)
-      → look_at NonAsciiCodePoint rest ≡ Ok taken.next
+      → seen rest ≡ Ok taken.next
   next_shown state text rest taken e = let h : Shown (Ok (taken, rest)) = subst (λ read. Shown read) e (shown state text) in h.0
 
   pub next_stays : (state : S) (text rest : Text) (taken : Taken S) (c : ℕ) → letters_by after state text ≡ Ok (taken, rest) → taken.next ≡ Some c
@@ -68,7 +68,7 @@ module _ {S : Type 0} (after : S → ℕ → Option S) where
       subst (λ next. Stays taken.state next) is h.1
 
   module _ (over : (state next : S) (c : ℕ) → after state c ≡ Some next → IsTrue (skipped c)) where
-    sight_more : (c : ℕ) (read : Read Fault (Taken S)) → (read >>= λ x. sight x.1) ≡ (one_more c read >>= λ x. sight x.1)
+    sight_more : (c : ℕ) (read : Read Placed (Taken S)) → (read >>= λ x. sight x.1) ≡ (one_more c read >>= λ x. sight x.1)
     sight_more c (Ok x) = refl
     sight_more c (Err e) = refl
 
@@ -85,25 +85,25 @@ module _ {S : Type 0} (after : S → ℕ → Option S) where
     sight_over state (Bad ∷ rest) = refl
     sight_over state (Plain c ∷ rest) = sight_on state c rest (λ n. sight_over n rest) (after state c) refl
 
-    pub sight_fails : (state : S) (text : Text) (fault : Fault) → letters_by after state text ≡ Err fault → sight text ≡ Err fault
+    pub sight_fails : (state : S) (text : Text) (fault : Placed) → letters_by after state text ≡ Err fault → sight text ≡ Err fault
     sight_fails state text fault e = sight_over state text ∙ rw e refl
 
     pub sight_goes_on : (state : S) (text rest : Text) (taken : Taken S) → letters_by after state text ≡ Ok (taken, rest) → sight text ≡ sight rest
     sight_goes_on state text rest taken e = sight_over state text ∙ rw e refl
 
 -- what the next letter tells
-sight_at_end : (text : Text) → look_at NonAsciiCodePoint text ≡ Ok None → sight text ≡ Err abrupt_bracket
+sight_at_end : (text : Text) → seen text ≡ Ok None → sight text ≡ Err (abrupt_bracket, text)
 unfolding sight_at
 sight_at_end text e = rw (nothing_is text e) refl
 
-sight_at_equals : (text : Text) (c : ℕ) → look_at NonAsciiCodePoint text ≡ Ok (Some c) → equals c ≡ true → sight text ≡ Ok true
+sight_at_equals : (text : Text) (c : ℕ) → seen text ≡ Ok (Some c) → equals c ≡ true → sight text ≡ Ok true
 unfolding sight_at
 sight_at_equals text c e is = rw (first_is text c e, is) refl
 
 no_equals : (c : ℕ) → closing c ≡ true → equals c ≡ false
 no_equals c is = grind (arith, nat_tests)
 
-sight_at_closing : (text : Text) (c : ℕ) → look_at NonAsciiCodePoint text ≡ Ok (Some c) → closing c ≡ true → sight text ≡ Ok false
+sight_at_closing : (text : Text) (c : ℕ) → seen text ≡ Ok (Some c) → closing c ≡ true → sight text ≡ Ok false
 unfolding sight_at
 sight_at_closing text c e is = rw (first_is text c e, no_equals c is, is) refl
 
@@ -117,12 +117,12 @@ test_held false x y e = absurd cc
 bracket_over : (state next : BracketLetters) (c : ℕ) → bracket_after state c ≡ Some next → IsTrue (skipped c)
 bracket_over state next c e = test_held _ state next e
 
-pub bracket_failed : (letters : BracketLetters) (text : Text) (fault : Fault) → letters_by bracket_after letters text ≡ Err fault
+pub bracket_failed : (letters : BracketLetters) (text : Text) (fault : Placed) → letters_by bracket_after letters text ≡ Err fault
     → sight_at error_of text ≡ Err fault
 bracket_failed letters text fault e = sight_fails bracket_after bracket_over letters text fault e
 
 pub bracket_ended : (letters : BracketLetters) (text rest : Text) (taken : Taken BracketLetters) → letters_by bracket_after letters text ≡ Ok (taken, rest)
-    → taken.next ≡ None → sight_at error_of text ≡ Err abrupt_bracket
+    → taken.next ≡ None → sight_at error_of text ≡ Err (abrupt_bracket, rest)
 bracket_ended letters text rest taken e is =
     sight_goes_on bracket_after bracket_over letters text rest taken e ∙ sight_at_end rest (next_shown bracket_after letters text rest taken e ∙ ap Ok is)
 
@@ -138,7 +138,7 @@ pub bracket_sighted : (letters : BracketLetters) (text rest : Text) (taken : Tak
 bracket_sighted letters text rest taken c e is =
     sight_goes_on bracket_after bracket_over letters text rest taken e ∙ go _ refl
   where
-    next : look_at NonAsciiCodePoint rest ≡ Ok (Some c)
+    next : seen rest ≡ Ok (Some c)
     next = next_shown bracket_after letters text rest taken e ∙ ap Ok is
 
     go : (b : Bool) → equals c ≡ b → sight rest ≡ Ok (equals c)
@@ -164,22 +164,22 @@ name_over state next c e = go _ refl (slash c) refl e
     go false p false q e = absurd cc
 
 -- letters in front of a name
-abbrev in_front : List ℕ → Read Fault (List ℕ) → Read Fault (List ℕ)
+abbrev in_front : List ℕ → Read Placed (List ℕ) → Read Placed (List ℕ)
 in_front letters (Ok x) = Ok (letters ++ x.0, x.1)
 in_front letters (Err e) = Err e
 
-in_front_none : (read : Read Fault (List ℕ)) → read ≡ in_front [] read
+in_front_none : (read : Read Placed (List ℕ)) → read ≡ in_front [] read
 in_front_none (Ok x) = refl
 in_front_none (Err e) = refl
 
-in_front_one : (c : ℕ) (letters : List ℕ) (read : Read Fault (List ℕ)) → with_letter c (in_front letters read) ≡ in_front (c ∷ letters) read
+in_front_one : (c : ℕ) (letters : List ℕ) (read : Read Placed (List ℕ)) → with_letter c (in_front letters read) ≡ in_front (c ∷ letters) read
 in_front_one c letters (Ok x) = refl
 in_front_one c letters (Err e) = refl
 
-abbrev keyed : Read Fault (Taken KeyLetters) → Read Fault (List ℕ)
+abbrev keyed : Read Placed (Taken KeyLetters) → Read Placed (List ℕ)
 keyed read = read >>= λ x. in_front x.0.letters (name_run error_of true x.1)
 
-keyed_more : (c : ℕ) (read : Read Fault (Taken KeyLetters)) → with_letter c (keyed read) ≡ keyed (one_more c read)
+keyed_more : (c : ℕ) (read : Read Placed (Taken KeyLetters)) → with_letter c (keyed read) ≡ keyed (one_more c read)
 keyed_more c (Ok x) = in_front_one c x.0.letters _
 keyed_more c (Err e) = refl
 
@@ -203,35 +203,39 @@ name_keyed letters (Plain c ∷ rest) = keyed_on letters c rest (name_keyed lett
 
 -- ---- what the bracket is
 
-abbrev read_at : Bool → Text → Read Fault Bracket
+abbrev read_at : Bool → Text → Read Placed Bracket
 read_at critical text = name_or_pair_at error_of critical text
 
 -- behind the letters of a key a name may end
 abbrev name_start : NameLetters
 name_start = record { may_end = true }
 
-unseen : (critical : Bool) (text : Text) (fault : Fault) → sight text ≡ Err fault → read_at critical text ≡ Err fault
+unseen : (critical : Bool) (text : Text) (fault : Placed) → sight text ≡ Err fault → read_at critical text ≡ Err fault
 unfolding name_or_pair_at
 unseen critical text fault e = rw e refl
 
-seen : (critical : Bool) (text : Text) (b : Bool) → sight text ≡ Ok b
+sighted : (critical : Bool) (text : Text) (b : Bool) → sight text ≡ Ok b
     → read_at critical text ≡ (if b then as_pair (pair_at error_of critical text) else noted critical (as_zone (name_in_bracket_at error_of text)))
 unfolding name_or_pair_at
-seen critical text b e = rw e refl
+sighted critical text b e = rw e refl
+
+not_both : (sighted : Result Bool Placed) (b : Bool) (fault : Placed) → sighted ≡ Ok b → sighted ≡ Err fault → ⊥
+not_both (Ok x) b fault p q = absurd cc
+not_both (Err x) b fault p q = absurd cc
 
 some_next : (class : Class) (next : Option ℕ) → next_is class next ≡ true → (c : ℕ) × (next ≡ Some c) × (class c ≡ true)
 some_next class None e = absurd cc
 some_next class (Some c) e = (c, refl, e)
 
 module _ (critical : Bool) (letters : KeyLetters) (text : Text) where
-  pub pass_failed : (fault : Fault) → letters_by key_after letters text ≡ Err fault → read_at critical text ≡ Err fault
+  pub pass_failed : (fault : Placed) → letters_by key_after letters text ≡ Err fault → read_at critical text ≡ Err fault
   pass_failed fault e = unseen critical text fault (sight_fails key_after key_over letters text fault e)
 
   module _ (rest : Text) (key : Taken KeyLetters) (keys : letters_by key_after letters text ≡ Ok (key, rest)) where
     sight_is : sight text ≡ sight rest
     sight_is = sight_goes_on key_after key_over letters text rest key keys
 
-    key_next : (o : Option ℕ) → key.next ≡ o → look_at NonAsciiCodePoint rest ≡ Ok o
+    key_next : (o : Option ℕ) → key.next ≡ o → seen rest ≡ Ok o
     key_next o is = next_shown key_after letters text rest key keys ∙ ap Ok is
 
     -- a pair, or a value that is refused
@@ -246,27 +250,27 @@ module _ (critical : Bool) (letters : KeyLetters) (text : Text) where
       pair_seen : sight text ≡ Ok true
       pair_seen = let found = some_next equals key.next is in sight_is ∙ sight_at_equals rest found.0 (key_next _ found.1) found.2
 
-      pub value_failed : (fault : Fault) → value_run error_of AtStart (drop 1 rest) ≡ Err fault → read_at critical text ≡ Err fault
-      value_failed fault e = as_pair_is (seen critical text true pair_seen) is ∙ rw e refl
+      pub value_failed : (fault : Placed) → value_run error_of AtStart (drop 1 rest) ≡ Err fault → read_at critical text ≡ Err fault
+      value_failed fault e = as_pair_is (sighted critical text true pair_seen) is ∙ rw e refl
 
       pub pair_read : (value : List ℕ) (after : Text) → value_run error_of AtStart (drop 1 rest) ≡ Ok (value, after)
           → read_at critical text ≡ Ok (paired (record { critical = critical; key = key.letters; value = value }), after)
-      pair_read value after e = as_pair_is (seen critical text true pair_seen) is ∙ rw e refl
+      pair_read value after e = as_pair_is (sighted critical text true pair_seen) is ∙ rw e refl
 
-    pub more_failed : (fault : Fault) → letters_by name_after name_start rest ≡ Err fault → read_at critical text ≡ Err fault
+    pub more_failed : (fault : Placed) → letters_by name_after name_start rest ≡ Err fault → read_at critical text ≡ Err fault
     more_failed fault e = unseen critical text fault (sight_is ∙ sight_fails name_after name_over name_start rest fault e)
 
     module _ (after : Text) (more : Taken NameLetters) (mores : letters_by name_after name_start rest ≡ Ok (more, after)) where
       sight_after : sight text ≡ sight after
       sight_after = sight_is ∙ sight_goes_on name_after name_over name_start rest after more mores
 
-      more_next : (o : Option ℕ) → more.next ≡ o → look_at NonAsciiCodePoint after ≡ Ok o
+      more_next : (o : Option ℕ) → more.next ≡ o → seen after ≡ Ok o
       more_next o is = next_shown name_after name_start rest after more mores ∙ ap Ok is
 
       name_ends_so : more.state.may_end ≡ true → name_run error_of true text ≡ Ok (key.letters ++ more.letters, after)
       name_ends_so e = name_keyed letters text ∙ rw (keys, name_ended rest after more mores e) refl
 
-      name_refused_so : more.state.may_end ≡ false → name_run error_of true text ≡ Err IanaCharPostSeparator
+      name_refused_so : more.state.may_end ≡ false → name_run error_of true text ≡ Err (IanaCharPostSeparator, after)
       name_refused_so e = name_keyed letters text ∙ rw (keys, name_refused rest after more mores e) refl
 
       -- a name
@@ -277,36 +281,36 @@ module _ (critical : Bool) (letters : KeyLetters) (text : Text) where
           let (ends, closes) = and_parts _ _ is in
           let found = some_next closing more.next closes in
           let next = more_next (Some found.0) found.1 in
-          seen critical text false (sight_after ∙ sight_at_closing after found.0 next found.2) ∙ rw (name_ends_so ends, next, found.2) refl
+          sighted critical text false (sight_after ∙ sight_at_closing after found.0 next found.2) ∙ rw (name_ends_so ends, next, found.2) refl
 
-      pair_refused : next_is equals key.next ≡ false → sight rest ≡ Ok true → as_pair (pair_at error_of critical text) ≡ Err AnnotationKeyChar
+      pair_refused : next_is equals key.next ≡ false → sight rest ≡ Ok true → as_pair (pair_at error_of critical text) ≡ Err (AnnotationKeyChar, rest)
       unfolding pair_at
       pair_refused no_key p = go key.next refl no_key
         where
-          go : (next : Option ℕ) → key.next ≡ next → next_is equals next ≡ false → as_pair (pair_at error_of critical text) ≡ Err AnnotationKeyChar
-          go None e other = let ended : Ok true ≡ Err abrupt_bracket = sym p ∙ sight_at_end rest (key_next _ e) in absurd cc
+          go : (next : Option ℕ) → key.next ≡ next → next_is equals next ≡ false → as_pair (pair_at error_of critical text) ≡ Err (AnnotationKeyChar, rest)
+          go None e other = absurd (not_both (sight rest) true (abrupt_bracket, rest) p (sight_at_end rest (key_next _ e)))
           go (Some c) e other = rw (key_refused letters text rest key c keys e other) refl
 
       zone_refused : (more.state.may_end && next_is closing more.next) ≡ false → sight after ≡ Ok false
-          → noted critical (as_zone (name_in_bracket_at error_of text)) ≡ Err (name_fault more.state.may_end)
+          → noted critical (as_zone (name_in_bracket_at error_of text)) ≡ Err (name_fault more.state.may_end, after)
       unfolding name_in_bracket_at next_by
       zone_refused is p = go more.state.may_end refl more.next refl is
         where
           go : (b : Bool) → more.state.may_end ≡ b → (next : Option ℕ) → more.next ≡ next → (b && next_is closing next) ≡ false
-              → noted critical (as_zone (name_in_bracket_at error_of text)) ≡ Err (name_fault more.state.may_end)
+              → noted critical (as_zone (name_in_bracket_at error_of text)) ≡ Err (name_fault more.state.may_end, after)
           go false q next e test = rw (name_refused_so q, q) refl
-          go true q None e test = let ended : Ok false ≡ Err abrupt_bracket = sym p ∙ sight_at_end after (more_next _ e) in absurd cc
+          go true q None e test = absurd (not_both (sight after) false (abrupt_bracket, after) p (sight_at_end after (more_next _ e)))
           go true q (Some c) e test =
               let next = more_next (Some c) e in
               rw (name_ends_so q, next, test, q) refl
 
       -- neither
       pub name_refuses : next_is equals key.next ≡ false → (more.state.may_end && next_is closing more.next) ≡ false
-          → read_at critical text ≡ Err (refusal (sight_at error_of after) (name_fault more.state.may_end))
+          → read_at critical text ≡ Err (refusal (sight_at error_of after) (name_fault more.state.may_end) rest after)
       name_refuses no_key is = go _ refl
         where
-          go : (seen_so : Result Bool Fault) → sight after ≡ seen_so
-              → read_at critical text ≡ Err (refusal (sight_at error_of after) (name_fault more.state.may_end))
+          go : (seen_so : Result Bool Placed) → sight after ≡ seen_so
+              → read_at critical text ≡ Err (refusal (sight_at error_of after) (name_fault more.state.may_end) rest after)
           go (Err e) p = rw p (unseen critical text e (sight_after ∙ p))
-          go (Ok true) p = rw p (seen critical text true (sight_after ∙ p) ∙ pair_refused no_key (sym sight_is ∙ sight_after ∙ p))
-          go (Ok false) p = rw p (seen critical text false (sight_after ∙ p) ∙ zone_refused is p)
+          go (Ok true) p = rw p (sighted critical text true (sight_after ∙ p) ∙ pair_refused no_key (sym sight_is ∙ sight_after ∙ p))
+          go (Ok false) p = rw p (sighted critical text false (sight_after ∙ p) ∙ zone_refused is p)

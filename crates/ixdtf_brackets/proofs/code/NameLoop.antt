@@ -6,23 +6,23 @@ use Rattle.ixdtf_grammar.specs.language.Letters.Letter.{Plain}
 use Rattle.ixdtf_grammar.specs.language.Letters.{zone_char, slash}
 use Rattle.ixdtf_grammar.specs.table.Faults.{Fault}
 use Rattle.ixdtf_grammar.specs.table.Faults.Fault.{IanaCharPostSeparator}
-use Rattle.ixdtf_reading.specs.reading.Looks.{Read, error_of}
+use Rattle.ixdtf_reading.specs.reading.Looks.{Placed, Read, error_of}
 use Rattle.ixdtf_reading.specs.reading.Zones.{with_letter, name_stops, name_run}
 use Rattle.ixdtf_reading.specs.reading.Runs.{Taken, letters_by}
 use Rattle.ixdtf_brackets.specs.BracketTypes.{name_after}
 use Rattle.ixdtf_reading.proofs.code.LetterLoops.{closed, IsRun, run_failed, run_closes}
 
-abbrev pub name_ends : Bool → Text → Result Text Fault
+abbrev pub name_ends : Bool → Text → Result Text Placed
 name_ends true text = Ok text
-name_ends false text = Err IanaCharPostSeparator
+name_ends false text = Err (IanaCharPostSeparator, text)
 
-abbrev pub name_close : NameLetters → Option ℕ → Text → Result Text Fault
+abbrev pub name_close : NameLetters → Option ℕ → Text → Result Text Placed
 name_close letters next text = name_ends letters.may_end text
 
-abbrev reading : NameLetters → Text → Read Fault (List ℕ)
+abbrev reading : NameLetters → Text → Read Placed (List ℕ)
 reading letters text = name_run error_of letters.may_end text
 
-stops_so : (may_end : Bool) (text : Text) → name_stops IanaCharPostSeparator may_end text ≡ closed [] (name_ends may_end text)
+stops_so : (may_end : Bool) (text : Text) → name_stops (IanaCharPostSeparator, text) may_end text ≡ closed [] (name_ends may_end text)
 stops_so true text = refl
 stops_so false text = refl
 
@@ -52,7 +52,7 @@ name_is_run = record {
     more c may_end next rest false p true q e = let same : false ≡ next.may_end = cc in rw (p, q, ← same) refl
     more c may_end next rest false p false q e = absurd cc
 
-pub name_failed : (text : Text) (fault : Fault) → letters_by name_after (record { may_end = true }) text ≡ Err fault → name_run error_of true text ≡ Err fault
+pub name_failed : (text : Text) (fault : Placed) → letters_by name_after (record { may_end = true }) text ≡ Err fault → name_run error_of true text ≡ Err fault
 name_failed text fault e = run_failed _ _ _ name_is_run (record { may_end = true }) text fault e
 
 pub name_ended : (text rest : Text) (taken : Taken NameLetters) → letters_by name_after (record { may_end = true }) text ≡ Ok (taken, rest)
@@ -60,5 +60,5 @@ pub name_ended : (text rest : Text) (taken : Taken NameLetters) → letters_by n
 name_ended text rest taken e is = run_closes _ _ _ name_is_run (record { may_end = true }) text rest taken e ∙ rw is refl
 
 pub name_refused : (text rest : Text) (taken : Taken NameLetters) → letters_by name_after (record { may_end = true }) text ≡ Ok (taken, rest)
-    → taken.state.may_end ≡ false → name_run error_of true text ≡ Err IanaCharPostSeparator
+    → taken.state.may_end ≡ false → name_run error_of true text ≡ Err (IanaCharPostSeparator, rest)
 name_refused text rest taken e is = run_closes _ _ _ name_is_run (record { may_end = true }) text rest taken e ∙ rw is refl

@@ -5,11 +5,14 @@ ghost use Rattle.ixdtf.specs.Laws.{InLanguage};
 ghost use Rattle.ixdtf.specs.language.Letters.{byte_letter};
 ghost use Rattle.ixdtf.specs.language.Readers.{parse as reader_parse};
 
-use ixdtf::ParseError::{self, AbruptEnd, InvalidDayRange, InvalidMonthRange};
-use ixdtf::ParserResult;
+use ixdtf::ParseError::{
+    self, AbruptEnd, IanaCharPostSeparator, InvalidDayRange, InvalidMonthRange,
+};
 use ixdtf::encoding::{Utf8, Utf16};
 use ixdtf::parsers::{IsoDurationParser, IxdtfParser, TimeZoneParser};
 use ixdtf::records::{Annotation, Sign, TimeDurationRecord, TimeZoneRecord, UtcOffsetRecordOrZ};
+use ixdtf::{LocatedError, ParserResult};
+use std::alloc::{AllocError, Global};
 use std::test::Fail;
 
 // ==== A text taken apart ====
@@ -300,6 +303,64 @@ fn matches_errors(rt: HostRuntime) {
             Err(error) => assert_eq!(rt; advice(error), wanted, "at {text}"),
         }
     }
+}
+
+// ==== Places of errors ====
+
+// Why a text is refused, with a mark under the place; empty where it is read.
+fn explain(alloc: Global, text: &str) -> Result<String, AllocError> {
+    match IxdtfParser::from_str(text).parse_located() {
+        Ok(_record) => Ok(String::new(alloc)),
+        Err(error) => format!(in alloc; "{error}\n{}", error.in_text(text)),
+    }
+}
+
+// The place of the error of a text that is refused. Only such a text is read twice.
+fn place_of_error(text: &str) -> Option<usize> {
+    let mut parser = IxdtfParser::from_str(text);
+    if parser.parse().is_ok() {
+        return None;
+    }
+    match parser.parse_located() {
+        Ok(_record) => None,
+        Err(error) => Some(error.at),
+    }
+}
+
+// The byte at which the name of a zone goes wrong, and the error.
+fn fault_of_name(text: &str) -> Option<(usize, ParseError)> {
+    let mut parser = TimeZoneParser::from_str(text);
+    match parser.parse_iana_identifier_located() {
+        Ok(_name) => None,
+        Err(LocatedError { error, at }) => Some((at, error)),
+    }
+}
+
+#[test]
+fn marks_places(rt: HostRuntime) -> Result<(), Fail> {
+    let hour = explain(rt.alloc(), "2024-03-02T8:48")?;
+    assert_eq!(rt;
+        hour.as_str(),
+        "Invalid character while parsing hour value. at 12\n2024-03-02T8:48\n            ^"
+    );
+    let offset = explain(rt.alloc(), "2024-03-02T08:48:00-05:000")?;
+    assert_eq!(rt;
+        offset.as_str(),
+        "Invalid time zone character after '/'. at 25\n2024-03-02T08:48:00-05:000\n                         ^"
+    );
+    Ok(())
+}
+
+#[test]
+fn tells_places(rt: HostRuntime) {
+    assert_eq!(rt; place_of_error("2024-03-02T8:48"), Some(12));
+    assert_eq!(rt; place_of_error("2024-03-02T08:48:00-05:000"), Some(25));
+    assert_eq!(rt; place_of_error("2024-03-02"), None);
+    assert_eq!(rt;
+        fault_of_name("Europe//Berlin"),
+        Some((7, IanaCharPostSeparator))
+    );
+    assert_eq!(rt; fault_of_name("Europe/Berlin"), None);
 }
 
 // ==== Handlers ====

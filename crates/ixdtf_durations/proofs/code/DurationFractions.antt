@@ -10,10 +10,9 @@ use Rattle.ixdtf_grammar.specs.language.Fractions.{FractionParts, fraction_of}
 use Rattle.ixdtf_grammar.specs.language.Times.Clock.{Time}
 use Rattle.ixdtf_grammar.specs.language.Durations.{Group, designator, unit_of}
 use Rattle.ixdtf_grammar.specs.language.Durations.Half.{time}
-use Rattle.ixdtf_grammar.specs.table.Faults.{Fault}
 use Rattle.ixdtf_grammar.specs.table.Faults.Fault.{NonAsciiCodePoint, FractionPart}
 use Rattle.ixdtf_grammar.specs.table.Lines.{abrupt_time_designator}
-use Rattle.ixdtf_reading.specs.reading.Looks.{Read, ◌>>=◌, error_of, look_at, next_by, digit_run}
+use Rattle.ixdtf_reading.specs.reading.Looks.{Placed, before, Read, ◌>>=◌, error_of, look_at, seen, next_by, digit_run}
 use Rattle.ixdtf_reading.specs.reading.Times.{fraction_at}
 use Rattle.ixdtf_reading.specs.reading.Durations.{step, run, fraction_group}
 use Rattle.ixdtf_reading.specs.reading.Durations.State.{at_mark, in_fraction}
@@ -22,18 +21,18 @@ use Rattle.ixdtf_durations.proofs.code.DurationSteps.{fails}
 use Rattle.ixdtf_reading.proofs.code.FirstLetter.{first_is, nothing_is}
 use Rattle.ixdtf_durations.proofs.code.DurationLetters.{end_step}
 
-ok_is : {A : Type 0} (x y : A × Text) → ◌≡◌ {A = Read Fault A} (Ok x) (Ok y) → x ≡ y
+ok_is : {A : Type 0} (x y : A × Text) → ◌≡◌ {A = Read Placed A} (Ok x) (Ok y) → x ≡ y
 ok_is x y e = cc
 
-abbrev digits_of : Text → Read Fault Text
-digits_of text = digit_run NonAsciiCodePoint text
+abbrev digits_of : Text → Read Placed Text
+digits_of text = digit_run (before NonAsciiCodePoint) text
 
 module _ (profile : Profile) (s : Sign) (dates times : List Group) (ds : Text) where
   -- after digits of a fraction, with these before them
-  abbrev after_digits : Text → Read Fault Text → Read Fault DurationParseRecord
+  abbrev after_digits : Text → Read Placed Text → Read Placed DurationParseRecord
   after_digits fs read = read >>= λ more. run_from profile (in_fraction s dates times ds (fs ++ more.0)) more.1
 
-  one_more : (fs : Text) (c : ℕ) (read : Read Fault Text)
+  one_more : (fs : Text) (c : ℕ) (read : Read Placed Text)
       → after_digits (fs ++ (Plain c ∷ [])) read ≡ after_digits fs (read >>= λ more. Ok (Plain c ∷ more.0, more.1))
   one_more fs c (Ok more) = ap (λ t. run_from profile (in_fraction s dates times ds t) more.1) (append_assoc fs (Plain c ∷ []) more.0)
   one_more fs c (Err e) = refl
@@ -54,7 +53,7 @@ module _ (profile : Profile) (s : Sign) (dates times : List Group) (ds : Text) w
 
 -- where digits end no digit follows
 abbrev NoDigitNext : Text → Type 0
-NoDigitNext text = (c : ℕ) → look_at NonAsciiCodePoint text ≡ Ok (Some c) → digit c ≡ false
+NoDigitNext text = (c : ℕ) → seen text ≡ Ok (Some c) → digit c ≡ false
 
 digits_end : (text more rest : Text) → digits_of text ≡ Ok (more, rest) → NoDigitNext rest
 unfolding digit_run look_at
@@ -62,7 +61,7 @@ digits_end [] more rest is = let none : [] ≡ rest = ap (λ p. p.1) (ok_is ([],
 digits_end (Bad ∷ text) more rest is = absurd cc
 digits_end (Plain d ∷ text) more rest is = go (digit d) refl _ refl (λ more' left. digits_end text more' left)
   where
-    go : (b : Bool) → digit d ≡ b → (read : Read Fault Text) → digits_of text ≡ read
+    go : (b : Bool) → digit d ≡ b → (read : Read Placed Text) → digits_of text ≡ read
         → ((more' left : Text) → digits_of text ≡ Ok (more', left) → NoDigitNext left) → NoDigitNext rest
     go true e (Ok x) reads ends = let same : x.1 ≡ rest = ap (λ p. p.1) (ok_is (Plain d ∷ x.0, x.1) (more, rest) (rw (e, reads) at is)) in
         rw (← same) (ends x.0 x.1 reads)
@@ -79,10 +78,10 @@ pub record IsFractionOver (text : Text) (fraction : FractionParts) (rest : Text)
       → run_from profile (at_mark s dates times ds) text ≡ run_from profile (in_fraction s dates times ds fs) rest
 
 -- the fraction of a digit and more
-abbrev with_first : ℕ → Read Fault Text → Read Fault FractionParts
+abbrev with_first : ℕ → Read Placed Text → Read Placed FractionParts
 with_first c read = read >>= λ more. Ok (fraction_of (Plain c ∷ more.0), more.1)
 
-first_over : (c : ℕ) (rest : Text) (read : Read Fault Text) → digits_of rest ≡ read → digit c ≡ true → (fraction : FractionParts) (left : Text)
+first_over : (c : ℕ) (rest : Text) (read : Read Placed Text) → digits_of rest ≡ read → digit c ≡ true → (fraction : FractionParts) (left : Text)
     → with_first c read ≡ Ok (fraction, left) → IsFractionOver (Plain c ∷ rest) fraction left
 unfolding run step
 first_over c rest (Err e) reads is fraction left at = absurd cc
@@ -110,47 +109,47 @@ fraction_over (Plain c ∷ text) fraction rest at = go (digit c) refl
     go false is = absurd (let never = rw is at at in cc)
 
 -- a fraction that was refused
-pub fraction_fails : (text : Text) (fault : Fault) → fraction_at error_of Time text ≡ Err fault
+pub fraction_fails : (text : Text) (fault : Placed) → fraction_at error_of Time text ≡ Err fault
     → (profile : Profile) (s : Sign) (dates times : List Group) (ds : Text) → run_from profile (at_mark s dates times ds) text ≡ Err fault
 unfolding fraction_at next_by look_at run step
-fraction_fails [] fault at profile s dates times ds = let same : FractionPart ≡ fault = cc in rw same refl
-fraction_fails (Bad ∷ text) fault at profile s dates times ds = let same : NonAsciiCodePoint ≡ fault = cc in rw same refl
+fraction_fails [] fault at profile s dates times ds = let same : (FractionPart, []) ≡ fault = cc in rw same refl
+fraction_fails (Bad ∷ text) fault at profile s dates times ds = let same : (NonAsciiCodePoint, Bad ∷ text) ≡ fault = cc in rw same refl
 fraction_fails (Plain c ∷ text) fault at profile s dates times ds = go (digit c) refl
   where
-    digits_fail : (read : Read Fault Text) → with_first c read ≡ Err fault → after_digits profile s dates times ds (Plain c ∷ []) read ≡ Err fault
+    digits_fail : (read : Read Placed Text) → with_first c read ≡ Err fault → after_digits profile s dates times ds (Plain c ∷ []) read ≡ Err fault
     digits_fail (Ok more) is = absurd cc
     digits_fail (Err e) is = let same : e ≡ fault = cc in rw same refl
 
     go : (b : Bool) → digit c ≡ b → run_from profile (at_mark s dates times ds) (Plain c ∷ text) ≡ Err fault
     go true is = rw (is, over_digits profile s dates times ds _ text) (digits_fail (digits_of text) (rw is at at))
-    go false is = let same : FractionPart ≡ fault = cc (rw is at at) in rw (is, same) refl
+    go false is = let same : (FractionPart, Plain c ∷ text) ≡ fault = cc (rw is at at) in rw (is, same) refl
 
 -- ---- the letter after a fraction
 
 module _ (text : Text) (fraction : FractionParts) (rest : Text) (over : IsFractionOver text fraction rest) (profile : Profile) (s : Sign)
     (dates times : List Group) (ds : Text) where
   -- what is read from the decimal mark on
-  abbrev from_mark : Read Fault DurationParseRecord
+  abbrev from_mark : Read Placed DurationParseRecord
   from_mark = run_from profile (at_mark s dates times ds) text
 
-  pub no_letter : look_at NonAsciiCodePoint rest ≡ Ok None → from_mark ≡ Err abrupt_time_designator
+  pub no_letter : seen rest ≡ Ok None → from_mark ≡ Err (abrupt_time_designator, rest)
   unfolding run
   no_letter none = over.leads profile s dates times ds ∙ rw (nothing_is rest none) refl
 
-  pub breaks : (fault : Fault) → look_at NonAsciiCodePoint rest ≡ Err fault → from_mark ≡ Err fault
+  pub breaks : (fault : Placed) → seen rest ≡ Err fault → from_mark ≡ Err fault
   breaks fault bad = over.leads profile s dates times ds ∙ fails _ _ rest fault bad
 
-  module _ (c : ℕ) (found : look_at NonAsciiCodePoint rest ≡ Ok (Some c)) where
+  module _ (c : ℕ) (found : seen rest ≡ Ok (Some c)) where
     group_is : (value : ℕ) → value ≡ decimal ds
         → ◌≡◌ {A = Group} (fraction_group ds over.fs c) (time_group_of (record { value = value; fraction = Some fraction; letter = c }))
     group_is value number i = record { unit = unit_of time c; value = sym number i; fraction = Some (sym over.is i) }
 
-    pub ends_group : (value : ℕ) (new : Text) → value ≡ decimal ds → new ≡ drop 1 rest
+    pub ends_group : (value : ℕ) (new : Text) → value ≡ decimal ds → new ≡ rest
         → from_mark ≡ after_time_group profile s dates times (record { value = value; fraction = Some fraction; letter = c }) new
     unfolding run step
     ends_group value new number moved = over.leads profile s dates times ds ∙ go (designator time c) refl
       where
         go : (b : Bool) → designator time c ≡ b → run_from profile (in_fraction s dates times ds over.fs) rest
             ≡ after_time_group profile s dates times (record { value = value; fraction = Some fraction; letter = c }) new
-        go true is = rw (first_is rest c found, over.no_digit c found, is, moved) (end_step profile s dates times _ _ (drop 1 rest) (group_is value number))
-        go false is = rw (first_is rest c found, over.no_digit c found, is) refl
+        go true is = rw (moved, first_is rest c found, over.no_digit c found, is) (end_step profile s dates times _ _ (drop 1 rest) (group_is value number))
+        go false is = rw (moved, first_is rest c found, over.no_digit c found, is) refl

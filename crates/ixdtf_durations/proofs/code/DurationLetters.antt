@@ -1,5 +1,5 @@
 -- The letter after the digits of a group, and the groups that it ends.
-use Rattle.std.proofs.Common.{◌≡◌, ℕ, Bool, true, false, [], ◌∷◌, List, None, IsSome, IfOk, Result, Ok, Err, map, refl, sym, ◌∙◌, arith, nat_le, if◌then◌else◌}
+use Rattle.std.proofs.Common.{◌≡◌, ℕ, Bool, true, false, [], ◌∷◌, List, None, IsSome, IfOk, Result, Ok, Err, map, drop, refl, sym, ◌∙◌, arith, nat_le, if◌then◌else◌}
 use Rattle.std.proofs.lemmas.Bool.Decides.{nat_tests}
 use Rattle.ixdtf_grammar.specs.declared.profile.Profile.{Profile}
 use Rattle.ixdtf_grammar.specs.declared.records.Sign.{Sign}
@@ -15,11 +15,12 @@ use Rattle.ixdtf_grammar.specs.language.Durations.DurationUnit.{hours, minutes, 
 use Rattle.ixdtf_grammar.specs.table.Faults.{Fault}
 use Rattle.ixdtf_grammar.specs.table.DurationFronts.{Context}
 use Rattle.ixdtf_grammar.specs.table.DurationFronts.Context.{in_dates, in_times}
-use Rattle.ixdtf_reading.specs.reading.Looks.{Read, ◌>>=◌, error_of}
+use Rattle.ixdtf_reading.specs.reading.Looks.{Placed, Read, ◌>>=◌, error_of}
 use Rattle.ixdtf_reading.specs.reading.Durations.{State, add_group, end_group, step, run, integer_group}
 use Rattle.ixdtf_reading.specs.reading.Durations.State.{between, in_number, at_mark, ended}
-use Rattle.ixdtf_durations.specs.reading.DurationClauses.{run_from, run_where, IsNumber, date_group_of, date_read, after_time_group}
+use Rattle.ixdtf_durations.specs.reading.DurationClauses.{run_from, run_where, IsNumber, behind_unit, date_group_of, date_read, after_time_group}
 use Rattle.ixdtf_durations.specs.reading.DurationClauses.{date_group_fits, time_group_fits}
+use Rattle.ixdtf_reading.proofs.code.FirstLetter.{first_is}
 
 -- ---- letters
 
@@ -38,36 +39,36 @@ mark_no_designator c is = grind (arith, nat_tests)
 
 -- reading goes on where both tests hold
 both_tests : (profile : Profile) (a b : Bool) (x y : Fault) (state : State) (text : Text)
-    → (((if a then (if b then Ok state else Err x) else Err y) >>= λ next. run_from profile next text))
+    → (((if a then (if b then Ok state else Err (x, text)) else Err (y, text)) >>= λ next. run_from profile next text))
     ≡ run_where profile (if a then (if b then Ok tt else Err x) else Err y) state text
 both_tests profile true true x y state text = refl
 both_tests profile true false x y state text = refl
 both_tests profile false b x y state text = refl
 
 one_test : (profile : Profile) (a : Bool) (y : Fault) (state : State) (text : Text)
-    → (((if a then Ok state else Err y) >>= λ next. run_from profile next text)) ≡ run_where profile (if a then Ok tt else Err y) state text
+    → (((if a then Ok state else Err (y, text)) >>= λ next. run_from profile next text)) ≡ run_where profile (if a then Ok tt else Err y) state text
 one_test profile true y state text = refl
 one_test profile false y state text = refl
 
 -- what comes of a group that is another
 date_step : (profile : Profile) (s : Sign) (dates : List Group) (h g : Group) (text : Text) → h ≡ g
-    → (add_group error_of profile (in_dates s dates) h >>= λ next. run_from profile next text)
+    → (add_group error_of profile text (in_dates s dates) h >>= λ next. run_from profile next text)
     ≡ run_where profile (date_group_fits profile dates g) (between (in_dates s (g ∷ dates))) text
 date_step profile s dates h g text is = rw is (both_tests profile (in_order profile dates g.unit) (nat_le g.value (greatest g.unit)) _ _ _ text)
 
 time_step : (profile : Profile) (s : Sign) (dates times : List Group) (h g : Group) (text : Text) → h ≡ g → nat_le g.value (greatest g.unit) ≡ true
-    → (add_group error_of profile (in_times s dates times) h >>= λ next. run_from profile next text)
+    → (add_group error_of profile text (in_times s dates times) h >>= λ next. run_from profile next text)
     ≡ run_where profile (time_group_fits profile times g) (between (in_times s dates (g ∷ times))) text
 time_step profile s dates times h g text is small = rw (is, small) (one_test profile (in_order profile times g.unit) _ _ text)
 
 pub end_step : (profile : Profile) (s : Sign) (dates times : List Group) (h g : Group) (text : Text) → h ≡ g
-    → (end_group error_of profile s dates times h >>= λ next. run_from profile next text)
+    → (end_group error_of profile text s dates times h >>= λ next. run_from profile next text)
     ≡ run_where profile (time_group_fits profile times g) (ended s dates times g) text
 end_step profile s dates times h g text is = rw is (one_test profile (in_order profile times g.unit) _ _ text)
 
 module _ (letter : ℕ → Letter) (first : ℕ) (old : List ℕ) (number : Number) (new : List ℕ) (reads : IsNumber letter first old number new) where
   -- what is read from the first digit on
-  abbrev from_first : Profile → Context → Read Fault DurationParseRecord
+  abbrev from_first : Profile → Context → Read Placed DurationParseRecord
   from_first profile context = run_from profile (in_number context (Plain first ∷ [])) (map letter old)
 
   no_digit : digit number.next ≡ false
@@ -79,14 +80,14 @@ module _ (letter : ℕ → Letter) (first : ℕ) (old : List ℕ) (number : Numb
 
   -- a date group ends there, or none
   pub ends_date : (profile : Profile) (s : Sign) (dates : List Group) → from_first profile (in_dates s dates)
-      ≡ run_where profile (date_read profile dates number) (between (in_dates s (date_group_of number ∷ dates))) (map letter new)
+      ≡ run_where profile (date_read profile dates number) (between (in_dates s (date_group_of number ∷ dates))) (behind_unit date number.next (map letter new))
   unfolding run step
   ends_date profile s dates = reads.leads profile _ ∙ go (designator date number.next) refl
     where
-      go : (b : Bool) → designator date number.next ≡ b → run_from profile (in_number (in_dates s dates) reads.ds) (Plain number.next ∷ map letter new)
-          ≡ run_where profile (date_read profile dates number) (between (in_dates s (date_group_of number ∷ dates))) (map letter new)
-      go true is = rw (no_digit, is) (date_step profile s dates _ _ (map letter new) (group_is date))
-      go false is = rw (no_digit, is) refl
+      go : (b : Bool) → designator date number.next ≡ b → run_from profile (in_number (in_dates s dates) reads.ds) (map letter new)
+          ≡ run_where profile (date_read profile dates number) (between (in_dates s (date_group_of number ∷ dates))) (behind_unit date number.next (map letter new))
+      go true is = rw (first_is (map letter new) number.next reads.next, no_digit, is) (date_step profile s dates _ _ (drop 1 (map letter new)) (group_is date))
+      go false is = rw (first_is (map letter new) number.next reads.next, no_digit, is) refl
 
   -- a time group ends there, or none
   pub ends_time : (profile : Profile) (s : Sign) (dates times : List Group) → decimal_mark number.next ≡ false → nat_le number.value greatest_value ≡ true
@@ -100,17 +101,18 @@ module _ (letter : ℕ → Letter) (first : ℕ) (old : List ℕ) (number : Numb
       in_range false true = small
       in_range false false = small
 
-      go : (b : Bool) → designator time number.next ≡ b → run_from profile (in_number (in_times s dates times) reads.ds) (Plain number.next ∷ map letter new)
+      go : (b : Bool) → designator time number.next ≡ b → run_from profile (in_number (in_times s dates times) reads.ds) (map letter new)
           ≡ after_time_group profile s dates times (record { value = number.value; fraction = None; letter = number.next }) (map letter new)
-      go true is = rw (no_digit, is)
-          (time_step profile s dates times _ _ (map letter new) (group_is time) (in_range (hour_letter number.next) (minute_letter number.next)))
-      go false is = rw (no_digit, is, miss) refl
+      go true is = rw (first_is (map letter new) number.next reads.next, no_digit, is)
+          (time_step profile s dates times _ _ (drop 1 (map letter new)) (group_is time) (in_range (hour_letter number.next) (minute_letter number.next)))
+      go false is = rw (first_is (map letter new) number.next reads.next, no_digit, is, miss) refl
 
-  -- a decimal mark
-  pub at_decimal_mark : (profile : Profile) (s : Sign) (dates times : List Group) → decimal_mark number.next ≡ true
-      → from_first profile (in_times s dates times) ≡ run_from profile (at_mark s dates times reads.ds) (map letter new)
+  -- a decimal mark, which was taken off
+  pub at_decimal_mark : (profile : Profile) (s : Sign) (dates times : List Group) (left : Text) → left ≡ drop 1 (map letter new) → decimal_mark number.next ≡ true
+      → from_first profile (in_times s dates times) ≡ run_from profile (at_mark s dates times reads.ds) left
   unfolding run step
-  at_decimal_mark profile s dates times is = reads.leads profile _ ∙ rw (no_digit, mark_no_designator _ is, is) refl
+  at_decimal_mark profile s dates times left moved is =
+      reads.leads profile _ ∙ rw (first_is (map letter new) number.next reads.next, no_digit, mark_no_designator _ is, is, moved) refl
 
 -- a group that has a fraction is not one without
 pub has_fraction : (result : Result TimeGroup Stop) (otherwise : Type 0) → IfOk result (λ g. IsSome g.fraction)

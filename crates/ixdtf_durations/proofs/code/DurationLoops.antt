@@ -11,13 +11,13 @@ use Rattle.ixdtf_grammar.specs.language.Letters.{Letter, Text, digit, time_lette
 use Rattle.ixdtf_grammar.specs.language.Letters.Letter.{Plain}
 use Rattle.ixdtf_grammar.specs.language.Fractions.{FractionParts}
 use Rattle.ixdtf_grammar.specs.language.Durations.{Group, unit_of, least_step, date_duration, time_duration_to}
-use Rattle.ixdtf_grammar.specs.language.Durations.Half.{time}
+use Rattle.ixdtf_grammar.specs.language.Durations.Half.{date, time}
 use Rattle.ixdtf_grammar.specs.table.Faults.{Fault}
-use Rattle.ixdtf_grammar.specs.table.Faults.Fault.{NonAsciiCodePoint, InvalidEnd}
+use Rattle.ixdtf_grammar.specs.table.Faults.Fault.{InvalidEnd}
 use Rattle.ixdtf_grammar.specs.table.DurationFronts.Context.{in_dates, in_times}
-use Rattle.ixdtf_reading.specs.reading.Looks.{Read, look_at}
+use Rattle.ixdtf_reading.specs.reading.Looks.{Placed, Read, seen}
 use Rattle.ixdtf_reading.specs.reading.Durations.State.{between, in_number}
-use Rattle.ixdtf_durations.specs.reading.DurationClauses.{run_from, run_where, date_group_of, time_group_of, rank, date_rank_from, time_rank_from, date_read}
+use Rattle.ixdtf_durations.specs.reading.DurationClauses.{run_from, run_where, date_group_of, time_group_of, rank, date_rank_from, time_rank_from, behind_unit, date_read}
 use Rattle.ixdtf_durations.specs.reading.DurationClauses.{after_group, after_time_group, begins_group, HasSmallDates, IsDateRecord, IsTimeRecord, AreDates, dated}
 use Rattle.ixdtf_durations.proofs.code.DurationRanks.{below}
 use Rattle.ixdtf_durations.proofs.code.DurationGroups.{HasDates, HasTimes, date_added, date_refused, time_added, time_refused}
@@ -37,7 +37,7 @@ begins_none (Some f) c miss is none = cc
 
 module _ (profile : Profile) (first : ℕ) (whole : Text) where
   -- what is read from the first digit of date groups on
-  abbrev first_dates : Sign → Read Fault DurationParseRecord
+  abbrev first_dates : Sign → Read Placed DurationParseRecord
   first_dates s = run_from profile (in_number (in_dates s []) (Plain first ∷ [])) whole
 
   -- So far date groups were read, and the first digit of one more.
@@ -54,30 +54,32 @@ module _ (profile : Profile) (first : ℕ) (whole : Text) where
     pub leads : (s : Sign) → first_dates s ≡ run_from profile (between (in_dates s (last ∷ earlier))) rest
 
   -- where one more date group is refused by its digits
-  pub date_fails : (rest : Text) (values : List ℕ) (least c : ℕ) → DatesSoFar rest values least c → (fault : Fault)
+  pub date_fails : (rest : Text) (values : List ℕ) (least c : ℕ) → DatesSoFar rest values least c → (fault : Placed)
       → ((s : Sign) (dates : List Group) → run_from profile (in_number (in_dates s dates) (Plain c ∷ [])) rest ≡ Err fault)
       → (s : Sign) → first_dates s ≡ Err fault
   date_fails rest values least c far fault refuses s = far.leads s ∙ refuses s far.dates
 
-  module _ {rest : Text} {values : List ℕ} {least c : ℕ} (far : DatesSoFar rest values least c) (n : Number) (mid : Text)
+  -- the digits of one more date group, and what is left behind its letter, or at a letter that ends none
+  module _ {rest : Text} {values : List ℕ} {least c : ℕ} (far : DatesSoFar rest values least c) (n : Number) (mid next : Text)
       (read : (s : Sign) (dates : List Group) → run_from profile (in_number (in_dates s dates) (Plain c ∷ [])) rest
-      ≡ run_where profile (date_read profile dates n) (between (in_dates s (date_group_of n ∷ dates))) mid) where
-    pub date_added_on : (r step : ℕ) → date_rank_from least n ≡ Ok r → step ≡ least_step profile → DatesRead mid (slice_set values r n.value) (r + step)
+      ≡ run_where profile (date_read profile dates n) (between (in_dates s (date_group_of n ∷ dates))) (behind_unit date n.next mid))
+      (moved : next ≡ behind_unit date n.next mid) where
+    pub date_added_on : (r step : ℕ) → date_rank_from least n ≡ Ok r → step ≡ least_step profile → DatesRead next (slice_set values r n.value) (r + step)
     date_added_on r step is stepped = let added = date_added profile values least far.dates far.has n r is in record {
       last = date_group_of n;
       earlier = far.dates;
       has = rw stepped added.1;
-      leads = λ s. far.leads s ∙ read s far.dates ∙ rw added.0 refl;
+      leads = λ s. far.leads s ∙ read s far.dates ∙ rw (added.0, moved) refl;
     }
 
-    pub date_refused_on : (fault : Fault) → date_rank_from least n ≡ Err fault → (s : Sign) → first_dates s ≡ Err fault
-    date_refused_on fault is s = far.leads s ∙ read s far.dates ∙ rw (date_refused profile values least far.dates far.has n fault is) refl
+    pub date_refused_on : (fault : Fault) → date_rank_from least n ≡ Err fault → (s : Sign) → first_dates s ≡ Err (fault, next)
+    date_refused_on fault is s = far.leads s ∙ read s far.dates ∙ rw (date_refused profile values least far.dates far.has n fault is, moved) refl
 
   module _ {rest : Text} {values : List ℕ} {least : ℕ} (far : DatesRead rest values least) where
     pub dates_small : HasSmallDates values
     dates_small = rw far.has.numbers (below _ _ far.has.small.0, below _ _ far.has.small.1, below _ _ far.has.small.2)
 
-    pub dates_go_on : (next : Text) (c : ℕ) → look_at NonAsciiCodePoint rest ≡ Ok (Some c) → digit c ≡ true → next ≡ drop 1 rest
+    pub dates_go_on : (next : Text) (c : ℕ) → seen rest ≡ Ok (Some c) → digit c ≡ true → next ≡ drop 1 rest
         → DatesSoFar next values least c
     dates_go_on next c found is moved = record {
       dates = far.last ∷ far.earlier;
@@ -85,11 +87,11 @@ module _ (profile : Profile) (first : ℕ) (whole : Text) where
       leads = λ s. far.leads s ∙ at_digit profile rest c found _ is ∙ rw moved refl;
     }
 
-    pub dates_stop : (c : ℕ) → look_at NonAsciiCodePoint rest ≡ Ok (Some c) → digit c ≡ false → time_letter c ≡ false
-        → (s : Sign) → first_dates s ≡ Err InvalidEnd
+    pub dates_stop : (c : ℕ) → seen rest ≡ Ok (Some c) → digit c ≡ false → time_letter c ≡ false
+        → (s : Sign) → first_dates s ≡ Err (InvalidEnd, rest)
     dates_stop c found miss nor s = far.leads s ∙ dates_at_other profile rest c found s _ miss nor
 
-    pub dates_break : (fault : Fault) → look_at NonAsciiCodePoint rest ≡ Err fault → (s : Sign) → first_dates s ≡ Err fault
+    pub dates_break : (fault : Placed) → seen rest ≡ Err fault → (s : Sign) → first_dates s ≡ Err fault
     dates_break fault bad s = far.leads s ∙ fails _ _ rest fault bad
 
     module _ (letter : ℕ → Letter) (old : List ℕ) (is_whole : whole ≡ map letter old) (new : List ℕ) (found : DateDurationRecord)
@@ -97,7 +99,7 @@ module _ (profile : Profile) (first : ℕ) (whole : Text) where
       record_is : date_duration (far.last ∷ far.earlier) ≡ Some found
       record_is = is far.last far.earlier far.has.numbers
 
-      pub dates_timed : (c : ℕ) → look_at NonAsciiCodePoint rest ≡ Ok (Some c) → time_letter c ≡ true → map letter new ≡ drop 1 rest
+      pub dates_timed : (c : ℕ) → seen rest ≡ Ok (Some c) → time_letter c ≡ true → map letter new ≡ drop 1 rest
           → AreDates profile letter first old (record { «record» = found; timed = true }) new
       dates_timed c looked mark moved = record {
         groups = far.last ∷ far.earlier;
@@ -106,7 +108,7 @@ module _ (profile : Profile) (first : ℕ) (whole : Text) where
         alone = λ never. absurd cc;
       }
 
-      pub dates_alone : look_at NonAsciiCodePoint rest ≡ Ok None → map letter new ≡ rest
+      pub dates_alone : seen rest ≡ Ok None → map letter new ≡ rest
           → AreDates profile letter first old (record { «record» = found; timed = false }) new
       dates_alone none stayed = record {
         groups = far.last ∷ far.earlier;
@@ -119,7 +121,7 @@ module _ (profile : Profile) (first : ℕ) (whole : Text) where
 
 module _ (profile : Profile) (first : ℕ) (whole : Text) where
   -- what is read from the first digit of time groups on
-  abbrev first_times : Sign → List Group → Read Fault DurationParseRecord
+  abbrev first_times : Sign → List Group → Read Placed DurationParseRecord
   first_times s dates = run_from profile (in_number (in_times s dates []) (Plain first ∷ [])) whole
 
   -- So far time groups were read, and the first digit of one more.
@@ -136,29 +138,31 @@ module _ (profile : Profile) (first : ℕ) (whole : Text) where
     pub leads : (s : Sign) (dates : List Group) → first_times s dates ≡ run_from profile (after_group g.fraction s dates earlier (time_group_of g)) rest
 
   -- where one more time group is refused by its digits
-  pub time_fails : (rest : Text) (values : List ℕ) (least c : ℕ) → TimesSoFar rest values least c → (fault : Fault)
+  pub time_fails : (rest : Text) (values : List ℕ) (least c : ℕ) → TimesSoFar rest values least c → (fault : Placed)
       → ((s : Sign) (dates times : List Group) → run_from profile (in_number (in_times s dates times) (Plain c ∷ [])) rest ≡ Err fault)
       → (s : Sign) (dates : List Group) → first_times s dates ≡ Err fault
   time_fails rest values least c far fault refuses s dates = far.leads s dates ∙ refuses s dates far.times
 
-  module _ {rest : Text} {values : List ℕ} {least c : ℕ} (far : TimesSoFar rest values least c) (g : TimeGroup) (mid : Text)
+  -- one more time group up to its letter, and what is left behind the letter, or at one that ends none
+  module _ {rest : Text} {values : List ℕ} {least c : ℕ} (far : TimesSoFar rest values least c) (g : TimeGroup) (mid next : Text)
       (read : (s : Sign) (dates times : List Group) → run_from profile (in_number (in_times s dates times) (Plain c ∷ [])) rest
-      ≡ after_time_group profile s dates times g mid) where
+      ≡ after_time_group profile s dates times g mid)
+      (moved : next ≡ behind_unit time g.letter mid) where
     pub time_added_on : (r step : ℕ) → time_rank_from least g.letter ≡ Ok r → step ≡ least_step profile
-        → TimesRead mid (slice_set values r g.value) (r + step) g r
+        → TimesRead next (slice_set values r g.value) (r + step) g r
     time_added_on r step is stepped = let added = time_added profile values least far.times far.has g r is in record {
       earlier = far.times;
       has = rw stepped added.2;
       ranked = added.1;
-      leads = λ s dates. far.leads s dates ∙ read s dates far.times ∙ rw added.0 refl;
+      leads = λ s dates. far.leads s dates ∙ read s dates far.times ∙ rw (added.0, moved) refl;
     }
 
-    pub time_refused_on : (fault : Fault) → time_rank_from least g.letter ≡ Err fault → (s : Sign) (dates : List Group) → first_times s dates ≡ Err fault
+    pub time_refused_on : (fault : Fault) → time_rank_from least g.letter ≡ Err fault → (s : Sign) (dates : List Group) → first_times s dates ≡ Err (fault, next)
     time_refused_on fault is s dates =
-        far.leads s dates ∙ read s dates far.times ∙ rw (time_refused profile values least far.times far.has g fault is) refl
+        far.leads s dates ∙ read s dates far.times ∙ rw (time_refused profile values least far.times far.has g fault is, moved) refl
 
   module _ {rest : Text} {values : List ℕ} {least : ℕ} {g : TimeGroup} {r : ℕ} (far : TimesRead rest values least g r) where
-    pub times_go_on : (next : Text) (c : ℕ) → look_at NonAsciiCodePoint rest ≡ Ok (Some c) → digit c ≡ true → g.fraction ≡ None → next ≡ drop 1 rest
+    pub times_go_on : (next : Text) (c : ℕ) → seen rest ≡ Ok (Some c) → digit c ≡ true → g.fraction ≡ None → next ≡ drop 1 rest
         → TimesSoFar next values least c
     times_go_on next c found is none moved = record {
       times = time_group_of g ∷ far.earlier;
@@ -172,20 +176,20 @@ module _ (profile : Profile) (first : ℕ) (whole : Text) where
         go s dates None without = at_digit profile rest c found (in_times s dates (time_group_of g ∷ far.earlier)) is
         go s dates (Some fraction) without = absurd cc
 
-    pub times_stop : (c : ℕ) → look_at NonAsciiCodePoint rest ≡ Ok (Some c) → (digit c ≡ true → g.fraction ≡ None → ⊥)
-        → (s : Sign) (dates : List Group) → first_times s dates ≡ Err InvalidEnd
+    pub times_stop : (c : ℕ) → seen rest ≡ Ok (Some c) → (digit c ≡ true → g.fraction ≡ None → ⊥)
+        → (s : Sign) (dates : List Group) → first_times s dates ≡ Err (InvalidEnd, rest)
     times_stop c found never s dates = far.leads s dates ∙ go g.fraction refl (digit c) refl
       where
         go : (fraction : Option FractionParts) → g.fraction ≡ fraction → (b : Bool) → digit c ≡ b
-            → run_from profile (after_group fraction s dates far.earlier (time_group_of g)) rest ≡ Err InvalidEnd
+            → run_from profile (after_group fraction s dates far.earlier (time_group_of g)) rest ≡ Err (InvalidEnd, rest)
         go None none true is = absurd (never is none)
         go None none false is = more_times_at_other profile rest c found s dates (time_group_of g) far.earlier is
         go (Some fraction) some b is = fraction_at_other profile rest c found s dates far.earlier (time_group_of g)
 
-    pub times_break : (fault : Fault) → look_at NonAsciiCodePoint rest ≡ Err fault → (s : Sign) (dates : List Group) → first_times s dates ≡ Err fault
+    pub times_break : (fault : Placed) → seen rest ≡ Err fault → (s : Sign) (dates : List Group) → first_times s dates ≡ Err fault
     times_break fault bad s dates = far.leads s dates ∙ fails _ _ rest fault bad
 
-    pub times_end_with : (found : TimeDurationRecord) → look_at NonAsciiCodePoint rest ≡ Ok None → IsTimeRecord values r g.fraction found
+    pub times_end_with : (found : TimeDurationRecord) → seen rest ≡ Ok None → IsTimeRecord values r g.fraction found
         → (s : Sign) (dates : List Group) → first_times s dates ≡ Ok (dated s (date_duration dates) (Some found), rest)
     times_end_with found none is s dates =
         far.leads s dates ∙ go g.fraction ∙ rw (is g.letter (time_group_of g ∷ far.earlier) far.ranked far.has.numbers) refl

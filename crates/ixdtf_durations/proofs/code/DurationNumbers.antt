@@ -5,11 +5,10 @@ use Rattle.ixdtf_grammar.specs.language.Letters.{Text, digit}
 use Rattle.ixdtf_grammar.specs.language.Letters.Letter.{Plain}
 use Rattle.ixdtf_grammar.specs.language.Digits.{decimal}
 use Rattle.ixdtf_grammar.specs.language.Durations.{greatest_value}
-use Rattle.ixdtf_grammar.specs.table.Faults.{Fault}
-use Rattle.ixdtf_grammar.specs.table.Faults.Fault.{NonAsciiCodePoint, DurationValueExceededRange}
+use Rattle.ixdtf_grammar.specs.table.Faults.Fault.{DurationValueExceededRange}
 use Rattle.ixdtf_grammar.specs.table.Lines.{no_designator}
 use Rattle.ixdtf_grammar.specs.table.DurationFronts.{Context, half_of}
-use Rattle.ixdtf_reading.specs.reading.Looks.{look_at}
+use Rattle.ixdtf_reading.specs.reading.Looks.{Placed, seen}
 use Rattle.ixdtf_reading.specs.reading.Durations.{step, run}
 use Rattle.ixdtf_reading.specs.reading.Durations.State.{in_number}
 use Rattle.ixdtf_durations.specs.reading.DurationClauses.{run_from}
@@ -28,7 +27,7 @@ pub begins : (first : ℕ) (whole : Text) (value : ℕ) → value ≡ decimal (P
 begins first whole value is = record { ds = Plain first ∷ []; number = is; leads = λ profile context. refl }
 
 module _ (first : ℕ) (whole rest : Text) (value : ℕ) (far : IsSoFar first whole rest value) where
-  module _ (c : ℕ) (found : look_at NonAsciiCodePoint rest ≡ Ok (Some c)) where
+  module _ (c : ℕ) (found : seen rest ≡ Ok (Some c)) where
     module _ (is : digit c ≡ true) where
       grown : value * 10 + (c - 48) ≡ decimal (far.ds ++ (Plain c ∷ []))
       grown = sym (rw (decimal_snoc far.ds (Plain c), far.number) refl)
@@ -43,21 +42,16 @@ module _ (first : ℕ) (whole rest : Text) (value : ℕ) (far : IsSoFar first wh
       }
 
       -- the number is past the greatest
-      pub passes : nat_le (value * 10 + (c - 48)) greatest_value ≡ false → (profile : Profile) (context : Context)
-          → run_from profile (in_number context (Plain first ∷ [])) whole ≡ Err DurationValueExceededRange
+      pub passes : (next : Text) → next ≡ drop 1 rest → nat_le (value * 10 + (c - 48)) greatest_value ≡ false → (profile : Profile) (context : Context)
+          → run_from profile (in_number context (Plain first ∷ [])) whole ≡ Err (DurationValueExceededRange, next)
       unfolding run step
-      passes past profile context = far.leads profile context ∙ rw (first_is rest c found, is, ← grown, past) refl
+      passes next moved past profile context = far.leads profile context ∙ rw (first_is rest c found, is, ← grown, past, moved) refl
 
-    -- the letter is no digit
-    pub stops : (next : Text) → next ≡ drop 1 rest → (profile : Profile) (context : Context)
-        → run_from profile (in_number context (Plain first ∷ [])) whole ≡ run_from profile (in_number context far.ds) (Plain c ∷ next)
-    stops next moved profile context = far.leads profile context ∙ rw (first_is rest c found, moved) refl
-
-  pub ends : look_at NonAsciiCodePoint rest ≡ Ok None → (profile : Profile) (context : Context)
-      → run_from profile (in_number context (Plain first ∷ [])) whole ≡ Err (no_designator (half_of context))
+  pub ends : seen rest ≡ Ok None → (profile : Profile) (context : Context)
+      → run_from profile (in_number context (Plain first ∷ [])) whole ≡ Err (no_designator (half_of context), rest)
   unfolding run
   ends none profile context = far.leads profile context ∙ rw (nothing_is rest none) refl
 
-  pub breaks : (fault : Fault) → look_at NonAsciiCodePoint rest ≡ Err fault → (profile : Profile) (context : Context)
+  pub breaks : (fault : Placed) → seen rest ≡ Err fault → (profile : Profile) (context : Context)
       → run_from profile (in_number context (Plain first ∷ [])) whole ≡ Err fault
   breaks fault bad profile context = far.leads profile context ∙ fails _ _ rest fault bad

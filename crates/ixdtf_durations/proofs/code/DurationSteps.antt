@@ -1,5 +1,5 @@
 -- Reading a duration from a state on, by what the first look finds.
-use Rattle.std.proofs.Common.{◌≡◌, ℕ, true, false, List, [], ◌∷◌, drop, map, Some, None, Result, Ok, Err, refl, ◌∙◌, arith, nat_le}
+use Rattle.std.proofs.Common.{◌≡◌, ℕ, ◌≤◌, true, false, List, [], ◌∷◌, drop, length, map, Option, Some, None, Result, Ok, Err, refl, ap, ◌∙◌, arith, nat_le}
 use Rattle.std.proofs.lemmas.Bool.Decides.{nat_tests}
 use Rattle.ixdtf_grammar.specs.declared.profile.Profile.{Profile}
 use Rattle.ixdtf_grammar.specs.declared.records.Sign.{Sign}
@@ -12,44 +12,43 @@ use Rattle.ixdtf_grammar.specs.language.Letters.Letter.{Plain, Bad}
 use Rattle.ixdtf_grammar.specs.language.Digits.{decimal}
 use Rattle.ixdtf_grammar.specs.language.Offsets.{sign_of}
 use Rattle.ixdtf_grammar.specs.language.Durations.{Group, greatest_value, duration_of}
-use Rattle.ixdtf_grammar.specs.table.Faults.{Fault}
 use Rattle.ixdtf_grammar.specs.table.Faults.Fault.{NonAsciiCodePoint, InvalidEnd, DurationDisgnator, TimeDurationDesignator}
 use Rattle.ixdtf_grammar.specs.table.Lines.{abrupt_duration_start, abrupt_duration_designator, abrupt_duration}
 use Rattle.ixdtf_grammar.specs.table.DurationFronts.{Context}
 use Rattle.ixdtf_grammar.specs.table.DurationFronts.Context.{in_dates, in_times}
-use Rattle.ixdtf_reading.specs.reading.Looks.{Read, error_of, look_at}
+use Rattle.ixdtf_reading.specs.reading.Looks.{Placed, Read, error_of, look_at, seen}
 use Rattle.ixdtf_reading.specs.reading.Durations.{State, state_look, step, run}
 use Rattle.ixdtf_reading.specs.reading.Durations.State.{started, signed, between, in_number, ended}
 use Rattle.ixdtf_durations.specs.reading.DurationClauses.{run_from, ReadsOn}
 use Rattle.ixdtf_reading.proofs.code.FirstLetter.{first_is, nothing_is}
 
-at_bad_is : (profile : Profile) (s : State) → (state_look error_of profile s).at_bad ≡ NonAsciiCodePoint
-at_bad_is profile (between (in_dates s [])) = refl
-at_bad_is profile (between (in_times s dates [])) = refl
-at_bad_is profile s = refl
+at_bad_is : (profile : Profile) (s : State) (text : Text) → (state_look error_of profile s).at_bad text ≡ (NonAsciiCodePoint, text)
+at_bad_is profile (between (in_dates s [])) text = refl
+at_bad_is profile (between (in_times s dates [])) text = refl
+at_bad_is profile s text = refl
 
 -- a look failed
-pub fails : (profile : Profile) (s : State) (text : Text) (fault : Fault) → look_at NonAsciiCodePoint text ≡ Err fault → run_from profile s text ≡ Err fault
+pub fails : (profile : Profile) (s : State) (text : Text) (fault : Placed) → seen text ≡ Err fault → run_from profile s text ≡ Err fault
 unfolding look_at run
-fails profile s (Bad ∷ more) fault e = let same : NonAsciiCodePoint ≡ fault = cc in rw (at_bad_is profile s, same) refl
+fails profile s (Bad ∷ more) fault e = let same : (NonAsciiCodePoint, Bad ∷ more) ≡ fault = cc in rw (at_bad_is profile s, same) refl
 fails profile s text fault e = absurd cc
 
 module _ (profile : Profile) (text : Text) where
   -- there is no letter
-  module _ (none : look_at NonAsciiCodePoint text ≡ Ok None) where
-    pub start_at_end : run_from profile started text ≡ Err abrupt_duration_start
+  module _ (none : seen text ≡ Ok None) where
+    pub start_at_end : run_from profile started text ≡ Err (abrupt_duration_start, text)
     unfolding run
     start_at_end = rw (nothing_is text none) refl
 
-    pub signed_at_end : (s : Sign) → run_from profile (signed s) text ≡ Err abrupt_duration_designator
+    pub signed_at_end : (s : Sign) → run_from profile (signed s) text ≡ Err (abrupt_duration_designator, text)
     unfolding run
     signed_at_end s = rw (nothing_is text none) refl
 
-    pub opened_at_end : (s : Sign) → run_from profile (between (in_dates s [])) text ≡ Err abrupt_duration
+    pub opened_at_end : (s : Sign) → run_from profile (between (in_dates s [])) text ≡ Err (abrupt_duration, text)
     unfolding run
     opened_at_end s = rw (nothing_is text none) refl
 
-    pub times_at_end : (s : Sign) (dates : _) → run_from profile (between (in_times s dates [])) text ≡ Err TimeDurationDesignator
+    pub times_at_end : (s : Sign) (dates : _) → run_from profile (between (in_times s dates [])) text ≡ Err (TimeDurationDesignator, text)
     unfolding run
     times_at_end s dates = rw (nothing_is text none) refl
 
@@ -67,7 +66,7 @@ module _ (profile : Profile) (text : Text) where
     fraction_end s dates times g = rw (nothing_is text none) refl
 
   -- this letter is first
-  module _ (c : ℕ) (first : look_at NonAsciiCodePoint text ≡ Ok (Some c)) where
+  module _ (c : ℕ) (first : seen text ≡ Ok (Some c)) where
     pub start_at_sign : sign c ≡ true → run_from profile started text ≡ run_from profile (signed (sign_of c)) (drop 1 text)
     unfolding run step
     start_at_sign is = rw (first_is text c first, is) refl
@@ -77,7 +76,7 @@ module _ (profile : Profile) (text : Text) where
     unfolding run step
     start_at_designator miss is = rw (first_is text c first, miss, is) refl
 
-    pub start_at_other : sign c ≡ false → duration_designator c ≡ false → run_from profile started text ≡ Err DurationDisgnator
+    pub start_at_other : sign c ≡ false → duration_designator c ≡ false → run_from profile started text ≡ Err (DurationDisgnator, text)
     unfolding run
     start_at_other miss nor = rw (first_is text c first, miss, nor) refl
 
@@ -86,7 +85,7 @@ module _ (profile : Profile) (text : Text) where
     unfolding run step
     signed_at_designator s is = rw (first_is text c first, is) refl
 
-    pub signed_at_other : (s : Sign) → duration_designator c ≡ false → run_from profile (signed s) text ≡ Err DurationDisgnator
+    pub signed_at_other : (s : Sign) → duration_designator c ≡ false → run_from profile (signed s) text ≡ Err (DurationDisgnator, text)
     unfolding run
     signed_at_other s miss = rw (first_is text c first, miss) refl
 
@@ -100,21 +99,21 @@ module _ (profile : Profile) (text : Text) where
     dates_at_mark s [] is = rw (first_is text c first, no_digit is, is) refl
     dates_at_mark s (g ∷ dates) is = rw (first_is text c first, no_digit is, is) refl
 
-    pub dates_at_other : (s : Sign) (dates : _) → digit c ≡ false → time_letter c ≡ false → run_from profile (between (in_dates s dates)) text ≡ Err InvalidEnd
+    pub dates_at_other : (s : Sign) (dates : _) → digit c ≡ false → time_letter c ≡ false → run_from profile (between (in_dates s dates)) text ≡ Err (InvalidEnd, text)
     unfolding run
     dates_at_other s [] miss nor = rw (first_is text c first, miss, nor) refl
     dates_at_other s (g ∷ dates) miss nor = rw (first_is text c first, miss, nor) refl
 
-    pub times_at_other : (s : Sign) (dates : _) → digit c ≡ false → run_from profile (between (in_times s dates [])) text ≡ Err TimeDurationDesignator
+    pub times_at_other : (s : Sign) (dates : _) → digit c ≡ false → run_from profile (between (in_times s dates [])) text ≡ Err (TimeDurationDesignator, text)
     unfolding run
     times_at_other s dates miss = rw (first_is text c first, miss) refl
 
     pub more_times_at_other : (s : Sign) (dates : _) (g : Group) (times : _) → digit c ≡ false
-        → run_from profile (between (in_times s dates (g ∷ times))) text ≡ Err InvalidEnd
+        → run_from profile (between (in_times s dates (g ∷ times))) text ≡ Err (InvalidEnd, text)
     unfolding run
     more_times_at_other s dates g times miss = rw (first_is text c first, miss) refl
 
-    pub fraction_at_other : (s : Sign) (dates times : _) (g : Group) → run_from profile (ended s dates times g) text ≡ Err InvalidEnd
+    pub fraction_at_other : (s : Sign) (dates times : _) (g : Group) → run_from profile (ended s dates times g) text ≡ Err (InvalidEnd, text)
     unfolding run
     fraction_at_other s dates times g = rw (first_is text c first) refl
 
@@ -132,18 +131,41 @@ module _ (profile : Profile) (text : Text) where
     at_digit (in_times s dates (g ∷ times)) is = rw (first_is text c first, is, one_digit is) refl
 
 -- a group begins, and its first digit was taken off
-pub to_digit : (profile : Profile) (text next : Text) (c : ℕ) → look_at NonAsciiCodePoint text ≡ Ok (Some c) → digit c ≡ true → next ≡ drop 1 text
+pub to_digit : (profile : Profile) (text next : Text) (c : ℕ) → seen text ≡ Ok (Some c) → digit c ≡ true → next ≡ drop 1 text
     → (context : Context) → run_from profile (between context) text ≡ run_from profile (in_number context (Plain c ∷ [])) next
 to_digit profile text next c first is moved context = at_digit profile text c first context is ∙ rw moved refl
 
 -- a `T` stands behind `P` or behind date groups, and was taken off
-pub to_mark : (profile : Profile) (text next : Text) (c : ℕ) → look_at NonAsciiCodePoint text ≡ Ok (Some c) → time_letter c ≡ true → next ≡ drop 1 text
+pub to_mark : (profile : Profile) (text next : Text) (c : ℕ) → seen text ≡ Ok (Some c) → time_letter c ≡ true → next ≡ drop 1 text
     → (s : Sign) (dates : List Group) → run_from profile (between (in_dates s dates)) text ≡ run_from profile (between (in_times s dates [])) next
 to_mark profile text next c first is moved s dates = dates_at_mark profile text c first s dates is ∙ rw moved refl
 
+-- the letters that are left where a unit was taken off
+pub letters_left : (letter : ℕ → Letter) (old new : List ℕ) → new ≡ drop 1 old → map letter new ≡ drop 1 (map letter old)
+letters_left letter [] new is = ap (map letter) is
+letters_left letter (u ∷ us) new is = ap (map letter) is
+
+-- a look found this letter first, and it stays
+pub record LetterStays (letter : ℕ → Letter) (rest looked : List ℕ) (c : ℕ) : Type 0 where
+  pub found : seen (map letter rest) ≡ Ok (Some c)
+  pub here : seen (map letter looked) ≡ Ok (Some c)
+  pub left : map letter looked ≡ map letter rest
+  pub more : 1 ≤ length looked
+
+pub letter_stays : {letter : ℕ → Letter} {rest looked : List ℕ} {saw : Option ℕ} {c : ℕ}
+    → seen (map letter rest) ≡ Ok saw → saw ≡ Some c → looked ≡ rest → LetterStays letter rest looked c
+unfolding look_at
+letter_stays {letter} {rest} {looked} {saw} {c} sees is stays =
+    let found : seen (map letter rest) ≡ Ok (Some c) = cc in
+    record { found = found; here = rw stays found; left = ap (map letter) stays; more = rw stays (some_unit rest found) }
+  where
+    some_unit : (rest : List ℕ) → seen (map letter rest) ≡ Ok (Some c) → 1 ≤ length rest
+    some_unit [] found = absurd cc
+    some_unit (u ∷ us) found = omega arith
+
 -- what a function reads from one state is what it reads from another, where reading goes from there to here
 pub reads_on_earlier : {X : Type 0} (letter : ℕ → Letter) (profile : Profile) (from here : State) (old mid new : Unread) (result : Result X Stop)
-    (next : X → Text → Read Fault DurationParseRecord)
+    (next : X → Text → Read Placed DurationParseRecord)
     → run_from profile from (map letter old.rest) ≡ run_from profile here (map letter mid.rest) → ReadsOn letter profile here mid result new next
     → ReadsOn letter profile from old result new next
 reads_on_earlier letter profile from here old mid new (Ok x) next e is = e ∙ is

@@ -1,6 +1,6 @@
 -- Forms of the clauses of the private functions that read durations, and what their types stand for. No public clause cites one.
 use Rattle.std.specs.Prelude.{◌≡◌, ◌≤◌, ℕ, Bool, false, IsFalse, IsTrue, List, [], ◌∷◌, map}
-use Rattle.std.specs.Prelude.{Option, Some, None, Result, Ok, Err, nat_le, slice_index_or, if◌then◌else◌}
+use Rattle.std.specs.Prelude.{Option, Some, None, Result, Ok, Err, nat_le, drop, slice_index_or, if◌then◌else◌}
 use Rattle.ixdtf_grammar.specs.declared.profile.Profile.{Profile}
 use Rattle.ixdtf_grammar.specs.declared.records.Sign.{Sign}
 use Rattle.ixdtf_grammar.specs.declared.records.DurationParseRecord.{DurationParseRecord}
@@ -23,36 +23,37 @@ use Rattle.ixdtf_grammar.specs.table.DurationFronts.{Context, half_of}
 use Rattle.ixdtf_grammar.specs.table.DurationFronts.Context.{in_dates, in_times}
 use Rattle.ixdtf_grammar.specs.table.Lines.{no_designator}
 use Rattle.ixdtf_grammar.specs.Views.{Unread}
-use Rattle.ixdtf_reading.specs.reading.Looks.{Read, error_of}
+use Rattle.ixdtf_reading.specs.reading.Looks.{Read, Placed, error_of, seen}
 use Rattle.ixdtf_reading.specs.reading.Clauses.{fault_of_stop}
 use Rattle.ixdtf_reading.specs.reading.Durations.{State, run}
 use Rattle.ixdtf_reading.specs.reading.Durations.State.{between, in_number, ended}
 
 -- reading a duration from a state on, by errors
-abbrev pub run_from : Profile → State → Text → Read Fault DurationParseRecord
+abbrev pub run_from : Profile → State → Text → Read Placed DurationParseRecord
 run_from profile state text = run error_of profile state text
 
 -- Reading from a state on, over what the function took off, is what comes of its value; or it is the fault of its stop.
-abbrev pub ReadsOn : {X : Type 0} → (ℕ → Letter) → Profile → State → Unread → Result X Stop → Unread → (X → Text → Read Fault DurationParseRecord) → Type 0
+abbrev pub ReadsOn : {X : Type 0} → (ℕ → Letter) → Profile → State → Unread → Result X Stop → Unread → (X → Text → Read Placed DurationParseRecord) → Type 0
 ReadsOn letter profile from old (Ok x) new next = run_from profile from (map letter old.rest) ≡ next x (map letter new.rest)
-ReadsOn letter profile from old (Err e) new next = run_from profile from (map letter old.rest) ≡ Err (fault_of_stop e)
+ReadsOn letter profile from old (Err e) new next = run_from profile from (map letter old.rest) ≡ Err (fault_of_stop e, map letter new.rest)
 
 -- ---- numbers
 
--- reading, in a number of any context, goes over digits of this number, and to a letter that is no digit
+-- reading, in a number of any context, goes over digits of this number, up to a letter that is no digit
 pub record IsNumber (letter : ℕ → Letter) (first : ℕ) (old : List ℕ) (number : Number) (new : List ℕ) : Type 0 where
   pub ds : Text
   pub value : number.value ≡ decimal ds
+  pub next : seen (map letter new) ≡ Ok (Some number.next)
   pub other : IsFalse (digit number.next)
   pub leads : (profile : Profile) (context : Context) →
-      run_from profile (in_number context (Plain first ∷ [])) (map letter old) ≡ run_from profile (in_number context ds) (Plain number.next ∷ map letter new)
+      run_from profile (in_number context (Plain first ∷ [])) (map letter old) ≡ run_from profile (in_number context ds) (map letter new)
 
 -- a number after its first digit, where the end is this fault
 abbrev pub ReadsNumber : (ℕ → Letter) → ℕ → Fault → Unread → Result Number Stop → Unread → Type 0
 ReadsNumber letter first end old (Ok number) new = IsNumber letter first old.rest number new.rest
 ReadsNumber letter first end old (Err e) new =
     (profile : Profile) (context : Context) → no_designator (half_of context) ≡ end
-    → run_from profile (in_number context (Plain first ∷ [])) (map letter old.rest) ≡ Err (fault_of_stop e)
+    → run_from profile (in_number context (Plain first ∷ [])) (map letter old.rest) ≡ Err (fault_of_stop e, map letter new.rest)
 
 -- ---- groups
 
@@ -78,6 +79,10 @@ rank seconds = 3
 abbrev pub rank_seen : Half → ℕ → ℕ
 rank_seen half c = if designator half c then rank (unit_of half c) else 0
 
+-- what is still to be read behind a letter that ends a group of the half; another letter stays
+abbrev pub behind_unit : Half → ℕ → Text → Text
+behind_unit half c text = if designator half c then drop 1 text else text
+
 -- the rank of a group that may stand from this rank on, or why it may not
 abbrev pub date_rank_from : ℕ → Number → Result ℕ Fault
 date_rank_from least n =
@@ -99,25 +104,26 @@ abbrev pub time_group_fits : Profile → List Group → Group → Result (Unit {
 time_group_fits profile times g = if in_order profile times g.unit then Ok tt else Err TimeDurationPartOrder
 
 -- reading from a state on, where this is so
-abbrev pub run_where : Profile → Result (Unit {0}) Fault → State → Text → Read Fault DurationParseRecord
+abbrev pub run_where : Profile → Result (Unit {0}) Fault → State → Text → Read Placed DurationParseRecord
 run_where profile (Ok x) state text = run_from profile state text
-run_where profile (Err e) state text = Err e
+run_where profile (Err e) state text = Err (e, text)
 
 -- after a group with a fraction only the end may follow
 abbrev pub after_group : Option FractionParts → Sign → List Group → List Group → Group → State
 after_group None s dates times g = between (in_times s dates (g ∷ times))
 after_group (Some fraction) s dates times g = ended s dates times g
 
--- what comes of the letter that ends a group, in a text behind these groups
+-- what comes of the letter after a group, in a text behind these groups
 abbrev pub date_read : Profile → List Group → Number → Result (Unit {0}) Fault
 date_read profile dates n = if designator date n.next then date_group_fits profile dates (date_group_of n) else Err (no_designator date)
 
 abbrev pub time_read : Profile → List Group → TimeGroup → Result (Unit {0}) Fault
 time_read profile times g = if designator time g.letter then time_group_fits profile times (time_group_of g) else Err (no_designator time)
 
--- reading after a time group, where its letter ends one and it may stand there
-abbrev pub after_time_group : Profile → Sign → List Group → List Group → TimeGroup → Text → Read Fault DurationParseRecord
-after_time_group profile s dates times g = run_where profile (time_read profile times g) (after_group g.fraction s dates times (time_group_of g))
+-- reading from the letter of a time group on, where it ends one and the group may stand there
+abbrev pub after_time_group : Profile → Sign → List Group → List Group → TimeGroup → Text → Read Placed DurationParseRecord
+after_time_group profile s dates times g text =
+    run_where profile (time_read profile times g) (after_group g.fraction s dates times (time_group_of g)) (behind_unit time g.letter text)
 
 -- whether the letter begins one more time group, after one with a fraction or without
 abbrev pub begins_group : Option FractionParts → ℕ → Bool

@@ -116,12 +116,12 @@ end_has ok fault has is = absurd cc
 end_has (error e) fault has is = let same : e ≡ fault = cc in ap no_row (sym same) ∙ has
 
 stop_has : (l : Line) (place : Place) (fault : Fault) (rest : Text) → LineHas l → Stops l place fault rest → IsFalse (no_row fault)
-stop_has (line front goes_on at_end at_other) end fault rest has h = end_has at_end fault has.0 h.1
-stop_has (line front goes_on at_end at_other) other fault rest has h = ap no_row h.4 ∙ has.1 h.0
-stop_has (line front goes_on at_end at_other) bad fault rest has h = ap no_row h.2
-stop_has (scanned front e) end fault rest has h = ap no_row h.1 ∙ has
-stop_has (scanned front e) bad fault rest has h = ap no_row h.2
-stop_has (whole front e) anywhere fault rest has h = ap no_row h ∙ has
+stop_has (line front goes_on at_end at_other) (end left) fault rest has h = end_has at_end fault has.0 h.1
+stop_has (line front goes_on at_end at_other) (other left) fault rest has h = ap no_row h.4 ∙ has.1 h.0
+stop_has (line front goes_on at_end at_other) (bad left) fault rest has h = ap no_row h.2
+stop_has (scanned front e) (end left) fault rest has h = ap no_row h.1 ∙ has
+stop_has (scanned front e) (bad left) fault rest has h = ap no_row h.2
+stop_has (whole front e) (anywhere left) fault rest has h = ap no_row h.0 ∙ has
 stop_has l place fault rest has h = absurd h
 
 row_has : (reader : Reader) (text : Text) (pairs : List Pair) (fault : Fault) → HasFault reader text pairs fault → IsFalse (no_row fault)

@@ -103,14 +103,21 @@ never = alone plain_nowhere
 
 -- ---- where a row stops
 
+-- the same place in another text, which has this from there on
+abbrev pub moved_to : Text → Place → Place
+moved_to rest (end left) = end rest
+moved_to rest (other left) = other rest
+moved_to rest (bad left) = bad rest
+moved_to rest (anywhere left) = anywhere rest
+
 -- a row stops at a Bad, or at the same place in the other text
 pub stops_move : (l : Line) (place : Place) (fault : Fault) (rest other_rest : Text) → Sees rest other_rest → Stops l place fault rest
-    → (fault ≡ NonAsciiCodePoint) ⊎ Stops l place fault other_rest
-stops_move (line front goes_on at_end at_other) end fault rest other_rest sees h = absurd (subst (λ t. Sees t other_rest) h.0 sees)
-stops_move (line front goes_on at_end at_other) other fault rest other_rest sees h =
-    let next = subst (λ t. Sees t other_rest) h.2 sees in inr (h.0, next.0, next.1, h.3, h.4)
-stops_move (line front goes_on at_end at_other) bad fault rest other_rest sees h = inl h.2
-stops_move (scanned front e) end fault rest other_rest sees h = absurd (subst (λ t. Sees t other_rest) h.0 sees)
-stops_move (scanned front e) bad fault rest other_rest sees h = inl h.2
-stops_move (whole front e) anywhere fault rest other_rest sees h = inr h
+    → (fault ≡ NonAsciiCodePoint) ⊎ Stops l (moved_to other_rest place) fault other_rest
+stops_move (line front goes_on at_end at_other) (end left) fault rest other_rest sees h = absurd (subst (λ t. Sees t other_rest) h.0 sees)
+stops_move (line front goes_on at_end at_other) (other left) fault rest other_rest sees h =
+    let next = subst (λ t. Sees t other_rest) h.2 sees in inr (h.0, next.0, next.1, h.3, h.4, refl)
+stops_move (line front goes_on at_end at_other) (bad left) fault rest other_rest sees h = inl h.2
+stops_move (scanned front e) (end left) fault rest other_rest sees h = absurd (subst (λ t. Sees t other_rest) h.0 sees)
+stops_move (scanned front e) (bad left) fault rest other_rest sees h = inl h.2
+stops_move (whole front e) (anywhere left) fault rest other_rest sees h = inr (h.0, refl)
 stops_move l place fault rest other_rest sees h = absurd h

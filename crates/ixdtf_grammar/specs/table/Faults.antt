@@ -1,6 +1,7 @@
 -- The errors as the definitions speak of them: an error with the bytes of its location, and not with an address.
-use Rattle.std.specs.Prelude.{ℕ, List, Bool, true, false}
+use Rattle.std.specs.Prelude.{◌≡◌, ℕ, List, Bool, true, false}
 use Rattle.ixdtf_grammar.specs.declared.error.ParseError.{ParseError}
+use Rattle.ixdtf_grammar.specs.declared.located.LocatedError.{LocatedError}
 use Rattle.ixdtf_grammar.specs.declared.error.ParseError.TheVariants as errors
 
 -- an error, with the bytes of its location
@@ -100,6 +101,18 @@ fault_of errors.TimeDurationDesignator = TimeDurationDesignator
 fault_of errors.AmbiguousTimeMonthDay = AmbiguousTimeMonthDay
 fault_of errors.AmbiguousTimeYearMonth = AmbiguousTimeYearMonth
 fault_of errors.InvalidMonthDay = InvalidMonthDay
+
+-- the fault of an error that has its place
+abbrev pub fault_of_located : LocatedError → Fault
+fault_of_located e = fault_of e.error
+
+-- so many units stand before the place of the error
+abbrev pub stands_behind : ℕ → LocatedError → Type 0
+stands_behind at e = e.at ≡ at
+
+-- an error that has no place may stand behind any number of units
+abbrev pub stands_anywhere : ℕ → ParseError → Type 0
+stands_anywhere at e = Unit {0}
 
 -- the errors that no reader gives
 abbrev pub never_comes : Fault → Bool

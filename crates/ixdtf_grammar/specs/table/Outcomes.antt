@@ -1,15 +1,24 @@
 -- The outcomes of a text: what is derived, or the row that fits.
-use Rattle.std.specs.Prelude.{◌≡◌, List, ◌++◌}
+use Rattle.std.specs.Prelude.{◌≡◌, ℕ, ◌+◌, List, ◌++◌, length}
 use Rattle.ixdtf_grammar.specs.language.Letters.{Text}
 use Rattle.ixdtf_grammar.specs.language.Brackets.{Pair}
 use Rattle.ixdtf_grammar.specs.language.Readers.{Reader}
 use Rattle.ixdtf_grammar.specs.language.Languages.{Found, Derives}
 use Rattle.ixdtf_grammar.specs.table.Faults.{Fault}
-use Rattle.ixdtf_grammar.specs.table.Rows.{Row, Fits}
+use Rattle.ixdtf_grammar.specs.table.Rows.{Row, Fits, left_at}
 
 -- a row with the error fits, with these whole pairs before it
 abbrev pub HasFault : Reader → Text → List Pair → Fault → Type 0
 HasFault reader text pairs fault = (row : Row) × Fits reader row pairs text × (row.error ≡ fault)
+
+-- the same, where so many letters stand before the row's place
+abbrev pub HasFaultAt : Reader → Text → List Pair → Fault → ℕ → Type 0
+HasFaultAt reader text pairs fault at =
+    (row : Row) × Fits reader row pairs text × (row.error ≡ fault) × (at + length (left_at row.place) ≡ length text)
+
+-- no row with another error fits the text, nor one at another place
+abbrev pub OnlyPlace : Reader → Text → Fault → ℕ → Type 0
+OnlyPlace reader text fault at = (other : Fault) (pairs : List Pair) (there : ℕ) → HasFaultAt reader text pairs other there → (other ≡ fault) × (there ≡ at)
 
 -- no row fits the text
 abbrev pub NoRowFits : Reader → Text → Type 0

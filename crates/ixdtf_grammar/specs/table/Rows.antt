@@ -13,9 +13,16 @@ use Rattle.ixdtf_grammar.specs.table.Lines.Line.{line, scanned, whole}
 use Rattle.ixdtf_grammar.specs.table.Lines.Ending.{error}
 use Rattle.ixdtf_grammar.specs.table.Before.{Before}
 
--- where a row stands: at the end of the text, at another letter, at Bad, or anywhere
+-- where a row stands: at the end of the text, at another letter, at Bad, or anywhere, with what the text has from there on
 pub data Place : Type 0 where
-  end other bad anywhere : Place
+  end other bad anywhere : Text → Place
+
+-- what the text has from the place on
+abbrev pub left_at : Place → Text
+left_at (end left) = left
+left_at (other left) = left
+left_at (bad left) = left
+left_at (anywhere left) = left
 
 -- a row: its line, its place and its error
 pub record Row : Type 0 where
@@ -30,19 +37,19 @@ front_of (whole front fault) = front
 
 -- What stands after the front of a line where its row fits.
 abbrev pub Stops : Line → Place → Fault → Text → Type 0
-Stops (line front goes_on at_end at_other) end fault rest = (rest ≡ []) × (at_end ≡ error fault)
-Stops (line front goes_on at_end at_other) other fault rest =
-    (c : ℕ) × (more : Text) × (rest ≡ Plain c ∷ more) × IsFalse (goes_on c) × (fault ≡ at_other c)
-Stops (line front goes_on at_end at_other) bad fault rest = (more : Text) × (rest ≡ Bad ∷ more) × (fault ≡ NonAsciiCodePoint)
-Stops (line front goes_on at_end at_other) anywhere fault rest = ⊥
-Stops (scanned front at_end) end fault rest = (rest ≡ []) × (fault ≡ at_end)
-Stops (scanned front at_end) other fault rest = ⊥
-Stops (scanned front at_end) bad fault rest = (more : Text) × (rest ≡ Bad ∷ more) × (fault ≡ NonAsciiCodePoint)
-Stops (scanned front at_end) anywhere fault rest = ⊥
-Stops (whole front at_front) anywhere fault rest = fault ≡ at_front
-Stops (whole front at_front) end fault rest = ⊥
-Stops (whole front at_front) other fault rest = ⊥
-Stops (whole front at_front) bad fault rest = ⊥
+Stops (line front goes_on at_end at_other) (end left) fault rest = (rest ≡ []) × (at_end ≡ error fault) × (left ≡ rest)
+Stops (line front goes_on at_end at_other) (other left) fault rest =
+    (c : ℕ) × (more : Text) × (rest ≡ Plain c ∷ more) × IsFalse (goes_on c) × (fault ≡ at_other c) × (left ≡ rest)
+Stops (line front goes_on at_end at_other) (bad left) fault rest = (more : Text) × (rest ≡ Bad ∷ more) × (fault ≡ NonAsciiCodePoint) × (left ≡ rest)
+Stops (line front goes_on at_end at_other) (anywhere left) fault rest = ⊥
+Stops (scanned front at_end) (end left) fault rest = (rest ≡ []) × (fault ≡ at_end) × (left ≡ rest)
+Stops (scanned front at_end) (other left) fault rest = ⊥
+Stops (scanned front at_end) (bad left) fault rest = (more : Text) × (rest ≡ Bad ∷ more) × (fault ≡ NonAsciiCodePoint) × (left ≡ rest)
+Stops (scanned front at_end) (anywhere left) fault rest = ⊥
+Stops (whole front at_front) (anywhere left) fault rest = (fault ≡ at_front) × (left ≡ rest)
+Stops (whole front at_front) (end left) fault rest = ⊥
+Stops (whole front at_front) (other left) fault rest = ⊥
+Stops (whole front at_front) (bad left) fault rest = ⊥
 
 -- a front of the line, and then what its row asks for, in a reader that has brackets or has none
 abbrev pub FitsHere : Bool → Row → Text → Type 0

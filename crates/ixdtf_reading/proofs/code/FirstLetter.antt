@@ -3,16 +3,16 @@ use Rattle.std.proofs.Common.{◌≡◌, ℕ, [], ◌∷◌, drop, Some, None, O
 use Rattle.ixdtf_grammar.specs.language.Letters.{Text}
 use Rattle.ixdtf_grammar.specs.language.Letters.Letter.{Plain, Bad}
 use Rattle.ixdtf_grammar.specs.table.Faults.Fault.{NonAsciiCodePoint}
-use Rattle.ixdtf_reading.specs.reading.Looks.{look_at}
+use Rattle.ixdtf_reading.specs.reading.Looks.{look_at, seen}
 
 -- a look found this letter first
-pub first_is : (text : Text) (c : ℕ) → look_at NonAsciiCodePoint text ≡ Ok (Some c) → text ≡ Plain c ∷ drop 1 text
+pub first_is : (text : Text) (c : ℕ) → seen text ≡ Ok (Some c) → text ≡ Plain c ∷ drop 1 text
 unfolding look_at
 first_is (Plain n ∷ more) c e = ap (λ m. Plain m ∷ more) cc
 first_is text c e = absurd cc
 
 -- a look found no letter
-pub nothing_is : (text : Text) → look_at NonAsciiCodePoint text ≡ Ok None → text ≡ []
+pub nothing_is : (text : Text) → seen text ≡ Ok None → text ≡ []
 unfolding look_at
 nothing_is [] e = refl
 nothing_is (Plain n ∷ more) e = absurd cc

@@ -7,25 +7,25 @@ use Rattle.ixdtf_grammar.specs.language.Letters.{digit}
 use Rattle.ixdtf_grammar.specs.table.Faults.{Fault}
 use Rattle.ixdtf_grammar.specs.table.Faults.Fault.{NonAsciiCodePoint}
 use Rattle.ixdtf_grammar.specs.language.Fractions.{FractionParts, fraction_of}
-use Rattle.ixdtf_reading.specs.reading.Looks.{Read, ◌>>=◌, look_at, digit_run}
+use Rattle.ixdtf_reading.specs.reading.Looks.{Placed, before, Read, ◌>>=◌, look_at, seen, digit_run}
 use Rattle.ixdtf_reading.specs.reading.Clauses.{more_digits_at}
 use Rattle.ixdtf_reading.proofs.code.FirstLetter.{first_is, nothing_is}
 use Rattle.ixdtf_reading.proofs.code.GrowingDigits.{Grown, fraction_grows}
 
 -- digits that were read, with more in front of them
-abbrev with_front : Text → Read Fault Text → Read Fault Text
+abbrev with_front : Text → Read Placed Text → Read Placed Text
 with_front front read = read >>= λ more. Ok (front ++ more.0, more.1)
 
-with_nothing : (read : Read Fault Text) → with_front [] read ≡ read
+with_nothing : (read : Read Placed Text) → with_front [] read ≡ read
 with_nothing (Ok more) = refl
 with_nothing (Err e) = refl
 
-with_both : (a b : Text) (read : Read Fault Text) → with_front a (with_front b read) ≡ with_front (a ++ b) read
+with_both : (a b : Text) (read : Read Placed Text) → with_front a (with_front b read) ≡ with_front (a ++ b) read
 with_both a b (Ok more) = ap (λ t. Ok (t, more.1)) (sym (append_assoc a b more.0))
 with_both a b (Err e) = refl
 
-abbrev run_of : Text → Read Fault Text
-run_of text = digit_run NonAsciiCodePoint text
+abbrev run_of : Text → Read Placed Text
+run_of text = digit_run (before NonAsciiCodePoint) text
 
 run_more : (c : ℕ) (rest : Text) → digit c ≡ true → run_of (Plain c ∷ rest) ≡ with_front (Plain c ∷ []) (run_of rest)
 unfolding digit_run
@@ -45,7 +45,7 @@ pub begins : (front whole : Text) (fraction : FractionParts) → fraction ≡ fr
 begins front whole fraction is = record { ds = []; read = sym (with_nothing _); value = is ∙ ap fraction_of (sym (append-nil front)) }
 
 pub goes_on : (front whole rest next : Text) (before after : FractionParts) (c : ℕ) → IsSoFar front whole rest
-    before → look_at NonAsciiCodePoint rest ≡ Ok (Some c) → digit c ≡ true → next ≡ drop 1 rest → Grown before after c → IsSoFar front whole next after
+    before → seen rest ≡ Ok (Some c) → digit c ≡ true → next ≡ drop 1 rest → Grown before after c → IsSoFar front whole next after
 goes_on front whole rest next before after c far e is moved grown = record {
   ds = far.ds ++ (Plain c ∷ []);
   read = far.read ∙ ap (λ t. with_front far.ds (run_of t)) (first_is rest c e) ∙ ap (with_front far.ds) (run_more c _ is)
@@ -53,10 +53,10 @@ goes_on front whole rest next before after c far e is moved grown = record {
   value = fraction_grows (front ++ far.ds) before after c far.value grown ∙ ap fraction_of (append_assoc front far.ds (Plain c ∷ []));
 }
 
-abbrev in_fraction : Text → Read Fault Text → Read Fault FractionParts
+abbrev in_fraction : Text → Read Placed Text → Read Placed FractionParts
 in_fraction front read = read >>= λ more. Ok (fraction_of (front ++ more.0), more.1)
 
-over : (front ds : Text) (read : Read Fault Text) → in_fraction front (with_front ds read) ≡ in_fraction (front ++ ds) read
+over : (front ds : Text) (read : Read Placed Text) → in_fraction front (with_front ds read) ≡ in_fraction (front ++ ds) read
 over front ds (Ok more) = ap (λ t. Ok (fraction_of t, more.1)) (sym (append_assoc front ds more.0))
 over front ds (Err e) = refl
 
@@ -70,36 +70,36 @@ ends : (front whole rest : Text) (fraction : FractionParts) → IsSoFar front wh
 ends front whole rest fraction far over = rw (far.read, over, append-nil far.ds, far.value) refl
 
 pub ends_at_other : (front whole rest : Text) (fraction : FractionParts) (c : ℕ) → IsSoFar front whole rest fraction
-    → look_at NonAsciiCodePoint rest ≡ Ok (Some c) → digit c ≡ false → more_digits_at front whole ≡ Ok (fraction, rest)
+    → seen rest ≡ Ok (Some c) → digit c ≡ false → more_digits_at front whole ≡ Ok (fraction, rest)
 ends_at_other front whole rest fraction c far e is = ends front whole rest fraction far (rw (first_is rest c e) (run_other c _ is))
 
-pub ends_at_end : (front whole rest : Text) (fraction : FractionParts) → IsSoFar front whole rest fraction → look_at NonAsciiCodePoint rest ≡ Ok None
+pub ends_at_end : (front whole rest : Text) (fraction : FractionParts) → IsSoFar front whole rest fraction → seen rest ≡ Ok None
     → more_digits_at front whole ≡ Ok (fraction, rest)
 unfolding digit_run
 ends_at_end front whole rest fraction far e = ends front whole rest fraction far (rw (nothing_is rest e) refl)
 
-pub fails : (front whole rest : Text) (fraction : FractionParts) (fault : Fault) → IsSoFar front whole rest fraction
-    → look_at NonAsciiCodePoint rest ≡ Err fault → more_digits_at front whole ≡ Err fault
+pub fails : (front whole rest : Text) (fraction : FractionParts) (fault : Placed) → IsSoFar front whole rest fraction
+    → seen rest ≡ Err fault → more_digits_at front whole ≡ Err fault
 unfolding look_at digit_run
-fails front whole (Bad ∷ rest) fraction fault far e = let same : NonAsciiCodePoint ≡ fault = cc in rw (far.read, same) refl
+fails front whole (Bad ∷ rest) fraction fault far e = let same : (NonAsciiCodePoint, Bad ∷ rest) ≡ fault = cc in rw (far.read, same) refl
 fails front whole rest fraction fault far e = absurd cc
 
 -- a look found this letter first, and a step took it off
 pub record OneTaken (letter : ℕ → Letter) (rest next : List ℕ) (c : ℕ) : Type 0 where
-  pub found : look_at NonAsciiCodePoint (map letter rest) ≡ Ok (Some c)
+  pub found : seen (map letter rest) ≡ Ok (Some c)
   pub moved : next ≡ drop 1 rest
   pub left : map letter next ≡ drop 1 (map letter rest)
   pub shorter : length next + 1 ≡ length rest
 
 -- as the code takes it: what the look found, what it left, and what the step left
-pub one_taken : {letter : ℕ → Letter} {rest looked next : List ℕ} {seen : Option ℕ} {c : ℕ}
-    → look_at NonAsciiCodePoint (map letter rest) ≡ Ok seen → seen ≡ Some c → looked ≡ rest → next ≡ drop 1 looked → OneTaken letter rest next c
+pub one_taken : {letter : ℕ → Letter} {rest looked next : List ℕ} {saw : Option ℕ} {c : ℕ}
+    → seen (map letter rest) ≡ Ok saw → saw ≡ Some c → looked ≡ rest → next ≡ drop 1 looked → OneTaken letter rest next c
 unfolding look_at
-one_taken {letter} {rest} {looked} {next} {seen} {c} sees is stays steps =
-    let found : look_at NonAsciiCodePoint (map letter rest) ≡ Ok (Some c) = cc in
+one_taken {letter} {rest} {looked} {next} {saw} {c} sees is stays steps =
+    let found : seen (map letter rest) ≡ Ok (Some c) = cc in
     let moved : next ≡ drop 1 rest = steps ∙ ap (λ t. drop 1 t) stays in
     from_units rest found moved
   where
-    from_units : (rest : List ℕ) → look_at NonAsciiCodePoint (map letter rest) ≡ Ok (Some c) → next ≡ drop 1 rest → OneTaken letter rest next c
+    from_units : (rest : List ℕ) → seen (map letter rest) ≡ Ok (Some c) → next ≡ drop 1 rest → OneTaken letter rest next c
     from_units [] found moved = absurd cc
     from_units (u ∷ us) found moved = record { found = found; moved = moved; left = ap (map letter) moved; shorter = omega (arith, ap (λ t. length t) moved) }

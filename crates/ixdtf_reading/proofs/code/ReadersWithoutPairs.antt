@@ -14,7 +14,7 @@ use Rattle.ixdtf_grammar.specs.table.Rows.{Row, Fits}
 use Rattle.ixdtf_grammar.specs.language.Languages.{Found, Derives}
 use Rattle.ixdtf_grammar.specs.table.Outcomes.{HasFault, NoRowFits, OnlyFault}
 use Rattle.ixdtf_grammar.specs.Laws.{IsTextReader, InNoOther}
-use Rattle.ixdtf_reading.specs.reading.Looks.{Read}
+use Rattle.ixdtf_reading.specs.reading.Looks.{Read, Placed, error_of}
 use Rattle.ixdtf_reading.specs.reading.Wholes.{finding, read_at}
 use Rattle.ixdtf_reading.proofs.to_grammar.Wholes.{OnWhole, whole_read}
 use Rattle.ixdtf_reading.proofs.to_reading.Wholes.{takes}
@@ -34,9 +34,22 @@ done_is x y e = cc
 failed_is : {A : Type 0} (x : A) (fault : Fault) → failed fault ≡ done x → ⊥
 failed_is x fault e = cc
 
+-- the same of a fault with its place, and of what was read
+abbrev read_done : {A : Type 0} → A → Result A Placed
+read_done x = Ok x
+
+abbrev refused : {A : Type 0} → Placed → Result A Placed
+refused fault = Err fault
+
+read_done_is : {A : Type 0} (x y : A) → read_done x ≡ read_done y → x ≡ y
+read_done_is x y e = cc
+
+refused_is : {A : Type 0} (x : A) (fault : Placed) → refused fault ≡ read_done x → ⊥
+refused_is x fault e = cc
+
 -- the fault is a row's error, whatever pairs stand before it
-abbrev pub error_after : List Pair → Row → Fault
-error_after pairs row = row.error
+abbrev pub error_after : List Pair → Row → Placed
+error_after pairs row = error_of row
 
 -- the reader reads no pairs
 abbrev pub ReadsNoPairs : Reader → Type 0
@@ -55,12 +68,12 @@ no_pairs parse_iana_identifier row pairs text none f = rw f.3.1 at f
 no_pairs (parse_duration profile) row pairs text none f = rw f.3.1 at f
 
 -- What a reader returned at a text: a kind of what readers find, told apart from each other of the kind.
-module _ {A : Type 0} (reader : Reader) (found : A → Found) (same : (x y : A) → found x ≡ found y → x ≡ y) (text : Text) (reading : Read Fault A)
+module _ {A : Type 0} (reader : Reader) (found : A → Found) (same : (x y : A) → found x ≡ found y → x ≡ y) (text : Text) (reading : Read Placed A)
     (reads : read_at error_after reader text ≡ finding found reading) where
-  abbrev Returned : Read Fault (Found × List Pair) → Type 0
+  abbrev Returned : Read Placed (Found × List Pair) → Type 0
   Returned read = OnWhole error_after reader text read
 
-  returned_here : (read : Read Fault A) → reading ≡ read → Returned (finding found read)
+  returned_here : (read : Read Placed A) → reading ≡ read → Returned (finding found read)
   returned_here read is = rw (← (reads ∙ ap (finding found) is)) (whole_read error_after reader text)
 
   -- all of the text was read
@@ -73,7 +86,7 @@ module _ {A : Type 0} (reader : Reader) (found : A → Found) (same : (x y : A) 
   ok_where_derived x rest is y = (
     λ e. rw (← (done_is x y e)) (returned_here (Ok (x, rest)) is).1,
     λ d.
-        let read = done_is ((found x, []), rest) ((found y, []), []) (sym (reads ∙ ap (finding found) is) ∙ takes error_after reader text (found y) [] d) in
+        let read = read_done_is ((found x, []), rest) ((found y, []), []) (sym (reads ∙ ap (finding found) is) ∙ takes error_after reader text (found y) [] d) in
         ap done (same x y (ap (λ p. p.0.0) read)),
   )
 
@@ -82,20 +95,21 @@ module _ {A : Type 0} (reader : Reader) (found : A → Found) (same : (x y : A) 
   accepted_where_read x rest is = accepted reader text (found x, [], (returned_here (Ok (x, rest)) is).1)
 
   -- nothing is derived where reading returned a fault
-  err_where_refused : (fault : Fault) → reading ≡ Err fault → (y : A)
+  err_where_refused : (fault : Fault) (left : Text) → reading ≡ Err (fault, left) → (y : A)
       → (failed fault ≡ done y → Derives reader text (found y) []) × (Derives reader text (found y) [] → failed fault ≡ done y)
-  err_where_refused fault is y = (
+  err_where_refused fault left is y = (
     λ e. absurd (failed_is y fault e),
-    λ d. absurd (failed_is ((found y, []), []) fault (sym (reads ∙ ap (finding found) is) ∙ takes error_after reader text (found y) [] d)),
+    λ d. absurd (refused_is ((found y, []), []) (fault, left) (sym (reads ∙ ap (finding found) is) ∙ takes error_after reader text (found y) [] d)),
   )
 
   -- a fault is the error of a row that fits
-  err_where_fits : (fault : Fault) → reading ≡ Err fault → ReadsNoPairs reader → HasFault reader text [] fault
-  err_where_fits fault is none = let row = returned_here _ is in (row.1, no_pairs reader row.1 row.0 text none row.3, sym row.2)
+  err_where_fits : (fault : Fault) (left : Text) → reading ≡ Err (fault, left) → ReadsNoPairs reader → HasFault reader text [] fault
+  err_where_fits fault left is none =
+      let row = returned_here _ is in (row.1, no_pairs reader row.1 row.0 text none row.3, ap (λ p. p.0) (sym row.2))
 
 -- What a public reader returned, where its private one read so and its cursor settled with that.
 module _ {U A : Type 0} (letter : ℕ → Letter) (view : U → A) (reader : Reader) (found : A → Found) (same : (x y : A) → found x ≡ found y → x ≡ y)
-    (none : ReadsNoPairs reader) (reading : Text → Read Fault A) (old new : Unread)
+    (none : ReadsNoPairs reader) (reading : Text → Read Placed A) (old new : Unread)
     (reads : read_at error_after reader (map letter old.rest) ≡ finding found (reading (map letter old.rest))) where
   -- the clauses of the reader
   pub record Exact (result : Result U ParseError) : Type 0 where
@@ -121,8 +135,8 @@ module _ {U A : Type 0} (letter : ℕ → Letter) (view : U → A) (reader : Rea
   exact (Ok x) (Err e) h s = absurd s
   exact (Err stop) (Ok y) h s = absurd s
   exact (Err stop) (Err e) h s = let fits : HasFault reader (map letter old.rest) [] (fault_of e) =
-      rw s (err_where_fits reader found same (map letter old.rest) _ reads (fault_of_stop stop) h none) in record {
-        ok = rw s (err_where_refused reader found same (map letter old.rest) _ reads (fault_of_stop stop) h);
+      rw s (err_where_fits reader found same (map letter old.rest) _ reads (fault_of_stop stop) (map letter new.rest) h none) in record {
+        ok = rw s (err_where_refused reader found same (map letter old.rest) _ reads (fault_of_stop stop) (map letter new.rest) h);
         err = fits;
         comes = fault_comes reader _ [] (fault_of e) fits;
         no_row = tt;

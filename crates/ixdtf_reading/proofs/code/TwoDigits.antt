@@ -6,31 +6,32 @@ use Rattle.ixdtf_grammar.specs.language.Letters.{digit}
 use Rattle.ixdtf_grammar.specs.table.Faults.{Fault}
 use Rattle.ixdtf_grammar.specs.table.Lines.{abrupt_digit}
 use Rattle.ixdtf_grammar.specs.Views.{ascii_at, looked}
-use Rattle.ixdtf_reading.specs.reading.Looks.{Read, ◌>>=◌, look_at, next_by, digits_by, digit_look}
+use Rattle.ixdtf_reading.specs.reading.Looks.{Placed, Read, ◌>>=◌, look_at, next_by, digits_by, digit_look}
 use Rattle.ixdtf_reading.specs.reading.Clauses.{digit_seen}
+use Rattle.ixdtf_reading.proofs.code.Units.{placed}
 
 module _ (letter : ℕ → Letter) (other : Fault) where
-  abbrev two : List ℕ → Read Fault Text
+  abbrev two : List ℕ → Read Placed Text
   two units = digits_by (digit_look other) 2 (map letter units)
 
   -- fewer than two units
-  pub too_short : (units : List ℕ) → length units < 2 → two units ≡ (digit_seen other (ascii_at letter 0 units) >>= λ a. Err abrupt_digit)
+  pub too_short : (units : List ℕ) → length units < 2 → two units ≡ (placed (map letter units) (digit_seen other (ascii_at letter 0 units)) >>= λ a. Err (abrupt_digit, drop 1 (map letter units)))
   unfolding digits_by next_by look_at
   too_short [] short = refl
   too_short (u ∷ []) short = go (letter u)
     where
-      plain : (c : ℕ) (b : Bool) → digit c ≡ b → digits_by (digit_look other) 2 (Plain c ∷ []) ≡ (digit_seen other (Ok (Some c)) >>= λ a. Err abrupt_digit)
+      plain : (c : ℕ) (b : Bool) → digit c ≡ b → digits_by (digit_look other) 2 (Plain c ∷ []) ≡ (placed (Plain c ∷ []) (digit_seen other (Ok (Some c))) >>= λ a. Err (abrupt_digit, []))
       plain c true is = rw is refl
       plain c false is = rw is refl
 
-      go : (l : Letter) → digits_by (digit_look other) 2 (l ∷ []) ≡ (digit_seen other (looked (Some l)) >>= λ a. Err abrupt_digit)
+      go : (l : Letter) → digits_by (digit_look other) 2 (l ∷ []) ≡ (placed (l ∷ []) (digit_seen other (looked (Some l))) >>= λ a. Err (abrupt_digit, []))
       go Bad = refl
       go (Plain c) = plain c (digit c) refl
   too_short (u ∷ v ∷ units) short = absurd (omega arith)
 
   abbrev Second : ℕ → List ℕ → Letter → Type 0
   Second a units l = digits_by (digit_look other) 2 (Plain a ∷ l ∷ map letter units)
-      ≡ (digit_seen other (looked (Some l)) >>= λ b. Ok (Plain a ∷ Plain b ∷ [], map letter units))
+      ≡ (placed (l ∷ map letter units) (digit_seen other (looked (Some l))) >>= λ b. Ok (Plain a ∷ Plain b ∷ [], map letter units))
 
   plain_second : (a c : ℕ) (units : List ℕ) (b : Bool) → digit a ≡ true → digit c ≡ b → Second a units (Plain c)
   unfolding digits_by next_by look_at
@@ -44,7 +45,7 @@ module _ (letter : ℕ → Letter) (other : Fault) where
 
   abbrev First : Letter → List ℕ → Letter → Type 0
   First v units l = digits_by (digit_look other) 2 (l ∷ v ∷ map letter units)
-      ≡ (digit_seen other (looked (Some l)) >>= λ a. digit_seen other (looked (Some v)) >>= λ b. Ok (Plain a ∷ Plain b ∷ [], map letter units))
+      ≡ (placed (l ∷ v ∷ map letter units) (digit_seen other (looked (Some l))) >>= λ a. placed (v ∷ map letter units) (digit_seen other (looked (Some v))) >>= λ b. Ok (Plain a ∷ Plain b ∷ [], map letter units))
 
   plain_first : (c : ℕ) (v : Letter) (units : List ℕ) (b : Bool) → digit c ≡ b → First v units (Plain c)
   unfolding digits_by next_by look_at
@@ -58,7 +59,7 @@ module _ (letter : ℕ → Letter) (other : Fault) where
 
   -- two units and more
   pub long_enough : (units : List ℕ) → 2 ≤ length units
-      → two units ≡ (digit_seen other (ascii_at letter 0 units) >>= λ a. digit_seen other (ascii_at letter 1 units)
+      → two units ≡ (placed (map letter units) (digit_seen other (ascii_at letter 0 units)) >>= λ a. placed (drop 1 (map letter units)) (digit_seen other (ascii_at letter 1 units))
       >>= λ b. Ok (Plain a ∷ Plain b ∷ [], map letter (drop 2 units)))
   long_enough [] long = absurd (omega arith)
   long_enough (u ∷ []) long = absurd (omega arith)

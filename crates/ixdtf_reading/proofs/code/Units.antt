@@ -1,11 +1,11 @@
 -- The letters of a text and the units of a text.
-use Rattle.std.proofs.Common.{◌≡◌, ℕ, ◌+◌, List, [], ◌∷◌, map, length, drop, Some, Ok, refl, arith}
+use Rattle.std.proofs.Common.{◌≡◌, ℕ, ◌+◌, List, [], ◌∷◌, map, length, drop, Option, Some, Result, Ok, Err, refl, arith}
 use Rattle.std.proofs.lemmas.Option.{slice_get-map}
-use Rattle.ixdtf_grammar.specs.language.Letters.{Letter}
+use Rattle.ixdtf_grammar.specs.language.Letters.{Letter, Text}
 use Rattle.ixdtf_grammar.specs.language.Letters.Letter.{Plain, Bad}
-use Rattle.ixdtf_grammar.specs.table.Faults.Fault.{NonAsciiCodePoint}
+use Rattle.ixdtf_grammar.specs.table.Faults.{Fault}
 use Rattle.ixdtf_grammar.specs.Views.{ascii_at, looked}
-use Rattle.ixdtf_reading.specs.reading.Looks.{look_at}
+use Rattle.ixdtf_reading.specs.reading.Looks.{look_at, seen, Placed}
 
 -- what the letters of a text are, given its units
 pub ruleset texts = (slice_get-map)
@@ -15,18 +15,23 @@ pub no_units : {A B : Type 0} (f : A → B) (xs : List A) → map f xs ≡ [] �
 no_units f [] e = refl
 no_units f (x ∷ xs) e = absurd cc
 
+-- a fault, before this text
+abbrev pub placed : {A : Type 0} → Text → Result A Fault → Result A Placed
+placed left (Ok found) = Ok found
+placed left (Err e) = Err (e, left)
+
 -- a look at place 0 of a source is a look at the first letter
-pub first_look : (letter : ℕ → Letter) (units : List ℕ) → look_at NonAsciiCodePoint (map letter units) ≡ ascii_at letter 0 units
+pub first_look : (letter : ℕ → Letter) (units : List ℕ) → seen (map letter units) ≡ placed (map letter units) (ascii_at letter 0 units)
 unfolding look_at
 first_look letter [] = refl
 first_look letter (unit ∷ units) = go (letter unit)
   where
-    go : (l : Letter) → look_at NonAsciiCodePoint (l ∷ map letter units) ≡ looked (Some l)
+    go : (l : Letter) → seen (l ∷ map letter units) ≡ placed (l ∷ map letter units) (looked (Some l))
     go (Plain n) = refl
     go Bad = refl
 
 -- where a letter is seen there is a unit, and a step takes it off
-pub stepped : (letter : ℕ → Letter) (units : List ℕ) (c : ℕ) → look_at NonAsciiCodePoint (map letter units) ≡ Ok (Some c)
+pub stepped : (letter : ℕ → Letter) (units : List ℕ) (c : ℕ) → seen (map letter units) ≡ Ok (Some c)
     → length (drop 1 units) + 1 ≡ length units
 unfolding look_at
 stepped letter [] c e = absurd cc

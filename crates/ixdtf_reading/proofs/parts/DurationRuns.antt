@@ -93,45 +93,45 @@ module _ {E : Type 0} (fault : Row → E) (profile : Profile) where
   pub stays : (s : State) → Over s [] s
   stays s = record { over = λ rest. refl }
 
-  pub one_letter : (s : State) (c : ℕ) {to : State} → Goes (duration_line profile (line_of_state s)) c → step fault profile s c ≡ Ok to
+  pub one_letter : (s : State) (c : ℕ) {to : State} → Goes (duration_line profile (line_of_state s)) c → ((rest : Text) → step fault profile rest s c ≡ Ok to)
       → Over s (Plain c ∷ []) to
   unfolding run
-  one_letter s c h is = record { over = λ rest. by_look _ _ c _ _ h ∙ rw is refl }
+  one_letter s c h is = record { over = λ rest. by_look _ _ c _ _ h ∙ rw (is rest) refl }
 
-  pub letter_stops : (s : State) (c : ℕ) {rest : Text} {row : Row} → Goes (duration_line profile (line_of_state s)) c → step fault profile s c ≡ Err (fault row)
+  pub letter_stops : (s : State) (c : ℕ) {rest : Text} {row : Row} → Goes (duration_line profile (line_of_state s)) c → step fault profile rest s c ≡ Err (fault row)
       → Stays s (Plain c ∷ []) rest row
   unfolding run
   letter_stops s c h is = record { halts = by_look _ _ c _ _ h ∙ rw is refl }
 
   -- ---- the row of a state's line
 
-  stops_end : {A : Type 0} (name : LineName) (l : Line) (x : A) (e : Fault) (rest : Text) → Asks l → Stops l end e rest
-      → (rest ≡ []) × (at_end (look_of fault name l).at_end x ≡ Err (fault (row_of name end e)))
-  stops_end name (line front goes_on ends at_other) x e rest asks h = (h.0, rw h.1 refl)
-  stops_end name other_line x e rest asks h = absurd asks
+  stops_end : {A : Type 0} (name : LineName) (l : Line) (x : A) (e : Fault) (rest : Text) → Asks l → (left : Text) → Stops l (end left) e rest
+      → (rest ≡ []) × (at_end ((look_of fault name l).at_end []) x ≡ Err (fault (row_of name (end left) e)))
+  stops_end name (line front goes_on ends at_other) x e rest asks left h = (h.0, rw (h.1, h.2, h.0) refl)
+  stops_end name other_line x e rest asks left h = absurd asks
 
-  stops_other : {A : Type 0} (name : LineName) (l : Line) (next : ℕ → Text → Read E A) (e : Fault) (rest : Text) → Asks l → Stops l other e rest
+  stops_other : {A : Type 0} (name : LineName) (l : Line) (next : ℕ → Text → Read E A) (e : Fault) (rest : Text) → Asks l → (left : Text) → Stops l (other left) e rest
       → (c : ℕ) × (more : Text) × (rest ≡ Plain c ∷ more)
-      × ((if (look_of fault name l).goes_on c then next c more else Err ((look_of fault name l).at_other c)) ≡ Err (fault (row_of name other e)))
-  stops_other name (line front goes_on ends at_other) next e rest asks h = (h.0, h.1, h.2, rw (h.3, h.4) refl)
-  stops_other name other_line next e rest asks h = absurd asks
+      × ((if (look_of fault name l).goes_on c then next c more else Err ((look_of fault name l).at_other c (Plain c ∷ more))) ≡ Err (fault (row_of name (other left) e)))
+  stops_other name (line front goes_on ends at_other) next e rest asks left h = (h.0, h.1, h.2, rw (h.3, h.4, h.5, h.2) refl)
+  stops_other name other_line next e rest asks left h = absurd asks
 
-  stops_bad : (name : LineName) (l : Line) (e : Fault) (rest : Text) → Asks l → Stops l bad e rest
-      → (more : Text) × (rest ≡ Bad ∷ more) × ((look_of fault name l).at_bad ≡ fault (row_of name bad e))
-  stops_bad name (line front goes_on ends at_other) e rest asks h = (h.0, h.1, rw h.2 refl)
-  stops_bad name other_line e rest asks h = absurd asks
+  stops_bad : (name : LineName) (l : Line) (e : Fault) (rest : Text) → Asks l → (left : Text) → Stops l (bad left) e rest
+      → (more : Text) × (rest ≡ Bad ∷ more) × ((look_of fault name l).at_bad (Bad ∷ more) ≡ fault (row_of name (bad left) e))
+  stops_bad name (line front goes_on ends at_other) e rest asks left h = (h.0, h.1, rw (h.2, h.3, h.1) refl)
+  stops_bad name other_line e rest asks left h = absurd asks
 
-  stops_nowhere : (l : Line) (e : Fault) (rest : Text) → Asks l → Stops l anywhere e rest → ⊥
-  stops_nowhere (line front goes_on ends at_other) e rest asks h = h
-  stops_nowhere other_line e rest asks h = asks
+  stops_nowhere : (l : Line) (e : Fault) (rest : Text) → Asks l → (left : Text) → Stops l (anywhere left) e rest → ⊥
+  stops_nowhere (line front goes_on ends at_other) e rest asks left h = h
+  stops_nowhere other_line e rest asks left h = asks
 
   pub run_stops : (s : State) (place : Place) (e : Fault) (rest : Text) → Stops (duration_line profile (line_of_state s)) place e rest
       → run fault profile s rest ≡ Err (fault (row_of (of_duration profile (line_of_state s)) place e))
   unfolding run
-  run_stops s end e rest h = let p = stops_end _ _ _ e rest (state_asks profile s) h in rw p.0 p.1
-  run_stops s other e rest h =
-      let p = stops_other _ _ (λ c more. step fault profile s c >>= λ next. run fault profile next more) e rest (state_asks profile s) h in
+  run_stops s (end left) e rest h = let p = stops_end _ _ _ e rest (state_asks profile s) left h in rw p.0 p.1
+  run_stops s (other left) e rest h =
+      let p = stops_other _ _ (λ c more. step fault profile more s c >>= λ next. run fault profile next more) e rest (state_asks profile s) left h in
       rw p.2 p.3
-  run_stops s bad e rest h = let p =
-      stops_bad (of_duration profile (line_of_state s)) (duration_line profile (line_of_state s)) e rest (state_asks profile s) h in rw (p.1, p.2) refl
-  run_stops s anywhere e rest h = absurd (stops_nowhere _ e rest (state_asks profile s) h)
+  run_stops s (bad left) e rest h = let p =
+      stops_bad (of_duration profile (line_of_state s)) (duration_line profile (line_of_state s)) e rest (state_asks profile s) left h in rw (p.1, p.2) refl
+  run_stops s (anywhere left) e rest h = absurd (stops_nowhere _ e rest (state_asks profile s) left h)

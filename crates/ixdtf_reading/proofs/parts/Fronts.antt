@@ -15,8 +15,8 @@ use Rattle.ixdtf_grammar.specs.table.LineNames.{of_time}
 use Rattle.ixdtf_grammar.specs.table.LineNames.TimeLine.{time_reads_as_month_day, time_reads_as_year_month}
 use Rattle.ixdtf_grammar.specs.table.Rows.{Row}
 use Rattle.ixdtf_grammar.specs.table.Rows.Place.{anywhere}
-use Rattle.ixdtf_reading.specs.reading.Looks.{Read, row_of, error_of}
-use Rattle.ixdtf_reading.specs.reading.Months.{year_month_at, month_day_at, is_read, month_day_begins, year_month_begins}
+use Rattle.ixdtf_reading.specs.reading.Looks.{Read, Placed, row_of, error_of}
+use Rattle.ixdtf_reading.specs.reading.Months.{year_month_at, month_day_at, left_by, is_read, month_day_begins, year_month_begins}
 use Rattle.ixdtf_reading.specs.reading.Cores.{unfronted}
 use Rattle.ixdtf_grammar.proofs.parts.CoreLetters.{AllInside, CoreEnds, in_core, in_month_day, in_year_month}
 use Rattle.ixdtf_reading.proofs.parts.Looks.{OnRead, read_if}
@@ -36,7 +36,7 @@ none_there : (test : Bool) (holds : Type 0) → Exact test holds → IsFalse tes
 none_there test holds h fails there = both_ways test fails (h.1 there)
 
 -- a reading that takes each front of the part, and gives nothing else, tells whether one stands in front
-exact : (part : Text → DateRecord → Type 0) (text : Text) (read : Read Fault DateRecord) (stopped : Row → Type 0)
+exact : (part : Text → DateRecord → Type 0) (text : Text) (read : Read Placed DateRecord) (stopped : Row → Type 0)
     → OnRead error_of read (FrontIs part text) stopped
     → ((front : Text) (date : DateRecord) (rest : Text) → text ≡ front ++ rest → part front date → read ≡ Ok (date, rest))
     → Exact (is_read read) (HasFront (some part) text)
@@ -80,13 +80,31 @@ no_front_of profile cores rest none =
 
 -- ---- the test
 
-abbrev pub month_day_front : Profile → Row
-month_day_front profile = row_of (of_time (time_reads_as_month_day profile)) anywhere AmbiguousTimeMonthDay
+abbrev pub month_day_front : Profile → Text → Row
+month_day_front profile left = row_of (of_time (time_reads_as_month_day profile)) (anywhere left) AmbiguousTimeMonthDay
 
-abbrev pub year_month_front : Row
-year_month_front = row_of (of_time time_reads_as_year_month) anywhere AmbiguousTimeYearMonth
+abbrev pub year_month_front : Text → Row
+year_month_front left = row_of (of_time time_reads_as_year_month) (anywhere left) AmbiguousTimeYearMonth
 
 module _ (profile : Profile) (text : Text) where
+  -- a front of the part, and what the text has after it
+  abbrev pub Fronted : (Text → DateRecord → Type 0) → Text → Type 0
+  Fronted part left = (front : Text) × (text ≡ front ++ left) × some part front
+
+  -- what is left of a reading that takes each front of the part
+  left_is : (part : Text → DateRecord → Type 0) (read : Read Placed DateRecord) (left : Text)
+      → ((front : Text) (date : DateRecord) (rest : Text) → text ≡ front ++ rest → part front date → read ≡ Ok (date, rest))
+      → Fronted part left → left_by read ≡ left
+  left_is part read left takes h = ap left_by (takes h.0 h.2.0 left h.1 h.2.1)
+
+  month_day_left : (left : Text) → Fronted (IsMonthDay profile) left → left_by (month_day_at error_of profile text) ≡ left
+  month_day_left left = left_is _ _ left
+      (λ front date rest is h. ap (month_day_at error_of profile) is ∙ month_day_takes error_of profile front date rest h)
+
+  year_month_left : (left : Text) → Fronted IsYearMonth left → left_by (year_month_at error_of text) ≡ left
+  year_month_left left = left_is _ _ left
+      (λ front date rest is h. ap (year_month_at error_of) is ∙ year_month_takes error_of front date rest h)
+
   abbrev pub MonthDayBegins : Type 0
   MonthDayBegins = HasFront (some (IsMonthDay profile)) text
 
@@ -95,11 +113,16 @@ module _ (profile : Profile) (text : Text) where
 
   module _ {E A : Type 0} (fault : Row → E) (read : Read E A) where
     -- each row of a time's front is returned
-    pub month_day_stops : MonthDayBegins → unfronted fault profile text read ≡ Err (fault (month_day_front profile))
-    month_day_stops h = rw ((month_day_begins_exact profile text).1 h) refl
+    pub month_day_stops : (left : Text) → Fronted (IsMonthDay profile) left → unfronted fault profile text read ≡ Err (fault (month_day_front profile left))
+    month_day_stops left h = rw ((month_day_begins_exact profile text).1 (h.0, left, h.1, h.2, tt), month_day_left left h) refl
 
-    pub year_month_stops : YearMonthBegins → ¬ MonthDayBegins → unfronted fault profile text read ≡ Err (fault year_month_front)
-    year_month_stops h none = rw (not_there _ _ (month_day_begins_exact profile text) none, (year_month_begins_exact text).1 h) refl
+    pub year_month_stops : (left : Text) → Fronted IsYearMonth left → ¬ MonthDayBegins
+        → unfronted fault profile text read ≡ Err (fault (year_month_front left))
+    year_month_stops left h none = rw (
+      not_there _ _ (month_day_begins_exact profile text) none,
+      (year_month_begins_exact text).1 (h.0, left, h.1, h.2, tt),
+      year_month_left left h,
+    ) refl
 
     -- without such a front reading goes on
     pub unfronted_goes : HasNoDateFront profile text → unfronted fault profile text read ≡ read
@@ -109,12 +132,17 @@ module _ (profile : Profile) (text : Text) where
         rw (no_month_day, no_year_month) refl
 
     -- and back
-    pub unfronted_read : (found : A → Text → Type 0) (stopped : Row → Type 0) → (MonthDayBegins → stopped (month_day_front profile))
-        → (YearMonthBegins → ¬ MonthDayBegins → stopped year_month_front) → (HasNoDateFront profile text → OnRead fault read found stopped)
+    pub unfronted_read : (found : A → Text → Type 0) (stopped : Row → Type 0)
+        → ((left : Text) → Fronted (IsMonthDay profile) left → stopped (month_day_front profile left))
+        → ((left : Text) → Fronted IsYearMonth left → ¬ MonthDayBegins → stopped (year_month_front left)) → (HasNoDateFront profile text → OnRead fault read found stopped)
         → OnRead fault (unfronted fault profile text read) found stopped
     unfronted_read found stopped at_month_day at_year_month goes = read_if fault _ _ _ found stopped
-        (λ yes. ((month_day_front profile), refl, at_month_day ((month_day_begins_exact profile text).0 yes)))
+        (λ yes. let h = (month_day_begins_exact profile text).0 yes in
+        let front : Fronted (IsMonthDay profile) h.1 = (h.0, h.2, h.3) in
+        rw (month_day_left h.1 front) (month_day_front profile h.1, refl, at_month_day h.1 front))
         (λ fails. let none = none_there _ _ (month_day_begins_exact profile text) fails in
         read_if fault _ _ _ found stopped
-        (λ yes. (year_month_front, refl, at_year_month ((year_month_begins_exact text).0 yes) none))
+        (λ yes. let h = (year_month_begins_exact text).0 yes in
+        let front : Fronted IsYearMonth h.1 = (h.0, h.2, h.3) in
+        rw (year_month_left h.1 front) (year_month_front h.1, refl, at_year_month h.1 front none))
         (λ neither. goes (none, none_there (year_month_begins text) _ (year_month_begins_exact text) neither)))

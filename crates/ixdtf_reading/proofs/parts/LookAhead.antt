@@ -61,10 +61,10 @@ module _ {E : Type 0} (fault : Row → E) where
   pub sight_stops : (place : Place) (e : Fault) (rest : Text) → Stops (bracket_line first_bracket_scan) place e rest
       → sight_at fault rest ≡ Err (fault (row_of (of_bracket first_bracket_scan) place e))
   unfolding sight_at
-  sight_stops end e rest h = rw (h.0, h.1) refl
-  sight_stops other e rest h = absurd h
-  sight_stops bad e rest h = rw (h.1, h.2) refl
-  sight_stops anywhere e rest h = absurd h
+  sight_stops (end left) e rest h = rw (h.2, h.0, h.1) refl
+  sight_stops (other left) e rest h = absurd h
+  sight_stops (bad left) e rest h = rw (h.3, h.1, h.2) refl
+  sight_stops (anywhere left) e rest h = absurd h
 
   sight_equals : (c : ℕ) (rest : Text) → IsTrue (equals c) → sight_at fault (Plain c ∷ rest) ≡ Ok true
   unfolding sight_at
@@ -112,8 +112,8 @@ module _ {E : Type 0} (fault : Row → E) where
 
   pub sight_read : (text : Text) → OnSight fault text (sight_at fault text)
   unfolding sight_at
-  sight_read [] = ([], [], refl, ([], refl), end, abrupt_bracket, refl, (refl, refl))
-  sight_read (Bad ∷ rest) = ([], Bad ∷ rest, refl, ([], refl), bad, NonAsciiCodePoint, refl, (rest, refl, refl))
+  sight_read [] = ([], [], refl, ([], refl), end [], abrupt_bracket, refl, (refl, refl, refl))
+  sight_read (Bad ∷ rest) = ([], Bad ∷ rest, refl, ([], refl), bad (Bad ∷ rest), NonAsciiCodePoint, refl, (rest, refl, refl, refl))
   sight_read (Plain c ∷ rest) = at_letter _ _ refl refl (sight_read rest)
     where
       at_letter : (b d : Bool) → equals c ≡ b → closing c ≡ d → OnSight fault rest (sight_at fault rest)

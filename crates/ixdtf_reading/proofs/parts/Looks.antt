@@ -98,14 +98,14 @@ IsWhole (whole front e) = Unit {0}
 
 -- a whole line has one row
 pub whole_row : {E A : Type 0} (fault : Row → E) (brackets : Bool) (read : Text → Read E A) (name : LineName) → IsWhole (line_of brackets name)
-    → ((e : Fault) (front rest : Text) → front_of (line_of brackets name) front → Stops (line_of brackets name) anywhere e rest
-    → read (front ++ rest) ≡ Err (fault (row_of name anywhere e))) → RowsRead fault brackets read name
+    → ((e : Fault) (front rest : Text) → front_of (line_of brackets name) front → Stops (line_of brackets name) (anywhere rest) e rest
+    → read (front ++ rest) ≡ Err (fault (row_of name (anywhere rest) e))) → RowsRead fault brackets read name
 whole_row fault brackets read name is h place e front rest f at =
     rw (one_row (line_of brackets name) is place at)
     (h e front rest f (rw (← (one_row (line_of brackets name) is place at)) at))
   where
-    one_row : (l : Line) → IsWhole l → (p : Place) → Stops l p e rest → p ≡ anywhere
-    one_row (whole f d) is anywhere at = refl
+    one_row : (l : Line) → IsWhole l → (p : Place) → Stops l p e rest → p ≡ anywhere rest
+    one_row (whole f d) is (anywhere left) at = ap anywhere at.1
     one_row (whole f d) is p at = absurd at
     one_row other_line is p at = absurd is
 
@@ -125,9 +125,9 @@ lift part reader row text prior body is at h = (prior, body, is, rw h.1 (at h.0)
 
 -- the row of a whole line
 pub fits_whole_in : {E L : Type 0} (fault : Row → E) (part : L → LineName) (brackets : Bool) (l : L) (e : Fault) (text front rest : Text) → text ≡ front ++ rest
-    → front_of (line_of brackets (part l)) front → Stops (line_of brackets (part l)) anywhere e rest
-    → IsRowFault fault (fault (row_of (part l) anywhere e)) (λ row. FitsIn part brackets row text)
-fits_whole_in fault part brackets l e text front rest split shape at = (row_of (part l) anywhere e, refl, (l, refl, (front, rest, split, shape, at)))
+    → front_of (line_of brackets (part l)) front → Stops (line_of brackets (part l)) (anywhere rest) e rest
+    → IsRowFault fault (fault (row_of (part l) (anywhere rest) e)) (λ row. FitsIn part brackets row text)
+fits_whole_in fault part brackets l e text front rest split shape at = (row_of (part l) (anywhere rest) e, refl, (l, refl, (front, rest, split, shape, at)))
 
 -- ---- a line at which the text may not end
 
@@ -167,18 +167,18 @@ module _ {E : Type 0} (fault : Row → E) (name : LineName) (front : Shape) (goe
   letter_stops : (place : Place) (d : Fault) (rest : Text) → Stops here place d rest
       → next_by (look_of fault name here) rest ≡ Err (fault (row_of name place d))
   unfolding next_by look_at
-  letter_stops end d rest h = rw h.0 (grind (arith, h.1))
-  letter_stops other d rest h = rw (h.2, h.3, h.4) refl
-  letter_stops bad d rest h = rw (h.1, h.2) refl
-  letter_stops anywhere d rest h = absurd h
+  letter_stops (end left) d rest h = rw (h.2, h.0) (grind (arith, h.1))
+  letter_stops (other left) d rest h = rw (h.5, h.2, h.3, h.4) refl
+  letter_stops (bad left) d rest h = rw (h.3, h.1, h.2) refl
+  letter_stops (anywhere left) d rest h = absurd h
 
   letter_read : (text : Text) → OnRead fault (next_by (look_of fault name here) text) (λ c rest. (text ≡ Plain c ∷ rest) × IsTrue (goes_on c))
       (λ row. (row.name ≡ name) × Stops here row.place row.error text)
   unfolding next_by look_at
-  letter_read [] = (row_of name end e, refl, (refl, (refl, refl)))
-  letter_read (Bad ∷ rest) = (row_of name bad NonAsciiCodePoint, refl, (refl, (rest, refl, refl)))
+  letter_read [] = (row_of name (end []) e, refl, (refl, (refl, refl, refl)))
+  letter_read (Bad ∷ rest) = (row_of name (bad (Bad ∷ rest)) NonAsciiCodePoint, refl, (refl, (rest, refl, refl, refl)))
   letter_read (Plain c ∷ rest) =
-      read_if fault (goes_on c) _ _ _ _ (λ h. (refl, h)) (λ h. (row_of name other (at_other c), refl, (refl, (c, rest, refl, h, refl))))
+      read_if fault (goes_on c) _ _ _ _ (λ h. (refl, h)) (λ h. (row_of name (other (Plain c ∷ rest)) (at_other c), refl, (refl, (c, rest, refl, h, refl, refl))))
 
 module _ {E : Type 0} (fault : Row → E) (name : LineName) where
   pub goes : (c : ℕ) (rest : Text) → Looks (line_of true name) → Goes (line_of true name) c → letter_at fault name (Plain c ∷ rest) ≡ Ok (c, rest)
@@ -279,17 +279,17 @@ module _ {E : Type 0} (l : Look E) where
   unfolding peek_by look_at
   peek_goes c rest h = rw h refl
 
-  pub peek_other : (c : ℕ) (rest : Text) → IsFalse (l.goes_on c) → peek_by l (Plain c ∷ rest) ≡ Err (l.at_other c)
+  pub peek_other : (c : ℕ) (rest : Text) → IsFalse (l.goes_on c) → peek_by l (Plain c ∷ rest) ≡ Err (l.at_other c (Plain c ∷ rest))
   unfolding peek_by look_at
   peek_other c rest h = rw h refl
 
-  pub peek_bad : (rest : Text) → peek_by l (Bad ∷ rest) ≡ Err l.at_bad
+  pub peek_bad : (rest : Text) → peek_by l (Bad ∷ rest) ≡ Err (l.at_bad (Bad ∷ rest))
   unfolding peek_by look_at
   peek_bad rest = refl
 
   pub peek_read : (fault : Row → E) (text : Text) (stopped : Row → Type 0)
-      → ((c : ℕ) (rest : Text) → text ≡ Plain c ∷ rest → IsFalse (l.goes_on c) → IsRowFault fault (l.at_other c) stopped)
-      → ((rest : Text) → text ≡ Bad ∷ rest → IsRowFault fault l.at_bad stopped) → OnRead fault (peek_by l text) (Peeked l.goes_on text) stopped
+      → ((c : ℕ) (rest : Text) → text ≡ Plain c ∷ rest → IsFalse (l.goes_on c) → IsRowFault fault (l.at_other c text) stopped)
+      → ((rest : Text) → text ≡ Bad ∷ rest → IsRowFault fault (l.at_bad text) stopped) → OnRead fault (peek_by l text) (Peeked l.goes_on text) stopped
   unfolding peek_by look_at
   peek_read fault [] stopped at_other at_bad = (refl, refl)
   peek_read fault (Bad ∷ rest) stopped at_other at_bad = at_bad rest refl
@@ -302,16 +302,16 @@ module _ {E : Type 0} (fault : Row → E) (name : LineName) (front : Shape) (goe
 
   pub peek_stops : (place : Place) (e : Fault) (rest : Text) → Stops ends place e rest
       → peek_by (look_of fault name ends) rest ≡ Err (fault (row_of name place e))
-  peek_stops end e rest h = absurd (grind (arith, h.1))
-  peek_stops other e rest h = rw (h.2, h.4) (peek_other (look_of fault name ends) h.0 h.1 h.3)
-  peek_stops bad e rest h = rw (h.1, h.2) (peek_bad (look_of fault name ends) h.0)
-  peek_stops anywhere e rest h = absurd h
+  peek_stops (end left) e rest h = absurd (grind (arith, h.1))
+  peek_stops (other left) e rest h = rw (h.5, h.2, h.4) (peek_other (look_of fault name ends) h.0 h.1 h.3)
+  peek_stops (bad left) e rest h = rw (h.3, h.1, h.2) (peek_bad (look_of fault name ends) h.0)
+  peek_stops (anywhere left) e rest h = absurd h
 
   pub peek_line_read : (text : Text) → OnRead fault (peek_by (look_of fault name ends) text) (Peeked goes_on text)
       (λ row. (row.name ≡ name) × Stops ends row.place row.error text)
   peek_line_read text = peek_read _ fault text _
-      (λ c rest next out. (row_of name other (at_other c), refl, (refl, (c, rest, next, out, refl))))
-      (λ rest next. (row_of name bad NonAsciiCodePoint, refl, (refl, (rest, next, refl))))
+      (λ c rest next out. (row_of name (other text) (at_other c), refl, (refl, (c, rest, next, out, refl, refl))))
+      (λ rest next. (row_of name (bad text) NonAsciiCodePoint, refl, (refl, (rest, next, refl, refl))))
 
 -- ---- going on, or staying
 
@@ -321,9 +321,9 @@ NotNext class [] = Unit {0}
 NotNext class (Bad ∷ rest) = ⊥
 NotNext class (Plain c ∷ rest) = IsFalse (class c)
 
-module _ {E A : Type 0} (at_bad : E) (class : Class) (go : ℕ → Text → Read E A) (stay : Text → Read E A) where
+module _ {E A : Type 0} (at_bad : Text → E) (class : Class) (go : ℕ → Text → Read E A) (stay : Text → Read E A) where
   pub next_read : (fault : Row → E) (text : Text) (found : A → Text → Type 0) (stopped : Row → Type 0)
-      → ((rest : Text) → text ≡ Bad ∷ rest → IsRowFault fault at_bad stopped)
+      → ((rest : Text) → text ≡ Bad ∷ rest → IsRowFault fault (at_bad text) stopped)
       → ((c : ℕ) (rest : Text) → text ≡ Plain c ∷ rest → IsTrue (class c) → OnRead fault (go c rest) found stopped)
       → (NotNext class text → OnRead fault (stay text) found stopped) → OnRead fault (on_next at_bad class go stay text) found stopped
   unfolding look_at
@@ -333,11 +333,11 @@ module _ {E A : Type 0} (at_bad : E) (class : Class) (go : ℕ → Text → Read
       read_if fault (class c) _ _ _ _ (λ h. goes_case c rest refl h) (λ h. stays_case h)
 
 -- the digits in front, and no digit and not Bad after them; or digits, and Bad after them
-abbrev pub OnRun : {E : Type 0} → E → Text → Read E Text → Type 0
+abbrev pub OnRun : {E : Type 0} → (Text → E) → Text → Read E Text → Type 0
 OnRun at_bad text (Ok x) = (text ≡ x.0 ++ x.1) × ((n : ℕ) × digits n x.0) × NotNext digit x.1
-OnRun at_bad text (Err e) = (e ≡ at_bad) × (ds rest : Text) × (text ≡ ds ++ (Bad ∷ rest)) × (n : ℕ) × digits n ds
+OnRun at_bad text (Err e) = (ds rest : Text) × (e ≡ at_bad (Bad ∷ rest)) × (text ≡ ds ++ (Bad ∷ rest)) × (n : ℕ) × digits n ds
 
-module _ {E : Type 0} (at_bad : E) where
+module _ {E : Type 0} (at_bad : Text → E) where
   pub run_takes : (n : ℕ) (ds rest : Text) → digits n ds → NotNext digit rest → digit_run at_bad (ds ++ rest) ≡ Ok (ds, rest)
   unfolding digit_run
   run_takes zero ds [] h closed = rw h refl
@@ -345,7 +345,7 @@ module _ {E : Type 0} (at_bad : E) where
   run_takes zero ds (Plain c ∷ rest) h closed = rw h (rw closed refl)
   run_takes (suc n) ds rest h closed = rw h.2 (rw (h.3, run_takes n h.1 rest h.4 closed) refl)
 
-  pub run_bad : (n : ℕ) (ds rest : Text) → digits n ds → digit_run at_bad (ds ++ (Bad ∷ rest)) ≡ Err at_bad
+  pub run_bad : (n : ℕ) (ds rest : Text) → digits n ds → digit_run at_bad (ds ++ (Bad ∷ rest)) ≡ Err (at_bad (Bad ∷ rest))
   unfolding digit_run
   run_bad zero ds rest h = rw h refl
   run_bad (suc n) ds rest h = rw h.2 (rw (h.3, run_bad n h.1 rest h.4) refl)
@@ -353,12 +353,12 @@ module _ {E : Type 0} (at_bad : E) where
   more_run : (c : ℕ) (rest : Text) → IsTrue (digit c) → (r : Read E Text) → OnRun at_bad rest r
       → OnRun at_bad (Plain c ∷ rest) (r >>= λ more. Ok (Plain c ∷ more.0, more.1))
   more_run c rest d (Ok x) h = (onto c h.0, (suc h.1.0, (c, x.0, refl, d, h.1.1)), h.2)
-  more_run c rest d (Err e) h = (h.0, Plain c ∷ h.1, h.2, onto c h.3, suc h.4, (c, h.1, refl, d, h.5))
+  more_run c rest d (Err e) h = (Plain c ∷ h.0, h.1, h.2, onto c h.3, suc h.4, (c, h.0, refl, d, h.5))
 
   pub run_read : (text : Text) → OnRun at_bad text (digit_run at_bad text)
   unfolding digit_run
   run_read [] = (refl, (zero, refl), tt)
-  run_read (Bad ∷ rest) = (refl, [], rest, refl, zero, refl)
+  run_read (Bad ∷ rest) = ([], rest, refl, refl, zero, refl)
   run_read (Plain c ∷ rest) = go (digit c) refl (run_read rest)
     where
       go : (b : Bool) → digit c ≡ b → OnRun at_bad rest (digit_run at_bad rest)

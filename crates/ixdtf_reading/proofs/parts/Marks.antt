@@ -93,11 +93,11 @@ goes_over l false asks = λ c h. goes_so l c asks (digit_goes_on c h)
 
 no_stop : (l : Line) (c : ℕ) (place : Place) (e : Fault) (text rest : Text) → LooksForDigit l → text ≡ Plain c ∷ rest → IsTrue (digit c)
     → Stops l place e text → ⊥
-no_stop (line front goes_on (error d) at_other) c end e text rest same is h at = absurd cc
-no_stop (line front goes_on (error d) at_other) c other e text rest same is h at =
+no_stop (line front goes_on (error d) at_other) c (end left) e text rest same is h at = absurd cc
+no_stop (line front goes_on (error d) at_other) c (other left) e text rest same is h at =
     let letter : c ≡ at.0 = cc in both_ways (goes_on c) (rw letter at.3) (same c ∙ h)
-no_stop (line front goes_on (error d) at_other) c bad e text rest same is h at = absurd cc
-no_stop (line front goes_on (error d) at_other) c anywhere e text rest same is h at = at
+no_stop (line front goes_on (error d) at_other) c (bad left) e text rest same is h at = absurd cc
+no_stop (line front goes_on (error d) at_other) c (anywhere left) e text rest same is h at = at
 no_stop other_line c place e text rest same is h at = absurd same
 
 -- where two digits are wanted and the first stands, the row fits after it

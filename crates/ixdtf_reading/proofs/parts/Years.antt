@@ -83,7 +83,7 @@ module _ {E : Type 0} (fault : Row → E) where
     pub minus_zero_year_row : RowsRead fault brackets (year_at fault) (of_date minus_zero_year)
     unfolding extended_year_at
     minus_zero_year_row = whole_row fault brackets (year_at fault) (of_date minus_zero_year) tt λ e front rest f at.
-        rw (f.2, f.3.1, at) (extended_start f.3.0 (f.1 ++ rest) (hyphen_sign f.3.0 f.3.2)
+        rw (f.2, f.3.1, at.0) (extended_start f.3.0 (f.1 ++ rest) (hyphen_sign f.3.0 f.3.2)
         ∙ rw (digits_go fault (of_date extended_year_digits) (λ c. refl) 6 f.1 rest f.4.0, f.3.2, eq-eqb _ 0 f.4.1) refl)
 
     -- ---- and back
@@ -105,7 +105,7 @@ module _ {E : Type 0} (fault : Row → E) where
         (λ ds more g. read_if fault _ _ _ _ _
         (λ zero_year. let both : IsTrue (hyphen c) × IsTrue (nat_eq (decimal ds) 0) = and_parts _ _ zero_year in
         fits_whole_in fault in_year_or_month brackets (minus_zero_year, refl) DateExtendedYear text _ more (is ∙ onto c g.0)
-        (Plain c ∷ [], ds, refl, (c, refl, both.0), (g.1, eqb-true _ 0 both.1)) refl)
+        (Plain c ∷ [], ds, refl, (c, refl, both.0), (g.1, eqb-true _ 0 both.1)) (refl, refl))
         (λ not_zero. (
           Plain c ∷ ds,
           is ∙ onto c g.0,

@@ -174,10 +174,10 @@ module _ {E : Type 0} (fault : Row → E) where
     where
       after : (place : Place) (name : List ℕ) → StopsName false place e rest
           → (peek_by (name_look fault false none) rest >>= name_after name) ≡ Err (fault (row_of (of_zone in_zone_name) place e))
-      after end name g = absurd (grind (arith, g.1))
-      after other name g = rw (g.2, g.4, peek_other (name_look fault false none) g.0 g.1 refl) refl
-      after bad name g = absurd g
-      after anywhere name g = absurd g
+      after (end left) name g = absurd (grind (arith, g.1))
+      after (other left) name g = rw (g.5, g.2, g.4, peek_other (name_look fault false none) g.0 g.1 refl) refl
+      after (bad left) name g = absurd g
+      after (anywhere left) name g = absurd g
 
       by_row : (name_run fault true (front ++ rest) ≡ Err (fault (row_of (of_zone in_zone_name) place e)))
           ⊎ ((name : List ℕ) × (name_run fault true (front ++ rest) ≡ Ok (name, rest)) × StopsName false place e rest)
@@ -199,7 +199,7 @@ module _ {E : Type 0} (fault : Row → E) where
       (λ name rest h. then_read fault _ _ _ _ _ _
       (peek_read _ fault rest (λ row. FitsIn of_zone false row text)
       (λ d left next out. let apart : NotNext zone_char (Plain d ∷ left) × NotNext slash (Plain d ∷ left) = rw next at h.4 in
-      (row_of _ other _, refl, name_stops_here fault false other _ text h.0 rest h.1 h.2 (d, left, next, or_from _ _ apart.0 apart.1, refl)))
+      (row_of _ (other rest) _, refl, name_stops_here fault false (other rest) _ text h.0 rest h.1 h.2 (d, left, next, or_from _ _ apart.0 apart.1, refl, refl)))
       (λ left next. absurd ((rw next at h.4).0)))
       (λ next left g. at_next name rest h next left g)
       (λ r g. g))

@@ -68,7 +68,7 @@ refused_at_once text h = ([], inr (h, NoneRefused-nothing))
 pub one_hyphen_is_refused : OneHyphenIsRefused
 one_hyphen_is_refused years months days rest ((y, year), (m, month), (c, more, is, digit, others)) = (
   refused_at_once _ (
-    row_of (of_date after_hyphened_month) other DateSeparator,
+    row_of (of_date after_hyphened_month) (other (days ++ rest)) DateSeparator,
     (
       [],
       _,
@@ -79,13 +79,13 @@ one_hyphen_is_refused years months days rest ((y, year), (m, month), (c, more, i
         days ++ rest,
         simp append_assoc,
         (years, Plain 45 ∷ months, refl, (y, year), (Plain 45 ∷ [], months, refl, (45, refl, refl), (m, month))),
-        (c, more ++ rest, ap (λ t. t ++ rest) is, digit_no_hyphen c digit, refl),
+        (c, more ++ rest, ap (λ t. t ++ rest) is, digit_no_hyphen c digit, refl, refl),
       ),
     ),
     refl,
   ),
   refused_at_once _ (
-    row_of (of_date after_basic_month) other DateSeparator,
+    row_of (of_date after_basic_month) (other (Plain 45 ∷ (days ++ rest))) DateSeparator,
     (
       [],
       _,
@@ -96,7 +96,7 @@ one_hyphen_is_refused years months days rest ((y, year), (m, month), (c, more, i
         Plain 45 ∷ (days ++ rest),
         simp append_assoc,
         (years, months, refl, (y, year), (m, month)),
-        (45, days ++ rest, refl, refl, refl),
+        (45, days ++ rest, refl, refl, refl, refl),
       ),
     ),
     refl,

@@ -1,5 +1,5 @@
 -- Each text has exactly one outcome, and the pairs of a front begin those of the text.
-use Rattle.std.proofs.Common.{◌≡◌, ◌⊎◌, List, [], ◌++◌, Option, Ok, Err, refl, sym, ap, ◌∙◌, subst, inl, inr, append_assoc}
+use Rattle.std.proofs.Common.{◌≡◌, ℕ, ◌+◌, length, arith, ◌⊎◌, List, [], ◌++◌, Option, Ok, Err, refl, sym, ap, ◌∙◌, subst, inl, inr, append_assoc}
 use Rattle.ixdtf_grammar.specs.language.Letters.{Text}
 use Rattle.ixdtf_grammar.specs.table.Faults.{Fault}
 use Rattle.ixdtf_grammar.specs.language.Brackets.{ZoneNote}
@@ -8,10 +8,11 @@ use Rattle.ixdtf_grammar.specs.language.Cores.{Core}
 use Rattle.ixdtf_grammar.specs.language.Readers.{Reader}
 use Rattle.ixdtf_grammar.specs.language.Languages.Derives.{as_parsed, as_shifted, as_identified, as_named, as_lasting}
 use Rattle.ixdtf_grammar.specs.language.Languages.{Parsed, parsed_with, Found, Derives}
-use Rattle.ixdtf_grammar.specs.table.Outcomes.{HasFault, NoRowFits, Outcome, Holds, OneOutcome, pairs_of, Begins, FrontsBegin}
+use Rattle.ixdtf_grammar.specs.table.Outcomes.{HasFault, HasFaultAt, OnlyPlace, NoRowFits, Outcome, Holds, OneOutcome, pairs_of, Begins, FrontsBegin}
 use Rattle.ixdtf_grammar.specs.language.Languages.Found.{parsed}
 use Rattle.ixdtf_grammar.specs.table.Outcomes.Outcome.{derived, refused}
 use Rattle.ixdtf_grammar.specs.Laws.{InLanguage}
+use Rattle.ixdtf_grammar.specs.table.Rows.{Row, left_at}
 use Rattle.ixdtf_reading.specs.reading.Looks.{Read, ◌>>=◌}
 use Rattle.ixdtf_reading.specs.reading.Pairs.{pairs_at}
 use Rattle.ixdtf_reading.specs.reading.Wholes.{bracketed_text_at, with_pairs, read_at, RowBehind, row_behind, outcome_of, outcome}
@@ -48,6 +49,14 @@ fault_once reader text xs ys x y h g =
     let same : refused h.0 xs ≡ refused g.0 ys = same_outcome reader text (refused h.0 xs) (refused g.0 ys) h.1 g.1 in
     let rows : h.0 ≡ g.0 = cc in
     (sym h.2 ∙ ap (λ r. r.error) rows ∙ g.2, cc)
+
+-- and so are their places
+pub place_once : (reader : Reader) (text : Text) (pairs : List Pair) (fault : Fault) (at : ℕ) → HasFaultAt reader text pairs fault at
+    → OnlyPlace reader text fault at
+place_once reader text pairs fault at h other ys there g =
+    let same : refused g.0 ys ≡ refused h.0 pairs = same_outcome reader text (refused g.0 ys) (refused h.0 pairs) g.1 h.1 in
+    let rows : g.0 ≡ h.0 = cc in
+    (sym g.2 ∙ ap (λ r. r.error) rows ∙ h.2, omega (arith, g.3, h.3, ap (λ r. length (left_at r.place)) rows))
 
 -- the pairs of the front begin those that reading returned
 abbrev OnBegins : List Pair → Read RowBehind (Found × List Pair) → Type 0

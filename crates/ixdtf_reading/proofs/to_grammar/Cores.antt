@@ -99,13 +99,13 @@ module _ {E : Type 0} (fault : Row → E) (kind : CoreKind) (text : Text) (is_co
     at_next None more h = (front, (is ∙ rw h.0 (append-nil front), h.1), core_here)
     at_next (Some c) more h = (front, is ∙ ap (λ t. front ++ t) (h.0 ∙ ap (λ n. Plain n ∷ more) (eqb-true c 91 h.1)), core_here)
 
-    end_read : ((c : ℕ) (more : Text) → rest ≡ Plain c ∷ more → IsFalse (opening c) → FitsCore kind text (row_of name other InvalidEnd))
-        → ((more : Text) → rest ≡ Bad ∷ more → FitsCore kind text (row_of name bad NonAsciiCodePoint)) → Reads (core_end_at fault name core rest)
+    end_read : ((c : ℕ) (more : Text) → rest ≡ Plain c ∷ more → IsFalse (opening c) → FitsCore kind text (row_of name (other rest) InvalidEnd))
+        → ((more : Text) → rest ≡ Bad ∷ more → FitsCore kind text (row_of name (bad rest) NonAsciiCodePoint)) → Reads (core_end_at fault name core rest)
     unfolding core_end_at
     end_read at_other at_bad = then_read fault _ _ _ _ _ _
         (peek_read (core_look fault name) fault rest (FitsCore kind text)
-        (λ c more next out. (row_of name other InvalidEnd, refl, at_other c more next out))
-        (λ more next. (row_of name bad NonAsciiCodePoint, refl, at_bad more next)))
+        (λ c more next out. (row_of name (other rest) InvalidEnd, refl, at_other c more next out))
+        (λ more next. (row_of name (bad rest) NonAsciiCodePoint, refl, at_bad more next)))
         at_next
         (λ row f. f)
 
@@ -114,7 +114,7 @@ module _ {E : Type 0} (fault : Row → E) (kind : CoreKind) (text : Text) (is_co
         → ((place : Place) (e : Fault) → Stops (line shown opening ok (always InvalidEnd)) place e rest → FitsCore kind text (row_of name place e))
         → Reads (core_end_at fault name core rest)
     closing_read shown fits =
-        end_read (λ c more next out. fits other InvalidEnd (c, more, next, out, refl)) (λ more next. fits bad NonAsciiCodePoint (more, next, refl))
+        end_read (λ c more next out. fits (other rest) InvalidEnd (c, more, next, out, refl, refl)) (λ more next. fits (bad rest) NonAsciiCodePoint (more, next, refl, refl))
 
   -- ---- what follows a time, behind what stands before the time
 
@@ -150,7 +150,7 @@ module _ {E : Type 0} (fault : Row → E) (kind : CoreKind) (text : Text) (is_co
         (is_text (Plain s ∷ g.0) left (next ∙ rw g.1))
         (has_core (Plain s ∷ g.0) (Some (Offset offset)) (inl (offset, is_offset, refl)))
         (λ c after ends out. lift (later Clock.Offset) (bracketed kind) _ text _ more (time_text ∙ rw next (simp append_assoc)) (λ l. (signed s signs, refl))
-        (clock_stops fault true Clock.Offset more o other InvalidEnd left g (c, after, ends, out, refl)))
+        (clock_stops fault true Clock.Offset more o (other left) InvalidEnd left g (c, after, ends, out, refl, refl)))
         (λ after ends. absurd (closed_not_bad Clock.Offset o.0 left after g.3 ends))
 
     -- an offset after its sign
@@ -177,7 +177,7 @@ module _ {E : Type 0} (fault : Row → E) (kind : CoreKind) (text : Text) (is_co
         (has_core [] None refl)
         (λ c after ends out. let stops = or_from _ _ (or_from _ _ (not_next sign rest c after no_sign ends) (not_next zulu rest c after no_zulu ends)) out in
         lift (later Clock.Time) (bracketed kind) _ text prior body is (λ l. (stands l.0 l.1, refl))
-        (clock_stops fault true Clock.Time body x other InvalidEnd rest h (c, after, ends, stops, refl)))
+        (clock_stops fault true Clock.Time body x (other rest) InvalidEnd rest h (c, after, ends, stops, refl, refl)))
         (λ after ends. absurd (not_bad sign rest after no_sign ends))
 
     after_time_read : Reads (after_time_at fault date x rest)
@@ -239,14 +239,14 @@ module _ {E : Type 0} (fault : Row → E) (text : Text) where
   no_time_read date rest h closed = end_read fault date_time text IsDateTimeCore (of_date after_date) (core_of (Some date) None None) h.0 rest h.1
       (inl (date, h.2, refl))
       (λ c more next out. let stops = or_from _ _ (not_next date_time_separator rest c more closed next) out in
-      after_date_fits other InvalidEnd h.0 rest h.1 (date, h.2) (c, more, next, stops, refl))
+      after_date_fits (other rest) InvalidEnd h.0 rest h.1 (date, h.2) (c, more, next, stops, refl, refl))
       (λ more next. absurd (not_bad date_time_separator rest more closed next))
 
   after_date_read : (date : DateRecord) (rest : Text) → DateFront text date rest → ReadsCore fault date_time text (after_date_at fault date rest)
   unfolding after_date_at
-  after_date_read date rest h = next_read (fault (row_of (of_date after_date) bad NonAsciiCodePoint)) date_time_separator _ _ fault rest _ _
-      (λ more next. let row_fits = after_date_fits bad NonAsciiCodePoint h.0 rest h.1 (date, h.2) (more, next, refl) in
-      (row_of (of_date after_date) bad NonAsciiCodePoint, refl, row_fits))
+  after_date_read date rest h = next_read (λ left. fault (row_of (of_date after_date) (bad left) NonAsciiCodePoint)) date_time_separator _ _ fault rest _ _
+      (λ more next. let row_fits = after_date_fits (bad rest) NonAsciiCodePoint h.0 rest h.1 (date, h.2) (more, next, refl, refl) in
+      (row_of (of_date after_date) (bad rest) NonAsciiCodePoint, refl, row_fits))
       (λ c more next separates. time_core_read h.0 (Plain c ∷ []) more date (further text h.0 rest (Plain c ∷ []) more h.1 next) h.2 (c, refl, separates))
       (no_time_read date rest h)
 
@@ -303,10 +303,10 @@ module _ {E : Type 0} (fault : Row → E) (profile : Profile) (text : Text) wher
   hour_digit_read : (body : Text) → text ≡ body → NotNext time_letter body
       → OnRead fault (next_by (hour_look fault) body) (λ c rest. (text ≡ Plain c ∷ rest) × IsTrue (digit c)) (FitsCore (time_alone profile) text)
   unfolding next_by look_at
-  hour_digit_read [] is closed = start_stops end abrupt_digit (is, refl)
+  hour_digit_read [] is closed = start_stops (end []) abrupt_digit (is, refl, sym is)
   hour_digit_read (Bad ∷ rest) is closed = absurd closed
   hour_digit_read (Plain c ∷ rest) is closed =
-      read_if fault (digit c) _ _ _ _ (λ d. (is, d)) (λ out. start_stops other TimeHour (c, rest, is, or_from _ _ out closed, refl))
+      read_if fault (digit c) _ _ _ _ (λ d. (is, d)) (λ out. start_stops (other (Plain c ∷ rest)) TimeHour (c, rest, is, or_from _ _ out closed, refl, sym is))
 
   lone_time_read : NotNext time_letter text → OnRead fault (lone_time_at fault text) (MarkedFront text) (FitsCore (time_alone profile) text)
   unfolding lone_time_at
@@ -318,8 +318,8 @@ module _ {E : Type 0} (fault : Row → E) (profile : Profile) (text : Text) wher
 
   marked_time_read : OnRead fault (marked_time_at fault text) (MarkedFront text) (FitsCore (time_alone profile) text)
   unfolding marked_time_at
-  marked_time_read = next_read (fault (row_of (of_time time_start) bad NonAsciiCodePoint)) time_letter _ _ fault text (MarkedFront text) _
-      (λ more next. start_stops bad NonAsciiCodePoint (more, next, refl))
+  marked_time_read = next_read (λ left. fault (row_of (of_time time_start) (bad left) NonAsciiCodePoint)) time_letter _ _ fault text (MarkedFront text) _
+      (λ more next. start_stops (bad text) NonAsciiCodePoint (more, next, refl, refl))
       (λ c rest next letter. read_weaker fault (clock_at fault Clock.Time rest) _ _ _ _ (clock_read fault true Clock.Time rest)
       (λ x left g. (Plain c ∷ [], rest, next, inr (c, refl, letter), g))
       (λ row f. lift (of_clock Clock.Time) (bracketed (time_alone profile)) row text (Plain c ∷ []) rest next
@@ -353,8 +353,8 @@ module _ {E : Type 0} (fault : Row → E) (profile : Profile) (text : Text) wher
       let ends = split_ends text h.0 x.1 rest h.1 in
       let time : ReadsAsTime text = (h.0, ends.0, ends.1, (x.0, h.2), ends.2) in
       unfronted_read profile text fault (Ok (x, rest)) (CoreFront (time_alone profile) text) (FitsCore (time_alone profile) text)
-      (λ begins. ([], text, refl, ((refl, time, refl), refl), (begins.0, begins.1, begins.2, begins.3, refl)))
-      (λ begins none. ([], text, refl, ((refl, time, none), refl), (begins.0, begins.1, begins.2, begins.3, refl)))
+      (λ left begins. ([], text, refl, ((refl, time, refl), refl), (begins.0, left, begins.1, begins.2, (refl, refl))))
+      (λ left begins none. ([], text, refl, ((refl, time, none), refl), (begins.0, left, begins.1, begins.2, (refl, refl))))
       (λ none. (h.0, h.1, (h.2, no_front_of profile h.0 ends.0 (subst (HasNoDateFront profile) ends.1 none))))
 
   time_alone_read : ReadsCore fault (time_alone profile) text (time_alone_core_at fault profile text)

@@ -65,15 +65,15 @@ module _ {E : Type 0} (fault : Row → E) where
   -- ---- a year and a month
 
   -- the row is that of two digits that are no month
-  abbrev NoMonthRow : Text → Row → Type 0
-  NoMonthRow ds row = (row ≡ no_month) × ((decimal ds ≡ 0) ⊎ (12 < decimal ds))
+  abbrev NoMonthRow : Text → Text → Row → Type 0
+  NoMonthRow ds left row = (row ≡ no_month left) × ((decimal ds ≡ 0) ⊎ (12 < decimal ds))
 
-  in_month : (ds rest : Text) → OnRead fault (month_in_range fault (ds, rest)) (λ m more. (more ≡ rest) × (m ≡ decimal ds) × (1 ≤ m) × (m ≤ 12)) (NoMonthRow ds)
+  in_month : (ds rest : Text) → OnRead fault (month_in_range fault (ds, rest)) (λ m more. (more ≡ rest) × (m ≡ decimal ds) × (1 ≤ m) × (m ≤ 12)) (NoMonthRow ds rest)
   unfolding month_in_range
   in_month ds rest = read_if fault (nat_le 1 (decimal ds) && nat_le (decimal ds) 12) _ _ _ _
       (λ test. let both = and_parts (nat_le 1 (decimal ds)) (nat_le (decimal ds) 12) test in
       (refl, refl, leb-true _ _ both.0, leb-true _ _ both.1))
-      (λ test. (no_month, refl, (refl, grind (arith, nat_tests))))
+      (λ test. (no_month rest, refl, (refl, grind (arith, nat_tests))))
 
   -- what reading a month after a year gave
   abbrev MonthFront : Text → ℕ × Bool → Text → Type 0
@@ -83,7 +83,7 @@ module _ {E : Type 0} (fault : Row → E) where
   abbrev StopsInMonth : Text → Row → Type 0
   StopsInMonth text row =
       (b : Bool) × (ds rest : Text) × (text ≡ (hyphens_of b ++ ds) ++ rest)
-      × ((Begun b ds × StopsHere (of_date month_digits) rest row) ⊎ (NoMonth ds × (row ≡ no_month)))
+      × ((Begun b ds × StopsHere (of_date month_digits) rest row) ⊎ (NoMonth ds × (row ≡ no_month rest)))
 
   -- the year stops at this line
   module _ (name : LineName) (asks : LooksForHyphen (line_of true name)) where
@@ -106,7 +106,7 @@ module _ {E : Type 0} (fault : Row → E) where
           split : text ≡ (ys ++ (hyphens_of h.0 ++ h.1)) ++ h.2
           split = further text ys rest (hyphens_of h.0 ++ h.1) h.2 is h.3
 
-          by_line : (Begun h.0 h.1 × StopsHere (of_date month_digits) h.2 row) ⊎ (NoMonth h.1 × (row ≡ no_month)) → FitsIn in_year_or_month brackets row text
+          by_line : (Begun h.0 h.1 × StopsHere (of_date month_digits) h.2 row) ⊎ (NoMonth h.1 × (row ≡ no_month h.2)) → FitsIn in_year_or_month brackets row text
           by_line (inl g) = fits_in in_year_or_month brackets (month_digits, refl) row text (ys ++ (hyphens_of h.0 ++ h.1)) h.2 g.1.0 split
               (ys, _, refl, (y, year), begins_month h.0 h.1 g.0) g.1.1
           by_line (inr g) = rw g.1 (
@@ -117,7 +117,7 @@ module _ {E : Type 0} (fault : Row → E) where
               h.2,
               split,
               (ys, _, refl, (y, year), (hyphens_of h.0, h.1, refl, optional h.0, g.0)),
-              refl,
+              (refl, refl),
             ),
           )
 
@@ -169,7 +169,7 @@ module _ {E : Type 0} (fault : Row → E) where
         (λ test. let both = and_parts (nat_le 1 date.day) (nat_le date.day (month_length date.year date.month)) test in
         (front, is, (shape, (leb-true _ _ both.0, leb-true _ _ both.1))))
         (λ test. fits_whole_in fault of_date brackets day_range InvalidDayRange text front rest is
-        (date, (shape, λ good. both_ways _ test (and_from _ _ (le-leb 1 date.day good.0) (le-leb date.day _ good.1)))) refl)
+        (date, (shape, λ good. both_ways _ test (and_from _ _ (le-leb 1 date.day good.0) (le-leb date.day _ good.1)))) (refl, refl))
 
     -- a year and a month were read
     module _ (text ys : Text) (y : ℤ) (ms : Text) (m : ℕ) (year : Year ys y) (month : Month ms m) where

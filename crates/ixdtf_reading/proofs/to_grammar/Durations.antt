@@ -54,10 +54,10 @@ Here profile (ended s dates times g) front =
     (prior last : Text) × (front ≡ prior ++ last) × IsContext profile prior (in_times s dates times) × FractionGroup last g
     × IsTrue (in_order profile times g.unit)
 
--- the row fits at this front, whatever follows
-abbrev FitsAnywhere : Profile → Text → Row → Type 0
-FitsAnywhere profile front row =
-    InDuration profile row.name [] × front_of (line_of false row.name) front × ((rest : Text) → Stops (line_of false row.name) row.place row.error rest)
+-- the row fits at this front, before this text
+abbrev FitsAnywhere : Profile → Text → Text → Row → Type 0
+FitsAnywhere profile left front row =
+    InDuration profile row.name [] × front_of (line_of false row.name) front × Stops (line_of false row.name) row.place row.error left
 
 -- ---- letters and numbers
 
@@ -93,9 +93,9 @@ module _ {E : Type 0} (fault : Row → E) (profile : Profile) where
 
   -- ---- one letter more
 
-  -- a state that says so of the front, or a row that fits at it
-  abbrev Kept : Text → Result State E → Type 0
-  Kept front r = OnState r (λ to. Here profile to front) (FitsAnywhere profile front)
+  -- a state that says so of the front, or a row that fits at it, before this text
+  abbrev Kept : Text → Text → Result State E → Type 0
+  Kept left front r = OnState r (λ to. Here profile to front) (FitsAnywhere profile left front)
 
   added_after : (context : Context) (prior last : Text) (g : Group) → IsContext profile prior context → IntegerGroup (half_of context) last g
       → IsTrue (in_order profile (groups_of context) g.unit) → g.value ≤ greatest g.unit → IsContext profile (prior ++ last) (add context g)
@@ -103,11 +103,11 @@ module _ {E : Type 0} (fault : Row → E) (profile : Profile) where
   added_after (in_times s dates times) prior last g b h order range =
       (b.0, b.1, b.2 ++ last, b.3, rw b.4 (simp append_assoc), b.5, b.6, b.7, (b.2, last, refl, b.8, h, order, range))
 
-  grow_kept : (context : Context) (prior ds : Text) (c : ℕ) (front : Text) → front ≡ prior ++ (ds ++ (Plain c ∷ [])) → IsContext profile prior context
-      → decimal ds ≤ greatest_value → SomeDigits (ds ++ (Plain c ∷ [])) → Kept front (grow fault profile context (ds ++ (Plain c ∷ [])))
-  grow_kept context prior ds c front is b below all = state_if (nat_le (decimal (ds ++ (Plain c ∷ []))) greatest_value) _ _ _ _
+  grow_kept : (left : Text) (context : Context) (prior ds : Text) (c : ℕ) (front : Text) → front ≡ prior ++ (ds ++ (Plain c ∷ [])) → IsContext profile prior context
+      → decimal ds ≤ greatest_value → SomeDigits (ds ++ (Plain c ∷ [])) → Kept left front (grow fault profile left context (ds ++ (Plain c ∷ [])))
+  grow_kept left context prior ds c front is b below all = state_if (nat_le (decimal (ds ++ (Plain c ∷ []))) greatest_value) _ _ _ _
       (λ fits. (prior, is, b, (all, leb-true _ _ fits)))
-      (λ past. (_, refl, ((refl, refl), (context, prior, ds ++ (Plain c ∷ []), refl, is, b, (ds, c, refl, all, below, not_below _ _ past)), λ rest. refl)))
+      (λ past. (_, refl, ((refl, refl), (context, prior, ds ++ (Plain c ∷ []), refl, is, b, (ds, c, refl, all, below, not_below _ _ past)), (refl, refl))))
 
   after_between : (context : Context) (c : ℕ) (front : Text) → IsContext profile front context
       → Goes (duration_line profile (line_of_state (between context))) c
@@ -118,30 +118,30 @@ module _ {E : Type 0} (fault : Row → E) (profile : Profile) where
   after_between (in_times s dates (h ∷ earlier)) c front b g misses = absurd (both_ways _ misses g)
 
   -- a number past the greatest of its unit is one of dates
-  unit_kept : (context : Context) (prior last : Text) (g : Group) (c : ℕ) (front : Text) → front ≡ prior ++ last → IsContext profile prior context
+  unit_kept : (left : Text) (context : Context) (prior last : Text) (g : Group) (c : ℕ) (front : Text) → front ≡ prior ++ last → IsContext profile prior context
       → IntegerGroup (half_of context) last g → g.unit ≡ unit_of (half_of context) c → g.value ≤ greatest_value
       → IsTrue (in_order profile (groups_of context) g.unit)
-      → greatest g.unit < g.value → FitsAnywhere profile front (unit_past profile)
-  unit_kept (in_dates s dates) prior last g c front is b h unit below order past =
-      ((refl, refl), (in_dates s dates, prior, last, refl, is, b, (g, h, order, past)), λ rest. refl)
-  unit_kept (in_times s dates times) prior last g c front is b h unit below order past =
+      → greatest g.unit < g.value → FitsAnywhere profile left front (unit_past profile left)
+  unit_kept left (in_dates s dates) prior last g c front is b h unit below order past =
+      ((refl, refl), (in_dates s dates, prior, last, refl, is, b, (g, h, order, past)), (refl, refl))
+  unit_kept left (in_times s dates times) prior last g c front is b h unit below order past =
       let none : greatest_value < g.value = rw (unit, time_greatest c) at past in absurd (omega arith)
 
-  range_kept : (context : Context) (prior last : Text) (g : Group) (c : ℕ) (front : Text) → front ≡ prior ++ last → IsContext profile prior context
+  range_kept : (left : Text) (context : Context) (prior last : Text) (g : Group) (c : ℕ) (front : Text) → front ≡ prior ++ last → IsContext profile prior context
       → IntegerGroup (half_of context) last g → g.unit ≡ unit_of (half_of context) c → g.value ≤ greatest_value
       → IsTrue (in_order profile (groups_of context) g.unit)
-      → Kept front (add_in_range fault profile context g)
-  range_kept context prior last g c front is b h unit below order = state_if (nat_le g.value (greatest g.unit)) _ _ _ _
+      → Kept left front (add_in_range fault profile left context g)
+  range_kept left context prior last g c front is b h unit below order = state_if (nat_le g.value (greatest g.unit)) _ _ _ _
       (λ range. rw is (added_after context prior last g b h order (leb-true _ _ range)))
-      (λ past. ((unit_past profile), refl, unit_kept context prior last g c front is b h unit below order (not_below _ _ past)))
+      (λ past. ((unit_past profile left), refl, unit_kept left context prior last g c front is b h unit below order (not_below _ _ past)))
 
-  order_kept : (context : Context) (prior last : Text) (g : Group) (next : Result State E) (front : Text) → front ≡ prior ++ last
+  order_kept : (left : Text) (context : Context) (prior last : Text) (g : Group) (next : Result State E) (front : Text) → front ≡ prior ++ last
       → IsContext profile prior context
-      → AnyGroup (half_of context) last g → (IsTrue (in_order profile (groups_of context) g.unit) → Kept front next)
-      → Kept front (in_its_order fault profile context g next)
-  order_kept context prior last g next front is b h go = state_if (in_order profile (groups_of context) g.unit) _ _ _ _
+      → AnyGroup (half_of context) last g → (IsTrue (in_order profile (groups_of context) g.unit) → Kept left front next)
+      → Kept left front (in_its_order fault profile left context g next)
+  order_kept left context prior last g next front is b h go = state_if (in_order profile (groups_of context) g.unit) _ _ _ _
       go
-      (λ order. (_, refl, ((refl, refl), (context, prior, last, refl, is, b, (g, h, order)), λ rest. refl)))
+      (λ order. (_, refl, ((refl, refl), (context, prior, last, refl, is, b, (g, h, order)), (refl, refl))))
 
   to_mark : (context : Context) (prior ds : Text) (c : ℕ) (front : Text) → front ≡ prior ++ (ds ++ (Plain c ∷ [])) → IsContext profile prior context
       → InRange ds
@@ -150,12 +150,12 @@ module _ {E : Type 0} (fault : Row → E) (profile : Profile) where
   to_mark (in_times s dates times) prior ds c front is b in_range mark = (prior, c, is, b, in_range, mark)
 
   -- a letter of a group behind its digits
-  group_kept : (context : Context) (prior ds : Text) (c : ℕ) (front : Text) → front ≡ prior ++ (ds ++ (Plain c ∷ [])) → IsContext profile prior context
+  group_kept : (left : Text) (context : Context) (prior ds : Text) (c : ℕ) (front : Text) → front ≡ prior ++ (ds ++ (Plain c ∷ [])) → IsContext profile prior context
       → InRange ds
       → IsTrue (designator (half_of context) c)
-      → Kept front (in_its_order fault profile context (integer_group (half_of context) ds c)
-      (add_in_range fault profile context (integer_group (half_of context) ds c)))
-  group_kept context prior ds c front is b in_range d =
+      → Kept left front (in_its_order fault profile left context (integer_group (half_of context) ds c)
+      (add_in_range fault profile left context (integer_group (half_of context) ds c)))
+  group_kept left context prior ds c front is b in_range d =
       let g = integer_group (half_of context) ds c in
       let integer : IntegerGroup (half_of context) (ds ++ (Plain c ∷ [])) (integer_group (half_of context) ds c) = record {
         ds = ds;
@@ -166,28 +166,28 @@ module _ {E : Type 0} (fault : Row → E) (profile : Profile) where
         unit = refl;
         fraction = refl;
       } in
-      order_kept context prior (ds ++ (Plain c ∷ [])) g _ front is b (any_integer (half_of context) _ _ integer)
-      (range_kept context prior (ds ++ (Plain c ∷ [])) g c front is b integer refl in_range.1)
+      order_kept left context prior (ds ++ (Plain c ∷ [])) g _ front is b (any_integer (half_of context) _ _ integer)
+      (range_kept left context prior (ds ++ (Plain c ∷ [])) g c front is b integer refl in_range.1)
 
-  kept : (s : State) (c : ℕ) (front : Text) → Here profile s front → Goes (duration_line profile (line_of_state s)) c
-      → Kept (front ++ (Plain c ∷ [])) (step fault profile s c)
+  kept : (left : Text) (s : State) (c : ℕ) (front : Text) → Here profile s front → Goes (duration_line profile (line_of_state s)) c
+      → Kept left (front ++ (Plain c ∷ [])) (step fault profile left s c)
   unfolding step
-  kept started c front h g = state_if (sign c) _ _ _ _
+  kept left started c front h g = state_if (sign c) _ _ _ _
       (λ is. (c, rw h, is, refl))
       (λ misses. (Plain c ∷ [], [], rw h, inl ((c, refl, or_other _ _ g misses), refl), refl))
-  kept (signed s) c front h g = (Plain h.0 ∷ (Plain c ∷ []), [], rw h.1, inr (h.0, Plain c ∷ [], refl, h.2, (c, refl, g), h.3), refl)
-  kept (between context) c front h g = state_if (digit c) _ _ _ _
-      (λ d. grow_kept context front [] c (front ++ (Plain c ∷ [])) refl h (omega arith) (one_digit c d))
+  kept left (signed s) c front h g = (Plain h.0 ∷ (Plain c ∷ []), [], rw h.1, inr (h.0, Plain c ∷ [], refl, h.2, (c, refl, g), h.3), refl)
+  kept left (between context) c front h g = state_if (digit c) _ _ _ _
+      (λ d. grow_kept left context front [] c (front ++ (Plain c ∷ [])) refl h (omega arith) (one_digit c d))
       (after_between context c front h g)
-  kept (in_number context ds) c front h g =
+  kept left (in_number context ds) c front h g =
       let is : front ++ (Plain c ∷ []) ≡ h.0 ++ (ds ++ (Plain c ∷ [])) = rw h.1 (simp append_assoc) in
       state_if (digit c) _ _ _ _
-      (λ d. grow_kept context h.0 ds c _ is h.2 h.3.1 (digits_longer ds c h.3.0 d))
+      (λ d. grow_kept left context h.0 ds c _ is h.2 h.3.1 (digits_longer ds c h.3.0 d))
       (λ no_digit. state_if (designator (half_of context) c) _ _ _ _
-      (group_kept context h.0 ds c _ is h.2 h.3)
+      (group_kept left context h.0 ds c _ is h.2 h.3)
       (λ no_designator. to_mark context h.0 ds c _ is h.2 h.3 (or_other _ _ g (or_from _ _ no_digit no_designator))))
-  kept (at_mark s dates times ds) c front h g = (h.0, h.1, rw h.2 (simp append_assoc), h.3, h.4, h.5, one_digit c g)
-  kept (in_fraction s dates times ds fs) c front h g =
+  kept left (at_mark s dates times ds) c front h g = (h.0, h.1, rw h.2 (simp append_assoc), h.3, h.4, h.5, one_digit c g)
+  kept left (in_fraction s dates times ds fs) c front h g =
       let is : front ++ (Plain c ∷ []) ≡ h.0 ++ (ds ++ ((Plain h.1 ∷ fs) ++ (Plain c ∷ []))) = rw h.2 (simp append_assoc) in
       state_if (digit c) _ _ _ _
       (λ d. (h.0, h.1, is, h.3, h.4, h.5, digits_longer fs c h.6 d))
@@ -204,9 +204,9 @@ module _ {E : Type 0} (fault : Row → E) (profile : Profile) where
         unit = refl;
         fraction = refl;
       } in
-      order_kept (in_times s dates times) h.0 _ (fraction_group ds fs c) _ _ is h.3 (inr last)
+      order_kept left (in_times s dates times) h.0 _ (fraction_group ds fs c) _ _ is h.3 (inr last)
       (λ order. (h.0, _, is, h.3, last, order)))
-  kept (ended s dates times g) c front h goes = absurd (both_ways _ refl goes)
+  kept left (ended s dates times g) c front h goes = absurd (both_ways _ refl goes)
 
 -- ---- a state shows the front of its line, and a duration where the text may end
 
@@ -294,28 +294,28 @@ is_duration profile s front h ends = absurd ends
 
 -- ---- what reading returns
 
-bad_stops : (l : Line) (rest : Text) → Asks l → Stops l bad NonAsciiCodePoint (Bad ∷ rest)
-bad_stops (line front goes_on ends at_other) rest asks = (rest, refl, refl)
+bad_stops : (l : Line) (rest : Text) → Asks l → Stops l (bad (Bad ∷ rest)) NonAsciiCodePoint (Bad ∷ rest)
+bad_stops (line front goes_on ends at_other) rest asks = (rest, refl, refl, refl)
 bad_stops l rest asks = absurd asks
 
 module _ {E : Type 0} (fault : Row → E) (profile : Profile) where
-  bad_row : (name : LineName) (l : Line) → Asks l → (look_of fault name l).at_bad ≡ fault (row_of name bad NonAsciiCodePoint)
-  bad_row name (line front goes_on ends at_other) asks = refl
-  bad_row name l asks = absurd asks
+  bad_row : (name : LineName) (l : Line) (text : Text) → Asks l → (look_of fault name l).at_bad text ≡ fault (row_of name (bad text) NonAsciiCodePoint)
+  bad_row name (line front goes_on ends at_other) text asks = refl
+  bad_row name l text asks = absurd asks
 
   end_read : (name : LineName) (l : Line) (d : DurationParseRecord) (found : DurationParseRecord → Type 0) (stopped : Row → Type 0) → Asks l
-      → (MayEnd l → found d) → ((e : Fault) → Stops l end e [] → stopped (row_of name end e))
-      → OnRead fault (at_end (look_of fault name l).at_end d) (λ x left. (left ≡ []) × found x) stopped
+      → (MayEnd l → found d) → ((e : Fault) → Stops l (end []) e [] → stopped (row_of name (end []) e))
+      → OnRead fault (at_end ((look_of fault name l).at_end []) d) (λ x left. (left ≡ []) × found x) stopped
   end_read name (line front goes_on ok at_other) d found stopped asks good at = (refl, good tt)
-  end_read name (line front goes_on (error e) at_other) d found stopped asks good at = (row_of name end e, refl, at e (refl, refl))
+  end_read name (line front goes_on (error e) at_other) d found stopped asks good at = (row_of name (end []) e, refl, at e (refl, refl, refl))
   end_read name l d found stopped asks good at = absurd asks
 
   letter_read : {A : Type 0} (name : LineName) (l : Line) (c : ℕ) (rest : Text) (x : Read E A) (found : A → Text → Type 0) (stopped : Row → Type 0) → Asks l
-      → (Goes l c → OnRead fault x found stopped) → ((e : Fault) → Stops l other e (Plain c ∷ rest) → stopped (row_of name other e))
-      → OnRead fault (if (look_of fault name l).goes_on c then x else Err ((look_of fault name l).at_other c)) found stopped
+      → (Goes l c → OnRead fault x found stopped) → ((e : Fault) → Stops l (other (Plain c ∷ rest)) e (Plain c ∷ rest) → stopped (row_of name (other (Plain c ∷ rest)) e))
+      → OnRead fault (if (look_of fault name l).goes_on c then x else Err ((look_of fault name l).at_other c (Plain c ∷ rest))) found stopped
   letter_read name (line front goes_on ends at_other) c rest x found stopped asks good at = read_if fault (goes_on c) x _ found stopped
       good
-      (λ h. (row_of name other (at_other c), refl, at (at_other c) (c, rest, refl, h, refl)))
+      (λ h. (row_of name (other (Plain c ∷ rest)) (at_other c), refl, at (at_other c) (c, rest, refl, h, refl, refl)))
   letter_read name l c rest x found stopped asks good at = absurd asks
 
   then_state : {A : Type 0} (r : Result State E) (go : State → Read E A) (to_found : State → Type 0) (at_row : Row → Type 0) (found : A → Text → Type 0)
@@ -336,8 +336,8 @@ module _ {E : Type 0} (fault : Row → E) (profile : Profile) where
       (λ ends. rw (is, append-nil) (is_duration profile s front h ends))
       (λ e at. ([], text, refl, ((refl, refl), refl), (front, [], is, shown profile s front h, at)))
   run_read s front (Bad ∷ rest) text h is = (
-    row_of (of_duration profile (line_of_state s)) bad NonAsciiCodePoint,
-    bad_row (of_duration profile (line_of_state s)) (duration_line profile (line_of_state s)) (state_asks profile s),
+    row_of (of_duration profile (line_of_state s)) (bad (Bad ∷ rest)) NonAsciiCodePoint,
+    bad_row (of_duration profile (line_of_state s)) (duration_line profile (line_of_state s)) (Bad ∷ rest) (state_asks profile s),
     (
       [],
       text,
@@ -348,9 +348,9 @@ module _ {E : Type 0} (fault : Row → E) (profile : Profile) where
   )
   run_read s front (Plain c ∷ rest) text h is =
       letter_read (of_duration profile (line_of_state s)) (duration_line profile (line_of_state s)) c rest _ _ _ (state_asks profile s)
-      (λ g. then_state (step fault profile s c) _ _ _ _ _ (kept fault profile s c front h g)
+      (λ g. then_state (step fault profile rest s c) _ _ _ _ _ (kept fault profile rest s c front h g)
       (λ to there. run_read to (front ++ (Plain c ∷ [])) rest text there (rw append_assoc is))
-      (λ row w. ([], text, refl, (w.0, refl), (front ++ (Plain c ∷ []), rest, rw append_assoc is, w.1, w.2 rest))))
+      (λ row w. ([], text, refl, (w.0, refl), (front ++ (Plain c ∷ []), rest, rw append_assoc is, w.1, w.2))))
       (λ e at. ([], text, refl, ((refl, refl), refl), (front, Plain c ∷ rest, is, shown profile s front h, at)))
 
   pub duration_read : (text : Text) → OnRead fault (duration_at fault profile text) (λ d rest. (rest ≡ []) × IsDuration profile text d)

@@ -75,10 +75,10 @@ ZoneFront text zone rest = (inside : Text) × (text ≡ inside ++ (Plain 93 ∷ 
 -- no row of a line with nothing before it fits where a letter goes on
 goes_here : (goes_on : Class) (at_end : Ending) (at_other : ℕ → Fault) (c : ℕ) (more : Text) → IsTrue (goes_on c) → (place : Place) (e : Fault)
     → Stops (line nothing goes_on at_end at_other) place e (Plain c ∷ more) → ⊥
-goes_here goes_on at_end at_other c more goes end e at = absurd (grind (arith, at.0))
-goes_here goes_on at_end at_other c more goes other e at = absurd cc
-goes_here goes_on at_end at_other c more goes bad e at = absurd (grind (arith, at.1))
-goes_here goes_on at_end at_other c more goes anywhere e at = at
+goes_here goes_on at_end at_other c more goes (end left) e at = absurd (grind (arith, at.0))
+goes_here goes_on at_end at_other c more goes (other left) e at = absurd cc
+goes_here goes_on at_end at_other c more goes (bad left) e at = absurd (grind (arith, at.1))
+goes_here goes_on at_end at_other c more goes (anywhere left) e at = at
 
 -- where a name begins, no row of the lines before it fits
 inside_name : (l : ZoneLine) (place : Place) (e : Fault) (c : ℕ) (more front rest : Text) → IsTrue (zone_lead c) → Plain c ∷ more ≡ front ++ rest
@@ -130,14 +130,14 @@ module _ {E : Type 0} (fault : Row → E) where
       → OnRead fault (next_by (name_look fault true closing) rest) (λ d left. rest ≡ Plain 93 ∷ left) (λ row. FitsIn of_zone true row text)
   unfolding next_by look_at
   after_name_read text name [] h =
-      (row_of (of_zone in_zone_name) end AnnotationClose, refl, name_stops_here fault true end AnnotationClose text h.0 [] h.1 h.2 (refl, refl))
+      (row_of (of_zone in_zone_name) (end []) AnnotationClose, refl, name_stops_here fault true (end []) AnnotationClose text h.0 [] h.1 h.2 (refl, refl, refl))
   after_name_read text name (Bad ∷ rest) h = absurd h.4.0
   after_name_read text name (Plain d ∷ rest) h = read_if fault (closing d) _ _ _ _
       (λ closes. ap (λ n. Plain n ∷ rest) (eqb-true d 93 closes))
       (λ out. (
-        row_of (of_zone in_zone_name) other IanaChar,
+        row_of (of_zone in_zone_name) (other (Plain d ∷ rest)) IanaChar,
         refl,
-        name_stops_here fault true other IanaChar text h.0 (Plain d ∷ rest) h.1 h.2 (d, rest, refl, neither d h.4.0 h.4.1 out, refl),
+        name_stops_here fault true (other (Plain d ∷ rest)) IanaChar text h.0 (Plain d ∷ rest) h.1 h.2 (d, rest, refl, neither d h.4.0 h.4.1 out, refl, refl),
       ))
     where
       neither : (d : ℕ) → IsFalse (zone_char d) → IsFalse (slash d) → IsFalse (closing d) → IsFalse (zone_letters true d)

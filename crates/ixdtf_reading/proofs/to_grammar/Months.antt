@@ -80,16 +80,16 @@ module _ {E : Type 0} (fault : Row → E) (profile : Profile) where
   Reads text r = OnRead fault r (FrontIs (IsMonthDay profile) text) (λ row. FitsIn line_under true row text)
 
   -- the row is that of two digits that are no month
-  abbrev NoMonthRow : Text → Row → Type 0
-  NoMonthRow ds row = (row ≡ no_lone_month) × ((decimal ds ≡ 0) ⊎ (12 < decimal ds))
+  abbrev NoMonthRow : Text → Text → Row → Type 0
+  NoMonthRow ds left row = (row ≡ no_lone_month left) × ((decimal ds ≡ 0) ⊎ (12 < decimal ds))
 
   in_month : (ds rest : Text) → OnRead fault (lone_month_in_range fault (ds, rest)) (λ m more. (more ≡ rest) × (m ≡ decimal ds) × (1 ≤ m) × (m ≤ 12))
-      (NoMonthRow ds)
+      (NoMonthRow ds rest)
   unfolding lone_month_in_range
   in_month ds rest = read_if fault (nat_le 1 (decimal ds) && nat_le (decimal ds) 12) _ _ _ _
       (λ test. let both = and_parts (nat_le 1 (decimal ds)) (nat_le (decimal ds) 12) test in
       (refl, refl, leb-true _ _ both.0, leb-true _ _ both.1))
-      (λ test. (no_lone_month, refl, (refl, grind (arith, nat_tests))))
+      (λ test. (no_lone_month rest, refl, (refl, grind (arith, nat_tests))))
 
   module _ (text : Text) where
     marks_read : OnRead fault (marks_at fault text) (λ b rest. (text ≡ marks_of b ++ rest) × Starts b rest) (λ row. FitsIn line_under true row text)
@@ -119,7 +119,7 @@ module _ {E : Type 0} (fault : Row → E) (profile : Profile) where
         (λ test. let both = and_parts (nat_le (least_day profile) day) (nat_le day (greatest_day month)) test in
         (front, is, (shape, (leb-true _ _ both.0, leb-true _ _ both.1))))
         (λ test. fits_whole_in fault line_under true (month_day_range profile, (refl, refl)) InvalidMonthDay text front rest is
-        (date_of (pos 0) month day, (shape, λ good. both_ways _ test (and_from _ _ (le-leb (least_day profile) day good.0) (le-leb day _ good.1)))) refl)
+        (date_of (pos 0) month day, (shape, λ good. both_ways _ test (and_from _ _ (le-leb (least_day profile) day good.0) (le-leb day _ good.1)))) (refl, refl))
 
     -- marks and a month were read
     module _ (b : Bool) (ms : Text) (m : ℕ) (month : Month ms m) where
@@ -158,12 +158,12 @@ module _ {E : Type 0} (fault : Row → E) (profile : Profile) where
           (λ r h. fits_in line_under true (after_month_day_month, refl) r text (marks_of b ++ ms) rest h.0 is (marks_of b, ms, refl, some_marks b, (m, month))
           h.1)
 
-    month_row : (b : Bool) (ds rest : Text) (row : Row) → text ≡ (marks_of b ++ ds) ++ rest → digits 2 ds → NoMonthRow ds row
+    month_row : (b : Bool) (ds rest : Text) (row : Row) → text ≡ (marks_of b ++ ds) ++ rest → digits 2 ds → NoMonthRow ds rest row
         → FitsIn line_under true row text
     month_row b ds rest row is two h = rw h.0 (
       (month_day_month_range, refl),
       refl,
-      (marks_of b ++ ds, rest, is, (marks_of b, ds, refl, some_marks b, (two, h.1)), refl),
+      (marks_of b ++ ds, rest, is, (marks_of b, ds, refl, some_marks b, (two, h.1)), (refl, refl)),
     )
 
     front_read : Reads text (month_day_at fault profile text)

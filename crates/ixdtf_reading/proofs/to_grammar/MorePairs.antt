@@ -10,7 +10,7 @@ use Rattle.ixdtf_grammar.specs.table.LineNames.LineName.{of_bracket}
 use Rattle.ixdtf_grammar.specs.table.LineNames.BracketLine.{after_bracket}
 use Rattle.ixdtf_grammar.specs.table.Lines.{always}
 use Rattle.ixdtf_grammar.specs.table.Rows.{Row}
-use Rattle.ixdtf_reading.specs.reading.Looks.{Read, ◌>>=◌, error_of, look_at_line, peek_by}
+use Rattle.ixdtf_reading.specs.reading.Looks.{Read, Placed, ◌>>=◌, error_of, look_at_line, peek_by}
 use Rattle.ixdtf_reading.specs.reading.Pairs.{later_pair_at, next_pair_at, pairs_at}
 use Rattle.ixdtf_reading.specs.reading.Chains.{FitsAfterBrackets, PairsUpTo}
 use Rattle.ixdtf_reading.proofs.parts.Looks.{OnRead, Peeked, peek_line_read, then_read}
@@ -46,7 +46,7 @@ module _ {E : Type 0} (fault : Row → E) (text : Text) where
 pub next_is : (text rest : Text) (found : Option Pair) → next_pair_at error_of text ≡ Ok (found, rest) → NextPair text found rest
 next_is text rest found is = subst (OnNext error_of text) is (next_read error_of text)
 
-pub next_fault : (text : Text) (fault : Fault) → next_pair_at error_of text ≡ Err fault → (row : Row) × FitsAfterBrackets row text × (row.error ≡ fault)
+pub next_fault : (text : Text) (fault : Placed) → next_pair_at error_of text ≡ Err fault → (row : Row) × FitsAfterBrackets row text × (error_of row ≡ fault)
 next_fault text fault is = let found = subst (OnNext error_of text) is (next_read error_of text) in (found.0, found.2, sym found.1)
 
 module _ {E : Type 0} (fault : List Pair → Row → E) where

@@ -161,16 +161,16 @@ module _ {E : Type 0} (fault : Row → E) where
 
   key_read : (text : Text) → OnRead fault (key_run fault text) (KeyFront text) (At in_key (many (one key_char)) text)
   unfolding key_run
-  key_read [] = (row_of (of_pair in_key) end AnnotationKeyValueSeparator, refl, ([], [], refl, ([], refl), refl, (refl, refl)))
-  key_read (Bad ∷ rest) = (row_of (of_pair in_key) bad NonAsciiCodePoint, refl, ([], Bad ∷ rest, refl, ([], refl), refl, (rest, refl, refl)))
+  key_read [] = (row_of (of_pair in_key) (end []) AnnotationKeyValueSeparator, refl, ([], [], refl, ([], refl), refl, (refl, refl, refl)))
+  key_read (Bad ∷ rest) = (row_of (of_pair in_key) (bad (Bad ∷ rest)) NonAsciiCodePoint, refl, ([], Bad ∷ rest, refl, ([], refl), refl, (rest, refl, refl, refl)))
   key_read (Plain c ∷ rest) = read_if fault (key_char c) _ _ _ _
       (λ goes. key_more c rest goes (key_run fault rest) (key_read rest))
       (λ no_key. read_if fault (equals c) _ _ _ _
       (λ marks. ([], ap (λ n. Plain n ∷ rest) (eqb-true c 61 marks), ([], refl), refl))
       (λ no_equals. (
-        row_of (of_pair in_key) other AnnotationKeyChar,
+        row_of (of_pair in_key) (other (Plain c ∷ rest)) AnnotationKeyChar,
         refl,
-        ([], Plain c ∷ rest, refl, ([], refl), refl, (c, rest, refl, rw (no_key, no_equals), refl)),
+        ([], Plain c ∷ rest, refl, ([], refl), refl, (c, rest, refl, rw (no_key, no_equals), refl, refl)),
       )))
 
   -- from its first letter on
@@ -199,9 +199,9 @@ module _ {E : Type 0} (fault : Row → E) where
       (h.0, h.1, (h.2.0, (Plain c ∷ h.2.1.0, h.2.1.1, onto c h.2.1.2, grows h.2.0 h.2.1.0 h.2.1.3, h.2.1.4, h.2.1.5)))
 
   -- another letter
-  value_out : (state : ValueState) (c : ℕ) (rest : Text) → Stops (pair_line (value_line state)) other (value_other state) (Plain c ∷ rest)
+  value_out : (state : ValueState) (c : ℕ) (rest : Text) → Stops (pair_line (value_line state)) (other (Plain c ∷ rest)) (value_other state) (Plain c ∷ rest)
       → ReadsValue state (Plain c ∷ rest) (stepped fault state c rest steps.Stops)
-  value_out state c rest at = (row_of (of_pair (value_line state)) other (value_other state), refl, (state, ([], Plain c ∷ rest, refl, stays state, refl, at)))
+  value_out state c rest at = (row_of (of_pair (value_line state)) (other (Plain c ∷ rest)) (value_other state), refl, (state, ([], Plain c ∷ rest, refl, stays state, refl, at)))
 
   -- the rest of a value is read from each of its states
   abbrev ReadsRest : Text → Type 0
@@ -216,13 +216,13 @@ module _ {E : Type 0} (fault : Row → E) where
       → ReadsValue AtStart (Plain c ∷ rest) (value_run fault AtStart (Plain c ∷ rest))
   start_letter c rest more true is =
       at_letter AtStart c rest (GoesOn Inside) (rw is) (value_more AtStart Inside c rest (grows_start c is) (value_run fault Inside rest) (more Inside))
-  start_letter c rest more false is = at_letter AtStart c rest steps.Stops (rw is) (value_out AtStart c rest (c, rest, refl, is, refl))
+  start_letter c rest more false is = at_letter AtStart c rest steps.Stops (rw is) (value_out AtStart c rest (c, rest, refl, is, refl, refl))
 
   again_letter : (c : ℕ) (rest : Text) → ReadsRest rest → (b : Bool) → value_char c ≡ b
       → ReadsValue AfterHyphen (Plain c ∷ rest) (value_run fault AfterHyphen (Plain c ∷ rest))
   again_letter c rest more true is =
       at_letter AfterHyphen c rest (GoesOn Inside) (rw is) (value_more AfterHyphen Inside c rest (grows_again c is) (value_run fault Inside rest) (more Inside))
-  again_letter c rest more false is = at_letter AfterHyphen c rest steps.Stops (rw is) (value_out AfterHyphen c rest (c, rest, refl, is, refl))
+  again_letter c rest more false is = at_letter AfterHyphen c rest steps.Stops (rw is) (value_out AfterHyphen c rest (c, rest, refl, is, refl, refl))
 
   inside_letter : (c : ℕ) (rest : Text) → ReadsRest rest → (b d f : Bool) → value_char c ≡ b → hyphen c ≡ d → closing c ≡ f
       → ReadsValue Inside (Plain c ∷ rest) (value_run fault Inside (Plain c ∷ rest))
@@ -234,26 +234,26 @@ module _ {E : Type 0} (fault : Row → E) where
   inside_letter c rest more false false true is dash shut =
       at_letter Inside c rest Ends (rw (is, dash, shut)) ([], ap (λ n. Plain n ∷ rest) (eqb-true c 93 shut), no_tail, refl)
   inside_letter c rest more false false false is dash shut =
-      at_letter Inside c rest steps.Stops (rw (is, dash, shut)) (value_out Inside c rest (c, rest, refl, rw (is, dash, shut), refl))
+      at_letter Inside c rest steps.Stops (rw (is, dash, shut)) (value_out Inside c rest (c, rest, refl, rw (is, dash, shut), refl, refl))
 
   any_letter : (c : ℕ) (rest : Text) → ReadsRest rest → ReadsRest (Plain c ∷ rest)
   any_letter c rest more AtStart = start_letter c rest more (value_char c) refl
   any_letter c rest more Inside = inside_letter c rest more (value_char c) (hyphen c) (closing c) refl refl refl
   any_letter c rest more AfterHyphen = again_letter c rest more (value_char c) refl
 
-  at_end : (state : ValueState) → Stops (pair_line (value_line state)) end (value_end state) []
-  at_end AtStart = (refl, refl)
-  at_end state = (refl, refl)
+  at_end : (state : ValueState) → Stops (pair_line (value_line state)) (end []) (value_end state) []
+  at_end AtStart = (refl, refl, refl)
+  at_end state = (refl, refl, refl)
 
-  at_bad : (state : ValueState) (rest : Text) → Stops (pair_line (value_line state)) bad NonAsciiCodePoint (Bad ∷ rest)
-  at_bad AtStart rest = (rest, refl, refl)
-  at_bad state rest = (rest, refl, refl)
+  at_bad : (state : ValueState) (rest : Text) → Stops (pair_line (value_line state)) (bad (Bad ∷ rest)) NonAsciiCodePoint (Bad ∷ rest)
+  at_bad AtStart rest = (rest, refl, refl, refl)
+  at_bad state rest = (rest, refl, refl, refl)
 
   value_read : (text : Text) → ReadsRest text
   unfolding value_run
-  value_read [] state = (row_of (of_pair (value_line state)) end (value_end state), refl, (state, ([], [], refl, stays state, refl, at_end state)))
+  value_read [] state = (row_of (of_pair (value_line state)) (end []) (value_end state), refl, (state, ([], [], refl, stays state, refl, at_end state)))
   value_read (Bad ∷ rest) state =
-      (row_of (of_pair (value_line state)) bad NonAsciiCodePoint, refl, (state, ([], Bad ∷ rest, refl, stays state, refl, at_bad state rest)))
+      (row_of (of_pair (value_line state)) (bad (Bad ∷ rest)) NonAsciiCodePoint, refl, (state, ([], Bad ∷ rest, refl, stays state, refl, at_bad state rest)))
   value_read (Plain c ∷ rest) state = any_letter c rest (value_read rest) state
 
   -- ---- pairs from the key on

@@ -133,11 +133,12 @@ module _ {E : Type 0} (fault : Row → E) where
   abbrev PastRow : Row → ℕ → Text → Row → Type 0
   PastRow wanted greatest ds row = (row ≡ wanted) × (greatest < decimal ds)
 
-  range_read : (greatest : ℕ) (wanted : Row) (ds rest : Text)
-      → OnRead fault (in_range greatest (fault wanted) (ds, rest)) (λ n more. (more ≡ rest) × (n ≡ decimal ds) × (n ≤ greatest)) (PastRow wanted greatest ds)
+  range_read : (greatest : ℕ) (wanted : Text → Row) (ds rest : Text)
+      → OnRead fault (in_range greatest (λ left. fault (wanted left)) (ds, rest)) (λ n more. (more ≡ rest) × (n ≡ decimal ds) × (n ≤ greatest))
+      (PastRow (wanted rest) greatest ds)
   unfolding in_range
   range_read greatest wanted ds rest =
-      read_if fault (nat_le (decimal ds) greatest) _ _ _ _ (λ h. (refl, refl, leb-true _ _ h)) (λ h. (wanted, refl, (refl, leb-false _ _ h)))
+      read_if fault (nat_le (decimal ds) greatest) _ _ _ _ (λ h. (refl, refl, leb-true _ _ h)) (λ h. (wanted rest, refl, (refl, leb-false _ _ h)))
 
   begun : (name : LineName) → LooksForDigit (line_of true name) → (colons : Bool) (rest : Text) (row : Row) → Starts colons rest
       → (g : DigitsStop name 2 rest row) → Begun colons g.2
@@ -171,45 +172,45 @@ module _ {E : Type 0} (fault : Row → E) where
 
       -- at Bad
       open_bad : (shape : TimeShape) (t : TimeRecord) (more : Text) → ClockOf clock shape front t → rest ≡ Bad ∷ more
-          → IsRowFault fault (bad_after fault clock shape) Fitting
-      open_bad hours t more x next = at_line after_hour tt bad NonAsciiCodePoint (t, x) (more, next, refl)
-      open_bad basic_minutes t more x next = at_line after_basic_minute tt bad NonAsciiCodePoint (t, x) (more, next, refl)
-      open_bad colon_minutes t more x next = at_line after_colon_minute tt bad NonAsciiCodePoint (t, x) (more, next, refl)
-      open_bad seconds t more x next = at_line after_second tt bad NonAsciiCodePoint (t, x) (more, next, refl)
-      open_bad fractions t more x next = at_line after_fraction tt bad NonAsciiCodePoint (t, x) (more, next, refl)
+          → IsRowFault fault (bad_after fault clock shape rest) Fitting
+      open_bad hours t more x next = at_line after_hour tt (bad rest) NonAsciiCodePoint (t, x) (more, next, refl, refl)
+      open_bad basic_minutes t more x next = at_line after_basic_minute tt (bad rest) NonAsciiCodePoint (t, x) (more, next, refl, refl)
+      open_bad colon_minutes t more x next = at_line after_colon_minute tt (bad rest) NonAsciiCodePoint (t, x) (more, next, refl, refl)
+      open_bad seconds t more x next = at_line after_second tt (bad rest) NonAsciiCodePoint (t, x) (more, next, refl, refl)
+      open_bad fractions t more x next = at_line after_fraction tt (bad rest) NonAsciiCodePoint (t, x) (more, next, refl, refl)
 
       -- at a colon or a digit that does not go on
       mixed_read : (colons : Bool) (t : TimeRecord) (c : ℕ) (more : Text) → ClockOf clock (minutes_shape colons) front t → rest ≡ Plain c ∷ more
           → IsFalse (seconds_after clock (second_start colons) c) → IsTrue ((colon or digit) c)
-          → IsRowFault fault (mixed_after fault clock (minutes_shape colons)) Fitting
+          → IsRowFault fault (mixed_after fault clock (minutes_shape colons) rest) Fitting
       mixed_read true t c more x next out h =
-          at_line after_colon_minute tt other (mixed clock) (t, x) (c, more, next, or_from _ _ out (mixed_no_follow brackets clock c h), rw h)
+          at_line after_colon_minute tt (other rest) (mixed clock) (t, x) (c, more, next, or_from _ _ out (mixed_no_follow brackets clock c h), rw h, refl)
       mixed_read false t c more x next out h =
-          at_line after_basic_minute tt other (mixed clock) (t, x) (c, more, next, or_from _ _ out (mixed_no_follow brackets clock c h), rw h)
+          at_line after_basic_minute tt (other rest) (mixed clock) (t, x) (c, more, next, or_from _ _ out (mixed_no_follow brackets clock c h), rw h, refl)
 
       -- at the end, where it is an error
       open_end : (shape : TimeShape) (t : TimeRecord) (e : Fault) → ClockOf clock shape front t → rest ≡ [] → (follow_of brackets clock).at_end ≡ error e
-          → Fitting (row_of (line_after clock shape) end e)
-      open_end hours t e x next ends = fits after_hour tt end e front rest is (t, x) (next, ends)
-      open_end basic_minutes t e x next ends = fits after_basic_minute tt end e front rest is (t, x) (next, ends)
-      open_end colon_minutes t e x next ends = fits after_colon_minute tt end e front rest is (t, x) (next, ends)
-      open_end seconds t e x next ends = fits after_second tt end e front rest is (t, x) (next, ends)
-      open_end fractions t e x next ends = fits after_fraction tt end e front rest is (t, x) (next, ends)
+          → Fitting (row_of (line_after clock shape) (end rest) e)
+      open_end hours t e x next ends = fits after_hour tt (end rest) e front rest is (t, x) (next, ends, refl)
+      open_end basic_minutes t e x next ends = fits after_basic_minute tt (end rest) e front rest is (t, x) (next, ends, refl)
+      open_end colon_minutes t e x next ends = fits after_colon_minute tt (end rest) e front rest is (t, x) (next, ends, refl)
+      open_end seconds t e x next ends = fits after_second tt (end rest) e front rest is (t, x) (next, ends, refl)
+      open_end fractions t e x next ends = fits after_fraction tt (end rest) e front rest is (t, x) (next, ends, refl)
 
       -- at a letter that may not follow
       open_other : (shape : TimeShape) (t : TimeRecord) (c : ℕ) (more : Text) (e : Fault) → ClockOf clock shape front t → rest ≡ Plain c ∷ more
           → IsFalse ((follow_of brackets clock).letters c) → e ≡ (follow_of brackets clock).at_other → Closed clock shape (Plain c ∷ more)
-          → Fitting (row_of (line_after clock shape) other e)
+          → Fitting (row_of (line_after clock shape) (other rest) e)
       open_other hours t c more e x next out same closed =
-          fits after_hour tt other e front rest is (t, x) (c, more, next, or_from _ _ (or_from _ _ closed.0 closed.1) out, same)
+          fits after_hour tt (other rest) e front rest is (t, x) (c, more, next, or_from _ _ (or_from _ _ closed.0 closed.1) out, same, refl)
       open_other basic_minutes t c more e x next out same closed =
-          fits after_basic_minute tt other e front rest is (t, x) (c, more, next, or_from _ _ closed.0 out, rw closed.1 same)
+          fits after_basic_minute tt (other rest) e front rest is (t, x) (c, more, next, or_from _ _ closed.0 out, rw closed.1 same, refl)
       open_other colon_minutes t c more e x next out same closed =
-          fits after_colon_minute tt other e front rest is (t, x) (c, more, next, or_from _ _ closed.0 out, rw closed.1 same)
+          fits after_colon_minute tt (other rest) e front rest is (t, x) (c, more, next, or_from _ _ closed.0 out, rw closed.1 same, refl)
       open_other seconds t c more e x next out same closed =
-          fits after_second tt other e front rest is (t, x) (c, more, next, or_from _ _ closed out, same)
+          fits after_second tt (other rest) e front rest is (t, x) (c, more, next, or_from _ _ closed out, same, refl)
       open_other fractions t c more e x next out same closed =
-          fits after_fraction tt other e front rest is (t, x) (c, more, next, or_from _ _ closed out, same)
+          fits after_fraction tt (other rest) e front rest is (t, x) (c, more, next, or_from _ _ closed out, same, refl)
 
     -- what is known of reading a time, or a part of it
     abbrev Reads : Read E OpenTime → Type 0
@@ -224,11 +225,11 @@ module _ {E : Type 0} (fault : Row → E) where
           → OnRead fault (r >>= λ ds. Ok (fraction_of (Plain d ∷ ds.0), ds.1)) (FractionFront (Plain d ∷ more)) Fitting
       more_digits_read d more is digit_d (Ok ds) run = (Plain d ∷ ds.0, onto d run.0, (run.1.0, (d, ds.0, refl, digit_d, run.1.1)), refl, run.2)
       more_digits_read d more is digit_d (Err e) run =
-          rw run.0
-          (open_bad (front ++ (Plain c ∷ (Plain d ∷ run.1))) (Bad ∷ run.2)
-          (further text front _ (Plain c ∷ (Plain d ∷ run.1)) (Bad ∷ run.2) is (onto c (onto d run.3))) fractions
-          (time_of h m s (Some (fraction_of (Plain d ∷ run.1)))) run.2
-          (is_fraction_text clock h m s c front (Plain d ∷ run.1) _ x mark (run.4, (d, run.1, refl, digit_d, run.5)) refl) refl)
+          rw run.2
+          (open_bad (front ++ (Plain c ∷ (Plain d ∷ run.0))) (Bad ∷ run.1)
+          (further text front _ (Plain c ∷ (Plain d ∷ run.0)) (Bad ∷ run.1) is (onto c (onto d run.3))) fractions
+          (time_of h m s (Some (fraction_of (Plain d ∷ run.0)))) run.1
+          (is_fraction_text clock h m s c front (Plain d ∷ run.0) _ x mark (run.4, (d, run.0, refl, digit_d, run.5)) refl) refl)
 
       fraction_read : (rest : Text) → text ≡ front ++ (Plain c ∷ rest) → OnRead fault (fraction_at fault clock rest) (FractionFront rest) Fitting
       unfolding fraction_at
@@ -256,18 +257,18 @@ module _ {E : Type 0} (fault : Row → E) where
     -- the number of a minute or a second: its digits and its range each have a line
     module _ (at_digits at_range : (l : ClockLine) × IsLater l) (greatest : ℕ) (e : Fault) (asks : LooksForDigit (line_of true (later clock at_digits)))
         (same : line_of true (later clock at_digits) ≡ line_of brackets (later clock at_digits))
-        (whole : (t : Text) → Stops (line_of brackets (later clock at_range)) anywhere e t) where
+        (whole : (t : Text) → Stops (line_of brackets (later clock at_range)) (anywhere t) e t) where
       number_read : (colons : Bool) (front rest : Text) → text ≡ front ++ (marks colons ++ rest) → Starts colons rest
           → ((ds : Text) → Begun colons ds → front_of (line_of brackets (later clock at_digits)) (front ++ (marks colons ++ ds)))
           → ((ds : Text) → Past greatest ds → front_of (line_of brackets (later clock at_range)) (front ++ (marks colons ++ ds)))
-          → OnRead fault (number_at fault (later clock at_digits) greatest (row_of (later clock at_range) anywhere e) rest)
+          → OnRead fault (number_at fault (later clock at_digits) greatest (λ left. row_of (later clock at_range) (anywhere left) e) rest)
           (λ n left. (ds : Text) × (text ≡ (front ++ (marks colons ++ ds)) ++ left) × UpTo greatest ds n) Fitting
       unfolding number_by
-      number_read colons front rest is at digits_front past_front = let wanted = row_of (later clock at_range) anywhere e in
+      number_read colons front rest is at digits_front past_front = let wanted : Text → Row = λ left. row_of (later clock at_range) (anywhere left) e in
           then_read fault (digits_at fault (later clock at_digits) 2 rest) _ _ _ _ _ (digits_read fault (later clock at_digits) asks 2 rest)
-          (λ ds more g. read_weaker fault (in_range greatest (fault wanted) (ds, more)) _ _ _ _ (range_read greatest wanted ds more)
+          (λ ds more g. read_weaker fault (in_range greatest (λ left. fault (wanted left)) (ds, more)) _ _ _ _ (range_read greatest wanted ds more)
           (λ n left u. (ds, is ∙ rw (g.0, u.0) (simp append_assoc), (g.1, u.1, u.2)))
-          (λ r u. rw u.0 (fits at_range.0 at_range.1 anywhere e (front ++ (marks colons ++ ds)) more (is ∙ rw g.0 (simp append_assoc))
+          (λ r u. rw u.0 (fits at_range.0 at_range.1 (anywhere more) e (front ++ (marks colons ++ ds)) more (is ∙ rw g.0 (simp append_assoc))
           (past_front ds (g.1, u.1)) (whole more))))
           (λ r g. fits_in (later clock) brackets at_digits r text (front ++ (marks colons ++ g.2)) g.3 g.6.0 (is ∙ rw g.4 (simp append_assoc))
           (digits_front g.2 (begun (later clock at_digits) asks colons rest r at g)) (subst (λ l. Stops l r.place r.error g.3) same g.6.1))
@@ -277,7 +278,7 @@ module _ {E : Type 0} (fault : Row → E) where
     unfolding second_at
     second_read colons h m front rest may is at x =
         then_read fault (number_at fault (of_clock clock second_digits) (greatest_second clock) (second_past clock) rest) _ _ _ _ _
-        (number_read (second_digits, tt) (second_range, tt) (greatest_second clock) (second_fault clock) (λ c. refl) refl (λ t. refl) colons front rest is at
+        (number_read (second_digits, tt) (second_range, tt) (greatest_second clock) (second_fault clock) (λ c. refl) refl (λ t. (refl, refl)) colons front rest is at
         (λ ds b. (may, after_minute_text clock Begun colons _ front ds x b))
         (λ ds p. (may, after_minute_text clock (λ b. Past (greatest_second clock)) colons _ front ds x p)))
         (λ s left g. after_second_read h m s (front ++ (marks colons ++ g.0)) left g.1 (second_text clock colons h m s front g.0 may x g.2))
@@ -299,7 +300,7 @@ module _ {E : Type 0} (fault : Row → E) where
         next_read (bad_after fault clock shape) (seconds_after clock (second_start colons)) _ _ fault rest (TimeFront clock text) Fitting
         (λ more next. open_bad front rest is shape (time_of h m 0 None) more x next)
         (λ c more next mark. second_from colons h m c front rest more is next mark x)
-        (λ no_second. next_read (bad_after fault clock shape) (colon or digit) (λ d left. Err (mixed_after fault clock shape)) _ fault rest
+        (λ no_second. next_read (bad_after fault clock shape) (colon or digit) (λ d left. Err (mixed_after fault clock shape rest)) _ fault rest
         (TimeFront clock text) Fitting
         (λ more next. open_bad front rest is shape (time_of h m 0 None) more x next)
         (λ c more next h. mixed_read front rest is colons _ c more x next (rw next at no_second) h)
@@ -310,7 +311,7 @@ module _ {E : Type 0} (fault : Row → E) where
     unfolding minute_at
     minute_read colons h front rest is at x =
         then_read fault (number_at fault (of_clock clock minute_digits) 59 (minute_past clock) rest) _ _ _ _ _
-        (number_read (minute_digits, tt) (minute_range, tt) 59 TimeMinuteSecond (λ c. refl) refl (λ t. refl) colons front rest is at
+        (number_read (minute_digits, tt) (minute_range, tt) 59 TimeMinuteSecond (λ c. refl) refl (λ t. (refl, refl)) colons front rest is at
         (λ ds b. (front, _, refl, (h, x), minute_begun colons ds b)) (λ ds p. (front, _, refl, (h, x), (marks colons, ds, refl, a_mark colons, p))))
         (λ m left g. after_minute_read colons h m (front ++ (marks colons ++ g.0)) left g.1 (minute_text clock colons h m front g.0 x g.2))
         (λ r g. g)
@@ -331,10 +332,10 @@ module _ {E : Type 0} (fault : Row → E) where
     unfolding hour_from
     hour_read c rest d is =
         then_read fault (digits_at fault (of_clock clock hour_digit) 1 rest) _ _ _ _ _ (digits_read fault (of_clock clock hour_digit) (λ c. refl) 1 rest)
-        (λ ds more g. then_read fault (in_range 23 (fault (hour_past clock)) (Plain c ∷ ds, more)) _ _ _ _ _
+        (λ ds more g. then_read fault (in_range 23 (λ left. fault (hour_past clock left)) (Plain c ∷ ds, more)) _ _ _ _ _
         (range_read 23 (hour_past clock) (Plain c ∷ ds) more)
         (λ h left u. after_hour_read h (Plain c ∷ ds) left (is ∙ rw (g.0, u.0)) ((c, ds, refl, d, g.1), u.1, u.2))
-        (λ r u. rw u.0 (fits hour_range tt anywhere TimeHour (Plain c ∷ ds) more (is ∙ rw g.0) ((c, ds, refl, d, g.1), u.1) refl)))
+        (λ r u. rw u.0 (fits hour_range tt (anywhere more) TimeHour (Plain c ∷ ds) more (is ∙ rw g.0) ((c, ds, refl, d, g.1), u.1) (refl, refl))))
         (λ r g. let at = no_digit (of_clock clock hour_digit) rest r g in
         fits_in (later clock) brackets (hour_digit, tt) r text (Plain c ∷ []) rest at.0 is (c, refl, d) at.1)
 
@@ -350,16 +351,16 @@ module _ {E : Type 0} (fault : Row → E) where
     -- the row where a whole time stops
     pub clock_stops : (x : OpenTime) (place : Place) (e : Fault) (rest : Text) → TimeFront clock text x rest
         → StopsAfter (follow_of brackets clock) place e rest → Fitting (row_of (line_after clock x.0) place e)
-    clock_stops x end e rest h at = open_end h.0 rest h.1 x.0 x.1 e h.2 at.0 at.1
-    clock_stops x other e rest h at = open_other h.0 rest h.1 x.0 x.1 at.0 at.1 e h.2 at.2 at.3 at.4 (rw at.2 at h.3)
+    clock_stops x (end left) e rest h at = rw at.2 (open_end h.0 rest h.1 x.0 x.1 e h.2 at.0 at.1)
+    clock_stops x (other left) e rest h at = rw at.5 (open_other h.0 rest h.1 x.0 x.1 at.0 at.1 e h.2 at.2 at.3 at.4 (rw at.2 at h.3))
     clock_stops x place e rest h at = absurd at
 
     -- at a letter that may not follow
     other_read : (x : OpenTime) (rest : Text) → TimeFront clock text x rest → (c : ℕ) (more : Text) → rest ≡ Plain c ∷ more
-        → IsFalse ((follow_of brackets clock).letters c) → IsRowFault fault ((follow_look fault brackets clock x).at_other c) Fitting
+        → IsFalse ((follow_of brackets clock).letters c) → IsRowFault fault ((follow_look fault brackets clock x).at_other c rest) Fitting
     other_read x rest h c more next out =
         let e = (follow_of brackets clock).at_other in
-        (row_of (line_after clock x.0) other e, refl, clock_stops x other e rest h (c, more, next, out, refl))
+        (row_of (line_after clock x.0) (other rest) e, refl, clock_stops x (other rest) e rest h (c, more, next, out, refl, refl))
 
     -- a line after the first digit is one of the clock's lines
     in_clock : (e : E) → IsRowFault fault e Fitting → IsRowFault fault e (λ row. FitsIn (of_clock clock) brackets row text)
@@ -377,7 +378,7 @@ module _ {E : Type 0} (fault : Row → E) where
         → OnRead fault (next_by (follow_look fault brackets clock x) rest) (λ c more. (rest ≡ Plain c ∷ more) × IsTrue ((follow_of brackets clock).letters c))
         (λ row. FitsIn (of_clock clock) brackets row text)
     unfolding next_by look_at
-    clock_next_read x [] e h ends = rw ends (in_clock _ (row_of (line_after clock x.0) end e, refl, clock_stops x end e [] h (refl, ends)))
+    clock_next_read x [] e h ends = rw ends (in_clock _ (row_of (line_after clock x.0) (end []) e, refl, clock_stops x (end []) e [] h (refl, ends, refl)))
     clock_next_read x (Bad ∷ rest) e h ends = in_clock _ (open_bad h.0 _ h.1 x.0 x.1 rest h.2 refl)
     clock_next_read x (Plain c ∷ rest) e h ends =
         read_if fault ((follow_of brackets clock).letters c) _ _ _ _ (λ g. (refl, g)) (λ out. in_clock _ (other_read x (Plain c ∷ rest) h c rest refl out))

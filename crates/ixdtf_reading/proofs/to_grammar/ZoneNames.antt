@@ -62,8 +62,8 @@ module _ {E : Type 0} (fault : Row → E) where
     -- the row where a name stops
     pub name_stops_here : (place : Place) (e : Fault) (text front rest : Text) → text ≡ front ++ rest → ZoneName front → StopsName brackets place e rest
         → FitsIn of_zone brackets (row_of (of_zone in_zone_name) place e) text
-    name_stops_here end e text front rest is name at = (in_zone_name, refl, (front, rest, is, name, at))
-    name_stops_here other e text front rest is name at = (in_zone_name, refl, (front, rest, is, name, at))
+    name_stops_here (end left) e text front rest is name at = (in_zone_name, refl, (front, rest, is, name, at))
+    name_stops_here (other left) e text front rest is name at = (in_zone_name, refl, (front, rest, is, name, at))
     name_stops_here place e text front rest is name at = absurd at
 
     -- what is known of reading the rest of a name, after a front
@@ -74,25 +74,25 @@ module _ {E : Type 0} (fault : Row → E) where
     unfolding name_run
     end_read true whole front is h = ([], refl, rw append-nil h, refl, (tt, tt))
     end_read false whole front is h =
-        (row_of (of_zone after_zone_slash) end IanaCharPostSeparator, refl, (after_zone_slash, refl, (front, [], is, h, (refl, refl))))
+        (row_of (of_zone after_zone_slash) (end []) IanaCharPostSeparator, refl, (after_zone_slash, refl, (front, [], is, h, (refl, refl, refl))))
 
     bad_read : (may_end : Bool) (whole front rest : Text) → whole ≡ front ++ (Bad ∷ rest) → Begun may_end front
         → ReadsMore whole front (Bad ∷ rest) (name_run fault may_end (Bad ∷ rest))
     unfolding name_run
     bad_read true whole front rest is h =
-        (row_of (of_zone in_zone_name) bad NonAsciiCodePoint, refl, (in_zone_name, refl, (front, Bad ∷ rest, is, h, (rest, refl, refl))))
+        (row_of (of_zone in_zone_name) (bad (Bad ∷ rest)) NonAsciiCodePoint, refl, (in_zone_name, refl, (front, Bad ∷ rest, is, h, (rest, refl, refl, refl))))
     bad_read false whole front rest is h =
-        (row_of (of_zone after_zone_slash) bad NonAsciiCodePoint, refl, (after_zone_slash, refl, (front, Bad ∷ rest, is, h, (rest, refl, refl))))
+        (row_of (of_zone after_zone_slash) (bad (Bad ∷ rest)) NonAsciiCodePoint, refl, (after_zone_slash, refl, (front, Bad ∷ rest, is, h, (rest, refl, refl, refl))))
 
     -- a slash where the name may not end is another letter
     out_read : (may_end : Bool) (c : ℕ) (whole front rest : Text) → whole ≡ front ++ (Plain c ∷ rest) → Begun may_end front → IsFalse (zone_char c)
         → IsFalse (slash c && may_end) → ReadsMore whole front (Plain c ∷ rest)
-        (name_stops (fault (row_of (of_zone after_zone_slash) other IanaCharPostSeparator)) may_end (Plain c ∷ rest))
+        (name_stops (fault (row_of (of_zone after_zone_slash) (other (Plain c ∷ rest)) IanaCharPostSeparator)) may_end (Plain c ∷ rest))
     out_read true c whole front rest is h no_char no_slash = ([], refl, rw append-nil h, refl, (no_char, by_slash (slash c) no_slash))
     out_read false c whole front rest is h no_char no_slash = (
-      row_of (of_zone after_zone_slash) other IanaCharPostSeparator,
+      row_of (of_zone after_zone_slash) (other (Plain c ∷ rest)) IanaCharPostSeparator,
       refl,
-      (after_zone_slash, refl, (front, Plain c ∷ rest, is, h, (c, rest, refl, no_char, refl))),
+      (after_zone_slash, refl, (front, Plain c ∷ rest, is, h, (c, rest, refl, no_char, refl, refl))),
     )
 
     slash_may : (may_end : Bool) (front : Text) (c : ℕ) → Begun may_end front → IsTrue (slash c && may_end) → Begun false (front ++ (Plain c ∷ []))
@@ -130,13 +130,13 @@ module _ {E : Type 0} (fault : Row → E) where
 -- a text that begins as a name does stops neither at the line of a name's beginning nor at that of a zone's
 not_at_start : (class : Class) (e : Fault) (others : ℕ → Fault) (c : ℕ) (text more front rest : Text) (place : Place) (d : Fault) → text ≡ Plain c ∷ more
     → IsTrue (class c) → text ≡ front ++ rest → front ≡ [] → Stops (line nothing class (error e) others) place d rest → ⊥
-not_at_start class e others c text more front rest end d is goes split empty at =
+not_at_start class e others c text more front rest (end left) d is goes split empty at =
     let same : Plain c ∷ more ≡ [] = sym is ∙ split ∙ rw (empty, at.0) refl in absurd cc
-not_at_start class e others c text more front rest other d is goes split empty at =
+not_at_start class e others c text more front rest (other left) d is goes split empty at =
     let same : Plain c ∷ more ≡ Plain at.0 ∷ at.1 = sym is ∙ split ∙ rw (empty, at.2) refl in let letter : c ≡ at.0 = cc in both_ways _ at.3 (rw letter at goes)
-not_at_start class e others c text more front rest bad d is goes split empty at =
+not_at_start class e others c text more front rest (bad left) d is goes split empty at =
     let same : Plain c ∷ more ≡ Bad ∷ at.0 = sym is ∙ split ∙ rw (empty, at.1) refl in absurd cc
-not_at_start class e others c text more front rest anywhere d is goes split empty at = absurd at
+not_at_start class e others c text more front rest (anywhere left) d is goes split empty at = absurd at
 
 -- the lines at which the reading of a name may stop
 pub name_lines : (brackets : Bool) (row : Row) (c : ℕ) (text more : Text) → text ≡ Plain c ∷ more → IsTrue (zone_lead c) → FitsIn of_zone brackets row text

@@ -123,13 +123,13 @@ module _ {E : Type 0} (fault : Row → E) (brackets : Bool) (clock : Clock) wher
   pub peek_stops_after : (x : OpenTime) (place : Place) (e : Fault) (rest : Text) → (follow_of brackets clock).at_end ≡ ok
       → StopsAfter (follow_of brackets clock) place e rest
       → peek_by (follow_look fault brackets clock x) rest ≡ Err (fault (row_of (line_after clock x.0) place e))
-  peek_stops_after x end e rest ends at = absurd (grind (arith, ends, at.1))
-  peek_stops_after x other e rest ends at = rw (at.2, at.4) (peek_other (follow_look fault brackets clock x) at.0 at.1 at.3)
+  peek_stops_after x (end left) e rest ends at = absurd (grind (arith, ends, at.1))
+  peek_stops_after x (other left) e rest ends at = rw (at.5, at.2, at.4) (peek_other (follow_look fault brackets clock x) at.0 at.1 at.3)
   peek_stops_after x place e rest ends at = absurd at
 
   pub next_stops_after : (x : OpenTime) (place : Place) (e : Fault) (rest : Text) → StopsAfter (follow_of brackets clock) place e rest
       → next_by (follow_look fault brackets clock x) rest ≡ Err (fault (row_of (line_after clock x.0) place e))
   unfolding next_by look_at
-  next_stops_after x end e rest at = rw (at.0, at.1)
-  next_stops_after x other e rest at = rw (at.2, at.3, at.4)
+  next_stops_after x (end left) e rest at = rw (at.2, at.0, at.1)
+  next_stops_after x (other left) e rest at = rw (at.5, at.2, at.3, at.4)
   next_stops_after x place e rest at = absurd at

@@ -100,7 +100,7 @@ module _ {E : Type 0} (fault : Row → E) where
       rw same (λ is. rw (is, peek_end (core_look fault name)), λ more is. rw (is, peek_goes (core_look fault name) 91 more refl))
 
   end_other : (name : LineName) (core : Core) (c : ℕ) (rest : Text) → IsFalse (opening c)
-      → core_end_at fault name core (Plain c ∷ rest) ≡ Err (fault (row_of name other InvalidEnd))
+      → core_end_at fault name core (Plain c ∷ rest) ≡ Err (fault (row_of name (other (Plain c ∷ rest)) InvalidEnd))
   unfolding core_end_at
   end_other name core c rest out = rw (peek_other (core_look fault name) c rest out)
 
@@ -119,11 +119,11 @@ module _ {E : Type 0} (fault : Row → E) where
 
     time_refuses : Refuses fault true Clock.Time after_time
     unfolding after_time_at look_at
-    time_refuses shape t other e rest closed s =
+    time_refuses shape t (other left) e rest closed s =
         let parts = or_parts (sign s.0 || zulu s.0) (opening s.0) s.3 in
         let first = or_parts (sign s.0) (zulu s.0) parts.0 in
-        rw (s.2, s.4, first.0, first.1) (end_other (line_after Clock.Time shape) (core_of date (Some t) None) s.0 s.1 parts.1)
-    time_refuses shape t end e rest closed s = absurd (grind (arith, s.1))
+        rw (s.5, s.2, s.4, first.0, first.1) (end_other (line_after Clock.Time shape) (core_of date (Some t) None) s.0 s.1 parts.1)
+    time_refuses shape t (end left) e rest closed s = absurd (grind (arith, s.1))
     time_refuses shape t place e rest closed s = absurd s
 
     -- after an offset
@@ -132,8 +132,8 @@ module _ {E : Type 0} (fault : Row → E) where
         core_end_at fault (line_after Clock.Offset offset.0.0) (with_offset date time (offset_of c (writes_seconds offset.0.0) offset.0.1)) offset.1
 
     offset_refuses : (time : TimeRecord) (c : ℕ) → Refuses fault true Clock.Offset (after_offset time c)
-    offset_refuses time c shape t end e rest closed s = absurd (grind (arith, s.1))
-    offset_refuses time c shape t other e rest closed s = rw (s.2, s.4) (end_other (line_after Clock.Offset shape) _ s.0 s.1 s.3)
+    offset_refuses time c shape t (end left) e rest closed s = absurd (grind (arith, s.1))
+    offset_refuses time c shape t (other left) e rest closed s = rw (s.5, s.2, s.4) (end_other (line_after Clock.Offset shape) _ s.0 s.1 s.3)
     offset_refuses time c shape t place e rest closed s = absurd s
 
     module _ (whole_at : Text → Read E ClosedCore) (prior : Text) (lead : TimeLead fault Clock.Time whole_at after_time prior) where
@@ -241,12 +241,12 @@ module _ {E : Type 0} (fault : Row → E) where
 
   after_date_row : RowsRead fault true (date_time_core_at fault) (of_date after_date)
   unfolding date_time_core_at after_date_at look_at
-  after_date_row end e front rest f at = absurd (grind (arith, at.1))
-  after_date_row other e front rest f at =
+  after_date_row (end left) e front rest f at = absurd (grind (arith, at.1))
+  after_date_row (other left) e front rest f at =
       let parts = or_parts (date_time_separator at.0) (opening at.0) at.3 in
-      rw (date_takes fault front f.0 rest f.1, at.2, at.4, parts.0) (end_other (of_date after_date) (core_of (Some f.0) None None) at.0 at.1 parts.1)
-  after_date_row bad e front rest f at = rw (date_takes fault front f.0 rest f.1, at.1, at.2)
-  after_date_row anywhere e front rest f at = absurd at
+      rw (date_takes fault front f.0 rest f.1, at.5, at.2, at.4, parts.0) (end_other (of_date after_date) (core_of (Some f.0) None None) at.0 at.1 parts.1)
+  after_date_row (bad left) e front rest f at = rw (date_takes fault front f.0 rest f.1, at.3, at.1, at.2)
+  after_date_row (anywhere left) e front rest f at = absurd at
 
   no_time : (ds : Text) (date : DateRecord) (rest : Text) → IsDate ds date → CoreEnds rest
       → date_time_core_at fault (ds ++ rest) ≡ core_end_at fault (of_date after_date) (core_of (Some date) None None) rest
@@ -303,11 +303,11 @@ module _ {E : Type 0} (fault : Row → E) where
 
   time_start_row : RowsRead fault true (marked_time_at fault) (of_time time_start)
   unfolding marked_time_at lone_time_at look_at next_by
-  time_start_row end e front rest f at = rw (f, at.0) (grind (arith, at.1))
-  time_start_row other e front rest f at =
-      let parts = or_parts (digit at.0) (time_letter at.0) at.3 in rw (f, at.2, parts.0, parts.1, at.4)
-  time_start_row bad e front rest f at = rw (f, at.0, at.1, at.2)
-  time_start_row anywhere e front rest f at = absurd at
+  time_start_row (end left) e front rest f at = rw (f, at.2, at.0) (grind (arith, at.1))
+  time_start_row (other left) e front rest f at =
+      let parts = or_parts (digit at.0) (time_letter at.0) at.3 in rw (f, at.5, at.2, parts.0, parts.1, at.4)
+  time_start_row (bad left) e front rest f at = rw (f, at.3, at.1, at.2)
+  time_start_row (anywhere left) e front rest f at = absurd at
 
   marked_takes : (front : Text) (core : Core) (rest : Text) → MarkedTime front core → CoreEnds rest → Closes core rest (marked_core_at fault (front ++ rest))
   marked_takes front core rest d ends =
@@ -342,13 +342,13 @@ module _ {E : Type 0} (fault : Row → E) where
       → time_alone_core_at fault profile (prior ++ (front ++ rest)) ≡ Err (fault (row_of (of_time l) place e))
   time_line_rows profile time_start place e prior front rest b f at =
       in_marked profile (of_time time_start) prior (first_rows _ _ _ mark_lead prior (inl b) (of_time time_start) time_start_row) place e front rest f at
-  time_line_rows profile (time_reads_as_month_day named) anywhere e prior front rest b f at =
+  time_line_rows profile (time_reads_as_month_day named) (anywhere left) e prior front rest b f at =
       let same : (time_reads_as_month_day named) ≡ (time_reads_as_month_day profile) = ap time_reads_as_month_day b.2 in
       let here = rw b.2 at f in
-      rw (b.0, at, same) (front_refuses profile (front ++ rest) _ b.1 (λ x. month_day_stops profile (front ++ rest) fault (Ok x) (front, rest, refl, here, tt)))
+      rw (b.0, at.0, at.1, same) (front_refuses profile (front ++ rest) _ b.1 (λ x. month_day_stops profile (front ++ rest) fault (Ok x) rest (front, refl, here)))
   time_line_rows profile (time_reads_as_month_day named) place e prior front rest b f at = absurd at
-  time_line_rows profile time_reads_as_year_month anywhere e prior front rest b f at =
-      rw (b.0, at) (front_refuses profile (front ++ rest) _ b.1 (λ x. year_month_stops profile (front ++ rest) fault (Ok x) (front, rest, refl, f, tt) b.2))
+  time_line_rows profile time_reads_as_year_month (anywhere left) e prior front rest b f at =
+      rw (b.0, at.0, at.1) (front_refuses profile (front ++ rest) _ b.1 (λ x. year_month_stops profile (front ++ rest) fault (Ok x) rest (front, refl, f) b.2))
   time_line_rows profile time_reads_as_year_month place e prior front rest b f at = absurd at
 
   -- ---- a core of any kind

@@ -32,9 +32,9 @@ abbrev pub IsInside : DateLine → Type 0
 IsInside after_date = ⊥
 IsInside _ = Unit {0}
 
--- the row of two digits that are no month
-abbrev pub no_month : Row
-no_month = row_of (of_date month_range) anywhere InvalidMonthRange
+-- the row of two digits that are no month, before this text
+abbrev pub no_month : Text → Row
+no_month left = row_of (of_date month_range) (anywhere left) InvalidMonthRange
 
 -- what stands of a month, by whether a hyphen does
 begun_month : (t : Text) → HyphenOrDigit t → (b : Bool) × (ds : Text) × (t ≡ hyphens_of b ++ ds) × Begun b ds
@@ -79,7 +79,7 @@ module _ {E : Type 0} (fault : Row → E) where
           digits_stop_after fault (of_date month_digits) b ds rest place e (λ c. refl) h at,
         ) refl
 
-    month_out : (b : Bool) (ds rest : Text) → NoMonth ds → month_at fault name ((hyphens_of b ++ ds) ++ rest) ≡ Err (fault no_month)
+    month_out : (b : Bool) (ds rest : Text) → NoMonth ds → month_at fault name ((hyphens_of b ++ ds) ++ rest) ≡ Err (fault (no_month rest))
     unfolding month_by month_in_range
     month_out b ds rest h =
         rw (
@@ -123,9 +123,9 @@ module _ {E : Type 0} (fault : Row → E) where
         month_range_row : RowsRead fault brackets from_year (of_date month_range)
         month_range_row = whole_row fault brackets from_year (of_date month_range) tt λ e front rest f at.
             let t = hyphens_are f.4.0 f.4.3 in
-            rw (f.2, f.4.2, t.1, at) ((over_year f.0 f.3.0 f.3.1 till halted f.3.0 t.0 f.4.1 rest f.4.4).halts)
+            rw (f.2, f.4.2, t.1, at.0) ((over_year f.0 f.3.0 f.3.1 till halted f.3.0 t.0 f.4.1 rest f.4.4).halts)
           where
-            halted : (y : ℤ) (b : Bool) (ds rest : Text) → NoMonth ds → Halts (from_month y) (hyphens_of b ++ ds) rest (fault no_month)
+            halted : (y : ℤ) (b : Bool) (ds rest : Text) → NoMonth ds → Halts (from_month y) (hyphens_of b ++ ds) rest (fault (no_month rest))
             halted y b ds rest h = record { halts = rw (month_out b ds rest h) refl }
 
         -- every row of a year and of a month after it
@@ -145,7 +145,7 @@ module _ {E : Type 0} (fault : Row → E) where
   day_fits date rest h = rw (and_from _ _ (le-leb 1 date.day h.0) (le-leb date.day _ h.1))
 
   day_refused : (date : DateRecord) (rest : Text) → ¬ (IsDayOfMonth date)
-      → day_in_range fault date rest ≡ Err (fault (row_of (of_date day_range) anywhere InvalidDayRange))
+      → day_in_range fault date rest ≡ Err (fault (row_of (of_date day_range) (anywhere rest) InvalidDayRange))
   unfolding day_in_range
   day_refused date rest h = rw (false_from_ne_true _ (λ test. h (
       let both = and_parts (nat_le 1 date.day) (nat_le date.day (month_length date.year date.month)) test in
@@ -230,7 +230,7 @@ module _ {E : Type 0} (fault : Row → E) where
 
     day_range_row : RowsRead fault brackets (date_at fault) (of_date day_range)
     day_range_row = whole_row fault brackets (date_at fault) (of_date day_range) tt λ e front rest f at.
-        rw at ((over_date front f.0 f.1.0).over rest ∙ day_refused f.0 rest f.1.1)
+        rw at.0 ((over_date front f.0 f.1.0).over rest ∙ day_refused f.0 rest f.1.1)
 
     -- every row of a date but those after it
     pub date_row_read : (l : DateLine) → IsInside l → RowsRead fault brackets (date_at fault) (of_date l)

@@ -71,43 +71,43 @@ same_fraction_group : {text : Text} {g : Group} (h : FractionGroup text g) → f
 same_fraction_group h = λ i. record { unit = (sym h.unit) i; value = (sym h.number.1) i; fraction = (sym (h.fraction ∙ ap Some h.is_fraction.value)) i }
 
 module _ {E : Type 0} (fault : Row → E) (profile : Profile) where
-  added : (context : Context) (g h : Group) → h ≡ g → IsTrue (in_order profile (groups_of context) g.unit) → g.value ≤ greatest g.unit
-      → add_group fault profile context h ≡ Ok (between (add context g))
-  added context g h is order range = rw is (rw (order, le-leb g.value (greatest g.unit) range))
+  added : (left : Text) (context : Context) (g h : Group) → h ≡ g → IsTrue (in_order profile (groups_of context) g.unit) → g.value ≤ greatest g.unit
+      → add_group fault profile left context h ≡ Ok (between (add context g))
+  added left context g h is order range = rw is (rw (order, le-leb g.value (greatest g.unit) range))
 
-  added_last : (s : Sign) (dates times : List Group) (g h : Group) → h ≡ g → IsTrue (in_order profile times g.unit)
-      → end_group fault profile s dates times h ≡ Ok (ended s dates times g)
-  added_last s dates times g h is order = rw is (rw order)
+  added_last : (left : Text) (s : Sign) (dates times : List Group) (g h : Group) → h ≡ g → IsTrue (in_order profile times g.unit)
+      → end_group fault profile left s dates times h ≡ Ok (ended s dates times g)
+  added_last left s dates times g h is order = rw is (rw order)
 
-  misplaced : (context : Context) (next : Result State E) (g h : Group) → h ≡ g → IsFalse (in_order profile (groups_of context) g.unit)
-      → in_its_order fault profile context h next ≡ Err (fault (out_of_order profile (half_of context)))
-  misplaced context next g h is order = rw is (rw order)
+  misplaced : (left : Text) (context : Context) (next : Result State E) (g h : Group) → h ≡ g → IsFalse (in_order profile (groups_of context) g.unit)
+      → in_its_order fault profile left context h next ≡ Err (fault (out_of_order profile (half_of context) left))
+  misplaced left context next g h is order = rw is (rw order)
 
-  too_great : (context : Context) (g h : Group) → h ≡ g → IsTrue (in_order profile (groups_of context) g.unit) → greatest g.unit < g.value
-      → add_group fault profile context h ≡ Err (fault (unit_past profile))
-  too_great context g h is order past = rw is (rw (order, lt-leb g.value (greatest g.unit) past))
+  too_great : (left : Text) (context : Context) (g h : Group) → h ≡ g → IsTrue (in_order profile (groups_of context) g.unit) → greatest g.unit < g.value
+      → add_group fault profile left context h ≡ Err (fault (unit_past profile left))
+  too_great left context g h is order past = rw is (rw (order, lt-leb g.value (greatest g.unit) past))
 
   -- ---- parts
 
   over_start : (text : Text) (s : Sign) → SignedDesignator text s → Over fault profile started text (between (in_dates s []))
   unfolding step
-  over_start text s (inl (o, is)) = rw (o.1, is) (one_letter fault profile started o.0 (or_right _ _ o.2) (rw (duration_no_sign o.0 o.2)))
+  over_start text s (inl (o, is)) = rw (o.1, is) (one_letter fault profile started o.0 (or_right _ _ o.2) (λ rest. rw (duration_no_sign o.0 o.2)))
   over_start text s (inr h) =
-      let first : Over fault profile started (Plain h.0 ∷ []) (signed (sign_of h.0)) = one_letter fault profile started h.0 (or_left _ _ h.3) (rw h.3) in
+      let first : Over fault profile started (Plain h.0 ∷ []) (signed (sign_of h.0)) = one_letter fault profile started h.0 (or_left _ _ h.3) (λ rest. rw h.3) in
       let second : Over fault profile (signed (sign_of h.0)) (Plain h.4.0 ∷ []) (between (in_dates (sign_of h.0) [])) = one_letter fault profile
-      (signed (sign_of h.0)) h.4.0 h.4.2 refl in
+      (signed (sign_of h.0)) h.4.0 h.4.2 (λ rest. refl) in
       rw (h.2, h.4.1, h.5) (first before second)
 
   -- the first digit of a group, and one more
   over_first_digit : (context : Context) (c : ℕ) → IsTrue (digit c) → IsTrue (nat_le (decimal (Plain c ∷ [])) greatest_value)
       → Over fault profile (between context) (Plain c ∷ []) (in_number context (Plain c ∷ []))
   unfolding step
-  over_first_digit context c d below = one_letter fault profile (between context) c (between_goes profile context c d) (rw (d, below))
+  over_first_digit context c d below = one_letter fault profile (between context) c (between_goes profile context c d) (λ rest. rw (d, below))
 
   over_digit : (context : Context) (ds : Text) (c : ℕ) → IsTrue (digit c) → IsTrue (nat_le (decimal (ds ++ (Plain c ∷ []))) greatest_value)
       → Over fault profile (in_number context ds) (Plain c ∷ []) (in_number context (ds ++ (Plain c ∷ [])))
   unfolding step
-  over_digit context ds c d below = one_letter fault profile (in_number context ds) c (or_left _ _ (or_left _ _ d)) (rw (d, below))
+  over_digit context ds c d below = one_letter fault profile (in_number context ds) c (or_left _ _ (or_left _ _ d)) (λ rest. rw (d, below))
 
   over_digits : (context : Context) (ds more : Text) → AllDigits more → IsTrue (nat_le (decimal (ds ++ more)) greatest_value)
       → Over fault profile (in_number context ds) more (in_number context (ds ++ more))
@@ -137,7 +137,7 @@ module _ {E : Type 0} (fault : Row → E) (profile : Profile) where
   over_integer_group context text g h order range =
       rw h.is (over_number context h.ds g.value h.number
       before one_letter fault profile (in_number context h.ds) h.c (or_left _ _ (or_right _ _ h.ends))
-      (rw (designator_no_digit (half_of context) h.c h.ends, h.ends) (added context g _ (same_group h) order range)))
+      (λ rest. rw (designator_no_digit (half_of context) h.c h.ends, h.ends) (added rest context g _ (same_group h) order range)))
 
   over_dates : (s : Sign) (text : Text) (groups : List Group) → Groups profile date text groups
       → Over fault profile (between (in_dates s [])) text (between (in_dates s groups))
@@ -152,8 +152,8 @@ module _ {E : Type 0} (fault : Row → E) (profile : Profile) where
   over_time_designator : (s : Sign) (dates : List Group) (c : ℕ) → IsTrue (time_letter c)
       → Over fault profile (between (in_dates s dates)) (Plain c ∷ []) (between (in_times s dates []))
   unfolding step
-  over_time_designator s [] c h = one_letter fault profile (between (in_dates s [])) c (or_right _ _ h) (rw (time_no_digit c h))
-  over_time_designator s (g ∷ earlier) c h = one_letter fault profile (between (in_dates s (g ∷ earlier))) c (or_right _ _ h) (rw (time_no_digit c h))
+  over_time_designator s [] c h = one_letter fault profile (between (in_dates s [])) c (or_right _ _ h) (λ rest. rw (time_no_digit c h))
+  over_time_designator s (g ∷ earlier) c h = one_letter fault profile (between (in_dates s (g ∷ earlier))) c (or_right _ _ h) (λ rest. rw (time_no_digit c h))
 
   over_context : (text : Text) (context : Context) → IsContext profile text context → Over fault profile started text (between context)
   over_context text (in_dates s dates) h = rw h.2 (over_start h.0 s h.3 before over_dates s h.1 dates h.4)
@@ -165,7 +165,7 @@ module _ {E : Type 0} (fault : Row → E) (profile : Profile) where
       → Over fault profile (in_number (in_times s dates times) ds) (Plain c ∷ []) (at_mark s dates times ds)
   unfolding step
   over_mark s dates times ds c h =
-      one_letter fault profile (in_number (in_times s dates times) ds) c (or_right _ _ h) (rw (mark_no_digit c h, mark_no_designator c h))
+      one_letter fault profile (in_number (in_times s dates times) ds) c (or_right _ _ h) (λ rest. rw (mark_no_digit c h, mark_no_designator c h))
 
   over_fraction_digits : (s : Sign) (dates times : List Group) (ds fs more : Text) → AllDigits more
       → Over fault profile (in_fraction s dates times ds fs) more (in_fraction s dates times ds (fs ++ more))
@@ -173,7 +173,7 @@ module _ {E : Type 0} (fault : Row → E) (profile : Profile) where
   over_fraction_digits s dates times ds fs [] h = rw append-nil (stays fault profile (in_fraction s dates times ds fs))
   over_fraction_digits s dates times ds fs (Bad ∷ more) h = absurd h
   over_fraction_digits s dates times ds fs (Plain c ∷ more) h =
-      one_letter fault profile (in_fraction s dates times ds fs) c (or_left _ _ h.0) (rw h.0)
+      one_letter fault profile (in_fraction s dates times ds fs) c (or_left _ _ h.0) (λ rest. rw h.0)
       before rw append_assoc at (over_fraction_digits s dates times ds (fs ++ (Plain c ∷ [])) more h.1)
 
   over_fraction : (s : Sign) (dates times : List Group) (ds fs : Text) → SomeDigits fs
@@ -183,7 +183,7 @@ module _ {E : Type 0} (fault : Row → E) (profile : Profile) where
       let first = d.1 in
       let start : Over fault profile (at_mark s dates times ds) (Plain first.0 ∷ []) (in_fraction s dates times ds (Plain first.0 ∷ [])) =
       one_letter fault profile
-      (at_mark s dates times ds) first.0 first.3 refl in
+      (at_mark s dates times ds) first.0 first.3 (λ rest. refl) in
       rw first.2 (start before over_fraction_digits s dates times ds (Plain first.0 ∷ []) first.1 (all_digits d.0 first.1 first.4))
 
   over_fraction_group : (s : Sign) (dates times : List Group) (text : Text) (g : Group) → FractionGroup text g → IsTrue (in_order profile times g.unit)
@@ -195,7 +195,7 @@ module _ {E : Type 0} (fault : Row → E) (profile : Profile) where
       before over_mark s dates times h.ds f.mark f.marks
       before over_fraction s dates times h.ds f.ds f.some
       before one_letter fault profile (in_fraction s dates times h.ds f.ds) h.c (or_right _ _ h.ends)
-      (rw (designator_no_digit time h.c h.ends) (added_last s dates times g _ (same_fraction_group h) order)))
+      (λ rest. rw (designator_no_digit time h.c h.ends) (added_last rest s dates times g _ (same_fraction_group h) order)))
 
   -- ---- a front of a line leads to a state that looks at the line
 
@@ -234,7 +234,7 @@ module _ {E : Type 0} (fault : Row → E) (profile : Profile) where
   reached : (name : DurationLine) (front : Text) → Asks (duration_line profile name) → front_of (duration_line profile name) front → Reaches name front
   unfolding step
   reached duration_start front asks f = (started, rw f (stays fault profile started), refl)
-  reached after_duration_sign front asks f = (signed (sign_of f.0), rw f.1 (one_letter fault profile started f.0 (or_left _ _ f.2) (rw f.2)), refl)
+  reached after_duration_sign front asks f = (signed (sign_of f.0), rw f.1 (one_letter fault profile started f.0 (or_left _ _ f.2) (λ rest. rw f.2)), refl)
   reached after_duration_designator front asks f = (between (in_dates f.0 []), over_start front f.0 f.1, refl)
   reached after_date_groups front asks f = (between (in_dates f.0 (f.1 ∷ f.2)), over_context front (in_dates f.0 (f.1 ∷ f.2)) f.3, refl)
   reached after_time_designator front asks f = (between (in_times f.0 f.1 []), over_context front (in_times f.0 f.1 []) f.2, refl)
@@ -255,7 +255,7 @@ module _ {E : Type 0} (fault : Row → E) (profile : Profile) where
 
   value_stops : (context : Context) (ds : Text) (c : ℕ) (rest : Text) → AllDigits (ds ++ (Plain c ∷ [])) → decimal ds ≤ greatest_value
       → greatest_value < decimal (ds ++ (Plain c ∷ []))
-      → Stays fault profile (between context) (ds ++ (Plain c ∷ [])) rest (value_past profile (half_of context))
+      → Stays fault profile (between context) (ds ++ (Plain c ∷ [])) rest (value_past profile (half_of context) rest)
   unfolding step
   value_stops context [] c rest all below past =
       letter_stops fault profile (between context) c (between_goes profile context c all.0) (rw (all.0, lt-leb _ greatest_value past))
@@ -266,7 +266,7 @@ module _ {E : Type 0} (fault : Row → E) (profile : Profile) where
   value_stops context (Bad ∷ ds) c rest all below past = absurd all
 
   integer_stops : (context : Context) (text rest : Text) (g : Group) (row : Row) → IntegerGroup (half_of context) text g
-      → ((h : Group) → h ≡ g → add_group fault profile context h ≡ Err (fault row)) → Stays fault profile (between context) text rest row
+      → ((h : Group) → h ≡ g → add_group fault profile rest context h ≡ Err (fault row)) → Stays fault profile (between context) text rest row
   unfolding step
   integer_stops context text rest g row h refused =
       rw h.is (over_number context h.ds g.value h.number
@@ -274,7 +274,7 @@ module _ {E : Type 0} (fault : Row → E) (profile : Profile) where
       (rw (designator_no_digit (half_of context) h.c h.ends, h.ends) (refused _ (same_group h))))
 
   fraction_stops : (s : Sign) (dates times : List Group) (text rest : Text) (g : Group) → FractionGroup text g → IsFalse (in_order profile times g.unit)
-      → Stays fault profile (between (in_times s dates times)) text rest (out_of_order profile time)
+      → Stays fault profile (between (in_times s dates times)) text rest (out_of_order profile time rest)
   unfolding step
   fraction_stops s dates times text rest g h order =
       let f = h.is_fraction in
@@ -282,29 +282,29 @@ module _ {E : Type 0} (fault : Row → E) (profile : Profile) where
       till over_mark s dates times h.ds f.mark f.marks
       till over_fraction s dates times h.ds f.ds f.some
       till letter_stops fault profile (in_fraction s dates times h.ds f.ds) h.c (or_right _ _ h.ends)
-      (rw (designator_no_digit time h.c h.ends) (misplaced (in_times s dates times) _ g _ (same_fraction_group h) order)))
+      (rw (designator_no_digit time h.c h.ends) (misplaced rest (in_times s dates times) _ g _ (same_fraction_group h) order)))
 
   order_stops : (half : Half) (context : Context) (text rest : Text) → half_of context ≡ half → OutOfOrder profile half context text
-      → Stays fault profile (between context) text rest (out_of_order profile half)
+      → Stays fault profile (between context) text rest (out_of_order profile half rest)
   order_stops date (in_dates s dates) text rest same f =
-      integer_stops (in_dates s dates) text rest f.0 _ f.1 (λ h is. misplaced (in_dates s dates) _ f.0 h is f.2)
+      integer_stops (in_dates s dates) text rest f.0 _ f.1 (λ h is. misplaced rest (in_dates s dates) _ f.0 h is f.2)
   order_stops time (in_times s dates times) text rest same (g, inl x, order) =
-      integer_stops (in_times s dates times) text rest g _ x (λ h is. misplaced (in_times s dates times) _ g h is order)
+      integer_stops (in_times s dates times) text rest g _ x (λ h is. misplaced rest (in_times s dates times) _ g h is order)
   order_stops time (in_times s dates times) text rest same (g, inr x, order) = fraction_stops s dates times text rest g x order
   order_stops half context text rest same f = absurd (grind (arith, same))
 
   unit_stops : (context : Context) (text rest : Text) → half_of context ≡ date → UnitPast profile context text
-      → Stays fault profile (between context) text rest (unit_past profile)
-  unit_stops (in_dates s dates) text rest same f = integer_stops (in_dates s dates) text rest f.0 _ f.1 (λ h is. too_great (in_dates s dates) f.0 h is f.2 f.3)
+      → Stays fault profile (between context) text rest (unit_past profile rest)
+  unit_stops (in_dates s dates) text rest same f = integer_stops (in_dates s dates) text rest f.0 _ f.1 (λ h is. too_great rest (in_dates s dates) f.0 h is f.2 f.3)
   unit_stops (in_times s dates times) text rest same f = absurd (grind (arith, same))
 
   line_rows : (name : DurationLine) → RowsRead fault false (duration_at fault profile) (of_duration profile name)
-  line_rows (group_value_range half) anywhere e front rest f at =
+  line_rows (group_value_range half) (anywhere left) e front rest f at =
       let past = f.6 in
-      rw (f.4, at, ← f.3, past.2) ((over_context f.1 f.0 f.5 till value_stops f.0 past.0 past.1 rest (rw past.2 at (some_all f.2 past.3)) past.4
+      rw (f.4, at.0, at.1, ← f.3, past.2) ((over_context f.1 f.0 f.5 till value_stops f.0 past.0 past.1 rest (rw past.2 at (some_all f.2 past.3)) past.4
       (rw past.2 at past.5)).halts)
-  line_rows (unit_order half) anywhere e front rest f at = rw (f.4, at) ((over_context f.1 f.0 f.5 till order_stops half f.0 f.2 rest f.3 f.6).halts)
-  line_rows date_unit_range anywhere e front rest f at = rw (f.4, at) ((over_context f.1 f.0 f.5 till unit_stops f.0 f.2 rest f.3 f.6).halts)
+  line_rows (unit_order half) (anywhere left) e front rest f at = rw (f.4, at.0, at.1) ((over_context f.1 f.0 f.5 till order_stops half f.0 f.2 rest f.3 f.6).halts)
+  line_rows date_unit_range (anywhere left) e front rest f at = rw (f.4, at.0, at.1) ((over_context f.1 f.0 f.5 till unit_stops f.0 f.2 rest f.3 f.6).halts)
   line_rows (group_value_range half) place e front rest f at = absurd at
   line_rows (unit_order half) place e front rest f at = absurd at
   line_rows date_unit_range place e front rest f at = absurd at

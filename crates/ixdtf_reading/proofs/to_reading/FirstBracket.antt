@@ -124,8 +124,8 @@ module _ {E : Type 0} (fault : Row → E) where
   look_stops : (place : Place) (e : Fault) (rest : Text) → StopsName true place e rest
       → next_by (name_look fault true closing) rest ≡ Err (fault (row_of (of_zone in_zone_name) place e))
   unfolding next_by look_at
-  look_stops end e rest h = rw h.0 (grind (arith, h.1))
-  look_stops other e rest h = rw (h.2, no_closing h.0 h.3, h.4)
+  look_stops (end left) e rest h = rw (h.2, h.0) (grind (arith, h.1))
+  look_stops (other left) e rest h = rw (h.5, h.2, no_closing h.0 h.3, h.4)
     where
       no_closing : (c : ℕ) → IsFalse (zone_letters true c) → IsFalse (closing c)
       no_closing c h = grind (arith, nat_tests)

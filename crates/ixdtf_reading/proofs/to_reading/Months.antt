@@ -62,8 +62,8 @@ module _ {E : Type 0} (fault : Row → E) where
 -- ---- month-days
 
 -- the row of two digits that are no month
-abbrev pub no_lone_month : Row
-no_lone_month = row_of (of_month_day month_day_month_range) anywhere InvalidMonthRange
+abbrev pub no_lone_month : Text → Row
+no_lone_month left = row_of (of_month_day month_day_month_range) (anywhere left) InvalidMonthRange
 
 -- two hyphens, or nothing
 abbrev pub marks_of : Bool → Text
@@ -103,7 +103,7 @@ module _ {E : Type 0} (fault : Row → E) (profile : Profile) where
   day_fits m d rest h = rw (and_from _ _ (le-leb (least_day profile) d h.0) (le-leb d _ h.1))
 
   day_refused : (m d : ℕ) (rest : Text) → ¬ (IsDayOfSomeYear profile (date_of (pos 0) m d))
-      → lone_day_in_range fault profile m d rest ≡ Err (fault (row_of (of_month_day (month_day_range profile)) anywhere InvalidMonthDay))
+      → lone_day_in_range fault profile m d rest ≡ Err (fault (row_of (of_month_day (month_day_range profile)) (anywhere rest) InvalidMonthDay))
   unfolding lone_day_in_range
   day_refused m d rest h = rw (false_from_ne_true _ (λ test. h (
       let both = and_parts (nat_le (least_day profile) d) (nat_le d (greatest_day m)) test in
@@ -142,7 +142,7 @@ module _ {E : Type 0} (fault : Row → E) (profile : Profile) where
         digits_stop_after fault (of_month_day month_day_month_digits) b ds rest place e (λ c. refl) h at,
       ) refl
 
-  month_out : (b : Bool) (ds rest : Text) → NoMonth ds → month_day_at fault profile ((marks_of b ++ ds) ++ rest) ≡ Err (fault no_lone_month)
+  month_out : (b : Bool) (ds rest : Text) → NoMonth ds → month_day_at fault profile ((marks_of b ++ ds) ++ rest) ≡ Err (fault (no_lone_month rest))
   unfolding month_day_at lone_month_in_range
   month_out b ds rest h =
       rw (
@@ -210,7 +210,7 @@ module _ {E : Type 0} (fault : Row → E) (profile : Profile) where
   month_range_row : RowsRead fault true (month_day_at fault profile) (of_month_day month_day_month_range)
   month_range_row = whole_row fault true (month_day_at fault profile) (of_month_day month_day_month_range) tt λ e front rest f at.
       let t = marks_are f.0 f.3 in
-      rw (f.2, t.1, at) (month_out t.0 f.1 rest f.4)
+      rw (f.2, t.1, at.0) (month_out t.0 f.1 rest f.4)
 
   after_month_row : RowsRead fault true (month_day_at fault profile) (of_month_day after_month_day_month)
   unfolding lone_day_at
@@ -227,7 +227,7 @@ module _ {E : Type 0} (fault : Row → E) (profile : Profile) where
 
   day_range_row : RowsRead fault true (month_day_at fault profile) (of_month_day (month_day_range profile))
   day_range_row = whole_row fault true (month_day_at fault profile) (of_month_day (month_day_range profile)) tt λ e front rest f at.
-      rw at ((over_month_day front f.0 f.1.0).over rest ∙ day_refused f.0.month f.0.day rest f.1.1)
+      rw at.0 ((over_month_day front f.0 f.1.0).over rest ∙ day_refused f.0.month f.0.day rest f.1.1)
 
   -- every row of a month-day but those after it
   pub month_day_row : (l : MonthDayLine) → IsInMonthDay profile l → RowsRead fault true (month_day_at fault profile) (of_month_day l)

@@ -121,10 +121,10 @@ module _ {E : Type 0} (fault : Row → E) where
   key_stops : (place : Place) (e : Fault) (rest : Text) → Stops (pair_line in_key) place e rest
       → key_run fault rest ≡ Err (fault (row_of (of_pair in_key) place e))
   unfolding key_run
-  key_stops end e rest at = rw at.0 (grind (arith, at.1))
-  key_stops other e rest at = let out = or_parts (key_char at.0) (equals at.0) at.3 in rw (at.2, at.4) (rw (out.0, out.1))
-  key_stops bad e rest at = rw (at.1, at.2)
-  key_stops anywhere e rest at = absurd at
+  key_stops (end left) e rest at = rw (at.2, at.0) (grind (arith, at.1))
+  key_stops (other left) e rest at = let out = or_parts (key_char at.0) (equals at.0) at.3 in rw (at.5, at.2, at.4) (rw (out.0, out.1))
+  key_stops (bad left) e rest at = rw (at.3, at.1, at.2)
+  key_stops (anywhere left) e rest at = absurd at
 
   -- ---- values
 
@@ -134,7 +134,7 @@ module _ {E : Type 0} (fault : Row → E) where
       elim step [
         | GoesOn next ↦ with_letter c (value_run fault next rest)
         | Ends ↦ Ok ([], rest)
-        | steps.Stops ↦ Err (fault (row_of (of_pair (value_line state)) other (value_other state)))
+        | steps.Stops ↦ Err (fault (row_of (of_pair (value_line state)) (other (Plain c ∷ rest)) (value_other state)))
       ]
 
   pub by_step : (state : ValueState) (c : ℕ) (rest : Text) (step : ValueStep) → value_step state c ≡ step
@@ -167,13 +167,13 @@ module _ {E : Type 0} (fault : Row → E) where
   value_stops : (state : ValueState) (place : Place) (e : Fault) (rest : Text) → Stops (pair_line (value_line state)) place e rest
       → value_run fault state rest ≡ Err (fault (row_of (of_pair (value_line state)) place e))
   unfolding value_run
-  value_stops AtStart other e rest at = rw (at.2, at.4) (by_step AtStart at.0 at.1 steps.Stops (rw at.3))
-  value_stops Inside other e rest at =
+  value_stops AtStart (other left) e rest at = rw (at.5, at.2, at.4) (by_step AtStart at.0 at.1 steps.Stops (rw at.3))
+  value_stops Inside (other left) e rest at =
       let out : IsFalse (value_char at.0) × IsFalse (hyphen at.0) × IsFalse (closing at.0) = no_value at.0 at.3 in
-      rw (at.2, at.4) (by_step Inside at.0 at.1 steps.Stops (rw (out.0, out.1, out.2)))
-  value_stops AfterHyphen other e rest at = rw (at.2, at.4) (by_step AfterHyphen at.0 at.1 steps.Stops (rw at.3))
-  value_stops state end e rest at = rw at.0 (grind (arith, at.1))
-  value_stops state bad e rest at = rw (at.1, at.2)
+      rw (at.5, at.2, at.4) (by_step Inside at.0 at.1 steps.Stops (rw (out.0, out.1, out.2)))
+  value_stops AfterHyphen (other left) e rest at = rw (at.5, at.2, at.4) (by_step AfterHyphen at.0 at.1 steps.Stops (rw at.3))
+  value_stops state (end left) e rest at = rw (at.2, at.0) (grind (arith, at.1))
+  value_stops state (bad left) e rest at = rw (at.3, at.1, at.2)
   value_stops state place e rest at = absurd at
 
   -- ---- pairs from the key on

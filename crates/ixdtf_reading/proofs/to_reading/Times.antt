@@ -31,27 +31,27 @@ use Rattle.ixdtf_reading.proofs.parts.Looks.{one_as_digits, NotNext, run_takes, 
 digit_no_colon : (c : ℕ) → IsTrue (digit c) → IsFalse (colon c)
 digit_no_colon c h = grind (arith, nat_tests)
 
-range_fits : {E : Type 0} (greatest n : ℕ) (e : E) (ds rest : Text) → UpTo greatest ds n → in_range greatest e (ds, rest) ≡ Ok (n, rest)
+range_fits : {E : Type 0} (greatest n : ℕ) (e : Text → E) (ds rest : Text) → UpTo greatest ds n → in_range greatest e (ds, rest) ≡ Ok (n, rest)
 unfolding in_range
 range_fits greatest n e ds rest h = let test : nat_le (decimal ds) greatest ≡ true = rw (sym h.1) (le-leb n greatest h.2) in rw (test, h.1)
 
-range_refused : {E : Type 0} (greatest : ℕ) (e : E) (ds rest : Text) → greatest < decimal ds → in_range greatest e (ds, rest) ≡ Err e
+range_refused : {E : Type 0} (greatest : ℕ) (e : Text → E) (ds rest : Text) → greatest < decimal ds → in_range greatest e (ds, rest) ≡ Err (e rest)
 unfolding in_range
 range_refused greatest e ds rest h = rw (lt-leb (decimal ds) greatest h)
 
-module _ {E : Type 0} (fault : Row → E) (name : LineName) (asks : LooksForDigit (line_of true name)) (greatest : ℕ) (past : Row) where
+module _ {E : Type 0} (fault : Row → E) (name : LineName) (asks : LooksForDigit (line_of true name)) (greatest : ℕ) (past : Text → Row) where
   number_goes : (ds rest : Text) (n : ℕ) → UpTo greatest ds n → number_at fault name greatest past (ds ++ rest) ≡ Ok (n, rest)
   unfolding number_by
-  number_goes ds rest n u = rw (digits_go fault name asks 2 ds rest u.0, range_fits greatest n (fault past) ds rest u)
+  number_goes ds rest n u = rw (digits_go fault name asks 2 ds rest u.0, range_fits greatest n (λ left. fault (past left)) ds rest u)
 
   number_stops : (k : ℕ) (ds rest : Text) (place : Place) (e : Fault) → k < 2 → digits k ds → Stops (line_of true name) place e rest
       → number_at fault name greatest past (ds ++ rest) ≡ Err (fault (row_of name place e))
   unfolding number_by
   number_stops k ds rest place e less d at = rw (digits_stop fault name asks 2 k ds rest place e less d at)
 
-  number_too_great : (ds rest : Text) → Past greatest ds → number_at fault name greatest past (ds ++ rest) ≡ Err (fault past)
+  number_too_great : (ds rest : Text) → Past greatest ds → number_at fault name greatest past (ds ++ rest) ≡ Err (fault (past rest))
   unfolding number_by
-  number_too_great ds rest p = rw (digits_go fault name asks 2 ds rest p.0, range_refused greatest (fault past) ds rest p.1)
+  number_too_great ds rest p = rw (digits_go fault name asks 2 ds rest p.0, range_refused greatest (λ left. fault (past left)) ds rest p.1)
 
 -- at a digit, which stays, a reading goes on as another
 module _ {E A : Type 0}
@@ -92,10 +92,11 @@ IsLater _ = Unit {0}
 
 -- what stands after a whole time where the row of its line fits, but at Bad and at what goes wrong in the time
 abbrev pub StopsAfter : Follow → Place → Fault → Text → Type 0
-StopsAfter follow end e rest = (rest ≡ []) × (follow.at_end ≡ error e)
-StopsAfter follow other e rest = (c : ℕ) × (more : Text) × (rest ≡ Plain c ∷ more) × IsFalse (follow.letters c) × (e ≡ follow.at_other)
-StopsAfter follow bad e rest = ⊥
-StopsAfter follow anywhere e rest = ⊥
+StopsAfter follow (end left) e rest = (rest ≡ []) × (follow.at_end ≡ error e) × (left ≡ rest)
+StopsAfter follow (other left) e rest =
+    (c : ℕ) × (more : Text) × (rest ≡ Plain c ∷ more) × IsFalse (follow.letters c) × (e ≡ follow.at_other) × (left ≡ rest)
+StopsAfter follow (bad left) e rest = ⊥
+StopsAfter follow (anywhere left) e rest = ⊥
 
 -- the text's end closes a time of each shape
 pub closed_at_end : (clock : Clock) (shape : TimeShape) → Closed clock shape []
@@ -117,7 +118,7 @@ module _ {E : Type 0} (fault : Row → E) (clock : Clock)
       record {
         over = λ rest. rw g.2 ((starts g.0 g.3).over (g.1 ++ rest)
             ∙ rw (digits_go fault (of_clock clock hour_digit) (λ c. refl) 1 g.1 rest g.4)
-            (rw (range_fits 23 h (fault (hour_past clock)) (Plain g.0 ∷ g.1) rest (rw g.2 at u))));
+            (rw (range_fits 23 h (λ left. fault (hour_past clock left)) (Plain g.0 ∷ g.1) rest (rw g.2 at u))));
       }
 
   over_colon : (h : ℕ) (t : Text) → one colon t → ReadsOver (after_hour_at fault clock h) t (minute_at fault clock true h)
@@ -238,7 +239,7 @@ module _ {E : Type 0} (fault : Row → E) (clock : Clock)
     unfolding hour_from
     hour_range_row = whole_row fault brackets start (of_clock clock hour_range) tt λ e front rest f at.
         let g = f.0 in
-        rw (g.2, at) ((starts g.0 g.3).over (g.1 ++ rest)
+        rw (g.2, at.0) ((starts g.0 g.3).over (g.1 ++ rest)
         ∙ rw (digits_go fault (of_clock clock hour_digit) (λ c. refl) 1 g.1 rest g.4) (rw (range_refused 23 _ (Plain g.0 ∷ g.1) rest (rw g.2 at f.1))))
 
     minute_stops : (colons : Bool) (h k : ℕ) (ds rest : Text) (place : Place) (e : Fault) → k < 2 → digits k ds
@@ -259,16 +260,16 @@ module _ {E : Type 0} (fault : Row → E) (clock : Clock)
             let d = one_as_digits _ h in
             over_hour _ _ f.3.1 till halts_as _ _ (at_minute_digit _) 0 f.1 d (minute_stops false _ 1 f.1 rest place e (omega arith) d at)
 
-    minute_too_great : (colons : Bool) (h : ℕ) (ds rest : Text) → Past 59 ds → Halts (minute_at fault clock colons h) ds rest (fault (minute_past clock))
+    minute_too_great : (colons : Bool) (h : ℕ) (ds rest : Text) → Past 59 ds → Halts (minute_at fault clock colons h) ds rest (fault (minute_past clock rest))
     unfolding minute_at
     minute_too_great colons h ds rest p =
         record { halts = rw (number_too_great fault (of_clock clock minute_digits) (λ c. refl) 59 (minute_past clock) ds rest p) refl }
 
     pub minute_range_row : RowsRead fault brackets start (of_clock clock minute_range)
-    minute_range_row = whole_row fault brackets start (of_clock clock minute_range) tt λ e front rest f at. rw (f.2, f.4.2, at) ((at_place f f.4.3).halts)
+    minute_range_row = whole_row fault brackets start (of_clock clock minute_range) tt λ e front rest f at. rw (f.2, f.4.2, at.0) ((at_place f f.4.3).halts)
       where
         at_place : {front rest : Text} (f : front_of (line_of brackets (of_clock clock minute_range)) front) → ((f.4.0 ≡ []) ⊎ one colon f.4.0)
-            → Halts start (f.0 ++ (f.4.0 ++ f.4.1)) rest (fault (minute_past clock))
+            → Halts start (f.0 ++ (f.4.0 ++ f.4.1)) rest (fault (minute_past clock rest))
         at_place f (inl h) = rw h (over_hour _ _ f.3.1 till halts_as _ _ (at_minute_digit _) 1 _ f.4.4.0 (minute_too_great false _ _ _ f.4.4))
         at_place f (inr h) = over_hour _ _ f.3.1 till over_colon _ _ h till minute_too_great true _ _ _ f.4.4
 
@@ -289,15 +290,15 @@ module _ {E : Type 0} (fault : Row → E) (clock : Clock)
         rw (f.2, f.4.2) ((over_minutes true f.0 f.3.0 f.3.1 till over_second_colon _ _ _ may f.4.3
         till second_stops _ _ f.4.4.0 _ rest place e f.4.4.1 f.4.4.2 at).halts)
 
-    second_too_great : (h m : ℕ) (ds rest : Text) → Past (greatest_second clock) ds → Halts (second_at fault clock h m) ds rest (fault (second_past clock))
+    second_too_great : (h m : ℕ) (ds rest : Text) → Past (greatest_second clock) ds → Halts (second_at fault clock h m) ds rest (fault (second_past clock rest))
     unfolding second_at
     second_too_great h m ds rest p =
         record { halts = rw (number_too_great fault (of_clock clock second_digits) (λ c. refl) (greatest_second clock) (second_past clock) ds rest p) refl }
 
     pub second_range_row : RowsRead fault brackets start (of_clock clock second_range)
-    second_range_row = whole_row fault brackets start (of_clock clock second_range) tt λ e front rest f at. rw at ((at_place front rest f).halts)
+    second_range_row = whole_row fault brackets start (of_clock clock second_range) tt λ e front rest f at. rw at.0 ((at_place front rest f).halts)
       where
-        at_place : (front rest : Text) → front_of (line_of brackets (of_clock clock second_range)) front → Halts start front rest (fault (second_past clock))
+        at_place : (front rest : Text) → front_of (line_of brackets (of_clock clock second_range)) front → Halts start front rest (fault (second_past clock rest))
         at_place front rest (may, inl f) =
             rw f.2 (over_minutes false f.0 f.3.0 f.3.1 till halts_as _ _ (at_second_digit _ _ may) 1 _ f.4.0 (second_too_great _ _ _ _ f.4))
         at_place front rest (may, inr f) =
@@ -312,7 +313,7 @@ module _ {E : Type 0} (fault : Row → E) (clock : Clock)
   -- ---- the lines at which a time may stop
 
   fraction_bad : (h m s d : ℕ) (more rest : Text) (n : ℕ) → IsTrue (digit d) → digits n more
-      → Halts (fraction_stage h m s) (Plain d ∷ more) (Bad ∷ rest) (bad_after fault clock fractions)
+      → Halts (fraction_stage h m s) (Plain d ∷ more) (Bad ∷ rest) (bad_after fault clock fractions (Bad ∷ rest))
   unfolding fraction_at fraction_stage
   fraction_bad h m s d more rest n is ds =
       let start_goes = goes fault (of_clock clock fraction_start) d (more ++ (Bad ∷ rest)) tt is in
@@ -320,7 +321,7 @@ module _ {E : Type 0} (fault : Row → E) (clock : Clock)
 
   -- at Bad
   time_bad : (shape : TimeShape) (text : Text) (t : TimeRecord) (rest : Text) → ClockOf clock shape text t
-      → start (text ++ (Bad ∷ rest)) ≡ Err (bad_after fault clock shape)
+      → start (text ++ (Bad ∷ rest)) ≡ Err (bad_after fault clock shape (Bad ∷ rest))
   unfolding after_hour_at after_minute_at after_second_at fraction_at fraction_stage look_at
   time_bad hours text t rest x = (over_hour _ _ x.hour).over (Bad ∷ rest)
   time_bad basic_minutes text t rest x = (over_minutes false text t x).over (Bad ∷ rest)
@@ -335,7 +336,7 @@ module _ {E : Type 0} (fault : Row → E) (clock : Clock)
   -- at a colon or a digit that does not go on
   minute_mixed : (colons : Bool) (text : Text) (t : TimeRecord) (c : ℕ) (rest : Text) → ClockOf clock (minutes_shape colons) text t
       → IsFalse (seconds_after clock (second_start colons) c) → IsTrue ((colon or digit) c)
-      → start (text ++ (Plain c ∷ rest)) ≡ Err (mixed_after fault clock (minutes_shape colons))
+      → start (text ++ (Plain c ∷ rest)) ≡ Err (mixed_after fault clock (minutes_shape colons) (Plain c ∷ rest))
   unfolding after_minute_at look_at
   minute_mixed colons text t c rest x out is = (over_minutes colons text t x).over (Plain c ∷ rest) ∙ rw (out, is)
 
@@ -351,26 +352,26 @@ module _ {E : Type 0} (fault : Row → E) (clock : Clock)
 
     at_places : (shape : TimeShape) (shown : Shape) (goes_on : Class) (at_other : ℕ → Fault) (place : Place) (e : Fault) (front rest : Text) (t : TimeRecord)
         → ClockOf clock shape front t → Stops (line shown goes_on follow.at_end at_other) place e rest
-        → ((c : ℕ) (more : Text) → rest ≡ Plain c ∷ more → IsFalse (goes_on c) → e ≡ at_other c → OpenRow shape other e front rest)
+        → ((c : ℕ) (more : Text) → rest ≡ Plain c ∷ more → IsFalse (goes_on c) → e ≡ at_other c → OpenRow shape (other rest) e front rest)
         → OpenRow shape place e front rest
-    at_places shape shown goes_on at_other end e front rest t x at at_letter = inr (rw at.0 (closed_at_end clock shape), at)
-    at_places shape shown goes_on at_other other e front rest t x at at_letter = at_letter at.0 at.1 at.2 at.3 at.4
-    at_places shape shown goes_on at_other bad e front rest t x at at_letter = inl (rw (at.1, at.2) (time_bad shape front t at.0 x))
-    at_places shape shown goes_on at_other anywhere e front rest t x at at_letter = absurd at
+    at_places shape shown goes_on at_other (end left) e front rest t x at at_letter = inr (rw at.0 (closed_at_end clock shape), at)
+    at_places shape shown goes_on at_other (other left) e front rest t x at at_letter = rw at.5 (at_letter at.0 at.1 at.2 at.3 at.4)
+    at_places shape shown goes_on at_other (bad left) e front rest t x at at_letter = inl (rw (at.3, at.1, at.2) (time_bad shape front t at.0 x))
+    at_places shape shown goes_on at_other (anywhere left) e front rest t x at at_letter = absurd at
 
     at_mixed : (colons : Bool) (e : Fault) (front rest : Text) (t : TimeRecord) → ClockOf clock (minutes_shape colons) front t → (c : ℕ) (more : Text)
         → rest ≡ Plain c ∷ more → IsFalse (seconds_after clock (second_start colons) c) × IsFalse (follow.letters c) → e ≡ after_minute follow clock c
-        → (b : Bool) → (colon or digit) c ≡ b → OpenRow (minutes_shape colons) other e front rest
+        → (b : Bool) → (colon or digit) c ≡ b → OpenRow (minutes_shape colons) (other rest) e front rest
     at_mixed colons e front rest t x c more is out same true h = inl (rw (is, same, h) (minute_mixed colons front t c more x out.0 h))
     at_mixed colons e front rest t x c more is out same false h =
-        inr (rw is (closed_minutes clock colons (Plain c ∷ more) out.0 h), (c, more, is, out.1, rw h at same))
+        inr (rw is (closed_minutes clock colons (Plain c ∷ more) out.0 h), (c, more, is, out.1, rw h at same, refl))
 
     pub open_row : (shape : TimeShape) (place : Place) (e : Fault) (front rest : Text) (t : TimeRecord) → ClockOf clock shape front t
         → Stops (line_of brackets (line_after clock shape)) place e rest → OpenRow shape place e front rest
     open_row hours place e front rest t x at = at_places hours (some (ClockOf clock hours)) _ _ place e front rest t x at λ c more is out same.
         let parts = or_parts _ _ out in
         let first = or_parts _ _ parts.0 in
-        inr (rw is (first.0, first.1), (c, more, is, parts.1, same))
+        inr (rw is (first.0, first.1), (c, more, is, parts.1, same, refl))
     open_row basic_minutes place e front rest t x at =
         at_places basic_minutes (some (ClockOf clock basic_minutes)) _ _ place e front rest t x at λ c more is out same.
         at_mixed false e front rest t x c more is (or_parts _ _ out) same ((colon or digit) c) refl
@@ -378,6 +379,6 @@ module _ {E : Type 0} (fault : Row → E) (clock : Clock)
         at_places colon_minutes (some (ClockOf clock colon_minutes)) _ _ place e front rest t x at λ c more is out same.
         at_mixed true e front rest t x c more is (or_parts _ _ out) same ((colon or digit) c) refl
     open_row seconds place e front rest t x at = at_places seconds (some (ClockOf clock seconds)) _ _ place e front rest t x at λ c more is out same.
-        let parts = or_parts _ _ out in inr (rw is parts.0, (c, more, is, parts.1, same))
+        let parts = or_parts _ _ out in inr (rw is parts.0, (c, more, is, parts.1, same, refl))
     open_row fractions place e front rest t x at = at_places fractions (some (ClockOf clock fractions)) _ _ place e front rest t x at λ c more is out same.
-        let parts = or_parts _ _ out in inr (rw is parts.0, (c, more, is, parts.1, same))
+        let parts = or_parts _ _ out in inr (rw is parts.0, (c, more, is, parts.1, same, refl))

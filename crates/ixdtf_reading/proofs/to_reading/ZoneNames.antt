@@ -23,10 +23,11 @@ NameEnds rest = NotNext zone_char rest × NotNext slash rest
 
 -- what stands after a whole name where the row of its line fits, but at Bad
 abbrev pub StopsName : Bool → Place → Fault → Text → Type 0
-StopsName brackets end e rest = (rest ≡ []) × (zone_end brackets ≡ error e)
-StopsName brackets other e rest = (c : ℕ) × (more : Text) × (rest ≡ Plain c ∷ more) × IsFalse (zone_letters brackets c) × (e ≡ zone_other brackets c)
-StopsName brackets bad e rest = ⊥
-StopsName brackets anywhere e rest = ⊥
+StopsName brackets (end left) e rest = (rest ≡ []) × (zone_end brackets ≡ error e) × (left ≡ rest)
+StopsName brackets (other left) e rest =
+    (c : ℕ) × (more : Text) × (rest ≡ Plain c ∷ more) × IsFalse (zone_letters brackets c) × (e ≡ zone_other brackets c) × (left ≡ rest)
+StopsName brackets (bad left) e rest = ⊥
+StopsName brackets (anywhere left) e rest = ⊥
 
 -- a slash does not go on as a letter of a name, and what a name begins with does
 slash_no_char : (c : ℕ) → IsTrue (slash c) → IsFalse (zone_char c)
@@ -100,7 +101,7 @@ module _ {E : Type 0} (fault : Row → E) where
   after_name : (front rest : Text) (e : E) → ZoneName front → name_run fault true rest ≡ Err e → name_run fault true (front ++ rest) ≡ Err e
   after_name front rest e h is = let o = over_name front h in rw (o.2 rest, is) (letters_err o.0 e)
 
-  bad_here : (rest : Text) → name_run fault true (Bad ∷ rest) ≡ Err (fault (row_of (of_zone in_zone_name) bad NonAsciiCodePoint))
+  bad_here : (rest : Text) → name_run fault true (Bad ∷ rest) ≡ Err (fault (row_of (of_zone in_zone_name) (bad (Bad ∷ rest)) NonAsciiCodePoint))
   unfolding name_run
   bad_here rest = refl
 
@@ -109,18 +110,18 @@ module _ {E : Type 0} (fault : Row → E) where
     pub name_row : (place : Place) (e : Fault) (front rest : Text) → ZoneName front → Stops (line_of brackets (of_zone in_zone_name)) place e rest
         → (name_run fault true (front ++ rest) ≡ Err (fault (row_of (of_zone in_zone_name) place e)))
         ⊎ ((name : List ℕ) × (name_run fault true (front ++ rest) ≡ Ok (name, rest)) × StopsName brackets place e rest)
-    name_row end e front rest h at = let o = over_name front h in inr (o.0, name_takes front o.0 rest h o.1 (rw at.0 (tt, tt)), at)
-    name_row other e front rest h at = let o = over_name front h in inr (o.0, name_takes front o.0 rest h o.1 (rw at.2 (no_letter brackets at.0 at.3)), at)
-    name_row bad e front rest h at = inl (rw (at.1, at.2) (after_name front (Bad ∷ at.0) _ h (bad_here at.0)))
-    name_row anywhere e front rest h at = absurd at
+    name_row (end left) e front rest h at = let o = over_name front h in inr (o.0, name_takes front o.0 rest h o.1 (rw at.0 (tt, tt)), at)
+    name_row (other left) e front rest h at = let o = over_name front h in inr (o.0, name_takes front o.0 rest h o.1 (rw at.2 (no_letter brackets at.0 at.3)), at)
+    name_row (bad left) e front rest h at = inl (rw (at.3, at.1, at.2) (after_name front (Bad ∷ at.0) _ h (bad_here at.0)))
+    name_row (anywhere left) e front rest h at = absurd at
 
     after_slash : (place : Place) (e : Fault) (rest : Text) → Stops (line_of brackets (of_zone after_zone_slash)) place e rest
         → name_run fault false rest ≡ Err (fault (row_of (of_zone after_zone_slash) place e))
     unfolding name_run
-    after_slash end e rest at = rw at.0 (grind (arith, at.1))
-    after_slash other e rest at = rw (at.2, at.4) (rw (at.3, and_right (slash at.0) false refl))
-    after_slash bad e rest at = rw (at.1, at.2)
-    after_slash anywhere e rest at = absurd at
+    after_slash (end left) e rest at = rw (at.2, at.0) (grind (arith, at.1))
+    after_slash (other left) e rest at = rw (at.5, at.2, at.4) (rw (at.3, and_right (slash at.0) false refl))
+    after_slash (bad left) e rest at = rw (at.3, at.1, at.2)
+    after_slash (anywhere left) e rest at = absurd at
 
     over_end : (c : ℕ) (rest : Text) (e : E) → IsTrue (slash c) → name_run fault false rest ≡ Err e → name_run fault true (Plain c ∷ rest) ≡ Err e
     unfolding name_run

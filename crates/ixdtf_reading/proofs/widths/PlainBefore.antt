@@ -33,7 +33,7 @@ use Rattle.ixdtf_reading.proofs.parts.Fronts.{month_day_front_stays}
 use Rattle.ixdtf_grammar.proofs.widths.PlainTexts.{plain_append, PlainShape, plain_nowhere, plain_nothing, plain_one, plain_with, ◌and_then◌, plain_some}
 use Rattle.ixdtf_grammar.proofs.widths.PlainTexts.{date_plain, time_plain, plain_mark, marked_plain, core_plain, opens_plain, tail_plain}
 use Rattle.ixdtf_grammar.proofs.widths.FirstBad.{Sees, sees_after, Moves, moves_anything, moves_nothing, moves_then, moves_either, moves_first}
-use Rattle.ixdtf_grammar.proofs.widths.FirstBad.{Stands, alone, ahead, ahead_where, besides, stands_either, never, stops_move}
+use Rattle.ixdtf_grammar.proofs.widths.FirstBad.{Stands, alone, ahead, ahead_where, besides, stands_either, never, moved_to, stops_move}
 use Rattle.ixdtf_grammar.proofs.widths.PlainLines.{plain_line}
 
 -- ---- lines of cores
@@ -187,13 +187,17 @@ before_line parse_identifier name pairs = besides (alone (in_identifier name))
 before_line parse_iana_identifier name pairs = besides (alone (in_iana_identifier name))
 before_line (parse_duration profile) name pairs = besides (alone (in_duration profile name))
 
--- a row that fits a text with Bad is a row of Bad, or fits the other text too
+-- the row, with this text from its place on
+abbrev pub row_moved : Text → Row → Row
+row_moved rest row = record { name = row.name; place = moved_to rest row.place; error = row.error }
+
+-- A row that fits a text with Bad is a row of Bad, or fits the other text too, behind as many letters.
 pub fits_move : (reader : Reader) (row : Row) (pairs : List Pair) (text other_text : Text) → Sees text other_text → Fits reader row pairs text
-    → (row.error ≡ NonAsciiCodePoint) ⊎ Fits reader row pairs other_text
+    → (row.error ≡ NonAsciiCodePoint) ⊎ ((rest : Text) × Fits reader (row_moved rest row) pairs other_text)
 fits_move reader row pairs text other_text sees (before, rest, is, b, (front, stop, splits, f, at)) =
     let next = sees_after before rest other_text ((before_line reader row.name pairs).plain before rest b) (rw (← is) sees) in
     let last = sees_after front stop next.0 ((plain_line (has_brackets reader) row.name).plain front f) (rw (← splits) next.2) in
     elim (stops_move _ row.place row.error stop last.0 last.2 at) [
       | inl e ↦ inl e
-      | inr moved ↦ inr (before, next.0, next.1, (before_line reader row.name pairs).moved before rest next.0 next.2 b, (front, last.0, last.1, f, moved))
+      | inr moved ↦ inr (last.0, (before, next.0, next.1, (before_line reader row.name pairs).moved before rest next.0 next.2 b, (front, last.0, last.1, f, moved)))
     ]

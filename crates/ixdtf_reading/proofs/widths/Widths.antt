@@ -20,7 +20,7 @@ use Rattle.ixdtf_grammar.specs.table.Faults.Fault.{NonAsciiCodePoint}
 use Rattle.ixdtf_grammar.specs.table.Outcomes.{HasFault}
 use Rattle.ixdtf_reading.proofs.theorems.OneUnhandledOutcome.{unhandled_outcome}
 use Rattle.ixdtf_grammar.proofs.widths.FirstBad.{Sees, plain_sees_nothing, sees_after}
-use Rattle.ixdtf_reading.proofs.widths.PlainBefore.{fits_move}
+use Rattle.ixdtf_reading.proofs.widths.PlainBefore.{row_moved, fits_move}
 use Rattle.ixdtf_grammar.proofs.widths.PlainDurations.{duration_plain}
 use Rattle.ixdtf_grammar.proofs.widths.PlainTexts.{IsPlain, plain_append, signed_plain, zone_plain, plain_name, core_plain, tail_plain}
 
@@ -60,7 +60,7 @@ fault_moves : (reader : Reader) (text other_text : Text) → Sees text other_tex
     → (fault ≡ NonAsciiCodePoint) ⊎ HasFault reader other_text pairs fault
 fault_moves reader text other_text sees pairs fault h = elim (fits_move reader h.0 pairs text other_text sees h.1) [
   | inl e ↦ inl (sym h.2 ∙ e)
-  | inr fits ↦ inr (h.0, fits, h.2)
+  | inr fits ↦ inr (row_moved fits.0 h.0, fits.1, h.2)
 ]
 
 -- a refused pair stands behind a front that is derived, and so is in front of the other text

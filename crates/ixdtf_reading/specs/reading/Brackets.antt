@@ -16,22 +16,23 @@ use Rattle.ixdtf_grammar.specs.table.LineNames.BracketLine.{first_bracket_start,
 use Rattle.ixdtf_grammar.specs.table.Lines.{abrupt_bracket}
 use Rattle.ixdtf_grammar.specs.table.Rows.{Row}
 use Rattle.ixdtf_grammar.specs.table.Rows.Place.{end, bad}
-use Rattle.ixdtf_reading.specs.reading.Looks.{Read, ◌>>=◌, row_of, letter_at, next_by}
+use Rattle.ixdtf_reading.specs.reading.Looks.{Read, Placed, ◌>>=◌, row_of, letter_at, next_by}
 use Rattle.ixdtf_reading.specs.reading.Times.{clock_at}
 use Rattle.ixdtf_reading.specs.reading.Pairs.{pair_at}
 use Rattle.ixdtf_reading.specs.reading.Zones.{follow_look, name_run, name_look, as_zone, zone_readings}
 
 -- whether an `=` comes before any `]`
 unfoldable pub sight_at : {E : Type 0} → (Row → E) → Text → Result Bool E
-sight_at fault [] = Err (fault (row_of (of_bracket first_bracket_scan) end abrupt_bracket))
-sight_at fault (Bad ∷ rest) = Err (fault (row_of (of_bracket first_bracket_scan) bad NonAsciiCodePoint))
+sight_at fault [] = Err (fault (row_of (of_bracket first_bracket_scan) (end []) abrupt_bracket))
+sight_at fault (Bad ∷ rest) = Err (fault (row_of (of_bracket first_bracket_scan) (bad (Bad ∷ rest)) NonAsciiCodePoint))
 sight_at fault (Plain c ∷ rest) = if equals c then Ok true else (if closing c then Ok false else sight_at fault rest)
 
--- why a bracket is refused that is no name: with an `=` before any `]` it is a pair, whose key does not go on
-abbrev pub refusal : Result Bool Fault → Fault → Fault
-refusal (Ok true) name = AnnotationKeyChar
-refusal (Ok false) name = name
-refusal (Err e) name = e
+-- Why a bracket is refused that is no name, and where: with an `=` before any `]` it is a pair, whose key does not go on with
+-- what stands behind the letters of a key, and else a name, which does not with what stands behind those of a name.
+abbrev pub refusal : Result Bool Placed → Fault → Text → Text → Placed
+refusal (Ok true) name behind_key behind_name = (AnnotationKeyChar, behind_key)
+refusal (Ok false) name behind_key behind_name = (name, behind_name)
+refusal (Err e) name behind_key behind_name = e
 
 -- why a name is refused where its letters go no further, and it may end there or not
 abbrev pub name_fault : Bool → Fault

@@ -1,22 +1,23 @@
 -- What the code returns for the pairs after whole brackets, and for a whole text, for the calls of the handler that it made.
 -- No public clause cites this.
-use Rattle.std.specs.Prelude.{◌≡◌, ◌⊎◌, true, ℕ, Bool, List, ◌++◌, Option, Result, Ok, Err, [], Some, None, ◌∷◌}
+use Rattle.std.specs.Prelude.{◌≡◌, ◌⊎◌, true, ℕ, ◌+◌, length, Bool, List, ◌++◌, Option, Result, Ok, Err, [], Some, None, ◌∷◌}
 use Rattle.ixdtf_grammar.specs.language.Letters.{Text}
 use Rattle.ixdtf_grammar.specs.language.Shapes.{some}
 use Rattle.ixdtf_grammar.specs.language.Brackets.{Pair, ArePairs, Opens}
 use Rattle.ixdtf_grammar.specs.language.Cores.{Core}
-use Rattle.ixdtf_grammar.specs.language.Languages.{Parsed}
+use Rattle.ixdtf_grammar.specs.language.Languages.{Parsed, Derives}
+use Rattle.ixdtf_grammar.specs.language.Languages.Found.{parsed}
 use Rattle.ixdtf_grammar.specs.language.Readers.{Reader, CoreKind}
 use Rattle.ixdtf_grammar.specs.language.Readers.Reader.{bracketed}
-use Rattle.ixdtf_grammar.specs.table.Faults.{Fault}
 use Rattle.ixdtf_grammar.specs.table.LineNames.{LineName, PairLine}
 use Rattle.ixdtf_grammar.specs.table.LineNames.LineName.{of_core, of_clock, of_offset, of_zone, of_bracket, of_pair, of_duration}
 use Rattle.ixdtf_grammar.specs.table.LineNames.BracketLine.{first_bracket_start, first_critical_start, first_bracket_scan, after_bracket}
 use Rattle.ixdtf_grammar.specs.table.LineNames.PairLine.{key_start, critical_key_start, in_key, value_start, in_value, after_value_hyphen}
-use Rattle.ixdtf_grammar.specs.table.Rows.{Row, FitsHere}
-use Rattle.ixdtf_grammar.specs.Handlers.{Reply, first_calendar, NoneRefused, LastRefused, Calls, handed, replies_of, Step, IsChain}
-use Rattle.ixdtf_grammar.specs.Laws.{GivesResult}
-use Rattle.ixdtf_reading.specs.reading.Looks.{error_of}
+use Rattle.ixdtf_grammar.specs.table.Rows.{Row, Fits, FitsHere}
+use Rattle.ixdtf_grammar.specs.Handlers.{Reply, first_calendar, GivesRecord, NoneRefused, LastRefused, Calls, handed, replies_of, Step, IsChain}
+use Rattle.ixdtf_reading.specs.declared.stop.StopAt.{StopAt}
+use Rattle.ixdtf_reading.specs.reading.Clauses.{fault_of_stop}
+use Rattle.ixdtf_reading.specs.reading.Looks.{Placed, error_of}
 use Rattle.ixdtf_reading.specs.reading.Cores.{core_at}
 
 -- what stands between whole brackets and the front of a line of pairs
@@ -49,11 +50,20 @@ FitsAfterBrackets row text = (before rest : Text) × (text ≡ before ++ rest) �
 abbrev pub PairsUpTo : Text → List Pair → Text → Type 0
 PairsUpTo text pairs rest = (front : Text) × (text ≡ front ++ rest) × ArePairs front pairs
 
--- After these first pairs, and more in the text: what the replies to all of them and the rest of the text make of it.
-abbrev pub PairsGive : Text → List Pair → List Reply → Result (Option Pair) Fault → Type 0
+-- After these first pairs, and more in the text: what the replies to all of them and the rest of the text make of it. A reply
+-- is refused where the rest begins, and any other fault is a row's, at its place.
+abbrev pub PairsGive : Text → List Pair → List Reply → Result (Option Pair) Placed → Type 0
 PairsGive text more replies (Ok calendar) = ArePairs text more × NoneRefused replies × (calendar ≡ first_calendar replies)
-PairsGive text more replies (Err fault) = (rest : Text) × PairsUpTo text more rest
-    × (LastRefused replies fault ⊎ (((row : Row) × FitsAfterBrackets row rest × (row.error ≡ fault)) × NoneRefused replies))
+PairsGive text more replies (Err placed) = (rest : Text) × PairsUpTo text more rest
+    × ((LastRefused replies placed.0 × (rest ≡ placed.1)) ⊎ (((row : Row) × FitsAfterBrackets row rest × (error_of row ≡ placed)) × NoneRefused replies))
+
+-- What the replies to the pairs of a text make of it: a reply is refused behind a front that is derived, and any other fault is a
+-- row's, at its place.
+abbrev pub TextGives : Reader → Text → List Pair → List Reply → Result Parsed Placed → Type 0
+TextGives reader text pairs replies (Ok found) = GivesRecord reader text pairs replies found
+TextGives reader text pairs replies (Err placed) =
+    (((front : Text) × (text ≡ front ++ placed.1) × (read : Parsed) × Derives reader front (parsed read) pairs) × LastRefused replies placed.0)
+    ⊎ (((row : Row) × Fits reader row pairs text × (error_of row ≡ placed)) × NoneRefused replies)
 
 -- a first pair where there is one
 abbrev pub first_pairs : Option Pair → List Pair
@@ -62,7 +72,7 @@ first_pairs (Some pair) = pair ∷ []
 
 module _ {T U F : Type 0} (number : U → ℕ) (step : Step T U F) (handler last : F) where
   -- For a chain of calls on these first pairs and more of the text.
-  pub record PairsRead (first : List Pair) (text : Text) (result : Result (Option Pair) Fault) : Type 0 where
+  pub record PairsRead (first : List Pair) (text : Text) (result : Result (Option Pair) Placed) : Type 0 where
     pub calls : Calls T U
     pub chain : IsChain step handler calls last
     pub more : List Pair
@@ -70,12 +80,17 @@ module _ {T U F : Type 0} (number : U → ℕ) (step : Step T U F) (handler last
     pub gives : PairsGive text more (replies_of number calls) result
 
   -- For a chain of calls on pairs of the text.
-  pub record TextRead (reader : Reader) (text : Text) (result : Result Parsed Fault) : Type 0 where
+  pub record TextRead (reader : Reader) (text : Text) (result : Result Parsed Placed) : Type 0 where
     pub calls : Calls T U
     pub chain : IsChain step handler calls last
-    pub gives : GivesResult reader text (handed number calls) (replies_of number calls) result
+    pub gives : TextGives reader text (handed number calls) (replies_of number calls) result
 
   -- For any text of which this core was read, with a bracket after it or none, and this rest is left.
-  abbrev pub TextReadAfter : Core → Bool → Text → Result Parsed Fault → Type 0
+  abbrev pub TextReadAfter : Core → Bool → Text → Result Parsed Placed → Type 0
   TextReadAfter core has_bracket rest result =
       (kind : CoreKind) (text : Text) → core_at error_of kind text ≡ Ok ((core, has_bracket), rest) → TextRead (bracketed kind) text result
+
+  -- For what was returned of a whole text: a fault stands behind so many letters.
+  abbrev pub TextReadTo : {X : Type 0} → (X → Parsed) → Reader → Text → Result X StopAt → Type 0
+  TextReadTo view reader text (Ok x) = TextRead reader text (Ok (view x))
+  TextReadTo view reader text (Err why) = (left : Text) × (why.at + length left ≡ length text) × TextRead reader text (Err (fault_of_stop why.stop, left))

@@ -4,6 +4,7 @@ use Rattle.ixdtf_grammar.specs.declared.profile.Profile.{Profile}
 use Rattle.ixdtf_grammar.specs.declared.records.DateRecord.{DateRecord}
 use Rattle.ixdtf_grammar.specs.declared.records.IxdtfParseRecord.{IxdtfParseRecord}
 use Rattle.ixdtf_reading.specs.declared.stop.Stop.{Stop}
+use Rattle.ixdtf_reading.specs.declared.stop.StopAt.{StopAt}
 use Rattle.ixdtf_reading.specs.declared.stop.Stop.TheVariants as stops
 use Rattle.ixdtf_grammar.specs.language.Letters.{Letter, Text, ◌or◌, none, digit, hyphen, closing}
 use Rattle.ixdtf_grammar.specs.language.Fractions.{FractionParts, fraction_of}
@@ -14,12 +15,12 @@ use Rattle.ixdtf_grammar.specs.language.Languages.{Parsed}
 use Rattle.ixdtf_grammar.specs.table.Faults.{Fault}
 use Rattle.ixdtf_grammar.specs.table.Faults.{Fault as faults}
 use Rattle.ixdtf_grammar.specs.table.Outcomes.{NoRowFits}
-use Rattle.ixdtf_grammar.specs.table.Lines.{always, abrupt_digit, abrupt_date, abrupt_month_day, abrupt_bracket, abrupt_offset, abrupt_zone}
+use Rattle.ixdtf_grammar.specs.table.Lines.{abrupt_digit, abrupt_date, abrupt_month_day, abrupt_bracket, abrupt_offset, abrupt_zone}
 use Rattle.ixdtf_grammar.specs.table.Lines.{abrupt_duration_start, abrupt_duration_designator, abrupt_duration, abrupt_date_designator, abrupt_time_designator}
 use Rattle.ixdtf_grammar.specs.Views.{Unread}
 use Rattle.ixdtf_grammar.specs.Handlers.{UnhandledRecord, UnhandledFault, UnhandledOnlyFault}
 use Rattle.ixdtf_grammar.specs.Laws.{IsTextReader, InNoOther}
-use Rattle.ixdtf_reading.specs.reading.Looks.{Read, Look, ◌>>=◌, error_of, digit_run}
+use Rattle.ixdtf_reading.specs.reading.Looks.{Read, Look, Placed, before, look_for, ◌>>=◌, error_of, digit_run}
 use Rattle.ixdtf_reading.specs.reading.Times.{clock_at}
 use Rattle.ixdtf_reading.specs.reading.Cores.{ClosedCore, after_time_at}
 
@@ -74,25 +75,39 @@ fault_of_stop stops.DateDurationPartOrder = faults.DateDurationPartOrder
 fault_of_stop stops.TimeDurationPartOrder = faults.TimeDurationPartOrder
 fault_of_stop stops.TimeDurationDesignator = faults.TimeDurationDesignator
 
+-- the same of a stop with its place
+abbrev pub fault_of_stop_at : StopAt → Fault
+fault_of_stop_at why = fault_of_stop why.stop
+
 -- what a private function returned, with its value seen by a view, and its stop by its fault
 abbrev pub yielded : {X Y : Type 0} → (X → Y) → Result X Stop → Result Y Fault
 yielded view (Ok x) = Ok (view x)
 yielded view (Err e) = Err (fault_of_stop e)
+
+-- the same, with what was still to be read after it
+abbrev pub yielded_at : {X Y : Type 0} → (X → Y) → Result X Stop → Text → Result Y Placed
+yielded_at view (Ok x) left = Ok (view x)
+yielded_at view (Err e) left = Err (fault_of_stop e, left)
 
 -- what a private function returned, seen so, is what is wanted
 abbrev pub Yields : {X Y : Type 0} → (X → Y) → Result X Stop → Result Y Fault → Type 0
 Yields view (Ok x) wanted = wanted ≡ Ok (view x)
 Yields view (Err e) wanted = wanted ≡ Err (fault_of_stop e)
 
+-- the same, with what was still to be read after it
+abbrev pub YieldsAt : {X Y : Type 0} → (X → Y) → Result X Stop → Text → Result Y Placed → Type 0
+YieldsAt view (Ok x) left wanted = wanted ≡ Ok (view x)
+YieldsAt view (Err e) left wanted = wanted ≡ Err (fault_of_stop e, left)
+
 -- what a function returned of the letters that were still to be read, and what it left of them, is what reading gives
-abbrev pub Reads : {X Y : Type 0} → (ℕ → Letter) → (X → Y) → Unread → Result X Stop → Unread → (Text → Result (Y × Text) Fault) → Type 0
+abbrev pub Reads : {X Y : Type 0} → (ℕ → Letter) → (X → Y) → Unread → Result X Stop → Unread → (Text → Read Placed Y) → Type 0
 Reads letter view old (Ok x) new reading = reading (map letter old.rest) ≡ Ok (view x, map letter new.rest)
-Reads letter view old (Err e) new reading = reading (map letter old.rest) ≡ Err (fault_of_stop e)
+Reads letter view old (Err e) new reading = reading (map letter old.rest) ≡ Err (fault_of_stop e, map letter new.rest)
 
 -- what reading gives of the letters that were still to be read is what it gives from where a function left them, or its stop
-abbrev pub GoesOn : {X Y : Type 0} → (ℕ → Letter) → Unread → Result X Stop → Unread → (Text → Read Fault Y) → (X → Text → Read Fault Y) → Type 0
+abbrev pub GoesOn : {X Y : Type 0} → (ℕ → Letter) → Unread → Result X Stop → Unread → (Text → Read Placed Y) → (X → Text → Read Placed Y) → Type 0
 GoesOn letter old (Ok x) new reading further = reading (map letter old.rest) ≡ further x (map letter new.rest)
-GoesOn letter old (Err e) new reading further = reading (map letter old.rest) ≡ Err (fault_of_stop e)
+GoesOn letter old (Err e) new reading further = reading (map letter old.rest) ≡ Err (fault_of_stop e, map letter new.rest)
 
 -- what a public function returned is what a private one did, with the error of its stop
 abbrev pub Settles : {X E : Type 0} → (E → Fault) → Result X Stop → Result X E → Type 0
@@ -130,16 +145,16 @@ Checks view (Err e) wanted test fault = (fault_of_stop e ≡ fault) × IsFalse t
 -- ---- looks, as the code makes them: it returns errors, and does not tell the line
 
 -- the look for the end of the text
-abbrev pub end_look : Look Fault
-end_look = record { goes_on = none; at_end = None; at_other = always faults.InvalidEnd; at_bad = faults.NonAsciiCodePoint }
+abbrev pub end_look : Look Placed
+end_look = look_for none None faults.InvalidEnd
 
 -- the look for a hyphen or a digit, with the errors at the end and at another letter
-abbrev pub hyphen_look : Fault → Fault → Look Fault
-hyphen_look at_end other = record { goes_on = hyphen or digit; at_end = Some at_end; at_other = always other; at_bad = faults.NonAsciiCodePoint }
+abbrev pub hyphen_look : Fault → Fault → Look Placed
+hyphen_look at_end other = look_for (hyphen or digit) (Some at_end) other
 
 -- the look for the end of a bracket
-abbrev pub closing_look : Fault → Look Fault
-closing_look fault = record { goes_on = closing; at_end = Some faults.AnnotationClose; at_other = always fault; at_bad = faults.NonAsciiCodePoint }
+abbrev pub closing_look : Fault → Look Placed
+closing_look fault = look_for closing (Some faults.AnnotationClose) fault
 
 -- what a look for a digit finds, with the error at another letter
 abbrev pub digit_seen : Fault → Result (Option ℕ) Fault → Result ℕ Fault
@@ -148,11 +163,11 @@ digit_seen other (Ok (Some c)) = if digit c then Ok c else Err other
 digit_seen other (Err e) = Err e
 
 -- the digits of a fraction behind its first ones, and the fraction
-abbrev pub more_digits_at : Text → Text → Read Fault FractionParts
-more_digits_at front text = digit_run faults.NonAsciiCodePoint text >>= λ more. Ok (fraction_of (front ++ more.0), more.1)
+abbrev pub more_digits_at : Text → Text → Read Placed FractionParts
+more_digits_at front text = digit_run (before faults.NonAsciiCodePoint) text >>= λ more. Ok (fraction_of (front ++ more.0), more.1)
 
 -- a time, and an offset where there is one, behind a date or none
-unfoldable pub timed_core_at : Option DateRecord → Text → Read Fault ClosedCore
+unfoldable pub timed_core_at : Option DateRecord → Text → Read Placed ClosedCore
 timed_core_at date text = clock_at error_of clocks.Time text >>= λ time. after_time_at error_of date time.0 time.1
 
 -- ---- records

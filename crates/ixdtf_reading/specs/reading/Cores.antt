@@ -24,18 +24,18 @@ use Rattle.ixdtf_grammar.specs.table.LineNames.DateLine.{after_date}
 use Rattle.ixdtf_grammar.specs.table.LineNames.OffsetLine.{after_zulu}
 use Rattle.ixdtf_grammar.specs.table.Rows.{Row}
 use Rattle.ixdtf_grammar.specs.table.Rows.Place.{end, other, bad, anywhere}
-use Rattle.ixdtf_reading.specs.reading.Looks.{Read, Look, ◌>>=◌, row_of, next_by, peek_by, on_next}
+use Rattle.ixdtf_reading.specs.reading.Looks.{Read, Look, ◌>>=◌, row_of, error_of, next_by, peek_by, on_next}
 use Rattle.ixdtf_reading.specs.reading.Dates.{date_at}
-use Rattle.ixdtf_reading.specs.reading.Months.{year_month_at, month_day_at, month_day_begins, year_month_begins}
+use Rattle.ixdtf_reading.specs.reading.Months.{year_month_at, month_day_at, month_day_begins, year_month_begins, left_by}
 use Rattle.ixdtf_reading.specs.reading.Times.{OpenTime, line_after, bad_after, after_second_at, hour_from, clock_at}
 
 -- the look for the first digit of a time that stands alone and begins without `T` or `t`
 abbrev pub hour_look : {E : Type 0} → (Row → E) → Look E
 hour_look fault = record {
   goes_on = digit;
-  at_end = Some (fault (row_of (of_time time_start) end abrupt_digit));
-  at_other = λ c. fault (row_of (of_time time_start) other TimeHour);
-  at_bad = fault (row_of (of_time time_start) bad NonAsciiCodePoint);
+  at_end = λ text. Some (fault (row_of (of_time time_start) (end text) abrupt_digit));
+  at_other = λ c text. fault (row_of (of_time time_start) (other text) TimeHour);
+  at_bad = λ text. fault (row_of (of_time time_start) (bad text) NonAsciiCodePoint);
 }
 
 -- a core, and whether a bracket follows, whose `[` is taken off; else the text ends
@@ -46,9 +46,9 @@ ClosedCore = Core × Bool
 abbrev pub core_look : {E : Type 0} → (Row → E) → LineName → Look E
 core_look fault name = record {
   goes_on = opening;
-  at_end = None;
-  at_other = λ c. fault (row_of name other InvalidEnd);
-  at_bad = fault (row_of name bad NonAsciiCodePoint);
+  at_end = λ text. None;
+  at_other = λ c text. fault (row_of name (other text) InvalidEnd);
+  at_bad = λ text. fault (row_of name (bad text) NonAsciiCodePoint);
 }
 
 -- the end of a core, which stops at the line
@@ -88,7 +88,7 @@ whole_time_core_at fault date hour minute second text = do
 
 -- what stands after a date
 unfoldable pub after_date_at : {E : Type 0} → (Row → E) → DateRecord → Text → Read E ClosedCore
-after_date_at fault date text = on_next (fault (row_of (of_date after_date) bad NonAsciiCodePoint)) date_time_separator
+after_date_at fault date text = on_next (λ bad_text. fault (row_of (of_date after_date) (bad bad_text) NonAsciiCodePoint)) date_time_separator
     (λ c rest. time_core_at fault date rest)
     (λ rest. core_end_at fault (of_date after_date) (core_of (Some date) None None) rest) text
 
@@ -112,7 +112,7 @@ lone_time_at fault text = do
 
 -- `T` or `t` or neither, and a time
 unfoldable pub marked_time_at : {E : Type 0} → (Row → E) → Text → Read E OpenTime
-marked_time_at fault text = on_next (fault (row_of (of_time time_start) bad NonAsciiCodePoint)) time_letter
+marked_time_at fault text = on_next (λ bad_text. fault (row_of (of_time time_start) (bad bad_text) NonAsciiCodePoint)) time_letter
     (λ c rest. clock_at fault clocks.Time rest)
     (λ rest. lone_time_at fault rest) text
 
@@ -125,8 +125,11 @@ marked_core_at fault text = do
 -- The test of a time's front: where the text begins as a month-day or a year-month, this is the fault.
 abbrev pub unfronted : {E A : Type 0} → (Row → E) → Profile → Text → Read E A → Read E A
 unfronted fault profile text read =
-    if month_day_begins profile text then Err (fault (row_of (of_time (time_reads_as_month_day profile)) anywhere AmbiguousTimeMonthDay))
-    else (if year_month_begins text then Err (fault (row_of (of_time time_reads_as_year_month) anywhere AmbiguousTimeYearMonth)) else read)
+    if month_day_begins profile text
+    then Err (fault (row_of (of_time (time_reads_as_month_day profile)) (anywhere (left_by (month_day_at error_of profile text))) AmbiguousTimeMonthDay))
+    else (if year_month_begins text
+    then Err (fault (row_of (of_time time_reads_as_year_month) (anywhere (left_by (year_month_at error_of text))) AmbiguousTimeYearMonth))
+    else read)
 
 -- a time and its offset, before the end or a bracket; and then the test of its front
 unfoldable pub time_alone_core_at : {E : Type 0} → (Row → E) → Profile → Text → Read E ClosedCore

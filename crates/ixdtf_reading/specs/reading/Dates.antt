@@ -18,7 +18,7 @@ use Rattle.ixdtf_reading.specs.reading.Looks.{Read, Look, ◌>>=◌, row_of, loo
 unfoldable pub extended_year_at : {E : Type 0} → (Row → E) → ℕ → Text → Read E ℤ
 extended_year_at fault c text = do
   ds ← digits_at fault (of_date extended_year_digits) 6 text
-  if hyphen c && nat_eq (decimal ds.0) 0 then Err (fault (row_of (of_date minus_zero_year) anywhere DateExtendedYear))
+  if hyphen c && nat_eq (decimal ds.0) 0 then Err (fault (row_of (of_date minus_zero_year) (anywhere ds.1) DateExtendedYear))
       else Ok (signed c (decimal ds.0), ds.1)
 
 -- after the first digit
@@ -36,13 +36,13 @@ year_at fault text = do
 unfoldable pub month_in_range : {E : Type 0} → (Row → E) → Text × Text → Read E ℕ
 month_in_range fault ds =
     if nat_le 1 (decimal ds.0) && nat_le (decimal ds.0) 12 then Ok (decimal ds.0, ds.1)
-    else Err (fault (row_of (of_date month_range) anywhere InvalidMonthRange))
+    else Err (fault (row_of (of_date month_range) (anywhere ds.1) InvalidMonthRange))
 
 -- the date, where the day is in the month
 unfoldable pub day_in_range : {E : Type 0} → (Row → E) → DateRecord → Text → Read E DateRecord
 day_in_range fault date rest =
     if nat_le 1 date.day && nat_le date.day (month_length date.year date.month) then Ok (date, rest)
-    else Err (fault (row_of (of_date day_range) anywhere InvalidDayRange))
+    else Err (fault (row_of (of_date day_range) (anywhere rest) InvalidDayRange))
 
 abbrev pub date_of : ℤ → ℕ → ℕ → DateRecord
 date_of year month day = record { year = year; month = month; day = day }

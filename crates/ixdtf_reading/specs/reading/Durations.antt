@@ -62,27 +62,27 @@ abbrev pub fraction_group : Text → Text → ℕ → Group
 fraction_group ds fs c = record { unit = unit_of time c; value = decimal ds; fraction = Some (fraction_of fs) }
 
 -- the rows of numbers that are too great, and of a group out of order
-abbrev pub value_past : Profile → Half → Row
-value_past profile half = row_of (of_duration profile (group_value_range half)) anywhere DurationValueExceededRange
+abbrev pub value_past : Profile → Half → Text → Row
+value_past profile half left = row_of (of_duration profile (group_value_range half)) (anywhere left) DurationValueExceededRange
 
-abbrev pub unit_past : Profile → Row
-unit_past profile = row_of (of_duration profile date_unit_range) anywhere DurationValueExceededRange
+abbrev pub unit_past : Profile → Text → Row
+unit_past profile left = row_of (of_duration profile date_unit_range) (anywhere left) DurationValueExceededRange
 
-abbrev pub out_of_order : Profile → Half → Row
-out_of_order profile half = row_of (of_duration profile (unit_order half)) anywhere (order_fault half)
+abbrev pub out_of_order : Profile → Half → Text → Row
+out_of_order profile half left = row_of (of_duration profile (unit_order half)) (anywhere left) (order_fault half)
 
-module _ {E : Type 0} (fault : Row → E) (profile : Profile) where
+module _ {E : Type 0} (fault : Row → E) (profile : Profile) (left : Text) where
   -- these digits of a group, where their number is in range
   abbrev pub grow : Context → Text → Result State E
-  grow context ds = if nat_le (decimal ds) greatest_value then Ok (in_number context ds) else Err (fault (value_past profile (half_of context)))
+  grow context ds = if nat_le (decimal ds) greatest_value then Ok (in_number context ds) else Err (fault (value_past profile (half_of context) left))
 
   -- a group, where its number is in the range of its unit
   abbrev pub add_in_range : Context → Group → Result State E
-  add_in_range context g = if nat_le g.value (greatest g.unit) then Ok (between (add context g)) else Err (fault (unit_past profile))
+  add_in_range context g = if nat_le g.value (greatest g.unit) then Ok (between (add context g)) else Err (fault (unit_past profile left))
 
   -- what comes of a group, where it may stand behind those before it
   abbrev pub in_its_order : Context → Group → Result State E → Result State E
-  in_its_order context g next = if in_order profile (groups_of context) g.unit then next else Err (fault (out_of_order profile (half_of context)))
+  in_its_order context g next = if in_order profile (groups_of context) g.unit then next else Err (fault (out_of_order profile (half_of context) left))
 
   -- a group without a fraction
   abbrev pub add_group : Context → Group → Result State E
@@ -102,19 +102,19 @@ abbrev pub to_fraction : Context → Text → State
 to_fraction (in_dates s dates) ds = started
 to_fraction (in_times s dates times) ds = at_mark s dates times ds
 
--- The state after a letter with which the state's line goes on, or the fault of a whole line.
-unfoldable pub step : {E : Type 0} → (Row → E) → Profile → State → ℕ → Result State E
-step fault profile started c = if sign c then Ok (signed (sign_of c)) else Ok (between (in_dates Positive []))
-step fault profile (signed s) c = Ok (between (in_dates s []))
-step fault profile (between context) c = if digit c then grow fault profile context (Plain c ∷ []) else Ok (to_times context)
-step fault profile (in_number context ds) c =
-    if digit c then grow fault profile context (ds ++ (Plain c ∷ []))
-    else (if designator (half_of context) c then add_group fault profile context (integer_group (half_of context) ds c)
+-- The state after a letter with which the state's line goes on, before this text, or the fault of a whole line.
+unfoldable pub step : {E : Type 0} → (Row → E) → Profile → Text → State → ℕ → Result State E
+step fault profile left started c = if sign c then Ok (signed (sign_of c)) else Ok (between (in_dates Positive []))
+step fault profile left (signed s) c = Ok (between (in_dates s []))
+step fault profile left (between context) c = if digit c then grow fault profile left context (Plain c ∷ []) else Ok (to_times context)
+step fault profile left (in_number context ds) c =
+    if digit c then grow fault profile left context (ds ++ (Plain c ∷ []))
+    else (if designator (half_of context) c then add_group fault profile left context (integer_group (half_of context) ds c)
     else Ok (to_fraction context ds))
-step fault profile (at_mark s dates times ds) c = Ok (in_fraction s dates times ds (Plain c ∷ []))
-step fault profile (in_fraction s dates times ds fs) c =
-    if digit c then Ok (in_fraction s dates times ds (fs ++ (Plain c ∷ []))) else end_group fault profile s dates times (fraction_group ds fs c)
-step fault profile (ended s dates times g) c = Ok (ended s dates times g)
+step fault profile left (at_mark s dates times ds) c = Ok (in_fraction s dates times ds (Plain c ∷ []))
+step fault profile left (in_fraction s dates times ds fs) c =
+    if digit c then Ok (in_fraction s dates times ds (fs ++ (Plain c ∷ []))) else end_group fault profile left s dates times (fraction_group ds fs c)
+step fault profile left (ended s dates times g) c = Ok (ended s dates times g)
 
 -- what was read, where the text may end
 abbrev pub finished : State → DurationParseRecord
@@ -140,11 +140,11 @@ at_end (Some e) x = Err e
 
 -- The text from a state on.
 unfoldable pub run : {E : Type 0} → (Row → E) → Profile → State → Text → Read E DurationParseRecord
-run fault profile s [] = at_end (state_look fault profile s).at_end (finished s)
-run fault profile s (Bad ∷ rest) = Err (state_look fault profile s).at_bad
+run fault profile s [] = at_end ((state_look fault profile s).at_end []) (finished s)
+run fault profile s (Bad ∷ rest) = Err ((state_look fault profile s).at_bad (Bad ∷ rest))
 run fault profile s (Plain c ∷ rest) =
-    if (state_look fault profile s).goes_on c then (step fault profile s c >>= λ next. run fault profile next rest) else Err
-    ((state_look fault profile s).at_other c)
+    if (state_look fault profile s).goes_on c then (step fault profile rest s c >>= λ next. run fault profile next rest) else Err
+    ((state_look fault profile s).at_other c (Plain c ∷ rest))
 
 -- a duration, and the end
 abbrev pub duration_at : {E : Type 0} → (Row → E) → Profile → Text → Read E DurationParseRecord

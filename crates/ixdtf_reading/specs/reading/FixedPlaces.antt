@@ -9,11 +9,10 @@ use Rattle.ixdtf_grammar.specs.language.Letters.Letter.{Plain, Bad}
 use Rattle.ixdtf_grammar.specs.language.Digits.{digit_value, decimal}
 use Rattle.ixdtf_grammar.specs.language.Dates.{month_length}
 use Rattle.ixdtf_grammar.specs.language.Offsets.{minutes_of}
-use Rattle.ixdtf_grammar.specs.table.Faults.{Fault}
 use Rattle.ixdtf_grammar.specs.table.Faults.Fault.{InvalidMonthRange}
 use Rattle.ixdtf_grammar.specs.table.LineNames.{of_month_day}
 use Rattle.ixdtf_grammar.specs.table.LineNames.MonthDayLine.{month_day_month_digits}
-use Rattle.ixdtf_reading.specs.reading.Looks.{Read, ◌>>=◌, error_of, digits_at}
+use Rattle.ixdtf_reading.specs.reading.Looks.{Read, Placed, ◌>>=◌, error_of, digits_at}
 use Rattle.ixdtf_reading.specs.reading.Dates.{date_of, day_in_range}
 use Rattle.ixdtf_reading.specs.reading.Months.{lone_month_in_range, lone_day_in_range, lone_day_at}
 use Rattle.ixdtf_reading.specs.reading.Times.{time_of}
@@ -82,10 +81,10 @@ time_place text =
     number_place 11 text >>? λ hour. letter_place colon 13 text >>? λ _. number_place 14 text >>? λ minute.
     letter_place colon 16 text >>? λ _. number_place 17 text >>? λ second. Some (time_of hour minute second None)
 
--- the date with the text after it, where its month and its day are in range
-abbrev pub ranged : DateRecord → Text → Read Fault DateRecord
-ranged date rest =
-    if nat_le 1 date.month && nat_le date.month 12 then day_in_range error_of date rest else Err InvalidMonthRange
+-- the date with the text after it, where its month and its day are in range, and the text after its month
+abbrev pub ranged : DateRecord → Text → Text → Read Placed DateRecord
+ranged date after_month rest =
+    if nat_le 1 date.month && nat_le date.month 12 then day_in_range error_of date rest else Err (InvalidMonthRange, after_month)
 
 -- whether the month is one and has the day
 abbrev pub date_in_range : DateRecord → Bool
@@ -117,21 +116,21 @@ unfoldable pub day_of_month_place : ℕ → ℕ → Text → Option DateRecord
 day_of_month_place month place text = number_place place text >>? λ day. Some (date_of (pos 0) month day)
 
 -- the year-month with the text after it, where its month is one
-abbrev pub ranged_month : DateRecord → Text → Read Fault DateRecord
-ranged_month date rest = if nat_le 1 date.month && nat_le date.month 12 then Ok (date, rest) else Err InvalidMonthRange
+abbrev pub ranged_month : DateRecord → Text → Read Placed DateRecord
+ranged_month date rest = if nat_le 1 date.month && nat_le date.month 12 then Ok (date, rest) else Err (InvalidMonthRange, rest)
 
--- the month-day with the text after it, where its month is one and the profile has its day
-abbrev pub ranged_day : Profile → DateRecord → Text → Read Fault DateRecord
-ranged_day profile date rest =
+-- the month-day with the text after it, where its month is one and the profile has its day, and the text after its month
+abbrev pub ranged_day : Profile → DateRecord → Text → Text → Read Placed DateRecord
+ranged_day profile date after_month rest =
     if nat_le 1 date.month && nat_le date.month 12 then lone_day_in_range error_of profile date.month date.day rest
-    else Err InvalidMonthRange
+    else Err (InvalidMonthRange, after_month)
 
 -- whether two hyphens stand in front
 abbrev pub marks_place : Text → Bool
 marks_place text = hyphen (byte_place 0 text) && hyphen (byte_place 1 text)
 
 -- a month-day, without the hyphens that may stand before its month
-abbrev pub unmarked_at : Profile → Text → Read Fault DateRecord
+abbrev pub unmarked_at : Profile → Text → Read Placed DateRecord
 unmarked_at profile text = do
   ds ← digits_at error_of (of_month_day month_day_month_digits) 2 text
   month ← lone_month_in_range error_of ds

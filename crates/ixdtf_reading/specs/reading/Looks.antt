@@ -9,10 +9,10 @@ use Rattle.ixdtf_grammar.specs.language.Digits.{decimal}
 use Rattle.ixdtf_grammar.specs.table.Faults.{Fault}
 use Rattle.ixdtf_grammar.specs.table.Faults.Fault.{NonAsciiCodePoint}
 use Rattle.ixdtf_grammar.specs.table.LineNames.{LineName}
-use Rattle.ixdtf_grammar.specs.table.Lines.{Line, Ending, line_of, always, abrupt_digit}
+use Rattle.ixdtf_grammar.specs.table.Lines.{Line, Ending, line_of, abrupt_digit}
 use Rattle.ixdtf_grammar.specs.table.Lines.Line.{line, scanned, whole}
 use Rattle.ixdtf_grammar.specs.table.Lines.Ending.{ok, error}
-use Rattle.ixdtf_grammar.specs.table.Rows.{Row, Place}
+use Rattle.ixdtf_grammar.specs.table.Rows.{Row, Place, left_at}
 use Rattle.ixdtf_grammar.specs.table.Rows.Place.{end, other, bad, anywhere}
 
 -- a value and the text after it, or a fault
@@ -27,68 +27,96 @@ abbrev pub ◌>>=◌ : {E A B : Type 0} → Result A E → (A → Result B E) �
 abbrev pub row_of : LineName → Place → Fault → Row
 row_of name place fault = record { name = name; place = place; error = fault }
 
--- the fault is a row's error
-abbrev pub error_of : Row → Fault
-error_of row = row.error
+-- an error, and what the text has from its place on
+abbrev pub Placed : Type 0
+Placed = Fault × Text
 
--- one look: the letters that go on, and the faults at the end, at another letter and at Bad
+-- an error before a text, whatever the letter
+abbrev pub before : Fault → Text → Placed
+before fault text = (fault, text)
+
+abbrev pub always_before : Fault → ℕ → Text → Placed
+always_before fault c text = (fault, text)
+
+abbrev pub end_before : Option Fault → Text → Option Placed
+end_before None text = None
+end_before (Some fault) text = Some (fault, text)
+
+-- the fault is a row's error, with what the text has from its place on
+abbrev pub error_of : Row → Placed
+error_of row = (row.error, left_at row.place)
+
+-- one look: the letters that go on, and in a text the faults at its end, at another letter and at Bad
 pub record Look (E : Type 0) : Type 0 where
   pub goes_on : Class
-  pub at_end : Option E
-  pub at_other : ℕ → E
-  pub at_bad : E
+  pub at_end : Text → Option E
+  pub at_other : ℕ → Text → E
+  pub at_bad : Text → E
 
-abbrev pub end_of : {E : Type 0} → (Row → E) → LineName → Ending → Option E
-end_of fault name ok = None
-end_of fault name (error e) = Some (fault (row_of name end e))
+abbrev pub end_of : {E : Type 0} → (Row → E) → LineName → Ending → Text → Option E
+end_of fault name ok text = None
+end_of fault name (error e) text = Some (fault (row_of name (end text) e))
 
 abbrev pub look_of : {E : Type 0} → (Row → E) → LineName → Line → Look E
 look_of fault name (line front goes_on at_end at_other) = record {
   goes_on = goes_on;
   at_end = end_of fault name at_end;
-  at_other = λ c. fault (row_of name other (at_other c));
-  at_bad = fault (row_of name bad NonAsciiCodePoint);
+  at_other = λ c text. fault (row_of name (other text) (at_other c));
+  at_bad = λ text. fault (row_of name (bad text) NonAsciiCodePoint);
 }
 look_of fault name (scanned front e) = record {
   goes_on = any;
-  at_end = Some (fault (row_of name end e));
-  at_other = λ c. fault (row_of name other e);
-  at_bad = fault (row_of name bad NonAsciiCodePoint);
+  at_end = λ text. Some (fault (row_of name (end text) e));
+  at_other = λ c text. fault (row_of name (other text) e);
+  at_bad = λ text. fault (row_of name (bad text) NonAsciiCodePoint);
 }
 look_of fault name (whole front e) = record {
   goes_on = none;
-  at_end = Some (fault (row_of name anywhere e));
-  at_other = λ c. fault (row_of name anywhere e);
-  at_bad = fault (row_of name anywhere e);
+  at_end = λ text. Some (fault (row_of name (anywhere text) e));
+  at_other = λ c text. fault (row_of name (anywhere text) e);
+  at_bad = λ text. fault (row_of name (anywhere text) e);
 }
 
 -- the look that a line inside a part asks for: it is the same in each reader
 abbrev pub look_at_line : {E : Type 0} → (Row → E) → LineName → Look E
 look_at_line fault name = look_of fault name (line_of true name)
 
--- the look for a digit, with the error at another letter
-abbrev pub digit_look : Fault → Look Fault
-digit_look fault = record { goes_on = digit; at_end = Some abrupt_digit; at_other = always fault; at_bad = NonAsciiCodePoint }
+-- the look for letters of the class, with the errors at the end and at another letter
+abbrev pub look_for : Class → Option Fault → Fault → Look Placed
+look_for class at_end fault = record {
+  goes_on = class;
+  at_end = end_before at_end;
+  at_other = always_before fault;
+  at_bad = before NonAsciiCodePoint;
+}
 
--- the next letter, or nothing at the end
+-- the look for a digit, with the error at another letter
+abbrev pub digit_look : Fault → Look Placed
+digit_look fault = look_for digit (Some abrupt_digit) fault
+
+-- the next letter, or nothing at the end, where Bad is this fault
 unfoldable pub look_at : {E : Type 0} → E → Text → Result (Option ℕ) E
 look_at at_bad [] = Ok None
 look_at at_bad (Bad ∷ rest) = Err at_bad
 look_at at_bad (Plain c ∷ rest) = Ok (Some c)
+
+-- the next letter, as the code looks at it
+abbrev pub seen : Text → Result (Option ℕ) Placed
+seen text = look_at (NonAsciiCodePoint, text) text
 
 abbrev pub missing : {E A : Type 0} → Option E → E → Result A E
 missing None at_bad = Err at_bad
 missing (Some e) at_bad = Err e
 
 abbrev pub needed : {E : Type 0} → Look E → Option ℕ → Text → Read E ℕ
-needed l None rest = missing l.at_end l.at_bad
-needed l (Some c) rest = if l.goes_on c then Ok (c, rest) else Err (l.at_other c)
+needed l None text = missing (l.at_end text) (l.at_bad text)
+needed l (Some c) text = if l.goes_on c then Ok (c, drop 1 text) else Err (l.at_other c text)
 
 -- the next letter, taken off where the line goes on with it
 unfoldable pub next_by : {E : Type 0} → Look E → Text → Read E ℕ
 next_by l text = do
-  next ← look_at l.at_bad text
-  needed l next (drop 1 text)
+  next ← look_at (l.at_bad text) text
+  needed l next text
 
 abbrev pub letter_at : {E : Type 0} → (Row → E) → LineName → Text → Read E ℕ
 letter_at fault name text = next_by (look_at_line fault name) text
@@ -110,11 +138,11 @@ number_of (Err e) = Err e
 -- where the text may end: nothing, or the next letter, taken off
 abbrev pub peeked : {E : Type 0} → Look E → Option ℕ → Text → Read E (Option ℕ)
 peeked l None text = Ok (None, text)
-peeked l (Some c) text = if l.goes_on c then Ok (Some c, drop 1 text) else Err (l.at_other c)
+peeked l (Some c) text = if l.goes_on c then Ok (Some c, drop 1 text) else Err (l.at_other c text)
 
 unfoldable pub peek_by : {E : Type 0} → Look E → Text → Read E (Option ℕ)
 peek_by l text = do
-  next ← look_at l.at_bad text
+  next ← look_at (l.at_bad text) text
   peeked l next text
 
 -- a letter of the class is taken off and read on from; else reading stays
@@ -122,8 +150,8 @@ abbrev pub chosen : {E A : Type 0} → Class → (ℕ → Text → Result A E) �
 chosen class go stay None text = stay text
 chosen class go stay (Some c) text = if class c then go c (drop 1 text) else stay text
 
-abbrev pub on_next : {E A : Type 0} → E → Class → (ℕ → Text → Result A E) → (Text → Result A E) → Text → Result A E
-on_next at_bad class go stay text = look_at at_bad text >>= λ next. chosen class go stay next text
+abbrev pub on_next : {E A : Type 0} → (Text → E) → Class → (ℕ → Text → Result A E) → (Text → Result A E) → Text → Result A E
+on_next at_bad class go stay text = look_at (at_bad text) text >>= λ next. chosen class go stay next text
 
 -- whether a mark stands where the line goes on with it or without it; it is taken off, and any other letter stays
 unfoldable pub mark_by : {E : Type 0} → Look E → Class → Text → Read E Bool
@@ -135,17 +163,17 @@ abbrev pub mark_at : {E : Type 0} → (Row → E) → LineName → Class → Tex
 mark_at fault name mark text = mark_by (look_at_line fault name) mark text
 
 -- a number that is at most the greatest of its place
-unfoldable pub in_range : {E : Type 0} → ℕ → E → Text × Text → Read E ℕ
-in_range greatest fault ds = if nat_le (decimal ds.0) greatest then Ok (decimal ds.0, ds.1) else Err fault
+unfoldable pub in_range : {E : Type 0} → ℕ → (Text → E) → Text × Text → Read E ℕ
+in_range greatest fault ds = if nat_le (decimal ds.0) greatest then Ok (decimal ds.0, ds.1) else Err (fault ds.1)
 
 -- two digits, whose number is at most the greatest of its place
-unfoldable pub number_by : {E : Type 0} → Look E → ℕ → E → Text → Read E ℕ
+unfoldable pub number_by : {E : Type 0} → Look E → ℕ → (Text → E) → Text → Read E ℕ
 number_by l greatest past text = digits_by l 2 text >>= in_range greatest past
 
 -- all the digits in front, and the text after them
-unfoldable pub digit_run : {E : Type 0} → E → Text → Read E Text
+unfoldable pub digit_run : {E : Type 0} → (Text → E) → Text → Read E Text
 digit_run at_bad [] = Ok ([], [])
-digit_run at_bad (Bad ∷ rest) = Err at_bad
+digit_run at_bad (Bad ∷ rest) = Err (at_bad (Bad ∷ rest))
 digit_run at_bad (Plain c ∷ rest) =
     if digit c then (digit_run at_bad rest >>= λ more. Ok (Plain c ∷ more.0, more.1)) else Ok ([], Plain c ∷ rest)
 

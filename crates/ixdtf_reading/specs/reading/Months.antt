@@ -1,5 +1,5 @@
 -- Reading a year-month, and a month-day.
-use Rattle.std.specs.Prelude.{ℕ, Bool, true, false, ◌&&◌, Ok, Err, nat_le, if◌then◌else◌, pos}
+use Rattle.std.specs.Prelude.{[], ℕ, Bool, true, false, ◌&&◌, Ok, Err, nat_le, if◌then◌else◌, pos}
 use Rattle.ixdtf_grammar.specs.declared.profile.Profile.{Profile}
 use Rattle.ixdtf_grammar.specs.declared.records.DateRecord.{DateRecord}
 use Rattle.ixdtf_grammar.specs.language.Letters.{Text, hyphen}
@@ -33,13 +33,13 @@ marks_at fault text = do
 unfoldable pub lone_month_in_range : {E : Type 0} → (Row → E) → Text × Text → Read E ℕ
 lone_month_in_range fault ds =
     if nat_le 1 (decimal ds.0) && nat_le (decimal ds.0) 12 then Ok (decimal ds.0, ds.1)
-    else Err (fault (row_of (of_month_day month_day_month_range) anywhere InvalidMonthRange))
+    else Err (fault (row_of (of_month_day month_day_month_range) (anywhere ds.1) InvalidMonthRange))
 
 -- the month-day, where the day is in the month
 unfoldable pub lone_day_in_range : {E : Type 0} → (Row → E) → Profile → ℕ → ℕ → Text → Read E DateRecord
 lone_day_in_range fault profile month day rest =
     if nat_le (least_day profile) day && nat_le day (greatest_day month) then Ok (date_of (pos 0) month day, rest)
-    else Err (fault (row_of (of_month_day (month_day_range profile)) anywhere InvalidMonthDay))
+    else Err (fault (row_of (of_month_day (month_day_range profile)) (anywhere rest) InvalidMonthDay))
 
 -- after a month
 unfoldable pub lone_day_at : {E : Type 0} → (Row → E) → Profile → ℕ → Text → Read E DateRecord
@@ -60,6 +60,11 @@ month_day_at fault profile text = do
 abbrev pub is_read : {E A : Type 0} → Read E A → Bool
 is_read (Ok x) = true
 is_read (Err e) = false
+
+-- the text after what was read
+abbrev pub left_by : {E A : Type 0} → Read E A → Text
+left_by (Ok x) = x.1
+left_by (Err e) = []
 
 -- a month-day stands in front of the text
 abbrev pub month_day_begins : Profile → Text → Bool

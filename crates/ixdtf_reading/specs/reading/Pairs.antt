@@ -22,11 +22,11 @@ use Rattle.ixdtf_reading.specs.reading.Zones.{with_letter}
 
 -- The letters of a key and the `=` after them.
 unfoldable pub key_run : {E : Type 0} → (Row → E) → Text → Read E (List ℕ)
-key_run fault [] = Err (fault (row_of (of_pair in_key) end AnnotationKeyValueSeparator))
-key_run fault (Bad ∷ rest) = Err (fault (row_of (of_pair in_key) bad NonAsciiCodePoint))
+key_run fault [] = Err (fault (row_of (of_pair in_key) (end []) AnnotationKeyValueSeparator))
+key_run fault (Bad ∷ rest) = Err (fault (row_of (of_pair in_key) (bad (Bad ∷ rest)) NonAsciiCodePoint))
 key_run fault (Plain c ∷ rest) =
     if key_char c then with_letter c (key_run fault rest)
-    else (if equals c then Ok ([], rest) else Err (fault (row_of (of_pair in_key) other AnnotationKeyChar)))
+    else (if equals c then Ok ([], rest) else Err (fault (row_of (of_pair in_key) (other (Plain c ∷ rest)) AnnotationKeyChar)))
 
 -- the line of a value, by how far reading of it is
 abbrev pub value_line : ValueState → PairLine
@@ -62,13 +62,13 @@ value_goes_on Stops = None
 
 -- The letters of a value and the `]` after them.
 unfoldable pub value_run : {E : Type 0} → (Row → E) → ValueState → Text → Read E (List ℕ)
-value_run fault state [] = Err (fault (row_of (of_pair (value_line state)) end (value_end state)))
-value_run fault state (Bad ∷ rest) = Err (fault (row_of (of_pair (value_line state)) bad NonAsciiCodePoint))
+value_run fault state [] = Err (fault (row_of (of_pair (value_line state)) (end []) (value_end state)))
+value_run fault state (Bad ∷ rest) = Err (fault (row_of (of_pair (value_line state)) (bad (Bad ∷ rest)) NonAsciiCodePoint))
 value_run fault state (Plain c ∷ rest) =
     elim (value_step state c) [
       | GoesOn next ↦ with_letter c (value_run fault next rest)
       | Ends ↦ Ok ([], rest)
-      | Stops ↦ Err (fault (row_of (of_pair (value_line state)) other (value_other state)))
+      | Stops ↦ Err (fault (row_of (of_pair (value_line state)) (other (Plain c ∷ rest)) (value_other state)))
     ]
 
 -- a key, `=`, a value and `]`, as a pair with the flag

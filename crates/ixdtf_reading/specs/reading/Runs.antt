@@ -5,9 +5,8 @@ use Rattle.ixdtf_reading.specs.declared.annotations.ValueState.{ValueState}
 use Rattle.ixdtf_reading.specs.declared.letters.Taken.{Taken as CodeTaken}
 use Rattle.ixdtf_grammar.specs.language.Letters.{Text, key_char}
 use Rattle.ixdtf_grammar.specs.language.Letters.Letter.{Plain, Bad}
-use Rattle.ixdtf_grammar.specs.table.Faults.{Fault}
 use Rattle.ixdtf_grammar.specs.table.Faults.Fault.{NonAsciiCodePoint}
-use Rattle.ixdtf_reading.specs.reading.Looks.{Read}
+use Rattle.ixdtf_reading.specs.reading.Looks.{Read, Placed}
 use Rattle.ixdtf_reading.specs.reading.Pairs.{value_step, value_goes_on}
 
 -- the letters that were taken off, where reading is after them, and the letter that does not go on
@@ -20,7 +19,7 @@ abbrev pub nothing_taken : {S : Type 0} → S → Option ℕ → Taken S
 nothing_taken state next = record { letters = []; state = state; next = next }
 
 -- one more letter in front
-abbrev pub one_more : {S : Type 0} → ℕ → Read Fault (Taken S) → Read Fault (Taken S)
+abbrev pub one_more : {S : Type 0} → ℕ → Read Placed (Taken S) → Read Placed (Taken S)
 one_more c (Ok x) = Ok (record { letters = c ∷ x.0.letters; state = x.0.state; next = x.0.next }, x.1)
 one_more c (Err e) = Err e
 
@@ -30,9 +29,9 @@ on_letter None go stay = stay
 on_letter (Some next) go stay = go next
 
 -- The letters as far as they go.
-unfoldable pub letters_by : {S : Type 0} → (S → ℕ → Option S) → S → Text → Read Fault (Taken S)
+unfoldable pub letters_by : {S : Type 0} → (S → ℕ → Option S) → S → Text → Read Placed (Taken S)
 letters_by after state [] = Ok (nothing_taken state None, [])
-letters_by after state (Bad ∷ rest) = Err NonAsciiCodePoint
+letters_by after state (Bad ∷ rest) = Err (NonAsciiCodePoint, Bad ∷ rest)
 letters_by after state (Plain c ∷ rest) =
     on_letter (after state c) (λ next. one_more c (letters_by after next rest)) (Ok (nothing_taken state (Some c), Plain c ∷ rest))
 

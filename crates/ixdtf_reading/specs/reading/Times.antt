@@ -33,22 +33,22 @@ line_after clock seconds = of_clock clock after_second
 line_after clock fractions = of_clock clock after_fraction
 
 -- the fault at Bad, after a time of the shape
-abbrev pub bad_after : {E : Type 0} → (Row → E) → Clock → TimeShape → E
-bad_after fault clock shape = fault (row_of (line_after clock shape) bad NonAsciiCodePoint)
+abbrev pub bad_after : {E : Type 0} → (Row → E) → Clock → TimeShape → Text → E
+bad_after fault clock shape text = fault (row_of (line_after clock shape) (bad text) NonAsciiCodePoint)
 
--- the rows of numbers that are too great
-abbrev pub hour_past : Clock → Row
-hour_past clock = row_of (of_clock clock hour_range) anywhere TimeHour
+-- the rows of numbers that are too great, before this text
+abbrev pub hour_past : Clock → Text → Row
+hour_past clock left = row_of (of_clock clock hour_range) (anywhere left) TimeHour
 
-abbrev pub minute_past : Clock → Row
-minute_past clock = row_of (of_clock clock minute_range) anywhere TimeMinuteSecond
+abbrev pub minute_past : Clock → Text → Row
+minute_past clock left = row_of (of_clock clock minute_range) (anywhere left) TimeMinuteSecond
 
-abbrev pub second_past : Clock → Row
-second_past clock = row_of (of_clock clock second_range) anywhere (second_fault clock)
+abbrev pub second_past : Clock → Text → Row
+second_past clock left = row_of (of_clock clock second_range) (anywhere left) (second_fault clock)
 
 -- two digits of the line, or the row of a number that is too great
-abbrev pub number_at : {E : Type 0} → (Row → E) → LineName → ℕ → Row → Text → Read E ℕ
-number_at fault name greatest past text = number_by (look_at_line fault name) greatest (fault past) text
+abbrev pub number_at : {E : Type 0} → (Row → E) → LineName → ℕ → (Text → Row) → Text → Read E ℕ
+number_at fault name greatest past text = number_by (look_at_line fault name) greatest (λ left. fault (past left)) text
 
 -- after a decimal mark
 unfoldable pub fraction_at : {E : Type 0} → (Row → E) → Clock → Text → Read E FractionParts
@@ -78,15 +78,15 @@ second_start true = colon
 second_start false = digit
 
 -- the fault at a colon or a digit that does not go on
-abbrev pub mixed_after : {E : Type 0} → (Row → E) → Clock → TimeShape → E
-mixed_after fault clock shape = fault (row_of (line_after clock shape) other (mixed clock))
+abbrev pub mixed_after : {E : Type 0} → (Row → E) → Clock → TimeShape → Text → E
+mixed_after fault clock shape text = fault (row_of (line_after clock shape) (other text) (mixed clock))
 
 -- the colon is taken off, and a digit stays
 unfoldable pub after_minute_at : {E : Type 0} → (Row → E) → Clock → Bool → ℕ → ℕ → Text → Read E OpenTime
 after_minute_at fault clock colons hour minute text = on_next (bad_after fault clock (minutes_shape colons)) (seconds_after clock (second_start colons))
     (λ c rest. second_at fault clock hour minute (if colons then rest else text))
     (on_next (bad_after fault clock (minutes_shape colons)) (colon or digit)
-    (λ c rest. Err (mixed_after fault clock (minutes_shape colons)))
+    (λ c rest. Err (mixed_after fault clock (minutes_shape colons) text))
     (λ rest. Ok ((minutes_shape colons, time_of hour minute 0 None), rest))) text
 
 unfoldable pub minute_at : {E : Type 0} → (Row → E) → Clock → Bool → ℕ → Text → Read E OpenTime
@@ -103,7 +103,7 @@ after_hour_at fault clock hour text = on_next (bad_after fault clock hours) colo
 unfoldable pub hour_from : {E : Type 0} → (Row → E) → Clock → ℕ → Text → Read E OpenTime
 hour_from fault clock tens text = do
   ones ← digits_at fault (of_clock clock hour_digit) 1 text
-  hour ← in_range 23 (fault (hour_past clock)) (Plain tens ∷ ones.0, ones.1)
+  hour ← in_range 23 (λ left. fault (hour_past clock left)) (Plain tens ∷ ones.0, ones.1)
   after_hour_at fault clock hour.0 hour.1
 
 unfoldable pub clock_at : {E : Type 0} → (Row → E) → Clock → Text → Read E OpenTime

@@ -26,7 +26,7 @@ abbrev pub follow_look : {E : Type 0} → (Row → E) → Bool → Clock → Ope
 follow_look fault brackets clock time = record {
   goes_on = (follow_of brackets clock).letters;
   at_end = end_of fault (line_after clock time.0) (follow_of brackets clock).at_end;
-  at_other = λ c. fault (row_of (line_after clock time.0) other (follow_of brackets clock).at_other);
+  at_other = λ c text. fault (row_of (line_after clock time.0) (other text) (follow_of brackets clock).at_other);
   at_bad = bad_after fault clock time.0;
 }
 
@@ -53,20 +53,20 @@ name_stops after_slash false text = Err after_slash
 
 -- The letters of a name as far as they go: it may end here, or a slash stands before.
 unfoldable pub name_run : {E : Type 0} → (Row → E) → Bool → Text → Read E (List ℕ)
-name_run fault may_end [] = name_stops (fault (row_of (of_zone after_zone_slash) end IanaCharPostSeparator)) may_end []
-name_run fault may_end (Bad ∷ rest) = Err (fault (row_of (name_line may_end) bad NonAsciiCodePoint))
+name_run fault may_end [] = name_stops (fault (row_of (of_zone after_zone_slash) (end []) IanaCharPostSeparator)) may_end []
+name_run fault may_end (Bad ∷ rest) = Err (fault (row_of (name_line may_end) (bad (Bad ∷ rest)) NonAsciiCodePoint))
 name_run fault may_end (Plain c ∷ rest) =
     if zone_char c then with_letter c (name_run fault true rest)
     else (if slash c && may_end then with_letter c (name_run fault false rest)
-    else name_stops (fault (row_of (of_zone after_zone_slash) other IanaCharPostSeparator)) may_end (Plain c ∷ rest))
+    else name_stops (fault (row_of (of_zone after_zone_slash) (other (Plain c ∷ rest)) IanaCharPostSeparator)) may_end (Plain c ∷ rest))
 
 -- the look at what follows a name, in a bracket or where it stands alone, where the letters of the class go on
 abbrev pub name_look : {E : Type 0} → (Row → E) → Bool → Class → Look E
 name_look fault in_bracket class = record {
   goes_on = class;
   at_end = end_of fault (of_zone in_zone_name) (zone_end in_bracket);
-  at_other = λ c. fault (row_of (of_zone in_zone_name) other (zone_other in_bracket c));
-  at_bad = fault (row_of (of_zone in_zone_name) bad NonAsciiCodePoint);
+  at_other = λ c text. fault (row_of (of_zone in_zone_name) (other text) (zone_other in_bracket c));
+  at_bad = λ text. fault (row_of (of_zone in_zone_name) (bad text) NonAsciiCodePoint);
 }
 
 -- ---- texts that are an offset or a zone

@@ -8,12 +8,12 @@ use Rattle.ixdtf_grammar.specs.declared.records.DateRecord.{DateRecord}
 use Rattle.ixdtf_reading.specs.declared.stop.Stop.{Stop}
 use Rattle.ixdtf_grammar.specs.Views.{Unread}
 use Rattle.ixdtf_grammar.specs.table.Faults.{Fault}
-use Rattle.ixdtf_reading.specs.reading.Clauses.{Reads, Yields}
+use Rattle.ixdtf_reading.specs.reading.Clauses.{YieldsAt}
 use Rattle.ixdtf_grammar.specs.language.Letters.{Letter, Text, digit, hyphen}
 use Rattle.ixdtf_grammar.specs.language.Letters.Letter.{Plain, Bad}
 use Rattle.ixdtf_grammar.specs.language.Digits.{decimal}
 use Rattle.ixdtf_reading.specs.reading.Dates.{date_of, year_at, four_digit_year_at, month_in_range, month_by}
-use Rattle.ixdtf_reading.specs.reading.Looks.{Read, error_of, look_at, next_by, mark_by, digits_by}
+use Rattle.ixdtf_reading.specs.reading.Looks.{Placed, Read, error_of, look_at, next_by, mark_by, digits_by}
 use Rattle.ixdtf_reading.specs.reading.Months.{year_month_at, marks_at, month_day_at, lone_month_in_range, lone_day_at}
 use Rattle.ixdtf_reading.specs.reading.FixedPlaces.{first_byte, byte_place, number_place, year_place, month_of_year_place}
 use Rattle.ixdtf_reading.specs.reading.FixedPlaces.{day_of_month_place, ranged_month, ranged_day, marks_place, unmarked_at}
@@ -105,14 +105,15 @@ four m n p q = date_of (pos 0) (decimal (Plain m ∷ Plain n ∷ [])) (decimal (
 
 hyphened_day_read : (profile : Profile) (m n p q : ℕ) (more : Text) → IsTrue (digit m) → IsTrue (digit n) → IsTrue (digit p) → IsTrue (digit q)
     → (t : Bool) → is_month (decimal (Plain m ∷ Plain n ∷ [])) ≡ t
-    → unmarked_at profile (Plain m ∷ Plain n ∷ Plain 45 ∷ Plain p ∷ Plain q ∷ more) ≡ ranged_day profile (four m n p q) more
+    → unmarked_at profile (Plain m ∷ Plain n ∷ Plain 45 ∷ Plain p ∷ Plain q ∷ more)
+    ≡ ranged_day profile (four m n p q) (Plain 45 ∷ Plain p ∷ Plain q ∷ more) more
 unfolding lone_month_in_range lone_day_at mark_by digits_by next_by look_at
 hyphened_day_read profile m n p q more em en ep eq true is = rw (em, en, is, ep, eq) refl
 hyphened_day_read profile m n p q more em en ep eq false is = rw (em, en, is) refl
 
 basic_day_read : (profile : Profile) (m n p q : ℕ) (more : Text) → IsTrue (digit m) → IsTrue (digit n) → IsTrue (digit p) → IsTrue (digit q)
     → (t : Bool) → is_month (decimal (Plain m ∷ Plain n ∷ [])) ≡ t
-    → unmarked_at profile (Plain m ∷ Plain n ∷ Plain p ∷ Plain q ∷ more) ≡ ranged_day profile (four m n p q) more
+    → unmarked_at profile (Plain m ∷ Plain n ∷ Plain p ∷ Plain q ∷ more) ≡ ranged_day profile (four m n p q) (Plain p ∷ Plain q ∷ more) more
 unfolding lone_month_in_range lone_day_at mark_by digits_by next_by look_at
 basic_day_read profile m n p q more em en ep eq true is = rw (em, en, is, ep, digit_no_hyphen p ep, digit_no_hyphen p ep, ep, eq) refl
 basic_day_read profile m n p q more em en ep eq false is = rw (em, en, is) refl
@@ -132,7 +133,7 @@ day_of_month month place text date e next =
 -- a month, a hyphen and a day that are found are read
 pub hyphened_day_is_read : (profile : Profile) (text : Text) (start month : ℕ) (date : DateRecord) → number_place start text ≡ Some month
     → IsTrue (hyphen (byte_place (start + 2) text)) → day_of_month_place month (start + 3) text ≡ Some date
-    → unmarked_at profile (drop start text) ≡ ranged_day profile date (drop (start + 5) text)
+    → unmarked_at profile (drop start text) ≡ ranged_day profile date (drop (start + 2) text) (drop (start + 5) text)
 hyphened_day_is_read profile text start month date months mark days =
     let m = number_at_place start text month months in
     day_of_month month (start + 3) text date days λ day d is_date.
@@ -140,25 +141,32 @@ hyphened_day_is_read profile text start month date months mark days =
     let second : suc (suc start) ≡ start + 2 = omega arith in
     let third : suc (start + 2) ≡ start + 3 = omega arith in
     let fifth : suc (suc (start + 3)) ≡ start + 5 = omega arith in
+    let behind : drop (start + 2) text ≡ Plain 45 ∷ Plain d.a ∷ Plain d.b ∷ drop (start + 5) text =
+    hyphens ∙ onto 45 (ap (λ p. drop p text) third ∙ over_two d (ap (λ p. drop p text) fifth)) in
     let whole : drop start text ≡ Plain m.a ∷ Plain m.b ∷ Plain 45 ∷ Plain d.a ∷ Plain d.b ∷ drop (start + 5) text =
-    over_two m (ap (λ p. drop p text) second ∙ hyphens ∙ onto 45 (ap (λ p. drop p text) third ∙ over_two d (ap (λ p. drop p text) fifth))) in
+    over_two m (ap (λ p. drop p text) second ∙ behind) in
     ap (unmarked_at profile) whole
     ∙ hyphened_day_read profile m.a m.b d.a d.b (drop (start + 5) text) m.is_a m.is_b d.is_a d.is_b (is_month (decimal (Plain m.a ∷ Plain m.b ∷ []))) refl
-    ∙ ap (λ x. ranged_day profile x (drop (start + 5) text)) (same_day month day _ _ date is_date m.value d.value)
+    ∙ ap (λ x. ranged_day profile x (Plain 45 ∷ Plain d.a ∷ Plain d.b ∷ drop (start + 5) text) (drop (start + 5) text))
+    (same_day month day _ _ date is_date m.value d.value)
+    ∙ ap (λ t. ranged_day profile date t (drop (start + 5) text)) (sym behind)
 
 -- and so are a month and a day without a hyphen
 pub basic_day_is_read : (profile : Profile) (text : Text) (start month : ℕ) (date : DateRecord) → number_place start text ≡ Some month
-    → day_of_month_place month (start + 2) text ≡ Some date → unmarked_at profile (drop start text) ≡ ranged_day profile date (drop (start + 4) text)
+    → day_of_month_place month (start + 2) text ≡ Some date
+    → unmarked_at profile (drop start text) ≡ ranged_day profile date (drop (start + 2) text) (drop (start + 4) text)
 basic_day_is_read profile text start month date months days =
     let m = number_at_place start text month months in
     day_of_month month (start + 2) text date days λ day d is_date.
     let second : suc (suc start) ≡ start + 2 = omega arith in
     let fourth : suc (suc (start + 2)) ≡ start + 4 = omega arith in
+    let behind : drop (start + 2) text ≡ Plain d.a ∷ Plain d.b ∷ drop (start + 4) text = over_two d (ap (λ p. drop p text) fourth) in
     let whole : drop start text ≡ Plain m.a ∷ Plain m.b ∷ Plain d.a ∷ Plain d.b ∷ drop (start + 4) text =
-    over_two m (ap (λ p. drop p text) second ∙ over_two d (ap (λ p. drop p text) fourth)) in
+    over_two m (ap (λ p. drop p text) second ∙ behind) in
     ap (unmarked_at profile) whole
     ∙ basic_day_read profile m.a m.b d.a d.b (drop (start + 4) text) m.is_a m.is_b d.is_a d.is_b (is_month (decimal (Plain m.a ∷ Plain m.b ∷ []))) refl
-    ∙ ap (λ x. ranged_day profile x (drop (start + 4) text)) (same_day month day _ _ date is_date m.value d.value)
+    ∙ ap (λ x. ranged_day profile x (Plain d.a ∷ Plain d.b ∷ drop (start + 4) text) (drop (start + 4) text)) (same_day month day _ _ date is_date m.value d.value)
+    ∙ ap (λ t. ranged_day profile date t (drop (start + 4) text)) (sym behind)
 
 -- two hyphens in front are taken off
 pub marked_is_read : (profile : Profile) (text : Text) → IsTrue (marks_place text) → month_day_at error_of profile text ≡ unmarked_at profile (drop 2 text)
@@ -187,13 +195,12 @@ first_digit text start month e =
     let m = number_at_place start text month e in
     subst (λ t. IsTrue (digit (first_byte t))) (sym m.is) m.is_a
 
--- and so is what the test of a year-month or a month-day returns
-pub reads_tested : (letter : ℕ → Letter) (old new : Unread) (result : Result DateRecord Stop) (of tested : Text → Read Fault DateRecord)
-    → of (map letter old.rest) ≡ tested (map letter new.rest) → Yields (λ d. (d, map letter new.rest)) result (tested (map letter new.rest))
-    → Reads letter (λ d. d) old result new of
-reads_tested letter old new (Ok x) of tested read is = read ∙ is
-reads_tested letter old new (Err stop) of tested read is = read ∙ is
-
 pub on_both : {A : Type 0} (found : Option A) {P R Q : A → Type 0} → ((x : A) → P x → R x → Q x) → IfSome found P → IfSome found R → IfSome found Q
 on_both None go is also = is
 on_both (Some x) go is also = go x is also
+
+-- what was returned of a reading is what was returned of another that gives the same
+pub yields_as : {X Y : Type 0} (view : X → Y) (result : Result X Stop) (left : Text) (wanted wanted' : Result Y Placed) → wanted' ≡ wanted
+    → YieldsAt view result left wanted → YieldsAt view result left wanted'
+yields_as view (Ok x) left wanted wanted' same is = same ∙ is
+yields_as view (Err stop) left wanted wanted' same is = same ∙ is

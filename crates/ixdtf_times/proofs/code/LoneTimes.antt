@@ -8,7 +8,7 @@ use Rattle.ixdtf_grammar.specs.Views.{Unread}
 use Rattle.ixdtf_grammar.specs.language.Letters.{Letter, Text, ◌or◌, digit, sign, hyphen, time_letter}
 use Rattle.ixdtf_grammar.specs.table.Faults.{Fault}
 use Rattle.ixdtf_grammar.specs.table.Faults.Fault.{NonAsciiCodePoint}
-use Rattle.ixdtf_reading.specs.reading.Looks.{Read, ◌>>=◌, error_of, look_at, next_by, mark_by}
+use Rattle.ixdtf_reading.specs.reading.Looks.{Read, Placed, ◌>>=◌, error_of, look_at, seen, next_by, mark_by}
 use Rattle.ixdtf_reading.specs.reading.Brackets.{next_is}
 use Rattle.ixdtf_reading.specs.reading.Dates.{year_at}
 use Rattle.ixdtf_reading.specs.reading.Months.{year_month_at, marks_at, month_day_at, year_month_begins, month_day_begins}
@@ -21,7 +21,7 @@ ok_again (Ok x) = refl
 ok_again (Err e) = refl
 
 -- what was read of one text is what is read so of another
-pub reads_as : {X Y : Type 0} (letter : ℕ → Letter) (view : X → Y) (old old' new : Unread) (result : Result X Stop) (reading reading' : Text → Read Fault Y)
+pub reads_as : {X Y : Type 0} (letter : ℕ → Letter) (view : X → Y) (old old' new : Unread) (result : Result X Stop) (reading reading' : Text → Read Placed Y)
     → reading' (map letter old'.rest) ≡ reading (map letter old.rest) → Reads letter view old result new reading → Reads letter view old' result new reading'
 reads_as letter view old old' new (Ok x) reading reading' e is = e ∙ is
 reads_as letter view old old' new (Err stop) reading reading' e is = e ∙ is
@@ -32,7 +32,7 @@ no_month_day c is = grind (arith, nat_tests)
 no_year : (c : ℕ) → time_letter c ≡ true → (digit or sign) c ≡ false
 no_year c is = grind (arith, nat_tests)
 
-module _ (profile : Profile) (text : Text) (c : ℕ) (first : look_at NonAsciiCodePoint text ≡ Ok (Some c)) (marked : time_letter c ≡ true) where
+module _ (profile : Profile) (text : Text) (c : ℕ) (first : seen text ≡ Ok (Some c)) (marked : time_letter c ≡ true) where
   no_month_day_begins : month_day_begins profile text ≡ false
   unfolding month_day_at marks_at mark_by next_by
   no_month_day_begins = rw (first, no_month_day c marked) refl
@@ -47,7 +47,7 @@ module _ (profile : Profile) (text : Text) (c : ℕ) (first : look_at NonAsciiCo
   marked_is date none = rw (none, first, marked, no_month_day_begins, no_year_month_begins) (ok_again (timed_core_at None (drop 1 text)))
 
 -- any other is read from its start, and then its front
-pub unmarked_is : (profile : Profile) (text : Text) (next : Option ℕ) → look_at NonAsciiCodePoint text ≡ Ok next → next_is time_letter next ≡ false
+pub unmarked_is : (profile : Profile) (text : Text) (next : Option ℕ) → seen text ≡ Ok next → next_is time_letter next ≡ false
     → (date : Option DateRecord) → date ≡ None
     → time_alone_core_at error_of profile text ≡ timed_core_at date text >>= λ core. unfronted error_of profile text (Ok core)
 unfolding time_alone_core_at marked_core_at marked_time_at lone_time_at timed_core_at clock_at
@@ -55,7 +55,7 @@ unmarked_is profile text None first other date none = rw (none, first) refl
 unmarked_is profile text (Some c) first other date none = rw (none, first, other) refl
 
 -- where the first unit stands for no letter, nothing is read
-pub bad_is : (profile : Profile) (text : Text) (fault : Fault) → look_at NonAsciiCodePoint text ≡ Err fault
+pub bad_is : (profile : Profile) (text : Text) (fault : Placed) → seen text ≡ Err fault
     → time_alone_core_at error_of profile text ≡ Err fault
 unfolding time_alone_core_at marked_core_at marked_time_at
 bad_is profile text fault first = rw first refl

@@ -1,13 +1,12 @@
 -- The digits of years, by twos and threes.
 use Rattle.std.proofs.Common.{◌≡◌, ℕ, ◌+◌, ◌*◌, ◌-◌, pos, Ok, arith}
 use Rattle.ixdtf_grammar.specs.language.Letters.{Text}
-use Rattle.ixdtf_grammar.specs.table.Faults.{Fault}
 use Rattle.ixdtf_grammar.specs.table.Faults.Fault.{DateYear}
-use Rattle.ixdtf_reading.specs.reading.Looks.{Look, ◌>>=◌, error_of, number_of, digits_by, digit_look}
+use Rattle.ixdtf_reading.specs.reading.Looks.{Look, Placed, ◌>>=◌, error_of, number_of, digits_by, digit_look}
 use Rattle.ixdtf_reading.specs.reading.Dates.{four_digit_year_at}
 
 -- six digits are two, and two, and two more
-pub six_digits : (l : Look Fault) (text : Text)
+pub six_digits : (l : Look Placed) (text : Text)
     → number_of (digits_by l 6 text) ≡ (number_of (digits_by l 2 text) >>= λ high. number_of (digits_by l 2 high.1)
     >>= λ middle. number_of (digits_by l 2 middle.1) >>= λ low. Ok (10000 * high.0 + 100 * middle.0 + low.0, low.1))
 unfolding digits_by

@@ -101,6 +101,7 @@ fn parse_name_or_pair<'a, T: EncodingType>(
             value,
         }));
     }
+    let behind_key = cursor.rest();
     let more = take_letters(cursor, NameLetters { may_end: true })?;
     if more.state.may_end && ends_bracket(more.next) {
         let count = start.len() - cursor.rest().len();
@@ -110,7 +111,7 @@ fn parse_name_or_pair<'a, T: EncodingType>(
             tz: TimeZoneRecord::Name(&start[..count]),
         }));
     }
-    Err(refuse_bracket(cursor, more.state))
+    Err(refuse_bracket(cursor, behind_key, more.state))
 }
 
 /// The letters of a first bracket before an `=` or a `]`.
@@ -126,16 +127,26 @@ impl Letters for BracketLetters {
 }
 
 /// Why a first bracket is refused that is no name, after the letters of one: with an `=` before any `]` it is a pair, whose
-/// key does not go on.
+/// key does not go on. The cursor is left where the key or the name goes no further, or where the look ahead ended.
 #[cold]
-fn refuse_bracket<'a, T: EncodingType>(cursor: &mut Cursor<'a, T>, name: NameLetters) -> Stop {
+fn refuse_bracket<'a, T: EncodingType>(
+    cursor: &mut Cursor<'a, T>,
+    behind_key: &'a [T::CodeUnit],
+    name: NameLetters,
+) -> Stop {
+    let behind_name = cursor.rest();
     match take_letters(cursor, BracketLetters) {
         Err(stop) => stop,
         Ok(taken) => match taken.next {
             None => Stop::AbruptBracket,
-            Some(byte) if is_annotation_key_value_separator(byte) => Stop::AnnotationKeyChar,
-            Some(_) if name.may_end => Stop::IanaChar,
-            Some(_) => Stop::IanaCharPostSeparator,
+            Some(byte) if is_annotation_key_value_separator(byte) => {
+                *cursor = cursor.at(behind_key);
+                Stop::AnnotationKeyChar
+            }
+            Some(_) => {
+                *cursor = cursor.at(behind_name);
+                name.stop()
+            }
         },
     }
 }

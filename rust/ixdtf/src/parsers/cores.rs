@@ -151,8 +151,8 @@ fn parse_timed<'a, T: EncodingType>(
     parse_after_time(cursor, time, found)
 }
 
-/// Refuses a time whose text began as a month-day or as a year-month does. The cursor stays, and counts the looks that are
-/// made at the start.
+/// Refuses a time whose text began as a month-day or as a year-month does, with the cursor behind these. Otherwise it stays,
+/// and counts the looks that are made at the start.
 #[inline(always)]
 fn check_front<'a, T: EncodingType>(
     cursor: &mut Cursor<'a, T>,
@@ -161,15 +161,18 @@ fn check_front<'a, T: EncodingType>(
 ) -> Result<(), Stop> {
     let mut front = cursor.at(start);
     let month_day = parse_month_day_parts(&mut front, profile).is_ok();
+    let behind_month_day = front.rest();
     let mut again = front.at(start);
     let year_month = parse_year_month_parts(&mut again).is_ok();
-    cursor.count(again);
     if month_day {
+        *cursor = again.at(behind_month_day);
         return Err(Stop::AmbiguousTimeMonthDay);
     }
     if year_month {
+        *cursor = again;
         return Err(Stop::AmbiguousTimeYearMonth);
     }
+    cursor.count(again);
     Ok(())
 }
 

@@ -16,7 +16,7 @@ pub fn parse_date<'a, T: EncodingType>(cursor: &mut Cursor<'a, T>) -> Result<Dat
         return parse_short_date(cursor);
     }
     match take_fixed_date(cursor) {
-        Some(date) => check_ranges(date),
+        Some(read) => read,
         None => parse_other_date(cursor),
     }
 }
@@ -46,13 +46,6 @@ fn parse_any_date<'a, T: EncodingType>(cursor: &mut Cursor<'a, T>) -> Result<Dat
     let year = parse_date_year(cursor)?;
     let (month, hyphened) = parse_month(cursor, Stop::AbruptDate)?;
     parse_day(cursor, year, month, hyphened)
-}
-
-/// The date, where its month is one and has the day.
-#[inline(always)]
-fn check_ranges(date: DateRecord) -> Result<DateRecord, Stop> {
-    check_month(date.month)?;
-    check_date(date.year, date.month, date.day)
 }
 
 // ==== Years ====
@@ -219,7 +212,7 @@ pub fn check_month(month: u8) -> Result<u8, Stop> {
 
 /// The date, where its month has the day.
 #[inline(always)]
-fn check_date(year: i32, month: u8, day: u8) -> Result<DateRecord, Stop> {
+pub fn check_date(year: i32, month: u8, day: u8) -> Result<DateRecord, Stop> {
     if !has_day(year, month, day) {
         return Err(Stop::InvalidDayRange);
     }

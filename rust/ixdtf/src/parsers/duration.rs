@@ -2,12 +2,12 @@
 
 //! The reader of durations.
 
-use crate::ParserResult;
 use crate::encoding::{EncodingType, Utf8, Utf16};
 use crate::parsers::profile::Profile;
 use crate::records::{
     DateDurationRecord, DurationParseRecord, Fraction, Sign, TimeDurationRecord,
 };
+use crate::{LocatedError, ParserResult};
 use crate::cursor::Cursor;
 use crate::parsers::grammar::{
     is_ascii_sign, is_decimal_separator, is_duration_designator, is_time_designator,
@@ -107,11 +107,32 @@ impl<'a, T: EncodingType> IsoDurationParser<'a, T> {
         let read = parse_duration_text(&mut here, self.profile);
         self.cursor.settle(here, read)
     }
+
+    /// The same as [`parse`](Self::parse), with where the error stands: how many units stand before its place.
+    ///
+    /// At another letter and at a unit that stands for no letter that is its index, and at the end the length of what was to
+    /// be read. A number that is too great has its place behind the digit with which it is, or behind the letter of its years,
+    /// months or weeks, and a group that is out of order has it behind its letter.
+    ///
+    /// ```text
+    /// P1Y2X               Err(AbruptEnd) at 4, where the X stands
+    /// P1D1Y               Err(DateDurationPartOrder) at 5, behind the second group
+    /// PT                  Err(TimeDurationDesignator) at 2, the end
+    /// ```
+    ///
+    /// # Errors
+    ///
+    /// Those of [`parse`](Self::parse), each with its place.
+    pub fn parse_located(&mut self) -> Result<DurationParseRecord, LocatedError> {
+        let mut here = self.cursor.take();
+        let outcome = parse_duration_text(&mut here, self.profile);
+        self.cursor.settle(here, outcome)
+    }
 }
 
 // ==== Numbers ====
 
-/// A number, and the letter after it, which is no digit.
+/// A number, and the letter after it, which is no digit and is still to be taken off.
 #[derive(Clone, Copy)]
 struct Number {
     value: u64,
@@ -130,7 +151,7 @@ fn add_digit(value: u64, byte: u8) -> Result<u64, Stop> {
     }
 }
 
-/// Takes the other digits of a number off, and the letter after them. The end is this stop.
+/// Takes the other digits of a number off, and returns it with the letter after them, which stays. The end is this stop.
 #[inline(always)]
 fn parse_number<'a, T: EncodingType>(
     cursor: &mut Cursor<'a, T>,
@@ -139,11 +160,12 @@ fn parse_number<'a, T: EncodingType>(
 ) -> Result<Number, Stop> {
     let mut value = u64::from(first - b'0');
     while let Some(byte) = cursor.look()? {
-        cursor.step();
         if !byte.is_ascii_digit() {
             return Ok(Number { value, next: byte });
         }
-        value = add_digit(value, byte)?;
+        let grown = add_digit(value, byte);
+        cursor.step();
+        value = grown?;
     }
     Err(end)
 }
@@ -180,17 +202,23 @@ fn date_rank(letter: u8) -> u8 {
     DATE_RANKS[letter as usize]
 }
 
-/// The rank of a date group that may stand from this rank on, where its number is in the range of its unit.
+/// Takes the letter after a number off, which ends a date group, and returns the rank of its unit where the group may stand
+/// from this rank on and its number is in the range of the unit. A letter that ends none stays.
 #[inline(always)]
-fn check_date_rank(number: Number, least: u8) -> Result<u8, Stop> {
+fn take_date_unit<'a, T: EncodingType>(
+    cursor: &mut Cursor<'a, T>,
+    number: Number,
+    least: u8,
+) -> Result<u8, Stop> {
     let rank = date_rank(number.next);
     if rank < least {
-        return Err(if rank == 0 {
-            Stop::AbruptDateDesignator
-        } else {
-            Stop::DateDurationPartOrder
-        });
+        if rank == 0 {
+            return Err(Stop::AbruptDateDesignator);
+        }
+        cursor.skip(1);
+        return Err(Stop::DateDurationPartOrder);
     }
+    cursor.skip(1);
     if number.value > MOST_OF_LONG_UNITS && rank < 4 {
         return Err(Stop::DurationValueExceededRange);
     }
@@ -227,7 +255,7 @@ fn parse_dates<'a, T: EncodingType>(
     let mut digit = first;
     loop {
         let number = parse_number(cursor, digit, Stop::AbruptDateDesignator)?;
-        let rank = check_date_rank(number, least)?;
+        let rank = take_date_unit(cursor, number, least)?;
         values[rank as usize] = number.value;
         least = rank + profile.least_step();
         match cursor.look()? {
@@ -282,7 +310,7 @@ fn time_rank(letter: u8) -> u8 {
     TIME_RANKS[letter as usize]
 }
 
-/// A time group: a number, the part of a unit beyond it, and the letter after them.
+/// A time group: a number, the part of a unit beyond it, and the letter after them, which is still to be taken off.
 #[derive(Clone, Copy)]
 struct TimeGroup {
     value: u64,
@@ -290,17 +318,23 @@ struct TimeGroup {
     letter: u8,
 }
 
-/// The rank of a time group that may stand from this rank on.
+/// Takes the letter of a time group off, and returns the rank of its unit where the group may stand from this rank on. A
+/// letter that ends none stays.
 #[inline(always)]
-fn check_time_rank(letter: u8, least: u8) -> Result<u8, Stop> {
+fn take_time_unit<'a, T: EncodingType>(
+    cursor: &mut Cursor<'a, T>,
+    letter: u8,
+    least: u8,
+) -> Result<u8, Stop> {
     let rank = time_rank(letter);
     if rank < least {
-        return Err(if rank == 0 {
-            Stop::AbruptTimeDesignator
-        } else {
-            Stop::TimeDurationPartOrder
-        });
+        if rank == 0 {
+            return Err(Stop::AbruptTimeDesignator);
+        }
+        cursor.skip(1);
+        return Err(Stop::TimeDurationPartOrder);
     }
+    cursor.skip(1);
     Ok(rank)
 }
 
@@ -332,7 +366,7 @@ fn begins_time_group(byte: u8, fraction: Option<Fraction>) -> bool {
     byte.is_ascii_digit() && fraction.is_none()
 }
 
-/// Reads the digits of a fraction after its decimal mark, and the letter after them.
+/// Reads the digits of a fraction after its decimal mark, and returns them with the letter after them, which stays.
 #[inline(always)]
 fn parse_fraction_group<'a, T: EncodingType>(
     cursor: &mut Cursor<'a, T>,
@@ -341,18 +375,15 @@ fn parse_fraction_group<'a, T: EncodingType>(
     let fraction = parse_fraction(cursor)?;
     match cursor.look()? {
         None => Err(Stop::AbruptTimeDesignator),
-        Some(letter) => {
-            cursor.step();
-            Ok(TimeGroup {
-                value,
-                fraction: Some(fraction),
-                letter,
-            })
-        }
+        Some(letter) => Ok(TimeGroup {
+            value,
+            fraction: Some(fraction),
+            letter,
+        }),
     }
 }
 
-/// Reads a time group after its first digit. Its letter is not tested.
+/// Reads a time group after its first digit, up to its letter, which is not tested and stays.
 #[inline(always)]
 fn parse_time_group<'a, T: EncodingType>(
     cursor: &mut Cursor<'a, T>,
@@ -360,6 +391,7 @@ fn parse_time_group<'a, T: EncodingType>(
 ) -> Result<TimeGroup, Stop> {
     let number = parse_number(cursor, first, Stop::AbruptTimeDesignator)?;
     if is_decimal_separator(number.next) {
+        cursor.skip(1);
         return parse_fraction_group(cursor, number.value);
     }
     Ok(TimeGroup {
@@ -381,7 +413,7 @@ fn parse_time_groups<'a, T: EncodingType>(
     let mut digit = first;
     loop {
         let group = parse_time_group(cursor, digit)?;
-        let rank = check_time_rank(group.letter, least)?;
+        let rank = take_time_unit(cursor, group.letter, least)?;
         values[rank as usize] = group.value;
         least = rank + profile.least_step();
         match cursor.look()? {

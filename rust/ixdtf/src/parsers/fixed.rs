@@ -6,11 +6,14 @@
 //! The places are looked at in order, and nothing is taken off where one does not fit: the text is then read part by part,
 //! which finds the record or the fault.
 
-use crate::parsers::dates::has_day;
+use crate::parsers::dates::{check_date, check_month, has_day};
+use crate::parsers::months::check_month_day;
 use crate::encoding::EncodingType;
+use crate::parsers::profile::Profile;
 use crate::records::DateRecord;
 use crate::cursor::Cursor;
 use crate::parsers::grammar::{is_date_time_separator, is_hyphen, number_of};
+use crate::stop::Stop;
 
 /// A time to its second.
 #[derive(Clone, Copy)]
@@ -60,22 +63,39 @@ fn fixed_date<'a, T: EncodingType>(cursor: &mut Cursor<'a, T>) -> Option<DateRec
     fixed_days(cursor, year)
 }
 
-/// Takes off the date that stands at the first ten places, or at the eight of one without hyphens. It is `None`, with the
-/// rest unchanged, at the first place that does not fit. Its month and its day are not checked.
+/// Reads the date that stands at the first ten places, or at the eight of one without hyphens. It is `None`, with the rest
+/// unchanged, at the first place that does not fit.
 #[inline(always)]
-pub fn take_fixed_date<'a, T: EncodingType>(cursor: &mut Cursor<'a, T>) -> Option<DateRecord> {
+pub fn take_fixed_date<'a, T: EncodingType>(
+    cursor: &mut Cursor<'a, T>,
+) -> Option<Result<DateRecord, Stop>> {
     if cursor.remaining() < 8 {
         return None;
     }
     let year = fixed_year(cursor)?;
     if is_hyphen(cursor.byte_at(4)) {
         let date = fixed_days(cursor, year)?;
-        cursor.skip(10);
-        return Some(date);
+        return Some(take_date(cursor, date, 7, 10));
     }
     let date = fixed_basic_days(cursor, year)?;
-    cursor.skip(8);
-    Some(date)
+    Some(take_date(cursor, date, 6, 8))
+}
+
+/// Takes a date off, whose month and whose day end behind so many units. Where its month is none, what stands behind the
+/// month stays.
+#[inline(always)]
+fn take_date<'a, T: EncodingType>(
+    cursor: &mut Cursor<'a, T>,
+    date: DateRecord,
+    month_end: usize,
+    day_end: usize,
+) -> Result<DateRecord, Stop> {
+    if let Err(stop) = check_month(date.month) {
+        cursor.skip(month_end);
+        return Err(stop);
+    }
+    cursor.skip(day_end);
+    check_date(date.year, date.month, date.day)
 }
 
 /// The year at the first four places, or `None` where one of them is no digit.
@@ -206,15 +226,17 @@ fn fixed_month_of<'a, T: EncodingType>(
     })
 }
 
-/// Takes off the month-day that stands at its five places, or at the four of one without a hyphen, with two hyphens before
-/// it or none, as a date with year 0. It is `None`, with the rest unchanged, at the first place that does not fit. Its month
-/// and its day are not checked.
+/// Reads the month-day that stands at its five places, or at the four of one without a hyphen, with two hyphens before it or
+/// none, as a date with year 0. It is `None`, with the rest unchanged, at the first place that does not fit.
 #[inline(always)]
-pub fn take_fixed_month_day<'a, T: EncodingType>(cursor: &mut Cursor<'a, T>) -> Option<DateRecord> {
+pub fn take_fixed_month_day<'a, T: EncodingType>(
+    cursor: &mut Cursor<'a, T>,
+    profile: Profile,
+) -> Option<Result<DateRecord, Stop>> {
     if has_marks(cursor) {
-        return fixed_month_day(cursor, 2);
+        return fixed_month_day(cursor, profile, 2);
     }
-    fixed_month_day(cursor, 0)
+    fixed_month_day(cursor, profile, 0)
 }
 
 /// Whether two hyphens stand in front of four units or more.
@@ -223,13 +245,14 @@ fn has_marks<'a, T: EncodingType>(cursor: &mut Cursor<'a, T>) -> bool {
     cursor.remaining() >= 6 && is_hyphen(cursor.byte_at(0)) && is_hyphen(cursor.byte_at(1))
 }
 
-/// Takes off the month-day whose month stands at a place and the next, with what stands before it, or `None`, with the rest
-/// unchanged.
+/// Reads the month-day whose month stands at a place and the next, and takes off what stands before it too. It is `None`, with
+/// the rest unchanged, at the first place that does not fit.
 #[inline(always)]
 fn fixed_month_day<'a, T: EncodingType>(
     cursor: &mut Cursor<'a, T>,
+    profile: Profile,
     start: usize,
-) -> Option<DateRecord> {
+) -> Option<Result<DateRecord, Stop>> {
     if cursor.remaining() < start + 4 {
         return None;
     }
@@ -239,12 +262,28 @@ fn fixed_month_day<'a, T: EncodingType>(
             return None;
         }
         let date = fixed_day_of(cursor, month, start + 3)?;
-        cursor.skip(start + 5);
-        return Some(date);
+        return Some(take_month_day(cursor, profile, date, start + 2, start + 5));
     }
     let date = fixed_day_of(cursor, month, start + 2)?;
-    cursor.skip(start + 4);
-    Some(date)
+    Some(take_month_day(cursor, profile, date, start + 2, start + 4))
+}
+
+/// Takes a month-day off, whose month and whose day end behind so many units. Where its month is none, what stands behind the
+/// month stays.
+#[inline(always)]
+fn take_month_day<'a, T: EncodingType>(
+    cursor: &mut Cursor<'a, T>,
+    profile: Profile,
+    date: DateRecord,
+    month_end: usize,
+    day_end: usize,
+) -> Result<DateRecord, Stop> {
+    if let Err(stop) = check_month(date.month) {
+        cursor.skip(month_end);
+        return Err(stop);
+    }
+    cursor.skip(day_end);
+    check_month_day(profile, date.month, date.day)
 }
 
 /// The month-day of the month and of the day whose two digits stand at a place and the next, or `None`. It is not checked.

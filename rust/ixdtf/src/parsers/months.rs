@@ -71,17 +71,10 @@ pub fn parse_month_day_date<'a, T: EncodingType>(
     cursor: &mut Cursor<'a, T>,
     profile: Profile,
 ) -> Result<DateRecord, Stop> {
-    match take_fixed_month_day(cursor) {
-        Some(date) => check_lone_day(profile, date),
+    match take_fixed_month_day(cursor, profile) {
+        Some(read) => read,
         None => parse_other_month_day(cursor, profile),
     }
-}
-
-/// The month-day, where its month is one and the profile has its day.
-#[inline(always)]
-fn check_lone_day(profile: Profile, date: DateRecord) -> Result<DateRecord, Stop> {
-    check_month(date.month)?;
-    check_month_day(profile, date.month, date.day)
 }
 
 /// Reads a month-day part by part, by a cursor of its own.
@@ -137,7 +130,7 @@ fn take_marks<'a, T: EncodingType>(cursor: &mut Cursor<'a, T>) -> Result<bool, S
 
 /// The month-day, where its month has the day in some year. Day 0 is taken too, but not under the strict profile.
 #[inline(always)]
-fn check_month_day(profile: Profile, month: u8, day: u8) -> Result<DateRecord, Stop> {
+pub fn check_month_day(profile: Profile, month: u8, day: u8) -> Result<DateRecord, Stop> {
     if !has_month_day(profile, month, day) {
         return Err(Stop::InvalidMonthDay);
     }

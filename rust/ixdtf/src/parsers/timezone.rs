@@ -44,6 +44,16 @@ impl NameLetters {
             None
         }
     }
+
+    /// Why a name is refused where its letters go no further.
+    #[inline(always)]
+    pub fn stop(self) -> Stop {
+        if self.may_end {
+            Stop::IanaChar
+        } else {
+            Stop::IanaCharPostSeparator
+        }
+    }
 }
 
 /// Reads a name as far as it goes, from its first letter on, and returns its units.

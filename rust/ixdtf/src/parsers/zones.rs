@@ -4,6 +4,7 @@
 
 use crate::ParserResult;
 use crate::parsers::timezone::{parse_iana_identifier_text, parse_identifier_text};
+use crate::LocatedError;
 use crate::encoding::{EncodingType, Utf8, Utf16};
 use crate::records::{TimeZoneRecord, UtcOffsetRecord};
 use crate::cursor::Cursor;
@@ -131,5 +132,56 @@ impl<'a, T: EncodingType> TimeZoneParser<'a, T> {
         let mut here = self.cursor.take();
         let read = parse_iana_identifier_text(&mut here);
         self.cursor.settle(here, read)
+    }
+
+    /// Reads as [`parse_offset`](Self::parse_offset) does, and tells where the error is: behind how many units of what was still to be read.
+    /// A number that
+    /// is out of its range has its place behind its second digit.
+    ///
+    /// ```text
+    /// +05:30x             Err(InvalidEnd) at 6, where the x stands
+    /// +05:60              Err(TimeMinuteSecond) at 6, behind the 60
+    /// +05:                Err(AbruptEnd { location: "digit" }) at 4, the end
+    /// ```
+    ///
+    /// # Errors
+    ///
+    /// Those of [`parse_offset`](Self::parse_offset), each with its place.
+    pub fn parse_offset_located(&mut self) -> Result<UtcOffsetRecord, LocatedError> {
+        let mut here = self.cursor.take();
+        let outcome = parse_offset_text(&mut here);
+        self.cursor.settle(here, outcome)
+    }
+
+    /// Reads as [`parse_iana_identifier`](Self::parse_iana_identifier) does, and tells where the error is: behind how many units of what was still to be read.
+    ///
+    /// ```text
+    /// America/!           Err(IanaCharPostSeparator) at 8, where the ! stands
+    /// America/            Err(IanaCharPostSeparator) at 8, the end
+    /// ```
+    ///
+    /// # Errors
+    ///
+    /// Those of [`parse_iana_identifier`](Self::parse_iana_identifier), each with its place.
+    pub fn parse_iana_identifier_located(&mut self) -> Result<&'a [T::CodeUnit], LocatedError> {
+        let mut here = self.cursor.take();
+        let outcome = parse_iana_identifier_text(&mut here);
+        self.cursor.settle(here, outcome)
+    }
+
+    /// Reads as [`parse_identifier`](Self::parse_identifier) does, and tells where the error is: behind how many units of what was still to be read.
+    ///
+    /// ```text
+    /// +04:30:15           Err(InvalidMinutePrecisionOffset) at 6, where the second colon stands
+    /// Europe//Berlin      Err(IanaCharPostSeparator) at 7, where the second / stands
+    /// ```
+    ///
+    /// # Errors
+    ///
+    /// Those of [`parse_identifier`](Self::parse_identifier), each with its place.
+    pub fn parse_identifier_located(&mut self) -> Result<TimeZoneRecord<'a, T>, LocatedError> {
+        let mut here = self.cursor.take();
+        let outcome = parse_identifier_text(&mut here);
+        self.cursor.settle(here, outcome)
     }
 }

@@ -1,7 +1,9 @@
-use Rattle.std.proofs.Common.{◌≡◌, ◌&&◌, true, false, List, ◌++◌, map, ℕ, refl, sym, ap, ◌∙◌, append_assoc}
+use Rattle.std.proofs.Common.{◌≡◌, ◌&&◌, true, false, Err, List, ◌++◌, map, ℕ, length, arith, refl, sym, ap, ◌∙◌, append_assoc}
+use Rattle.std.proofs.lemmas.List.{length-map}
 use Rattle.std.proofs.lemmas.Result.{err_from_is_err_and}
 use Rattle.ixdtf_grammar.specs.language.Letters.{closing}
-use Rattle.ixdtf_reading.specs.reading.Brackets.{next_is}
+use Rattle.ixdtf_reading.specs.reading.Brackets.{next_is, refusal, name_fault, sight_at}
+use Rattle.ixdtf_reading.specs.reading.Looks.{error_of}
 use Rattle.ixdtf_reading.proofs.code.LetterLoops.{front_is}
 use Rattle.ixdtf_brackets.proofs.code.FirstPass.{pass_failed, value_failed, pair_read, more_failed, name_read, name_refuses}
 use Rattle.ixdtf_brackets.proofs.brackets.parse_name_or_pair.Goals as goal
@@ -42,9 +44,20 @@ returns-then-ends_bracket-clause-bracket g c =
 
 pub returns-clause-bracket : goal.returns-clause-bracket
 returns-clause-bracket g c =
+    let letter = g.T.EncodingType.letter in
     let is : (c.in_ok-more.more.state.may_end && next_is closing c.in_ok-more.more.next) ≡ false = elim c.else-more.branch [
       | else-more-via-then-more+else-ends_bracket w ↦ rw w.if-more.true (sym w.ends_bracket.ensures ∙ w.if-ends_bracket.false)
       | else-more-via-else-more w ↦ rw w.if-more.false refl
     ] in
-    rw c.refuse_bracket.ensures.stop (name_refuses _ _ _ _ _ c.in_ok-key.ensures.letters _ _ c.in_ok-more.ensures.letters
-    (sym c.ends_key.ensures ∙ c.if-ends_key.false) is)
+    name_refuses _ _ _ _ _ c.in_ok-key.ensures.letters _ _ c.in_ok-more.ensures.letters (sym c.ends_key.ensures ∙ c.if-ends_key.false) is
+    ∙ ap Err (ap (λ (units : List ℕ). refusal (sight_at error_of (map letter c.take_letters-2.new.cursor.rest))
+    (name_fault c.in_ok-more.more.state.may_end) (map letter units) (map letter c.take_letters-2.new.cursor.rest)) (sym c.rest-behind_key.ensures)
+    ∙ sym c.refuse_bracket.ensures.stop)
+
+pub returns-clause-looks : goal.returns-clause-looks
+returns-clause-looks g c =
+    let key : length c.rest-behind_key.result.now ≡ length c.take_letters.new.cursor.rest =
+    sym (length-map c.rest-behind_key.result.now g.T.EncodingType.number) ∙ ap (λ (t : List ℕ). length t) c.rest-behind_key.ensures in (
+      omega (arith, key, c.in_ok-key.ensures.looks, c.in_ok-key.ensures.shorter, c.in_ok-more.ensures.looks, c.in_ok-more.ensures.shorter, c.refuse_bracket.ensures.looks),
+      omega (arith, key, c.in_ok-key.ensures.looks, c.in_ok-key.ensures.shorter, c.in_ok-more.ensures.looks, c.in_ok-more.ensures.shorter, c.refuse_bracket.ensures.looks),
+    )

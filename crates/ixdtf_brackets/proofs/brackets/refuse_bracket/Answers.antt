@@ -1,7 +1,23 @@
-use Rattle.std.proofs.Common.{refl}
-use Rattle.ixdtf_brackets.proofs.code.FirstPass.{bracket_failed}
+use Rattle.std.proofs.Common.{◌≡◌, map, Ok, Err, false, refl, sym, ap, ◌∙◌}
+use Rattle.ixdtf_grammar.specs.language.Letters.{equals}
+use Rattle.ixdtf_reading.specs.reading.Brackets.{refusal, name_fault, sight_at}
+use Rattle.ixdtf_reading.specs.reading.Clauses.{fault_of_stop}
+use Rattle.ixdtf_reading.specs.reading.Looks.{error_of}
+use Rattle.ixdtf_brackets.proofs.code.FirstPass.{bracket_failed, bracket_sighted}
 use Rattle.ixdtf_brackets.proofs.brackets.refuse_bracket.Goals as goal
 
 -- the look failed
 pub returns-in-Err-clause-stop : goal.returns-in-Err-clause-stop
 returns-in-Err-clause-stop g c = rw (bracket_failed _ _ _ c.in-Err.ensures.letters) refl
+
+-- a name, which goes no further
+pub returns-in-Some-2-clause-stop : goal.returns-in-Some-2-clause-stop
+returns-in-Some-2-clause-stop g c =
+    let letter = g.T.EncodingType.letter in
+    let text = map letter c.args.cursor.now.rest in
+    let key = map letter (map g.T.EncodingType.number c.args.behind_key.now) in
+    let other : equals c.in-Some.byte ≡ false = sym c.is_annotation_key_value_separator.ensures ∙ c.if-is_annotation_key_value_separator.false in
+    let seen_so : sight_at error_of text ≡ Ok (equals c.in-Some.byte) = bracket_sighted _ _ _ _ c.in-Some.byte c.in-Ok.ensures.letters c.in-Some.is in
+    let left : map letter c.at-in-Some-2.result.rest ≡ text = ap (map letter) (c.at-in-Some-2.ensures.there ∙ c.rest-behind_name.ensures) in
+    (λ i. (c.stop.ensures i, left i))
+    ∙ sym (ap (λ seen. refusal seen (name_fault c.args.name.may_end) key text) (seen_so ∙ ap Ok other))

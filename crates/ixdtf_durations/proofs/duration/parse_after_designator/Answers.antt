@@ -1,9 +1,8 @@
 use Rattle.std.proofs.Common.{◌≡◌, ℕ, [], List, map, drop, Some, None, Ok, true, false, rules, refl, ap, ◌∙◌}
 use Rattle.std.proofs.lemmas.Result.{err_from_is_err_and}
 use Rattle.ixdtf_grammar.specs.language.Letters.{digit, time_letter}
-use Rattle.ixdtf_grammar.specs.table.Faults.Fault.{NonAsciiCodePoint}
 use Rattle.ixdtf_grammar.specs.table.DurationFronts.Context.{in_dates}
-use Rattle.ixdtf_reading.specs.reading.Looks.{look_at}
+use Rattle.ixdtf_reading.specs.reading.Looks.{seen}
 use Rattle.ixdtf_durations.proofs.code.DurationSteps.{fails, reads_on_earlier, to_digit, to_mark, opened_at_end, dates_at_other}
 use Rattle.ixdtf_durations.proofs.duration.parse_after_designator.Goals as goal
 
@@ -11,18 +10,18 @@ use Rattle.ixdtf_durations.proofs.duration.parse_after_designator.Goals as goal
 pub returns-in_err-look-clause-duration : goal.returns-in_err-look-clause-duration
 returns-in_err-look-clause-duration g c =
     let p = err_from_is_err_and c.from_residual.result c.from_residual.ensures.1 in
-    rw (p.1, p.2) (fails _ _ _ _ c.in_err-look.ensures.letter)
+    rw (p.1, p.2, c.in_err-look.ensures.rest) (fails _ _ _ _ c.in_err-look.ensures.letter)
 
 -- the text ends
 pub returns-in-None-clause-duration : goal.returns-in-None-clause-duration
 returns-in-None-clause-duration g c =
-    let none : look_at NonAsciiCodePoint (map g.T.EncodingType.letter c.args.cursor.now.rest) ≡ Ok None = cc (c.in_ok-look.ensures.letter, c.in-None.is) in
-    opened_at_end _ _ none _
+    let none : seen (map g.T.EncodingType.letter c.args.cursor.now.rest) ≡ Ok None = cc (c.in_ok-look.ensures.letter, c.in-None.is) in
+    rw c.in_ok-look.ensures.rest (opened_at_end _ _ none _)
 
 -- a `T` stands there
 pub returns-in-Some-clause-duration : goal.returns-in-Some-clause-duration
 returns-in-Some-clause-duration g c =
-    let found : look_at NonAsciiCodePoint (map g.T.EncodingType.letter c.args.cursor.now.rest) ≡ Ok (Some c.in-Some.byte) =
+    let found : seen (map g.T.EncodingType.letter c.args.cursor.now.rest) ≡ Ok (Some c.in-Some.byte) =
     cc (c.in_ok-look.ensures.letter, c.in-Some.is) in
     let is : time_letter c.in-Some.byte ≡ true = search rules in
     let left : map g.T.EncodingType.letter c.step.new.self.rest ≡ drop 1 (map g.T.EncodingType.letter c.args.cursor.now.rest) =
@@ -32,7 +31,7 @@ returns-in-Some-clause-duration g c =
 -- a group begins
 pub returns-in-Some-2-clause-duration : goal.returns-in-Some-2-clause-duration
 returns-in-Some-2-clause-duration g c =
-    let found : look_at NonAsciiCodePoint (map g.T.EncodingType.letter c.args.cursor.now.rest) ≡ Ok (Some c.in-Some.byte) =
+    let found : seen (map g.T.EncodingType.letter c.args.cursor.now.rest) ≡ Ok (Some c.in-Some.byte) =
     cc (c.in_ok-look.ensures.letter, c.in-Some.is) in
     let is : digit c.in-Some.byte ≡ true = search rules in
     let left : map g.T.EncodingType.letter c.step-in-Some-2.new.self.rest ≡ drop 1 (map g.T.EncodingType.letter c.args.cursor.now.rest) =
@@ -43,8 +42,8 @@ returns-in-Some-2-clause-duration g c =
 -- another letter stands there
 pub returns-in-Some-3-clause-duration : goal.returns-in-Some-3-clause-duration
 returns-in-Some-3-clause-duration g c =
-    let found : look_at NonAsciiCodePoint (map g.T.EncodingType.letter c.args.cursor.now.rest) ≡ Ok (Some c.in-Some.byte) =
+    let found : seen (map g.T.EncodingType.letter c.args.cursor.now.rest) ≡ Ok (Some c.in-Some.byte) =
     cc (c.in_ok-look.ensures.letter, c.in-Some.is) in
     let miss : digit c.in-Some.byte ≡ false = search rules in
     let nor : time_letter c.in-Some.byte ≡ false = search rules in
-    dates_at_other _ _ _ found c.args.sign [] miss nor
+    rw c.in_ok-look.ensures.rest (dates_at_other _ _ _ found c.args.sign [] miss nor)

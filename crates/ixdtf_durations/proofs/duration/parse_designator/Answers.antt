@@ -6,4 +6,4 @@ use Rattle.ixdtf_durations.proofs.duration.parse_designator.Goals as goal
 pub returns-in_err-look-clause-sign : goal.returns-in_err-look-clause-sign
 returns-in_err-look-clause-sign g c profile =
     let p = err_from_is_err_and c.from_residual.result c.from_residual.ensures.1 in
-    rw (p.1, p.2) (fails _ _ _ _ c.in_err-look.ensures.letter)
+    rw (p.1, p.2, c.in_err-look.ensures.rest) (fails _ _ _ _ c.in_err-look.ensures.letter)

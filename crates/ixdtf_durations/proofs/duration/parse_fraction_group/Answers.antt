@@ -1,8 +1,8 @@
-use Rattle.std.proofs.Common.{◌≡◌, ℕ, List, map, drop, Some, None, Ok, ap, ◌∙◌}
+use Rattle.std.proofs.Common.{◌≡◌, map, None, Ok}
 use Rattle.std.proofs.lemmas.Result.{err_from_is_err_and}
-use Rattle.ixdtf_grammar.specs.table.Faults.Fault.{NonAsciiCodePoint}
-use Rattle.ixdtf_reading.specs.reading.Looks.{look_at}
+use Rattle.ixdtf_reading.specs.reading.Looks.{seen}
 use Rattle.ixdtf_durations.proofs.code.DurationFractions.{fraction_fails, fraction_over, no_letter, breaks, ends_group}
+use Rattle.ixdtf_durations.proofs.code.DurationSteps.{letter_stays}
 use Rattle.ixdtf_durations.proofs.duration.parse_fraction_group.Goals as goal
 
 -- there is no fraction
@@ -15,20 +15,22 @@ returns-in_err-fraction-clause-group g c profile s dates times ds number =
 pub returns-in_err-look-clause-group : goal.returns-in_err-look-clause-group
 returns-in_err-look-clause-group g c profile s dates times ds number =
     let p = err_from_is_err_and c.from_residual-in_err-look.result c.from_residual-in_err-look.ensures.1 in
-    rw (p.1, p.2) (breaks _ _ _ (fraction_over _ _ _ c.in_ok-fraction.ensures.fraction) profile s dates times ds _ c.in_err-look.ensures.letter)
+    rw (p.1, p.2, c.in_err-look.ensures.rest) (breaks _ _ _ (fraction_over _ _ _ c.in_ok-fraction.ensures.fraction) profile s dates times ds _ c.in_err-look.ensures.letter)
 
 -- the text ends
 pub returns-in-None-clause-group : goal.returns-in-None-clause-group
 returns-in-None-clause-group g c profile s dates times ds number =
-    let none : look_at NonAsciiCodePoint (map g.T.EncodingType.letter c.parse_fraction.new.cursor.rest) ≡ Ok None =
+    let none : seen (map g.T.EncodingType.letter c.parse_fraction.new.cursor.rest) ≡ Ok None =
     cc (c.in_ok-look.ensures.letter, c.in-None.is) in
-    no_letter _ _ _ (fraction_over _ _ _ c.in_ok-fraction.ensures.fraction) profile s dates times ds none
+    rw c.in_ok-look.ensures.rest (no_letter _ _ _ (fraction_over _ _ _ c.in_ok-fraction.ensures.fraction) profile s dates times ds none)
 
--- a letter is taken off
+-- a letter stands there
 pub returns-in-Some-clause-group : goal.returns-in-Some-clause-group
 returns-in-Some-clause-group g c profile s dates times ds number =
-    let found : look_at NonAsciiCodePoint (map g.T.EncodingType.letter c.parse_fraction.new.cursor.rest) ≡ Ok (Some c.in-Some.letter) =
-    cc (c.in_ok-look.ensures.letter, c.in-Some.is) in
-    let left : map g.T.EncodingType.letter c.step.new.self.rest ≡ drop 1 (map g.T.EncodingType.letter c.parse_fraction.new.cursor.rest) =
-    c.step.ensures.letters ∙ ap (λ (t : List ℕ). drop 1 (map g.T.EncodingType.letter t)) c.in_ok-look.ensures.rest in
-    ends_group _ _ _ (fraction_over _ _ _ c.in_ok-fraction.ensures.fraction) profile s dates times ds _ found _ _ number left
+    let stays = letter_stays {letter = g.T.EncodingType.letter} c.in_ok-look.ensures.letter c.in-Some.is c.in_ok-look.ensures.rest in
+    ends_group _ _ _ (fraction_over _ _ _ c.in_ok-fraction.ensures.fraction) profile s dates times ds _ stays.found _ _ number stays.left
+
+pub returns-in-Some-clause-more : goal.returns-in-Some-clause-more
+returns-in-Some-clause-more g c =
+    let stays = letter_stays {letter = g.T.EncodingType.letter} c.in_ok-look.ensures.letter c.in-Some.is c.in_ok-look.ensures.rest in
+    stays.more

@@ -1,8 +1,7 @@
 use Rattle.std.proofs.Common.{◌≡◌, ℕ, List, map, drop, Some, Ok, true, refl, rules, ap, ◌∙◌}
 use Rattle.std.proofs.lemmas.Result.{err_from_is_err_and}
 use Rattle.ixdtf_grammar.specs.language.Letters.{sign}
-use Rattle.ixdtf_grammar.specs.table.Faults.Fault.{NonAsciiCodePoint}
-use Rattle.ixdtf_reading.specs.reading.Looks.{look_at}
+use Rattle.ixdtf_reading.specs.reading.Looks.{seen}
 use Rattle.ixdtf_durations.proofs.code.DurationSteps.{fails, reads_on_earlier, start_at_sign}
 use Rattle.ixdtf_durations.proofs.duration.parse_opening.Goals as goal
 
@@ -10,12 +9,12 @@ use Rattle.ixdtf_durations.proofs.duration.parse_opening.Goals as goal
 pub returns-in_err-look-clause-sign : goal.returns-in_err-look-clause-sign
 returns-in_err-look-clause-sign g c profile =
     let p = err_from_is_err_and c.from_residual.result c.from_residual.ensures.1 in
-    rw (p.1, p.2) (fails _ _ _ _ c.in_err-look.ensures.letter)
+    rw (p.1, p.2, c.in_err-look.ensures.rest) (fails _ _ _ _ c.in_err-look.ensures.letter)
 
 -- a sign stands there
 pub returns-in-Some-clause-sign : goal.returns-in-Some-clause-sign
 returns-in-Some-clause-sign g c profile =
-    let found : look_at NonAsciiCodePoint (map g.T.EncodingType.letter c.args.cursor.now.rest) ≡ Ok (Some c.in-Some.byte) =
+    let found : seen (map g.T.EncodingType.letter c.args.cursor.now.rest) ≡ Ok (Some c.in-Some.byte) =
     cc (c.in_ok-look.ensures.letter, c.in-Some.is) in
     let is : sign c.in-Some.byte ≡ true = search rules in
     let left : map g.T.EncodingType.letter c.step.new.self.rest ≡ drop 1 (map g.T.EncodingType.letter c.args.cursor.now.rest) =

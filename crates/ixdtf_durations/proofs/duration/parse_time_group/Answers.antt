@@ -1,7 +1,7 @@
 use Rattle.std.proofs.Common.{◌≡◌, false, true, rules}
 use Rattle.ixdtf_grammar.specs.language.Letters.{decimal_mark}
 use Rattle.ixdtf_durations.proofs.code.DurationLetters.{ends_time, at_decimal_mark, has_fraction}
-use Rattle.ixdtf_durations.proofs.code.DurationSteps.{reads_on_earlier}
+use Rattle.ixdtf_durations.proofs.code.DurationSteps.{letters_left, reads_on_earlier}
 use Rattle.ixdtf_durations.proofs.duration.parse_time_group.Goals as goal
 
 pub returns-clause-group : goal.returns-clause-group
@@ -14,7 +14,8 @@ pub returns-then-is_decimal_separator-clause-group : goal.returns-then-is_decima
 returns-then-is_decimal_separator-clause-group g c profile s dates times =
     let number = c.in_ok-number.ensures.number in
     let is : decimal_mark c.in_ok-number.number.next ≡ true = search rules in
-    reads_on_earlier _ _ _ _ c.args.cursor.now c.parse_number.new.cursor _ _ _ (at_decimal_mark _ _ _ _ _ number profile s dates times is)
+    reads_on_earlier _ _ _ _ c.args.cursor.now c.skip.new.self _ _ _
+    (at_decimal_mark _ _ _ _ _ number profile s dates times _ (letters_left g.T.EncodingType.letter _ _ c.skip.ensures.rest) is)
     (c.parse_fraction_group.ensures.group profile s dates times number.ds number.value)
 
 pub returns-then-is_decimal_separator-clause-paid : goal.returns-then-is_decimal_separator-clause-paid

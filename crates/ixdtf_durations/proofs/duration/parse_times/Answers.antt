@@ -1,9 +1,8 @@
 use Rattle.std.proofs.Common.{◌≡◌, ℕ, [], List, map, drop, Some, None, Ok, true, false, rules, ap, ◌∙◌}
 use Rattle.std.proofs.lemmas.Result.{err_from_is_err_and}
 use Rattle.ixdtf_grammar.specs.language.Letters.{digit}
-use Rattle.ixdtf_grammar.specs.table.Faults.Fault.{NonAsciiCodePoint}
 use Rattle.ixdtf_grammar.specs.table.DurationFronts.Context.{in_times}
-use Rattle.ixdtf_reading.specs.reading.Looks.{look_at}
+use Rattle.ixdtf_reading.specs.reading.Looks.{seen}
 use Rattle.ixdtf_durations.proofs.code.DurationSteps.{fails, to_digit, times_at_end, times_at_other}
 use Rattle.ixdtf_durations.proofs.duration.parse_times.Goals as goal
 use Rattle.ixdtf_durations.proofs.duration.parse_times.Goals.{in_default-via-in-Some+else-is_ascii_digit, in_default-via-in_default}
@@ -12,12 +11,12 @@ use Rattle.ixdtf_durations.proofs.duration.parse_times.Goals.{in_default-via-in-
 pub returns-in_err-byte-clause-duration : goal.returns-in_err-byte-clause-duration
 returns-in_err-byte-clause-duration g c dates is =
     let p = err_from_is_err_and c.from_residual.result c.from_residual.ensures.1 in
-    rw (p.1, p.2) (fails _ _ _ _ c.in_err-byte.ensures.letter)
+    rw (p.1, p.2, c.in_err-byte.ensures.rest) (fails _ _ _ _ c.in_err-byte.ensures.letter)
 
 -- groups were read
 pub returns-in-Ok-clause-duration : goal.returns-in-Ok-clause-duration
 returns-in-Ok-clause-duration g c dates is =
-    let found : look_at NonAsciiCodePoint (map g.T.EncodingType.letter c.args.cursor.now.rest) ≡ Ok (Some c.in-Some.byte) =
+    let found : seen (map g.T.EncodingType.letter c.args.cursor.now.rest) ≡ Ok (Some c.in-Some.byte) =
     cc (c.in_ok-byte.ensures.letter, c.in-Some.is) in
     let begins : digit c.in-Some.byte ≡ true = search rules in
     let left : map g.T.EncodingType.letter c.step.new.self.rest ≡ drop 1 (map g.T.EncodingType.letter c.args.cursor.now.rest) =
@@ -27,7 +26,7 @@ returns-in-Ok-clause-duration g c dates is =
 -- groups were refused
 pub returns-in-Err-clause-duration : goal.returns-in-Err-clause-duration
 returns-in-Err-clause-duration g c dates is =
-    let found : look_at NonAsciiCodePoint (map g.T.EncodingType.letter c.args.cursor.now.rest) ≡ Ok (Some c.in-Some.byte) =
+    let found : seen (map g.T.EncodingType.letter c.args.cursor.now.rest) ≡ Ok (Some c.in-Some.byte) =
     cc (c.in_ok-byte.ensures.letter, c.in-Some.is) in
     let begins : digit c.in-Some.byte ≡ true = search rules in
     let left : map g.T.EncodingType.letter c.step.new.self.rest ≡ drop 1 (map g.T.EncodingType.letter c.args.cursor.now.rest) =
@@ -38,11 +37,11 @@ returns-in-Err-clause-duration g c dates is =
 pub returns-in_default-clause-duration : goal.returns-in_default-clause-duration
 returns-in_default-clause-duration g c dates is = elim c.in_default.branch [
   | in_default-via-in-Some+else-is_ascii_digit w ↦
-      let found : look_at NonAsciiCodePoint (map g.T.EncodingType.letter c.args.cursor.now.rest) ≡ Ok (Some w.in-Some.byte) =
+      let found : seen (map g.T.EncodingType.letter c.args.cursor.now.rest) ≡ Ok (Some w.in-Some.byte) =
       cc (c.in_ok-byte.ensures.letter, w.in-Some.is) in
       let miss : digit w.in-Some.byte ≡ false = search rules in
-      times_at_other _ _ _ found _ dates miss
+      rw c.in_ok-byte.ensures.rest (times_at_other _ _ _ found _ dates miss)
   | in_default-via-in_default w ↦
-      let none : look_at NonAsciiCodePoint (map g.T.EncodingType.letter c.args.cursor.now.rest) ≡ Ok None = cc (c.in_ok-byte.ensures.letter, w.in_default.is) in
-      times_at_end _ _ none _ dates
+      let none : seen (map g.T.EncodingType.letter c.args.cursor.now.rest) ≡ Ok None = cc (c.in_ok-byte.ensures.letter, w.in_default.is) in
+      rw c.in_ok-byte.ensures.rest (times_at_end _ _ none _ dates)
 ]

@@ -1,7 +1,7 @@
 use Rattle.std.proofs.Common.{◌≡◌, ℕ, map, Option, Some, None, Ok, IsSome, refl, ◌∙◌, arith, rules}
 use Rattle.std.proofs.lemmas.Result.{err_from_is_err_and}
 use Rattle.ixdtf_grammar.specs.table.Faults.Fault.{NonAsciiCodePoint}
-use Rattle.ixdtf_reading.specs.reading.Looks.{look_at}
+use Rattle.ixdtf_reading.specs.reading.Looks.{look_at, seen}
 use Rattle.ixdtf_reading.proofs.code.FractionLoop.{one_taken}
 use Rattle.ixdtf_reading.proofs.code.LetterLoops.{begins, goes_on, stays, ends, fails, front_is}
 use Rattle.ixdtf_reading.proofs.letters.take_letters.Goals as goal
@@ -38,7 +38,7 @@ loop-stop-preserved g c =
 pub returns-in_err-next-clause-letters : goal.returns-in_err-next-clause-letters
 returns-in_err-next-clause-letters g c =
     let p = err_from_is_err_and c.from_residual.result c.from_residual.ensures.1 in
-    rw (p.1, p.2) elim c.match-look.branch [
+    rw (p.1, p.2, c.look.ensures.rest) elim c.match-look.branch [
       | in-Err w ↦
           let same : c.in_err-next.field-0.0 ≡ w.in-Err.stop = search rules in
           rw same (fails _ g.T.EncodingType.letter g.met.T.EncodingType.faithful _ _ _ _ c.loop-stop.invariant.far _ w.in-Err.ensures.letter)
@@ -55,11 +55,11 @@ returns-clause-letters g c =
     rw (front, c.look.ensures.rest) elim c.match-look.branch [
       | in-Err w ↦ cc (w.found-is, c.in_ok-next.was)
       | in-Ok-None w ↦
-          let over : look_at NonAsciiCodePoint (map g.T.EncodingType.letter c.loop-stop.here.rest) ≡ Ok None = search rules in
+          let over : seen (map g.T.EncodingType.letter c.loop-stop.here.rest) ≡ Ok None = search rules in
           let none : c.in_ok-next.next ≡ None = search rules in
           rw none (ends _ g.T.EncodingType.letter g.met.T.EncodingType.faithful _ _ _ _ far over)
       | in-Ok-Some+in-None w ↦
-          let found : look_at NonAsciiCodePoint (map g.T.EncodingType.letter c.loop-stop.here.rest) ≡ Ok (Some w.in-Ok-Some.byte) = search rules in
+          let found : seen (map g.T.EncodingType.letter c.loop-stop.here.rest) ≡ Ok (Some w.in-Ok-Some.byte) = search rules in
           let none : g.S.Letters.after c.loop-stop.state w.in-Ok-Some.byte ≡ None = search rules in
           let next : c.in_ok-next.next ≡ Some w.in-Ok-Some.byte = search rules in
           rw next (stays _ g.T.EncodingType.letter g.met.T.EncodingType.faithful _ _ _ _ far _ found none)

@@ -1,7 +1,7 @@
 use Rattle.std.proofs.Common.{◌≡◌, map, Some, None, Ok, false, ap, arith, rules}
 use Rattle.ixdtf_grammar.specs.language.Letters.{digit}
 use Rattle.ixdtf_grammar.specs.table.Faults.Fault.{NonAsciiCodePoint}
-use Rattle.ixdtf_reading.specs.reading.Looks.{look_at}
+use Rattle.ixdtf_reading.specs.reading.Looks.{look_at, seen}
 use Rattle.ixdtf_reading.proofs.code.FractionLoop.{begins, goes_on, ends_at_other, ends_at_end, fails, one_taken}
 use Rattle.ixdtf_reading.proofs.code.GrowingDigits.{grown_by_count}
 use Rattle.ixdtf_times.proofs.time.count_more_digits.Goals as goal
@@ -41,12 +41,12 @@ returns-clause-fraction g c = λ front is.
     let far = c.loop-byte.invariant.far front is in
     elim c.match-branch-2.branch [
       | in-Some+then-not-is_ascii_digit w ↦
-          let found : look_at NonAsciiCodePoint (map g.T.EncodingType.letter c.loop-byte.cursor.rest) ≡ Ok (Some w.in-Some.byte) =
+          let found : seen (map g.T.EncodingType.letter c.loop-byte.cursor.rest) ≡ Ok (Some w.in-Some.byte) =
           cc (c.in_ok-byte.ensures.letter, w.in-Some.is) in
           let is : digit w.in-Some.byte ≡ false = search rules in
           rw c.in_ok-byte.ensures.rest (ends_at_other _ _ _ _ _ far found is)
       | in_default w ↦
-          let over : look_at NonAsciiCodePoint (map g.T.EncodingType.letter c.loop-byte.cursor.rest) ≡ Ok None =
+          let over : seen (map g.T.EncodingType.letter c.loop-byte.cursor.rest) ≡ Ok None =
           cc (c.in_ok-byte.ensures.letter, w.in_default.is) in
           rw c.in_ok-byte.ensures.rest (ends_at_end _ _ _ _ far over)
     ]

@@ -3,7 +3,7 @@ use Rattle.std.proofs.lemmas.Bool.{leb-true}
 use Rattle.ixdtf_grammar.specs.language.Letters.{digit}
 use Rattle.ixdtf_grammar.specs.language.Letters.Letter.{Plain}
 use Rattle.ixdtf_grammar.specs.table.Faults.Fault.{NonAsciiCodePoint}
-use Rattle.ixdtf_reading.specs.reading.Looks.{look_at}
+use Rattle.ixdtf_reading.specs.reading.Looks.{look_at, seen}
 use Rattle.ixdtf_reading.proofs.code.FractionLoop.{goes_on, hands_on, ends_at_other, ends_at_end, fails, one_taken}
 use Rattle.ixdtf_reading.specs.reading.Clauses.{more_digits_at}
 use Rattle.ixdtf_times.proofs.code.LoneTimes.{reads_as}
@@ -36,12 +36,12 @@ returns-in_default-clause-fraction g c =
     let far = c.loop-cursor.invariant.far in
     elim c.in_default.branch [
       | in_default-via-in-Some+else-is_ascii_digit w ↦
-          let found : look_at NonAsciiCodePoint (map g.T.EncodingType.letter c.loop-cursor.cursor.rest) ≡ Ok (Some w.in-Some.byte) =
+          let found : seen (map g.T.EncodingType.letter c.loop-cursor.cursor.rest) ≡ Ok (Some w.in-Some.byte) =
           cc (c.in_ok-byte.ensures.letter, w.in-Some.is) in
           let is : digit w.in-Some.byte ≡ false = search rules in
           rw c.in_ok-byte.ensures.rest (ends_at_other _ _ _ _ _ far found is)
       | in_default-via-in_default w ↦
-          let over : look_at NonAsciiCodePoint (map g.T.EncodingType.letter c.loop-cursor.cursor.rest) ≡ Ok None =
+          let over : seen (map g.T.EncodingType.letter c.loop-cursor.cursor.rest) ≡ Ok None =
           cc (c.in_ok-byte.ensures.letter, w.in_default.is) in
           rw c.in_ok-byte.ensures.rest (ends_at_end _ _ _ _ far over)
     ]

@@ -6,7 +6,7 @@ pub returns-clause-handled : goal.returns-clause-handled
 returns-clause-handled g c = handled _ _ _ _ _ _ _ c.in-Ok.ensures.replied
 
 pub returns-in-Err-clause-handled : goal.returns-in-Err-clause-handled
-returns-in-Err-clause-handled g c = rw c.of_stop.ensures (handled _ _ _ _ _ _ _ c.in-Err.ensures.replied)
+returns-in-Err-clause-handled g c = rw c.of_stop.ensures.fault (handled _ _ _ _ _ _ _ c.in-Err.ensures.replied.2)
 
 pub returns-clause-no_row : goal.returns-clause-no_row
 returns-clause-no_row g c = (handled_accepted g.T.EncodingType.number _ _ _ _ _ (handled _ _ _ _ _ _ _ c.in-Ok.ensures.replied) _ refl).no_row

@@ -9,7 +9,7 @@ use Rattle.ixdtf.proofs.parsers.cores.LoneTimesCores.parse_core.Goals as goal
 pub returns-in_err-byte-clause-core : goal.returns-in_err-byte-clause-core
 returns-in_err-byte-clause-core g c =
     let p = err_from_is_err_and c.from_residual.result c.from_residual.ensures.1 in
-    rw (p.1, p.2) (bad_is _ _ _ c.in_err-byte.ensures.letter)
+    rw (p.1, p.2, c.look.ensures.rest) (bad_is _ _ _ c.in_err-byte.ensures.letter)
 
 -- `T` or `t`, and no test of the front
 pub returns-in-Some-clause-core : goal.returns-in-Some-clause-core
@@ -49,4 +49,4 @@ returns-in_ok-check_front-in_default-clause-core g c =
     ] in
     let front = c.in_ok-check_front-in_default.ensures.front _ _ in
     unmarked_is _ _ _ c.in_ok-byte.ensures.letter other _ c.requires.no_date
-    ∙ rw (← c.look.ensures.rest, c.in_ok-more-in_default.ensures.core) (rw (c.look.ensures.rest, ← c.rest-start.ensures, ← c.check_front.ensures.rest) front)
+    ∙ rw (← c.look.ensures.rest, c.in_ok-more-in_default.ensures.core) (rw (c.look.ensures.rest, ← c.rest-start.ensures, ← c.in_ok-check_front-in_default.ensures.rest) front)

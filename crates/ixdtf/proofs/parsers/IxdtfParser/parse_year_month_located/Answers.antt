@@ -1,0 +1,7 @@
+use Rattle.std.proofs.Common.{rules}
+use Rattle.ixdtf.proofs.parsers.IxdtfParser.parse_year_month_located.Goals as goal
+
+pub returns-in-Err : goal.returns-in-Err
+returns-in-Err g c =
+    let gives = rw (← c.error.ensures) at c.in-Err.ensures.unhandled in
+    let place = rw (← c.error.ensures) at c.in-Err.ensures.place in search rules

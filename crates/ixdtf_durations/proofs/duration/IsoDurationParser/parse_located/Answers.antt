@@ -1,0 +1,16 @@
+use Rattle.std.proofs.Common.{refl, rules, ◌∙◌, sym, ap}
+use Rattle.ixdtf_grammar.specs.Views.{Unread}
+use Rattle.ixdtf_grammar.specs.language.Readers.Reader.{parse_duration}
+use Rattle.ixdtf_grammar.specs.language.Languages.Found.{lasting}
+use Rattle.ixdtf_reading.specs.reading.Looks.{error_of}
+use Rattle.ixdtf_reading.proofs.to_grammar.Durations.{duration_read}
+use Rattle.ixdtf_reading.proofs.code.Located.{located}
+use Rattle.ixdtf_durations.proofs.duration.IsoDurationParser.parse_located.Goals as goal
+
+pub returns : goal.returns
+returns g c =
+    let gives = located _ _ (parse_duration c.self.inside.profile) lasting (λ x y e. cc) tt _ c.take-here.result c.parse_duration_text-outcome.new.cursor refl _
+    (duration_read error_of _ _) _ (c.take-here.ensures.rest ∙ ap (λ (u : Unread). u.rest) (sym c.take-here.ensures.same)) _ _
+    c.parse_duration_text-outcome.ensures.duration c.settle.ensures.settled c.settle.ensures.place in
+    let alone = gives.alone c.self.inside.profile refl in
+    rw (← c.self.view_is, ← c.take-here.ensures.same) (search rules)

@@ -1,0 +1,12 @@
+use Rattle.std.proofs.Common.{◌≡◌, ◌+◌, ◌≤◌, length, drop}
+use Rattle.std.specs.Str.{chars}
+use Rattle.ixdtf_grammar.specs.LocatedTexts.{column_of}
+use Rattle.ixdtf_grammar.proofs.pointed.column_of.Given as goal
+
+-- the column is the number of characters that were passed, and what is left of the place is their bytes less
+abbrev pub invariant-loop-character : goal.invariant-loop-character
+invariant-loop-character l =
+    (l.column ≡ length l.yielded)
+    × (l.column + l.left ≤ l.at)
+    × (l.column ≤ length (chars l.text))
+    × (column_of (drop l.column (chars l.text)) l.left + l.column ≡ column_of (chars l.text) l.at)

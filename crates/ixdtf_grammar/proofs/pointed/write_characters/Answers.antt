@@ -1,0 +1,31 @@
+use Rattle.std.proofs.Common.{◌≡◌, refl, true, ℕ, List, [], ◌∷◌, ◌++◌, map, take, drop, sym, ap, ◌∙◌, append-nil}
+use Rattle.std.proofs.Output.{has_written_styled_append, has_written_styled_of_eq}
+use Rattle.std.proofs.lemmas.Iterator.{YieldsList-from_chars, YieldsList-from_take}
+use Rattle.std.proofs.lemmas.Iterator.Adapters.{YieldsList-from_skip}
+use Rattle.std.proofs.lemmas.Iterator.Consumers.{YieldsList-end}
+use Rattle.std.proofs.lemmas.List.{map-append, map-id}
+use Rattle.std.proofs.lemmas.Str.{encodes-append}
+use Rattle.std.specs.Char.{encode_utf8}
+use Rattle.std.specs.Str.{chars, encode_utf8_all}
+use Rattle.ixdtf_grammar.specs.LocatedTexts.{shown}
+use Rattle.ixdtf_grammar.proofs.pointed.write_characters.Goals as goal
+
+-- one more character is written behind the others
+one_more : (cs : List ℕ) (c : ℕ) → encode_utf8_all (map shown cs) ++ encode_utf8 (shown c) ≡ encode_utf8_all (map shown (cs ++ c ∷ []))
+one_more cs c =
+    ap (λ l. encode_utf8_all (map shown cs) ++ l) (sym (append-nil (encode_utf8 (shown c))))
+    ∙ sym (encodes-append (map shown cs) (shown c ∷ []))
+    ∙ ap encode_utf8_all (sym (map-append shown cs (c ∷ [])))
+
+pub loop-character-preserved : goal.loop-character-preserved
+loop-character-preserved g c = λ flush.
+    let so_far = c.loop-character.invariant flush in
+    has_written_styled_of_eq _ _ _ _ _ (one_more c.loop-character.yielded c.in-Some.character)
+    (has_written_styled_append _ _ _ _ _ _ so_far (c.in_ok-write_character.ensures so_far.flush (refl {a = true})))
+
+pub returns : goal.returns
+returns g c = λ flush ok.
+    let all = YieldsList-from_skip c.args.first (YieldsList-from_take c.args.end (YieldsList-from_chars c.args.text.now c.utf8.text cc) cc) cc in
+    let t = YieldsList-end all c.loop-character.yielded _ c.loop-character.yielded_by _ _ c.in-None.is c.next.ensures.steps in
+    let listed : c.loop-character.yielded ≡ drop c.args.first (take c.args.end (chars c.args.text.now)) = sym (map-id c.loop-character.yielded) ∙ t.0 in
+    has_written_styled_of_eq _ _ _ _ _ (ap (λ l. encode_utf8_all (map shown l)) listed) (c.loop-character.invariant flush)

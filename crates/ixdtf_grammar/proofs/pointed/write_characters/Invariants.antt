@@ -1,0 +1,11 @@
+use Rattle.std.proofs.Common.{map}
+use Rattle.std.specs.Str.{encode_utf8_all}
+use Rattle.std.specs.Fmt.{IsFlush, HasWrittenStyled}
+use Rattle.ixdtf_grammar.specs.LocatedTexts.{shown}
+use Rattle.ixdtf_grammar.proofs.pointed.write_characters.Given as goal
+
+-- what was passed is written, as it is shown
+abbrev pub invariant-loop-character : goal.invariant-loop-character
+invariant-loop-character g l =
+    IsFlush l.initial.f
+    → HasWrittenStyled g.W.Write.write_str_gives l.initial.f (encode_utf8_all (map shown l.yielded)) l.f

@@ -1,0 +1,8 @@
+use Rattle.std.proofs.Common.{replicate}
+use Rattle.std.specs.Fmt.{IsFlush, HasWrittenStyled}
+use Rattle.ixdtf_grammar.proofs.pointed.write_spaces.Given as goal
+
+-- so many spaces are written as there were turns
+abbrev pub invariant-loop : goal.invariant-loop
+invariant-loop g l =
+    IsFlush l.initial.f → HasWrittenStyled g.W.Write.write_str_gives l.initial.f (replicate l.counter 32) l.f

@@ -1,0 +1,20 @@
+-- When two errors with their places are equal: where their places are one, and the errors are equal.
+use Rattle.std.specs.Prelude.{ℕ, Bool, List, ◌∷◌}
+use Rattle.std.specs.Ordering.{on}
+use Rattle.std.specs.Str.{bytes_eq}
+use Rattle.std.specs.Cmp.{IsPartialEquivalence, partial_equiv_from_equiv}
+use Rattle.std.specs.Cmp.Lexicographic.{on_texts_equal}
+use Rattle.ixdtf_grammar.specs.declared.located.LocatedError.{LocatedError}
+use Rattle.ixdtf_grammar.specs.table.ErrorEquality.{spelled}
+use Rattle.ixdtf_grammar.specs.table.Faults.{fault_of}
+
+-- the place, and the error as it is spelled, in one list
+abbrev pub spelled_at : LocatedError → List ℕ
+spelled_at e = e.at ∷ spelled (fault_of e.error)
+
+-- whether two errors with their places are one
+abbrev pub same_located : LocatedError → LocatedError → Bool
+same_located = on spelled_at bytes_eq
+
+pub same_located-laws : IsPartialEquivalence same_located
+same_located-laws = partial_equiv_from_equiv (on_texts_equal spelled_at)

@@ -1,0 +1,37 @@
+-- Where the fault stands that a text and the replies to its pairs give: behind how many letters.
+use Rattle.std.specs.Prelude.{◌≡◌, ◌↔◌, ◌⊎◌, ℕ, List, ◌++◌, length, Result, Ok, Err}
+use Rattle.ixdtf_grammar.specs.language.Letters.{Text}
+use Rattle.ixdtf_grammar.specs.language.Brackets.{Pair}
+use Rattle.ixdtf_grammar.specs.language.Readers.{Reader}
+use Rattle.ixdtf_grammar.specs.language.Languages.{Parsed, Derives}
+use Rattle.ixdtf_grammar.specs.language.Languages.Found.{parsed}
+use Rattle.ixdtf_grammar.specs.table.Faults.{Fault}
+use Rattle.ixdtf_grammar.specs.table.Outcomes.{HasFaultAt}
+use Rattle.ixdtf_grammar.specs.Handlers.{Reply, NoneRefused, LastRefused, GivesRecord, GivesOnlyFault, Calls, handed, replies_of, Step, IsChain, own_replies}
+use Rattle.ixdtf_grammar.specs.Views.{returned_by}
+
+-- a front of the text with so many letters is derived with these pairs
+abbrev pub HasFrontTo : Reader → Text → List Pair → ℕ → Type 0
+HasFrontTo reader text pairs at =
+    (front rest : Text) × (text ≡ front ++ rest) × (at ≡ length front) × (read : Parsed) × Derives reader front (parsed read) pairs
+
+-- The text with these pairs and these replies gives the fault behind so many letters: at the end of the last pair's bracket,
+-- whose reply is refused with it; or at the place of a row that fits, and no reply is refused.
+abbrev pub GivesFaultAt : Reader → Text → List Pair → List Reply → Fault → ℕ → Type 0
+GivesFaultAt reader text pairs replies fault at =
+    (HasFrontTo reader text pairs at × LastRefused replies fault) ⊎ (HasFaultAt reader text pairs fault at × NoneRefused replies)
+
+-- the text, whose pairs reply for themselves, gives the fault behind so many letters
+abbrev pub UnhandledFaultAt : Reader → Text → Fault → ℕ → Type 0
+UnhandledFaultAt reader text fault at = (pairs : List Pair) × GivesFaultAt reader text pairs (own_replies pairs) fault at
+
+-- For one chain of calls: `Ok` exactly with the record that the text and the replies give, `Err` only with a fault that they
+-- give, behind so many letters as the error tells, and that is the only one.
+pub record HandledAt {T U F X E : Type 0} (number : U → ℕ) (step : Step T U F) (handler : F) (reader : Reader) (text : Text)
+    (named : E → Fault) (stands : ℕ → E → Type 0) (view : X → Parsed) (result : Result X E) : Type 0 where
+  pub calls : Calls T U
+  pub last : F
+  pub chain : IsChain step handler calls last
+  pub ok : (found : Parsed) → (returned_by named view result ≡ Ok found) ↔ GivesRecord reader text (handed number calls) (replies_of number calls) found
+  pub err : (e : E) → result ≡ Err e → (at : ℕ) × stands at e × GivesFaultAt reader text (handed number calls) (replies_of number calls) (named e) at
+  pub only : (e : E) → result ≡ Err e → GivesOnlyFault reader text (handed number calls) (replies_of number calls) (named e)

@@ -1,0 +1,88 @@
+//! An error with its place in the text.
+
+ghost use Rattle.std.specs.Prelude.{◌≡◌};
+
+use crate::error::ParseError;
+use crate::pointed::PointedText;
+use std::error::Error;
+use std::fmt;
+
+/// Why a reader refused a text, and at which unit.
+///
+/// Display writes the text of the error, ` at ` and the place, as `Invalid character while parsing month value. at 5`.
+#[derive(Clone, Copy, Debug)]
+pub struct LocatedError {
+    /// The error.
+    pub error: ParseError,
+    /// How many units stand before the place of the error, from the front of what was to be read.
+    pub at: usize,
+}
+
+impl LocatedError {
+    /// The text with a mark under the place of the error, for people to read.
+    ///
+    /// `text` is what the reader was given. The place counts its bytes, so it has to be that of a reader of 8-bit units: a place
+    /// in 16-bit units is another one in UTF-8, where a character before it is not ASCII.
+    ///
+    /// Display of what is returned writes two lines, with no newline at the end. For the place 5 of `2020-x1` they are
+    ///
+    /// ```text
+    /// 2020-x1
+    ///      ^
+    /// ```
+    ///
+    /// [`PointedText`] says how they are made of a longer text, or of one with other characters.
+    pub fn in_text<'a>(&self, text: &'a str) -> PointedText<'a>
+        ensures text { result.text.now ≡ text.now }
+        ensures place { result.at ≡ self.now.at }
+    {
+        PointedText::new(text, self.at)
+    }
+}
+
+impl PartialEq for LocatedError {
+    ghost use Rattle.std.specs.Prelude.{◌≡◌, ◌↔◌, IsTrue};
+    ghost use Rattle.ixdtf_grammar.specs.table.Faults.{fault_of};
+    ghost use Rattle.ixdtf_grammar.specs.LocatedEquality.{same_located, same_located-laws};
+
+    ghost eq = { same_located };
+
+    ghost laws = { same_located-laws };
+
+    /// Whether the places are one, and the errors are equal.
+    fn eq(&self, other: &LocatedError) -> bool
+        ensures computes { result ≡ same_located self.now other.now }
+        ensures equal { IsTrue result
+            ↔ ((self.now.at ≡ other.now.at) × (fault_of self.now.error ≡ fault_of other.now.error)) }
+    {
+        self.at == other.at && self.error == other.error
+    }
+}
+
+// Display writes the text of the error, ` at ` and the place in decimal. It heeds no width and no fill.
+impl fmt::Display for LocatedError {
+    ghost use Rattle.std.specs.Prelude.{Some};
+    ghost use Rattle.ixdtf_grammar.specs.table.Faults.{fault_of};
+    ghost use Rattle.ixdtf_grammar.specs.LocatedTexts.{located_text};
+
+    ghost output = { λ e. Some (located_text (fault_of e.error) e.at) };
+
+    fn fmt<W: fmt::Write>(&self, f: &mut fmt::Formatter<W>) -> fmt::Result {
+        let error = self.error;
+        let at = self.at;
+        write!(f, "{error} at {at}")
+    }
+}
+
+impl Error for LocatedError {}
+
+impl From<LocatedError> for ParseError {
+    ghost use Rattle.std.specs.Prelude.{◌≡◌};
+
+    ghost from_gives = { λ located error. error ≡ located.error };
+
+    /// The error without its place.
+    fn from(located: LocatedError) -> ParseError {
+        located.error
+    }
+}

@@ -1,0 +1,152 @@
+//! A text with a mark under one of its characters.
+
+ghost use Rattle.std.specs.Prelude.{◌≡◌, ◌+◌, ◌-◌, ◌≤◌, length, map, take, drop, replicate};
+ghost use Rattle.std.specs.Str.{chars, encode_utf8_all};
+ghost use Rattle.std.specs.Char.{encode_utf8};
+ghost use Rattle.std.specs.Fmt.{WritesStyledOnOk};
+ghost use Rattle.ixdtf_grammar.specs.LocatedTexts.{shown, column_of, cut_mark, line_of, indent_of};
+
+use std::fmt;
+
+/// How many characters before the place are written at most.
+const BEFORE_PLACE: usize = 48;
+
+/// How many characters from the place on are written at most.
+const FROM_PLACE: usize = 24;
+
+/// A text with a mark under the place of an error, as [`LocatedError::in_text`](crate::LocatedError::in_text) returns it.
+///
+/// Display writes two lines with a newline between them and none at the end: the text, and spaces with a `^` under the place.
+/// It does not allocate.
+///
+/// - The mark stands under the character that has the byte at the place, and one past the last where the place is the end of
+///   the text or past it. Columns are counted by characters, one for each code point.
+/// - A control character, U+0000 to U+001F and U+007F to U+009F, is written as `.`.
+/// - At most 48 characters before the place are written, and at most 24 from it on. Where more stand there, `..` is written for
+///   them. So a line has at most 76 columns.
+///
+/// For `2024-03-02T08:48:00-05:00[America/New_York][u-ca=hebrew][key=a_b]` and the place 62 the lines are
+///
+/// ```text
+/// ..48:00-05:00[America/New_York][u-ca=hebrew][key=a_b]
+///                                                   ^
+/// ```
+#[derive(Clone, Copy, Debug)]
+pub struct PointedText<'a> {
+    text: &'a str,
+    at: usize,
+}
+
+impl<'a> PointedText<'a> {
+    /// The text with a mark at the byte `at`.
+    pub(crate) fn new(text: &'a str, at: usize) -> PointedText<'a>
+        ensures text { result.text.now ≡ text.now }
+        ensures place { result.at ≡ at }
+    {
+        PointedText { text, at }
+    }
+}
+
+// Display heeds no width and no fill.
+impl<'a> fmt::Display for PointedText<'a> {
+    ghost use Rattle.std.specs.Prelude.{Some};
+    ghost use Rattle.ixdtf_grammar.specs.LocatedTexts.{pointed_text};
+
+    ghost output = { λ p. Some (pointed_text p.text.now p.at) };
+
+    ghost styled_output = { λ p _. Some (pointed_text p.text.now p.at) };
+
+    fn fmt<W: fmt::Write>(&self, f: &mut fmt::Formatter<W>) -> fmt::Result {
+        let column = column_of(self.text, self.at);
+        write_line(f, self.text, column)?;
+        f.write_str("\n")?;
+        write_spaces(f, indent_of(column))?;
+        f.write_str("^")
+    }
+}
+
+/// How many characters of the text stand whole in its first `at` bytes.
+fn column_of(text: &str, at: usize) -> usize
+    ensures column { result ≡ column_of (chars text.now) at }
+    ensures within { result ≤ length (chars text.now) }
+{
+    let mut column = 0;
+    let mut left = at;
+    for character in text.chars() {
+        let length = character.len_utf8();
+        if left < length {
+            return column;
+        }
+        left -= length;
+        column += 1;
+    }
+    column
+}
+
+/// How many columns of the first line stand before the place.
+fn indent_of(column: usize) -> usize
+    ensures { result ≡ indent_of column }
+{
+    if BEFORE_PLACE < column {
+        BEFORE_PLACE + 2
+    } else {
+        column
+    }
+}
+
+/// `..` where something is cut.
+fn cut_mark(is_cut: bool) -> &'static str
+    ensures { result.now ≡ cut_mark is_cut }
+{
+    if is_cut { ".." } else { "" }
+}
+
+/// Writes the first line: the text from 48 characters before the column up to 24 from it on.
+fn write_line<W: fmt::Write>(f: &mut fmt::Formatter<W>, text: &str, column: usize) -> fmt::Result
+    requires { column ≤ length (chars text.now) }
+    ensures { WritesStyledOnOk W.write_str_gives f.old result (encode_utf8_all (line_of (chars text.now) column)) f.new }
+{
+    let end = column + FROM_PLACE;
+    let is_longer = end < text.chars().count();
+    f.write_str(cut_mark(BEFORE_PLACE < column))?;
+    write_characters(f, text, column.saturating_sub(BEFORE_PLACE), end)?;
+    f.write_str(cut_mark(is_longer))
+}
+
+/// Writes the characters from the one at `first` up to the one before `end`, as they are shown.
+fn write_characters<W: fmt::Write>(
+    f: &mut fmt::Formatter<W>,
+    text: &str,
+    first: usize,
+    end: usize,
+) -> fmt::Result
+    ensures { WritesStyledOnOk W.write_str_gives f.old result
+        (encode_utf8_all (map shown (drop first (take end (chars text.now))))) f.new }
+{
+    for character in text.chars().take(end).skip(first) {
+        write_character(f, character)?;
+    }
+    Ok(())
+}
+
+/// Writes the character, or `.` for a control character.
+fn write_character<W: fmt::Write>(f: &mut fmt::Formatter<W>, character: char) -> fmt::Result
+    ensures { WritesStyledOnOk W.write_str_gives f.old result (encode_utf8 (shown character)) f.new }
+{
+    if character.is_control() {
+        f.write_str(".")
+    } else {
+        let mut bytes = [0; 4];
+        f.write_str(character.encode_utf8(&mut bytes))
+    }
+}
+
+/// Writes so many spaces.
+fn write_spaces<W: fmt::Write>(f: &mut fmt::Formatter<W>, count: usize) -> fmt::Result
+    ensures { WritesStyledOnOk W.write_str_gives f.old result (replicate count 32) f.new }
+{
+    for _ in 0..count {
+        f.write_str(" ")?;
+    }
+    Ok(())
+}

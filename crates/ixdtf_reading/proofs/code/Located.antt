@@ -1,0 +1,107 @@
+-- The clauses of a reader that reads no pairs and gives the places of its errors, from what its reading returns.
+use Rattle.std.proofs.Common.{◌≡◌, ℕ, ◌-◌, ◌≤◌, List, [], length, map, Result, Ok, Err, IfErr, OnOk, IsFalse, sym, ap, ◌∙◌, arith}
+use Rattle.std.proofs.lemmas.List.{length-map, length-append}
+use Rattle.ixdtf_grammar.specs.declared.located.LocatedError.{LocatedError}
+use Rattle.ixdtf_grammar.specs.declared.profile.Profile.{Profile}
+use Rattle.ixdtf_reading.specs.declared.stop.Stop.{Stop}
+use Rattle.ixdtf_grammar.specs.Laws.{IsTextReader, InNoOther}
+use Rattle.ixdtf_grammar.specs.Views.{Unread, returned_by}
+use Rattle.ixdtf_grammar.specs.language.Languages.{Found, Derives}
+use Rattle.ixdtf_grammar.specs.language.Letters.{Letter, Text}
+use Rattle.ixdtf_grammar.specs.language.Readers.{Reader}
+use Rattle.ixdtf_grammar.specs.table.Faults.{Fault, fault_of_located, stands_behind, never_comes}
+use Rattle.ixdtf_grammar.specs.table.Lines.{Line}
+use Rattle.ixdtf_grammar.specs.table.Lines.Line.{line, scanned, whole}
+use Rattle.ixdtf_grammar.specs.table.Outcomes.{HasFaultAt, NoRowFits, OnlyFault, OnlyPlace}
+use Rattle.ixdtf_grammar.specs.table.Rows.{Row, Place, Stops, Fits, left_at}
+use Rattle.ixdtf_grammar.specs.table.Rows.Place.{end, other, bad, anywhere}
+use Rattle.ixdtf_reading.specs.reading.Looks.{Read, Placed, error_of}
+use Rattle.ixdtf_reading.specs.reading.Clauses.{Reads, Settles, fault_of_stop}
+use Rattle.ixdtf_reading.specs.reading.Wholes.{finding, read_at}
+use Rattle.ixdtf_reading.proofs.code.ReadersWithoutPairs.{ReadsNoPairs, error_after, exact}
+use Rattle.ixdtf_reading.proofs.parts.Looks.{OnRead}
+use Rattle.ixdtf_reading.proofs.theorems.OneOutcome.{place_once}
+
+-- where a row stops, its place has what the text has there
+pub left_is : (l : Line) (place : Place) (e : Fault) (rest : Text) → Stops l place e rest → left_at place ≡ rest
+left_is (line front goes_on at_end at_other) (end left) e rest h = h.2
+left_is (line front goes_on at_end at_other) (other left) e rest h = h.5
+left_is (line front goes_on at_end at_other) (bad left) e rest h = h.3
+left_is (line front goes_on at_end at_other) (anywhere left) e rest h = absurd h
+left_is (scanned front d) (end left) e rest h = h.2
+left_is (scanned front d) (other left) e rest h = absurd h
+left_is (scanned front d) (bad left) e rest h = h.3
+left_is (scanned front d) (anywhere left) e rest h = absurd h
+left_is (whole front d) (anywhere left) e rest h = h.1
+left_is (whole front d) (end left) e rest h = absurd h
+left_is (whole front d) (other left) e rest h = absurd h
+left_is (whole front d) (bad left) e rest h = absurd h
+
+-- what is left is no longer than the text
+pub left_fits : (reader : Reader) (row : Row) (pairs : List _) (text : Text) → Fits reader row pairs text → length (left_at row.place) ≤ length text
+left_fits reader row pairs text f =
+    let left = left_is _ row.place row.error f.4.1 f.4.4 in
+    omega (arith, ap (λ t. length t) left, ap (λ t. length t) f.2, ap (λ t. length t) f.4.2, length-append f.0 f.1, length-append f.4.0 f.4.1)
+
+-- What a public reader returned, where its private one read so and its cursor settled with that.
+module _ {U A : Type 0} (letter : ℕ → Letter) (view : U → A) (reader : Reader) (found : A → Found) (same : (x y : A) → found x ≡ found y → x ≡ y)
+    (none : ReadsNoPairs reader) (reading : Text → Read Placed A) (old new : Unread)
+    (reads : read_at error_after reader (map letter old.rest) ≡ finding found (reading (map letter old.rest)))
+    (met : A → Text → Type 0) (gives : OnRead error_of (reading (map letter old.rest)) met (λ row. Fits reader row [] (map letter old.rest))) where
+  -- the clauses of the reader
+  pub record Located (result : Result U LocatedError) : Type 0 where
+    pub ok : (y : A) → (returned_by fault_of_located view result ≡ Ok y → Derives reader (map letter old.rest) (found y) [])
+        × (Derives reader (map letter old.rest) (found y) [] → returned_by fault_of_located view result ≡ Ok y)
+    pub err : IfErr result (λ e. HasFaultAt reader (map letter old.rest) [] (fault_of_located e) e.at)
+    pub comes : IfErr result (λ e. IsFalse (never_comes (fault_of_located e)))
+    pub no_row : OnOk result (NoRowFits reader (map letter old.rest))
+    pub alone : (profile : Profile) → IsTextReader profile reader → OnOk result (InNoOther profile reader (map letter old.rest))
+    pub only : IfErr result (λ e. OnlyFault reader (map letter old.rest) [] (fault_of_located e))
+    pub place : IfErr result (λ e. OnlyPlace reader (map letter old.rest) (fault_of_located e) e.at)
+    pub empty : (left : List ℕ) → OnOk result (left ≡ new.rest) → OnOk result (left ≡ [])
+
+  -- the row of a fault
+  row_at : (fault : Fault) (left : Text) → reading (map letter old.rest) ≡ Err (fault, left)
+      → (row : Row) × ((fault, left) ≡ error_of row) × Fits reader row [] (map letter old.rest)
+  row_at fault left is = rw is at gives
+
+  -- it fits, and so many units stand before its place
+  fault_at : (start : List ℕ) → start ≡ old.rest → (stop : Stop) (e : LocatedError) → reading (map letter old.rest) ≡ Err (fault_of_stop stop, map letter new.rest)
+      → fault_of_located e ≡ fault_of_stop stop → stands_behind (length start - length new.rest) e
+      → HasFaultAt reader (map letter old.rest) [] (fault_of_located e) e.at
+  fault_at start is stop e h named at =
+      let row = row_at (fault_of_stop stop) (map letter new.rest) h in
+      let left : map letter new.rest ≡ left_at row.0.place = ap (λ p. p.1) row.1 in
+      let short = left_fits reader row.0 [] (map letter old.rest) row.2 in (
+        row.0,
+        row.2,
+        sym (named ∙ ap (λ p. p.0) row.1),
+        omega (arith, at, short, ap (λ t. length t) is, ap (λ t. length t) left, length-map new.rest letter, length-map old.rest letter),
+      )
+
+  pub located : (start : List ℕ) → start ≡ old.rest → (read : Result U Stop) (result : Result U LocatedError) → Reads letter view old read new reading
+      → Settles fault_of_located read result → IfErr result (λ e. stands_behind (length start - length new.rest) e) → Located result
+  located start is (Ok x) (Ok y) h s at = let plain = exact letter view reader found same none reading old new reads (Ok x) (Ok y) h s in record {
+    ok = plain.ok;
+    err = tt;
+    comes = tt;
+    no_row = plain.no_row;
+    alone = plain.alone;
+    only = tt;
+    place = tt;
+    empty = plain.empty;
+  }
+  located start is (Ok x) (Err e) h s at = absurd s
+  located start is (Err stop) (Ok y) h s at = absurd s
+  located start is (Err stop) (Err e) h s at =
+      let plain = exact letter view reader found same none reading old new reads (Err stop) (Err e.error) h s in
+      let fits = fault_at start is stop e h s at in record {
+        ok = plain.ok;
+        err = fits;
+        comes = plain.comes;
+        no_row = tt;
+        alone = λ profile is. tt;
+        only = plain.only;
+        place = place_once reader (map letter old.rest) [] (fault_of_located e) e.at fits;
+        empty = λ left is. tt;
+      }

@@ -1,0 +1,15 @@
+use Rattle.std.proofs.Common.{[], ◌∷◌, rules}
+use Rattle.ixdtf_grammar.specs.language.Letters.Letter.{Plain}
+use Rattle.ixdtf_grammar.specs.language.Times.{Clock as clocks}
+use Rattle.ixdtf_reading.specs.reading.Looks.{error_of, next_by}
+use Rattle.ixdtf_reading.specs.reading.Clauses.{more_digits_at}
+use Rattle.ixdtf_reading.specs.reading.Times.{fraction_at}
+use Rattle.ixdtf_times.proofs.code.LoneTimes.{reads_as}
+use Rattle.ixdtf_times.proofs.time.parse_digits.Goals as goal
+
+-- the other digits are read behind the first one
+pub returns-in-Ok-Some-clause-fraction : goal.returns-in-Ok-Some-clause-fraction
+unfolding fraction_at next_by
+returns-in-Ok-Some-clause-fraction g c =
+    reads_as g.T.EncodingType.letter (λ fraction. fraction) c.step.new.self c.args.cursor.now c.parse_more_digits-read.new.cursor c.parse_more_digits-read.result
+    (more_digits_at (Plain c.in-Ok-Some.byte ∷ [])) (fraction_at error_of clocks.Time) (search rules) c.parse_more_digits-read.ensures.fraction

@@ -1,0 +1,121 @@
+// Made by tools/to_rust.py of crates/ixdtf_grammar/src/pointed.rt. Do not edit.
+
+//! A text with a mark under one of its characters.
+
+use std::fmt;
+
+/// How many characters before the place are written at most.
+const BEFORE_PLACE: usize = 48;
+
+/// How many characters from the place on are written at most.
+const FROM_PLACE: usize = 24;
+
+/// A text with a mark under the place of an error, as [`LocatedError::in_text`](crate::LocatedError::in_text) returns it.
+///
+/// Display writes two lines with a newline between them and none at the end: the text, and spaces with a `^` under the place.
+/// It does not allocate.
+///
+/// - The mark stands under the character that has the byte at the place, and one past the last where the place is the end of
+///   the text or past it. Columns are counted by characters, one for each code point.
+/// - A control character, U+0000 to U+001F and U+007F to U+009F, is written as `.`.
+/// - At most 48 characters before the place are written, and at most 24 from it on. Where more stand there, `..` is written for
+///   them. So a line has at most 76 columns.
+///
+/// For `2024-03-02T08:48:00-05:00[America/New_York][u-ca=hebrew][key=a_b]` and the place 62 the lines are
+///
+/// ```text
+/// ..48:00-05:00[America/New_York][u-ca=hebrew][key=a_b]
+///                                                   ^
+/// ```
+#[derive(Clone, Copy, Debug)]
+pub struct PointedText<'a> {
+    text: &'a str,
+    at: usize,
+}
+
+impl<'a> PointedText<'a> {
+    /// The text with a mark at the byte `at`.
+    pub(crate) fn new(text: &'a str, at: usize) -> PointedText<'a> {
+        PointedText { text, at }
+    }
+}
+
+// Display heeds no width and no fill.
+impl<'a> fmt::Display for PointedText<'a> {
+    fn fmt(&self, f: &mut fmt::Formatter<'_>) -> fmt::Result {
+        let column = column_of(self.text, self.at);
+        write_line(f, self.text, column)?;
+        f.write_str("\n")?;
+        write_spaces(f, indent_of(column))?;
+        f.write_str("^")
+    }
+}
+
+/// How many characters of the text stand whole in its first `at` bytes.
+fn column_of(text: &str, at: usize) -> usize {
+    let mut column = 0;
+    let mut left = at;
+    for character in text.chars() {
+        let length = character.len_utf8();
+        if left < length {
+            return column;
+        }
+        left -= length;
+        column += 1;
+    }
+    column
+}
+
+/// How many columns of the first line stand before the place.
+fn indent_of(column: usize) -> usize {
+    if BEFORE_PLACE < column {
+        BEFORE_PLACE + 2
+    } else {
+        column
+    }
+}
+
+/// `..` where something is cut.
+fn cut_mark(is_cut: bool) -> &'static str {
+    if is_cut { ".." } else { "" }
+}
+
+/// Writes the first line: the text from 48 characters before the column up to 24 from it on.
+fn write_line(f: &mut fmt::Formatter<'_>, text: &str, column: usize) -> fmt::Result {
+    let end = column + FROM_PLACE;
+    let is_longer = end < text.chars().count();
+    f.write_str(cut_mark(BEFORE_PLACE < column))?;
+    write_characters(f, text, column.saturating_sub(BEFORE_PLACE), end)?;
+    f.write_str(cut_mark(is_longer))
+}
+
+/// Writes the characters from the one at `first` up to the one before `end`, as they are shown.
+fn write_characters(
+    f: &mut fmt::Formatter<'_>,
+    text: &str,
+    first: usize,
+    end: usize,
+) -> fmt::Result {
+    for character in text.chars().take(end).skip(first) {
+        write_character(f, character)?;
+    }
+    Ok(())
+}
+
+/// Writes the character, or `.` for a control character.
+fn write_character(f: &mut fmt::Formatter<'_>, character: char) -> fmt::Result {
+    if character.is_control() {
+        f.write_str(".")
+    } else {
+        let mut bytes = [0; 4];
+        f.write_str(character.encode_utf8(&mut bytes))
+    }
+}
+
+/// Writes so many spaces.
+fn write_spaces(f: &mut fmt::Formatter<'_>, count: usize) -> fmt::Result {
+    for _ in 0..count {
+        f.write_str(" ")?;
+    }
+    Ok(())
+}

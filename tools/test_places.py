@@ -1,0 +1,503 @@
+#!/usr/bin/env python3
+"""Tests of places.py: each row of the fault table by an example whose place was counted by hand (places.tsv), the cells and the
+examples of docs/FAULTS.md beside the model's lines, and that of all rows one alone fits, with one front alone.
+
+places.tsv has in each line a reader, its profile, the bits of a unit, the line and the row (`end`, `bad`, `other` or `whole`; or
+`reply` and `refused`, where each pair replies for itself), a text, the front of the text that the row speaks of, the error and its
+place. Text, front and place were written by hand. `\\uXXXX` is a unit."""
+import itertools
+import os
+import re
+import subprocess
+import sys
+import unittest
+from typing import Iterator, NamedTuple, Optional
+
+TOOLS = os.path.dirname(os.path.abspath(__file__))
+sys.path.insert(0, TOOLS)
+import places
+from places import Annotation, Error, Fault
+
+FAULTS = os.path.join(TOOLS, '..', 'docs', 'FAULTS.md')
+
+
+class Example(NamedTuple):
+    """A line of places.tsv."""
+    reader: str
+    strict: bool
+    wide: bool
+    line: str
+    row: str
+    units: list[int]
+    front: list[int]
+    error: Error
+    place: int
+
+
+def units_of(spelled: str) -> list[int]:
+    """The units of a text in which `\\uXXXX` is a unit."""
+    return [int(it[2:], 16) if len(it) > 1 else ord(it) for it in re.findall(r'\\u[0-9a-f]{4}|.', spelled)]
+
+
+def examples() -> list[Example]:
+    """The lines of places.tsv."""
+    with open(os.path.join(TOOLS, 'places.tsv'), encoding='ascii') as lines:
+        cells = [it.rstrip('\n').split('\t') for it in lines][1:]
+    return [Example(reader, profile == 'strict', bits == '16', line, row, units_of(text), units_of(front),
+                    Error(*error.split(' ')), int(place))
+            for reader, profile, bits, line, row, text, front, error, place in cells]
+
+
+def plain_examples() -> list[Example]:
+    """Those examples of which each unit stands for a letter in both widths."""
+    return [it for it in examples() if all(1 <= unit <= 126 for unit in it.units)]
+
+
+def row_of(example: Example) -> Optional[places.Row]:
+    """The row that fits the text of an example."""
+    return places.READERS[example.strict][example.reader].row(places.letters_of(example.units, example.wide))
+
+
+class Examples(unittest.TestCase):
+    """The lines of places.tsv, and that each row has one."""
+
+    def test_place_is_the_length_of_the_front(self):
+        for it in examples():
+            self.assertEqual(len(it.front), it.place, it)
+            self.assertEqual(it.units[:it.place], it.front, it)
+
+    def test_outcome(self):
+        for it in examples():
+            found = places.outcome(it.reader, it.units, it.wide, it.strict)
+            self.assertEqual(found, Fault(it.error, it.place), it)
+
+    def test_row(self):
+        for it in examples():
+            if it.line != 'reply':
+                self.assertEqual(row_of(it), (it.line, it.row, it.error, it.place), it)
+
+    def test_where_each_kind_of_place_is(self):
+        for it in examples():
+            behind = it.units[it.place:it.place + 1]
+            self.assertEqual(it.row == places.AT_END, not behind and it.row not in ('whole', 'refused'), it)
+            if it.row == places.AT_BAD:
+                self.assertTrue(it.wide and not 1 <= behind[0] <= 126, it)
+            if it.row == 'refused':
+                self.assertEqual(chr(it.front[-1]), ']', it)
+
+    def test_each_row_has_an_example(self):
+        shown = {(it.line, it.row, it.error) for it in examples()}
+        for line in (line for reader in places.READERS[False].values() for line in reader.lines):
+            for row, error in rows_of(line):
+                self.assertIn((line.name, row, error), shown)
+
+    def test_each_reader_has_an_example(self):
+        shown = {(it.reader, it.strict) for it in examples()}
+        self.assertEqual({reader for reader, _ in shown}, set(places.READERS[False]))
+        self.assertGreaterEqual(shown, {(it, True) for it in places.STRICT_WORDS.values()})
+
+
+def rows_of(line: places.Line) -> Iterator[tuple[str, Error]]:
+    """The rows that a line has, with the error of each."""
+    if line.goes_on is None:
+        yield places.WHOLE, line.end
+        return
+    yield places.AT_BAD, Error('NonAsciiCodePoint')
+    if line.end:
+        yield places.AT_END, line.end
+    for _, error in line.other:
+        yield places.AT_OTHER, error
+
+
+# ---------------------------------------------------------------------------------------------------------------------------------
+# docs/FAULTS.md
+
+LOCATIONS = {'digit', 'Date', 'MonthDay', 'time-numoffset', 'TimeZoneAnnotation', 'AmbiguousAnnotation', 'DurationStart',
+             'DurationDesignator', 'Duration', 'DateDurationDesignator'}
+CLASSES = {'digit': places.DIGIT, 'sign': places.SIGN, 'Sign': places.SIGN, 'space': ' ', 'any letter': places.ANY_LETTER,
+           'nothing': places.NOTHING, 'ZoneLead': places.ZONE_LEAD, 'ZoneChar': places.ZONE_CHAR, 'KeyLead': places.KEY_LEAD,
+           'KeyChar': places.KEY_CHAR, 'ValueChar': places.VALUE_CHAR, 'DateUnit': places.DATE_UNIT, 'TimeUnit': places.TIME_UNIT}
+CLOCK_LINES = ('hour_', 'after_hour', 'minute_', 'after_basic_minute', 'after_colon_minute', 'second_', 'after_second',
+               'fraction_start', 'after_fraction')
+
+
+def tables() -> Iterator[dict[str, str]]:
+    """The rows of all tables of docs/FAULTS.md, each as its cells by the heads of its columns."""
+    heads = None
+    with open(FAULTS, encoding='utf-8') as lines:
+        for line in lines:
+            if not line.startswith('|'):
+                heads = None
+                continue
+            cells = [it.strip() for it in line.strip()[1:-1].split('|')]
+            if heads is None:
+                heads = cells
+            elif not line.startswith('|---'):
+                yield dict(zip(heads, cells))
+
+
+def table_rows() -> list[tuple[list[str], dict[str, str]]]:
+    """The rows of the tables of lines: the names of the lines that one is of, and its cells."""
+    return [(re.findall(r'`([^`]*)`', row['Line']), row) for row in tables() if 'Line' in row]
+
+
+def is_clock_line(name: str) -> bool:
+    """Whether a line is there once for each clock."""
+    return name.startswith(CLOCK_LINES) and name != 'after_fraction_group'
+
+
+def error_in(cell: str) -> Optional[Error]:
+    """The error that a cell names, and None where the text may end."""
+    if cell in ('', 'ok'):
+        return None
+    name = re.search(r'`([^`]*)`', cell)[1]
+    return Error('AbruptEnd', name) if name in LOCATIONS or '*abrupt*' in cell else Error(name)
+
+
+def letters_in(cell: str) -> Optional[frozenset[str]]:
+    """The letters that a cell says a text goes on with; None for a whole line."""
+    if cell == 'whole':
+        return None
+    parts = re.findall(r'`([^`]*)`|(\w[\w ]*)', cell)
+    return frozenset(it for letter, name in parts for it in (letter or members(CLASSES[name])))
+
+
+def members(letters: str) -> frozenset[str]:
+    """The letters of a class."""
+    return frozenset(chr(it) for it in range(256) if letters and re.match(places.one(letters), chr(it)))
+
+
+def others_in(cell: str) -> frozenset[tuple[str, Error]]:
+    """The errors that a cell names for other letters: at a letter, or at the rest (an empty text)."""
+    if cell == '' or cell.startswith('none'):
+        return frozenset()
+    special = re.match(r'(.*) at `(.)`, else (.*)', cell)
+    if special:
+        return frozenset([(special[2], error_in(special[1])), ('', error_in(special[3]))])
+    return frozenset([('', error_in(cell))])
+
+
+def cells_in(row: dict[str, str]) -> tuple:
+    """With which letters a row says that its lines go on, and the errors at the end and at other letters."""
+    return letters_in(row['Goes on with']), error_in(row['End']), others_in(row['Other'])
+
+
+def cells_of(line: places.Line) -> tuple:
+    """The same of a line of the model."""
+    others = frozenset(('' if letters == places.ANY_LETTER else letters.removeprefix('\\'), error) for letters, error in line.other)
+    return None if line.goes_on is None else members(line.goes_on), line.end, others
+
+
+class Such(NamedTuple):
+    """A text that docs/FAULTS.md gives for a line, its error where it is said, and its place."""
+    text: str
+    error: Optional[Error]
+    place: int
+    strict: bool
+
+
+SUCH = re.compile(r'(strict: )?(?:`([^`]*)`|the empty text|nothing)(?:: (`[^`]*`))? at (\d+)(?:, but not strictly)?')
+
+
+def such_as(cell: str) -> Iterator[Such]:
+    """The texts of a cell. Raises ValueError where one is not written as these are."""
+    for part in cell.split('; ') if cell else []:
+        such = SUCH.fullmatch(part)
+        if such is None:
+            raise ValueError(f'no text with its place: {part}')
+        strict, text, error, place = such.groups()
+        yield Such(text or '', error and error_in(error), int(place), strict is not None)
+
+
+NAMED = re.compile(r'`(?P<reader>parse\w*|IsoDurationParser::parse)` of (?P<wide>the 16-bit units of )?`(?P<text>[^`]*)`: '
+                   r'(?P<error>`\w*`) at (?P<place>\d+)')
+
+
+class NamedExample(NamedTuple):
+    """A text that docs/FAULTS.md gives for a reader, and its error and its place."""
+    reader: str
+    wide: bool
+    text: str
+    fault: Fault
+
+
+def named_examples() -> Iterator[NamedExample]:
+    """The texts of the table of the kinds of places, and of that of replies."""
+    for row in tables():
+        if 'Place' in row:
+            for it in row['Such as'].split('; '):
+                named = NAMED.match(it)
+                reader = 'duration' if '::' in named['reader'] else named['reader']
+                fault = Fault(error_in(named['error']), int(named['place']))
+                yield NamedExample(reader, named['wide'] is not None, named['text'], fault)
+        elif 'Why' in row:
+            text, error, place = re.fullmatch(r'`([^`]*)`', row['`parse` of `2020-01-01` and'])[1], *row['Error'].split(' at ')
+            yield NamedExample('parse', False, '2020-01-01' + text, Fault(error_in(error), int(place)))
+
+
+def lines_of_model() -> list[places.Line]:
+    """The lines of all readers of the crate's profile."""
+    return [line for reader in places.READERS[False].values() for line in reader.lines]
+
+
+class Document(unittest.TestCase):
+    """The model's table is the one of docs/FAULTS.md."""
+
+    def test_names(self):
+        said = {name for names, _ in table_rows() for name in names}
+        had = {re.sub(' (Time|Offset|MinuteOffset)$', '', line.name) for line in lines_of_model()}
+        self.assertEqual(said, had)
+
+    def test_cells(self):
+        said = {(name, *cells_in(row)) for names, row in table_rows() for name in names
+                if 'Goes on with' in row and not is_clock_line(name)}
+        had = {(line.name, *cells_of(line)) for line in lines_of_model() if not is_clock_line(line.name)}
+        self.assertEqual(said, had)
+        self.assertGreater(len(said), 50)
+
+    def test_errors(self):
+        rows = [it for it in tables() if 'Variant' in it]
+        self.assertEqual(len(rows), 46)
+        said = {it['Variant'].strip('`'): it['Text'] for it in rows if it['Returned by'] != 'nothing'}
+        self.assertEqual(said, places.TEXTS)
+
+    def test_each_error_comes(self):
+        had = {error.variant for line in lines_of_model() for _, error in rows_of(line)}
+        self.assertEqual(had | {'CriticalDuplicateCalendar', 'UnrecognizedCritical'}, set(places.TEXTS))
+
+    def test_texts(self):
+        texts = 0
+        for names, row in table_rows():
+            for head, it in ((head, it) for head, cell in row.items() if head.startswith(('Such as', '`parse')) for it in such_as(cell)):
+                self.assertTrue(has_row(names, head, it), (names, it))
+                texts += 1
+        self.assertGreater(texts, 120)
+
+    def test_named_examples(self):
+        found = list(named_examples())
+        shown = {(it.reader, it.wide, tuple(it.units), Fault(it.error, it.place)) for it in examples() if not it.strict}
+        for it in found:
+            units = tuple(map(ord, it.text))
+            self.assertEqual(places.outcome(it.reader, units, it.wide), it.fault, it)
+            self.assertIn((it.reader, it.wide, units, it.fault), shown)
+        self.assertGreater(len(found), 12)
+
+
+def has_row(names: list[str], head: str, such: Such) -> bool:
+    """Whether a text has the row of one of these lines, at its place, in the reader that the head of its column names, or in any
+    reader."""
+    readers = places.READERS[such.strict]
+    named = re.match(r'`(parse\w*)`', head)
+    before = re.search(r'after `([^`]*)`', head)
+    text = (before[1] if before else '') + such.text
+    lines = {name + clock for name in names for clock in ('', ' Time', ' Offset', ' MinuteOffset')}
+    rows = (row for reader in ([readers[named[1]]] if named else readers.values()) for row in reader.rows_that_fit(text))
+    return any(row.line in lines and such.error in (None, row.error) and such.place == row.place for row in rows)
+
+
+# ---------------------------------------------------------------------------------------------------------------------------------
+# One row alone, and one front
+
+# for each reader texts to begin with, letters, and how many of them stand behind at most
+SHORT = {
+    'parse': [('', '2-0W', 5), ('2020', '-01x', 5), ('2020-01-01T12', ':+05.Z[', 4), ('2020-01-01', '[!a=+-]', 4),
+              ('2020-01-01[a=b]', '[!a=-]', 4)],
+    'parse_year_month': [('', '2-0', 6), ('2020', '-1[', 4)],
+    'parse_month_day': [('', '-103', 6), ('11-', '0[a]', 4)],
+    'parse_time': [('', '12-:', 6), ('1', '02T:+', 5), ('2021', '-1[Z', 4)],
+    'parse_offset': [('', '+05:.', 5), ('+05:00', ':0.6[', 4)],
+    'parse_identifier': [('', '+0:Z/]', 4), ('+05', '0:6]', 5)],
+    'parse_iana_identifier': [('', 'Z/+]', 5)],
+    'duration': [('', '+P1YT', 5), ('P1', 'YDT1.', 5), ('PT1', 'HS.2', 5), ('P429496729', '56YMD', 4),
+                 ('P1844674407370955161', '567TD', 3)],
+}
+
+
+def short_texts(name: str, end: str) -> Iterator[str]:
+    """The short texts of a reader."""
+    for before, letters, most in SHORT[name]:
+        for length in range(most + 1):
+            for behind in itertools.product(letters + end, repeat=length):
+                yield before + ''.join(behind)
+
+
+def fronts_that_fit(line: places.Line, text: str) -> list[int]:
+    """The lengths of all fronts with which a row of the line fits a text."""
+    return [at for at in range(len(text) + 1)
+            if re.match(rf'{line.front}(?=(?s:.{{{len(text) - at}}})\Z){line.behind}', text)]
+
+
+class OneRow(unittest.TestCase):
+    """Of a text outside a reader's language one row alone fits, with one front alone; of a text of the language none does."""
+
+    def test_short_texts(self):
+        for strict, readers in places.READERS.items():
+            for name, reader in readers.items():
+                for text in short_texts(name, places.BAD):
+                    reader.row(text)    # raises an error where the table says less or more
+
+    def test_fronts(self):
+        for it in (it for it in examples() if it.line != 'reply' and it.place <= 13):
+            text, lines = places.letters_of(it.units, it.wide), places.READERS[it.strict][it.reader].lines
+            fronts = [front for line in lines if line.name == it.line for front in fronts_that_fit(line, text)]
+            self.assertEqual(fronts, [it.place], it)
+
+    def test_ranges(self):
+        number = re.compile(places.NUMBER)
+        below, above, past = (re.compile(it) for it in (places.NUMBER_BELOW_32, places.NUMBER_FROM_32, places.NUMBER_TOO_GREAT))
+        for exponent, zeros in itertools.product(range(66), ('', '0', '00000')):
+            for value in (2 ** exponent - 1, 2 ** exponent, 10 ** (exponent // 3) - 1, 10 ** (exponent // 3)):
+                text = zeros + str(value)
+                self.assertEqual(number.fullmatch(text) is not None, value < 2 ** 64, text)
+                self.assertEqual(below.fullmatch(text) is not None, value < 2 ** 32, text)
+                self.assertEqual(above.fullmatch(text) is not None, 2 ** 32 <= value < 2 ** 64, text)
+                self.assertEqual(past.fullmatch(text) is not None, value // 10 < 2 ** 64 <= value, text)
+
+    def test_calendar(self):
+        dates = re.compile(places.DATE)
+        for year in ('0000', '1900', '2000', '2020', '2021', '2100', '-000004', '+010000', '-000100', '+000000'):
+            number = abs(int(year))
+            february = 29 if number % 4 == 0 and (number % 100 or number % 400 == 0) else 28
+            for month, days in enumerate((31, february, 31, 30, 31, 30, 31, 31, 30, 31, 30, 31), 1):
+                for day in range(100):
+                    fits = dates.fullmatch(f'{year}-{month:02}-{day:02}') is not None
+                    self.assertEqual(fits, 1 <= day <= days, (year, month, day))
+
+
+# ---------------------------------------------------------------------------------------------------------------------------------
+# Replies, letters and the program
+
+class Replies(unittest.TestCase):
+    """Other handlers than the one of the forms without."""
+
+    TEXT = b'2020-01-01[u-ca=a][!u-ca=b][!x=y][z=1]'
+
+    def heard(self, text: bytes, handler) -> tuple:
+        """The outcome of `parse`, and the pairs that the handler was asked about."""
+        asked = []
+
+        def listening(pair):
+            asked.append(pair)
+            return handler(len(asked), pair)
+        return places.outcome('parse', text, handler=listening), asked
+
+    def test_none_refuses_nothing(self):
+        found, asked = self.heard(self.TEXT, lambda _, pair: None)
+        self.assertEqual(found, places.OK)
+        self.assertEqual(asked, [Annotation(False, 'u-ca', 'a'), Annotation(True, 'u-ca', 'b'), Annotation(True, 'x', 'y'),
+                                 Annotation(False, 'z', '1')])
+
+    def test_place_is_that_of_the_pair_whatever_the_reply(self):
+        found, asked = self.heard(self.TEXT, lambda count, _: Annotation(True, 'k', 'v') if count == 3 else None)
+        self.assertEqual(found, Fault(Error('UnrecognizedCritical'), 33))
+        self.assertEqual(len(asked), 3)
+
+    def test_rules_look_at_replies(self):
+        found, asked = self.heard(self.TEXT, lambda count, _: Annotation(count == 4, 'u-ca', 'ab'[count == 4]))
+        self.assertEqual(found, Fault(Error('CriticalDuplicateCalendar'), 38))
+        found, asked = self.heard(self.TEXT, lambda count, _: Annotation(True, 'u-ca', 'a'))
+        self.assertEqual((found, len(asked)), (places.OK, 4))
+
+    def test_the_first_calendar_counts(self):
+        text = b'2020-01-01[u-ca=a][u-ca=b][!u-ca=a]'
+        self.assertEqual(places.outcome('parse', text), places.OK)
+
+    def test_a_fault_ends_the_call_before_later_pairs(self):
+        found, asked = self.heard(b'2020-01-01[UTC][a=b][c=d]x[!e=f]', lambda _, pair: pair)
+        self.assertEqual((found, len(asked)), (Fault(Error('InvalidEnd'), 25), 2))
+        found, asked = self.heard(b'2020-01-01[a=b][c=d][e', lambda count, pair: pair._replace(critical=count == 2))
+        self.assertEqual((found, len(asked)), (Fault(Error('UnrecognizedCritical'), 20), 2))
+
+    def test_no_pair_stands_before_a_fault_of_the_core(self):
+        found, asked = self.heard(b'2020-01-01T24[!a=b]', lambda _, pair: pair)
+        self.assertEqual((found, asked), (Fault(Error('TimeHour'), 13), []))
+
+
+class Letters(unittest.TestCase):
+    """Units and their letters."""
+
+    def test_wide(self):
+        self.assertEqual(places.letters_of([0, 1, 65, 126, 127, 128, 0xffff], True),
+                         places.BAD + '\x01A~' + 3 * places.BAD)
+
+    def test_bytes(self):
+        self.assertEqual(places.letters_of(range(256), False), ''.join(map(chr, range(256))))
+
+    def test_a_byte_that_no_class_has_is_another_letter(self):
+        for unit in (0, 127, 128, 255):
+            self.assertEqual(places.outcome('parse', [50, unit]), Fault(Error('DateYear'), 1))
+            self.assertEqual(places.outcome('parse', [50, unit], wide=True), Fault(Error('NonAsciiCodePoint'), 1))
+
+
+class Widths(unittest.TestCase):
+    """Places of 16-bit text beside those of 8-bit text of the same units."""
+
+    # a first bracket that is looked through, up to a unit that stands for no letter in 16-bit text
+    LOOKED_THROUGH = re.compile(r'[^\[]*\[!?[a-z_][^=\]]*\Z')
+
+    def both(self, it: Example, units: list[int]) -> tuple:
+        """The outcomes in the two widths."""
+        return tuple(places.outcome(it.reader, units, wide, it.strict) for wide in (False, True))
+
+    def test_plain_units_have_one_outcome(self):
+        for it in plain_examples():
+            narrow, wide = self.both(it, it.units)
+            self.assertEqual(narrow, wide, it)
+
+    def test_another_unit(self):
+        """One outcome where the 8-bit reader needs no letter from this unit on, and does not look through a first bracket."""
+        for it in plain_examples():
+            for at in range(len(it.units) + 1):
+                units = it.units[:at] + [128] + it.units[at:]
+                narrow, wide = self.both(it, units)
+                one = self.stops_before(it, units, narrow, at) and not self.looks_through(it, units[:at])
+                self.assertEqual(wide, narrow if one else Fault(Error('NonAsciiCodePoint'), at), (it, at))
+
+    def stops_before(self, it: Example, units: list[int], narrow: Fault, at: int) -> bool:
+        """Whether the error of 8-bit text speaks of what stands before this unit alone."""
+        row = places.READERS[it.strict][it.reader].row(places.letters_of(units, False))
+        of_a_letter = row.row == places.AT_OTHER and narrow == Fault(row.error, row.place)
+        return narrow.place < at if of_a_letter else narrow.place <= at
+
+    def looks_through(self, it: Example, front: list[int]) -> bool:
+        """Whether a front is a core and the beginning of a first bracket that is looked through."""
+        letters = places.letters_of(front, False)
+        core = places.READERS[it.strict][it.reader].core_of_brackets
+        return core.match(letters) is not None and self.LOOKED_THROUGH.match(letters) is not None
+
+
+class Program(unittest.TestCase):
+    """Lines of the program's protocol."""
+
+    def run_on(self, given: bytes, *arguments: str) -> list[str]:
+        """The answers to lines of standard input."""
+        program = [sys.executable, os.path.join(TOOLS, 'places.py'), *arguments]
+        run = subprocess.run(program, input=given, stdout=subprocess.PIPE, check=True)
+        return run.stdout.decode('ascii').splitlines()
+
+    def test_lines(self):
+        given = b'parse 2024-03-02\nparse 2020-13-01\nstrict-month-day 11-00\ncanonical 2020\nparse\nhello x\nparse \xff\nzone UTC'
+        self.assertEqual(self.run_on(given), [
+            'ok', 'error Parsed month value not in a valid range. at 7', 'error MonthDay was not valid. at 5',
+            'error Parsing ended abruptly while parsing Date at 4', 'error unknown reader', 'error unknown reader',
+            'error Invalid chracter while parsing year value. at 0', 'ok'])
+
+    def test_every_byte_of_the_text_counts(self):
+        self.assertEqual(places.answer(b'parse 2024-03-02\r'), 'error Unexpected character found after parsing was completed. at 10')
+        self.assertEqual(places.answer(b'parse 2024-03-02 '), 'error Parsing ended abruptly while parsing digit at 11')
+        self.assertEqual(places.answer(b'offset '), 'error Parsing ended abruptly while parsing time-numoffset at 0')
+
+    def test_long_lines(self):
+        longest = b'iana ' + b'a' * 4091
+        self.assertEqual(places.answer(longest), 'ok')
+        self.assertEqual(places.answer(longest + b'a'), 'error line too long')
+
+    def test_utf16(self):
+        given = 'iana S\u00e3o\niana Sao\niana \U0001f600\niana \x7f'.encode() + b'\niana S\xff'
+        bad = 'error Code point was not ASCII at '
+        self.assertEqual(self.run_on(given, '--utf16', '-'), [bad + '1', 'ok', bad + '0', bad + '0', bad + '1'])
+        self.assertEqual(places.utf16_units('a\U0001f600'.encode()), [97, 0xd83d, 0xde00])
+
+
+if __name__ == '__main__':
+    unittest.main()
