@@ -13,7 +13,7 @@ use Rattle.ixdtf_grammar.specs.language.Readers.{Reader}
 use Rattle.ixdtf_grammar.specs.language.Languages.{Parsed, Derives}
 use Rattle.ixdtf_grammar.specs.language.Languages.Found.{parsed}
 use Rattle.ixdtf_grammar.specs.table.Outcomes.Outcome.{derived}
-use Rattle.ixdtf_grammar.specs.Handlers.{Reply, first_calendar, RefusedBeside, NoneRefused, calendar_value, with_calendar, GivesRecord, GivesFault, GivesOnlyFault, pair_of, Calls}
+use Rattle.ixdtf_grammar.specs.Handlers.{Reply, first_calendar, RefusedBeside, NoneRefused, calendar_value, with_calendar, GivesRecord, GivesFault, pair_of, Calls}
 use Rattle.ixdtf_grammar.specs.Handlers.{handed, replies_of, Step, IsChain, own_replies, Handled, HandledTo, UnhandledRecord, UnhandledFault}
 use Rattle.ixdtf_reading.specs.reading.Chains.{TextGives, TextRead}
 use Rattle.ixdtf_reading.specs.reading.Looks.{Placed}

@@ -1,12 +1,12 @@
 -- From what the code replied for a chain of calls to where a fault stands, by a handler's clauses.
-use Rattle.std.proofs.Common.{◌≡◌, ℕ, ◌+◌, ◌≤◌, length, arith, List, Result, Ok, Err, refl, sym, ◌∙◌, ap, inl, inr}
+use Rattle.std.proofs.Common.{◌≡◌, ℕ, ◌+◌, ◌≤◌, length, arith, List, Ok, Err, sym, ◌∙◌, ap, inl, inr}
 use Rattle.std.proofs.lemmas.List.{length-append, length-map}
 use Rattle.ixdtf_grammar.specs.language.Letters.{Text}
 use Rattle.ixdtf_grammar.specs.language.Brackets.{Pair}
 use Rattle.ixdtf_grammar.specs.language.Languages.{Parsed}
 use Rattle.ixdtf_grammar.specs.language.Readers.{Reader}
 use Rattle.ixdtf_grammar.specs.table.Faults.{Fault}
-use Rattle.ixdtf_grammar.specs.Handlers.{Reply, GivesOnlyFault, Calls, handed, replies_of, Step}
+use Rattle.ixdtf_grammar.specs.Handlers.{Reply, Calls, handed, replies_of, Step}
 use Rattle.ixdtf_grammar.specs.Places.{GivesFaultAt, HandledAt, UnhandledFaultAt}
 use Rattle.ixdtf_reading.specs.declared.stop.StopAt.{StopAt}
 use Rattle.ixdtf_reading.specs.reading.Chains.{TextGives, TextRead}

@@ -5,7 +5,7 @@ use Rattle.ixdtf_grammar.specs.Handlers.{Reply, LastRefused, GivesFault, own_rep
 use Rattle.ixdtf_grammar.specs.Laws.{OnePlace}
 use Rattle.ixdtf_grammar.specs.Places.{GivesFaultAt, UnhandledFaultAt, UnhandledOnlyPlace}
 use Rattle.ixdtf_grammar.specs.language.Letters.{Text}
-use Rattle.ixdtf_grammar.specs.language.Brackets.{Pair, ArePairs, ZoneNote}
+use Rattle.ixdtf_grammar.specs.language.Brackets.{Pair, ArePairs}
 use Rattle.ixdtf_grammar.specs.language.Cores.{Core}
 use Rattle.ixdtf_grammar.specs.language.Readers.{Reader, CoreKind}
 use Rattle.ixdtf_grammar.specs.language.Readers.Reader.{bracketed}

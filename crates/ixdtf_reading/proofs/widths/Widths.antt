@@ -1,5 +1,5 @@
 -- Two widths: numbers from 1 to 126 are the same letters in each, and the first other one is Bad as a 16-bit unit.
-use Rattle.std.proofs.Common.{◌≡◌, ◌⊎◌, ℕ, suc, ◌+◌, ◌-◌, length, arith, Bool, true, false, cond, IsTrue, IsFalse, List, [], ◌∷◌, ◌++◌, not, All, Any, if◌then◌else◌, refl, sym, ◌∙◌, ap, subst, inl, inr}
+use Rattle.std.proofs.Common.{◌≡◌, ◌⊎◌, ℕ, suc, ◌-◌, length, arith, Bool, true, false, cond, IsTrue, IsFalse, List, [], ◌∷◌, ◌++◌, not, All, Any, if◌then◌else◌, refl, sym, ◌∙◌, ap, subst, inl, inr}
 use Rattle.std.specs.List.{list_any}
 use Rattle.std.proofs.lemmas.List.Elements.{All-nil, All-cons, All-head, All-tail}
 use Rattle.std.proofs.lemmas.List.{length-append}
@@ -24,7 +24,7 @@ use Rattle.ixdtf_grammar.specs.table.Rows.{left_at}
 use Rattle.ixdtf_reading.proofs.code.Located.{left_fits}
 use Rattle.ixdtf_reading.proofs.theorems.OnePlace.{without_place}
 use Rattle.ixdtf_reading.proofs.theorems.OneUnhandledOutcome.{unhandled_outcome}
-use Rattle.ixdtf_grammar.proofs.widths.FirstBad.{Sees, plain_sees_nothing, sees_after, moved_to, left_moved}
+use Rattle.ixdtf_grammar.proofs.widths.FirstBad.{Sees, plain_sees_nothing, sees_after, left_moved}
 use Rattle.ixdtf_reading.proofs.widths.PlainBefore.{row_moved, fits_move}
 use Rattle.ixdtf_grammar.proofs.widths.PlainDurations.{duration_plain}
 use Rattle.ixdtf_grammar.proofs.widths.PlainTexts.{IsPlain, plain_append, signed_plain, zone_plain, plain_name, core_plain, tail_plain}
