@@ -13,7 +13,7 @@ ghost use Rattle.ixdtf_grammar.specs.Laws.{EveryDateTimeIsRead, EveryNameIsAnIde
 ghost use Rattle.ixdtf_grammar.specs.Laws.{OffsetsAgree, HyphensSayNothing, OneHyphenIsRefused, OneResult, OnePlace, OneChain};
 ghost use Rattle.ixdtf_grammar.specs.Laws.{DefaultIs, ClonesAreEqual, IsEqualityBy};
 ghost use Rattle.ixdtf_grammar.specs.Widths.{OneUnhandledOutcome, SameWhereShared, FaultWhereNotShared};
-ghost use Rattle.ixdtf_grammar.specs.Widths.{SamePlaceWhereShared, PlaceWhereNotShared};
+ghost use Rattle.ixdtf_grammar.specs.Widths.{SamePlaceWhereShared, PlaceWhereNotShared, NonAsciiIsFirst, NonAsciiIsWide};
 ghost use Rattle.ixdtf_grammar.specs.table.Outcomes.{OneOutcome, FrontsBegin, NoRowFits};
 ghost use Rattle.ixdtf_grammar.specs.language.Fractions.{exact_nanoseconds_of, nanoseconds_of};
 ghost use Rattle.ixdtf_grammar.specs.Views.{unread_of, LeavesBehind, returned, returned_by, zone_of, note_of, parsed_of};
@@ -101,15 +101,17 @@ pub fn languages_disjoint()
 /// - On numbers from 1 to 126 the two widths have the same outcome.
 /// - With any other number 16-bit units have an error: `NonAsciiCodePoint`, or the one that 8-bit units have where 128 stands
 ///   in the place of each such number.
-/// - The places of errors: on numbers from 1 to 126 the two widths have the same errors at the same places. With any other
-///   number the error of 16-bit units is `NonAsciiCodePoint` at the first such number, or 8-bit units have it at the same
-///   place where 128 stands in the place of each such number.
+/// - It is so of the places of errors too: on numbers from 1 to 126 the two widths have the same errors at the same places, and
+///   with any other number the error of 16-bit units is `NonAsciiCodePoint`, or stands where 8-bit units have it with 128.
+/// - `NonAsciiCodePoint` stands at the first number that is not from 1 to 126, and never comes from 8-bit units.
 pub fn widths_agree()
     ensures one { OneUnhandledOutcome }
     ensures same { SameWhereShared }
     ensures fault { FaultWhereNotShared }
     ensures same_place { SamePlaceWhereShared }
     ensures place { PlaceWhereNotShared }
+    ensures first { NonAsciiIsFirst }
+    ensures wide { NonAsciiIsWide }
 {}
 
 /// Where [`Fraction::to_nanoseconds`] returns `Some`, [`Fraction::to_truncated_nanoseconds`] returns the same number.

@@ -79,14 +79,21 @@ abbrev pub SamePlaceWhereShared : Type 0
 SamePlaceWhereShared = (reader : Reader) (numbers : List ℕ) → All (λ n. IsTrue (is_shared n)) numbers
     → (fault : Fault) (at : ℕ) → HasUnhandledFaultAt reader (wide_text numbers) fault at ↔ HasUnhandledFaultAt reader (byte_text numbers) fault at
 
+-- With another number the 16-bit reading has a fault at a place: `NonAsciiCodePoint`, or one that the mask as 8-bit units has there too.
+abbrev pub PlaceWhereNotShared : Type 0
+PlaceWhereNotShared = (reader : Reader) (numbers : List ℕ) → Any (λ n. IsFalse (is_shared n)) numbers
+    → (fault : Fault) × (at : ℕ) × HasUnhandledFaultAt reader (wide_text numbers) fault at
+    × ((fault ≡ NonAsciiCodePoint) ⊎ HasUnhandledFaultAt reader (byte_text (mask numbers)) fault at)
+
 -- so many numbers stand before the first that is not from 1 to 126
 abbrev pub IsFirstNotShared : List ℕ → ℕ → Type 0
 IsFirstNotShared numbers at =
     (front rest : List ℕ) × (n : ℕ) × (numbers ≡ front ++ (n ∷ rest)) × (at ≡ length front) × All (λ n. IsTrue (is_shared n)) front × IsFalse (is_shared n)
 
--- With another number the 16-bit reading has a fault at a place: `NonAsciiCodePoint` at the first such number, or one that the mask
--- as 8-bit units has there too.
-abbrev pub PlaceWhereNotShared : Type 0
-PlaceWhereNotShared = (reader : Reader) (numbers : List ℕ) → Any (λ n. IsFalse (is_shared n)) numbers
-    → (fault : Fault) × (at : ℕ) × HasUnhandledFaultAt reader (wide_text numbers) fault at
-    × (((fault ≡ NonAsciiCodePoint) × IsFirstNotShared numbers at) ⊎ HasUnhandledFaultAt reader (byte_text (mask numbers)) fault at)
+-- The 16-bit reading has `NonAsciiCodePoint` at the first number that is not from 1 to 126, and nowhere else.
+abbrev pub NonAsciiIsFirst : Type 0
+NonAsciiIsFirst = (reader : Reader) (numbers : List ℕ) (at : ℕ) → HasUnhandledFaultAt reader (wide_text numbers) NonAsciiCodePoint at → IsFirstNotShared numbers at
+
+-- The 8-bit reading never has it.
+abbrev pub NonAsciiIsWide : Type 0
+NonAsciiIsWide = (reader : Reader) (numbers : List ℕ) (at : ℕ) → ¬ (HasUnhandledFaultAt reader (byte_text numbers) NonAsciiCodePoint at)

@@ -5,11 +5,11 @@ use Rattle.ixdtf_grammar.specs.language.Letters.Letter.{Plain, Bad}
 use Rattle.ixdtf_grammar.specs.language.Shapes.{Shape, nothing, ◌then◌, ◌either◌, anything}
 use Rattle.ixdtf_grammar.specs.language.Brackets.{FirstIs}
 use Rattle.ixdtf_grammar.specs.table.Faults.{Fault}
-use Rattle.ixdtf_grammar.specs.table.Faults.Fault.{NonAsciiCodePoint}
 use Rattle.ixdtf_grammar.specs.table.Lines.{Line}
 use Rattle.ixdtf_grammar.specs.table.Lines.Line.{line, scanned, whole}
 use Rattle.ixdtf_grammar.specs.table.Rows.{Place, Stops, left_at}
 use Rattle.ixdtf_grammar.specs.table.Rows.Place.{end, other, bad, anywhere}
+use Rattle.ixdtf_grammar.proofs.theorems.NoRow.{BeginsBad}
 use Rattle.ixdtf_grammar.proofs.widths.PlainTexts.{IsPlain, PlainShape, plain_nowhere, plain_one, plain_many}
 
 -- The text has a Bad, and the other text has the letters before the first one.
@@ -109,10 +109,6 @@ moved_to rest (end left) = end rest
 moved_to rest (other left) = other rest
 moved_to rest (bad left) = bad rest
 moved_to rest (anywhere left) = anywhere rest
-
--- the text begins with a Bad, and the fault is that of it
-abbrev pub BeginsBad : Fault → Text → Type 0
-BeginsBad fault text = (more : Text) × (text ≡ Bad ∷ more) × (fault ≡ NonAsciiCodePoint)
 
 -- what a place in another text leaves there
 pub left_moved : (rest : Text) (place : Place) → left_at (moved_to rest place) ≡ rest

@@ -33,7 +33,8 @@ use Rattle.ixdtf_reading.proofs.parts.Fronts.{month_day_front_stays}
 use Rattle.ixdtf_grammar.proofs.widths.PlainTexts.{IsPlain, plain_append, PlainShape, plain_nowhere, plain_nothing, plain_one, plain_with, ◌and_then◌, plain_some}
 use Rattle.ixdtf_grammar.proofs.widths.PlainTexts.{date_plain, time_plain, plain_mark, marked_plain, core_plain, opens_plain, tail_plain}
 use Rattle.ixdtf_grammar.proofs.widths.FirstBad.{Sees, sees_after, Moves, moves_anything, moves_nothing, moves_then, moves_either, moves_first}
-use Rattle.ixdtf_grammar.proofs.widths.FirstBad.{Stands, alone, ahead, ahead_where, besides, stands_either, never, moved_to, BeginsBad, stops_move}
+use Rattle.ixdtf_grammar.proofs.widths.FirstBad.{Stands, alone, ahead, ahead_where, besides, stands_either, never, moved_to, stops_move}
+use Rattle.ixdtf_grammar.proofs.theorems.NoRow.{BeginsBad}
 use Rattle.ixdtf_grammar.proofs.widths.PlainLines.{plain_line}
 
 -- ---- lines of cores

@@ -7,7 +7,9 @@ use Rattle.std.proofs.lemmas.List.Folds.{list_any-from_Any}
 use Rattle.ixdtf_grammar.specs.Handlers.{UnhandledFault, own_replies}
 use Rattle.ixdtf_grammar.specs.Places.{UnhandledFaultAt, HasUnhandledFaultAt}
 use Rattle.ixdtf_grammar.specs.Widths.{UnhandledOutcome, HasWithPairs, HasAlone, HasUnhandledOutcome, is_shared, wide_text, byte_text, mask, SameWhereShared}
-use Rattle.ixdtf_grammar.specs.Widths.{FaultWhereNotShared, SamePlaceWhereShared, IsFirstNotShared, PlaceWhereNotShared}
+use Rattle.ixdtf_grammar.specs.Widths.{FaultWhereNotShared, SamePlaceWhereShared, PlaceWhereNotShared, IsFirstNotShared, NonAsciiIsFirst, NonAsciiIsWide}
+use Rattle.ixdtf_grammar.proofs.theorems.NoRow.{fault_of_bad}
+use Rattle.ixdtf_reading.proofs.code.OneMoreReply.{refused_split}
 use Rattle.ixdtf_grammar.specs.Widths.UnhandledOutcome.{read_as, faulted}
 use Rattle.ixdtf_grammar.specs.language.Brackets.{Pair}
 use Rattle.ixdtf_grammar.specs.language.Languages.Derives.{as_parsed, as_shifted, as_identified, as_named, as_lasting}
@@ -198,8 +200,7 @@ place_where_not_shared reader numbers some =
       at,
       there,
       elim (place_moves _ _ sees reader fault at there) [
-        | inl p ↦ let (front, more, plain, is, lengths) = p.1 in
-            inl (p.0, subst (λ n. IsFirstNotShared numbers n) (sym lengths) (first_not_shared numbers front more plain is))
+        | inl p ↦ inl p.0
         | inr q ↦ inr q
       ],
     )
@@ -210,7 +211,51 @@ fault_where_not_shared reader numbers some =
       fault,
       fault_of_place reader (wide_text numbers) fault at there,
       elim where_it_is [
-        | inl p ↦ inl p.0
+        | inl is ↦ inl is
         | inr q ↦ inr (fault_of_place reader (byte_text (mask numbers)) fault at q)
       ],
     )
+
+-- no letter of 8-bit units is Bad
+no_bad_byte : (numbers : List ℕ) (front more : Text) → byte_text numbers ≡ front ++ (Bad ∷ more) → ⊥
+no_bad_byte [] [] more is = cc
+no_bad_byte [] (x ∷ front) more is = cc
+no_bad_byte (n ∷ numbers) [] more is = cc
+no_bad_byte (n ∷ numbers) (x ∷ front) more is = let tail : byte_text numbers ≡ front ++ (Bad ∷ more) = cc in no_bad_byte numbers front more tail
+
+never_alone : (reader : Reader) (numbers : List ℕ) (pairs : List Pair) (at : ℕ) → ¬ (HasFaultAt reader (byte_text numbers) pairs NonAsciiCodePoint at)
+never_alone reader numbers pairs at (row, fits, has, lengths) =
+    let (front, more, is) = fault_of_bad reader (byte_text numbers) pairs (row, fits, has) in no_bad_byte numbers front more is
+
+never_unhandled : (reader : Reader) (numbers : List ℕ) (at : ℕ) → ¬ (UnhandledFaultAt reader (byte_text numbers) NonAsciiCodePoint at)
+never_unhandled reader numbers at (pairs, inl h) = elim (refused_split _ _ NonAsciiCodePoint h.1.refused) [
+  | inl p ↦ let is = p.0 in cc
+  | inr p ↦ let is = p.0 in cc
+]
+never_unhandled reader numbers at (pairs, inr h) = never_alone reader numbers pairs at h.0
+
+pub non_ascii_is_wide : NonAsciiIsWide
+non_ascii_is_wide (bracketed kind) numbers at h = never_unhandled (bracketed kind) numbers at h
+non_ascii_is_wide reader numbers at h = never_alone reader numbers [] at h
+
+-- numbers are the same letters in both widths, or some of them is not shared
+sees_or_same : (numbers : List ℕ) → Sees (wide_text numbers) (byte_text (mask numbers)) ⊎ (wide_text numbers ≡ byte_text numbers)
+sees_or_same [] = inr refl
+sees_or_same (n ∷ numbers) = by_first _ refl (sees_or_same numbers)
+  where
+    by_first : (b : Bool) → is_shared n ≡ b → Sees (wide_text numbers) (byte_text (mask numbers)) ⊎ (wide_text numbers ≡ byte_text numbers)
+        → Sees (wide_letter n ∷ wide_text numbers) (Plain (if is_shared n then n else 128) ∷ byte_text (mask numbers))
+        ⊎ (wide_letter n ∷ wide_text numbers ≡ Plain n ∷ byte_text numbers)
+    by_first true is (inl more) = rw is (inl (byte_text (mask numbers), refl, more))
+    by_first true is (inr same) = rw is (inr (ap (λ t. Plain n ∷ t) same))
+    by_first false is more = rw is (inl tt)
+
+pub non_ascii_is_first : NonAsciiIsFirst
+non_ascii_is_first reader numbers at h = elim (sees_or_same numbers) [
+  | inl sees ↦ elim (place_moves _ _ sees reader NonAsciiCodePoint at h) [
+    | inl p ↦ let (front, more, plain, is, lengths) = p.1 in
+        subst (λ n. IsFirstNotShared numbers n) (sym lengths) (first_not_shared numbers front more plain is)
+    | inr q ↦ absurd (non_ascii_is_wide reader (mask numbers) at q)
+  ]
+  | inr same ↦ absurd (non_ascii_is_wide reader numbers at (subst (λ t. HasUnhandledFaultAt reader t NonAsciiCodePoint at) same h))
+]
