@@ -260,7 +260,10 @@ fn reads_both_widths_as_one(rt: HostRuntime) {
 fn finds_one_place_in_both_widths(rt: HostRuntime) {
     let month: [u16; 7] = [50, 48, 50, 48, 45, 49, 51];
     assert_eq!(rt; places_of_both("2020-13".as_bytes(), &month), Some((7, 7)));
-    assert_eq!(rt; places_of_both("2020-1".as_bytes(), &month[..6]), Some((6, 6)));
+    assert_eq!(rt;
+        places_of_both("2020-1".as_bytes(), &month[..6]),
+        Some((6, 6))
+    );
 }
 
 #[test]
