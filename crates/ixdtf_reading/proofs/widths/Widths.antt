@@ -98,7 +98,7 @@ unhandled_fault_moves reader text other_text sees fault at (pairs, inr h) = elim
   | inr other_fault ↦ inr (pairs, inr (other_fault, h.1))
 ]
 
--- the place of a fault
+-- a fault has a place
 row_place : (reader : Reader) (text : Text) (pairs : List Pair) (fault : Fault) → HasFault reader text pairs fault → (at : ℕ) × HasFaultAt reader text pairs fault at
 row_place reader text pairs fault (row, fits, has) =
     let short = left_fits reader row pairs text fits in (length text - length (left_at row.place), (row, fits, has, omega (arith, short)))
@@ -112,7 +112,7 @@ place_of : (reader : Reader) (text : Text) (fault : Fault) → HasUnhandledOutco
 place_of (bracketed kind) text fault h = unhandled_place (bracketed kind) text fault h
 place_of reader text fault h = row_place reader text [] fault h
 
--- the fault of a place
+-- and without it, is the outcome
 fault_of_place : (reader : Reader) (text : Text) (fault : Fault) (at : ℕ) → HasUnhandledFaultAt reader text fault at → HasUnhandledOutcome reader text (faulted fault)
 fault_of_place (bracketed kind) text fault at h = (h.0, without_place (bracketed kind) text h.0 (own_replies h.0) fault at h.1)
 fault_of_place reader text fault at h = (h.0, h.1, h.2)
@@ -140,7 +140,7 @@ module _ (text other_text : Text) (sees : Sees text other_text) where
   place_moves (bracketed kind) fault at h = unhandled_fault_moves (bracketed kind) text other_text sees fault at h
   place_moves reader fault at h = fault_moves reader text other_text sees [] fault at h
 
--- ---- the law
+-- ---- outcomes and places in two widths
 
 pub same_where_shared : SameWhereShared
 same_where_shared reader numbers all outcome =
@@ -149,6 +149,39 @@ same_where_shared reader numbers all outcome =
 
 some_not_shared : (numbers : List ℕ) → Any (λ n. IsFalse (is_shared n)) numbers → IsTrue (list_any (λ n. not (is_shared n)) numbers)
 some_not_shared numbers h = list_any-from_Any (λ n. not _) numbers (h.0, h.1, h.2, h.3, ap not h.4)
+
+pub same_place_where_shared : SamePlaceWhereShared
+same_place_where_shared reader numbers all fault at =
+    let same = same_letters numbers all in
+    (subst (λ t. HasUnhandledFaultAt reader t fault at) same, subst (λ t. HasUnhandledFaultAt reader t fault at) (sym same))
+
+pub place_where_not_shared : PlaceWhereNotShared
+place_where_not_shared reader numbers some =
+    let outcome = unhandled_outcome reader (wide_text numbers) in
+    let sees = mask_sees numbers (some_not_shared numbers some) in
+    let (fault, has) = outcome_fault _ _ sees reader outcome.0 outcome.1 in
+    let (at, there) = place_of reader (wide_text numbers) fault has in (
+      fault,
+      at,
+      there,
+      elim (place_moves _ _ sees reader fault at there) [
+        | inl p ↦ inl p.0
+        | inr q ↦ inr q
+      ],
+    )
+
+pub fault_where_not_shared : FaultWhereNotShared
+fault_where_not_shared reader numbers some =
+    let (fault, at, there, where_it_is) = place_where_not_shared reader numbers some in (
+      fault,
+      fault_of_place reader (wide_text numbers) fault at there,
+      elim where_it_is [
+        | inl is ↦ inl is
+        | inr q ↦ inr (fault_of_place reader (byte_text (mask numbers)) fault at q)
+      ],
+    )
+
+-- ---- where the fault of Bad stands
 
 -- the first Bad is the first number that is not shared
 not_shared : (n : ℕ) → wide_letter n ≡ Bad → IsFalse (is_shared n)
@@ -183,37 +216,6 @@ first_not_shared (n ∷ numbers) (Plain c ∷ front) more plain is =
       ap suc lengths,
       All-cons (λ x. IsTrue (is_shared x)) n first (is_plain n c head) all,
       not_so,
-    )
-
-pub same_place_where_shared : SamePlaceWhereShared
-same_place_where_shared reader numbers all fault at =
-    let same = same_letters numbers all in
-    (subst (λ t. HasUnhandledFaultAt reader t fault at) same, subst (λ t. HasUnhandledFaultAt reader t fault at) (sym same))
-
-pub place_where_not_shared : PlaceWhereNotShared
-place_where_not_shared reader numbers some =
-    let outcome = unhandled_outcome reader (wide_text numbers) in
-    let sees = mask_sees numbers (some_not_shared numbers some) in
-    let (fault, has) = outcome_fault _ _ sees reader outcome.0 outcome.1 in
-    let (at, there) = place_of reader (wide_text numbers) fault has in (
-      fault,
-      at,
-      there,
-      elim (place_moves _ _ sees reader fault at there) [
-        | inl p ↦ inl p.0
-        | inr q ↦ inr q
-      ],
-    )
-
-pub fault_where_not_shared : FaultWhereNotShared
-fault_where_not_shared reader numbers some =
-    let (fault, at, there, where_it_is) = place_where_not_shared reader numbers some in (
-      fault,
-      fault_of_place reader (wide_text numbers) fault at there,
-      elim where_it_is [
-        | inl is ↦ inl is
-        | inr q ↦ inr (fault_of_place reader (byte_text (mask numbers)) fault at q)
-      ],
     )
 
 -- no letter of 8-bit units is Bad
