@@ -23,6 +23,7 @@ pub(super) fn no_record<'a>() -> Record<'a> {
         calendar: &[],
         has_calendar: false,
         location: &[],
+        place: 0,
     }
 }
 

@@ -22,6 +22,7 @@ fn no_record<'a>() -> Record<'a> {
         calendar: &[],
         has_calendar: false,
         location: &[],
+        place: 0,
     }
 }
 

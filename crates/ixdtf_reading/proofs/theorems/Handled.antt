@@ -16,7 +16,7 @@ use Rattle.ixdtf_grammar.specs.table.Outcomes.Outcome.{derived}
 use Rattle.ixdtf_grammar.specs.Handlers.{Reply, first_calendar, RefusedBeside, NoneRefused, calendar_value, with_calendar, GivesRecord, GivesFault, GivesOnlyFault, pair_of, Calls}
 use Rattle.ixdtf_grammar.specs.Handlers.{handed, replies_of, Step, IsChain, own_replies, Handled, HandledTo, UnhandledRecord, UnhandledFault}
 use Rattle.ixdtf_reading.specs.reading.Chains.{TextGives, TextRead}
-use Rattle.ixdtf_grammar.specs.Places.{GivesFaultAt, HandledAt, UnhandledFaultAt}
+use Rattle.ixdtf_grammar.specs.Places.{GivesFaultAt, HandledAt, HandledToAt, UnhandledFaultAt}
 use Rattle.ixdtf_reading.specs.declared.stop.StopAt.{StopAt}
 use Rattle.ixdtf_reading.proofs.code.Located.{left_fits as row_left_fits}
 use Rattle.ixdtf_reading.specs.reading.Looks.{Placed}
@@ -256,6 +256,26 @@ module _ {T U F X E : Type 0} (number : U → ℕ) (step : Step T U F) (handler 
         ok = rw is_named plain.ok;
         err = λ e' is. let same : e ≡ e' = cc in rw (← same) (why.at, is_there, gives);
         only = λ e' is. let same : e ≡ e' = cc in rw (← same) is_only;
+      }
+
+  -- and one that takes the handler by reference
+  pub handled_to_at_ok : (x : X) → TextRead number step handler last reader text (Ok (view x)) → HandledToAt number step handler last reader text named stands view (Ok x)
+  handled_to_at_ok x read = record {
+    plain = handled_to number step handler reader text (Ok (view x)) last read;
+    place = λ e is. absurd cc;
+  }
+
+  pub handled_to_at_err : (why : StopAt) (e : E) → named e ≡ fault_of_stop why.stop → stands why.at e
+      → (left : Text) × (why.at + length left ≡ length text) × TextRead number step handler last reader text (Err (fault_of_stop why.stop, left))
+      → HandledToAt number step handler last reader text named stands view (Err e)
+  unfolding handled_to handled_to_of
+  handled_to_at_err why e is_named is_there (left, lengths, read) =
+      let plain = handled_to number step handler reader text (Err (fault_of_stop why.stop, left)) last read in
+      let gives : GivesFaultAt reader text (handed number read.calls) (replies_of number read.calls) (named e) why.at =
+      rw is_named (stands_at reader text _ _ (fault_of_stop why.stop) left why.at lengths read.gives) in
+      record {
+        plain = record { calls = read.calls; chain = read.chain; ok = rw is_named plain.ok; err = rw is_named plain.err; only = rw is_named plain.only };
+        place = λ e' is. let same : e ≡ e' = cc in rw (← same) (why.at, is_there, gives);
       }
 
 -- the place of a text whose pairs reply for themselves

@@ -9,8 +9,8 @@ use Rattle.ixdtf_c.proofs.narrow_readers.ixdtf_parse.Goals as goal
 pub returns-clause-read : goal.returns-clause-read
 returns-clause-read c = rw (← c.from_utf8.ensures.rest, ← c.from_utf8.ensures.profile) (
   _,
-  crossed_record _ _ _ _ c.parse.result c.parse.ensures.ok c.parse.ensures.err c.parse.ensures.no_row c.parse.ensures.alone
-      c.parse.ensures.only,
+  crossed_record _ _ _ _ c.parse_located.result c.parse_located.ensures.ok c.parse_located.ensures.err c.parse_located.ensures.no_row c.parse_located.ensures.alone
+      c.parse_located.ensures.only,
   c.give.ensures.given,
 )
 

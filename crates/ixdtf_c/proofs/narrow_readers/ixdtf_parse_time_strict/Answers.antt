@@ -4,7 +4,7 @@ use Rattle.ixdtf_c.proofs.narrow_readers.ixdtf_parse_time_strict.Goals as goal
 pub returns-clause-read : goal.returns-clause-read
 returns-clause-read c = rw (← c.from_utf8.ensures.rest, ← c.with_profile-parser.ensures.rest, ← c.with_profile-parser.ensures.profile) (
   _,
-  crossed_record _ _ _ _ c.parse_time.result c.parse_time.ensures.ok c.parse_time.ensures.err c.parse_time.ensures.no_row
-      c.parse_time.ensures.alone c.parse_time.ensures.only,
+  crossed_record _ _ _ _ c.parse_time_located.result c.parse_time_located.ensures.ok c.parse_time_located.ensures.err c.parse_time_located.ensures.no_row
+      c.parse_time_located.ensures.alone c.parse_time_located.ensures.only,
   c.give.ensures.given,
 )

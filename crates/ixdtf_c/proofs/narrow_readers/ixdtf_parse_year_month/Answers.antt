@@ -4,7 +4,7 @@ use Rattle.ixdtf_c.proofs.narrow_readers.ixdtf_parse_year_month.Goals as goal
 pub returns-clause-read : goal.returns-clause-read
 returns-clause-read c = rw (← c.from_utf8.ensures.rest, ← c.from_utf8.ensures.profile) (
   _,
-  crossed_record _ _ _ _ c.parse_year_month.result c.parse_year_month.ensures.ok c.parse_year_month.ensures.err
-      c.parse_year_month.ensures.no_row c.parse_year_month.ensures.alone c.parse_year_month.ensures.only,
+  crossed_record _ _ _ _ c.parse_year_month_located.result c.parse_year_month_located.ensures.ok c.parse_year_month_located.ensures.err
+      c.parse_year_month_located.ensures.no_row c.parse_year_month_located.ensures.alone c.parse_year_month_located.ensures.only,
   c.give.ensures.given,
 )

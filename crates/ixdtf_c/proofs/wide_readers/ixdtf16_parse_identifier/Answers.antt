@@ -4,7 +4,7 @@ use Rattle.ixdtf_c.proofs.wide_readers.ixdtf16_parse_identifier.Goals as goal
 pub returns-clause-read : goal.returns-clause-read
 returns-clause-read c = rw (← c.from_utf16.ensures.rest) (
   _,
-  crossed_part _ _ _ _ c.parse_identifier.result c.parse_identifier.ensures.ok c.parse_identifier.ensures.err
-      c.parse_identifier.ensures.no_row c.parse_identifier.ensures.only,
+  crossed_part _ _ _ _ c.parse_identifier_located.result c.parse_identifier_located.ensures.ok c.parse_identifier_located.ensures.err
+      c.parse_identifier_located.ensures.no_row c.parse_identifier_located.ensures.only c.parse_identifier_located.ensures.place,
   c.give_zone.ensures.given,
 )

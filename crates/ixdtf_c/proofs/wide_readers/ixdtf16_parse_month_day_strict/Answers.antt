@@ -4,7 +4,7 @@ use Rattle.ixdtf_c.proofs.wide_readers.ixdtf16_parse_month_day_strict.Goals as g
 pub returns-clause-read : goal.returns-clause-read
 returns-clause-read c = rw (← c.from_utf16.ensures.rest, ← c.with_profile-parser.ensures.rest, ← c.with_profile-parser.ensures.profile) (
   _,
-  crossed_record _ _ _ _ c.parse_month_day.result c.parse_month_day.ensures.ok c.parse_month_day.ensures.err
-      c.parse_month_day.ensures.no_row c.parse_month_day.ensures.alone c.parse_month_day.ensures.only,
+  crossed_record _ _ _ _ c.parse_month_day_located.result c.parse_month_day_located.ensures.ok c.parse_month_day_located.ensures.err
+      c.parse_month_day_located.ensures.no_row c.parse_month_day_located.ensures.alone c.parse_month_day_located.ensures.only,
   c.give.ensures.given,
 )
