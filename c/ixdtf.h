@@ -13,9 +13,8 @@
  * is what the text gives, whatever stood there before: of a part that the text does not have all fields are 0, false or a slice of length 0,
  * and so are `location` and `place`. After an error the record is as it was, but for these two. `location` is what the text broke off in,
  * as "digit", after IXDTF_ABRUPT_END, and nothing after every other error. `place` is how many units of the text stand before the place of
- * the error: the index of a unit that does not fit, the length of a text that ends too soon, and else the index behind a number that is out
- * of its range, behind what comes in the wrong order or twice, or behind the bracket of an annotation that is refused. docs/FAULTS.md says
- * it of each error.
+ * the error: that of a unit that does not fit, or the end of a text that ends too soon, or just behind what is wrong as a whole, as a number
+ * that is out of its range or the bracket of an annotation that is refused. docs/FAULTS.md says it of each error.
  *
  * RECORDS. The caller owns every record, array and text. A record is handed in initialised, by the macro of its type (IXDTF_RECORD for an
  * ixdtf_record) or by a call before, and aligned as its type; whatever a call left in it may stand there, also slices of a text that is

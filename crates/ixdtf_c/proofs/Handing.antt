@@ -14,7 +14,7 @@ use Rattle.ixdtf.specs.language.Languages.{Parsed}
 use Rattle.ixdtf.specs.table.Faults.{Fault}
 use Rattle.ixdtf.specs.Handlers.{Reply, calendar_value, first_calendar, NoneRefused, LastRefused, Calls, IsChain, Step, handed, replies_of, pair_of, Handled}
 use Rattle.ixdtf_reading.proofs.code.OneMoreReply.{first_calendar-more, NoneRefused-nothing, NoneRefused-more}
-use Rattle.ixdtf_reading.proofs.theorems.Handled.{handled as handled_by}
+use Rattle.ixdtf_reading.proofs.theorems.Handled.{handled_of}
 use Rattle.ixdtf_c.specs.Crossing.{Contents, Gives, units_for, is_there}
 use Rattle.ixdtf_c.specs.Listing.{Lists}
 use Rattle.ixdtf_c.specs.Located.{FaultAt, unplaced}
@@ -158,12 +158,9 @@ module _ {T U F A : Type 0} {number : U → ℕ} {step : Step T U F} {handler la
 
   -- none of its replies was refused
   pub handled_all : result ≡ 0 → Handled number step handler (bracketed kind) text (unplaced (with_kept kept listed))
-  handled_all zeroed = rw (unplaced_kept kept listed) (handled_by number step handler (bracketed kind) text (with_kept kept (unplaced listed)) last record {
-    calls = turns.calls;
-    chain = turns.chain;
-    gives = rw (turns.first zeroed, turns.all zeroed ∙ shown)
-        (gives_all profile kind text (map view listing.annotations) listed (replies_of number turns.calls) listing.read (turns.accepted zeroed));
-  })
+  handled_all zeroed = rw (unplaced_kept kept listed) (handled_of number step handler (bracketed kind) text (with_kept kept (unplaced listed)) turns.calls last turns.chain
+      (rw (turns.first zeroed, turns.all zeroed ∙ shown)
+      (gives_all profile kind text (map view listing.annotations) listed (replies_of number turns.calls) listing.read (turns.accepted zeroed))))
 
   -- the last of its replies was refused
   pub handled_refused : (fault : Fault) → LastRefused (replies_of number turns.calls) fault → Handled number step handler (bracketed kind) text (Err fault)
@@ -179,11 +176,5 @@ module _ {T U F A : Type 0} {number : U → ℕ} {step : Step T U F} {handler la
         ap length none,
         length-append (handed number turns.calls) behind,
       ) in
-      handled_by number step handler (bracketed kind) text (Err fault) last record {
-        calls = turns.calls;
-        chain = turns.chain;
-        gives = inl (
-          front_of profile kind text (map view listing.annotations) listed (handed number turns.calls) behind listing.read split some,
-          stop,
-        );
-      }
+      handled_of number step handler (bracketed kind) text (Err fault) turns.calls last turns.chain
+      (inl (front_of profile kind text (map view listing.annotations) listed (handed number turns.calls) behind listing.read split some, stop))

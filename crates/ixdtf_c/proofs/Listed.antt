@@ -23,6 +23,7 @@ use Rattle.ixdtf_reading.proofs.theorems.OnlyOutcome.{only_fault}
 use Rattle.ixdtf_grammar.proofs.theorems.FewPairs.{derived_few, gives_few}
 use Rattle.ixdtf_c.specs.Listing.{PassesOver, overwritten, Lists}
 use Rattle.ixdtf_c.specs.Located.{FaultAt, HasOutcome, returned_at}
+use Rattle.ixdtf_c.proofs.Crossed.{same_ok}
 
 -- ---- what is written
 
@@ -130,15 +131,15 @@ module _ (kind : CoreKind) (text : Text) where
 
 -- what a listing says of slots and a count that are what it left
 pub lists_left : {A : Type 0} {view : A → Pair} {profile : Profile} {reader : Reader} {text : Text} {old new slots : List A} {count number : ℕ}
-    {outcome : Result Parsed Fault}
+    {outcome : Result Parsed FaultAt}
     → slots ≡ new → number ≡ count → Lists view profile reader text old new count outcome → Lists view profile reader text old slots number outcome
 lists_left same as_many listing = rw (same, as_many) listing
 
 -- the outcome of what a reader of the library returned, whose errors tell their places
-pub outcome_is : {X : Type 0} {view : X → Parsed} (r : Result X LocatedError) {outcome : Result Parsed FaultAt}
+pub outcome_is : {X : Type 0} (view : X → Parsed) (r : Result X LocatedError) {outcome : Result Parsed FaultAt}
     → HasOutcome fault_of_located stands_behind view r outcome → outcome ≡ returned_at view r
-outcome_is (Ok x) has = has
-outcome_is (Err e) (at, there, is) = is ∙ λ i. Err (record { fault = fault_of_located e; at = sym there i })
+outcome_is view (Ok x) has = has
+outcome_is view (Err e) (at, there, is) = is ∙ λ i. Err (record { fault = fault_of_located e; at = sym there i })
 
 -- ---- a chain of calls that list
 
@@ -236,7 +237,10 @@ module _ {T A F : Type 0} (step : Step T ℕ F) (count : F → ℕ) (slots : F �
       of_outcome (Ok x) h no_row alone = (
         Ok (seen x),
         refl,
-        listing h (Ok (seen x)) (λ found. rw (← none h) (h.plain.ok found)) (λ e is. absurd cc) no_row alone,
+        listing h (Ok (seen x)) (λ found. (
+          (λ is. rw (← none h) ((h.plain.ok found).0 (same_ok (seen x) found is))),
+          λ given. same_ok (seen x) found ((h.plain.ok found).1 (rw (none h) given)),
+        )) (λ e is. absurd cc) no_row alone,
       )
       of_outcome (Err e) h no_row alone =
           let (at, there, gives) = h.place e refl in

@@ -91,7 +91,7 @@ module _ {T U F : Type 0} (number : U → ℕ) (step : Step T U F) (handler : F)
   only_err (Err e) pairs replies gives fault is = let same : e ≡ fault = cc in rw (← same) gives
 
   -- what a handler's form promises
-  handled_of : (calls : Calls T U) (last : F) → IsChain step handler calls last → GivesResult reader text (handed number calls) (replies_of number calls) result
+  pub handled_of : (calls : Calls T U) (last : F) → IsChain step handler calls last → GivesResult reader text (handed number calls) (replies_of number calls) result
       → Handled number step handler reader text result
   handled_of calls last chain gives = record {
     calls = calls;

@@ -8,5 +8,5 @@ returns-clause-lists g c =
     let (outcome, has, listing) = c.list_as-read.ensures.lists in (
       outcome,
       lists_left (search rules) refl listing,
-      rw (outcome_is c.list_as-read.result has) c.give.ensures.given,
+      rw (outcome_is _ c.list_as-read.result has) c.give.ensures.given,
     )
