@@ -251,5 +251,5 @@ module _ {T A F : Type 0} (step : Step T ℕ F) (count : F → ℕ) (slots : F �
               (λ is. absurd cc),
               λ given. let is : Err (named e) ≡ Ok found = (h.plain.ok found).1 (rw (none h) given) in absurd cc,
             ))
-            (λ other is. let it : fault_at ≡ other = cc in rw (← it, ← none h) gives) tt tt,
+                (λ other is. let it : fault_at ≡ other = cc in rw (← it, ← none h) gives) tt tt,
           )

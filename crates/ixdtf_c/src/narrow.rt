@@ -12,9 +12,9 @@ ghost use Rattle.ixdtf_c.specs.Narrow.{zone_contents, contents, SameButError};
 
 use crate::errors::number_of;
 use crate::forms::{Date, Offset, Time, is_negative};
+use ixdtf::LocatedError;
 use ixdtf::encoding::Utf8;
 use ixdtf::records::{IxdtfParseRecord, TimeZoneAnnotation, TimeZoneRecord, UtcOffsetRecord};
-use ixdtf::LocatedError;
 
 /// A time zone, where it is there.
 #[derive(Clone, Copy)]
@@ -200,7 +200,10 @@ impl<'a> Record<'a> {
 
 /// Writes what a reader of records returned, and returns 0, or the number of the error.
 #[inline(always)]
-pub fn give<'a>(outcome: &Result<IxdtfParseRecord<'a, Utf8>, LocatedError>, out: &mut Record<'a>) -> u32
+pub fn give<'a>(
+    outcome: &Result<IxdtfParseRecord<'a, Utf8>, LocatedError>,
+    out: &mut Record<'a>,
+) -> u32
     ensures given { Gives (λ found. found) (returned_at (parsed_of (λ unit. unit)) outcome.now) result
         (contents out.old) (contents out.new) }
     ensures unchanged { result ≢ 0 → SameButError out.old out.new }
@@ -233,7 +236,10 @@ pub fn give_offset<'a>(outcome: &Result<UtcOffsetRecord, LocatedError>, out: &mu
 
 /// Writes what a reader of zones returned, and returns 0, or the number of the error.
 #[inline(always)]
-pub fn give_zone<'a>(outcome: &Result<TimeZoneRecord<'a, Utf8>, LocatedError>, out: &mut Record<'a>) -> u32
+pub fn give_zone<'a>(
+    outcome: &Result<TimeZoneRecord<'a, Utf8>, LocatedError>,
+    out: &mut Record<'a>,
+) -> u32
     ensures given { Gives zone_alone (returned_at (zone_of (λ unit. unit)) outcome.now) result
         (contents out.old) (contents out.new) }
     ensures unchanged { result ≢ 0 → SameButError out.old out.new }

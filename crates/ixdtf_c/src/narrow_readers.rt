@@ -43,7 +43,10 @@ pub extern "C" fn ixdtf_parse_year_month<'a>(text: &'a [u8], out: &mut Record<'a
     // After a refusal the record is as it was, its slices too, but for the location and the place.
     ensures unchanged { result ≢ 0 → SameButError out.old out.new }
 {
-    give(&IxdtfParser::from_utf8(text).parse_year_month_located(), out)
+    give(
+        &IxdtfParser::from_utf8(text).parse_year_month_located(),
+        out,
+    )
 }
 
 /// Reads a month and a day, and the brackets after it.
@@ -117,7 +120,10 @@ pub extern "C" fn ixdtf_parse_identifier<'a>(text: &'a [u8], out: &mut Record<'a
     // After a refusal the record is as it was, its slices too, but for the location and the place.
     ensures unchanged { result ≢ 0 → SameButError out.old out.new }
 {
-    give_zone(&TimeZoneParser::from_utf8(text).parse_identifier_located(), out)
+    give_zone(
+        &TimeZoneParser::from_utf8(text).parse_identifier_located(),
+        out,
+    )
 }
 
 /// Reads the name of a time zone.
@@ -145,7 +151,10 @@ pub extern "C" fn ixdtf_parse_duration(text: &[u8], out: &mut Duration<'_>) -> u
     // After a refusal the duration is as it was, but for the location and the place.
     ensures unchanged { result ≢ 0 → SameLastingButError out.old out.new }
 {
-    give_duration(&IsoDurationParser::<Utf8>::from_utf8(text).parse_located(), out)
+    give_duration(
+        &IsoDurationParser::<Utf8>::from_utf8(text).parse_located(),
+        out,
+    )
 }
 
 /// Reads a duration, under the strict profile.

@@ -36,7 +36,10 @@ pub extern "C" fn ixdtf16_parse_year_month<'a>(text: &'a [u16], out: &mut Record
     // After a refusal the record is as it was, its slices too, but for the location and the place.
     ensures unchanged { result ≢ 0 → SameButError out.old out.new }
 {
-    give(&IxdtfParser::from_utf16(text).parse_year_month_located(), out)
+    give(
+        &IxdtfParser::from_utf16(text).parse_year_month_located(),
+        out,
+    )
 }
 
 /// Reads a month and a day, and the brackets after it.
@@ -48,7 +51,10 @@ pub extern "C" fn ixdtf16_parse_month_day<'a>(text: &'a [u16], out: &mut Record<
     // After a refusal the record is as it was, its slices too, but for the location and the place.
     ensures unchanged { result ≢ 0 → SameButError out.old out.new }
 {
-    give(&IxdtfParser::from_utf16(text).parse_month_day_located(), out)
+    give(
+        &IxdtfParser::from_utf16(text).parse_month_day_located(),
+        out,
+    )
 }
 
 /// Reads a time, and the brackets after it.
@@ -98,7 +104,10 @@ pub extern "C" fn ixdtf16_parse_offset<'a>(text: &'a [u16], out: &mut Record<'a>
     // After a refusal the record is as it was, its slices too, but for the location and the place.
     ensures unchanged { result ≢ 0 → SameButError out.old out.new }
 {
-    give_offset(&TimeZoneParser::from_utf16(text).parse_offset_located(), out)
+    give_offset(
+        &TimeZoneParser::from_utf16(text).parse_offset_located(),
+        out,
+    )
 }
 
 /// Reads a time zone.
@@ -110,7 +119,10 @@ pub extern "C" fn ixdtf16_parse_identifier<'a>(text: &'a [u16], out: &mut Record
     // After a refusal the record is as it was, its slices too, but for the location and the place.
     ensures unchanged { result ≢ 0 → SameButError out.old out.new }
 {
-    give_zone(&TimeZoneParser::from_utf16(text).parse_identifier_located(), out)
+    give_zone(
+        &TimeZoneParser::from_utf16(text).parse_identifier_located(),
+        out,
+    )
 }
 
 /// Reads the name of a time zone.
@@ -138,7 +150,10 @@ pub extern "C" fn ixdtf16_parse_duration(text: &[u16], out: &mut Duration<'_>) -
     // After a refusal the duration is as it was, but for the location and the place.
     ensures unchanged { result ≢ 0 → SameLastingButError out.old out.new }
 {
-    give_duration(&IsoDurationParser::<Utf16>::from_utf8(text).parse_located(), out)
+    give_duration(
+        &IsoDurationParser::<Utf16>::from_utf8(text).parse_located(),
+        out,
+    )
 }
 
 /// Reads a duration, under the strict profile.
