@@ -3,7 +3,7 @@ use Rattle.std.proofs.Common.{◌≡◌, ◌≢◌, ◌⊎◌, ◌↔◌, ℕ, B
 use Rattle.ixdtf_grammar.specs.declared.located.LocatedError.{LocatedError}
 use Rattle.ixdtf_grammar.specs.declared.profile.Profile.{Profile}
 use Rattle.ixdtf_grammar.specs.declared.records.DurationParseRecord.{DurationParseRecord}
-use Rattle.ixdtf.specs.table.Faults.{Fault, fault_of_located}
+use Rattle.ixdtf.specs.table.Faults.{fault_of_located}
 use Rattle.ixdtf.specs.table.Faults.Fault.{CriticalDuplicateCalendar}
 use Rattle.ixdtf.specs.table.Outcomes.{HasFaultAt, OnlyFault, OnlyPlace, NoRowFits}
 use Rattle.ixdtf.specs.Views.{returned_by}
