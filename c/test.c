@@ -414,7 +414,7 @@ static void test_printed(const ixdtf_record *record, uint32_t wanted, const char
         }
         check(places == ROOM || out[-1] == 0xa5, "nothing before the bytes is written");
     }
-    check(narrow_same_but_location(&before, record) && same_text(before.location, record->location), "a record that is printed stays");
+    check(narrow_same_but_error(&before, record) && same_text(before.location, record->location) && before.place == record->place, "a record that is printed stays");
 }
 
 /* Texts and their canonical texts, written out by the rules of docs/GRAMMAR.md. */
