@@ -1,4 +1,4 @@
-/* ixdtf.h: a proved reader of date-times of RFC 9557, of offsets and time zones, and of durations, and a printer of date-times; version 1
+/* ixdtf.h: a proved reader of date-times of RFC 9557, of offsets and time zones, and of durations, and a printer of date-times; version 2
  * of the interface.
  *
  * Link libixdtf_c.a. It needs nothing else: it takes no memory, keeps no state, starts no thread and calls no other library, not even
@@ -11,8 +11,10 @@
  *
  * RESULTS. Each reader returns 0 (IXDTF_OK) or the number of the error that the text is refused with. After 0 every field of the record
  * is what the text gives, whatever stood there before: of a part that the text does not have all fields are 0, false or a slice of length 0,
- * and so is `location`. After an error the record is as it was, but for `location`, which IXDTF_ABRUPT_END sets to what the text broke off
- * in, as "digit", and every other error to nothing.
+ * and so are `location` and `place`. After an error the record is as it was, but for these two. `location` is what the text broke off in,
+ * as "digit", after IXDTF_ABRUPT_END, and nothing after every other error. `place` is how many units of the text stand before the place of
+ * the error: that of a unit that does not fit, or the end of a text that ends too soon, or just behind what is wrong as a whole, as a number
+ * that is out of its range or the bracket of an annotation that is refused. docs/FAULTS.md says it of each error.
  *
  * RECORDS. The caller owns every record, array and text. A record is handed in initialised, by the macro of its type (IXDTF_RECORD for an
  * ixdtf_record) or by a call before, and aligned as its type; whatever a call left in it may stand there, also slices of a text that is
@@ -28,8 +30,9 @@
  * blocks, and each returns, in time linear in the length of its text, or of the slices of its record. A call may be made in a signal
  * handler.
  *
- * VERSIONS. Names, order and numbers in this header are stable: a later version adds calls, and numbers behind those that are there, and
- * changes none. ixdtf_interface_version() is that of the library, and is to be at least IXDTF_INTERFACE_VERSION.
+ * VERSIONS. Names, order and numbers in this header are stable: a later version adds calls, numbers and fields behind those that are there.
+ * A program is compiled with the header of the library's own version where a struct grew, as from version 1 to 2, whose records have `place`:
+ * ixdtf_interface_version() is that of the library, and is to be IXDTF_INTERFACE_VERSION.
  */
 #ifndef IXDTF_H
 #define IXDTF_H
@@ -41,7 +44,7 @@ extern "C" {
 #endif
 
 /* The version of the interface that this header is of. */
-#define IXDTF_INTERFACE_VERSION 1
+#define IXDTF_INTERFACE_VERSION 2
 
 /* What a reader returns. ixdtf_error_text has the text of each, docs/FAULTS.md says where each comes. Those marked - are
  * returned by no reader, and keep their numbers. */
@@ -156,6 +159,7 @@ typedef struct ixdtf_record {
     ixdtf_units calendar; /* where has_calendar, and else of length 0 */
     bool has_calendar;
     ixdtf_text location;  /* after IXDTF_ABRUPT_END: what the text broke off in */
+    size_t place;         /* after an error: how many units stand before its place; else 0 */
 } ixdtf_record;
 typedef struct ixdtf16_record {
     ixdtf_date date;
@@ -165,6 +169,7 @@ typedef struct ixdtf16_record {
     ixdtf16_units calendar;
     bool has_calendar;
     ixdtf_text location;
+    size_t place;
 } ixdtf16_record;
 
 /* An annotation of a key and a value, as [u-ca=hebrew]; or a reply to one. */
@@ -188,7 +193,8 @@ typedef struct ixdtf_duration {
     uint8_t time_form;       /* IXDTF_NO_TIME, or the last unit of the time */
     bool has_date;           /* whether there are years, months, weeks or days */
     bool is_negative;
-    ixdtf_text location;
+    ixdtf_text location;     /* this and the next as in ixdtf_record */
+    size_t place;
 } ixdtf_duration;
 
 /* Initial values: ixdtf_record record = IXDTF_RECORD; */
@@ -199,14 +205,14 @@ typedef struct ixdtf_duration {
 #define IXDTF_TIME_ { 0, 0, 0, 0, 0, false }
 #define IXDTF_OFFSET_ { 0, 0, 0, false, 0, 0, 0 }
 #define IXDTF_RECORD_(units) \
-    { IXDTF_DATE_, IXDTF_TIME_, IXDTF_OFFSET_, { units, 0, false, false, 0, 0 }, units, false, IXDTF_NO_TEXT_ }
+    { IXDTF_DATE_, IXDTF_TIME_, IXDTF_OFFSET_, { units, 0, false, false, 0, 0 }, units, false, IXDTF_NO_TEXT_, 0 }
 #define IXDTF_RECORD IXDTF_RECORD_(IXDTF_NO_UNITS_)
 #define IXDTF16_RECORD IXDTF_RECORD_(IXDTF16_NO_UNITS_)
 #define IXDTF_ANNOTATION { IXDTF_NO_UNITS_, IXDTF_NO_UNITS_, false }
 #define IXDTF16_ANNOTATION { IXDTF16_NO_UNITS_, IXDTF16_NO_UNITS_, false }
 #define IXDTF_CALENDAR { IXDTF_NO_UNITS_, false, false }
 #define IXDTF16_CALENDAR { IXDTF16_NO_UNITS_, false, false }
-#define IXDTF_DURATION { 0, 0, 0, 0, 0, 0, 0, 0, 0, 0, false, false, IXDTF_NO_TEXT_ }
+#define IXDTF_DURATION { 0, 0, 0, 0, 0, 0, 0, 0, 0, 0, false, false, IXDTF_NO_TEXT_, 0 }
 #define IXDTF_TEXT IXDTF_NO_TEXT_
 
 /* Readers of 8-bit texts. Each reads the whole text, and gives what docs/GRAMMAR.md says. */
@@ -254,7 +260,9 @@ uint32_t ixdtf_parse_time_with_annotations_strict(const uint8_t *text, size_t le
 /* Takes the reply to an annotation: 0, and the first reply whose key is u-ca is kept in `calendar`; or the error that the reply is
  * refused with, IXDTF_CRITICAL_DUPLICATE_CALENDAR or IXDTF_UNRECOGNIZED_CRITICAL, and `calendar` is as it was. The reply is the annotation
  * itself, as it is without a handler, or another one. Replies are taken in the order of the list, and none after the first refusal. The kept
- * value is a slice of the reply, and is valid as long as its units are. */
+ * value is a slice of the reply, and is valid as long as its units are.
+ * The place of a refused reply is behind the bracket of its annotation, the one of the list: with that annotation as `it` and the text as
+ * `text` so many units stand before it: (size_t)(it.value.at + it.value.length - text) + 1. */
 uint32_t ixdtf_reply(ixdtf_calendar *calendar, const ixdtf_annotation *reply);
 
 /* Prints a record as its one canonical text, in ASCII: writes the text, without a zero behind it, into the first bytes of
@@ -341,9 +349,9 @@ IXDTF_PLACE_(ixdtf_offset, second, 13);
     IXDTF_PLACE_(type, is_critical, 17); IXDTF_PLACE_(type, is_negative, 18); IXDTF_PLACE_(type, hour, 19); IXDTF_PLACE_(type, minute, 20)
 IXDTF_ZONE_PLACES_(ixdtf_zone);
 IXDTF_ZONE_PLACES_(ixdtf16_zone);
-#define IXDTF_RECORD_PLACES_(type) IXDTF_SIZE_(type, 104); IXDTF_PLACE_(type, date, 0); IXDTF_PLACE_(type, time, 8); \
+#define IXDTF_RECORD_PLACES_(type) IXDTF_SIZE_(type, 112); IXDTF_PLACE_(type, date, 0); IXDTF_PLACE_(type, time, 8); \
     IXDTF_PLACE_(type, offset, 24); IXDTF_PLACE_(type, zone, 40); IXDTF_PLACE_(type, calendar, 64); \
-    IXDTF_PLACE_(type, has_calendar, 80); IXDTF_PLACE_(type, location, 88)
+    IXDTF_PLACE_(type, has_calendar, 80); IXDTF_PLACE_(type, location, 88); IXDTF_PLACE_(type, place, 104)
 IXDTF_RECORD_PLACES_(ixdtf_record);
 IXDTF_RECORD_PLACES_(ixdtf16_record);
 #define IXDTF_ANNOTATION_PLACES_(type) IXDTF_SIZE_(type, 40); IXDTF_PLACE_(type, key, 0); IXDTF_PLACE_(type, value, 16); \
@@ -354,7 +362,7 @@ IXDTF_ANNOTATION_PLACES_(ixdtf16_annotation);
     IXDTF_PLACE_(type, is_there, 17)
 IXDTF_CALENDAR_PLACES_(ixdtf_calendar);
 IXDTF_CALENDAR_PLACES_(ixdtf16_calendar);
-IXDTF_SIZE_(ixdtf_duration, 72);
+IXDTF_SIZE_(ixdtf_duration, 80);
 IXDTF_PLACE_(ixdtf_duration, days, 0);
 IXDTF_PLACE_(ixdtf_duration, hours, 8);
 IXDTF_PLACE_(ixdtf_duration, minutes, 16);
@@ -368,6 +376,7 @@ IXDTF_PLACE_(ixdtf_duration, time_form, 53);
 IXDTF_PLACE_(ixdtf_duration, has_date, 54);
 IXDTF_PLACE_(ixdtf_duration, is_negative, 55);
 IXDTF_PLACE_(ixdtf_duration, location, 56);
+IXDTF_PLACE_(ixdtf_duration, place, 72);
 #undef IXDTF_SLICE_
 #undef IXDTF_ZONE_PLACES_
 #undef IXDTF_RECORD_PLACES_

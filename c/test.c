@@ -98,7 +98,7 @@ static void show_duration(struct line *line, const ixdtf_duration *it) {
 
 static unsigned char is_met[47];
 
-static void show_error(struct line *line, uint32_t error, ixdtf_text location) {
+static void show_error(struct line *line, uint32_t error, ixdtf_text location, size_t place) {
     if (error < 1 || error > COUNT(error_rows)) {
         show(line, "error without a name: %lu", (unsigned long)error);
         return;
@@ -110,6 +110,7 @@ static void show_error(struct line *line, uint32_t error, ixdtf_text location) {
         show(line, "error %s", error_rows[error - 1].name);
         check(location.length == 0, "an error of the text that is no end has no location");
     }
+    show(line, " at %lu", (unsigned long)place);
 }
 
 static int same_text(ixdtf_text a, ixdtf_text b) {
@@ -154,10 +155,10 @@ static void check_cleared_duration(const ixdtf_duration *it) {
     check(it->time_form != IXDTF_NO_TIME || (it->hours == 0 && it->fraction_digits == 0), "a time that is not there is zero");
     check(it->time_form >= IXDTF_LAST_MINUTES || it->minutes == 0, "minutes that are not there are zero");
     check(it->time_form == IXDTF_LAST_SECONDS || it->seconds == 0, "seconds that are not there are zero");
-    check(it->location.length == 0, "a duration that is read has no location");
+    check(it->location.length == 0 && it->place == 0, "a duration that is read has no location and no place");
 }
 
-static int same_duration_but_location(const ixdtf_duration *a, const ixdtf_duration *b) {
+static int same_duration_but_error(const ixdtf_duration *a, const ixdtf_duration *b) {
     return a->days == b->days && a->hours == b->hours && a->minutes == b->minutes && a->seconds == b->seconds && a->fraction == b->fraction
         && a->years == b->years && a->months == b->months && a->weeks == b->weeks && a->fraction_digits == b->fraction_digits
         && a->time_form == b->time_form && a->has_date == b->has_date && a->is_negative == b->is_negative;
@@ -210,9 +211,50 @@ static void make_room(void) {
 
 /* A duration in which every part stands already, with a location that cannot be read. */
 static ixdtf_duration used_duration(void) {
-    ixdtf_duration it = { 1, 2, 3, 4, 5, 6, 7, 8, 9, IXDTF_LAST_SECONDS, true, true, { "", 4 } };
+    ixdtf_duration it = { 1, 2, 3, 4, 5, 6, 7, 8, 9, IXDTF_LAST_SECONDS, true, true, { "", 4 }, 99 };
     it.location.at = behind;
     return it;
+}
+
+/* A line of tools/places.tsv: a text whose error has a place that was counted by hand. */
+struct place_row { const char *reader; int strict; size_t width; const char *text, *error; size_t place; };
+
+/* Takes a cell off a line, and ends it with a zero. */
+static char *cell(char **line) {
+    char *it = *line;
+    size_t length = strcspn(it, "\t\n");
+    *line = it + length + (it[length] != 0);
+    it[length] = 0;
+    return it;
+}
+
+/* The word that the rows have for a reader of that file. */
+static const char *reader_word(const char *name) {
+    static const char *words[][2] = {
+        { "parse_year_month", "year-month" }, { "parse_month_day", "month-day" }, { "parse_time", "time" }, { "parse_offset", "offset" },
+        { "parse_identifier", "zone" }, { "parse_iana_identifier", "iana" },
+    };
+    size_t i;
+    for (i = 0; i < COUNT(words); i++) {
+        if (!strcmp(words[i][0], name)) {
+            return words[i][1];
+        }
+    }
+    return name;
+}
+
+static struct place_row place_row(char *line) {
+    struct place_row row;
+    row.reader = reader_word(cell(&line));
+    row.strict = !strcmp(cell(&line), "strict");
+    row.width = (size_t)atoi(cell(&line)) / 8;
+    cell(&line); /* the line of the fault table, and the row of it */
+    cell(&line);
+    row.text = cell(&line);
+    cell(&line); /* the front of the text */
+    row.error = cell(&line);
+    row.place = (size_t)atoi(cell(&line));
+    return row;
 }
 
 #define UNIT uint8_t
@@ -250,6 +292,31 @@ static void test_errors(void) {
         ixdtf_error_text(others[i], &text);
         check(text.length == 0 && text.at != NULL, "another number has the empty text");
     }
+}
+
+/* Each line of tools/places.tsv, in its width, and where its units are letters of both in both. */
+static void test_places(const char *path) {
+    char line[512];
+    unsigned long rows = 0;
+    FILE *lines = fopen(path, "r");
+    if (lines == NULL || fgets(line, sizeof line, lines) == NULL) {
+        puts("the file of places is not there");
+        exit(2);
+    }
+    while (fgets(line, sizeof line, lines) != NULL) {
+        struct place_row row = place_row(line);
+        row_shown = row.text;
+        if (row.width == 1) {
+            narrow_test_place(&row);
+        }
+        if (row.width == 2 || is_shared(row.text, strlen(row.text), 2)) {
+            wide_test_place(&row);
+        }
+        rows++;
+    }
+    fclose(lines);
+    row_shown = "";
+    check(rows >= 300, "the file of places has its rows");
 }
 
 /* The numbers of the header beside the variants, each written out once more. */
@@ -347,7 +414,7 @@ static void test_printed(const ixdtf_record *record, uint32_t wanted, const char
         }
         check(places == ROOM || out[-1] == 0xa5, "nothing before the bytes is written");
     }
-    check(narrow_same_but_location(&before, record) && same_text(before.location, record->location), "a record that is printed stays");
+    check(narrow_same_but_error(&before, record) && same_text(before.location, record->location) && before.place == record->place, "a record that is printed stays");
 }
 
 /* Texts and their canonical texts, written out by the rules of docs/GRAMMAR.md. */
@@ -468,7 +535,7 @@ static void test_by_hand(void) {
     CHANGED(it.has_calendar = false, IXDTF_OK, "2024-02-29T23:59:60.5-23:59:59.25[!Abc/d]");
     CHANGED((it.has_calendar = false, it.calendar.at = (const uint8_t *)behind), IXDTF_OK, "2024-02-29T23:59:60.5-23:59:59.25[!Abc/d]");
     CHANGED((it.zone.form = IXDTF_NO_ZONE, it.zone.name.at = (const uint8_t *)behind), IXDTF_OK, "2024-02-29T23:59:60.5-23:59:59.25[u-ca=ef-g]");
-    CHANGED((it.location.at = behind, it.location.length = 4), IXDTF_OK, whole);
+    CHANGED((it.location.at = behind, it.location.length = 4, it.place = 99), IXDTF_OK, whole);
 #undef CHANGED
     row_shown = "";
 }
@@ -488,13 +555,19 @@ static void test_met(void) {
     row_shown = "";
 }
 
-int main(void) {
+/* Its argument is the path of tools/places.tsv. */
+int main(int count, char **arguments) {
+    if (count != 2) {
+        puts("the file of places is not named");
+        return 2;
+    }
     make_room();
     test_numbers();
     test_errors();
     test_layout();
     narrow_test_all();
     wide_test_all();
+    test_places(arguments[1]);
     test_canonical();
     test_read_back();
     test_by_hand();

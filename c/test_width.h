@@ -108,7 +108,11 @@ static uint32_t OWN(list)(const char *reader, int strict, const UNIT *text, size
 static void OWN(show_outcome)(struct line *line, const char *reader, uint32_t error, const CALL(record) *record, const ixdtf_duration *duration) {
     line->length = 0;
     if (error != 0) {
-        show_error(line, error, !strcmp(reader, "duration") ? duration->location : record->location);
+        if (!strcmp(reader, "duration")) {
+            show_error(line, error, duration->location, duration->place);
+        } else {
+            show_error(line, error, record->location, record->place);
+        }
     } else if (!strcmp(reader, "duration")) {
         show_duration(line, duration);
     } else if (!strcmp(reader, "offset")) {
@@ -133,8 +137,8 @@ static int OWN(same_units)(CALL(units) left, CALL(units) right) {
     return left.at == right.at && left.length == right.length;
 }
 
-/* Whether two records are alike in all but the location. */
-static int OWN(same_but_location)(const CALL(record) *a, const CALL(record) *b) {
+/* Whether two records are alike in all but the location and the place of an error. */
+static int OWN(same_but_error)(const CALL(record) *a, const CALL(record) *b) {
     return same_date(&a->date, &b->date) && same_time(&a->time, &b->time) && same_offset(&a->offset, &b->offset)
         && OWN(same_units)(a->zone.name, b->zone.name) && a->zone.form == b->zone.form && a->zone.is_critical == b->zone.is_critical
         && a->zone.is_negative == b->zone.is_negative && a->zone.hour == b->zone.hour && a->zone.minute == b->zone.minute
@@ -152,7 +156,7 @@ static void OWN(check_cleared)(const CALL(record) *it) {
         "an offset of a zone that is not there is zero");
     check(it->zone.form != IXDTF_NO_ZONE || !it->zone.is_critical, "a zone that is not there is not critical");
     check(it->has_calendar || it->calendar.length == 0, "a calendar that is not there has no units");
-    check(it->location.length == 0, "a record that is read has no location");
+    check(it->location.length == 0 && it->place == 0, "a record that is read has no location and no place");
     check(it->zone.name.at != NULL && it->calendar.at != NULL && it->location.at != NULL, "no slice is NULL");
 }
 
@@ -182,6 +186,7 @@ static CALL(record) OWN(used_record)(void) {
     record.has_calendar = true;
     record.location.at = behind;
     record.location.length = 4;
+    record.place = 99;
     return record;
 }
 
@@ -207,8 +212,8 @@ static void OWN(test_row)(const struct row *row, int strict) {
         OWN(show_outcome)(&line, row->reader, error, &record, &duration);
         is(line.text, row->answer, row->reader, row->text);
         if (error != 0) {
-            check(OWN(same_but_location)(&record, &before), "a refusal leaves the record");
-            check(same_duration_but_location(&duration, &duration_before), "a refusal leaves the duration");
+            check(OWN(same_but_error)(&record, &before), "a refusal leaves the record");
+            check(same_duration_but_error(&duration, &duration_before), "a refusal leaves the duration");
         } else if (!strcmp(row->reader, "duration")) {
             check_cleared_duration(&duration);
         } else {
@@ -275,7 +280,7 @@ static size_t OWN(test_listing)(const struct handler_row *row, const UNIT *text,
         }
         check(OWN(list)(row->reader, 0, text, length, some, places, &found, &again) == error, "the room changes no outcome");
         check(found == count, "the room changes no count");
-        check(OWN(same_but_location)(&record, &again), "the room changes no record");
+        check(OWN(same_but_error)(&record, &again) && record.place == again.place, "the room changes no record");
         if (error == 0) {
             OWN(check_cleared)(&again);
         }
@@ -330,7 +335,11 @@ static void OWN(test_handler)(const struct handler_row *row) {
         }
     }
     if (refused != 0) {
+        /* The place is behind the bracket of the annotation that was asked about last. */
+        ixdtf_text nothing = IXDTF_TEXT;
         error = refused;
+        record.location = nothing;
+        record.place = (size_t)(list[i - 1].value.at + list[i - 1].value.length + 1 - text);
     } else if (error == 0) {
         check(!record.has_calendar, "a reader that lists keeps no calendar");
         record.has_calendar = calendar.is_there;
@@ -370,6 +379,21 @@ static void OWN(test_strict_listing)(const struct row *row) {
     }
 }
 
+/* A text whose error and place are known: through its reader, in a record that was used before. */
+static void OWN(test_place)(const struct place_row *row) {
+    struct line line, wanted;
+    size_t length;
+    const UNIT *text = OWN(placed)(row->text, strlen(row->text), 1, &length);
+    CALL(record) record = OWN(used_record)();
+    ixdtf_duration duration = used_duration();
+    uint32_t error = OWN(read)(row->reader, row->strict, text, length, &record, &duration);
+    int abrupt = !strncmp(row->error, "AbruptEnd ", 10);
+    wanted.length = 0;
+    show(&wanted, "error %s%s at %lu", abrupt ? "AE " : "", row->error + (abrupt ? 10 : 0), (unsigned long)row->place);
+    OWN(show_outcome)(&line, row->reader, error, &record, &duration);
+    is(line.text, wanted.text, row->reader, row->text);
+}
+
 static void OWN(test_texts)(void) {
     static const UNIT nothing[1] = { 0 };
     static const UNIT date[] = { '2', '0', '2', '4', '-', '0', '3', '-', '0', '2', 0, '[', 'x' };
@@ -379,10 +403,10 @@ static void OWN(test_texts)(void) {
     CALL(calendar) calendar = NEW_CALENDAR;
     size_t count = 7;
     check(CALL(parse)(nothing, 0, &record) == IXDTF_ABRUPT_END, "a text without units");
-    check(record.location.length == 5 && !memcmp(record.location.at, "digit", 5), "the location of a text without units");
+    check(record.location.length == 5 && !memcmp(record.location.at, "digit", 5) && record.place == 0, "the location of a text without units");
     check(CALL(parse)(date, 10, &record) == IXDTF_OK && record.date.is_there && record.date.day == 2, "a text ends at its length");
     check(CALL(parse)(date, 11, &record) == (sizeof(UNIT) == 1 ? IXDTF_INVALID_END : IXDTF_NON_ASCII_CODE_POINT), "a zero is a unit");
-    check(record.location.length == 0, "another error has no location");
+    check(record.location.length == 0 && record.place == 10, "another error has a place and no location");
     check(CALL(parse_with_annotations)(date, 10, list, 0, &count, &record) == IXDTF_OK && count == 0, "a text without annotations");
     check(CALL(reply)(&calendar, &critical) == IXDTF_OK && !calendar.is_there, "a reply without units");
     critical.is_critical = true;

@@ -17,8 +17,8 @@ static bool is_note(const ixdtf_annotation *annotation) {
     return annotation->key.length == 6 && memcmp(annotation->key.at, "x-note", 6) == 0;
 }
 
-/* Asks about each annotation, in order, up to the first that is refused. */
-static uint32_t ask(const ixdtf_annotation *list, size_t count, ixdtf_calendar *calendar) {
+/* Asks about each annotation of the text, in order, up to the first that is refused: then the place of the error is behind its bracket. */
+static uint32_t ask(const uint8_t *text, const ixdtf_annotation *list, size_t count, ixdtf_calendar *calendar, size_t *place) {
     for (size_t i = 0; i < count; i++) {
         printf("  %s", list[i].is_critical ? "critical " : "");
         print_units(list[i].key);
@@ -30,17 +30,18 @@ static uint32_t ask(const ixdtf_annotation *list, size_t count, ixdtf_calendar *
         }
         uint32_t error = ixdtf_reply(calendar, &list[i]);
         if (error != IXDTF_OK) {
+            *place = (size_t)(list[i].value.at + list[i].value.length - text) + 1;
             return error;
         }
     }
     return IXDTF_OK;
 }
 
-static void print_outcome(uint32_t error, const ixdtf_calendar *calendar) {
+static void print_outcome(uint32_t error, size_t place, const ixdtf_calendar *calendar) {
     if (error != IXDTF_OK) {
         ixdtf_text why = IXDTF_TEXT;
         ixdtf_error_text(error, &why);
-        printf("  refused: %.*s\n", (int)why.length, why.at);
+        printf("  refused at %zu: %.*s\n", place, (int)why.length, why.at);
     } else if (calendar->is_there) {
         printf("  calendar: ");
         print_units(calendar->value);
@@ -67,9 +68,10 @@ int main(int count, char **arguments) {
         ixdtf_calendar calendar = IXDTF_CALENDAR;
         printf("%s\n", arguments[i]);
         uint32_t error = ixdtf_parse_with_annotations(text, length, list, room, &found, &record);
-        uint32_t refused = ask(list, found, &calendar);
+        size_t place = record.place;
+        uint32_t refused = ask(text, list, found, &calendar, &place);
         /* A reply that is refused stands before the end or the error of the text. */
-        print_outcome(refused != IXDTF_OK ? refused : error, &calendar);
+        print_outcome(refused != IXDTF_OK ? refused : error, place, &calendar);
         free(list);
     }
     return 0;

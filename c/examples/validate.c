@@ -1,4 +1,5 @@
-/* Says of each argument whether it is a date, or a date and a time, and why not. Its status is 1 where one is not.
+/* Says of each argument whether it is a date, or a date and a time, and why not, with a mark under the place of the error. Its status is 1
+ * where one is not.
  *
  *     cc -std=c99 validate.c $(pkg-config --cflags --libs ixdtf) -o validate
  *     ./validate 2024-03-02T08:48:00Z 2024-02-30
@@ -7,14 +8,15 @@
 #include <stdio.h>
 #include <string.h>
 
-static void print_error(const char *text, uint32_t error, ixdtf_text location) {
+static void print_error(const char *text, uint32_t error, const ixdtf_record *record) {
     ixdtf_text why = IXDTF_TEXT;
     ixdtf_error_text(error, &why);
     printf("%s: %.*s", text, (int)why.length, why.at);
     if (error == IXDTF_ABRUPT_END) {
-        printf(" What it broke off in: %.*s.", (int)location.length, location.at);
+        printf(" What it broke off in: %.*s.", (int)record->location.length, record->location.at);
     }
-    printf("\n");
+    /* The place counts bytes, which are the columns of a text in ASCII. */
+    printf("\n%s\n%*s\n", text, (int)record->place + 1, "^");
 }
 
 int main(int count, char **arguments) {
@@ -26,7 +28,7 @@ int main(int count, char **arguments) {
         if (error == IXDTF_OK) {
             printf("%s: valid\n", text);
         } else {
-            print_error(text, error, record.location);
+            print_error(text, error, &record);
             status = 1;
         }
     }

@@ -12,10 +12,10 @@ ghost use Rattle.ixdtf_grammar.specs.language.Readers.{parse as reader_parse, pa
 ghost use Rattle.ixdtf_grammar.specs.language.Readers.{parse_month_day as reader_parse_month_day, parse_time as reader_parse_time};
 ghost use Rattle.ixdtf_grammar.specs.language.Readers.Reader.{bracketed};
 ghost use Rattle.ixdtf_grammar.specs.language.Languages.{Parsed};
-ghost use Rattle.ixdtf_grammar.specs.Handlers.{Handled, HandledTo, UnhandledRecord, UnhandledFault, UnhandledOnlyFault};
+ghost use Rattle.ixdtf_grammar.specs.Handlers.{Handled, UnhandledRecord, UnhandledFault, UnhandledOnlyFault};
 ghost use Rattle.ixdtf_grammar.specs.Laws.{InNoOther};
 ghost use Rattle.ixdtf_grammar.specs.Views.{UnreadUnder, under, unread_of, LeavesBehind, IsEmptyRecord, returned, returned_by, parsed_of};
-ghost use Rattle.ixdtf_grammar.specs.Places.{HandledAt, UnhandledFaultAt, UnhandledOnlyPlace};
+ghost use Rattle.ixdtf_grammar.specs.Places.{HandledAt, HandledToAt, UnhandledFaultAt, UnhandledOnlyPlace};
 ghost use Rattle.ixdtf_reading.specs.reading.Chains.{TextReadTo};
 ghost use Rattle.ixdtf_reading.specs.reading.Clauses.{UnhandledForm, fault_of_stop_at};
 
@@ -978,10 +978,10 @@ impl<'a, T: EncodingType> IxdtfParser<'a, T> {
         // The handler may be called at any time, in any state that it reached, on any annotation.
         requires callable { F.IsAlwaysCallable handler.old }
         // For the one chain of its calls, which ends in the state that the handler is left in: `Ok` exactly with the record,
-        // and `Err` only with the one fault, that the text and the replies give.
-        ensures handled { HandledTo T.number F.step handler.old handler.new
+        // and `Err` only with the one fault, behind so many units, that the text and the replies give.
+        ensures handled { HandledToAt T.number F.step handler.old handler.new
             (bracketed (C.kind self.old.profile)) (map T.letter self.old.rest)
-            (returned_by E.fault (parsed_of T.number) result) }
+            E.fault E.stands (parsed_of T.number) result }
 
         // `Ok` only where no row of the fault table fits, and where no other reader of dates, times and durations has the text.
         ensures no_row { OnOk result (NoRowFits (bracketed (C.kind self.old.profile))

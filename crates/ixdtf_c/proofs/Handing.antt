@@ -14,9 +14,10 @@ use Rattle.ixdtf.specs.language.Languages.{Parsed}
 use Rattle.ixdtf.specs.table.Faults.{Fault}
 use Rattle.ixdtf.specs.Handlers.{Reply, calendar_value, first_calendar, NoneRefused, LastRefused, Calls, IsChain, Step, handed, replies_of, pair_of, Handled}
 use Rattle.ixdtf_reading.proofs.code.OneMoreReply.{first_calendar-more, NoneRefused-nothing, NoneRefused-more}
-use Rattle.ixdtf_reading.proofs.theorems.Handled.{handled as handled_by}
+use Rattle.ixdtf_reading.proofs.theorems.Handled.{handled_of}
 use Rattle.ixdtf_c.specs.Crossing.{Contents, Gives, units_for, is_there}
 use Rattle.ixdtf_c.specs.Listing.{Lists}
+use Rattle.ixdtf_c.specs.Located.{FaultAt, unplaced}
 use Rattle.ixdtf_c.specs.Replying.{with_kept}
 use Rattle.ixdtf_c.specs.Standing.{where_there}
 use Rattle.ixdtf_c.specs.Turns.{HandsOver, InTurn}
@@ -120,44 +121,46 @@ module _ {T U F : Type 0} (number : U → ℕ) (step : Step T U F) (handler : F)
 -- ---- the outcome
 
 -- a record gets the calendar that is kept
-pub kept_given : (number : ℕ) (old new : Contents) (listed : Result Parsed Fault) (kept : Option Pair) (units : List ℕ) (there : Bool)
+pub kept_given : (number : ℕ) (old new : Contents) (listed : Result Parsed FaultAt) (kept : Option Pair) (units : List ℕ) (there : Bool)
     → Gives (λ found. found) listed number old new → number ≡ 0 → units ≡ units_for (calendar_value kept) → there ≡ is_there (calendar_value kept)
     → Gives (λ found. found) (with_kept kept listed) number old (record new { calendar = units; has_calendar = there })
 kept_given number old new (Ok found) kept units there given zeroed is_units is_there = (given.0, rw (given.1, is_units, is_there) refl)
-kept_given number old new (Err fault) kept units there given zeroed is_units is_there = absurd (number_some fault (sym given.0 ∙ zeroed))
+kept_given number old new (Err e) kept units there given zeroed is_units is_there = absurd (number_some e.fault (sym given.0 ∙ zeroed))
 
 pub there_kept : (there : Bool) (pair : Pair) → there ≡ is_there (calendar_value (where_there there pair))
 there_kept true pair = refl
 there_kept false pair = refl
 
+-- with the calendar that is kept and without the place of a fault, in either order
+unplaced_kept : (kept : Option Pair) (listed : Result Parsed FaultAt) → unplaced (with_kept kept listed) ≡ with_kept kept (unplaced listed)
+unplaced_kept kept (Ok found) = refl
+unplaced_kept kept (Err e) = refl
+
 -- a refusal is kept
-pub kept_refused : (number : ℕ) (old new : Contents) (listed : Result Parsed Fault) (kept : Option Pair)
+pub kept_refused : (number : ℕ) (old new : Contents) (listed : Result Parsed FaultAt) (kept : Option Pair)
     → Gives (λ found. found) listed number old new → number ≢ 0 → Gives (λ found. found) (with_kept kept listed) number old new
 kept_refused number old new (Ok found) kept given some = absurd (some given.0)
-kept_refused number old new (Err fault) kept given some = given
+kept_refused number old new (Err e) kept given some = given
 
--- the record of a refused reply has no location
+-- the record of a refused reply has no location, and the place that it had
 pub refused_given : (number : ℕ) (old : Contents) (replies : List Reply) (fault : Fault) → number ≡ number_for fault → LastRefused replies fault
-    → Gives (λ found. found) (Err fault) number old (record old { location = [] })
+    → Gives (λ found. found) (Err (record { fault = fault; at = old.place })) number old (record old { location = [] })
 refused_given number old replies fault named last =
     (named, λ i. record old { location = sym (nowhere (first_calendar last.earlier) last.reply fault last.refused) i })
 
 -- where the annotations were listed with room for all, and the handler was asked about them in turn, this is what a form with a handler says
 module _ {T U F A : Type 0} {number : U → ℕ} {step : Step T U F} {handler last : F} {view : A → Pair} {profile : Profile} {kind : CoreKind}
-    {text : Text} {old new : List A} {count result : ℕ} {listed : Result Parsed Fault} {kept : Option Pair}
+    {text : Text} {old new : List A} {count result : ℕ} {listed : Result Parsed FaultAt} {kept : Option Pair}
     (listing : Lists view profile (bracketed kind) text old new count listed) (room : count ≤ length old)
     (turns : InTurn number step handler last (map view (take count new)) kept result) where
   shown : map view (take count new) ≡ map view listing.annotations
   shown = ap (map view) (rw (listing.counted, listing.written) (overwritten-front old listing.annotations (rw (← listing.counted) room)))
 
   -- none of its replies was refused
-  pub handled_all : result ≡ 0 → Handled number step handler (bracketed kind) text (with_kept kept listed)
-  handled_all zeroed = handled_by number step handler (bracketed kind) text (with_kept kept listed) last record {
-    calls = turns.calls;
-    chain = turns.chain;
-    gives = rw (turns.first zeroed, turns.all zeroed ∙ shown)
-        (gives_all profile kind text (map view listing.annotations) listed (replies_of number turns.calls) listing.read (turns.accepted zeroed));
-  }
+  pub handled_all : result ≡ 0 → Handled number step handler (bracketed kind) text (unplaced (with_kept kept listed))
+  handled_all zeroed = rw (unplaced_kept kept listed) (handled_of number step handler (bracketed kind) text (with_kept kept (unplaced listed)) turns.calls last turns.chain
+      (rw (turns.first zeroed, turns.all zeroed ∙ shown)
+      (gives_all profile kind text (map view listing.annotations) listed (replies_of number turns.calls) listing.read (turns.accepted zeroed))))
 
   -- the last of its replies was refused
   pub handled_refused : (fault : Fault) → LastRefused (replies_of number turns.calls) fault → Handled number step handler (bracketed kind) text (Err fault)
@@ -173,11 +176,5 @@ module _ {T U F A : Type 0} {number : U → ℕ} {step : Step T U F} {handler la
         ap length none,
         length-append (handed number turns.calls) behind,
       ) in
-      handled_by number step handler (bracketed kind) text (Err fault) last record {
-        calls = turns.calls;
-        chain = turns.chain;
-        gives = inl (
-          front_of profile kind text (map view listing.annotations) listed (handed number turns.calls) behind listing.read split some,
-          stop,
-        );
-      }
+      handled_of number step handler (bracketed kind) text (Err fault) turns.calls last turns.chain
+      (inl (front_of profile kind text (map view listing.annotations) listed (handed number turns.calls) behind listing.read split some, stop))

@@ -2,6 +2,7 @@
 use Rattle.std.proofs.Common.{◌≡◌, ◌↔◌, ℕ, ◌+◌, ◌≤◌, min, List, [], ◌∷◌, ◌++◌, length, slice_set, map, Option}
 use Rattle.std.proofs.Common.{None, option_map, Result, Ok, Err, OnOk, refl, sym, ◌∙◌, ap, subst, inl, inr, arith}
 use Rattle.std.proofs.lemmas.List.{append-nil, append_assoc, length-append}
+use Rattle.ixdtf_grammar.specs.declared.located.LocatedError.{LocatedError}
 use Rattle.ixdtf_grammar.specs.declared.profile.Profile.{Profile}
 use Rattle.ixdtf_grammar.specs.declared.records.Annotation.{Annotation}
 use Rattle.ixdtf.specs.language.Brackets.{Pair}
@@ -11,14 +12,18 @@ use Rattle.ixdtf.specs.language.Readers.Reader.{bracketed}
 use Rattle.ixdtf.specs.language.Languages.{Parsed, Derives}
 use Rattle.ixdtf.specs.language.Languages.Derives.{as_parsed}
 use Rattle.ixdtf.specs.language.Languages.Found.{parsed}
-use Rattle.ixdtf.specs.table.Faults.{Fault}
-use Rattle.ixdtf.specs.table.Outcomes.{HasFault, NoRowFits}
+use Rattle.ixdtf.specs.table.Faults.{Fault, fault_of_located, stands_behind}
+use Rattle.ixdtf.specs.table.Outcomes.{HasFaultAt, NoRowFits}
 use Rattle.ixdtf.specs.Laws.{InNoOther}
+use Rattle.ixdtf.specs.Places.{GivesFaultAt, HandledToAt}
 use Rattle.ixdtf.specs.Handlers.{Reply, first_calendar, calendar_value, with_calendar, RefusedBeside, NoneRefused, LastRefused, GivesRecord, GivesFault}
-use Rattle.ixdtf.specs.Handlers.{pair_of, Calls, handed, replies_of, Step, IsChain, HandledTo}
+use Rattle.ixdtf.specs.Handlers.{pair_of, Calls, handed, replies_of, Step, IsChain}
+use Rattle.ixdtf_reading.proofs.theorems.OneOutcome.{place_once}
 use Rattle.ixdtf_reading.proofs.theorems.OnlyOutcome.{only_fault}
 use Rattle.ixdtf_grammar.proofs.theorems.FewPairs.{derived_few, gives_few}
 use Rattle.ixdtf_c.specs.Listing.{PassesOver, overwritten, Lists}
+use Rattle.ixdtf_c.specs.Located.{FaultAt, HasOutcome, returned_at}
+use Rattle.ixdtf_c.proofs.Crossed.{same_ok}
 
 -- ---- what is written
 
@@ -88,14 +93,14 @@ module _ (kind : CoreKind) (text : Text) where
   }
 
   -- the outcome of replies of none
-  passes_over : {A : Type 0} (profile : Profile) (calls : List A) (pairs : List Pair) (outcome : Result Parsed Fault)
+  passes_over : {A : Type 0} (profile : Profile) (calls : List A) (pairs : List Pair) (outcome : Result Parsed FaultAt)
       → ((found : Parsed) → (outcome ≡ Ok found) ↔ GivesRecord (bracketed kind) text pairs (nones calls) found)
-      → ((fault : Fault) → outcome ≡ Err fault → GivesFault (bracketed kind) text pairs (nones calls) fault)
+      → ((e : FaultAt) → outcome ≡ Err e → GivesFaultAt (bracketed kind) text pairs (nones calls) e.fault e.at)
       → OnOk outcome (NoRowFits (bracketed kind) text) → OnOk outcome (InNoOther profile (bracketed kind) text)
       → PassesOver profile (bracketed kind) text pairs outcome
-  passes_over profile calls pairs outcome ok err no_row alone = let fault_of_text : (fault : Fault) → outcome ≡ Err fault
-      → HasFault (bracketed kind) text pairs fault = λ fault is. elim (err fault is) [
-        | inl p ↦ absurd (nones_not_last calls fault p.1)
+  passes_over profile calls pairs outcome ok err no_row alone = let fault_of_text : (e : FaultAt) → outcome ≡ Err e
+      → HasFaultAt (bracketed kind) text pairs e.fault e.at = λ e is. elim (err e is) [
+        | inl p ↦ absurd (nones_not_last calls e.fault p.1)
         | inr p ↦ p.0
       ] in record {
         ok = λ found. (
@@ -105,22 +110,36 @@ module _ (kind : CoreKind) (text : Text) where
         err = fault_of_text;
         no_row = no_row;
         alone = alone;
-        only = λ fault is. only_fault (bracketed kind) text pairs fault (fault_of_text fault is);
+        only = λ e is. let (row, fits, has, there) = fault_of_text e is in only_fault (bracketed kind) text pairs e.fault (row, fits, has);
+        place = λ e is. place_once (bracketed kind) text pairs e.fault e.at (fault_of_text e is);
       }
 
+  without_place : {pairs : List Pair} {replies : List Reply} {fault : Fault} {at : ℕ} → GivesFaultAt (bracketed kind) text pairs replies fault at
+      → GivesFault (bracketed kind) text pairs replies fault
+  without_place gives = elim gives [
+    | inl p ↦ let (front, rest, is, there, read, whole) = p.0 in inl ((front, rest, is, read, whole), p.1)
+    | inr p ↦ let (row, fits, has, there) = p.0 in inr ((row, fits, has), p.1)
+  ]
+
   -- no more pairs than letters
-  few : {A : Type 0} (calls : List A) (pairs : List Pair) (outcome : Result Parsed Fault)
+  few : {A : Type 0} (calls : List A) (pairs : List Pair) (outcome : Result Parsed FaultAt)
       → ((found : Parsed) → (outcome ≡ Ok found) ↔ GivesRecord (bracketed kind) text pairs (nones calls) found)
-      → ((fault : Fault) → outcome ≡ Err fault → GivesFault (bracketed kind) text pairs (nones calls) fault)
+      → ((e : FaultAt) → outcome ≡ Err e → GivesFaultAt (bracketed kind) text pairs (nones calls) e.fault e.at)
       → length pairs ≤ length text
   few calls pairs (Ok found) ok err = derived_few kind text (parsed found) pairs (given calls pairs found ((ok found).0 refl))
-  few calls pairs (Err fault) ok err = gives_few kind text pairs (nones calls) fault (err fault refl)
+  few calls pairs (Err e) ok err = gives_few kind text pairs (nones calls) e.fault (without_place (err e refl))
 
 -- what a listing says of slots and a count that are what it left
 pub lists_left : {A : Type 0} {view : A → Pair} {profile : Profile} {reader : Reader} {text : Text} {old new slots : List A} {count number : ℕ}
-    {outcome : Result Parsed Fault}
+    {outcome : Result Parsed FaultAt}
     → slots ≡ new → number ≡ count → Lists view profile reader text old new count outcome → Lists view profile reader text old slots number outcome
 lists_left same as_many listing = rw (same, as_many) listing
+
+-- the outcome of what a reader of the library returned, whose errors tell their places
+pub outcome_is : {X : Type 0} (view : X → Parsed) (r : Result X LocatedError) {outcome : Result Parsed FaultAt}
+    → HasOutcome fault_of_located stands_behind view r outcome → outcome ≡ returned_at view r
+outcome_is view (Ok x) has = has
+outcome_is view (Err e) (at, there, is) = is ∙ λ i. Err (record { fault = fault_of_located e; at = sym there i })
 
 -- ---- a chain of calls that list
 
@@ -179,24 +198,58 @@ module _ {T A F : Type 0} (step : Step T ℕ F) (count : F → ℕ) (slots : F �
 
   -- what a form with a handler that lists says
   pub lists : (view : A → Pair) → ((annotation : Annotation T ℕ) → view (item annotation) ≡ pair_of unit_number annotation)
-      → (profile : Profile) (kind : CoreKind) (text : Text) (state last : F) (outcome : Result Parsed Fault)
-      → HandledTo unit_number step state last (bracketed kind) text outcome
-      → OnOk outcome (NoRowFits (bracketed kind) text) → OnOk outcome (InNoOther profile (bracketed kind) text)
+      → (profile : Profile) (kind : CoreKind) (text : Text) (state last : F)
+      → {X E : Type 0} (named : E → Fault) (stands : ℕ → E → Type 0) (seen : X → Parsed) (result : Result X E)
+      → HandledToAt unit_number step state last (bracketed kind) text named stands seen result
+      → OnOk result (NoRowFits (bracketed kind) text) → OnOk result (InNoOther profile (bracketed kind) text)
       → count state ≡ 0 → length text ≤ limit
-      → Lists view profile (bracketed kind) text (slots state) (slots last) (count last) outcome
-  lists view same profile kind text state last outcome h no_row alone zero fits =
-      let none = replies_none h.calls state last h.chain in
-      let pairs = handed unit_number h.calls in
-      let ok : (found : Parsed) → (outcome ≡ Ok found) ↔ GivesRecord (bracketed kind) text pairs (nones h.calls) found =
-      λ found. rw (← none) (h.ok found) in
-      let err : (fault : Fault) → outcome ≡ Err fault → GivesFault (bracketed kind) text pairs (nones h.calls) fault =
-      λ fault is. rw (← none) (h.err fault is) in
-      let shorter : length pairs ≤ length text = few kind text h.calls pairs outcome ok err in
-      let all = listed (slots state) h.calls state last h.chain [] zero (sym (overwritten-none (slots state)))
-      (omega (arith, items_length item h.calls, shorter, fits)) in
-      record {
-        annotations = items item h.calls;
-        counted = all.0;
-        written = all.1;
-        read = rw (items_seen item view same h.calls) (passes_over kind text profile h.calls pairs outcome ok err no_row alone);
-      }
+      → (outcome : Result Parsed FaultAt) × HasOutcome named stands seen result outcome
+      × Lists view profile (bracketed kind) text (slots state) (slots last) (count last) outcome
+  lists view same profile kind text state last {X} {E} named stands seen result h no_row alone zero fits = of_outcome result h no_row alone
+    where
+      none : {r : Result X E} (h : HandledToAt unit_number step state last (bracketed kind) text named stands seen r)
+          → replies_of unit_number h.plain.calls ≡ nones h.plain.calls
+      none h = replies_none h.plain.calls state last h.plain.chain
+
+      -- with this outcome, of the calls that were made
+      listing : {r : Result X E} (h : HandledToAt unit_number step state last (bracketed kind) text named stands seen r) (outcome : Result Parsed FaultAt)
+          → ((found : Parsed) → (outcome ≡ Ok found) ↔ GivesRecord (bracketed kind) text (handed unit_number h.plain.calls) (nones h.plain.calls) found)
+          → ((e : FaultAt) → outcome ≡ Err e → GivesFaultAt (bracketed kind) text (handed unit_number h.plain.calls) (nones h.plain.calls) e.fault e.at)
+          → OnOk outcome (NoRowFits (bracketed kind) text) → OnOk outcome (InNoOther profile (bracketed kind) text)
+          → Lists view profile (bracketed kind) text (slots state) (slots last) (count last) outcome
+      listing h outcome ok err no_row alone =
+          let calls = h.plain.calls in
+          let pairs = handed unit_number calls in
+          let shorter : length pairs ≤ length text = few kind text calls pairs outcome ok err in
+          let all = listed (slots state) calls state last h.plain.chain [] zero (sym (overwritten-none (slots state)))
+          (omega (arith, items_length item calls, shorter, fits)) in
+          record {
+            annotations = items item calls;
+            counted = all.0;
+            written = all.1;
+            read = rw (items_seen item view same calls) (passes_over kind text profile calls pairs outcome ok err no_row alone);
+          }
+
+      of_outcome : (r : Result X E) (h : HandledToAt unit_number step state last (bracketed kind) text named stands seen r)
+          → OnOk r (NoRowFits (bracketed kind) text) → OnOk r (InNoOther profile (bracketed kind) text)
+          → (outcome : Result Parsed FaultAt) × HasOutcome named stands seen r outcome
+          × Lists view profile (bracketed kind) text (slots state) (slots last) (count last) outcome
+      of_outcome (Ok x) h no_row alone = (
+        Ok (seen x),
+        refl,
+        listing h (Ok (seen x)) (λ found. (
+          (λ is. rw (← none h) ((h.plain.ok found).0 (same_ok (seen x) found is))),
+          λ given. same_ok (seen x) found ((h.plain.ok found).1 (rw (none h) given)),
+        )) (λ e is. absurd cc) no_row alone,
+      )
+      of_outcome (Err e) h no_row alone =
+          let (at, there, gives) = h.place e refl in
+          let fault_at : FaultAt = record { fault = named e; at = at } in (
+            Err fault_at,
+            (at, there, refl),
+            listing h (Err fault_at) (λ found. (
+              (λ is. absurd cc),
+              λ given. let is : Err (named e) ≡ Ok found = (h.plain.ok found).1 (rw (none h) given) in absurd cc,
+            ))
+                (λ other is. let it : fault_at ≡ other = cc in rw (← it, ← none h) gives) tt tt,
+          )

@@ -132,7 +132,7 @@ read_back : (profile : Profile) (text : Text) (number : ℕ) (old new : Contents
 read_back profile text number old new (Ok found, reads, given) zeroed =
     let gives = (reads.ok found).0 refl in
     (found, gives, rw given.1 (record_back found (text, gives)))
-read_back profile text number old new (Err fault, reads, given) zeroed = absurd (number_some fault (sym given.0 ∙ zeroed))
+read_back profile text number old new (Err e, reads, given) zeroed = absurd (number_some e.fault (sym given.0 ∙ zeroed))
 
 pub read_is_printable : (profile : Profile) (text : Text) (number : ℕ) (old new : Contents)
     → GivesRecord profile parse text number old new → number ≡ 0 → IsSomeAnd (record_by new) IsPrintable

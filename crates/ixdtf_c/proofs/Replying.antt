@@ -15,6 +15,7 @@ use Rattle.ixdtf.specs.Laws.{GivesResult}
 use Rattle.ixdtf_reading.proofs.code.OneMoreReply.{first_calendar-more, NoneRefused-nothing, NoneRefused-more}
 use Rattle.ixdtf_reading.proofs.theorems.OneChain.{Replying, GivesChain, only_chain, derived_front, row_front}
 use Rattle.ixdtf_c.specs.Listing.{PassesOver, overwritten}
+use Rattle.ixdtf_c.specs.Located.{FaultAt, unplaced}
 use Rattle.ixdtf_c.specs.Replying.{with_kept, Replied, IsFront, ReplyingGives, ReplyingIsHandling}
 
 -- ---- what is listed
@@ -83,19 +84,19 @@ Gives kind text pairs replies outcome =
 
 module _ (profile : Profile) (kind : CoreKind) (text : Text) (pairs : List Pair) where
   -- where none is refused
-  pub gives_all : (listed : Result Parsed Fault) (replies : List Reply) → PassesOver profile (bracketed kind) text pairs listed → NoneRefused replies
-      → GivesResult (bracketed kind) text pairs replies (with_kept (first_calendar replies) listed)
+  pub gives_all : (listed : Result Parsed FaultAt) (replies : List Reply) → PassesOver profile (bracketed kind) text pairs listed → NoneRefused replies
+      → GivesResult (bracketed kind) text pairs replies (with_kept (first_calendar replies) (unplaced listed))
   gives_all (Ok found) replies passes none = record { read = found; whole = (passes.ok found).0 refl; accepted = none; has = refl }
-  gives_all (Err fault) replies passes none = inr (passes.err fault refl, none)
+  gives_all (Err e) replies passes none = let (row, fits, has, there) = passes.err e refl in inr ((row, fits, has), none)
 
   -- the front behind which the last of some first replies is refused
-  pub front_of : (listed : Result Parsed Fault) (xs ys : List Pair) → PassesOver profile (bracketed kind) text pairs listed → pairs ≡ xs ++ ys → xs ++ ys ≢ []
+  pub front_of : (listed : Result Parsed FaultAt) (xs ys : List Pair) → PassesOver profile (bracketed kind) text pairs listed → pairs ≡ xs ++ ys → xs ++ ys ≢ []
       → HasFront (bracketed kind) text xs
   front_of (Ok found) xs ys passes split some = derived_front kind text found pairs xs ys ((passes.ok found).0 refl) split
-  front_of (Err fault) xs ys passes split some = let (row, fits, has) = passes.err fault refl in row_front kind row pairs xs ys text fits split some
+  front_of (Err e) xs ys passes split some = let (row, fits, has, there) = passes.err e refl in row_front kind row pairs xs ys text fits split some
 
-  gives : (listed outcome : Result Parsed Fault) (replies : List Reply) → PassesOver profile (bracketed kind) text pairs listed → length replies ≡ length pairs
-      → Settled replies listed outcome → Gives kind text pairs replies outcome
+  gives : (listed : Result Parsed FaultAt) (outcome : Result Parsed Fault) (replies : List Reply) → PassesOver profile (bracketed kind) text pairs listed
+      → length replies ≡ length pairs → Settled replies (unplaced listed) outcome → Gives kind text pairs replies outcome
   gives listed outcome replies passes each (inl (none, is)) =
       (pairs, replies, ([], sym (append-nil pairs)), ([], sym (append-nil replies)), each, rw is (gives_all listed replies passes none))
   gives listed outcome replies passes each (inr (front, back, is, fault, faulted, last)) =
@@ -165,7 +166,7 @@ replying_gives view profile kind text pairs replies outcome h =
     let is : pairs ≡ map view listing.annotations = h.all ∙ ap (map view) shown in
     let each : length replies ≡ length pairs = h.each ∙ listing.counted ∙ sym (length-map listing.annotations view) ∙ sym (ap length is) in
     gives profile kind text pairs h.listed outcome replies (rw is listing.read) each
-    (settled h.listed outcome [] replies None NoneRefused-nothing refl h.replied)
+    (settled (unplaced h.listed) outcome [] replies None NoneRefused-nothing refl h.replied)
 
 -- what a form with a handler says of its chain of calls
 handled_gives : {T U F : Type 0} (number : U → ℕ) (step : Step T U F) (handler : F) (kind : CoreKind) (text : Text) (result : Result Parsed Fault)

@@ -17,10 +17,10 @@ use Rattle.ixdtf.specs.language.Fractions.{FractionParts}
 use Rattle.ixdtf.specs.language.Languages.{Parsed}
 use Rattle.ixdtf.specs.language.ZoneNames.{Zone as SomeZone}
 use Rattle.ixdtf.specs.language.ZoneNames.Zone.{Name, Offset as ByOffset}
-use Rattle.ixdtf.specs.table.Faults.{Fault}
 use Rattle.ixdtf_c.specs.declared.forms.Date.{Date}
 use Rattle.ixdtf_c.specs.declared.forms.Time.{Time}
 use Rattle.ixdtf_c.specs.declared.forms.Offset.{Offset}
+use Rattle.ixdtf_c.specs.Located.{FaultAt}
 use Rattle.ixdtf_c.specs.Numbers.{location_of, number_of}
 
 -- ---- the contents of a record: its fields, with the units of its slices
@@ -41,6 +41,7 @@ pub record Contents : Type 0 where
   pub calendar : List ℕ
   pub has_calendar : Bool
   pub location : List ℕ
+  pub place : ℕ
 
 pub record DurationContents : Type 0 where
   pub days : ℕ
@@ -56,6 +57,7 @@ pub record DurationContents : Type 0 where
   pub has_date : Bool
   pub is_negative : Bool
   pub location : List ℕ
+  pub place : ℕ
 
 -- ---- what is written of a part, where it is there
 
@@ -156,6 +158,7 @@ record_for found = record {
   calendar = units_for found.calendar;
   has_calendar = is_there found.calendar;
   location = [];
+  place = 0;
 }
 
 abbrev pub nothing : Parsed
@@ -209,6 +212,7 @@ no_duration is_negative = record {
   has_date = false;
   is_negative = is_negative;
   location = [];
+  place = 0;
 }
 
 -- all of a duration
@@ -217,18 +221,18 @@ duration_for found = with_time (with_date (no_duration (is_negative found.sign))
 
 -- ---- what a call returns and writes
 
--- after `Ok` the record is that of the text; after an error it is as it was, but for the location, which is the error's
-abbrev pub record_after : {A : Type 0} → (A → Parsed) → Contents → Result A Fault → Contents
+-- after `Ok` the record is that of the text; after an error it is as it was, but for the location and the place, which are the error's
+abbrev pub record_after : {A : Type 0} → (A → Parsed) → Contents → Result A FaultAt → Contents
 record_after whole old (Ok found) = record_for (whole found)
-record_after whole old (Err fault) = record old { location = location_of fault }
+record_after whole old (Err e) = record old { location = location_of e.fault; place = e.at }
 
-abbrev pub duration_after : DurationContents → Result DurationParseRecord Fault → DurationContents
+abbrev pub duration_after : DurationContents → Result DurationParseRecord FaultAt → DurationContents
 duration_after old (Ok found) = duration_for found
-duration_after old (Err fault) = record old { location = location_of fault }
+duration_after old (Err e) = record old { location = location_of e.fault; place = e.at }
 
 -- the number is that of the outcome, and the record is that of the outcome
-abbrev pub Gives : {A : Type 0} → (A → Parsed) → Result A Fault → ℕ → Contents → Contents → Type 0
+abbrev pub Gives : {A : Type 0} → (A → Parsed) → Result A FaultAt → ℕ → Contents → Contents → Type 0
 Gives whole outcome number old new = (number ≡ number_of outcome) × (new ≡ record_after whole old outcome)
 
-abbrev pub GivesDuration : Result DurationParseRecord Fault → ℕ → DurationContents → DurationContents → Type 0
+abbrev pub GivesDuration : Result DurationParseRecord FaultAt → ℕ → DurationContents → DurationContents → Type 0
 GivesDuration outcome number old new = (number ≡ number_of outcome) × (new ≡ duration_after old outcome)

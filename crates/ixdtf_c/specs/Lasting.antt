@@ -18,8 +18,9 @@ contents d = record {
   has_date = d.has_date;
   is_negative = d.is_negative;
   location = d.location.now;
+  place = d.place;
 }
 
--- the duration is as it was, its slice too, but for the location
-abbrev pub SameButLocation : Duration → Duration → Type 0
-SameButLocation old new = new ≡ record old { location = new.location }
+-- the duration is as it was, but for the location and the place of an error
+abbrev pub SameButError : Duration → Duration → Type 0
+SameButError old new = new ≡ record old { location = new.location; place = new.place }

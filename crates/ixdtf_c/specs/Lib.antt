@@ -1,6 +1,7 @@
 pub mod Crossing
 pub mod Lasting
 pub mod Listing
+pub mod Located
 pub mod Narrow
 pub mod Numbers
 pub mod Outcomes

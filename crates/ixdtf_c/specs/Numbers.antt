@@ -12,6 +12,7 @@ use Rattle.ixdtf.specs.table.Faults.Fault.{TzLeadingChar, IanaCharPostSeparator,
 use Rattle.ixdtf.specs.table.Faults.Fault.{OffsetNeedsSign, MonthDayHyphen, DurationDisgnator, DurationValueExceededRange}
 use Rattle.ixdtf.specs.table.Faults.Fault.{DateDurationPartOrder, TimeDurationPartOrder}
 use Rattle.ixdtf.specs.table.Faults.Fault.{TimeDurationDesignator, AmbiguousTimeMonthDay, AmbiguousTimeYearMonth, InvalidMonthDay}
+use Rattle.ixdtf_c.specs.Located.{FaultAt}
 
 -- the number of an error
 abbrev pub number_for : Fault → ℕ
@@ -68,6 +69,6 @@ location_of (AbruptEnd location) = location
 location_of fault = []
 
 -- 0 where a text was read, and else the number of its error
-abbrev pub number_of : {A : Type 0} → Result A Fault → ℕ
+abbrev pub number_of : {A : Type 0} → Result A FaultAt → ℕ
 number_of (Ok found) = 0
-number_of (Err fault) = number_for fault
+number_of (Err e) = number_for e.fault

@@ -6,43 +6,46 @@ use Rattle.ixdtf_grammar.specs.declared.records.DurationParseRecord.{DurationPar
 use Rattle.ixdtf.specs.language.Letters.{Text}
 use Rattle.ixdtf.specs.language.Languages.{Parsed, Found, Derives}
 use Rattle.ixdtf.specs.language.Readers.{Reader}
-use Rattle.ixdtf.specs.table.Faults.{Fault}
-use Rattle.ixdtf.specs.table.Outcomes.{HasFault, OnlyFault, NoRowFits}
-use Rattle.ixdtf.specs.Handlers.{UnhandledRecord, UnhandledFault, UnhandledOnlyFault}
+use Rattle.ixdtf.specs.table.Outcomes.{HasFaultAt, OnlyFault, OnlyPlace, NoRowFits}
+use Rattle.ixdtf.specs.Handlers.{UnhandledRecord, UnhandledOnlyFault}
 use Rattle.ixdtf.specs.Laws.{InNoOther}
+use Rattle.ixdtf.specs.Places.{UnhandledFaultAt}
 use Rattle.ixdtf.specs.language.Languages.Found.{lasting}
 use Rattle.ixdtf.specs.language.Readers.Reader.{parse_duration}
 use Rattle.ixdtf_c.specs.Crossing.{Contents, DurationContents, Gives, GivesDuration}
+use Rattle.ixdtf_c.specs.Located.{FaultAt}
 
 -- Of a text with brackets, where each pair replies for itself: `Ok` exactly with the record that the text gives, and only where
--- no row of the fault table fits and no other reader has the text; and `Err` only with the one fault that it gives.
-pub record ReadsRecord (profile : Profile) (reader : Reader) (text : Text) (outcome : Result Parsed Fault) : Type 0 where
+-- no row of the fault table fits and no other reader has the text; and `Err` only with the one fault that it gives, behind so
+-- many letters.
+pub record ReadsRecord (profile : Profile) (reader : Reader) (text : Text) (outcome : Result Parsed FaultAt) : Type 0 where
   pub ok : (found : Parsed) → (outcome ≡ Ok found) ↔ UnhandledRecord reader text found
-  pub err : (fault : Fault) → outcome ≡ Err fault → UnhandledFault reader text fault
+  pub err : (e : FaultAt) → outcome ≡ Err e → UnhandledFaultAt reader text e.fault e.at
   pub no_row : OnOk outcome (NoRowFits reader text)
   pub alone : OnOk outcome (InNoOther profile reader text)
-  pub only : (fault : Fault) → outcome ≡ Err fault → UnhandledOnlyFault reader text fault
+  pub only : (e : FaultAt) → outcome ≡ Err e → UnhandledOnlyFault reader text e.fault
 
 -- Of a text that is one part alone: `Ok` exactly where the language derives the part, and only where no row of the fault table
--- fits; and `Err` only with the one fault that the text has.
-pub record ReadsPart {A : Type 0} (reader : Reader) (part : A → Found) (text : Text) (outcome : Result A Fault) : Type 0 where
+-- fits; and `Err` only with the one fault that the text has, behind so many letters, and at no other place.
+pub record ReadsPart {A : Type 0} (reader : Reader) (part : A → Found) (text : Text) (outcome : Result A FaultAt) : Type 0 where
   pub ok : (found : A) → (outcome ≡ Ok found) ↔ Derives reader text (part found) []
-  pub err : (fault : Fault) → outcome ≡ Err fault → HasFault reader text [] fault
+  pub err : (e : FaultAt) → outcome ≡ Err e → HasFaultAt reader text [] e.fault e.at
   pub no_row : OnOk outcome (NoRowFits reader text)
-  pub only : (fault : Fault) → outcome ≡ Err fault → OnlyFault reader text [] fault
+  pub only : (e : FaultAt) → outcome ≡ Err e → OnlyFault reader text [] e.fault
+  pub place : (e : FaultAt) → outcome ≡ Err e → OnlyPlace reader text e.fault e.at
 
 -- a text with brackets has an outcome, which is returned and written
 abbrev pub GivesRecord : Profile → Reader → Text → ℕ → Contents → Contents → Type 0
 GivesRecord profile reader text number old new =
-    (outcome : Result Parsed Fault) × ReadsRecord profile reader text outcome × Gives (λ found. found) outcome number old new
+    (outcome : Result Parsed FaultAt) × ReadsRecord profile reader text outcome × Gives (λ found. found) outcome number old new
 
 -- a text that is one part alone has an outcome, which is returned and written, in a record in which nothing else stands
 abbrev pub GivesPart : {A : Type 0} → Reader → (A → Found) → (A → Parsed) → Text → ℕ → Contents → Contents → Type 0
 GivesPart {A} reader part alone text number old new =
-    (outcome : Result A Fault) × ReadsPart reader part text outcome × Gives alone outcome number old new
+    (outcome : Result A FaultAt) × ReadsPart reader part text outcome × Gives alone outcome number old new
 
 -- a text that is a duration has an outcome, which is returned and written; `Ok` only where no other reader has the text
 abbrev pub GivesLasting : Profile → Text → ℕ → DurationContents → DurationContents → Type 0
 GivesLasting profile text number old new =
-    (outcome : Result DurationParseRecord Fault) × ReadsPart (parse_duration profile) lasting text outcome
+    (outcome : Result DurationParseRecord FaultAt) × ReadsPart (parse_duration profile) lasting text outcome
     × OnOk outcome (InNoOther profile (parse_duration profile) text) × GivesDuration outcome number old new

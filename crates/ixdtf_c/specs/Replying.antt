@@ -10,6 +10,7 @@ use Rattle.ixdtf.specs.language.Readers.Reader.{bracketed}
 use Rattle.ixdtf.specs.table.Faults.{Fault}
 use Rattle.ixdtf.specs.Handlers.{Reply, RefusedBeside, first_calendar, calendar_value, with_calendar, Step, Handled, handed, replies_of}
 use Rattle.ixdtf.specs.Laws.{GivesResult}
+use Rattle.ixdtf_c.specs.Located.{FaultAt, unplaced}
 use Rattle.ixdtf_c.specs.Numbers.{number_for}
 use Rattle.ixdtf_c.specs.Listing.{Lists}
 
@@ -22,9 +23,9 @@ pub record TakesReply (old new : Option Pair) (reply : Pair) (number : ℕ) : Ty
   pub named : number ≢ 0 → (fault : Fault) × (number ≡ number_for fault)
 
 -- the outcome of the reader that listed, and where that is a record, with the calendar that is kept
-abbrev pub with_kept : Option Pair → Result Parsed Fault → Result Parsed Fault
+abbrev pub with_kept : {E : Type 0} → Option Pair → Result Parsed E → Result Parsed E
 with_kept kept (Ok found) = Ok (with_calendar found (calendar_value kept))
-with_kept kept (Err fault) = Err fault
+with_kept kept (Err e) = Err e
 
 -- What comes of these replies in turn, beside the calendar that is kept so far: the fault of the first that is refused, and
 -- where none is, the outcome of the reader that listed, with the calendar that is kept in the end. A reply of none is no call.
@@ -41,12 +42,12 @@ pub record ListsAndReplies {A : Type 0} (view : A → Pair) (profile : Profile) 
   pub old : List A
   pub new : List A
   pub count : ℕ
-  pub listed : Result Parsed Fault
+  pub listed : Result Parsed FaultAt
   pub lists : Lists view profile (bracketed kind) text old new count listed
   pub room : count ≤ length old
   pub all : pairs ≡ map view (take count new)
   pub each : length replies ≡ count
-  pub replied : Replied None replies listed outcome
+  pub replied : Replied None replies (unplaced listed) outcome
 
 -- the list begins another
 abbrev pub IsFront : {A : Type 0} → List A → List A → Type 0

@@ -29,11 +29,12 @@ contents r = record {
   calendar = map (λ unit. unit) r.calendar.now;
   has_calendar = r.has_calendar;
   location = r.location.now;
+  place = r.place;
 }
 
--- the record is as it was, its slices too, but for the location
-abbrev pub SameButLocation : Record → Record → Type 0
-SameButLocation old new = new ≡ record old { location = new.location }
+-- the record is as it was, its slices too, but for the location and the place of an error
+abbrev pub SameButError : Record → Record → Type 0
+SameButError old new = new ≡ record old { location = new.location; place = new.place }
 
 abbrev pub annotation_by : Annotation → Pair
 annotation_by a = record { critical = a.is_critical; key = map (λ unit. unit) a.key.now; value = map (λ unit. unit) a.value.now }

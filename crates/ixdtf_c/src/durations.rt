@@ -1,13 +1,13 @@
 //! Durations, as C sees them.
 
 ghost use Rattle.std.specs.Prelude.{◌≡◌, ◌≢◌};
-ghost use Rattle.ixdtf.specs.Views.{returned};
 ghost use Rattle.ixdtf_c.specs.Crossing.{duration_for, with_date, with_time, no_duration, digits_for, value_for, GivesDuration};
-ghost use Rattle.ixdtf_c.specs.Lasting.{contents, SameButLocation};
+ghost use Rattle.ixdtf_c.specs.Located.{returned_at};
+ghost use Rattle.ixdtf_c.specs.Lasting.{contents, SameButError};
 
 use crate::errors::number_of;
 use crate::forms::{Digits, is_negative};
-use ixdtf::ParserResult;
+use ixdtf::LocatedError;
 use ixdtf::records::{DateDurationRecord, DurationParseRecord, Fraction, TimeDurationRecord};
 
 /// A duration.
@@ -38,8 +38,10 @@ pub struct Duration<'a> {
     pub has_date: bool,
     /// Whether the sign is a `-`.
     pub is_negative: bool,
-    /// Where the text ended, of the error `AbruptEnd`, and else nothing.
+    /// What the text broke off in, of the error `AbruptEnd`, and else nothing.
     pub location: &'a [u8],
+    /// How many units stand before the place of the error, and 0 where there is none.
+    pub place: usize,
 }
 
 impl<'a> Duration<'a> {
@@ -62,6 +64,7 @@ impl<'a> Duration<'a> {
             has_date: false,
             is_negative,
             location: &[],
+            place: 0,
         }
     }
 
@@ -149,19 +152,23 @@ impl<'a> Duration<'a> {
 
 /// Writes what a reader of durations returned, and returns 0, or the number of the error.
 #[inline(always)]
-pub fn give_duration<'a>(outcome: &ParserResult<DurationParseRecord>, out: &mut Duration<'a>) -> u32
-    ensures given { GivesDuration (returned (λ duration. duration) outcome.now) result
+pub fn give_duration<'a>(
+    outcome: &Result<DurationParseRecord, LocatedError>,
+    out: &mut Duration<'a>,
+) -> u32
+    ensures given { GivesDuration (returned_at (λ duration. duration) outcome.now) result
         (contents out.old) (contents out.new) }
-    ensures unchanged { result ≢ 0 → SameButLocation out.old out.new }
+    ensures unchanged { result ≢ 0 → SameButError out.old out.new }
 {
     match outcome {
         Ok(found) => {
             out.fill(found);
             0
         }
-        Err(error) => {
-            let (number, location) = number_of(*error);
+        Err(located) => {
+            let (number, location) = number_of(located.error);
             out.location = location;
+            out.place = located.at;
             number
         }
     }

@@ -1,19 +1,20 @@
 //! Records of 8-bit sources, as C sees them.
 
 ghost use Rattle.std.specs.Prelude.{◌≡◌, ◌≢◌, [], map, option_map};
-ghost use Rattle.ixdtf.specs.table.Faults.{fault_of};
-ghost use Rattle.ixdtf.specs.Views.{parsed_of, note_of, zone_of, returned};
+ghost use Rattle.ixdtf.specs.table.Faults.{fault_of_located};
+ghost use Rattle.ixdtf.specs.Views.{parsed_of, note_of, zone_of};
+ghost use Rattle.ixdtf_c.specs.Located.{returned_at};
 ghost use Rattle.ixdtf_c.specs.Numbers.{number_for, location_of};
 ghost use Rattle.ixdtf_c.specs.Crossing.{area_for, zone_for, units_for, is_there, record_for, nothing, Gives};
 ghost use Rattle.ixdtf_c.specs.Crossing.{offset_alone, zone_alone, name_alone};
 ghost use Rattle.ixdtf.specs.language.ZoneNames.Zone.{Name};
-ghost use Rattle.ixdtf_c.specs.Narrow.{zone_contents, contents, SameButLocation};
+ghost use Rattle.ixdtf_c.specs.Narrow.{zone_contents, contents, SameButError};
 
 use crate::errors::number_of;
 use crate::forms::{Date, Offset, Time, is_negative};
+use ixdtf::LocatedError;
 use ixdtf::encoding::Utf8;
 use ixdtf::records::{IxdtfParseRecord, TimeZoneAnnotation, TimeZoneRecord, UtcOffsetRecord};
-use ixdtf::{ParseError, ParserResult};
 
 /// A time zone, where it is there.
 #[derive(Clone, Copy)]
@@ -49,8 +50,10 @@ pub struct Record<'a> {
     pub calendar: &'a [u8],
     /// Whether there is a calendar.
     pub has_calendar: bool,
-    /// Where the text ended, of the error `AbruptEnd`, and else nothing.
+    /// What the text broke off in, of the error `AbruptEnd`, and else nothing.
     pub location: &'a [u8],
+    /// How many units stand before the place of the error, and 0 where there is none.
+    pub place: usize,
 }
 
 /// An annotation.
@@ -155,13 +158,14 @@ impl<'a> Record<'a> {
         self.put_rest(found.calendar);
     }
 
-    /// Writes the calendar, where there is one, and that the text did not break off.
+    /// Writes the calendar, where there is one, and that there is no error.
     #[inline(always)]
     fn put_rest(&mut self, calendar: Option<&'a [u8]>)
         ensures { contents self.new ≡ record (contents self.old) {
           calendar = units_for (option_map (λ units. map (λ unit. unit) units.now) calendar.entry);
           has_calendar = is_there (option_map (λ units. map (λ unit. unit) units.now) calendar.entry);
           location = [];
+          place = 0;
         } }
     {
         match calendar {
@@ -175,44 +179,50 @@ impl<'a> Record<'a> {
             }
         }
         self.location = &[];
+        self.place = 0;
     }
 
-    /// Writes where the text ended, of an error, and returns the error's number.
+    /// Writes the location and the place of an error, and returns the error's number.
     #[inline(always)]
-    fn refuse(&mut self, error: ParseError) -> u32
-        ensures number { result ≡ number_for (fault_of error) }
+    fn refuse(&mut self, located: LocatedError) -> u32
+        ensures number { result ≡ number_for (fault_of_located located) }
         ensures some { result ≢ 0 }
-        ensures location { self.new.location.now ≡ location_of (fault_of error) }
-        ensures unchanged { SameButLocation self.old self.new }
+        ensures location { self.new.location.now ≡ location_of (fault_of_located located) }
+        ensures place { self.new.place ≡ located.at }
+        ensures unchanged { SameButError self.old self.new }
     {
-        let (number, location) = number_of(error);
+        let (number, location) = number_of(located.error);
         self.location = location;
+        self.place = located.at;
         number
     }
 }
 
 /// Writes what a reader of records returned, and returns 0, or the number of the error.
 #[inline(always)]
-pub fn give<'a>(outcome: &ParserResult<IxdtfParseRecord<'a, Utf8>>, out: &mut Record<'a>) -> u32
-    ensures given { Gives (λ found. found) (returned (parsed_of (λ unit. unit)) outcome.now) result
+pub fn give<'a>(
+    outcome: &Result<IxdtfParseRecord<'a, Utf8>, LocatedError>,
+    out: &mut Record<'a>,
+) -> u32
+    ensures given { Gives (λ found. found) (returned_at (parsed_of (λ unit. unit)) outcome.now) result
         (contents out.old) (contents out.new) }
-    ensures unchanged { result ≢ 0 → SameButLocation out.old out.new }
+    ensures unchanged { result ≢ 0 → SameButError out.old out.new }
 {
     match outcome {
         Ok(found) => {
             out.fill(found);
             0
         }
-        Err(error) => out.refuse(*error),
+        Err(located) => out.refuse(*located),
     }
 }
 
 /// Writes what a reader of offsets returned, and returns 0, or the number of the error.
 #[inline(always)]
-pub fn give_offset<'a>(outcome: &ParserResult<UtcOffsetRecord>, out: &mut Record<'a>) -> u32
-    ensures given { Gives offset_alone (returned (λ offset. offset) outcome.now) result
+pub fn give_offset<'a>(outcome: &Result<UtcOffsetRecord, LocatedError>, out: &mut Record<'a>) -> u32
+    ensures given { Gives offset_alone (returned_at (λ offset. offset) outcome.now) result
         (contents out.old) (contents out.new) }
-    ensures unchanged { result ≢ 0 → SameButLocation out.old out.new }
+    ensures unchanged { result ≢ 0 → SameButError out.old out.new }
 {
     match outcome {
         Ok(offset) => {
@@ -220,16 +230,19 @@ pub fn give_offset<'a>(outcome: &ParserResult<UtcOffsetRecord>, out: &mut Record
             out.offset.put_shift(*offset);
             0
         }
-        Err(error) => out.refuse(*error),
+        Err(located) => out.refuse(*located),
     }
 }
 
 /// Writes what a reader of zones returned, and returns 0, or the number of the error.
 #[inline(always)]
-pub fn give_zone<'a>(outcome: &ParserResult<TimeZoneRecord<'a, Utf8>>, out: &mut Record<'a>) -> u32
-    ensures given { Gives zone_alone (returned (zone_of (λ unit. unit)) outcome.now) result
+pub fn give_zone<'a>(
+    outcome: &Result<TimeZoneRecord<'a, Utf8>, LocatedError>,
+    out: &mut Record<'a>,
+) -> u32
+    ensures given { Gives zone_alone (returned_at (zone_of (λ unit. unit)) outcome.now) result
         (contents out.old) (contents out.new) }
-    ensures unchanged { result ≢ 0 → SameButLocation out.old out.new }
+    ensures unchanged { result ≢ 0 → SameButError out.old out.new }
 {
     match outcome {
         Ok(zone) => {
@@ -237,17 +250,17 @@ pub fn give_zone<'a>(outcome: &ParserResult<TimeZoneRecord<'a, Utf8>>, out: &mut
             out.zone.put_area(false, zone);
             0
         }
-        Err(error) => out.refuse(*error),
+        Err(located) => out.refuse(*located),
     }
 }
 
 /// Writes what a reader of names returned, and returns 0, or the number of the error.
 #[inline(always)]
-pub fn give_name<'a>(outcome: &ParserResult<&'a [u8]>, out: &mut Record<'a>) -> u32
+pub fn give_name<'a>(outcome: &Result<&'a [u8], LocatedError>, out: &mut Record<'a>) -> u32
     ensures given { Gives name_alone
-        (returned (λ units. map (λ unit. unit) units.now) outcome.now) result
+        (returned_at (λ units. map (λ unit. unit) units.now) outcome.now) result
         (contents out.old) (contents out.new) }
-    ensures unchanged { result ≢ 0 → SameButLocation out.old out.new }
+    ensures unchanged { result ≢ 0 → SameButError out.old out.new }
 {
     match outcome {
         Ok(name) => {
@@ -255,6 +268,6 @@ pub fn give_name<'a>(outcome: &ParserResult<&'a [u8]>, out: &mut Record<'a>) -> 
             out.zone.put_name(false, name);
             0
         }
-        Err(error) => out.refuse(*error),
+        Err(located) => out.refuse(*located),
     }
 }

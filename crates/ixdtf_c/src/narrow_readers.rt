@@ -6,8 +6,8 @@ ghost use Rattle.ixdtf.specs.language.Letters.{byte_letter};
 ghost use Rattle.ixdtf.specs.language.Readers.{parse, parse_year_month, parse_month_day, parse_time};
 ghost use Rattle.ixdtf.specs.language.Readers.Reader.{parse_offset, parse_identifier, parse_iana_identifier};
 ghost use Rattle.ixdtf_c.specs.Crossing.{offset_alone, zone_alone, name_alone};
-ghost use Rattle.ixdtf_c.specs.Lasting.{contents as lasting_contents, SameButLocation as SameLastingButLocation};
-ghost use Rattle.ixdtf_c.specs.Narrow.{contents, SameButLocation};
+ghost use Rattle.ixdtf_c.specs.Lasting.{contents as lasting_contents, SameButError as SameLastingButError};
+ghost use Rattle.ixdtf_c.specs.Narrow.{contents, SameButError};
 ghost use Rattle.ixdtf_c.specs.Outcomes.{GivesRecord, GivesPart, GivesLasting};
 ghost use Rattle.ixdtf_c.specs.Standing.{record_by};
 ghost use Rattle.ixdtf_print.specs.Canonical.{canonical_text};
@@ -28,10 +28,10 @@ pub extern "C" fn ixdtf_parse<'a>(text: &'a [u8], out: &mut Record<'a>) -> u32
     ensures printable { result ≡ 0 → IsSomeAnd (record_by (contents out.new)) IsPrintable }
     ensures fits { result ≡ 0 → IsSomeAnd (record_by (contents out.new))
         (λ found. length (canonical_text found) ≤ length text.now + 14) }
-    // After a refusal the record is as it was, its slices too, but for the location.
-    ensures unchanged { result ≢ 0 → SameButLocation out.old out.new }
+    // After a refusal the record is as it was, its slices too, but for the location and the place.
+    ensures unchanged { result ≢ 0 → SameButError out.old out.new }
 {
-    give(&IxdtfParser::from_utf8(text).parse(), out)
+    give(&IxdtfParser::from_utf8(text).parse_located(), out)
 }
 
 /// Reads a year and a month, and the brackets after it.
@@ -40,10 +40,13 @@ pub extern "C" fn ixdtf_parse_year_month<'a>(text: &'a [u8], out: &mut Record<'a
     // The number and the record, all of it, are those of what the library's reader returns of the text.
     ensures read { GivesRecord Profile.Crate parse_year_month (map byte_letter text.now) result
         (contents out.old) (contents out.new) }
-    // After a refusal the record is as it was, its slices too, but for the location.
-    ensures unchanged { result ≢ 0 → SameButLocation out.old out.new }
+    // After a refusal the record is as it was, its slices too, but for the location and the place.
+    ensures unchanged { result ≢ 0 → SameButError out.old out.new }
 {
-    give(&IxdtfParser::from_utf8(text).parse_year_month(), out)
+    give(
+        &IxdtfParser::from_utf8(text).parse_year_month_located(),
+        out,
+    )
 }
 
 /// Reads a month and a day, and the brackets after it.
@@ -52,10 +55,10 @@ pub extern "C" fn ixdtf_parse_month_day<'a>(text: &'a [u8], out: &mut Record<'a>
     // The number and the record, all of it, are those of what the library's reader returns of the text.
     ensures read { GivesRecord Profile.Crate (parse_month_day Profile.Crate) (map byte_letter text.now) result
         (contents out.old) (contents out.new) }
-    // After a refusal the record is as it was, its slices too, but for the location.
-    ensures unchanged { result ≢ 0 → SameButLocation out.old out.new }
+    // After a refusal the record is as it was, its slices too, but for the location and the place.
+    ensures unchanged { result ≢ 0 → SameButError out.old out.new }
 {
-    give(&IxdtfParser::from_utf8(text).parse_month_day(), out)
+    give(&IxdtfParser::from_utf8(text).parse_month_day_located(), out)
 }
 
 /// Reads a time, and the brackets after it.
@@ -64,10 +67,10 @@ pub extern "C" fn ixdtf_parse_time<'a>(text: &'a [u8], out: &mut Record<'a>) -> 
     // The number and the record, all of it, are those of what the library's reader returns of the text.
     ensures read { GivesRecord Profile.Crate (parse_time Profile.Crate) (map byte_letter text.now) result
         (contents out.old) (contents out.new) }
-    // After a refusal the record is as it was, its slices too, but for the location.
-    ensures unchanged { result ≢ 0 → SameButLocation out.old out.new }
+    // After a refusal the record is as it was, its slices too, but for the location and the place.
+    ensures unchanged { result ≢ 0 → SameButError out.old out.new }
 {
-    give(&IxdtfParser::from_utf8(text).parse_time(), out)
+    give(&IxdtfParser::from_utf8(text).parse_time_located(), out)
 }
 
 /// Reads a month and a day, and the brackets after it, under the strict profile.
@@ -76,11 +79,11 @@ pub extern "C" fn ixdtf_parse_month_day_strict<'a>(text: &'a [u8], out: &mut Rec
     // The number and the record, all of it, are those of what the library's reader returns of the text.
     ensures read { GivesRecord Profile.Strict (parse_month_day Profile.Strict) (map byte_letter text.now) result
         (contents out.old) (contents out.new) }
-    // After a refusal the record is as it was, its slices too, but for the location.
-    ensures unchanged { result ≢ 0 → SameButLocation out.old out.new }
+    // After a refusal the record is as it was, its slices too, but for the location and the place.
+    ensures unchanged { result ≢ 0 → SameButError out.old out.new }
 {
     let mut parser = IxdtfParser::from_utf8(text).with_profile(Profile::Strict);
-    give(&parser.parse_month_day(), out)
+    give(&parser.parse_month_day_located(), out)
 }
 
 /// Reads a time, and the brackets after it, under the strict profile.
@@ -89,11 +92,11 @@ pub extern "C" fn ixdtf_parse_time_strict<'a>(text: &'a [u8], out: &mut Record<'
     // The number and the record, all of it, are those of what the library's reader returns of the text.
     ensures read { GivesRecord Profile.Strict (parse_time Profile.Strict) (map byte_letter text.now) result
         (contents out.old) (contents out.new) }
-    // After a refusal the record is as it was, its slices too, but for the location.
-    ensures unchanged { result ≢ 0 → SameButLocation out.old out.new }
+    // After a refusal the record is as it was, its slices too, but for the location and the place.
+    ensures unchanged { result ≢ 0 → SameButError out.old out.new }
 {
     let mut parser = IxdtfParser::from_utf8(text).with_profile(Profile::Strict);
-    give(&parser.parse_time(), out)
+    give(&parser.parse_time_located(), out)
 }
 
 /// Reads an offset.
@@ -102,10 +105,10 @@ pub extern "C" fn ixdtf_parse_offset<'a>(text: &'a [u8], out: &mut Record<'a>) -
     // The number and the record, all of it, are those of what the library's reader returns of the text.
     ensures read { GivesPart parse_offset shifted offset_alone (map byte_letter text.now) result
         (contents out.old) (contents out.new) }
-    // After a refusal the record is as it was, its slices too, but for the location.
-    ensures unchanged { result ≢ 0 → SameButLocation out.old out.new }
+    // After a refusal the record is as it was, its slices too, but for the location and the place.
+    ensures unchanged { result ≢ 0 → SameButError out.old out.new }
 {
-    give_offset(&TimeZoneParser::from_utf8(text).parse_offset(), out)
+    give_offset(&TimeZoneParser::from_utf8(text).parse_offset_located(), out)
 }
 
 /// Reads a time zone.
@@ -114,10 +117,13 @@ pub extern "C" fn ixdtf_parse_identifier<'a>(text: &'a [u8], out: &mut Record<'a
     // The number and the record, all of it, are those of what the library's reader returns of the text.
     ensures read { GivesPart parse_identifier identified zone_alone (map byte_letter text.now) result
         (contents out.old) (contents out.new) }
-    // After a refusal the record is as it was, its slices too, but for the location.
-    ensures unchanged { result ≢ 0 → SameButLocation out.old out.new }
+    // After a refusal the record is as it was, its slices too, but for the location and the place.
+    ensures unchanged { result ≢ 0 → SameButError out.old out.new }
 {
-    give_zone(&TimeZoneParser::from_utf8(text).parse_identifier(), out)
+    give_zone(
+        &TimeZoneParser::from_utf8(text).parse_identifier_located(),
+        out,
+    )
 }
 
 /// Reads the name of a time zone.
@@ -126,11 +132,11 @@ pub extern "C" fn ixdtf_parse_iana_identifier<'a>(text: &'a [u8], out: &mut Reco
     // The number and the record, all of it, are those of what the library's reader returns of the text.
     ensures read { GivesPart parse_iana_identifier named name_alone (map byte_letter text.now) result
         (contents out.old) (contents out.new) }
-    // After a refusal the record is as it was, its slices too, but for the location.
-    ensures unchanged { result ≢ 0 → SameButLocation out.old out.new }
+    // After a refusal the record is as it was, its slices too, but for the location and the place.
+    ensures unchanged { result ≢ 0 → SameButError out.old out.new }
 {
     give_name(
-        &TimeZoneParser::from_utf8(text).parse_iana_identifier(),
+        &TimeZoneParser::from_utf8(text).parse_iana_identifier_located(),
         out,
     )
 }
@@ -142,10 +148,13 @@ pub extern "C" fn ixdtf_parse_duration(text: &[u8], out: &mut Duration<'_>) -> u
     // where no other reader of dates, times and durations has the text.
     ensures read { GivesLasting Profile.Crate (map byte_letter text.now) result
         (lasting_contents out.old) (lasting_contents out.new) }
-    // After a refusal the duration is as it was, but for the location.
-    ensures unchanged { result ≢ 0 → SameLastingButLocation out.old out.new }
+    // After a refusal the duration is as it was, but for the location and the place.
+    ensures unchanged { result ≢ 0 → SameLastingButError out.old out.new }
 {
-    give_duration(&IsoDurationParser::<Utf8>::from_utf8(text).parse(), out)
+    give_duration(
+        &IsoDurationParser::<Utf8>::from_utf8(text).parse_located(),
+        out,
+    )
 }
 
 /// Reads a duration, under the strict profile.
@@ -155,9 +164,9 @@ pub extern "C" fn ixdtf_parse_duration_strict(text: &[u8], out: &mut Duration<'_
     // where no other reader of dates, times and durations has the text.
     ensures read { GivesLasting Profile.Strict (map byte_letter text.now) result
         (lasting_contents out.old) (lasting_contents out.new) }
-    // After a refusal the duration is as it was, but for the location.
-    ensures unchanged { result ≢ 0 → SameLastingButLocation out.old out.new }
+    // After a refusal the duration is as it was, but for the location and the place.
+    ensures unchanged { result ≢ 0 → SameLastingButError out.old out.new }
 {
     let mut parser = IsoDurationParser::<Utf8>::from_utf8(text).with_profile(Profile::Strict);
-    give_duration(&parser.parse(), out)
+    give_duration(&parser.parse_located(), out)
 }

@@ -51,12 +51,13 @@ fn no_duration<'a>() -> Duration<'a> {
         has_date: false,
         is_negative: false,
         location: &[],
+        place: 0,
     }
 }
 
 #[test]
 fn tells_texts_and_the_version(rt: HostRuntime) {
-    assert_eq!(rt; ixdtf_interface_version(), 1);
+    assert_eq!(rt; ixdtf_interface_version(), 2);
     let mut text = Text { bytes: &[] };
     ixdtf_error_text(12, &mut text);
     assert_eq!(rt;

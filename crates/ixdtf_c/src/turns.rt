@@ -5,8 +5,8 @@ ghost use Rattle.ixdtf.specs.Handlers.{Handled, calendar_value, pair_of};
 ghost use Rattle.ixdtf.specs.language.Letters.{byte_letter};
 ghost use Rattle.ixdtf.specs.language.Readers.{parse};
 ghost use Rattle.ixdtf.specs.language.Languages.{Parsed};
-ghost use Rattle.ixdtf.specs.table.Faults.{Fault};
 ghost use Rattle.ixdtf_c.specs.Crossing.{Contents, Gives, units_for};
+ghost use Rattle.ixdtf_c.specs.Located.{FaultAt, unplaced};
 ghost use Rattle.ixdtf_c.specs.Narrow.{annotation_by, calendar_by, contents};
 ghost use Rattle.ixdtf_c.specs.Turns.{HandsOver, InTurn};
 
@@ -88,7 +88,8 @@ fn units_of<'a>(calendar: &Calendar<'a>) -> &'a [u8]
 
 /// Reads as [`ixdtf_parse_with_annotations`] does, asks the handler about each annotation, hands each of its replies to
 /// [`ixdtf_reply`], and stops at the first that is refused. With room for all annotations this is the library's
-/// `parse_with_annotation_handler`.
+/// `parse_with_annotation_handler`. Where a reply is refused, `place` of the record stays that of the reader, and is not the
+/// reply's.
 pub fn parse_in_turn<'a, F>(
     text: &'a [u8],
     annotations: &mut [Annotation<'a>],
@@ -99,8 +100,8 @@ pub fn parse_in_turn<'a, F>(
 where
     F: FnMut(records::Annotation<'a, Utf8>) -> Option<records::Annotation<'a, Utf8>>,
     requires callable { F.IsAlwaysCallable handler }
-    ensures handled { count.new ≤ length annotations.old → (outcome : Result Parsed Fault)
-        × Handled (λ unit. unit) F.step handler parse (map byte_letter text.now) outcome
+    ensures handled { count.new ≤ length annotations.old → (outcome : Result Parsed FaultAt)
+        × Handled (λ unit. unit) F.step handler parse (map byte_letter text.now) (unplaced outcome)
         × (before : Contents) × Gives (λ found. found) outcome result before (contents out.new) }
 {
     let read = ixdtf_parse_with_annotations(text, annotations, count, out);

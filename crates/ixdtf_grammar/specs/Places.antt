@@ -8,7 +8,7 @@ use Rattle.ixdtf_grammar.specs.language.Languages.{Parsed, Derives}
 use Rattle.ixdtf_grammar.specs.language.Languages.Found.{parsed}
 use Rattle.ixdtf_grammar.specs.table.Faults.{Fault}
 use Rattle.ixdtf_grammar.specs.table.Outcomes.{HasFaultAt}
-use Rattle.ixdtf_grammar.specs.Handlers.{Reply, NoneRefused, LastRefused, GivesRecord, GivesOnlyFault, Calls, handed, replies_of, Step, IsChain, own_replies}
+use Rattle.ixdtf_grammar.specs.Handlers.{Reply, NoneRefused, LastRefused, GivesRecord, GivesOnlyFault, Calls, handed, replies_of, Step, IsChain, own_replies, HandledTo}
 use Rattle.ixdtf_grammar.specs.Views.{returned_by}
 
 -- a front of the text with so many letters is derived with these pairs
@@ -54,3 +54,9 @@ pub record HandledAt {T U F X E : Type 0} (number : U → ℕ) (step : Step T U 
   pub err : (e : E) → result ≡ Err e → (at : ℕ) × stands at e × GivesFaultAt reader text (handed number calls) (replies_of number calls) (named e) at
   pub only : (e : E) → result ≡ Err e → GivesOnlyFault reader text (handed number calls) (replies_of number calls) (named e)
   pub place : (e : E) → result ≡ Err e → (at : ℕ) × stands at e × GivesOnlyPlace reader text (handed number calls) (replies_of number calls) (named e) at
+
+-- The same for a handler that was lent and is left in the state `last`, where the chain of calls ends.
+pub record HandledToAt {T U F X E : Type 0} (number : U → ℕ) (step : Step T U F) (handler last : F) (reader : Reader) (text : Text)
+    (named : E → Fault) (stands : ℕ → E → Type 0) (view : X → Parsed) (result : Result X E) : Type 0 where
+  pub plain : HandledTo number step handler last reader text (returned_by named view result)
+  pub place : (e : E) → result ≡ Err e → (at : ℕ) × stands at e × GivesFaultAt reader text (handed number plain.calls) (replies_of number plain.calls) (named e) at

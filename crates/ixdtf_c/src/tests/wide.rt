@@ -22,6 +22,7 @@ fn no_record<'a>() -> Record<'a> {
         calendar: &[],
         has_calendar: false,
         location: &[],
+        place: 0,
     }
 }
 
@@ -72,7 +73,10 @@ fn reads_dates_and_times(rt: HostRuntime) {
     assert_eq!(rt; (record.has_calendar, record.calendar.len()), (true, 6));
     let text = units(b"2021-02-2");
     assert_eq!(rt; ixdtf16_parse(&text, &mut record), 4);
-    assert_eq!(rt; (record.date.year, record.location.len()), (2024, 5));
+    assert_eq!(rt;
+        (record.date.year, record.location.len(), record.place),
+        (2024, 5, 9)
+    );
 }
 
 #[test]
@@ -142,9 +146,13 @@ fn reads_parts(rt: HostRuntime) {
         (2, 5, 6, 5)
     );
     assert_eq!(rt; ixdtf16_parse_duration_strict(&text, &mut duration), 41);
+    assert_eq!(rt; (duration.years, duration.place), (2, 6));
     let text = units(b"PT1S");
     assert_eq!(rt; ixdtf16_parse_duration_strict(&text, &mut duration), 0);
-    assert_eq!(rt; (duration.time_form, duration.seconds), (3, 1));
+    assert_eq!(rt;
+        (duration.time_form, duration.seconds, duration.place),
+        (3, 1, 0)
+    );
 }
 
 #[test]
@@ -210,7 +218,7 @@ fn lists_annotations(rt: HostRuntime) {
         ixdtf16_parse_year_month_with_annotations(&text, &mut slots, &mut count, &mut record),
         5
     );
-    assert_eq!(rt; count, 1);
+    assert_eq!(rt; (count, record.place), (1, 12));
     let text = units(b"11-07[a=b]");
     assert_eq!(rt;
         ixdtf16_parse_month_day_with_annotations(&text, &mut slots, &mut count, &mut record),

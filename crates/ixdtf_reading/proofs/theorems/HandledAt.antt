@@ -7,12 +7,12 @@ use Rattle.ixdtf_grammar.specs.language.Languages.{Parsed}
 use Rattle.ixdtf_grammar.specs.language.Readers.{Reader}
 use Rattle.ixdtf_grammar.specs.table.Faults.{Fault}
 use Rattle.ixdtf_grammar.specs.Handlers.{Reply, Calls, handed, replies_of, Step}
-use Rattle.ixdtf_grammar.specs.Places.{GivesFaultAt, HandledAt, UnhandledFaultAt}
+use Rattle.ixdtf_grammar.specs.Places.{GivesFaultAt, HandledAt, HandledToAt, UnhandledFaultAt}
 use Rattle.ixdtf_reading.specs.declared.stop.StopAt.{StopAt}
 use Rattle.ixdtf_reading.specs.reading.Chains.{TextGives, TextRead}
 use Rattle.ixdtf_reading.specs.reading.Clauses.{fault_of_stop}
 use Rattle.ixdtf_reading.proofs.code.Located.{left_fits as row_left_fits}
-use Rattle.ixdtf_reading.proofs.theorems.Handled.{OwnReplies, replies_own, no_record_and_fault, handled}
+use Rattle.ixdtf_reading.proofs.theorems.Handled.{OwnReplies, replies_own, no_record_and_fault, handled, handled_to}
 use Rattle.ixdtf_reading.proofs.theorems.OnePlace.{one_place, without_place}
 use Rattle.ixdtf_reading.proofs.theorems.OnlyOutcome.{gives_only}
 
@@ -59,6 +59,32 @@ module _ {T U F X E : Type 0} (number : U → ℕ) (step : Step T U F) (handler 
         err = λ e' is. let same : e ≡ e' = cc in rw (← same) (why.at, is_there, gives);
         only = λ e' is. let same : e ≡ e' = cc in rw (← same) is_only;
         place = λ e' is. let same : e ≡ e' = cc in rw (← same) (why.at, is_there, is_only_place);
+      }
+
+  -- and one that takes the handler by reference
+  pub handled_to_at_ok : (x : X) → TextRead number step handler last reader text (Ok (view x)) → HandledToAt number step handler last reader text named stands view (Ok x)
+  handled_to_at_ok x read = record {
+    plain = handled_to number step handler reader text (Ok (view x)) last read;
+    place = λ e is. absurd cc;
+  }
+
+  pub handled_to_at_err : (why : StopAt) (e : E) → named e ≡ fault_of_stop why.stop → stands why.at e
+      → (left : Text) × (why.at + length left ≡ length text) × TextRead number step handler last reader text (Err (fault_of_stop why.stop, left))
+      → HandledToAt number step handler last reader text named stands view (Err e)
+  handled_to_at_err why e is_named is_there (left, lengths, read) =
+      let gives : GivesFaultAt reader text (handed number read.calls) (replies_of number read.calls) (named e) why.at =
+      rw is_named (stands_at reader text _ _ (fault_of_stop why.stop) left why.at lengths read.gives) in
+      let fault = without_place reader text _ _ (named e) why.at gives in
+      let is_only = gives_only reader text _ _ (named e) fault in
+      record {
+        plain = record {
+          calls = read.calls;
+          chain = read.chain;
+          ok = λ found. ((λ is. absurd cc), λ other. absurd (no_record_and_fault reader text _ _ found (named e) other fault));
+          err = λ other is. let same : named e ≡ other = cc in rw (← same) fault;
+          only = λ other is. let same : named e ≡ other = cc in rw (← same) is_only;
+        };
+        place = λ e' is. let same : e ≡ e' = cc in rw (← same) (why.at, is_there, gives);
       }
 
 -- the place of a text whose pairs reply for themselves

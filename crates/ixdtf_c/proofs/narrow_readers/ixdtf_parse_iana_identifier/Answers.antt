@@ -1,10 +1,14 @@
+use Rattle.std.proofs.Common.{rules}
+use Rattle.ixdtf.specs.language.Languages.Found.{named}
+use Rattle.ixdtf.specs.language.Letters.{byte_letter}
+use Rattle.ixdtf.specs.language.Readers.Reader.{parse_iana_identifier}
+use Rattle.ixdtf_c.specs.Crossing.{name_alone}
+use Rattle.ixdtf_c.specs.Narrow.{contents}
 use Rattle.ixdtf_c.proofs.Crossed.{crossed_part}
 use Rattle.ixdtf_c.proofs.narrow_readers.ixdtf_parse_iana_identifier.Goals as goal
 
 pub returns-clause-read : goal.returns-clause-read
-returns-clause-read c = rw (← c.from_utf8.ensures.rest) (
-  _,
-  crossed_part _ _ _ _ c.parse_iana_identifier.result c.parse_iana_identifier.ensures.ok c.parse_iana_identifier.ensures.err
-      c.parse_iana_identifier.ensures.no_row c.parse_iana_identifier.ensures.only,
-  c.give_name.ensures.given,
-)
+returns-clause-read c =
+    crossed_part parse_iana_identifier named name_alone byte_letter _ c.parse_iana_identifier_located.result _ (contents c.args.out.now) _
+    c.parse_iana_identifier_located.ensures.ok c.parse_iana_identifier_located.ensures.err c.parse_iana_identifier_located.ensures.no_row
+    c.parse_iana_identifier_located.ensures.only c.parse_iana_identifier_located.ensures.place c.give_name.ensures.given (search rules)

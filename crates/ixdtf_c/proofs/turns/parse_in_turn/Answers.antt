@@ -12,7 +12,7 @@ returns-then-refused-ne0 g c = record {
       let (listed, listing, given) = c.ixdtf_parse_with_annotations-read.ensures.lists in
       let (fault, named, last) = c.reply_in_turn-refused.ensures.refused c.if-refused-ne0.true in
       let read = contents c.ixdtf_parse_with_annotations-read.new.out in
-      (Err fault, handled_refused listing room c.reply_in_turn-refused.ensures fault last, read, refused_given _ read _ fault named last);
+      (Err (record { fault = fault; at = read.place }), handled_refused listing room c.reply_in_turn-refused.ensures fault last, read, refused_given _ read _ fault named last);
 }
 
 pub returns : goal.returns

@@ -9,32 +9,32 @@ pub returns-in-Err-clause-lists : goal.returns-in-Err-clause-lists
 returns-in-Err-clause-lists g c =
     let h = c.in-Err.ensures.handled in
     let fits : length c.args.text.now ≤ 2 ^ 64 - 1 = search rules in
-    let loan = kept _ (λ state. state.0.ghost_name) (λ state annotation reply next stepped. search rules) h.calls _ _ h.chain in
-    lists_left (search (rules, loan)) (search (rules, loan)) (
-    lists _ (λ state. state.0.now.count) (λ state. state.0.now.slots.now) annotation_for (2 ^ 64 - 1)
+    let loan = kept _ (λ state. state.0.ghost_name) (λ state annotation reply next stepped. search rules) h.plain.calls _ _ h.plain.chain in
+    let (outcome, has, listing) = lists _ (λ state. state.0.now.count) (λ state. state.0.now.slots.now) annotation_for (2 ^ 64 - 1)
     (λ state annotation reply next stepped. (search rules, search rules, search rules))
-    annotation_by (λ annotation. refl) _ _ _ _ _ _ h c.in-Err.ensures.no_row c.in-Err.ensures.alone c.requires (rw (length-map c.args.text.now _) fits))
+    annotation_by (λ annotation. refl) _ _ _ _ _ _ _ _ _ h c.in-Err.ensures.no_row c.in-Err.ensures.alone c.requires (rw (length-map c.args.text.now _) fits) in
+    (outcome, has, lists_left (search (rules, loan)) (search (rules, loan)) listing)
 
 pub returns-in-Err-clause-same_slots : goal.returns-in-Err-clause-same_slots
 returns-in-Err-clause-same_slots g c =
     let h = c.in-Err.ensures.handled in
-    let loan = kept _ (λ state. state.0.ghost_name) (λ state annotation reply next stepped. search rules) h.calls _ _ h.chain in
-    let slots = kept _ (λ state. state.0.now.slots.ghost_name) (λ state annotation reply next stepped. search rules) h.calls _ _ h.chain in
+    let loan = kept _ (λ state. state.0.ghost_name) (λ state annotation reply next stepped. search rules) h.plain.calls _ _ h.plain.chain in
+    let slots = kept _ (λ state. state.0.now.slots.ghost_name) (λ state annotation reply next stepped. search rules) h.plain.calls _ _ h.plain.chain in
     search (rules, loan, slots)
 
 pub returns-clause-lists : goal.returns-clause-lists
 returns-clause-lists g c =
     let h = c.in-Ok.ensures.handled in
     let fits : length c.args.text.now ≤ 2 ^ 64 - 1 = search rules in
-    let loan = kept _ (λ state. state.0.ghost_name) (λ state annotation reply next stepped. search rules) h.calls _ _ h.chain in
-    lists_left (search (rules, loan)) (search (rules, loan)) (
-    lists _ (λ state. state.0.now.count) (λ state. state.0.now.slots.now) annotation_for (2 ^ 64 - 1)
+    let loan = kept _ (λ state. state.0.ghost_name) (λ state annotation reply next stepped. search rules) h.plain.calls _ _ h.plain.chain in
+    let (outcome, has, listing) = lists _ (λ state. state.0.now.count) (λ state. state.0.now.slots.now) annotation_for (2 ^ 64 - 1)
     (λ state annotation reply next stepped. (search rules, search rules, search rules))
-    annotation_by (λ annotation. refl) _ _ _ _ _ _ h c.in-Ok.ensures.no_row c.in-Ok.ensures.alone c.requires (rw (length-map c.args.text.now _) fits))
+    annotation_by (λ annotation. refl) _ _ _ _ _ _ _ _ _ h c.in-Ok.ensures.no_row c.in-Ok.ensures.alone c.requires (rw (length-map c.args.text.now _) fits) in
+    (outcome, has, lists_left (search (rules, loan)) (search (rules, loan)) listing)
 
 pub returns-clause-same_slots : goal.returns-clause-same_slots
 returns-clause-same_slots g c =
     let h = c.in-Ok.ensures.handled in
-    let loan = kept _ (λ state. state.0.ghost_name) (λ state annotation reply next stepped. search rules) h.calls _ _ h.chain in
-    let slots = kept _ (λ state. state.0.now.slots.ghost_name) (λ state annotation reply next stepped. search rules) h.calls _ _ h.chain in
+    let loan = kept _ (λ state. state.0.ghost_name) (λ state annotation reply next stepped. search rules) h.plain.calls _ _ h.plain.chain in
+    let slots = kept _ (λ state. state.0.now.slots.ghost_name) (λ state annotation reply next stepped. search rules) h.plain.calls _ _ h.plain.chain in
     search (rules, loan, slots)

@@ -1,10 +1,12 @@
+use Rattle.std.proofs.Common.{rules}
+use Rattle.ixdtf.specs.language.Letters.{wide_letter}
+use Rattle.ixdtf.specs.language.Readers.{parse_month_day}
+use Rattle.ixdtf_c.specs.Wide.{contents}
 use Rattle.ixdtf_c.proofs.Crossed.{crossed_record}
 use Rattle.ixdtf_c.proofs.wide_readers.ixdtf16_parse_month_day_strict.Goals as goal
 
 pub returns-clause-read : goal.returns-clause-read
-returns-clause-read c = rw (← c.from_utf16.ensures.rest, ← c.with_profile-parser.ensures.rest, ← c.with_profile-parser.ensures.profile) (
-  _,
-  crossed_record _ _ _ _ c.parse_month_day.result c.parse_month_day.ensures.ok c.parse_month_day.ensures.err
-      c.parse_month_day.ensures.no_row c.parse_month_day.ensures.alone c.parse_month_day.ensures.only,
-  c.give.ensures.given,
-)
+returns-clause-read c =
+    crossed_record parse_month_day wide_letter _ c.parse_month_day_located.result _ (contents c.args.out.now) _
+    c.parse_month_day_located.ensures.ok c.parse_month_day_located.ensures.err c.parse_month_day_located.ensures.no_row
+    c.parse_month_day_located.ensures.alone c.parse_month_day_located.ensures.only c.give.ensures.given (search rules) (search rules)

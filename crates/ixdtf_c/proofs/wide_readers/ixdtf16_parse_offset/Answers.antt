@@ -1,10 +1,14 @@
+use Rattle.std.proofs.Common.{rules}
+use Rattle.ixdtf.specs.language.Languages.Found.{shifted}
+use Rattle.ixdtf.specs.language.Letters.{wide_letter}
+use Rattle.ixdtf.specs.language.Readers.Reader.{parse_offset}
+use Rattle.ixdtf_c.specs.Crossing.{offset_alone}
+use Rattle.ixdtf_c.specs.Wide.{contents}
 use Rattle.ixdtf_c.proofs.Crossed.{crossed_part}
 use Rattle.ixdtf_c.proofs.wide_readers.ixdtf16_parse_offset.Goals as goal
 
 pub returns-clause-read : goal.returns-clause-read
-returns-clause-read c = rw (← c.from_utf16.ensures.rest) (
-  _,
-  crossed_part _ _ _ _ c.parse_offset.result c.parse_offset.ensures.ok c.parse_offset.ensures.err
-      c.parse_offset.ensures.no_row c.parse_offset.ensures.only,
-  c.give_offset.ensures.given,
-)
+returns-clause-read c =
+    crossed_part parse_offset shifted offset_alone wide_letter _ c.parse_offset_located.result _ (contents c.args.out.now) _
+    c.parse_offset_located.ensures.ok c.parse_offset_located.ensures.err c.parse_offset_located.ensures.no_row
+    c.parse_offset_located.ensures.only c.parse_offset_located.ensures.place c.give_offset.ensures.given (search rules)
