@@ -6,7 +6,6 @@ pub mod FixedCores
 pub mod HandledForms
 pub mod HandsOn
 pub mod Placed
-pub mod PublicErrors
+pub mod RaisedErrors
 pub mod Tail
-pub mod LocatedErrors
 pub mod LocatedForms

@@ -10,9 +10,10 @@ ghost use Rattle.ixdtf_grammar.specs.table.Faults.Fault.{CriticalDuplicateCalend
 ghost use Rattle.ixdtf_grammar.specs.language.Readers.{parse as reader_parse};
 ghost use Rattle.ixdtf_grammar.specs.Handlers.{Handled, pair_of};
 ghost use Rattle.ixdtf_grammar.specs.Laws.{EveryDateTimeIsRead, EveryNameIsAnIdentifier, LanguagesDisjoint, InNoOther};
-ghost use Rattle.ixdtf_grammar.specs.Laws.{OffsetsAgree, HyphensSayNothing, OneHyphenIsRefused, OneResult, OneChain};
+ghost use Rattle.ixdtf_grammar.specs.Laws.{OffsetsAgree, HyphensSayNothing, OneHyphenIsRefused, OneResult, OnePlace, OneChain};
 ghost use Rattle.ixdtf_grammar.specs.Laws.{DefaultIs, ClonesAreEqual, IsEqualityBy};
 ghost use Rattle.ixdtf_grammar.specs.Widths.{OneUnhandledOutcome, SameWhereShared, FaultWhereNotShared};
+ghost use Rattle.ixdtf_grammar.specs.Widths.{SamePlaceWhereShared, PlaceWhereNotShared, NonAsciiIsFirst, NonAsciiIsWide};
 ghost use Rattle.ixdtf_grammar.specs.table.Outcomes.{OneOutcome, FrontsBegin, NoRowFits};
 ghost use Rattle.ixdtf_grammar.specs.language.Fractions.{exact_nanoseconds_of, nanoseconds_of};
 ghost use Rattle.ixdtf_grammar.specs.Views.{unread_of, LeavesBehind, returned, returned_by, zone_of, note_of, parsed_of};
@@ -60,7 +61,8 @@ pub fn hyphens_say_nothing()
 {}
 
 /// Each text has exactly one outcome in each reader: either one value is derived from it, or one row of the fault table
-/// (`docs/FAULTS.md`) fits it. Never both, never neither, and never two values or two rows.
+/// (`docs/FAULTS.md`) fits it. Never both, never neither, and never two values or two rows. A row that fits has its place in
+/// it, so there are never two places.
 ///
 /// The annotations are part of the outcome: those of the text where a value is derived, and else those that stand whole
 /// before the row. What a handler replies to them is not: where a reply is refused, a reader refuses a text from which a
@@ -70,6 +72,7 @@ pub fn hyphens_say_nothing()
 /// - `begins`: the annotations of a front from which a value is derived are the first of the text's outcome, whether a value
 ///   is derived from the text or a row fits it.
 /// - `chain`: a text, with these annotations and these replies to them, gives one result, a record or an error.
+/// - `place`: a text, with these annotations and as many replies, gives one error at one place.
 /// - `replied`: whoever replies to each annotation by the annotations so far is asked about one list of them, and gets one
 ///   result. There always is one.
 ///
@@ -78,6 +81,7 @@ pub fn one_outcome()
     ensures outcome { OneOutcome }
     ensures begins { FrontsBegin }
     ensures chain { OneResult }
+    ensures place { OnePlace }
     ensures replied { OneChain }
 {}
 
@@ -97,10 +101,17 @@ pub fn languages_disjoint()
 /// - On numbers from 1 to 126 the two widths have the same outcome.
 /// - With any other number 16-bit units have an error: `NonAsciiCodePoint`, or the one that 8-bit units have where 128 stands
 ///   in the place of each such number.
+/// - It is so of the places of errors too: on numbers from 1 to 126 the two widths have the same errors at the same places, and
+///   with any other number the error of 16-bit units is `NonAsciiCodePoint`, or stands where 8-bit units have it with 128.
+/// - `NonAsciiCodePoint` stands at the first number that is not from 1 to 126, and never comes from 8-bit units.
 pub fn widths_agree()
     ensures one { OneUnhandledOutcome }
     ensures same { SameWhereShared }
     ensures fault { FaultWhereNotShared }
+    ensures same_place { SamePlaceWhereShared }
+    ensures place { PlaceWhereNotShared }
+    ensures first { NonAsciiIsFirst }
+    ensures wide { NonAsciiIsWide }
 {}
 
 /// Where [`Fraction::to_nanoseconds`] returns `Some`, [`Fraction::to_truncated_nanoseconds`] returns the same number.

@@ -15,7 +15,7 @@ ghost use Rattle.ixdtf_grammar.specs.language.Languages.{Parsed};
 ghost use Rattle.ixdtf_grammar.specs.Handlers.{Handled, HandledTo, UnhandledRecord, UnhandledFault, UnhandledOnlyFault};
 ghost use Rattle.ixdtf_grammar.specs.Laws.{InNoOther};
 ghost use Rattle.ixdtf_grammar.specs.Views.{UnreadUnder, under, unread_of, LeavesBehind, IsEmptyRecord, returned, returned_by, parsed_of};
-ghost use Rattle.ixdtf_grammar.specs.Places.{HandledAt, UnhandledFaultAt};
+ghost use Rattle.ixdtf_grammar.specs.Places.{HandledAt, UnhandledFaultAt, UnhandledOnlyPlace};
 ghost use Rattle.ixdtf_reading.specs.reading.Chains.{TextReadTo};
 ghost use Rattle.ixdtf_reading.specs.reading.Clauses.{UnhandledForm, fault_of_stop_at};
 
@@ -576,6 +576,10 @@ impl<'a, T: EncodingType> IxdtfParser<'a, T> {
         ensures err { IfErr result
             (λ e. UnhandledFaultAt reader_parse (map T.letter self.old.rest)
             (fault_of_located e) e.at) }
+        // No other error comes, nor one at another place.
+        ensures place { IfErr result
+            (λ e. UnhandledOnlyPlace reader_parse (map T.letter self.old.rest)
+            (fault_of_located e) e.at) }
 
         // `Ok` only where no row of the fault table fits, and where no other reader of dates, times and durations has the text.
         ensures no_row { OnOk result (NoRowFits reader_parse (map T.letter self.old.rest)) }
@@ -616,8 +620,8 @@ impl<'a, T: EncodingType> IxdtfParser<'a, T> {
         F: FnMut(Annotation<'a, T>) -> Option<Annotation<'a, T>>,
         // The handler may be called at any time, in any state that it reached, on any annotation.
         requires callable { F.IsAlwaysCallable handler }
-        // For the one chain of its calls: `Ok` exactly with the record, and `Err` only with the one fault, behind so many units,
-        // that the text and the replies give.
+        // For the one chain of its calls: `Ok` exactly with the record, and `Err` only with the one fault, behind the one number
+        // of units, that the text and the replies give.
         ensures handled { HandledAt T.number F.step handler reader_parse (map T.letter self.old.rest)
             fault_of_located stands_behind (parsed_of T.number) result }
 
@@ -656,6 +660,10 @@ impl<'a, T: EncodingType> IxdtfParser<'a, T> {
         // `Err` only with a fault that it gives so, behind so many units.
         ensures err { IfErr result
             (λ e. UnhandledFaultAt reader_parse_year_month (map T.letter self.old.rest)
+            (fault_of_located e) e.at) }
+        // No other error comes, nor one at another place.
+        ensures place { IfErr result
+            (λ e. UnhandledOnlyPlace reader_parse_year_month (map T.letter self.old.rest)
             (fault_of_located e) e.at) }
 
         // `Ok` only where no row of the fault table fits, and where no other reader of dates, times and durations has the text.
@@ -697,8 +705,8 @@ impl<'a, T: EncodingType> IxdtfParser<'a, T> {
         F: FnMut(Annotation<'a, T>) -> Option<Annotation<'a, T>>,
         // The handler may be called at any time, in any state that it reached, on any annotation.
         requires callable { F.IsAlwaysCallable handler }
-        // For the one chain of its calls: `Ok` exactly with the record, and `Err` only with the one fault, behind so many units,
-        // that the text and the replies give.
+        // For the one chain of its calls: `Ok` exactly with the record, and `Err` only with the one fault, behind the one number
+        // of units, that the text and the replies give.
         ensures handled { HandledAt T.number F.step handler reader_parse_year_month (map T.letter self.old.rest)
             fault_of_located stands_behind (parsed_of T.number) result }
 
@@ -737,6 +745,10 @@ impl<'a, T: EncodingType> IxdtfParser<'a, T> {
         // `Err` only with a fault that it gives so, behind so many units.
         ensures err { IfErr result
             (λ e. UnhandledFaultAt (reader_parse_month_day self.old.profile) (map T.letter self.old.rest)
+            (fault_of_located e) e.at) }
+        // No other error comes, nor one at another place.
+        ensures place { IfErr result
+            (λ e. UnhandledOnlyPlace (reader_parse_month_day self.old.profile) (map T.letter self.old.rest)
             (fault_of_located e) e.at) }
 
         // `Ok` only where no row of the fault table fits, and where no other reader of dates, times and durations has the text.
@@ -778,8 +790,8 @@ impl<'a, T: EncodingType> IxdtfParser<'a, T> {
         F: FnMut(Annotation<'a, T>) -> Option<Annotation<'a, T>>,
         // The handler may be called at any time, in any state that it reached, on any annotation.
         requires callable { F.IsAlwaysCallable handler }
-        // For the one chain of its calls: `Ok` exactly with the record, and `Err` only with the one fault, behind so many units,
-        // that the text and the replies give.
+        // For the one chain of its calls: `Ok` exactly with the record, and `Err` only with the one fault, behind the one number
+        // of units, that the text and the replies give.
         ensures handled { HandledAt T.number F.step handler (reader_parse_month_day self.old.profile) (map T.letter self.old.rest)
             fault_of_located stands_behind (parsed_of T.number) result }
 
@@ -818,6 +830,10 @@ impl<'a, T: EncodingType> IxdtfParser<'a, T> {
         // `Err` only with a fault that it gives so, behind so many units.
         ensures err { IfErr result
             (λ e. UnhandledFaultAt (reader_parse_time self.old.profile) (map T.letter self.old.rest)
+            (fault_of_located e) e.at) }
+        // No other error comes, nor one at another place.
+        ensures place { IfErr result
+            (λ e. UnhandledOnlyPlace (reader_parse_time self.old.profile) (map T.letter self.old.rest)
             (fault_of_located e) e.at) }
 
         // `Ok` only where no row of the fault table fits, and where no other reader of dates, times and durations has the text.
@@ -859,8 +875,8 @@ impl<'a, T: EncodingType> IxdtfParser<'a, T> {
         F: FnMut(Annotation<'a, T>) -> Option<Annotation<'a, T>>,
         // The handler may be called at any time, in any state that it reached, on any annotation.
         requires callable { F.IsAlwaysCallable handler }
-        // For the one chain of its calls: `Ok` exactly with the record, and `Err` only with the one fault, behind so many units,
-        // that the text and the replies give.
+        // For the one chain of its calls: `Ok` exactly with the record, and `Err` only with the one fault, behind the one number
+        // of units, that the text and the replies give.
         ensures handled { HandledAt T.number F.step handler (reader_parse_time self.old.profile) (map T.letter self.old.rest)
             fault_of_located stands_behind (parsed_of T.number) result }
 
@@ -921,8 +937,8 @@ impl<'a, T: EncodingType> IxdtfParser<'a, T> {
         F: FnMut(Annotation<'a, T>) -> Option<Annotation<'a, T>>,
         // The handler may be called at any time, in any state that it reached, on any annotation.
         requires callable { F.IsAlwaysCallable handler }
-        // For the one chain of its calls: `Ok` exactly with the record, and `Err` only with the one fault, behind so many units,
-        // that the text and the replies give.
+        // For the one chain of its calls: `Ok` exactly with the record, and `Err` only with the one fault, behind the one number
+        // of units, that the text and the replies give.
         ensures handled { HandledAt T.number F.step handler (bracketed (C.kind self.old.profile))
             (map T.letter self.old.rest) E.fault E.stands (parsed_of T.number) result }
 
@@ -994,8 +1010,11 @@ impl<'a, T: EncodingType> IxdtfParser<'a, T> {
         ensures unhandled { UnhandledForm (bracketed (C.kind self.old.profile))
             (map T.letter self.old.rest)
             (returned_by fault_of_stop_at (λ _. parsed_of T.number found.new) result) }
-        ensures place { IfErr result
+        ensures err { IfErr result
             (λ why. UnhandledFaultAt (bracketed (C.kind self.old.profile))
+            (map T.letter self.old.rest) (fault_of_stop_at why) why.at) }
+        ensures place { IfErr result
+            (λ why. UnhandledOnlyPlace (bracketed (C.kind self.old.profile))
             (map T.letter self.old.rest) (fault_of_stop_at why) why.at) }
         ensures leaves { LeavesBehind fault_of_stop_at
             (unread_of self.old) result (unread_of self.new) }

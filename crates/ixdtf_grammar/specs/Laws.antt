@@ -1,5 +1,5 @@
 -- What the laws say, each for every text.
-use Rattle.std.specs.Prelude.{◌≡◌, ◌≢◌, ◌↔◌, ℕ, Bool, IsTrue, List, [], ◌∷◌, ◌++◌, map, Result, Ok, Err}
+use Rattle.std.specs.Prelude.{◌≡◌, ◌≢◌, ◌↔◌, ℕ, Bool, IsTrue, List, [], ◌∷◌, ◌++◌, map, length, Result, Ok, Err}
 use Rattle.std.specs.Cmp.{IsEquivalence}
 use Rattle.ixdtf_grammar.specs.declared.profile.Profile.{Profile}
 use Rattle.ixdtf_grammar.specs.declared.records.MinutePrecisionOffset.{MinutePrecisionOffset}
@@ -22,6 +22,7 @@ use Rattle.ixdtf_grammar.specs.language.ZoneNames.Zone.{Name, Offset}
 use Rattle.ixdtf_grammar.specs.table.Faults.{Fault}
 use Rattle.ixdtf_grammar.specs.table.Faults.Fault.{DateSeparator}
 use Rattle.ixdtf_grammar.specs.table.Outcomes.{ExactlyOne}
+use Rattle.ixdtf_grammar.specs.Places.{GivesFaultAt, GivesOnlyPlace}
 use Rattle.ixdtf_grammar.specs.Widths.{UnhandledOutcome, HasUnhandledOutcome}
 use Rattle.ixdtf_grammar.specs.Widths.UnhandledOutcome.{faulted}
 
@@ -98,6 +99,11 @@ GivesResult reader text pairs replies (Err fault) = GivesFault reader text pairs
 abbrev pub OneResult : Type 0
 OneResult = (reader : Reader) (text : Text) (pairs : List Pair) (replies : List Reply) (result other : Result Parsed Fault) →
     GivesResult reader text pairs replies result → GivesResult reader text pairs replies other → result ≡ other
+
+-- a text with the same pairs and as many replies gives one fault, at one place
+abbrev pub OnePlace : Type 0
+OnePlace = (reader : Reader) (text : Text) (pairs : List Pair) (replies : List Reply) (fault : Fault) (at : ℕ) → length replies ≡ length pairs
+    → GivesFaultAt reader text pairs replies fault at → GivesOnlyPlace reader text pairs replies fault at
 
 -- the replies to these pairs of who replies to each by the pairs so far, the last of which is the one that is asked about
 abbrev pub replies_to : (List Pair → Reply) → List Pair → List Reply

@@ -1,8 +1,9 @@
 -- Where the fault stands that a text and the replies to its pairs give: behind how many letters.
-use Rattle.std.specs.Prelude.{◌≡◌, ◌↔◌, ◌⊎◌, ℕ, List, ◌++◌, length, Result, Ok, Err}
+use Rattle.std.specs.Prelude.{◌≡◌, ◌↔◌, ◌⊎◌, ℕ, List, [], ◌++◌, length, Result, Ok, Err}
 use Rattle.ixdtf_grammar.specs.language.Letters.{Text}
 use Rattle.ixdtf_grammar.specs.language.Brackets.{Pair}
 use Rattle.ixdtf_grammar.specs.language.Readers.{Reader}
+use Rattle.ixdtf_grammar.specs.language.Readers.Reader.{bracketed, parse_offset, parse_identifier, parse_iana_identifier, parse_duration}
 use Rattle.ixdtf_grammar.specs.language.Languages.{Parsed, Derives}
 use Rattle.ixdtf_grammar.specs.language.Languages.Found.{parsed}
 use Rattle.ixdtf_grammar.specs.table.Faults.{Fault}
@@ -25,8 +26,25 @@ GivesFaultAt reader text pairs replies fault at =
 abbrev pub UnhandledFaultAt : Reader → Text → Fault → ℕ → Type 0
 UnhandledFaultAt reader text fault at = (pairs : List Pair) × GivesFaultAt reader text pairs (own_replies pairs) fault at
 
+-- the text with these pairs and these replies gives no other fault, nor one at another place
+abbrev pub GivesOnlyPlace : Reader → Text → List Pair → List Reply → Fault → ℕ → Type 0
+GivesOnlyPlace reader text pairs replies fault at =
+    (other : Fault) (there : ℕ) → GivesFaultAt reader text pairs replies other there → (other ≡ fault) × (there ≡ at)
+
+-- the text, whose pairs reply for themselves, gives no other fault, nor one at another place
+abbrev pub UnhandledOnlyPlace : Reader → Text → Fault → ℕ → Type 0
+UnhandledOnlyPlace reader text fault at = (other : Fault) (there : ℕ) → UnhandledFaultAt reader text other there → (other ≡ fault) × (there ≡ at)
+
+-- in the reader without a handler the text has the fault behind so many letters
+abbrev pub HasUnhandledFaultAt : Reader → Text → Fault → ℕ → Type 0
+HasUnhandledFaultAt (bracketed kind) text fault at = UnhandledFaultAt (bracketed kind) text fault at
+HasUnhandledFaultAt parse_offset text fault at = HasFaultAt parse_offset text [] fault at
+HasUnhandledFaultAt parse_identifier text fault at = HasFaultAt parse_identifier text [] fault at
+HasUnhandledFaultAt parse_iana_identifier text fault at = HasFaultAt parse_iana_identifier text [] fault at
+HasUnhandledFaultAt (parse_duration profile) text fault at = HasFaultAt (parse_duration profile) text [] fault at
+
 -- For one chain of calls: `Ok` exactly with the record that the text and the replies give, `Err` only with a fault that they
--- give, behind so many letters as the error tells, and that is the only one.
+-- give, behind so many letters as the error tells, and that is the only one, at the only place.
 pub record HandledAt {T U F X E : Type 0} (number : U → ℕ) (step : Step T U F) (handler : F) (reader : Reader) (text : Text)
     (named : E → Fault) (stands : ℕ → E → Type 0) (view : X → Parsed) (result : Result X E) : Type 0 where
   pub calls : Calls T U
@@ -35,3 +53,4 @@ pub record HandledAt {T U F X E : Type 0} (number : U → ℕ) (step : Step T U 
   pub ok : (found : Parsed) → (returned_by named view result ≡ Ok found) ↔ GivesRecord reader text (handed number calls) (replies_of number calls) found
   pub err : (e : E) → result ≡ Err e → (at : ℕ) × stands at e × GivesFaultAt reader text (handed number calls) (replies_of number calls) (named e) at
   pub only : (e : E) → result ≡ Err e → GivesOnlyFault reader text (handed number calls) (replies_of number calls) (named e)
+  pub place : (e : E) → result ≡ Err e → (at : ℕ) × stands at e × GivesOnlyPlace reader text (handed number calls) (replies_of number calls) (named e) at

@@ -1,5 +1,5 @@
 -- Two widths: what a reader without a handler returns for numbers as 16-bit units, and as 8-bit units.
-use Rattle.std.specs.Prelude.{◌≡◌, ◌↔◌, ◌⊎◌, ℕ, Bool, IsTrue, IsFalse, List, [], map, All, Any, nat_le, ◌&&◌, if◌then◌else◌}
+use Rattle.std.specs.Prelude.{◌≡◌, ◌↔◌, ◌⊎◌, ℕ, Bool, IsTrue, IsFalse, List, [], ◌∷◌, ◌++◌, map, length, All, Any, nat_le, ◌&&◌, if◌then◌else◌}
 use Rattle.ixdtf_grammar.specs.language.Letters.{Text, byte_letter, wide_letter}
 use Rattle.ixdtf_grammar.specs.language.Readers.{Reader, CoreKind}
 use Rattle.ixdtf_grammar.specs.language.Readers.Reader.{bracketed, parse_offset, parse_identifier, parse_iana_identifier, parse_duration}
@@ -9,6 +9,7 @@ use Rattle.ixdtf_grammar.specs.table.Faults.{Fault}
 use Rattle.ixdtf_grammar.specs.table.Faults.Fault.{NonAsciiCodePoint}
 use Rattle.ixdtf_grammar.specs.table.Outcomes.{HasFault, ExactlyOne}
 use Rattle.ixdtf_grammar.specs.Handlers.{UnhandledRecord, UnhandledFault}
+use Rattle.ixdtf_grammar.specs.Places.{HasUnhandledFaultAt}
 
 -- ---- outcomes without a handler
 
@@ -70,3 +71,29 @@ abbrev pub FaultWhereNotShared : Type 0
 FaultWhereNotShared = (reader : Reader) (numbers : List ℕ) → Any (λ n. IsFalse (is_shared n)) numbers
     → (fault : Fault) × HasUnhandledOutcome reader (wide_text numbers) (faulted fault)
     × ((fault ≡ NonAsciiCodePoint) ⊎ HasUnhandledOutcome reader (byte_text (mask numbers)) (faulted fault))
+
+-- ---- the places of faults in two widths
+
+-- On numbers from 1 to 126 the two readings have the same faults at the same places.
+abbrev pub SamePlaceWhereShared : Type 0
+SamePlaceWhereShared = (reader : Reader) (numbers : List ℕ) → All (λ n. IsTrue (is_shared n)) numbers
+    → (fault : Fault) (at : ℕ) → HasUnhandledFaultAt reader (wide_text numbers) fault at ↔ HasUnhandledFaultAt reader (byte_text numbers) fault at
+
+-- With another number the 16-bit reading has a fault at a place: `NonAsciiCodePoint`, or one that the mask as 8-bit units has there too.
+abbrev pub PlaceWhereNotShared : Type 0
+PlaceWhereNotShared = (reader : Reader) (numbers : List ℕ) → Any (λ n. IsFalse (is_shared n)) numbers
+    → (fault : Fault) × (at : ℕ) × HasUnhandledFaultAt reader (wide_text numbers) fault at
+    × ((fault ≡ NonAsciiCodePoint) ⊎ HasUnhandledFaultAt reader (byte_text (mask numbers)) fault at)
+
+-- so many numbers stand before the first that is not from 1 to 126
+abbrev pub IsFirstNotShared : List ℕ → ℕ → Type 0
+IsFirstNotShared numbers at =
+    (front rest : List ℕ) × (n : ℕ) × (numbers ≡ front ++ (n ∷ rest)) × (at ≡ length front) × All (λ n. IsTrue (is_shared n)) front × IsFalse (is_shared n)
+
+-- The 16-bit reading has `NonAsciiCodePoint` at the first number that is not from 1 to 126, and nowhere else.
+abbrev pub NonAsciiIsFirst : Type 0
+NonAsciiIsFirst = (reader : Reader) (numbers : List ℕ) (at : ℕ) → HasUnhandledFaultAt reader (wide_text numbers) NonAsciiCodePoint at → IsFirstNotShared numbers at
+
+-- The 8-bit reading never has it.
+abbrev pub NonAsciiIsWide : Type 0
+NonAsciiIsWide = (reader : Reader) (numbers : List ℕ) (at : ℕ) → ¬ (HasUnhandledFaultAt reader (byte_text numbers) NonAsciiCodePoint at)

@@ -1,10 +1,11 @@
 -- What follows for every text.
 pub mod Handled
+pub mod HandledAt
 pub mod Hyphens
 pub mod Offsets
 pub mod OneChain
 pub mod OneOutcome
+pub mod OnePlace
 pub mod OneUnhandledOutcome
 pub mod OnlyOutcome
 pub mod Rfc3339
-pub mod OnePlace

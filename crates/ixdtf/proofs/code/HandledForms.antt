@@ -36,6 +36,8 @@ use Rattle.ixdtf_grammar.specs.declared.encoding.EncodingType as encoding
 use Rattle.ixdtf_grammar.specs.contracts.encoding.EncodingType.TheBound as encoding_bound
 use Rattle.ixdtf_grammar.specs.declared.encoding.private.Sealed as sealed
 use Rattle.ixdtf_grammar.specs.contracts.encoding.private.Sealed.TheBound as sealed_bound
+use Rattle.ixdtf_grammar.specs.contracts.error.ParseError
+use Rattle.ixdtf_grammar.proofs.error.ParseError.TheLaws as error_laws
 use Rattle.ixdtf.specs.declared.parsers.cores.Cores as cores
 use Rattle.ixdtf.specs.contracts.parsers.cores.Cores.TheBound as cores_bound
 use Rattle.ixdtf_reading.specs.contracts.stop.ParseErrorRaised.TheImpl as raises
@@ -50,7 +52,7 @@ use Rattle.ixdtf.proofs.parsers.IxdtfParser.read_as.Met as G_met
 use Rattle.ixdtf.specs.contracts.parsers.IxdtfParser.read_as.Key as G_key
 use Rattle.ixdtf.proofs.parsers.IxdtfParser.read_as.Symbol as G_symbol
 use Rattle.ixdtf.proofs.code.HandsOn.{Handing, handing_on, hands_on}
-use Rattle.ixdtf.proofs.code.PublicErrors.{E, E_laws, Under, Got, lands}
+use Rattle.ixdtf.proofs.code.RaisedErrors.{taken, taken_laws, Under, Got, lands}
 pub use mathlib.Core.Path.{◌≡◌, refl, sym, subst}
 use mathlib.Core.List.{[], ◌∷◌}
 
@@ -70,6 +72,10 @@ kind_of R laws is ghosts dict static = record {
   dict = dict;
   static = static;
 }
+
+-- the error, as `read_as` takes it
+abbrev E : RattleType
+E = taken ParseError.the_row
 
 module _ {M : Type 1} (𝓤 : Ura M) (𝓛 : Logic 𝓤) (𝓜 : Model 𝓤 𝓛.H) (𝓡 : Running 𝓤 𝓛.H 𝓜) (K : Kind)
     (T' U F : RattleType) (LT : Laws T') (LU : Laws U) (LF : Laws F)
@@ -135,7 +141,7 @@ module _ {M : Type 1} (𝓤 : Ura M) (𝓛 : Logic 𝓤) (𝓜 : Model 𝓤 𝓛
       (insides_in 𝓤 5 (τs.1.1.0, (τs.1.1.1.0, (τs.1.0, (τs.1.0, (τs.1.1.1.1.0, tt))))) (T'.lives, (U.lives, (E.lives, (K.row.lives, (F.lives, tt)))))
       (sep 𝓤 (fact 𝓤 (Q (f τs))) (asked τs a)) (h.1.0, (h.1.1.0, (⊑_static τs.1.0, (K.static τs.1.0, (h.1.1.1.0, tt))))))))
       (λ τs a x r. id⊢ 𝓤 _)
-      (G_met.met 𝓤 𝓛 𝓜 𝓡 wired T' U E K.row F LT LU E_laws K.laws LF g₀ d₀ gₛ dₛ g₁ d₁ g₂ d₂ g₃ d₃ d₄ raises.ghosts raises.dict K.ghosts K.dict g d d' d'' Q
+      (G_met.met 𝓤 𝓛 𝓜 𝓡 wired T' U E K.row F LT LU (taken_laws ParseError.the_row error_laws.the_row_laws refl) K.laws LF g₀ d₀ gₛ dₛ g₁ d₁ g₂ d₂ g₃ d₃ d₄ raises.ghosts raises.dict K.ghosts K.dict g d d' d'' Q
       b₀ bₛ b₁ b₂ b₃ b₄ (raises_met.passed 𝓡.env raised M 𝓤 𝓛 𝓜 𝓡) cored
       (λ κs p. subst (λ (β : Lft). GM.Met 𝓛 𝓜 𝓡 𝓡.env β T' U E K.row F g d × GM.Lawful T' U E K.row F g) p.2 (b p.0 p.1))
       (λ κs p. subst (λ (β : Lft). GO.Met 𝓛 𝓜 𝓡 𝓡.env β T' U E K.row F (Members.once g) d') p.2 (b' p.0 p.1))
@@ -144,9 +150,9 @@ module _ {M : Type 1} (𝓤 : Ura M) (𝓛 : Logic 𝓤) (𝓜 : Model 𝓤 𝓛
   -- so does the form, which hands on to it
   pub form : Wired 𝓡.env G_symbol.code → Wired 𝓡.env raise_symbol.code
       → cores_bound.Met 𝓛 𝓜 𝓡 𝓡.env K.row K.ghosts K.dict
-      → (h : Handing) (here : Callee) → ((κs : Lfts 5) → h.result ≡ layout (Got (at κs) 0 1 T' U)) → run ≡ 𝓣.C h.callee
+      → (h : Handing) (here : Callee) → ((κs : Lfts 5) → h.result ≡ layout (Got ParseError.the_row (at κs) 0 1 T' U)) → run ≡ 𝓣.C h.callee
       → Closed 𝓤 𝓛.H 𝓣.C 𝓣.Λ here (handing_on h (layout F)) → Triple 𝓤 (𝓣.C here) (triple_of 𝓛 S c)
   form wired raised cored h here result_is calls closed =
-      hands_on S.outlives (λ κs. IxdtfParser.the_row (at κs) (param 0 T') (param 1 U) g₀ g₁ g₂ g₃) 2 F (λ κs. Got (at κs) 0 1 T' U) 𝓛 𝓣 c LF h here
-      (λ κs x r is. rw (result_is κs) (lands (at κs) 0 1 T' U LT LU 𝓛 x r is)) closed
+      hands_on S.outlives (λ κs. IxdtfParser.the_row (at κs) (param 0 T') (param 1 U) g₀ g₁ g₂ g₃) 2 F (λ κs. Got ParseError.the_row (at κs) 0 1 T' U) 𝓛 𝓣 c LF h here
+      (λ κs x r is. rw (result_is κs) (lands ParseError.the_row (at κs) 0 1 T' U error_laws.the_row_laws LT LU 𝓛 x r is)) closed
       (rw (← calls) (met wired raised cored))

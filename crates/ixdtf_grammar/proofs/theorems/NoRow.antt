@@ -1,13 +1,14 @@
--- The errors that no row of the fault table has: those that never come, and those of refused replies.
-use Rattle.std.proofs.Common.{◌≡◌, ℕ, Bool, true, false, ◌||◌, cond, IsFalse, List, refl, sym, ap, ◌∙◌, ◌≢◌}
+-- The errors that no row of the fault table has: those that never come, and those of refused replies; and that of Bad, which stands at Bad alone.
+use Rattle.std.proofs.Common.{◌≡◌, ◌⊎◌, ℕ, Bool, true, false, ◌||◌, cond, IsFalse, List, ◌∷◌, ◌++◌, refl, sym, ap, ◌∙◌, ◌≢◌, inl, inr, append_assoc}
 use Rattle.ixdtf_grammar.specs.language.Letters.{Text}
+use Rattle.ixdtf_grammar.specs.language.Letters.Letter.{Bad}
 use Rattle.ixdtf_grammar.specs.language.Letters.{hyphen, colon, digit}
 use Rattle.ixdtf_grammar.specs.language.Times.{Clock}
 use Rattle.ixdtf_grammar.specs.language.Times.{Clock as clocks}
 use Rattle.ixdtf_grammar.specs.language.Durations.{Half}
 use Rattle.ixdtf_grammar.specs.language.Durations.{Half as halves}
 use Rattle.ixdtf_grammar.specs.table.Faults.{Fault, never_comes, is_refusal}
-use Rattle.ixdtf_grammar.specs.table.Faults.Fault.{UnrecognizedCritical, CriticalDuplicateCalendar, DateSeparator, DateDay, InvalidEnd, IanaChar}
+use Rattle.ixdtf_grammar.specs.table.Faults.Fault.{NonAsciiCodePoint, UnrecognizedCritical, CriticalDuplicateCalendar, DateSeparator, DateDay, InvalidEnd, IanaChar}
 use Rattle.ixdtf_grammar.specs.language.Brackets.{Pair}
 use Rattle.ixdtf_grammar.specs.language.Readers.{Reader, has_brackets}
 use Rattle.ixdtf_grammar.specs.table.LineNames.{LineName}
@@ -36,8 +37,14 @@ use Rattle.ixdtf_grammar.specs.table.Rows.Place.{end, other, bad, anywhere}
 use Rattle.ixdtf_grammar.specs.table.Outcomes.{HasFault}
 use Rattle.std.proofs.lemmas.Bool.{both_ways, or_parts}
 
+-- the fault of Bad
+abbrev is_of_bad : Fault → Bool
+is_of_bad NonAsciiCodePoint = true
+is_of_bad fault = false
+
+-- no line has the fault: it stands at Bad alone, or nowhere
 abbrev no_row : Fault → Bool
-no_row fault = never_comes fault || is_refusal fault
+no_row fault = (never_comes fault || is_refusal fault) || is_of_bad fault
 
 abbrev EndHas : Ending → Type 0
 EndHas ok = Unit {0}
@@ -115,28 +122,58 @@ end_has : (at_end : Ending) (fault : Fault) → EndHas at_end → at_end ≡ err
 end_has ok fault has is = absurd cc
 end_has (error e) fault has is = let same : e ≡ fault = cc in ap no_row (sym same) ∙ has
 
-stop_has : (l : Line) (place : Place) (fault : Fault) (rest : Text) → LineHas l → Stops l place fault rest → IsFalse (no_row fault)
-stop_has (line front goes_on at_end at_other) (end left) fault rest has h = end_has at_end fault has.0 h.1
-stop_has (line front goes_on at_end at_other) (other left) fault rest has h = ap no_row h.4 ∙ has.1 h.0
-stop_has (line front goes_on at_end at_other) (bad left) fault rest has h = ap no_row h.2
-stop_has (scanned front e) (end left) fault rest has h = ap no_row h.1 ∙ has
-stop_has (scanned front e) (bad left) fault rest has h = ap no_row h.2
-stop_has (whole front e) (anywhere left) fault rest has h = ap no_row h.0 ∙ has
+-- the text begins with a Bad, and the fault is that of it
+abbrev pub BeginsBad : Fault → Text → Type 0
+BeginsBad fault text = (more : Text) × (text ≡ Bad ∷ more) × (fault ≡ NonAsciiCodePoint)
+
+stop_has : (l : Line) (place : Place) (fault : Fault) (rest : Text) → LineHas l → Stops l place fault rest → BeginsBad fault rest ⊎ IsFalse (no_row fault)
+stop_has (line front goes_on at_end at_other) (end left) fault rest has h = inr (end_has at_end fault has.0 h.1)
+stop_has (line front goes_on at_end at_other) (other left) fault rest has h = inr (ap no_row h.4 ∙ has.1 h.0)
+stop_has (line front goes_on at_end at_other) (bad left) fault rest has h = inl (h.0, h.1, h.2)
+stop_has (scanned front e) (end left) fault rest has h = inr (ap no_row h.1 ∙ has)
+stop_has (scanned front e) (bad left) fault rest has h = inl (h.0, h.1, h.2)
+stop_has (whole front e) (anywhere left) fault rest has h = inr (ap no_row h.0 ∙ has)
 stop_has l place fault rest has h = absurd h
 
-row_has : (reader : Reader) (text : Text) (pairs : List Pair) (fault : Fault) → HasFault reader text pairs fault → IsFalse (no_row fault)
-row_has reader text pairs fault h =
-    let row = h.0 in
-    let here = h.1.4 in
-    ap no_row (sym h.2) ∙ stop_has _ row.place row.error here.1 (line_has (has_brackets reader) row.name) here.4
+-- a Bad stands in the text
+abbrev pub HasBad : Text → Type 0
+HasBad text = (front more : Text) × (text ≡ front ++ (Bad ∷ more))
+
+row_has : (reader : Reader) (text : Text) (pairs : List Pair) (fault : Fault) → HasFault reader text pairs fault
+    → (HasBad text × (fault ≡ NonAsciiCodePoint)) ⊎ IsFalse (no_row fault)
+row_has reader text pairs fault (row, (before, rest, is, stands, (front, stop, splits, shape, at)), has) =
+    elim (stop_has _ row.place row.error stop (line_has (has_brackets reader) row.name) at) [
+      | inl p ↦ inl (
+        (
+          before ++ front,
+          p.0,
+          is ∙ ap (λ t. before ++ t) (splits ∙ ap (λ t. front ++ t) p.1) ∙ sym (append_assoc before front (Bad ∷ p.0)),
+        ),
+        sym has ∙ p.2,
+      )
+      | inr never ↦ inr (ap no_row (sym has) ∙ never)
+    ]
 
 -- a fault that a text has is one that comes
 pub fault_comes : (reader : Reader) (text : Text) (pairs : List Pair) (fault : Fault) → HasFault reader text pairs fault → IsFalse (never_comes fault)
-fault_comes reader text pairs fault h = (or_parts _ _ (row_has reader text pairs fault h)).0
+fault_comes reader text pairs fault h = elim (row_has reader text pairs fault h) [
+  | inl p ↦ ap never_comes p.1
+  | inr never ↦ (or_parts _ _ (or_parts _ _ never).0).0
+]
 
 -- a fault that a text has is no refusal of a reply
 pub fault_refuses_none : (reader : Reader) (text : Text) (pairs : List Pair) (fault : Fault) → HasFault reader text pairs fault → IsFalse (is_refusal fault)
-fault_refuses_none reader text pairs fault h = (or_parts _ _ (row_has reader text pairs fault h)).1
+fault_refuses_none reader text pairs fault h = elim (row_has reader text pairs fault h) [
+  | inl p ↦ ap is_refusal p.1
+  | inr never ↦ (or_parts _ _ (or_parts _ _ never).0).1
+]
+
+-- only a text with a Bad has the fault of Bad
+pub fault_of_bad : (reader : Reader) (text : Text) (pairs : List Pair) → HasFault reader text pairs NonAsciiCodePoint → HasBad text
+fault_of_bad reader text pairs h = elim (row_has reader text pairs NonAsciiCodePoint h) [
+  | inl p ↦ p.0
+  | inr never ↦ absurd cc
+]
 
 pub row_is_no_refusal : (reader : Reader) (text : Text) (pairs : List Pair) (fault : Fault) → HasFault reader text pairs fault
     → (fault ≢ UnrecognizedCritical) × (fault ≢ CriticalDuplicateCalendar)

@@ -5,11 +5,11 @@ use Rattle.ixdtf_grammar.specs.language.Letters.Letter.{Plain, Bad}
 use Rattle.ixdtf_grammar.specs.language.Shapes.{Shape, nothing, ◌then◌, ◌either◌, anything}
 use Rattle.ixdtf_grammar.specs.language.Brackets.{FirstIs}
 use Rattle.ixdtf_grammar.specs.table.Faults.{Fault}
-use Rattle.ixdtf_grammar.specs.table.Faults.Fault.{NonAsciiCodePoint}
 use Rattle.ixdtf_grammar.specs.table.Lines.{Line}
 use Rattle.ixdtf_grammar.specs.table.Lines.Line.{line, scanned, whole}
-use Rattle.ixdtf_grammar.specs.table.Rows.{Place, Stops}
+use Rattle.ixdtf_grammar.specs.table.Rows.{Place, Stops, left_at}
 use Rattle.ixdtf_grammar.specs.table.Rows.Place.{end, other, bad, anywhere}
+use Rattle.ixdtf_grammar.proofs.theorems.NoRow.{BeginsBad}
 use Rattle.ixdtf_grammar.proofs.widths.PlainTexts.{IsPlain, PlainShape, plain_nowhere, plain_one, plain_many}
 
 -- The text has a Bad, and the other text has the letters before the first one.
@@ -110,14 +110,21 @@ moved_to rest (other left) = other rest
 moved_to rest (bad left) = bad rest
 moved_to rest (anywhere left) = anywhere rest
 
+-- what a place in another text leaves there
+pub left_moved : (rest : Text) (place : Place) → left_at (moved_to rest place) ≡ rest
+left_moved rest (end left) = refl
+left_moved rest (other left) = refl
+left_moved rest (bad left) = refl
+left_moved rest (anywhere left) = refl
+
 -- a row stops at a Bad, or at the same place in the other text
 pub stops_move : (l : Line) (place : Place) (fault : Fault) (rest other_rest : Text) → Sees rest other_rest → Stops l place fault rest
-    → (fault ≡ NonAsciiCodePoint) ⊎ Stops l (moved_to other_rest place) fault other_rest
+    → BeginsBad fault rest ⊎ Stops l (moved_to other_rest place) fault other_rest
 stops_move (line front goes_on at_end at_other) (end left) fault rest other_rest sees h = absurd (subst (λ t. Sees t other_rest) h.0 sees)
 stops_move (line front goes_on at_end at_other) (other left) fault rest other_rest sees h =
     let next = subst (λ t. Sees t other_rest) h.2 sees in inr (h.0, next.0, next.1, h.3, h.4, refl)
-stops_move (line front goes_on at_end at_other) (bad left) fault rest other_rest sees h = inl h.2
+stops_move (line front goes_on at_end at_other) (bad left) fault rest other_rest sees h = inl (h.0, h.1, h.2)
 stops_move (scanned front e) (end left) fault rest other_rest sees h = absurd (subst (λ t. Sees t other_rest) h.0 sees)
-stops_move (scanned front e) (bad left) fault rest other_rest sees h = inl h.2
+stops_move (scanned front e) (bad left) fault rest other_rest sees h = inl (h.0, h.1, h.2)
 stops_move (whole front e) (anywhere left) fault rest other_rest sees h = inr (h.0, refl)
 stops_move l place fault rest other_rest sees h = absurd h

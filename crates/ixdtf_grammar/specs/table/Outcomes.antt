@@ -46,7 +46,8 @@ Holds reader text (refused row pairs) = Fits reader row pairs text
 abbrev pub ExactlyOne : {A : Type 0} → (A → Type 0) → Type 0
 ExactlyOne {A} p = (x : A) × p x × ((y : A) → p y → y ≡ x)
 
--- each text has exactly one outcome in each reader
+-- Each text has exactly one outcome in each reader. A row has its place in it, with what the text has left there, so a fault has
+-- one place.
 abbrev pub OneOutcome : Type 0
 OneOutcome = (reader : Reader) (text : Text) → ExactlyOne (Holds reader text)
 

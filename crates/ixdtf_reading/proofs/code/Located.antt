@@ -18,7 +18,7 @@ use Rattle.ixdtf_grammar.specs.table.Rows.Place.{end, other, bad, anywhere}
 use Rattle.ixdtf_reading.specs.reading.Looks.{Read, Placed, error_of}
 use Rattle.ixdtf_reading.specs.reading.Clauses.{Reads, Settles, fault_of_stop}
 use Rattle.ixdtf_reading.specs.reading.Wholes.{finding, read_at}
-use Rattle.ixdtf_reading.proofs.code.ReadersWithoutPairs.{ReadsNoPairs, error_after, exact}
+use Rattle.ixdtf_reading.proofs.code.ReadersWithoutPairs.{ReadsNoPairs, error_after, Exact, exact}
 use Rattle.ixdtf_reading.proofs.parts.Looks.{OnRead}
 use Rattle.ixdtf_reading.proofs.theorems.OneOutcome.{place_once}
 
@@ -48,17 +48,11 @@ module _ {U A : Type 0} (letter : ℕ → Letter) (view : U → A) (reader : Rea
     (none : ReadsNoPairs reader) (reading : Text → Read Placed A) (old new : Unread)
     (reads : read_at error_after reader (map letter old.rest) ≡ finding found (reading (map letter old.rest)))
     (met : A → Text → Type 0) (gives : OnRead error_of (reading (map letter old.rest)) met (λ row. Fits reader row [] (map letter old.rest))) where
-  -- the clauses of the reader
+  -- the clauses of the reader: those of one without places, and where the fault stands
   pub record Located (result : Result U LocatedError) : Type 0 where
-    pub ok : (y : A) → (returned_by fault_of_located view result ≡ Ok y → Derives reader (map letter old.rest) (found y) [])
-        × (Derives reader (map letter old.rest) (found y) [] → returned_by fault_of_located view result ≡ Ok y)
+    pub plain : Exact letter view reader found same none reading old new reads fault_of_located result
     pub err : IfErr result (λ e. HasFaultAt reader (map letter old.rest) [] (fault_of_located e) e.at)
-    pub comes : IfErr result (λ e. IsFalse (never_comes (fault_of_located e)))
-    pub no_row : OnOk result (NoRowFits reader (map letter old.rest))
-    pub alone : (profile : Profile) → IsTextReader profile reader → OnOk result (InNoOther profile reader (map letter old.rest))
-    pub only : IfErr result (λ e. OnlyFault reader (map letter old.rest) [] (fault_of_located e))
     pub place : IfErr result (λ e. OnlyPlace reader (map letter old.rest) (fault_of_located e) e.at)
-    pub empty : (left : List ℕ) → OnOk result (left ≡ new.rest) → OnOk result (left ≡ [])
 
   -- the row of a fault
   row_at : (fault : Fault) (left : Text) → reading (map letter old.rest) ≡ Err (fault, left)
@@ -79,29 +73,22 @@ module _ {U A : Type 0} (letter : ℕ → Letter) (view : U → A) (reader : Rea
         omega (arith, at, short, ap (λ t. length t) is, ap (λ t. length t) left, length-map new.rest letter, length-map old.rest letter),
       )
 
+  stands : (start : List ℕ) → start ≡ old.rest → (read : Result U Stop) (result : Result U LocatedError) → Reads letter view old read new reading
+      → Settles fault_of_located read result → IfErr result (λ e. stands_behind (length start - length new.rest) e)
+      → IfErr result (λ e. HasFaultAt reader (map letter old.rest) [] (fault_of_located e) e.at)
+  stands start is read (Ok y) h s at = tt
+  stands start is (Ok x) (Err e) h s at = absurd s
+  stands start is (Err stop) (Err e) h s at = fault_at start is stop e h s at
+
+  once : (result : Result U LocatedError) → IfErr result (λ e. HasFaultAt reader (map letter old.rest) [] (fault_of_located e) e.at)
+      → IfErr result (λ e. OnlyPlace reader (map letter old.rest) (fault_of_located e) e.at)
+  once (Ok y) h = tt
+  once (Err e) h = place_once reader (map letter old.rest) [] (fault_of_located e) e.at h
+
   pub located : (start : List ℕ) → start ≡ old.rest → (read : Result U Stop) (result : Result U LocatedError) → Reads letter view old read new reading
       → Settles fault_of_located read result → IfErr result (λ e. stands_behind (length start - length new.rest) e) → Located result
-  located start is (Ok x) (Ok y) h s at = let plain = exact letter view reader found same none reading old new reads (Ok x) (Ok y) h s in record {
-    ok = plain.ok;
-    err = tt;
-    comes = tt;
-    no_row = plain.no_row;
-    alone = plain.alone;
-    only = tt;
-    place = tt;
-    empty = plain.empty;
+  located start is read result h s at = let there = stands start is read result h s at in record {
+    plain = exact letter view reader found same none reading old new reads fault_of_located read result h s;
+    err = there;
+    place = once result there;
   }
-  located start is (Ok x) (Err e) h s at = absurd s
-  located start is (Err stop) (Ok y) h s at = absurd s
-  located start is (Err stop) (Err e) h s at =
-      let plain = exact letter view reader found same none reading old new reads (Err stop) (Err e.error) h s in
-      let fits = fault_at start is stop e h s at in record {
-        ok = plain.ok;
-        err = fits;
-        comes = plain.comes;
-        no_row = tt;
-        alone = λ profile is. tt;
-        only = plain.only;
-        place = place_once reader (map letter old.rest) [] (fault_of_located e) e.at fits;
-        empty = λ left is. tt;
-      }

@@ -2,10 +2,9 @@
 use Rattle.std.proofs.Common.{refl, ◌≡◌, ℕ, List, [], map, Result, Ok, Err, sym, ap, ◌∙◌, IfErr, OnOk, IsFalse}
 use Rattle.ixdtf_grammar.specs.declared.profile.Profile.{Profile}
 use Rattle.ixdtf_grammar.specs.language.Letters.{Letter, Text}
-use Rattle.ixdtf_grammar.specs.table.Faults.{Fault, fault_of, never_comes}
+use Rattle.ixdtf_grammar.specs.table.Faults.{Fault, never_comes}
 use Rattle.ixdtf_reading.specs.declared.stop.Stop.{Stop}
-use Rattle.ixdtf_grammar.specs.declared.error.ParseError.{ParseError}
-use Rattle.ixdtf_grammar.specs.Views.{Unread, returned, returned_by}
+use Rattle.ixdtf_grammar.specs.Views.{Unread, returned_by}
 use Rattle.ixdtf_reading.specs.reading.Clauses.{Reads, Settles, fault_of_stop}
 use Rattle.ixdtf_grammar.specs.language.Brackets.{Pair}
 use Rattle.ixdtf_grammar.specs.language.Readers.{Reader}
@@ -111,19 +110,20 @@ module _ {A : Type 0} (reader : Reader) (found : A → Found) (same : (x y : A) 
 module _ {U A : Type 0} (letter : ℕ → Letter) (view : U → A) (reader : Reader) (found : A → Found) (same : (x y : A) → found x ≡ found y → x ≡ y)
     (none : ReadsNoPairs reader) (reading : Text → Read Placed A) (old new : Unread)
     (reads : read_at error_after reader (map letter old.rest) ≡ finding found (reading (map letter old.rest))) where
-  -- the clauses of the reader
-  pub record Exact (result : Result U ParseError) : Type 0 where
-    pub ok : (y : A) → (returned view result ≡ Ok y → Derives reader (map letter old.rest) (found y) [])
-        × (Derives reader (map letter old.rest) (found y) [] → returned view result ≡ Ok y)
-    pub err : IfErr result (λ e. HasFault reader (map letter old.rest) [] (fault_of e))
-    pub comes : IfErr result (λ e. IsFalse (never_comes (fault_of e)))
+  -- the clauses of the reader, whose errors name faults
+  pub record Exact {E : Type 0} (named : E → Fault) (result : Result U E) : Type 0 where
+    pub ok : (y : A) → (returned_by named view result ≡ Ok y → Derives reader (map letter old.rest) (found y) [])
+        × (Derives reader (map letter old.rest) (found y) [] → returned_by named view result ≡ Ok y)
+    pub err : IfErr result (λ e. HasFault reader (map letter old.rest) [] (named e))
+    pub comes : IfErr result (λ e. IsFalse (never_comes (named e)))
     pub no_row : OnOk result (NoRowFits reader (map letter old.rest))
     pub alone : (profile : Profile) → IsTextReader profile reader → OnOk result (InNoOther profile reader (map letter old.rest))
-    pub only : IfErr result (λ e. OnlyFault reader (map letter old.rest) [] (fault_of e))
+    pub only : IfErr result (λ e. OnlyFault reader (map letter old.rest) [] (named e))
     pub empty : (left : List ℕ) → OnOk result (left ≡ new.rest) → OnOk result (left ≡ [])
 
-  pub exact : (read : Result U Stop) (result : Result U ParseError) → Reads letter view old read new reading → Settles fault_of read result → Exact result
-  exact (Ok x) (Ok y) h s = let read = accepted_where_read reader found same _ _ reads (view x) _ h in record {
+  pub exact : {E : Type 0} (named : E → Fault) (read : Result U Stop) (result : Result U E) → Reads letter view old read new reading
+      → Settles named read result → Exact named result
+  exact named (Ok x) (Ok y) h s = let read = accepted_where_read reader found same _ _ reads (view x) _ h in record {
     ok = rw s (ok_where_derived reader found same (map letter old.rest) _ reads (view x) (map letter new.rest) h);
     err = tt;
     comes = tt;
@@ -132,16 +132,16 @@ module _ {U A : Type 0} (letter : ℕ → Letter) (view : U → A) (reader : Rea
     only = tt;
     empty = λ left is. is ∙ no_units letter new.rest (nothing_left reader found same (map letter old.rest) _ reads (view x) (map letter new.rest) h);
   }
-  exact (Ok x) (Err e) h s = absurd s
-  exact (Err stop) (Ok y) h s = absurd s
-  exact (Err stop) (Err e) h s = let fits : HasFault reader (map letter old.rest) [] (fault_of e) =
+  exact named (Ok x) (Err e) h s = absurd s
+  exact named (Err stop) (Ok y) h s = absurd s
+  exact named (Err stop) (Err e) h s = let fits : HasFault reader (map letter old.rest) [] (named e) =
       rw s (err_where_fits reader found same (map letter old.rest) _ reads (fault_of_stop stop) (map letter new.rest) h none) in record {
         ok = rw s (err_where_refused reader found same (map letter old.rest) _ reads (fault_of_stop stop) (map letter new.rest) h);
         err = fits;
-        comes = fault_comes reader _ [] (fault_of e) fits;
+        comes = fault_comes reader _ [] (named e) fits;
         no_row = tt;
         alone = λ profile is. tt;
-        only = only_fault reader _ [] (fault_of e) fits;
+        only = only_fault reader _ [] (named e) fits;
         empty = λ left is. tt;
       }
 

@@ -1,7 +1,7 @@
 -- From what the code replied for a chain of calls to what a handler's clauses say.
-use Rattle.std.proofs.Common.{◌≡◌, ◌≢◌, ◌↔◌, ℕ, ◌+◌, ◌≤◌, length, arith, IsFalse, List, [], ◌∷◌, ◌++◌, Option, Some, None, Result, Ok, Err, IfOk, refl, sym, ◌∙◌, ap, subst, inl, inr}
+use Rattle.std.proofs.Common.{◌≡◌, ◌≢◌, ◌↔◌, ℕ, IsFalse, List, [], ◌∷◌, ◌++◌, Option, Some, None, Result, Ok, Err, IfOk, refl, sym, ◌∙◌, ap, subst, inl, inr}
 use Rattle.std.proofs.Common.{map, option_map}
-use Rattle.std.proofs.lemmas.List.{map-append, append-nil, length-append}
+use Rattle.std.proofs.lemmas.List.{map-append, append-nil}
 use Rattle.ixdtf_grammar.specs.declared.records.Annotation.{Annotation}
 use Rattle.ixdtf_grammar.specs.declared.records.IxdtfParseRecord.{IxdtfParseRecord}
 use Rattle.ixdtf_grammar.specs.Views.{returned_by, parsed_of}
@@ -13,14 +13,11 @@ use Rattle.ixdtf_grammar.specs.language.Readers.{Reader}
 use Rattle.ixdtf_grammar.specs.language.Languages.{Parsed, Derives}
 use Rattle.ixdtf_grammar.specs.language.Languages.Found.{parsed}
 use Rattle.ixdtf_grammar.specs.table.Outcomes.Outcome.{derived}
-use Rattle.ixdtf_grammar.specs.Handlers.{Reply, first_calendar, RefusedBeside, NoneRefused, calendar_value, with_calendar, GivesRecord, GivesFault, GivesOnlyFault, pair_of, Calls}
+use Rattle.ixdtf_grammar.specs.Handlers.{Reply, first_calendar, RefusedBeside, NoneRefused, calendar_value, with_calendar, GivesRecord, GivesFault, pair_of, Calls}
 use Rattle.ixdtf_grammar.specs.Handlers.{handed, replies_of, Step, IsChain, own_replies, Handled, HandledTo, UnhandledRecord, UnhandledFault}
 use Rattle.ixdtf_reading.specs.reading.Chains.{TextGives, TextRead}
-use Rattle.ixdtf_grammar.specs.Places.{GivesFaultAt, HandledAt, UnhandledFaultAt}
-use Rattle.ixdtf_reading.specs.declared.stop.StopAt.{StopAt}
-use Rattle.ixdtf_reading.proofs.code.Located.{left_fits as row_left_fits}
 use Rattle.ixdtf_reading.specs.reading.Looks.{Placed}
-use Rattle.ixdtf_reading.specs.reading.Clauses.{UnhandledForm, fault_of_stop}
+use Rattle.ixdtf_reading.specs.reading.Clauses.{UnhandledForm}
 use Rattle.ixdtf_grammar.specs.Laws.{GivesResult}
 use Rattle.ixdtf_reading.proofs.theorems.OneOutcome.{same_outcome, no_row_fits, derived_begins}
 use Rattle.ixdtf_reading.proofs.code.OneMoreReply.{refused_last, refused_split}
@@ -91,7 +88,7 @@ module _ {T U F : Type 0} (number : U → ℕ) (step : Step T U F) (handler : F)
   only_err (Err e) pairs replies gives fault is = let same : e ≡ fault = cc in rw (← same) gives
 
   -- what a handler's form promises
-  handled_of : (calls : Calls T U) (last : F) → IsChain step handler calls last → GivesResult reader text (handed number calls) (replies_of number calls) result
+  pub handled_of : (calls : Calls T U) (last : F) → IsChain step handler calls last → GivesResult reader text (handed number calls) (replies_of number calls) result
       → Handled number step handler reader text result
   handled_of calls last chain gives = record {
     calls = calls;
@@ -218,63 +215,6 @@ module _ {T U F : Type 0} (number : U → ℕ) (step : Step T U F) (handler : F)
 
   pub handled_to : (last : F) → TextRead number step handler last reader text placed → HandledTo number step handler last reader text (unplaced placed)
   handled_to last read = handled_to_of number step handler reader text (unplaced placed) read.calls last read.chain (gives_result reader text _ _ placed read.gives)
-
--- a fault stands where so many letters are before it
-pub stands_at : (reader : Reader) (text : Text) (pairs : List Pair) (replies : List Reply) (fault : Fault) (left : Text) (at : ℕ) → at + length left ≡ length text
-    → TextGives reader text pairs replies (Err (fault, left)) → GivesFaultAt reader text pairs replies fault at
-stands_at reader text pairs replies fault left at is gives = elim gives [
-  | inl p ↦ inl ((p.0.0, left, p.0.1, omega (arith, is, ap (λ t. length t) p.0.1, length-append p.0.0 left), p.0.2, p.0.3), p.1)
-  | inr p ↦ inr ((p.0.0, p.0.1, ap (λ q. q.0) p.0.2, rw (ap (λ q. q.1) p.0.2) is), p.1)
-]
-
--- a form with a handler whose errors tell their places
-module _ {T U F X E : Type 0} (number : U → ℕ) (step : Step T U F) (handler last : F) (reader : Reader) (text : Text) (named : E → Fault) (stands : ℕ → E → Type 0)
-    (view : X → Parsed) where
-  pub handled_at_ok : (x : X) → TextRead number step handler last reader text (Ok (view x)) → HandledAt number step handler reader text named stands view (Ok x)
-  handled_at_ok x read = let plain = handled number step handler reader text (Ok (view x)) last read in record {
-    calls = plain.calls;
-    last = plain.last;
-    chain = plain.chain;
-    ok = plain.ok;
-    err = λ e is. absurd cc;
-    only = λ e is. absurd cc;
-  }
-
-  pub handled_at_err : (why : StopAt) (e : E) → named e ≡ fault_of_stop why.stop → stands why.at e
-      → (left : Text) × (why.at + length left ≡ length text) × TextRead number step handler last reader text (Err (fault_of_stop why.stop, left))
-      → HandledAt number step handler reader text named stands view (Err e)
-  unfolding handled handled_of
-  handled_at_err why e is_named is_there (left, lengths, read) =
-      let plain = handled number step handler reader text (Err (fault_of_stop why.stop, left)) last read in
-      let gives : GivesFaultAt reader text (handed number read.calls) (replies_of number read.calls) (named e) why.at =
-      rw is_named (stands_at reader text _ _ (fault_of_stop why.stop) left why.at lengths read.gives) in
-      let is_only : GivesOnlyFault reader text (handed number read.calls) (replies_of number read.calls) (named e) = rw is_named (plain.only _ refl) in
-      record {
-        calls = read.calls;
-        last = last;
-        chain = read.chain;
-        ok = rw is_named plain.ok;
-        err = λ e' is. let same : e ≡ e' = cc in rw (← same) (why.at, is_there, gives);
-        only = λ e' is. let same : e ≡ e' = cc in rw (← same) is_only;
-      }
-
--- the place of a text whose pairs reply for themselves
-pub unhandled_at : {T U F : Type 0} (number : U → ℕ) (step : Step T U F) (handler last : F) (reader : Reader) (text : Text) → OwnReplies step → (why : StopAt)
-    → (left : Text) × (why.at + length left ≡ length text) × TextRead number step handler last reader text (Err (fault_of_stop why.stop, left))
-    → UnhandledFaultAt reader text (fault_of_stop why.stop) why.at
-unhandled_at number step handler last reader text own why (left, lengths, read) = (
-  handed number read.calls,
-  rw (← (replies_own number step handler reader text (Err (fault_of_stop why.stop)) own read.calls handler last read.chain))
-      (stands_at reader text _ _ (fault_of_stop why.stop) left why.at lengths read.gives),
-)
-
--- what is left behind a fault is no longer than the text
-pub left_fits : (reader : Reader) (text : Text) (pairs : List Pair) (replies : List Reply) (fault : Fault) (left : Text)
-    → TextGives reader text pairs replies (Err (fault, left)) → length left ≤ length text
-left_fits reader text pairs replies fault left gives = elim gives [
-  | inl p ↦ omega (arith, ap (λ t. length t) p.0.1, length-append p.0.0 left)
-  | inr p ↦ let short = row_left_fits reader p.0.0 pairs text p.0.1 in omega (arith, short, ap (λ q. length q.1) p.0.2)
-]
 
 -- what a form without a handler promises, where the handler hands each annotation back
 pub unhandled_form : {T U F : Type 0} {number : U → ℕ} {step : Step T U F} {handler : F} {reader : Reader} {text : Text} {result : Result Parsed Fault}

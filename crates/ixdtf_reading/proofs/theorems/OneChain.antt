@@ -124,7 +124,7 @@ same_last {A} xs ys a b e = elim (split_more xs a ys [] b e) [
 ]
 
 -- the last of these replies is refused with one fault
-last_once : (replies : List Reply) (x y : Fault) → LastRefused replies x → LastRefused replies y → x ≡ y
+pub last_once : (replies : List Reply) (x y : Fault) → LastRefused replies x → LastRefused replies y → x ≡ y
 last_once replies x y h g =
     let same = same_last g.earlier h.earlier g.reply h.reply (sym g.split ∙ h.split) in
     refused_once _ _ x y (rw (← same.0, ← same.1) h.refused) g.refused

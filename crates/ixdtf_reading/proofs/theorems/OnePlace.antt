@@ -1,16 +1,25 @@
 -- The place of a fault that a text and the replies to its pairs give is one.
-use Rattle.std.proofs.Common.{◌≡◌, ◌≢◌, ◌⊎◌, ℕ, List, [], ◌∷◌, ◌++◌, Ok, Err, length, refl, sym, ap, ◌∙◌, subst, inl, inr, arith, append_assoc}
-use Rattle.std.proofs.lemmas.List.{length-append}
+use Rattle.std.proofs.Common.{◌≡◌, ◌≢◌, ◌⊎◌, ℕ, List, [], ◌∷◌, ◌++◌, Result, Ok, Err, length, refl, sym, ap, ◌∙◌, subst, inl, inr, arith, append_assoc}
+use Rattle.std.proofs.lemmas.List.{length-append, length-map, append-nil}
+use Rattle.ixdtf_grammar.specs.Handlers.{Reply, LastRefused, GivesFault, own_replies}
+use Rattle.ixdtf_grammar.specs.Laws.{OnePlace}
+use Rattle.ixdtf_grammar.specs.Places.{GivesFaultAt, UnhandledFaultAt, UnhandledOnlyPlace}
 use Rattle.ixdtf_grammar.specs.language.Letters.{Text}
-use Rattle.ixdtf_grammar.specs.language.Brackets.{Pair, ArePairs, ZoneNote}
+use Rattle.ixdtf_grammar.specs.language.Brackets.{Pair, ArePairs}
 use Rattle.ixdtf_grammar.specs.language.Cores.{Core}
-use Rattle.ixdtf_grammar.specs.language.Readers.{Reader}
+use Rattle.ixdtf_grammar.specs.language.Readers.{Reader, CoreKind}
+use Rattle.ixdtf_grammar.specs.language.Readers.Reader.{bracketed}
+use Rattle.ixdtf_grammar.specs.table.Faults.{Fault}
 use Rattle.ixdtf_grammar.specs.language.Languages.Derives.{as_parsed}
 use Rattle.ixdtf_grammar.specs.language.Languages.{Parsed, parsed_with, Derives, Found}
 use Rattle.ixdtf_grammar.specs.language.Languages.Found.{parsed}
 use Rattle.ixdtf_reading.specs.reading.Looks.{Read, ◌>>=◌}
 use Rattle.ixdtf_reading.specs.reading.Pairs.{pairs_at}
 use Rattle.ixdtf_reading.specs.reading.Wholes.{bracketed_text_at, with_pairs, read_at, RowBehind, row_behind}
+use Rattle.ixdtf_reading.proofs.code.OneMoreReply.{refused_last}
+use Rattle.ixdtf_reading.proofs.theorems.OneChain.{last_once, alike}
+use Rattle.ixdtf_reading.proofs.theorems.OneOutcome.{one_outcome, place_once}
+use Rattle.ixdtf_reading.proofs.theorems.OneUnhandledOutcome.{own}
 use Rattle.ixdtf_reading.proofs.to_grammar.MorePairs.{OnPairs, pairs_read}
 use Rattle.ixdtf_reading.proofs.to_reading.Wholes.{NoBrackets, Brackets, brackets_of, over_brackets, takes}
 
@@ -66,3 +75,38 @@ fronts_alike reader front rest front' rest' read read' pairs e some d d' = elim 
   | inl p ↦ sym (ap (λ t. length t) p.1 ∙ whole_length front p.0 (same_front reader front p.0 read read' pairs some d (rw p.1 at d')))
   | inr p ↦ ap (λ t. length t) p.1 ∙ whole_length front' p.0 (same_front reader front' p.0 read' read pairs some d' (rw p.1 at d))
 ]
+
+-- ---- faults
+
+-- there are pairs, where the last of as many replies is refused
+some_pairs : (pairs : List Pair) (replies : List Reply) (fault : Fault) → length replies ≡ length pairs → LastRefused replies fault → pairs ≢ []
+some_pairs pairs replies fault lengths last none = absurd
+    (omega (arith, lengths, ap length none, ap length last.split, length-append last.earlier (last.reply ∷ [])))
+
+pub one_place : OnePlace
+one_place reader text pairs replies fault at lengths (inl h) other there (inl g) =
+    let some = some_pairs pairs replies fault lengths h.1 in (
+      last_once replies other fault g.1 h.1,
+      g.0.3 ∙ fronts_alike reader g.0.0 g.0.1 h.0.0 h.0.1 g.0.4 h.0.4 pairs (sym g.0.2 ∙ h.0.2) some g.0.5 h.0.5 ∙ sym h.0.3,
+    )
+one_place reader text pairs replies fault at lengths (inl h) other there (inr g) = absurd (refused_last replies [] fault h.1 (rw (append-nil replies) g.1))
+one_place reader text pairs replies fault at lengths (inr h) other there (inl g) = absurd (refused_last replies [] other g.1 (rw (append-nil replies) h.1))
+one_place reader text pairs replies fault at lengths (inr h) other there (inr g) = place_once reader text pairs fault at h.0 other pairs there g.0
+
+-- a fault without its place
+pub without_place : (reader : Reader) (text : Text) (pairs : List Pair) (replies : List Reply) (fault : Fault) (at : ℕ)
+    → GivesFaultAt reader text pairs replies fault at → GivesFault reader text pairs replies fault
+without_place reader text pairs replies fault at (inl h) = inl ((h.0.0, h.0.1, h.0.2, h.0.4, h.0.5), h.1)
+without_place reader text pairs replies fault at (inr h) = inr ((h.0.0, h.0.1, h.0.2), h.1)
+
+-- where each pair replies for itself, the pairs of two faults are the same
+pub one_unhandled_place : (kind : CoreKind) (text : Text) (fault : Fault) (at : ℕ) → UnhandledFaultAt (bracketed kind) text fault at
+    → UnhandledOnlyPlace (bracketed kind) text fault at
+one_unhandled_place kind text fault at (pairs, h) other there (others, g) =
+    let one = one_outcome (bracketed kind) text in
+    let given = without_place (bracketed kind) text pairs (own_replies pairs) fault at h in
+    let other_given = without_place (bracketed kind) text others (own_replies others) other there g in
+    let same = alike own_replies own kind text text one.0 one.1 one.1 (others, Err other) (pairs, Err fault) other_given given in
+    let pairs_are : others ≡ pairs = ap (λ (c : List Pair × Result Parsed Fault). c.0) same in
+    one_place (bracketed kind) text pairs (own_replies pairs) fault at (length-map pairs _) h other there
+    (subst (λ ps. GivesFaultAt (bracketed kind) text ps (own_replies ps) other there) pairs_are g)

@@ -23,7 +23,7 @@ use Rattle.ixdtf_reading.proofs.theorems.OneOutcome.{one_outcome, same_outcome, 
 -- ---- readers with brackets
 
 -- each pair is its own reply
-own : Replying own_replies
+pub own : Replying own_replies
 own = record { nothing = refl; more = λ pairs pair. (Some pair, map-append (λ pair. Some pair) pairs _) }
 
 -- what a reader returned, as an outcome

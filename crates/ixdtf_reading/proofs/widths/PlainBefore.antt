@@ -1,6 +1,6 @@
 -- What stands before a line is plain, and what is asked of the rest is asked of letters before the first Bad alone. So a row
 -- that fits a text with Bad in it is a row of Bad, or fits each text with the same letters before the first Bad.
-use Rattle.std.proofs.Common.{◌≡◌, ◌⊎◌, List, inl, inr}
+use Rattle.std.proofs.Common.{◌≡◌, ◌⊎◌, List, ◌++◌, inl, inr, sym, ap, ◌∙◌, subst, append_assoc}
 use Rattle.ixdtf_grammar.specs.declared.profile.Profile.{Profile}
 use Rattle.ixdtf_grammar.specs.language.Letters.{Text}
 use Rattle.ixdtf_grammar.specs.language.Shapes.{some}
@@ -15,7 +15,6 @@ use Rattle.ixdtf_grammar.specs.table.Before.{DateAndSeparator, BeforeDate, Befor
 use Rattle.ixdtf_grammar.specs.table.Before.{BeforeCore}
 use Rattle.ixdtf_grammar.specs.table.Before.{InMonthDay, BeforeTime, BeforeOffset, BeforeOffsetLine, Opened, Bracketed, BeforeKey, BeforeBracketed}
 use Rattle.ixdtf_grammar.specs.table.Before.{InMonthDay, InOffset, InIdentifier, InIanaIdentifier, InDuration, Before}
-use Rattle.ixdtf_grammar.specs.table.Faults.Fault.{NonAsciiCodePoint}
 use Rattle.ixdtf_grammar.specs.table.LineNames.{DateLine, MonthDayLine, TimeLine, CoreLine, ClockLine, OffsetLine, LineName}
 use Rattle.ixdtf_grammar.specs.table.LineNames.DateLine.{year_start, year_digits, extended_year_digits, minus_zero_year, month_digits, month_range}
 use Rattle.ixdtf_grammar.specs.table.LineNames.MonthDayLine.{month_day_range, after_month_day}
@@ -27,13 +26,15 @@ use Rattle.ixdtf_grammar.specs.table.LineNames.ZoneLine.{identifier_start, zone_
 use Rattle.ixdtf_grammar.specs.table.LineNames.BracketLine.{first_bracket_start, first_critical_start, first_bracket_scan, after_bracket}
 use Rattle.ixdtf_grammar.specs.table.LineNames.PairLine.{key_start, critical_key_start}
 use Rattle.ixdtf_grammar.specs.table.LineNames.LineName.{of_core, of_clock, of_offset, of_zone, of_bracket, of_pair, of_duration}
-use Rattle.ixdtf_grammar.specs.table.Rows.{Row, Fits}
+use Rattle.ixdtf_grammar.specs.table.Rows.{Row, Fits, left_at}
 use Rattle.ixdtf_grammar.proofs.parts.CoreLetters.{core_ends}
+use Rattle.ixdtf_reading.proofs.code.Located.{left_is}
 use Rattle.ixdtf_reading.proofs.parts.Fronts.{month_day_front_stays}
-use Rattle.ixdtf_grammar.proofs.widths.PlainTexts.{plain_append, PlainShape, plain_nowhere, plain_nothing, plain_one, plain_with, ◌and_then◌, plain_some}
+use Rattle.ixdtf_grammar.proofs.widths.PlainTexts.{IsPlain, plain_append, PlainShape, plain_nowhere, plain_nothing, plain_one, plain_with, ◌and_then◌, plain_some}
 use Rattle.ixdtf_grammar.proofs.widths.PlainTexts.{date_plain, time_plain, plain_mark, marked_plain, core_plain, opens_plain, tail_plain}
 use Rattle.ixdtf_grammar.proofs.widths.FirstBad.{Sees, sees_after, Moves, moves_anything, moves_nothing, moves_then, moves_either, moves_first}
 use Rattle.ixdtf_grammar.proofs.widths.FirstBad.{Stands, alone, ahead, ahead_where, besides, stands_either, never, moved_to, stops_move}
+use Rattle.ixdtf_grammar.proofs.theorems.NoRow.{BeginsBad}
 use Rattle.ixdtf_grammar.proofs.widths.PlainLines.{plain_line}
 
 -- ---- lines of cores
@@ -191,13 +192,25 @@ before_line (parse_duration profile) name pairs = besides (alone (in_duration pr
 abbrev pub row_moved : Text → Row → Row
 row_moved rest row = record { name = row.name; place = moved_to rest row.place; error = row.error }
 
--- A row that fits a text with Bad is a row of Bad, or fits the other text too, behind as many letters.
+-- A row that fits a text with Bad stands behind plain letters, and is a row of Bad, or fits the other text too, behind the same letters.
 pub fits_move : (reader : Reader) (row : Row) (pairs : List Pair) (text other_text : Text) → Sees text other_text → Fits reader row pairs text
-    → (row.error ≡ NonAsciiCodePoint) ⊎ ((rest : Text) × Fits reader (row_moved rest row) pairs other_text)
+    → (front : Text) × IsPlain front × (text ≡ front ++ left_at row.place)
+    × (BeginsBad row.error (left_at row.place) ⊎ ((rest : Text) × (other_text ≡ front ++ rest) × Fits reader (row_moved rest row) pairs other_text))
 fits_move reader row pairs text other_text sees (before, rest, is, b, (front, stop, splits, f, at)) =
-    let next = sees_after before rest other_text ((before_line reader row.name pairs).plain before rest b) (rw (← is) sees) in
-    let last = sees_after front stop next.0 ((plain_line (has_brackets reader) row.name).plain front f) (rw (← splits) next.2) in
-    elim (stops_move _ row.place row.error stop last.0 last.2 at) [
-      | inl e ↦ inl e
-      | inr moved ↦ inr (last.0, (before, next.0, next.1, (before_line reader row.name pairs).moved before rest next.0 next.2 b, (front, last.0, last.1, f, moved)))
-    ]
+    let plain_before = (before_line reader row.name pairs).plain before rest b in
+    let plain_front = (plain_line (has_brackets reader) row.name).plain front f in
+    let next = sees_after before rest other_text plain_before (rw (← is) sees) in
+    let last = sees_after front stop next.0 plain_front (rw (← splits) next.2) in
+    let left = left_is _ row.place row.error stop at in (
+      before ++ front,
+      plain_append before front plain_before plain_front,
+      is ∙ ap (λ t. before ++ t) (splits ∙ ap (λ t. front ++ t) (sym left)) ∙ sym (append_assoc before front (left_at row.place)),
+      elim (stops_move _ row.place row.error stop last.0 last.2 at) [
+        | inl h ↦ inl (subst (λ t. BeginsBad row.error t) (sym left) h)
+        | inr moved ↦ inr (
+          last.0,
+          next.1 ∙ ap (λ t. before ++ t) last.1 ∙ sym (append_assoc before front last.0),
+          (before, next.0, next.1, (before_line reader row.name pairs).moved before rest next.0 next.2 b, (front, last.0, last.1, f, moved)),
+        )
+      ],
+    )

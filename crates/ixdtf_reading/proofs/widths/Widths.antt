@@ -1,25 +1,32 @@
 -- Two widths: numbers from 1 to 126 are the same letters in each, and the first other one is Bad as a 16-bit unit.
-use Rattle.std.proofs.Common.{◌≡◌, ◌⊎◌, ℕ, Bool, true, false, IsTrue, IsFalse, List, [], ◌∷◌, not, All, Any, if◌then◌else◌, refl, sym, ◌∙◌, ap, subst, inl, inr}
+use Rattle.std.proofs.Common.{◌≡◌, ◌⊎◌, ℕ, suc, ◌-◌, length, arith, Bool, true, false, cond, IsTrue, IsFalse, List, [], ◌∷◌, ◌++◌, not, All, Any, if◌then◌else◌, refl, sym, ◌∙◌, ap, subst, inl, inr}
 use Rattle.std.specs.List.{list_any}
-use Rattle.std.proofs.lemmas.List.Elements.{All-head, All-tail}
+use Rattle.std.proofs.lemmas.List.Elements.{All-nil, All-cons, All-head, All-tail}
+use Rattle.std.proofs.lemmas.List.{length-append}
 use Rattle.std.proofs.lemmas.List.Folds.{list_any-from_Any}
-use Rattle.ixdtf_grammar.specs.Handlers.{UnhandledFault}
+use Rattle.ixdtf_grammar.specs.Handlers.{UnhandledFault, own_replies}
+use Rattle.ixdtf_grammar.specs.Places.{UnhandledFaultAt, HasUnhandledFaultAt}
 use Rattle.ixdtf_grammar.specs.Widths.{UnhandledOutcome, HasWithPairs, HasAlone, HasUnhandledOutcome, is_shared, wide_text, byte_text, mask, SameWhereShared}
-use Rattle.ixdtf_grammar.specs.Widths.{FaultWhereNotShared}
+use Rattle.ixdtf_grammar.specs.Widths.{FaultWhereNotShared, SamePlaceWhereShared, PlaceWhereNotShared, IsFirstNotShared, NonAsciiIsFirst, NonAsciiIsWide}
+use Rattle.ixdtf_grammar.proofs.theorems.NoRow.{fault_of_bad}
+use Rattle.ixdtf_reading.proofs.code.OneMoreReply.{refused_split}
 use Rattle.ixdtf_grammar.specs.Widths.UnhandledOutcome.{read_as, faulted}
 use Rattle.ixdtf_grammar.specs.language.Brackets.{Pair}
 use Rattle.ixdtf_grammar.specs.language.Languages.Derives.{as_parsed, as_shifted, as_identified, as_named, as_lasting}
 use Rattle.ixdtf_grammar.specs.language.Languages.{Found, Derives}
 use Rattle.ixdtf_grammar.specs.language.Languages.Found.{parsed}
 use Rattle.ixdtf_grammar.specs.language.Letters.{Text, wide_letter}
-use Rattle.ixdtf_grammar.specs.language.Letters.Letter.{Plain}
+use Rattle.ixdtf_grammar.specs.language.Letters.Letter.{Plain, Bad}
 use Rattle.ixdtf_grammar.specs.language.Readers.{Reader, CoreKind}
 use Rattle.ixdtf_grammar.specs.language.Readers.Reader.{bracketed}
 use Rattle.ixdtf_grammar.specs.table.Faults.{Fault}
 use Rattle.ixdtf_grammar.specs.table.Faults.Fault.{NonAsciiCodePoint}
-use Rattle.ixdtf_grammar.specs.table.Outcomes.{HasFault}
+use Rattle.ixdtf_grammar.specs.table.Outcomes.{HasFault, HasFaultAt}
+use Rattle.ixdtf_grammar.specs.table.Rows.{left_at}
+use Rattle.ixdtf_reading.proofs.code.Located.{left_fits}
+use Rattle.ixdtf_reading.proofs.theorems.OnePlace.{without_place}
 use Rattle.ixdtf_reading.proofs.theorems.OneUnhandledOutcome.{unhandled_outcome}
-use Rattle.ixdtf_grammar.proofs.widths.FirstBad.{Sees, plain_sees_nothing, sees_after}
+use Rattle.ixdtf_grammar.proofs.widths.FirstBad.{Sees, plain_sees_nothing, sees_after, left_moved}
 use Rattle.ixdtf_reading.proofs.widths.PlainBefore.{row_moved, fits_move}
 use Rattle.ixdtf_grammar.proofs.widths.PlainDurations.{duration_plain}
 use Rattle.ixdtf_grammar.proofs.widths.PlainTexts.{IsPlain, plain_append, signed_plain, zone_plain, plain_name, core_plain, tail_plain}
@@ -56,48 +63,84 @@ derived_plain reader text found pairs (as_identified h) = zone_plain text _ h
 derived_plain reader text found pairs (as_named h) = plain_name.plain text h.0
 derived_plain reader text found pairs (as_lasting h) = duration_plain _ text _ h
 
-fault_moves : (reader : Reader) (text other_text : Text) → Sees text other_text → (pairs : List Pair) (fault : Fault) → HasFault reader text pairs fault
-    → (fault ≡ NonAsciiCodePoint) ⊎ HasFault reader other_text pairs fault
-fault_moves reader text other_text sees pairs fault h = elim (fits_move reader h.0 pairs text other_text sees h.1) [
-  | inl e ↦ inl (sym h.2 ∙ e)
-  | inr fits ↦ inr (row_moved fits.0 h.0, fits.1, h.2)
-]
+-- the text has its first Bad behind so many letters
+abbrev FirstBadAt : Text → ℕ → Type 0
+FirstBadAt text at = (front more : Text) × IsPlain front × (text ≡ front ++ (Bad ∷ more)) × (at ≡ length front)
+
+-- a fault is that of the first Bad, or is known besides
+abbrev BadOr : Text → Fault → ℕ → Type 0 → Type 0
+BadOr text fault at also = ((fault ≡ NonAsciiCodePoint) × FirstBadAt text at) ⊎ also
+
+fault_moves : (reader : Reader) (text other_text : Text) → Sees text other_text → (pairs : List Pair) (fault : Fault) (at : ℕ)
+    → HasFaultAt reader text pairs fault at → BadOr text fault at (HasFaultAt reader other_text pairs fault at)
+fault_moves reader text other_text sees pairs fault at (row, fits, has, lengths) =
+    let (front, plain, is, moved) = fits_move reader row pairs text other_text sees fits in
+    let stands : at ≡ length front = omega (arith, lengths, ap (λ t. length t) is, length-append front (left_at row.place)) in elim moved [
+      | inl p ↦ inl (sym has ∙ p.2, (front, p.0, plain, is ∙ ap (λ t. front ++ t) p.1, stands))
+      | inr p ↦ inr (
+        row_moved p.0 row,
+        p.2,
+        has,
+        omega (arith, stands, ap (λ t. length t) (left_moved p.0 row.place), ap (λ t. length t) p.1, length-append front p.0),
+      )
+    ]
 
 -- a refused pair stands behind a front that is derived, and so is in front of the other text
-unhandled_fault_moves : (reader : Reader) (text other_text : Text) → Sees text other_text → (fault : Fault) → UnhandledFault reader text fault
-    → (fault ≡ NonAsciiCodePoint) ⊎ UnhandledFault reader other_text fault
-unhandled_fault_moves reader text other_text sees fault (pairs, inl h) =
+unhandled_fault_moves : (reader : Reader) (text other_text : Text) → Sees text other_text → (fault : Fault) (at : ℕ) → UnhandledFaultAt reader text fault at
+    → BadOr text fault at (UnhandledFaultAt reader other_text fault at)
+unhandled_fault_moves reader text other_text sees fault at (pairs, inl h) =
     let front = h.0 in
-    let plain = derived_plain reader front.0 _ pairs front.4 in
+    let plain = derived_plain reader front.0 _ pairs front.5 in
     let next = sees_after front.0 front.1 other_text plain (rw (← front.2) sees) in
-    inr (pairs, inl ((front.0, next.0, next.1, front.3, front.4), h.1))
-unhandled_fault_moves reader text other_text sees fault (pairs, inr h) = elim (fault_moves reader text other_text sees pairs fault h.0) [
-  | inl e ↦ inl e
+    inr (pairs, inl ((front.0, next.0, next.1, front.3, front.4, front.5), h.1))
+unhandled_fault_moves reader text other_text sees fault at (pairs, inr h) = elim (fault_moves reader text other_text sees pairs fault at h.0) [
+  | inl p ↦ inl p
   | inr other_fault ↦ inr (pairs, inr (other_fault, h.1))
 ]
 
--- the outcome is a fault: that of Bad, or one that is known besides
-abbrev IsFault : UnhandledOutcome → Type 0 → Type 0
-IsFault outcome also = (fault : Fault) × (outcome ≡ faulted fault) × ((fault ≡ NonAsciiCodePoint) ⊎ also)
+-- a fault has a place
+row_place : (reader : Reader) (text : Text) (pairs : List Pair) (fault : Fault) → HasFault reader text pairs fault → (at : ℕ) × HasFaultAt reader text pairs fault at
+row_place reader text pairs fault (row, fits, has) =
+    let short = left_fits reader row pairs text fits in (length text - length (left_at row.place), (row, fits, has, omega (arith, short)))
+
+unhandled_place : (reader : Reader) (text : Text) (fault : Fault) → UnhandledFault reader text fault → (at : ℕ) × UnhandledFaultAt reader text fault at
+unhandled_place reader text fault (pairs, inl h) =
+    let front = h.0 in (length front.0, (pairs, inl ((front.0, front.1, front.2, refl, front.3, front.4), h.1)))
+unhandled_place reader text fault (pairs, inr h) = let placed = row_place reader text pairs fault h.0 in (placed.0, (pairs, inr (placed.1, h.1)))
+
+place_of : (reader : Reader) (text : Text) (fault : Fault) → HasUnhandledOutcome reader text (faulted fault) → (at : ℕ) × HasUnhandledFaultAt reader text fault at
+place_of (bracketed kind) text fault h = unhandled_place (bracketed kind) text fault h
+place_of reader text fault h = row_place reader text [] fault h
+
+-- and without it, is the outcome
+fault_of_place : (reader : Reader) (text : Text) (fault : Fault) (at : ℕ) → HasUnhandledFaultAt reader text fault at → HasUnhandledOutcome reader text (faulted fault)
+fault_of_place (bracketed kind) text fault at h = (h.0, without_place (bracketed kind) text h.0 (own_replies h.0) fault at h.1)
+fault_of_place reader text fault at h = (h.0, h.1, h.2)
 
 module _ (text other_text : Text) (sees : Sees text other_text) where
-  with_pairs_moves : (kind : CoreKind) (outcome : UnhandledOutcome) → HasWithPairs kind text outcome → IsFault outcome (HasWithPairs kind other_text outcome)
-  with_pairs_moves kind (read_as (parsed found)) h =
+  -- the outcome of a text with Bad is a fault
+  with_pairs_fault : (kind : CoreKind) (outcome : UnhandledOutcome) → HasWithPairs kind text outcome → (fault : Fault) × HasWithPairs kind text (faulted fault)
+  with_pairs_fault kind (read_as (parsed found)) h =
       absurd (plain_sees_nothing text other_text (derived_plain (bracketed kind) text (parsed h.1.read) h.0 h.1.whole) sees)
-  with_pairs_moves kind (faulted fault) h = (fault, refl, unhandled_fault_moves (bracketed kind) text other_text sees fault h)
-  with_pairs_moves kind (read_as found) h = absurd h
+  with_pairs_fault kind (faulted fault) h = (fault, h)
+  with_pairs_fault kind (read_as found) h = absurd h
 
-  alone_moves : (reader : Reader) (outcome : UnhandledOutcome) → HasAlone reader text outcome → IsFault outcome (HasAlone reader other_text outcome)
-  alone_moves reader (read_as found) h = absurd (plain_sees_nothing text other_text (derived_plain reader text found [] h) sees)
-  alone_moves reader (faulted fault) h = (fault, refl, fault_moves reader text other_text sees [] fault h)
+  alone_fault : (reader : Reader) (outcome : UnhandledOutcome) → HasAlone reader text outcome → (fault : Fault) × HasAlone reader text (faulted fault)
+  alone_fault reader (read_as found) h = absurd (plain_sees_nothing text other_text (derived_plain reader text found [] h) sees)
+  alone_fault reader (faulted fault) h = (fault, h)
 
-  -- What a text with Bad gives: the fault of Bad, or what each text with the same letters before the first Bad gives.
-  outcome_moves : (reader : Reader) (outcome : UnhandledOutcome) → HasUnhandledOutcome reader text outcome
-      → IsFault outcome (HasUnhandledOutcome reader other_text outcome)
-  outcome_moves (bracketed kind) outcome h = with_pairs_moves kind outcome h
-  outcome_moves reader outcome h = alone_moves reader outcome h
+  outcome_fault : (reader : Reader) (outcome : UnhandledOutcome) → HasUnhandledOutcome reader text outcome
+      → (fault : Fault) × HasUnhandledOutcome reader text (faulted fault)
+  outcome_fault (bracketed kind) outcome h = with_pairs_fault kind outcome h
+  outcome_fault reader outcome h = alone_fault reader outcome h
 
--- ---- the law
+  -- What a text with Bad gives: the fault of the first Bad, there, or what each text with the same letters before it gives.
+  place_moves : (reader : Reader) (fault : Fault) (at : ℕ) → HasUnhandledFaultAt reader text fault at
+      → BadOr text fault at (HasUnhandledFaultAt reader other_text fault at)
+  place_moves (bracketed kind) fault at h = unhandled_fault_moves (bracketed kind) text other_text sees fault at h
+  place_moves reader fault at h = fault_moves reader text other_text sees [] fault at h
+
+-- ---- outcomes and places in two widths
 
 pub same_where_shared : SameWhereShared
 same_where_shared reader numbers all outcome =
@@ -107,12 +150,114 @@ same_where_shared reader numbers all outcome =
 some_not_shared : (numbers : List ℕ) → Any (λ n. IsFalse (is_shared n)) numbers → IsTrue (list_any (λ n. not (is_shared n)) numbers)
 some_not_shared numbers h = list_any-from_Any (λ n. not _) numbers (h.0, h.1, h.2, h.3, ap not h.4)
 
+pub same_place_where_shared : SamePlaceWhereShared
+same_place_where_shared reader numbers all fault at =
+    let same = same_letters numbers all in
+    (subst (λ t. HasUnhandledFaultAt reader t fault at) same, subst (λ t. HasUnhandledFaultAt reader t fault at) (sym same))
+
+pub place_where_not_shared : PlaceWhereNotShared
+place_where_not_shared reader numbers some =
+    let outcome = unhandled_outcome reader (wide_text numbers) in
+    let sees = mask_sees numbers (some_not_shared numbers some) in
+    let (fault, has) = outcome_fault _ _ sees reader outcome.0 outcome.1 in
+    let (at, there) = place_of reader (wide_text numbers) fault has in (
+      fault,
+      at,
+      there,
+      elim (place_moves _ _ sees reader fault at there) [
+        | inl p ↦ inl p.0
+        | inr q ↦ inr q
+      ],
+    )
+
 pub fault_where_not_shared : FaultWhereNotShared
 fault_where_not_shared reader numbers some =
-    let outcome = unhandled_outcome reader _ in
-    let sees = mask_sees numbers (some_not_shared numbers some) in
-    let moved = outcome_moves _ _ sees reader outcome.0 outcome.1 in (
-      moved.0,
-      rw (← moved.1) outcome.1,
-      rw (← moved.1) moved.2,
+    let (fault, at, there, where_it_is) = place_where_not_shared reader numbers some in (
+      fault,
+      fault_of_place reader (wide_text numbers) fault at there,
+      elim where_it_is [
+        | inl is ↦ inl is
+        | inr q ↦ inr (fault_of_place reader (byte_text (mask numbers)) fault at q)
+      ],
     )
+
+-- ---- where the fault of Bad stands
+
+-- the first Bad is the first number that is not shared
+not_shared : (n : ℕ) → wide_letter n ≡ Bad → IsFalse (is_shared n)
+not_shared n = by_test (is_shared n)
+  where
+    by_test : (b : Bool) → cond b (Plain n) Bad ≡ Bad → IsFalse b
+    by_test true is = absurd cc
+    by_test false is = refl
+
+is_plain : (n c : ℕ) → wide_letter n ≡ Plain c → IsTrue (is_shared n)
+is_plain n c = by_test (is_shared n)
+  where
+    by_test : (b : Bool) → cond b (Plain n) Bad ≡ Plain c → IsTrue b
+    by_test true is = refl
+    by_test false is = absurd cc
+
+first_not_shared : (numbers : List ℕ) (front more : Text) → IsPlain front → wide_text numbers ≡ front ++ (Bad ∷ more)
+    → IsFirstNotShared numbers (length front)
+first_not_shared [] [] more plain is = absurd cc
+first_not_shared [] (x ∷ front) more plain is = absurd cc
+first_not_shared (n ∷ numbers) [] more plain is =
+    let head : wide_letter n ≡ Bad = cc in ([], numbers, n, refl, refl, All-nil (λ x. IsTrue (is_shared x)), not_shared n head)
+first_not_shared (n ∷ numbers) (Bad ∷ front) more plain is = absurd plain
+first_not_shared (n ∷ numbers) (Plain c ∷ front) more plain is =
+    let head : wide_letter n ≡ Plain c = cc in
+    let tail : wide_text numbers ≡ front ++ (Bad ∷ more) = cc in
+    let (first, rest, m, splits, lengths, all, not_so) = first_not_shared numbers front more plain tail in (
+      n ∷ first,
+      rest,
+      m,
+      ap (λ ns. n ∷ ns) splits,
+      ap suc lengths,
+      All-cons (λ x. IsTrue (is_shared x)) n first (is_plain n c head) all,
+      not_so,
+    )
+
+-- no letter of 8-bit units is Bad
+no_bad_byte : (numbers : List ℕ) (front more : Text) → byte_text numbers ≡ front ++ (Bad ∷ more) → ⊥
+no_bad_byte [] [] more is = cc
+no_bad_byte [] (x ∷ front) more is = cc
+no_bad_byte (n ∷ numbers) [] more is = cc
+no_bad_byte (n ∷ numbers) (x ∷ front) more is = let tail : byte_text numbers ≡ front ++ (Bad ∷ more) = cc in no_bad_byte numbers front more tail
+
+never_alone : (reader : Reader) (numbers : List ℕ) (pairs : List Pair) (at : ℕ) → ¬ (HasFaultAt reader (byte_text numbers) pairs NonAsciiCodePoint at)
+never_alone reader numbers pairs at (row, fits, has, lengths) =
+    let (front, more, is) = fault_of_bad reader (byte_text numbers) pairs (row, fits, has) in no_bad_byte numbers front more is
+
+never_unhandled : (reader : Reader) (numbers : List ℕ) (at : ℕ) → ¬ (UnhandledFaultAt reader (byte_text numbers) NonAsciiCodePoint at)
+never_unhandled reader numbers at (pairs, inl h) = elim (refused_split _ _ NonAsciiCodePoint h.1.refused) [
+  | inl p ↦ let is = p.0 in cc
+  | inr p ↦ let is = p.0 in cc
+]
+never_unhandled reader numbers at (pairs, inr h) = never_alone reader numbers pairs at h.0
+
+pub non_ascii_is_wide : NonAsciiIsWide
+non_ascii_is_wide (bracketed kind) numbers at h = never_unhandled (bracketed kind) numbers at h
+non_ascii_is_wide reader numbers at h = never_alone reader numbers [] at h
+
+-- numbers are the same letters in both widths, or some of them is not shared
+sees_or_same : (numbers : List ℕ) → Sees (wide_text numbers) (byte_text (mask numbers)) ⊎ (wide_text numbers ≡ byte_text numbers)
+sees_or_same [] = inr refl
+sees_or_same (n ∷ numbers) = by_first _ refl (sees_or_same numbers)
+  where
+    by_first : (b : Bool) → is_shared n ≡ b → Sees (wide_text numbers) (byte_text (mask numbers)) ⊎ (wide_text numbers ≡ byte_text numbers)
+        → Sees (wide_letter n ∷ wide_text numbers) (Plain (if is_shared n then n else 128) ∷ byte_text (mask numbers))
+        ⊎ (wide_letter n ∷ wide_text numbers ≡ Plain n ∷ byte_text numbers)
+    by_first true is (inl more) = rw is (inl (byte_text (mask numbers), refl, more))
+    by_first true is (inr same) = rw is (inr (ap (λ t. Plain n ∷ t) same))
+    by_first false is more = rw is (inl tt)
+
+pub non_ascii_is_first : NonAsciiIsFirst
+non_ascii_is_first reader numbers at h = elim (sees_or_same numbers) [
+  | inl sees ↦ elim (place_moves _ _ sees reader NonAsciiCodePoint at h) [
+    | inl p ↦ let (front, more, plain, is, lengths) = p.1 in
+        subst (λ n. IsFirstNotShared numbers n) (sym lengths) (first_not_shared numbers front more plain is)
+    | inr q ↦ absurd (non_ascii_is_wide reader (mask numbers) at q)
+  ]
+  | inr same ↦ absurd (non_ascii_is_wide reader numbers at (subst (λ t. HasUnhandledFaultAt reader t NonAsciiCodePoint at) same h))
+]

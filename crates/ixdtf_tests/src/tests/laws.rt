@@ -218,6 +218,21 @@ fn gives_one_offset(bytes: &[u8], units: &[u16]) -> bool
     }
 }
 
+// What a caller makes of the law: of the same numbers from 1 to 126 the two widths have the place of one error.
+fn places_of_both(bytes: &[u8], units: &[u16]) -> Option<(usize, usize)>
+    ensures { All (λ n. IsTrue (is_shared n)) bytes.now → units.now ≡ bytes.now →
+        IfSome result (λ places. places.0 ≡ places.1) }
+{
+    widths_agree();
+    match IxdtfParser::from_utf8(bytes).parse_located() {
+        Ok(_) => None,
+        Err(narrow) => match IxdtfParser::from_utf16(units).parse_located() {
+            Ok(_) => None,
+            Err(wide) => Some((narrow.at, wide.at)),
+        },
+    }
+}
+
 #[test]
 fn finds_clones_and_nanoseconds_equal(rt: HostRuntime) {
     let name: [u16; 3] = [85, 84, 67];
@@ -239,6 +254,16 @@ fn reads_both_widths_as_one(rt: HostRuntime) {
     let offset: [u16; 6] = [43, 48, 53, 58, 51, 48];
     assert!(rt; gives_one_offset("+05:30".as_bytes(), &offset));
     assert!(rt; gives_one_offset("+05:3".as_bytes(), &offset[..5]));
+}
+
+#[test]
+fn finds_one_place_in_both_widths(rt: HostRuntime) {
+    let month: [u16; 7] = [50, 48, 50, 48, 45, 49, 51];
+    assert_eq!(rt; places_of_both("2020-13".as_bytes(), &month), Some((7, 7)));
+    assert_eq!(rt;
+        places_of_both("2020-1".as_bytes(), &month[..6]),
+        Some((6, 6))
+    );
 }
 
 #[test]

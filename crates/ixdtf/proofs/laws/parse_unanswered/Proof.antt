@@ -1,8 +1,10 @@
 -- The function only hands its arguments on to `parse_unanswered_as`, at the public error. Assumes `Logic`.
-use Rattle.ixdtf.proofs.code.PublicErrors.{refl, subst, named, sep, via, id⊢, fst∗, snd∗, Lft, Tables, ⊑_refl, ⊑_static, Lfts, fact, fact_use, tables}
-use Rattle.ixdtf.proofs.code.PublicErrors.{tables_of, Denots, param, NamedLft, types_at, implements, insides_in, with_fact, SpecAt, run_framed, hands_on, E}
-use Rattle.ixdtf.proofs.code.PublicErrors.{E_laws, Under, Got, lands}
+use Rattle.ixdtf.proofs.code.RaisedErrors.{refl, subst, named, sep, via, id⊢, fst∗, snd∗, Lft, Tables, ⊑_refl, ⊑_static, Lfts, fact, fact_use, tables}
+use Rattle.ixdtf.proofs.code.RaisedErrors.{tables_of, Denots, param, NamedLft, types_at, implements, insides_in, with_fact, SpecAt, run_framed, hands_on}
+use Rattle.ixdtf.proofs.code.RaisedErrors.{taken, taken_laws, Under, Got, lands}
 use denote.Param.Members as Members
+use Rattle.ixdtf_grammar.specs.contracts.error.ParseError
+use Rattle.ixdtf_grammar.proofs.error.ParseError.TheLaws as error_laws
 use Rattle.ixdtf.specs.contracts.parsers.IxdtfParser
 use Rattle.ixdtf_reading.specs.contracts.stop.ParseErrorRaised.TheImpl as raises
 use Rattle.ixdtf_reading.proofs.stop.ParseErrorRaised.TheImpl.Met as raises_met
@@ -19,6 +21,7 @@ unfolding tables_of
 parse_unanswered_spec {M} 𝓤 𝓛 𝓜 𝓡 wired T' F U LT LF LU g₀ d₀ gₛ dₛ g₁ d₁ g₂ d₂ g₃ d₃ g d d' d'' d₄ P b₀ bₛ b₁ b₂ b₃ b b' b'' b₄ =
     let 𝓣 : Tables 𝓤 𝓛.H = tables_of 𝓤 𝓛.H 𝓜 (tables 𝓤 𝓛.H 𝓜 𝓡 𝓡.env) in
     let Q = Under 4 P in
+    let E = taken ParseError.the_row in
     -- the error names no lifetime, so its token may be any
     let f : Lfts 5 → Lfts 6 = λ τs. (τs.0, (τs.1.0, (τs.1.1.0, (τs.1.0, (τs.1.1.1.0, (τs.1.1.1.1.0, tt)))))) in
     let S = R.signature T' F U g₀ d₀ gₛ dₛ g₁ d₁ g₂ d₂ g₃ d₃ g d d' d'' d₄ P in
@@ -34,8 +37,8 @@ parse_unanswered_spec {M} 𝓤 𝓛 𝓜 𝓡 wired T' F U LT LF LU g₀ d₀ g�
       ensures = (c τs a).ensures;
     } in
     let at : Lfts 5 → NamedLft = λ κs. record { mir = named 1; lft = κs.1.0 } in
-    hands_on S.outlives (λ κs. IxdtfParser.the_row (at κs) (param 0 T') (param 2 U) g₀ g₁ g₂ g₃) 1 F (λ κs. Got (at κs) 0 2 T' U) 𝓛 𝓣 c LF _ _
-    (λ κs. lands (at κs) 0 2 T' U LT LU 𝓛)
+    hands_on S.outlives (λ κs. IxdtfParser.the_row (at κs) (param 0 T') (param 2 U) g₀ g₁ g₂ g₃) 1 F (λ κs. Got ParseError.the_row (at κs) 0 2 T' U) 𝓛 𝓣 c LF _ _
+    (λ κs. lands ParseError.the_row (at κs) 0 2 T' U error_laws.the_row_laws LT LU 𝓛)
     (code.unfolded 𝓤 𝓛.H 𝓜 𝓡 wired (T', (F, (U, tt))) d₀ dₛ d₁ d₂ d₃ d d' d'' d₄)
     (implements 𝓛 S' 5 S.outlives f _ (run_framed 𝓤 𝓛.H 𝓜 𝓡 _) k c' 3 (λ τs. τs.1.1) (λ τs. (T'.lives, (F.lives, (U.lives, tt))))
     ((0, tt), ((1, tt), ((2, tt), ((1, tt), ((3, tt), ((4, tt), tt)))))) (λ τs a x. sep 𝓤 (fact 𝓤 (P τs)) (asked τs a)) (λ τs a x. id⊢ 𝓤 _)
@@ -47,7 +50,7 @@ parse_unanswered_spec {M} 𝓤 𝓛 𝓜 𝓡 wired T' F U LT LF LU g₀ d₀ g�
     (insides_in 𝓤 4 (τs.1.1.0, (τs.1.0, (τs.1.1.1.0, (τs.1.1.1.1.0, tt)))) (T'.lives, (E.lives, (F.lives, (U.lives, tt))))
     (sep 𝓤 (fact 𝓤 (Q (f τs))) (asked τs a)) (h.1.0, (⊑_static τs.1.0, (h.1.1.0, (h.1.1.1.0, tt)))))))
     (λ τs a x r. id⊢ 𝓤 _)
-    (G_met.met 𝓤 𝓛 𝓜 𝓡 (code.calls-ixdtf::laws::parse_unanswered_as 𝓡.env wired) T' E F U LT E_laws LF LU g₀ d₀ gₛ dₛ g₁ d₁ g₂ d₂ g₃ d₃ raises.ghosts
+    (G_met.met 𝓤 𝓛 𝓜 𝓡 (code.calls-ixdtf::laws::parse_unanswered_as 𝓡.env wired) T' E F U LT (taken_laws ParseError.the_row error_laws.the_row_laws refl) LF LU g₀ d₀ gₛ dₛ g₁ d₁ g₂ d₂ g₃ d₃ raises.ghosts
     raises.dict g d d' d'' d₄ Q b₀ bₛ b₁ b₂ b₃
     (raises_met.passed 𝓡.env (code.calls-ixdtf_reading::stop::ParseErrorRaised::of_stop 𝓡.env wired) M 𝓤 𝓛 𝓜 𝓡)
     (λ κs p. subst (λ (β : Lft). GM.Met 𝓛 𝓜 𝓡 𝓡.env β T' E F U g d × GM.Lawful T' E F U g) p.2 (b p.0 p.1))

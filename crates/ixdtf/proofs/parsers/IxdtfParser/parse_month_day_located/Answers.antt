@@ -4,4 +4,5 @@ use Rattle.ixdtf.proofs.parsers.IxdtfParser.parse_month_day_located.Goals as goa
 pub returns-in-Err : goal.returns-in-Err
 returns-in-Err g c =
     let gives = rw (← c.error.ensures) at c.in-Err.ensures.unhandled in
+    let stands = rw (← c.error.ensures) at c.in-Err.ensures.err in
     let place = rw (← c.error.ensures) at c.in-Err.ensures.place in search rules

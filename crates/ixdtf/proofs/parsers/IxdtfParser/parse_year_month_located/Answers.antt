@@ -4,4 +4,5 @@ use Rattle.ixdtf.proofs.parsers.IxdtfParser.parse_year_month_located.Goals as go
 pub returns-in-Err : goal.returns-in-Err
 returns-in-Err g c =
     let gives = rw (← c.error.ensures) at c.in-Err.ensures.unhandled in
+    let stands = rw (← c.error.ensures) at c.in-Err.ensures.err in
     let place = rw (← c.error.ensures) at c.in-Err.ensures.place in search rules

@@ -1,7 +1,8 @@
 use Rattle.std.proofs.Common.{◌≡◌, map, length, Err, refl, sym, ap, ◌∙◌, List, ℕ, arith, rules}
 use Rattle.std.proofs.lemmas.List.{length-map}
 use Rattle.ixdtf_grammar.specs.Views.{Unread}
-use Rattle.ixdtf_reading.proofs.theorems.Handled.{handled, handled_comes, left_fits}
+use Rattle.ixdtf_reading.proofs.theorems.Handled.{handled, handled_comes}
+use Rattle.ixdtf_reading.proofs.theorems.HandledAt.{left_fits}
 use Rattle.ixdtf.proofs.parsers.IxdtfParser.read_into.Goals as goal
 
 pub returns-in-Ok-clause-replied : goal.returns-in-Ok-clause-replied

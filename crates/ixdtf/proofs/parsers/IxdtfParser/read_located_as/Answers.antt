@@ -1,5 +1,6 @@
 use Rattle.std.proofs.Common.{refl}
-use Rattle.ixdtf_reading.proofs.theorems.Handled.{handled, handled_accepted, handled_at_ok, handled_at_err}
+use Rattle.ixdtf_reading.proofs.theorems.Handled.{handled, handled_accepted}
+use Rattle.ixdtf_reading.proofs.theorems.HandledAt.{handled_at_ok, handled_at_err}
 use Rattle.ixdtf.proofs.parsers.IxdtfParser.read_located_as.Goals as goal
 
 pub returns-clause-handled : goal.returns-clause-handled

@@ -6,7 +6,7 @@ use Rattle.ixdtf_durations.proofs.duration.IsoDurationParser.parse.Goals as goal
 
 pub returns : goal.returns
 returns g c =
-    let gives = exact _ _ (parse_duration c.self.inside.profile) lasting (λ x y e. cc) tt _ c.take-here.result c.parse_duration_text-read.new.cursor refl _ _
+    let gives = exact _ _ (parse_duration c.self.inside.profile) lasting (λ x y e. cc) tt _ c.take-here.result c.parse_duration_text-read.new.cursor refl _ _ _
     c.parse_duration_text-read.ensures.duration c.settle.ensures.settled in
     let alone = gives.alone c.self.inside.profile refl in
     rw (← c.self.view_is, ← c.take-here.ensures.same) (search rules)

@@ -12,5 +12,6 @@ returns g c =
     let gives = located _ _ (parse_duration c.self.inside.profile) lasting (λ x y e. cc) tt _ c.take-here.result c.parse_duration_text-outcome.new.cursor refl _
     (duration_read error_of _ _) _ (c.take-here.ensures.rest ∙ ap (λ (u : Unread). u.rest) (sym c.take-here.ensures.same)) _ _
     c.parse_duration_text-outcome.ensures.duration c.settle.ensures.settled c.settle.ensures.place in
-    let alone = gives.alone c.self.inside.profile refl in
+    let plain = gives.plain in
+    let alone = plain.alone c.self.inside.profile refl in
     rw (← c.self.view_is, ← c.take-here.ensures.same) (search rules)

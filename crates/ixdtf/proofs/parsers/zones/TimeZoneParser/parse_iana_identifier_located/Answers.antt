@@ -12,4 +12,5 @@ returns g c =
     let gives = located _ _ parse_iana_identifier named (λ x y e. cc) tt _ c.take-here.result c.parse_iana_identifier_text-outcome.new.cursor refl _
     (iana_identifier_read error_of _) _ (c.take-here.ensures.rest ∙ ap (λ (u : Unread). u.rest) (sym c.take-here.ensures.same)) _ _
     c.parse_iana_identifier_text-outcome.ensures.name c.settle.ensures.settled c.settle.ensures.place in
+    let plain = gives.plain in
     rw (← c.self.view_is, ← c.take-here.ensures.same) (search rules)

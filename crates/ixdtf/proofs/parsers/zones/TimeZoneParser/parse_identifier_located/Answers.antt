@@ -12,4 +12,5 @@ returns g c =
     let gives = located _ _ parse_identifier identified (λ x y e. cc) tt _ c.take-here.result c.parse_identifier_text-outcome.new.cursor refl _
     (identifier_read error_of _) _ (c.take-here.ensures.rest ∙ ap (λ (u : Unread). u.rest) (sym c.take-here.ensures.same)) _ _
     c.parse_identifier_text-outcome.ensures.zone c.settle.ensures.settled c.settle.ensures.place in
+    let plain = gives.plain in
     rw (← c.self.view_is, ← c.take-here.ensures.same) (search rules)

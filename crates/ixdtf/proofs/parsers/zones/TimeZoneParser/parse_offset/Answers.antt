@@ -6,6 +6,6 @@ use Rattle.ixdtf.proofs.parsers.zones.TimeZoneParser.parse_offset.Goals as goal
 
 pub returns : goal.returns
 returns g c =
-    let gives = exact _ _ parse_offset shifted (λ x y e. cc) tt _ c.take-here.result c.parse_offset_text-read.new.cursor refl _ _
+    let gives = exact _ _ parse_offset shifted (λ x y e. cc) tt _ c.take-here.result c.parse_offset_text-read.new.cursor refl _ _ _
     c.parse_offset_text-read.ensures.offset c.settle.ensures.settled in
     rw (← c.self.view_is, ← c.take-here.ensures.same) (search rules)

@@ -1,4 +1,4 @@
--- `ParseError` as the error of a function that is generic in its error.
+-- The error of a function that is generic in its error, by its row.
 use lib.Dec.{T}
 use Prim.Native.Nat.{ℕ, suc}
 use mir.Syntax.{Ty}
@@ -13,8 +13,6 @@ use types.Logic.{Logic}
 use seplogic.Ra.Ura.{Ura}
 use Rattle.std.specs.contracts.result.Result
 use Rattle.std.proofs.result.Result.TheLaws as result_laws
-use Rattle.ixdtf_grammar.specs.contracts.error.ParseError
-use Rattle.ixdtf_grammar.proofs.error.ParseError.TheLaws as error_laws
 use Rattle.ixdtf_grammar.specs.contracts.records.IxdtfParseRecord
 use Rattle.ixdtf_grammar.proofs.records.IxdtfParseRecord.TheLaws as record_laws
 -- the names that such a proof cites besides
@@ -38,30 +36,31 @@ pub use denote.Triple.Spec.{SpecAt}
 pub use denote.Triple.Table.{run_framed}
 pub use Rattle.ixdtf.proofs.code.HandsOn.{hands_on}
 
-abbrev pub written : Ty
-written = bare (layout ParseError.the_row)
-
--- as such a function takes it
-abbrev pub E : RattleType
-E = arg written no ParseError.the_row
-
-pub E_laws : Laws E
-E_laws = arg_laws written no ParseError.the_row error_laws.the_row_laws refl
-
 -- the claim under which such a function has its bound, from that under which its caller has it
 abbrev pub Under : (n : ℕ) → (Lfts 5 → Type 0) → Lfts (suc (suc n)) → Type 0
 Under n P κs = (τs : Lfts 5) × P τs × (τs.1.0 ≡ κs.1.0)
 
--- a record, of an encoding and its units by their numbers among the types, or this error
-module _ (at : NamedLft) (i j : ℕ) (T' U : RattleType) where
-  abbrev pub RecordRow : RattleType
-  RecordRow = IxdtfParseRecord.the_row at (param i T') (param j U)
+module _ (Error : RattleType) where
+  abbrev pub written : Ty
+  written = bare (layout Error)
 
-  abbrev pub Got : RattleType
-  Got = Result.the_row RecordRow ParseError.the_row
+  -- as such a function takes it
+  abbrev pub taken : RattleType
+  taken = arg written no Error
 
-  pub lands : Laws T' → Laws U → {M : Type 1} {𝓤 : Ura M} (𝓛 : Logic 𝓤) (x : Got.Denot) (r : Val) → Is Got x (r ∷ []) → T (has_ty (layout Got) r) × WT r
-  lands LT LU 𝓛 x r is =
-      let record_is = record_laws.the_row_laws at (param i T') (param j U) (param_laws i T' LT) (param_laws j U LU) in
-      ((loose_lawful (Result.the_type RecordRow ParseError.the_row) (result_laws.the_loose RecordRow ParseError.the_row record_is error_laws.the_row_laws) tt
-      𝓛).typed x (r ∷ []) is).0
+  pub taken_laws : Laws Error → bare written ≡ written → Laws taken
+  taken_laws error_laws is = arg_laws written no Error error_laws is
+
+  -- a record, of an encoding and its units by their numbers among the types, or this error
+  module _ (at : NamedLft) (i j : ℕ) (T' U : RattleType) where
+    abbrev pub RecordRow : RattleType
+    RecordRow = IxdtfParseRecord.the_row at (param i T') (param j U)
+
+    abbrev pub Got : RattleType
+    Got = Result.the_row RecordRow Error
+
+    pub lands : Laws Error → Laws T' → Laws U → {M : Type 1} {𝓤 : Ura M} (𝓛 : Logic 𝓤) (x : Got.Denot) (r : Val) → Is Got x (r ∷ [])
+        → T (has_ty (layout Got) r) × WT r
+    lands error_laws LT LU 𝓛 x r is =
+        let record_is = record_laws.the_row_laws at (param i T') (param j U) (param_laws i T' LT) (param_laws j U LU) in
+        ((loose_lawful (Result.the_type RecordRow Error) (result_laws.the_loose RecordRow Error record_is error_laws) tt 𝓛).typed x (r ∷ []) is).0

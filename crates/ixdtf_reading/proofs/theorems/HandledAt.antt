@@ -1,0 +1,80 @@
+-- From what the code replied for a chain of calls to where a fault stands, by a handler's clauses.
+use Rattle.std.proofs.Common.{◌≡◌, ℕ, ◌+◌, ◌≤◌, length, arith, List, Ok, Err, sym, ◌∙◌, ap, inl, inr}
+use Rattle.std.proofs.lemmas.List.{length-append, length-map}
+use Rattle.ixdtf_grammar.specs.language.Letters.{Text}
+use Rattle.ixdtf_grammar.specs.language.Brackets.{Pair}
+use Rattle.ixdtf_grammar.specs.language.Languages.{Parsed}
+use Rattle.ixdtf_grammar.specs.language.Readers.{Reader}
+use Rattle.ixdtf_grammar.specs.table.Faults.{Fault}
+use Rattle.ixdtf_grammar.specs.Handlers.{Reply, Calls, handed, replies_of, Step}
+use Rattle.ixdtf_grammar.specs.Places.{GivesFaultAt, HandledAt, UnhandledFaultAt}
+use Rattle.ixdtf_reading.specs.declared.stop.StopAt.{StopAt}
+use Rattle.ixdtf_reading.specs.reading.Chains.{TextGives, TextRead}
+use Rattle.ixdtf_reading.specs.reading.Clauses.{fault_of_stop}
+use Rattle.ixdtf_reading.proofs.code.Located.{left_fits as row_left_fits}
+use Rattle.ixdtf_reading.proofs.theorems.Handled.{OwnReplies, replies_own, no_record_and_fault, handled}
+use Rattle.ixdtf_reading.proofs.theorems.OnePlace.{one_place, without_place}
+use Rattle.ixdtf_reading.proofs.theorems.OnlyOutcome.{gives_only}
+
+-- as many replies as pairs
+as_many : {T U : Type 0} (number : U → ℕ) (calls : Calls T U) → length (replies_of number calls) ≡ length (handed number calls)
+as_many number calls = length-map calls _ ∙ sym (length-map calls _)
+
+-- a fault stands where so many letters are before it
+pub stands_at : (reader : Reader) (text : Text) (pairs : List Pair) (replies : List Reply) (fault : Fault) (left : Text) (at : ℕ) → at + length left ≡ length text
+    → TextGives reader text pairs replies (Err (fault, left)) → GivesFaultAt reader text pairs replies fault at
+stands_at reader text pairs replies fault left at is gives = elim gives [
+  | inl p ↦ inl ((p.0.0, left, p.0.1, omega (arith, is, ap (λ t. length t) p.0.1, length-append p.0.0 left), p.0.2, p.0.3), p.1)
+  | inr p ↦ inr ((p.0.0, p.0.1, ap (λ q. q.0) p.0.2, rw (ap (λ q. q.1) p.0.2) is), p.1)
+]
+
+-- a form with a handler whose errors tell their places
+module _ {T U F X E : Type 0} (number : U → ℕ) (step : Step T U F) (handler last : F) (reader : Reader) (text : Text) (named : E → Fault) (stands : ℕ → E → Type 0)
+    (view : X → Parsed) where
+  pub handled_at_ok : (x : X) → TextRead number step handler last reader text (Ok (view x)) → HandledAt number step handler reader text named stands view (Ok x)
+  handled_at_ok x read = let plain = handled number step handler reader text (Ok (view x)) last read in record {
+    calls = plain.calls;
+    last = plain.last;
+    chain = plain.chain;
+    ok = plain.ok;
+    err = λ e is. absurd cc;
+    only = λ e is. absurd cc;
+    place = λ e is. absurd cc;
+  }
+
+  pub handled_at_err : (why : StopAt) (e : E) → named e ≡ fault_of_stop why.stop → stands why.at e
+      → (left : Text) × (why.at + length left ≡ length text) × TextRead number step handler last reader text (Err (fault_of_stop why.stop, left))
+      → HandledAt number step handler reader text named stands view (Err e)
+  handled_at_err why e is_named is_there (left, lengths, read) =
+      let gives : GivesFaultAt reader text (handed number read.calls) (replies_of number read.calls) (named e) why.at =
+      rw is_named (stands_at reader text _ _ (fault_of_stop why.stop) left why.at lengths read.gives) in
+      let fault = without_place reader text _ _ (named e) why.at gives in
+      let is_only = gives_only reader text _ _ (named e) fault in
+      let is_only_place = one_place reader text _ _ (named e) why.at (as_many number read.calls) gives in
+      record {
+        calls = read.calls;
+        last = last;
+        chain = read.chain;
+        ok = λ found. ((λ is. absurd cc), λ other. absurd (no_record_and_fault reader text _ _ found (named e) other fault));
+        err = λ e' is. let same : e ≡ e' = cc in rw (← same) (why.at, is_there, gives);
+        only = λ e' is. let same : e ≡ e' = cc in rw (← same) is_only;
+        place = λ e' is. let same : e ≡ e' = cc in rw (← same) (why.at, is_there, is_only_place);
+      }
+
+-- the place of a text whose pairs reply for themselves
+pub unhandled_at : {T U F : Type 0} (number : U → ℕ) (step : Step T U F) (handler last : F) (reader : Reader) (text : Text) → OwnReplies step → (why : StopAt)
+    → (left : Text) × (why.at + length left ≡ length text) × TextRead number step handler last reader text (Err (fault_of_stop why.stop, left))
+    → UnhandledFaultAt reader text (fault_of_stop why.stop) why.at
+unhandled_at number step handler last reader text own why (left, lengths, read) = (
+  handed number read.calls,
+  rw (← (replies_own number step handler reader text (Err (fault_of_stop why.stop)) own read.calls handler last read.chain))
+      (stands_at reader text _ _ (fault_of_stop why.stop) left why.at lengths read.gives),
+)
+
+-- what is left behind a fault is no longer than the text
+pub left_fits : (reader : Reader) (text : Text) (pairs : List Pair) (replies : List Reply) (fault : Fault) (left : Text)
+    → TextGives reader text pairs replies (Err (fault, left)) → length left ≤ length text
+left_fits reader text pairs replies fault left gives = elim gives [
+  | inl p ↦ omega (arith, ap (λ t. length t) p.0.1, length-append p.0.0 left)
+  | inr p ↦ let short = row_left_fits reader p.0.0 pairs text p.0.1 in omega (arith, short, ap (λ q. length q.1) p.0.2)
+]
