@@ -114,8 +114,8 @@ unfolding all_readings
 no_name = refl
 
 no_name_in_a_bracket : Compute parse (
-    goes_off [] []") (of_zone in_zone_name) IanaChar
-    ∷ goes_off [] []") (of_zone after_zone_slash) IanaCharPostSeparator
+    goes_off (codes "2020-04-08[America/Chicago") (codes ")") (of_zone in_zone_name) IanaChar
+    ∷ goes_off (codes "2020-04-08[America/") (codes " Chicago)") (of_zone after_zone_slash) IanaCharPostSeparator
     ∷ goes_off (codes "2020-01-01[America/") (codes "/Chicago]") (of_zone after_zone_slash) IanaCharPostSeparator
     ∷ goes_off (codes "2020-01-01[UTC") (codes "=x]") (of_zone in_zone_name) IanaChar
     ∷ goes_off (codes "2020-01-01[A") (codes "=b]") (of_zone in_zone_name) IanaChar
