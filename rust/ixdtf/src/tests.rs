@@ -33,7 +33,6 @@ mod widths;
 mod zones;
 
 use ixdtf::ParseError::{self, AbruptEnd};
-use ixdtf::ParserResult;
 use ixdtf::encoding::{EncodingType, Utf8, Utf16};
 use ixdtf::parsers::{IsoDurationParser, IxdtfParser, TimeZoneParser};
 use ixdtf::records::{
@@ -41,8 +40,10 @@ use ixdtf::records::{
     MinutePrecisionOffset, Sign, TimeRecord, TimeZoneAnnotation, TimeZoneRecord, UtcOffsetRecord,
     UtcOffsetRecordOrZ,
 };
+use ixdtf::{LocatedError, ParserResult};
 use printing::check_read_back;
 use crate::runtime::Abort;
+use wide::refuses_wide_at;
 
 const AT_DIGIT: ParseError = AbruptEnd { location: "digit" };
 
@@ -331,6 +332,26 @@ impl<'a, T: EncodingType> Parsers<'a, T> {
             Err(error) => Some(error),
         }
     }
+
+    // The error of a reader's located form with its place, where it refuses.
+    fn located_refusal(&mut self, reader: Reader) -> Option<LocatedError> {
+        match reader {
+            Reader::Parse => self.dates.parse_located().err(),
+            Reader::YearMonth => self.dates.parse_year_month_located().err(),
+            Reader::MonthDay => self.dates.parse_month_day_located().err(),
+            Reader::Time => self.dates.parse_time_located().err(),
+            Reader::Offset => self.zones.parse_offset_located().err(),
+            Reader::Identifier => self.zones.parse_identifier_located().err(),
+            Reader::IanaIdentifier => self.zones.parse_iana_identifier_located().err(),
+            Reader::Duration => self.durations.parse_located().err(),
+        }
+    }
+
+    // Whether a reader refuses with this error, and its located form, which is asked next, with the error at this place.
+    fn refuses_at(&mut self, reader: Reader, error: ParseError, at: usize) -> bool {
+        self.refusal(reader) == Some(error)
+            && self.located_refusal(reader) == Some(LocatedError { error, at })
+    }
 }
 
 /// One reader after the other gives this, with the same parsers.
@@ -375,12 +396,14 @@ fn check_parsed(rt: &impl Abort, text: &'static str, wanted: &ParserResult<Recor
     }
 }
 
-/// The reader refuses the texts beside each error with it.
-fn check_refused(rt: &impl Abort, reader: Reader, rows: &[(ParseError, &[&'static str])]) {
+/// The reader refuses the texts beside each error with it, each at its place, and one of ASCII in 16-bit units too.
+fn check_refused(rt: &impl Abort, reader: Reader, rows: &[(ParseError, &[(&'static str, usize)])]) {
     for (error, texts) in rows {
-        for text in *texts {
-            let found = Parsers::from_str(text).refusal(reader);
-            assert_eq!(rt; found, Some(*error), "{reader:?} at {text}");
+        for (text, at) in *texts {
+            let is_refused = Parsers::from_str(text).refuses_at(reader, *error, *at);
+            assert!(rt; is_refused, "{reader:?} at {text}");
+            let is_alike = !text.is_ascii() || refuses_wide_at(reader, text, *error, *at);
+            assert!(rt; is_alike, "{reader:?} at {text} in 16-bit units");
         }
     }
 }

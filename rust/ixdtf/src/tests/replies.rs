@@ -11,10 +11,10 @@ use ixdtf::ParseError::{
     AnnotationValueChar, CriticalDuplicateCalendar, DateYear, InvalidEnd, InvalidMonthRange,
     NonAsciiCodePoint, TzLeadingChar, UnrecognizedCritical,
 };
-use ixdtf::ParserResult;
 use ixdtf::encoding::{EncodingType, Utf8, Utf16};
 use ixdtf::parsers::IxdtfParser;
 use ixdtf::records::{Annotation, IxdtfParseRecord, UtcOffsetRecordOrZ};
+use ixdtf::{LocatedError, ParserResult};
 use crate::runtime::Abort;
 
 /// What a handler replies.
@@ -193,12 +193,50 @@ fn heard<'a, T: Foreign + 'static>(
     }
 }
 
-/// A text, and the calls of a handler that it makes, in order.
+// The same of the located form of the reader.
+fn heard_located<'a, T: Foreign + 'static>(
+    parser: &mut IxdtfParser<'a, T>,
+    form: Form,
+    listener: &mut Listener,
+) -> Result<IxdtfParseRecord<'a, T>, LocatedError> {
+    let handler = |annotation| listener.reply(annotation);
+    match form {
+        Form::Parse => parser.parse_with_annotation_handler_located(handler),
+        Form::YearMonth => parser.parse_year_month_with_annotation_handler_located(handler),
+        Form::MonthDay => parser.parse_month_day_with_annotation_handler_located(handler),
+        Form::Time => parser.parse_time_with_annotation_handler_located(handler),
+    }
+}
+
+/// A text, the calls of a handler that it makes, in order, and the place of its error, where it is refused.
 pub(super) struct Asked {
     pub(super) form: Form,
     pub(super) text: &'static str,
     pub(super) kind: Kind,
     pub(super) calls: &'static str,
+    pub(super) place: Option<usize>,
+}
+
+impl Asked {
+    // Whether the located form refuses with this error at the place of the row, or reads where there is none, after the calls
+    // and no more.
+    fn is_located<'a, T: Foreign + 'static>(
+        &self,
+        parser: &mut IxdtfParser<'a, T>,
+        error: Option<ParseError>,
+    ) -> bool {
+        let mut listener = Listener::new(self.kind);
+        let found = heard_located(parser, self.form, &mut listener).err();
+        found == self.wanted(error) && listener.has_heard(self.calls)
+    }
+
+    // What the error has to be, with the place of it.
+    fn wanted(&self, error: Option<ParseError>) -> Option<LocatedError> {
+        match (error, self.place) {
+            (Some(error), Some(at)) => Some(LocatedError { error, at }),
+            _ => None,
+        }
+    }
 }
 
 /// Each text gives this with its handler, after its calls and no more.
@@ -209,6 +247,8 @@ pub(super) fn check_handled(rt: &impl Abort, wanted: &ParserResult<Record>, rows
         let found = heard(&mut parser, row.form, &mut listener);
         assert!(rt; found == *wanted, "at {}", row.text);
         assert!(rt; listener.has_heard(row.calls), "at {}", row.text);
+        let is_located = row.is_located(&mut IxdtfParser::from_str(row.text), found.err());
+        assert!(rt; is_located, "located at {}", row.text);
     }
 }
 
@@ -241,7 +281,8 @@ fn heeds_wide(asked: &Asked, error: Option<ParseError>, calendar: Option<&'stati
         }
         Err(found) => error == Some(found),
     };
-    as_wanted && listener.has_heard(asked.calls)
+    let is_located = asked.is_located(&mut IxdtfParser::from_utf16(wide.units()), error);
+    as_wanted && is_located && listener.has_heard(asked.calls)
 }
 
 /// Each text in 16-bit units is refused with this error, after its calls and no more.
@@ -268,18 +309,21 @@ const HEEDED: &[Asked] = &[
         text: "2020-01-01[a=a1]",
         kind: Kind::HandsBack,
         calls: "[a=a1]",
+        place: None,
     },
     Asked {
         form: Form::Parse,
         text: "2020-01-01[u-ca=gregory][!u-ca=1][!u-ca=a0sa-2l4s][u-ca=k-H0EGv]",
         kind: Kind::RepliesNone,
         calls: "[u-ca=gregory][!u-ca=1][!u-ca=a0sa-2l4s][u-ca=k-H0EGv]",
+        place: None,
     },
     Asked {
         form: Form::Parse,
         text: "2020-01-01[u-ca=japanese][!u-ca=FE-4-s-y]",
         kind: Kind::RepliesNone,
         calls: "[u-ca=japanese][!u-ca=FE-4-s-y]",
+        place: None,
     },
 ];
 
@@ -295,6 +339,7 @@ fn heeds_handlers() {
             text: "2020-01-01[u-ca=a0sa-2l4s][u-ca=a0sa-2l4s][answer-to-universe=hebrew][a=gregory][u-ca=45W-E0h61U-kXpZ]",
             kind: Kind::HandsBack,
             calls: "[u-ca=a0sa-2l4s][u-ca=a0sa-2l4s][answer-to-universe=hebrew][a=gregory][u-ca=45W-E0h61U-kXpZ]",
+            place: None,
         }],
     );
     check_handled(
@@ -311,6 +356,7 @@ fn heeds_handlers() {
             text: "20200101T12[u-ca=A][qe7idr62=O-QXB-Ir]",
             kind: Kind::HandsBack,
             calls: "[u-ca=A][qe7idr62=O-QXB-Ir]",
+            place: None,
         }],
     );
 }
@@ -341,6 +387,7 @@ fn heeds_handlers_after_times() {
             text: "2020-01-01 00:00:00.5Z[!u-ca=A]",
             kind: Kind::RepliesNone,
             calls: "[!u-ca=A]",
+            place: None,
         }],
     );
     check_handled(
@@ -351,6 +398,7 @@ fn heeds_handlers_after_times() {
             text: "2020-01-01 00:00:00.5Z[!u-ca=n-dzMM2]",
             kind: Kind::MakesCritical,
             calls: "[!u-ca=n-dzMM2]",
+            place: None,
         }],
     );
     check_handled(
@@ -361,6 +409,7 @@ fn heeds_handlers_after_times() {
             text: "2020-01-01 00:00:00.5Z[u-ca=mr-nUk-EDkNu]",
             kind: Kind::TurnsCritical,
             calls: "[u-ca=mr-nUk-EDkNu]",
+            place: None,
         }],
     );
     check_handled(
@@ -371,6 +420,7 @@ fn heeds_handlers_after_times() {
             text: "2020-01-01 00:00:00.5Z[answer-to-universe=OSR]",
             kind: Kind::RepliesAnother,
             calls: "[answer-to-universe=OSR]",
+            place: None,
         }],
     );
 }
@@ -381,42 +431,49 @@ const CRITICAL_REPLIES: &[Asked] = &[
         text: "2020-01-01[x=y]",
         kind: Kind::MakesCritical,
         calls: "[x=y]",
+        place: Some(15),
     },
     Asked {
         form: Form::Parse,
         text: "2020-01-01[a=b][!c=d][e=f]",
         kind: Kind::HandsBack,
         calls: "[a=b][!c=d]",
+        place: Some(21),
     },
     Asked {
         form: Form::Parse,
         text: "2020-01-01[u-ca=a][!c=d]",
         kind: Kind::HandsBack,
         calls: "[u-ca=a][!c=d]",
+        place: Some(24),
     },
     Asked {
         form: Form::Parse,
         text: "2020-01-01[u-ca=4-aYg][!u_ca=dbto-3eyv22-fA-rtts]",
         kind: Kind::HandsBack,
         calls: "[u-ca=4-aYg][!u_ca=dbto-3eyv22-fA-rtts]",
+        place: Some(49),
     },
     Asked {
         form: Form::Parse,
         text: "20200101T12[yh=Vx-Qi-v0Zpe7-Nx1][foo=B1aoE-XS-yGk-7][u-cb=iWnJ0a][!u-cb=l][u-ca=uz5HNg-NV3x]",
         kind: Kind::HandsBack,
         calls: "[yh=Vx-Qi-v0Zpe7-Nx1][foo=B1aoE-XS-yGk-7][u-cb=iWnJ0a][!u-cb=l]",
+        place: Some(74),
     },
     Asked {
         form: Form::Parse,
         text: "20200101T12[u-ca=a][s=iE-Dn-NXDPL]",
         kind: Kind::MakesCritical,
         calls: "[u-ca=a][s=iE-Dn-NXDPL]",
+        place: Some(34),
     },
     Asked {
         form: Form::Parse,
         text: "20200101T12[u-ca=R2-uY40-cvb-w][x-y=WXTo]",
         kind: Kind::TurnsCritical,
         calls: "[u-ca=R2-uY40-cvb-w][x-y=WXTo]",
+        place: Some(41),
     },
 ];
 
@@ -426,18 +483,21 @@ const DUPLICATE_CALENDARS: &[Asked] = &[
         text: "2020-01-01[xy=a0sa-2l4s][!u-ca=iso8601][!u-ca=A][u-ca=a][u-ca=a]",
         kind: Kind::HandsBack,
         calls: "[xy=a0sa-2l4s][!u-ca=iso8601][!u-ca=A]",
+        place: Some(48),
     },
     Asked {
         form: Form::Parse,
         text: "2020-01-01[!u-ca=a-b][!u-ca=a3Z-DL-Irpq-2U]",
         kind: Kind::RepliesAnother,
         calls: "[!u-ca=a-b][!u-ca=a3Z-DL-Irpq-2U]",
+        place: Some(43),
     },
     Asked {
         form: Form::Parse,
         text: "2020-01-01[!u-ca=1][u-ca=xjQk-E][u-ca=b][!u-ca=UAq-KMwlE][u-ca =okKb7P]",
         kind: Kind::RepliesAnother,
         calls: "[!u-ca=1][u-ca=xjQk-E][u-ca=b][!u-ca=UAq-KMwlE]",
+        place: Some(57),
     },
 ];
 
@@ -454,12 +514,14 @@ const BEFORE_A_WRONG_KEY: &[Asked] = &[
         text: "2020-01-01[u-ca=Nl8-jswAuQ-H][",
         kind: Kind::HandsBack,
         calls: "[u-ca=Nl8-jswAuQ-H]",
+        place: Some(30),
     },
     Asked {
         form: Form::Parse,
         text: "20200101T12[answer-to-universe=xRozE-IPf-E3][u-ca=a0sa-2l4s][answer-to-universe=OMr-WGJ2kC-6pOrnn][u-ca=iso8601][u-ca=a][!",
         kind: Kind::RepliesAnother,
         calls: "[answer-to-universe=xRozE-IPf-E3][u-ca=a0sa-2l4s][answer-to-universe=OMr-WGJ2kC-6pOrnn][u-ca=iso8601][u-ca=a]",
+        place: Some(122),
     },
 ];
 
@@ -469,12 +531,14 @@ const BEFORE_A_WRONG_VALUE: &[Asked] = &[
         text: "2020-01-01 00:00:00.5Z[bsgaqql7=4FH][!nk_8nl=",
         kind: Kind::RepliesNone,
         calls: "[bsgaqql7=4FH]",
+        place: Some(45),
     },
     Asked {
         form: Form::Parse,
         text: "2020-01-01[u-ca=Cwup_-X]",
         kind: Kind::TurnsCritical,
         calls: "",
+        place: Some(20),
     },
 ];
 
@@ -484,18 +548,21 @@ const BEFORE_A_WRONG_END: &[Asked] = &[
         text: "20200101WT12[!u--=1]",
         kind: Kind::RepliesAnother,
         calls: "",
+        place: Some(8),
     },
     Asked {
         form: Form::Parse,
         text: "2020-01-01[a=b]junk",
         kind: Kind::HandsBack,
         calls: "[a=b]",
+        place: Some(15),
     },
     Asked {
         form: Form::Parse,
         text: "2020-01-01[a=b][c=d]junk",
         kind: Kind::HandsBack,
         calls: "[a=b][c=d]",
+        place: Some(20),
     },
 ];
 
@@ -512,6 +579,7 @@ fn asks_before_a_fault() {
             text: "2020-01-01 00:00:00.5Z[!u-ca=b][u-ca=AdUhu-LRdEB][!u-ca",
             kind: Kind::RepliesAnother,
             calls: "[!u-ca=b][u-ca=AdUhu-LRdEB]",
+            place: Some(55),
         }],
     );
     check_handled(&rt, &Err(InvalidEnd), BEFORE_A_WRONG_END);
@@ -523,6 +591,7 @@ fn asks_before_a_fault() {
             text: "2020-01-01[a=b][c=d",
             kind: Kind::HandsBack,
             calls: "[a=b]",
+            place: Some(19),
         }],
     );
 }
@@ -533,12 +602,14 @@ const BEFORE_A_FAULT_OF_A_DATE: &[Asked] = &[
         text: "2020-01-0",
         kind: Kind::RepliesNone,
         calls: "",
+        place: Some(9),
     },
     Asked {
         form: Form::Parse,
         text: "2020-0",
         kind: Kind::TurnsCritical,
         calls: "",
+        place: Some(6),
     },
 ];
 
@@ -554,6 +625,7 @@ fn asks_nothing_before_a_fault_of_a_date() {
             text: "202-01-01[u-ca=iso8601][fgq=Czb32s-v-zayknf]",
             kind: Kind::TurnsCritical,
             calls: "",
+            place: Some(3),
         }],
     );
     check_handled(
@@ -564,6 +636,7 @@ fn asks_nothing_before_a_fault_of_a_date() {
             text: "2020-13-01[a=b]",
             kind: Kind::HandsBack,
             calls: "",
+            place: Some(7),
         }],
     );
 }
@@ -579,6 +652,7 @@ fn heeds_handlers_of_wide_texts() {
             text: "2020-01-01 00:00:00.5Z[u-ca=a-b][u-ca=japanese][!u-ca=gB-DxG-f6UUB8-CIgGr]",
             kind: Kind::RepliesNone,
             calls: "[u-ca=a-b][u-ca=japanese][!u-ca=gB-DxG-f6UUB8-CIgGr]",
+            place: None,
         }],
     );
     check_wide_calendars(
@@ -589,6 +663,7 @@ fn heeds_handlers_of_wide_texts() {
             text: "2020-01-01 00:00:00.5Z[answer-to-universe=OSR]",
             kind: Kind::RepliesAnother,
             calls: "[answer-to-universe=OSR]",
+            place: None,
         }],
     );
 }
@@ -599,12 +674,14 @@ const WIDE_TEXTS: &[Asked] = &[
         text: "2020-01-01[18:01][!u-ca=japanese\u{7f}]",
         kind: Kind::TurnsCritical,
         calls: "",
+        place: Some(11),
     },
     Asked {
         form: Form::Parse,
         text: "2020-01-01[0u-ca=\u{7f}a8-2UZ-2b6iy]",
         kind: Kind::MakesCritical,
         calls: "",
+        place: Some(11),
     },
 ];
 
@@ -614,24 +691,28 @@ const WIDE_NO_LETTER: &[Asked] = &[
         text: "2020-01-01 00:00:00.5Z[u-ca=CzQ0a3-PyM-ju][iwky-8bo=IwOJz-gjv-u4MDVT-zL4NDu][!jglkvdvm=XG\u{e9}Mqmt-Pe-Wz][u-ca=d-jX-Hmth-BXr]",
         kind: Kind::RepliesNone,
         calls: "[u-ca=CzQ0a3-PyM-ju][iwky-8bo=IwOJz-gjv-u4MDVT-zL4NDu]",
+        place: Some(89),
     },
     Asked {
         form: Form::Parse,
         text: "2020-01-01[u-\u{7f}ca=oQ-b-vC]",
         kind: Kind::MakesCritical,
         calls: "",
+        place: Some(13),
     },
     Asked {
         form: Form::Parse,
         text: "2020-01-01[u-ca=ZQ-PB9T][q-rrwv=jRSShrMIMY-5g-\u{ff}rE9][rs1tpdw=fua06i-bJ-VN5]",
         kind: Kind::RepliesNone,
         calls: "[u-ca=ZQ-PB9T]",
+        place: Some(46),
     },
     Asked {
         form: Form::Parse,
         text: "2020-01-01[!u-ca\u{130}=O8K-PA-73dBkw-WfIA9][!u-ca=japanese]",
         kind: Kind::HandsBack,
         calls: "",
+        place: Some(16),
     },
 ];
 
@@ -646,6 +727,7 @@ fn refuses_wide_texts_with_handlers() {
             text: "2020-01-01[x-y=iso8601][!\u{15b}u-ca=hebrew][!u-cb=gregory][!u-c=TQ-of7][!u-ca=a0sa-2l4s]junk",
             kind: Kind::MakesCritical,
             calls: "[x-y=iso8601]",
+            place: Some(23),
         }],
     );
     check_wide_refusals(&rt, TzLeadingChar, WIDE_TEXTS);
@@ -657,6 +739,7 @@ fn refuses_wide_texts_with_handlers() {
             text: "20200101T12[u-ca=iso8601][u-ca=e6dVZ][!answer-to-univers\u{12d}e=japanese][m1bs8=b]",
             kind: Kind::MakesCritical,
             calls: "[u-ca=iso8601][u-ca=e6dVZ]",
+            place: Some(37),
         }],
     );
     check_wide_refusals(&rt, NonAsciiCodePoint, WIDE_NO_LETTER);

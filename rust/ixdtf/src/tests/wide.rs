@@ -66,30 +66,34 @@ pub(super) fn refusal(reader: Reader, text: &'static str) -> Option<ParseError> 
     Parsers::from_utf16(wide.units()).refusal(reader)
 }
 
-/// The reader refuses the texts beside each error with it, where each character is one unit.
+// Whether a text, each character of which is one unit, is refused with this error at this place.
+pub(super) fn refuses_wide_at(
+    reader: Reader,
+    text: &'static str,
+    error: ParseError,
+    at: usize,
+) -> bool {
+    let wide = Wide::new(text);
+    Parsers::from_utf16(wide.units()).refuses_at(reader, error, at)
+}
+
+/// The reader refuses the texts beside each error with it, each at its place, where each character is one unit.
 pub(super) fn check_wide_refused(
     rt: &impl Abort,
     reader: Reader,
-    rows: &[(ParseError, &[&'static str])],
+    rows: &[(ParseError, &[(&'static str, usize)])],
 ) {
     for (error, texts) in rows {
-        for text in *texts {
-            let found = refusal(reader, text);
-            assert_eq!(rt; found, Some(*error), "{reader:?} at {text}");
+        for (text, at) in *texts {
+            let is_refused = refuses_wide_at(reader, text, *error, *at);
+            assert!(rt; is_refused, "{reader:?} at {text}");
         }
     }
 }
 
-/// The reader refuses each text for a unit that stands for no letter.
-pub(super) fn check_no_letter(rt: &impl Abort, reader: Reader, texts: &[&'static str]) {
-    for text in texts {
-        let found = refusal(reader, text);
-        assert_eq!(rt;
-            found,
-            Some(ParseError::NonAsciiCodePoint),
-            "{reader:?} at {text}"
-        );
-    }
+/// The reader refuses each text for a unit that stands for no letter, at the place of this unit.
+pub(super) fn check_no_letter(rt: &impl Abort, reader: Reader, texts: &[(&'static str, usize)]) {
+    check_wide_refused(rt, reader, &[(ParseError::NonAsciiCodePoint, texts)]);
 }
 
 #[test]
