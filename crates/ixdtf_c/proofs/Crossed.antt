@@ -9,7 +9,7 @@ use Rattle.ixdtf.specs.table.Outcomes.{HasFaultAt, OnlyFault, OnlyPlace, NoRowFi
 use Rattle.ixdtf.specs.Views.{returned_by}
 use Rattle.ixdtf.specs.Handlers.{UnhandledRecord, UnhandledOnlyFault, RefusedBeside, calendar_key}
 use Rattle.ixdtf.specs.Laws.{InNoOther}
-use Rattle.ixdtf.specs.Places.{UnhandledFaultAt}
+use Rattle.ixdtf.specs.Places.{UnhandledFaultAt, UnhandledOnlyPlace}
 use Rattle.ixdtf.specs.language.Brackets.{Pair}
 use Rattle.ixdtf.specs.language.Languages.{Parsed, Found, Derives}
 use Rattle.ixdtf.specs.language.Languages.Found.{lasting}
@@ -59,9 +59,10 @@ pub crossed_record : {X : Type 0} (reader : Profile → Reader) (letter : ℕ �
     → OnOk r (NoRowFits (reader given) (map letter units))
     → OnOk r (InNoOther given (reader given) (map letter units))
     → IfErr r (λ e. UnhandledOnlyFault (reader given) (map letter units) (fault_of_located e))
+    → IfErr r (λ e. UnhandledOnlyPlace (reader given) (map letter units) (fault_of_located e) e.at)
     → Gives (λ found. found) (returned_at view r) number old new
     → units ≡ text → given ≡ profile → GivesRecord profile (reader profile) (map letter text) number old new
-crossed_record reader letter {given = given} {units = units} view r number old new ok err no_row alone only gives same_text same_profile =
+crossed_record reader letter {given = given} {units = units} view r number old new ok err no_row alone only place gives same_text same_profile =
     rw (← same_text, ← same_profile) (returned_at view r, reads, gives)
   where
     read : Reader
@@ -74,6 +75,7 @@ crossed_record reader letter {given = given} {units = units} view r number old n
       no_row = crossed_ok (NoRowFits read (map letter units)) view r no_row;
       alone = crossed_ok (InNoOther given read (map letter units)) view r alone;
       only = crossed_err (λ e. UnhandledOnlyFault read (map letter units) e.fault) view r only;
+      place = crossed_err (λ e. UnhandledOnlyPlace read (map letter units) e.fault e.at) view r place;
     }
 
 -- the clauses of a reader of one part

@@ -9,7 +9,7 @@ use Rattle.ixdtf.specs.language.Readers.{Reader}
 use Rattle.ixdtf.specs.table.Outcomes.{HasFaultAt, OnlyFault, OnlyPlace, NoRowFits}
 use Rattle.ixdtf.specs.Handlers.{UnhandledRecord, UnhandledOnlyFault}
 use Rattle.ixdtf.specs.Laws.{InNoOther}
-use Rattle.ixdtf.specs.Places.{UnhandledFaultAt}
+use Rattle.ixdtf.specs.Places.{UnhandledFaultAt, UnhandledOnlyPlace}
 use Rattle.ixdtf.specs.language.Languages.Found.{lasting}
 use Rattle.ixdtf.specs.language.Readers.Reader.{parse_duration}
 use Rattle.ixdtf_c.specs.Crossing.{Contents, DurationContents, Gives, GivesDuration}
@@ -17,13 +17,14 @@ use Rattle.ixdtf_c.specs.Located.{FaultAt}
 
 -- Of a text with brackets, where each pair replies for itself: `Ok` exactly with the record that the text gives, and only where
 -- no row of the fault table fits and no other reader has the text; and `Err` only with the one fault that it gives, behind so
--- many letters.
+-- many letters, and at no other place.
 pub record ReadsRecord (profile : Profile) (reader : Reader) (text : Text) (outcome : Result Parsed FaultAt) : Type 0 where
   pub ok : (found : Parsed) → (outcome ≡ Ok found) ↔ UnhandledRecord reader text found
   pub err : (e : FaultAt) → outcome ≡ Err e → UnhandledFaultAt reader text e.fault e.at
   pub no_row : OnOk outcome (NoRowFits reader text)
   pub alone : OnOk outcome (InNoOther profile reader text)
   pub only : (e : FaultAt) → outcome ≡ Err e → UnhandledOnlyFault reader text e.fault
+  pub place : (e : FaultAt) → outcome ≡ Err e → UnhandledOnlyPlace reader text e.fault e.at
 
 -- Of a text that is one part alone: `Ok` exactly where the language derives the part, and only where no row of the fault table
 -- fits; and `Err` only with the one fault that the text has, behind so many letters, and at no other place.

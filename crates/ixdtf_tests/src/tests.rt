@@ -333,15 +333,39 @@ impl<'a, T: EncodingType> Parsers<'a, T> {
 
     // The error of a reader's located form with its place, where it refuses.
     fn located_refusal(&mut self, reader: Reader) -> Option<LocatedError> {
-        match reader {
-            Reader::Parse => self.dates.parse_located().err(),
-            Reader::YearMonth => self.dates.parse_year_month_located().err(),
-            Reader::MonthDay => self.dates.parse_month_day_located().err(),
-            Reader::Time => self.dates.parse_time_located().err(),
-            Reader::Offset => self.zones.parse_offset_located().err(),
-            Reader::Identifier => self.zones.parse_identifier_located().err(),
-            Reader::IanaIdentifier => self.zones.parse_iana_identifier_located().err(),
-            Reader::Duration => self.durations.parse_located().err(),
+        let parts = match reader {
+            Reader::Parse => self.dates.parse_located(),
+            Reader::YearMonth => self.dates.parse_year_month_located(),
+            Reader::MonthDay => self.dates.parse_month_day_located(),
+            Reader::Time => self.dates.parse_time_located(),
+            Reader::Offset => {
+                return match self.zones.parse_offset_located() {
+                    Ok(_found) => None,
+                    Err(error) => Some(error),
+                };
+            }
+            Reader::Identifier => {
+                return match self.zones.parse_identifier_located() {
+                    Ok(_found) => None,
+                    Err(error) => Some(error),
+                };
+            }
+            Reader::IanaIdentifier => {
+                return match self.zones.parse_iana_identifier_located() {
+                    Ok(_found) => None,
+                    Err(error) => Some(error),
+                };
+            }
+            Reader::Duration => {
+                return match self.durations.parse_located() {
+                    Ok(_found) => None,
+                    Err(error) => Some(error),
+                };
+            }
+        };
+        match parts {
+            Ok(_found) => None,
+            Err(error) => Some(error),
         }
     }
 

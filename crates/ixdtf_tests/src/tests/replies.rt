@@ -222,7 +222,10 @@ impl Asked {
         error: Option<ParseError>,
     ) -> bool {
         let mut listener = Listener::new(self.kind);
-        let found = heard_located(parser, self.form, &mut listener).err();
+        let found = match heard_located(parser, self.form, &mut listener) {
+            Ok(_record) => None,
+            Err(located) => Some(located),
+        };
         found == self.wanted(error) && listener.has_heard(self.calls)
     }
 
@@ -243,7 +246,11 @@ pub(super) fn check_handled(rt: &impl Abort, wanted: &ParserResult<Record>, rows
         let found = heard(&mut parser, row.form, &mut listener);
         assert!(rt; found == *wanted, "at {}", row.text);
         assert!(rt; listener.has_heard(row.calls), "at {}", row.text);
-        let is_located = row.is_located(&mut IxdtfParser::from_str(row.text), found.err());
+        let error = match found {
+            Ok(_record) => None,
+            Err(error) => Some(error),
+        };
+        let is_located = row.is_located(&mut IxdtfParser::from_str(row.text), error);
         assert!(rt; is_located, "located at {}", row.text);
     }
 }

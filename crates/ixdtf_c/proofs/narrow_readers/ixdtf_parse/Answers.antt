@@ -11,7 +11,7 @@ use Rattle.ixdtf_c.proofs.narrow_readers.ixdtf_parse.Goals as goal
 pub returns-clause-read : goal.returns-clause-read
 returns-clause-read c =
     crossed_record (λ profile. parse) byte_letter _ c.parse_located.result _ (contents c.args.out.now) _ c.parse_located.ensures.ok
-    c.parse_located.ensures.err c.parse_located.ensures.no_row c.parse_located.ensures.alone c.parse_located.ensures.only
+    c.parse_located.ensures.err c.parse_located.ensures.no_row c.parse_located.ensures.alone c.parse_located.ensures.only c.parse_located.ensures.place
     c.give.ensures.given (search rules) (search rules)
 
 pub returns-clause-printable : goal.returns-clause-printable

@@ -8,5 +8,5 @@ use Rattle.ixdtf_c.proofs.wide_readers.ixdtf16_parse.Goals as goal
 pub returns-clause-read : goal.returns-clause-read
 returns-clause-read c =
     crossed_record (λ profile. parse) wide_letter _ c.parse_located.result _ (contents c.args.out.now) _ c.parse_located.ensures.ok
-    c.parse_located.ensures.err c.parse_located.ensures.no_row c.parse_located.ensures.alone c.parse_located.ensures.only
+    c.parse_located.ensures.err c.parse_located.ensures.no_row c.parse_located.ensures.alone c.parse_located.ensures.only c.parse_located.ensures.place
     c.give.ensures.given (search rules) (search rules)

@@ -9,4 +9,4 @@ pub returns-clause-read : goal.returns-clause-read
 returns-clause-read c =
     crossed_record parse_month_day wide_letter _ c.parse_month_day_located.result _ (contents c.args.out.now) _
     c.parse_month_day_located.ensures.ok c.parse_month_day_located.ensures.err c.parse_month_day_located.ensures.no_row
-    c.parse_month_day_located.ensures.alone c.parse_month_day_located.ensures.only c.give.ensures.given (search rules) (search rules)
+    c.parse_month_day_located.ensures.alone c.parse_month_day_located.ensures.only c.parse_month_day_located.ensures.place c.give.ensures.given (search rules) (search rules)
