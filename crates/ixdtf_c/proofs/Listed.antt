@@ -243,7 +243,7 @@ module _ {T A F : Type 0} (step : Step T ℕ F) (count : F → ℕ) (slots : F �
         )) (λ e is. absurd cc) no_row alone,
       )
       of_outcome (Err e) h no_row alone =
-          let (at, there, gives) = h.place e refl in
+          let (at, there, gives) = h.err e refl in
           let fault_at : FaultAt = record { fault = named e; at = at } in (
             Err fault_at,
             (at, there, refl),

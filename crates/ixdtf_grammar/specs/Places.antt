@@ -59,4 +59,5 @@ pub record HandledAt {T U F X E : Type 0} (number : U → ℕ) (step : Step T U 
 pub record HandledToAt {T U F X E : Type 0} (number : U → ℕ) (step : Step T U F) (handler last : F) (reader : Reader) (text : Text)
     (named : E → Fault) (stands : ℕ → E → Type 0) (view : X → Parsed) (result : Result X E) : Type 0 where
   pub plain : HandledTo number step handler last reader text (returned_by named view result)
-  pub place : (e : E) → result ≡ Err e → (at : ℕ) × stands at e × GivesFaultAt reader text (handed number plain.calls) (replies_of number plain.calls) (named e) at
+  pub err : (e : E) → result ≡ Err e → (at : ℕ) × stands at e × GivesFaultAt reader text (handed number plain.calls) (replies_of number plain.calls) (named e) at
+  pub place : (e : E) → result ≡ Err e → (at : ℕ) × stands at e × GivesOnlyPlace reader text (handed number plain.calls) (replies_of number plain.calls) (named e) at

@@ -65,6 +65,7 @@ module _ {T U F X E : Type 0} (number : U → ℕ) (step : Step T U F) (handler 
   pub handled_to_at_ok : (x : X) → TextRead number step handler last reader text (Ok (view x)) → HandledToAt number step handler last reader text named stands view (Ok x)
   handled_to_at_ok x read = record {
     plain = handled_to number step handler reader text (Ok (view x)) last read;
+    err = λ e is. absurd cc;
     place = λ e is. absurd cc;
   }
 
@@ -76,6 +77,7 @@ module _ {T U F X E : Type 0} (number : U → ℕ) (step : Step T U F) (handler 
       rw is_named (stands_at reader text _ _ (fault_of_stop why.stop) left why.at lengths read.gives) in
       let fault = without_place reader text _ _ (named e) why.at gives in
       let is_only = gives_only reader text _ _ (named e) fault in
+      let is_only_place = one_place reader text _ _ (named e) why.at (as_many number read.calls) gives in
       record {
         plain = record {
           calls = read.calls;
@@ -84,7 +86,8 @@ module _ {T U F X E : Type 0} (number : U → ℕ) (step : Step T U F) (handler 
           err = λ other is. let same : named e ≡ other = cc in rw (← same) fault;
           only = λ other is. let same : named e ≡ other = cc in rw (← same) is_only;
         };
-        place = λ e' is. let same : e ≡ e' = cc in rw (← same) (why.at, is_there, gives);
+        err = λ e' is. let same : e ≡ e' = cc in rw (← same) (why.at, is_there, gives);
+        place = λ e' is. let same : e ≡ e' = cc in rw (← same) (why.at, is_there, is_only_place);
       }
 
 -- the place of a text whose pairs reply for themselves
