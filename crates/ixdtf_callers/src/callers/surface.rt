@@ -164,13 +164,37 @@ fn has_every_further_reader_with_a_handler(rt: HostRuntime) {
 #[test]
 fn has_every_located_reader(rt: HostRuntime) {
     assert!(rt; IxdtfParser::from_str("2020-01-01").parse_located().is_ok());
-    assert!(rt; IxdtfParser::from_str("2020-01").parse_year_month_located().is_ok());
-    assert!(rt; IxdtfParser::from_str("01-01").parse_month_day_located().is_ok());
+    assert!(rt;
+        IxdtfParser::from_str("2020-01")
+            .parse_year_month_located()
+            .is_ok()
+    );
+    assert!(rt;
+        IxdtfParser::from_str("01-01")
+            .parse_month_day_located()
+            .is_ok()
+    );
     assert!(rt; IxdtfParser::from_str("T12").parse_time_located().is_ok());
-    assert!(rt; TimeZoneParser::from_str("+01").parse_offset_located().is_ok());
-    assert!(rt; TimeZoneParser::from_str("UTC").parse_identifier_located().is_ok());
-    assert!(rt; TimeZoneParser::from_str("UTC").parse_iana_identifier_located().is_ok());
-    assert!(rt; IsoDurationParser::<Utf8>::from_str("P1D").parse_located().is_ok());
+    assert!(rt;
+        TimeZoneParser::from_str("+01")
+            .parse_offset_located()
+            .is_ok()
+    );
+    assert!(rt;
+        TimeZoneParser::from_str("UTC")
+            .parse_identifier_located()
+            .is_ok()
+    );
+    assert!(rt;
+        TimeZoneParser::from_str("UTC")
+            .parse_iana_identifier_located()
+            .is_ok()
+    );
+    assert!(rt;
+        IsoDurationParser::<Utf8>::from_str("P1D")
+            .parse_located()
+            .is_ok()
+    );
 }
 
 #[test]
