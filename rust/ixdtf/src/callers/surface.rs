@@ -1,7 +1,7 @@
 // Made by tools/to_rust.py of crates/ixdtf_callers/src/callers/surface.rt. Do not edit.
 
 //! Every public item of `ixdtf` by its name, with its fields, variants and traits, so that a missing one does not compile.
-//! The variants of `ParseError` are named in `errors.rt` of `ixdtf_tests`, and the laws in `laws.rt` there.
+//! The variants of `ParseError` are named in `errors.rt` of `ixdtf_tests`, the laws in `laws.rt` there, and `in_text` in `located.rt` there.
 
 #[allow(unused_imports)]
 use crate::runtime::{HostRuntime, TryClone};
@@ -13,7 +13,7 @@ use ixdtf::records::{
     IxdtfParseRecord, MinutePrecisionOffset, Sign, TimeDurationRecord, TimeRecord,
     TimeZoneAnnotation, TimeZoneRecord, UtcOffsetRecord, UtcOffsetRecordOrZ,
 };
-use ixdtf::{ParseError, ParserResult};
+use ixdtf::{LocatedError, ParseError, ParserResult, PointedText};
 use std::error::Error;
 use std::fmt::{Debug, Display};
 
@@ -28,6 +28,8 @@ fn is_cloned<X: Clone + Debug + PartialEq>() {}
 fn is_copied<X: Copy + Debug + PartialEq>() {}
 
 fn is_error<X: Copy + Debug + Display + Error + PartialEq>() {}
+
+fn is_displayed<X: Copy + Debug + Display>() {}
 
 // The traits of what an encoding has, and of the encoding.
 fn has_traits<T: EncodingType>() {
@@ -49,6 +51,8 @@ fn has_every_trait() {
     is_cloned::<Utf8>();
     is_cloned::<Utf16>();
     is_error::<ParseError>();
+    is_error::<LocatedError>();
+    is_displayed::<PointedText<'static>>();
     is_copied::<DateRecord>();
     is_default::<DateRecord>();
     is_copied::<TimeRecord>();
@@ -164,6 +168,54 @@ fn has_every_further_reader_with_a_handler() {
     let mut time = IxdtfParser::from_str("T12");
     let fourth = time.parse_time_with_annotation_handler(|_annotation| None);
     assert!(rt; fourth.is_ok());
+}
+
+#[test]
+fn has_every_located_reader() {
+    let rt = HostRuntime;
+    assert!(rt; IxdtfParser::from_str("2020-01-01").parse_located().is_ok());
+    assert!(rt; IxdtfParser::from_str("2020-01").parse_year_month_located().is_ok());
+    assert!(rt; IxdtfParser::from_str("01-01").parse_month_day_located().is_ok());
+    assert!(rt; IxdtfParser::from_str("T12").parse_time_located().is_ok());
+    assert!(rt; TimeZoneParser::from_str("+01").parse_offset_located().is_ok());
+    assert!(rt; TimeZoneParser::from_str("UTC").parse_identifier_located().is_ok());
+    assert!(rt; TimeZoneParser::from_str("UTC").parse_iana_identifier_located().is_ok());
+    assert!(rt; IsoDurationParser::<Utf8>::from_str("P1D").parse_located().is_ok());
+}
+
+#[test]
+fn has_every_located_reader_with_a_handler() {
+    let rt = HostRuntime;
+    let mut date = IxdtfParser::from_str("2020-01-01");
+    let first = date.parse_with_annotation_handler_located(|_annotation| None);
+    assert!(rt; first.is_ok());
+    let mut year_month = IxdtfParser::from_str("2020-01");
+    let second = year_month.parse_year_month_with_annotation_handler_located(|_annotation| None);
+    assert!(rt; second.is_ok());
+}
+
+#[test]
+fn has_every_further_located_reader_with_a_handler() {
+    let rt = HostRuntime;
+    let mut month_day = IxdtfParser::from_str("01-01");
+    let third = month_day.parse_month_day_with_annotation_handler_located(|_annotation| None);
+    assert!(rt; third.is_ok());
+    let mut time = IxdtfParser::from_str("T12");
+    let fourth = time.parse_time_with_annotation_handler_located(|_annotation| None);
+    assert!(rt; fourth.is_ok());
+}
+
+// The place of an error, and the error, each by its name.
+#[test]
+fn has_an_error_with_its_place() {
+    let rt = HostRuntime;
+    let LocatedError { error, at } = LocatedError {
+        error: ParseError::InvalidEnd,
+        at: 10,
+    };
+    assert!(rt; error == ParseError::InvalidEnd && at == 10);
+    let plain = ParseError::from(LocatedError { error, at });
+    assert_eq!(rt; plain, error);
 }
 
 #[test]
