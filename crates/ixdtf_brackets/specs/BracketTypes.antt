@@ -6,7 +6,9 @@ use Rattle.ixdtf_grammar.specs.Handlers.{pair_of}
 use Rattle.ixdtf_reading.specs.reading.Brackets.{Bracket, zoned, paired}
 use Rattle.std.specs.Prelude.{ℕ, Option, Some, None, option_map, if◌then◌else◌}
 use Rattle.ixdtf_brackets.specs.declared.brackets.BracketLetters.{BracketLetters}
-use Rattle.ixdtf_brackets.specs.declared.timezone.NameLetters.{NameLetters}
+use Rattle.ixdtf_brackets.specs.declared.timezone.NameState.{NameState}
+use Rattle.ixdtf_brackets.specs.declared.timezone.PartLetters.{PartLetters}
+use Rattle.ixdtf_grammar.specs.language.Letters.{zone_char}
 use Rattle.ixdtf_grammar.specs.language.Brackets.{skipped}
 use Rattle.ixdtf_reading.specs.reading.Zones.{name_step}
 
@@ -14,9 +16,12 @@ abbrev pub bracket_of : {T U : Type 0} → (U → ℕ) → CodeBracket T U → B
 bracket_of number (brackets.Zone annotation) = zoned (note_of number annotation)
 bracket_of number (brackets.Pair annotation) = paired (pair_of number annotation)
 
--- where reading of a name is after a letter
-abbrev pub name_after : NameLetters → ℕ → Option NameLetters
-name_after letters c = option_map (λ may_end. record { may_end = may_end }) (name_step c letters.may_end)
+-- where reading of a part of a name is after a letter, and of a name
+abbrev pub part_after : PartLetters → ℕ → Option PartLetters
+part_after letters c = if zone_char c then Some letters else None
+
+abbrev pub name_after : NameState → ℕ → Option NameState
+name_after state c = option_map (λ may_end. record { may_end = may_end }) (name_step c state.may_end)
 
 -- where reading of a first bracket is after a letter before an `=` or a `]`
 abbrev pub bracket_after : BracketLetters → ℕ → Option BracketLetters

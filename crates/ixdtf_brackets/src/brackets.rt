@@ -10,7 +10,7 @@ ghost use Rattle.ixdtf_brackets.specs.BracketTypes.{bracket_of};
 ghost use Rattle.ixdtf_reading.specs.reading.Looks.{error_of};
 ghost use Rattle.ixdtf_reading.specs.reading.Brackets.{refusal, name_fault, next_is, sight_at, name_or_pair_at, inside_at, critical_bracket_at, bracket_at};
 
-use crate::timezone::{NameLetters, parse_name_in_bracket, parse_offset_in_bracket};
+use crate::timezone::{NameState, parse_name_in_bracket, parse_offset_in_bracket, pass_name};
 use ixdtf_grammar::encoding::EncodingType;
 use ixdtf_grammar::records::{Annotation, TimeZoneAnnotation, TimeZoneRecord};
 use ixdtf_reading::annotations::{KeyLetters, parse_annotation_value};
@@ -19,7 +19,7 @@ use ixdtf_reading::grammar::{
     is_a_key_leading_char, is_annotation_close, is_annotation_key_value_separator, is_ascii_sign,
     is_critical_flag, is_tz_leading_char,
 };
-use ixdtf_reading::letters::{Letters, take_letters};
+use ixdtf_reading::letters::{Letters, pass_letters, take_letters};
 use ixdtf_reading::stop::Stop;
 
 /// A first bracket: a zone or a pair.
@@ -131,7 +131,7 @@ fn parse_name_or_pair<'a, T: EncodingType>(
         }));
     }
     let behind_key = cursor.rest();
-    let more = take_letters(cursor, NameLetters { may_end: true })?;
+    let more = pass_name(cursor)?;
     if more.state.may_end && ends_bracket(more.next) {
         let count = start.len() - cursor.rest().len();
         cursor.step();
@@ -140,7 +140,12 @@ fn parse_name_or_pair<'a, T: EncodingType>(
             tz: TimeZoneRecord::Name(&start[..count]),
         }));
     }
-    Err(refuse_bracket(cursor, behind_key, more.state))
+    if more.next.is_none() {
+        return Err(Stop::AbruptBracket);
+    }
+    let refused = refuse_bracket(cursor.take(), behind_key, more.state);
+    *cursor = refused.there;
+    Err(refused.stop)
 }
 
 /// The letters of a first bracket before an `=` or a `]`.
@@ -157,33 +162,44 @@ impl Letters for BracketLetters {
     }
 }
 
+/// Why a first bracket is refused, and where.
+#[derive(Drop)]
+struct Refused<'a, T: EncodingType> {
+    stop: Stop,
+    there: Cursor<'a, T>,
+}
+
 /// Why a first bracket is refused that is no name, after the letters of one: with an `=` before any `]` it is a pair, whose
-/// key does not go on. The cursor is left where the key or the name goes no further, or where the look ahead ended.
-#[cold]
+/// key does not go on. It is refused where the key or the name goes no further, or where the look ahead ended. The cursor is
+/// handed over, so that the one of the caller is in no memory.
 #[tactic(auto, using(crate::proofs::code::FirstPass::sights))]
 fn refuse_bracket<'a, T: EncodingType>(
-    cursor: &mut Cursor<'a, T>,
+    here: Cursor<'a, T>,
     behind_key: &'a [T::CodeUnit],
-    name: NameLetters,
-) -> Stop
-    ensures stop { (fault_of_stop result, map T.letter cursor.new.rest) ≡
-        refusal (sight_at error_of (map T.letter cursor.old.rest)) (name_fault name.may_end)
-        (map T.letter (map T.number behind_key.now)) (map T.letter cursor.old.rest) }
-    ensures looks { Spends (length behind_key.now + length cursor.old.rest + 1) cursor.old cursor.new }
+    name: NameState,
+) -> Refused<'a, T>
+    ensures stop { (fault_of_stop result.stop, map T.letter result.there.rest) ≡
+        refusal (sight_at error_of (map T.letter here.entry.rest)) (name_fault name.may_end)
+        (map T.letter (map T.number behind_key.now)) (map T.letter here.entry.rest) }
+    ensures looks { Spends (length behind_key.now + length here.entry.rest + 1) here.entry result.there }
 {
-    let behind_name = cursor.rest();
-    match take_letters(cursor, BracketLetters) {
-        Err(stop) => stop,
-        Ok(taken) => match taken.next {
-            None => Stop::AbruptBracket,
-            Some(byte) if is_annotation_key_value_separator(byte) => {
-                *cursor = cursor.at(behind_key);
-                Stop::AnnotationKeyChar
-            }
-            Some(_) => {
-                *cursor = cursor.at(behind_name);
-                name.stop()
-            }
+    let behind_name = here.rest();
+    let mut ahead = here;
+    match pass_letters(&mut ahead, BracketLetters) {
+        Err(stop) => Refused { stop, there: ahead },
+        Ok(passed) => match passed.next {
+            None => Refused {
+                stop: Stop::AbruptBracket,
+                there: ahead,
+            },
+            Some(byte) if is_annotation_key_value_separator(byte) => Refused {
+                stop: Stop::AnnotationKeyChar,
+                there: ahead.at(behind_key),
+            },
+            Some(_) => Refused {
+                stop: name.stop(),
+                there: ahead.at(behind_name),
+            },
         },
     }
 }

@@ -2,14 +2,15 @@
 
 #![tactic(auto, unfolding(ixdtf_reading::specs::reading::Brackets::bracket_readings))]
 
-ghost use Rattle.std.specs.Prelude.{◌≡◌, ◌+◌, ◌≤◌, map, length, true, IsFalse};
-ghost use Rattle.ixdtf_grammar.specs.language.Letters.{zone_char};
+ghost use Rattle.std.specs.Prelude.{◌≡◌, ◌+◌, ◌≤◌, map, length, true, Ok, IfOk};
+ghost use Rattle.ixdtf_grammar.specs.language.Letters.{slash, zone_char};
 ghost use Rattle.ixdtf_grammar.specs.Views.{zone_of};
 ghost use Rattle.ixdtf_reading.specs.reading.Clauses.{Reads, Spends, fault_of_stop, closing_look};
-ghost use Rattle.ixdtf_reading.specs.reading.Looks.{error_of, next_by};
+ghost use Rattle.ixdtf_reading.specs.reading.Looks.{error_of, next_by, seen};
+ghost use Rattle.ixdtf_reading.specs.reading.Runs.{Passes, letters_by};
 ghost use Rattle.ixdtf_reading.specs.reading.Zones.{name_run, name_alone_at, iana_identifier_at, identifier_at};
-ghost use Rattle.ixdtf_brackets.specs.BracketTypes.{name_after};
-ghost use Rattle.ixdtf_reading.specs.reading.Brackets.{name_fault, name_in_bracket_at, offset_in_bracket_at};
+ghost use Rattle.ixdtf_brackets.specs.BracketTypes.{part_after, name_after};
+ghost use Rattle.ixdtf_reading.specs.reading.Brackets.{name_fault, next_is, name_in_bracket_at, offset_in_bracket_at};
 
 use ixdtf_grammar::encoding::EncodingType;
 use ixdtf_grammar::records::{TimeRecord, TimeZoneRecord};
@@ -17,48 +18,33 @@ use ixdtf_reading::cursor::Cursor;
 use ixdtf_reading::grammar::{
     is_annotation_close, is_ascii_sign, is_tz_char, is_tz_leading_char, is_tz_name_separator,
 };
-use ixdtf_reading::letters::{Letters, take_letters};
+use ixdtf_reading::letters::{Letters, Passed, pass_letters};
 use ixdtf_reading::stop::Stop;
 use ixdtf_times::offsets::{minute_offset, take_last_offset};
 use ixdtf_times::time::{Clock, parse_clock};
 
 // ==== Names ====
 
-/// The letters of a name, by whether it may end: after a `/` it may not, and no other `/` goes on.
+/// The letters of a part of a name.
 #[derive(Clone, Copy)]
-pub struct NameLetters {
-    pub may_end: bool,
-}
+pub struct PartLetters;
 
-impl Letters for NameLetters {
-    ghost after = { name_after };
+impl Letters for PartLetters {
+    ghost after = { part_after };
 
     #[inline(always)]
     fn go_on(self, byte: u8) -> Option<Self> {
-        if is_tz_char(byte) {
-            Some(NameLetters { may_end: true })
-        } else {
-            self.after_part(byte)
-        }
+        is_tz_char(byte).then_some(self)
     }
 }
 
-impl NameLetters {
-    /// Where reading is after a letter that no part of a name has. It is not inlined, so that the loop over a part keeps to
-    /// itself.
-    #[cold]
-    #[inline(never)]
-    fn after_part(self, byte: u8) -> Option<NameLetters>
-        requires other { IsFalse (zone_char byte) }
-        ensures { result ≡ name_after self byte }
-    {
-        if is_tz_name_separator(byte) && self.may_end {
-            Some(NameLetters { may_end: false })
-        } else {
-            None
-        }
-    }
+/// Where reading of a name is, by whether it may end there: after a `/` it may not.
+#[derive(Clone, Copy)]
+pub struct NameState {
+    pub may_end: bool,
+}
 
+impl NameState {
     /// Why a name is refused where its letters go no further.
     #[inline(always)]
     pub fn stop(self) -> Stop
@@ -72,20 +58,93 @@ impl NameLetters {
     }
 }
 
-/// Reads a name as far as it goes, from its first letter on, and returns its units.
+/// Whether the letter is the `/` after a part of a name.
+#[inline(always)]
+fn ends_part(next: Option<u8>) -> bool
+    ensures { result ≡ next_is slash next }
+{
+    matches!(next, Some(byte) if is_tz_name_separator(byte))
+}
+
+/// Whether the letter is one of a part of a name.
+#[inline(always)]
+fn starts_part(next: Option<u8>) -> bool
+    ensures { result ≡ next_is zone_char next }
+{
+    matches!(next, Some(byte) if is_tz_char(byte))
+}
+
+/// Passes over the letters of a name as far as they go, part by part between its slashes.
+#[inline(always)]
+pub fn pass_name<'a, T: EncodingType>(
+    cursor: &mut Cursor<'a, T>,
+) -> Result<Passed<NameState>, Stop>
+    ensures letters { Passes T.letter cursor.old result cursor.new
+        (letters_by name_after (record { may_end = true })) }
+    ensures looks { Spends 1 cursor.old cursor.new }
+    ensures shorter { length cursor.new.rest ≤ length cursor.old.rest }
+{
+    let mut here = cursor.take();
+    let passed = pass_parts(&mut here);
+    *cursor = here;
+    passed
+}
+
+/// Passes over the parts of a name, as `pass_name` does, by the cursor itself.
+#[inline(always)]
+fn pass_parts<'a, T: EncodingType>(cursor: &mut Cursor<'a, T>) -> Result<Passed<NameState>, Stop>
+    ensures letters { Passes T.letter cursor.old result cursor.new
+        (letters_by name_after (record { may_end = true })) }
+    ensures looks { Spends 1 cursor.old cursor.new }
+    ensures shorter { length cursor.new.rest ≤ length cursor.old.rest }
+{
+    loop {
+        let part = pass_letters(cursor, PartLetters)?;
+        if !ends_part(part.next) {
+            return Ok(Passed {
+                state: NameState { may_end: true },
+                next: part.next,
+            });
+        }
+        cursor.step();
+        let next = cursor.look()?;
+        if !starts_part(next) {
+            return Ok(Passed {
+                state: NameState { may_end: false },
+                next,
+            });
+        }
+        cursor.step();
+    }
+}
+
+/// A name that was read, and the letter behind it.
+#[derive(Drop)]
+pub struct ReadName<'a, T: EncodingType> {
+    pub units: &'a [T::CodeUnit],
+    pub next: Option<u8>,
+}
+
+/// Reads a name as far as it goes, from its first letter on, and returns its units and the letter behind it.
 #[inline(always)]
 pub fn parse_tz_name<'a, T: EncodingType>(
     cursor: &mut Cursor<'a, T>,
-) -> Result<&'a [T::CodeUnit], Stop>
-    ensures name { Reads T.letter (λ units. map T.number units.now) cursor.old result cursor.new
+) -> Result<ReadName<'a, T>, Stop>
+    ensures name { Reads T.letter (λ name. map T.number name.units.now) cursor.old result cursor.new
         (name_run error_of true) }
+    ensures next { IfOk result (λ name. seen (map T.letter cursor.new.rest) ≡ Ok name.next) }
     ensures looks { Spends 1 cursor.old cursor.new }
 {
-    let name = take_letters(cursor, NameLetters { may_end: true })?;
+    let start = cursor.rest();
+    let name = pass_name(cursor)?;
     if !name.state.may_end {
         return Err(Stop::IanaCharPostSeparator);
     }
-    Ok(name.units)
+    let count = start.len() - cursor.rest().len();
+    Ok(ReadName {
+        units: &start[..count],
+        next: name.next,
+    })
 }
 
 /// Reads a name, and wants the end.
@@ -97,8 +156,8 @@ fn parse_name_alone<'a, T: EncodingType>(
     ensures looks { Spends 2 cursor.old cursor.new }
 {
     let name = parse_tz_name(cursor)?;
-    match cursor.look()? {
-        None => Ok(name),
+    match name.next {
+        None => Ok(name.units),
         Some(byte) if is_annotation_close(byte) => Err(Stop::InvalidEnd),
         Some(_) => Err(Stop::IanaChar),
     }
@@ -190,6 +249,12 @@ pub fn parse_name_in_bracket<'a, T: EncodingType>(
     ensures looks { Spends 2 cursor.old cursor.new }
 {
     let name = parse_tz_name(cursor)?;
-    close_bracket(cursor, Stop::IanaChar)?;
-    Ok(name)
+    match name.next {
+        None => Err(Stop::AnnotationClose),
+        Some(byte) if is_annotation_close(byte) => {
+            cursor.step();
+            Ok(name.units)
+        }
+        Some(_) => Err(Stop::IanaChar),
+    }
 }

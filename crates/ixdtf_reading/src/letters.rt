@@ -1,8 +1,8 @@
-//! Taking letters off one by one.
+//! Passing over letters one by one, and taking them off.
 
 ghost use Rattle.std.specs.Prelude.{◌≡◌, ℕ, ◌+◌, ◌≤◌, ◌++◌, Option, map, length, drop, OnOk, IfOk, IsSome};
 ghost use Rattle.ixdtf_reading.specs.reading.Clauses.{Reads, Spends};
-ghost use Rattle.ixdtf_reading.specs.reading.Runs.{letters_by, taken_of};
+ghost use Rattle.ixdtf_reading.specs.reading.Runs.{Passes, letters_by, taken_of};
 
 use crate::cursor::Cursor;
 use crate::stop::Stop;
@@ -16,6 +16,45 @@ pub trait Letters: Copy {
     /// Where reading is after the letter, or `None` where the letter does not go on.
     fn go_on(self, byte: u8) -> Option<Self>
         ensures { result ≡ after self byte };
+}
+
+/// Where reading is after letters that were passed over, and the letter that does not go on.
+#[derive(Drop)]
+pub struct Passed<S: Copy> {
+    pub state: S,
+    pub next: Option<u8>,
+}
+
+/// Passes over letters as far as they go. The letter that does not go on stays.
+#[inline(always)]
+pub fn pass_letters<'a, T: EncodingType, S: Letters>(
+    cursor: &mut Cursor<'a, T>,
+    first: S,
+) -> Result<Passed<S>, Stop>
+    ensures letters { Passes T.letter cursor.old result cursor.new (letters_by S.after first) }
+    ensures looks { Spends 1 cursor.old cursor.new }
+    ensures stays { IfOk result (λ passed. IsSome passed.next →
+        length (drop 1 cursor.new.rest) + 1 ≡ length cursor.new.rest) }
+    ensures shorter { length cursor.new.rest ≤ length cursor.old.rest }
+{
+    let mut here = cursor.take();
+    let mut state = first;
+    let found = loop {
+        match here.look() {
+            Err(stop) => break Err(stop),
+            Ok(None) => break Ok(None),
+            Ok(Some(byte)) => match state.go_on(byte) {
+                None => break Ok(Some(byte)),
+                Some(next) => {
+                    here.step();
+                    state = next;
+                }
+            },
+        }
+    };
+    *cursor = here;
+    let next = found?;
+    Ok(Passed { state, next })
 }
 
 /// Letters that were taken off, where reading is after them, and the letter that does not go on.
@@ -42,27 +81,11 @@ pub fn take_letters<'a, T: EncodingType, S: Letters>(
     ensures shorter { OnOk result (length cursor.new.rest ≤ length cursor.old.rest) }
 {
     let start = cursor.rest();
-    let mut here = cursor.take();
-    let mut state = first;
-    let found = loop {
-        match here.look() {
-            Err(stop) => break Err(stop),
-            Ok(None) => break Ok(None),
-            Ok(Some(byte)) => match state.go_on(byte) {
-                None => break Ok(Some(byte)),
-                Some(next) => {
-                    here.step();
-                    state = next;
-                }
-            },
-        }
-    };
-    let count = start.len() - here.rest().len();
-    *cursor = here;
-    let next = found?;
+    let passed = pass_letters(cursor, first)?;
+    let count = start.len() - cursor.rest().len();
     Ok(Taken {
         units: &start[..count],
-        state,
-        next,
+        state: passed.state,
+        next: passed.next,
     })
 }

@@ -4,9 +4,8 @@ use Rattle.std.proofs.Common.{refl, sym, ap, subst, ◌∙◌, arith, if◌then�
 use Rattle.std.proofs.lemmas.Bool.{and_parts}
 use Rattle.std.proofs.lemmas.Bool.Decides.{nat_tests}
 use Rattle.ixdtf_reading.specs.declared.annotations.KeyLetters.{KeyLetters}
-use Rattle.ixdtf_reading.specs.declared.annotations.ValueState.TheVariants.{AtStart}
 use Rattle.ixdtf_brackets.specs.declared.brackets.BracketLetters.{BracketLetters}
-use Rattle.ixdtf_brackets.specs.declared.timezone.NameLetters.{NameLetters}
+use Rattle.ixdtf_brackets.specs.declared.timezone.NameState.{NameState}
 use Rattle.ixdtf_grammar.specs.language.Letters.{Class, Text}
 use Rattle.ixdtf_grammar.specs.language.Letters.Letter.{Plain, Bad}
 use Rattle.ixdtf_grammar.specs.language.Letters.{equals, closing, slash, key_char, zone_char}
@@ -17,12 +16,13 @@ use Rattle.ixdtf_grammar.specs.table.Faults.Fault.{NonAsciiCodePoint, Annotation
 use Rattle.ixdtf_grammar.specs.table.Lines.{abrupt_bracket}
 use Rattle.ixdtf_reading.specs.reading.Looks.{Placed, Read, ◌>>=◌, look_at, seen, next_by, error_of}
 use Rattle.ixdtf_reading.specs.reading.Zones.{with_letter, name_run, as_zone}
-use Rattle.ixdtf_reading.specs.reading.Pairs.{value_run, pair_at}
+use Rattle.ixdtf_reading.specs.reading.Pairs.{AtStart, value_run, pair_at}
 use Rattle.ixdtf_reading.specs.reading.Runs.{Taken, one_more, nothing_taken, on_letter, letters_by, key_after}
 use Rattle.ixdtf_brackets.specs.BracketTypes.{name_after, bracket_after}
 use Rattle.ixdtf_reading.specs.reading.Brackets.{Bracket, zoned, paired, noted, as_pair, refusal, name_fault, next_is, sight_at, name_in_bracket_at, name_or_pair_at}
 use Rattle.ixdtf_reading.proofs.code.FirstLetter.{first_is, nothing_is}
-use Rattle.ixdtf_brackets.proofs.code.NameLoop.{name_ended, name_refused}
+use Rattle.ixdtf_brackets.proofs.code.NameLoop.{name_start, name_ended, name_refused, some_next}
+use Rattle.ixdtf_reading.proofs.code.LetterLoops.{Stays, next_shown, next_stays, behind, reads_over}
 use Rattle.ixdtf_reading.proofs.code.PairLoops.{key_closed, key_refused}
 use Rattle.ixdtf_reading.proofs.parts.LookAhead.{over_letter, zone_char_skipped, slash_skipped, key_char_skipped}
 
@@ -32,41 +32,6 @@ sight text = sight_at error_of text
 -- ---- the look ahead over letters
 
 module _ {S : Type 0} (after : S → ℕ → Option S) where
-  abbrev Stays : S → Option ℕ → Type 0
-  Stays state None = Unit {0}
-  Stays state (Some c) = after state c ≡ None
-
-  abbrev Shown : Read Placed (Taken S) → Type 0
-  Shown (Ok x) = (seen x.1 ≡ Ok x.0.next) × Stays x.0.state x.0.next
-  Shown (Err e) = Unit {0}
-
-  shown_more : (c : ℕ) (read : Read Placed (Taken S)) → Shown read → Shown (one_more c read)
-  shown_more c (Ok x) h = h
-  shown_more c (Err e) h = tt
-
-  shown_on : (state : S) (c : ℕ) (rest : Text) (next : Option S) → after state c ≡ next → ((n : S) → Shown (letters_by after n rest))
-      → Shown (on_letter next (λ n. one_more c (letters_by after n rest)) (Ok (nothing_taken state (Some c), Plain c ∷ rest)))
-  unfolding look_at
-  shown_on state c rest None e same = (refl, e)
-  shown_on state c rest (Some next) e same = shown_more c _ (same next)
-
-  shown : (state : S) (text : Text) → Shown (letters_by after state text)
-  unfolding letters_by look_at
-  shown state [] = (refl, tt)
-  shown state (Bad ∷ rest) = tt
-  shown state (Plain c ∷ rest) = shown_on state c rest (after state c) refl (λ n. shown n rest)
-
-  -- the letter that does not go on stands next
-  pub next_shown : (state : S) (text rest : Text) (taken : Taken S) → letters_by after state text ≡ Ok (taken, rest)
-      → seen rest ≡ Ok taken.next
-  next_shown state text rest taken e = let h : Shown (Ok (taken, rest)) = subst (λ read. Shown read) e (shown state text) in h.0
-
-  pub next_stays : (state : S) (text rest : Text) (taken : Taken S) (c : ℕ) → letters_by after state text ≡ Ok (taken, rest) → taken.next ≡ Some c
-      → after taken.state c ≡ None
-  next_stays state text rest taken c e is =
-      let h : Shown (Ok (taken, rest)) = subst (λ read. Shown read) e (shown state text) in
-      subst (λ next. Stays taken.state next) is h.1
-
   module _ (over : (state next : S) (c : ℕ) → after state c ≡ Some next → IsTrue (skipped c)) where
     sight_more : (c : ℕ) (read : Read Placed (Taken S)) → (read >>= λ x. sight x.1) ≡ (one_more c read >>= λ x. sight x.1)
     sight_more c (Ok x) = refl
@@ -141,9 +106,12 @@ bracket_sighted letters text rest taken c e is =
     next : seen rest ≡ Ok (Some c)
     next = next_shown bracket_after letters text rest taken e ∙ ap Ok is
 
+    stays : bracket_after taken.state c ≡ None
+    stays = subst (λ next. Stays bracket_after taken.state next) is (next_stays bracket_after letters text rest taken e)
+
     go : (b : Bool) → equals c ≡ b → sight rest ≡ Ok (equals c)
     go true p = rw p (sight_at_equals rest c next p)
-    go false p = rw p (sight_at_closing rest c next (bracket_other taken.state c (next_stays bracket_after letters text rest taken c e is) p))
+    go false p = rw p (sight_at_closing rest c next (bracket_other taken.state c stays p))
 
 -- what stands before any `]`
 pub ruleset sights = (bracket_failed, bracket_ended, bracket_sighted)
@@ -153,7 +121,7 @@ pub ruleset sights = (bracket_failed, bracket_ended, bracket_sighted)
 key_over : (state next : KeyLetters) (c : ℕ) → key_after state c ≡ Some next → IsTrue (skipped c)
 key_over state next c e = key_char_skipped c (test_held (key_char c) state next e)
 
-name_over : (state next : NameLetters) (c : ℕ) → name_after state c ≡ Some next → IsTrue (skipped c)
+name_over : (state next : NameState) (c : ℕ) → name_after state c ≡ Some next → IsTrue (skipped c)
 name_over state next c e = go _ refl (slash c) refl e
   where
     go : (b : Bool) → zone_char c ≡ b → (d : Bool) → slash c ≡ d
@@ -163,52 +131,27 @@ name_over state next c e = go _ refl (slash c) refl e
     go false p true q e = slash_skipped c q
     go false p false q e = absurd cc
 
--- letters in front of a name
-abbrev in_front : List ℕ → Read Placed (List ℕ) → Read Placed (List ℕ)
-in_front letters (Ok x) = Ok (letters ++ x.0, x.1)
-in_front letters (Err e) = Err e
-
-in_front_none : (read : Read Placed (List ℕ)) → read ≡ in_front [] read
-in_front_none (Ok x) = refl
-in_front_none (Err e) = refl
-
-in_front_one : (c : ℕ) (letters : List ℕ) (read : Read Placed (List ℕ)) → with_letter c (in_front letters read) ≡ in_front (c ∷ letters) read
-in_front_one c letters (Ok x) = refl
-in_front_one c letters (Err e) = refl
-
-abbrev keyed : Read Placed (Taken KeyLetters) → Read Placed (List ℕ)
-keyed read = read >>= λ x. in_front x.0.letters (name_run error_of true x.1)
-
-keyed_more : (c : ℕ) (read : Read Placed (Taken KeyLetters)) → with_letter c (keyed read) ≡ keyed (one_more c read)
-keyed_more c (Ok x) = in_front_one c x.0.letters _
-keyed_more c (Err e) = refl
-
 key_is_zone : (c : ℕ) → key_char c ≡ true → zone_char c ≡ true
 key_is_zone c is = grind (arith, nat_tests)
 
-keyed_on : (letters : KeyLetters) (c : ℕ) (rest : Text) → name_run error_of true rest ≡ keyed (letters_by key_after letters rest) → (b : Bool) → key_char c ≡ b
-    → name_run error_of true (Plain c ∷ rest)
-    ≡ keyed (on_letter (if b then Some letters else None) (λ n. one_more c (letters_by key_after n rest))
-    (Ok (nothing_taken letters (Some c), Plain c ∷ rest)))
+key_in_name : (state next : KeyLetters) (c : ℕ) (rest : Text) → key_after state c ≡ Some next
+    → name_run error_of true (Plain c ∷ rest) ≡ with_letter c (name_run error_of true rest)
 unfolding name_run
-keyed_on letters c rest same true e = rw (key_is_zone c e) (ap (λ read. with_letter c read) same ∙ keyed_more c (letters_by key_after letters rest))
-keyed_on letters c rest same false e = in_front_none _
+key_in_name state next c rest e = rw (key_is_zone c (test_held (key_char c) state next e)) refl
+
+bad_in_name : (rest : Text) → name_run error_of true (Bad ∷ rest) ≡ Err (NonAsciiCodePoint, Bad ∷ rest)
+unfolding name_run
+bad_in_name rest = refl
 
 -- the letters of a key are the first of a name
-name_keyed : (letters : KeyLetters) (text : Text) → name_run error_of true text ≡ keyed (letters_by key_after letters text)
-unfolding letters_by name_run
-name_keyed letters [] = refl
-name_keyed letters (Bad ∷ rest) = refl
-name_keyed letters (Plain c ∷ rest) = keyed_on letters c rest (name_keyed letters rest) _ refl
+name_keyed : (letters : KeyLetters) (text : Text)
+    → name_run error_of true text ≡ behind key_after (name_run error_of true) key_in_name bad_in_name (letters_by key_after letters text)
+name_keyed letters text = reads_over key_after (name_run error_of true) key_in_name bad_in_name letters text
 
 -- ---- what the bracket is
 
 abbrev read_at : Bool → Text → Read Placed Bracket
 read_at critical text = name_or_pair_at error_of critical text
-
--- behind the letters of a key a name may end
-abbrev name_start : NameLetters
-name_start = record { may_end = true }
 
 unseen : (critical : Bool) (text : Text) (fault : Placed) → sight text ≡ Err fault → read_at critical text ≡ Err fault
 unfolding name_or_pair_at
@@ -222,10 +165,6 @@ sighted critical text b e = rw e refl
 not_both : (sighted : Result Bool Placed) (b : Bool) (fault : Placed) → sighted ≡ Ok b → sighted ≡ Err fault → ⊥
 not_both (Ok x) b fault p q = absurd cc
 not_both (Err x) b fault p q = absurd cc
-
-some_next : (class : Class) (next : Option ℕ) → next_is class next ≡ true → (c : ℕ) × (next ≡ Some c) × (class c ≡ true)
-some_next class None e = absurd cc
-some_next class (Some c) e = (c, refl, e)
 
 module _ (critical : Bool) (letters : KeyLetters) (text : Text) where
   pub pass_failed : (fault : Placed) → letters_by key_after letters text ≡ Err fault → read_at critical text ≡ Err fault
@@ -260,7 +199,7 @@ module _ (critical : Bool) (letters : KeyLetters) (text : Text) where
     pub more_failed : (fault : Placed) → letters_by name_after name_start rest ≡ Err fault → read_at critical text ≡ Err fault
     more_failed fault e = unseen critical text fault (sight_is ∙ sight_fails name_after name_over name_start rest fault e)
 
-    module _ (after : Text) (more : Taken NameLetters) (mores : letters_by name_after name_start rest ≡ Ok (more, after)) where
+    module _ (after : Text) (more : Taken NameState) (mores : letters_by name_after name_start rest ≡ Ok (more, after)) where
       sight_after : sight text ≡ sight after
       sight_after = sight_is ∙ sight_goes_on name_after name_over name_start rest after more mores
 
@@ -272,6 +211,10 @@ module _ (critical : Bool) (letters : KeyLetters) (text : Text) where
 
       name_refused_so : more.state.may_end ≡ false → name_run error_of true text ≡ Err (IanaCharPostSeparator, after)
       name_refused_so e = name_keyed letters text ∙ rw (keys, name_refused rest after more mores e) refl
+
+      -- the text ends in the bracket
+      pub name_unended : more.next ≡ None → read_at critical text ≡ Err (abrupt_bracket, after)
+      name_unended is = unseen critical text _ (sight_after ∙ sight_at_end after (more_next None is))
 
       -- a name
       pub name_read : (more.state.may_end && next_is closing more.next) ≡ true

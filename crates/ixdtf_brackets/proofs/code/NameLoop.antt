@@ -1,25 +1,34 @@
 -- The letters of a zone name, taken off one by one.
-use Rattle.std.proofs.Common.{◌≡◌, ℕ, ◌&&◌, Bool, true, false, List, [], ◌∷◌, Option, Some, None, option_map, Result, Ok, Err, refl, ◌∙◌, if◌then◌else◌}
-use Rattle.ixdtf_brackets.specs.declared.timezone.NameLetters.{NameLetters}
-use Rattle.ixdtf_grammar.specs.language.Letters.{Text}
+use Rattle.std.proofs.Common.{◌≡◌, ℕ, ◌&&◌, Bool, true, false, List, [], ◌∷◌, ◌++◌, map, drop, Option, Some, None, option_map, IsSome, Result, Ok, Err, refl, ap, subst, ◌∙◌, if◌then◌else◌}
+use Rattle.ixdtf_brackets.specs.declared.timezone.NameState.{NameState}
+use Rattle.ixdtf_brackets.specs.declared.timezone.PartLetters.{PartLetters}
+use Rattle.ixdtf_grammar.specs.language.Letters.{Letter, Text}
 use Rattle.ixdtf_grammar.specs.language.Letters.Letter.{Plain}
-use Rattle.ixdtf_grammar.specs.language.Letters.{zone_char, slash}
+use Rattle.ixdtf_grammar.specs.language.Letters.{Class, zone_char, slash}
 use Rattle.ixdtf_grammar.specs.table.Faults.{Fault}
 use Rattle.ixdtf_grammar.specs.table.Faults.Fault.{IanaCharPostSeparator}
-use Rattle.ixdtf_reading.specs.reading.Looks.{Placed, Read, error_of}
+use Rattle.ixdtf_reading.specs.reading.Looks.{Placed, Read, seen, error_of}
 use Rattle.ixdtf_reading.specs.reading.Zones.{with_letter, name_stops, name_run}
 use Rattle.ixdtf_reading.specs.reading.Runs.{Taken, letters_by}
-use Rattle.ixdtf_brackets.specs.BracketTypes.{name_after}
-use Rattle.ixdtf_reading.proofs.code.LetterLoops.{closed, IsRun, run_failed, run_closes}
+use Rattle.ixdtf_brackets.specs.BracketTypes.{part_after, name_after}
+use Rattle.ixdtf_reading.proofs.code.LetterLoops.{closed, IsRun, run_failed, run_closes, Stays, IsSoFar, goes_on, ceases, fails, goes_over, fails_over, next_shown, next_stays}
+use Rattle.ixdtf_reading.specs.reading.Brackets.{next_is}
+
+-- where a name may end, and behind a slash
+abbrev pub name_start : NameState
+name_start = record { may_end = true }
+
+abbrev pub name_slash : NameState
+name_slash = record { may_end = false }
 
 abbrev pub name_ends : Bool → Text → Result Text Placed
 name_ends true text = Ok text
 name_ends false text = Err (IanaCharPostSeparator, text)
 
-abbrev pub name_close : NameLetters → Option ℕ → Text → Result Text Placed
+abbrev pub name_close : NameState → Option ℕ → Text → Result Text Placed
 name_close letters next text = name_ends letters.may_end text
 
-abbrev reading : NameLetters → Text → Read Placed (List ℕ)
+abbrev reading : NameState → Text → Read Placed (List ℕ)
 reading letters text = name_run error_of letters.may_end text
 
 stops_so : (may_end : Bool) (text : Text) → name_stops (IanaCharPostSeparator, text) may_end text ≡ closed [] (name_ends may_end text)
@@ -35,7 +44,7 @@ name_is_run = record {
   at_letter = λ letters next c rest is. more c letters.may_end next rest _ refl _ refl is;
 }
   where
-    after : Option Bool → Option NameLetters
+    after : Option Bool → Option NameState
     after step = option_map (λ may_end. record { may_end = may_end }) step
 
     other : (c : ℕ) (may_end : Bool) (rest : Text) (b : Bool) → zone_char c ≡ b → (d : Bool) → (slash c && may_end) ≡ d
@@ -45,7 +54,7 @@ name_is_run = record {
     other c may_end rest false p true q e = absurd cc
     other c may_end rest false p false q e = rw (p, q) (stops_so may_end (Plain c ∷ rest))
 
-    more : (c : ℕ) (may_end : Bool) (next : NameLetters) (rest : Text) (b : Bool) → zone_char c ≡ b → (d : Bool) → (slash c && may_end) ≡ d
+    more : (c : ℕ) (may_end : Bool) (next : NameState) (rest : Text) (b : Bool) → zone_char c ≡ b → (d : Bool) → (slash c && may_end) ≡ d
         → after (if b then Some true else (if d then Some false else None)) ≡ Some next
         → name_run error_of may_end (Plain c ∷ rest) ≡ with_letter c (name_run error_of next.may_end rest)
     more c may_end next rest true p d q e = let same : true ≡ next.may_end = cc in rw (p, ← same) refl
@@ -55,10 +64,112 @@ name_is_run = record {
 pub name_failed : (text : Text) (fault : Placed) → letters_by name_after (record { may_end = true }) text ≡ Err fault → name_run error_of true text ≡ Err fault
 name_failed text fault e = run_failed _ _ _ name_is_run (record { may_end = true }) text fault e
 
-pub name_ended : (text rest : Text) (taken : Taken NameLetters) → letters_by name_after (record { may_end = true }) text ≡ Ok (taken, rest)
+pub name_ended : (text rest : Text) (taken : Taken NameState) → letters_by name_after (record { may_end = true }) text ≡ Ok (taken, rest)
     → taken.state.may_end ≡ true → name_run error_of true text ≡ Ok (taken.letters, rest)
 name_ended text rest taken e is = run_closes _ _ _ name_is_run (record { may_end = true }) text rest taken e ∙ rw is refl
 
-pub name_refused : (text rest : Text) (taken : Taken NameLetters) → letters_by name_after (record { may_end = true }) text ≡ Ok (taken, rest)
+pub name_refused : (text rest : Text) (taken : Taken NameState) → letters_by name_after (record { may_end = true }) text ≡ Ok (taken, rest)
     → taken.state.may_end ≡ false → name_run error_of true text ≡ Err (IanaCharPostSeparator, rest)
 name_refused text rest taken e is = run_closes _ _ _ name_is_run (record { may_end = true }) text rest taken e ∙ rw is refl
+
+-- ---- parts of a name
+
+-- a letter of a part goes on where the name may end
+pub part_within : (state next : PartLetters) (c : ℕ) → part_after state c ≡ Some next → name_after name_start c ≡ Some name_start
+part_within state next c e = go _ refl e
+  where
+    go : (b : Bool) → zone_char c ≡ b → (if b then Some state else None) ≡ Some next → name_after name_start c ≡ Some name_start
+    go true p e = rw p refl
+    go false p e = absurd cc
+
+part_stays : (letters : PartLetters) (c : ℕ) → part_after letters c ≡ None → zone_char c ≡ false
+part_stays letters c e = go _ refl e
+  where
+    go : (b : Bool) → zone_char c ≡ b → (if b then Some letters else None) ≡ None → zone_char c ≡ false
+    go true p e = absurd cc
+    go false p e = p
+
+-- behind a part, where no slash follows, the name goes no further
+pub part_last : (letters : PartLetters) (next : Option ℕ) → Stays part_after letters next → next_is slash next ≡ false → Stays name_after name_start next
+part_last letters None stays other = tt
+part_last letters (Some c) stays other = rw (part_stays letters c stays, other) refl
+
+-- behind a slash, where no part follows
+pub slash_last : (next : Option ℕ) → next_is zone_char next ≡ false → Stays name_after name_slash next
+slash_last None other = tt
+slash_last (Some c) other = go _ refl
+  where
+    go : (b : Bool) → slash c ≡ b → name_after name_slash c ≡ None
+    go true p = rw (other, p) refl
+    go false p = rw (other, p) refl
+
+-- the slash behind a part goes on
+pub part_slashed : (letters : PartLetters) (c : ℕ) → part_after letters c ≡ None → slash c ≡ true → name_after name_start c ≡ Some name_slash
+part_slashed letters c stays is = rw (part_stays letters c stays, is) refl
+
+-- a letter of a part goes on behind a slash
+pub slash_joined : (c : ℕ) → zone_char c ≡ true → name_after name_slash c ≡ Some name_start
+slash_joined c is = rw is refl
+
+-- the next letter is one of the class
+pub some_next : (class : Class) (next : Option ℕ) → next_is class next ≡ true → (c : ℕ) × (next ≡ Some c) × (class c ≡ true)
+some_next class None e = absurd cc
+some_next class (Some c) e = (c, refl, e)
+
+pub is_some : (class : Class) (next : Option ℕ) → next_is class next ≡ true → IsSome next
+is_some class None e = absurd cc
+is_some class (Some c) e = refl
+
+module _ (letter : ℕ → Letter) (faithful : (unit n : ℕ) → letter unit ≡ Plain n → n ≡ unit) (whole rest : List ℕ)
+    (far : IsSoFar name_after letter name_start whole rest name_start) (letters : PartLetters) where
+  -- a part is refused
+  pub part_fails : (fault : Placed) → letters_by part_after letters (map letter rest) ≡ Err fault → letters_by name_after name_start (map letter whole) ≡ Err fault
+  part_fails fault e = fails_over part_after name_after name_start part_within letter name_start whole rest far letters fault e
+
+  module _ (left : List ℕ) (taken : Taken PartLetters) (passed : letters_by part_after letters (map letter rest) ≡ Ok (taken, map letter left))
+      (split : rest ≡ taken.letters ++ left) where
+    part_passed : IsSoFar name_after letter name_start whole left name_start
+    part_passed = goes_over part_after name_after name_start part_within letter name_start whole rest far left taken.letters letters taken split passed refl
+
+    next_seen : (next : Option ℕ) → taken.next ≡ next → seen (map letter left) ≡ Ok next
+    next_seen next is = next_shown part_after letters (map letter rest) (map letter left) taken passed ∙ ap Ok is
+
+    stays_so : Stays part_after taken.state taken.next
+    stays_so = next_stays part_after letters (map letter rest) (map letter left) taken passed
+
+    -- no slash follows it
+    pub part_ceases : next_is slash taken.next ≡ false
+        → (all : List ℕ) × (whole ≡ all ++ left)
+        × (letters_by name_after name_start (map letter whole) ≡ Ok (record { letters = all; state = name_start; next = taken.next }, map letter left))
+    part_ceases other = (
+      part_passed.taken,
+      part_passed.units,
+      ceases name_after letter faithful name_start whole left name_start part_passed taken.next (next_seen _ refl) (part_last taken.state taken.next stays_so other),
+    )
+
+    -- a slash follows it
+    pub part_slashes : (after : List ℕ) → next_is slash taken.next ≡ true → after ≡ drop 1 left → IsSoFar name_after letter name_start whole after name_slash
+    part_slashes after is moved =
+        let found = some_next slash taken.next is in
+        let stays = subst (λ next. Stays part_after taken.state next) found.1 stays_so in
+        goes_on name_after letter faithful name_start whole left name_start part_passed after name_slash found.0 (next_seen _ found.1)
+        (part_slashed taken.state found.0 stays found.2) moved
+
+module _ (letter : ℕ → Letter) (faithful : (unit n : ℕ) → letter unit ≡ Plain n → n ≡ unit) (whole rest : List ℕ)
+    (far : IsSoFar name_after letter name_start whole rest name_slash) where
+  -- behind a slash the look failed
+  pub slash_fails : (fault : Placed) → seen (map letter rest) ≡ Err fault → letters_by name_after name_start (map letter whole) ≡ Err fault
+  slash_fails fault e = fails name_after letter faithful name_start whole rest name_slash far fault e
+
+  -- no part follows it
+  pub slash_ceases : (next : Option ℕ) → seen (map letter rest) ≡ Ok next → next_is zone_char next ≡ false
+      → (all : List ℕ) × (whole ≡ all ++ rest)
+      × (letters_by name_after name_start (map letter whole) ≡ Ok (record { letters = all; state = name_slash; next = next }, map letter rest))
+  slash_ceases next e other = (far.taken, far.units, ceases name_after letter faithful name_start whole rest name_slash far next e (slash_last next other))
+
+  -- a part follows it
+  pub slash_goes_on : (next : Option ℕ) (left : List ℕ) → seen (map letter rest) ≡ Ok next → next_is zone_char next ≡ true → left ≡ drop 1 rest
+      → IsSoFar name_after letter name_start whole left name_start
+  slash_goes_on next left e is moved =
+      let found = some_next zone_char next is in
+      goes_on name_after letter faithful name_start whole rest name_slash far left name_start found.0 (e ∙ ap Ok found.1) (slash_joined found.0 found.2) moved

@@ -1,5 +1,5 @@
 -- Letters that a loop takes off one by one.
-use Rattle.std.proofs.Common.{◌≡◌, ℕ, ◌-◌, List, [], ◌∷◌, ◌++◌, length, map, drop, take, Option, Some, None, Result, Ok, Err, refl, sym, ap, ◌∙◌, arith}
+use Rattle.std.proofs.Common.{◌≡◌, ℕ, ◌-◌, List, [], ◌∷◌, ◌++◌, length, map, drop, take, Option, Some, None, Result, Ok, Err, refl, sym, ap, subst, ◌∙◌, arith}
 use Rattle.std.proofs.Common.{append_assoc, append-nil}
 use Rattle.std.proofs.lemmas.List.{take-map, length-map, length-append, take_all, take-append-le}
 use Rattle.ixdtf_grammar.specs.language.Letters.{Letter, Text}
@@ -62,6 +62,39 @@ module _ {S : Type 0} (after : S → ℕ → Option S) where
   run_fails state (Bad ∷ more) fault e = let same : (NonAsciiCodePoint, Bad ∷ more) ≡ fault = cc in rw same refl
   run_fails state text fault e = absurd cc
 
+  -- the letter does not go on, or there is none
+  abbrev pub Stays : S → Option ℕ → Type 0
+  Stays state None = Unit {0}
+  Stays state (Some c) = after state c ≡ None
+
+  abbrev Shown : Read Placed (Taken S) → Type 0
+  Shown (Ok x) = (seen x.1 ≡ Ok x.0.next) × Stays x.0.state x.0.next
+  Shown (Err e) = Unit {0}
+
+  shown_more : (c : ℕ) (read : Read Placed (Taken S)) → Shown read → Shown (one_more c read)
+  shown_more c (Ok x) h = h
+  shown_more c (Err e) h = tt
+
+  shown_on : (state : S) (c : ℕ) (rest : Text) (next : Option S) → after state c ≡ next → ((n : S) → Shown (letters_by after n rest))
+      → Shown (on_letter next (λ n. one_more c (letters_by after n rest)) (Ok (nothing_taken state (Some c), Plain c ∷ rest)))
+  unfolding look_at
+  shown_on state c rest None e same = (refl, e)
+  shown_on state c rest (Some next) e same = shown_more c _ (same next)
+
+  shown : (state : S) (text : Text) → Shown (letters_by after state text)
+  unfolding letters_by look_at
+  shown state [] = (refl, tt)
+  shown state (Bad ∷ rest) = tt
+  shown state (Plain c ∷ rest) = shown_on state c rest (after state c) refl (λ n. shown n rest)
+
+  -- the letter that does not go on stands next
+  pub next_shown : (state : S) (text rest : Text) (taken : Taken S) → letters_by after state text ≡ Ok (taken, rest)
+      → seen rest ≡ Ok taken.next
+  next_shown state text rest taken e = let h : Shown (Ok (taken, rest)) = subst (λ read. Shown read) e (shown state text) in h.0
+
+  pub next_stays : (state : S) (text rest : Text) (taken : Taken S) → letters_by after state text ≡ Ok (taken, rest) → Stays taken.state taken.next
+  next_stays state text rest taken e = let h : Shown (Ok (taken, rest)) = subst (λ read. Shown read) e (shown state text) in h.1
+
   -- So far these letters were taken off, and the others are still to be read.
   pub record IsSoFar (letter : ℕ → Letter) (start : S) (whole rest : List ℕ) (state : S) : Type 0 where
     pub taken : List ℕ
@@ -99,6 +132,12 @@ module _ {S : Type 0} (after : S → ℕ → Option S) where
         → run start (map letter whole) ≡ Ok (record { letters = far.taken; state = state; next = None }, map letter rest)
     ends e = far.read ∙ ap (with_letters far.taken) (run_ends state (map letter rest) e) ∙ rw (append-nil far.taken) refl
 
+    -- it goes no further
+    pub ceases : (next : Option ℕ) → seen (map letter rest) ≡ Ok next → Stays state next
+        → run start (map letter whole) ≡ Ok (record { letters = far.taken; state = state; next = next }, map letter rest)
+    ceases None e is = ends e
+    ceases (Some c) e is = stays c e is
+
     pub fails : (fault : Placed) → seen (map letter rest) ≡ Err fault → run start (map letter whole) ≡ Err fault
     fails fault e = far.read ∙ ap (with_letters far.taken) (run_fails state (map letter rest) fault e)
 
@@ -109,6 +148,105 @@ front_is number start after taken rest whole all split left =
     let count : length start - length after ≡ length taken =
     omega (arith, length-map start number, length-map after number, ap length all, ap length split, ap length left, length-append taken rest) in
     rw count (sym (take-map number _ start) ∙ rw (all, split) (take-append-le _ taken rest (omega arith) ∙ take_all _ taken (omega arith)))
+
+-- ---- what is read behind letters
+
+-- letters in front of what was read
+abbrev pub in_front : List ℕ → Read Placed (List ℕ) → Read Placed (List ℕ)
+in_front letters (Ok x) = Ok (letters ++ x.0, x.1)
+in_front letters (Err e) = Err e
+
+pub in_front_none : (read : Read Placed (List ℕ)) → read ≡ in_front [] read
+in_front_none (Ok x) = refl
+in_front_none (Err e) = refl
+
+pub in_front_both : (a b : List ℕ) (read : Read Placed (List ℕ)) → in_front a (in_front b read) ≡ in_front (a ++ b) read
+in_front_both a b (Ok x) = ap (λ t. Ok (t, x.1)) (sym (append_assoc a b x.0))
+in_front_both a b (Err e) = refl
+
+pub in_front_more : (a : List ℕ) (c : ℕ) (read : Read Placed (List ℕ)) → in_front a (with_letter c read) ≡ in_front (a ++ (c ∷ [])) read
+in_front_more a c (Ok x) = ap (λ t. Ok (t, x.1)) (sym (append_assoc a (c ∷ []) x.0))
+in_front_more a c (Err e) = refl
+
+-- a reading that takes each of the letters
+module _ {S : Type 0} (after : S → ℕ → Option S) (reading : Text → Read Placed (List ℕ))
+    (over : (state next : S) (c : ℕ) (rest : Text) → after state c ≡ Some next → reading (Plain c ∷ rest) ≡ with_letter c (reading rest))
+    (at_bad : (rest : Text) → reading (Bad ∷ rest) ≡ Err (NonAsciiCodePoint, Bad ∷ rest)) where
+  -- the letters, and what is read behind them
+  abbrev pub behind : Read Placed (Taken S) → Read Placed (List ℕ)
+  behind read = read >>= λ x. in_front x.0.letters (reading x.1)
+
+  one_in_front : (c : ℕ) (letters : List ℕ) (read : Read Placed (List ℕ)) → with_letter c (in_front letters read) ≡ in_front (c ∷ letters) read
+  one_in_front c letters (Ok x) = refl
+  one_in_front c letters (Err e) = refl
+
+  behind_more : (c : ℕ) (read : Read Placed (Taken S)) → with_letter c (behind read) ≡ behind (one_more c read)
+  behind_more c (Ok x) = one_in_front c x.0.letters _
+  behind_more c (Err e) = refl
+
+  reads_on : (state : S) (c : ℕ) (rest : Text) → ((next : S) → reading rest ≡ behind (letters_by after next rest)) → (next : Option S)
+      → after state c ≡ next
+      → reading (Plain c ∷ rest) ≡ behind (on_letter next (λ n. one_more c (letters_by after n rest)) (Ok (nothing_taken state (Some c), Plain c ∷ rest)))
+  reads_on state c rest same None e = in_front_none _
+  reads_on state c rest same (Some next) e =
+      over state next c rest e ∙ ap (λ read. with_letter c read) (same next) ∙ behind_more c (letters_by after next rest)
+
+  pub reads_over : (state : S) (text : Text) → reading text ≡ behind (letters_by after state text)
+  unfolding letters_by
+  reads_over state [] = in_front_none _
+  reads_over state (Bad ∷ rest) = at_bad rest
+  reads_over state (Plain c ∷ rest) = reads_on state c rest (λ next. reads_over next rest) (after state c) refl
+
+-- ---- letters of one kind within another
+
+with_both : {S : Type 0} (a b : List ℕ) (read : Read Placed (Taken S)) → with_letters a (with_letters b read) ≡ with_letters (a ++ b) read
+with_both a b (Ok x) = ap (λ t. Ok (record { letters = t; state = x.0.state; next = x.0.next }, x.1)) (sym (append_assoc a b x.0.letters))
+with_both a b (Err e) = refl
+
+-- letters that leave reading of the other kind where it is
+module _ {S U : Type 0} (after : S → ℕ → Option S) (wider : U → ℕ → Option U) (here : U)
+    (within : (state next : S) (c : ℕ) → after state c ≡ Some next → wider here c ≡ Some here) where
+  -- those letters, and what is read behind them
+  abbrev beyond : Read Placed (Taken S) → Read Placed (Taken U)
+  beyond (Ok x) = with_letters x.0.letters (letters_by wider here x.1)
+  beyond (Err e) = Err e
+
+  one_before : (c : ℕ) (letters : List ℕ) (read : Read Placed (Taken U)) → one_more c (with_letters letters read) ≡ with_letters (c ∷ letters) read
+  one_before c letters (Ok x) = refl
+  one_before c letters (Err e) = refl
+
+  beyond_more : (c : ℕ) (read : Read Placed (Taken S)) → one_more c (beyond read) ≡ beyond (one_more c read)
+  beyond_more c (Ok x) = one_before c x.0.letters _
+  beyond_more c (Err e) = refl
+
+  beyond_on : (state : S) (c : ℕ) (rest : Text) → ((next : S) → letters_by wider here rest ≡ beyond (letters_by after next rest)) → (next : Option S)
+      → after state c ≡ next
+      → letters_by wider here (Plain c ∷ rest)
+      ≡ beyond (on_letter next (λ n. one_more c (letters_by after n rest)) (Ok (nothing_taken state (Some c), Plain c ∷ rest)))
+  beyond_on state c rest same None e = sym (with_none _)
+  beyond_on state c rest same (Some next) e =
+      run_more wider here here c rest (within state next c e) ∙ ap (one_more c) (same next) ∙ beyond_more c (letters_by after next rest)
+
+  passes_over : (state : S) (text : Text) → letters_by wider here text ≡ beyond (letters_by after state text)
+  unfolding letters_by
+  passes_over state [] = refl
+  passes_over state (Bad ∷ rest) = refl
+  passes_over state (Plain c ∷ rest) = beyond_on state c rest (λ next. passes_over next rest) (after state c) refl
+
+  module _ (letter : ℕ → Letter) (start : U) (whole rest : List ℕ) (far : IsSoFar wider letter start whole rest here) where
+    -- these letters were passed over
+    pub goes_over : (left letters : List ℕ) (state : S) (taken : Taken S) → rest ≡ letters ++ left
+        → letters_by after state (map letter rest) ≡ Ok (taken, map letter left) → taken.letters ≡ letters → IsSoFar wider letter start whole left here
+    goes_over left letters state taken split passed same = record {
+      taken = far.taken ++ letters;
+      units = far.units ∙ ap (λ t. far.taken ++ t) split ∙ sym (append_assoc far.taken letters left);
+      read = far.read ∙ ap (with_letters far.taken) (passes_over state (map letter rest) ∙ ap beyond passed
+          ∙ ap (λ t. with_letters t (letters_by wider here (map letter left))) same)
+          ∙ with_both far.taken letters (letters_by wider here (map letter left));
+    }
+
+    pub fails_over : (state : S) (fault : Placed) → letters_by after state (map letter rest) ≡ Err fault → letters_by wider start (map letter whole) ≡ Err fault
+    fails_over state fault e = far.read ∙ ap (with_letters far.taken) (passes_over state (map letter rest) ∙ ap beyond e)
 
 -- ---- readings that begin with letters
 

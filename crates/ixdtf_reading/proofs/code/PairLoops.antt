@@ -1,19 +1,22 @@
 -- The letters of a key and of a value, taken off one by one.
-use Rattle.std.proofs.Common.{◌≡◌, ℕ, Bool, true, false, [], ◌∷◌, drop, Option, Some, None, Result, Ok, Err, refl, ◌∙◌, if◌then◌else◌}
+use Rattle.std.proofs.Common.{◌≡◌, ℕ, Bool, true, false, List, [], ◌∷◌, ◌++◌, map, drop, Option, Some, None, Result, Ok, Err, refl, sym, ap, subst, ◌∙◌, if◌then◌else◌}
+use Rattle.std.proofs.Common.{append_assoc, append-nil, arith}
+use Rattle.std.proofs.lemmas.Bool.Decides.{nat_tests}
 use Rattle.ixdtf_reading.specs.declared.annotations.KeyLetters.{KeyLetters}
-use Rattle.ixdtf_reading.specs.declared.annotations.ValueState.{ValueState}
-use Rattle.ixdtf_reading.specs.declared.annotations.ValueStep.{ValueStep}
-use Rattle.ixdtf_reading.specs.declared.annotations.ValueStep.TheVariants.{GoesOn, Ends, Stops}
-use Rattle.ixdtf_grammar.specs.language.Letters.{Text}
-use Rattle.ixdtf_grammar.specs.language.Letters.Letter.{Plain}
-use Rattle.ixdtf_grammar.specs.language.Letters.{equals, key_char}
+use Rattle.ixdtf_reading.specs.declared.annotations.ComponentLetters.{ComponentLetters}
+use Rattle.ixdtf_reading.specs.reading.Pairs.{ValueState, AtStart, Inside, AfterHyphen, ValueStep, GoesOn, Ends, Stops}
+use Rattle.ixdtf_grammar.specs.language.Letters.Letter.{Plain, Bad}
+use Rattle.ixdtf_grammar.specs.language.Letters.{Letter, Text, equals, hyphen, closing, key_char, value_char}
 use Rattle.ixdtf_grammar.specs.table.Faults.{Fault}
 use Rattle.ixdtf_grammar.specs.table.Faults.Fault.{AnnotationKeyValueSeparator, AnnotationKeyChar}
-use Rattle.ixdtf_reading.specs.reading.Looks.{Placed, error_of}
+use Rattle.ixdtf_grammar.specs.table.Faults.Fault.{NonAsciiCodePoint, AnnotationValueChar, AnnotationClose}
+use Rattle.ixdtf_reading.specs.reading.Looks.{Placed, look_at, seen, next_by, error_of}
 use Rattle.ixdtf_reading.specs.reading.Zones.{with_letter}
-use Rattle.ixdtf_reading.specs.reading.Runs.{Taken, letters_by, key_after, value_after}
-use Rattle.ixdtf_reading.specs.reading.Pairs.{key_run, value_run, value_step, value_goes_on, value_end, value_other}
-use Rattle.ixdtf_reading.proofs.code.LetterLoops.{closed, IsRun, run_failed, run_closes}
+use Rattle.ixdtf_reading.specs.reading.Runs.{Taken, letters_by, key_after, component_after}
+use Rattle.ixdtf_reading.specs.reading.Pairs.{key_run, component_look, value_run, value_mark, value_step, value_end, value_other}
+use Rattle.ixdtf_reading.proofs.code.FirstLetter.{nothing_is}
+use Rattle.ixdtf_reading.proofs.code.LetterLoops.{closed, IsRun, run_failed, run_closes, first_is, Stays, next_shown, next_stays}
+use Rattle.ixdtf_reading.proofs.code.LetterLoops.{in_front, in_front_none, in_front_both, in_front_more, behind, reads_over}
 
 -- ---- keys
 
@@ -61,55 +64,172 @@ key_refused letters text rest taken c e is test = run_closes _ _ _ key_is_run le
 
 -- ---- values
 
-abbrev pub step_closes : ValueState → ValueStep → Text → Result Text Placed
-step_closes state Ends text = Ok (drop 1 text)
-step_closes state Stops text = Err (value_other state, text)
-step_closes state (GoesOn next) text = Err (value_other state, text)
-
-abbrev pub value_close : ValueState → Option ℕ → Text → Result Text Placed
-value_close state None text = Err (value_end state, text)
-value_close state (Some c) text = step_closes state (value_step state c) text
-
-value_is_run : IsRun value_after value_close (λ state text. value_run error_of state text)
+value_on : (state next : ValueState) (c : ℕ) (rest : Text) → value_step state c ≡ GoesOn next
+    → value_run error_of state (Plain c ∷ rest) ≡ with_letter c (value_run error_of next rest)
 unfolding value_run
-value_is_run = record {
-  at_end = λ state. refl;
-  at_bad = λ state rest. refl;
-  at_other = λ state c rest is. other state c rest _ refl is;
-  at_letter = λ state next c rest is. more state next c rest _ refl is;
-}
+value_on state next c rest e = rw (e, value_run) refl
+
+value_stops : (state : ValueState) (c : ℕ) (rest : Text) → value_step state c ≡ Stops
+    → value_run error_of state (Plain c ∷ rest) ≡ Err (value_other state, Plain c ∷ rest)
+unfolding value_run
+value_stops state c rest e = rw (e, value_run) refl
+
+value_ends : (state : ValueState) (c : ℕ) (rest : Text) → value_step state c ≡ Ends → value_run error_of state (Plain c ∷ rest) ≡ Ok ([], rest)
+unfolding value_run
+value_ends state c rest e = rw (e, value_run) refl
+
+at_letter : (state : ValueState) (c : ℕ) → value_char c ≡ true → value_step state c ≡ GoesOn Inside
+at_letter state c is = rw is refl
+
+no_hyphen : (c : ℕ) → closing c ≡ true → hyphen c ≡ false
+no_hyphen c is = grind (arith, nat_tests)
+
+-- where no component begins
+pub value_unstarted : (state : ValueState) (fault : Fault) → value_end state ≡ fault → value_other state ≡ fault → ((c : ℕ) → value_mark state c ≡ Stops)
+    → (text : Text) (placed : Placed) → next_by (component_look fault) text ≡ Err placed → value_run error_of state text ≡ Err placed
+unfolding next_by look_at value_run
+value_unstarted state fault at_end other marks [] placed e = ap (λ f. Err (f, [])) at_end ∙ e
+value_unstarted state fault at_end other marks (Bad ∷ rest) placed e = e
+value_unstarted state fault at_end other marks (Plain c ∷ rest) placed e = go _ refl e
   where
-    other : (state : ValueState) (c : ℕ) (rest : Text) (step : ValueStep) → value_step state c ≡ step → value_goes_on step ≡ None
-        → value_run error_of state (Plain c ∷ rest) ≡ closed [] (step_closes state (value_step state c) (Plain c ∷ rest))
-    other state c rest (GoesOn next) p e = absurd cc
-    other state c rest step p e = rw (p, value_run) refl
+    go : (b : Bool) → value_char c ≡ b → (if b then Ok (c, rest) else Err (fault, Plain c ∷ rest)) ≡ Err placed
+        → value_run error_of state (Plain c ∷ rest) ≡ Err placed
+    go true p e = absurd cc
+    go false p e =
+        let step : value_step state c ≡ Stops = rw p (marks c) in
+        value_stops state c rest step ∙ ap (λ f. Err (f, Plain c ∷ rest)) other ∙ e
 
-    more : (state next : ValueState) (c : ℕ) (rest : Text) (step : ValueStep) → value_step state c ≡ step → value_goes_on step ≡ Some next
-        → value_run error_of state (Plain c ∷ rest) ≡ with_letter c (value_run error_of next rest)
-    more state next c rest (GoesOn there) p e = let same : there ≡ next = cc in rw (p, value_run, same) refl
-    more state next c rest step p e = absurd cc
+-- the letter that a component begins with
+started : (fault : Fault) (text left : Text) (c : ℕ) → next_by (component_look fault) text ≡ Ok (c, left) → (seen text ≡ Ok (Some c)) × (value_char c ≡ true)
+unfolding next_by look_at
+started fault [] left c e = absurd cc
+started fault (Bad ∷ rest) left c e = absurd cc
+started fault (Plain n ∷ rest) left c e = go _ refl e
+  where
+    go : (b : Bool) → value_char n ≡ b → (if b then Ok (n, rest) else Err (fault, Plain n ∷ rest)) ≡ Ok (c, left)
+        → (seen (Plain n ∷ rest) ≡ Ok (Some c)) × (value_char c ≡ true)
+    go true p e = let same : n ≡ c = cc in (ap (λ m. Ok (Some m)) same, ap value_char (sym same) ∙ p)
+    go false p e = absurd cc
 
-pub value_failed : (state : ValueState) (text : Text) (fault : Placed) → letters_by value_after state text ≡ Err fault
-    → value_run error_of state text ≡ Err fault
-value_failed state text fault e = run_failed _ _ _ value_is_run state text fault e
+-- a component inside a value
+component_over : (state next : ComponentLetters) (c : ℕ) (rest : Text) → component_after state c ≡ Some next
+    → value_run error_of Inside (Plain c ∷ rest) ≡ with_letter c (value_run error_of Inside rest)
+component_over state next c rest e = value_on Inside Inside c rest (at_letter Inside c (go _ refl e))
+  where
+    go : (b : Bool) → value_char c ≡ b → (if b then Some state else None) ≡ Some next → value_char c ≡ true
+    go true p e = p
+    go false p e = absurd cc
 
-pub value_ended : (state : ValueState) (text rest : Text) (taken : Taken ValueState) → letters_by value_after state text ≡ Ok (taken, rest) → taken.next ≡ None
-    → value_run error_of state text ≡ Err (value_end taken.state, rest)
-value_ended state text rest taken e is = run_closes _ _ _ value_is_run state text rest taken e ∙ rw is refl
+component_bad : (rest : Text) → value_run error_of Inside (Bad ∷ rest) ≡ Err (NonAsciiCodePoint, Bad ∷ rest)
+unfolding value_run
+component_bad rest = refl
 
-value_stepped : (state : ValueState) (text rest : Text) (taken : Taken ValueState) (c : ℕ) (step : ValueStep)
-    → letters_by value_after state text ≡ Ok (taken, rest) → taken.next ≡ Some c → value_step taken.state c ≡ step
-    → value_run error_of state text ≡ closed taken.letters (step_closes taken.state step rest)
-value_stepped state text rest taken c step e is test = run_closes _ _ _ value_is_run state text rest taken e ∙ rw (is, test) refl
+-- the letter behind a component is none of it
+behind_component : (letters : ComponentLetters) (c : ℕ) → component_after letters c ≡ None → value_char c ≡ false
+behind_component letters c e = go _ refl e
+  where
+    go : (b : Bool) → value_char c ≡ b → (if b then Some letters else None) ≡ None → value_char c ≡ false
+    go true p e = absurd cc
+    go false p e = p
 
-pub value_closed : (state : ValueState) (text rest : Text) (taken : Taken ValueState) (c : ℕ) → letters_by value_after state text ≡ Ok (taken, rest)
-    → taken.next ≡ Some c → value_step taken.state c ≡ Ends → value_run error_of state text ≡ Ok (taken.letters, drop 1 rest)
-value_closed state text rest taken c e is test = value_stepped state text rest taken c Ends e is test
+module _ (letter : ℕ → Letter) (whole : List ℕ) where
+  -- So far these letters of a value were taken off, and the others are still to be read.
+  pub record ValueSoFar (rest : List ℕ) (state : ValueState) : Type 0 where
+    pub taken : List ℕ
+    pub units : whole ≡ taken ++ rest
+    pub read : value_run error_of AtStart (map letter whole) ≡ in_front taken (value_run error_of state (map letter rest))
 
-pub value_refused : (state : ValueState) (text rest : Text) (taken : Taken ValueState) (c : ℕ) → letters_by value_after state text ≡ Ok (taken, rest)
-    → taken.next ≡ Some c → value_step taken.state c ≡ Stops → value_run error_of state text ≡ Err (value_other taken.state, rest)
-value_refused state text rest taken c e is test = value_stepped state text rest taken c Stops e is test
+  pub value_begins : ValueSoFar whole AtStart
+  value_begins = record { taken = []; units = refl; read = in_front_none _ }
 
-pub value_refused_on : (state next : ValueState) (text rest : Text) (taken : Taken ValueState) (c : ℕ) → letters_by value_after state text ≡ Ok (taken, rest)
-    → taken.next ≡ Some c → value_step taken.state c ≡ GoesOn next → value_run error_of state text ≡ Err (value_other taken.state, rest)
-value_refused_on state next text rest taken c e is test = value_stepped state text rest taken c _ e is test
+module _ (letter : ℕ → Letter) (faithful : (unit n : ℕ) → letter unit ≡ Plain n → n ≡ unit) (whole : List ℕ) where
+  abbrev Far : List ℕ → ValueState → Type 0
+  Far rest state = ValueSoFar letter whole rest state
+
+  module _ (rest : List ℕ) (state : ValueState) (far : ValueSoFar letter whole rest state) where
+    -- one more letter
+    value_more : (left : List ℕ) (next : ValueState) (c : ℕ) → seen (map letter rest) ≡ Ok (Some c) → value_step state c ≡ GoesOn next → left ≡ drop 1 rest
+        → Far left next
+    value_more left next c e step moved =
+        let here = first_is letter faithful rest c e in
+        let same : left ≡ here.0 = moved ∙ ap (λ t. drop 1 t) here.1 in
+        record {
+          taken = far.taken ++ (c ∷ []);
+          units = far.units ∙ rw (here.1, same) (sym (append_assoc far.taken (c ∷ []) here.0));
+          read = far.read ∙ ap (λ t. in_front far.taken (value_run error_of state t)) here.2
+              ∙ ap (λ read. in_front far.taken read) (value_on state next c (map letter here.0) step)
+              ∙ in_front_more far.taken c (value_run error_of next (map letter here.0))
+              ∙ ap (λ t. in_front (far.taken ++ (c ∷ [])) (value_run error_of next (map letter t))) (sym same);
+        }
+
+    pub value_fails : (fault : Placed) → value_run error_of state (map letter rest) ≡ Err fault → value_run error_of AtStart (map letter whole) ≡ Err fault
+    value_fails fault e = far.read ∙ ap (λ read. in_front far.taken read) e
+
+    -- a component begins
+    pub value_starts : (fault : Fault) (left : List ℕ) (c : ℕ) → next_by (component_look fault) (map letter rest) ≡ Ok (c, map letter left) → left ≡ drop 1 rest
+        → Far left Inside
+    value_starts fault left c e moved =
+        let (found, is) = started fault (map letter rest) (map letter left) c e in
+        value_more left Inside c found (at_letter state c is) moved
+
+  module _ (rest : List ℕ) (far : ValueSoFar letter whole rest Inside) (letters : ComponentLetters) where
+    -- a component is refused
+    pub component_fails : (fault : Placed) → letters_by component_after letters (map letter rest) ≡ Err fault
+        → value_run error_of AtStart (map letter whole) ≡ Err fault
+    component_fails fault e =
+        value_fails rest Inside far fault (reads_over component_after (value_run error_of Inside) component_over component_bad letters (map letter rest)
+        ∙ ap (λ read. behind component_after (value_run error_of Inside) component_over component_bad read) e)
+
+    module _ (left : List ℕ) (taken : Taken ComponentLetters) (passed : letters_by component_after letters (map letter rest) ≡ Ok (taken, map letter left))
+        (split : rest ≡ taken.letters ++ left) where
+      -- behind a component
+      component_passed : Far left Inside
+      component_passed = record {
+        taken = far.taken ++ taken.letters;
+        units = far.units ∙ ap (λ t. far.taken ++ t) split ∙ sym (append_assoc far.taken taken.letters left);
+        read = far.read
+            ∙ ap (λ read. in_front far.taken read) (reads_over component_after (value_run error_of Inside) component_over component_bad letters (map letter rest)
+            ∙ ap (λ read. behind component_after (value_run error_of Inside) component_over component_bad read) passed)
+            ∙ in_front_both far.taken taken.letters (value_run error_of Inside (map letter left));
+      }
+
+      next_is : (next : Option ℕ) → taken.next ≡ next → seen (map letter left) ≡ Ok next
+      next_is next is = next_shown component_after letters (map letter rest) (map letter left) taken passed ∙ ap Ok is
+
+      no_letter : (c : ℕ) → taken.next ≡ Some c → value_char c ≡ false
+      no_letter c is =
+          behind_component taken.state c (subst (λ next. Stays component_after taken.state next) is
+          (next_stays component_after letters (map letter rest) (map letter left) taken passed))
+
+      -- the text ends behind it
+      pub component_last : taken.next ≡ None → value_run error_of AtStart (map letter whole) ≡ Err (AnnotationClose, map letter left)
+      unfolding value_run
+      component_last is =
+          let none : map letter left ≡ [] = nothing_is (map letter left) (next_is None is) in
+          value_fails left Inside component_passed _ (rw none refl)
+
+      -- the bracket is closed behind it
+      pub component_closed : (c : ℕ) → taken.next ≡ Some c → closing c ≡ true
+          → (all : List ℕ) × (whole ≡ all ++ left) × (value_run error_of AtStart (map letter whole) ≡ Ok (all, drop 1 (map letter left)))
+      component_closed c is test =
+          let here = first_is letter faithful left c (next_is (Some c) is) in
+          let step : value_step Inside c ≡ Ends = rw (no_letter c is, no_hyphen c test, test) refl in
+          let all = component_passed.taken in (
+            all,
+            component_passed.units,
+            component_passed.read ∙ rw here.2 (ap (λ read. in_front all read) (value_ends Inside c (map letter here.0) step)
+                ∙ ap (λ t. Ok (t, map letter here.0)) (append-nil all)),
+          )
+
+      -- a hyphen stands behind it
+      pub component_joined : (c : ℕ) (after : List ℕ) → taken.next ≡ Some c → hyphen c ≡ true → after ≡ drop 1 left → Far after AfterHyphen
+      component_joined c after is test moved =
+          value_more left Inside component_passed after AfterHyphen c (next_is (Some c) is) (rw (no_letter c is, test) refl) moved
+
+      -- another letter stands behind it
+      pub component_refused : (c : ℕ) → taken.next ≡ Some c → closing c ≡ false → hyphen c ≡ false
+          → value_run error_of AtStart (map letter whole) ≡ Err (AnnotationValueChar, map letter left)
+      component_refused c is shut dash =
+          let here = first_is letter faithful left c (next_is (Some c) is) in
+          let step : value_step Inside c ≡ Stops = rw (no_letter c is, dash, shut) refl in
+          value_fails left Inside component_passed _ (rw here.2 (value_stops Inside c (map letter here.0) step))

@@ -18,13 +18,10 @@ use Rattle.ixdtf_reading.specs.reading.Zones.{with_letter}
 use Rattle.ixdtf_reading.specs.reading.Pairs.{value_line, value_end, value_other, value_step, key_run, value_run}
 use Rattle.ixdtf_reading.specs.reading.Pairs.{pair_at, critical_pair_at, later_pair_at}
 use Rattle.ixdtf_reading.specs.reading.Chains.{AfterBrackets, FitsAfterBrackets}
-use Rattle.ixdtf_reading.specs.declared.annotations.ValueState.{ValueState}
-use Rattle.ixdtf_reading.specs.declared.annotations.ValueState.TheVariants.{AtStart, Inside, AfterHyphen}
-use Rattle.ixdtf_reading.specs.declared.annotations.ValueStep.{ValueStep}
-use Rattle.ixdtf_reading.specs.declared.annotations.ValueStep.TheVariants.{GoesOn, Ends}
+use Rattle.ixdtf_reading.specs.reading.Pairs.{ValueState, AtStart, Inside, AfterHyphen, ValueStep, GoesOn, Ends}
 use Rattle.ixdtf_reading.proofs.parts.Looks.{OnRead, then_read, read_if, read_letter, onto}
 use Rattle.ixdtf_reading.proofs.to_reading.Pair.{InPair, PairText, stepped, by_step}
-use Rattle.ixdtf_reading.specs.declared.annotations.ValueStep.TheVariants as steps
+use Rattle.ixdtf_reading.specs.reading.Pairs.{ValueStep as steps}
 
 -- what reading a pair gave, from its key on
 abbrev pub PairFront : Bool → Text → Pair → Text → Type 0

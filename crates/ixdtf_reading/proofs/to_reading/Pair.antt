@@ -19,13 +19,10 @@ use Rattle.ixdtf_reading.specs.reading.Zones.{with_letter}
 use Rattle.ixdtf_reading.specs.reading.Pairs.{value_line, value_other, value_step, key_run, value_run, pair_at}
 use Rattle.ixdtf_reading.specs.reading.Pairs.{critical_pair_at, later_pair_at}
 use Rattle.ixdtf_reading.specs.reading.Chains.{AfterBrackets}
-use Rattle.ixdtf_reading.specs.declared.annotations.ValueState.{ValueState}
-use Rattle.ixdtf_reading.specs.declared.annotations.ValueState.TheVariants.{AtStart, Inside, AfterHyphen}
-use Rattle.ixdtf_reading.specs.declared.annotations.ValueStep.{ValueStep}
-use Rattle.ixdtf_reading.specs.declared.annotations.ValueStep.TheVariants.{GoesOn, Ends}
+use Rattle.ixdtf_reading.specs.reading.Pairs.{ValueState, AtStart, Inside, AfterHyphen, ValueStep, GoesOn, Ends}
 use Rattle.ixdtf_reading.proofs.parts.Looks.{goes, stops}
 use Rattle.ixdtf_reading.proofs.to_reading.ZoneNames.{with_letters, letters_err, letters_ok, plain_faithful}
-use Rattle.ixdtf_reading.specs.declared.annotations.ValueStep.TheVariants as steps
+use Rattle.ixdtf_reading.specs.reading.Pairs.{ValueStep as steps}
 
 -- the lines from the key on
 abbrev pub InPair : PairLine → Type 0

@@ -1,9 +1,5 @@
 -- Reading pairs.
 use Rattle.std.specs.Prelude.{ℕ, zero, suc, Bool, true, false, List, [], ◌∷◌, ◌++◌, Option, Some, None, Ok, Err, if◌then◌else◌}
-use Rattle.ixdtf_reading.specs.declared.annotations.ValueState.{ValueState}
-use Rattle.ixdtf_reading.specs.declared.annotations.ValueState.TheVariants.{AtStart, Inside, AfterHyphen}
-use Rattle.ixdtf_reading.specs.declared.annotations.ValueStep.{ValueStep}
-use Rattle.ixdtf_reading.specs.declared.annotations.ValueStep.TheVariants.{GoesOn, Ends, Stops}
 use Rattle.ixdtf_grammar.specs.language.Letters.{Text}
 use Rattle.ixdtf_grammar.specs.language.Letters.Letter.{Plain, Bad}
 use Rattle.ixdtf_grammar.specs.language.Letters.{hyphen, equals, closing, exclamation, key_char, value_char}
@@ -17,7 +13,7 @@ use Rattle.ixdtf_grammar.specs.table.LineNames.BracketLine.{after_bracket}
 use Rattle.ixdtf_grammar.specs.table.LineNames.PairLine.{key_start, critical_key_start, in_key, value_start, in_value, after_value_hyphen}
 use Rattle.ixdtf_grammar.specs.table.Rows.{Row}
 use Rattle.ixdtf_grammar.specs.table.Rows.Place.{end, other, bad}
-use Rattle.ixdtf_reading.specs.reading.Looks.{Read, ◌>>=◌, row_of, look_at_line, letter_at, peek_by, look_readings}
+use Rattle.ixdtf_reading.specs.reading.Looks.{Read, Look, Placed, look_for, ◌>>=◌, row_of, look_at_line, letter_at, peek_by, look_readings}
 use Rattle.ixdtf_reading.specs.reading.Zones.{with_letter}
 
 -- The letters of a key and the `=` after them.
@@ -27,6 +23,22 @@ key_run fault (Bad ∷ rest) = Err (fault (row_of (of_pair in_key) (bad (Bad ∷
 key_run fault (Plain c ∷ rest) =
     if key_char c then with_letter c (key_run fault rest)
     else (if equals c then Ok ([], rest) else Err (fault (row_of (of_pair in_key) (other (Plain c ∷ rest)) AnnotationKeyChar)))
+
+-- how far reading of a value is: before its first letter, after a letter, or after a hyphen
+pub data ValueState : Type 0 where
+  AtStart : ValueState
+  Inside : ValueState
+  AfterHyphen : ValueState
+
+-- what a letter does in a value: it is one of it, it closes the bracket, or it is an error
+pub data ValueStep : Type 0 where
+  GoesOn : ValueState → ValueStep
+  Ends : ValueStep
+  Stops : ValueStep
+
+-- the look for the first letter of a component of a value, with the error at another letter and at the end
+abbrev pub component_look : Fault → Look Placed
+component_look fault = look_for value_char (Some fault) fault
 
 -- the line of a value, by how far reading of it is
 abbrev pub value_line : ValueState → PairLine
@@ -53,12 +65,6 @@ value_mark AfterHyphen c = Stops
 
 abbrev pub value_step : ValueState → ℕ → ValueStep
 value_step state c = if value_char c then GoesOn Inside else value_mark state c
-
--- how far reading is after a letter that goes on in a value
-abbrev pub value_goes_on : ValueStep → Option ValueState
-value_goes_on (GoesOn next) = Some next
-value_goes_on Ends = None
-value_goes_on Stops = None
 
 -- The letters of a value and the `]` after them.
 unfoldable pub value_run : {E : Type 0} → (Row → E) → ValueState → Text → Read E (List ℕ)

@@ -1,13 +1,16 @@
 -- Letters that are taken off one by one, by where reading of them is.
-use Rattle.std.specs.Prelude.{ℕ, List, [], ◌∷◌, map, Option, Some, None, Ok, Err, if◌then◌else◌}
+use Rattle.std.specs.Prelude.{◌≡◌, ℕ, List, [], ◌∷◌, ◌++◌, map, Option, Some, None, Result, Ok, Err, if◌then◌else◌}
 use Rattle.ixdtf_reading.specs.declared.annotations.KeyLetters.{KeyLetters}
-use Rattle.ixdtf_reading.specs.declared.annotations.ValueState.{ValueState}
+use Rattle.ixdtf_reading.specs.declared.annotations.ComponentLetters.{ComponentLetters}
+use Rattle.ixdtf_reading.specs.declared.letters.Passed.{Passed}
 use Rattle.ixdtf_reading.specs.declared.letters.Taken.{Taken as CodeTaken}
-use Rattle.ixdtf_grammar.specs.language.Letters.{Text, key_char}
+use Rattle.ixdtf_reading.specs.declared.stop.Stop.{Stop}
+use Rattle.ixdtf_grammar.specs.language.Letters.{Letter, Text, key_char, value_char}
 use Rattle.ixdtf_grammar.specs.language.Letters.Letter.{Plain, Bad}
 use Rattle.ixdtf_grammar.specs.table.Faults.Fault.{NonAsciiCodePoint}
+use Rattle.ixdtf_grammar.specs.Views.{Unread}
+use Rattle.ixdtf_reading.specs.reading.Clauses.{fault_of_stop}
 use Rattle.ixdtf_reading.specs.reading.Looks.{Read, Placed}
-use Rattle.ixdtf_reading.specs.reading.Pairs.{value_step, value_goes_on}
 
 -- the letters that were taken off, where reading is after them, and the letter that does not go on
 pub record Taken (S : Type 0) : Type 0 where
@@ -38,9 +41,15 @@ letters_by after state (Plain c ∷ rest) =
 abbrev pub taken_of : {T S U : Type 0} → (U → ℕ) → CodeTaken T S U → Taken S
 taken_of number taken = record { letters = map number taken.units.now; state = taken.state; next = taken.next }
 
--- where reading of a key is after a letter, and of a value
+-- The letters that a function passed over, and where it left off, are what reading takes of those that were still to be read.
+abbrev pub Passes : {S : Type 0} → (ℕ → Letter) → Unread → Result (Passed S) Stop → Unread → (Text → Read Placed (Taken S)) → Type 0
+Passes letter old (Ok passed) new reading = (letters : List ℕ) × (old.rest ≡ letters ++ new.rest)
+    × (reading (map letter old.rest) ≡ Ok (record { letters = letters; state = passed.state; next = passed.next }, map letter new.rest))
+Passes letter old (Err stop) new reading = reading (map letter old.rest) ≡ Err (fault_of_stop stop, map letter new.rest)
+
+-- where reading of a key is after a letter, and of a component of a value
 abbrev pub key_after : KeyLetters → ℕ → Option KeyLetters
 key_after letters c = if key_char c then Some letters else None
 
-abbrev pub value_after : ValueState → ℕ → Option ValueState
-value_after state c = value_goes_on (value_step state c)
+abbrev pub component_after : ComponentLetters → ℕ → Option ComponentLetters
+component_after letters c = if value_char c then Some letters else None

@@ -1,11 +1,11 @@
-use Rattle.std.proofs.Common.{◌≡◌, ◌&&◌, true, false, Err, List, ◌++◌, map, ℕ, length, arith, refl, sym, ap, ◌∙◌, append_assoc}
+use Rattle.std.proofs.Common.{◌≡◌, ◌&&◌, true, false, None, Err, List, ◌++◌, map, ℕ, length, arith, refl, sym, ap, ◌∙◌, append_assoc, rules}
 use Rattle.std.proofs.lemmas.List.{length-map}
 use Rattle.std.proofs.lemmas.Result.{err_from_is_err_and}
 use Rattle.ixdtf_grammar.specs.language.Letters.{closing}
 use Rattle.ixdtf_reading.specs.reading.Brackets.{next_is, refusal, name_fault, sight_at}
 use Rattle.ixdtf_reading.specs.reading.Looks.{error_of}
 use Rattle.ixdtf_reading.proofs.code.LetterLoops.{front_is}
-use Rattle.ixdtf_brackets.proofs.code.FirstPass.{pass_failed, value_failed, pair_read, more_failed, name_read, name_refuses}
+use Rattle.ixdtf_brackets.proofs.code.FirstPass.{pass_failed, value_failed, pair_read, more_failed, name_unended, name_read, name_refuses}
 use Rattle.ixdtf_brackets.proofs.brackets.parse_name_or_pair.Goals as goal
 use Rattle.ixdtf_brackets.proofs.brackets.parse_name_or_pair.Goals.{else-more-via-then-more+else-ends_bracket, else-more-via-else-more}
 
@@ -33,31 +33,39 @@ returns-in_err-more-clause-bracket g c =
 pub returns-then-ends_bracket-clause-bracket : goal.returns-then-ends_bracket-clause-bracket
 returns-then-ends_bracket-clause-bracket g c =
     let key : List ℕ = map g.T.EncodingType.number c.in_ok-key.key.units.now in
-    let more : List ℕ = map g.T.EncodingType.number c.in_ok-more.more.units.now in
-    let split : c.args.cursor.now.rest ≡ (key ++ more) ++ c.take_letters-2.new.cursor.rest =
-    c.in_ok-key.ensures.units ∙ ap (λ (t : List ℕ). key ++ t) c.in_ok-more.ensures.units ∙ sym (append_assoc key more c.take_letters-2.new.cursor.rest) in
-    let front = front_is g.T.EncodingType.number c.rest-start.result.now c.rest.result.now (key ++ more) c.take_letters-2.new.cursor.rest _ c.rest-start.ensures
+    let passed = c.in_ok-more.ensures.letters in
+    let split : c.args.cursor.now.rest ≡ (key ++ passed.0) ++ c.pass_name.new.cursor.rest =
+    c.in_ok-key.ensures.units ∙ ap (λ (t : List ℕ). key ++ t) passed.1 ∙ sym (append_assoc key passed.0 c.pass_name.new.cursor.rest) in
+    let front = front_is g.T.EncodingType.number c.rest-start.result.now c.rest.result.now (key ++ passed.0) c.pass_name.new.cursor.rest _ c.rest-start.ensures
     split c.rest.ensures in
     let is : (c.in_ok-more.more.state.may_end && next_is closing c.in_ok-more.more.next) ≡ true =
     rw c.if-more.true (sym c.ends_bracket.ensures ∙ c.if-ends_bracket.true) in
-    rw (front, c.step-then-ends_bracket.ensures.letters) (name_read _ _ _ _ _ c.in_ok-key.ensures.letters _ _ c.in_ok-more.ensures.letters is)
+    rw (front, c.step-then-ends_bracket.ensures.letters) (name_read _ _ _ _ _ c.in_ok-key.ensures.letters _ _ passed.2 is)
+
+-- the text ends in the bracket
+pub returns-then-is_none-clause-bracket : goal.returns-then-is_none-clause-bracket
+returns-then-is_none-clause-bracket g c =
+    let none : c.in_ok-more.more.next ≡ None = search rules in
+    name_unended _ _ _ _ _ c.in_ok-key.ensures.letters _ _ c.in_ok-more.ensures.letters.2 none
 
 pub returns-clause-bracket : goal.returns-clause-bracket
 returns-clause-bracket g c =
     let letter = g.T.EncodingType.letter in
+    let passed = c.in_ok-more.ensures.letters in
     let is : (c.in_ok-more.more.state.may_end && next_is closing c.in_ok-more.more.next) ≡ false = elim c.else-more.branch [
       | else-more-via-then-more+else-ends_bracket w ↦ rw w.if-more.true (sym w.ends_bracket.ensures ∙ w.if-ends_bracket.false)
       | else-more-via-else-more w ↦ rw w.if-more.false refl
     ] in
-    name_refuses _ _ _ _ _ c.in_ok-key.ensures.letters _ _ c.in_ok-more.ensures.letters (sym c.ends_key.ensures ∙ c.if-ends_key.false) is
-    ∙ ap Err (ap (λ (units : List ℕ). refusal (sight_at error_of (map letter c.take_letters-2.new.cursor.rest))
-    (name_fault c.in_ok-more.more.state.may_end) (map letter units) (map letter c.take_letters-2.new.cursor.rest)) (sym c.rest-behind_key.ensures)
-    ∙ sym c.refuse_bracket.ensures.stop)
+    name_refuses _ _ _ _ _ c.in_ok-key.ensures.letters _ _ passed.2 (sym c.ends_key.ensures ∙ c.if-ends_key.false) is
+    ∙ ap Err (ap (λ (units : List ℕ). refusal (sight_at error_of (map letter c.pass_name.new.cursor.rest))
+    (name_fault c.in_ok-more.more.state.may_end) (map letter units) (map letter c.pass_name.new.cursor.rest)) (sym c.rest-behind_key.ensures)
+    ∙ sym (rw c.take.ensures.same at c.refuse_bracket-refused.ensures.stop))
 
 pub returns-clause-looks : goal.returns-clause-looks
 returns-clause-looks g c =
     let key : length c.rest-behind_key.result.now ≡ length c.take_letters.new.cursor.rest =
-    sym (length-map c.rest-behind_key.result.now g.T.EncodingType.number) ∙ ap (λ (t : List ℕ). length t) c.rest-behind_key.ensures in (
-      omega (arith, key, c.in_ok-key.ensures.looks, c.in_ok-key.ensures.shorter, c.in_ok-more.ensures.looks, c.in_ok-more.ensures.shorter, c.refuse_bracket.ensures.looks),
-      omega (arith, key, c.in_ok-key.ensures.looks, c.in_ok-key.ensures.shorter, c.in_ok-more.ensures.looks, c.in_ok-more.ensures.shorter, c.refuse_bracket.ensures.looks),
+    sym (length-map c.rest-behind_key.result.now g.T.EncodingType.number) ∙ ap (λ (t : List ℕ). length t) c.rest-behind_key.ensures in
+    let looks = rw c.take.ensures.same at c.refuse_bracket-refused.ensures.looks in (
+      omega (arith, key, c.in_ok-key.ensures.looks, c.in_ok-key.ensures.shorter, c.in_ok-more.ensures.looks, c.in_ok-more.ensures.shorter, looks),
+      omega (arith, key, c.in_ok-key.ensures.looks, c.in_ok-key.ensures.shorter, c.in_ok-more.ensures.looks, c.in_ok-more.ensures.shorter, looks),
     )

@@ -14,7 +14,7 @@ returns-in-Err-clause-stop g c = rw (bracket_failed _ _ _ c.in-Err.ensures.lette
 pub returns-in-Some-2-clause-stop : goal.returns-in-Some-2-clause-stop
 returns-in-Some-2-clause-stop g c =
     let letter = g.T.EncodingType.letter in
-    let text = map letter c.args.cursor.now.rest in
+    let text = map letter c.args.here.rest in
     let key = map letter (map g.T.EncodingType.number c.args.behind_key.now) in
     let other : equals c.in-Some.byte ≡ false = sym c.is_annotation_key_value_separator.ensures ∙ c.if-is_annotation_key_value_separator.false in
     let seen_so : sight_at error_of text ≡ Ok (equals c.in-Some.byte) = bracket_sighted _ _ _ _ c.in-Some.byte c.in-Ok.ensures.letters c.in-Some.is in

@@ -1,21 +1,76 @@
-use Rattle.std.proofs.Common.{◌≡◌, inl, inr, sym, ◌∙◌, rules}
-use Rattle.ixdtf_reading.specs.declared.annotations.ValueStep.TheVariants.{Ends}
-use Rattle.ixdtf_reading.specs.reading.Pairs.{value_step}
-use Rattle.ixdtf_reading.proofs.code.PairLoops.{value_ended, value_closed, value_refused, value_refused_on}
+use Rattle.std.proofs.Common.{◌≡◌, false, true, refl, sym, ◌∙◌, arith, rules}
+use Rattle.std.proofs.lemmas.Result.{err_from_is_err_and}
+use Rattle.ixdtf_grammar.specs.language.Letters.{closing, hyphen}
+use Rattle.ixdtf_reading.specs.reading.Pairs.{AtStart, AfterHyphen}
+use Rattle.ixdtf_reading.proofs.code.LetterLoops.{front_is}
+use Rattle.ixdtf_reading.proofs.code.PairLoops.{value_unstarted, value_begins, value_fails, value_starts}
+use Rattle.ixdtf_reading.proofs.code.PairLoops.{component_fails, component_last, component_closed, component_joined, component_refused}
 use Rattle.ixdtf_reading.proofs.annotations.parse_annotation_value.Goals as goal
 
+-- no component begins
+pub returns-in_err-start_component-clause-value : goal.returns-in_err-start_component-clause-value
+returns-in_err-start_component-clause-value g c =
+    let p = err_from_is_err_and c.from_residual.result c.from_residual.ensures.1 in
+    rw (p.1, p.2) (value_unstarted AtStart _ refl refl (λ c. refl) _ _ c.in_err-start_component.ensures.letter)
+
+pub loop-component-init : goal.loop-component-init
+loop-component-init g c = record {
+  start = c.rest-start.ensures;
+  far = value_starts g.T.EncodingType.letter g.met.T.EncodingType.faithful _ _ AtStart (value_begins _ _) _ _ _ c.in_ok-start_component.ensures.letter
+      c.in_ok-start_component.ensures.rest;
+  looks = omega arith;
+  counted = omega arith;
+  shorter = omega arith;
+}
+
+pub returns-in_err-component-clause-value : goal.returns-in_err-component-clause-value
+returns-in_err-component-clause-value g c =
+    let p = err_from_is_err_and c.from_residual-in_err-component.result c.from_residual-in_err-component.ensures.1 in
+    rw (p.1, p.2) (component_fails g.T.EncodingType.letter g.met.T.EncodingType.faithful _ _ c.loop-component.invariant.far _ _ c.in_err-component.ensures.letters)
+
 pub returns-in-None-clause-value : goal.returns-in-None-clause-value
-returns-in-None-clause-value g c = rw c.end_stop.ensures (value_ended _ _ _ _ c.in_ok-value.ensures.letters c.in-None.is)
+returns-in-None-clause-value g c =
+    let passed = c.in_ok-component.ensures.letters in
+    component_last g.T.EncodingType.letter g.met.T.EncodingType.faithful _ _ c.loop-component.invariant.far _ _ _ passed.2 passed.1 c.in-None.is
 
-pub returns-in-Ends-clause-value : goal.returns-in-Ends-clause-value
-returns-in-Ends-clause-value g c =
-    let step : value_step c.in_ok-value.value.state c.in-Some.byte ≡ Ends = search rules in
-    rw c.step-in-Ends.ensures.letters (value_closed _ _ _ _ _ c.in_ok-value.ensures.letters c.in-Some.is step)
+pub returns-in-Some-clause-value : goal.returns-in-Some-clause-value
+returns-in-Some-clause-value g c =
+    let passed = c.in_ok-component.ensures.letters in
+    let closes : closing c.in-Some.byte ≡ true = search rules in
+    let closed = component_closed g.T.EncodingType.letter g.met.T.EncodingType.faithful _ _ c.loop-component.invariant.far _ _ _ passed.2 passed.1 _ c.in-Some.is closes in
+    let front = front_is g.T.EncodingType.number c.rest-start.result.now c.rest.result.now closed.0 c.pass_letters.new.cursor.rest _ c.loop-component.invariant.start
+    closed.1 c.rest.ensures in
+    rw (front, c.step.ensures.letters) closed.2
 
--- a letter that goes on would have been taken off
-pub returns-in-GoesOn-clause-value : goal.returns-in-GoesOn-clause-value
-returns-in-GoesOn-clause-value g c =
-    rw c.other_stop.ensures elim c.in-GoesOn.is [
-      | inl p ↦ value_refused_on _ _ _ _ _ _ c.in_ok-value.ensures.letters c.in-Some.is (sym c.step.ensures ∙ p.1)
-      | inr p ↦ value_refused _ _ _ _ _ c.in_ok-value.ensures.letters c.in-Some.is (sym c.step.ensures ∙ p)
-    ]
+pub returns-in-Some-3-clause-value : goal.returns-in-Some-3-clause-value
+returns-in-Some-3-clause-value g c =
+    let passed = c.in_ok-component.ensures.letters in
+    let open : closing c.in-Some-3.byte ≡ false = search rules in
+    let dash : hyphen c.in-Some-3.byte ≡ false = search rules in
+    component_refused g.T.EncodingType.letter g.met.T.EncodingType.faithful _ _ c.loop-component.invariant.far _ _ _ passed.2 passed.1 _ c.in-Some-3.is open dash
+
+-- behind a hyphen no component begins
+pub returns-in_err-start_component-2-clause-value : goal.returns-in_err-start_component-2-clause-value
+returns-in_err-start_component-2-clause-value g c =
+    let p = err_from_is_err_and c.from_residual-in_err-start_component-2.result c.from_residual-in_err-start_component-2.ensures.1 in
+    let passed = c.in_ok-component.ensures.letters in
+    let dash : hyphen c.in-Some-2.byte ≡ true = search rules in
+    let far = component_joined g.T.EncodingType.letter g.met.T.EncodingType.faithful _ _ c.loop-component.invariant.far _ _ _ passed.2 passed.1 _ _ c.in-Some-2.is dash
+    c.step-in-Some-2.ensures.rest in
+    rw (p.1, p.2) (value_fails g.T.EncodingType.letter g.met.T.EncodingType.faithful _ _ AfterHyphen far _
+    (value_unstarted AfterHyphen _ refl refl (λ c. refl) _ _ c.in_err-start_component-2.ensures.letter))
+
+pub loop-component-preserved : goal.loop-component-preserved
+loop-component-preserved g c =
+    let passed = c.in_ok-component.ensures.letters in
+    let dash : hyphen c.in-Some-2.byte ≡ true = search rules in
+    let far = component_joined g.T.EncodingType.letter g.met.T.EncodingType.faithful _ _ c.loop-component.invariant.far _ _ _ passed.2 passed.1 _ _ c.in-Some-2.is dash
+    c.step-in-Some-2.ensures.rest in
+    record {
+      start = c.loop-component.invariant.start;
+      far = value_starts g.T.EncodingType.letter g.met.T.EncodingType.faithful _ _ AfterHyphen far _ _ _ c.in_ok-start_component-2.ensures.letter
+          c.in_ok-start_component-2.ensures.rest;
+      looks = omega arith;
+      counted = omega arith;
+      shorter = omega arith;
+    }

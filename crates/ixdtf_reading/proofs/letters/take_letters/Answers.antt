@@ -1,86 +1,18 @@
-use Rattle.std.proofs.Common.{◌≡◌, ℕ, map, Option, Some, None, Ok, IsSome, refl, ◌∙◌, arith, rules}
 use Rattle.std.proofs.lemmas.Result.{err_from_is_err_and}
-use Rattle.ixdtf_grammar.specs.table.Faults.Fault.{NonAsciiCodePoint}
-use Rattle.ixdtf_reading.specs.reading.Looks.{look_at, seen}
-use Rattle.ixdtf_reading.proofs.code.FractionLoop.{one_taken}
-use Rattle.ixdtf_reading.proofs.code.LetterLoops.{begins, goes_on, stays, ends, fails, front_is}
+use Rattle.ixdtf_reading.proofs.code.LetterLoops.{front_is}
 use Rattle.ixdtf_reading.proofs.letters.take_letters.Goals as goal
-use Rattle.ixdtf_reading.proofs.letters.take_letters.Goals.{in-Err, in-Ok-None, in-Ok-Some+in-None}
 
-pub loop-stop-init : goal.loop-stop-init
-loop-stop-init g c = rw c.take-here.ensures.same record {
-  start = c.rest-start.ensures;
-  far = begins _ _ _ _;
-  looks = omega arith;
-  counted = omega arith;
-  shorter = omega arith;
-}
-
-pub loop-stop-smaller : goal.loop-stop-smaller
-loop-stop-smaller g c =
-    let off = one_taken {letter = g.T.EncodingType.letter} c.in-Ok-Some.ensures.letter c.in-Ok-Some.field-0-is c.look.ensures.rest c.step.ensures.rest in
-    omega arith
-
-pub loop-stop-preserved : goal.loop-stop-preserved
-loop-stop-preserved g c =
-    let off = one_taken {letter = g.T.EncodingType.letter} c.in-Ok-Some.ensures.letter c.in-Ok-Some.field-0-is c.look.ensures.rest c.step.ensures.rest in
-    let next : g.S.Letters.after c.loop-stop.state c.in-Ok-Some.byte ≡ Some c.in-Some.next = search rules in
-    let invariant = c.loop-stop.invariant in
-    record {
-      start = invariant.start;
-      far = goes_on _ g.T.EncodingType.letter g.met.T.EncodingType.faithful _ _ _ _ invariant.far _ _ _ off.found next off.moved;
-      looks = omega arith;
-      counted = omega arith;
-      shorter = omega arith;
-    }
-
--- the look failed
-pub returns-in_err-next-clause-letters : goal.returns-in_err-next-clause-letters
-returns-in_err-next-clause-letters g c =
-    let p = err_from_is_err_and c.from_residual.result c.from_residual.ensures.1 in
-    rw (p.1, p.2, c.look.ensures.rest) elim c.match-look.branch [
-      | in-Err w ↦
-          let same : c.in_err-next.field-0.0 ≡ w.in-Err.stop = search rules in
-          rw same (fails _ g.T.EncodingType.letter g.met.T.EncodingType.faithful _ _ _ _ c.loop-stop.invariant.far _ w.in-Err.ensures.letter)
-      | in-Ok-None w ↦ cc (w.found-is, c.in_err-next.was)
-      | in-Ok-Some+in-None w ↦ cc (w.found-is, c.in_err-next.was)
-    ]
-
--- the letters go no further, at a letter or at the end
+-- the units are those of the letters that were passed over
 pub returns-clause-letters : goal.returns-clause-letters
 returns-clause-letters g c =
-    let far = c.loop-stop.invariant.far in
-    let front = front_is g.T.EncodingType.number c.rest-start.result.now c.rest.result.now far.taken c.loop-stop.here.rest _ c.loop-stop.invariant.start
-    far.units (c.rest.ensures ∙ c.look.ensures.rest) in
-    rw (front, c.look.ensures.rest) elim c.match-look.branch [
-      | in-Err w ↦ cc (w.found-is, c.in_ok-next.was)
-      | in-Ok-None w ↦
-          let over : seen (map g.T.EncodingType.letter c.loop-stop.here.rest) ≡ Ok None = search rules in
-          let none : c.in_ok-next.next ≡ None = search rules in
-          rw none (ends _ g.T.EncodingType.letter g.met.T.EncodingType.faithful _ _ _ _ far over)
-      | in-Ok-Some+in-None w ↦
-          let found : seen (map g.T.EncodingType.letter c.loop-stop.here.rest) ≡ Ok (Some w.in-Ok-Some.byte) = search rules in
-          let none : g.S.Letters.after c.loop-stop.state w.in-Ok-Some.byte ≡ None = search rules in
-          let next : c.in_ok-next.next ≡ Some w.in-Ok-Some.byte = search rules in
-          rw next (stays _ g.T.EncodingType.letter g.met.T.EncodingType.faithful _ _ _ _ far _ found none)
-    ]
+    let passed = c.in_ok-passed.ensures.letters in
+    let front = front_is g.T.EncodingType.number c.rest-start.result.now c.rest.result.now passed.0 c.pass_letters.new.cursor.rest _ c.rest-start.ensures
+    passed.1 c.rest.ensures in
+    rw front passed.2
 
 pub returns-clause-units : goal.returns-clause-units
 returns-clause-units g c =
-    let far = c.loop-stop.invariant.far in
-    let front = front_is g.T.EncodingType.number c.rest-start.result.now c.rest.result.now far.taken c.loop-stop.here.rest _ c.loop-stop.invariant.start
-    far.units (c.rest.ensures ∙ c.look.ensures.rest) in
-    rw (front, c.look.ensures.rest) far.units
-
--- a letter that stays is taken off by a step
-pub returns-clause-stays : goal.returns-clause-stays
-returns-clause-stays g c some = elim c.match-look.branch [
-  | in-Err w ↦ cc (w.found-is, c.in_ok-next.was)
-  | in-Ok-None w ↦ absurd (nothing_next _ (search rules) some)
-  | in-Ok-Some+in-None w ↦
-      rw c.look.ensures.rest (one_taken {letter = g.T.EncodingType.letter} w.in-Ok-Some.ensures.letter w.in-Ok-Some.field-0-is refl refl).shorter
-]
-  where
-    nothing_next : (next : Option ℕ) → next ≡ None → IsSome next → ⊥
-    nothing_next None is some = cc
-    nothing_next (Some c) is some = cc
+    let passed = c.in_ok-passed.ensures.letters in
+    let front = front_is g.T.EncodingType.number c.rest-start.result.now c.rest.result.now passed.0 c.pass_letters.new.cursor.rest _ c.rest-start.ensures
+    passed.1 c.rest.ensures in
+    rw front passed.1

@@ -1,10 +1,9 @@
-use Rattle.std.proofs.Common.{◌≡◌, ◌+◌, ◌≤◌, length, map}
+use Rattle.std.proofs.Common.{◌+◌, ◌≤◌, length}
 use Rattle.ixdtf_reading.proofs.code.LetterLoops.{IsSoFar}
-use Rattle.ixdtf_reading.proofs.letters.take_letters.Given as goal
+use Rattle.ixdtf_reading.proofs.letters.pass_letters.Given as goal
 
 abbrev pub invariant-loop-stop : goal.invariant-loop-stop
 invariant-loop-stop g l = record {
-  start : map g.T.EncodingType.number l.start ≡ l.fn.cursor.rest;
   far : IsSoFar g.S.Letters.after g.T.EncodingType.letter l.fn.first l.fn.cursor.rest l.here.rest l.state;
   looks : l.here.looks + length l.here.rest ≤ l.fn.cursor.looks + length l.fn.cursor.rest;
   counted : l.fn.cursor.looks ≤ l.here.looks;

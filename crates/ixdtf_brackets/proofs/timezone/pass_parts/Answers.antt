@@ -1,0 +1,67 @@
+use Rattle.std.proofs.Common.{Ok, sym, ap, drop, ◌∙◌, arith}
+use Rattle.std.proofs.lemmas.Result.{err_from_is_err_and}
+use Rattle.ixdtf_reading.proofs.code.LetterLoops.{begins}
+use Rattle.ixdtf_grammar.specs.language.Letters.{slash, zone_char}
+use Rattle.ixdtf_reading.proofs.code.Units.{stepped}
+use Rattle.ixdtf_brackets.proofs.code.NameLoop.{is_some, some_next, part_fails, part_ceases, part_slashes, slash_fails, slash_ceases, slash_goes_on}
+use Rattle.ixdtf_brackets.proofs.timezone.pass_parts.Goals as goal
+
+pub loop-part-init : goal.loop-part-init
+loop-part-init g c = record { far = begins _ _ _ _; looks = omega arith; counted = omega arith; shorter = omega arith }
+
+pub returns-in_err-part-clause-letters : goal.returns-in_err-part-clause-letters
+returns-in_err-part-clause-letters g c =
+    let p = err_from_is_err_and c.from_residual.result c.from_residual.ensures.1 in
+    rw (p.1, p.2) (part_fails g.T.EncodingType.letter g.met.T.EncodingType.faithful _ _ c.loop-part.invariant.far _ _ c.in_err-part.ensures.letters)
+
+-- no slash follows a part
+pub returns-then-not-ends_part-clause-letters : goal.returns-then-not-ends_part-clause-letters
+returns-then-not-ends_part-clause-letters g c =
+    let passed = c.in_ok-part.ensures.letters in
+    part_ceases g.T.EncodingType.letter g.met.T.EncodingType.faithful _ _ c.loop-part.invariant.far _ _ _ passed.2 passed.1
+    (sym c.ends_part.ensures ∙ c.if-not-ends_part.true)
+
+-- the look behind a slash failed
+pub returns-in_err-next-clause-letters : goal.returns-in_err-next-clause-letters
+returns-in_err-next-clause-letters g c =
+    let p = err_from_is_err_and c.from_residual-in_err-next.result c.from_residual-in_err-next.ensures.1 in
+    let passed = c.in_ok-part.ensures.letters in
+    let far = part_slashes g.T.EncodingType.letter g.met.T.EncodingType.faithful _ _ c.loop-part.invariant.far _ _ _ passed.2 passed.1 _
+    (sym c.ends_part.ensures ∙ c.if-not-ends_part.false) c.step.ensures.rest in
+    rw (p.1, p.2, c.look-next.ensures.rest) (slash_fails g.T.EncodingType.letter g.met.T.EncodingType.faithful _ _ far _ c.in_err-next.ensures.letter)
+
+-- no part follows a slash
+pub returns-then-not-starts_part-clause-letters : goal.returns-then-not-starts_part-clause-letters
+returns-then-not-starts_part-clause-letters g c =
+    let passed = c.in_ok-part.ensures.letters in
+    let far = part_slashes g.T.EncodingType.letter g.met.T.EncodingType.faithful _ _ c.loop-part.invariant.far _ _ _ passed.2 passed.1 _
+    (sym c.ends_part.ensures ∙ c.if-not-ends_part.false) c.step.ensures.rest in
+    rw c.look-next.ensures.rest (slash_ceases g.T.EncodingType.letter g.met.T.EncodingType.faithful _ _ far _ c.in_ok-next.ensures.letter
+    (sym c.starts_part.ensures ∙ c.if-not-starts_part.true))
+
+pub loop-part-preserved : goal.loop-part-preserved
+loop-part-preserved g c =
+    let passed = c.in_ok-part.ensures.letters in
+    let far = part_slashes g.T.EncodingType.letter g.met.T.EncodingType.faithful _ _ c.loop-part.invariant.far _ _ _ passed.2 passed.1 _
+    (sym c.ends_part.ensures ∙ c.if-not-ends_part.false) c.step.ensures.rest in
+    let paid = c.in_ok-part.ensures.stays (is_some slash _ (sym c.ends_part.ensures ∙ c.if-not-ends_part.false)) in
+    let found = some_next zone_char _ (sym c.starts_part.ensures ∙ c.if-not-starts_part.false) in
+    let joined = stepped g.T.EncodingType.letter _ found.0 (c.in_ok-next.ensures.letter ∙ ap Ok found.1) in
+    record {
+      far = slash_goes_on g.T.EncodingType.letter g.met.T.EncodingType.faithful _ _ far _ _ c.in_ok-next.ensures.letter
+          (sym c.starts_part.ensures ∙ c.if-not-starts_part.false) (c.step-2.ensures.rest ∙ ap (λ t. drop 1 t) c.look-next.ensures.rest);
+      looks = omega (arith, paid, joined);
+      counted = omega arith;
+      shorter = omega (arith, paid, joined);
+    }
+
+-- the slash pays for the look at it
+pub returns-then-not-starts_part-clause-looks : goal.returns-then-not-starts_part-clause-looks
+returns-then-not-starts_part-clause-looks g c =
+    let paid = c.in_ok-part.ensures.stays (is_some slash _ (sym c.ends_part.ensures ∙ c.if-not-ends_part.false)) in
+    (omega (arith, paid), omega arith)
+
+pub returns-in_err-next-clause-looks : goal.returns-in_err-next-clause-looks
+returns-in_err-next-clause-looks g c =
+    let paid = c.in_ok-part.ensures.stays (is_some slash _ (sym c.ends_part.ensures ∙ c.if-not-ends_part.false)) in
+    (omega (arith, paid), omega arith)

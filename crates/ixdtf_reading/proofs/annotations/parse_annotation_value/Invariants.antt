@@ -1,0 +1,16 @@
+use Rattle.std.proofs.Common.{◌≡◌, ◌+◌, ◌<◌, ◌≤◌, length, map}
+use Rattle.ixdtf_reading.specs.reading.Pairs.{Inside}
+use Rattle.ixdtf_reading.proofs.code.PairLoops.{ValueSoFar}
+use Rattle.ixdtf_reading.proofs.annotations.parse_annotation_value.Given as goal
+
+abbrev pub invariant-loop-component : goal.invariant-loop-component
+invariant-loop-component g l = record {
+  start : map g.T.EncodingType.number l.start ≡ l.fn.cursor.rest;
+  far : ValueSoFar g.T.EncodingType.letter l.fn.cursor.rest l.cursor.rest Inside;
+  looks : l.cursor.looks + length l.cursor.rest ≤ l.fn.cursor.looks + length l.fn.cursor.rest;
+  counted : l.fn.cursor.looks ≤ l.cursor.looks;
+  shorter : length l.cursor.rest < length l.fn.cursor.rest;
+}
+
+abbrev pub decreases-loop-component : goal.decreases-loop-component
+decreases-loop-component g l = length l.cursor.rest
