@@ -7,8 +7,6 @@ ghost use Rattle.std.specs.Option.{option_or};
 ghost use Rattle.ixdtf_grammar.specs.table.Faults.{Fault};
 ghost use Rattle.ixdtf_reading.specs.reading.Clauses.{Reads, Spends, SpendsOr, fault_of_stop, yielded_at};
 ghost use Rattle.ixdtf_reading.specs.reading.Looks.{error_of};
-ghost use Rattle.ixdtf_reading.specs.reading.Runs.{key_after, value_after};
-ghost use Rattle.ixdtf_reading.specs.reading.Pairs.{key_run, value_run, value_step, value_end, value_other, pair_at, critical_pair_at, later_pair_at, next_pair_at};
 ghost use Rattle.ixdtf_grammar.specs.Handlers.{RefusedBeside, first_calendar, pair_of};
 ghost use Rattle.ixdtf_reading.specs.reading.Chains.{PairsRead, first_pairs};
 

@@ -10,7 +10,7 @@ use Rattle.ixdtf_grammar.specs.language.Letters.{Letter, Text, equals, hyphen, c
 use Rattle.ixdtf_grammar.specs.table.Faults.{Fault}
 use Rattle.ixdtf_grammar.specs.table.Faults.Fault.{AnnotationKeyValueSeparator, AnnotationKeyChar}
 use Rattle.ixdtf_grammar.specs.table.Faults.Fault.{NonAsciiCodePoint, AnnotationValueChar, AnnotationClose}
-use Rattle.ixdtf_reading.specs.reading.Looks.{Placed, look_at, seen, next_by, error_of}
+use Rattle.ixdtf_reading.specs.reading.Looks.{Placed, Read, look_at, seen, next_by, error_of}
 use Rattle.ixdtf_reading.specs.reading.Zones.{with_letter}
 use Rattle.ixdtf_reading.specs.reading.Runs.{Taken, letters_by, key_after, component_after}
 use Rattle.ixdtf_reading.specs.reading.Pairs.{key_run, component_look, value_run, value_mark, value_step, value_end, value_other}
@@ -88,16 +88,17 @@ no_hyphen c is = grind (arith, nat_tests)
 pub value_unstarted : (state : ValueState) (fault : Fault) → value_end state ≡ fault → value_other state ≡ fault → ((c : ℕ) → value_mark state c ≡ Stops)
     → (text : Text) (placed : Placed) → next_by (component_look fault) text ≡ Err placed → value_run error_of state text ≡ Err placed
 unfolding next_by look_at value_run
-value_unstarted state fault at_end other marks [] placed e = ap (λ f. Err (f, [])) at_end ∙ e
-value_unstarted state fault at_end other marks (Bad ∷ rest) placed e = e
+value_unstarted state fault at_end other marks [] placed e = let same : (fault, []) ≡ placed = cc in ap (λ f. Err (f, [])) at_end ∙ ap Err same
+value_unstarted state fault at_end other marks (Bad ∷ rest) placed e = let same : (NonAsciiCodePoint, Bad ∷ rest) ≡ placed = cc in ap Err same
 value_unstarted state fault at_end other marks (Plain c ∷ rest) placed e = go _ refl e
   where
-    go : (b : Bool) → value_char c ≡ b → (if b then Ok (c, rest) else Err (fault, Plain c ∷ rest)) ≡ Err placed
+    go : (b : Bool) → value_char c ≡ b → if◌then◌else◌ {A = Read Placed ℕ} b (Ok (c, rest)) (Err (fault, Plain c ∷ rest)) ≡ Err placed
         → value_run error_of state (Plain c ∷ rest) ≡ Err placed
     go true p e = absurd cc
     go false p e =
         let step : value_step state c ≡ Stops = rw p (marks c) in
-        value_stops state c rest step ∙ ap (λ f. Err (f, Plain c ∷ rest)) other ∙ e
+        let same : (fault, Plain c ∷ rest) ≡ placed = cc in
+        value_stops state c rest step ∙ ap (λ f. Err (f, Plain c ∷ rest)) other ∙ ap Err same
 
 -- the letter that a component begins with
 started : (fault : Fault) (text left : Text) (c : ℕ) → next_by (component_look fault) text ≡ Ok (c, left) → (seen text ≡ Ok (Some c)) × (value_char c ≡ true)
@@ -106,9 +107,12 @@ started fault [] left c e = absurd cc
 started fault (Bad ∷ rest) left c e = absurd cc
 started fault (Plain n ∷ rest) left c e = go _ refl e
   where
-    go : (b : Bool) → value_char n ≡ b → (if b then Ok (n, rest) else Err (fault, Plain n ∷ rest)) ≡ Ok (c, left)
+    go : (b : Bool) → value_char n ≡ b → if◌then◌else◌ {A = Read Placed ℕ} b (Ok (n, rest)) (Err (fault, Plain n ∷ rest)) ≡ Ok (c, left)
         → (seen (Plain n ∷ rest) ≡ Ok (Some c)) × (value_char c ≡ true)
-    go true p e = let same : n ≡ c = cc in (ap (λ m. Ok (Some m)) same, ap value_char (sym same) ∙ p)
+    go true p e =
+        let both : ◌≡◌ {A = ℕ × Text} (n, rest) (c, left) = cc in
+        let same : n ≡ c = ap (λ x. x.0) both in
+        (ap (λ m. Ok (Some m)) same, ap value_char (sym same) ∙ p)
     go false p e = absurd cc
 
 -- a component inside a value

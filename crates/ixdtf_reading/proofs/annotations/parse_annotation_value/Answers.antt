@@ -1,4 +1,4 @@
-use Rattle.std.proofs.Common.{◌≡◌, false, true, refl, sym, ◌∙◌, arith, rules}
+use Rattle.std.proofs.Common.{◌≡◌, ℕ, false, true, List, length, IsSome, refl, sym, ap, subst, arith, rules}
 use Rattle.std.proofs.lemmas.Result.{err_from_is_err_and}
 use Rattle.ixdtf_grammar.specs.language.Letters.{closing, hyphen}
 use Rattle.ixdtf_reading.specs.reading.Pairs.{AtStart, AfterHyphen}
@@ -18,9 +18,9 @@ loop-component-init g c = record {
   start = c.rest-start.ensures;
   far = value_starts g.T.EncodingType.letter g.met.T.EncodingType.faithful _ _ AtStart (value_begins _ _) _ _ _ c.in_ok-start_component.ensures.letter
       c.in_ok-start_component.ensures.rest;
-  looks = omega arith;
-  counted = omega arith;
-  shorter = omega arith;
+  looks = omega (arith, c.in_ok-start_component.ensures.looks);
+  counted = omega (arith, c.in_ok-start_component.ensures.looks);
+  shorter = c.in_ok-start_component.ensures.shorter;
 }
 
 pub returns-in_err-component-clause-value : goal.returns-in_err-component-clause-value
@@ -45,9 +45,9 @@ returns-in-Some-clause-value g c =
 pub returns-in-Some-3-clause-value : goal.returns-in-Some-3-clause-value
 returns-in-Some-3-clause-value g c =
     let passed = c.in_ok-component.ensures.letters in
-    let open : closing c.in-Some-3.byte ≡ false = search rules in
-    let dash : hyphen c.in-Some-3.byte ≡ false = search rules in
-    component_refused g.T.EncodingType.letter g.met.T.EncodingType.faithful _ _ c.loop-component.invariant.far _ _ _ passed.2 passed.1 _ c.in-Some-3.is open dash
+    let shut : closing c.in-Some-3.field-0 ≡ false = search rules in
+    let dash : hyphen c.in-Some-3.field-0 ≡ false = search rules in
+    component_refused g.T.EncodingType.letter g.met.T.EncodingType.faithful _ _ c.loop-component.invariant.far _ _ _ passed.2 passed.1 _ c.in-Some-3.is shut dash
 
 -- behind a hyphen no component begins
 pub returns-in_err-start_component-2-clause-value : goal.returns-in_err-start_component-2-clause-value
@@ -66,11 +66,17 @@ loop-component-preserved g c =
     let dash : hyphen c.in-Some-2.byte ≡ true = search rules in
     let far = component_joined g.T.EncodingType.letter g.met.T.EncodingType.faithful _ _ c.loop-component.invariant.far _ _ _ passed.2 passed.1 _ _ c.in-Some-2.is dash
     c.step-in-Some-2.ensures.rest in
+    let counts = c.loop-component.invariant in
+    let paid = c.in_ok-component.ensures.stays (subst (λ next. IsSome next) (sym c.in-Some-2.is) refl) in
+    let off = ap (λ (t : List ℕ). length t) c.step-in-Some-2.ensures.rest in
+    let kept = c.step-in-Some-2.ensures.looks in
+    let walked = c.in_ok-component.ensures in
+    let begun = c.in_ok-start_component-2.ensures in
     record {
       start = c.loop-component.invariant.start;
       far = value_starts g.T.EncodingType.letter g.met.T.EncodingType.faithful _ _ AfterHyphen far _ _ _ c.in_ok-start_component-2.ensures.letter
           c.in_ok-start_component-2.ensures.rest;
-      looks = omega arith;
-      counted = omega arith;
-      shorter = omega arith;
+      looks = omega (arith, counts.looks, walked.looks, paid, off, kept, begun.looks);
+      counted = omega (arith, counts.counted, walked.looks, kept, begun.looks);
+      shorter = omega (arith, counts.shorter, walked.shorter, paid, off, begun.shorter);
     }
