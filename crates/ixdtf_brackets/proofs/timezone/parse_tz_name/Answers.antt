@@ -1,3 +1,4 @@
+use Rattle.std.proofs.Common.{◌≡◌, true, false, rules}
 use Rattle.std.proofs.lemmas.Result.{err_from_is_err_and}
 use Rattle.ixdtf_reading.proofs.code.LetterLoops.{front_is, next_shown}
 use Rattle.ixdtf_brackets.proofs.code.NameLoop.{name_failed, name_ended, name_refused}
@@ -9,7 +10,9 @@ returns-in_err-name-clause-name g c =
     rw (p.1, p.2) (name_failed _ _ c.in_err-name.ensures.letters)
 
 pub returns-then-not-name-clause-name : goal.returns-then-not-name-clause-name
-returns-then-not-name-clause-name g c = name_refused _ _ _ c.in_ok-name.ensures.letters.2 (c.if-not-name.true)
+returns-then-not-name-clause-name g c =
+    let slash : c.in_ok-name.name.state.may_end ≡ false = search rules in
+    name_refused _ _ _ c.in_ok-name.ensures.letters.2 slash
 
 -- the units are those of the letters that were passed over
 pub returns-clause-name : goal.returns-clause-name
@@ -17,7 +20,8 @@ returns-clause-name g c =
     let passed = c.in_ok-name.ensures.letters in
     let front = front_is g.T.EncodingType.number c.rest-start.result.now c.rest.result.now passed.0 c.pass_name.new.cursor.rest _ c.rest-start.ensures
     passed.1 c.rest.ensures in
-    rw front (name_ended _ _ _ passed.2 (c.if-not-name.false))
+    let ends : c.in_ok-name.name.state.may_end ≡ true = search rules in
+    rw front (name_ended _ _ _ passed.2 ends)
 
 pub returns-clause-next : goal.returns-clause-next
 returns-clause-next g c = next_shown _ _ _ _ _ c.in_ok-name.ensures.letters.2

@@ -1,4 +1,4 @@
-use Rattle.std.proofs.Common.{Ok, sym, ap, drop, ◌∙◌, arith}
+use Rattle.std.proofs.Common.{ℕ, List, Ok, length, drop, sym, ap, ◌∙◌, arith}
 use Rattle.std.proofs.lemmas.Result.{err_from_is_err_and}
 use Rattle.ixdtf_reading.proofs.code.LetterLoops.{begins}
 use Rattle.ixdtf_grammar.specs.language.Letters.{slash, zone_char}
@@ -28,7 +28,7 @@ returns-in_err-next-clause-letters g c =
     let passed = c.in_ok-part.ensures.letters in
     let far = part_slashes g.T.EncodingType.letter g.met.T.EncodingType.faithful _ _ c.loop-part.invariant.far _ _ _ passed.2 passed.1 _
     (sym c.ends_part.ensures ∙ c.if-not-ends_part.false) c.step.ensures.rest in
-    rw (p.1, p.2, c.look-next.ensures.rest) (slash_fails g.T.EncodingType.letter g.met.T.EncodingType.faithful _ _ far _ c.in_err-next.ensures.letter)
+    rw (p.1, p.2, c.look.ensures.rest) (slash_fails g.T.EncodingType.letter g.met.T.EncodingType.faithful _ _ far _ c.in_err-next.ensures.letter)
 
 -- no part follows a slash
 pub returns-then-not-starts_part-clause-letters : goal.returns-then-not-starts_part-clause-letters
@@ -36,7 +36,7 @@ returns-then-not-starts_part-clause-letters g c =
     let passed = c.in_ok-part.ensures.letters in
     let far = part_slashes g.T.EncodingType.letter g.met.T.EncodingType.faithful _ _ c.loop-part.invariant.far _ _ _ passed.2 passed.1 _
     (sym c.ends_part.ensures ∙ c.if-not-ends_part.false) c.step.ensures.rest in
-    rw c.look-next.ensures.rest (slash_ceases g.T.EncodingType.letter g.met.T.EncodingType.faithful _ _ far _ c.in_ok-next.ensures.letter
+    rw c.look.ensures.rest (slash_ceases g.T.EncodingType.letter g.met.T.EncodingType.faithful _ _ far _ c.in_ok-next.ensures.letter
     (sym c.starts_part.ensures ∙ c.if-not-starts_part.true))
 
 pub loop-part-preserved : goal.loop-part-preserved
@@ -47,21 +47,36 @@ loop-part-preserved g c =
     let paid = c.in_ok-part.ensures.stays (is_some slash _ (sym c.ends_part.ensures ∙ c.if-not-ends_part.false)) in
     let found = some_next zone_char _ (sym c.starts_part.ensures ∙ c.if-not-starts_part.false) in
     let joined = stepped g.T.EncodingType.letter _ found.0 (c.in_ok-next.ensures.letter ∙ ap Ok found.1) in
+    let moved = c.step-in-loop-part.ensures.rest ∙ ap (λ t. drop 1 t) c.look.ensures.rest in
+    let counts = c.loop-part.invariant in
+    let walked = c.in_ok-part.ensures in
+    let off = ap (λ (t : List ℕ). length t) c.step.ensures.rest in
+    let off_too = ap (λ (t : List ℕ). length t) moved in
     record {
       far = slash_goes_on g.T.EncodingType.letter g.met.T.EncodingType.faithful _ _ far _ _ c.in_ok-next.ensures.letter
-          (sym c.starts_part.ensures ∙ c.if-not-starts_part.false) (c.step-2.ensures.rest ∙ ap (λ t. drop 1 t) c.look-next.ensures.rest);
-      looks = omega (arith, paid, joined);
-      counted = omega arith;
-      shorter = omega (arith, paid, joined);
+          (sym c.starts_part.ensures ∙ c.if-not-starts_part.false) moved;
+      looks = omega (arith, counts.looks, walked.looks, paid, joined, off, off_too, c.step.ensures.looks, c.look.ensures.looks, c.step-in-loop-part.ensures.looks);
+      counted = omega (arith, counts.counted, walked.looks, c.step.ensures.looks, c.look.ensures.looks, c.step-in-loop-part.ensures.looks);
+      shorter = omega (arith, counts.shorter, walked.shorter, paid, joined, off, off_too);
     }
 
 -- the slash pays for the look at it
 pub returns-then-not-starts_part-clause-looks : goal.returns-then-not-starts_part-clause-looks
 returns-then-not-starts_part-clause-looks g c =
     let paid = c.in_ok-part.ensures.stays (is_some slash _ (sym c.ends_part.ensures ∙ c.if-not-ends_part.false)) in
-    (omega (arith, paid), omega arith)
+    let counts = c.loop-part.invariant in
+    let walked = c.in_ok-part.ensures in
+    let off = ap (λ (t : List ℕ). length t) (c.look.ensures.rest ∙ c.step.ensures.rest) in (
+      omega (arith, counts.looks, walked.looks, paid, off, c.step.ensures.looks, c.look.ensures.looks),
+      omega (arith, counts.counted, walked.looks, c.step.ensures.looks, c.look.ensures.looks),
+    )
 
 pub returns-in_err-next-clause-looks : goal.returns-in_err-next-clause-looks
 returns-in_err-next-clause-looks g c =
     let paid = c.in_ok-part.ensures.stays (is_some slash _ (sym c.ends_part.ensures ∙ c.if-not-ends_part.false)) in
-    (omega (arith, paid), omega arith)
+    let counts = c.loop-part.invariant in
+    let walked = c.in_ok-part.ensures in
+    let off = ap (λ (t : List ℕ). length t) (c.look.ensures.rest ∙ c.step.ensures.rest) in (
+      omega (arith, counts.looks, walked.looks, paid, off, c.step.ensures.looks, c.look.ensures.looks),
+      omega (arith, counts.counted, walked.looks, c.step.ensures.looks, c.look.ensures.looks),
+    )
