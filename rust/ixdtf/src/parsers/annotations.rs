@@ -7,7 +7,7 @@ use crate::parsers::grammar::{
     is_a_key_char, is_a_key_leading_char, is_annotation_close, is_annotation_key_value_separator,
     is_annotation_open, is_annotation_value_component, is_critical_flag, is_hyphen,
 };
-use crate::parsers::letters::{Letters, take_letters};
+use crate::parsers::letters::{Letters, pass_letters, take_letters};
 use crate::stop::Stop;
 use crate::encoding::EncodingType;
 use crate::records::Annotation;
@@ -41,85 +41,52 @@ pub fn parse_annotation_key<'a, T: EncodingType>(
     }
 }
 
-/// Where reading of a value is.
+/// The letters of a component of a value.
 #[derive(Clone, Copy)]
-pub enum ValueState {
-    /// Before its first letter.
-    AtStart,
-    /// After a letter.
-    Inside,
-    /// After a hyphen.
-    AfterHyphen,
-}
+pub struct ComponentLetters;
 
-/// What a letter does in a value.
-#[derive(Clone, Copy)]
-pub enum ValueStep {
-    /// It is a letter of the value.
-    GoesOn(ValueState),
-    /// It closes the bracket.
-    Ends,
-    /// It is an error.
-    Stops,
-}
-
-impl ValueState {
-    /// What the letter does here.
-    #[inline(always)]
-    fn step(self, byte: u8) -> ValueStep {
-        if is_annotation_value_component(byte) {
-            return ValueStep::GoesOn(ValueState::Inside);
-        }
-        match self {
-            ValueState::Inside if is_hyphen(byte) => ValueStep::GoesOn(ValueState::AfterHyphen),
-            ValueState::Inside if is_annotation_close(byte) => ValueStep::Ends,
-            _ => ValueStep::Stops,
-        }
-    }
-
-    /// Why reading stops where the text ends here.
-    fn end_stop(self) -> Stop {
-        match self {
-            ValueState::AtStart => Stop::AnnotationValueChar,
-            ValueState::Inside => Stop::AnnotationClose,
-            ValueState::AfterHyphen => Stop::AnnotationValueCharPostHyphen,
-        }
-    }
-
-    /// Why reading stops at another letter here.
-    fn other_stop(self) -> Stop {
-        match self {
-            ValueState::AtStart | ValueState::Inside => Stop::AnnotationValueChar,
-            ValueState::AfterHyphen => Stop::AnnotationValueCharPostHyphen,
-        }
-    }
-}
-
-impl Letters for ValueState {
+impl Letters for ComponentLetters {
     #[inline(always)]
     fn go_on(self, byte: u8) -> Option<Self> {
-        match self.step(byte) {
-            ValueStep::GoesOn(next) => Some(next),
-            ValueStep::Ends | ValueStep::Stops => None,
-        }
+        is_annotation_value_component(byte).then_some(self)
     }
 }
 
-/// Reads a value and the `]` after it, and returns the value's units.
+/// Takes the first letter of a component off. Another letter, or the end, is this stop; both stay.
+#[inline(always)]
+fn start_component<'a, T: EncodingType>(
+    cursor: &mut Cursor<'a, T>,
+    other: Stop,
+) -> Result<u8, Stop> {
+    match cursor.look()? {
+        Some(byte) if is_annotation_value_component(byte) => {
+            cursor.step();
+            Ok(byte)
+        }
+        _ => Err(other),
+    }
+}
+
+/// Reads a value, component by component between its hyphens, and the `]` after it, and returns the value's units.
 #[inline(always)]
 pub fn parse_annotation_value<'a, T: EncodingType>(
     cursor: &mut Cursor<'a, T>,
 ) -> Result<&'a [T::CodeUnit], Stop> {
-    let value = take_letters(cursor, ValueState::AtStart)?;
-    match value.next {
-        None => Err(value.state.end_stop()),
-        Some(byte) => match value.state.step(byte) {
-            ValueStep::Ends => {
+    let start = cursor.rest();
+    start_component(cursor, Stop::AnnotationValueChar)?;
+    loop {
+        let component = pass_letters(cursor, ComponentLetters)?;
+        match component.next {
+            None => return Err(Stop::AnnotationClose),
+            Some(byte) if is_annotation_close(byte) => {
+                let count = start.len() - cursor.rest().len();
                 cursor.step();
-                Ok(value.units)
+                return Ok(&start[..count]);
             }
-            ValueStep::GoesOn(_) | ValueStep::Stops => Err(value.state.other_stop()),
-        },
+            Some(byte) if is_hyphen(byte) => cursor.step(),
+            Some(_) => return Err(Stop::AnnotationValueChar),
+        }
+        start_component(cursor, Stop::AnnotationValueCharPostHyphen)?;
     }
 }
 

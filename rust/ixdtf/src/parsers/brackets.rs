@@ -2,7 +2,7 @@
 
 //! Reading the first bracket, which may name a zone.
 
-use crate::parsers::timezone::{NameLetters, parse_name_in_bracket, parse_offset_in_bracket};
+use crate::parsers::timezone::{NameState, parse_name_in_bracket, parse_offset_in_bracket, pass_name};
 use crate::encoding::EncodingType;
 use crate::records::{Annotation, TimeZoneAnnotation, TimeZoneRecord};
 use crate::parsers::annotations::{KeyLetters, parse_annotation_value};
@@ -11,7 +11,7 @@ use crate::parsers::grammar::{
     is_a_key_leading_char, is_annotation_close, is_annotation_key_value_separator, is_ascii_sign,
     is_critical_flag, is_tz_leading_char,
 };
-use crate::parsers::letters::{Letters, take_letters};
+use crate::parsers::letters::{Letters, pass_letters, take_letters};
 use crate::stop::Stop;
 
 /// A first bracket: a zone or a pair.
@@ -102,7 +102,7 @@ fn parse_name_or_pair<'a, T: EncodingType>(
         }));
     }
     let behind_key = cursor.rest();
-    let more = take_letters(cursor, NameLetters { may_end: true })?;
+    let more = pass_name(cursor)?;
     if more.state.may_end && ends_bracket(more.next) {
         let count = start.len() - cursor.rest().len();
         cursor.step();
@@ -111,7 +111,12 @@ fn parse_name_or_pair<'a, T: EncodingType>(
             tz: TimeZoneRecord::Name(&start[..count]),
         }));
     }
-    Err(refuse_bracket(cursor, behind_key, more.state))
+    if more.next.is_none() {
+        return Err(Stop::AbruptBracket);
+    }
+    let refused = refuse_bracket(cursor.take(), behind_key, more.state);
+    *cursor = refused.there;
+    Err(refused.stop)
 }
 
 /// The letters of a first bracket before an `=` or a `]`.
@@ -126,27 +131,37 @@ impl Letters for BracketLetters {
     }
 }
 
+/// Why a first bracket is refused, and where.
+struct Refused<'a, T: EncodingType> {
+    stop: Stop,
+    there: Cursor<'a, T>,
+}
+
 /// Why a first bracket is refused that is no name, after the letters of one: with an `=` before any `]` it is a pair, whose
-/// key does not go on. The cursor is left where the key or the name goes no further, or where the look ahead ended.
-#[cold]
+/// key does not go on. It is refused where the key or the name goes no further, or where the look ahead ended. The cursor is
+/// handed over, so that the one of the caller is in no memory.
 fn refuse_bracket<'a, T: EncodingType>(
-    cursor: &mut Cursor<'a, T>,
+    here: Cursor<'a, T>,
     behind_key: &'a [T::CodeUnit],
-    name: NameLetters,
-) -> Stop {
-    let behind_name = cursor.rest();
-    match take_letters(cursor, BracketLetters) {
-        Err(stop) => stop,
-        Ok(taken) => match taken.next {
-            None => Stop::AbruptBracket,
-            Some(byte) if is_annotation_key_value_separator(byte) => {
-                *cursor = cursor.at(behind_key);
-                Stop::AnnotationKeyChar
-            }
-            Some(_) => {
-                *cursor = cursor.at(behind_name);
-                name.stop()
-            }
+    name: NameState,
+) -> Refused<'a, T> {
+    let behind_name = here.rest();
+    let mut ahead = here;
+    match pass_letters(&mut ahead, BracketLetters) {
+        Err(stop) => Refused { stop, there: ahead },
+        Ok(passed) => match passed.next {
+            None => Refused {
+                stop: Stop::AbruptBracket,
+                there: ahead,
+            },
+            Some(byte) if is_annotation_key_value_separator(byte) => Refused {
+                stop: Stop::AnnotationKeyChar,
+                there: ahead.at(behind_key),
+            },
+            Some(_) => Refused {
+                stop: name.stop(),
+                there: ahead.at(behind_name),
+            },
         },
     }
 }

@@ -1,6 +1,6 @@
 // Made by tools/to_rust.py of crates/ixdtf_reading/src/letters.rt. Do not edit.
 
-//! Taking letters off one by one.
+//! Passing over letters one by one, and taking them off.
 
 use crate::cursor::Cursor;
 use crate::stop::Stop;
@@ -10,6 +10,38 @@ use crate::encoding::EncodingType;
 pub trait Letters: Copy {
     /// Where reading is after the letter, or `None` where the letter does not go on.
     fn go_on(self, byte: u8) -> Option<Self>;
+}
+
+/// Where reading is after letters that were passed over, and the letter that does not go on.
+pub struct Passed<S: Copy> {
+    pub state: S,
+    pub next: Option<u8>,
+}
+
+/// Passes over letters as far as they go. The letter that does not go on stays.
+#[inline(always)]
+pub fn pass_letters<'a, T: EncodingType, S: Letters>(
+    cursor: &mut Cursor<'a, T>,
+    first: S,
+) -> Result<Passed<S>, Stop> {
+    let mut here = cursor.take();
+    let mut state = first;
+    let found = loop {
+        match here.look() {
+            Err(stop) => break Err(stop),
+            Ok(None) => break Ok(None),
+            Ok(Some(byte)) => match state.go_on(byte) {
+                None => break Ok(Some(byte)),
+                Some(next) => {
+                    here.step();
+                    state = next;
+                }
+            },
+        }
+    };
+    *cursor = here;
+    let next = found?;
+    Ok(Passed { state, next })
 }
 
 /// Letters that were taken off, where reading is after them, and the letter that does not go on.
@@ -26,27 +58,11 @@ pub fn take_letters<'a, T: EncodingType, S: Letters>(
     first: S,
 ) -> Result<Taken<'a, T, S>, Stop> {
     let start = cursor.rest();
-    let mut here = cursor.take();
-    let mut state = first;
-    let found = loop {
-        match here.look() {
-            Err(stop) => break Err(stop),
-            Ok(None) => break Ok(None),
-            Ok(Some(byte)) => match state.go_on(byte) {
-                None => break Ok(Some(byte)),
-                Some(next) => {
-                    here.step();
-                    state = next;
-                }
-            },
-        }
-    };
-    let count = start.len() - here.rest().len();
-    *cursor = here;
-    let next = found?;
+    let passed = pass_letters(cursor, first)?;
+    let count = start.len() - cursor.rest().len();
     Ok(Taken {
         units: &start[..count],
-        state,
-        next,
+        state: passed.state,
+        next: passed.next,
     })
 }

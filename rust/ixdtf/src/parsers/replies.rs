@@ -25,34 +25,40 @@ fn has_same_units<T: EncodingType>(left: &[T::CodeUnit], right: &[T::CodeUnit]) 
     left == right
 }
 
-/// The calendar that is kept after a reply: the first one. A reply that is critical and no calendar is
+/// Keeps the calendar of a reply where it is the first one. A reply that is critical and no calendar is
 /// `UnrecognizedCritical`, and a calendar with another value than the first is `CriticalDuplicateCalendar` where one of
 /// the two is critical.
 #[inline(always)]
 fn keep_first_calendar<'a, T: EncodingType>(
-    calendar: Option<Annotation<'a, T>>,
+    calendar: &mut Option<Annotation<'a, T>>,
     reply: Option<Annotation<'a, T>>,
-) -> Result<Option<Annotation<'a, T>>, Stop> {
+) -> Result<(), Stop> {
     let Some(found) = reply else {
-        return Ok(calendar);
+        return Ok(());
     };
     if !T::check_calendar_key(found.key) {
         if found.critical {
             return Err(Stop::UnrecognizedCritical);
         }
-        return Ok(calendar);
+        return Ok(());
     }
-    let Some(first) = calendar else {
-        return Ok(Some(found));
-    };
-    if !has_same_units::<T>(first.value, found.value) && (first.critical || found.critical) {
-        return Err(Stop::CriticalDuplicateCalendar);
+    match calendar {
+        None => {
+            *calendar = Some(found);
+            Ok(())
+        }
+        Some(first) => {
+            if !has_same_units::<T>(first.value, found.value) && (first.critical || found.critical) {
+                return Err(Stop::CriticalDuplicateCalendar);
+            }
+            Ok(())
+        }
     }
-    Ok(Some(first))
 }
 
 /// Reads the pairs to the end, asks the handler about each as soon as it was read whole, and returns the calendar that is
 /// kept. A first pair may have been read already.
+#[inline(always)]
 pub fn parse_annotations<'a, T: EncodingType, F>(
     cursor: &mut Cursor<'a, T>,
     first: Option<Annotation<'a, T>>,
@@ -64,11 +70,11 @@ where
     let mut calendar = None;
     if let Some(annotation) = first {
         let reply = ask::<T, F>(handler, annotation);
-        calendar = keep_first_calendar::<T>(None, reply)?;
+        keep_first_calendar::<T>(&mut calendar, reply)?;
     }
     while let Some(annotation) = next_annotation(cursor)? {
         let reply = ask::<T, F>(handler, annotation);
-        calendar = keep_first_calendar::<T>(calendar, reply)?;
+        keep_first_calendar::<T>(&mut calendar, reply)?;
     }
     Ok(calendar)
 }

@@ -8,43 +8,31 @@ use crate::cursor::Cursor;
 use crate::parsers::grammar::{
     is_annotation_close, is_ascii_sign, is_tz_char, is_tz_leading_char, is_tz_name_separator,
 };
-use crate::parsers::letters::{Letters, take_letters};
+use crate::parsers::letters::{Letters, Passed, pass_letters};
 use crate::stop::Stop;
 use crate::parsers::offsets::{minute_offset, take_last_offset};
 use crate::parsers::time::{Clock, parse_clock};
 
 // ==== Names ====
 
-/// The letters of a name, by whether it may end: after a `/` it may not, and no other `/` goes on.
+/// The letters of a part of a name.
 #[derive(Clone, Copy)]
-pub struct NameLetters {
+pub struct PartLetters;
+
+impl Letters for PartLetters {
+    #[inline(always)]
+    fn go_on(self, byte: u8) -> Option<Self> {
+        is_tz_char(byte).then_some(self)
+    }
+}
+
+/// Where reading of a name is, by whether it may end there: after a `/` it may not.
+#[derive(Clone, Copy)]
+pub struct NameState {
     pub may_end: bool,
 }
 
-impl Letters for NameLetters {
-    #[inline(always)]
-    fn go_on(self, byte: u8) -> Option<Self> {
-        if is_tz_char(byte) {
-            Some(NameLetters { may_end: true })
-        } else {
-            self.after_part(byte)
-        }
-    }
-}
-
-impl NameLetters {
-    /// Where reading is after a letter that no part of a name has. It is not inlined, so that the loop over a part keeps to
-    /// itself.
-    #[cold]
-    #[inline(never)]
-    fn after_part(self, byte: u8) -> Option<NameLetters> {
-        if is_tz_name_separator(byte) && self.may_end {
-            Some(NameLetters { may_end: false })
-        } else {
-            None
-        }
-    }
-
+impl NameState {
     /// Why a name is refused where its letters go no further.
     #[inline(always)]
     pub fn stop(self) -> Stop {
@@ -56,16 +44,73 @@ impl NameLetters {
     }
 }
 
-/// Reads a name as far as it goes, from its first letter on, and returns its units.
+/// Whether the letter is the `/` after a part of a name.
+#[inline(always)]
+fn ends_part(next: Option<u8>) -> bool {
+    matches!(next, Some(byte) if is_tz_name_separator(byte))
+}
+
+/// Whether the letter is one of a part of a name.
+#[inline(always)]
+fn starts_part(next: Option<u8>) -> bool {
+    matches!(next, Some(byte) if is_tz_char(byte))
+}
+
+/// Passes over the letters of a name as far as they go, part by part between its slashes.
+#[inline(always)]
+pub fn pass_name<'a, T: EncodingType>(
+    cursor: &mut Cursor<'a, T>,
+) -> Result<Passed<NameState>, Stop> {
+    let mut here = cursor.take();
+    let passed = pass_parts(&mut here);
+    *cursor = here;
+    passed
+}
+
+/// Passes over the parts of a name, as `pass_name` does, by the cursor itself.
+#[inline(always)]
+fn pass_parts<'a, T: EncodingType>(cursor: &mut Cursor<'a, T>) -> Result<Passed<NameState>, Stop> {
+    loop {
+        let part = pass_letters(cursor, PartLetters)?;
+        if !ends_part(part.next) {
+            return Ok(Passed {
+                state: NameState { may_end: true },
+                next: part.next,
+            });
+        }
+        cursor.step();
+        let next = cursor.look()?;
+        if !starts_part(next) {
+            return Ok(Passed {
+                state: NameState { may_end: false },
+                next,
+            });
+        }
+        cursor.step();
+    }
+}
+
+/// A name that was read, and the letter behind it.
+pub struct ReadName<'a, T: EncodingType> {
+    pub units: &'a [T::CodeUnit],
+    pub next: Option<u8>,
+}
+
+/// Reads a name as far as it goes, from its first letter on, and returns its units and the letter behind it.
 #[inline(always)]
 pub fn parse_tz_name<'a, T: EncodingType>(
     cursor: &mut Cursor<'a, T>,
-) -> Result<&'a [T::CodeUnit], Stop> {
-    let name = take_letters(cursor, NameLetters { may_end: true })?;
+) -> Result<ReadName<'a, T>, Stop> {
+    let start = cursor.rest();
+    let name = pass_name(cursor)?;
     if !name.state.may_end {
         return Err(Stop::IanaCharPostSeparator);
     }
-    Ok(name.units)
+    let count = start.len() - cursor.rest().len();
+    Ok(ReadName {
+        units: &start[..count],
+        next: name.next,
+    })
 }
 
 /// Reads a name, and wants the end.
@@ -73,8 +118,8 @@ fn parse_name_alone<'a, T: EncodingType>(
     cursor: &mut Cursor<'a, T>,
 ) -> Result<&'a [T::CodeUnit], Stop> {
     let name = parse_tz_name(cursor)?;
-    match cursor.look()? {
-        None => Ok(name),
+    match name.next {
+        None => Ok(name.units),
         Some(byte) if is_annotation_close(byte) => Err(Stop::InvalidEnd),
         Some(_) => Err(Stop::IanaChar),
     }
@@ -146,6 +191,12 @@ pub fn parse_name_in_bracket<'a, T: EncodingType>(
     cursor: &mut Cursor<'a, T>,
 ) -> Result<&'a [T::CodeUnit], Stop> {
     let name = parse_tz_name(cursor)?;
-    close_bracket(cursor, Stop::IanaChar)?;
-    Ok(name)
+    match name.next {
+        None => Err(Stop::AnnotationClose),
+        Some(byte) if is_annotation_close(byte) => {
+            cursor.step();
+            Ok(name.units)
+        }
+        Some(_) => Err(Stop::IanaChar),
+    }
 }
