@@ -17,7 +17,7 @@ use crate::grammar::{
     is_a_key_char, is_a_key_leading_char, is_annotation_close, is_annotation_key_value_separator,
     is_annotation_open, is_annotation_value_component, is_critical_flag, is_hyphen,
 };
-use crate::letters::{Letters, pass_letters, take_letters};
+use crate::letters::{Letters, pass_letters};
 use crate::stop::Stop;
 use ixdtf_grammar::encoding::EncodingType;
 use ixdtf_grammar::records::Annotation;
@@ -47,12 +47,14 @@ pub fn parse_annotation_key<'a, T: EncodingType>(
     ensures looks { SpendsOr 1 0 cursor.old result cursor.new }
     ensures shorter { OnOk result (length cursor.new.rest < length cursor.old.rest) }
 {
-    let key = take_letters(cursor, KeyLetters)?;
+    let start = cursor.rest();
+    let key = pass_letters(cursor, KeyLetters)?;
     match key.next {
         None => Err(Stop::AnnotationKeyValueSeparator),
         Some(byte) if is_annotation_key_value_separator(byte) => {
+            let count = start.len() - cursor.rest().len();
             cursor.step();
-            Ok(key.units)
+            Ok(&start[..count])
         }
         Some(_) => Err(Stop::AnnotationKeyChar),
     }

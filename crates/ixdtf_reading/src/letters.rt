@@ -1,8 +1,8 @@
-//! Passing over letters one by one, and taking them off.
+//! Passing over letters one by one.
 
-ghost use Rattle.std.specs.Prelude.{◌≡◌, ℕ, ◌+◌, ◌≤◌, ◌++◌, Option, map, length, drop, OnOk, IfOk, IsSome};
-ghost use Rattle.ixdtf_reading.specs.reading.Clauses.{Reads, Spends};
-ghost use Rattle.ixdtf_reading.specs.reading.Runs.{Passes, letters_by, taken_of};
+ghost use Rattle.std.specs.Prelude.{◌≡◌, ℕ, ◌+◌, ◌≤◌, Option, length, drop, IfOk, IsSome};
+ghost use Rattle.ixdtf_reading.specs.reading.Clauses.{Spends};
+ghost use Rattle.ixdtf_reading.specs.reading.Runs.{Passes, letters_by};
 
 use crate::cursor::Cursor;
 use crate::stop::Stop;
@@ -55,37 +55,4 @@ pub fn pass_letters<'a, T: EncodingType, S: Letters>(
     *cursor = here;
     let next = found?;
     Ok(Passed { state, next })
-}
-
-/// Letters that were taken off, where reading is after them, and the letter that does not go on.
-#[derive(Drop)]
-pub struct Taken<'a, T: EncodingType, S: Letters> {
-    pub units: &'a [T::CodeUnit],
-    pub state: S,
-    pub next: Option<u8>,
-}
-
-/// Takes letters off as far as they go. The letter that does not go on stays.
-#[inline(always)]
-pub fn take_letters<'a, T: EncodingType, S: Letters>(
-    cursor: &mut Cursor<'a, T>,
-    first: S,
-) -> Result<Taken<'a, T, S>, Stop>
-    ensures letters { Reads T.letter (taken_of T.number) cursor.old result cursor.new
-        (letters_by S.after first) }
-    ensures looks { Spends 1 cursor.old cursor.new }
-    ensures units { IfOk result (λ taken.
-        cursor.old.rest ≡ map T.number taken.units.now ++ cursor.new.rest) }
-    ensures stays { IfOk result (λ taken. IsSome taken.next →
-        length (drop 1 cursor.new.rest) + 1 ≡ length cursor.new.rest) }
-    ensures shorter { OnOk result (length cursor.new.rest ≤ length cursor.old.rest) }
-{
-    let start = cursor.rest();
-    let passed = pass_letters(cursor, first)?;
-    let count = start.len() - cursor.rest().len();
-    Ok(Taken {
-        units: &start[..count],
-        state: passed.state,
-        next: passed.next,
-    })
 }

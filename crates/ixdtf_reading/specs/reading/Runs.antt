@@ -3,7 +3,6 @@ use Rattle.std.specs.Prelude.{◌≡◌, ℕ, List, [], ◌∷◌, ◌++◌, map
 use Rattle.ixdtf_reading.specs.declared.annotations.KeyLetters.{KeyLetters}
 use Rattle.ixdtf_reading.specs.declared.annotations.ComponentLetters.{ComponentLetters}
 use Rattle.ixdtf_reading.specs.declared.letters.Passed.{Passed}
-use Rattle.ixdtf_reading.specs.declared.letters.Taken.{Taken as CodeTaken}
 use Rattle.ixdtf_reading.specs.declared.stop.Stop.{Stop}
 use Rattle.ixdtf_grammar.specs.language.Letters.{Letter, Text, key_char, value_char}
 use Rattle.ixdtf_grammar.specs.language.Letters.Letter.{Plain, Bad}
@@ -37,9 +36,6 @@ letters_by after state [] = Ok (nothing_taken state None, [])
 letters_by after state (Bad ∷ rest) = Err (NonAsciiCodePoint, Bad ∷ rest)
 letters_by after state (Plain c ∷ rest) =
     on_letter (after state c) (λ next. one_more c (letters_by after next rest)) (Ok (nothing_taken state (Some c), Plain c ∷ rest))
-
-abbrev pub taken_of : {T S U : Type 0} → (U → ℕ) → CodeTaken T S U → Taken S
-taken_of number taken = record { letters = map number taken.units.now; state = taken.state; next = taken.next }
 
 -- The letters that a function passed over, and where it left off, are what reading takes of those that were still to be read.
 abbrev pub Passes : {S : Type 0} → (ℕ → Letter) → Unread → Result (Passed S) Stop → Unread → (Text → Read Placed (Taken S)) → Type 0

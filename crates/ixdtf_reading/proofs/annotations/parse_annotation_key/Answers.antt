@@ -1,6 +1,7 @@
 use Rattle.std.proofs.Common.{◌≡◌, true, false, rules}
 use Rattle.std.proofs.lemmas.Result.{err_from_is_err_and}
 use Rattle.ixdtf_grammar.specs.language.Letters.{equals}
+use Rattle.ixdtf_reading.proofs.code.LetterLoops.{front_is}
 use Rattle.ixdtf_reading.proofs.code.PairLoops.{key_failed, key_ended, key_closed, key_refused}
 use Rattle.ixdtf_reading.proofs.annotations.parse_annotation_key.Goals as goal
 
@@ -10,14 +11,17 @@ returns-in_err-key-clause-key g c =
     rw (p.1, p.2) (key_failed _ _ _ c.in_err-key.ensures.letters)
 
 pub returns-in-None-clause-key : goal.returns-in-None-clause-key
-returns-in-None-clause-key g c = key_ended _ _ _ _ c.in_ok-key.ensures.letters c.in-None.is
+returns-in-None-clause-key g c = key_ended _ _ _ _ c.in_ok-key.ensures.letters.2 c.in-None.is
 
 pub returns-in-Some-clause-key : goal.returns-in-Some-clause-key
 returns-in-Some-clause-key g c =
     let closes : equals c.in-Some.byte ≡ true = search rules in
-    rw c.step.ensures.letters (key_closed _ _ _ _ _ c.in_ok-key.ensures.letters c.in-Some.is closes)
+    let passed = c.in_ok-key.ensures.letters in
+    let front = front_is g.T.EncodingType.number c.rest-start.result.now c.rest.result.now passed.0 c.pass_letters.new.cursor.rest _ c.rest-start.ensures
+    passed.1 c.rest.ensures in
+    rw (front, c.step.ensures.letters) (key_closed _ _ _ _ _ passed.2 c.in-Some.is closes)
 
 pub returns-in-Some-2-clause-key : goal.returns-in-Some-2-clause-key
 returns-in-Some-2-clause-key g c =
     let refuses : equals c.in-Some.byte ≡ false = search rules in
-    key_refused _ _ _ _ _ c.in_ok-key.ensures.letters c.in-Some.is refuses
+    key_refused _ _ _ _ _ c.in_ok-key.ensures.letters.2 c.in-Some.is refuses
