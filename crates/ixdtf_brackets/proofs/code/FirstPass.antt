@@ -22,7 +22,7 @@ use Rattle.ixdtf_brackets.specs.BracketTypes.{name_after, bracket_after}
 use Rattle.ixdtf_reading.specs.reading.Brackets.{Bracket, zoned, paired, noted, as_pair, refusal, name_fault, next_is, sight_at, name_in_bracket_at, name_or_pair_at}
 use Rattle.ixdtf_reading.proofs.code.FirstLetter.{first_is, nothing_is}
 use Rattle.ixdtf_brackets.proofs.code.NameLoop.{name_start, name_ended, name_refused, some_next}
-use Rattle.ixdtf_reading.proofs.code.LetterLoops.{Stays, next_shown, next_stays, behind, reads_over}
+use Rattle.ixdtf_reading.proofs.code.LetterLoops.{test_held, Stays, next_shown, next_stays, in_front, run_passed}
 use Rattle.ixdtf_reading.proofs.code.PairLoops.{key_closed, key_refused}
 use Rattle.ixdtf_reading.proofs.parts.LookAhead.{over_letter, zone_char_skipped, slash_skipped, key_char_skipped}
 
@@ -71,11 +71,6 @@ no_equals c is = grind (arith, nat_tests)
 sight_at_closing : (text : Text) (c : ℕ) → seen text ≡ Ok (Some c) → closing c ≡ true → sight text ≡ Ok false
 unfolding sight_at
 sight_at_closing text c e is = rw (first_is text c e, no_equals c is, is) refl
-
--- what comes of a test comes of one that holds
-test_held : {A : Type 0} (b : Bool) (x y : A) → (if b then Some x else None) ≡ Some y → b ≡ true
-test_held true x y e = refl
-test_held false x y e = absurd cc
 
 -- ---- letters before an `=` or a `]`
 
@@ -139,14 +134,14 @@ key_in_name : (state next : KeyLetters) (c : ℕ) (rest : Text) → key_after st
 unfolding name_run
 key_in_name state next c rest e = rw (key_is_zone c (test_held (key_char c) state next e)) refl
 
-bad_in_name : (rest : Text) → name_run error_of true (Bad ∷ rest) ≡ Err (NonAsciiCodePoint, Bad ∷ rest)
+bad_in_name : (letters : KeyLetters) (rest : Text) → name_run error_of true (Bad ∷ rest) ≡ Err (NonAsciiCodePoint, Bad ∷ rest)
 unfolding name_run
-bad_in_name rest = refl
+bad_in_name letters rest = refl
 
 -- the letters of a key are the first of a name
-name_keyed : (letters : KeyLetters) (text : Text)
-    → name_run error_of true text ≡ behind key_after (name_run error_of true) key_in_name bad_in_name (letters_by key_after letters text)
-name_keyed letters text = reads_over key_after (name_run error_of true) key_in_name bad_in_name letters text
+name_keyed : (letters : KeyLetters) (text rest : Text) (key : Taken KeyLetters) → letters_by key_after letters text ≡ Ok (key, rest)
+    → name_run error_of true text ≡ in_front key.letters (name_run error_of true rest)
+name_keyed letters text rest key e = run_passed key_after (λ letters text. name_run error_of true text) key_in_name bad_in_name letters text rest key e
 
 -- ---- what the bracket is
 
@@ -183,7 +178,7 @@ module _ (critical : Bool) (letters : KeyLetters) (text : Text) where
     unfolding pair_at
     as_pair_is e is =
         let found = some_next equals key.next is in
-        e ∙ rw (key_closed letters text rest key found.0 keys found.1 found.2) refl
+        e ∙ rw (key_closed letters text rest key keys found.0 found.1 found.2) refl
 
     module _ (is : next_is equals key.next ≡ true) where
       pair_seen : sight text ≡ Ok true
@@ -207,10 +202,10 @@ module _ (critical : Bool) (letters : KeyLetters) (text : Text) where
       more_next o is = next_shown name_after name_start rest after more mores ∙ ap Ok is
 
       name_ends_so : more.state.may_end ≡ true → name_run error_of true text ≡ Ok (key.letters ++ more.letters, after)
-      name_ends_so e = name_keyed letters text ∙ rw (keys, name_ended rest after more mores e) refl
+      name_ends_so e = name_keyed letters text rest key keys ∙ rw (name_ended rest after more mores e) refl
 
       name_refused_so : more.state.may_end ≡ false → name_run error_of true text ≡ Err (IanaCharPostSeparator, after)
-      name_refused_so e = name_keyed letters text ∙ rw (keys, name_refused rest after more mores e) refl
+      name_refused_so e = name_keyed letters text rest key keys ∙ rw (name_refused rest after more mores e) refl
 
       -- the text ends in the bracket
       pub name_unended : more.next ≡ None → read_at critical text ≡ Err (abrupt_bracket, after)
@@ -232,7 +227,7 @@ module _ (critical : Bool) (letters : KeyLetters) (text : Text) where
         where
           go : (next : Option ℕ) → key.next ≡ next → next_is equals next ≡ false → as_pair (pair_at error_of critical text) ≡ Err (AnnotationKeyChar, rest)
           go None e other = absurd (not_both (sight rest) true (abrupt_bracket, rest) p (sight_at_end rest (key_next _ e)))
-          go (Some c) e other = rw (key_refused letters text rest key c keys e other) refl
+          go (Some c) e other = rw (key_refused letters text rest key keys c e other) refl
 
       zone_refused : (more.state.may_end && next_is closing more.next) ≡ false → sight after ≡ Ok false
           → noted critical (as_zone (name_in_bracket_at error_of text)) ≡ Err (name_fault more.state.may_end, after)

@@ -1,17 +1,18 @@
 -- The letters of a zone name, taken off one by one.
-use Rattle.std.proofs.Common.{◌≡◌, ℕ, ◌&&◌, Bool, true, false, List, [], ◌∷◌, ◌++◌, map, drop, Option, Some, None, option_map, IsSome, Result, Ok, Err, refl, ap, subst, ◌∙◌, if◌then◌else◌}
+use Rattle.std.proofs.Common.{◌≡◌, ℕ, ◌&&◌, Bool, true, false, List, [], ◌∷◌, ◌++◌, map, drop, Option, Some, None, option_map, IsSome, Ok, Err, refl, ap, subst, ◌∙◌, append-nil, if◌then◌else◌}
 use Rattle.ixdtf_brackets.specs.declared.timezone.NameState.{NameState}
 use Rattle.ixdtf_brackets.specs.declared.timezone.PartLetters.{PartLetters}
 use Rattle.ixdtf_grammar.specs.language.Letters.{Letter, Text}
-use Rattle.ixdtf_grammar.specs.language.Letters.Letter.{Plain}
+use Rattle.ixdtf_grammar.specs.language.Letters.Letter.{Plain, Bad}
 use Rattle.ixdtf_grammar.specs.language.Letters.{Class, zone_char, slash}
 use Rattle.ixdtf_grammar.specs.table.Faults.{Fault}
-use Rattle.ixdtf_grammar.specs.table.Faults.Fault.{IanaCharPostSeparator}
+use Rattle.ixdtf_grammar.specs.table.Faults.Fault.{NonAsciiCodePoint, IanaCharPostSeparator}
 use Rattle.ixdtf_reading.specs.reading.Looks.{Placed, Read, seen, error_of}
 use Rattle.ixdtf_reading.specs.reading.Zones.{with_letter, name_stops, name_run}
 use Rattle.ixdtf_reading.specs.reading.Runs.{Taken, letters_by}
 use Rattle.ixdtf_brackets.specs.BracketTypes.{part_after, name_after}
-use Rattle.ixdtf_reading.proofs.code.LetterLoops.{closed, IsRun, run_failed, run_closes, Stays, IsSoFar, goes_on, ceases, fails, goes_over, fails_over, next_shown, next_stays}
+use Rattle.ixdtf_reading.proofs.code.FirstLetter.{first_is, nothing_is}
+use Rattle.ixdtf_reading.proofs.code.LetterLoops.{test_held, test_failed, in_front, run_failed, run_passed, Stays, IsSoFar, goes_on, ceases, fails, goes_over, fails_over, next_shown, next_stays}
 use Rattle.ixdtf_reading.specs.reading.Brackets.{next_is}
 
 -- where a name may end, and behind a slash
@@ -21,73 +22,62 @@ name_start = record { may_end = true }
 abbrev pub name_slash : NameState
 name_slash = record { may_end = false }
 
-abbrev pub name_ends : Bool → Text → Result Text Placed
-name_ends true text = Ok text
-name_ends false text = Err (IanaCharPostSeparator, text)
-
-abbrev pub name_close : NameState → Option ℕ → Text → Result Text Placed
-name_close letters next text = name_ends letters.may_end text
-
 abbrev reading : NameState → Text → Read Placed (List ℕ)
 reading letters text = name_run error_of letters.may_end text
 
-stops_so : (may_end : Bool) (text : Text) → name_stops (IanaCharPostSeparator, text) may_end text ≡ closed [] (name_ends may_end text)
-stops_so true text = refl
-stops_so false text = refl
-
-name_is_run : IsRun name_after name_close reading
+name_over : (letters next : NameState) (c : ℕ) (rest : Text) → name_after letters c ≡ Some next → reading letters (Plain c ∷ rest) ≡ with_letter c (reading next rest)
 unfolding name_run
-name_is_run = record {
-  at_end = λ letters. stops_so letters.may_end [];
-  at_bad = λ letters rest. refl;
-  at_other = λ letters c rest is. other c letters.may_end rest _ refl _ refl is;
-  at_letter = λ letters next c rest is. more c letters.may_end next rest _ refl _ refl is;
-}
+name_over letters next c rest e = go _ refl _ refl e
   where
-    after : Option Bool → Option NameState
-    after step = option_map (λ may_end. record { may_end = may_end }) step
+    go : (b : Bool) → zone_char c ≡ b → (d : Bool) → (slash c && letters.may_end) ≡ d
+        → option_map (λ may_end. record { may_end = may_end }) (if b then Some true else (if d then Some false else None)) ≡ Some next
+        → reading letters (Plain c ∷ rest) ≡ with_letter c (reading next rest)
+    go true p d q e = let same : true ≡ next.may_end = cc in rw (p, ← same) refl
+    go false p true q e = let same : false ≡ next.may_end = cc in rw (p, q, ← same) refl
+    go false p false q e = absurd cc
 
-    other : (c : ℕ) (may_end : Bool) (rest : Text) (b : Bool) → zone_char c ≡ b → (d : Bool) → (slash c && may_end) ≡ d
-        → after (if b then Some true else (if d then Some false else None)) ≡ None
-        → name_run error_of may_end (Plain c ∷ rest) ≡ closed [] (name_ends may_end (Plain c ∷ rest))
-    other c may_end rest true p d q e = absurd cc
-    other c may_end rest false p true q e = absurd cc
-    other c may_end rest false p false q e = rw (p, q) (stops_so may_end (Plain c ∷ rest))
+name_bad : (letters : NameState) (rest : Text) → reading letters (Bad ∷ rest) ≡ Err (NonAsciiCodePoint, Bad ∷ rest)
+unfolding name_run
+name_bad letters rest = refl
 
-    more : (c : ℕ) (may_end : Bool) (next : NameState) (rest : Text) (b : Bool) → zone_char c ≡ b → (d : Bool) → (slash c && may_end) ≡ d
-        → after (if b then Some true else (if d then Some false else None)) ≡ Some next
-        → name_run error_of may_end (Plain c ∷ rest) ≡ with_letter c (name_run error_of next.may_end rest)
-    more c may_end next rest true p d q e = let same : true ≡ next.may_end = cc in rw (p, ← same) refl
-    more c may_end next rest false p true q e = let same : false ≡ next.may_end = cc in rw (p, q, ← same) refl
-    more c may_end next rest false p false q e = absurd cc
+-- where no letter goes on the name ends, or may not
+name_halts : (letters : NameState) (rest : Text) (next : Option ℕ) → seen rest ≡ Ok next → Stays name_after letters next
+    → reading letters rest ≡ name_stops (IanaCharPostSeparator, rest) letters.may_end rest
+unfolding name_run
+name_halts letters rest None e stays = rw (nothing_is rest e) refl
+name_halts letters rest (Some c) e stays = rw (first_is rest c e) (go _ refl _ refl stays)
+  where
+    go : (b : Bool) → zone_char c ≡ b → (d : Bool) → (slash c && letters.may_end) ≡ d
+        → option_map (λ may_end. record { may_end = may_end }) (if b then Some true else (if d then Some false else None)) ≡ None
+        → reading letters (Plain c ∷ drop 1 rest) ≡ name_stops (IanaCharPostSeparator, Plain c ∷ drop 1 rest) letters.may_end (Plain c ∷ drop 1 rest)
+    go true p d q e = absurd cc
+    go false p true q e = absurd cc
+    go false p false q e = rw (p, q) refl
 
-pub name_failed : (text : Text) (fault : Placed) → letters_by name_after (record { may_end = true }) text ≡ Err fault → name_run error_of true text ≡ Err fault
-name_failed text fault e = run_failed _ _ _ name_is_run (record { may_end = true }) text fault e
+pub name_failed : (text : Text) (fault : Placed) → letters_by name_after name_start text ≡ Err fault → name_run error_of true text ≡ Err fault
+name_failed text fault e = run_failed name_after reading name_over name_bad name_start text fault e
 
-pub name_ended : (text rest : Text) (taken : Taken NameState) → letters_by name_after (record { may_end = true }) text ≡ Ok (taken, rest)
-    → taken.state.may_end ≡ true → name_run error_of true text ≡ Ok (taken.letters, rest)
-name_ended text rest taken e is = run_closes _ _ _ name_is_run (record { may_end = true }) text rest taken e ∙ rw is refl
+module _ (text rest : Text) (taken : Taken NameState) (passed : letters_by name_after name_start text ≡ Ok (taken, rest)) where
+  name_passed : name_run error_of true text ≡ in_front taken.letters (name_stops (IanaCharPostSeparator, rest) taken.state.may_end rest)
+  name_passed =
+      run_passed name_after reading name_over name_bad name_start text rest taken passed
+      ∙ ap (in_front taken.letters) (name_halts taken.state rest taken.next (next_shown name_after name_start text rest taken passed)
+      (next_stays name_after name_start text rest taken passed))
 
-pub name_refused : (text rest : Text) (taken : Taken NameState) → letters_by name_after (record { may_end = true }) text ≡ Ok (taken, rest)
-    → taken.state.may_end ≡ false → name_run error_of true text ≡ Err (IanaCharPostSeparator, rest)
-name_refused text rest taken e is = run_closes _ _ _ name_is_run (record { may_end = true }) text rest taken e ∙ rw is refl
+  pub name_ended : taken.state.may_end ≡ true → name_run error_of true text ≡ Ok (taken.letters, rest)
+  name_ended is = name_passed ∙ rw is (ap (λ t. Ok (t, rest)) (append-nil taken.letters))
+
+  pub name_refused : taken.state.may_end ≡ false → name_run error_of true text ≡ Err (IanaCharPostSeparator, rest)
+  name_refused is = name_passed ∙ rw is refl
 
 -- ---- parts of a name
 
 -- a letter of a part goes on where the name may end
-pub part_within : (state next : PartLetters) (c : ℕ) → part_after state c ≡ Some next → name_after name_start c ≡ Some name_start
-part_within state next c e = go _ refl e
-  where
-    go : (b : Bool) → zone_char c ≡ b → (if b then Some state else None) ≡ Some next → name_after name_start c ≡ Some name_start
-    go true p e = rw p refl
-    go false p e = absurd cc
+part_within : (state next : PartLetters) (c : ℕ) → part_after state c ≡ Some next → name_after name_start c ≡ Some name_start
+part_within state next c e = rw (test_held (zone_char c) state next e) refl
 
 part_stays : (letters : PartLetters) (c : ℕ) → part_after letters c ≡ None → zone_char c ≡ false
-part_stays letters c e = go _ refl e
-  where
-    go : (b : Bool) → zone_char c ≡ b → (if b then Some letters else None) ≡ None → zone_char c ≡ false
-    go true p e = absurd cc
-    go false p e = p
+part_stays letters c e = test_failed (zone_char c) letters e
 
 -- behind a part, where no slash follows, the name goes no further
 pub part_last : (letters : PartLetters) (next : Option ℕ) → Stays part_after letters next → next_is slash next ≡ false → Stays name_after name_start next

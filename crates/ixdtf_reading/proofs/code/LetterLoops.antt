@@ -1,5 +1,5 @@
 -- Letters that a loop takes off one by one.
-use Rattle.std.proofs.Common.{◌≡◌, ℕ, ◌-◌, List, [], ◌∷◌, ◌++◌, length, map, drop, take, Option, Some, None, Result, Ok, Err, refl, sym, ap, subst, ◌∙◌, arith}
+use Rattle.std.proofs.Common.{◌≡◌, ℕ, ◌-◌, Bool, true, false, if◌then◌else◌, List, [], ◌∷◌, ◌++◌, length, map, drop, take, Option, Some, None, Result, Ok, Err, refl, sym, ap, subst, ◌∙◌, arith}
 use Rattle.std.proofs.Common.{append_assoc, append-nil}
 use Rattle.std.proofs.lemmas.List.{take-map, length-map, length-append, take_all, take-append-le}
 use Rattle.ixdtf_grammar.specs.language.Letters.{Letter, Text}
@@ -24,6 +24,15 @@ with_one_more : {S : Type 0} (front : List ℕ) (c : ℕ) (read : Read Placed (T
     → with_letters front (one_more c read) ≡ with_letters (front ++ (c ∷ [])) read
 with_one_more front c (Ok x) = ap (λ t. Ok (record { letters = t; state = x.0.state; next = x.0.next }, x.1)) (sym (append_assoc front (c ∷ []) x.0.letters))
 with_one_more front c (Err e) = refl
+
+-- what comes of a test comes of one that holds, and nothing of one that fails
+pub test_held : {A : Type 0} (b : Bool) (x y : A) → (if b then Some x else None) ≡ Some y → b ≡ true
+test_held true x y e = refl
+test_held false x y e = absurd cc
+
+pub test_failed : {A : Type 0} (b : Bool) (x : A) → (if b then Some x else None) ≡ None → b ≡ false
+test_failed true x e = absurd cc
+test_failed false x e = refl
 
 -- a look found this letter first
 pub first_is : (letter : ℕ → Letter) → ((unit n : ℕ) → letter unit ≡ Plain n → n ≡ unit) → (units : List ℕ) (c : ℕ)
@@ -168,13 +177,13 @@ pub in_front_more : (a : List ℕ) (c : ℕ) (read : Read Placed (List ℕ)) →
 in_front_more a c (Ok x) = ap (λ t. Ok (t, x.1)) (sym (append_assoc a (c ∷ []) x.0))
 in_front_more a c (Err e) = refl
 
--- a reading that takes each of the letters
-module _ {S : Type 0} (after : S → ℕ → Option S) (reading : Text → Read Placed (List ℕ))
-    (over : (state next : S) (c : ℕ) (rest : Text) → after state c ≡ Some next → reading (Plain c ∷ rest) ≡ with_letter c (reading rest))
-    (at_bad : (rest : Text) → reading (Bad ∷ rest) ≡ Err (NonAsciiCodePoint, Bad ∷ rest)) where
+-- a reading that takes each letter that goes on
+module _ {S : Type 0} (after : S → ℕ → Option S) (reading : S → Text → Read Placed (List ℕ))
+    (over : (state next : S) (c : ℕ) (rest : Text) → after state c ≡ Some next → reading state (Plain c ∷ rest) ≡ with_letter c (reading next rest))
+    (at_bad : (state : S) (rest : Text) → reading state (Bad ∷ rest) ≡ Err (NonAsciiCodePoint, Bad ∷ rest)) where
   -- the letters, and what is read behind them
-  abbrev pub behind : Read Placed (Taken S) → Read Placed (List ℕ)
-  behind read = read >>= λ x. in_front x.0.letters (reading x.1)
+  abbrev behind : Read Placed (Taken S) → Read Placed (List ℕ)
+  behind read = read >>= λ x. in_front x.0.letters (reading x.0.state x.1)
 
   one_in_front : (c : ℕ) (letters : List ℕ) (read : Read Placed (List ℕ)) → with_letter c (in_front letters read) ≡ in_front (c ∷ letters) read
   one_in_front c letters (Ok x) = refl
@@ -184,18 +193,25 @@ module _ {S : Type 0} (after : S → ℕ → Option S) (reading : Text → Read 
   behind_more c (Ok x) = one_in_front c x.0.letters _
   behind_more c (Err e) = refl
 
-  reads_on : (state : S) (c : ℕ) (rest : Text) → ((next : S) → reading rest ≡ behind (letters_by after next rest)) → (next : Option S)
+  reads_on : (state : S) (c : ℕ) (rest : Text) → ((next : S) → reading next rest ≡ behind (letters_by after next rest)) → (next : Option S)
       → after state c ≡ next
-      → reading (Plain c ∷ rest) ≡ behind (on_letter next (λ n. one_more c (letters_by after n rest)) (Ok (nothing_taken state (Some c), Plain c ∷ rest)))
+      → reading state (Plain c ∷ rest) ≡ behind (on_letter next (λ n. one_more c (letters_by after n rest)) (Ok (nothing_taken state (Some c), Plain c ∷ rest)))
   reads_on state c rest same None e = in_front_none _
   reads_on state c rest same (Some next) e =
       over state next c rest e ∙ ap (λ read. with_letter c read) (same next) ∙ behind_more c (letters_by after next rest)
 
-  pub reads_over : (state : S) (text : Text) → reading text ≡ behind (letters_by after state text)
+  reads_over : (state : S) (text : Text) → reading state text ≡ behind (letters_by after state text)
   unfolding letters_by
   reads_over state [] = in_front_none _
-  reads_over state (Bad ∷ rest) = at_bad rest
+  reads_over state (Bad ∷ rest) = at_bad state rest
   reads_over state (Plain c ∷ rest) = reads_on state c rest (λ next. reads_over next rest) (after state c) refl
+
+  pub run_failed : (state : S) (text : Text) (fault : Placed) → letters_by after state text ≡ Err fault → reading state text ≡ Err fault
+  run_failed state text fault e = reads_over state text ∙ ap behind e
+
+  pub run_passed : (state : S) (text rest : Text) (taken : Taken S) → letters_by after state text ≡ Ok (taken, rest)
+      → reading state text ≡ in_front taken.letters (reading taken.state rest)
+  run_passed state text rest taken e = reads_over state text ∙ ap behind e
 
 -- ---- letters of one kind within another
 
@@ -247,53 +263,3 @@ module _ {S U : Type 0} (after : S → ℕ → Option S) (wider : U → ℕ → 
 
     pub fails_over : (state : S) (fault : Placed) → letters_by after state (map letter rest) ≡ Err fault → letters_by wider start (map letter whole) ≡ Err fault
     fails_over state fault e = far.read ∙ ap (with_letters far.taken) (passes_over state (map letter rest) ∙ ap beyond e)
-
--- ---- readings that begin with letters
-
--- the letters, and the text after them
-abbrev pub closed : List ℕ → Result Text Placed → Read Placed (List ℕ)
-closed letters (Ok rest) = Ok (letters, rest)
-closed letters (Err e) = Err e
-
-module _ {S : Type 0} (after : S → ℕ → Option S) (close : S → Option ℕ → Text → Result Text Placed) where
-  -- the letters as far as they go, and what closes them
-  abbrev pub closed_run : S → Text → Read Placed (List ℕ)
-  closed_run state text = letters_by after state text >>= λ x. closed x.0.letters (close x.0.state x.0.next x.1)
-
-  -- A reading that takes each letter that goes on, and closes at the first that does not, or at the end.
-  pub record IsRun (reading : S → Text → Read Placed (List ℕ)) : Type 0 where
-    pub at_end : (state : S) → reading state [] ≡ closed [] (close state None [])
-    pub at_bad : (state : S) (rest : Text) → reading state (Bad ∷ rest) ≡ Err (NonAsciiCodePoint, Bad ∷ rest)
-    pub at_other : (state : S) (c : ℕ) (rest : Text) → after state c ≡ None → reading state (Plain c ∷ rest) ≡ closed [] (close state (Some c) (Plain c ∷ rest))
-    pub at_letter : (state next : S) (c : ℕ) (rest : Text) → after state c ≡ Some next → reading state (Plain c ∷ rest) ≡ with_letter c (reading next rest)
-
-  closed_more : (c : ℕ) (read : Read Placed (Taken S))
-      → with_letter c (read >>= λ x. closed x.0.letters (close x.0.state x.0.next x.1))
-      ≡ (one_more c read >>= λ x. closed x.0.letters (close x.0.state x.0.next x.1))
-  closed_more c (Err e) = refl
-  closed_more c (Ok x) = go (close x.0.state x.0.next x.1)
-    where
-      go : (end : Result Text Placed) → with_letter c (closed x.0.letters end) ≡ closed (c ∷ x.0.letters) end
-      go (Ok rest) = refl
-      go (Err e) = refl
-
-  closed_on : (state : S) (c : ℕ) (rest : Text) (reading : S → Text → Read Placed (List ℕ)) → IsRun reading
-      → ((next : S) → reading next rest ≡ closed_run next rest) → (next : Option S) → after state c ≡ next
-      → reading state (Plain c ∷ rest) ≡ (on_letter next (λ n. one_more c (letters_by after n rest)) (Ok (nothing_taken state (Some c), Plain c ∷ rest))
-      >>= λ x. closed x.0.letters (close x.0.state x.0.next x.1))
-  closed_on state c rest reading is same None e = is.at_other state c rest e
-  closed_on state c rest reading is same (Some next) e = is.at_letter state next c rest e ∙ ap (λ read. with_letter c read) (same next) ∙ closed_more c _
-
-  run_is : (reading : S → Text → Read Placed (List ℕ)) → IsRun reading → (state : S) (text : Text) → reading state text ≡ closed_run state text
-  unfolding letters_by
-  run_is reading is state [] = is.at_end state
-  run_is reading is state (Bad ∷ rest) = is.at_bad state rest
-  run_is reading is state (Plain c ∷ rest) = closed_on state c rest reading is (λ next. run_is reading is next rest) (after state c) refl
-
-  pub run_failed : (reading : S → Text → Read Placed (List ℕ)) → IsRun reading → (state : S) (text : Text) (fault : Placed)
-      → letters_by after state text ≡ Err fault → reading state text ≡ Err fault
-  run_failed reading is state text fault e = run_is reading is state text ∙ rw e refl
-
-  pub run_closes : (reading : S → Text → Read Placed (List ℕ)) → IsRun reading → (state : S) (text rest : Text) (taken : Taken S)
-      → letters_by after state text ≡ Ok (taken, rest) → reading state text ≡ closed taken.letters (close taken.state taken.next rest)
-  run_closes reading is state text rest taken e = run_is reading is state text ∙ rw e refl

@@ -14,53 +14,48 @@ use Rattle.ixdtf_reading.specs.reading.Looks.{Placed, Read, look_at, seen, next_
 use Rattle.ixdtf_reading.specs.reading.Zones.{with_letter}
 use Rattle.ixdtf_reading.specs.reading.Runs.{Taken, letters_by, key_after, component_after}
 use Rattle.ixdtf_reading.specs.reading.Pairs.{key_run, component_look, value_run, value_mark, value_step, value_end, value_other}
-use Rattle.ixdtf_reading.proofs.code.FirstLetter.{nothing_is}
-use Rattle.ixdtf_reading.proofs.code.LetterLoops.{closed, IsRun, run_failed, run_closes, first_is, Stays, next_shown, next_stays}
-use Rattle.ixdtf_reading.proofs.code.LetterLoops.{in_front, in_front_none, in_front_both, in_front_more, behind, reads_over}
+use Rattle.ixdtf_reading.proofs.code.FirstLetter.{first_is as letter_first, nothing_is}
+use Rattle.ixdtf_reading.proofs.code.LetterLoops.{test_held, test_failed, first_is, Stays, next_shown, next_stays}
+use Rattle.ixdtf_reading.proofs.code.LetterLoops.{in_front, in_front_none, in_front_both, in_front_more, run_failed, run_passed}
 
 -- ---- keys
 
-abbrev pub key_close : KeyLetters → Option ℕ → Text → Result Text Placed
-key_close letters None text = Err (AnnotationKeyValueSeparator, text)
-key_close letters (Some c) text = if equals c then Ok (drop 1 text) else Err (AnnotationKeyChar, text)
-
-key_is_run : IsRun key_after key_close (λ letters text. key_run error_of text)
+key_over : (state next : KeyLetters) (c : ℕ) (rest : Text) → key_after state c ≡ Some next
+    → key_run error_of (Plain c ∷ rest) ≡ with_letter c (key_run error_of rest)
 unfolding key_run
-key_is_run = record {
-  at_end = λ letters. refl;
-  at_bad = λ letters rest. refl;
-  at_other = λ letters c rest is. other letters c rest _ refl is;
-  at_letter = λ letters next c rest is. more letters next c rest _ refl is;
-}
-  where
-    other : (letters : KeyLetters) (c : ℕ) (rest : Text) (b : Bool) → key_char c ≡ b → (if b then Some letters else None) ≡ None
-        → key_run error_of (Plain c ∷ rest) ≡ closed [] (key_close letters (Some c) (Plain c ∷ rest))
-    other letters c rest true p e = absurd cc
-    other letters c rest false p e = rw p (ends (equals c))
-      where
-        ends : (d : Bool) → (if d then Ok ([], rest) else Err (AnnotationKeyChar, Plain c ∷ rest)) ≡ closed [] (if d then Ok rest else Err (AnnotationKeyChar, Plain c ∷ rest))
-        ends true = refl
-        ends false = refl
+key_over state next c rest e = rw (test_held (key_char c) state next e) refl
 
-    more : (letters next : KeyLetters) (c : ℕ) (rest : Text) (b : Bool) → key_char c ≡ b → (if b then Some letters else None) ≡ Some next
-        → key_run error_of (Plain c ∷ rest) ≡ with_letter c (key_run error_of rest)
-    more letters next c rest true p e = rw p refl
-    more letters next c rest false p e = absurd cc
+key_bad : (letters : KeyLetters) (rest : Text) → key_run error_of (Bad ∷ rest) ≡ Err (NonAsciiCodePoint, Bad ∷ rest)
+unfolding key_run
+key_bad letters rest = refl
 
-pub key_failed : (letters : KeyLetters) (text : Text) (fault : Placed) → letters_by key_after letters text ≡ Err fault → key_run error_of text ≡ Err fault
-key_failed letters text fault e = run_failed _ _ _ key_is_run letters text fault e
+module _ (letters : KeyLetters) (text : Text) where
+  pub key_failed : (fault : Placed) → letters_by key_after letters text ≡ Err fault → key_run error_of text ≡ Err fault
+  key_failed fault e = run_failed key_after (λ letters text. key_run error_of text) key_over key_bad letters text fault e
 
-pub key_ended : (letters : KeyLetters) (text rest : Text) (taken : Taken KeyLetters) → letters_by key_after letters text ≡ Ok (taken, rest) → taken.next ≡ None
-    → key_run error_of text ≡ Err (AnnotationKeyValueSeparator, rest)
-key_ended letters text rest taken e is = run_closes _ _ _ key_is_run letters text rest taken e ∙ rw is refl
+  module _ (rest : Text) (taken : Taken KeyLetters) (passed : letters_by key_after letters text ≡ Ok (taken, rest)) where
+    key_passed : key_run error_of text ≡ in_front taken.letters (key_run error_of rest)
+    key_passed = run_passed key_after (λ letters text. key_run error_of text) key_over key_bad letters text rest taken passed
 
-pub key_closed : (letters : KeyLetters) (text rest : Text) (taken : Taken KeyLetters) (c : ℕ) → letters_by key_after letters text ≡ Ok (taken, rest)
-    → taken.next ≡ Some c → equals c ≡ true → key_run error_of text ≡ Ok (taken.letters, drop 1 rest)
-key_closed letters text rest taken c e is test = run_closes _ _ _ key_is_run letters text rest taken e ∙ rw (is, test) refl
+    pub key_ended : taken.next ≡ None → key_run error_of text ≡ Err (AnnotationKeyValueSeparator, rest)
+    unfolding key_run
+    key_ended is = key_passed ∙ rw (nothing_is rest (next_shown key_after letters text rest taken passed ∙ ap Ok is)) refl
 
-pub key_refused : (letters : KeyLetters) (text rest : Text) (taken : Taken KeyLetters) (c : ℕ) → letters_by key_after letters text ≡ Ok (taken, rest)
-    → taken.next ≡ Some c → equals c ≡ false → key_run error_of text ≡ Err (AnnotationKeyChar, rest)
-key_refused letters text rest taken c e is test = run_closes _ _ _ key_is_run letters text rest taken e ∙ rw (is, test) refl
+    module _ (c : ℕ) (is : taken.next ≡ Some c) where
+      key_next : rest ≡ Plain c ∷ drop 1 rest
+      key_next = letter_first rest c (next_shown key_after letters text rest taken passed ∙ ap Ok is)
+
+      key_stays : key_char c ≡ false
+      key_stays = test_failed (key_char c) taken.state
+          (subst (λ next. Stays key_after taken.state next) is (next_stays key_after letters text rest taken passed))
+
+      pub key_closed : equals c ≡ true → key_run error_of text ≡ Ok (taken.letters, drop 1 rest)
+      unfolding key_run
+      key_closed test = key_passed ∙ rw (key_next, key_stays, test) (ap (λ t. Ok (t, drop 1 rest)) (append-nil taken.letters))
+
+      pub key_refused : equals c ≡ false → key_run error_of text ≡ Err (AnnotationKeyChar, rest)
+      unfolding key_run
+      key_refused test = key_passed ∙ rw (key_next, key_stays, test) refl
 
 -- ---- values
 
@@ -118,23 +113,11 @@ started fault (Plain n ∷ rest) left c e = go _ refl e
 -- a component inside a value
 component_over : (state next : ComponentLetters) (c : ℕ) (rest : Text) → component_after state c ≡ Some next
     → value_run error_of Inside (Plain c ∷ rest) ≡ with_letter c (value_run error_of Inside rest)
-component_over state next c rest e = value_on Inside Inside c rest (at_letter Inside c (go _ refl e))
-  where
-    go : (b : Bool) → value_char c ≡ b → (if b then Some state else None) ≡ Some next → value_char c ≡ true
-    go true p e = p
-    go false p e = absurd cc
+component_over state next c rest e = value_on Inside Inside c rest (at_letter Inside c (test_held (value_char c) state next e))
 
-component_bad : (rest : Text) → value_run error_of Inside (Bad ∷ rest) ≡ Err (NonAsciiCodePoint, Bad ∷ rest)
+component_bad : (letters : ComponentLetters) (rest : Text) → value_run error_of Inside (Bad ∷ rest) ≡ Err (NonAsciiCodePoint, Bad ∷ rest)
 unfolding value_run
-component_bad rest = refl
-
--- the letter behind a component is none of it
-behind_component : (letters : ComponentLetters) (c : ℕ) → component_after letters c ≡ None → value_char c ≡ false
-behind_component letters c e = go _ refl e
-  where
-    go : (b : Bool) → value_char c ≡ b → (if b then Some letters else None) ≡ None → value_char c ≡ false
-    go true p e = absurd cc
-    go false p e = p
+component_bad letters rest = refl
 
 module _ (letter : ℕ → Letter) (whole : List ℕ) where
   -- So far these letters of a value were taken off, and the others are still to be read.
@@ -181,8 +164,8 @@ module _ (letter : ℕ → Letter) (faithful : (unit n : ℕ) → letter unit �
     pub component_fails : (fault : Placed) → letters_by component_after letters (map letter rest) ≡ Err fault
         → value_run error_of AtStart (map letter whole) ≡ Err fault
     component_fails fault e =
-        value_fails rest Inside far fault (reads_over component_after (value_run error_of Inside) component_over component_bad letters (map letter rest)
-        ∙ ap (λ read. behind component_after (value_run error_of Inside) component_over component_bad read) e)
+        value_fails rest Inside far fault
+        (run_failed component_after (λ letters text. value_run error_of Inside text) component_over component_bad letters (map letter rest) fault e)
 
     module _ (left : List ℕ) (taken : Taken ComponentLetters) (passed : letters_by component_after letters (map letter rest) ≡ Ok (taken, map letter left))
         (split : rest ≡ taken.letters ++ left) where
@@ -192,8 +175,8 @@ module _ (letter : ℕ → Letter) (faithful : (unit n : ℕ) → letter unit �
         taken = far.taken ++ taken.letters;
         units = far.units ∙ ap (λ t. far.taken ++ t) split ∙ sym (append_assoc far.taken taken.letters left);
         read = far.read
-            ∙ ap (λ read. in_front far.taken read) (reads_over component_after (value_run error_of Inside) component_over component_bad letters (map letter rest)
-            ∙ ap (λ read. behind component_after (value_run error_of Inside) component_over component_bad read) passed)
+            ∙ ap (λ read. in_front far.taken read)
+            (run_passed component_after (λ letters text. value_run error_of Inside text) component_over component_bad letters (map letter rest) (map letter left) taken passed)
             ∙ in_front_both far.taken taken.letters (value_run error_of Inside (map letter left));
       }
 
@@ -202,8 +185,8 @@ module _ (letter : ℕ → Letter) (faithful : (unit n : ℕ) → letter unit �
 
       no_letter : (c : ℕ) → taken.next ≡ Some c → value_char c ≡ false
       no_letter c is =
-          behind_component taken.state c (subst (λ next. Stays component_after taken.state next) is
-          (next_stays component_after letters (map letter rest) (map letter left) taken passed))
+          test_failed (value_char c) taken.state
+          (subst (λ next. Stays component_after taken.state next) is (next_stays component_after letters (map letter rest) (map letter left) taken passed))
 
       -- the text ends behind it
       pub component_last : taken.next ≡ None → value_run error_of AtStart (map letter whole) ≡ Err (AnnotationClose, map letter left)

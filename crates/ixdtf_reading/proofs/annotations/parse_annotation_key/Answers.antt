@@ -19,9 +19,9 @@ returns-in-Some-clause-key g c =
     let passed = c.in_ok-key.ensures.letters in
     let front = front_is g.T.EncodingType.number c.rest-start.result.now c.rest.result.now passed.0 c.pass_letters.new.cursor.rest _ c.rest-start.ensures
     passed.1 c.rest.ensures in
-    rw (front, c.step.ensures.letters) (key_closed _ _ _ _ _ passed.2 c.in-Some.is closes)
+    rw (front, c.step.ensures.letters) (key_closed _ _ _ _ passed.2 _ c.in-Some.is closes)
 
 pub returns-in-Some-2-clause-key : goal.returns-in-Some-2-clause-key
 returns-in-Some-2-clause-key g c =
     let refuses : equals c.in-Some.byte ≡ false = search rules in
-    key_refused _ _ _ _ _ c.in_ok-key.ensures.letters.2 c.in-Some.is refuses
+    key_refused _ _ _ _ c.in_ok-key.ensures.letters.2 _ c.in-Some.is refuses
