@@ -48,7 +48,7 @@ name_halts letters rest None e stays = rw (nothing_is rest e) refl
 name_halts letters rest (Some c) e stays = rw (first_is rest c e) (go _ refl _ refl stays)
   where
     go : (b : Bool) → zone_char c ≡ b → (d : Bool) → (slash c && letters.may_end) ≡ d
-        → option_map (λ may_end. record { may_end = may_end }) (if b then Some true else (if d then Some false else None)) ≡ None
+        → option_map {U = NameState} (λ may_end. record { may_end = may_end }) (if b then Some true else (if d then Some false else None)) ≡ None
         → reading letters (Plain c ∷ drop 1 rest) ≡ name_stops (IanaCharPostSeparator, Plain c ∷ drop 1 rest) letters.may_end (Plain c ∷ drop 1 rest)
     go true p d q e = absurd cc
     go false p true q e = absurd cc
