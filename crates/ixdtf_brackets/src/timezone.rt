@@ -76,9 +76,7 @@ fn starts_part(next: Option<u8>) -> bool
 
 /// Passes over the letters of a name as far as they go, part by part between its slashes.
 #[inline(always)]
-pub fn pass_name<'a, T: EncodingType>(
-    cursor: &mut Cursor<'a, T>,
-) -> Result<Passed<NameState>, Stop>
+pub fn pass_name<'a, T: EncodingType>(cursor: &mut Cursor<'a, T>) -> Result<Passed<NameState>, Stop>
     ensures letters { Passes T.letter cursor.old result cursor.new
         (letters_by name_after (record { may_end = true })) }
     ensures looks { Spends 1 cursor.old cursor.new }

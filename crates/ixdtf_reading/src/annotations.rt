@@ -75,10 +75,7 @@ impl Letters for ComponentLetters {
 
 /// Takes the first letter of a component off. Another letter, or the end, is this stop; both stay.
 #[inline(always)]
-fn start_component<'a, T: EncodingType>(
-    cursor: &mut Cursor<'a, T>,
-    other: Stop,
-) -> Result<u8, Stop>
+fn start_component<'a, T: EncodingType>(cursor: &mut Cursor<'a, T>, other: Stop) -> Result<u8, Stop>
     ensures letter { Reads T.letter (λ byte. byte) cursor.old result cursor.new
         (next_by (component_look (fault_of_stop other))) }
     ensures rest { OnOk result (cursor.new.rest ≡ drop 1 cursor.old.rest) }

@@ -6,15 +6,14 @@ use Rattle.std.proofs.lemmas.Bool.Decides.{nat_tests}
 use Rattle.ixdtf_reading.specs.declared.annotations.KeyLetters.{KeyLetters}
 use Rattle.ixdtf_brackets.specs.declared.brackets.BracketLetters.{BracketLetters}
 use Rattle.ixdtf_brackets.specs.declared.timezone.NameState.{NameState}
-use Rattle.ixdtf_grammar.specs.language.Letters.{Class, Text}
+use Rattle.ixdtf_grammar.specs.language.Letters.{Text}
 use Rattle.ixdtf_grammar.specs.language.Letters.Letter.{Plain, Bad}
 use Rattle.ixdtf_grammar.specs.language.Letters.{equals, closing, slash, key_char, zone_char}
 use Rattle.ixdtf_grammar.specs.language.ZoneNames.Zone.{Name}
 use Rattle.ixdtf_grammar.specs.language.Brackets.{skipped}
-use Rattle.ixdtf_grammar.specs.table.Faults.{Fault}
 use Rattle.ixdtf_grammar.specs.table.Faults.Fault.{NonAsciiCodePoint, AnnotationKeyChar, IanaCharPostSeparator}
 use Rattle.ixdtf_grammar.specs.table.Lines.{abrupt_bracket}
-use Rattle.ixdtf_reading.specs.reading.Looks.{Placed, Read, ◌>>=◌, look_at, seen, next_by, error_of}
+use Rattle.ixdtf_reading.specs.reading.Looks.{Placed, Read, ◌>>=◌, seen, next_by, error_of}
 use Rattle.ixdtf_reading.specs.reading.Zones.{with_letter, name_run, as_zone}
 use Rattle.ixdtf_reading.specs.reading.Pairs.{AtStart, value_run, pair_at}
 use Rattle.ixdtf_reading.specs.reading.Runs.{Taken, one_more, nothing_taken, on_letter, letters_by, key_after}

@@ -1,11 +1,10 @@
 -- The letters of a zone name, taken off one by one.
-use Rattle.std.proofs.Common.{◌≡◌, ℕ, ◌&&◌, Bool, true, false, List, [], ◌∷◌, ◌++◌, map, drop, Option, Some, None, option_map, IsSome, Ok, Err, refl, ap, subst, ◌∙◌, append-nil, if◌then◌else◌}
+use Rattle.std.proofs.Common.{◌≡◌, ℕ, ◌&&◌, Bool, true, false, List, ◌∷◌, ◌++◌, map, drop, Option, Some, None, option_map, IsSome, Ok, Err, refl, ap, subst, ◌∙◌, append-nil, if◌then◌else◌}
 use Rattle.ixdtf_brackets.specs.declared.timezone.NameState.{NameState}
 use Rattle.ixdtf_brackets.specs.declared.timezone.PartLetters.{PartLetters}
 use Rattle.ixdtf_grammar.specs.language.Letters.{Letter, Text}
 use Rattle.ixdtf_grammar.specs.language.Letters.Letter.{Plain, Bad}
 use Rattle.ixdtf_grammar.specs.language.Letters.{Class, zone_char, slash}
-use Rattle.ixdtf_grammar.specs.table.Faults.{Fault}
 use Rattle.ixdtf_grammar.specs.table.Faults.Fault.{NonAsciiCodePoint, IanaCharPostSeparator}
 use Rattle.ixdtf_reading.specs.reading.Looks.{Placed, Read, seen, error_of}
 use Rattle.ixdtf_reading.specs.reading.Zones.{with_letter, name_stops, name_run}

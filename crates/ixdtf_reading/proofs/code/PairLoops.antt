@@ -1,10 +1,10 @@
 -- The letters of a key and of a value, taken off one by one.
-use Rattle.std.proofs.Common.{◌≡◌, ℕ, Bool, true, false, List, [], ◌∷◌, ◌++◌, map, drop, Option, Some, None, Result, Ok, Err, refl, sym, ap, subst, ◌∙◌, if◌then◌else◌}
+use Rattle.std.proofs.Common.{◌≡◌, ℕ, Bool, true, false, List, [], ◌∷◌, ◌++◌, map, drop, Option, Some, None, Ok, Err, refl, sym, ap, subst, ◌∙◌, if◌then◌else◌}
 use Rattle.std.proofs.Common.{append_assoc, append-nil, arith}
 use Rattle.std.proofs.lemmas.Bool.Decides.{nat_tests}
 use Rattle.ixdtf_reading.specs.declared.annotations.KeyLetters.{KeyLetters}
 use Rattle.ixdtf_reading.specs.declared.annotations.ComponentLetters.{ComponentLetters}
-use Rattle.ixdtf_reading.specs.reading.Pairs.{ValueState, AtStart, Inside, AfterHyphen, ValueStep, GoesOn, Ends, Stops}
+use Rattle.ixdtf_reading.specs.reading.Pairs.{ValueState, AtStart, Inside, AfterHyphen, GoesOn, Ends, Stops}
 use Rattle.ixdtf_grammar.specs.language.Letters.Letter.{Plain, Bad}
 use Rattle.ixdtf_grammar.specs.language.Letters.{Letter, Text, equals, hyphen, closing, key_char, value_char}
 use Rattle.ixdtf_grammar.specs.table.Faults.{Fault}

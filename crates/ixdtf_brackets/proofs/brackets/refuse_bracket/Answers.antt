@@ -1,7 +1,6 @@
-use Rattle.std.proofs.Common.{◌≡◌, map, Ok, Err, false, refl, sym, ap, ◌∙◌}
+use Rattle.std.proofs.Common.{◌≡◌, map, Ok, false, refl, sym, ap, ◌∙◌}
 use Rattle.ixdtf_grammar.specs.language.Letters.{equals}
 use Rattle.ixdtf_reading.specs.reading.Brackets.{refusal, name_fault, sight_at}
-use Rattle.ixdtf_reading.specs.reading.Clauses.{fault_of_stop}
 use Rattle.ixdtf_reading.specs.reading.Looks.{error_of}
 use Rattle.ixdtf_brackets.proofs.code.FirstPass.{bracket_failed, bracket_sighted}
 use Rattle.ixdtf_brackets.proofs.brackets.refuse_bracket.Goals as goal

@@ -1,4 +1,4 @@
-use Rattle.std.proofs.Common.{◌≡◌, ℕ, map, Option, Some, None, Ok, IsSome, refl, ◌∙◌, arith, rules}
+use Rattle.std.proofs.Common.{◌≡◌, ℕ, map, Option, Some, None, Ok, IsSome, refl, arith, rules}
 use Rattle.std.proofs.lemmas.Result.{err_from_is_err_and}
 use Rattle.ixdtf_reading.specs.reading.Looks.{seen}
 use Rattle.ixdtf_reading.proofs.code.FractionLoop.{one_taken}
@@ -47,18 +47,22 @@ returns-in_err-next-clause-letters g c =
 pub returns-clause-letters : goal.returns-clause-letters
 returns-clause-letters g c =
     let far = c.loop-stop.invariant.far in
-    rw c.look.ensures.rest (far.taken, far.units, elim c.match-look.branch [
-      | in-Err w ↦ cc (w.found-is, c.in_ok-next.was)
-      | in-Ok-None w ↦
-          let over : seen (map g.T.EncodingType.letter c.loop-stop.here.rest) ≡ Ok None = search rules in
-          let none : c.in_ok-next.next ≡ None = search rules in
-          rw none (ends _ g.T.EncodingType.letter g.met.T.EncodingType.faithful _ _ _ _ far over)
-      | in-Ok-Some+in-None w ↦
-          let found : seen (map g.T.EncodingType.letter c.loop-stop.here.rest) ≡ Ok (Some w.in-Ok-Some.byte) = search rules in
-          let none : g.S.Letters.after c.loop-stop.state w.in-Ok-Some.byte ≡ None = search rules in
-          let next : c.in_ok-next.next ≡ Some w.in-Ok-Some.byte = search rules in
-          rw next (stays _ g.T.EncodingType.letter g.met.T.EncodingType.faithful _ _ _ _ far _ found none)
-    ])
+    rw c.look.ensures.rest (
+      far.taken,
+      far.units,
+      elim c.match-look.branch [
+        | in-Err w ↦ cc (w.found-is, c.in_ok-next.was)
+        | in-Ok-None w ↦
+            let over : seen (map g.T.EncodingType.letter c.loop-stop.here.rest) ≡ Ok None = search rules in
+            let none : c.in_ok-next.next ≡ None = search rules in
+            rw none (ends _ g.T.EncodingType.letter g.met.T.EncodingType.faithful _ _ _ _ far over)
+        | in-Ok-Some+in-None w ↦
+            let found : seen (map g.T.EncodingType.letter c.loop-stop.here.rest) ≡ Ok (Some w.in-Ok-Some.byte) = search rules in
+            let none : g.S.Letters.after c.loop-stop.state w.in-Ok-Some.byte ≡ None = search rules in
+            let next : c.in_ok-next.next ≡ Some w.in-Ok-Some.byte = search rules in
+            rw next (stays _ g.T.EncodingType.letter g.met.T.EncodingType.faithful _ _ _ _ far _ found none)
+      ],
+    )
 
 -- a letter that stays is taken off by a step
 pub returns-clause-stays : goal.returns-clause-stays
