@@ -18,7 +18,7 @@ mod private {
 /// takes. No crate but this one can write an encoding.
 pub trait EncodingType: private::Sealed {
     /// The unit of a source.
-    type CodeUnit: PartialEq + std::fmt::Debug + Clone;
+    type CodeUnit: PartialEq + core::fmt::Debug + Clone;
 
     /// The units from `start` up to `end`, or `None` where these are not places in order within the source.
     fn slice(source: &[Self::CodeUnit], start: usize, end: usize) -> Option<&[Self::CodeUnit]>;

@@ -2,8 +2,8 @@
 
 //! What a text, or a reply to an annotation, can be refused for, and what is written of it.
 
-use std::error::Error;
-use std::fmt;
+use core::error::Error;
+use core::fmt;
 
 /// Why a reader refused a text, or a reply to an annotation.
 ///
@@ -11,6 +11,7 @@ use std::fmt;
 /// the text it comes. `CriticalDuplicateCalendar` and `UnrecognizedCritical` come for replies. The names and the texts are
 /// those of `ixdtf` 0.6.7 of ICU4X, as they are spelled there.
 #[derive(Clone, Copy, Debug)]
+#[derive(PartialEq)]
 #[non_exhaustive]
 pub enum ParseError {
     /// A mistake of the reader itself. No reader returns it.
@@ -131,6 +132,7 @@ pub enum ParseError {
 
 impl ParseError {
     /// The text of the error, the same for each `AbruptEnd`. Display also writes the location of an `AbruptEnd`.
+    #[must_use]
     pub fn to_static_string(&self) -> &'static str {
         match *self {
             ParseError::ImplAssert => "Implementation error: this error must not throw.",
@@ -186,77 +188,6 @@ impl ParseError {
             ParseError::AmbiguousTimeYearMonth => "Time is ambiguous with YearMonth",
             ParseError::InvalidMonthDay => "MonthDay was not valid.",
         }
-    }
-}
-
-impl ParseError {
-    /// The place of the variant in the list of variants.
-    fn place(&self) -> u8 {
-        match *self {
-            ParseError::ImplAssert => 0,
-            ParseError::NonAsciiCodePoint => 1,
-            ParseError::ParseFloat => 2,
-            ParseError::AbruptEnd { .. } => 3,
-            ParseError::InvalidEnd => 4,
-            ParseError::InvalidMonthRange => 5,
-            ParseError::InvalidDayRange => 6,
-            ParseError::DateYear => 7,
-            ParseError::DateExtendedYear => 8,
-            ParseError::DateMonth => 9,
-            ParseError::DateDay => 10,
-            ParseError::DateUnexpectedEnd => 11,
-            ParseError::TimeRequired => 12,
-            ParseError::TimeHour => 13,
-            ParseError::TimeMinuteSecond => 14,
-            ParseError::TimeSecond => 15,
-            ParseError::FractionPart => 16,
-            ParseError::DateSeparator => 17,
-            ParseError::TimeSeparator => 18,
-            ParseError::DecimalSeparator => 19,
-            ParseError::InvalidAnnotation => 20,
-            ParseError::AnnotationOpen => 21,
-            ParseError::AnnotationClose => 22,
-            ParseError::AnnotationChar => 23,
-            ParseError::AnnotationKeyValueSeparator => 24,
-            ParseError::AnnotationKeyLeadingChar => 25,
-            ParseError::AnnotationKeyChar => 26,
-            ParseError::AnnotationValueCharPostHyphen => 27,
-            ParseError::AnnotationValueChar => 28,
-            ParseError::InvalidMinutePrecisionOffset => 29,
-            ParseError::CriticalDuplicateCalendar => 30,
-            ParseError::UnrecognizedCritical => 31,
-            ParseError::TzLeadingChar => 32,
-            ParseError::IanaCharPostSeparator => 33,
-            ParseError::IanaChar => 34,
-            ParseError::UtcTimeSeparator => 35,
-            ParseError::OffsetNeedsSign => 36,
-            ParseError::MonthDayHyphen => 37,
-            ParseError::DurationDisgnator => 38,
-            ParseError::DurationValueExceededRange => 39,
-            ParseError::DateDurationPartOrder => 40,
-            ParseError::TimeDurationPartOrder => 41,
-            ParseError::TimeDurationDesignator => 42,
-            ParseError::AmbiguousTimeMonthDay => 43,
-            ParseError::AmbiguousTimeYearMonth => 44,
-            ParseError::InvalidMonthDay => 45,
-        }
-    }
-}
-
-impl ParseError {
-    /// Where the text ended, and nothing for every other error.
-    fn location(&self) -> &'static str {
-        match *self {
-            ParseError::AbruptEnd { location } => location,
-            _ => "",
-        }
-    }
-}
-
-impl PartialEq for ParseError {
-    /// Whether the errors are one variant, and their locations have equal bytes.
-    fn eq(&self, other: &ParseError) -> bool {
-        self.place() == other.place() && self.location() == other.location()
     }
 }
 

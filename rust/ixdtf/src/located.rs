@@ -4,13 +4,14 @@
 
 use crate::error::ParseError;
 use crate::pointed::PointedText;
-use std::error::Error;
-use std::fmt;
+use core::error::Error;
+use core::fmt;
 
 /// Why a reader refused a text, and at which unit.
 ///
 /// Display writes the text of the error, ` at ` and the place, as `Invalid character while parsing month value. at 5`.
 #[derive(Clone, Copy, Debug)]
+#[derive(PartialEq)]
 pub struct LocatedError {
     /// The error.
     pub error: ParseError,
@@ -32,15 +33,9 @@ impl LocatedError {
     /// ```
     ///
     /// [`PointedText`] says how they are made of a longer text, or of one with other characters.
+    #[must_use]
     pub fn in_text<'a>(&self, text: &'a str) -> PointedText<'a> {
         PointedText::new(text, self.at)
-    }
-}
-
-impl PartialEq for LocatedError {
-    /// Whether the places are one, and the errors are equal.
-    fn eq(&self, other: &LocatedError) -> bool {
-        self.at == other.at && self.error == other.error
     }
 }
 

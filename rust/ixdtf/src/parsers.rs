@@ -51,11 +51,15 @@ pub struct IxdtfParser<'a, T: EncodingType> {
 
 impl<'a> IxdtfParser<'a, Utf8> {
     /// A parser of a text's UTF-8 bytes. All of them are still to be read.
+    #[inline]
+    #[must_use]
     pub fn from_str(source: &'a str) -> Self {
         Self::new(source.as_bytes())
     }
 
     /// A parser of bytes, which need not be UTF-8. All of them are still to be read.
+    #[inline]
+    #[must_use]
     pub fn from_utf8(source: &'a [u8]) -> Self {
         Self::new(source)
     }
@@ -63,6 +67,8 @@ impl<'a> IxdtfParser<'a, Utf8> {
 
 impl<'a> IxdtfParser<'a, Utf16> {
     /// A parser of 16-bit units, which need not be UTF-16. All of them are still to be read.
+    #[inline]
+    #[must_use]
     pub fn from_utf16(source: &'a [u16]) -> Self {
         IxdtfParser::new(source)
     }
@@ -70,6 +76,8 @@ impl<'a> IxdtfParser<'a, Utf16> {
 
 impl<'a, T: EncodingType> IxdtfParser<'a, T> {
     /// A parser of units of any encoding. All of them are still to be read.
+    #[inline]
+    #[must_use]
     pub fn new(source: &'a [T::CodeUnit]) -> Self {
         IxdtfParser {
             cursor: Cursor::new(source),
@@ -79,6 +87,8 @@ impl<'a, T: EncodingType> IxdtfParser<'a, T> {
 
     /// The parser with this profile, which decides what a month and a day are, also where a time is told from them. What is
     /// still to be read stays.
+    #[inline]
+    #[must_use]
     pub fn with_profile(self, profile: Profile) -> Self {
         IxdtfParser {
             cursor: self.cursor,
@@ -619,7 +629,6 @@ impl<'a, T: EncodingType> IxdtfParser<'a, T> {
             }
             Err(stop) => {
                 let at = self.cursor.remaining().saturating_sub(here.remaining());
-                self.cursor.count(here);
                 Err(StopAt { stop, at })
             }
         }

@@ -2,7 +2,7 @@
 
 //! A text with a mark under one of its characters.
 
-use std::fmt;
+use core::fmt;
 
 /// How many characters before the place are written at most.
 const BEFORE_PLACE: usize = 48;

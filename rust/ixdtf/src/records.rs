@@ -166,16 +166,22 @@ pub enum UtcOffsetRecord {
 
 impl UtcOffsetRecord {
     /// Whether the offset was written without seconds (as `time-numoffset` of RFC 3339, section 5.6).
+    #[inline]
+    #[must_use]
     pub fn is_minute_precision(&self) -> bool {
         matches!(self, UtcOffsetRecord::MinutePrecision(_))
     }
 
     /// `+00:00`, written without seconds: local time is UTC (RFC 3339, section 5.6).
+    #[inline]
+    #[must_use]
     pub fn zero() -> UtcOffsetRecord {
         UtcOffsetRecord::MinutePrecision(MinutePrecisionOffset::zero())
     }
 
     /// The sign of the whole offset (of `time-numoffset` of RFC 3339, section 5.6).
+    #[inline]
+    #[must_use]
     pub fn sign(&self) -> Sign {
         match self {
             UtcOffsetRecord::MinutePrecision(offset) => offset.sign,
@@ -184,6 +190,8 @@ impl UtcOffsetRecord {
     }
 
     /// The hours (`time-hour` of RFC 3339, section 5.6).
+    #[inline]
+    #[must_use]
     pub fn hour(&self) -> u8 {
         match self {
             UtcOffsetRecord::MinutePrecision(offset) => offset.hour,
@@ -192,6 +200,8 @@ impl UtcOffsetRecord {
     }
 
     /// The minutes (`time-minute` of RFC 3339, section 5.6).
+    #[inline]
+    #[must_use]
     pub fn minute(&self) -> u8 {
         match self {
             UtcOffsetRecord::MinutePrecision(offset) => offset.minute,
@@ -201,6 +211,8 @@ impl UtcOffsetRecord {
 
     /// The seconds, or `None` where the offset was written without them. `time-numoffset` of RFC 3339, section 5.6, has
     /// none: they are of the longer form.
+    #[inline]
+    #[must_use]
     pub fn second(&self) -> Option<u8> {
         match self {
             UtcOffsetRecord::MinutePrecision(_) => None,
@@ -210,6 +222,8 @@ impl UtcOffsetRecord {
 
     /// The part of a second beyond the seconds (`time-secfrac` of RFC 3339, section 5.6), or `None` where the offset was
     /// written without seconds, or no digits follow them.
+    #[inline]
+    #[must_use]
     pub fn fraction(&self) -> Option<Fraction> {
         match self {
             UtcOffsetRecord::MinutePrecision(_) => None,
@@ -230,6 +244,8 @@ pub enum UtcOffsetRecordOrZ {
 impl UtcOffsetRecordOrZ {
     /// The offset in numbers, and `-00:00` for `Z`: both say that UTC is known and the local offset is not (RFC 9557,
     /// section 2).
+    #[inline]
+    #[must_use]
     pub fn resolve_rfc_9557(self) -> UtcOffsetRecord {
         match self {
             UtcOffsetRecordOrZ::Offset(offset) => offset,
@@ -367,12 +383,16 @@ impl Fraction {
     }
 
     /// How many digits the fraction has, its leading and trailing zeros counted: 1 to 255.
+    #[inline]
+    #[must_use]
     pub fn digit_count(&self) -> u8 {
         let Fraction { digits, .. } = *self;
         digits
     }
 
     /// The number of the first 18 digits, or of all where there are fewer.
+    #[inline]
+    #[must_use]
     pub fn leading_value(&self) -> u64 {
         let Fraction { value, .. } = *self;
         value.number()
@@ -380,6 +400,8 @@ impl Fraction {
 
     /// The nanoseconds of the fraction, or `None` where it has more than nine digits, also where those behind the ninth are
     /// zeros. Where they are there, they are what [`to_truncated_nanoseconds`](Self::to_truncated_nanoseconds) returns.
+    #[inline]
+    #[must_use]
     pub fn to_nanoseconds(&self) -> Option<u32> {
         if self.digits > 9 {
             return None;
@@ -389,6 +411,8 @@ impl Fraction {
 
     /// The whole nanoseconds of the fraction: its first nine digits, with zeros behind them where there are fewer. What
     /// is left of a nanosecond is dropped.
+    #[inline]
+    #[must_use]
     pub fn to_truncated_nanoseconds(&self) -> u32 {
         let value = self.value.number();
         if self.digits <= 9 {

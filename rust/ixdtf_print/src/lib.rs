@@ -1,14 +1,8 @@
 // Made by tools/to_rust.py of crates/ixdtf_print/src/lib.rt. Do not edit.
 
-//! Prints the records that `ixdtf` reads, each as its one canonical text.
-//!
-//! The canonical text is read back as an equal record, and no other record has it. So a text can be stored, compared and
-//! sent on in this form.
-
+#![doc = include_str!("../README.md")]
 #![no_std]
 #![forbid(unsafe_code)]
-
-extern crate core as std;
 
 mod check;
 mod digits;

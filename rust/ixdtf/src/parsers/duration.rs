@@ -28,11 +28,15 @@ pub struct IsoDurationParser<'a, T: EncodingType> {
 
 impl<'a> IsoDurationParser<'a, Utf8> {
     /// A parser of a text's UTF-8 bytes. All of them are still to be read.
+    #[inline]
+    #[must_use]
     pub fn from_str(value: &'a str) -> Self {
         Self::new(value.as_bytes())
     }
 
     /// A parser of bytes, which need not be UTF-8. All of them are still to be read.
+    #[inline]
+    #[must_use]
     pub fn from_utf8(value: &'a [u8]) -> Self {
         IsoDurationParser::new(value)
     }
@@ -41,6 +45,8 @@ impl<'a> IsoDurationParser<'a, Utf8> {
 impl<'a> IsoDurationParser<'a, Utf16> {
     /// A parser of 16-bit units, which need not be UTF-16. All of them are still to be read. It is named as in the Rust
     /// crate: a caller names the encoding, as `IsoDurationParser::<Utf16>::from_utf8`.
+    #[inline]
+    #[must_use]
     pub fn from_utf8(value: &'a [u16]) -> Self {
         Self::new(value)
     }
@@ -48,6 +54,8 @@ impl<'a> IsoDurationParser<'a, Utf16> {
 
 impl<'a, T: EncodingType> IsoDurationParser<'a, T> {
     /// A parser of units of any encoding. All of them are still to be read.
+    #[inline]
+    #[must_use]
     pub fn new(value: &'a [T::CodeUnit]) -> Self {
         IsoDurationParser {
             cursor: Cursor::new(value),
@@ -56,6 +64,8 @@ impl<'a, T: EncodingType> IsoDurationParser<'a, T> {
     }
 
     /// The parser with this profile, which decides whether a unit may stand again. What is still to be read stays.
+    #[inline]
+    #[must_use]
     pub fn with_profile(self, profile: Profile) -> Self {
         IsoDurationParser {
             cursor: self.cursor,

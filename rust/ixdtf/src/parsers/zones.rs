@@ -20,11 +20,15 @@ pub struct TimeZoneParser<'a, T: EncodingType> {
 
 impl<'a> TimeZoneParser<'a, Utf8> {
     /// A parser of a text's UTF-8 bytes. All of them are still to be read.
+    #[inline]
+    #[must_use]
     pub fn from_str(source: &'a str) -> Self {
         TimeZoneParser::new(source.as_bytes())
     }
 
     /// A parser of bytes, which need not be UTF-8. All of them are still to be read.
+    #[inline]
+    #[must_use]
     pub fn from_utf8(source: &'a [u8]) -> Self {
         TimeZoneParser::new(source)
     }
@@ -32,6 +36,8 @@ impl<'a> TimeZoneParser<'a, Utf8> {
 
 impl<'a> TimeZoneParser<'a, Utf16> {
     /// A parser of 16-bit units, which need not be UTF-16. All of them are still to be read.
+    #[inline]
+    #[must_use]
     pub fn from_utf16(source: &'a [u16]) -> Self {
         Self::new(source)
     }
@@ -39,6 +45,8 @@ impl<'a> TimeZoneParser<'a, Utf16> {
 
 impl<'a, T: EncodingType> TimeZoneParser<'a, T> {
     /// A parser of units of any encoding. All of them are still to be read.
+    #[inline]
+    #[must_use]
     pub fn new(source: &'a [T::CodeUnit]) -> Self {
         let cursor = Cursor::new(source);
         TimeZoneParser { cursor }
