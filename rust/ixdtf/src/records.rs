@@ -166,21 +166,18 @@ pub enum UtcOffsetRecord {
 
 impl UtcOffsetRecord {
     /// Whether the offset was written without seconds (as `time-numoffset` of RFC 3339, section 5.6).
-    #[inline]
     #[must_use]
     pub fn is_minute_precision(&self) -> bool {
         matches!(self, UtcOffsetRecord::MinutePrecision(_))
     }
 
     /// `+00:00`, written without seconds: local time is UTC (RFC 3339, section 5.6).
-    #[inline]
     #[must_use]
     pub fn zero() -> UtcOffsetRecord {
         UtcOffsetRecord::MinutePrecision(MinutePrecisionOffset::zero())
     }
 
     /// The sign of the whole offset (of `time-numoffset` of RFC 3339, section 5.6).
-    #[inline]
     #[must_use]
     pub fn sign(&self) -> Sign {
         match self {
@@ -190,7 +187,6 @@ impl UtcOffsetRecord {
     }
 
     /// The hours (`time-hour` of RFC 3339, section 5.6).
-    #[inline]
     #[must_use]
     pub fn hour(&self) -> u8 {
         match self {
@@ -200,7 +196,6 @@ impl UtcOffsetRecord {
     }
 
     /// The minutes (`time-minute` of RFC 3339, section 5.6).
-    #[inline]
     #[must_use]
     pub fn minute(&self) -> u8 {
         match self {
@@ -211,7 +206,6 @@ impl UtcOffsetRecord {
 
     /// The seconds, or `None` where the offset was written without them. `time-numoffset` of RFC 3339, section 5.6, has
     /// none: they are of the longer form.
-    #[inline]
     #[must_use]
     pub fn second(&self) -> Option<u8> {
         match self {
@@ -222,7 +216,6 @@ impl UtcOffsetRecord {
 
     /// The part of a second beyond the seconds (`time-secfrac` of RFC 3339, section 5.6), or `None` where the offset was
     /// written without seconds, or no digits follow them.
-    #[inline]
     #[must_use]
     pub fn fraction(&self) -> Option<Fraction> {
         match self {
@@ -244,7 +237,6 @@ pub enum UtcOffsetRecordOrZ {
 impl UtcOffsetRecordOrZ {
     /// The offset in numbers, and `-00:00` for `Z`: both say that UTC is known and the local offset is not (RFC 9557,
     /// section 2).
-    #[inline]
     #[must_use]
     pub fn resolve_rfc_9557(self) -> UtcOffsetRecord {
         match self {
@@ -383,7 +375,6 @@ impl Fraction {
     }
 
     /// How many digits the fraction has, its leading and trailing zeros counted: 1 to 255.
-    #[inline]
     #[must_use]
     pub fn digit_count(&self) -> u8 {
         let Fraction { digits, .. } = *self;
@@ -391,7 +382,6 @@ impl Fraction {
     }
 
     /// The number of the first 18 digits, or of all where there are fewer.
-    #[inline]
     #[must_use]
     pub fn leading_value(&self) -> u64 {
         let Fraction { value, .. } = *self;
@@ -400,7 +390,6 @@ impl Fraction {
 
     /// The nanoseconds of the fraction, or `None` where it has more than nine digits, also where those behind the ninth are
     /// zeros. Where they are there, they are what [`to_truncated_nanoseconds`](Self::to_truncated_nanoseconds) returns.
-    #[inline]
     #[must_use]
     pub fn to_nanoseconds(&self) -> Option<u32> {
         if self.digits > 9 {
@@ -411,7 +400,6 @@ impl Fraction {
 
     /// The whole nanoseconds of the fraction: its first nine digits, with zeros behind them where there are fewer. What
     /// is left of a nanosecond is dropped.
-    #[inline]
     #[must_use]
     pub fn to_truncated_nanoseconds(&self) -> u32 {
         let value = self.value.number();
