@@ -101,7 +101,7 @@ def phrase(text):
 
 
 REMOVED = [phrase(t) for t in ['#![tactic(auto)]', '#[rattlefmt::skip]', 'use std::marker::Model;', '#[derive(Drop)]', 'pub mod laws;', 'mod laws;',
-                               '#[cfg(test)]', 'use crate::looks::Looks;', 'looks: Looks,', 'looks: Looks::none(),', 'self.looks.tick();',
+                               '#[cfg(test)]', 'pub use laws::{canonical_fits, canonical_is_read_back};', 'use ixdtf_print::canonical_fits;', 'canonical_fits();', 'use crate::looks::Looks;', 'looks: Looks,', 'looks: Looks::none(),', 'self.looks.tick();',
                                'looks: std::mem::replace(&mut self.looks, Looks::none()),', 'self.count(here);', 'self.cursor.count(here);',
                                'cursor.count(again);', '#[inline(always)] pub fn count(&mut self, here: Self) { self.looks = here.looks; }',
                                'impl PartialEq for LocatedError { fn eq(&self, other: &LocatedError) -> bool { self.at == other.at && self.error == other.error } }',
@@ -144,12 +144,12 @@ def without_places(words):
     return words if at is None else words[:at] + words[block_end(words, at + 2):]
 
 
-def as_rust(words, kept):
+def as_rust(words):
     words = without_places(drop_tactics(without_ghosts(words)))
     out, at = [], 0
     while at < len(words):
         for old in REMOVED:
-            if old not in kept and words[at:at + len(old)] == old:
+            if words[at:at + len(old)] == old:
                 at += len(old)
                 break
         else:
@@ -187,10 +187,10 @@ def without_heads(words):
     return out
 
 
-def difference(source, made, kept=(), heads=False):
-    """The first place where what was made has other tokens than the source, but for those that may be added. Phrases that are kept here are else removed,
-    and modules and imports are left out with `heads`."""
-    wanted, found = (without_layers(words) for words in (as_rust(tokens_of(source), kept), tokens_of(made)))
+def difference(source, made, heads=False):
+    """The first place where what was made has other tokens than the source, but for those that may be added. Modules and
+    imports are left out with `heads`."""
+    wanted, found = (without_layers(words) for words in (as_rust(tokens_of(source)), tokens_of(made)))
     if heads:
         wanted, found = without_heads(wanted), without_heads(found)
     i = j = 0
@@ -316,7 +316,6 @@ class SameTokens(unittest.TestCase):
     def test_every_file(self):
         compared, layers = 0, {f'crates/ixdtf_{layer}/src' for layer in LAYERS}
         for source, target in PAIRS:
-            kept = [phrase('mod laws;')] if source == 'crates/ixdtf_print/src' else []
             for folder, _, names in os.walk(os.path.join(TOP, source)):
                 for name in names:
                     path = os.path.relpath(os.path.join(folder, name), os.path.join(TOP, source))[:-3]
@@ -328,7 +327,7 @@ class SameTokens(unittest.TestCase):
                         text = file.read()
                     with open(made, encoding='utf-8') as file:
                         heads = source == 'crates/ixdtf/src' and path in ('lib', 'parsers')
-                        self.assertEqual(difference(text, file.read(), kept, heads), '', f'{source}/{path}.rt')
+                        self.assertEqual(difference(text, file.read(), heads), '', f'{source}/{path}.rt')
                     compared += 1
         self.assertGreater(compared, 60)
 

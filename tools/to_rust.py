@@ -7,9 +7,9 @@ The tokens of the sources are kept in their order. What is removed:
   ghost items    `ghost use ..;`, `ghost NAME = { .. };`, `ghost NAME: { .. };` and `ghost NAME: { .. },`, with their docs
   models         `impl .. Model for .. { .. }` (it has only ghost items), and `Model` in a `use`
   attributes     `#[tactic(..)]`, `#[rattlefmt::skip]`, and `Drop` in a `#[derive(..)]`
-  modules        those that a crate of CRATES omits, which have no code that another module calls
-  looks          the count of looks at units, which contracts alone speak of: the module `looks`, `Cursor::count`, and the phrases
-                 of LOOKS, with the comments that stand right before them
+  modules        those that a crate of CRATES omits, which have no code that another module calls, with the `use` of one
+  phrases        those of UNSEEN, of which contracts alone speak, with the comments that stand right before them: the count of
+                 looks at units (with the module `looks` and `Cursor::count`), and calls of laws
 
 The library stands in layers, crates of their own (LAYERS), which are one crate here: a module of a layer stands where LAYERS has it,
 a path through a layer goes through `crate`, the root of a layer gives way to what the root of the library re-exports of it, and
@@ -98,7 +98,7 @@ CRATES = [
     *(Crate(f'crates/{layer}/src', 'rust/ixdtf/src', ['lib', 'looks'], layer=layer) for layer in LAYERS),
     Crate('crates/ixdtf_callers/src', 'rust/ixdtf/src', ['lib'], root='callers', tests=True),
     Crate('crates/ixdtf_tests/src', 'rust/ixdtf/src', ['lib', 'tests/laws', 'tests/printing'], root='tests', tests=True),
-    Crate('crates/ixdtf_print/src', 'rust/ixdtf_print/src', ends=PRINTER, above=True),
+    Crate('crates/ixdtf_print/src', 'rust/ixdtf_print/src', ['laws'], ends=PRINTER, above=True),
     Crate('crates/ixdtf_lines/src', 'rust/ixdtf_lines/src', ['main', 'tests', 'tests/faults', 'tests/words'], root='lines', ends=PROGRAM, above=True),
 ]
 WRITTEN_BY_HAND = {'rust/ixdtf/src/runtime.rs', 'rust/ixdtf/src/tests/printing.rs', 'rust/ixdtf_lines/src/main.rs'}
@@ -117,10 +117,10 @@ MARKED = INLINED | {'error', 'located', 'records'}
 RESULTS = {'Result', 'ParserResult'}
 # the types with an equality that is a derived one, and the functions that it calls
 DERIVED = {('error', 'ParseError'): {'place', 'location'}, ('located', 'LocatedError'): set()}
-# the count of looks: what only contracts speak of
-LOOKS = [phrase.split() for phrase in ['use crate :: looks :: Looks ;', 'looks : Looks ,', 'looks : Looks :: none ( ) ,', 'self . looks . tick ( ) ;',
-                                       'looks : std :: mem :: replace ( & mut self . looks , Looks :: none ( ) ) ,',
-                                       'self . count ( here ) ;', 'self . cursor . count ( here ) ;', 'cursor . count ( again ) ;']]
+UNSEEN = [phrase.split() for phrase in ['use crate :: looks :: Looks ;', 'looks : Looks ,', 'looks : Looks :: none ( ) ,', 'self . looks . tick ( ) ;',
+                                        'looks : std :: mem :: replace ( & mut self . looks , Looks :: none ( ) ) ,',
+                                        'self . count ( here ) ;', 'self . cursor . count ( here ) ;', 'cursor . count ( again ) ;',
+                                        'use ixdtf_print :: canonical_fits ;', 'canonical_fits ( ) ;']]
 COUNT = '# [ inline ( always ) ] pub fn count ('.split()
 WRITER, FORMATTER = '< W : fmt :: Write >'.split(), 'fmt :: Formatter < W >'.split()
 USES = {'std::marker::Model': '', 'std::marker::{Model,PhantomData}': 'use std::marker::PhantomData;'}
@@ -301,9 +301,9 @@ def rewrite(tokens, module, crate):
             at += 1
             continue
         places = solid(tokens, at)
-        looks = next((phrase for phrase in LOOKS if is_here(tokens, places, 0, phrase)), None) if crate.on_core else None
-        if looks:
-            unseen(tokens, at, places[len(looks) - 1])
+        phrase = None if crate.tests else next((phrase for phrase in UNSEEN if is_here(tokens, places, 0, phrase)), None)
+        if phrase:
+            unseen(tokens, at, places[len(phrase) - 1])
         elif crate.on_core and module == 'cursor' and is_here(tokens, places, 0, COUNT):
             unseen(tokens, at, group(tokens, next(i for i in range(at, len(tokens)) if tokens[i].text == '{')))
         elif crate.layer and is_here(tokens, places, 0, HIDDEN) and tokens[places[9]].text not in CALLED_FROM_ABOVE:
@@ -334,7 +334,11 @@ def rewrite(tokens, module, crate):
         elif token.kind == 'word' and token.text == 'use':
             last = next(i for i in range(at, len(tokens)) if tokens[i].text == ';')
             text = ''.join(t.text for t in tokens[at + 1:last] if t.kind != 'space')
-            if text in USES:
+            first = at - 2 if tokens[at - 2].text == 'pub' else at
+            if tokens[places[1]].text in crate.left_out(module):
+                gone(tokens, first, last)
+                at = first
+            elif text in USES:
                 put(tokens, at, last, USES[text]) if USES[text] else gone(tokens, at, last)
             elif crate.tests and text in TEST_USES:
                 put(tokens, at, last, f'use crate::runtime::{TEST_USES[text]};')
