@@ -14,7 +14,7 @@ PAIRS = [('crates/ixdtf/src', 'rust/ixdtf/src'), ('crates/ixdtf_tests/src', 'rus
          ('crates/ixdtf_print/src', 'rust/ixdtf_print/src'), ('crates/ixdtf_lines/src', 'rust/ixdtf_lines/src')]
 # the layers of the library, whose modules stand at the root of the made crate, or else in `parsers`
 LAYERS = ['grammar', 'reading', 'times', 'brackets', 'durations']
-AT_THE_ROOT = {'encoding', 'error', 'located', 'packed', 'pointed', 'records', 'cursor', 'looks', 'stop'}
+AT_THE_ROOT = {'encoding', 'error', 'located', 'packed', 'pointed', 'records', 'cursor', 'stop'}
 PAIRS += [(f'crates/ixdtf_{layer}/src', 'rust/ixdtf/src') for layer in LAYERS]
 
 
@@ -101,21 +101,30 @@ def phrase(text):
 
 
 REMOVED = [phrase(t) for t in ['#![tactic(auto)]', '#[rattlefmt::skip]', 'use std::marker::Model;', '#[derive(Drop)]', 'pub mod laws;', 'mod laws;',
-                               '#[cfg(test)]']]
+                               '#[cfg(test)]', 'pub use laws::{canonical_fits, canonical_is_read_back};', 'use ixdtf_print::canonical_fits;', 'canonical_fits();', 'use crate::looks::Looks;', 'looks: Looks,', 'looks: Looks::none(),', 'self.looks.tick();',
+                               'looks: std::mem::replace(&mut self.looks, Looks::none()),', 'self.count(here);', 'self.cursor.count(here);',
+                               'cursor.count(again);', '#[inline(always)] pub fn count(&mut self, here: Self) { self.looks = here.looks; }',
+                               'impl PartialEq for LocatedError { fn eq(&self, other: &LocatedError) -> bool { self.at == other.at && self.error == other.error } }',
+                               'impl PartialEq for ParseError { fn eq(&self, other: &ParseError) -> bool'
+                               ' { self.place() == other.place() && self.location() == other.location() } }',
+                               'impl ParseError { fn location(&self) -> &\'static str'
+                               ' { match *self { ParseError::AbruptEnd { location } => location, _ => "", } } }']]
 CHANGED = [(phrase(a), phrase(b)) for a, b in [
     ('use std::marker::{Model, PhantomData};', 'use std::marker::PhantomData;'),
     ('<W: fmt::Write>(', '('), ('fmt::Formatter<W>', "fmt::Formatter<'_>"),
     ('#[derive_where(', '#[derive('), ('Drop,', ''), (', Drop', ''), ('const _: () = prove!(', 'const _: () = assert!('),
     ('(rt: HostRuntime)', '()'), ('.clone()', '.try_clone()'), ('use std::process::Abort;', 'use crate::runtime::Abort;'),
-    ('use std::test::Fail;', 'use crate::runtime::Fail;'),
+    ('use std::test::Fail;', 'use crate::runtime::Fail;'), ('match str::from_utf8(', 'match std::str::from_utf8('),
     ('use std::alloc::{AllocError, Global};', 'use crate::runtime::{AllocError, Global, String};'),
     ('use std::alloc::Global;', 'use crate::runtime::Global;')]]
 ADDED = [phrase(t) for t in [
     'pub type ParserResult<T> = Result<T, ParseError>;',
-    '#[non_exhaustive]', '#[repr(i8)]', '#![no_std]', '#![cfg_attr(not(test), no_std)]', '#![forbid(unsafe_code)]', '#[cfg(not(test))] extern crate core as std;',
-    'extern crate core as std;', '#[cfg(test)] extern crate self as ixdtf;', '#[cfg(test)] #[macro_use] mod runtime; #[cfg(test)] mod callers; #[cfg(test)] mod tests;',
-    '#[cfg(doctest)] #[doc = include_str!("../README.md")] struct Readme;',
+    '#[non_exhaustive]', '#[repr(i8)]', '#![no_std]', '#![cfg_attr(not(test), no_std)]', '#![forbid(unsafe_code)]', '#[derive(PartialEq)]',
+    '#[inline]', '#[must_use]', '#![doc = include_str!("../README.md")]', '#[cfg(test)] extern crate self as ixdtf;', '#[cfg(test)] #[macro_use] mod runtime; #[cfg(test)] mod callers; #[cfg(test)] mod tests;',
     '#[allow(unused_imports)] use crate::runtime::{HostRuntime, TryClone};', 'let rt = HostRuntime;', '_ => unreachable!(),']]
+
+
+PLACES = phrase('impl ParseError { fn place(&self) -> u8 {')
 
 
 def drop_tactics(words):
@@ -129,12 +138,18 @@ def drop_tactics(words):
     return out
 
 
-def as_rust(words, kept):
-    words = drop_tactics(without_ghosts(words))
+def without_places(words):
+    """The tokens without the numbers of the errors, which an equality alone calls that is derived in Rust."""
+    at = next((at for at in range(len(words)) if words[at:at + len(PLACES)] == PLACES), None)
+    return words if at is None else words[:at] + words[block_end(words, at + 2):]
+
+
+def as_rust(words):
+    words = without_places(drop_tactics(without_ghosts(words)))
     out, at = [], 0
     while at < len(words):
         for old in REMOVED:
-            if old not in kept and words[at:at + len(old)] == old:
+            if words[at:at + len(old)] == old:
                 at += len(old)
                 break
         else:
@@ -154,7 +169,7 @@ def without_layers(words):
     text = ' ' + ' '.join(words) + ' '
     for layer in LAYERS:
         text = text.replace(f' ixdtf_{layer} : : ', ' crate : : ')
-    text = text.replace(' self : : ', ' crate : : ').replace(' crate : : parsers : : ', ' crate : : ')
+    text = text.replace(' std : : ', ' core : : ').replace(' self : : ', ' crate : : ').replace(' crate : : parsers : : ', ' crate : : ')
     return text.replace(' # [ doc ( hidden ) ] pub fn ', ' pub fn ').replace(' pub ( crate ) fn ', ' pub fn ').split()
 
 
@@ -172,10 +187,10 @@ def without_heads(words):
     return out
 
 
-def difference(source, made, kept=(), heads=False):
-    """The first place where what was made has other tokens than the source, but for those that may be added. Phrases that are kept here are else removed,
-    and modules and imports are left out with `heads`."""
-    wanted, found = (without_layers(words) for words in (as_rust(tokens_of(source), kept), tokens_of(made)))
+def difference(source, made, heads=False):
+    """The first place where what was made has other tokens than the source, but for those that may be added. Modules and
+    imports are left out with `heads`."""
+    wanted, found = (without_layers(words) for words in (as_rust(tokens_of(source)), tokens_of(made)))
     if heads:
         wanted, found = without_heads(wanted), without_heads(found)
     i = j = 0
@@ -301,7 +316,6 @@ class SameTokens(unittest.TestCase):
     def test_every_file(self):
         compared, layers = 0, {f'crates/ixdtf_{layer}/src' for layer in LAYERS}
         for source, target in PAIRS:
-            kept = [phrase('mod laws;')] if source == 'crates/ixdtf_print/src' else []
             for folder, _, names in os.walk(os.path.join(TOP, source)):
                 for name in names:
                     path = os.path.relpath(os.path.join(folder, name), os.path.join(TOP, source))[:-3]
@@ -313,7 +327,7 @@ class SameTokens(unittest.TestCase):
                         text = file.read()
                     with open(made, encoding='utf-8') as file:
                         heads = source == 'crates/ixdtf/src' and path in ('lib', 'parsers')
-                        self.assertEqual(difference(text, file.read(), kept, heads), '', f'{source}/{path}.rt')
+                        self.assertEqual(difference(text, file.read(), heads), '', f'{source}/{path}.rt')
                     compared += 1
         self.assertGreater(compared, 60)
 

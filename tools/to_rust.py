@@ -7,7 +7,9 @@ The tokens of the sources are kept in their order. What is removed:
   ghost items    `ghost use ..;`, `ghost NAME = { .. };`, `ghost NAME: { .. };` and `ghost NAME: { .. },`, with their docs
   models         `impl .. Model for .. { .. }` (it has only ghost items), and `Model` in a `use`
   attributes     `#[tactic(..)]`, `#[rattlefmt::skip]`, and `Drop` in a `#[derive(..)]`
-  modules        those that a crate of CRATES omits, which have no code that another module calls
+  modules        those that a crate of CRATES omits, which have no code that another module calls, with the `use` of one
+  phrases        those of UNSEEN, of which contracts alone speak, with the comments that stand right before them: the count of
+                 looks at units (with the module `looks` and `Cursor::count`), and calls of laws
 
 The library stands in layers, crates of their own (LAYERS), which are one crate here: a module of a layer stands where LAYERS has it,
 a path through a layer goes through `crate`, the root of a layer gives way to what the root of the library re-exports of it, and
@@ -19,15 +21,20 @@ What is put in the place of something else, and there is nothing more of it:
   2 derive_where `#[derive_where(..)]` is `#[derive(..)]`
   3 prove        `const _: () = prove!(..)` is `const _: () = assert!(..)`
   4 ADDED        attributes on types, which bind users of the crate and not its own code
-  5 heads        what stands at the head of each root file: `extern crate core as std` lets `std::` name `core`
+  5 heads        what stands at the head of each root file, in the place of its own documents where the head has a README
   6 arms         in a crate that stands on the library, a `match` with arms for the variants of a type that ADDED leaves open
                  (OPEN) gets the last arm `_ => unreachable!()`, which Rust asks for there
+  7 core         `std::` is `core::` in a crate without the standard library
+  8 calls        `#[must_use]` on each public function of MARKED that takes nothing that changes and returns no result, and is not
+                 hidden, and in those of INLINED `#[inline]` too
+  9 equality     `impl PartialEq for ..` of DERIVED is `#[derive(PartialEq)]`, and what that impl alone calls is left out
 
 Of a test, besides (TESTS):
 
-  7 runtime      a test takes nothing, and makes the `rt` that the sources hand to it; `HostRuntime`, `Abort`, `Fail`, `Global`,
+  10 runtime     a test takes nothing, and makes the `rt` that the sources hand to it; `HostRuntime`, `Abort`, `Fail`, `Global`,
                  `AllocError`, `String` and the macros with an `rt` or an allocator are those of src/runtime.rs
-  8 clone        `x.clone()` is `x.try_clone()` of src/runtime.rs, since a clone is a result there
+  11 clone       `x.clone()` is `x.try_clone()` of src/runtime.rs, since a clone is a result there
+  12 str         `str::from_utf8` is `std::str::from_utf8`, which older compilers have
 
 What is not known here is refused: an attribute, a macro, a keyword, or a name of the standard library that is not listed.
 Whether Rust's and Rattle's name mean the same was looked up once for each listed one. A method of a crate's own that has
@@ -43,17 +50,17 @@ TOP = os.path.join(os.path.dirname(os.path.abspath(__file__)), '..')
 
 MADE = '// Made by tools/to_rust.py of {0}. Do not edit.\n\n'
 # the head of each root file, and what stands at its end
-LIBRARY = ('#![cfg_attr(not(test), no_std)]\n#![forbid(unsafe_code)]\n\n#[cfg(not(test))]\nextern crate core as std;\n'
-           '#[cfg(test)]\nextern crate self as ixdtf;\n', '\n#[cfg(test)]\n#[macro_use]\nmod runtime;\n#[cfg(test)]\nmod callers;\n#[cfg(test)]\nmod tests;\n\n'
-           '#[cfg(doctest)]\n#[doc = include_str!("../README.md")]\nstruct Readme;\n')
-PRINTER = ('#![no_std]\n#![forbid(unsafe_code)]\n\nextern crate core as std;\n', '')
+README = '#![doc = include_str!("../README.md")]\n'
+LIBRARY = (README + '#![cfg_attr(not(test), no_std)]\n#![forbid(unsafe_code)]\n\n#[cfg(test)]\nextern crate self as ixdtf;\n',
+           '\n#[cfg(test)]\n#[macro_use]\nmod runtime;\n#[cfg(test)]\nmod callers;\n#[cfg(test)]\nmod tests;\n')
+PRINTER = (README + '#![no_std]\n#![forbid(unsafe_code)]\n', '')
 PROGRAM = ('#![forbid(unsafe_code)]\n', '')
 
 
 # the layers of the library, and where their modules stand in the crate that is made of all of them
 LAYERS = {
     'ixdtf_grammar': 'encoding error located packed pointed records parsers/profile'.split(),
-    'ixdtf_reading': 'cursor looks stop parsers/annotations parsers/grammar parsers/letters'.split(),
+    'ixdtf_reading': 'cursor stop parsers/annotations parsers/grammar parsers/letters'.split(),
     'ixdtf_times': 'parsers/dates parsers/fixed parsers/months parsers/offsets parsers/time'.split(),
     'ixdtf_brackets': 'parsers/brackets parsers/timezone'.split(),
     'ixdtf_durations': 'parsers/duration'.split(),
@@ -63,11 +70,13 @@ PLACES = {(layer, place.rpartition('/')[2]): place for layer, places in LAYERS.i
 
 class Crate:
     """A crate that is made: its sources, its folder, the modules that are left out, the file that is its root, and the head
-    and the end of that file. `tests` are made by the rules of tests; a crate `above` stands on the library; a `layer` is a part of it."""
+    and the end of that file. `tests` are made by the rules of tests; a crate `above` stands on the library; a `layer` is a part of it;
+    one `on_core` has no standard library."""
 
     def __init__(self, source, target, omitted=(), root='lib', ends=('', ''), tests=False, above=False, layer=None):
         self.source, self.target, self.omitted, self.root, self.ends = source, target, set(omitted), root, ends
         self.tests, self.above, self.layer = tests, above, layer
+        self.on_core = bool(layer) or 'no_std' in ends[0]
 
     def place(self, module):
         """Where a module of the crate stands in the crate that is made."""
@@ -86,10 +95,10 @@ class Crate:
 
 CRATES = [
     Crate('crates/ixdtf/src', 'rust/ixdtf/src', ['laws'], ends=LIBRARY),
-    *(Crate(f'crates/{layer}/src', 'rust/ixdtf/src', ['lib'], layer=layer) for layer in LAYERS),
+    *(Crate(f'crates/{layer}/src', 'rust/ixdtf/src', ['lib', 'looks'], layer=layer) for layer in LAYERS),
     Crate('crates/ixdtf_callers/src', 'rust/ixdtf/src', ['lib'], root='callers', tests=True),
     Crate('crates/ixdtf_tests/src', 'rust/ixdtf/src', ['lib', 'tests/laws', 'tests/printing'], root='tests', tests=True),
-    Crate('crates/ixdtf_print/src', 'rust/ixdtf_print/src', ends=PRINTER, above=True),
+    Crate('crates/ixdtf_print/src', 'rust/ixdtf_print/src', ['laws'], ends=PRINTER, above=True),
     Crate('crates/ixdtf_lines/src', 'rust/ixdtf_lines/src', ['main', 'tests', 'tests/faults', 'tests/words'], root='lines', ends=PROGRAM, above=True),
 ]
 WRITTEN_BY_HAND = {'rust/ixdtf/src/runtime.rs', 'rust/ixdtf/src/tests/printing.rs', 'rust/ixdtf_lines/src/main.rs'}
@@ -103,9 +112,20 @@ ADDED = {
     ('records', 'Sign'): '#[repr(i8)]',
 }
 OPEN = {name for (_, name), attribute in ADDED.items() if attribute == '#[non_exhaustive]'}
+INLINED = {'parsers', 'parsers/zones', 'parsers/duration'}
+MARKED = INLINED | {'error', 'located', 'records'}
+RESULTS = {'Result', 'ParserResult'}
+# the types with an equality that is a derived one, and the functions that it calls
+DERIVED = {('error', 'ParseError'): {'place', 'location'}, ('located', 'LocatedError'): set()}
+UNSEEN = [phrase.split() for phrase in ['use crate :: looks :: Looks ;', 'looks : Looks ,', 'looks : Looks :: none ( ) ,', 'self . looks . tick ( ) ;',
+                                        'looks : std :: mem :: replace ( & mut self . looks , Looks :: none ( ) ) ,',
+                                        'self . count ( here ) ;', 'self . cursor . count ( here ) ;', 'cursor . count ( again ) ;',
+                                        'use ixdtf_print :: canonical_fits ;', 'canonical_fits ( ) ;']]
+COUNT = '# [ inline ( always ) ] pub fn count ('.split()
 WRITER, FORMATTER = '< W : fmt :: Write >'.split(), 'fmt :: Formatter < W >'.split()
 USES = {'std::marker::Model': '', 'std::marker::{Model,PhantomData}': 'use std::marker::PhantomData;'}
 TEST_USES = {'std::process::Abort': 'Abort', 'std::test::Fail': 'Fail', 'std::alloc::{AllocError,Global}': '{AllocError, Global, String}', 'std::alloc::Global': 'Global'}
+TEST_TEXT = 'str :: from_utf8 ('.split()
 TEST_USE = '\n#[allow(unused_imports)]\nuse crate::runtime::{HostRuntime, TryClone};\n'
 PROVE = 'const _ : ( ) = prove ! ('.split()
 MACROS = {'matches', 'assert', 'unreachable', 'write'}
@@ -123,6 +143,7 @@ STD_METHODS = set('get len is_ascii_digit is_ascii_alphabetic is_ascii_lowercase
                   ' chars len_utf8 is_control encode_utf8'.split())
 # methods of the iterators over the characters of a text, and the heads of what they give
 ON_CHARACTERS = {('Chars', 'take'): 'Chars', ('Chars', 'skip'): 'Chars', ('Chars', 'count'): 'usize'}
+CALLED_ON_CHARACTERS = {method for _, method in ON_CHARACTERS}
 OWN_PATHS = {'self', 'crate', 'Self', 'T', 'C', 'E', 'L'}
 HIDDEN = '# [ doc ( hidden ) ] pub fn'.split()
 # hidden, and called by crates above the library too
@@ -280,18 +301,31 @@ def rewrite(tokens, module, crate):
             at += 1
             continue
         places = solid(tokens, at)
-        if crate.layer and is_here(tokens, places, 0, HIDDEN) and tokens[places[9]].text not in CALLED_FROM_ABOVE:
+        phrase = None if crate.tests else next((phrase for phrase in UNSEEN if is_here(tokens, places, 0, phrase)), None)
+        if phrase:
+            unseen(tokens, at, places[len(phrase) - 1])
+        elif crate.on_core and module == 'cursor' and is_here(tokens, places, 0, COUNT):
+            unseen(tokens, at, group(tokens, next(i for i in range(at, len(tokens)) if tokens[i].text == '{')))
+        elif crate.layer and is_here(tokens, places, 0, HIDDEN) and tokens[places[9]].text not in CALLED_FROM_ABOVE:
             put(tokens, at, places[7], 'pub(crate)')
         elif token.kind == 'mark' and token.text == '#':
             attribute(tokens, at, crate)
         elif token.kind == 'word' and (token.text in LAYERS or token.text == 'crate' and crate.layer) and tokens[at + 1].text == '::':
             through_layer(tokens, at, module, crate)
+        elif crate.on_core and token.text == 'std' and is_here(tokens, places, 1, ['::']):
+            token.text = 'core'
+        elif not crate.tests and token.text == 'pub' and module in MARKED and is_here(tokens, places, 1, ['fn']):
+            at = marked(tokens, at, module)
         elif token.kind == 'word' and token.text == 'impl':
             head = []
             for i in places:
                 if tokens[i].text in ('{', '('):
                     break
                 head.append(tokens[i].text)
+            last = group(tokens, i) if tokens[i].text == '{' else at
+            if is_derived(tokens, at, last, head, module):
+                unseen(tokens, at, last)
+                continue
             if 'Model' in head and head[head.index('Model') + 1] == 'for' and tokens[i].text == '{':
                 last = group(tokens, i)
                 if any(t.kind not in ('space', 'ghost', 'doc', 'comment') for t in tokens[i + 1:last]):
@@ -300,7 +334,11 @@ def rewrite(tokens, module, crate):
         elif token.kind == 'word' and token.text == 'use':
             last = next(i for i in range(at, len(tokens)) if tokens[i].text == ';')
             text = ''.join(t.text for t in tokens[at + 1:last] if t.kind != 'space')
-            if text in USES:
+            first = at - 2 if tokens[at - 2].text == 'pub' else at
+            if tokens[places[1]].text in crate.left_out(module):
+                gone(tokens, first, last)
+                at = first
+            elif text in USES:
                 put(tokens, at, last, USES[text]) if USES[text] else gone(tokens, at, last)
             elif crate.tests and text in TEST_USES:
                 put(tokens, at, last, f'use crate::runtime::{TEST_USES[text]};')
@@ -310,6 +348,8 @@ def rewrite(tokens, module, crate):
             test_head(tokens, at, places)
         elif crate.tests and is_here(tokens, places, 0, TEST_CLONE):
             put(tokens, places[1], places[1], 'try_clone')
+        elif crate.tests and is_here(tokens, places, 0, TEST_TEXT) and tokens[at - 1].text != '::':
+            put(tokens, at, at, 'std::str')
         elif token.text == 'fn' and is_here(tokens, places, 2, WRITER):
             put(tokens, places[2], places[len(WRITER) + 1], '')
         elif is_here(tokens, places, 0, FORMATTER):
@@ -324,13 +364,51 @@ def rewrite(tokens, module, crate):
                 raise Refused('an omitted module with a body')
             gone(tokens, first, places[2])
         elif token.kind == 'word' and token.text in ('struct', 'enum'):
-            added = None if crate.tests else ADDED.get((module, tokens[places[1]].text))
+            name = module, tokens[places[1]].text
+            added = None if crate.tests else '\n'.join(['#[derive(PartialEq)]'] * (name in DERIVED) + [ADDED.get(name)] * (name in ADDED))
             if added:
                 if tokens[at - 2].text != 'pub' or not tokens[at - 3].text.endswith('\n'):
                     raise Refused('a type that is not public')
                 tokens.insert(at - 2, Token('put', added + '\n', token.at))
                 at += 1
         at += 1
+
+
+def unseen(tokens, first, last):
+    """Has the tokens from one place to another removed as a ghost item is, with the comments right before them."""
+    tokens[first:last + 1] = [Token('ghost', '', tokens[first].at)]
+
+
+def marked(tokens, at, module):
+    """Puts the attributes of rule 8 before a public function, and gives its place."""
+    opening = next(i for i in range(at, len(tokens)) if tokens[i].text == '{')
+    words = [t.text for t in tokens[at:opening] if t.kind not in ('space', 'comment', 'doc', 'clause')]
+    parameters = words[words.index('('):close(words, words.index('(')) + 1]
+    returned = words[words.index('->') + 1:] if '->' in words else []
+    if 'mut' in parameters or not returned or returned[0] in RESULTS:
+        return at
+    before = ''.join(t.text for t in tokens[max(0, at - 12):at]).rpartition('}')[2]
+    if '#[doc(hidden)]' in before:
+        return at
+    margin = tokens[at - 1].text.rpartition('\n')[2]
+    added = '#[inline]' if module in INLINED and '#[inline' not in before else ''
+    for attribute in [added, '#[must_use]']:
+        if attribute:
+            tokens.insert(at, Token('put', f'{attribute}\n{margin}', tokens[at].at))
+            at += 1
+    return at
+
+
+def is_derived(tokens, first, last, head, module):
+    """Whether an `impl` is an equality of DERIVED, or has only what that one calls."""
+    for (place, name), called in DERIVED.items():
+        if place == module and head == ['impl', 'PartialEq', 'for', name]:
+            return True
+        if place == module and head == ['impl', name]:
+            body = tokens[first:last]
+            names = {[t.text for t in body[i + 1:i + 3]][1] for i, t in enumerate(body) if t.text == 'fn'}
+            return names <= called
+    return False
 
 
 def through_layer(tokens, at, module, crate):
@@ -571,7 +649,7 @@ def receivers(text, types):
                     path = words[start + 1:start + 1 + words[start + 1:start + 9].index('(')]
                     if path[-2:-1] == ['.']:
                         known[name] = types.methods.get((type_of(path[:-2], known, types), path[-1]), '')
-        if word == '.' and words[at + 2] == '(' and words[at + 1] in own & CORE_METHODS:
+        if word == '.' and words[at + 2] == '(' and words[at + 1] in (own | CALLED_ON_CHARACTERS) & CORE_METHODS:
             path, back = [], at - 1
             while re.fullmatch(r'[a-z_][a-z_0-9]*', words[back]):
                 path.insert(0, words[back])
@@ -642,15 +720,15 @@ def allowed(text, functions, types, crate):
         in_attribute = before == '[' and words[i - 2] in '#!'
         if after == '(' and not in_attribute and before not in ('.', '::', 'fn', 'pub') and not word[0].isupper() and word not in functions | KEYWORDS | CALLED:
             raise Refused(f'the call {word}')
-        if before == '.' and after == '(' and word not in functions | STD_METHODS:
+        if before == '.' and after == '(' and word not in functions | STD_METHODS | CALLED_ON_CHARACTERS:
             raise Refused(f'the method {word}')
-        if word == 'std' and after == '::':
+        if word in ('std', 'core') and after == '::' and before != '::':
             path = word
             while words[i + 1] == '::':
                 path, i = f'{path}::{words[i + 2]}', i + 2
             if path.endswith('::{'):
                 path += ''.join(words[i + 1:words.index('}', i) + 1])
-            if path not in STD_PATHS:
+            if path.replace('core::', 'std::', 1) not in STD_PATHS:
                 raise Refused(f'the path {path}')
         elif after == '::' and before != '::' and word not in types | OWN_PATHS:
             path = word
@@ -697,9 +775,9 @@ def headed(crate, module, plain):
         return head[0] + TEST_USE + plain[head.end():]
     if module != crate.root or not crate.ends[0]:
         return plain
-    plain = ''.join(line for line in plain.splitlines(True) if not any(f'[`{m}`]' in line for m in crate.omitted))
     head = re.match(r'(?://![^\n]*\n)*', plain)
-    return head[0] + '\n' + crate.ends[0] + plain[head.end():] + crate.ends[1]
+    documents = '' if crate.ends[0].startswith(README) else head[0] + '\n'
+    return documents + crate.ends[0] + plain[head.end():] + crate.ends[1]
 
 
 def made():

@@ -10,8 +10,8 @@
 //! [`parsers::Profile`] has a stricter reading of months with a day, of times and of durations.
 //!
 //! Each reader accepts every text of the grammar and no other, but for those with a reply to an annotation that is refused.
-//! It refuses any other text with an error that the fault table has for it, or with that of the refused reply. It takes no
-//! memory, and returns on every input.
+//! It refuses any other text with an error that the fault table has for it, or with that of the refused reply. It does
+//! not allocate, and returns on every input.
 //!
 //! - [`parsers`]: the readers.
 //! - [`records`]: what they return.

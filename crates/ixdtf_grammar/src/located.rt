@@ -7,28 +7,38 @@ use crate::pointed::PointedText;
 use std::error::Error;
 use std::fmt;
 
-/// Why a reader refused a text, and at which unit.
+/// Why a reader refused a text, and at which code unit.
 ///
 /// Display writes the text of the error, ` at ` and the place, as `Invalid character while parsing month value. at 5`.
+///
+/// ```rust
+/// use ixdtf::parsers::IxdtfParser;
+///
+/// let error = IxdtfParser::from_str("2020-x1").parse_located().unwrap_err();
+/// assert_eq!(error.to_string(), "Invalid character while parsing month value. at 5");
+/// ```
 #[derive(Clone, Copy, Debug)]
 pub struct LocatedError {
     /// The error.
     pub error: ParseError,
-    /// How many units stand before the place of the error, from the front of what was to be read.
+    /// How many code units of the rest of the input stand before the place of the error.
     pub at: usize,
 }
 
 impl LocatedError {
     /// The text with a mark under the place of the error, for people to read.
     ///
-    /// `text` is what the reader was given. The place counts its bytes, so it has to be that of a reader of 8-bit units: a place
-    /// in 16-bit units is another one in UTF-8, where a character before it is not ASCII.
+    /// `text` is what the reader was given. The place counts its bytes, so it has to be that of a reader of 8-bit code
+    /// units: a place in 16-bit ones is another one in UTF-8, where a character before it is not ASCII.
     ///
-    /// Display of what is returned writes two lines, with no newline at the end. For the place 5 of `2020-x1` they are
+    /// Display of what is returned writes two lines, with no newline at the end:
     ///
-    /// ```text
-    /// 2020-x1
-    ///      ^
+    /// ```rust
+    /// use ixdtf::parsers::IxdtfParser;
+    ///
+    /// let text = "2020-x1";
+    /// let error = IxdtfParser::from_str(text).parse_located().unwrap_err();
+    /// assert_eq!(error.in_text(text).to_string(), "2020-x1\n     ^");
     /// ```
     ///
     /// [`PointedText`] says how they are made of a longer text, or of one with other characters.

@@ -8,12 +8,28 @@ ghost use Rattle.ixdtf_grammar.specs.language.Durations.{least_step};
 /// durations.
 ///
 /// A new parser has [`Profile::Crate`]. Dates, year-months, offsets and zones are read alike under both.
+///
+/// ```rust
+/// use ixdtf::ParseError;
+/// use ixdtf::parsers::{IsoDurationParser, IxdtfParser, Profile};
+///
+/// assert!(IxdtfParser::from_str("11-00").parse_month_day().is_ok());
+/// let mut strict = IxdtfParser::from_str("11-00").with_profile(Profile::Strict);
+/// assert_eq!(strict.parse_month_day(), Err(ParseError::InvalidMonthDay));
+///
+/// assert_eq!(IxdtfParser::from_str("1200").parse_time(), Err(ParseError::AmbiguousTimeMonthDay));
+/// assert!(IxdtfParser::from_str("1200").with_profile(Profile::Strict).parse_time().is_ok());
+///
+/// assert!(IsoDurationParser::from_str("P1Y2Y").parse().is_ok());
+/// assert!(IsoDurationParser::from_str("P1Y2Y").with_profile(Profile::Strict).parse().is_err());
+/// ```
 #[derive(Clone, Copy, Debug, PartialEq)]
 pub enum Profile {
     /// The reading of `ixdtf` 0.6.7 of ICU4X: a month-day may have the day 0, and a unit of a duration may be repeated.
     Crate,
-    /// The stricter reading: the day of a month-day is at least 1, also where a time is told from one, and each unit of a
-    /// duration is shorter than the one before it.
+    /// The stricter reading: the day of a month-day is at least 1, and each unit of a duration is shorter than the one before
+    /// it. A time is told from a month-day by the same rule, so `Strict` reads some times that are ambiguous under
+    /// [`Profile::Crate`], such as `1200`.
     Strict,
 }
 

@@ -18,11 +18,12 @@ use crate::stop::{Raised, Stop};
 use ixdtf_grammar::encoding::EncodingType;
 use std::marker::Model;
 
-/// The units that are still to be read, and a count of looks at them, which takes no byte.
+/// The units that are still to be read.
 #[derive(Drop)]
 #[derive_where(Debug)]
 pub struct Cursor<'a, T: EncodingType> {
     rest: &'a [T::CodeUnit],
+    // A count of looks at units. It takes no byte.
     looks: Looks,
 }
 
@@ -60,8 +61,8 @@ impl<'a, T: EncodingType> Cursor<'a, T> {
         self.rest.len()
     }
 
-    /// A cursor of its own at the same place, with the looks that were made: this one keeps its rest, and no count. So a
-    /// reader and its loops work on a value that nothing else sees, and put it back at their end.
+    /// A cursor of its own at the same place: this one keeps its rest. So a reader and its loops work on a value that nothing
+    /// else sees, and put it back at their end.
     #[inline(always)]
     pub fn take(&mut self) -> Self
         ensures same { result ≡ self.old }
@@ -69,11 +70,12 @@ impl<'a, T: EncodingType> Cursor<'a, T> {
     {
         Cursor {
             rest: self.rest,
+            // The looks that were made go with it.
             looks: std::mem::replace(&mut self.looks, Looks::none()),
         }
     }
 
-    /// A cursor of its own at a rest that was kept, with the looks that were made: this one keeps its rest, and no count.
+    /// A cursor of its own at a rest that was kept: this one keeps its rest.
     #[inline(always)]
     pub fn at(&mut self, rest: &'a [T::CodeUnit]) -> Self
         ensures there { result.rest ≡ map T.number rest.now }
@@ -82,6 +84,7 @@ impl<'a, T: EncodingType> Cursor<'a, T> {
     {
         Cursor {
             rest,
+            // The looks that were made go with it.
             looks: std::mem::replace(&mut self.looks, Looks::none()),
         }
     }
@@ -96,7 +99,7 @@ impl<'a, T: EncodingType> Cursor<'a, T> {
     }
 
     /// Ends a reader that worked on a cursor of its own. Where it found something, this cursor goes on from there; where it
-    /// stopped, this one keeps its rest and counts the looks, and the stop becomes the error, at the place where it stopped.
+    /// stopped, this one keeps its rest, and the stop becomes the error, at the place where it stopped.
     #[inline(always)]
     pub fn settle<R, E: Raised>(&mut self, here: Self, read: Result<R, Stop>) -> Result<R, E>
         ensures settled { Settles E.fault read result }

@@ -133,9 +133,8 @@ pub struct StopAt {
 
 /// An error that a stop gives, with its place or without.
 ///
-/// What calls a handler is generic in its error by this bound, and is used at `ParseError` and at `LocatedError`:
-/// in Rattle a function that makes such a call may not name `'static` in its own signature, as
-/// `ParseError` does.
+/// What calls a handler is generic in its error by this bound, and is used at `ParseError` and at `LocatedError`. So its own
+/// signature does not name `'static`, as `ParseError` does.
 pub trait Raised {
     /// The fault that an error names.
     ghost fault: { Self → Fault };

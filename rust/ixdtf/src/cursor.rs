@@ -5,15 +5,13 @@
 //! There is no index: a cursor keeps the end of the source that is still to be read, as one slice. So a place past the end
 //! cannot be, and a reader that refuses puts back the slice that it began with.
 
-use crate::looks::Looks;
 use crate::stop::{Raised, Stop};
 use crate::encoding::EncodingType;
 
-/// The units that are still to be read, and a count of looks at them, which takes no byte.
+/// The units that are still to be read.
 #[derive(Debug)]
 pub struct Cursor<'a, T: EncodingType> {
     rest: &'a [T::CodeUnit],
-    looks: Looks,
 }
 
 impl<'a, T: EncodingType> Cursor<'a, T> {
@@ -21,7 +19,6 @@ impl<'a, T: EncodingType> Cursor<'a, T> {
     pub fn new(source: &'a [T::CodeUnit]) -> Self {
         Cursor {
             rest: source,
-            looks: Looks::none(),
         }
     }
 
@@ -37,33 +34,25 @@ impl<'a, T: EncodingType> Cursor<'a, T> {
         self.rest.len()
     }
 
-    /// A cursor of its own at the same place, with the looks that were made: this one keeps its rest, and no count. So a
-    /// reader and its loops work on a value that nothing else sees, and put it back at their end.
+    /// A cursor of its own at the same place: this one keeps its rest. So a reader and its loops work on a value that nothing
+    /// else sees, and put it back at their end.
     #[inline(always)]
     pub fn take(&mut self) -> Self {
         Cursor {
             rest: self.rest,
-            looks: std::mem::replace(&mut self.looks, Looks::none()),
         }
     }
 
-    /// A cursor of its own at a rest that was kept, with the looks that were made: this one keeps its rest, and no count.
+    /// A cursor of its own at a rest that was kept: this one keeps its rest.
     #[inline(always)]
     pub fn at(&mut self, rest: &'a [T::CodeUnit]) -> Self {
         Cursor {
             rest,
-            looks: std::mem::replace(&mut self.looks, Looks::none()),
         }
     }
 
-    /// Stays where it is, and counts the looks of a cursor that went on from here.
-    #[inline(always)]
-    pub fn count(&mut self, here: Self) {
-        self.looks = here.looks;
-    }
-
     /// Ends a reader that worked on a cursor of its own. Where it found something, this cursor goes on from there; where it
-    /// stopped, this one keeps its rest and counts the looks, and the stop becomes the error, at the place where it stopped.
+    /// stopped, this one keeps its rest, and the stop becomes the error, at the place where it stopped.
     #[inline(always)]
     pub fn settle<R, E: Raised>(&mut self, here: Self, read: Result<R, Stop>) -> Result<R, E> {
         match read {
@@ -73,7 +62,6 @@ impl<'a, T: EncodingType> Cursor<'a, T> {
             }
             Err(stop) => {
                 let at = self.remaining().saturating_sub(here.remaining());
-                self.count(here);
                 Err(E::of_stop(stop, at))
             }
         }
@@ -83,7 +71,6 @@ impl<'a, T: EncodingType> Cursor<'a, T> {
     /// This is the one place that calls `get_ascii`.
     #[inline(always)]
     pub fn look_at(&mut self, index: usize) -> Result<Option<u8>, Stop> {
-        self.looks.tick();
         match T::get_ascii(self.rest, index) {
             Ok(found) => Ok(found),
             Err(_) => Err(Stop::NonAsciiCodePoint),

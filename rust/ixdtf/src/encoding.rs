@@ -2,8 +2,8 @@
 
 //! The encodings that a source may have.
 //!
-//! The readers are written once for all encodings. They see a unit by the ASCII byte that it stands for, and an encoding
-//! says which byte that is, or that it stands for none.
+//! The readers are written once for all encodings. They see a code unit by the ASCII byte that it stands for, and an
+//! encoding says which byte that is, or that it stands for none.
 
 use crate::{ParseError, ParserResult};
 
@@ -14,27 +14,35 @@ mod private {
 
 /// An encoding of a source in code units.
 ///
-/// Each unit is a number, and the number stands for a letter: for itself, or for none that a reader
-/// takes. No crate but this one can write an encoding.
+/// Each code unit is a number, and the number stands for a character: for itself, or for none that a reader takes. No crate
+/// but this one can write an encoding.
+///
+/// ```rust
+/// use ixdtf::ParseError;
+/// use ixdtf::encoding::{EncodingType, Utf8, Utf16};
+///
+/// assert_eq!(Utf8::get_ascii(b"2024", 0), Ok(Some(b'2')));
+/// assert_eq!(Utf16::get_ascii(&[0x2212], 0), Err(ParseError::NonAsciiCodePoint));
+/// ```
 pub trait EncodingType: private::Sealed {
-    /// The unit of a source.
-    type CodeUnit: PartialEq + std::fmt::Debug + Clone;
+    /// The code unit of a source.
+    type CodeUnit: PartialEq + core::fmt::Debug + Clone;
 
-    /// The units from `start` up to `end`, or `None` where these are not places in order within the source.
+    /// The code units from `start` up to `end`, or `None` where these are not places in order within the source.
     fn slice(source: &[Self::CodeUnit], start: usize, end: usize) -> Option<&[Self::CodeUnit]>;
 
-    /// The letter at a place of the source, as a byte, or `None` past its end. The readers take ASCII letters alone, so a
-    /// byte from 128 up is a letter that none of them goes on with.
+    /// The character at a place of the source, as a byte, or `None` past its end. The readers take ASCII alone, so a byte
+    /// from 128 up is a character that none of them accepts.
     ///
-    /// The error `NonAsciiCodePoint` comes exactly where the unit there stands for no letter.
+    /// The error `NonAsciiCodePoint` comes exactly where the code unit there stands for no character.
     fn get_ascii(source: &[Self::CodeUnit], index: usize) -> ParserResult<Option<u8>>;
 
     /// Whether the key is `u-ca`, the key of calendars (RFC 9557 section 4.1).
     fn check_calendar_key(key: &[Self::CodeUnit]) -> bool;
 }
 
-/// Sources in 8-bit units, as UTF-8. Each unit is its own letter, also 0 and those from 128 up, and `get_ascii` returns no
-/// error. That the units are UTF-8 is not tested.
+/// Sources in 8-bit code units, as UTF-8. Each is its own character, also 0 and those from 128 up, and `get_ascii` returns
+/// no error. That they are UTF-8 is not checked.
 #[derive(Clone, Debug, PartialEq)]
 pub struct Utf8;
 
@@ -58,8 +66,8 @@ impl EncodingType for Utf8 {
     }
 }
 
-/// Sources in 16-bit units, as UTF-16. Units from 1 to 126 are their own letters, and every other stands for none, also 0 and
-/// 127. That the units are UTF-16 is not tested.
+/// Sources in 16-bit code units, as UTF-16. Those from 1 to 126 are their own characters, and every other stands for none,
+/// also 0 and 127. That they are UTF-16 is not checked.
 #[derive(Clone, Debug, PartialEq)]
 pub struct Utf16;
 

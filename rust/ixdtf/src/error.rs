@@ -2,60 +2,80 @@
 
 //! What a text, or a reply to an annotation, can be refused for, and what is written of it.
 
-use std::error::Error;
-use std::fmt;
+use core::error::Error;
+use core::fmt;
 
 /// Why a reader refused a text, or a reply to an annotation.
 ///
-/// Each error that a reader returns for a text has a row in the fault table (`docs/FAULTS.md`), which says at which place of
-/// the text it comes. `CriticalDuplicateCalendar` and `UnrecognizedCritical` come for replies. The names and the texts are
-/// those of `ixdtf` 0.6.7 of ICU4X, as they are spelled there.
+/// Each error that a reader returns for a text has a row in a table, `docs/FAULTS.md` of the repository, which says at which
+/// place of the text it comes. `CriticalDuplicateCalendar` and `UnrecognizedCritical` come for replies. The names and the
+/// texts are those of `ixdtf` 0.6.7 of ICU4X, as they are spelled there.
+///
+/// ```rust
+/// use ixdtf::ParseError;
+/// use ixdtf::parsers::IxdtfParser;
+///
+/// fn advice(error: ParseError) -> &'static str {
+///     match error {
+///         ParseError::InvalidMonthRange => "there is no such month",
+///         ParseError::AbruptEnd { location } => location,
+///         other => other.to_static_string(),
+///     }
+/// }
+///
+/// assert_eq!(advice(IxdtfParser::from_str("2021-13-01").parse().unwrap_err()), "there is no such month");
+/// assert_eq!(advice(IxdtfParser::from_str("2021").parse().unwrap_err()), "Date");
+/// ```
 #[derive(Clone, Copy, Debug)]
+#[derive(PartialEq)]
 #[non_exhaustive]
 pub enum ParseError {
     /// A mistake of the reader itself. No reader returns it.
     ImplAssert,
-    /// The next unit stands for no letter. Each 8-bit unit stands for one, so a `Utf8` source never has this error.
+    /// The next code unit stands for no character. Each 8-bit one stands for one, so a `Utf8` source never has this error.
     NonAsciiCodePoint,
     /// No reader returns it.
     ParseFloat,
     /// The text ends where more has to follow. The location is `digit` where a digit has to follow, `Date` right after the
     /// year of a date, and `AmbiguousAnnotation` after the `[` or `[!` of a first bracket, or in a first bracket that begins
-    /// with a small letter or `_` and has no `=` and no `]`. Where there is nothing at all it is `time-numoffset` from
-    /// `parse_offset` and `TimeZoneAnnotation` from `parse_identifier`, and from `parse_month_day` it is `MonthDay` there and
-    /// after one hyphen. In a duration it is `DurationStart` where there is nothing at all, `DurationDesignator` after a sign,
-    /// `Duration` after the `P`, and `DateDurationDesignator` and `TimeDurationDesignator` in a number before its unit, where
-    /// another letter than a unit has these errors too.
-    AbruptEnd { location: &'static str },
-    /// A letter stands after a whole date, year and month, month and day, time, offset, bracket or duration, and the text does
-    /// not go on with it. In a text that is a name alone, a `]` after the name has this error, and in a duration a letter
-    /// after the `P` that is neither a digit nor a `T`.
+    /// with a lowercase letter or `_` and has no `=` and no `]`. Where there is nothing at all it is `time-numoffset` from
+    /// `parse_offset` and `TimeZoneAnnotation` from `parse_identifier`, and from `parse_month_day` it is `MonthDay` there
+    /// and after one hyphen. In a duration it is `DurationStart` where there is nothing at all, `DurationDesignator` after a
+    /// sign, `Duration` after the `P`, and `DateDurationDesignator` and `TimeDurationDesignator` in a number before its
+    /// unit, where another character than a unit has these errors too.
+    AbruptEnd {
+        /// What was being read.
+        location: &'static str,
+    },
+    /// A character stands after a whole date, year and month, month and day, time, offset, bracket or duration, and the text
+    /// does not go on with it. In a text that is a name alone, a `]` after the name has this error, and in a duration a
+    /// character after the `P` that is neither a digit nor a `T`.
     InvalidEnd,
     /// The two digits of a month are not 01 to 12.
     InvalidMonthRange,
     /// The day of a date is 00, or past the last day of that month in that year.
     InvalidDayRange,
-    /// The text begins with neither a digit nor a sign, or another letter stands among the four digits of a year.
+    /// The text begins with neither a digit nor a sign, or another character stands among the four digits of a year.
     DateYear,
-    /// Another letter stands among the six digits of a year with a sign, or the year is `-000000`.
+    /// Another character stands among the six digits of a year with a sign, or the year is `-000000`.
     DateExtendedYear,
-    /// Neither a hyphen nor a digit stands after a year, another letter stands in the place of a month's digit, or a month and
-    /// a day begin with neither a digit nor a hyphen.
+    /// Neither a hyphen nor a digit stands after a year, another character stands in the place of a month's digit, or a
+    /// month and a day begin with neither a digit nor a hyphen.
     DateMonth,
-    /// Another letter stands in the place of a day's digit, or neither a hyphen nor a digit stands after the month of a month
-    /// and a day.
+    /// Another character stands in the place of a day's digit, or neither a hyphen nor a digit stands after the month of a
+    /// month and a day.
     DateDay,
     /// No reader returns it.
     DateUnexpectedEnd,
     /// No reader returns it.
     TimeRequired,
-    /// Another letter stands in the place of an hour's digit, or the hour is past 23, in a time or in an offset; or a time that
-    /// stands alone begins with neither a digit nor a `T`.
+    /// Another character stands in the place of an hour's digit, or the hour is past 23, in a time or in an offset; or a
+    /// time that stands alone begins with neither a digit nor a `T`.
     TimeHour,
-    /// Another letter stands in the place of a minute's digit, or the minute is past 59, in a time or in an offset. The same
-    /// for an offset's second.
+    /// Another character stands in the place of a minute's digit, or the minute is past 59, in a time or in an offset. The
+    /// same for an offset's second.
     TimeMinuteSecond,
-    /// Another letter stands in the place of a digit of a time's second, or the second is past 60.
+    /// Another character stands in the place of a digit of a time's second, or the second is past 60.
     TimeSecond,
     /// No digit stands after the `.` or `,` of a fraction. The end of the text there has this error too.
     FractionPart,
@@ -71,20 +91,20 @@ pub enum ParseError {
     /// No reader returns it.
     AnnotationOpen,
     /// A bracket is not closed: the text ends after the zone name or the annotation's value in it, or after the offset in it
-    /// the text ends or another letter stands.
+    /// the text ends or another character stands.
     AnnotationClose,
     /// No reader returns it.
     AnnotationChar,
     /// The text ends in the key of an annotation, before its `=`.
     AnnotationKeyValueSeparator,
-    /// A letter stands where the key of an annotation begins, in a bracket after others, and no key begins so. The end of the
-    /// text there has this error too.
+    /// A character stands where the key of an annotation begins, in a bracket after others, and no key begins so. The end of
+    /// the text there has this error too.
     AnnotationKeyLeadingChar,
-    /// A letter stands in the key of an annotation that no key has, and that is not the `=` after it.
+    /// A character stands in the key of an annotation that no key has, and that is not the `=` after it.
     AnnotationKeyChar,
     /// No ASCII letter or digit follows a hyphen in the value of an annotation. The end of the text there has this error too.
     AnnotationValueCharPostHyphen,
-    /// A letter stands in the value of an annotation that no value has, and that does not close the bracket; or no ASCII
+    /// A character stands in the value of an annotation that no value has, and that does not close the bracket; or no ASCII
     /// letter or digit follows the `=`, where the end of the text has this error too.
     AnnotationValueChar,
     /// A colon or a digit follows the minute of an offset that may have no seconds: one in brackets, or one that
@@ -95,20 +115,20 @@ pub enum ParseError {
     CriticalDuplicateCalendar,
     /// A reply to an annotation is critical, and its key is not `u-ca`. Without a handler each annotation is its own reply.
     UnrecognizedCritical,
-    /// A letter stands where a time zone begins, and none begins so. From `parse_iana_identifier` the empty text has this
+    /// A character stands where a time zone begins, and none begins so. From `parse_iana_identifier` the empty text has this
     /// error too.
     TzLeadingChar,
-    /// No letter of a name follows a `/` in the name of a time zone. The end of the text there has this error too.
+    /// No character of a name follows a `/` in the name of a time zone. The end of the text there has this error too.
     IanaCharPostSeparator,
-    /// A letter stands in the name of a time zone that no name has, and that does not close a bracket.
+    /// A character stands in the name of a time zone that no name has, and that does not close a bracket.
     IanaChar,
     /// An offset has one of its two colons: after `+05:00` a digit follows, or after `+0500` a colon does.
     UtcTimeSeparator,
-    /// A text that is an offset alone begins with another letter than a sign.
+    /// A text that is an offset alone begins with another character than a sign.
     OffsetNeedsSign,
     /// One hyphen stands before a month and a day, where there may be two or none.
     MonthDayHyphen,
-    /// Another letter stands where the `P` of a duration has to, or its sign.
+    /// Another character stands where the `P` of a duration has to, or its sign.
     DurationDisgnator,
     /// A number of a duration is 2 to the 64th or more, or that of its years, months or weeks 2 to the 32nd or more.
     DurationValueExceededRange,
@@ -131,6 +151,15 @@ pub enum ParseError {
 
 impl ParseError {
     /// The text of the error, the same for each `AbruptEnd`. Display also writes the location of an `AbruptEnd`.
+    ///
+    /// ```rust
+    /// use ixdtf::ParseError;
+    ///
+    /// let error = ParseError::AbruptEnd { location: "Date" };
+    /// assert_eq!(error.to_static_string(), "Parsing ended abruptly.");
+    /// assert_eq!(error.to_string(), "Parsing ended abruptly while parsing Date");
+    /// ```
+    #[must_use]
     pub fn to_static_string(&self) -> &'static str {
         match *self {
             ParseError::ImplAssert => "Implementation error: this error must not throw.",
@@ -186,77 +215,6 @@ impl ParseError {
             ParseError::AmbiguousTimeYearMonth => "Time is ambiguous with YearMonth",
             ParseError::InvalidMonthDay => "MonthDay was not valid.",
         }
-    }
-}
-
-impl ParseError {
-    /// The place of the variant in the list of variants.
-    fn place(&self) -> u8 {
-        match *self {
-            ParseError::ImplAssert => 0,
-            ParseError::NonAsciiCodePoint => 1,
-            ParseError::ParseFloat => 2,
-            ParseError::AbruptEnd { .. } => 3,
-            ParseError::InvalidEnd => 4,
-            ParseError::InvalidMonthRange => 5,
-            ParseError::InvalidDayRange => 6,
-            ParseError::DateYear => 7,
-            ParseError::DateExtendedYear => 8,
-            ParseError::DateMonth => 9,
-            ParseError::DateDay => 10,
-            ParseError::DateUnexpectedEnd => 11,
-            ParseError::TimeRequired => 12,
-            ParseError::TimeHour => 13,
-            ParseError::TimeMinuteSecond => 14,
-            ParseError::TimeSecond => 15,
-            ParseError::FractionPart => 16,
-            ParseError::DateSeparator => 17,
-            ParseError::TimeSeparator => 18,
-            ParseError::DecimalSeparator => 19,
-            ParseError::InvalidAnnotation => 20,
-            ParseError::AnnotationOpen => 21,
-            ParseError::AnnotationClose => 22,
-            ParseError::AnnotationChar => 23,
-            ParseError::AnnotationKeyValueSeparator => 24,
-            ParseError::AnnotationKeyLeadingChar => 25,
-            ParseError::AnnotationKeyChar => 26,
-            ParseError::AnnotationValueCharPostHyphen => 27,
-            ParseError::AnnotationValueChar => 28,
-            ParseError::InvalidMinutePrecisionOffset => 29,
-            ParseError::CriticalDuplicateCalendar => 30,
-            ParseError::UnrecognizedCritical => 31,
-            ParseError::TzLeadingChar => 32,
-            ParseError::IanaCharPostSeparator => 33,
-            ParseError::IanaChar => 34,
-            ParseError::UtcTimeSeparator => 35,
-            ParseError::OffsetNeedsSign => 36,
-            ParseError::MonthDayHyphen => 37,
-            ParseError::DurationDisgnator => 38,
-            ParseError::DurationValueExceededRange => 39,
-            ParseError::DateDurationPartOrder => 40,
-            ParseError::TimeDurationPartOrder => 41,
-            ParseError::TimeDurationDesignator => 42,
-            ParseError::AmbiguousTimeMonthDay => 43,
-            ParseError::AmbiguousTimeYearMonth => 44,
-            ParseError::InvalidMonthDay => 45,
-        }
-    }
-}
-
-impl ParseError {
-    /// Where the text ended, and nothing for every other error.
-    fn location(&self) -> &'static str {
-        match *self {
-            ParseError::AbruptEnd { location } => location,
-            _ => "",
-        }
-    }
-}
-
-impl PartialEq for ParseError {
-    /// Whether the errors are one variant, and their locations have equal bytes.
-    fn eq(&self, other: &ParseError) -> bool {
-        self.place() == other.place() && self.location() == other.location()
     }
 }
 

@@ -1,35 +1,9 @@
 // Made by tools/to_rust.py of crates/ixdtf/src/lib.rt. Do not edit.
 
-//! A reader of the Internet Extended Date/Time Format (RFC 9557), proved in Rattle.
-//!
-//! [`parsers::IxdtfParser::parse`] reads a date, or a date and a time with its offset, and what stands in
-//! brackets after it, of 8-bit or of 16-bit units: the forms of RFC 3339, the shorter ones that ISO 8601 has, and
-//! `suffix` of RFC 9557, section 4.1, which is a time zone and annotations of a key and a value, as `[u-ca=hebrew]`.
-//! `parse_year_month`, `parse_month_day` and `parse_time` of the same parser read a year and a month, a month and a day, and a
-//! time alone, with the same brackets. Each has a form `.._with_annotation_handler`, which asks the caller about each annotation.
-//! [`parsers::TimeZoneParser`] reads a text that is an offset, a time zone or the name of one alone, and
-//! [`parsers::IsoDurationParser`] one that is a duration, as `P1Y2M3DT4H`.
-//! [`parsers::Profile`] has a stricter reading of months with a day, of times and of durations.
-//!
-//! Each reader accepts every text of the grammar and no other, but for those with a reply to an annotation that is refused.
-//! It refuses any other text with an error that the fault table has for it, or with that of the refused reply. It takes no
-//! memory, and returns on every input.
-//!
-//! - [`parsers`]: the readers.
-//! - [`records`]: what they return.
-//! - [`ParseError`]: why they refused.
-//! - [`encoding`]: the units of a source.
-//!
-//! The repository tells the grammar in words in `docs/GRAMMAR.md`, and the fault table in
-//! `docs/FAULTS.md`. The definitions that the reader was proved by are in `crates/ixdtf_grammar/specs`: the
-//! grammar in `language`, the fault table in `table`, and what replies to annotations make of a
-//! text in `Handlers`.
-
+#![doc = include_str!("../README.md")]
 #![cfg_attr(not(test), no_std)]
 #![forbid(unsafe_code)]
 
-#[cfg(not(test))]
-extern crate core as std;
 #[cfg(test)]
 extern crate self as ixdtf;
 
@@ -37,7 +11,6 @@ mod cursor;
 pub mod encoding;
 mod error;
 mod located;
-mod looks;
 mod packed;
 pub mod parsers;
 mod pointed;
@@ -58,7 +31,3 @@ mod runtime;
 mod callers;
 #[cfg(test)]
 mod tests;
-
-#[cfg(doctest)]
-#[doc = include_str!("../README.md")]
-struct Readme;

@@ -2,7 +2,7 @@
 
 //! Numbers that stand at any address.
 
-use std::fmt;
+use core::fmt;
 
 /// A number below 2 to the 64th, as its eight bytes, the lowest first. It stands at any address, so a record that has one
 /// has no unused bytes before it.

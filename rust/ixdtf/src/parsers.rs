@@ -3,9 +3,9 @@
 //! The readers: [`IxdtfParser`] of dates and times, [`TimeZoneParser`] of offsets and zones alone, and [`IsoDurationParser`]
 //! of durations.
 //!
-//! A reader takes the whole of its source or refuses it: `Ok` comes exactly where the grammar (`docs/GRAMMAR.md`) has the
-//! source and no reply to an annotation is refused, and an error only where a row of the fault table (`docs/FAULTS.md`) with
-//! this error fits the source, or a reply is refused with it.
+//! A reader takes the whole of its input or refuses it: it returns `Ok` exactly where a written grammar has the input and no
+//! reply of a handler is refused, and an error only where a row of a written table with this error fits the input, or a
+//! reply is refused with it. The repository has both, as `docs/GRAMMAR.md` and `docs/FAULTS.md`.
 
 mod annotations;
 mod brackets;
@@ -41,8 +41,14 @@ use crate::stop::StopAt;
 
 /// A reader of dates and times, with an offset, a time zone and annotations.
 ///
-/// It borrows its source, and is as large as the slice of units that are still to be read and its
-/// profile.
+/// It borrows its source, and is as large as a slice, the rest of the input, and its profile.
+///
+/// ```rust
+/// use ixdtf::parsers::IxdtfParser;
+///
+/// let mut parser = IxdtfParser::from_str("2024-03-02");
+/// assert_eq!(parser.parse().unwrap().date.unwrap().year, 2024);
+/// ```
 #[derive(Debug)]
 pub struct IxdtfParser<'a, T: EncodingType> {
     cursor: Cursor<'a, T>,
@@ -50,26 +56,71 @@ pub struct IxdtfParser<'a, T: EncodingType> {
 }
 
 impl<'a> IxdtfParser<'a, Utf8> {
-    /// A parser of a text's UTF-8 bytes. All of them are still to be read.
+    /// A parser of a text's UTF-8 bytes.
+    ///
+    /// ```rust
+    /// use ixdtf::parsers::IxdtfParser;
+    ///
+    /// assert!(IxdtfParser::from_str("2024-03-02").parse().is_ok());
+    /// ```
+    #[inline]
+    #[must_use]
     pub fn from_str(source: &'a str) -> Self {
         Self::new(source.as_bytes())
     }
 
-    /// A parser of bytes, which need not be UTF-8. All of them are still to be read.
+    /// A parser of bytes, which need not be UTF-8.
+    ///
+    /// ```rust
+    /// use ixdtf::parsers::IxdtfParser;
+    ///
+    /// assert!(IxdtfParser::from_utf8(b"2024-03-02").parse().is_ok());
+    /// assert!(IxdtfParser::from_utf8(b"2024-03-02\xff").parse().is_err());
+    /// ```
+    #[inline]
+    #[must_use]
     pub fn from_utf8(source: &'a [u8]) -> Self {
         Self::new(source)
     }
 }
 
 impl<'a> IxdtfParser<'a, Utf16> {
-    /// A parser of 16-bit units, which need not be UTF-16. All of them are still to be read.
+    /// A parser of 16-bit code units, which need not be UTF-16.
+    ///
+    /// ```rust
+    /// use ixdtf::ParseError;
+    /// use ixdtf::parsers::IxdtfParser;
+    ///
+    /// let text: Vec<u16> = "2024-03-02[u-ca=hebrew]".encode_utf16().collect();
+    /// let record = IxdtfParser::from_utf16(&text).parse()?;
+    /// assert_eq!(String::from_utf16(record.calendar.unwrap()).unwrap(), "hebrew");
+    ///
+    /// let text: Vec<u16> = "2024\u{2212}03-02".encode_utf16().collect();
+    /// assert_eq!(IxdtfParser::from_utf16(&text).parse(), Err(ParseError::NonAsciiCodePoint));
+    /// # Ok::<(), ParseError>(())
+    /// ```
+    #[inline]
+    #[must_use]
     pub fn from_utf16(source: &'a [u16]) -> Self {
         IxdtfParser::new(source)
     }
 }
 
 impl<'a, T: EncodingType> IxdtfParser<'a, T> {
-    /// A parser of units of any encoding. All of them are still to be read.
+    /// A parser of code units of any encoding.
+    ///
+    /// ```rust
+    /// use ixdtf::encoding::EncodingType;
+    /// use ixdtf::parsers::IxdtfParser;
+    ///
+    /// fn is_date_time<T: EncodingType>(text: &[T::CodeUnit]) -> bool {
+    ///     IxdtfParser::<T>::new(text).parse().is_ok()
+    /// }
+    ///
+    /// assert!(is_date_time::<ixdtf::encoding::Utf8>(b"2024-03-02"));
+    /// ```
+    #[inline]
+    #[must_use]
     pub fn new(source: &'a [T::CodeUnit]) -> Self {
         IxdtfParser {
             cursor: Cursor::new(source),
@@ -77,8 +128,19 @@ impl<'a, T: EncodingType> IxdtfParser<'a, T> {
         }
     }
 
-    /// The parser with this profile, which decides what a month and a day are, also where a time is told from them. What is
-    /// still to be read stays.
+    /// The parser with this profile, which decides what a month and a day are, also where a time is told from them. The rest
+    /// of the input stays.
+    ///
+    /// ```rust
+    /// use ixdtf::ParseError;
+    /// use ixdtf::parsers::{IxdtfParser, Profile};
+    ///
+    /// assert!(IxdtfParser::from_str("11-00").parse_month_day().is_ok());
+    /// let mut strict = IxdtfParser::from_str("11-00").with_profile(Profile::Strict);
+    /// assert_eq!(strict.parse_month_day(), Err(ParseError::InvalidMonthDay));
+    /// ```
+    #[inline]
+    #[must_use]
     pub fn with_profile(self, profile: Profile) -> Self {
         IxdtfParser {
             cursor: self.cursor,
@@ -86,50 +148,68 @@ impl<'a, T: EncodingType> IxdtfParser<'a, T> {
         }
     }
 
-    /// Reads all that is still to be read, as a date, or as a date and a time with an offset (RFC 3339, section 5.6, and ISO
-    /// 8601's forms of it), and then, in brackets, one time zone where there is one and annotations of a key and a value
-    /// (`suffix` of RFC 9557, section 4.1).
+    /// Reads the rest of the input as a date, or as a date and a time with an offset (RFC 3339, section 5.6, and ISO 8601's
+    /// forms of it), and then, in brackets, one time zone where there is one and annotations of a key and a value (`suffix`
+    /// of RFC 9557, section 4.1).
     ///
-    /// A date is `2020-11-08` or `20201108`, where the year is four digits or a sign and six digits. After it may stand
-    /// `T`, `t` or a space, and a time: `12`, `12:30`, `1230`, `12:30:45` or `123045`, the last two with a fraction, as
-    /// `.25` or `,25`. After a time may stand `Z`, `z` or an offset, as in [`TimeZoneParser::parse_offset`]. After all of it
-    /// may stand `[`, an optional `!`, a zone as in [`TimeZoneParser::parse_identifier`], and `]`; and then any number of
-    /// annotations, each of them `[`, an optional `!`, a key, `=`, a value and `]`. A key begins with a small ASCII letter or
-    /// `_`, and goes on with these, digits and `-`. A value is ASCII letters and digits, with a single `-` between two of
-    /// them where one stands.
+    /// A date is `2020-11-08` or `20201108`, where the year is four digits or a sign and six digits. After it may stand `T`,
+    /// `t` or a space, and a time: `12`, `12:30`, `1230`, `12:30:45` or `123045`, the last two with a fraction, as `.25` or
+    /// `,25`. After a time may stand `Z`, `z` or an offset, as in [`TimeZoneParser::parse_offset`]. After all of it may
+    /// stand `[`, an optional `!`, a zone as in [`TimeZoneParser::parse_identifier`], and `]`; and then any number of
+    /// annotations, each of them `[`, an optional `!`, a key, `=`, a value and `]`. A key begins with a lowercase ASCII
+    /// letter or `_`, and goes on with these, digits and `-`. A value is ASCII letters and digits, with a single `-` between
+    /// two of them where one stands.
     ///
     /// The record has `date`, and `time`, `offset` and `tz` where they stand. `calendar` is the value of the first annotation
     /// with the key `u-ca`, and `None` without one. Other annotations are passed over, but a critical one, which has the `!`,
     /// is refused, as is a calendar that differs from the first one where one of the two is critical.
     /// [`parse_with_annotation_handler`](Self::parse_with_annotation_handler) lets the caller say what counts.
     ///
-    /// ```text
-    /// 2024-03-02T08:48:00.25    Ok: 2 March 2024, 8:48:00 and a fraction of two digits, 25
-    /// 2024-03-02T08:48:00-05:00[America/New_York]
-    ///                           Ok: 2 March 2024, 8:48:00, minus 5 hours, the zone America/New_York
-    /// 2024-03-02[UTC][u-ca=hebrew][a=b]
-    ///                           Ok: 2 March 2024, the zone UTC, the calendar hebrew
-    /// +002024-03-02             Ok: 2 March 2024
-    /// 2021-02-29                Err(InvalidDayRange)
-    /// 2024-03-02T08:4800        Err(TimeSeparator)
-    /// 2024-03-02[+01:00:00]     Err(InvalidMinutePrecisionOffset)
-    /// 2024-03-02[!a=b]          Err(UnrecognizedCritical)
+    /// ```rust
+    /// use ixdtf::ParseError;
+    /// use ixdtf::parsers::IxdtfParser;
+    /// use ixdtf::records::{Sign, TimeZoneRecord};
+    ///
+    /// let record = IxdtfParser::from_str("2024-03-02T08:48:00-05:00[America/New_York]").parse()?;
+    /// let date = record.date.unwrap();
+    /// assert_eq!((date.year, date.month, date.day), (2024, 3, 2));
+    /// let time = record.time.unwrap();
+    /// assert_eq!((time.hour, time.minute, time.second, time.fraction), (8, 48, 0, None));
+    /// let offset = record.offset.unwrap().resolve_rfc_9557();
+    /// assert_eq!((offset.sign(), offset.hour(), offset.minute()), (Sign::Negative, 5, 0));
+    /// assert_eq!(record.tz.unwrap().tz, TimeZoneRecord::Name(b"America/New_York"));
+    ///
+    /// let record = IxdtfParser::from_str("2024-03-02[UTC][u-ca=hebrew][a=b]").parse()?;
+    /// assert_eq!(record.calendar, Some(b"hebrew".as_slice()));
+    /// assert_eq!(IxdtfParser::from_str("+002024-03-02").parse()?.date, Some(date));
+    /// let record = IxdtfParser::from_str("2024-03-02T08:48:00.25").parse()?;
+    /// assert_eq!(record.time.unwrap().fraction.unwrap().to_nanoseconds(), Some(250_000_000));
+    ///
+    /// for (text, error) in [
+    ///     ("2021-02-29", ParseError::InvalidDayRange),
+    ///     ("2024-03-02T08:4800", ParseError::TimeSeparator),
+    ///     ("2024-03-02[+01:00:00]", ParseError::InvalidMinutePrecisionOffset),
+    ///     ("2024-03-02[!a=b]", ParseError::UnrecognizedCritical),
+    /// ] {
+    ///     assert_eq!(IxdtfParser::from_str(text).parse(), Err(error));
+    /// }
+    /// # Ok::<(), ParseError>(())
     /// ```
     ///
-    /// After `Ok` nothing is left to be read, so each later call is refused as one on the empty text is. After an error all
-    /// that was still to be read still is, so a second call returns the same.
+    /// After `Ok` the rest of the input is empty, so a later call returns the error of the empty text. After an error the
+    /// rest is as it was, so a second call returns the same.
     ///
     /// # Errors
     ///
-    /// The first part that is wrong decides. A month, day, hour, minute or second that is out of its range is refused
-    /// before the next letter is looked at.
+    /// The first part that is wrong decides. A month, day, hour, minute or second that is out of its range is refused before
+    /// the next character is looked at.
     ///
-    /// - `AbruptEnd` where the source ends after a year (at `Date`), where a digit has to follow (at `digit`), and after the
-    ///   `[` or `[!` of a first bracket, or in a first bracket that begins with a small letter or `_` and has no `=` and no
-    ///   `]` (at `AmbiguousAnnotation`);
+    /// - `AbruptEnd` where the input ends after a year (at `Date`), where a digit has to follow (at `digit`), and after the
+    ///   `[` or `[!` of a first bracket, or in a first bracket that begins with a lowercase letter or `_` and has no `=` and
+    ///   no `]` (at `AmbiguousAnnotation`);
     /// - `DateYear`, `DateExtendedYear`, `DateMonth`, `DateDay`, `TimeHour`, `TimeMinuteSecond` and `TimeSecond` where
-    ///   another letter stands in the place of a digit of the year, the year with a sign, the month, the day, the hour, the
-    ///   minute and the second; an offset's second is `TimeMinuteSecond`;
+    ///   another character stands in the place of a digit of the year, the year with a sign, the month, the day, the hour,
+    ///   the minute and the second; an offset's second is `TimeMinuteSecond`;
     /// - `InvalidMonthRange`, `InvalidDayRange`, `TimeHour`, `TimeMinuteSecond` and `TimeSecond` where the month, the day,
     ///   the hour, the minute and the second are out of their range, and `DateExtendedYear` for the year `-000000`;
     /// - `DateSeparator`, `TimeSeparator` and `UtcTimeSeparator` where a date has one of two hyphens, or a time or an offset
@@ -138,16 +218,16 @@ impl<'a, T: EncodingType> IxdtfParser<'a, T> {
     /// - `FractionPart` where no digit follows a decimal mark;
     /// - `TzLeadingChar`, `IanaChar` and `IanaCharPostSeparator` in a first bracket where no zone and no key can begin so,
     ///   where a name does not go on, and where it does not go on after a `/`;
-    /// - `AnnotationKeyLeadingChar` in a bracket after others where no key begins, `AnnotationKeyChar` where a key does not go
-    ///   on, and `AnnotationKeyValueSeparator` where the source ends in a key;
+    /// - `AnnotationKeyLeadingChar` in a bracket after others where no key begins, `AnnotationKeyChar` where a key does not
+    ///   go on, and `AnnotationKeyValueSeparator` where the input ends in a key;
     /// - `AnnotationValueChar` where no value begins, or where it does not go on, and `AnnotationValueCharPostHyphen` where it
     ///   does not go on after a `-`;
     /// - `AnnotationClose` where a bracket ends without its `]`;
     /// - `UnrecognizedCritical` for an annotation that is critical and has another key than `u-ca`, and
     ///   `CriticalDuplicateCalendar` for one with the key `u-ca` and another value than the first such one, where one of the
     ///   two is critical; nothing after this annotation counts then;
-    /// - `InvalidEnd` at any other letter after a date, a time, an offset or a bracket;
-    /// - `NonAsciiCodePoint` at a unit that stands for no letter, which no 8-bit unit does.
+    /// - `InvalidEnd` at any other character after a date, a time, an offset or a bracket;
+    /// - `NonAsciiCodePoint` at a code unit that stands for no character, which no 8-bit one does.
     #[inline(always)]
     pub fn parse(&mut self) -> ParserResult<IxdtfParseRecord<'a, T>> {
         let mut found = IxdtfParseRecord::default();
@@ -157,26 +237,65 @@ impl<'a, T: EncodingType> IxdtfParser<'a, T> {
         }
     }
 
-    /// Reads as [`parse`](Self::parse) does, and asks the handler about each annotation of a key and a value.
+    /// Reads as [`parse`](Self::parse) does, and calls the handler on each annotation of a key and a value.
     ///
     /// The handler is called once on each annotation whose bracket was read whole, in order, up to the first reply that is
-    /// refused or the first fault of the text. What it replies stands in the annotation's place, and may be another
-    /// annotation; `None` is passed over. The record's `calendar` is the value of the first reply whose key is `u-ca`, a
-    /// slice of that reply, which need not be of the source. `|annotation| Some(annotation)` gives [`parse`](Self::parse).
+    /// refused or the first error of the text. What it returns, its reply, stands in the annotation's place, and may be
+    /// another annotation; `None` is passed over. The record's `calendar` is the value of the first reply whose key is
+    /// `u-ca`, a slice of that reply, which need not be of the source. `|annotation| Some(annotation)` gives
+    /// [`parse`](Self::parse).
     ///
-    /// ```text
-    /// 2020-01-01[a=b][!c=d][e=f]    |annotation| Some(annotation)    two calls, then Err(UnrecognizedCritical)
-    ///                               |_| None                         three calls, then Ok, without a calendar
-    /// 2020-01-01[a=b][c=d]junk      |_| None                         two calls, then Err(InvalidEnd)
+    /// ```rust
+    /// use ixdtf::ParseError;
+    /// use ixdtf::parsers::IxdtfParser;
+    ///
+    /// // each annotation stands: the second one is critical, and is refused
+    /// let mut calls = 0;
+    /// let read = IxdtfParser::from_str("2020-01-01[a=b][!c=d][e=f]").parse_with_annotation_handler(|annotation| {
+    ///     calls += 1;
+    ///     Some(annotation)
+    /// });
+    /// assert_eq!((read, calls), (Err(ParseError::UnrecognizedCritical), 2));
+    ///
+    /// // no annotation stands
+    /// let mut keys = Vec::new();
+    /// let read = IxdtfParser::from_str("2020-01-01[a=b][!c=d][e=f]").parse_with_annotation_handler(|annotation| {
+    ///     keys.push(annotation.key);
+    ///     None
+    /// });
+    /// assert!(read.is_ok());
+    /// assert_eq!(keys, [b"a", b"c", b"e"]);
+    ///
+    /// // what comes after the annotations is read after them
+    /// let mut calls = 0;
+    /// let read = IxdtfParser::from_str("2020-01-01[a=b][c=d]junk").parse_with_annotation_handler(|_| {
+    ///     calls += 1;
+    ///     None
+    /// });
+    /// assert_eq!((read, calls), (Err(ParseError::InvalidEnd), 2));
     /// ```
     ///
-    /// The handler has to be one that may be called at any time, in any state that it reached, on
-    /// any annotation. In Rust any closure of this type can be handed in. In Rattle one that holds
-    /// borrows of several lifetimes, as a closure does that captures two variables, is handed in by
-    /// a function between them, generic in the handler and in an error `E: From<ParseError>`.
+    /// A function that takes a handler has the bound of this one:
     ///
-    /// After `Ok` nothing is left to be read, so each later call is refused as one on the empty text is. After an error what
-    /// was still to be read still is. Calls that were made stay made.
+    /// ```rust
+    /// use ixdtf::ParserResult;
+    /// use ixdtf::encoding::Utf8;
+    /// use ixdtf::parsers::IxdtfParser;
+    /// use ixdtf::records::Annotation;
+    ///
+    /// fn calendar_of<'a, F>(text: &'a str, handler: F) -> ParserResult<Option<&'a [u8]>>
+    /// where
+    ///     F: FnMut(Annotation<'a, Utf8>) -> Option<Annotation<'a, Utf8>>,
+    /// {
+    ///     Ok(IxdtfParser::from_str(text).parse_with_annotation_handler(handler)?.calendar)
+    /// }
+    ///
+    /// assert_eq!(calendar_of("2024-03-02[u-ca=hebrew]", Some), Ok(Some(b"hebrew".as_slice())));
+    /// assert_eq!(calendar_of("2024-03-02[u-ca=hebrew]", |_| None), Ok(None));
+    /// ```
+    ///
+    /// After `Ok` the rest of the input is empty, so a later call returns the error of the empty text. After an error the
+    /// rest is as it was. Calls that were made stay made.
     ///
     /// # Errors
     ///
@@ -192,34 +311,43 @@ impl<'a, T: EncodingType> IxdtfParser<'a, T> {
         self.read_as::<ParseError, DateTimes, F>(handler)
     }
 
-    /// Reads all that is still to be read, as a year and a month (ISO 8601; `DateSpecYearMonth` of the Temporal grammar), and
-    /// then, in brackets, what [`parse`](Self::parse) reads there.
+    /// Reads the rest of the input as a year and a month (ISO 8601; `DateSpecYearMonth` of the Temporal grammar), and then,
+    /// in brackets, what [`parse`](Self::parse) reads there.
     ///
     /// A year and a month are `2020-11` or `202011`, where the year is as in [`parse`](Self::parse). The record has `date`,
     /// whose day is 1, and `tz` and `calendar` as that of [`parse`](Self::parse).
     ///
-    /// ```text
-    /// 2020-11             Ok: 1 November 2020
-    /// +00202011           Ok: 1 November 2020
-    /// 202011[u-ca=hebrew] Ok: 1 November 2020, the calendar hebrew
-    /// 2020                Err(AbruptEnd { location: "digit" })
-    /// 2020-13             Err(InvalidMonthRange)
-    /// 2020-11-08          Err(InvalidEnd)
+    /// ```rust
+    /// use ixdtf::ParseError;
+    /// use ixdtf::parsers::IxdtfParser;
+    ///
+    /// for text in ["2020-11", "+00202011", "202011[u-ca=hebrew]"] {
+    ///     let date = IxdtfParser::from_str(text).parse_year_month()?.date.unwrap();
+    ///     assert_eq!((date.year, date.month, date.day), (2020, 11, 1));
+    /// }
+    /// for (text, error) in [
+    ///     ("2020", ParseError::AbruptEnd { location: "digit" }),
+    ///     ("2020-13", ParseError::InvalidMonthRange),
+    ///     ("2020-11-08", ParseError::InvalidEnd),
+    /// ] {
+    ///     assert_eq!(IxdtfParser::from_str(text).parse_year_month(), Err(error));
+    /// }
+    /// # Ok::<(), ParseError>(())
     /// ```
     ///
-    /// After `Ok` nothing is left to be read, so each later call is refused as one on the empty text is. After an error all
-    /// that was still to be read still is.
+    /// After `Ok` the rest of the input is empty, so a later call returns the error of the empty text. After an error the
+    /// rest is as it was, so a second call returns the same.
     ///
     /// # Errors
     ///
     /// The first part that is wrong decides. Brackets have the errors that they have in [`parse`](Self::parse). Before them:
     ///
-    /// - `AbruptEnd` where a digit has to follow, and where the source ends after a year (at `digit`);
-    /// - `DateYear`, `DateExtendedYear` and `DateMonth` where another letter stands in the place of a digit of the year, the
-    ///   year with a sign and the month;
+    /// - `AbruptEnd` where a digit has to follow, and where the input ends after a year (at `digit`);
+    /// - `DateYear`, `DateExtendedYear` and `DateMonth` where another character stands in the place of a digit of the year,
+    ///   the year with a sign and the month;
     /// - `InvalidMonthRange` where the month is not from 1 to 12, and `DateExtendedYear` for the year `-000000`;
-    /// - `InvalidEnd` at any other letter after the month;
-    /// - `NonAsciiCodePoint` at a unit that stands for no letter, which no 8-bit unit does.
+    /// - `InvalidEnd` at any other character after the month;
+    /// - `NonAsciiCodePoint` at a code unit that stands for no character, which no 8-bit one does.
     #[inline(always)]
     pub fn parse_year_month(&mut self) -> ParserResult<IxdtfParseRecord<'a, T>> {
         let mut found = IxdtfParseRecord::default();
@@ -229,13 +357,22 @@ impl<'a, T: EncodingType> IxdtfParser<'a, T> {
         }
     }
 
-    /// Reads as [`parse_year_month`](Self::parse_year_month) does, and asks the handler as
+    /// Reads as [`parse_year_month`](Self::parse_year_month) does, and calls the handler as
     /// [`parse_with_annotation_handler`](Self::parse_with_annotation_handler) does.
     ///
     /// # Errors
     ///
     /// Those of [`parse_year_month`](Self::parse_year_month), where `CriticalDuplicateCalendar` and `UnrecognizedCritical` come for
     /// the replies alone.
+    ///
+    /// ```rust
+    /// use ixdtf::parsers::IxdtfParser;
+    ///
+    /// let record = IxdtfParser::from_str("2020-11[!a=b][u-ca=hebrew]").parse_year_month_with_annotation_handler(|annotation| {
+    ///     if annotation.key == b"u-ca" { Some(annotation) } else { None }
+    /// });
+    /// assert_eq!(record.unwrap().calendar, Some(b"hebrew".as_slice()));
+    /// ```
     pub fn parse_year_month_with_annotation_handler<F>(
         &mut self,
         handler: F,
@@ -246,37 +383,47 @@ impl<'a, T: EncodingType> IxdtfParser<'a, T> {
         self.read_as::<ParseError, YearMonths, F>(handler)
     }
 
-    /// Reads all that is still to be read, as a month and a day (ISO 8601; `DateSpecMonthDay` of the Temporal grammar), and
-    /// then, in brackets, what [`parse`](Self::parse) reads there.
+    /// Reads the rest of the input as a month and a day (ISO 8601; `DateSpecMonthDay` of the Temporal grammar), and then, in
+    /// brackets, what [`parse`](Self::parse) reads there.
     ///
     /// A month and a day are `11-07`, `1107`, `--11-07` or `--1107`. The day is from 0 to the greatest that the month has in
     /// any year, which is 29 for February; under [`Profile::Strict`] it is at least 1. The record has `date`, whose year is 0,
     /// and `tz` and `calendar` as that of [`parse`](Self::parse).
     ///
-    /// ```text
-    /// 11-07               Ok: 7 November of the year 0
-    /// --1107[+04:00]      Ok: 7 November of the year 0, the zone plus 4 hours
-    /// 02-29               Ok: 29 February of the year 0
-    /// 11-00               Ok: day 0 of November of the year 0; strictly Err(InvalidMonthDay)
-    /// 02-30               Err(InvalidMonthDay)
-    /// -11-07              Err(MonthDayHyphen)
-    /// -                   Err(AbruptEnd { location: "MonthDay" })
+    /// ```rust
+    /// use ixdtf::ParseError;
+    /// use ixdtf::parsers::{IxdtfParser, Profile};
+    ///
+    /// for (text, month, day) in [("11-07", 11, 7), ("--1107[+04:00]", 11, 7), ("02-29", 2, 29), ("11-00", 11, 0)] {
+    ///     let date = IxdtfParser::from_str(text).parse_month_day()?.date.unwrap();
+    ///     assert_eq!((date.year, date.month, date.day), (0, month, day));
+    /// }
+    /// let mut strict = IxdtfParser::from_str("11-00").with_profile(Profile::Strict);
+    /// assert_eq!(strict.parse_month_day(), Err(ParseError::InvalidMonthDay));
+    /// for (text, error) in [
+    ///     ("02-30", ParseError::InvalidMonthDay),
+    ///     ("-11-07", ParseError::MonthDayHyphen),
+    ///     ("-", ParseError::AbruptEnd { location: "MonthDay" }),
+    /// ] {
+    ///     assert_eq!(IxdtfParser::from_str(text).parse_month_day(), Err(error));
+    /// }
+    /// # Ok::<(), ParseError>(())
     /// ```
     ///
-    /// After `Ok` nothing is left to be read, so each later call is refused as one on the empty text is. After an error all
-    /// that was still to be read still is.
+    /// After `Ok` the rest of the input is empty, so a later call returns the error of the empty text. After an error the
+    /// rest is as it was, so a second call returns the same.
     ///
     /// # Errors
     ///
     /// The first part that is wrong decides. Brackets have the errors that they have in [`parse`](Self::parse). Before them:
     ///
     /// - `AbruptEnd` where there is nothing or one hyphen alone (at `MonthDay`), and where a digit has to follow (at `digit`);
-    /// - `MonthDayHyphen` where another letter than a second hyphen follows the first;
-    /// - `DateMonth` and `DateDay` where another letter stands in the place of a digit of the month and the day;
+    /// - `MonthDayHyphen` where another character than a second hyphen follows the first;
+    /// - `DateMonth` and `DateDay` where another character stands in the place of a digit of the month and the day;
     /// - `InvalidMonthRange` where the month is not from 1 to 12;
     /// - `InvalidMonthDay` where the month has the day in no year, and for day 0 under [`Profile::Strict`];
-    /// - `InvalidEnd` at any other letter after the day;
-    /// - `NonAsciiCodePoint` at a unit that stands for no letter, which no 8-bit unit does.
+    /// - `InvalidEnd` at any other character after the day;
+    /// - `NonAsciiCodePoint` at a code unit that stands for no character, which no 8-bit one does.
     #[inline(always)]
     pub fn parse_month_day(&mut self) -> ParserResult<IxdtfParseRecord<'a, T>> {
         let mut found = IxdtfParseRecord::default();
@@ -286,13 +433,22 @@ impl<'a, T: EncodingType> IxdtfParser<'a, T> {
         }
     }
 
-    /// Reads as [`parse_month_day`](Self::parse_month_day) does, and asks the handler as
+    /// Reads as [`parse_month_day`](Self::parse_month_day) does, and calls the handler as
     /// [`parse_with_annotation_handler`](Self::parse_with_annotation_handler) does.
     ///
     /// # Errors
     ///
     /// Those of [`parse_month_day`](Self::parse_month_day), where `CriticalDuplicateCalendar` and `UnrecognizedCritical` come for
     /// the replies alone.
+    ///
+    /// ```rust
+    /// use ixdtf::parsers::IxdtfParser;
+    ///
+    /// let record = IxdtfParser::from_str("11-07[!a=b][u-ca=hebrew]").parse_month_day_with_annotation_handler(|annotation| {
+    ///     if annotation.key == b"u-ca" { Some(annotation) } else { None }
+    /// });
+    /// assert_eq!(record.unwrap().calendar, Some(b"hebrew".as_slice()));
+    /// ```
     pub fn parse_month_day_with_annotation_handler<F>(
         &mut self,
         handler: F,
@@ -303,8 +459,8 @@ impl<'a, T: EncodingType> IxdtfParser<'a, T> {
         self.read_as::<ParseError, MonthDays, F>(handler)
     }
 
-    /// Reads all that is still to be read, as a time (RFC 3339, section 5.6, and ISO 8601's forms of it), and then, in
-    /// brackets, what [`parse`](Self::parse) reads there.
+    /// Reads the rest of the input as a time (RFC 3339, section 5.6, and ISO 8601's forms of it), and then, in brackets,
+    /// what [`parse`](Self::parse) reads there.
     ///
     /// `T` or `t` may stand before the time. The time is as in [`parse`](Self::parse), and so is what may stand after it, `Z`,
     /// `z` or an offset. A text that begins as [`parse_month_day`](Self::parse_month_day) or
@@ -312,20 +468,36 @@ impl<'a, T: EncodingType> IxdtfParser<'a, T> {
     /// month and a day are depends on the profile. The record has `time`, `offset` where it stands, and `tz` and `calendar` as
     /// that of [`parse`](Self::parse).
     ///
-    /// ```text
-    /// 12:30:45.25         Ok: 12:30:45 and a fraction of two digits, 25
-    /// T1200               Ok: 12:00:00
-    /// 2021-13             Ok: 20:21:00, minus 13 hours
-    /// 1200                Err(AmbiguousTimeMonthDay); strictly Ok: 12:00:00
-    /// 1214Z               Err(AmbiguousTimeMonthDay)
-    /// 2021-12             Err(AmbiguousTimeYearMonth)
-    /// 202112[UTC]         Err(AmbiguousTimeYearMonth)
-    /// 20240801            Err(InvalidEnd)
-    /// T19:12-089          Err(AbruptEnd { location: "digit" })
+    /// ```rust
+    /// use ixdtf::ParseError;
+    /// use ixdtf::parsers::{IxdtfParser, Profile};
+    ///
+    /// let time = IxdtfParser::from_str("12:30:45.25").parse_time()?.time.unwrap();
+    /// assert_eq!((time.hour, time.minute, time.second), (12, 30, 45));
+    /// assert_eq!(time.fraction.unwrap().digit_count(), 2);
+    /// let time = IxdtfParser::from_str("T1200").parse_time()?.time.unwrap();
+    /// assert_eq!((time.hour, time.minute, time.second), (12, 0, 0));
+    /// // 20:21, and 13 hours behind UTC: there is no month 13
+    /// let record = IxdtfParser::from_str("2021-13").parse_time()?;
+    /// assert_eq!(record.time.unwrap().minute, 21);
+    /// assert_eq!(record.offset.unwrap().resolve_rfc_9557().hour(), 13);
+    /// // under the strict profile 1200 is no month and day
+    /// assert!(IxdtfParser::from_str("1200").with_profile(Profile::Strict).parse_time().is_ok());
+    /// for (text, error) in [
+    ///     ("1200", ParseError::AmbiguousTimeMonthDay),
+    ///     ("1214Z", ParseError::AmbiguousTimeMonthDay),
+    ///     ("2021-12", ParseError::AmbiguousTimeYearMonth),
+    ///     ("202112[UTC]", ParseError::AmbiguousTimeYearMonth),
+    ///     ("20240801", ParseError::InvalidEnd),
+    ///     ("T19:12-089", ParseError::AbruptEnd { location: "digit" }),
+    /// ] {
+    ///     assert_eq!(IxdtfParser::from_str(text).parse_time(), Err(error));
+    /// }
+    /// # Ok::<(), ParseError>(())
     /// ```
     ///
-    /// After `Ok` nothing is left to be read, so each later call is refused as one on the empty text is. After an error all
-    /// that was still to be read still is.
+    /// After `Ok` the rest of the input is empty, so a later call returns the error of the empty text. After an error the
+    /// rest is as it was, so a second call returns the same.
     ///
     /// # Errors
     ///
@@ -333,8 +505,8 @@ impl<'a, T: EncodingType> IxdtfParser<'a, T> {
     /// an offset have those that they have there, the time at the start of the text too. Beside them:
     ///
     /// - `AmbiguousTimeMonthDay` where a text that does not begin with `T` or `t` begins as a month and a day do, and
-    ///   `AmbiguousTimeYearMonth` where it begins as a year and a month do, and not as a month and a day; both only where the
-    ///   source ends after the time and its offset, or `[` follows, and before anything in a bracket is looked at.
+    ///   `AmbiguousTimeYearMonth` where it begins as a year and a month do, and not as a month and a day; both only where
+    ///   the input ends after the time and its offset, or `[` follows, and before anything in a bracket is looked at.
     #[inline(always)]
     pub fn parse_time(&mut self) -> ParserResult<IxdtfParseRecord<'a, T>> {
         let mut found = IxdtfParseRecord::default();
@@ -344,13 +516,22 @@ impl<'a, T: EncodingType> IxdtfParser<'a, T> {
         }
     }
 
-    /// Reads as [`parse_time`](Self::parse_time) does, and asks the handler as
+    /// Reads as [`parse_time`](Self::parse_time) does, and calls the handler as
     /// [`parse_with_annotation_handler`](Self::parse_with_annotation_handler) does.
     ///
     /// # Errors
     ///
     /// Those of [`parse_time`](Self::parse_time), where `CriticalDuplicateCalendar` and `UnrecognizedCritical` come for
     /// the replies alone.
+    ///
+    /// ```rust
+    /// use ixdtf::parsers::IxdtfParser;
+    ///
+    /// let record = IxdtfParser::from_str("T1200[!a=b][u-ca=hebrew]").parse_time_with_annotation_handler(|annotation| {
+    ///     if annotation.key == b"u-ca" { Some(annotation) } else { None }
+    /// });
+    /// assert_eq!(record.unwrap().calendar, Some(b"hebrew".as_slice()));
+    /// ```
     pub fn parse_time_with_annotation_handler<F>(
         &mut self,
         handler: F,
@@ -361,16 +542,26 @@ impl<'a, T: EncodingType> IxdtfParser<'a, T> {
         self.read_as::<ParseError, LoneTimes, F>(handler)
     }
 
-    /// Reads as [`parse`](Self::parse) does, and tells where an error is: behind how many units of what was still to be read.
+    /// Reads as [`parse`](Self::parse) does, and returns an error with its place: the number of code units that stand before
+    /// it in the rest of the input.
     ///
-    /// A letter that does not fit, or a unit that stands for no letter, is the place of its error, and the end where the source ends
-    /// too soon. A number that is out of its range has its place behind it, and an annotation that is refused behind its bracket.
+    /// The place is that of the character that does not fit, or of the code unit that stands for no character, and the end
+    /// where the input ends too soon. A number that is out of its range has its place after it, and an annotation that is
+    /// refused after its bracket.
     ///
-    /// ```text
-    /// 2021-02-29              Err(InvalidDayRange) at 10, behind the day
-    /// 2024-03-02T08:4800      Err(TimeSeparator) at 16, where the next digit stands
-    /// 2024-03-02[!a=b][c=d]   Err(UnrecognizedCritical) at 16, behind the bracket
-    /// 2024-03-02T08:          Err(AbruptEnd { location: "digit" }) at 14, the end
+    /// ```rust
+    /// use ixdtf::ParseError;
+    /// use ixdtf::parsers::IxdtfParser;
+    ///
+    /// for (text, error, at) in [
+    ///     ("2021-02-29", ParseError::InvalidDayRange, 10), // after the day
+    ///     ("2024-03-02T08:4800", ParseError::TimeSeparator, 16), // where the next digit stands
+    ///     ("2024-03-02[!a=b][c=d]", ParseError::UnrecognizedCritical, 16), // after the bracket
+    ///     ("2024-03-02T08:", ParseError::AbruptEnd { location: "digit" }, 14), // the end
+    /// ] {
+    ///     let located = IxdtfParser::from_str(text).parse_located().unwrap_err();
+    ///     assert_eq!((located.error, located.at), (error, at));
+    /// }
     /// ```
     ///
     /// # Errors
@@ -388,13 +579,21 @@ impl<'a, T: EncodingType> IxdtfParser<'a, T> {
         }
     }
 
-    /// Reads as [`parse_with_annotation_handler`](Self::parse_with_annotation_handler) does, and tells where an error is, as
-    /// [`parse_located`](Self::parse_located) does.
+    /// Reads as [`parse_with_annotation_handler`](Self::parse_with_annotation_handler) does, and returns an error with its
+    /// place, as [`parse_located`](Self::parse_located) does.
     ///
     /// # Errors
     ///
     /// Those of [`parse_with_annotation_handler`](Self::parse_with_annotation_handler), each with its place: that of a reply
-    /// that is refused stands behind its annotation's bracket.
+    /// that is refused stands after its annotation's bracket.
+    ///
+    /// ```rust
+    /// use ixdtf::ParseError;
+    /// use ixdtf::parsers::IxdtfParser;
+    ///
+    /// let located = IxdtfParser::from_str("2020-11-08[!a=b]").parse_with_annotation_handler_located(Some).unwrap_err();
+    /// assert_eq!((located.error, located.at), (ParseError::UnrecognizedCritical, 16));
+    /// ```
     pub fn parse_with_annotation_handler_located<F>(
         &mut self,
         handler: F,
@@ -405,14 +604,24 @@ impl<'a, T: EncodingType> IxdtfParser<'a, T> {
         self.read_located_as::<LocatedError, DateTimes, F>(handler)
     }
 
-    /// Reads as [`parse_year_month`](Self::parse_year_month) does, and tells where an error is: behind how many units of what was still to be read.
+    /// Reads as [`parse_year_month`](Self::parse_year_month) does, and returns an error with its place: the number of code
+    /// units that stand before it in the rest of the input.
     ///
-    /// A letter that does not fit, or a unit that stands for no letter, is the place of its error, and the end where the source ends
-    /// too soon. A number that is out of its range has its place behind it, and an annotation that is refused behind its bracket.
+    /// The place is that of the character that does not fit, or of the code unit that stands for no character, and the end
+    /// where the input ends too soon. A number that is out of its range has its place after it, and an annotation that is
+    /// refused after its bracket.
     ///
-    /// ```text
-    /// 2020-13             Err(InvalidMonthRange) at 7, behind the month
-    /// 2020-11-08          Err(InvalidEnd) at 7, where the second hyphen stands
+    /// ```rust
+    /// use ixdtf::ParseError;
+    /// use ixdtf::parsers::IxdtfParser;
+    ///
+    /// for (text, error, at) in [
+    ///     ("2020-13", ParseError::InvalidMonthRange, 7), // after the month
+    ///     ("2020-11-08", ParseError::InvalidEnd, 7), // where the second hyphen stands
+    /// ] {
+    ///     let located = IxdtfParser::from_str(text).parse_year_month_located().unwrap_err();
+    ///     assert_eq!((located.error, located.at), (error, at));
+    /// }
     /// ```
     ///
     /// # Errors
@@ -430,13 +639,21 @@ impl<'a, T: EncodingType> IxdtfParser<'a, T> {
         }
     }
 
-    /// Reads as [`parse_year_month_with_annotation_handler`](Self::parse_year_month_with_annotation_handler) does, and tells where an error is, as
-    /// [`parse_year_month_located`](Self::parse_year_month_located) does.
+    /// Reads as [`parse_year_month_with_annotation_handler`](Self::parse_year_month_with_annotation_handler) does, and
+    /// returns an error with its place, as [`parse_year_month_located`](Self::parse_year_month_located) does.
     ///
     /// # Errors
     ///
-    /// Those of [`parse_year_month_with_annotation_handler`](Self::parse_year_month_with_annotation_handler), each with its place: that of a reply
-    /// that is refused stands behind its annotation's bracket.
+    /// Those of [`parse_year_month_with_annotation_handler`](Self::parse_year_month_with_annotation_handler), each with its
+    /// place: that of a reply that is refused stands after its annotation's bracket.
+    ///
+    /// ```rust
+    /// use ixdtf::ParseError;
+    /// use ixdtf::parsers::IxdtfParser;
+    ///
+    /// let located = IxdtfParser::from_str("2020-11[!a=b]").parse_year_month_with_annotation_handler_located(Some).unwrap_err();
+    /// assert_eq!((located.error, located.at), (ParseError::UnrecognizedCritical, 13));
+    /// ```
     pub fn parse_year_month_with_annotation_handler_located<F>(
         &mut self,
         handler: F,
@@ -447,14 +664,24 @@ impl<'a, T: EncodingType> IxdtfParser<'a, T> {
         self.read_located_as::<LocatedError, YearMonths, F>(handler)
     }
 
-    /// Reads as [`parse_month_day`](Self::parse_month_day) does, and tells where an error is: behind how many units of what was still to be read.
+    /// Reads as [`parse_month_day`](Self::parse_month_day) does, and returns an error with its place: the number of code
+    /// units that stand before it in the rest of the input.
     ///
-    /// A letter that does not fit, or a unit that stands for no letter, is the place of its error, and the end where the source ends
-    /// too soon. A number that is out of its range has its place behind it, and an annotation that is refused behind its bracket.
+    /// The place is that of the character that does not fit, or of the code unit that stands for no character, and the end
+    /// where the input ends too soon. A number that is out of its range has its place after it, and an annotation that is
+    /// refused after its bracket.
     ///
-    /// ```text
-    /// 02-30               Err(InvalidMonthDay) at 5, behind the day
-    /// 11-8                Err(AbruptEnd { location: "digit" }) at 4, the end
+    /// ```rust
+    /// use ixdtf::ParseError;
+    /// use ixdtf::parsers::IxdtfParser;
+    ///
+    /// for (text, error, at) in [
+    ///     ("02-30", ParseError::InvalidMonthDay, 5), // after the day
+    ///     ("11-8", ParseError::AbruptEnd { location: "digit" }, 4), // the end
+    /// ] {
+    ///     let located = IxdtfParser::from_str(text).parse_month_day_located().unwrap_err();
+    ///     assert_eq!((located.error, located.at), (error, at));
+    /// }
     /// ```
     ///
     /// # Errors
@@ -472,13 +699,21 @@ impl<'a, T: EncodingType> IxdtfParser<'a, T> {
         }
     }
 
-    /// Reads as [`parse_month_day_with_annotation_handler`](Self::parse_month_day_with_annotation_handler) does, and tells where an error is, as
-    /// [`parse_month_day_located`](Self::parse_month_day_located) does.
+    /// Reads as [`parse_month_day_with_annotation_handler`](Self::parse_month_day_with_annotation_handler) does, and returns
+    /// an error with its place, as [`parse_month_day_located`](Self::parse_month_day_located) does.
     ///
     /// # Errors
     ///
-    /// Those of [`parse_month_day_with_annotation_handler`](Self::parse_month_day_with_annotation_handler), each with its place: that of a reply
-    /// that is refused stands behind its annotation's bracket.
+    /// Those of [`parse_month_day_with_annotation_handler`](Self::parse_month_day_with_annotation_handler), each with its
+    /// place: that of a reply that is refused stands after its annotation's bracket.
+    ///
+    /// ```rust
+    /// use ixdtf::ParseError;
+    /// use ixdtf::parsers::IxdtfParser;
+    ///
+    /// let located = IxdtfParser::from_str("11-07[!a=b]").parse_month_day_with_annotation_handler_located(Some).unwrap_err();
+    /// assert_eq!((located.error, located.at), (ParseError::UnrecognizedCritical, 11));
+    /// ```
     pub fn parse_month_day_with_annotation_handler_located<F>(
         &mut self,
         handler: F,
@@ -489,14 +724,24 @@ impl<'a, T: EncodingType> IxdtfParser<'a, T> {
         self.read_located_as::<LocatedError, MonthDays, F>(handler)
     }
 
-    /// Reads as [`parse_time`](Self::parse_time) does, and tells where an error is: behind how many units of what was still to be read.
+    /// Reads as [`parse_time`](Self::parse_time) does, and returns an error with its place: the number of code units that
+    /// stand before it in the rest of the input.
     ///
-    /// A letter that does not fit, or a unit that stands for no letter, is the place of its error, and the end where the source ends
-    /// too soon. A number that is out of its range has its place behind it, and an annotation that is refused behind its bracket.
+    /// The place is that of the character that does not fit, or of the code unit that stands for no character, and the end
+    /// where the input ends too soon. A number that is out of its range has its place after it, and an annotation that is
+    /// refused after its bracket.
     ///
-    /// ```text
-    /// 1214Z               Err(AmbiguousTimeMonthDay) at 4, behind the month and the day
-    /// 12:60               Err(TimeMinuteSecond) at 5, behind the minute
+    /// ```rust
+    /// use ixdtf::ParseError;
+    /// use ixdtf::parsers::IxdtfParser;
+    ///
+    /// for (text, error, at) in [
+    ///     ("1214Z", ParseError::AmbiguousTimeMonthDay, 4), // after the month and the day
+    ///     ("12:60", ParseError::TimeMinuteSecond, 5), // after the minute
+    /// ] {
+    ///     let located = IxdtfParser::from_str(text).parse_time_located().unwrap_err();
+    ///     assert_eq!((located.error, located.at), (error, at));
+    /// }
     /// ```
     ///
     /// # Errors
@@ -514,13 +759,21 @@ impl<'a, T: EncodingType> IxdtfParser<'a, T> {
         }
     }
 
-    /// Reads as [`parse_time_with_annotation_handler`](Self::parse_time_with_annotation_handler) does, and tells where an error is, as
-    /// [`parse_time_located`](Self::parse_time_located) does.
+    /// Reads as [`parse_time_with_annotation_handler`](Self::parse_time_with_annotation_handler) does, and returns an error
+    /// with its place, as [`parse_time_located`](Self::parse_time_located) does.
     ///
     /// # Errors
     ///
-    /// Those of [`parse_time_with_annotation_handler`](Self::parse_time_with_annotation_handler), each with its place: that of a reply
-    /// that is refused stands behind its annotation's bracket.
+    /// Those of [`parse_time_with_annotation_handler`](Self::parse_time_with_annotation_handler), each with its place: that
+    /// of a reply that is refused stands after its annotation's bracket.
+    ///
+    /// ```rust
+    /// use ixdtf::ParseError;
+    /// use ixdtf::parsers::IxdtfParser;
+    ///
+    /// let located = IxdtfParser::from_str("T1200[!a=b]").parse_time_with_annotation_handler_located(Some).unwrap_err();
+    /// assert_eq!((located.error, located.at), (ParseError::UnrecognizedCritical, 11));
+    /// ```
     pub fn parse_time_with_annotation_handler_located<F>(
         &mut self,
         handler: F,
@@ -619,7 +872,6 @@ impl<'a, T: EncodingType> IxdtfParser<'a, T> {
             }
             Err(stop) => {
                 let at = self.cursor.remaining().saturating_sub(here.remaining());
-                self.cursor.count(here);
                 Err(StopAt { stop, at })
             }
         }

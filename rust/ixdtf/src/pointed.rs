@@ -2,7 +2,7 @@
 
 //! A text with a mark under one of its characters.
 
-use std::fmt;
+use core::fmt;
 
 /// How many characters before the place are written at most.
 const BEFORE_PLACE: usize = 48;
@@ -21,11 +21,15 @@ const FROM_PLACE: usize = 24;
 /// - At most 48 characters before the place are written, and at most 24 from it on. Where more stand there, `..` is written for
 ///   them. So a line has at most 76 columns.
 ///
-/// For `2024-03-02T08:48:00-05:00[America/New_York][u-ca=hebrew][key=a_b]` and the place 62 the lines are
+/// ```rust
+/// use ixdtf::parsers::IxdtfParser;
 ///
-/// ```text
+/// let text = "2024-03-02T08:48:00-05:00[America/New_York][u-ca=hebrew][key=a_b]";
+/// let error = IxdtfParser::from_str(text).parse_located().unwrap_err();
+/// assert_eq!(error.at, 62);
+/// assert_eq!(error.in_text(text).to_string(), "\
 /// ..48:00-05:00[America/New_York][u-ca=hebrew][key=a_b]
-///                                                   ^
+///                                                   ^");
 /// ```
 #[derive(Clone, Copy, Debug)]
 pub struct PointedText<'a> {

@@ -6,6 +6,14 @@ use crate::encoding::EncodingType;
 use crate::packed::PackedNumber;
 
 /// What a reader found in a text: each part that stood there, and `None` for each part that did not.
+///
+/// ```rust
+/// use ixdtf::parsers::IxdtfParser;
+///
+/// let record = IxdtfParser::from_str("2024-03-02[Europe/Paris]").parse().unwrap();
+/// assert!(record.date.is_some() && record.tz.is_some());
+/// assert!(record.time.is_none() && record.offset.is_none() && record.calendar.is_none());
+/// ```
 #[derive(Debug, PartialEq)]
 #[non_exhaustive]
 pub struct IxdtfParseRecord<'a, T: EncodingType> {
@@ -17,8 +25,9 @@ pub struct IxdtfParseRecord<'a, T: EncodingType> {
     pub offset: Option<UtcOffsetRecordOrZ>,
     /// The time zone in brackets (`time-zone` of RFC 9557, section 4.1).
     pub tz: Option<TimeZoneAnnotation<'a, T>>,
-    /// The units of the value of the first annotation with the key `u-ca` (`suffix-tag` of RFC 9557, section 4.1), which
-    /// names a calendar; where a handler was asked, those of the first such reply. No list of calendars is asked.
+    /// The code units of the value of the first annotation with the key `u-ca` (`suffix-tag` of RFC 9557, section 4.1),
+    /// which names a calendar; where there is a handler, those of the first such reply. Whether there is such a calendar is
+    /// not checked.
     pub calendar: Option<&'a [T::CodeUnit]>,
 }
 
@@ -63,6 +72,16 @@ pub struct TimeRecord {
 }
 
 /// A time zone in brackets, as `[!Europe/Paris]` (`time-zone` of RFC 9557, section 4.1).
+///
+/// ```rust
+/// use ixdtf::parsers::IxdtfParser;
+/// use ixdtf::records::TimeZoneRecord;
+///
+/// let zone = IxdtfParser::from_str("2024-03-02[!Europe/Paris]").parse().unwrap().tz.unwrap();
+/// assert!(zone.critical);
+/// let TimeZoneRecord::Name(name) = zone.tz else { panic!("an offset") };
+/// assert_eq!(core::str::from_utf8(name), Ok("Europe/Paris"));
+/// ```
 #[derive(Clone, Debug, PartialEq)]
 #[non_exhaustive]
 pub struct TimeZoneAnnotation<'a, T: EncodingType> {
@@ -74,15 +93,28 @@ pub struct TimeZoneAnnotation<'a, T: EncodingType> {
 }
 
 /// An annotation in brackets, as `[!u-ca=hebrew]` (`suffix-tag` of RFC 9557, section 4.1).
+///
+/// ```rust
+/// use ixdtf::parsers::IxdtfParser;
+///
+/// let mut found = None;
+/// let record = IxdtfParser::from_str("2024-03-02[!answer=fortytwo]").parse_with_annotation_handler(|annotation| {
+///     found = Some(annotation);
+///     None
+/// });
+/// assert!(record.is_ok());
+/// let annotation = found.unwrap();
+/// assert_eq!((annotation.critical, annotation.key, annotation.value), (true, b"answer".as_slice(), b"fortytwo".as_slice()));
+/// ```
 #[derive(Clone, Debug, PartialEq)]
 #[non_exhaustive]
 pub struct Annotation<'a, T: EncodingType> {
     /// Whether a `!` stands right after the opening bracket (`critical-flag`): who uses the text must then heed the
     /// annotation, or refuse the text.
     pub critical: bool,
-    /// The units of the key (`suffix-key`), as they stand in the text.
+    /// The code units of the key (`suffix-key`), as they stand in the text.
     pub key: &'a [T::CodeUnit],
-    /// The units of the value (`suffix-values`), as they stand in the text.
+    /// The code units of the value (`suffix-values`), as they stand in the text.
     pub value: &'a [T::CodeUnit],
 }
 
@@ -90,8 +122,8 @@ pub struct Annotation<'a, T: EncodingType> {
 #[derive(Clone, Debug, PartialEq)]
 #[non_exhaustive]
 pub enum TimeZoneRecord<'a, T: EncodingType> {
-    /// The units of a name (`time-zone-name` of RFC 9557, section 4.1), as they stand in the text. That such a zone exists
-    /// is not tested.
+    /// The code units of a name (`time-zone-name` of RFC 9557, section 4.1), as they stand in the text. That such a zone
+    /// exists is not checked.
     Name(&'a [T::CodeUnit]),
     /// A fixed offset (`time-numoffset` of RFC 3339, section 5.6).
     Offset(MinutePrecisionOffset),
@@ -166,16 +198,19 @@ pub enum UtcOffsetRecord {
 
 impl UtcOffsetRecord {
     /// Whether the offset was written without seconds (as `time-numoffset` of RFC 3339, section 5.6).
+    #[must_use]
     pub fn is_minute_precision(&self) -> bool {
         matches!(self, UtcOffsetRecord::MinutePrecision(_))
     }
 
     /// `+00:00`, written without seconds: local time is UTC (RFC 3339, section 5.6).
+    #[must_use]
     pub fn zero() -> UtcOffsetRecord {
         UtcOffsetRecord::MinutePrecision(MinutePrecisionOffset::zero())
     }
 
     /// The sign of the whole offset (of `time-numoffset` of RFC 3339, section 5.6).
+    #[must_use]
     pub fn sign(&self) -> Sign {
         match self {
             UtcOffsetRecord::MinutePrecision(offset) => offset.sign,
@@ -184,6 +219,7 @@ impl UtcOffsetRecord {
     }
 
     /// The hours (`time-hour` of RFC 3339, section 5.6).
+    #[must_use]
     pub fn hour(&self) -> u8 {
         match self {
             UtcOffsetRecord::MinutePrecision(offset) => offset.hour,
@@ -192,6 +228,7 @@ impl UtcOffsetRecord {
     }
 
     /// The minutes (`time-minute` of RFC 3339, section 5.6).
+    #[must_use]
     pub fn minute(&self) -> u8 {
         match self {
             UtcOffsetRecord::MinutePrecision(offset) => offset.minute,
@@ -201,6 +238,7 @@ impl UtcOffsetRecord {
 
     /// The seconds, or `None` where the offset was written without them. `time-numoffset` of RFC 3339, section 5.6, has
     /// none: they are of the longer form.
+    #[must_use]
     pub fn second(&self) -> Option<u8> {
         match self {
             UtcOffsetRecord::MinutePrecision(_) => None,
@@ -210,6 +248,7 @@ impl UtcOffsetRecord {
 
     /// The part of a second beyond the seconds (`time-secfrac` of RFC 3339, section 5.6), or `None` where the offset was
     /// written without seconds, or no digits follow them.
+    #[must_use]
     pub fn fraction(&self) -> Option<Fraction> {
         match self {
             UtcOffsetRecord::MinutePrecision(_) => None,
@@ -218,7 +257,27 @@ impl UtcOffsetRecord {
     }
 }
 
-/// What may stand behind a time for its offset (`time-offset` of RFC 3339, section 5.6).
+/// What may stand after a time for its offset (`time-offset` of RFC 3339, section 5.6).
+///
+/// ```rust
+/// use ixdtf::parsers::IxdtfParser;
+/// use ixdtf::records::{Sign, UtcOffsetRecordOrZ};
+///
+/// // How many minutes local time is ahead of UTC, where the text says so.
+/// fn minutes_ahead(text: &str) -> Option<i32> {
+///     match IxdtfParser::from_str(text).parse().ok()?.offset? {
+///         UtcOffsetRecordOrZ::Z => None,
+///         UtcOffsetRecordOrZ::Offset(offset) => {
+///             let minutes = i32::from(offset.hour()) * 60 + i32::from(offset.minute());
+///             Some(if offset.sign() == Sign::Negative { -minutes } else { minutes })
+///         }
+///     }
+/// }
+///
+/// assert_eq!(minutes_ahead("2024-03-02T08:48:00-05:30"), Some(-330));
+/// assert_eq!(minutes_ahead("2024-03-02T08:48:00+00:00"), Some(0));
+/// assert_eq!(minutes_ahead("2024-03-02T08:48:00Z"), None);
+/// ```
 #[derive(Clone, Copy, Debug, PartialEq)]
 pub enum UtcOffsetRecordOrZ {
     /// An offset in numbers.
@@ -230,6 +289,14 @@ pub enum UtcOffsetRecordOrZ {
 impl UtcOffsetRecordOrZ {
     /// The offset in numbers, and `-00:00` for `Z`: both say that UTC is known and the local offset is not (RFC 9557,
     /// section 2).
+    ///
+    /// ```rust
+    /// use ixdtf::records::{Sign, UtcOffsetRecordOrZ};
+    ///
+    /// let offset = UtcOffsetRecordOrZ::Z.resolve_rfc_9557();
+    /// assert_eq!((offset.sign(), offset.hour(), offset.minute()), (Sign::Negative, 0, 0));
+    /// ```
+    #[must_use]
     pub fn resolve_rfc_9557(self) -> UtcOffsetRecord {
         match self {
             UtcOffsetRecordOrZ::Offset(offset) => offset,
@@ -250,7 +317,7 @@ impl UtcOffsetRecordOrZ {
 pub struct DurationParseRecord {
     /// `Negative` exactly where the text begins with a `-`. The sign is that of the whole duration.
     pub sign: Sign,
-    /// The years, months, weeks and days (`DurationDate`), or `None` where `T` stands right behind `P`.
+    /// The years, months, weeks and days (`DurationDate`), or `None` where `T` stands right after `P`.
     pub date: Option<DateDurationRecord>,
     /// The hours, minutes and seconds (`DurationTime`), or `None` where there is no `T`.
     pub time: Option<TimeDurationRecord>,
@@ -272,6 +339,26 @@ pub struct DateDurationRecord {
 
 /// The time units of a duration (`DurationTime` of the Temporal grammar; ISO 8601, section 5.5.2), by the last unit that
 /// stands in the text. A unit that the text leaves out is zero, and of a unit that it repeats this is the last number.
+///
+/// ```rust
+/// use ixdtf::parsers::IsoDurationParser;
+/// use ixdtf::records::TimeDurationRecord;
+///
+/// // The whole seconds of a duration's time.
+/// fn seconds_of(time: TimeDurationRecord) -> u128 {
+///     let (hours, minutes, seconds, fraction, unit) = match time {
+///         TimeDurationRecord::Hours { hours, fraction } => (hours, 0, 0, fraction, 3600),
+///         TimeDurationRecord::Minutes { hours, minutes, fraction } => (hours, minutes, 0, fraction, 60),
+///         TimeDurationRecord::Seconds { hours, minutes, seconds, fraction } => (hours, minutes, seconds, fraction, 1),
+///     };
+///     let billionths = fraction.map_or(0, |fraction| u64::from(fraction.to_truncated_nanoseconds()));
+///     let whole = u128::from(hours) * 3600 + u128::from(minutes) * 60 + u128::from(seconds);
+///     whole + u128::from(billionths * unit / 1_000_000_000)
+/// }
+///
+/// let duration = IsoDurationParser::from_str("-PT1H30.5M").parse().unwrap();
+/// assert_eq!(seconds_of(duration.time.unwrap()), 5430);
+/// ```
 #[derive(Clone, Copy, Debug, PartialEq)]
 pub enum TimeDurationRecord {
     /// The last unit is hours.
@@ -303,11 +390,20 @@ pub enum TimeDurationRecord {
     },
 }
 
-/// A fraction of a second (`time-secfrac` of RFC 3339, section 5.6), or of the last unit of a duration: the digits behind a
+/// A fraction of a second (`time-secfrac` of RFC 3339, section 5.6), or of the last unit of a duration: the digits after a
 /// `.` or a `,`. Of an hour or a minute, what its calls name nanoseconds are billionths of it.
 ///
 /// It keeps how many digits there were, up to 255, and the number of the first 18 of them, or of all where there are
 /// fewer. So `.1` and `.10` are two fractions, and digits behind the eighteenth are only counted.
+///
+/// ```rust
+/// use ixdtf::parsers::IxdtfParser;
+///
+/// let time = IxdtfParser::from_str("T12:30:45.10").parse_time().unwrap().time.unwrap();
+/// let fraction = time.fraction.unwrap();
+/// assert_eq!((fraction.digit_count(), fraction.leading_value()), (2, 10));
+/// assert_eq!(fraction.to_nanoseconds(), Some(100_000_000));
+/// ```
 #[derive(Clone, Copy, Debug, PartialEq)]
 pub struct Fraction {
     digits: u8,
@@ -347,7 +443,7 @@ impl Fraction {
         self.digits < 18
     }
 
-    /// A fraction of fewer than 18 digits with one more digit behind it, an ASCII byte.
+    /// A fraction of fewer than 18 digits with one more digit after it, an ASCII byte.
     #[inline(always)]
     pub(crate) fn with_digit(self, digit: u8) -> Fraction {
         let value = self.value.number();
@@ -357,7 +453,7 @@ impl Fraction {
         }
     }
 
-    /// A fraction of 18 digits or more with one more digit behind it, which is only counted.
+    /// A fraction of 18 digits or more with one more digit after it, which is only counted.
     #[inline(always)]
     pub(crate) fn with_more(self) -> Fraction {
         Fraction {
@@ -367,19 +463,30 @@ impl Fraction {
     }
 
     /// How many digits the fraction has, its leading and trailing zeros counted: 1 to 255.
+    #[must_use]
     pub fn digit_count(&self) -> u8 {
         let Fraction { digits, .. } = *self;
         digits
     }
 
     /// The number of the first 18 digits, or of all where there are fewer.
+    #[must_use]
     pub fn leading_value(&self) -> u64 {
         let Fraction { value, .. } = *self;
         value.number()
     }
 
-    /// The nanoseconds of the fraction, or `None` where it has more than nine digits, also where those behind the ninth are
+    /// The nanoseconds of the fraction, or `None` where it has more than nine digits, also where those after the ninth are
     /// zeros. Where they are there, they are what [`to_truncated_nanoseconds`](Self::to_truncated_nanoseconds) returns.
+    ///
+    /// ```rust
+    /// use ixdtf::parsers::IxdtfParser;
+    ///
+    /// let time = IxdtfParser::from_str("T12:30:45.1234567891").parse_time().unwrap().time.unwrap();
+    /// let fraction = time.fraction.unwrap();
+    /// assert_eq!(fraction.to_nanoseconds(), None);
+    /// ```
+    #[must_use]
     pub fn to_nanoseconds(&self) -> Option<u32> {
         if self.digits > 9 {
             return None;
@@ -387,8 +494,17 @@ impl Fraction {
         Some(self.to_truncated_nanoseconds())
     }
 
-    /// The whole nanoseconds of the fraction: its first nine digits, with zeros behind them where there are fewer. What
-    /// is left of a nanosecond is dropped.
+    /// The whole nanoseconds of the fraction: its first nine digits, with zeros after them where there are fewer. What is
+    /// left of a nanosecond is dropped.
+    ///
+    /// ```rust
+    /// use ixdtf::parsers::IxdtfParser;
+    ///
+    /// let time = IxdtfParser::from_str("T12:30:45.1234567891").parse_time().unwrap().time.unwrap();
+    /// let fraction = time.fraction.unwrap();
+    /// assert_eq!(fraction.to_truncated_nanoseconds(), 123_456_789);
+    /// ```
+    #[must_use]
     pub fn to_truncated_nanoseconds(&self) -> u32 {
         let value = self.value.number();
         if self.digits <= 9 {

@@ -8,7 +8,6 @@ use ixdtf::ParserResult;
 use ixdtf::encoding::Utf8;
 use ixdtf::parsers::{IsoDurationParser, IxdtfParser, Profile, TimeZoneParser};
 use ixdtf::records::{DurationParseRecord, IxdtfParseRecord, TimeZoneRecord, UtcOffsetRecord};
-use ixdtf_print::canonical_fits;
 
 /// What a reader found in a text.
 pub enum Found<'a> {
@@ -79,7 +78,6 @@ pub fn read(word: Word, text: &[u8]) -> ParserResult<Found<'_>> {
 
 /// What `parse` finds in the text, to be printed.
 fn read_to_print(text: &[u8]) -> ParserResult<Found<'_>> {
-    canonical_fits();
     match IxdtfParser::from_utf8(text).parse() {
         Ok(parts) => Ok(Found::Canonical(PrintedRecord { parts })),
         Err(error) => Err(error),

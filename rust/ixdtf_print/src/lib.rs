@@ -1,20 +1,13 @@
 // Made by tools/to_rust.py of crates/ixdtf_print/src/lib.rt. Do not edit.
 
-//! Prints the records that `ixdtf` reads, each as its one canonical text.
-//!
-//! The canonical text is read back as an equal record, and no other record has it. So a text can be stored, compared and
-//! sent on in this form.
-
+#![doc = include_str!("../README.md")]
 #![no_std]
 #![forbid(unsafe_code)]
-
-extern crate core as std;
 
 mod check;
 mod digits;
 mod error;
 mod fields;
-mod laws;
 mod length;
 mod put;
 
@@ -23,22 +16,37 @@ pub use error::PrintError;
 use fields::put_record;
 use ixdtf::encoding::Utf8;
 use ixdtf::records::IxdtfParseRecord;
-pub use laws::{canonical_fits, canonical_is_read_back};
 // For crates of this repository, and no part of the interface.
 #[doc(hidden)]
 pub use length::length_of;
 
 /// Writes the canonical text of the record into the front of the slice, and returns how many bytes these are.
 ///
+/// The canonical text has the date, the time with its seconds, the offset in the precision that it was written in, the zone
+/// with its `!`, and the calendar. What a record does not keep is not in it: the `!` of a calendar, other annotations, and of
+/// a fraction the digits after the eighteenth, which are zeros here.
+///
+/// A record of a year and a month has the first day of the month, and one of a month and a day the year 0: their texts are
+/// those dates. One of a time alone has no date, and no text.
+///
 /// ```rust
 /// use ixdtf::parsers::IxdtfParser;
-/// use ixdtf_print::print;
+/// use ixdtf_print::{PrintError, print};
 ///
-/// let text = "20240302 084800z[u-ca=hebrew][a=b]";
-/// let Ok(parsed) = IxdtfParser::from_str(text).parse() else { unreachable!() };
+/// let record = IxdtfParser::from_str("20240302 084800z[!u-ca=hebrew][a=b]").parse().unwrap();
 /// let mut out = [0; 64];
-/// let Ok(count) = print(&parsed, &mut out) else { unreachable!() };
-/// assert!(out[..count] == *b"2024-03-02T08:48:00Z[u-ca=hebrew]");
+/// let count = print(&record, &mut out).unwrap();
+/// assert_eq!(&out[..count], b"2024-03-02T08:48:00Z[u-ca=hebrew]");
+/// assert_eq!(print(&record, &mut [0; 8]), Err(PrintError::TooShort));
+///
+/// let record = IxdtfParser::from_str("2020-11").parse_year_month().unwrap();
+/// let count = print(&record, &mut out).unwrap();
+/// assert_eq!(&out[..count], b"2020-11-01");
+/// let record = IxdtfParser::from_str("11-07").parse_month_day().unwrap();
+/// let count = print(&record, &mut out).unwrap();
+/// assert_eq!(&out[..count], b"0000-11-07");
+/// let record = IxdtfParser::from_str("T12:00").parse_time().unwrap();
+/// assert_eq!(print(&record, &mut out), Err(PrintError::NotPrintable));
 /// ```
 ///
 /// # Errors

@@ -33,6 +33,22 @@ fn refuses() {
     assert_eq!(out, [7; 39]);
 }
 
+/// What a record does not keep is not printed, and what is no date is printed as one or not at all.
+#[test]
+fn says_what_is_lost() {
+    assert_eq!(printed("2020-01-01[!u-ca=x][a=b]").as_deref(), Ok("2020-01-01[u-ca=x]"));
+    assert_eq!(printed("2020-01-01T00:00:00.1234567890123456789").as_deref(), Ok("2020-01-01T00:00:00.1234567890123456780"));
+    let mut out = [0; 64];
+    let month = IxdtfParser::from_str("2020-11[UTC]").parse_year_month().unwrap();
+    assert_eq!(print(&month, &mut out).map(|count| &out[..count]), Ok(b"2020-11-01[UTC]".as_slice()));
+    let day = IxdtfParser::from_str("--02-29").parse_month_day().unwrap();
+    assert_eq!(print(&day, &mut out).map(|count| &out[..count]), Ok(b"0000-02-29".as_slice()));
+    let no_day = IxdtfParser::from_str("11-00").parse_month_day().unwrap();
+    assert_eq!(print(&no_day, &mut out), Err(PrintError::NotPrintable));
+    let time = IxdtfParser::from_str("T12:00").parse_time().unwrap();
+    assert_eq!(print(&time, &mut out), Err(PrintError::NotPrintable));
+}
+
 /// Numbers that look random, and are the same in each run.
 struct Numbers(u64);
 

@@ -218,8 +218,7 @@ fn parse_timed<'a, T: EncodingType>(
     parse_after_time(cursor, time, found)
 }
 
-/// Refuses a time whose text began as a month-day or as a year-month does, with the cursor behind these. Otherwise it stays,
-/// and counts the looks that are made at the start.
+/// Refuses a time whose text began as a month-day or as a year-month does, with the cursor behind these. Otherwise it stays.
 #[inline(always)]
 fn check_front<'a, T: EncodingType>(
     cursor: &mut Cursor<'a, T>,
@@ -245,6 +244,7 @@ fn check_front<'a, T: EncodingType>(
         *cursor = again;
         return Err(Stop::AmbiguousTimeYearMonth);
     }
+    // The looks that were made at the start count.
     cursor.count(again);
     Ok(())
 }

@@ -20,7 +20,14 @@ use std::marker::Model;
 
 /// A reader of offsets from UTC and of time zones, where a text is one of these alone.
 ///
-/// It borrows its source, and is as large as the slice of units that are still to be read.
+/// It borrows its source, and is as large as a slice, the rest of the input.
+///
+/// ```rust
+/// use ixdtf::parsers::TimeZoneParser;
+///
+/// assert_eq!(TimeZoneParser::from_str("+05:30").parse_offset().unwrap().hour(), 5);
+/// assert_eq!(TimeZoneParser::from_str("UTC").parse_iana_identifier(), Ok(b"UTC".as_slice()));
+/// ```
 #[derive(Drop)]
 #[derive_where(Debug)]
 pub struct TimeZoneParser<'a, T: EncodingType> {
@@ -36,7 +43,7 @@ impl<'a, T: EncodingType> Model for TimeZoneParser<'a, T> {
 }
 
 impl<'a> TimeZoneParser<'a, Utf8> {
-    /// A parser of a text's UTF-8 bytes. All of them are still to be read.
+    /// A parser of a text's UTF-8 bytes.
     pub fn from_str(source: &'a str) -> Self
         ensures rest { result.rest ≡ source.now }
         ensures looks { result.looks ≡ 0 }
@@ -44,7 +51,7 @@ impl<'a> TimeZoneParser<'a, Utf8> {
         TimeZoneParser::new(source.as_bytes())
     }
 
-    /// A parser of bytes, which need not be UTF-8. All of them are still to be read.
+    /// A parser of bytes, which need not be UTF-8.
     pub fn from_utf8(source: &'a [u8]) -> Self
         ensures rest { result.rest ≡ source.now }
         ensures looks { result.looks ≡ 0 }
@@ -54,7 +61,14 @@ impl<'a> TimeZoneParser<'a, Utf8> {
 }
 
 impl<'a> TimeZoneParser<'a, Utf16> {
-    /// A parser of 16-bit units, which need not be UTF-16. All of them are still to be read.
+    /// A parser of 16-bit code units, which need not be UTF-16.
+    ///
+    /// ```rust
+    /// use ixdtf::parsers::TimeZoneParser;
+    ///
+    /// let text: Vec<u16> = "Europe/Berlin".encode_utf16().collect();
+    /// assert_eq!(TimeZoneParser::from_utf16(&text).parse_iana_identifier(), Ok(text.as_slice()));
+    /// ```
     pub fn from_utf16(source: &'a [u16]) -> Self
         ensures rest { result.rest ≡ source.now }
         ensures looks { result.looks ≡ 0 }
@@ -64,7 +78,7 @@ impl<'a> TimeZoneParser<'a, Utf16> {
 }
 
 impl<'a, T: EncodingType> TimeZoneParser<'a, T> {
-    /// A parser of units of any encoding. All of them are still to be read.
+    /// A parser of code units of any encoding.
     pub fn new(source: &'a [T::CodeUnit]) -> Self
         ensures rest { result.rest ≡ map T.number source.now }
         ensures looks { result.looks ≡ 0 }
@@ -73,22 +87,33 @@ impl<'a, T: EncodingType> TimeZoneParser<'a, T> {
         TimeZoneParser { cursor }
     }
 
-    /// Reads all that is still to be read, as a time zone: a name (`time-zone-name` of RFC 9557, section 4.1), or an offset
-    /// without seconds.
+    /// Reads the rest of the input as a time zone: a name (`time-zone-name` of RFC 9557, section 4.1), or an offset without
+    /// seconds.
     ///
-    /// A name begins with an ASCII letter, `_` or `.`, and goes on with these, digits, `+`, `-`, and `/` where another letter
-    /// of a name follows it. The record has its units as they stand. Whether there is such a zone is not asked. An offset is
-    /// as in [`parse_offset`](Self::parse_offset), with no seconds.
+    /// A name begins with an ASCII letter, `_` or `.`, and goes on with these, digits, `+`, `-`, and `/` where another
+    /// character of a name follows it. The record has its code units as they stand. Whether there is such a zone is not
+    /// checked. An offset is as in [`parse_offset`](Self::parse_offset), with no seconds.
     ///
-    /// ```text
-    /// Europe/Berlin       Ok: the name Europe/Berlin
-    /// -0430               Ok: minus 4 hours and 30 minutes
-    /// +04:30:15           Err(InvalidMinutePrecisionOffset)
-    /// Europe//Berlin      Err(IanaCharPostSeparator)
+    /// ```rust
+    /// use ixdtf::ParseError;
+    /// use ixdtf::parsers::TimeZoneParser;
+    /// use ixdtf::records::{Sign, TimeZoneRecord};
+    ///
+    /// let zone = TimeZoneParser::from_str("Europe/Berlin").parse_identifier()?;
+    /// assert_eq!(zone, TimeZoneRecord::Name(b"Europe/Berlin"));
+    /// let TimeZoneRecord::Offset(offset) = TimeZoneParser::from_str("-0430").parse_identifier()? else { panic!("a name") };
+    /// assert_eq!((offset.sign, offset.hour, offset.minute), (Sign::Negative, 4, 30));
+    /// for (text, error) in [
+    ///     ("+04:30:15", ParseError::InvalidMinutePrecisionOffset),
+    ///     ("Europe//Berlin", ParseError::IanaCharPostSeparator),
+    /// ] {
+    ///     assert_eq!(TimeZoneParser::from_str(text).parse_identifier(), Err(error));
+    /// }
+    /// # Ok::<(), ParseError>(())
     /// ```
     ///
-    /// After `Ok` nothing is left to be read, so each later call is refused as one on the empty text is. After an error all
-    /// that was still to be read still is.
+    /// After `Ok` the rest of the input is empty, so a later call returns the error of the empty text. After an error the
+    /// rest is as it was, so a second call returns the same.
     ///
     /// # Errors
     ///
@@ -97,8 +122,8 @@ impl<'a, T: EncodingType> TimeZoneParser<'a, T> {
     /// - `IanaChar` and `IanaCharPostSeparator` where a name does not go on, and where it does not go on after a `/`;
     /// - `TimeHour` and `TimeMinuteSecond` as in [`parse_offset`](Self::parse_offset);
     /// - `InvalidMinutePrecisionOffset` at a colon or a digit after an offset's minute;
-    /// - `InvalidEnd` at a `]` after a name, and at any other letter after an offset;
-    /// - `NonAsciiCodePoint` at a unit that stands for no letter, which no 8-bit unit does.
+    /// - `InvalidEnd` at a `]` after a name, and at any other character after an offset;
+    /// - `NonAsciiCodePoint` at a code unit that stands for no character, which no 8-bit one does.
     pub fn parse_identifier(&mut self) -> ParserResult<TimeZoneRecord<'a, T>>
         // `Ok` exactly where the language derives the zone.
         ensures ok { (zone : Zone) → (returned (zone_of T.number) result ≡ Ok zone) ↔
@@ -121,33 +146,42 @@ impl<'a, T: EncodingType> TimeZoneParser<'a, T> {
         self.cursor.settle(here, read)
     }
 
-    /// Reads all that is still to be read, as an offset from UTC (`time-numoffset` of RFC 3339, section 5.6, and longer and
-    /// shorter forms).
+    /// Reads the rest of the input as an offset from UTC (`time-numoffset` of RFC 3339, section 5.6, and longer and shorter
+    /// forms).
     ///
     /// A sign stands first, and then `05`, `0530`, `05:30`, `053045` or `05:30:45`, the last two with a fraction, as `.25` or
     /// `,25`. With seconds the record is a `FullPrecisionOffset`, without them a `MinutePrecision`, with minute 0 where none
     /// is written. Seconds are at most 59.
     ///
-    /// ```text
-    /// -05:00              Ok: minus 5 hours
-    /// +05:30:15.5         Ok: 5 hours, 30 minutes, 15 seconds and a fraction of one digit, 5
-    /// 05:00               Err(OffsetNeedsSign)
-    /// +0530:15            Err(UtcTimeSeparator)
+    /// ```rust
+    /// use ixdtf::ParseError;
+    /// use ixdtf::parsers::TimeZoneParser;
+    /// use ixdtf::records::Sign;
+    ///
+    /// let offset = TimeZoneParser::from_str("-05:00").parse_offset()?;
+    /// assert_eq!((offset.sign(), offset.hour(), offset.minute(), offset.second()), (Sign::Negative, 5, 0, None));
+    /// let offset = TimeZoneParser::from_str("+05:30:15.5").parse_offset()?;
+    /// assert_eq!((offset.hour(), offset.minute(), offset.second()), (5, 30, Some(15)));
+    /// assert_eq!(offset.fraction().unwrap().to_nanoseconds(), Some(500_000_000));
+    /// for (text, error) in [("05:00", ParseError::OffsetNeedsSign), ("+0530:15", ParseError::UtcTimeSeparator)] {
+    ///     assert_eq!(TimeZoneParser::from_str(text).parse_offset(), Err(error));
+    /// }
+    /// # Ok::<(), ParseError>(())
     /// ```
     ///
-    /// After `Ok` nothing is left to be read, so each later call is refused as one on the empty text is. After an error all
-    /// that was still to be read still is.
+    /// After `Ok` the rest of the input is empty, so a later call returns the error of the empty text. After an error the
+    /// rest is as it was, so a second call returns the same.
     ///
     /// # Errors
     ///
     /// - `AbruptEnd` where there is nothing (at `time-numoffset`), or where a digit has to follow (at `digit`);
     /// - `OffsetNeedsSign` where no sign stands first;
-    /// - `TimeHour` and `TimeMinuteSecond` where another letter stands in the place of a digit of the hour, or of the minute
-    ///   and the second, and where they are out of their range;
+    /// - `TimeHour` and `TimeMinuteSecond` where another character stands in the place of a digit of the hour, or of the
+    ///   minute and the second, and where they are out of their range;
     /// - `UtcTimeSeparator` where it has one of two colons;
     /// - `FractionPart` where no digit follows a decimal mark;
-    /// - `InvalidEnd` at any other letter after it;
-    /// - `NonAsciiCodePoint` at a unit that stands for no letter, which no 8-bit unit does.
+    /// - `InvalidEnd` at any other character after it;
+    /// - `NonAsciiCodePoint` at a code unit that stands for no character, which no 8-bit one does.
     pub fn parse_offset(&mut self) -> ParserResult<UtcOffsetRecord>
         // `Ok` exactly where the language derives the offset.
         ensures ok { (offset : UtcOffsetRecord) →
@@ -171,25 +205,32 @@ impl<'a, T: EncodingType> TimeZoneParser<'a, T> {
         self.cursor.settle(here, read)
     }
 
-    /// Reads all that is still to be read, as the name of a time zone (`time-zone-name` of RFC 9557, section 4.1), and returns
-    /// its units: all that was still to be read. Whether there is such a zone is not asked.
+    /// Reads the rest of the input as the name of a time zone (`time-zone-name` of RFC 9557, section 4.1), and returns its
+    /// code units, the rest of the input. Whether there is such a zone is not checked.
     ///
-    /// ```text
-    /// Europe/Berlin       Ok: Europe/Berlin
-    /// +05:00              Err(TzLeadingChar)
-    /// UTC!                Err(IanaChar)
-    /// America/            Err(IanaCharPostSeparator)
+    /// ```rust
+    /// use ixdtf::ParseError;
+    /// use ixdtf::parsers::TimeZoneParser;
+    ///
+    /// assert_eq!(TimeZoneParser::from_str("Europe/Berlin").parse_iana_identifier(), Ok(b"Europe/Berlin".as_slice()));
+    /// for (text, error) in [
+    ///     ("+05:00", ParseError::TzLeadingChar),
+    ///     ("UTC!", ParseError::IanaChar),
+    ///     ("America/", ParseError::IanaCharPostSeparator),
+    /// ] {
+    ///     assert_eq!(TimeZoneParser::from_str(text).parse_iana_identifier(), Err(error));
+    /// }
     /// ```
     ///
-    /// After `Ok` nothing is left to be read, so each later call is refused as one on the empty text is. After an error all
-    /// that was still to be read still is.
+    /// After `Ok` the rest of the input is empty, so a later call returns the error of the empty text. After an error the
+    /// rest is as it was, so a second call returns the same.
     ///
     /// # Errors
     ///
     /// - `TzLeadingChar` where there is nothing, or where no name can begin so;
     /// - `IanaChar` and `IanaCharPostSeparator` where a name does not go on, and where it does not go on after a `/`;
     /// - `InvalidEnd` at a `]` after a name;
-    /// - `NonAsciiCodePoint` at a unit that stands for no letter, which no 8-bit unit does.
+    /// - `NonAsciiCodePoint` at a code unit that stands for no character, which no 8-bit one does.
     pub fn parse_iana_identifier(&mut self) -> ParserResult<&'a [T::CodeUnit]>
         // `Ok` exactly where the language derives the name.
         ensures ok { (name : List ℕ) →
@@ -214,14 +255,22 @@ impl<'a, T: EncodingType> TimeZoneParser<'a, T> {
         self.cursor.settle(here, read)
     }
 
-    /// Reads as [`parse_offset`](Self::parse_offset) does, and tells where the error is: behind how many units of what was still to be read.
-    /// A number that
-    /// is out of its range has its place behind its second digit.
+    /// Reads as [`parse_offset`](Self::parse_offset) does, and returns an error with its place: the number of code units
+    /// that stand before it in the rest of the input. A number that is out of its range has its place after its second
+    /// digit.
     ///
-    /// ```text
-    /// +05:30x             Err(InvalidEnd) at 6, where the x stands
-    /// +05:60              Err(TimeMinuteSecond) at 6, behind the 60
-    /// +05:                Err(AbruptEnd { location: "digit" }) at 4, the end
+    /// ```rust
+    /// use ixdtf::ParseError;
+    /// use ixdtf::parsers::TimeZoneParser;
+    ///
+    /// for (text, error, at) in [
+    ///     ("+05:30x", ParseError::InvalidEnd, 6), // where the x stands
+    ///     ("+05:60", ParseError::TimeMinuteSecond, 6), // after the 60
+    ///     ("+05:", ParseError::AbruptEnd { location: "digit" }, 4), // the end
+    /// ] {
+    ///     let located = TimeZoneParser::from_str(text).parse_offset_located().unwrap_err();
+    ///     assert_eq!((located.error, located.at), (error, at));
+    /// }
     /// ```
     ///
     /// # Errors
@@ -252,11 +301,20 @@ impl<'a, T: EncodingType> TimeZoneParser<'a, T> {
         self.cursor.settle(here, outcome)
     }
 
-    /// Reads as [`parse_iana_identifier`](Self::parse_iana_identifier) does, and tells where the error is: behind how many units of what was still to be read.
+    /// Reads as [`parse_iana_identifier`](Self::parse_iana_identifier) does, and returns an error with its place: the number
+    /// of code units that stand before it in the rest of the input.
     ///
-    /// ```text
-    /// America/!           Err(IanaCharPostSeparator) at 8, where the ! stands
-    /// America/            Err(IanaCharPostSeparator) at 8, the end
+    /// ```rust
+    /// use ixdtf::ParseError;
+    /// use ixdtf::parsers::TimeZoneParser;
+    ///
+    /// for (text, error, at) in [
+    ///     ("America/!", ParseError::IanaCharPostSeparator, 8), // where the ! stands
+    ///     ("America/", ParseError::IanaCharPostSeparator, 8), // the end
+    /// ] {
+    ///     let located = TimeZoneParser::from_str(text).parse_iana_identifier_located().unwrap_err();
+    ///     assert_eq!((located.error, located.at), (error, at));
+    /// }
     /// ```
     ///
     /// # Errors
@@ -287,11 +345,20 @@ impl<'a, T: EncodingType> TimeZoneParser<'a, T> {
         self.cursor.settle(here, outcome)
     }
 
-    /// Reads as [`parse_identifier`](Self::parse_identifier) does, and tells where the error is: behind how many units of what was still to be read.
+    /// Reads as [`parse_identifier`](Self::parse_identifier) does, and returns an error with its place: the number of code
+    /// units that stand before it in the rest of the input.
     ///
-    /// ```text
-    /// +04:30:15           Err(InvalidMinutePrecisionOffset) at 6, where the second colon stands
-    /// Europe//Berlin      Err(IanaCharPostSeparator) at 7, where the second / stands
+    /// ```rust
+    /// use ixdtf::ParseError;
+    /// use ixdtf::parsers::TimeZoneParser;
+    ///
+    /// for (text, error, at) in [
+    ///     ("+04:30:15", ParseError::InvalidMinutePrecisionOffset, 6), // where the second colon stands
+    ///     ("Europe//Berlin", ParseError::IanaCharPostSeparator, 7), // where the second / stands
+    /// ] {
+    ///     let located = TimeZoneParser::from_str(text).parse_identifier_located().unwrap_err();
+    ///     assert_eq!((located.error, located.at), (error, at));
+    /// }
     /// ```
     ///
     /// # Errors

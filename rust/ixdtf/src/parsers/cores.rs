@@ -151,8 +151,7 @@ fn parse_timed<'a, T: EncodingType>(
     parse_after_time(cursor, time, found)
 }
 
-/// Refuses a time whose text began as a month-day or as a year-month does, with the cursor behind these. Otherwise it stays,
-/// and counts the looks that are made at the start.
+/// Refuses a time whose text began as a month-day or as a year-month does, with the cursor behind these. Otherwise it stays.
 #[inline(always)]
 fn check_front<'a, T: EncodingType>(
     cursor: &mut Cursor<'a, T>,
@@ -172,7 +171,6 @@ fn check_front<'a, T: EncodingType>(
         *cursor = again;
         return Err(Stop::AmbiguousTimeYearMonth);
     }
-    cursor.count(again);
     Ok(())
 }
 

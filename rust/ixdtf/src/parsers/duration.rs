@@ -18,8 +18,14 @@ use crate::parsers::time::parse_fraction;
 
 /// A reader of durations.
 ///
-/// It borrows its source, and is as large as the slice of units that are still to be read and its
-/// profile.
+/// It borrows its source, and is as large as a slice, the rest of the input, and its profile.
+///
+/// ```rust
+/// use ixdtf::parsers::IsoDurationParser;
+///
+/// let duration = IsoDurationParser::from_str("P2W").parse().unwrap();
+/// assert_eq!(duration.date.unwrap().weeks, 2);
+/// ```
 #[derive(Debug)]
 pub struct IsoDurationParser<'a, T: EncodingType> {
     cursor: Cursor<'a, T>,
@@ -27,27 +33,44 @@ pub struct IsoDurationParser<'a, T: EncodingType> {
 }
 
 impl<'a> IsoDurationParser<'a, Utf8> {
-    /// A parser of a text's UTF-8 bytes. All of them are still to be read.
+    /// A parser of a text's UTF-8 bytes.
+    #[inline]
+    #[must_use]
     pub fn from_str(value: &'a str) -> Self {
         Self::new(value.as_bytes())
     }
 
-    /// A parser of bytes, which need not be UTF-8. All of them are still to be read.
+    /// A parser of bytes, which need not be UTF-8.
+    #[inline]
+    #[must_use]
     pub fn from_utf8(value: &'a [u8]) -> Self {
         IsoDurationParser::new(value)
     }
 }
 
 impl<'a> IsoDurationParser<'a, Utf16> {
-    /// A parser of 16-bit units, which need not be UTF-16. All of them are still to be read. It is named as in the Rust
-    /// crate: a caller names the encoding, as `IsoDurationParser::<Utf16>::from_utf8`.
+    /// A parser of 16-bit code units, which need not be UTF-16. It has the name that it has in `ixdtf` 0.6.7, so a caller
+    /// names the encoding, as `IsoDurationParser::<Utf16>::from_utf8`.
+    ///
+    /// ```rust
+    /// use ixdtf::encoding::Utf16;
+    /// use ixdtf::parsers::IsoDurationParser;
+    ///
+    /// let text: Vec<u16> = "P2W".encode_utf16().collect();
+    /// let duration = IsoDurationParser::<Utf16>::from_utf8(&text).parse().unwrap();
+    /// assert_eq!(duration.date.unwrap().weeks, 2);
+    /// ```
+    #[inline]
+    #[must_use]
     pub fn from_utf8(value: &'a [u16]) -> Self {
         Self::new(value)
     }
 }
 
 impl<'a, T: EncodingType> IsoDurationParser<'a, T> {
-    /// A parser of units of any encoding. All of them are still to be read.
+    /// A parser of code units of any encoding.
+    #[inline]
+    #[must_use]
     pub fn new(value: &'a [T::CodeUnit]) -> Self {
         IsoDurationParser {
             cursor: Cursor::new(value),
@@ -55,7 +78,18 @@ impl<'a, T: EncodingType> IsoDurationParser<'a, T> {
         }
     }
 
-    /// The parser with this profile, which decides whether a unit may stand again. What is still to be read stays.
+    /// The parser with this profile, which decides whether a unit may stand again. The rest of the input stays.
+    ///
+    /// ```rust
+    /// use ixdtf::ParseError;
+    /// use ixdtf::parsers::{IsoDurationParser, Profile};
+    ///
+    /// assert!(IsoDurationParser::from_str("P1Y2Y").parse().is_ok());
+    /// let mut strict = IsoDurationParser::from_str("P1Y2Y").with_profile(Profile::Strict);
+    /// assert_eq!(strict.parse(), Err(ParseError::DateDurationPartOrder));
+    /// ```
+    #[inline]
+    #[must_use]
     pub fn with_profile(self, profile: Profile) -> Self {
         IsoDurationParser {
             cursor: self.cursor,
@@ -63,61 +97,88 @@ impl<'a, T: EncodingType> IsoDurationParser<'a, T> {
         }
     }
 
-    /// Reads all that is still to be read, as a duration (`Duration` of the Temporal grammar; ISO 8601, section 5.5.2).
+    /// Reads the rest of the input as a duration (`Duration` of the Temporal grammar; ISO 8601, section 5.5.2).
     ///
-    /// An optional sign stands first, then `P`, then date groups, and then, behind a `T`, time groups; a group at all, and one
-    /// behind a `T`. A group is a number and its unit: `Y`, `M`, `W` and `D` for years, months, weeks and days, and `H`, `M` and
-    /// `S` for hours, minutes and seconds. No unit may stand behind a shorter one of its half; a unit may be repeated, and its
-    /// last number counts, but under [`Profile::Strict`] none may. The last time group may have a fraction, as `.25` or `,25`.
-    /// All letters may be small.
+    /// An optional sign stands first, then `P`, then date groups, and then, after a `T`, time groups; a group at all, and
+    /// one after a `T`. A group is a number and its unit: `Y`, `M`, `W` and `D` for years, months, weeks and days, and `H`,
+    /// `M` and `S` for hours, minutes and seconds. No unit may stand after a shorter one of its half; a unit may be
+    /// repeated, and its last number counts, but under [`Profile::Strict`] none may. The last time group may have a
+    /// fraction, as `.25` or `,25`. All letters may be lowercase.
     ///
     /// A number is below 2^64, and below 2^32 of years, months and weeks. The record has the date groups where any stand there,
     /// and the time groups where a `T` does.
     ///
-    /// ```text
-    /// P1Y2M3W4D           Ok: 1 year, 2 months, 3 weeks and 4 days
-    /// -pt1h0,5m           Ok: negative, 1 hour, 0 minutes and a fraction of one digit, 5
-    /// P1Y2Y               Ok: 2 years; strictly Err(DateDurationPartOrder)
-    /// P1D1Y               Err(DateDurationPartOrder)
-    /// PT0.5H1M            Err(InvalidEnd)
-    /// P4294967296Y        Err(DurationValueExceededRange)
+    /// ```rust
+    /// use ixdtf::ParseError;
+    /// use ixdtf::parsers::IsoDurationParser;
+    /// use ixdtf::records::{Sign, TimeDurationRecord};
+    ///
+    /// let duration = IsoDurationParser::from_str("P1Y2M3W4D").parse()?;
+    /// let date = duration.date.unwrap();
+    /// assert_eq!((date.years, date.months, date.weeks, date.days), (1, 2, 3, 4));
+    /// assert_eq!((duration.sign, duration.time), (Sign::Positive, None));
+    ///
+    /// let duration = IsoDurationParser::from_str("-pt1h0,5m").parse()?;
+    /// let Some(TimeDurationRecord::Minutes { hours, minutes, fraction }) = duration.time else { panic!("no minutes") };
+    /// assert_eq!((duration.sign, hours, minutes), (Sign::Negative, 1, 0));
+    /// // of a minute: half of it is 500,000,000 billionths
+    /// assert_eq!(fraction.unwrap().to_nanoseconds(), Some(500_000_000));
+    ///
+    /// assert_eq!(IsoDurationParser::from_str("P1Y2Y").parse()?.date.unwrap().years, 2);
+    /// for (text, error) in [
+    ///     ("P1D1Y", ParseError::DateDurationPartOrder),
+    ///     ("PT0.5H1M", ParseError::InvalidEnd),
+    ///     ("P4294967296Y", ParseError::DurationValueExceededRange),
+    /// ] {
+    ///     assert_eq!(IsoDurationParser::from_str(text).parse(), Err(error));
+    /// }
+    /// # Ok::<(), ParseError>(())
     /// ```
     ///
-    /// After `Ok` nothing is left to be read, so each later call is refused as one on the empty text is. After an error all
-    /// that was still to be read still is.
+    /// After `Ok` the rest of the input is empty, so a later call returns the error of the empty text. After an error the
+    /// rest is as it was, so a second call returns the same.
     ///
     /// # Errors
     ///
     /// The first part that is wrong decides. Of a group the order comes before the range of its unit.
     ///
-    /// - `AbruptEnd` where the source ends before anything (at `DurationStart`), behind a sign (at `DurationDesignator`) and
-    ///   behind `P` (at `Duration`), and where the digits of a group are followed by no letter of its half, or by nothing (at
+    /// - `AbruptEnd` where the input ends before anything (at `DurationStart`), after a sign (at `DurationDesignator`) and
+    ///   after `P` (at `Duration`), and where the digits of a group are followed by no letter of its half, or by nothing (at
     ///   `DateDurationDesignator` and `TimeDurationDesignator`);
-    /// - `DurationDisgnator` where neither a sign nor `P` stands first, or no `P` behind a sign;
+    /// - `DurationDisgnator` where neither a sign nor `P` stands first, or no `P` after a sign;
     /// - `TimeDurationDesignator` where no digit follows a `T`;
-    /// - `DateDurationPartOrder` and `TimeDurationPartOrder` for a group behind one of a shorter unit, and under
-    ///   [`Profile::Strict`] for one behind another of its unit;
+    /// - `DateDurationPartOrder` and `TimeDurationPartOrder` for a group after one of a shorter unit, and under
+    ///   [`Profile::Strict`] for one after another of its unit;
     /// - `DurationValueExceededRange` at a digit with which a number is no more below 2^64, and for years, months and weeks
     ///   that are not below 2^32;
     /// - `FractionPart` where no digit follows a decimal mark;
-    /// - `InvalidEnd` at any other letter behind `P` or behind a group;
-    /// - `NonAsciiCodePoint` at a unit that stands for no letter, which no 8-bit unit does.
+    /// - `InvalidEnd` at any other character after `P` or after a group;
+    /// - `NonAsciiCodePoint` at a code unit that stands for no character, which no 8-bit one does.
     pub fn parse(&mut self) -> ParserResult<DurationParseRecord> {
         let mut here = self.cursor.take();
         let read = parse_duration_text(&mut here, self.profile);
         self.cursor.settle(here, read)
     }
 
-    /// The same as [`parse`](Self::parse), with where the error stands: how many units stand before its place.
+    /// Reads as [`parse`](Self::parse) does, and returns an error with its place: the number of code units that stand before
+    /// it in the rest of the input.
     ///
-    /// At another letter and at a unit that stands for no letter that is its index, and at the end the length of what was to
-    /// be read. A number that is too great has its place behind the digit with which it is, or behind the letter of its years,
-    /// months or weeks, and a group that is out of order has it behind its letter.
+    /// The place is that of the character that does not fit, or of the code unit that stands for no character, and the end
+    /// where the input ends too soon. A number that is too great has its place after the digit with which it is, or after
+    /// the letter of its years, months or weeks, and a group that is out of order has it after its letter.
     ///
-    /// ```text
-    /// P1Y2X               Err(AbruptEnd) at 4, where the X stands
-    /// P1D1Y               Err(DateDurationPartOrder) at 5, behind the second group
-    /// PT                  Err(TimeDurationDesignator) at 2, the end
+    /// ```rust
+    /// use ixdtf::ParseError;
+    /// use ixdtf::parsers::IsoDurationParser;
+    ///
+    /// for (text, error, at) in [
+    ///     ("P1Y2X", ParseError::AbruptEnd { location: "DateDurationDesignator" }, 4), // where the X stands
+    ///     ("P1D1Y", ParseError::DateDurationPartOrder, 5), // after the second group
+    ///     ("PT", ParseError::TimeDurationDesignator, 2), // the end
+    /// ] {
+    ///     let located = IsoDurationParser::from_str(text).parse_located().unwrap_err();
+    ///     assert_eq!((located.error, located.at), (error, at));
+    /// }
     /// ```
     ///
     /// # Errors
@@ -139,7 +200,7 @@ struct Number {
     next: u8,
 }
 
-/// The number with one more digit behind it where it is below 2^64.
+/// The number with one more digit after it where it is below 2^64.
 #[inline(always)]
 fn add_digit(value: u64, byte: u8) -> Result<u64, Stop> {
     match value.checked_mul(10) {

@@ -78,7 +78,7 @@ fn zone_of<'a>(record: &IxdtfParseRecord<'a, Utf8>) -> Option<(bool, &'a str)> {
                 critical,
                 tz: TimeZoneRecord::Name(name),
             },
-        ) => match str::from_utf8(name) {
+        ) => match std::str::from_utf8(name) {
             Ok(name) => Some((*critical, name)),
             Err(_) => None,
         },
