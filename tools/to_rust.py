@@ -7,7 +7,7 @@ The tokens of the sources are kept in their order. What is removed:
   ghost items    `ghost use ..;`, `ghost NAME = { .. };`, `ghost NAME: { .. };` and `ghost NAME: { .. },`, with their docs
   models         `impl .. Model for .. { .. }` (it has only ghost items), and `Model` in a `use`
   attributes     `#[tactic(..)]`, `#[rattlefmt::skip]`, and `Drop` in a `#[derive(..)]`
-  modules        those that a crate of CRATES omits, which have no code that another module calls
+  modules        those that a crate of CRATES omits, with those below them, which have no code that another module calls
 
 The library stands in layers, crates of their own (LAYERS), which are one crate here: a module of a layer stands where LAYERS has it,
 a path through a layer goes through `crate`, the root of a layer gives way to what the root of the library re-exports of it, and
@@ -22,12 +22,14 @@ What is put in the place of something else, and there is nothing more of it:
   5 heads        what stands at the head of each root file: `extern crate core as std` lets `std::` name `core`
   6 arms         in a crate that stands on the library, a `match` with arms for the variants of a type that ADDED leaves open
                  (OPEN) gets the last arm `_ => unreachable!()`, which Rust asks for there
+  7 exports      of a function for C, `#[unsafe(no_mangle)] pub extern "C" fn`, a slice `x: &[T]` is a pointer and a length, as C hands it in,
+                 `x: *const T, x_length: usize`, of which the first line of the body makes the slice (src/slices.rs)
 
 Of a test, besides (TESTS):
 
-  7 runtime      a test takes nothing, and makes the `rt` that the sources hand to it; `HostRuntime`, `Abort`, `Fail`, `Global`,
+  8 runtime      a test takes nothing, and makes the `rt` that the sources hand to it; `HostRuntime`, `Abort`, `Fail`, `Global`,
                  `AllocError`, `String` and the macros with an `rt` or an allocator are those of src/runtime.rs
-  8 clone        `x.clone()` is `x.try_clone()` of src/runtime.rs, since a clone is a result there
+  9 clone        `x.clone()` is `x.try_clone()` of src/runtime.rs, since a clone is a result there
 
 What is not known here is refused: an attribute, a macro, a keyword, or a name of the standard library that is not listed.
 Whether Rust's and Rattle's name mean the same was looked up once for each listed one. A method of a crate's own that has
@@ -48,6 +50,7 @@ LIBRARY = ('#![cfg_attr(not(test), no_std)]\n#![forbid(unsafe_code)]\n\n#[cfg(no
            '#[cfg(doctest)]\n#[doc = include_str!("../README.md")]\nstruct Readme;\n')
 PRINTER = ('#![no_std]\n#![forbid(unsafe_code)]\n\nextern crate core as std;\n', '')
 PROGRAM = ('#![forbid(unsafe_code)]\n', '')
+FOR_C = ('#![cfg_attr(not(test), no_std)]\n\nextern crate core as std;\n', '\n#[cfg(not(test))]\nmod abort;\nmod slices;\n')
 
 
 # the layers of the library, and where their modules stand in the crate that is made of all of them
@@ -63,11 +66,13 @@ PLACES = {(layer, place.rpartition('/')[2]): place for layer, places in LAYERS.i
 
 class Crate:
     """A crate that is made: its sources, its folder, the modules that are left out, the file that is its root, and the head
-    and the end of that file. `tests` are made by the rules of tests; a crate `above` stands on the library; a `layer` is a part of it."""
+    and the end of that file. `tests` are made by the rules of tests; a crate `above` stands on the library; a `layer` is a part of it;
+    a crate that `exports` has calls for C."""
 
-    def __init__(self, source, target, omitted=(), root='lib', ends=('', ''), tests=False, above=False, layer=None):
+    def __init__(self, source, target, omitted=(), root='lib', ends=('', ''), tests=False, above=False, layer=None,
+                 exports=False):
         self.source, self.target, self.omitted, self.root, self.ends = source, target, set(omitted), root, ends
-        self.tests, self.above, self.layer = tests, above, layer
+        self.tests, self.above, self.layer, self.exports = tests, above, layer, exports
 
     def place(self, module):
         """Where a module of the crate stands in the crate that is made."""
@@ -76,6 +81,11 @@ class Crate:
         if (self.layer, module) not in PLACES:
             raise SystemExit(f'to_rust.py: {self.source}/{module}.rt: LAYERS has no place for it')
         return PLACES[self.layer, module]
+
+    def omits(self, module):
+        """Whether a module or one above it is left out."""
+        parts = module.split('/')
+        return any('/'.join(parts[:n]) in self.omitted for n in range(1, len(parts) + 1))
 
     def left_out(self, module):
         """The modules that a file of this name declares and that are left out."""
@@ -90,15 +100,22 @@ CRATES = [
     Crate('crates/ixdtf_callers/src', 'rust/ixdtf/src', ['lib'], root='callers', tests=True),
     Crate('crates/ixdtf_tests/src', 'rust/ixdtf/src', ['lib', 'tests/laws', 'tests/printing'], root='tests', tests=True),
     Crate('crates/ixdtf_print/src', 'rust/ixdtf_print/src', ends=PRINTER, above=True),
-    Crate('crates/ixdtf_lines/src', 'rust/ixdtf_lines/src', ['main', 'tests', 'tests/faults', 'tests/words'], root='lines', ends=PROGRAM, above=True),
+    Crate('crates/ixdtf_lines/src', 'rust/ixdtf_lines/src', ['main', 'tests'], root='lines', ends=PROGRAM, above=True),
+    Crate('crates/ixdtf_c/src', 'rust/ixdtf_c/src', ['laws', 'turns', 'tests'], ends=FOR_C, above=True, exports=True),
 ]
-WRITTEN_BY_HAND = {'rust/ixdtf/src/runtime.rs', 'rust/ixdtf/src/tests/printing.rs', 'rust/ixdtf_lines/src/main.rs'}
+WRITTEN_BY_HAND = {'rust/ixdtf/src/runtime.rs', 'rust/ixdtf/src/tests/printing.rs', 'rust/ixdtf_lines/src/main.rs',
+                   'rust/ixdtf_c/src/abort.rs', 'rust/ixdtf_c/src/slices.rs'}
 DERIVES = {'Clone', 'Copy', 'Debug', 'Default', 'PartialEq'}
 KEPT_ATTRIBUTES = {'inline(always)', 'inline(never)', 'cold', 'doc(hidden)'}
 TEST_ATTRIBUTES = {'test', 'cfg(test)'}
+# of a crate that exports calls: a struct and a function as C has them, and such a function's head
+EXPORT_ATTRIBUTES = {'repr(C)', 'unsafe(no_mangle)'}
+EXPORTED = '# [ unsafe ( no_mangle ) ] pub extern "C" fn'.split()
+# the library for C makes records of their fields
+OPEN_FOR_C = '#[cfg_attr(not(feature = "open-records"), non_exhaustive)]'
 ADDED = {
-    ('records', 'IxdtfParseRecord'): '#[non_exhaustive]', ('records', 'Annotation'): '#[non_exhaustive]',
-    ('records', 'TimeZoneAnnotation'): '#[non_exhaustive]', ('records', 'TimeZoneRecord'): '#[non_exhaustive]',
+    ('records', 'IxdtfParseRecord'): OPEN_FOR_C, ('records', 'Annotation'): OPEN_FOR_C,
+    ('records', 'TimeZoneAnnotation'): OPEN_FOR_C, ('records', 'TimeZoneRecord'): '#[non_exhaustive]',
     ('records', 'UtcOffsetRecord'): '#[non_exhaustive]', ('error', 'ParseError'): '#[non_exhaustive]',
     ('records', 'Sign'): '#[repr(i8)]',
 }
@@ -252,7 +269,7 @@ def attribute(tokens, at, crate):
     names = arguments.rstrip(')').split(', ')
     if name == 'tactic' and arguments:
         return gone(tokens, at, last)
-    if crate.tests and text == 'cfg(test)':
+    if text == 'cfg(test)' and (crate.tests or is_here(tokens, solid(tokens, last + 1), 0, ['mod', 'tests', ';']) and crate.omits('tests')):
         return gone(tokens, at, last)
     if inner:
         raise Refused(f'the attribute {text}')
@@ -263,7 +280,8 @@ def attribute(tokens, at, crate):
         if not DERIVES.issuperset(kept):
             raise Refused(f'the attribute {text}')
         return put(tokens, at, last, f'#[derive({", ".join(kept)})]') if kept else gone(tokens, at, last)
-    if text not in (KEPT_ATTRIBUTES | TEST_ATTRIBUTES if crate.tests else KEPT_ATTRIBUTES):
+    kept = KEPT_ATTRIBUTES | (TEST_ATTRIBUTES if crate.tests else set()) | (EXPORT_ATTRIBUTES if crate.exports else set())
+    if text not in kept or text == 'unsafe(no_mangle)' and tokens[solid(tokens, last + 1)[2]].text != '"C"':
         raise Refused(f'the attribute {text}')
 
 
@@ -282,6 +300,9 @@ def rewrite(tokens, module, crate):
         places = solid(tokens, at)
         if crate.layer and is_here(tokens, places, 0, HIDDEN) and tokens[places[9]].text not in CALLED_FROM_ABOVE:
             put(tokens, at, places[7], 'pub(crate)')
+        elif crate.exports and is_here(tokens, places, 0, EXPORTED):
+            export(tokens, places[8])
+            attribute(tokens, at, crate)
         elif token.kind == 'mark' and token.text == '#':
             attribute(tokens, at, crate)
         elif token.kind == 'word' and (token.text in LAYERS or token.text == 'crate' and crate.layer) and tokens[at + 1].text == '::':
@@ -376,6 +397,39 @@ def test_head(tokens, at, places):
     if named:
         tokens[opening] = Token('put', '{\n    let rt = HostRuntime;', tokens[opening].at)
     put(tokens, first, last, '()')
+
+
+def export(tokens, at):
+    """Has a function for C, whose `extern` stands here, take each slice as a pointer and a length."""
+    opening = next(i for i in range(at, len(tokens)) if tokens[i].text == '(')
+    last = group(tokens, opening)
+    body = next(i for i in range(last, len(tokens)) if tokens[i].text == '{')
+    breaks = [opening] + [i for i in range(opening, last) if tokens[i].text == ',' and not inside(tokens, opening + 1, i)] + [last]
+    lines = []
+    for start, end in zip(breaks[-2::-1], breaks[:0:-1]):
+        places = [i for i in range(start + 1, end) if tokens[i].kind not in ('space', 'comment', 'doc')]
+        words = [tokens[i].text for i in places]
+        if '[' not in words:
+            continue
+        name, bracket = words[0], words.index('[')
+        borrow = [w for w in words[2:bracket] if not w.startswith("'")]
+        if words[1] != ':' or borrow not in (['&'], ['&', 'mut']) or words[-1] != ']':
+            raise Refused(f'a parameter of a function for C that is {" ".join(words)}')
+        unit = ''.join(t.text for t in tokens[places[bracket] + 1:places[-1]])
+        pointer, made = ('*mut', 'slice_mut') if 'mut' in borrow else ('*const', 'slice')
+        between = tokens[opening + 1].text if tokens[opening + 1].kind == 'space' else ' '
+        lines.insert(0, f'\n    // SAFETY: so the header has it.\n    let {name} = unsafe {{ crate::slices::{made}({name}, {name}_length) }};')
+        tokens[places[0]:places[-1] + 1] = [Token('put', f'{name}: {pointer} {unit},{between}{name}_length: usize', tokens[start].at)]
+        body += places[0] - places[-1]
+    if lines:
+        tokens.insert(body + 1, Token('put', ''.join(lines), tokens[body].at))
+        tokens[at] = Token('put', 'unsafe extern', tokens[at].at)
+
+
+def inside(tokens, first, at):
+    """Whether a bracket that opens behind the one place is still open at the other."""
+    texts = [t.text for t in tokens[first:at] if t.kind == 'mark']
+    return any(texts.count(a) != texts.count(b) for a, b in ('()', '[]', '<>'))
 
 
 def last_arm(tokens, at):
@@ -616,6 +670,13 @@ def type_of(path, known, types):
     return found
 
 
+def in_export(words, at):
+    """Whether a word stands in the head of a function for C or makes a slice of its, which are written in one way. Strings are no words here."""
+    starts = [at - back for back in (2, 8, 9) if at >= back and words[at - back:at - back + 8] == EXPORTED[:8]]
+    return (any([w for w in words[start + 8:start + 11] if w != 'unsafe'][:2] == ['extern', 'fn'] for start in starts)
+            or words[at:at + 6] == 'unsafe { crate :: slices ::'.split())
+
+
 def allowed(text, functions, types, crate):
     """Refuses what is not known in a file as it would be written."""
     refused, macros = (TEST_REFUSED, TEST_MACROS) if crate.tests else (REFUSED, MACROS)
@@ -627,7 +688,7 @@ def allowed(text, functions, types, crate):
         if token.kind != 'word':
             continue
         before, after = words[i - 1] if i else '', words[i + 1]
-        if word in refused and words[i:i + 2] != ['extern', 'crate']:
+        if word in refused and words[i:i + 2] != ['extern', 'crate'] and not (crate.exports and in_export(words, i)):
             raise Refused(f'the word {word}')
         if word == 'Formatter' and words[i + 1:i + 4] != ['<', "'_", '>']:
             raise Refused('a Formatter that rule 1 does not have')
@@ -639,7 +700,7 @@ def allowed(text, functions, types, crate):
             continue
         if word == 'size_of' and words[i - 2:i] != ['!', '(']:
             raise Refused('a size outside a prove!, where Rust has another one')
-        in_attribute = before == '[' and words[i - 2] in '#!'
+        in_attribute = before == '[' and words[i - 2] in '#!' or words[i - 2:i + 1] == ['cfg_attr', '(', 'not']
         if after == '(' and not in_attribute and before not in ('.', '::', 'fn', 'pub') and not word[0].isupper() and word not in functions | KEYWORDS | CALLED:
             raise Refused(f'the call {word}')
         if before == '.' and after == '(' and word not in functions | STD_METHODS:
@@ -669,7 +730,7 @@ def sources(crate):
             path = os.path.relpath(os.path.join(folder, name), top)
             if not path.endswith('.rt'):
                 raise SystemExit(f'to_rust.py: {crate.source}/{path}: no source')
-            if path[:-3] not in crate.omitted:
+            if not crate.omits(path[:-3]):
                 with open(os.path.join(folder, name), encoding='utf-8') as file:
                     found[path[:-3]] = file.read()
     return found

@@ -7,7 +7,7 @@ use crate::packed::PackedNumber;
 
 /// What a reader found in a text: each part that stood there, and `None` for each part that did not.
 #[derive(Debug, PartialEq)]
-#[non_exhaustive]
+#[cfg_attr(not(feature = "open-records"), non_exhaustive)]
 pub struct IxdtfParseRecord<'a, T: EncodingType> {
     /// The calendar date (`full-date` of RFC 3339, section 5.6, or one of its forms in ISO 8601).
     pub date: Option<DateRecord>,
@@ -64,7 +64,7 @@ pub struct TimeRecord {
 
 /// A time zone in brackets, as `[!Europe/Paris]` (`time-zone` of RFC 9557, section 4.1).
 #[derive(Clone, Debug, PartialEq)]
-#[non_exhaustive]
+#[cfg_attr(not(feature = "open-records"), non_exhaustive)]
 pub struct TimeZoneAnnotation<'a, T: EncodingType> {
     /// Whether a `!` stands right after the opening bracket (`critical-flag`): who uses the text must then heed the zone,
     /// or refuse the text.
@@ -75,7 +75,7 @@ pub struct TimeZoneAnnotation<'a, T: EncodingType> {
 
 /// An annotation in brackets, as `[!u-ca=hebrew]` (`suffix-tag` of RFC 9557, section 4.1).
 #[derive(Clone, Debug, PartialEq)]
-#[non_exhaustive]
+#[cfg_attr(not(feature = "open-records"), non_exhaustive)]
 pub struct Annotation<'a, T: EncodingType> {
     /// Whether a `!` stands right after the opening bracket (`critical-flag`): who uses the text must then heed the
     /// annotation, or refuse the text.
