@@ -140,7 +140,7 @@ STD_METHODS = set('get len is_ascii_digit is_ascii_alphabetic is_ascii_lowercase
                   ' chars len_utf8 is_control encode_utf8'.split())
 # methods of the iterators over the characters of a text, and the heads of what they give
 ON_CHARACTERS = {('Chars', 'take'): 'Chars', ('Chars', 'skip'): 'Chars', ('Chars', 'count'): 'usize'}
-OWN_PATHS = {'self', 'crate', 'Self', 'T', 'C', 'E', 'L'}
+OWN_PATHS = {'self', 'crate', 'Self'}
 HIDDEN = '# [ doc ( hidden ) ] pub fn'.split()
 # hidden, and called by crates above the library too
 CALLED_FROM_ABOVE = {'of_parts'}
@@ -682,6 +682,9 @@ def allowed(text, functions, types, crate):
     refused, macros = (TEST_REFUSED, TEST_MACROS) if crate.tests else (REFUSED, MACROS)
     tokens = solid_tokens(text)
     words = [t.text for t in tokens] + [''] * 8
+    # the parameters of the file that are of a trait of the crates' own
+    own = OWN_PATHS | {words[i] for i in range(1, len(tokens)) if words[i - 1] in ('<', ',', 'where', ')') and len(words[i]) == 1
+                       and words[i + 1] == ':' and words[i + 2] in types}
     for i, (token, word) in enumerate(zip(tokens, words)):
         if token.kind in ('clause', 'ghost'):
             raise Refused('something ghost stayed')
@@ -713,7 +716,7 @@ def allowed(text, functions, types, crate):
                 path += ''.join(words[i + 1:words.index('}', i) + 1])
             if path not in STD_PATHS:
                 raise Refused(f'the path {path}')
-        elif after == '::' and before != '::' and word not in types | OWN_PATHS:
+        elif after == '::' and before != '::' and word not in types | own:
             path = word
             while words[i + 1] == '::':
                 path, i = f'{path}::{words[i + 2]}', i + 2
