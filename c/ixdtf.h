@@ -234,9 +234,16 @@ typedef struct ixdtf_duration {
 
 /* Initial values of one: ixdtf_record record = IXDTF_RECORD; of an array each place is set, since
  * `ixdtf_annotation list[8] = { IXDTF_ANNOTATION }` sets the first alone: ixdtf_set_annotations. */
+#ifdef __cplusplus
+#define IXDTF_AT_(type, text) reinterpret_cast<const type *>(text)
+#define IXDTF_AS_(type, value) static_cast<type>(value)
+#else
+#define IXDTF_AT_(type, text) ((const type *)(text))
+#define IXDTF_AS_(type, value) ((type)(value))
+#endif
 #define IXDTF_NO_TEXT_ { "", 0 }
-#define IXDTF_NO_UNITS_ { (const uint8_t *)"", 0 }
-#define IXDTF16_NO_UNITS_ { (const uint16_t *)L"", 0 }
+#define IXDTF_NO_UNITS_ { IXDTF_AT_(uint8_t, ""), 0 }
+#define IXDTF16_NO_UNITS_ { IXDTF_AT_(uint16_t, L""), 0 }
 #define IXDTF_DATE_ { 0, 0, 0, false }
 #define IXDTF_TIME_ { 0, 0, 0, 0, 0, false }
 #define IXDTF_OFFSET_ { 0, 0, 0, false, 0, 0, 0 }
@@ -439,9 +446,10 @@ static inline const char *ixdtf_error_name(uint32_t error) {
         IXDTF_NAMED_(IXDTF_INVALID_MONTH_DAY);
         IXDTF_NAMED_(IXDTF_NOT_PRINTABLE);
         IXDTF_NAMED_(IXDTF_TOO_SHORT);
+    default:
+        return "";
     }
 #undef IXDTF_NAMED_
-    return "";
 }
 
 /* The text of an error, as "Invalid character while parsing month value.": that of
@@ -544,8 +552,9 @@ static inline const char *ixdtf_error_message(uint32_t error) {
         return "No text stands for the record.";
     case IXDTF_TOO_SHORT:
         return "There is less room than the text takes.";
+    default:
+        return "";
     }
-    return "";
 }
 
 /* The nanoseconds of a fraction of a second, cut behind the ninth digit; 0 where `digits` is 0. */
@@ -560,7 +569,7 @@ static inline uint32_t ixdtf_nanoseconds(uint64_t fraction, uint8_t digits) {
     for (; known > 9; known--) {
         fraction /= 10;
     }
-    return (uint32_t)fraction;
+    return IXDTF_AS_(uint32_t, fraction);
 }
 
 /* How many seconds local time is ahead of UTC, cut to whole ones; 0 of Z and of no offset. */
@@ -589,10 +598,10 @@ static inline void ixdtf16_keep_calendar(ixdtf16_record *record, const ixdtf16_c
 
 /* The place of the error of a refused reply: behind the bracket of its annotation of the list. */
 static inline size_t ixdtf_reply_place(const uint8_t *text, const ixdtf_annotation *listed) {
-    return (size_t)(listed->value.at + listed->value.length - text) + 1;
+    return IXDTF_AS_(size_t, listed->value.at + listed->value.length - text) + 1;
 }
 static inline size_t ixdtf16_reply_place(const uint16_t *text, const ixdtf16_annotation *listed) {
-    return (size_t)(listed->value.at + listed->value.length - text) + 1;
+    return IXDTF_AS_(size_t, listed->value.at + listed->value.length - text) + 1;
 }
 
 /* Sets each place of an array to the initial value. */
