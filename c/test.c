@@ -283,6 +283,7 @@ static void test_errors(void) {
         check(error_rows[i].number == i + 1, "errors are numbered in order");
         ixdtf_error_text(error_rows[i].number, &text);
         check(text.length == strlen(error_rows[i].text) && !memcmp(text.at, error_rows[i].text, text.length), "the text of an error");
+        check(!strcmp(ixdtf_error_message(error_rows[i].number), error_rows[i].text), "the message of an error is its text");
     }
     row_shown = "";
     for (i = 0; i < COUNT(others); i++) {
@@ -291,7 +292,41 @@ static void test_errors(void) {
         text.length = 4;
         ixdtf_error_text(others[i], &text);
         check(text.length == 0 && text.at != NULL, "another number has the empty text");
+        check((ixdtf_error_message(others[i])[0] != 0) == (others[i] == 101 || others[i] == 102), "what printing returns has a message, and no other number");
+        check(!strcmp(ixdtf_error_name(others[i]), others[i] == 0 ? "IXDTF_OK" : others[i] == 101 ? "IXDTF_NOT_PRINTABLE"
+                      : others[i] == 102 ? "IXDTF_TOO_SHORT" : ""), "another number has no name, but for those that are named");
     }
+}
+
+/* The functions of the header on fractions and offsets. */
+static void test_functions(void) {
+    static const struct { uint64_t fraction; uint8_t digits; uint32_t nanoseconds; } fractions[] = {
+        { 0, 0, 0 }, { UINT64_MAX, 0, 0 }, { 5, 1, 500000000 }, { 0, 1, 0 }, { 250, 3, 250000000 }, { 1, 9, 1 }, { 987654321, 9, 987654321 },
+        { 9876543219, 10, 987654321 }, { 1, 10, 0 }, { 123456789987654321, 18, 123456789 }, { 999999999999999999, 18, 999999999 },
+        { 123456789987654321, 19, 123456789 }, { 999999999999999999, 255, 999999999 }, { 1, 18, 0 }, { 0, 255, 0 },
+    };
+    static const struct { const char *text; int32_t seconds; } offsets[] = {
+        { "+00:00", 0 }, { "-00:00", 0 }, { "+05:30", 19800 }, { "-05:00", -18000 }, { "+23:59:59.999", 86399 }, { "-23:59:59.999", -86399 },
+        { "-00:00:01", -1 }, { "+0530", 19800 }, { "-12", -43200 }, { "-00:00:00.5", 0 },
+    };
+    size_t i;
+    ixdtf_record record = narrow_used_record();
+    for (i = 0; i < COUNT(fractions); i++) {
+        check(ixdtf_nanoseconds(fractions[i].fraction, fractions[i].digits) == fractions[i].nanoseconds, "the nanoseconds of a fraction");
+    }
+    record.offset.form = IXDTF_NO_OFFSET;
+    check(ixdtf_offset_seconds(&record.offset) == 0, "no offset has no seconds");
+    record.offset.form = IXDTF_UTC;
+    check(ixdtf_offset_seconds(&record.offset) == 0, "Z has no seconds");
+    record.offset.form = IXDTF_MINUTES;
+    check(ixdtf_offset_seconds(&record.offset) == -(11 * 3600 + 22 * 60), "an offset in minutes has no seconds of its own");
+    for (i = 0; i < COUNT(offsets); i++) {
+        row_shown = offsets[i].text;
+        check(ixdtf_parse_offset((const uint8_t *)offsets[i].text, strlen(offsets[i].text), &record) == IXDTF_OK
+                && ixdtf_offset_seconds(&record.offset) == offsets[i].seconds,
+            "the seconds of an offset");
+    }
+    row_shown = "";
 }
 
 /* Each line of tools/places.tsv, in its width, and where its units are letters of both in both. */
@@ -321,34 +356,37 @@ static void test_places(const char *path) {
 
 /* The numbers of the header beside the variants, each written out once more. */
 static void test_numbers(void) {
-    static const struct { uint32_t number; const char *name; } named[] = {
-        { IXDTF_IMPL_ASSERT, "ImplAssert" }, { IXDTF_NON_ASCII_CODE_POINT, "NonAsciiCodePoint" }, { IXDTF_PARSE_FLOAT, "ParseFloat" },
-        { IXDTF_ABRUPT_END, "AbruptEnd" }, { IXDTF_INVALID_END, "InvalidEnd" }, { IXDTF_INVALID_MONTH_RANGE, "InvalidMonthRange" },
-        { IXDTF_INVALID_DAY_RANGE, "InvalidDayRange" }, { IXDTF_DATE_YEAR, "DateYear" }, { IXDTF_DATE_EXTENDED_YEAR, "DateExtendedYear" },
-        { IXDTF_DATE_MONTH, "DateMonth" }, { IXDTF_DATE_DAY, "DateDay" }, { IXDTF_DATE_UNEXPECTED_END, "DateUnexpectedEnd" },
-        { IXDTF_TIME_REQUIRED, "TimeRequired" }, { IXDTF_TIME_HOUR, "TimeHour" }, { IXDTF_TIME_MINUTE_SECOND, "TimeMinuteSecond" },
-        { IXDTF_TIME_SECOND, "TimeSecond" }, { IXDTF_FRACTION_PART, "FractionPart" }, { IXDTF_DATE_SEPARATOR, "DateSeparator" },
-        { IXDTF_TIME_SEPARATOR, "TimeSeparator" }, { IXDTF_DECIMAL_SEPARATOR, "DecimalSeparator" },
-        { IXDTF_INVALID_ANNOTATION, "InvalidAnnotation" }, { IXDTF_ANNOTATION_OPEN, "AnnotationOpen" },
-        { IXDTF_ANNOTATION_CLOSE, "AnnotationClose" }, { IXDTF_ANNOTATION_CHAR, "AnnotationChar" },
-        { IXDTF_ANNOTATION_KEY_VALUE_SEPARATOR, "AnnotationKeyValueSeparator" },
-        { IXDTF_ANNOTATION_KEY_LEADING_CHAR, "AnnotationKeyLeadingChar" }, { IXDTF_ANNOTATION_KEY_CHAR, "AnnotationKeyChar" },
-        { IXDTF_ANNOTATION_VALUE_CHAR_POST_HYPHEN, "AnnotationValueCharPostHyphen" }, { IXDTF_ANNOTATION_VALUE_CHAR, "AnnotationValueChar" },
-        { IXDTF_INVALID_MINUTE_PRECISION_OFFSET, "InvalidMinutePrecisionOffset" },
-        { IXDTF_CRITICAL_DUPLICATE_CALENDAR, "CriticalDuplicateCalendar" }, { IXDTF_UNRECOGNIZED_CRITICAL, "UnrecognizedCritical" },
-        { IXDTF_TZ_LEADING_CHAR, "TzLeadingChar" }, { IXDTF_IANA_CHAR_POST_SEPARATOR, "IanaCharPostSeparator" }, { IXDTF_IANA_CHAR, "IanaChar" },
-        { IXDTF_UTC_TIME_SEPARATOR, "UtcTimeSeparator" }, { IXDTF_OFFSET_NEEDS_SIGN, "OffsetNeedsSign" },
-        { IXDTF_MONTH_DAY_HYPHEN, "MonthDayHyphen" }, { IXDTF_DURATION_DISGNATOR, "DurationDisgnator" },
-        { IXDTF_DURATION_VALUE_EXCEEDED_RANGE, "DurationValueExceededRange" }, { IXDTF_DATE_DURATION_PART_ORDER, "DateDurationPartOrder" },
-        { IXDTF_TIME_DURATION_PART_ORDER, "TimeDurationPartOrder" }, { IXDTF_TIME_DURATION_DESIGNATOR, "TimeDurationDesignator" },
-        { IXDTF_AMBIGUOUS_TIME_MONTH_DAY, "AmbiguousTimeMonthDay" }, { IXDTF_AMBIGUOUS_TIME_YEAR_MONTH, "AmbiguousTimeYearMonth" },
-        { IXDTF_INVALID_MONTH_DAY, "InvalidMonthDay" },
+#define NAMED(number, variant) { number, variant, #number }
+    static const struct { uint32_t number; const char *variant, *name; } named[] = {
+        NAMED(IXDTF_IMPL_ASSERT, "ImplAssert"), NAMED(IXDTF_NON_ASCII_CODE_POINT, "NonAsciiCodePoint"), NAMED(IXDTF_PARSE_FLOAT, "ParseFloat"),
+        NAMED(IXDTF_ABRUPT_END, "AbruptEnd"), NAMED(IXDTF_INVALID_END, "InvalidEnd"), NAMED(IXDTF_INVALID_MONTH_RANGE, "InvalidMonthRange"),
+        NAMED(IXDTF_INVALID_DAY_RANGE, "InvalidDayRange"), NAMED(IXDTF_DATE_YEAR, "DateYear"), NAMED(IXDTF_DATE_EXTENDED_YEAR, "DateExtendedYear"),
+        NAMED(IXDTF_DATE_MONTH, "DateMonth"), NAMED(IXDTF_DATE_DAY, "DateDay"), NAMED(IXDTF_DATE_UNEXPECTED_END, "DateUnexpectedEnd"),
+        NAMED(IXDTF_TIME_REQUIRED, "TimeRequired"), NAMED(IXDTF_TIME_HOUR, "TimeHour"), NAMED(IXDTF_TIME_MINUTE_SECOND, "TimeMinuteSecond"),
+        NAMED(IXDTF_TIME_SECOND, "TimeSecond"), NAMED(IXDTF_FRACTION_PART, "FractionPart"), NAMED(IXDTF_DATE_SEPARATOR, "DateSeparator"),
+        NAMED(IXDTF_TIME_SEPARATOR, "TimeSeparator"), NAMED(IXDTF_DECIMAL_SEPARATOR, "DecimalSeparator"),
+        NAMED(IXDTF_INVALID_ANNOTATION, "InvalidAnnotation"), NAMED(IXDTF_ANNOTATION_OPEN, "AnnotationOpen"),
+        NAMED(IXDTF_ANNOTATION_CLOSE, "AnnotationClose"), NAMED(IXDTF_ANNOTATION_CHAR, "AnnotationChar"),
+        NAMED(IXDTF_ANNOTATION_KEY_VALUE_SEPARATOR, "AnnotationKeyValueSeparator"),
+        NAMED(IXDTF_ANNOTATION_KEY_LEADING_CHAR, "AnnotationKeyLeadingChar"), NAMED(IXDTF_ANNOTATION_KEY_CHAR, "AnnotationKeyChar"),
+        NAMED(IXDTF_ANNOTATION_VALUE_CHAR_POST_HYPHEN, "AnnotationValueCharPostHyphen"), NAMED(IXDTF_ANNOTATION_VALUE_CHAR, "AnnotationValueChar"),
+        NAMED(IXDTF_INVALID_MINUTE_PRECISION_OFFSET, "InvalidMinutePrecisionOffset"),
+        NAMED(IXDTF_CRITICAL_DUPLICATE_CALENDAR, "CriticalDuplicateCalendar"), NAMED(IXDTF_UNRECOGNIZED_CRITICAL, "UnrecognizedCritical"),
+        NAMED(IXDTF_TZ_LEADING_CHAR, "TzLeadingChar"), NAMED(IXDTF_IANA_CHAR_POST_SEPARATOR, "IanaCharPostSeparator"), NAMED(IXDTF_IANA_CHAR, "IanaChar"),
+        NAMED(IXDTF_UTC_TIME_SEPARATOR, "UtcTimeSeparator"), NAMED(IXDTF_OFFSET_NEEDS_SIGN, "OffsetNeedsSign"),
+        NAMED(IXDTF_MONTH_DAY_HYPHEN, "MonthDayHyphen"), NAMED(IXDTF_DURATION_DISGNATOR, "DurationDisgnator"),
+        NAMED(IXDTF_DURATION_VALUE_EXCEEDED_RANGE, "DurationValueExceededRange"), NAMED(IXDTF_DATE_DURATION_PART_ORDER, "DateDurationPartOrder"),
+        NAMED(IXDTF_TIME_DURATION_PART_ORDER, "TimeDurationPartOrder"), NAMED(IXDTF_TIME_DURATION_DESIGNATOR, "TimeDurationDesignator"),
+        NAMED(IXDTF_AMBIGUOUS_TIME_MONTH_DAY, "AmbiguousTimeMonthDay"), NAMED(IXDTF_AMBIGUOUS_TIME_YEAR_MONTH, "AmbiguousTimeYearMonth"),
+        NAMED(IXDTF_INVALID_MONTH_DAY, "InvalidMonthDay"),
     };
+#undef NAMED
     size_t i;
     check(COUNT(named) == COUNT(error_rows), "each error is named");
     for (i = 0; i < COUNT(named); i++) {
         row_shown = named[i].name;
-        check(named[i].number == error_rows[i].number && !strcmp(named[i].name, error_rows[i].name), "the number of an error");
+        check(named[i].number == error_rows[i].number && !strcmp(named[i].variant, error_rows[i].name), "the number of an error");
+        check(!strcmp(ixdtf_error_name(named[i].number), named[i].name), "the name of an error");
     }
     row_shown = "";
     check(ixdtf_interface_version() == IXDTF_INTERFACE_VERSION, "the library has the version of the header");
@@ -414,7 +452,33 @@ static void test_printed(const ixdtf_record *record, uint32_t wanted, const char
         }
         check(places == ROOM || out[-1] == 0xa5, "nothing before the bytes is written");
     }
+    check(ixdtf_printed_length(record) == length, "the length of what is printed, and 0 where nothing is");
     check(narrow_same_but_error(&before, record) && same_text(before.location, record->location) && before.place == record->place, "a record that is printed stays");
+}
+
+/* A calendar that was kept is printed with the record, and a place for one that was not has none. */
+static void test_kept_calendar(void) {
+    static const char *text = "2024-03-02T08:48[!u-ca=hebrew][a=b]";
+    ixdtf_annotation list[8];
+    ixdtf_calendar calendar = IXDTF_CALENDAR;
+    ixdtf_record record = IXDTF_RECORD;
+    size_t count = 0, i;
+    memset(list, 0xa5, sizeof list);
+    ixdtf_set_annotations(list, 7);
+    for (i = 0; i < 7; i++) {
+        check(list[i].key.at != NULL && list[i].key.length == 0 && list[i].value.at != NULL && list[i].value.length == 0 && !list[i].is_critical,
+            "each place is set");
+    }
+    check(list[7].key.length != 0, "no other place is set");
+    check(ixdtf_parse_with_annotations((const uint8_t *)text, strlen(text), list, 7, &count, &record) == IXDTF_OK && count == 2, "a text with a calendar");
+    ixdtf_keep_calendar(&record, &calendar);
+    test_printed(&record, IXDTF_OK, "2024-03-02T08:48:00");
+    check(ixdtf_reply(&calendar, &list[0]) == IXDTF_OK && ixdtf_reply(&calendar, &list[1]) == IXDTF_OK, "replies that are taken");
+    ixdtf_keep_calendar(&record, &calendar);
+    test_printed(&record, IXDTF_OK, "2024-03-02T08:48:00[u-ca=hebrew]");
+    calendar.is_there = false;
+    ixdtf_keep_calendar(&record, &calendar);
+    check(!record.has_calendar && record.calendar.length == 0 && record.calendar.at != NULL, "no calendar has no units");
 }
 
 /* Texts and their canonical texts, written out by the rules of docs/GRAMMAR.md. */
@@ -564,11 +628,13 @@ int main(int count, char **arguments) {
     make_room();
     test_numbers();
     test_errors();
+    test_functions();
     test_layout();
     narrow_test_all();
     wide_test_all();
     test_places(arguments[1]);
     test_canonical();
+    test_kept_calendar();
     test_read_back();
     test_by_hand();
     test_met();

@@ -309,10 +309,7 @@ static void OWN(test_handler)(const struct handler_row *row) {
     CALL(calendar) calendar = NEW_CALENDAR;
     ixdtf_duration duration = IXDTF_DURATION;
     uint32_t error, refused = 0;
-    for (i = 0; i < 64; i++) {
-        CALL(annotation) none = NEW_ANNOTATION;
-        list[i] = none;
-    }
+    CALL(set_annotations)(list, 64);
     found = OWN(test_listing)(row, text, length);
     error = OWN(list)(row->reader, 0, text, length, list, 64, &count, &record);
     check(count == found, "the count is always the same");
@@ -339,11 +336,11 @@ static void OWN(test_handler)(const struct handler_row *row) {
         ixdtf_text nothing = IXDTF_TEXT;
         error = refused;
         record.location = nothing;
-        record.place = (size_t)(list[i - 1].value.at + list[i - 1].value.length + 1 - text);
+        record.place = CALL(reply_place)(text, &list[i - 1]);
     } else if (error == 0) {
         check(!record.has_calendar, "a reader that lists keeps no calendar");
-        record.has_calendar = calendar.is_there;
-        record.calendar = calendar.value;
+        CALL(keep_calendar)(&record, &calendar);
+        check(calendar.is_there || record.calendar.length == 0, "no calendar has no units");
     }
     OWN(show_outcome)(&line, row->reader, error, &record, &duration);
     is(line.text, row->answer, row->handler, row->text);

@@ -11,7 +11,8 @@ import unittest
 TOP = os.path.abspath(os.path.join(os.path.dirname(os.path.abspath(__file__)), '..'))
 PAIRS = [('crates/ixdtf/src', 'rust/ixdtf/src'), ('crates/ixdtf_tests/src', 'rust/ixdtf/src'),
          ('crates/ixdtf_callers/src', 'rust/ixdtf/src'),
-         ('crates/ixdtf_print/src', 'rust/ixdtf_print/src'), ('crates/ixdtf_lines/src', 'rust/ixdtf_lines/src')]
+         ('crates/ixdtf_print/src', 'rust/ixdtf_print/src'), ('crates/ixdtf_lines/src', 'rust/ixdtf_lines/src'),
+         ('crates/ixdtf_c/src', 'rust/ixdtf_c/src')]
 # the layers of the library, whose modules stand at the root of the made crate, or else in `parsers`
 LAYERS = ['grammar', 'reading', 'times', 'brackets', 'durations']
 AT_THE_ROOT = {'encoding', 'error', 'located', 'packed', 'pointed', 'records', 'cursor', 'stop'}
@@ -19,9 +20,9 @@ PAIRS += [(f'crates/ixdtf_{layer}/src', 'rust/ixdtf/src') for layer in LAYERS]
 
 
 # crates whose root file is made
-WITH_ROOTS = {'crates/ixdtf/src', 'crates/ixdtf_print/src', 'crates/ixdtf_lines/src'}
+WITH_ROOTS = {'crates/ixdtf/src', 'crates/ixdtf_print/src', 'crates/ixdtf_lines/src', 'crates/ixdtf_c/src'}
 # files of the made crates that are written by hand, by their modules
-BY_HAND = {'main', 'tests/printing'}
+BY_HAND = {'main', 'tests/printing', 'abort', 'slices'}
 
 
 def tokens_of(text):
@@ -101,7 +102,7 @@ def phrase(text):
 
 
 REMOVED = [phrase(t) for t in ['#![tactic(auto)]', '#[rattlefmt::skip]', 'use std::marker::Model;', '#[derive(Drop)]', 'pub mod laws;', 'mod laws;',
-                               '#[cfg(test)]', 'pub use laws::{canonical_fits, canonical_is_read_back};', 'use ixdtf_print::canonical_fits;', 'canonical_fits();', 'use crate::looks::Looks;', 'looks: Looks,', 'looks: Looks::none(),', 'self.looks.tick();',
+                               '#[cfg(test)] mod tests;', '#[cfg(test)]', 'pub mod turns;', 'pub use laws::{canonical_fits, canonical_is_read_back};', 'use ixdtf_print::canonical_fits;', 'canonical_fits();', 'use crate::looks::Looks;', 'looks: Looks,', 'looks: Looks::none(),', 'self.looks.tick();',
                                'looks: std::mem::replace(&mut self.looks, Looks::none()),', 'self.count(here);', 'self.cursor.count(here);',
                                'cursor.count(again);', '#[inline(always)] pub fn count(&mut self, here: Self) { self.looks = here.looks; }',
                                'impl PartialEq for LocatedError { fn eq(&self, other: &LocatedError) -> bool { self.at == other.at && self.error == other.error } }',
@@ -119,7 +120,9 @@ CHANGED = [(phrase(a), phrase(b)) for a, b in [
     ('use std::alloc::Global;', 'use crate::runtime::Global;')]]
 ADDED = [phrase(t) for t in [
     'pub type ParserResult<T> = Result<T, ParseError>;',
-    '#[non_exhaustive]', '#[repr(i8)]', '#![no_std]', '#![cfg_attr(not(test), no_std)]', '#![forbid(unsafe_code)]', '#[derive(PartialEq)]',
+    '#[non_exhaustive]', '#[cfg_attr(not(feature = "open-records"), non_exhaustive)]', '#[repr(i8)]',
+    '#![cfg_attr(not(test), no_std)] extern crate core as std;', '#[cfg(not(test))] mod abort; mod slices;', 'extern crate core as std;',
+    '#![no_std]', '#![cfg_attr(not(test), no_std)]', '#![forbid(unsafe_code)]', '#[derive(PartialEq)]',
     '#[inline]', '#[must_use]', '#![doc = include_str!("../README.md")]', '#[cfg(test)] extern crate self as ixdtf;', '#[cfg(test)] #[macro_use] mod runtime; #[cfg(test)] mod callers; #[cfg(test)] mod tests;',
     '#[allow(unused_imports)] use crate::runtime::{HostRuntime, TryClone};', 'let rt = HostRuntime;', '_ => unreachable!(),']]
 
@@ -144,8 +147,37 @@ def without_places(words):
     return words if at is None else words[:at] + words[block_end(words, at + 2):]
 
 
+EXPORT = phrase('#[unsafe(no_mangle)] pub extern "C" fn')
+
+
+def with_pointers(words):
+    """The tokens with a pointer and a length in the place of each slice that a function for C takes."""
+    out, at = [], 0
+    while at < len(words):
+        if words[at:at + len(EXPORT)] != EXPORT:
+            out.append(words[at])
+            at += 1
+            continue
+        head = words[at:words.index('{', at) + 1]
+        at += len(head)
+        slices, first = [], len(EXPORT)
+        while '[' in head[first:]:
+            opens = head.index('[', first)
+            first = opens + 1
+            closes, colon = block_end(head, opens) - 1, opens - 1
+            while head[colon] != ':':
+                colon -= 1
+            name, kind = head[colon - 1], 'mut' if 'mut' in head[colon:opens] else 'const'
+            head[colon + 1:closes + 1] = ['*', kind] + head[opens + 1:closes] + [',', f'{name}_length', ':', 'usize']
+            slices += phrase(f'let {name} = unsafe {{ crate::slices::{"slice_mut" if kind == "mut" else "slice"}({name}, {name}_length) }};')
+        if slices:
+            head.insert(8, 'unsafe')
+        out += head + slices
+    return out
+
+
 def as_rust(words):
-    words = without_places(drop_tactics(without_ghosts(words)))
+    words = with_pointers(without_places(drop_tactics(without_ghosts(words))))
     out, at = [], 0
     while at < len(words):
         for old in REMOVED:
@@ -286,6 +318,24 @@ class Refuses(Copied):
             self.assertNotEqual(answer.returncode, 0, new)
             with open(path, 'w', encoding='utf-8') as file:
                 file.write(text)
+
+
+    def test_functions_for_c(self):
+        path = os.path.join(self.top, 'crates/ixdtf_c/src/version.rt')
+        with open(path, encoding='utf-8') as file:
+            text = file.read()
+        for added, refused in [
+                ('#[unsafe(no_mangle)]\npub extern "C" fn added(all: &[u8]) -> usize {\n    all.len()\n}\n', False),
+                ('#[unsafe(no_mangle)]\npub extern "C" fn added(all: Option<&[u8]>) {}\n', True),
+                ('#[unsafe(no_mangle)]\npub extern "C" fn added(all: &[u8]) -> usize {\n    unsafe { all.len() }\n}\n', True),
+                ('#[unsafe(no_mangle)]\npub fn added() {}\n', True),
+                ('pub extern "C" fn added() {}\n', True),
+                ('#[unsafe(no_mangle)]\nstatic ADDED: u8 = 1;\n', True)]:
+            with open(path, 'w', encoding='utf-8') as file:
+                file.write(f'{text}\n{added}')
+            answer = run(self.top)
+            self.assertEqual(answer.returncode != 0, refused, added)
+            self.assertTrue(not refused or 'crates/ixdtf_c/src/version.rt' in answer.stderr, answer.stderr)
 
 
 class Checks(Copied):

@@ -7,7 +7,7 @@ The tokens of the sources are kept in their order. What is removed:
   ghost items    `ghost use ..;`, `ghost NAME = { .. };`, `ghost NAME: { .. };` and `ghost NAME: { .. },`, with their docs
   models         `impl .. Model for .. { .. }` (it has only ghost items), and `Model` in a `use`
   attributes     `#[tactic(..)]`, `#[rattlefmt::skip]`, and `Drop` in a `#[derive(..)]`
-  modules        those that a crate of CRATES omits, which have no code that another module calls, with the `use` of one
+  modules        those that a crate of CRATES omits, with those below them, which have no code that another module calls, with the `use` of one
   phrases        those of UNSEEN, of which contracts alone speak, with the comments that stand right before them: the count of
                  looks at units (with the module `looks` and `Cursor::count`), and calls of laws
 
@@ -28,13 +28,15 @@ What is put in the place of something else, and there is nothing more of it:
   8 calls        `#[must_use]` on each public function of MARKED that takes nothing that changes and returns no result, and is not
                  hidden, and in those of INLINED `#[inline]` too
   9 equality     `impl PartialEq for ..` of DERIVED is `#[derive(PartialEq)]`, and what that impl alone calls is left out
+  10 exports     of a function for C, `#[unsafe(no_mangle)] pub extern "C" fn`, a slice `x: &[T]` is a pointer and a length, as C hands it in,
+                 `x: *const T, x_length: usize`, of which the first line of the body makes the slice (src/slices.rs)
 
 Of a test, besides (TESTS):
 
-  10 runtime     a test takes nothing, and makes the `rt` that the sources hand to it; `HostRuntime`, `Abort`, `Fail`, `Global`,
+  11 runtime     a test takes nothing, and makes the `rt` that the sources hand to it; `HostRuntime`, `Abort`, `Fail`, `Global`,
                  `AllocError`, `String` and the macros with an `rt` or an allocator are those of src/runtime.rs
-  11 clone       `x.clone()` is `x.try_clone()` of src/runtime.rs, since a clone is a result there
-  12 str         `str::from_utf8` is `std::str::from_utf8`, which older compilers have
+  12 clone       `x.clone()` is `x.try_clone()` of src/runtime.rs, since a clone is a result there
+  13 str         `str::from_utf8` is `std::str::from_utf8`, which older compilers have
 
 What is not known here is refused: an attribute, a macro, a keyword, or a name of the standard library that is not listed.
 Whether Rust's and Rattle's name mean the same was looked up once for each listed one. A method of a crate's own that has
@@ -55,6 +57,7 @@ LIBRARY = (README + '#![cfg_attr(not(test), no_std)]\n#![forbid(unsafe_code)]\n\
            '\n#[cfg(test)]\n#[macro_use]\nmod runtime;\n#[cfg(test)]\nmod callers;\n#[cfg(test)]\nmod tests;\n')
 PRINTER = (README + '#![no_std]\n#![forbid(unsafe_code)]\n', '')
 PROGRAM = ('#![forbid(unsafe_code)]\n', '')
+FOR_C = ('#![cfg_attr(not(test), no_std)]\n', '\n#[cfg(not(test))]\nmod abort;\nmod slices;\n')
 
 
 # the layers of the library, and where their modules stand in the crate that is made of all of them
@@ -71,11 +74,12 @@ PLACES = {(layer, place.rpartition('/')[2]): place for layer, places in LAYERS.i
 class Crate:
     """A crate that is made: its sources, its folder, the modules that are left out, the file that is its root, and the head
     and the end of that file. `tests` are made by the rules of tests; a crate `above` stands on the library; a `layer` is a part of it;
-    one `on_core` has no standard library."""
+    one `on_core` has no standard library; a crate that `exports` has calls for C."""
 
-    def __init__(self, source, target, omitted=(), root='lib', ends=('', ''), tests=False, above=False, layer=None):
+    def __init__(self, source, target, omitted=(), root='lib', ends=('', ''), tests=False, above=False, layer=None,
+                 exports=False):
         self.source, self.target, self.omitted, self.root, self.ends = source, target, set(omitted), root, ends
-        self.tests, self.above, self.layer = tests, above, layer
+        self.tests, self.above, self.layer, self.exports = tests, above, layer, exports
         self.on_core = bool(layer) or 'no_std' in ends[0]
 
     def place(self, module):
@@ -85,6 +89,11 @@ class Crate:
         if (self.layer, module) not in PLACES:
             raise SystemExit(f'to_rust.py: {self.source}/{module}.rt: LAYERS has no place for it')
         return PLACES[self.layer, module]
+
+    def omits(self, module):
+        """Whether a module or one above it is left out."""
+        parts = module.split('/')
+        return any('/'.join(parts[:n]) in self.omitted for n in range(1, len(parts) + 1))
 
     def left_out(self, module):
         """The modules that a file of this name declares and that are left out."""
@@ -99,15 +108,22 @@ CRATES = [
     Crate('crates/ixdtf_callers/src', 'rust/ixdtf/src', ['lib'], root='callers', tests=True),
     Crate('crates/ixdtf_tests/src', 'rust/ixdtf/src', ['lib', 'tests/laws', 'tests/printing'], root='tests', tests=True),
     Crate('crates/ixdtf_print/src', 'rust/ixdtf_print/src', ['laws'], ends=PRINTER, above=True),
-    Crate('crates/ixdtf_lines/src', 'rust/ixdtf_lines/src', ['main', 'tests', 'tests/faults', 'tests/words'], root='lines', ends=PROGRAM, above=True),
+    Crate('crates/ixdtf_lines/src', 'rust/ixdtf_lines/src', ['main', 'tests'], root='lines', ends=PROGRAM, above=True),
+    Crate('crates/ixdtf_c/src', 'rust/ixdtf_c/src', ['laws', 'turns', 'tests'], ends=FOR_C, above=True, exports=True),
 ]
-WRITTEN_BY_HAND = {'rust/ixdtf/src/runtime.rs', 'rust/ixdtf/src/tests/printing.rs', 'rust/ixdtf_lines/src/main.rs'}
+WRITTEN_BY_HAND = {'rust/ixdtf/src/runtime.rs', 'rust/ixdtf/src/tests/printing.rs', 'rust/ixdtf_lines/src/main.rs',
+                   'rust/ixdtf_c/src/abort.rs', 'rust/ixdtf_c/src/slices.rs'}
 DERIVES = {'Clone', 'Copy', 'Debug', 'Default', 'PartialEq'}
 KEPT_ATTRIBUTES = {'inline(always)', 'inline(never)', 'cold', 'doc(hidden)'}
 TEST_ATTRIBUTES = {'test', 'cfg(test)'}
+# of a crate that exports calls: a struct and a function as C has them, and such a function's head
+EXPORT_ATTRIBUTES = {'repr(C)', 'unsafe(no_mangle)'}
+EXPORTED = '# [ unsafe ( no_mangle ) ] pub extern "C" fn'.split()
+# the library for C makes records of their fields
+OPEN_FOR_C = '#[cfg_attr(not(feature = "open-records"), non_exhaustive)]'
 ADDED = {
-    ('records', 'IxdtfParseRecord'): '#[non_exhaustive]', ('records', 'Annotation'): '#[non_exhaustive]',
-    ('records', 'TimeZoneAnnotation'): '#[non_exhaustive]', ('records', 'TimeZoneRecord'): '#[non_exhaustive]',
+    ('records', 'IxdtfParseRecord'): OPEN_FOR_C, ('records', 'Annotation'): OPEN_FOR_C,
+    ('records', 'TimeZoneAnnotation'): OPEN_FOR_C, ('records', 'TimeZoneRecord'): '#[non_exhaustive]',
     ('records', 'UtcOffsetRecord'): '#[non_exhaustive]', ('error', 'ParseError'): '#[non_exhaustive]',
     ('records', 'Sign'): '#[repr(i8)]',
 }
@@ -273,7 +289,7 @@ def attribute(tokens, at, crate):
     names = arguments.rstrip(')').split(', ')
     if name == 'tactic' and arguments:
         return gone(tokens, at, last)
-    if crate.tests and text == 'cfg(test)':
+    if text == 'cfg(test)' and (crate.tests or is_here(tokens, solid(tokens, last + 1), 0, ['mod', 'tests', ';']) and crate.omits('tests')):
         return gone(tokens, at, last)
     if inner:
         raise Refused(f'the attribute {text}')
@@ -284,7 +300,8 @@ def attribute(tokens, at, crate):
         if not DERIVES.issuperset(kept):
             raise Refused(f'the attribute {text}')
         return put(tokens, at, last, f'#[derive({", ".join(kept)})]') if kept else gone(tokens, at, last)
-    if text not in (KEPT_ATTRIBUTES | TEST_ATTRIBUTES if crate.tests else KEPT_ATTRIBUTES):
+    kept = KEPT_ATTRIBUTES | (TEST_ATTRIBUTES if crate.tests else set()) | (EXPORT_ATTRIBUTES if crate.exports else set())
+    if text not in kept or text == 'unsafe(no_mangle)' and tokens[solid(tokens, last + 1)[2]].text != '"C"':
         raise Refused(f'the attribute {text}')
 
 
@@ -308,6 +325,9 @@ def rewrite(tokens, module, crate):
             unseen(tokens, at, group(tokens, next(i for i in range(at, len(tokens)) if tokens[i].text == '{')))
         elif crate.layer and is_here(tokens, places, 0, HIDDEN) and tokens[places[9]].text not in CALLED_FROM_ABOVE:
             put(tokens, at, places[7], 'pub(crate)')
+        elif crate.exports and is_here(tokens, places, 0, EXPORTED):
+            export(tokens, places[8])
+            attribute(tokens, at, crate)
         elif token.kind == 'mark' and token.text == '#':
             attribute(tokens, at, crate)
         elif token.kind == 'word' and (token.text in LAYERS or token.text == 'crate' and crate.layer) and tokens[at + 1].text == '::':
@@ -454,6 +474,39 @@ def test_head(tokens, at, places):
     if named:
         tokens[opening] = Token('put', '{\n    let rt = HostRuntime;', tokens[opening].at)
     put(tokens, first, last, '()')
+
+
+def export(tokens, at):
+    """Has a function for C, whose `extern` stands here, take each slice as a pointer and a length."""
+    opening = next(i for i in range(at, len(tokens)) if tokens[i].text == '(')
+    last = group(tokens, opening)
+    body = next(i for i in range(last, len(tokens)) if tokens[i].text == '{')
+    breaks = [opening] + [i for i in range(opening, last) if tokens[i].text == ',' and not inside(tokens, opening + 1, i)] + [last]
+    lines = []
+    for start, end in zip(breaks[-2::-1], breaks[:0:-1]):
+        places = [i for i in range(start + 1, end) if tokens[i].kind not in ('space', 'comment', 'doc')]
+        words = [tokens[i].text for i in places]
+        if '[' not in words:
+            continue
+        name, bracket = words[0], words.index('[')
+        borrow = [w for w in words[2:bracket] if not w.startswith("'")]
+        if words[1] != ':' or borrow not in (['&'], ['&', 'mut']) or words[-1] != ']':
+            raise Refused(f'a parameter of a function for C that is {" ".join(words)}')
+        unit = ''.join(t.text for t in tokens[places[bracket] + 1:places[-1]])
+        pointer, made = ('*mut', 'slice_mut') if 'mut' in borrow else ('*const', 'slice')
+        between = tokens[opening + 1].text if tokens[opening + 1].kind == 'space' else ' '
+        lines.insert(0, f'\n    // SAFETY: so the header has it.\n    let {name} = unsafe {{ crate::slices::{made}({name}, {name}_length) }};')
+        tokens[places[0]:places[-1] + 1] = [Token('put', f'{name}: {pointer} {unit},{between}{name}_length: usize', tokens[start].at)]
+        body += places[0] - places[-1]
+    if lines:
+        tokens.insert(body + 1, Token('put', ''.join(lines), tokens[body].at))
+        tokens[at] = Token('put', 'unsafe extern', tokens[at].at)
+
+
+def inside(tokens, first, at):
+    """Whether a bracket that opens behind the one place is still open at the other."""
+    texts = [t.text for t in tokens[first:at] if t.kind == 'mark']
+    return any(texts.count(a) != texts.count(b) for a, b in ('()', '[]', '<>'))
 
 
 def last_arm(tokens, at):
@@ -694,18 +747,28 @@ def type_of(path, known, types):
     return found
 
 
+def in_export(words, at):
+    """Whether a word stands in the head of a function for C or makes a slice of its, which are written in one way. Strings are no words here."""
+    starts = [at - back for back in (2, 8, 9) if at >= back and words[at - back:at - back + 8] == EXPORTED[:8]]
+    return (any([w for w in words[start + 8:start + 11] if w != 'unsafe'][:2] == ['extern', 'fn'] for start in starts)
+            or words[at:at + 6] == 'unsafe { crate :: slices ::'.split())
+
+
 def allowed(text, functions, types, crate):
     """Refuses what is not known in a file as it would be written."""
     refused, macros = (TEST_REFUSED, TEST_MACROS) if crate.tests else (REFUSED, MACROS)
     tokens = solid_tokens(text)
     words = [t.text for t in tokens] + [''] * 8
+    # the parameters of the file that are of a trait of the crates' own
+    own = OWN_PATHS | {words[i] for i in range(1, len(tokens)) if words[i - 1] in ('<', ',', 'where', ')') and len(words[i]) == 1
+                       and words[i + 1] == ':' and words[i + 2] in types}
     for i, (token, word) in enumerate(zip(tokens, words)):
         if token.kind in ('clause', 'ghost'):
             raise Refused('something ghost stayed')
         if token.kind != 'word':
             continue
         before, after = words[i - 1] if i else '', words[i + 1]
-        if word in refused and words[i:i + 2] != ['extern', 'crate']:
+        if word in refused and words[i:i + 2] != ['extern', 'crate'] and not (crate.exports and in_export(words, i)):
             raise Refused(f'the word {word}')
         if word == 'Formatter' and words[i + 1:i + 4] != ['<', "'_", '>']:
             raise Refused('a Formatter that rule 1 does not have')
@@ -717,7 +780,7 @@ def allowed(text, functions, types, crate):
             continue
         if word == 'size_of' and words[i - 2:i] != ['!', '(']:
             raise Refused('a size outside a prove!, where Rust has another one')
-        in_attribute = before == '[' and words[i - 2] in '#!'
+        in_attribute = before == '[' and words[i - 2] in '#!' or words[i - 2:i + 1] == ['cfg_attr', '(', 'not']
         if after == '(' and not in_attribute and before not in ('.', '::', 'fn', 'pub') and not word[0].isupper() and word not in functions | KEYWORDS | CALLED:
             raise Refused(f'the call {word}')
         if before == '.' and after == '(' and word not in functions | STD_METHODS | CALLED_ON_CHARACTERS:
@@ -730,7 +793,7 @@ def allowed(text, functions, types, crate):
                 path += ''.join(words[i + 1:words.index('}', i) + 1])
             if path.replace('core::', 'std::', 1) not in STD_PATHS:
                 raise Refused(f'the path {path}')
-        elif after == '::' and before != '::' and word not in types | OWN_PATHS:
+        elif after == '::' and before != '::' and word not in types | own:
             path = word
             while words[i + 1] == '::':
                 path, i = f'{path}::{words[i + 2]}', i + 2
@@ -747,7 +810,7 @@ def sources(crate):
             path = os.path.relpath(os.path.join(folder, name), top)
             if not path.endswith('.rt'):
                 raise SystemExit(f'to_rust.py: {crate.source}/{path}: no source')
-            if path[:-3] not in crate.omitted:
+            if not crate.omits(path[:-3]):
                 with open(os.path.join(folder, name), encoding='utf-8') as file:
                     found[path[:-3]] = file.read()
     return found

@@ -30,7 +30,7 @@ static uint32_t ask(const uint8_t *text, const ixdtf_annotation *list, size_t co
         }
         uint32_t error = ixdtf_reply(calendar, &list[i]);
         if (error != IXDTF_OK) {
-            *place = (size_t)(list[i].value.at + list[i].value.length - text) + 1;
+            *place = ixdtf_reply_place(text, &list[i]);
             return error;
         }
     }
@@ -39,9 +39,7 @@ static uint32_t ask(const uint8_t *text, const ixdtf_annotation *list, size_t co
 
 static void print_outcome(uint32_t error, size_t place, const ixdtf_calendar *calendar) {
     if (error != IXDTF_OK) {
-        ixdtf_text why = IXDTF_TEXT;
-        ixdtf_error_text(error, &why);
-        printf("  refused at %zu: %.*s\n", place, (int)why.length, why.at);
+        printf("  refused at %zu: %s\n", place, ixdtf_error_message(error));
     } else if (calendar->is_there) {
         printf("  calendar: ");
         print_units(calendar->value);
@@ -60,9 +58,7 @@ int main(int count, char **arguments) {
         if (list == NULL) {
             return 1;
         }
-        for (size_t at = 0; at < room; at++) {
-            list[at] = (ixdtf_annotation)IXDTF_ANNOTATION;
-        }
+        ixdtf_set_annotations(list, room);
         size_t found = 0;
         ixdtf_record record = IXDTF_RECORD;
         ixdtf_calendar calendar = IXDTF_CALENDAR;

@@ -9,9 +9,7 @@
 #include <string.h>
 
 static void print_error(const char *text, uint32_t error, const ixdtf_record *record) {
-    ixdtf_text why = IXDTF_TEXT;
-    ixdtf_error_text(error, &why);
-    printf("%s: %.*s", text, (int)why.length, why.at);
+    printf("%s: %s", text, ixdtf_error_message(error));
     if (error == IXDTF_ABRUPT_END) {
         printf(" What it broke off in: %.*s.", (int)record->location.length, record->location.at);
     }

@@ -15,7 +15,7 @@ use crate::packed::PackedNumber;
 /// assert!(record.time.is_none() && record.offset.is_none() && record.calendar.is_none());
 /// ```
 #[derive(Debug, PartialEq)]
-#[non_exhaustive]
+#[cfg_attr(not(feature = "open-records"), non_exhaustive)]
 pub struct IxdtfParseRecord<'a, T: EncodingType> {
     /// The calendar date (`full-date` of RFC 3339, section 5.6, or one of its forms in ISO 8601).
     pub date: Option<DateRecord>,
@@ -83,7 +83,7 @@ pub struct TimeRecord {
 /// assert_eq!(core::str::from_utf8(name), Ok("Europe/Paris"));
 /// ```
 #[derive(Clone, Debug, PartialEq)]
-#[non_exhaustive]
+#[cfg_attr(not(feature = "open-records"), non_exhaustive)]
 pub struct TimeZoneAnnotation<'a, T: EncodingType> {
     /// Whether a `!` stands right after the opening bracket (`critical-flag`): who uses the text must then heed the zone,
     /// or refuse the text.
@@ -107,7 +107,7 @@ pub struct TimeZoneAnnotation<'a, T: EncodingType> {
 /// assert_eq!((annotation.critical, annotation.key, annotation.value), (true, b"answer".as_slice(), b"fortytwo".as_slice()));
 /// ```
 #[derive(Clone, Debug, PartialEq)]
-#[non_exhaustive]
+#[cfg_attr(not(feature = "open-records"), non_exhaustive)]
 pub struct Annotation<'a, T: EncodingType> {
     /// Whether a `!` stands right after the opening bracket (`critical-flag`): who uses the text must then heed the
     /// annotation, or refuse the text.

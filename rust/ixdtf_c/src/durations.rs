@@ -1,0 +1,155 @@
+// Made by tools/to_rust.py of crates/ixdtf_c/src/durations.rt. Do not edit.
+
+//! Durations, as C sees them.
+
+use crate::errors::number_of;
+use crate::forms::{Digits, is_negative};
+use ixdtf::LocatedError;
+use ixdtf::records::{DateDurationRecord, DurationParseRecord, Fraction, TimeDurationRecord};
+
+/// A duration.
+#[derive(Clone, Copy)]
+#[repr(C)]
+pub struct Duration<'a> {
+    /// The days.
+    pub days: u64,
+    /// The hours.
+    pub hours: u64,
+    /// The minutes.
+    pub minutes: u64,
+    /// The seconds.
+    pub seconds: u64,
+    /// The number of the first 18 digits of the fraction.
+    pub fraction: u64,
+    /// The years.
+    pub years: u32,
+    /// The months.
+    pub months: u32,
+    /// The weeks.
+    pub weeks: u32,
+    /// How many digits the fraction has, and 0 where there is none.
+    pub fraction_digits: u8,
+    /// The last unit of the time. 0: there is none. 1: hours. 2: minutes. 3: seconds.
+    pub time_form: u8,
+    /// Whether there are years, months, weeks or days.
+    pub has_date: bool,
+    /// Whether the sign is a `-`.
+    pub is_negative: bool,
+    /// What the text broke off in, of the error `AbruptEnd`, and else nothing.
+    pub location: &'a [u8],
+    /// How many units stand before the place of the error, and 0 where there is none.
+    pub place: usize,
+}
+
+impl<'a> Duration<'a> {
+    // A duration in which nothing stands but its sign.
+    #[inline(always)]
+    fn of_sign(is_negative: bool) -> Duration<'a> {
+        Duration {
+            days: 0,
+            hours: 0,
+            minutes: 0,
+            seconds: 0,
+            fraction: 0,
+            years: 0,
+            months: 0,
+            weeks: 0,
+            fraction_digits: 0,
+            time_form: 0,
+            has_date: false,
+            is_negative,
+            location: &[],
+            place: 0,
+        }
+    }
+
+    // Writes the years, months, weeks and days, where there are.
+    #[inline(always)]
+    fn put_date(&mut self, date: Option<DateDurationRecord>) {
+        match date {
+            None => {}
+            Some(it) => {
+                self.has_date = true;
+                self.years = it.years;
+                self.months = it.months;
+                self.weeks = it.weeks;
+                self.days = it.days;
+            }
+        }
+    }
+
+    // Writes the hours, minutes and seconds, where there are.
+    #[inline(always)]
+    fn put_time(&mut self, time: Option<TimeDurationRecord>) {
+        match time {
+            None => {}
+            Some(TimeDurationRecord::Hours { hours, fraction }) => {
+                self.time_form = 1;
+                self.hours = hours;
+                self.put_fraction(fraction);
+            }
+            Some(
+                TimeDurationRecord::Minutes {
+                    hours,
+                    minutes,
+                    fraction,
+                },
+            ) => {
+                self.time_form = 2;
+                self.hours = hours;
+                self.minutes = minutes;
+                self.put_fraction(fraction);
+            }
+            Some(
+                TimeDurationRecord::Seconds {
+                    hours,
+                    minutes,
+                    seconds,
+                    fraction,
+                },
+            ) => {
+                self.time_form = 3;
+                self.hours = hours;
+                self.minutes = minutes;
+                self.seconds = seconds;
+                self.put_fraction(fraction);
+            }
+        }
+    }
+
+    // Writes the numbers of the fraction.
+    #[inline(always)]
+    fn put_fraction(&mut self, fraction: Option<Fraction>) {
+        let digits = Digits::of(fraction);
+        self.fraction = digits.value;
+        self.fraction_digits = digits.count;
+    }
+
+    // Writes what was read, and clears what was not.
+    #[inline(always)]
+    fn fill(&mut self, found: &DurationParseRecord) {
+        *self = Duration::of_sign(is_negative(found.sign));
+        self.put_date(found.date);
+        self.put_time(found.time);
+    }
+}
+
+/// Writes what a reader of durations returned, and returns 0, or the number of the error.
+#[inline(always)]
+pub fn give_duration<'a>(
+    outcome: &Result<DurationParseRecord, LocatedError>,
+    out: &mut Duration<'a>,
+) -> u32 {
+    match outcome {
+        Ok(found) => {
+            out.fill(found);
+            0
+        }
+        Err(located) => {
+            let (number, location) = number_of(located.error);
+            out.location = location;
+            out.place = located.at;
+            number
+        }
+    }
+}

@@ -1,0 +1,26 @@
+// Made by tools/to_rust.py of crates/ixdtf_c/src/lib.rt. Do not edit.
+
+//! The readers of `ixdtf` for callers in C, and in any language that calls C.
+
+#![cfg_attr(not(test), no_std)]
+
+mod durations;
+mod errors;
+mod forms;
+pub mod narrow;
+mod narrow_annotations;
+mod narrow_readers;
+mod printing;
+mod units;
+mod version;
+pub mod wide;
+mod wide_annotations;
+mod wide_readers;
+
+pub use durations::Duration;
+pub use errors::Text;
+pub use forms::{Date, Offset, Time};
+
+#[cfg(not(test))]
+mod abort;
+mod slices;

@@ -1,0 +1,230 @@
+// Made by tools/to_rust.py of crates/ixdtf_c/src/wide_annotations.rt. Do not edit.
+
+//! The readers of 16-bit sources that list the annotations, and what is kept of replies to them.
+
+use crate::errors::number_of;
+use crate::units::has_same_units;
+use crate::wide::{Annotation, Calendar, Record, give};
+use ixdtf::encoding::{EncodingType, Utf16};
+use ixdtf::parsers::{
+    Cores, DateTimes, IxdtfParser, LoneTimes, MonthDays, Profile, Raised, YearMonths,
+};
+use ixdtf::{LocatedError, ParseError, records};
+
+/// The annotations that a reader listed.
+struct List<'l, 'a> {
+    slots: &'l mut [Annotation<'a>],
+    count: usize,
+}
+
+impl<'l, 'a> List<'l, 'a> {
+    /// Writes an annotation to its place, where there is room.
+    #[inline(always)]
+    fn add(&mut self, annotation: records::Annotation<'a, Utf16>) {
+        if self.count < self.slots.len() {
+            self.slots[self.count] = Annotation {
+                key: annotation.key,
+                value: annotation.value,
+                is_critical: annotation.critical,
+            };
+        }
+        self.count = self.count.saturating_add(1);
+    }
+}
+
+/// Reads a text with a core of the kind under the profile, and asks the handler about each annotation.
+///
+/// It is generic in its error, since a function that names a lifetime in a bound may not name `'static`, as `LocatedError` does.
+#[inline(always)]
+fn read_with<'a, E: Raised, C: Cores, F>(
+    text: &'a [u16],
+    profile: Profile,
+    handler: &mut F,
+) -> Result<records::IxdtfParseRecord<'a, Utf16>, E>
+where
+    F: FnMut(records::Annotation<'a, Utf16>) -> Option<records::Annotation<'a, Utf16>>,
+{
+    let mut parser = IxdtfParser::from_utf16(text).with_profile(profile);
+    match parser.read_by_reference::<E, C, F>(handler) {
+        Ok(found) => Ok(found),
+        Err(error) => return Err(error),
+    }
+}
+
+/// Reads as the reader of the kind does, passes the annotations over, and lists them.
+#[inline(always)]
+fn list_as<'a, E: Raised, C: Cores>(
+    text: &'a [u16],
+    profile: Profile,
+    list: &mut List<'_, 'a>,
+) -> Result<records::IxdtfParseRecord<'a, Utf16>, E> {
+    let mut handler = |annotation| {
+        list.add(annotation);
+        None
+    };
+    match read_with::<E, C, _>(text, profile, &mut handler) {
+        Ok(found) => Ok(found),
+        Err(error) => return Err(error),
+    }
+}
+
+/// Reads and lists as [`list_as`] does, and writes what was read.
+#[inline(always)]
+fn list_into<'a, C: Cores>(
+    text: &'a [u16],
+    profile: Profile,
+    annotations: &mut [Annotation<'a>],
+    count: &mut usize,
+    out: &mut Record<'a>,
+) -> u32 {
+    let mut list = List {
+        slots: annotations,
+        count: 0,
+    };
+    let read = list_as::<LocatedError, C>(text, profile, &mut list);
+    *count = list.count;
+    give(&read, out)
+}
+
+/// Reads a date, or a date and a time, and the brackets after it. The annotations are passed over and listed.
+#[unsafe(no_mangle)]
+pub unsafe extern "C" fn ixdtf16_parse_with_annotations<'a>(
+    text: *const u16,
+    text_length: usize,
+    annotations: *mut Annotation<'a>,
+    annotations_length: usize,
+    count: &mut usize,
+    out: &mut Record<'a>,
+) -> u32 {
+    // SAFETY: so the header has it.
+    let text = unsafe { crate::slices::slice(text, text_length) };
+    // SAFETY: so the header has it.
+    let annotations = unsafe { crate::slices::slice_mut(annotations, annotations_length) };
+    list_into::<DateTimes>(text, Profile::Crate, annotations, count, out)
+}
+
+/// Reads a year and a month, and the brackets after it. The annotations are passed over and listed.
+#[unsafe(no_mangle)]
+pub unsafe extern "C" fn ixdtf16_parse_year_month_with_annotations<'a>(
+    text: *const u16,
+    text_length: usize,
+    annotations: *mut Annotation<'a>,
+    annotations_length: usize,
+    count: &mut usize,
+    out: &mut Record<'a>,
+) -> u32 {
+    // SAFETY: so the header has it.
+    let text = unsafe { crate::slices::slice(text, text_length) };
+    // SAFETY: so the header has it.
+    let annotations = unsafe { crate::slices::slice_mut(annotations, annotations_length) };
+    list_into::<YearMonths>(text, Profile::Crate, annotations, count, out)
+}
+
+/// Reads a month and a day, and the brackets after it. The annotations are passed over and listed.
+#[unsafe(no_mangle)]
+pub unsafe extern "C" fn ixdtf16_parse_month_day_with_annotations<'a>(
+    text: *const u16,
+    text_length: usize,
+    annotations: *mut Annotation<'a>,
+    annotations_length: usize,
+    count: &mut usize,
+    out: &mut Record<'a>,
+) -> u32 {
+    // SAFETY: so the header has it.
+    let text = unsafe { crate::slices::slice(text, text_length) };
+    // SAFETY: so the header has it.
+    let annotations = unsafe { crate::slices::slice_mut(annotations, annotations_length) };
+    list_into::<MonthDays>(text, Profile::Crate, annotations, count, out)
+}
+
+/// Reads a time, and the brackets after it. The annotations are passed over and listed.
+#[unsafe(no_mangle)]
+pub unsafe extern "C" fn ixdtf16_parse_time_with_annotations<'a>(
+    text: *const u16,
+    text_length: usize,
+    annotations: *mut Annotation<'a>,
+    annotations_length: usize,
+    count: &mut usize,
+    out: &mut Record<'a>,
+) -> u32 {
+    // SAFETY: so the header has it.
+    let text = unsafe { crate::slices::slice(text, text_length) };
+    // SAFETY: so the header has it.
+    let annotations = unsafe { crate::slices::slice_mut(annotations, annotations_length) };
+    list_into::<LoneTimes>(text, Profile::Crate, annotations, count, out)
+}
+
+/// Reads a month and a day, and the brackets after it, under the strict profile. The annotations are passed over and listed.
+#[unsafe(no_mangle)]
+pub unsafe extern "C" fn ixdtf16_parse_month_day_with_annotations_strict<'a>(
+    text: *const u16,
+    text_length: usize,
+    annotations: *mut Annotation<'a>,
+    annotations_length: usize,
+    count: &mut usize,
+    out: &mut Record<'a>,
+) -> u32 {
+    // SAFETY: so the header has it.
+    let text = unsafe { crate::slices::slice(text, text_length) };
+    // SAFETY: so the header has it.
+    let annotations = unsafe { crate::slices::slice_mut(annotations, annotations_length) };
+    list_into::<MonthDays>(text, Profile::Strict, annotations, count, out)
+}
+
+/// Reads a time, and the brackets after it, under the strict profile. The annotations are passed over and listed.
+#[unsafe(no_mangle)]
+pub unsafe extern "C" fn ixdtf16_parse_time_with_annotations_strict<'a>(
+    text: *const u16,
+    text_length: usize,
+    annotations: *mut Annotation<'a>,
+    annotations_length: usize,
+    count: &mut usize,
+    out: &mut Record<'a>,
+) -> u32 {
+    // SAFETY: so the header has it.
+    let text = unsafe { crate::slices::slice(text, text_length) };
+    // SAFETY: so the header has it.
+    let annotations = unsafe { crate::slices::slice_mut(annotations, annotations_length) };
+    list_into::<LoneTimes>(text, Profile::Strict, annotations, count, out)
+}
+
+/// Keeps a reply where it is the first calendar.
+///
+/// # Errors
+///
+/// The error that the reply is refused with.
+#[inline(always)]
+fn keep<'a>(calendar: &mut Calendar<'a>, reply: &Annotation<'a>) -> Result<(), ParseError> {
+    if !Utf16::check_calendar_key(reply.key) {
+        if reply.is_critical {
+            return Err(ParseError::UnrecognizedCritical);
+        }
+        return Ok(());
+    }
+    if !calendar.is_there {
+        calendar.value = reply.value;
+        calendar.is_critical = reply.is_critical;
+        calendar.is_there = true;
+        return Ok(());
+    }
+    if has_same_units::<Utf16>(reply.value, calendar.value) {
+        return Ok(());
+    }
+    if calendar.is_critical {
+        return Err(ParseError::CriticalDuplicateCalendar);
+    }
+    if reply.is_critical {
+        return Err(ParseError::CriticalDuplicateCalendar);
+    }
+    Ok(())
+}
+
+/// Takes a reply to an annotation: keeps it where it is the first calendar, and returns 0, or the number of the error that it
+/// is refused with.
+#[unsafe(no_mangle)]
+pub extern "C" fn ixdtf16_reply<'a>(calendar: &mut Calendar<'a>, reply: &Annotation<'a>) -> u32 {
+    match keep(calendar, reply) {
+        Ok(()) => 0,
+        Err(error) => number_of(error).0,
+    }
+}
