@@ -7,7 +7,7 @@ use crate::parsers::grammar::{
     is_a_key_char, is_a_key_leading_char, is_annotation_close, is_annotation_key_value_separator,
     is_annotation_open, is_annotation_value_component, is_critical_flag, is_hyphen,
 };
-use crate::parsers::letters::{Letters, pass_letters, take_letters};
+use crate::parsers::letters::{Letters, pass_letters};
 use crate::stop::Stop;
 use crate::encoding::EncodingType;
 use crate::records::Annotation;
@@ -30,12 +30,14 @@ impl Letters for KeyLetters {
 pub fn parse_annotation_key<'a, T: EncodingType>(
     cursor: &mut Cursor<'a, T>,
 ) -> Result<&'a [T::CodeUnit], Stop> {
-    let key = take_letters(cursor, KeyLetters)?;
+    let start = cursor.rest();
+    let key = pass_letters(cursor, KeyLetters)?;
     match key.next {
         None => Err(Stop::AnnotationKeyValueSeparator),
         Some(byte) if is_annotation_key_value_separator(byte) => {
+            let count = start.len() - cursor.rest().len();
             cursor.step();
-            Ok(key.units)
+            Ok(&start[..count])
         }
         Some(_) => Err(Stop::AnnotationKeyChar),
     }
@@ -54,10 +56,7 @@ impl Letters for ComponentLetters {
 
 /// Takes the first letter of a component off. Another letter, or the end, is this stop; both stay.
 #[inline(always)]
-fn start_component<'a, T: EncodingType>(
-    cursor: &mut Cursor<'a, T>,
-    other: Stop,
-) -> Result<u8, Stop> {
+fn start_component<'a, T: EncodingType>(cursor: &mut Cursor<'a, T>, other: Stop) -> Result<u8, Stop> {
     match cursor.look()? {
         Some(byte) if is_annotation_value_component(byte) => {
             cursor.step();

@@ -11,7 +11,7 @@ use crate::parsers::grammar::{
     is_a_key_leading_char, is_annotation_close, is_annotation_key_value_separator, is_ascii_sign,
     is_critical_flag, is_tz_leading_char,
 };
-use crate::parsers::letters::{Letters, pass_letters, take_letters};
+use crate::parsers::letters::{Letters, pass_letters};
 use crate::stop::Stop;
 
 /// A first bracket: a zone or a pair.
@@ -91,17 +91,18 @@ fn parse_name_or_pair<'a, T: EncodingType>(
     critical: bool,
 ) -> Result<Bracket<'a, T>, Stop> {
     let start = cursor.rest();
-    let key = take_letters(cursor, KeyLetters)?;
+    let key = pass_letters(cursor, KeyLetters)?;
+    let behind_key = cursor.rest();
     if ends_key(key.next) {
+        let count = start.len() - behind_key.len();
         cursor.step();
         let value = parse_annotation_value(cursor)?;
         return Ok(Bracket::Pair(Annotation {
             critical,
-            key: key.units,
+            key: &start[..count],
             value,
         }));
     }
-    let behind_key = cursor.rest();
     let more = pass_name(cursor)?;
     if more.state.may_end && ends_bracket(more.next) {
         let count = start.len() - cursor.rest().len();

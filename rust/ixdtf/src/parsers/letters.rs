@@ -1,6 +1,6 @@
 // Made by tools/to_rust.py of crates/ixdtf_reading/src/letters.rt. Do not edit.
 
-//! Passing over letters one by one, and taking them off.
+//! Passing over letters one by one.
 
 use crate::cursor::Cursor;
 use crate::stop::Stop;
@@ -42,27 +42,4 @@ pub fn pass_letters<'a, T: EncodingType, S: Letters>(
     *cursor = here;
     let next = found?;
     Ok(Passed { state, next })
-}
-
-/// Letters that were taken off, where reading is after them, and the letter that does not go on.
-pub struct Taken<'a, T: EncodingType, S: Letters> {
-    pub units: &'a [T::CodeUnit],
-    pub state: S,
-    pub next: Option<u8>,
-}
-
-/// Takes letters off as far as they go. The letter that does not go on stays.
-#[inline(always)]
-pub fn take_letters<'a, T: EncodingType, S: Letters>(
-    cursor: &mut Cursor<'a, T>,
-    first: S,
-) -> Result<Taken<'a, T, S>, Stop> {
-    let start = cursor.rest();
-    let passed = pass_letters(cursor, first)?;
-    let count = start.len() - cursor.rest().len();
-    Ok(Taken {
-        units: &start[..count],
-        state: passed.state,
-        next: passed.next,
-    })
 }

@@ -48,7 +48,9 @@ fn keep_first_calendar<'a, T: EncodingType>(
             Ok(())
         }
         Some(first) => {
-            if !has_same_units::<T>(first.value, found.value) && (first.critical || found.critical) {
+            if !has_same_units::<T>(first.value, found.value)
+                && (first.critical || found.critical)
+            {
                 return Err(Stop::CriticalDuplicateCalendar);
             }
             Ok(())

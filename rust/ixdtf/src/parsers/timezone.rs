@@ -58,9 +58,7 @@ fn starts_part(next: Option<u8>) -> bool {
 
 /// Passes over the letters of a name as far as they go, part by part between its slashes.
 #[inline(always)]
-pub fn pass_name<'a, T: EncodingType>(
-    cursor: &mut Cursor<'a, T>,
-) -> Result<Passed<NameState>, Stop> {
+pub fn pass_name<'a, T: EncodingType>(cursor: &mut Cursor<'a, T>) -> Result<Passed<NameState>, Stop> {
     let mut here = cursor.take();
     let passed = pass_parts(&mut here);
     *cursor = here;
