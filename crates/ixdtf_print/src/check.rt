@@ -45,7 +45,7 @@ fn is_day(date: DateRecord) -> bool
     1 <= date.day && date.day <= days_in_month(date.year, date.month)
 }
 
-/// Whether the numbers are those of a clock whose last second is this one.
+/// Whether the numbers are those of a clock whose last second is this one. Any fraction fits.
 fn is_clock(last: u8, hour: u8, minute: u8, second: u8, fraction: Option<Fraction>) -> bool
     ensures { IsTrue result ↔ IsClock last hour minute second fraction }
 {

@@ -4,7 +4,7 @@ use ixdtf::encoding::{EncodingType, Utf8, Utf16};
 use ixdtf::parsers::{IsoDurationParser, IxdtfParser, Profile, TimeZoneParser};
 use ixdtf::{LocatedError, ParseError, ParserResult};
 
-const ROWS: &str = include_str!("../../../tools/places.tsv");
+const ROWS: &str = include_str!("places.tsv");
 
 /// A row: what is read, by which reader, and the error and its place.
 struct Row {
