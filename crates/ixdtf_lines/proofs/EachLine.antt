@@ -14,7 +14,7 @@ use Rattle.ixdtf.specs.Widths.UnhandledOutcome.{read_as, faulted}
 use Rattle.ixdtf_reading.proofs.theorems.OneUnhandledOutcome.{one_unhandled_outcome}
 use Rattle.ixdtf_lines.specs.Answer.{line_limit, too_long, unknown_reader, is_space, letters, ok_answer_of, error_answer_of, Gives, Refuses, IsOutcome}
 use Rattle.ixdtf_lines.specs.Answer.{IsReaderAnswer, IsAnswer}
-use Rattle.ixdtf_lines.specs.Lines.{newline}
+use Rattle.ixdtf_buffers.specs.Lines.{newline}
 use Rattle.ixdtf_lines.specs.Run.{AreAnswers}
 use Rattle.ixdtf_lines.specs.Word.{name_of, reader_of, IsNoWord}
 use Rattle.ixdtf_lines.specs.declared.word.Word.{Word}

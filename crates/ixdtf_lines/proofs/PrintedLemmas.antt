@@ -1,6 +1,6 @@
 -- A record that was read from a line is printed into the array of an answer.
-use Rattle.std.proofs.Common.{◌≡◌, ◌<◌, ◌≤◌, ◌+◌, ◌↔◌, ◌∙◌, ℕ, List, [], ◌∷◌, ◌++◌, length, map, take, Result, Ok, Err, refl, sym, ap, subst, arith, append-nil}
-use Rattle.std.proofs.lemmas.List.{length-map, length-replicate}
+use Rattle.std.proofs.Common.{◌≡◌, ◌<◌, ◌≤◌, ◌+◌, ◌↔◌, ◌∙◌, ℕ, List, [], ◌∷◌, length, map, Result, Err, refl, sym, ap, arith}
+use Rattle.std.proofs.lemmas.List.{length-map}
 use Rattle.ixdtf.specs.Handlers.{UnhandledRecord}
 use Rattle.ixdtf.specs.language.Languages.{Parsed}
 use Rattle.ixdtf.specs.language.Letters.{Text, Letter, byte_letter}

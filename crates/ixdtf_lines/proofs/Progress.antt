@@ -3,18 +3,18 @@ use Rattle.std.proofs.Common.{◌≡◌, ◌≢◌, ℕ, ◌+◌, ◌<◌, false
 use Rattle.std.proofs.Common.{refl, sym, ap, subst, ◌∙◌, append_assoc}
 use Rattle.std.proofs.lemmas.List.{append-nil, take_more, take-append-drop}
 use Rattle.std.specs.Io.KnownBytes.{Appends}
-use Rattle.ixdtf_lines.specs.declared.line.Line.{Line}
-use Rattle.ixdtf_lines.specs.declared.output.Output.{Output}
-use Rattle.ixdtf_lines.specs.declared.error.RunError.{RunError}
-use Rattle.ixdtf_lines.specs.Answer.{IsAnswer}
-use Rattle.ixdtf_lines.specs.Line.{Holds}
-use Rattle.ixdtf_lines.specs.Lines.{newline, ended_lines_of, unended_of, last_line_of, lines_of}
-use Rattle.ixdtf_lines.specs.Output.{AppendsFront, Sent, written, Puts}
+use Rattle.ixdtf_buffers.specs.declared.line.Line.{Line}
+use Rattle.ixdtf_buffers.specs.declared.output.Output.{Output}
+use Rattle.ixdtf_buffers.specs.declared.error.RunError.{RunError}
+use Rattle.ixdtf_lines.specs.Answer.{IsAnswer, line_limit}
+use Rattle.ixdtf_buffers.specs.Line.{Holds}
+use Rattle.ixdtf_buffers.specs.Lines.{newline, ended_lines_of, unended_of, last_line_of, lines_of}
+use Rattle.ixdtf_buffers.specs.Output.{AppendsFront, Sent, written, Puts}
 use Rattle.ixdtf_lines.specs.Progress.{TakesAnswers, Stands, Rests, Fails}
 use Rattle.ixdtf_lines.specs.Run.{AreAnswers, WritesAnswers, WritesFront}
 use Rattle.ixdtf_lines.proofs.EachLine.{all_answers, AreAnswers-append}
-use Rattle.ixdtf_lines.proofs.LinesLemmas.{split_of-newline, split_of-byte, ended_lines_of-append}
-use Rattle.ixdtf_lines.proofs.OutputLemmas.{Sent-trans, Sent-front, Sent-all, Sent-written}
+use Rattle.ixdtf_buffers.proofs.LinesLemmas.{split_of-newline, split_of-byte, ended_lines_of-append}
+use Rattle.ixdtf_buffers.proofs.OutputLemmas.{Sent-trans, Sent-front, Sent-all, Sent-written}
 
 -- one more line, and its answer
 AreAnswers-more : (lines : List (List ℕ)) (written line answer : List ℕ) → AreAnswers lines written → IsAnswer line answer
@@ -69,7 +69,7 @@ WritesFront-read start now read more front =
     subst (WritesFront start now) (sym others.1) (WritesFront-append start now (ended_lines_of read) others.0 front)
 
 -- a newline was read, and the answer to its line was taken
-pub Stands-newline : {W : Type 0} {contents : W → Option (List ℕ)} {start : Option (List ℕ)} {x y : Output W} {before after : Line} {read : List ℕ}
+pub Stands-newline : {W : Type 0} {contents : W → Option (List ℕ)} {start : Option (List ℕ)} {x y : Output W} {before after : Line line_limit} {read : List ℕ}
     (answer : List ℕ)
     → Stands contents start x before read → IsAnswer (unended_of read) answer
     → Sent (written contents x) (written contents y) y.waiting (x.waiting ++ (answer ++ newline ∷ [])) → Holds after []
@@ -81,7 +81,7 @@ Stands-newline {contents = contents} {start = start} {y = y} {after = after} {re
 }
 
 -- a newline was read, and answering its line failed
-pub WritesFront-newline : {W : Type 0} {contents : W → Option (List ℕ)} {start new : Option (List ℕ)} {x : Output W} {line : Line} {read : List ℕ}
+pub WritesFront-newline : {W : Type 0} {contents : W → Option (List ℕ)} {start new : Option (List ℕ)} {x : Output W} {line : Line line_limit} {read : List ℕ}
     (answer : List ℕ)
     → Stands contents start x line read → IsAnswer (unended_of read) answer → AppendsFront (written contents x) new (x.waiting ++ (answer ++ newline ∷ []))
     → WritesFront start new (ended_lines_of (read ++ newline ∷ []))
@@ -90,7 +90,7 @@ WritesFront-newline {start = start} {new = new} {read = read} answer stands is f
     (WritesFront-more (unended_of read) answer stands.answered is front)
 
 -- another byte was read, and went onto the line
-pub Stands-byte : {W : Type 0} {contents : W → Option (List ℕ)} {start : Option (List ℕ)} {x : Output W} {before after : Line} {read : List ℕ} (byte : ℕ)
+pub Stands-byte : {W : Type 0} {contents : W → Option (List ℕ)} {start : Option (List ℕ)} {x : Output W} {before after : Line line_limit} {read : List ℕ} (byte : ℕ)
     → (byte == newline) ≡ false → Stands contents start x before read → Holds after (unended_of read ++ byte ∷ [])
     → Stands contents start x after (read ++ byte ∷ [])
 Stands-byte {contents = contents} {start = start} {x = x} {after = after} {read = read} byte other stands holds = record {
@@ -116,12 +116,12 @@ handed_on {contents = contents} {start = start} {y = y} {r = Ok t} p none puts =
 handed_on {contents = contents} {start = start} {y = y} {r = Err e} p none puts =
     (puts.err.0, WritesFront-of p.answers (subst (AppendsFront start (written contents y)) (append-nil p.taken) (Sent-front [] p.sent puts.err.1)))
 
-pub Stands-rests : {W : Type 0} {contents : W → Option (List ℕ)} {start : Option (List ℕ)} {x : Output W} {line : Line} {read : List ℕ}
+pub Stands-rests : {W : Type 0} {contents : W → Option (List ℕ)} {start : Option (List ℕ)} {x : Output W} {line : Line line_limit} {read : List ℕ}
     → Rests contents start x line read → Stands contents start x line read
 Stands-rests rests = record { pending = rests.pending; answered = Takes-written rests.none rests.answered }
 
 -- the same of a run that stands
-pub Rests-handed : {W : Type 0} {contents : W → Option (List ℕ)} {start : Option (List ℕ)} {x y : Output W} {line : Line} {read : List ℕ}
+pub Rests-handed : {W : Type 0} {contents : W → Option (List ℕ)} {start : Option (List ℕ)} {x y : Output W} {line : Line line_limit} {read : List ℕ}
     {r : Result (Unit {0}) RunError}
     → Stands contents start x line read → OnOk r (y.waiting ≡ []) → Puts contents x y r []
     → MatchResult r (λ _. Rests contents start y line read) (Fails start (written contents y) (ended_lines_of read))
@@ -133,7 +133,7 @@ nonempty_last [] other = absurd (other refl)
 nonempty_last (byte ∷ bytes) other = refl
 
 -- the last line had no newline, and its answer was taken
-pub Takes-last : {W : Type 0} {contents : W → Option (List ℕ)} {start new : Option (List ℕ)} {x : Output W} {v : List ℕ} {line : Line} {read : List ℕ}
+pub Takes-last : {W : Type 0} {contents : W → Option (List ℕ)} {start new : Option (List ℕ)} {x : Output W} {v : List ℕ} {line : Line line_limit} {read : List ℕ}
     (answer : List ℕ) → unended_of read ≢ []
     → Rests contents start x line read → IsAnswer (unended_of read) answer → Sent (written contents x) new v (x.waiting ++ (answer ++ newline ∷ []))
     → TakesAnswers start new v (lines_of read)
@@ -141,7 +141,7 @@ Takes-last {read = read} answer some rests is sent =
     rw (nonempty_last (unended_of read) some) (TakesAnswers-more (unended_of read) answer (Takes-written rests.none rests.answered) is sent)
 
 -- the last line had no newline, and answering it failed
-pub WritesFront-last : {W : Type 0} {contents : W → Option (List ℕ)} {start new : Option (List ℕ)} {x : Output W} {line : Line} {read : List ℕ}
+pub WritesFront-last : {W : Type 0} {contents : W → Option (List ℕ)} {start new : Option (List ℕ)} {x : Output W} {line : Line line_limit} {read : List ℕ}
     (answer : List ℕ) → unended_of read ≢ []
     → Rests contents start x line read → IsAnswer (unended_of read) answer → AppendsFront (written contents x) new (x.waiting ++ (answer ++ newline ∷ []))
     → WritesFront start new (lines_of read)
@@ -149,7 +149,7 @@ WritesFront-last {read = read} answer some rests is front =
     rw (nonempty_last (unended_of read) some) (WritesFront-more (unended_of read) answer (Takes-written rests.none rests.answered) is front)
 
 -- each line had a newline
-pub Takes-ended : {W : Type 0} {contents : W → Option (List ℕ)} {start : Option (List ℕ)} {x : Output W} {line : Line} {read : List ℕ} → unended_of read ≡ []
+pub Takes-ended : {W : Type 0} {contents : W → Option (List ℕ)} {start : Option (List ℕ)} {x : Output W} {line : Line line_limit} {read : List ℕ} → unended_of read ≡ []
     → Rests contents start x line read → TakesAnswers start (written contents x) x.waiting (lines_of read)
 Takes-ended none rests = rw (none, append-nil) (Takes-written rests.none rests.answered)
 

@@ -3,19 +3,20 @@ use Rattle.std.proofs.Common.{◌≡◌, ℕ, List, [], take, Option, Result, Ok
 use Rattle.std.proofs.lemmas.List.{append-nil}
 use Rattle.std.proofs.KnownBytes.{Appends-nil, Consumes-trans, Consumes-whole}
 use Rattle.std.specs.Io.KnownBytes.{Consumes, IsAtEnd}
-use Rattle.ixdtf_lines.specs.declared.error.RunError.{RunError}
-use Rattle.ixdtf_lines.specs.declared.error.RunError.TheVariants.{Read}
-use Rattle.ixdtf_lines.specs.declared.line.Line.{Line}
-use Rattle.ixdtf_lines.specs.Line.{Holds}
-use Rattle.ixdtf_lines.specs.Lines.{split_of, ended_lines_of, lines_of, last_line_of, unended_of}
-use Rattle.ixdtf_lines.specs.declared.output.Output.{Output}
-use Rattle.ixdtf_lines.specs.Output.{written}
+use Rattle.ixdtf_buffers.specs.declared.error.RunError.{RunError}
+use Rattle.ixdtf_buffers.specs.declared.error.RunError.TheVariants.{Read}
+use Rattle.ixdtf_buffers.specs.declared.line.Line.{Line}
+use Rattle.ixdtf_buffers.specs.Line.{Holds}
+use Rattle.ixdtf_lines.specs.Answer.{line_limit}
+use Rattle.ixdtf_buffers.specs.Lines.{split_of, ended_lines_of, lines_of, last_line_of, unended_of}
+use Rattle.ixdtf_buffers.specs.declared.output.Output.{Output}
+use Rattle.ixdtf_buffers.specs.Output.{written}
 use Rattle.ixdtf_lines.specs.Progress.{Rests, Fails, Runs}
 use Rattle.ixdtf_lines.specs.Run.{WritesAnswers}
 use Rattle.ixdtf_lines.proofs.Progress.{WritesFront-append}
 
 -- nothing was read
-pub Rests-nil : {W : Type 0} (contents : W → Option (List ℕ)) {x : Output W} {line : Line} → x.waiting ≡ [] → Holds line []
+pub Rests-nil : {W : Type 0} (contents : W → Option (List ℕ)) {x : Output W} {line : Line line_limit} → x.waiting ≡ [] → Holds line []
     → Rests contents (written contents x) x line []
 unfolding split_of
 Rests-nil contents {x = x} none empty = record { pending = empty; none = none; answered = ([], refl, Appends-nil (written contents x)) }

@@ -2,9 +2,6 @@ pub mod Answer
 pub mod AnswerText
 pub mod Fields
 pub mod Found
-pub mod Line
-pub mod Lines
-pub mod Output
 pub mod Printed
 pub mod Progress
 pub mod Run

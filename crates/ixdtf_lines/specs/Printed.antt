@@ -1,5 +1,5 @@
 -- Records that are printed into the array of an answer.
-use Rattle.std.specs.Prelude.{ℕ, ◌≤◌, length}
+use Rattle.std.specs.Prelude.{◌≤◌, length}
 use Rattle.ixdtf.specs.language.Languages.{Parsed}
 use Rattle.ixdtf_print.specs.Canonical.{canonical_text}
 use Rattle.ixdtf_print.specs.Printable.{IsPrintable}

@@ -1,13 +1,14 @@
 -- How far a run has come. No clause of `run` cites this module.
 use Rattle.std.specs.Prelude.{◌≡◌, ℕ, List, [], Option, Result, Err, OnOk, IfSome}
 use Rattle.std.specs.Io.KnownBytes.{Consumes}
-use Rattle.ixdtf_lines.specs.declared.error.RunError.{RunError}
-use Rattle.ixdtf_lines.specs.declared.error.RunError.TheVariants.{Read, Write}
-use Rattle.ixdtf_lines.specs.declared.line.Line.{Line}
-use Rattle.ixdtf_lines.specs.declared.output.Output.{Output}
-use Rattle.ixdtf_lines.specs.Line.{Holds}
-use Rattle.ixdtf_lines.specs.Lines.{lines_of, ended_lines_of, unended_of}
-use Rattle.ixdtf_lines.specs.Output.{Sent, written}
+use Rattle.ixdtf_buffers.specs.declared.error.RunError.{RunError}
+use Rattle.ixdtf_buffers.specs.declared.error.RunError.TheVariants.{Read, Write}
+use Rattle.ixdtf_buffers.specs.declared.line.Line.{Line}
+use Rattle.ixdtf_buffers.specs.declared.output.Output.{Output}
+use Rattle.ixdtf_buffers.specs.Line.{Holds}
+use Rattle.ixdtf_lines.specs.Answer.{line_limit}
+use Rattle.ixdtf_buffers.specs.Lines.{lines_of, ended_lines_of, unended_of}
+use Rattle.ixdtf_buffers.specs.Output.{Sent, written}
 use Rattle.ixdtf_lines.specs.Run.{AreAnswers, WritesAnswers, WritesFront}
 
 -- the answers to the lines were taken, and written but for those that wait
@@ -17,12 +18,12 @@ pub record TakesAnswers (start now : Option (List ℕ)) (waiting : List ℕ) (li
   pub sent : Sent start now waiting taken
 
 -- the answers to the lines that ended in what was read were taken, and the line has what stands after them
-pub record Stands {W : Type 0} (contents : W → Option (List ℕ)) (start : Option (List ℕ)) (output : Output W) (line : Line) (read : List ℕ) : Type 0 where
+pub record Stands {W : Type 0} (contents : W → Option (List ℕ)) (start : Option (List ℕ)) (output : Output W) (line : Line line_limit) (read : List ℕ) : Type 0 where
   pub pending : Holds line (unended_of read)
   pub answered : TakesAnswers start (written contents output) output.waiting (ended_lines_of read)
 
 -- no byte waits: the answers to those lines were written
-pub record Rests {W : Type 0} (contents : W → Option (List ℕ)) (start : Option (List ℕ)) (output : Output W) (line : Line) (read : List ℕ) : Type 0 where
+pub record Rests {W : Type 0} (contents : W → Option (List ℕ)) (start : Option (List ℕ)) (output : Output W) (line : Line line_limit) (read : List ℕ) : Type 0 where
   pub pending : Holds line (unended_of read)
   pub none : output.waiting ≡ []
   pub answered : WritesAnswers start (written contents output) (ended_lines_of read)

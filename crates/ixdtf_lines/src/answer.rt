@@ -5,17 +5,21 @@ ghost use Rattle.ixdtf.specs.table.Faults.{fault_of};
 ghost use Rattle.ixdtf_lines.specs.Answer.{IsAnswer, is_space, error_answer_of};
 ghost use Rattle.ixdtf_lines.specs.AnswerText.{answer_text_of};
 ghost use Rattle.ixdtf_lines.specs.Found.{shown_in};
-ghost use Rattle.ixdtf_lines.specs.Line.{Holds};
-ghost use Rattle.ixdtf_lines.specs.Lines.{newline};
-ghost use Rattle.ixdtf_lines.specs.Output.{Puts};
+ghost use Rattle.ixdtf_buffers.specs.Line.{Holds};
+ghost use Rattle.ixdtf_buffers.specs.Lines.{newline};
+ghost use Rattle.ixdtf_buffers.specs.Output.{Puts};
 
-use crate::error::RunError;
+use crate::fields::put_fields;
 use crate::found::{Found, read};
-use crate::line::Line;
-use crate::output::Output;
 use crate::word::Word;
 use ixdtf::ParseError;
+use ixdtf_buffers::error::RunError;
+use ixdtf_buffers::line::Line;
+use ixdtf_buffers::output::Output;
 use std::io::Write;
+
+/// The longest line that is read, in bytes.
+pub const LINE_LIMIT: usize = 4096;
 
 /// The answer to a line.
 #[derive(Drop)]
@@ -31,7 +35,7 @@ pub enum Answer<'a> {
 }
 
 /// What is found in the line, or why the line is refused.
-pub fn answer_to(line: &Line) -> Answer<'_>
+pub fn answer_to(line: &Line<LINE_LIMIT>) -> Answer<'_>
     ensures { (text : List ℕ) → Holds line.now text → IsAnswer text (answer_text_of result) }
 {
     match line.as_slice() {
@@ -64,43 +68,41 @@ fn first_space(line: &[u8]) -> Option<usize>
     line.iter().position(|byte| *byte == b' ')
 }
 
-impl<W: Write> Output<'_, W> {
-    /// Puts the answer, and a newline.
-    pub fn put_answer(&mut self, answer: &Answer<'_>) -> Result<(), RunError>
-        ensures { Puts W.contents self.old self.new result
-            (answer_text_of answer.now ++ newline ∷ []) }
-    {
-        match answer {
-            Answer::Found(found) => self.put_found(found),
-            Answer::TooLong => self.put(b"error line too long\n"),
-            Answer::NoSuchReader => self.put(b"error unknown reader\n"),
-            Answer::Refused(error) => self.put_error(*error),
-        }
+/// Puts the answer, and a newline.
+pub fn put_answer<W: Write>(output: &mut Output<'_, W>, answer: &Answer<'_>) -> Result<(), RunError>
+    ensures { Puts W.contents output.old output.new result
+        (answer_text_of answer.now ++ newline ∷ []) }
+{
+    match answer {
+        Answer::Found(found) => put_found(output, found),
+        Answer::TooLong => output.put(b"error line too long\n"),
+        Answer::NoSuchReader => output.put(b"error unknown reader\n"),
+        Answer::Refused(error) => put_error(output, *error),
     }
+}
 
-    /// Puts the answer to a text that is read, and a newline.
-    fn put_found(&mut self, found: &Found<'_>) -> Result<(), RunError>
-        ensures { Puts W.contents self.old self.new result
-            (codes "ok" ++ shown_in found.now ++ newline ∷ []) }
-    {
-        self.put(b"ok")?;
-        self.put_fields(found)?;
-        self.put(b"\n")
-    }
+/// Puts the answer to a text that is read, and a newline.
+fn put_found<W: Write>(output: &mut Output<'_, W>, found: &Found<'_>) -> Result<(), RunError>
+    ensures { Puts W.contents output.old output.new result
+        (codes "ok" ++ shown_in found.now ++ newline ∷ []) }
+{
+    output.put(b"ok")?;
+    put_fields(output, found)?;
+    output.put(b"\n")
+}
 
-    /// Puts the answer to a text that is refused, and a newline.
-    fn put_error(&mut self, error: ParseError) -> Result<(), RunError>
-        ensures { Puts W.contents self.old self.new result
-            (error_answer_of (fault_of error) ++ newline ∷ []) }
-    {
-        let (text, location) = error_parts(error);
-        self.put_all(&[
-            b"error ".as_slice(),
-            text.as_bytes(),
-            location.as_bytes(),
-            b"\n".as_slice(),
-        ])
-    }
+/// Puts the answer to a text that is refused, and a newline.
+fn put_error<W: Write>(output: &mut Output<'_, W>, error: ParseError) -> Result<(), RunError>
+    ensures { Puts W.contents output.old output.new result
+        (error_answer_of (fault_of error) ++ newline ∷ []) }
+{
+    let (text, location) = error_parts(error);
+    output.put_all(&[
+        b"error ".as_slice(),
+        text.as_bytes(),
+        location.as_bytes(),
+        b"\n".as_slice(),
+    ])
 }
 
 /// The two parts of what Display writes.

@@ -3,21 +3,17 @@
 
 mod answer;
 mod arguments;
-mod error;
 mod fields;
 mod found;
-mod line;
 mod number;
-mod output;
 mod printed;
 mod runner;
 #[cfg(test)]
 mod tests;
-mod waiting;
 mod word;
 
 use arguments::arguments_allowed;
-use error::RunError;
+use ixdtf_buffers::error::RunError;
 use runner::run;
 use std::env;
 use std::io::Eprint;

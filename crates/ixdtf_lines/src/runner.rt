@@ -1,15 +1,16 @@
 //! The run over all lines.
-ghost use Rattle.std.specs.Prelude.{◌≡◌, ℕ, ◌<◌, ◌≤◌, List, ◌∷◌, [], ◌++◌, length, take, Option, Err, IfOk, IfErr, OnOk, IfSome, MatchResult};
-ghost use Rattle.std.specs.Io.KnownBytes.{Consumes, Keeps, IsAtEnd};
-ghost use Rattle.ixdtf_lines.specs.Lines.{newline, lines_of, ended_lines_of};
-ghost use Rattle.ixdtf_lines.specs.Output.{written};
+ghost use Rattle.std.specs.Prelude.{◌≡◌, ℕ, List, ◌∷◌, [], ◌++◌, Option, Err, OnOk, IfSome, MatchResult};
+ghost use Rattle.std.specs.Io.KnownBytes.{Consumes};
+ghost use Rattle.ixdtf_buffers.specs.Lines.{newline, lines_of, ended_lines_of};
+ghost use Rattle.ixdtf_buffers.specs.Output.{written};
 ghost use Rattle.ixdtf_lines.specs.Progress.{Stands, Rests, Fails, Runs};
 ghost use Rattle.ixdtf_lines.specs.Run.{WritesAnswers, WritesFront};
 
-use crate::answer::answer_to;
-use crate::error::RunError;
-use crate::line::Line;
-use crate::output::Output;
+use crate::answer::{LINE_LIMIT, answer_to, put_answer};
+use ixdtf_buffers::error::RunError;
+use ixdtf_buffers::input::read_some;
+use ixdtf_buffers::line::Line;
+use ixdtf_buffers::output::Output;
 use std::io::{Read, Write};
 
 /// The bytes that one read asks for.
@@ -55,26 +56,10 @@ fn answer_all<R: Read, W: Write>(reader: &mut R, output: &mut Output<'_, W>) -> 
     Err(RunError::Read)
 }
 
-/// One read.
-fn read_some<R: Read>(reader: &mut R, input: &mut [u8]) -> Result<usize, RunError>
-    ensures bound { IfOk result (λ count. count ≤ length input.new) }
-    ensures ok { IfOk result (λ count.
-        Consumes (R.remaining reader.old) (R.remaining reader.new) (take count input.new)) }
-    ensures end { IfOk result (λ count. count ≡ 0 → 0 < length input.old
-        → IsAtEnd (R.remaining reader.new)) }
-    ensures err { IfErr result (λ error. (error ≡ RunError.Read)
-        × Keeps (R.remaining reader.old) (R.remaining reader.new)) }
-{
-    match reader.read(input) {
-        Ok(count) => Ok(count),
-        Err(_) => Err(RunError::Read),
-    }
-}
-
 /// Takes the bytes of a read, answers each line that ends in them, and hands the answers on.
 fn answer_bytes<W: Write>(
     output: &mut Output<'_, W>,
-    line: &mut Line,
+    line: &mut Line<LINE_LIMIT>,
     bytes: &[u8],
 ) -> Result<(), RunError>
     ensures same { output.new.writer.ghost_name ≡ output.old.writer.ghost_name }
@@ -92,7 +77,7 @@ fn answer_bytes<W: Write>(
 /// Takes a byte onto the line, or answers the line where the byte ends it.
 fn take_byte<W: Write>(
     output: &mut Output<'_, W>,
-    line: &mut Line,
+    line: &mut Line<LINE_LIMIT>,
     byte: u8,
 ) -> Result<(), RunError>
     ensures same { output.new.writer.ghost_name ≡ output.old.writer.ghost_name }
@@ -112,7 +97,10 @@ fn take_byte<W: Write>(
 ///
 /// It is not inlined: the room for an answer is cleared on entry, here once a line and not once a byte.
 #[inline(never)]
-fn end_line<W: Write>(output: &mut Output<'_, W>, line: &mut Line) -> Result<(), RunError>
+fn end_line<W: Write>(
+    output: &mut Output<'_, W>,
+    line: &mut Line<LINE_LIMIT>,
+) -> Result<(), RunError>
     ensures same { output.new.writer.ghost_name ≡ output.old.writer.ghost_name }
     ensures answers { (start : Option (List ℕ)) (read : List ℕ)
         → Stands W.contents start output.old line.old read
@@ -120,13 +108,13 @@ fn end_line<W: Write>(output: &mut Output<'_, W>, line: &mut Line) -> Result<(),
         (λ _. Stands W.contents start output.new line.new (read ++ newline ∷ []))
         (Fails start (written W.contents output.new) (ended_lines_of (read ++ newline ∷ []))) }
 {
-    output.put_answer(&answer_to(line))?;
+    put_answer(output, &answer_to(line))?;
     line.clear();
     Ok(())
 }
 
 /// Answers what stands after the last newline, hands the answer to the writer, and flushes it.
-fn finish<W: Write>(output: &mut Output<'_, W>, line: &Line) -> Result<(), RunError>
+fn finish<W: Write>(output: &mut Output<'_, W>, line: &Line<LINE_LIMIT>) -> Result<(), RunError>
     ensures same { output.new.writer.ghost_name ≡ output.old.writer.ghost_name }
     ensures answers { (start : Option (List ℕ)) (read : List ℕ)
         → Rests W.contents start output.old line.now read
@@ -137,6 +125,6 @@ fn finish<W: Write>(output: &mut Output<'_, W>, line: &Line) -> Result<(), RunEr
     if line.is_empty() {
         return output.finish();
     }
-    output.put_answer(&answer_to(line))?;
+    put_answer(output, &answer_to(line))?;
     output.finish()
 }

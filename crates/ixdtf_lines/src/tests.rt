@@ -4,9 +4,10 @@ mod faults;
 mod words;
 
 use crate::arguments::arguments_allowed;
-use crate::error::RunError;
-use crate::number::{Decimal, nine_digits, sign_of};
+use crate::number::{nine_digits, sign_of};
 use crate::runner::run;
+use ixdtf_buffers::decimal::Decimal;
+use ixdtf_buffers::error::RunError;
 use std::alloc::{AllocError, Global};
 use std::process::Abort;
 use std::test::Fail;

@@ -2,8 +2,8 @@
 ghost use Rattle.std.specs.Prelude.{◌≤◌};
 
 use super::{FIRST_ANSWER, LINES, STORED, Session, TWO_ANSWERS, TWO_LINES};
-use crate::error::RunError;
 use crate::runner::run;
+use ixdtf_buffers::error::RunError;
 use std::io;
 use std::io::{ErrorKind, Read, Write};
 use std::process::Abort;

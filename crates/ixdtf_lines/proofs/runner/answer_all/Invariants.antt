@@ -1,7 +1,7 @@
 -- Read after read.
 use Rattle.std.proofs.Common.{◌≡◌, ℕ, List}
 use Rattle.std.specs.Io.KnownBytes.{Consumes}
-use Rattle.ixdtf_lines.specs.Output.{written}
+use Rattle.ixdtf_buffers.specs.Output.{written}
 use Rattle.ixdtf_lines.specs.Progress.{Rests}
 use Rattle.ixdtf_lines.proofs.runner.answer_all.Given as goal
 

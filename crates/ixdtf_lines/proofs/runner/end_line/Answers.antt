@@ -1,7 +1,7 @@
 -- A newline.
 use Rattle.std.proofs.lemmas.Result.{err_from_is_err_and}
 use Rattle.ixdtf_lines.specs.AnswerText.{answer_text_of}
-use Rattle.ixdtf_lines.specs.Lines.{unended_of}
+use Rattle.ixdtf_buffers.specs.Lines.{unended_of}
 use Rattle.ixdtf_lines.proofs.Progress.{Stands-newline, WritesFront-newline}
 use Rattle.ixdtf_lines.proofs.runner.end_line.Goals as goal
 

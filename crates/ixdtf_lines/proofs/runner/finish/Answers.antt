@@ -2,7 +2,7 @@
 use Rattle.std.proofs.Common.{◌≢◌, [], sym, ◌∙◌, true≢false}
 use Rattle.std.proofs.lemmas.Result.{err_from_is_err_and}
 use Rattle.ixdtf_lines.specs.AnswerText.{answer_text_of}
-use Rattle.ixdtf_lines.specs.Lines.{unended_of}
+use Rattle.ixdtf_buffers.specs.Lines.{unended_of}
 use Rattle.ixdtf_lines.proofs.Progress.{Takes-ended, Takes-last, WritesFront-last, handed_on}
 use Rattle.ixdtf_lines.proofs.runner.finish.Goals as goal
 

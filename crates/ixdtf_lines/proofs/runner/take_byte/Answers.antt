@@ -1,6 +1,6 @@
 -- Another byte, and a newline.
 use Rattle.std.proofs.lemmas.Bool.{ne_eqb}
-use Rattle.ixdtf_lines.specs.Lines.{newline, unended_of}
+use Rattle.ixdtf_buffers.specs.Lines.{newline, unended_of}
 use Rattle.ixdtf_lines.proofs.Progress.{Stands-byte}
 use Rattle.ixdtf_lines.proofs.runner.take_byte.Goals as goal
 

@@ -1,0 +1,13 @@
+-- Another byte, and a newline.
+use Rattle.std.proofs.lemmas.Bool.{ne_eqb}
+use Rattle.ixdtf_buffers.specs.Lines.{newline, unended_of}
+use Rattle.ixdtf_check.proofs.ProgressLemmas.{Stands-byte}
+use Rattle.ixdtf_check.proofs.checker.take_byte.Goals as goal
+
+pub returns-then-byte-eq10-clause-reports : goal.returns-then-byte-eq10-clause-reports
+returns-then-byte-eq10-clause-reports g c = λ start read stands.
+    rw c.if-byte-eq10.true (c.end_line.ensures.reports start read stands)
+
+pub returns-clause-reports : goal.returns-clause-reports
+returns-clause-reports g c = λ start read stands.
+    Stands-byte c.args.byte (ne_eqb c.args.byte newline c.if-byte-eq10.false) stands (c.push.ensures (unended_of read) stands.pending)
