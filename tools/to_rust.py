@@ -91,9 +91,8 @@ CRATES = [
     Crate('crates/ixdtf_tests/src', 'rust/ixdtf/src', ['lib', 'tests/laws', 'tests/printing'], root='tests', tests=True),
     Crate('crates/ixdtf_print/src', 'rust/ixdtf_print/src', ends=PRINTER, above=True),
     Crate('crates/ixdtf_buffers/src', 'rust/ixdtf_buffers/src', ends=PROGRAM, above=True),
-    Crate('crates/ixdtf_lines/src', 'rust/ixdtf_lines/src', ['main', 'tests', 'tests/faults', 'tests/words'], root='lines', ends=PROGRAM, above=True),
-    Crate('crates/ixdtf_check/src', 'rust/ixdtf_check/src', ['main', 'tests', 'tests/arguments', 'tests/faults', 'tests/lines', 'watched'], root='check',
-          ends=PROGRAM, above=True),
+    Crate('crates/ixdtf_answers/src', 'rust/ixdtf_lines/src', ['lib'], ends=PROGRAM, above=True),
+    Crate('crates/ixdtf_checks/src', 'rust/ixdtf_check/src', ['lib'], ends=PROGRAM, above=True),
 ]
 WRITTEN_BY_HAND = {'rust/ixdtf/src/runtime.rs', 'rust/ixdtf/src/tests/printing.rs', 'rust/ixdtf_lines/src/main.rs', 'rust/ixdtf_check/src/main.rs'}
 DERIVES = {'Clone', 'Copy', 'Debug', 'Default', 'PartialEq'}

@@ -1,6 +1,13 @@
--- One more byte at the end of what was split into lines.
-use Rattle.std.proofs.Common.{◌≡◌, ℕ, Bool, true, false, if◌then◌else◌, ◌==◌, List, [], ◌∷◌, ◌++◌, refl, ap, ◌∙◌}
-use Rattle.ixdtf_buffers.specs.Lines.{newline, Split, before_split, split_of, ended_lines_of}
+-- More bytes at the end of what was split into lines.
+use Rattle.std.proofs.Common.{◌≡◌, ℕ, zero, suc, ◌+◌, ◌<◌, ◌≤◌, Bool, true, false, if◌then◌else◌, ◌==◌, List, [], ◌∷◌, ◌++◌, length, take, get_or, Option, Some, None, position, cond, nat_lt}
+use Rattle.std.proofs.Common.{refl, sym, ap, ◌∙◌, arith, append_assoc}
+use Rattle.std.proofs.lemmas.List.{append-nil, take_all, take_more}
+use Rattle.std.proofs.lemmas.List.Quantifiers.{position-Some}
+use Rattle.std.proofs.lemmas.List.Sums.{fails_before_first}
+use Rattle.std.proofs.lemmas.Option.{none-some}
+use Rattle.std.proofs.lemmas.Bool.{eqb-true, ltb-false}
+use Rattle.std.specs.List.{position_or_len}
+use Rattle.ixdtf_buffers.specs.Lines.{newline, is_byte, Split, before_split, split_of, ended_lines_of, unended_of}
 
 -- a split with one more line, which has ended
 abbrev ended_more : Split → Split
@@ -65,3 +72,54 @@ unfolding split_of
 ended_lines_of-append [] more = (ended_lines_of more, refl)
 ended_lines_of-append (byte ∷ bytes) more =
     step_more (byte == newline) byte (split_of bytes) (split_of (bytes ++ more)) (ended_lines_of-append bytes more)
+
+-- one more byte of a chunk
+pub take_step : (read bytes : List ℕ) (i : ℕ) → i < length bytes
+    → (read ++ take i bytes) ++ get_or bytes i 0 ∷ [] ≡ read ++ take (i + 1) bytes
+take_step read bytes i inside = append_assoc read _ _ ∙ ap (λ (t : List ℕ). read ++ t) (sym (take_more bytes i 0 inside))
+
+-- a split with more bytes at the end, none of which is a newline
+abbrev pub unended_by : Split → List ℕ → Split
+unended_by s more = record { ended = s.ended; unended = s.unended ++ more }
+
+-- bytes without a newline go onto the line
+split_of-front : (bytes more : List ℕ) (n : ℕ) → n ≤ length more → ((k : ℕ) → k < n → (get_or more k 0 == newline) ≡ false)
+    → split_of (bytes ++ take n more) ≡ unended_by (split_of bytes) (take n more)
+split_of-front bytes more zero within others =
+    ap split_of (append-nil bytes) ∙ ap (λ (t : List ℕ). record { ended = ended_lines_of bytes; unended = t }) (sym (append-nil (unended_of bytes)))
+split_of-front bytes more (suc n) within others =
+    let inside : n < length more = omega (arith, within) in
+    let byte = get_or more n 0 in
+    let before = split_of-front bytes more n (omega (arith, within)) (λ k less. others k (omega (arith, less))) in
+    let other = others n (omega arith) in
+    let next : suc n ≡ n + 1 = omega arith in
+    rw next
+    (ap split_of (sym (take_step bytes more n inside)) ∙ split_of-byte (bytes ++ take n more) byte other ∙ ap (λ s. unended_more s byte) before
+    ∙ ap (λ (t : List ℕ). record { ended = ended_lines_of bytes; unended = t }) (take_step (unended_of bytes) more n inside))
+
+-- no byte passes where there is no first one
+position-None : (p : ℕ → Bool) (xs : List ℕ) → None ≡ position p xs → (k : ℕ) → k < length xs → p (get_or xs k 0) ≡ false
+position-None p xs none k inside = step (nat_lt place (length xs)) refl none
+  where
+    place : ℕ
+    place = position_or_len p xs
+
+    step : (test : Bool) → nat_lt place (length xs) ≡ test → None ≡ cond test (Some place) None → p (get_or xs k 0) ≡ false
+    step true is none = absurd (none-some place none)
+    step false is none = fails_before_first p xs k 0 (omega (arith, inside, ltb-false _ _ is))
+
+-- bytes up to the first newline end the line
+pub split_of-line : (bytes more : List ℕ) (place : ℕ) → Some place ≡ position (is_byte newline) more
+    → split_of (bytes ++ take (place + 1) more) ≡ ended_more (unended_by (split_of bytes) (take place more))
+split_of-line bytes more place is =
+    let (inside, there, others) = position-Some (is_byte newline) more place 0 (sym is) in
+    let byte : get_or more place 0 ≡ newline = eqb-true (get_or more place 0) newline there in
+    ap split_of (sym (take_step bytes more place inside))
+    ∙ ap (λ (b : ℕ). split_of ((bytes ++ take place more) ++ b ∷ [])) byte ∙ split_of-newline (bytes ++ take place more)
+    ∙ ap ended_more (split_of-front bytes more place (omega (arith, inside)) others)
+
+-- bytes without a newline go onto the line
+pub split_of-rest : (bytes more : List ℕ) → None ≡ position (is_byte newline) more → split_of (bytes ++ more) ≡ unended_by (split_of bytes) more
+split_of-rest bytes more none =
+    let all : take (length more) more ≡ more = take_all (length more) more (omega arith) in
+    rw all at (split_of-front bytes more (length more) (omega arith) (position-None (is_byte newline) more none))

@@ -8,4 +8,5 @@ pub mod error;
 pub mod input;
 pub mod line;
 pub mod output;
+pub mod place;
 mod waiting;

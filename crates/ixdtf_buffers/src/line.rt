@@ -1,5 +1,5 @@
 //! The line that is being read.
-ghost use Rattle.std.specs.Prelude.{◌≡◌, ◌<◌, ◌≤◌, ◌↔◌, ℕ, List, [], ◌∷◌, ◌++◌, length, IsTrue, MatchOption};
+ghost use Rattle.std.specs.Prelude.{◌≡◌, ◌<◌, ◌≤◌, ◌↔◌, ℕ, List, [], ◌++◌, length, IsTrue, MatchOption};
 
 /// The bytes of a line so far, or that there were more than fit.
 #[derive(Drop)]
@@ -32,16 +32,19 @@ impl<const LIMIT: usize> Line<LIMIT> {
         self.is_too_long = false;
     }
 
-    /// Takes one more byte of the line.
-    pub fn push(&mut self, byte: u8)
-        ensures { (text : List ℕ) → Holds self.old text → Holds self.new (text ++ byte ∷ []) }
+    /// Takes more bytes of the line.
+    pub fn push_all(&mut self, bytes: &[u8])
+        ensures { (text : List ℕ) → Holds self.old text → Holds self.new (text ++ bytes.now) }
     {
-        if self.count < LIMIT {
-            self.bytes[self.count] = byte;
-            self.count += 1;
-        } else {
+        if bytes.len() > LIMIT - self.count {
             self.is_too_long = true;
+            return;
         }
+        let start = self.count;
+        let end = start + bytes.len();
+        let room = &mut self.bytes[..];
+        room[start..end].copy_from_slice(bytes);
+        self.count = end;
     }
 
     /// Whether the line has no byte so far.

@@ -1,32 +1,17 @@
 //! Checks the lines of files: which are wrong, where, and why.
 #![tactic(auto)]
 
-mod arguments;
-mod checker;
-mod judge;
-mod kept;
-mod kind;
-mod part;
-mod printed;
-mod reading;
-mod report;
-mod request;
-mod status;
-mod tally;
-#[cfg(test)]
-mod tests;
-mod verdict;
 mod watched;
 
-use arguments::{Options, Word};
-use checker::check;
 use ixdtf_buffers::error::RunError;
-use status::status_of;
+use ixdtf_checks::arguments::{Options, Word};
+use ixdtf_checks::checker::check;
+use ixdtf_checks::status::status_of;
+use ixdtf_checks::tally::Tally;
 use std::fs::File;
 use std::io::{Eprint, Read};
 use std::process::ExitCode;
 use std::{env, fmt};
-use tally::Tally;
 use watched::Watched;
 
 const USAGE: &str = "\

@@ -11,4 +11,5 @@ pub mod error;
 pub mod input;
 pub mod line;
 pub mod output;
+pub mod place;
 mod waiting;

@@ -25,14 +25,17 @@ impl<const LIMIT: usize> Line<LIMIT> {
         self.is_too_long = false;
     }
 
-    /// Takes one more byte of the line.
-    pub fn push(&mut self, byte: u8) {
-        if self.count < LIMIT {
-            self.bytes[self.count] = byte;
-            self.count += 1;
-        } else {
+    /// Takes more bytes of the line.
+    pub fn push_all(&mut self, bytes: &[u8]) {
+        if bytes.len() > LIMIT - self.count {
             self.is_too_long = true;
+            return;
         }
+        let start = self.count;
+        let end = start + bytes.len();
+        let room = &mut self.bytes[..];
+        room[start..end].copy_from_slice(bytes);
+        self.count = end;
     }
 
     /// Whether the line has no byte so far.

@@ -1,4 +1,4 @@
-// Made by tools/to_rust.py of crates/ixdtf_check/src/checker.rt. Do not edit.
+// Made by tools/to_rust.py of crates/ixdtf_checks/src/checker.rt. Do not edit.
 
 //! The check of all lines.
 
@@ -10,6 +10,7 @@ use crate::tally::Tally;
 use ixdtf_buffers::error::RunError;
 use ixdtf_buffers::input::read_some;
 use ixdtf_buffers::output::Output;
+use ixdtf_buffers::place::place_of;
 use std::io::{Read, Write};
 
 /// The bytes that one read asks for.
@@ -65,35 +66,26 @@ fn check_bytes<W: Write>(
     request: &Request<'_>,
     bytes: &[u8],
 ) -> Result<(), RunError> {
-    for byte in bytes {
-        take_byte(output, kept, request, *byte)?;
+    let mut rest = bytes;
+    'lines: while let Some(place) = place_of(b'\n', rest) {
+        end_line(output, kept, request, &rest[..place])?;
+        rest = &rest[place + 1..];
     }
+    kept.line.push_all(rest);
     output.hand_on()
 }
 
-/// Takes a byte onto the line, or reports the line where the byte ends it.
-fn take_byte<W: Write>(
-    output: &mut Output<'_, W>,
-    kept: &mut Kept,
-    request: &Request<'_>,
-    byte: u8,
-) -> Result<(), RunError> {
-    if byte == b'\n' {
-        return end_line(output, kept, request);
-    }
-    kept.line.push(byte);
-    Ok(())
-}
-
-/// Reports the line, whose newline was read, and begins the next one.
+/// Takes the last bytes of a line, reports it, and begins the next one.
 ///
-/// It is not inlined: what a report needs is cleared on entry, here once a line and not once a byte.
+/// It is not inlined: what a report needs is cleared on entry.
 #[inline(never)]
 fn end_line<W: Write>(
     output: &mut Output<'_, W>,
     kept: &mut Kept,
     request: &Request<'_>,
+    bytes: &[u8],
 ) -> Result<(), RunError> {
+    kept.line.push_all(bytes);
     report_line(output, kept, request)?;
     kept.line.clear();
     Ok(())

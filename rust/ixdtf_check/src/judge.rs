@@ -1,4 +1,4 @@
-// Made by tools/to_rust.py of crates/ixdtf_check/src/judge.rt. Do not edit.
+// Made by tools/to_rust.py of crates/ixdtf_checks/src/judge.rt. Do not edit.
 
 //! Which verdict a line gets.
 

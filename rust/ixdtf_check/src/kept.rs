@@ -1,4 +1,4 @@
-// Made by tools/to_rust.py of crates/ixdtf_check/src/kept.rt. Do not edit.
+// Made by tools/to_rust.py of crates/ixdtf_checks/src/kept.rt. Do not edit.
 
 //! What a check keeps from one byte to the next.
 

@@ -1,4 +1,4 @@
-// Made by tools/to_rust.py of crates/ixdtf_check/src/kind.rt. Do not edit.
+// Made by tools/to_rust.py of crates/ixdtf_checks/src/kind.rt. Do not edit.
 
 //! The kinds of texts.
 

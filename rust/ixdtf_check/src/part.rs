@@ -1,8 +1,9 @@
-// Made by tools/to_rust.py of crates/ixdtf_check/src/part.rt. Do not edit.
+// Made by tools/to_rust.py of crates/ixdtf_checks/src/part.rt. Do not edit.
 
 //! The part of a line that is its text.
 
 use crate::request::Field;
+use ixdtf_buffers::place::place_of;
 
 /// A part of a line.
 #[derive(Clone, Copy)]
@@ -48,7 +49,7 @@ fn field_start(separator: u8, before: usize, line: &[u8]) -> Option<usize> {
     let mut start = 0;
     let mut left = before;
     while left > 0 {
-        match first_separator(separator, &line[start..]) {
+        match place_of(separator, &line[start..]) {
             None => return None,
             Some(place) => start += place + 1,
         }
@@ -59,13 +60,8 @@ fn field_start(separator: u8, before: usize, line: &[u8]) -> Option<usize> {
 
 /// The field at the front.
 fn front_field(separator: u8, line: &[u8]) -> &[u8] {
-    match first_separator(separator, line) {
+    match place_of(separator, line) {
         None => line,
         Some(place) => &line[..place],
     }
-}
-
-/// Where the first separator stands.
-fn first_separator(separator: u8, line: &[u8]) -> Option<usize> {
-    line.iter().position(|byte| *byte == separator)
 }

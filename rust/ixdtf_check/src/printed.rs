@@ -1,4 +1,4 @@
-// Made by tools/to_rust.py of crates/ixdtf_check/src/printed.rt. Do not edit.
+// Made by tools/to_rust.py of crates/ixdtf_checks/src/printed.rt. Do not edit.
 
 //! The canonical text that was printed last.
 

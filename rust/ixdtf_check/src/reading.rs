@@ -1,4 +1,4 @@
-// Made by tools/to_rust.py of crates/ixdtf_check/src/reading.rt. Do not edit.
+// Made by tools/to_rust.py of crates/ixdtf_checks/src/reading.rt. Do not edit.
 
 //! Reading a text.
 

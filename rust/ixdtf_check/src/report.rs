@@ -1,4 +1,4 @@
-// Made by tools/to_rust.py of crates/ixdtf_check/src/report.rt. Do not edit.
+// Made by tools/to_rust.py of crates/ixdtf_checks/src/report.rt. Do not edit.
 
 //! What is written of a line.
 

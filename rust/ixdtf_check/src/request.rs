@@ -1,4 +1,4 @@
-// Made by tools/to_rust.py of crates/ixdtf_check/src/request.rt. Do not edit.
+// Made by tools/to_rust.py of crates/ixdtf_checks/src/request.rt. Do not edit.
 
 //! What is asked of a check.
 

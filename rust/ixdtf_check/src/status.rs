@@ -1,4 +1,4 @@
-// Made by tools/to_rust.py of crates/ixdtf_check/src/status.rt. Do not edit.
+// Made by tools/to_rust.py of crates/ixdtf_checks/src/status.rt. Do not edit.
 
 //! The status with which the program ends.
 

@@ -1,4 +1,4 @@
-// Made by tools/to_rust.py of crates/ixdtf_check/src/tally.rt. Do not edit.
+// Made by tools/to_rust.py of crates/ixdtf_checks/src/tally.rt. Do not edit.
 
 //! How many lines there were.
 

@@ -1,4 +1,4 @@
-// Made by tools/to_rust.py of crates/ixdtf_check/src/verdict.rt. Do not edit.
+// Made by tools/to_rust.py of crates/ixdtf_checks/src/verdict.rt. Do not edit.
 
 //! What comes of a line.
 

@@ -1,4 +1,4 @@
-// Made by tools/to_rust.py of crates/ixdtf_lines/src/answer.rt. Do not edit.
+// Made by tools/to_rust.py of crates/ixdtf_answers/src/answer.rt. Do not edit.
 
 //! The answer to a line.
 
@@ -9,6 +9,7 @@ use ixdtf::ParseError;
 use ixdtf_buffers::error::RunError;
 use ixdtf_buffers::line::Line;
 use ixdtf_buffers::output::Output;
+use ixdtf_buffers::place::place_of;
 use std::io::Write;
 
 /// The longest line that is read, in bytes.
@@ -36,7 +37,7 @@ pub fn answer_to(line: &Line<LINE_LIMIT>) -> Answer<'_> {
 
 /// The answer to a line that is not too long.
 fn answer_to_short(line: &[u8]) -> Answer<'_> {
-    let Some(place) = first_space(line) else {
+    let Some(place) = place_of(b' ', line) else {
         return Answer::NoSuchReader;
     };
     let Some(word) = Word::named(&line[..place]) else {
@@ -46,11 +47,6 @@ fn answer_to_short(line: &[u8]) -> Answer<'_> {
         Ok(found) => Answer::Found(found),
         Err(error) => Answer::Refused(error),
     }
-}
-
-/// Where the first space stands.
-fn first_space(line: &[u8]) -> Option<usize> {
-    line.iter().position(|byte| *byte == b' ')
 }
 
 /// Puts the answer, and a newline.

@@ -1,9 +1,9 @@
-// Made by tools/to_rust.py of crates/ixdtf_lines/src/fields.rt. Do not edit.
+// Made by tools/to_rust.py of crates/ixdtf_answers/src/fields.rt. Do not edit.
 
 //! The fields of what a reader found.
 
 use crate::found::Found;
-use crate::number::{nine_digits, sign_of};
+use crate::number::nine_digits;
 use crate::printed::PrintedRecord;
 use ixdtf::encoding::Utf8;
 use ixdtf::records::{
@@ -11,7 +11,7 @@ use ixdtf::records::{
     IxdtfParseRecord, MinutePrecisionOffset, Sign, TimeDurationRecord, TimeRecord,
     TimeZoneAnnotation, TimeZoneRecord, UtcOffsetRecord, UtcOffsetRecordOrZ,
 };
-use ixdtf_buffers::decimal::Decimal;
+use ixdtf_buffers::decimal::{Decimal, sign_of};
 use ixdtf_buffers::error::RunError;
 use ixdtf_buffers::output::Output;
 use ixdtf_print::print;

@@ -1,15 +1,6 @@
-// Made by tools/to_rust.py of crates/ixdtf_lines/src/number.rt. Do not edit.
+// Made by tools/to_rust.py of crates/ixdtf_answers/src/number.rt. Do not edit.
 
-//! Numbers as text.
-
-/// What stands before the digits of a signed number.
-pub fn sign_of(number: i32) -> &'static [u8] {
-    if number < 0 {
-        b"-".as_slice()
-    } else {
-        b"".as_slice()
-    }
-}
+//! Nanoseconds as text.
 
 /// Nanoseconds as nine digits, with leading zeros.
 pub fn nine_digits(nanoseconds: u32) -> [u8; 9] {
