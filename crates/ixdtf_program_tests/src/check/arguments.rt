@@ -1,11 +1,11 @@
 //! What the arguments ask for.
 
+use ixdtf::parsers::Profile;
 use ixdtf_checks::arguments::{Options, Word};
 use ixdtf_checks::kind::Kind;
 use ixdtf_checks::request::{Field, Task};
 use ixdtf_checks::status::status_of;
 use ixdtf_checks::tally::Tally;
-use ixdtf::parsers::Profile;
 use std::process::Abort;
 
 /// What the options are after words that belong to options.

@@ -1,11 +1,11 @@
 //! Readers and writers that fail.
 
+use ixdtf::parsers::Profile;
+use ixdtf_buffers::error::RunError;
 use ixdtf_checks::checker::{Checked, check};
 use ixdtf_checks::kind::Kind;
 use ixdtf_checks::request::{Request, Task};
 use ixdtf_checks::tally::Tally;
-use ixdtf::parsers::Profile;
-use ixdtf_buffers::error::RunError;
 use std::io;
 use std::io::{ErrorKind, Read, Write};
 use std::test::Fail;

@@ -1,9 +1,9 @@
 //! Worked lines.
 
 use super::check_written;
+use ixdtf::parsers::Profile;
 use ixdtf_checks::kind::Kind;
 use ixdtf_checks::request::{Field, Request, Task};
-use ixdtf::parsers::Profile;
 use std::test::Fail;
 
 const DATE_TIMES: Request<'static> = Request {
