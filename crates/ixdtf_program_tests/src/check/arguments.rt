@@ -57,41 +57,45 @@ fn asks_for_date_times_where_nothing_is_said(rt: HostRuntime) {
     assert!(rt; !request.is_quiet);
 }
 
+/// Words that ask for something, or do not go together.
+const TOGETHER: &[(&[&str], bool)] = &[
+    (&[], true),
+    (&["--separator", ";"], false),
+    (&["--kind"], false),
+    (&["--kind", "time", "--canonical"], false),
+    (&["--kind", "date-time", "--canonical"], true),
+];
+
 #[test]
 fn refuses_words_that_do_not_go_together(rt: HostRuntime) {
-    assert!(rt;
-        options_of(&rt, &["--separator", ";"])
-            .request("f")
-            .is_none()
-    );
-    assert!(rt; options_of(&rt, &["--kind"]).request("f").is_none());
-    assert!(rt;
-        options_of(&rt, &["--kind", "time", "--canonical"])
-            .request("f")
-            .is_none()
-    );
-    assert!(rt;
-        options_of(&rt, &["--kind", "date-time", "--canonical"])
-            .request("f")
-            .is_some()
-    );
+    for (words, wanted) in TOGETHER {
+        let options = options_of(&rt, words);
+        assert_eq!(rt; options.request("f").is_some(), *wanted);
+    }
 }
+
+/// Words in turn, and what each is.
+const WORDS: &[(&str, Word)] = &[
+    ("dates", Word::File),
+    ("-", Word::File),
+    ("--help", Word::Help),
+    ("--kinds", Word::Unknown),
+    ("--field", Word::Option),
+    ("0", Word::Unknown),
+    ("--kind", Word::Option),
+    ("date", Word::Unknown),
+    ("--separator", Word::Option),
+    (",,", Word::Unknown),
+    ("--", Word::Option),
+    ("--help", Word::File),
+];
 
 #[test]
 fn tells_files_from_options(rt: HostRuntime) {
     let mut options = Options::new();
-    assert_eq!(rt; options.take("dates"), Word::File);
-    assert_eq!(rt; options.take("-"), Word::File);
-    assert_eq!(rt; options.take("--help"), Word::Help);
-    assert_eq!(rt; options.take("--kinds"), Word::Unknown);
-    assert_eq!(rt; options.take("--field"), Word::Option);
-    assert_eq!(rt; options.take("0"), Word::Unknown);
-    assert_eq!(rt; options.take("--kind"), Word::Option);
-    assert_eq!(rt; options.take("date"), Word::Unknown);
-    assert_eq!(rt; options.take("--separator"), Word::Option);
-    assert_eq!(rt; options.take(",,"), Word::Unknown);
-    assert_eq!(rt; options.take("--"), Word::Option);
-    assert_eq!(rt; options.take("--help"), Word::File);
+    for (word, wanted) in WORDS {
+        assert_eq!(rt; options.take(word), *wanted);
+    }
 }
 
 #[test]

@@ -14,13 +14,6 @@ const DATE_TIMES: Request<'static> = Request {
     is_quiet: false,
 };
 
-/// A request for another kind.
-fn of_kind(kind: Kind) -> Request<'static> {
-    let mut request = DATE_TIMES;
-    request.task = Task::Check(kind);
-    request
-}
-
 const MIXED: &[u8] = b"2024-03-02T08:48:00Z\n2020-W01-1\n\n2021-02-29\r\n2020-01-01\r\n2020-13-01";
 
 const MIXED_REPORTS: &[u8] = b"f:2:6: Invalid character while parsing month value.\n\
@@ -43,59 +36,54 @@ fn counts_in_quiet(rt: HostRuntime) -> Result<(), Fail> {
     check_written(&rt, rt.alloc(), &request, MIXED, b"", (6, 4))
 }
 
+/// A kind, a profile, a text of the kind, and what is written of it.
+const TEXTS: &[(Kind, Profile, &str, &str)] = &[
+    (Kind::DateTime, Profile::Crate, "2020-01-01", ""),
+    (Kind::YearMonth, Profile::Crate, "2020-11", ""),
+    (Kind::MonthDay, Profile::Crate, "--11-07", ""),
+    (Kind::Time, Profile::Crate, "T12:30", ""),
+    (Kind::Offset, Profile::Crate, "+05:30", ""),
+    (Kind::Zone, Profile::Crate, "-05:00", ""),
+    (Kind::ZoneName, Profile::Crate, "America/Chicago", ""),
+    (Kind::Duration, Profile::Crate, "P1Y2M", ""),
+    (
+        Kind::YearMonth,
+        Profile::Crate,
+        "2020",
+        "f:1:5: Parsing ended abruptly while parsing digit\n2020\n    ^\n",
+    ),
+    (
+        Kind::ZoneName,
+        Profile::Crate,
+        "America/",
+        "f:1:9: Expected time zone character after '/'.\nAmerica/\n        ^\n",
+    ),
+    (Kind::MonthDay, Profile::Crate, "11-00", ""),
+    (
+        Kind::MonthDay,
+        Profile::Strict,
+        "11-00",
+        "f:1:6: MonthDay was not valid.\n11-00\n     ^\n",
+    ),
+];
+
 #[test]
 fn reads_each_kind(rt: HostRuntime) -> Result<(), Fail> {
-    let rows: [(Kind, &[u8], &[u8]); 8] = [
-        (Kind::DateTime, b"2020-01-01", b""),
-        (Kind::YearMonth, b"2020-11", b""),
-        (Kind::MonthDay, b"--11-07", b""),
-        (Kind::Time, b"T12:30", b""),
-        (Kind::Offset, b"+05:30", b""),
-        (Kind::Zone, b"-05:00", b""),
-        (Kind::ZoneName, b"America/Chicago", b""),
-        (Kind::Duration, b"P1Y2M", b""),
-    ];
-    for (kind, text, reports) in rows {
-        check_written(&rt, rt.alloc(), &of_kind(kind), text, reports, (1, 0))?;
+    for (kind, profile, text, report) in TEXTS {
+        let mut request = DATE_TIMES;
+        request.task = Task::Check(*kind);
+        request.profile = *profile;
+        let refused = u64::from(!report.is_empty());
+        check_written(
+            &rt,
+            rt.alloc(),
+            &request,
+            text.as_bytes(),
+            report.as_bytes(),
+            (1, refused),
+        )?;
     }
     Ok(())
-}
-
-#[test]
-fn refuses_by_kind(rt: HostRuntime) -> Result<(), Fail> {
-    let year_month = of_kind(Kind::YearMonth);
-    check_written(
-        &rt,
-        rt.alloc(),
-        &year_month,
-        b"2020",
-        b"f:1:5: Parsing ended abruptly while parsing digit\n2020\n    ^\n",
-        (1, 1),
-    )?;
-    let zone_name = of_kind(Kind::ZoneName);
-    check_written(
-        &rt,
-        rt.alloc(),
-        &zone_name,
-        b"America/",
-        b"f:1:9: Expected time zone character after '/'.\nAmerica/\n        ^\n",
-        (1, 1),
-    )
-}
-
-#[test]
-fn reads_under_the_profile(rt: HostRuntime) -> Result<(), Fail> {
-    let mut request = of_kind(Kind::MonthDay);
-    check_written(&rt, rt.alloc(), &request, b"11-00", b"", (1, 0))?;
-    request.profile = Profile::Strict;
-    check_written(
-        &rt,
-        rt.alloc(),
-        &request,
-        b"11-00",
-        b"f:1:6: MonthDay was not valid.\n11-00\n     ^\n",
-        (1, 1),
-    )
 }
 
 #[test]
