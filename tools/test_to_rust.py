@@ -11,7 +11,8 @@ import unittest
 TOP = os.path.abspath(os.path.join(os.path.dirname(os.path.abspath(__file__)), '..'))
 PAIRS = [('crates/ixdtf/src', 'rust/ixdtf/src'), ('crates/ixdtf_tests/src', 'rust/ixdtf/src'),
          ('crates/ixdtf_callers/src', 'rust/ixdtf/src'),
-         ('crates/ixdtf_print/src', 'rust/ixdtf_print/src'), ('crates/ixdtf_lines/src', 'rust/ixdtf_lines/src'),
+         ('crates/ixdtf_print/src', 'rust/ixdtf_print/src'), ('crates/ixdtf_answers/src', 'rust/ixdtf_lines/src'),
+         ('crates/ixdtf_buffers/src', 'rust/ixdtf_buffers/src'), ('crates/ixdtf_checks/src', 'rust/ixdtf_check/src'),
          ('crates/ixdtf_c/src', 'rust/ixdtf_c/src')]
 # the layers of the library, whose modules stand at the root of the made crate, or else in `parsers`
 LAYERS = ['grammar', 'reading', 'times', 'brackets', 'durations']
@@ -20,7 +21,7 @@ PAIRS += [(f'crates/ixdtf_{layer}/src', 'rust/ixdtf/src') for layer in LAYERS]
 
 
 # crates whose root file is made
-WITH_ROOTS = {'crates/ixdtf/src', 'crates/ixdtf_print/src', 'crates/ixdtf_lines/src', 'crates/ixdtf_c/src'}
+WITH_ROOTS = {'crates/ixdtf/src', 'crates/ixdtf_print/src', 'crates/ixdtf_buffers/src', 'crates/ixdtf_c/src'}
 # files of the made crates that are written by hand, by their modules
 BY_HAND = {'main', 'tests/printing', 'abort', 'slices'}
 

@@ -108,10 +108,12 @@ CRATES = [
     Crate('crates/ixdtf_callers/src', 'rust/ixdtf/src', ['lib'], root='callers', tests=True),
     Crate('crates/ixdtf_tests/src', 'rust/ixdtf/src', ['lib', 'tests/laws', 'tests/printing'], root='tests', tests=True),
     Crate('crates/ixdtf_print/src', 'rust/ixdtf_print/src', ['laws'], ends=PRINTER, above=True),
-    Crate('crates/ixdtf_lines/src', 'rust/ixdtf_lines/src', ['main', 'tests'], root='lines', ends=PROGRAM, above=True),
+    Crate('crates/ixdtf_buffers/src', 'rust/ixdtf_buffers/src', ends=PROGRAM, above=True),
+    Crate('crates/ixdtf_answers/src', 'rust/ixdtf_lines/src', ['lib'], ends=PROGRAM, above=True),
+    Crate('crates/ixdtf_checks/src', 'rust/ixdtf_check/src', ['lib'], ends=PROGRAM, above=True),
     Crate('crates/ixdtf_c/src', 'rust/ixdtf_c/src', ['laws', 'turns', 'tests'], ends=FOR_C, above=True, exports=True),
 ]
-WRITTEN_BY_HAND = {'rust/ixdtf/src/runtime.rs', 'rust/ixdtf/src/tests/printing.rs', 'rust/ixdtf_lines/src/main.rs',
+WRITTEN_BY_HAND = {'rust/ixdtf/src/runtime.rs', 'rust/ixdtf/src/tests/printing.rs', 'rust/ixdtf_lines/src/main.rs', 'rust/ixdtf_check/src/main.rs',
                    'rust/ixdtf_c/src/abort.rs', 'rust/ixdtf_c/src/slices.rs'}
 DERIVES = {'Clone', 'Copy', 'Debug', 'Default', 'PartialEq'}
 KEPT_ATTRIBUTES = {'inline(always)', 'inline(never)', 'cold', 'doc(hidden)'}
@@ -152,11 +154,11 @@ TEST_REFUSED = REFUSED - {'alloc', 'Global'}
 KEYWORDS = set('pub if match while for in return let else'.split())
 CALLED = {'handler'}
 STD_PATHS = {'std::fmt', 'std::error::Error', 'std::marker::PhantomData', 'std::mem::replace', 'std::fmt::Debug', 'std::io::{Read,Write}',
-             'std::io::Write'}
+             'std::io::Write', 'std::io::Read', 'std::fmt::Write', 'std::str'}
 STD_METHODS = set('get len is_ascii_digit is_ascii_alphabetic is_ascii_lowercase write_str as_bytes then_some pow is_ok'
                   ' is_none to_le_bytes saturating_add saturating_sub min map copied checked_mul checked_add unsigned_abs'
                   ' is_ascii_alphanumeric as_slice iter position is_empty copy_from_slice read write flush digit_count leading_value'
-                  ' chars len_utf8 is_control encode_utf8'.split())
+                  ' chars len_utf8 is_control encode_utf8 last is_some unwrap_or starts_with parse checked_sub'.split())
 # methods of the iterators over the characters of a text, and the heads of what they give
 ON_CHARACTERS = {('Chars', 'take'): 'Chars', ('Chars', 'skip'): 'Chars', ('Chars', 'count'): 'usize'}
 CALLED_ON_CHARACTERS = {method for _, method in ON_CHARACTERS}
@@ -164,7 +166,7 @@ OWN_PATHS = {'self', 'crate', 'Self', 'T', 'C', 'E', 'L'}
 HIDDEN = '# [ doc ( hidden ) ] pub fn'.split()
 # hidden, and called by crates above the library too
 CALLED_FROM_ABOVE = {'of_parts'}
-STD_CALLS = {'u64::from', 'u64::from_le_bytes', 'u32::from', 'u16::from', 'usize::from', 'u128::from', 'i32::from', 'u32::try_from', 'fmt::Debug::fmt'}
+STD_CALLS = {'u64::from', 'u64::from_le_bytes', 'u32::from', 'u16::from', 'usize::from', 'u128::from', 'i32::from', 'u32::try_from', 'fmt::Debug::fmt', 'str::from_utf8'}
 # the names of the methods of `core`, as its documents of Rust 1.95 have them (`id="method.NAME"` and `id="tymethod.NAME"`)
 with open(os.path.join(os.path.dirname(os.path.abspath(__file__)), 'core_methods.txt'), encoding='ascii') as names:
     CORE_METHODS = set(names.read().split())

@@ -1,24 +1,9 @@
 //! Answers each line of standard input by a line on standard output.
 #![tactic(auto)]
 
-mod answer;
-mod arguments;
-mod error;
-mod fields;
-mod found;
-mod line;
-mod number;
-mod output;
-mod printed;
-mod runner;
-#[cfg(test)]
-mod tests;
-mod waiting;
-mod word;
-
-use arguments::arguments_allowed;
-use error::RunError;
-use runner::run;
+use ixdtf_answers::arguments::arguments_allowed;
+use ixdtf_answers::runner::run;
+use ixdtf_buffers::error::RunError;
 use std::env;
 use std::io::Eprint;
 use std::process::ExitCode;

@@ -1,14 +1,19 @@
-// Made by tools/to_rust.py of crates/ixdtf_lines/src/answer.rt. Do not edit.
+// Made by tools/to_rust.py of crates/ixdtf_answers/src/answer.rt. Do not edit.
 
 //! The answer to a line.
 
-use crate::error::RunError;
+use crate::fields::put_fields;
 use crate::found::{Found, read};
-use crate::line::Line;
-use crate::output::Output;
 use crate::word::Word;
 use ixdtf::ParseError;
+use ixdtf_buffers::error::RunError;
+use ixdtf_buffers::line::Line;
+use ixdtf_buffers::output::Output;
+use ixdtf_buffers::place::place_of;
 use std::io::Write;
+
+/// The longest line that is read, in bytes.
+pub const LINE_LIMIT: usize = 4096;
 
 /// The answer to a line.
 pub enum Answer<'a> {
@@ -23,7 +28,7 @@ pub enum Answer<'a> {
 }
 
 /// What is found in the line, or why the line is refused.
-pub fn answer_to(line: &Line) -> Answer<'_> {
+pub fn answer_to(line: &Line<LINE_LIMIT>) -> Answer<'_> {
     match line.as_slice() {
         None => Answer::TooLong,
         Some(text) => answer_to_short(text),
@@ -32,7 +37,7 @@ pub fn answer_to(line: &Line) -> Answer<'_> {
 
 /// The answer to a line that is not too long.
 fn answer_to_short(line: &[u8]) -> Answer<'_> {
-    let Some(place) = first_space(line) else {
+    let Some(place) = place_of(b' ', line) else {
         return Answer::NoSuchReader;
     };
     let Some(word) = Word::named(&line[..place]) else {
@@ -44,39 +49,32 @@ fn answer_to_short(line: &[u8]) -> Answer<'_> {
     }
 }
 
-/// Where the first space stands.
-fn first_space(line: &[u8]) -> Option<usize> {
-    line.iter().position(|byte| *byte == b' ')
+/// Puts the answer, and a newline.
+pub fn put_answer<W: Write>(output: &mut Output<'_, W>, answer: &Answer<'_>) -> Result<(), RunError> {
+    match answer {
+        Answer::Found(found) => put_found(output, found),
+        Answer::TooLong => output.put(b"error line too long\n"),
+        Answer::NoSuchReader => output.put(b"error unknown reader\n"),
+        Answer::Refused(error) => put_error(output, *error),
+    }
 }
 
-impl<W: Write> Output<'_, W> {
-    /// Puts the answer, and a newline.
-    pub fn put_answer(&mut self, answer: &Answer<'_>) -> Result<(), RunError> {
-        match answer {
-            Answer::Found(found) => self.put_found(found),
-            Answer::TooLong => self.put(b"error line too long\n"),
-            Answer::NoSuchReader => self.put(b"error unknown reader\n"),
-            Answer::Refused(error) => self.put_error(*error),
-        }
-    }
+/// Puts the answer to a text that is read, and a newline.
+fn put_found<W: Write>(output: &mut Output<'_, W>, found: &Found<'_>) -> Result<(), RunError> {
+    output.put(b"ok")?;
+    put_fields(output, found)?;
+    output.put(b"\n")
+}
 
-    /// Puts the answer to a text that is read, and a newline.
-    fn put_found(&mut self, found: &Found<'_>) -> Result<(), RunError> {
-        self.put(b"ok")?;
-        self.put_fields(found)?;
-        self.put(b"\n")
-    }
-
-    /// Puts the answer to a text that is refused, and a newline.
-    fn put_error(&mut self, error: ParseError) -> Result<(), RunError> {
-        let (text, location) = error_parts(error);
-        self.put_all(&[
-            b"error ".as_slice(),
-            text.as_bytes(),
-            location.as_bytes(),
-            b"\n".as_slice(),
-        ])
-    }
+/// Puts the answer to a text that is refused, and a newline.
+fn put_error<W: Write>(output: &mut Output<'_, W>, error: ParseError) -> Result<(), RunError> {
+    let (text, location) = error_parts(error);
+    output.put_all(&[
+        b"error ".as_slice(),
+        text.as_bytes(),
+        location.as_bytes(),
+        b"\n".as_slice(),
+    ])
 }
 
 /// The two parts of what Display writes.

@@ -1,4 +1,4 @@
-// Made by tools/to_rust.py of crates/ixdtf_lines/src/arguments.rt. Do not edit.
+// Made by tools/to_rust.py of crates/ixdtf_answers/src/arguments.rt. Do not edit.
 
 //! The words after the program's name.
 

@@ -1,11 +1,9 @@
-// Made by tools/to_rust.py of crates/ixdtf_lines/src/fields.rt. Do not edit.
+// Made by tools/to_rust.py of crates/ixdtf_answers/src/fields.rt. Do not edit.
 
 //! The fields of what a reader found.
 
-use crate::error::RunError;
 use crate::found::Found;
-use crate::number::{Decimal, nine_digits, sign_of};
-use crate::output::Output;
+use crate::number::nine_digits;
 use crate::printed::PrintedRecord;
 use ixdtf::encoding::Utf8;
 use ixdtf::records::{
@@ -13,265 +11,312 @@ use ixdtf::records::{
     IxdtfParseRecord, MinutePrecisionOffset, Sign, TimeDurationRecord, TimeRecord,
     TimeZoneAnnotation, TimeZoneRecord, UtcOffsetRecord, UtcOffsetRecordOrZ,
 };
+use ixdtf_buffers::decimal::{Decimal, sign_of};
+use ixdtf_buffers::error::RunError;
+use ixdtf_buffers::output::Output;
 use ixdtf_print::print;
 use std::io::Write;
 
 /// How many bytes the canonical text of a record that was read from a line has at most, and some more.
 const MOST_BYTES: usize = 4352;
 
-impl<W: Write> Output<'_, W> {
-    /// Puts each field of what a reader found, after a space.
-    pub fn put_fields(&mut self, found: &Found<'_>) -> Result<(), RunError> {
-        match found {
-            Found::Record(parts) => self.put_record(parts),
-            Found::Offset(offset) => self.put_offset(*offset),
-            Found::Zone(zone) => self.put_zone(false, zone),
-            Found::Name(name) => self.put_zone(false, &TimeZoneRecord::Name(name)),
-            Found::Duration(duration) => self.put_duration(*duration),
-            Found::Canonical(printed) => self.put_canonical(printed),
+/// Puts each field of what a reader found, after a space.
+pub fn put_fields<W: Write>(output: &mut Output<'_, W>, found: &Found<'_>) -> Result<(), RunError> {
+    match found {
+        Found::Record(parts) => put_record(output, parts),
+        Found::Offset(offset) => put_offset(output, *offset),
+        Found::Zone(zone) => put_zone(output, false, zone),
+        Found::Name(name) => put_zone(output, false, &TimeZoneRecord::Name(name)),
+        Found::Duration(duration) => put_duration(output, *duration),
+        Found::Canonical(printed) => put_canonical(output, printed),
+    }
+}
+
+/// Puts a space and the canonical text of the record.
+fn put_canonical<W: Write>(
+    output: &mut Output<'_, W>,
+    printed: &PrintedRecord<'_>,
+) -> Result<(), RunError> {
+    let mut text = [0; MOST_BYTES];
+    match print(&printed.parts, &mut text) {
+        Ok(count) => output.put_all(&[b" ".as_slice(), &text[..count]]),
+        Err(_) => unreachable!(),
+    }
+}
+
+/// Puts each field that the record has.
+fn put_record<W: Write>(
+    output: &mut Output<'_, W>,
+    parts: &IxdtfParseRecord<'_, Utf8>,
+) -> Result<(), RunError> {
+    put_date_field(output, parts.date)?;
+    put_time_field(output, parts.time)?;
+    put_offset_field(output, parts.offset)?;
+    put_zone_field(output, &parts.tz)?;
+    put_calendar_field(output, parts.calendar)
+}
+
+/// Puts the year, month and day, where there is a date.
+fn put_date_field<W: Write>(
+    output: &mut Output<'_, W>,
+    date: Option<DateRecord>,
+) -> Result<(), RunError> {
+    let Some(date) = date else {
+        return Ok(());
+    };
+    let year = Decimal::new(u64::from(date.year.unsigned_abs()));
+    let month = Decimal::new(u64::from(date.month));
+    let day = Decimal::new(u64::from(date.day));
+    output.put_all(&[
+        b" date=".as_slice(),
+        sign_of(date.year),
+        year.as_slice(),
+        b",".as_slice(),
+        month.as_slice(),
+        b",".as_slice(),
+        day.as_slice(),
+    ])
+}
+
+/// Puts the time and its fraction, where there is a time.
+fn put_time_field<W: Write>(
+    output: &mut Output<'_, W>,
+    time: Option<TimeRecord>,
+) -> Result<(), RunError> {
+    let Some(time) = time else {
+        return Ok(());
+    };
+    let fraction = time.fraction;
+    put_clock(output, time)?;
+    put_fraction(output, fraction)
+}
+
+/// Puts the hour, minute and second.
+fn put_clock<W: Write>(output: &mut Output<'_, W>, time: TimeRecord) -> Result<(), RunError> {
+    let hour = Decimal::new(u64::from(time.hour));
+    let minute = Decimal::new(u64::from(time.minute));
+    let second = Decimal::new(u64::from(time.second));
+    output.put_all(&[
+        b" time=".as_slice(),
+        hour.as_slice(),
+        b",".as_slice(),
+        minute.as_slice(),
+        b",".as_slice(),
+        second.as_slice(),
+    ])
+}
+
+/// Puts the fraction, where there is one, after the last number.
+fn put_fraction<W: Write>(
+    output: &mut Output<'_, W>,
+    fraction: Option<Fraction>,
+) -> Result<(), RunError> {
+    let Some(fraction) = fraction else {
+        return Ok(());
+    };
+    let digits = nine_digits(fraction.to_truncated_nanoseconds());
+    output.put_all(&[b".".as_slice(), digits.as_slice()])
+}
+
+/// Puts the offset, or `Z`, where there is one.
+fn put_offset_field<W: Write>(
+    output: &mut Output<'_, W>,
+    offset: Option<UtcOffsetRecordOrZ>,
+) -> Result<(), RunError> {
+    match offset {
+        None => Ok(()),
+        Some(UtcOffsetRecordOrZ::Offset(offset)) => put_offset(output, offset),
+        Some(UtcOffsetRecordOrZ::Z) => output.put(b" offset=Z"),
+    }
+}
+
+/// Puts the field of an offset in numbers.
+fn put_offset<W: Write>(output: &mut Output<'_, W>, offset: UtcOffsetRecord) -> Result<(), RunError> {
+    output.put(b" offset=")?;
+    match offset {
+        UtcOffsetRecord::MinutePrecision(offset) => put_minute_offset(output, offset),
+        UtcOffsetRecord::FullPrecisionOffset(offset) => put_full_offset(output, offset),
+        _ => unreachable!(),
+    }
+}
+
+/// Puts the sign, hours and minutes.
+fn put_minute_offset<W: Write>(
+    output: &mut Output<'_, W>,
+    offset: MinutePrecisionOffset,
+) -> Result<(), RunError> {
+    let hour = Decimal::new(u64::from(offset.hour));
+    let minute = Decimal::new(u64::from(offset.minute));
+    output.put_all(&[
+        mark_of(offset.sign),
+        hour.as_slice(),
+        b",".as_slice(),
+        minute.as_slice(),
+    ])
+}
+
+/// Puts the sign, hours, minutes and seconds, with the fraction.
+fn put_full_offset<W: Write>(
+    output: &mut Output<'_, W>,
+    offset: FullPrecisionOffset,
+) -> Result<(), RunError> {
+    let second = offset.second;
+    let fraction = offset.fraction;
+    put_minute_offset(output, offset.minute_precision_offset)?;
+    put_second(output, second)?;
+    put_fraction(output, fraction)
+}
+
+/// Puts the seconds of an offset.
+fn put_second<W: Write>(output: &mut Output<'_, W>, second: u8) -> Result<(), RunError> {
+    let second = Decimal::new(u64::from(second));
+    output.put_all(&[b",".as_slice(), second.as_slice()])
+}
+
+/// Puts the zone, where there is one.
+fn put_zone_field<W: Write>(
+    output: &mut Output<'_, W>,
+    note: &Option<TimeZoneAnnotation<'_, Utf8>>,
+) -> Result<(), RunError> {
+    match note {
+        None => Ok(()),
+        Some(note) => put_zone(output, note.critical, &note.tz),
+    }
+}
+
+/// Puts the field of a zone, which may be critical.
+fn put_zone<W: Write>(
+    output: &mut Output<'_, W>,
+    critical: bool,
+    zone: &TimeZoneRecord<'_, Utf8>,
+) -> Result<(), RunError> {
+    put_zone_label(output, critical)?;
+    match zone {
+        TimeZoneRecord::Name(name) => output.put(name),
+        TimeZoneRecord::Offset(offset) => put_minute_offset(output, *offset),
+        _ => unreachable!(),
+    }
+}
+
+/// Puts what stands before a zone.
+fn put_zone_label<W: Write>(output: &mut Output<'_, W>, critical: bool) -> Result<(), RunError> {
+    if critical {
+        output.put(b" tz=!")
+    } else {
+        output.put(b" tz=")
+    }
+}
+
+/// Puts the calendar, where there is one.
+fn put_calendar_field<W: Write>(
+    output: &mut Output<'_, W>,
+    calendar: Option<&[u8]>,
+) -> Result<(), RunError> {
+    match calendar {
+        None => Ok(()),
+        Some(bytes) => output.put_all(&[b" calendar=".as_slice(), bytes]),
+    }
+}
+
+/// Puts the sign of a duration, and its date and its time, where it has them.
+fn put_duration<W: Write>(
+    output: &mut Output<'_, W>,
+    duration: DurationParseRecord,
+) -> Result<(), RunError> {
+    let date = duration.date;
+    let time = duration.time;
+    put_sign_field(output, duration.sign)?;
+    put_date_duration_field(output, date)?;
+    put_time_duration_field(output, time)
+}
+
+/// Puts the sign of a duration.
+fn put_sign_field<W: Write>(output: &mut Output<'_, W>, sign: Sign) -> Result<(), RunError> {
+    output.put_all(&[b" sign=".as_slice(), mark_of(sign)])
+}
+
+/// Puts the years, months, weeks and days of a duration, where it has a date.
+fn put_date_duration_field<W: Write>(
+    output: &mut Output<'_, W>,
+    date: Option<DateDurationRecord>,
+) -> Result<(), RunError> {
+    let Some(date) = date else {
+        return Ok(());
+    };
+    let years = Decimal::new(u64::from(date.years));
+    let months = Decimal::new(u64::from(date.months));
+    let weeks = Decimal::new(u64::from(date.weeks));
+    let days = Decimal::new(date.days);
+    output.put_all(&[
+        b" date=".as_slice(),
+        years.as_slice(),
+        b",".as_slice(),
+        months.as_slice(),
+        b",".as_slice(),
+        weeks.as_slice(),
+        b",".as_slice(),
+        days.as_slice(),
+    ])
+}
+
+/// Puts the time of a duration, where it has one.
+fn put_time_duration_field<W: Write>(
+    output: &mut Output<'_, W>,
+    time: Option<TimeDurationRecord>,
+) -> Result<(), RunError> {
+    match time {
+        None => Ok(()),
+        Some(time) => put_time_duration(output, time),
+    }
+}
+
+/// Puts the time of a duration, with the fraction after its last number.
+fn put_time_duration<W: Write>(
+    output: &mut Output<'_, W>,
+    time: TimeDurationRecord,
+) -> Result<(), RunError> {
+    let fraction = last_fraction(&time);
+    put_time_numbers(output, &time)?;
+    put_fraction(output, fraction)
+}
+
+/// Puts the hours of a duration, and the minutes and seconds that it has.
+fn put_time_numbers<W: Write>(
+    output: &mut Output<'_, W>,
+    time: &TimeDurationRecord,
+) -> Result<(), RunError> {
+    match time {
+        TimeDurationRecord::Hours { hours, .. } => {
+            let hours = Decimal::new(*hours);
+            output.put_all(&[b" time=".as_slice(), hours.as_slice()])
         }
-    }
-
-    /// Puts a space and the canonical text of the record.
-    fn put_canonical(&mut self, printed: &PrintedRecord<'_>) -> Result<(), RunError> {
-        let mut text = [0; MOST_BYTES];
-        match print(&printed.parts, &mut text) {
-            Ok(count) => self.put_all(&[b" ".as_slice(), &text[..count]]),
-            Err(_) => unreachable!(),
+        TimeDurationRecord::Minutes { hours, minutes, .. } => {
+            let hours = Decimal::new(*hours);
+            let minutes = Decimal::new(*minutes);
+            output.put_all(&[
+                b" time=".as_slice(),
+                hours.as_slice(),
+                b",".as_slice(),
+                minutes.as_slice(),
+            ])
         }
-    }
-
-    /// Puts each field that the record has.
-    fn put_record(&mut self, parts: &IxdtfParseRecord<'_, Utf8>) -> Result<(), RunError> {
-        self.put_date_field(parts.date)?;
-        self.put_time_field(parts.time)?;
-        self.put_offset_field(parts.offset)?;
-        self.put_zone_field(&parts.tz)?;
-        self.put_calendar_field(parts.calendar)
-    }
-
-    /// Puts the year, month and day, where there is a date.
-    fn put_date_field(&mut self, date: Option<DateRecord>) -> Result<(), RunError> {
-        let Some(date) = date else {
-            return Ok(());
-        };
-        let year = Decimal::new(u64::from(date.year.unsigned_abs()));
-        let month = Decimal::new(u64::from(date.month));
-        let day = Decimal::new(u64::from(date.day));
-        self.put_all(&[
-            b" date=".as_slice(),
-            sign_of(date.year),
-            year.as_slice(),
-            b",".as_slice(),
-            month.as_slice(),
-            b",".as_slice(),
-            day.as_slice(),
-        ])
-    }
-
-    /// Puts the time and its fraction, where there is a time.
-    fn put_time_field(&mut self, time: Option<TimeRecord>) -> Result<(), RunError> {
-        let Some(time) = time else {
-            return Ok(());
-        };
-        let fraction = time.fraction;
-        self.put_clock(time)?;
-        self.put_fraction(fraction)
-    }
-
-    /// Puts the hour, minute and second.
-    fn put_clock(&mut self, time: TimeRecord) -> Result<(), RunError> {
-        let hour = Decimal::new(u64::from(time.hour));
-        let minute = Decimal::new(u64::from(time.minute));
-        let second = Decimal::new(u64::from(time.second));
-        self.put_all(&[
-            b" time=".as_slice(),
-            hour.as_slice(),
-            b",".as_slice(),
-            minute.as_slice(),
-            b",".as_slice(),
-            second.as_slice(),
-        ])
-    }
-
-    /// Puts the fraction, where there is one, after the last number.
-    fn put_fraction(&mut self, fraction: Option<Fraction>) -> Result<(), RunError> {
-        let Some(fraction) = fraction else {
-            return Ok(());
-        };
-        let digits = nine_digits(fraction.to_truncated_nanoseconds());
-        self.put_all(&[b".".as_slice(), digits.as_slice()])
-    }
-
-    /// Puts the offset, or `Z`, where there is one.
-    fn put_offset_field(&mut self, offset: Option<UtcOffsetRecordOrZ>) -> Result<(), RunError> {
-        match offset {
-            None => Ok(()),
-            Some(UtcOffsetRecordOrZ::Offset(offset)) => self.put_offset(offset),
-            Some(UtcOffsetRecordOrZ::Z) => self.put(b" offset=Z"),
-        }
-    }
-
-    /// Puts the field of an offset in numbers.
-    fn put_offset(&mut self, offset: UtcOffsetRecord) -> Result<(), RunError> {
-        self.put(b" offset=")?;
-        match offset {
-            UtcOffsetRecord::MinutePrecision(offset) => self.put_minute_offset(offset),
-            UtcOffsetRecord::FullPrecisionOffset(offset) => self.put_full_offset(offset),
-            _ => unreachable!(),
-        }
-    }
-
-    /// Puts the sign, hours and minutes.
-    fn put_minute_offset(&mut self, offset: MinutePrecisionOffset) -> Result<(), RunError> {
-        let hour = Decimal::new(u64::from(offset.hour));
-        let minute = Decimal::new(u64::from(offset.minute));
-        self.put_all(&[
-            mark_of(offset.sign),
-            hour.as_slice(),
-            b",".as_slice(),
-            minute.as_slice(),
-        ])
-    }
-
-    /// Puts the sign, hours, minutes and seconds, with the fraction.
-    fn put_full_offset(&mut self, offset: FullPrecisionOffset) -> Result<(), RunError> {
-        let second = offset.second;
-        let fraction = offset.fraction;
-        self.put_minute_offset(offset.minute_precision_offset)?;
-        self.put_second(second)?;
-        self.put_fraction(fraction)
-    }
-
-    /// Puts the seconds of an offset.
-    fn put_second(&mut self, second: u8) -> Result<(), RunError> {
-        let second = Decimal::new(u64::from(second));
-        self.put_all(&[b",".as_slice(), second.as_slice()])
-    }
-
-    /// Puts the zone, where there is one.
-    fn put_zone_field(
-        &mut self,
-        note: &Option<TimeZoneAnnotation<'_, Utf8>>,
-    ) -> Result<(), RunError> {
-        match note {
-            None => Ok(()),
-            Some(note) => self.put_zone(note.critical, &note.tz),
-        }
-    }
-
-    /// Puts the field of a zone, which may be critical.
-    fn put_zone(&mut self, critical: bool, zone: &TimeZoneRecord<'_, Utf8>) -> Result<(), RunError> {
-        self.put_zone_label(critical)?;
-        match zone {
-            TimeZoneRecord::Name(name) => self.put(name),
-            TimeZoneRecord::Offset(offset) => self.put_minute_offset(*offset),
-            _ => unreachable!(),
-        }
-    }
-
-    /// Puts what stands before a zone.
-    fn put_zone_label(&mut self, critical: bool) -> Result<(), RunError> {
-        if critical {
-            self.put(b" tz=!")
-        } else {
-            self.put(b" tz=")
-        }
-    }
-
-    /// Puts the calendar, where there is one.
-    fn put_calendar_field(&mut self, calendar: Option<&[u8]>) -> Result<(), RunError> {
-        match calendar {
-            None => Ok(()),
-            Some(bytes) => self.put_all(&[b" calendar=".as_slice(), bytes]),
-        }
-    }
-
-    /// Puts the sign of a duration, and its date and its time, where it has them.
-    fn put_duration(&mut self, duration: DurationParseRecord) -> Result<(), RunError> {
-        let date = duration.date;
-        let time = duration.time;
-        self.put_sign_field(duration.sign)?;
-        self.put_date_duration_field(date)?;
-        self.put_time_duration_field(time)
-    }
-
-    /// Puts the sign of a duration.
-    fn put_sign_field(&mut self, sign: Sign) -> Result<(), RunError> {
-        self.put_all(&[b" sign=".as_slice(), mark_of(sign)])
-    }
-
-    /// Puts the years, months, weeks and days of a duration, where it has a date.
-    fn put_date_duration_field(&mut self, date: Option<DateDurationRecord>) -> Result<(), RunError> {
-        let Some(date) = date else {
-            return Ok(());
-        };
-        let years = Decimal::new(u64::from(date.years));
-        let months = Decimal::new(u64::from(date.months));
-        let weeks = Decimal::new(u64::from(date.weeks));
-        let days = Decimal::new(date.days);
-        self.put_all(&[
-            b" date=".as_slice(),
-            years.as_slice(),
-            b",".as_slice(),
-            months.as_slice(),
-            b",".as_slice(),
-            weeks.as_slice(),
-            b",".as_slice(),
-            days.as_slice(),
-        ])
-    }
-
-    /// Puts the time of a duration, where it has one.
-    fn put_time_duration_field(&mut self, time: Option<TimeDurationRecord>) -> Result<(), RunError> {
-        match time {
-            None => Ok(()),
-            Some(time) => self.put_time_duration(time),
-        }
-    }
-
-    /// Puts the time of a duration, with the fraction after its last number.
-    fn put_time_duration(&mut self, time: TimeDurationRecord) -> Result<(), RunError> {
-        let fraction = last_fraction(&time);
-        self.put_time_numbers(&time)?;
-        self.put_fraction(fraction)
-    }
-
-    /// Puts the hours of a duration, and the minutes and seconds that it has.
-    fn put_time_numbers(&mut self, time: &TimeDurationRecord) -> Result<(), RunError> {
-        match time {
-            TimeDurationRecord::Hours { hours, .. } => {
-                let hours = Decimal::new(*hours);
-                self.put_all(&[b" time=".as_slice(), hours.as_slice()])
-            }
-            TimeDurationRecord::Minutes { hours, minutes, .. } => {
-                let hours = Decimal::new(*hours);
-                let minutes = Decimal::new(*minutes);
-                self.put_all(&[
-                    b" time=".as_slice(),
-                    hours.as_slice(),
-                    b",".as_slice(),
-                    minutes.as_slice(),
-                ])
-            }
-            TimeDurationRecord::Seconds {
-                hours,
-                minutes,
-                seconds,
-                ..
-            } => {
-                let hours = Decimal::new(*hours);
-                let minutes = Decimal::new(*minutes);
-                let seconds = Decimal::new(*seconds);
-                self.put_all(&[
-                    b" time=".as_slice(),
-                    hours.as_slice(),
-                    b",".as_slice(),
-                    minutes.as_slice(),
-                    b",".as_slice(),
-                    seconds.as_slice(),
-                ])
-            }
+        TimeDurationRecord::Seconds {
+            hours,
+            minutes,
+            seconds,
+            ..
+        } => {
+            let hours = Decimal::new(*hours);
+            let minutes = Decimal::new(*minutes);
+            let seconds = Decimal::new(*seconds);
+            output.put_all(&[
+                b" time=".as_slice(),
+                hours.as_slice(),
+                b",".as_slice(),
+                minutes.as_slice(),
+                b",".as_slice(),
+                seconds.as_slice(),
+            ])
         }
     }
 }

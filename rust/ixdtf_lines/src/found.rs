@@ -1,4 +1,4 @@
-// Made by tools/to_rust.py of crates/ixdtf_lines/src/found.rt. Do not edit.
+// Made by tools/to_rust.py of crates/ixdtf_answers/src/found.rt. Do not edit.
 
 //! What the readers find.
 

@@ -3,19 +3,15 @@
 
 mod answer;
 mod arguments;
-mod error;
 mod fields;
 mod found;
-mod line;
 mod number;
-mod output;
 mod printed;
 mod runner;
-mod waiting;
 mod word;
 
 use arguments::arguments_allowed;
-use error::RunError;
+use ixdtf_buffers::error::RunError;
 use runner::run;
 use std::io::{stdin, stdout};
 use std::process::ExitCode;

@@ -1,51 +1,6 @@
-// Made by tools/to_rust.py of crates/ixdtf_lines/src/number.rt. Do not edit.
+// Made by tools/to_rust.py of crates/ixdtf_answers/src/number.rt. Do not edit.
 
-//! Numbers as text.
-
-/// The most digits of a `u64`.
-const MOST_DIGITS: usize = 20;
-
-/// A number in plain decimal.
-pub struct Decimal {
-    digits: [u8; MOST_DIGITS],
-    start: usize,
-}
-
-impl Decimal {
-    /// The digits of the number, without leading zeros.
-    pub fn new(number: u64) -> Decimal {
-        let mut digits = [0; MOST_DIGITS];
-        let start = put_decimal(number, &mut digits);
-        Decimal { digits, start }
-    }
-
-    /// The digits as bytes.
-    pub fn as_slice(&self) -> &[u8] {
-        &self.digits[self.start..]
-    }
-}
-
-/// Writes the digits at the end of the array, and returns where they start.
-fn put_decimal(number: u64, digits: &mut [u8; MOST_DIGITS]) -> usize {
-    let mut left = number;
-    let mut start = MOST_DIGITS - 1;
-    while left >= 10 {
-        digits[start] = b'0' + (left % 10) as u8;
-        left /= 10;
-        start -= 1;
-    }
-    digits[start] = b'0' + left as u8;
-    start
-}
-
-/// What stands before the digits of a signed number.
-pub fn sign_of(number: i32) -> &'static [u8] {
-    if number < 0 {
-        b"-".as_slice()
-    } else {
-        b"".as_slice()
-    }
-}
+//! Nanoseconds as text.
 
 /// Nanoseconds as nine digits, with leading zeros.
 pub fn nine_digits(nanoseconds: u32) -> [u8; 9] {

@@ -1,4 +1,4 @@
-// Made by tools/to_rust.py of crates/ixdtf_lines/src/printed.rt. Do not edit.
+// Made by tools/to_rust.py of crates/ixdtf_answers/src/printed.rt. Do not edit.
 
 //! Records that are printed as canonical texts.
 

@@ -1,11 +1,13 @@
-// Made by tools/to_rust.py of crates/ixdtf_lines/src/runner.rt. Do not edit.
+// Made by tools/to_rust.py of crates/ixdtf_answers/src/runner.rt. Do not edit.
 
 //! The run over all lines.
 
-use crate::answer::answer_to;
-use crate::error::RunError;
-use crate::line::Line;
-use crate::output::Output;
+use crate::answer::{LINE_LIMIT, answer_to, put_answer};
+use ixdtf_buffers::error::RunError;
+use ixdtf_buffers::input::read_some;
+use ixdtf_buffers::line::Line;
+use ixdtf_buffers::output::Output;
+use ixdtf_buffers::place::place_of;
 use std::io::{Read, Write};
 
 /// The bytes that one read asks for.
@@ -32,54 +34,41 @@ fn answer_all<R: Read, W: Write>(reader: &mut R, output: &mut Output<'_, W>) -> 
     Err(RunError::Read)
 }
 
-/// One read.
-fn read_some<R: Read>(reader: &mut R, input: &mut [u8]) -> Result<usize, RunError> {
-    match reader.read(input) {
-        Ok(count) => Ok(count),
-        Err(_) => Err(RunError::Read),
-    }
-}
-
 /// Takes the bytes of a read, answers each line that ends in them, and hands the answers on.
 fn answer_bytes<W: Write>(
     output: &mut Output<'_, W>,
-    line: &mut Line,
+    line: &mut Line<LINE_LIMIT>,
     bytes: &[u8],
 ) -> Result<(), RunError> {
-    for byte in bytes {
-        take_byte(output, line, *byte)?;
+    let mut rest = bytes;
+    'lines: while let Some(place) = place_of(b'\n', rest) {
+        end_line(output, line, &rest[..place])?;
+        rest = &rest[place + 1..];
     }
+    line.push_all(rest);
     output.hand_on()
 }
 
-/// Takes a byte onto the line, or answers the line where the byte ends it.
-fn take_byte<W: Write>(
-    output: &mut Output<'_, W>,
-    line: &mut Line,
-    byte: u8,
-) -> Result<(), RunError> {
-    if byte == b'\n' {
-        return end_line(output, line);
-    }
-    line.push(byte);
-    Ok(())
-}
-
-/// Answers the line, whose newline was read, and begins the next one.
+/// Takes the last bytes of a line, answers it, and begins the next one.
 ///
-/// It is not inlined: the room for an answer is cleared on entry, here once a line and not once a byte.
+/// It is not inlined: the room for an answer is cleared on entry.
 #[inline(never)]
-fn end_line<W: Write>(output: &mut Output<'_, W>, line: &mut Line) -> Result<(), RunError> {
-    output.put_answer(&answer_to(line))?;
+fn end_line<W: Write>(
+    output: &mut Output<'_, W>,
+    line: &mut Line<LINE_LIMIT>,
+    bytes: &[u8],
+) -> Result<(), RunError> {
+    line.push_all(bytes);
+    put_answer(output, &answer_to(line))?;
     line.clear();
     Ok(())
 }
 
 /// Answers what stands after the last newline, hands the answer to the writer, and flushes it.
-fn finish<W: Write>(output: &mut Output<'_, W>, line: &Line) -> Result<(), RunError> {
+fn finish<W: Write>(output: &mut Output<'_, W>, line: &Line<LINE_LIMIT>) -> Result<(), RunError> {
     if line.is_empty() {
         return output.finish();
     }
-    output.put_answer(&answer_to(line))?;
+    put_answer(output, &answer_to(line))?;
     output.finish()
 }

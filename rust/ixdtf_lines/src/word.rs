@@ -1,4 +1,4 @@
-// Made by tools/to_rust.py of crates/ixdtf_lines/src/word.rt. Do not edit.
+// Made by tools/to_rust.py of crates/ixdtf_answers/src/word.rt. Do not edit.
 
 //! The words that name the readers.
 

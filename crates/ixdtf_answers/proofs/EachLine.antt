@@ -1,0 +1,123 @@
+-- Each line has an answer.
+use Rattle.std.proofs.Common.{◌≡◌, ◌≢◌, ◌⊎◌, ℕ, ◌+◌, Bool, true, false, List, [], ◌∷◌, ◌++◌, length, take, drop, Option, Some, None, MatchOption, position}
+use Rattle.std.proofs.Common.{refl, sym, ap, subst, true≢false, ◌∙◌, inl, inr, append_assoc, nat_lt}
+use Rattle.std.specs.Bool.{MatchBool}
+use Rattle.std.proofs.lemmas.Slice.Eq.{bytes_eq-Decides}
+use Rattle.ixdtf.specs.language.Languages.{Found}
+use Rattle.ixdtf.specs.language.Languages.Found.{parsed}
+use Rattle.ixdtf.specs.language.Letters.{Text}
+use Rattle.ixdtf.specs.language.Readers.{Reader}
+use Rattle.ixdtf.specs.language.Readers.Reader.{bracketed}
+use Rattle.ixdtf.specs.table.Faults.{Fault}
+use Rattle.ixdtf.specs.Widths.{UnhandledOutcome, HasUnhandledOutcome}
+use Rattle.ixdtf.specs.Widths.UnhandledOutcome.{read_as, faulted}
+use Rattle.ixdtf_reading.proofs.theorems.OneUnhandledOutcome.{one_unhandled_outcome}
+use Rattle.ixdtf_answers.specs.Answer.{line_limit, too_long, unknown_reader, is_space, letters, ok_answer_of, error_answer_of, Gives, Refuses, IsOutcome}
+use Rattle.ixdtf_answers.specs.Answer.{IsReaderAnswer, IsAnswer}
+use Rattle.ixdtf_buffers.specs.Lines.{newline}
+use Rattle.ixdtf_answers.specs.Run.{AreAnswers}
+use Rattle.ixdtf_answers.specs.Word.{name_of, reader_of, IsNoWord}
+use Rattle.ixdtf_answers.specs.declared.word.Word.{Word}
+use Rattle.ixdtf_answers.specs.declared.word.Word.TheVariants.{Parse, YearMonth, MonthDay, Time, Offset, Zone, Iana, Duration, StrictMonthDay, StrictTime}
+use Rattle.ixdtf_answers.specs.declared.word.Word.TheVariants.{StrictDuration, Canonical}
+
+-- ---- each text has an outcome
+
+abbrev HasOutcome : Reader → Text → Type 0
+HasOutcome reader text = ((found : Found) × Gives reader text found) ⊎ ((fault : Fault) × Refuses reader text fault)
+
+of_plain : (reader : Reader) (text : Text) (x : UnhandledOutcome) → HasUnhandledOutcome reader text x → HasOutcome reader text
+of_plain (bracketed kind) text (read_as (parsed found)) h = inl (parsed found, h)
+of_plain (bracketed kind) text (faulted fault) h = inr (fault, h)
+of_plain (bracketed kind) text (read_as found) h = absurd h
+of_plain reader text (read_as found) h = inl (found, h)
+of_plain reader text (faulted fault) h = inr (fault, h)
+
+each_outcome : (reader : Reader) (text : Text) → HasOutcome reader text
+each_outcome reader text = let outcome = one_unhandled_outcome reader text in of_plain reader text outcome.0 outcome.1
+
+-- ---- each line has an answer
+
+outcome_answer : (word : Word) (text : List ℕ) → (answer : List ℕ) × IsOutcome word text answer
+outcome_answer word text = elim (each_outcome (reader_of word) (letters text)) [
+  | inl p ↦ (ok_answer_of word p.0, inl (p.0, p.1, refl))
+  | inr p ↦ (error_answer_of p.0, inr (p.0, p.1, refl))
+]
+
+-- two lists of bytes are equal, or not
+same_bytes : (xs ys : List ℕ) → (xs ≡ ys) ⊎ (xs ≢ ys)
+same_bytes xs ys = by_test _ (bytes_eq-Decides xs ys)
+  where
+    by_test : (test : Bool) → (test ≡ true → xs ≡ ys) × (xs ≡ ys → test ≡ true) → (xs ≡ ys) ⊎ (xs ≢ ys)
+    by_test true p = inl (p.0 refl)
+    by_test false p = inr (λ same. true≢false (sym (p.1 same)))
+
+-- none of these words has the name
+abbrev NoneOf : List ℕ → List Word → Type 0
+NoneOf name [] = Unit {0}
+NoneOf name (word ∷ words) = (name ≢ name_of word) × NoneOf name words
+
+word_among : (name : List ℕ) (words : List Word) → ((word : Word) × (name ≡ name_of word)) ⊎ NoneOf name words
+word_among name [] = inr tt
+word_among name (word ∷ words) = elim (same_bytes name (name_of word)) [
+  | inl is ↦ inl (word, is)
+  | inr other ↦ elim (word_among name words) [ inl p ↦ inl p | inr none ↦ inr (other, none) ]
+]
+
+abbrev all_words : List Word
+all_words = Parse ∷ YearMonth ∷ MonthDay ∷ Time ∷ Offset ∷ Zone ∷ Iana ∷ Duration ∷ StrictMonthDay ∷ StrictTime ∷ StrictDuration ∷ Canonical ∷ []
+
+no_word : (name : List ℕ) → NoneOf name all_words → IsNoWord name
+no_word name (a, (b, (c, (d, (e, (f, (g, (h, (i, (j, (k, (l, end)))))))))))) = elim [
+  | Parse ↦ a
+  | YearMonth ↦ b
+  | MonthDay ↦ c
+  | Time ↦ d
+  | Offset ↦ e
+  | Zone ↦ f
+  | Iana ↦ g
+  | Duration ↦ h
+  | StrictMonthDay ↦ i
+  | StrictTime ↦ j
+  | StrictDuration ↦ k
+  | Canonical ↦ l
+]
+
+word_or_none : (name : List ℕ) → ((word : Word) × (name ≡ name_of word)) ⊎ IsNoWord name
+word_or_none name = elim (word_among name all_words) [ inl p ↦ inl p | inr none ↦ inr (no_word name none) ]
+
+reader_answer : (name text : List ℕ) → (answer : List ℕ) × IsReaderAnswer name text answer
+reader_answer name text = elim (word_or_none name) [
+  | inl p ↦ (let answer = outcome_answer p.0 text in (answer.0, inl (p.0, p.1, answer.1)))
+  | inr none ↦ (unknown_reader, inr (none, refl))
+]
+
+each_answer : (line : List ℕ) → (answer : List ℕ) × IsAnswer line answer
+each_answer line = go (nat_lt line_limit (length line)) (position is_space line)
+  where
+    go : (test : Bool) (at : Option ℕ) → (answer : List ℕ) × MatchBool test (answer ≡ too_long)
+        (MatchOption at (answer ≡ unknown_reader) (λ place. IsReaderAnswer (take place line) (drop (place + 1) line) answer))
+    go true at = (too_long, refl)
+    go false None = (unknown_reader, refl)
+    go false (Some place) = reader_answer (take place line) (drop (place + 1) line)
+
+-- all lines have answers
+pub all_answers : (lines : List (List ℕ)) → (bytes : List ℕ) × AreAnswers lines bytes
+all_answers [] = ([], refl)
+all_answers (line ∷ lines) =
+    let answer = each_answer line in
+    let others = all_answers lines in
+    (answer.0 ++ newline ∷ others.0, (answer.0, others.0, answer.1, refl, others.1))
+
+-- the answers to some lines, and then to others
+pub AreAnswers-append : (lines others : List (List ℕ)) (bytes more : List ℕ) → AreAnswers lines bytes → AreAnswers others more
+    → AreAnswers (lines ++ others) (bytes ++ more)
+AreAnswers-append [] others bytes more none rest = subst (λ (t : List ℕ). AreAnswers others (t ++ more)) (sym none) rest
+AreAnswers-append (line ∷ lines) others bytes more (answer, bytes_after, is, whole, after) rest = (
+  answer,
+  bytes_after ++ more,
+  is,
+  ap (λ (t : List ℕ). t ++ more) whole
+      ∙ append_assoc answer (newline ∷ bytes_after) more,
+  AreAnswers-append lines others bytes_after more after rest,
+)

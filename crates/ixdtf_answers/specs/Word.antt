@@ -1,0 +1,46 @@
+-- The words, and the readers that they name.
+use Rattle.std.specs.Prelude.{◌≡◌, ◌≢◌, ℕ, List, Option, Some, None, codes}
+use Rattle.ixdtf_grammar.specs.declared.profile.Profile.TheVariants.{Crate, Strict}
+use Rattle.ixdtf.specs.language.Readers.{Reader}
+use Rattle.ixdtf.specs.language.Readers.{parse, parse_year_month, parse_month_day, parse_time}
+use Rattle.ixdtf.specs.language.Readers.Reader.{parse_offset, parse_identifier, parse_iana_identifier, parse_duration}
+use Rattle.ixdtf_answers.specs.declared.word.Word.{Word}
+use Rattle.ixdtf_answers.specs.declared.word.Word.TheVariants.{Parse, YearMonth, MonthDay, Time, Offset, Zone, Iana, Duration, StrictMonthDay, StrictTime}
+use Rattle.ixdtf_answers.specs.declared.word.Word.TheVariants.{StrictDuration, Canonical}
+
+abbrev pub name_of : Word → List ℕ
+name_of Parse = codes "parse"
+name_of YearMonth = codes "year-month"
+name_of MonthDay = codes "month-day"
+name_of Time = codes "time"
+name_of Offset = codes "offset"
+name_of Zone = codes "zone"
+name_of Iana = codes "iana"
+name_of Duration = codes "duration"
+name_of StrictMonthDay = codes "strict-month-day"
+name_of StrictTime = codes "strict-time"
+name_of StrictDuration = codes "strict-duration"
+name_of Canonical = codes "canonical"
+
+abbrev pub reader_of : Word → Reader
+reader_of Parse = parse
+reader_of YearMonth = parse_year_month
+reader_of MonthDay = parse_month_day Crate
+reader_of Time = parse_time Crate
+reader_of Offset = parse_offset
+reader_of Zone = parse_identifier
+reader_of Iana = parse_iana_identifier
+reader_of Duration = parse_duration Crate
+reader_of StrictMonthDay = parse_month_day Strict
+reader_of StrictTime = parse_time Strict
+reader_of StrictDuration = parse_duration Strict
+reader_of Canonical = parse
+
+-- no word has the name
+abbrev pub IsNoWord : List ℕ → Type 0
+IsNoWord name = (word : Word) → name ≢ name_of word
+
+-- the word that has the name, where there is one
+abbrev pub IsNamed : List ℕ → Option Word → Type 0
+IsNamed name None = IsNoWord name
+IsNamed name (Some word) = name ≡ name_of word

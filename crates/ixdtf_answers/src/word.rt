@@ -1,0 +1,66 @@
+//! The words that name the readers.
+ghost use Rattle.ixdtf_answers.specs.Word.{IsNamed};
+
+/// A reader.
+#[derive(Clone, Copy, Debug, PartialEq)]
+pub enum Word {
+    /// `parse`: a date, or a date and a time, with an offset, a zone and a calendar.
+    Parse,
+    /// `year-month`: a year and a month, with a zone and a calendar.
+    YearMonth,
+    /// `month-day`: a month and a day, with a zone and a calendar.
+    MonthDay,
+    /// `time`: a time, with an offset, a zone and a calendar.
+    Time,
+    /// `offset`: an offset from UTC.
+    Offset,
+    /// `zone`: a time zone, by name or by offset.
+    Zone,
+    /// `iana`: a time zone by name.
+    Iana,
+    /// `duration`: a duration.
+    Duration,
+    /// `strict-month-day`: as `month-day`, under the strict profile.
+    StrictMonthDay,
+    /// `strict-time`: as `time`, under the strict profile.
+    StrictTime,
+    /// `strict-duration`: as `duration`, under the strict profile.
+    StrictDuration,
+    /// `canonical`: as `parse`, to be printed as its canonical text.
+    Canonical,
+}
+
+impl Word {
+    /// The reader of this name.
+    pub fn named(name: &[u8]) -> Option<Word>
+        ensures { IsNamed name.now result }
+    {
+        if name == b"parse".as_slice() {
+            Some(Word::Parse)
+        } else if name == b"year-month".as_slice() {
+            Some(Word::YearMonth)
+        } else if name == b"month-day".as_slice() {
+            Some(Word::MonthDay)
+        } else if name == b"time".as_slice() {
+            Some(Word::Time)
+        } else if name == b"offset".as_slice() {
+            Some(Word::Offset)
+        } else if name == b"zone".as_slice() {
+            Some(Word::Zone)
+        } else if name == b"iana".as_slice() {
+            Some(Word::Iana)
+        } else if name == b"duration".as_slice() {
+            Some(Word::Duration)
+        } else if name == b"strict-month-day".as_slice() {
+            Some(Word::StrictMonthDay)
+        } else if name == b"strict-time".as_slice() {
+            Some(Word::StrictTime)
+        } else if name == b"strict-duration".as_slice() {
+            Some(Word::StrictDuration)
+        } else if name == b"canonical".as_slice() {
+            Some(Word::Canonical)
+        } else {
+            None
+        }
+    }
+}

@@ -1,0 +1,40 @@
+-- What a writer holds after a call, and what waits to be written to it.
+use Rattle.std.specs.Prelude.{◌≡◌, ℕ, List, ◌++◌, Option, Result, OnOk, IfErr}
+use Rattle.std.specs.Io.KnownBytes.{Appends}
+use Rattle.std.specs.List.{flat_map}
+use denote.Bor.{Bor}
+use Rattle.ixdtf_buffers.specs.declared.error.RunError.{RunError}
+use Rattle.ixdtf_buffers.specs.declared.error.RunError.TheVariants.{Write}
+use Rattle.ixdtf_buffers.specs.declared.output.Output.{Output}
+
+-- a front of the bytes was appended
+pub record AppendsFront (old new : Option (List ℕ)) (bytes : List ℕ) : Type 0 where
+  pub front : List ℕ
+  pub rest : List ℕ
+  pub whole : bytes ≡ front ++ rest
+  pub appended : Appends old new front
+
+-- all the bytes were appended, or writing failed after a front of them
+pub record Writes (old new : Option (List ℕ)) (result : Result (Unit {0}) RunError) (bytes : List ℕ) : Type 0 where
+  pub ok : OnOk result (Appends old new bytes)
+  pub err : IfErr result (λ error. (error ≡ Write) × AppendsFront old new bytes)
+
+-- of the bytes that were taken all were appended but those that wait
+pub record Sent (old new : Option (List ℕ)) (waiting taken : List ℕ) : Type 0 where
+  pub front : List ℕ
+  pub whole : taken ≡ front ++ waiting
+  pub appended : Appends old new front
+
+-- what the writer of an output holds
+abbrev pub written : {W : Type 0} → (W → Option (List ℕ)) → Output W → Option (List ℕ)
+written contents output = contents output.writer.now
+
+-- the bytes were taken behind those that waited before, or writing failed after a front of them all; the writer is the same
+pub record Puts {W : Type 0} (contents : W → Option (List ℕ)) (before after : Output W) (result : Result (Unit {0}) RunError) (bytes : List ℕ) : Type 0 where
+  pub same : after.writer.ghost_name ≡ before.writer.ghost_name
+  pub ok : OnOk result (Sent (written contents before) (written contents after) after.waiting (before.waiting ++ bytes))
+  pub err : IfErr result (λ error. (error ≡ Write) × AppendsFront (written contents before) (written contents after) (before.waiting ++ bytes))
+
+-- the bytes of the slices, one after the other
+abbrev pub joined : List (Bor (List ℕ)) → List ℕ
+joined pieces = flat_map (λ piece. piece.now) pieces

@@ -1,0 +1,110 @@
+//! A writer, and what waits to be written to it.
+ghost use Rattle.std.specs.Prelude.{◌≡◌, [], IfSome, OnOk};
+ghost use Rattle.ixdtf_buffers.specs.Output.{Puts, Writes, joined};
+
+use crate::error::RunError;
+use crate::waiting::{WAITING_LIMIT, Waiting};
+use std::fmt;
+use std::io::Write;
+
+/// A writer, and the bytes that wait to be written to it.
+#[derive(Drop)]
+pub struct Output<'w, W> {
+    writer: &'w mut W,
+    waiting: Waiting,
+}
+
+impl<'w, W: Write> Output<'w, W> {
+    /// An output to the writer. No byte waits.
+    pub fn new(writer: &'w mut W) -> Output<'w, W>
+        ensures same { result.writer.ghost_name ≡ writer.entry.ghost_name }
+        ensures writer { result.writer.now ≡ writer.old }
+        ensures none { result.waiting ≡ [] }
+    {
+        Output {
+            writer,
+            waiting: Waiting::new(),
+        }
+    }
+
+    /// Puts the bytes behind those that wait.
+    pub fn put(&mut self, bytes: &[u8]) -> Result<(), RunError>
+        ensures { Puts W.contents self.old self.new result bytes.now }
+    {
+        if bytes.len() > self.waiting.room() {
+            return self.put_after(bytes);
+        }
+        self.waiting.push_all(bytes);
+        Ok(())
+    }
+
+    /// Hands on what waits, and then puts the bytes.
+    fn put_after(&mut self, bytes: &[u8]) -> Result<(), RunError>
+        ensures { Puts W.contents self.old self.new result bytes.now }
+    {
+        self.hand_on()?;
+        if bytes.len() > WAITING_LIMIT {
+            return write_whole(self.writer, bytes);
+        }
+        self.waiting.push_all(bytes);
+        Ok(())
+    }
+
+    /// Puts the pieces in turn.
+    pub fn put_all(&mut self, pieces: &[&[u8]]) -> Result<(), RunError>
+        ensures { Puts W.contents self.old self.new result (joined pieces.now) }
+    {
+        for piece in pieces {
+            self.put(piece)?;
+        }
+        Ok(())
+    }
+
+    /// Puts what the value displays. A text of more than 4,096 bytes counts as a write that failed.
+    pub fn put_display<D: fmt::Display>(&mut self, value: &D) -> Result<(), RunError>
+        ensures { IfSome (D.output value.now) (λ bytes.
+            Puts W.contents self.old self.new result bytes) }
+    {
+        let mut text = Waiting::new();
+        match text.push_display(value) {
+            Ok(()) => self.put(text.as_slice()),
+            Err(fmt::Error) => Err(RunError::Write),
+        }
+    }
+
+    /// Hands what waits to the writer.
+    pub fn hand_on(&mut self) -> Result<(), RunError>
+        ensures empty { OnOk result (self.new.waiting ≡ []) }
+        ensures puts { Puts W.contents self.old self.new result [] }
+    {
+        write_whole(self.writer, self.waiting.as_slice())?;
+        self.waiting.clear();
+        Ok(())
+    }
+
+    /// Hands what waits to the writer, and flushes the writer.
+    pub fn finish(&mut self) -> Result<(), RunError>
+        ensures empty { OnOk result (self.new.waiting ≡ []) }
+        ensures puts { Puts W.contents self.old self.new result [] }
+    {
+        self.hand_on()?;
+        match self.writer.flush() {
+            Ok(()) => Ok(()),
+            Err(_) => Err(RunError::Write),
+        }
+    }
+}
+
+/// Writes all the bytes, or fails after a front of them.
+fn write_whole<W: Write>(writer: &mut W, bytes: &[u8]) -> Result<(), RunError>
+    ensures { Writes (W.contents writer.old) (W.contents writer.new) result bytes.now }
+{
+    let mut rest = bytes;
+    'writes: while !rest.is_empty() {
+        match writer.write(rest) {
+            Ok(0) | Err(_) => return Err(RunError::Write),
+            Ok(count) => rest = &rest[count..],
+        }
+    }
+    Ok(())
+}

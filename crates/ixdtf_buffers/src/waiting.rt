@@ -1,0 +1,90 @@
+//! Bytes that wait to be written.
+ghost use Rattle.std.specs.Prelude.{◌≡◌, ◌≤◌, ◌++◌, ◌+◌, length, ℕ, List, [], take, IfSome, OnOk};
+
+use std::fmt;
+use std::fmt::Write;
+use std::marker::Model;
+
+/// How many bytes wait at most.
+pub const WAITING_LIMIT: usize = 4096;
+
+/// Bytes that wait to be written.
+#[derive(Drop)]
+pub struct Waiting {
+    bytes: [u8; WAITING_LIMIT],
+    count: usize,
+}
+
+impl Model for Waiting {
+    ghost Value = { List ℕ };
+
+    ghost view = { λ waiting. take waiting.count waiting.bytes };
+
+    ghost invariant = { λ waiting. waiting.count ≤ 4096 };
+}
+
+impl Waiting {
+    /// No byte waits.
+    pub fn new() -> Waiting
+        ensures { result ≡ [] }
+    {
+        Waiting {
+            bytes: [0; WAITING_LIMIT],
+            count: 0,
+        }
+    }
+
+    /// How many more bytes can wait.
+    pub fn room(&self) -> usize
+        ensures { result + length self.now ≡ 4096 }
+    {
+        WAITING_LIMIT - self.count
+    }
+
+    /// Puts bytes that fit behind those that wait.
+    pub fn push_all(&mut self, bytes: &[u8])
+        requires { length self.old + length bytes.now ≤ 4096 }
+        ensures { self.new ≡ self.old ++ bytes.now }
+    {
+        let end = self.count + bytes.len();
+        self.bytes[self.count..end].copy_from_slice(bytes);
+        self.count = end;
+    }
+
+    /// Puts what the value displays behind those that wait, where it fits.
+    pub fn push_display<D: fmt::Display>(&mut self, value: &D) -> fmt::Result
+        ensures { OnOk result (IfSome (D.output value.now) (λ bytes.
+            self.new ≡ self.old ++ bytes)) }
+    {
+        write!(self, "{value}")
+    }
+
+    /// The bytes that wait.
+    pub fn as_slice(&self) -> &[u8]
+        ensures { result.now ≡ self.now }
+    {
+        &self.bytes[..self.count]
+    }
+
+    /// No byte waits any longer.
+    pub fn clear(&mut self)
+        ensures { self.new ≡ [] }
+    {
+        self.count = 0;
+    }
+}
+
+impl fmt::Write for Waiting {
+    ghost use Rattle.std.specs.Prelude.{◌≡◌, ◌++◌};
+
+    ghost write_str_gives = { λ old bytes new. new ≡ old ++ bytes };
+
+    /// Puts the text behind the bytes that wait, where it fits.
+    fn write_str(&mut self, text: &str) -> fmt::Result {
+        if text.len() > self.room() {
+            return Err(fmt::Error);
+        }
+        self.push_all(text.as_bytes());
+        Ok(())
+    }
+}

@@ -1,0 +1,4 @@
+pub mod PartsLemmas
+pub mod VerdictLemmas
+pub mod ReportLemmas
+pub mod ProgressLemmas

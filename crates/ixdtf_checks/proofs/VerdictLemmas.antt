@@ -1,0 +1,87 @@
+-- What a reader makes of the text of a line.
+use Rattle.std.proofs.Common.{◌≡◌, ℕ, ◌+◌, ◌≤◌, List, length, Option, Some, None, MatchOption, IsUtf8, Bor, inl, inr, refl, ap, subst, arith, length-append}
+use Rattle.std.proofs.lemmas.List.{length-map}
+use Rattle.ixdtf_grammar.specs.declared.profile.Profile.{Profile}
+use Rattle.ixdtf_grammar.specs.Handlers.{UnhandledRecord}
+use Rattle.ixdtf_grammar.specs.Places.{HasUnhandledFaultAt}
+use Rattle.ixdtf_grammar.specs.Widths.{HasUnhandledOutcome, byte_text}
+use Rattle.ixdtf_grammar.specs.Widths.UnhandledOutcome.{read_as}
+use Rattle.ixdtf_grammar.specs.language.Languages.{Parsed, Found}
+use Rattle.ixdtf_grammar.specs.language.Letters.{Text, Letter, byte_letter}
+use Rattle.ixdtf_grammar.specs.language.Readers.{Reader, parse}
+use Rattle.ixdtf_grammar.specs.language.Readers.Reader.{bracketed, parse_offset, parse_identifier, parse_iana_identifier, parse_duration}
+use Rattle.ixdtf_grammar.specs.table.Faults.{Fault}
+use Rattle.ixdtf_print.specs.Canonical.{canonical_text}
+use Rattle.ixdtf_print.specs.Laws.{CanonicalFits}
+use Rattle.ixdtf_checks.specs.Printed.{FitsArray}
+use Rattle.ixdtf_checks.specs.Seen.{lines_at}
+use Rattle.ixdtf_checks.specs.Kinds.{reader_of}
+use Rattle.ixdtf_checks.specs.Parts.{Text as Part}
+use Rattle.ixdtf_checks.specs.Refusals.{IsRefusal}
+use Rattle.ixdtf_checks.specs.Verdicts.{Verdict, IsRead, ShowsPlace, IsTextVerdict}
+use Rattle.ixdtf_checks.specs.Verdicts.Verdict.{accepted, printed, refused}
+use Rattle.ixdtf_checks.specs.declared.kind.Kind.{Kind}
+use Rattle.ixdtf_checks.specs.declared.request.Task.TheVariants.{Check, Print}
+
+-- what a reader has to read, which is the text, is read
+pub read_text : (reader : Reader) (text rest : List ℕ) (found : Found) → rest ≡ text → HasUnhandledOutcome reader (byte_text rest) (read_as found)
+    → IsRead reader text
+read_text reader text rest found same has =
+    (found, subst (λ (t : List ℕ). HasUnhandledOutcome reader (byte_text t) (read_as found)) same has)
+
+-- it is refused
+pub refused_text : (reader : Reader) (text rest : List ℕ) (fault : Fault) (at : ℕ) → rest ≡ text → HasUnhandledFaultAt reader (byte_text rest) fault at
+    → HasUnhandledFaultAt reader (byte_text text) fault at
+refused_text reader text rest fault at same has = subst (λ (t : List ℕ). HasUnhandledFaultAt reader (byte_text t) fault at) same has
+
+-- the same of a reader that has a profile, under the parser's own
+pub read_under : (reader : Profile → Reader) (own wanted : Profile) (text rest : List ℕ) (found : Found) → own ≡ wanted → rest ≡ text
+    → HasUnhandledOutcome (reader own) (byte_text rest) (read_as found) → IsRead (reader wanted) text
+read_under reader own wanted text rest found same_profile same has =
+    subst (λ p. IsRead (reader p) text) same_profile (read_text (reader own) text rest found same has)
+
+pub refused_under : (reader : Profile → Reader) (own wanted : Profile) (text rest : List ℕ) (fault : Fault) (at : ℕ) → own ≡ wanted → rest ≡ text
+    → HasUnhandledFaultAt (reader own) (byte_text rest) fault at → HasUnhandledFaultAt (reader wanted) (byte_text text) fault at
+refused_under reader own wanted text rest fault at same_profile same has =
+    subst (λ p. HasUnhandledFaultAt (reader p) (byte_text text) fault at) same_profile (refused_text (reader own) text rest fault at same has)
+
+-- no fault stands past the end of the text
+at_most : (reader : Reader) (text : Text) (fault : Fault) (at : ℕ) → HasUnhandledFaultAt reader text fault at → at ≤ length text
+at_most (bracketed kind) text fault at (pairs, given) = elim given [
+  | inl p ↦ (let ((front, rest, whole, is, read, derived), last) = p in omega (arith, is, ap length whole, length-append front rest))
+  | inr p ↦ (let ((row, fits, error, sum), none) = p in omega (arith, sum))
+]
+at_most parse_offset text fault at (row, fits, error, sum) = omega (arith, sum)
+at_most parse_identifier text fault at (row, fits, error, sum) = omega (arith, sum)
+at_most parse_iana_identifier text fault at (row, fits, error, sum) = omega (arith, sum)
+at_most (parse_duration profile) text fault at (row, fits, error, sum) = omega (arith, sum)
+
+pub at_within : (reader : Reader) (bytes : List ℕ) (fault : Fault) (at : ℕ) → HasUnhandledFaultAt reader (byte_text bytes) fault at → at ≤ length bytes
+at_within reader bytes fault at has =
+    let spell : ℕ → Letter = λ n. byte_letter n in
+    omega (arith, at_most reader (byte_text bytes) fault at has, length-map bytes spell)
+
+-- the lines under a message
+pub shows_place : (bytes : List ℕ) (at : ℕ) (text : Option (Bor (List ℕ)))
+    → MatchOption text (¬ (IsUtf8 bytes)) (λ t. (t.now ≡ bytes) × IsUtf8 bytes) → ShowsPlace bytes at (lines_at at text)
+shows_place bytes at None bad = inr (bad, refl)
+shows_place bytes at (Some text) (same, good) = inl (good, ap (λ (t : List ℕ). lines_at at (Some (record text { now = t }))) same)
+
+-- a record that was read from a line fits into the array
+pub read_fits : (text : List ℕ) (found : Parsed) → CanonicalFits → UnhandledRecord parse (byte_text text) found → length text ≤ 65536 → FitsArray found
+read_fits text found fits given short =
+    let spell : ℕ → Letter = λ n. byte_letter n in
+    let most : length (canonical_text found) ≤ length (byte_text text) + 14 = fits (byte_text text) found given in
+    (λ no. no (byte_text text, given), omega (arith, most, length-map text spell))
+
+-- a text that is refused has this verdict
+pub check_refused : (kind : Kind) (profile : Profile) (text : Part) (verdict : Verdict) → IsRefusal (reader_of kind profile) text verdict
+    → IsTextVerdict (Check kind) profile text verdict
+check_refused kind profile text accepted none = absurd none
+check_refused kind profile text (printed canonical) none = absurd none
+check_refused kind profile text (refused column message lines) is = is
+
+pub print_refused : (profile : Profile) (text : Part) (verdict : Verdict) → IsRefusal parse text verdict → IsTextVerdict Print profile text verdict
+print_refused profile text accepted none = absurd none
+print_refused profile text (printed canonical) none = absurd none
+print_refused profile text (refused column message lines) is = is

@@ -1,0 +1,11 @@
+-- A line is reported and counted.
+use Rattle.std.proofs.Common.{◌+◌, refl, sym, ap, ◌∙◌}
+use Rattle.ixdtf_checks.specs.Seen.{seen}
+use Rattle.ixdtf_checks.proofs.ProgressLemmas.{reported}
+use Rattle.ixdtf_checks.proofs.checker.report_line.Goals as goal
+
+pub returns-clause-reports : goal.returns-clause-reports
+returns-clause-reports g c = λ start lines text holds takes.
+    let printed = c.verdict_on-verdict.new.printed in
+    reported text (seen printed c.verdict_on-verdict.result) _ takes (c.verdict_on-verdict.ensures text holds)
+    (record { lines = c.add_line.ensures.lines; refused = c.add_line.ensures.refused ∙ ap (λ n. c.args.kept.now.tally.refused + n) (sym (c.is_refused.ensures printed)) }) refl c.put_report.ensures

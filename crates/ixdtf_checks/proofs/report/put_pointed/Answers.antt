@@ -1,0 +1,11 @@
+-- A text is shown, or that fails.
+use Rattle.ixdtf_buffers.proofs.OutputLemmas.{Puts-after, Puts-exit}
+use Rattle.ixdtf_checks.proofs.report.put_pointed.Goals as goal
+
+pub returns-in_err-put_display : goal.returns-in_err-put_display
+returns-in_err-put_display g c =
+    rw c.in-Some.is (Puts-exit _ c.from_residual.ensures.1 (rw (c.in_text.ensures.text, c.in_text.ensures.place) at c.in_err-put_display.ensures))
+
+pub returns : goal.returns
+returns g c =
+    rw c.in-Some.is (Puts-after (rw (c.in_text.ensures.text, c.in_text.ensures.place) at c.in_ok-put_display.ensures) c.put.ensures)

@@ -1,0 +1,34 @@
+-- The names of the kinds, and the readers of what is asked for.
+use Rattle.std.specs.Prelude.{◌≡◌, ◌≢◌, ℕ, List, Option, Some, None, codes}
+use Rattle.ixdtf_grammar.specs.declared.profile.Profile.{Profile}
+use Rattle.ixdtf_grammar.specs.language.Readers.{Reader}
+use Rattle.ixdtf_grammar.specs.language.Readers.{parse, parse_year_month, parse_month_day, parse_time}
+use Rattle.ixdtf_grammar.specs.language.Readers.Reader.{parse_offset, parse_identifier, parse_iana_identifier, parse_duration}
+use Rattle.ixdtf_checks.specs.declared.kind.Kind.{Kind}
+use Rattle.ixdtf_checks.specs.declared.kind.Kind.TheVariants.{DateTime, YearMonth, MonthDay, Time, Offset, Zone, ZoneName, Duration}
+
+abbrev pub name_of : Kind → List ℕ
+name_of DateTime = codes "date-time"
+name_of YearMonth = codes "year-month"
+name_of MonthDay = codes "month-day"
+name_of Time = codes "time"
+name_of Offset = codes "offset"
+name_of Zone = codes "zone"
+name_of ZoneName = codes "zone-name"
+name_of Duration = codes "duration"
+
+-- the kind that has the name, where there is one
+abbrev pub IsNamed : List ℕ → Option Kind → Type 0
+IsNamed name None = (kind : Kind) → name ≢ name_of kind
+IsNamed name (Some kind) = name ≡ name_of kind
+
+-- the reader of a kind; of some it has the profile
+abbrev pub reader_of : Kind → Profile → Reader
+reader_of DateTime profile = parse
+reader_of YearMonth profile = parse_year_month
+reader_of MonthDay profile = parse_month_day profile
+reader_of Time profile = parse_time profile
+reader_of Offset profile = parse_offset
+reader_of Zone profile = parse_identifier
+reader_of ZoneName profile = parse_iana_identifier
+reader_of Duration profile = parse_duration profile

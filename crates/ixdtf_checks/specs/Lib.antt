@@ -1,0 +1,11 @@
+pub mod Checks
+pub mod Kinds
+pub mod Parts
+pub mod Printed
+pub mod Progress
+pub mod Refusals
+pub mod Reports
+pub mod Rooms
+pub mod Seen
+pub mod Statuses
+pub mod Verdicts

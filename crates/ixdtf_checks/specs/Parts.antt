@@ -1,0 +1,36 @@
+-- The part of a line that is its text.
+use Rattle.std.specs.Prelude.{ℕ, zero, suc, ◌+◌, ◌-◌, ◌==◌, if◌then◌else◌, List, length, take, drop, Option, Some, None, position, option_map, slice_index_or}
+use Rattle.std.specs.Option.{option_and_then, unwrap_or}
+use Rattle.ixdtf_buffers.specs.Lines.{is_byte}
+use Rattle.ixdtf_checks.specs.declared.request.Field.{Field}
+use Rattle.ixdtf_checks.specs.declared.part.Part.{Part}
+
+-- the line without the carriage return at its end
+abbrev pub without_return : List ℕ → List ℕ
+without_return line = if slice_index_or line (length line - 1) 0 == 13 then take (length line - 1) line else line
+
+-- a part of a line, behind so many bytes
+pub record Text : Type 0 where
+  pub start : ℕ
+  pub bytes : List ℕ
+
+-- where the field begins that stands behind so many others, each with its separator
+abbrev pub field_start : ℕ → ℕ → List ℕ → Option ℕ
+field_start separator zero line = Some 0
+field_start separator (suc before) line =
+    option_and_then (λ place. option_map (λ start. place + 1 + start) (field_start separator before (drop (place + 1) line)))
+    (position (is_byte separator) line)
+
+-- the field at the front: what stands before the first separator
+abbrev pub front_field : ℕ → List ℕ → List ℕ
+front_field separator line = unwrap_or (option_map (λ place. take place line) (position (is_byte separator) line)) line
+
+-- the part that is asked for: the whole line, or a field of it, where it has so many
+abbrev pub part_of : Option Field → List ℕ → Option Text
+part_of None line = Some (record { start = 0; bytes = line })
+part_of (Some field) line =
+    option_map (λ start. record { start = start; bytes = front_field field.separator (drop start line) }) (field_start field.separator field.before line)
+
+-- a part in the code
+abbrev pub seen_part : Part → Text
+seen_part part = record { start = part.start; bytes = part.text.now }

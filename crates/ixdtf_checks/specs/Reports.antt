@@ -1,0 +1,45 @@
+-- What is written of the lines of a file.
+use Rattle.std.specs.Prelude.{ℕ, ◌+◌, if◌then◌else◌, List, [], ◌∷◌, ◌++◌, codes}
+use Rattle.std.specs.Fmt.{decimal}
+use Rattle.ixdtf_buffers.specs.Lines.{newline}
+use Rattle.ixdtf_checks.specs.declared.request.Request.{Request}
+use Rattle.ixdtf_checks.specs.Verdicts.{Verdict, IsVerdict}
+use Rattle.ixdtf_checks.specs.Verdicts.Verdict.{accepted, printed, refused}
+
+-- a place: the file, the number of the line and the column
+abbrev pub place_of : List ℕ → ℕ → ℕ → List ℕ
+place_of name number column = name ++ (codes ":" ++ (decimal number ++ (codes ":" ++ (decimal column ++ codes ": "))))
+
+-- what is written of a line that is refused
+abbrev pub refusal_of : List ℕ → ℕ → ℕ → List ℕ → List ℕ → List ℕ
+refusal_of name number column message lines = place_of name number column ++ (message ++ newline ∷ lines)
+
+-- what is written of the line with this number
+abbrev pub report_of : Request → ℕ → Verdict → List ℕ
+report_of request number accepted = []
+report_of request number (printed canonical) = canonical ++ newline ∷ []
+report_of request number (refused column message lines) =
+    if request.is_quiet then [] else refusal_of request.name.now number column message lines
+
+-- what is written of lines, the first of which has this number
+abbrev pub reports_of : Request → ℕ → List Verdict → List ℕ
+reports_of request number [] = []
+reports_of request number (verdict ∷ verdicts) = report_of request number verdict ++ reports_of request (number + 1) verdicts
+
+-- 1 for a line that is refused
+abbrev pub refusal_count : Verdict → ℕ
+refusal_count accepted = 0
+refusal_count (printed canonical) = 0
+refusal_count (refused column message lines) = 1
+
+-- how many lines are refused
+abbrev pub refusals_of : List Verdict → ℕ
+refusals_of [] = 0
+refusals_of (verdict ∷ verdicts) = refusal_count verdict + refusals_of verdicts
+
+-- these come of the lines, one of each
+abbrev pub AreVerdicts : Request → List (List ℕ) → List Verdict → Type 0
+AreVerdicts request [] [] = Unit {0}
+AreVerdicts request [] (verdict ∷ verdicts) = ⊥
+AreVerdicts request (line ∷ lines) [] = ⊥
+AreVerdicts request (line ∷ lines) (verdict ∷ verdicts) = IsVerdict request line verdict × AreVerdicts request lines verdicts

@@ -1,0 +1,196 @@
+//! The check of all lines.
+ghost use Rattle.std.specs.Prelude.{◌≡◌, ℕ, ◌+◌, ◌-◌, ◌^◌, ◌<◌, ◌≤◌, List, ◌∷◌, [], ◌++◌, length, Option, Err, OnOk, IfSome, MatchResult};
+ghost use Rattle.std.specs.Io.KnownBytes.{Consumes};
+ghost use Rattle.ixdtf_buffers.specs.Line.{Holds};
+ghost use Rattle.ixdtf_buffers.specs.Lines.{lines_of, ended_lines_of};
+ghost use Rattle.ixdtf_buffers.specs.Output.{written};
+ghost use Rattle.ixdtf_checks.specs.Checks.{Reports, ReportsFront};
+ghost use Rattle.ixdtf_checks.specs.Progress.{Stands, Takes, Fails, Runs, GrowsBy};
+ghost use Rattle.ixdtf_checks.specs.Rooms.{HasRoom};
+
+use crate::judge::verdict_on;
+use crate::kept::Kept;
+use crate::report::put_report;
+use crate::request::Request;
+use crate::tally::Tally;
+use ixdtf_buffers::error::RunError;
+use ixdtf_buffers::input::read_some;
+use ixdtf_buffers::output::Output;
+use ixdtf_buffers::place::place_of;
+use std::io::{Read, Write};
+
+/// The bytes that one read asks for.
+const INPUT_SIZE: usize = 65536;
+
+/// How many bytes are read at most before a further read, so that their number can be counted.
+const MOST_BYTES: u64 = u64::MAX - INPUT_SIZE as u64;
+
+/// What a check counted, and how it ended.
+#[derive(Clone, Copy, Debug, PartialEq)]
+pub struct Checked {
+    /// The lines and the bytes.
+    pub tally: Tally,
+    /// Whether all was read and written.
+    pub end: Result<(), RunError>,
+}
+
+/// Checks each line of the reader, and writes what is to be written of it.
+pub fn check<R: Read, W: Write>(reader: &mut R, writer: &mut W, request: &Request<'_>) -> Checked
+    // All was read, each line was reported and counted, and each byte.
+    ensures ok { OnOk result.end (IfSome (R.remaining reader.old) (λ bytes.
+        Reports (W.contents writer.old) (W.contents writer.new) request.now result.tally (lines_of bytes)
+        × (result.tally.bytes ≡ length bytes))) }
+
+    // The lines that ended with a newline before the fault were reported and counted, and each byte before it.
+    ensures read { result.end ≡ Err RunError.Read → (bytes : List ℕ)
+        × Consumes (R.remaining reader.old) (R.remaining reader.new) bytes
+        × Reports (W.contents writer.old) (W.contents writer.new) request.now result.tally
+        (ended_lines_of bytes)
+        × (result.tally.bytes ≡ length bytes) }
+
+    // A beginning of the reports of the first of the lines was written.
+    ensures write { result.end ≡ Err RunError.Write → (bytes : List ℕ)
+        × Consumes (R.remaining reader.old) (R.remaining reader.new) bytes
+        × ReportsFront (W.contents writer.old) (W.contents writer.new) request.now
+        (lines_of bytes) }
+{
+    let mut output = Output::new(writer);
+    let mut kept = Kept::new();
+    let end = check_all(reader, &mut output, &mut kept, request);
+    Checked {
+        tally: kept.tally,
+        end,
+    }
+}
+
+/// Checks each line of the reader, where no byte was read and none waits.
+fn check_all<R: Read, W: Write>(
+    reader: &mut R,
+    output: &mut Output<'_, W>,
+    kept: &mut Kept,
+    request: &Request<'_>,
+) -> Result<(), RunError>
+    requires none { output.old.waiting ≡ [] }
+    requires empty { Holds kept.old.line [] }
+    requires lines { kept.old.tally.lines ≡ 0 }
+    requires refused { kept.old.tally.refused ≡ 0 }
+    requires bytes { kept.old.tally.bytes ≡ 0 }
+    ensures same { output.new.writer.ghost_name ≡ output.old.writer.ghost_name }
+    ensures runs { Runs (R.remaining reader.old) (R.remaining reader.new)
+        (written W.contents output.old) (written W.contents output.new) request.now
+        kept.new.tally result }
+{
+    let mut input = [0; INPUT_SIZE];
+    // No byte waits at any of the reads.
+    'reads: while kept.tally.bytes <= MOST_BYTES {
+        let count = read_some(reader, &mut input)?;
+        if count == 0 {
+            return finish(output, kept, request);
+        }
+        kept.tally.bytes += count as u64;
+        check_bytes(output, kept, request, &input[..count])?;
+    }
+    Err(RunError::Read)
+}
+
+/// Takes the bytes of a read, reports each line that ends in them, and hands the reports on.
+fn check_bytes<W: Write>(
+    output: &mut Output<'_, W>,
+    kept: &mut Kept,
+    request: &Request<'_>,
+    bytes: &[u8],
+) -> Result<(), RunError>
+    requires { HasRoom kept.old.tally (length bytes.now) }
+    ensures same { output.new.writer.ghost_name ≡ output.old.writer.ghost_name }
+    ensures bytes { kept.new.tally.bytes ≡ kept.old.tally.bytes }
+    ensures empty { OnOk result (output.new.waiting ≡ []) }
+    ensures reports { (start : Option (List ℕ)) (read : List ℕ)
+        → Stands W.contents start request.now output.old kept.old.line kept.old.tally read
+        → MatchResult result
+        (λ _. Stands W.contents start request.now output.new kept.new.line kept.new.tally
+        (read ++ bytes.now))
+        (Fails start (written W.contents output.new) request.now (ended_lines_of (read ++ bytes.now))) }
+{
+    let mut rest = bytes;
+    'lines: while let Some(place) = place_of(b'\n', rest) {
+        end_line(output, kept, request, &rest[..place])?;
+        rest = &rest[place + 1..];
+    }
+    kept.line.push_all(rest);
+    output.hand_on()
+}
+
+/// Takes the last bytes of a line, reports it, and begins the next one.
+///
+/// It is not inlined: what a report needs is cleared on entry.
+#[inline(never)]
+fn end_line<W: Write>(
+    output: &mut Output<'_, W>,
+    kept: &mut Kept,
+    request: &Request<'_>,
+    bytes: &[u8],
+) -> Result<(), RunError>
+    requires { HasRoom kept.old.tally 1 }
+    ensures same { output.new.writer.ghost_name ≡ output.old.writer.ghost_name }
+    ensures bytes { kept.new.tally.bytes ≡ kept.old.tally.bytes }
+    ensures few { GrowsBy kept.old.tally kept.new.tally 1 }
+    ensures empty { OnOk result (Holds kept.new.line []) }
+    ensures reports { (start : Option (List ℕ)) (lines : List (List ℕ)) (text : List ℕ)
+        → Holds kept.old.line text
+        → Takes start (written W.contents output.old) output.old.waiting request.now kept.old.tally lines
+        → MatchResult result
+        (λ _. Takes start (written W.contents output.new) output.new.waiting request.now kept.new.tally
+        (lines ++ (text ++ bytes.now) ∷ []))
+        (Fails start (written W.contents output.new) request.now (lines ++ (text ++ bytes.now) ∷ [])) }
+{
+    kept.line.push_all(bytes);
+    report_line(output, kept, request)?;
+    kept.line.clear();
+    Ok(())
+}
+
+/// Reports the line and counts it.
+fn report_line<W: Write>(
+    output: &mut Output<'_, W>,
+    kept: &mut Kept,
+    request: &Request<'_>,
+) -> Result<(), RunError>
+    requires { HasRoom kept.old.tally 1 }
+    ensures same { output.new.writer.ghost_name ≡ output.old.writer.ghost_name }
+    ensures bytes { kept.new.tally.bytes ≡ kept.old.tally.bytes }
+    ensures few { GrowsBy kept.old.tally kept.new.tally 1 }
+    ensures reports { (start : Option (List ℕ)) (lines : List (List ℕ)) (text : List ℕ)
+        → Holds kept.old.line text
+        → Takes start (written W.contents output.old) output.old.waiting request.now kept.old.tally lines
+        → MatchResult result
+        (λ _. Takes start (written W.contents output.new) output.new.waiting request.now kept.new.tally
+        (lines ++ text ∷ []))
+        (Fails start (written W.contents output.new) request.now (lines ++ text ∷ [])) }
+{
+    let number = kept.tally.lines + 1;
+    let verdict = verdict_on(request, &kept.line, &mut kept.printed);
+    kept.tally.add_line(verdict.is_refused());
+    put_report(output, request, number, &kept.printed, &verdict)
+}
+
+/// Reports what stands after the last newline, hands the report to the writer, and flushes it.
+fn finish<W: Write>(
+    output: &mut Output<'_, W>,
+    kept: &mut Kept,
+    request: &Request<'_>,
+) -> Result<(), RunError>
+    requires { HasRoom kept.old.tally 1 }
+    ensures same { output.new.writer.ghost_name ≡ output.old.writer.ghost_name }
+    ensures bytes { kept.new.tally.bytes ≡ kept.old.tally.bytes }
+    ensures reports { (start : Option (List ℕ)) (read : List ℕ)
+        → Stands W.contents start request.now output.old kept.old.line kept.old.tally read
+        → MatchResult result
+        (λ _. Reports start (written W.contents output.new) request.now kept.new.tally (lines_of read))
+        (Fails start (written W.contents output.new) request.now (lines_of read)) }
+{
+    if kept.line.is_empty() {
+        return output.finish();
+    }
+    report_line(output, kept, request)?;
+    output.finish()
+}

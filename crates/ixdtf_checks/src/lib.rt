@@ -1,0 +1,19 @@
+//! Checks lines: which are wrong, where, and why.
+//!
+//! `check` reads lines from a reader, and writes to a writer what is to be written of them. The program `ixdtf_check` hands it
+//! files.
+#![tactic(auto)]
+
+pub mod arguments;
+pub mod checker;
+mod judge;
+mod kept;
+pub mod kind;
+mod part;
+mod printed;
+mod reading;
+mod report;
+pub mod request;
+pub mod status;
+pub mod tally;
+mod verdict;

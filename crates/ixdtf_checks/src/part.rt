@@ -1,0 +1,82 @@
+//! The part of a line that is its text.
+ghost use Rattle.std.specs.Prelude.{◌≡◌, ◌+◌, ◌≤◌, length, Some, option_map, IfSome};
+ghost use Rattle.ixdtf_checks.specs.Parts.{without_return, field_start, front_field, part_of, seen_part};
+
+use crate::request::Field;
+use ixdtf_buffers::place::place_of;
+
+/// A part of a line.
+#[derive(Clone, Copy)]
+pub struct Part<'a> {
+    /// How many bytes of the line stand before it.
+    pub start: usize,
+    /// Its bytes.
+    pub text: &'a [u8],
+}
+
+/// The line without the carriage return at its end, where it has one.
+pub fn without_return(line: &[u8]) -> &[u8]
+    ensures text { result.now ≡ without_return line.now }
+    ensures shorter { length result.now ≤ length line.now }
+{
+    match line.last() {
+        Some(b'\r') => &line[..line.len() - 1],
+        _ => line,
+    }
+}
+
+/// The part that is asked for, where the line has it.
+pub fn part_of(field: Option<Field>, line: &[u8]) -> Option<Part<'_>>
+    ensures part { option_map seen_part result ≡ part_of field line.now }
+    ensures within { IfSome result (λ part. part.start + length part.text.now ≤ length line.now) }
+{
+    match field {
+        None => Some(Part {
+            start: 0,
+            text: line,
+        }),
+        Some(field) => field_of(field, line),
+    }
+}
+
+/// The field, where the line has so many.
+fn field_of(field: Field, line: &[u8]) -> Option<Part<'_>>
+    ensures part { option_map seen_part result ≡ part_of (Some field) line.now }
+    ensures within { IfSome result (λ part. part.start + length part.text.now ≤ length line.now) }
+{
+    match field_start(field.separator, field.before, line) {
+        None => None,
+        Some(start) => Some(Part {
+            start,
+            text: front_field(field.separator, &line[start..]),
+        }),
+    }
+}
+
+/// Where the field begins that stands behind so many others.
+fn field_start(separator: u8, before: usize, line: &[u8]) -> Option<usize>
+    ensures start { result ≡ field_start separator before line.now }
+    ensures within { IfSome result (λ start. start ≤ length line.now) }
+{
+    let mut start = 0;
+    let mut left = before;
+    while left > 0 {
+        match place_of(separator, &line[start..]) {
+            None => return None,
+            Some(place) => start += place + 1,
+        }
+        left -= 1;
+    }
+    Some(start)
+}
+
+/// The field at the front.
+fn front_field(separator: u8, line: &[u8]) -> &[u8]
+    ensures text { result.now ≡ front_field separator line.now }
+    ensures shorter { length result.now ≤ length line.now }
+{
+    match place_of(separator, line) {
+        None => line,
+        Some(place) => &line[..place],
+    }
+}

@@ -1,0 +1,90 @@
+//! Reading a text.
+ghost use Rattle.std.specs.Prelude.{◌≡◌, ◌≤◌, length, IfErr, OnOk};
+ghost use Rattle.ixdtf_grammar.specs.Places.{HasUnhandledFaultAt};
+ghost use Rattle.ixdtf_grammar.specs.Widths.{byte_text};
+ghost use Rattle.ixdtf_grammar.specs.language.Readers.{parse};
+ghost use Rattle.ixdtf_grammar.specs.table.Faults.{fault_of_located};
+ghost use Rattle.ixdtf_checks.specs.Kinds.{reader_of};
+ghost use Rattle.ixdtf_checks.specs.Verdicts.{IsRead, IsCanonical};
+
+use crate::kind::Kind;
+use crate::printed::PrintedText;
+use ixdtf::LocatedError;
+use ixdtf::encoding::Utf8;
+use ixdtf::parsers::{IsoDurationParser, IxdtfParser, Profile, TimeZoneParser};
+use ixdtf_print::canonical_fits;
+
+/// Reads the text as one of the kind, or tells where it is wrong.
+pub fn read(kind: Kind, profile: Profile, text: &[u8]) -> Result<(), LocatedError>
+    ensures ok { OnOk result (IsRead (reader_of kind profile) text.now) }
+    ensures err { IfErr result (λ error. HasUnhandledFaultAt (reader_of kind profile)
+        (byte_text text.now) (fault_of_located error) error.at) }
+{
+    match kind {
+        Kind::DateTime => match IxdtfParser::from_utf8(text).parse_located() {
+            Ok(_record) => Ok(()),
+            Err(error) => Err(error),
+        },
+        Kind::YearMonth => match IxdtfParser::from_utf8(text).parse_year_month_located() {
+            Ok(_record) => Ok(()),
+            Err(error) => Err(error),
+        },
+        Kind::MonthDay => match parser(profile, text).parse_month_day_located() {
+            Ok(_record) => Ok(()),
+            Err(error) => Err(error),
+        },
+        Kind::Time => match parser(profile, text).parse_time_located() {
+            Ok(_record) => Ok(()),
+            Err(error) => Err(error),
+        },
+        Kind::Offset => match TimeZoneParser::from_utf8(text).parse_offset_located() {
+            Ok(_offset) => Ok(()),
+            Err(error) => Err(error),
+        },
+        Kind::Zone => match TimeZoneParser::from_utf8(text).parse_identifier_located() {
+            Ok(_zone) => Ok(()),
+            Err(error) => Err(error),
+        },
+        Kind::ZoneName => match TimeZoneParser::from_utf8(text).parse_iana_identifier_located() {
+            Ok(_name) => Ok(()),
+            Err(error) => Err(error),
+        },
+        Kind::Duration => match duration_parser(profile, text).parse_located() {
+            Ok(_duration) => Ok(()),
+            Err(error) => Err(error),
+        },
+    }
+}
+
+/// A parser of the text under the profile.
+fn parser(profile: Profile, text: &[u8]) -> IxdtfParser<'_, Utf8>
+    ensures rest { result.rest ≡ text.now }
+    ensures profile { result.profile ≡ profile }
+{
+    IxdtfParser::from_utf8(text).with_profile(profile)
+}
+
+/// The same of a duration.
+fn duration_parser(profile: Profile, text: &[u8]) -> IsoDurationParser<'_, Utf8>
+    ensures rest { result.rest ≡ text.now }
+    ensures profile { result.profile ≡ profile }
+{
+    IsoDurationParser::<Utf8>::from_utf8(text).with_profile(profile)
+}
+
+/// Reads the text as a date-time and prints its canonical text, or tells where it is wrong.
+pub fn read_to_print(text: &[u8], printed: &mut PrintedText) -> Result<(), LocatedError>
+    requires { length text.now ≤ 65536 }
+    ensures ok { OnOk result (IsCanonical text.now printed.new) }
+    ensures err { IfErr result (λ error. HasUnhandledFaultAt parse
+        (byte_text text.now) (fault_of_located error) error.at) }
+{
+    canonical_fits();
+    match IxdtfParser::from_utf8(text).parse_located() {
+        Ok(parts) => {
+            printed.print(&parts);
+            Ok(())
+        }
+        Err(error) => Err(error),
+    }
+}

@@ -1,0 +1,54 @@
+//! How many lines there were.
+ghost use Rattle.std.specs.Prelude.{◌≡◌, ◌<◌, ◌+◌, ◌-◌, ◌^◌, min, if◌then◌else◌};
+
+/// How many lines there were, how many of them were refused, and how many bytes were read.
+#[derive(Clone, Copy, Debug, PartialEq)]
+pub struct Tally {
+    /// The lines.
+    pub lines: u64,
+    /// The lines that were refused.
+    pub refused: u64,
+    /// The bytes.
+    pub bytes: u64,
+}
+
+impl Tally {
+    ghost use Rattle.ixdtf_checks.specs.Rooms.{HasRoom};
+
+    /// No line and no byte.
+    pub fn new() -> Tally
+        ensures lines { result.lines ≡ 0 }
+        ensures refused { result.refused ≡ 0 }
+        ensures bytes { result.bytes ≡ 0 }
+    {
+        Tally {
+            lines: 0,
+            refused: 0,
+            bytes: 0,
+        }
+    }
+
+    /// Counts one more line.
+    pub fn add_line(&mut self, is_refused: bool)
+        requires { HasRoom self.old 1 }
+        ensures lines { self.new.lines ≡ self.old.lines + 1 }
+        ensures refused { self.new.refused ≡ self.old.refused + (if is_refused then 1 else 0) }
+        ensures bytes { self.new.bytes ≡ self.old.bytes }
+    {
+        self.lines += 1;
+        if is_refused {
+            self.refused += 1;
+        }
+    }
+
+    /// Counts what was counted in another file. A number that is too great stays the greatest.
+    pub fn add(&mut self, other: Tally)
+        ensures lines { self.new.lines ≡ min (self.old.lines + other.lines) (2 ^ 64 - 1) }
+        ensures refused { self.new.refused ≡ min (self.old.refused + other.refused) (2 ^ 64 - 1) }
+        ensures bytes { self.new.bytes ≡ min (self.old.bytes + other.bytes) (2 ^ 64 - 1) }
+    {
+        self.lines = self.lines.saturating_add(other.lines);
+        self.refused = self.refused.saturating_add(other.refused);
+        self.bytes = self.bytes.saturating_add(other.bytes);
+    }
+}

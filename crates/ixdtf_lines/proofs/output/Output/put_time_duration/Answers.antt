@@ -1,9 +1,0 @@
--- The exits of putting the time of a duration.
-use Rattle.ixdtf_lines.proofs.OutputLemmas.{Puts-after, Puts-exit}
-use Rattle.ixdtf_lines.proofs.output.Output.put_time_duration.Goals as goal
-
-pub returns-in_err-put_time_numbers : goal.returns-in_err-put_time_numbers
-returns-in_err-put_time_numbers g c = Puts-exit _ c.from_residual.ensures.1 c.in_err-put_time_numbers.ensures
-
-pub returns : goal.returns
-returns g c = rw (← c.last_fraction-fraction.ensures) (Puts-after c.in_ok-put_time_numbers.ensures c.put_fraction.ensures)

@@ -1,0 +1,122 @@
+//! What the arguments ask for.
+
+use ixdtf::parsers::Profile;
+use ixdtf_checks::arguments::{Options, Word};
+use ixdtf_checks::kind::Kind;
+use ixdtf_checks::request::{Field, Task};
+use ixdtf_checks::status::status_of;
+use ixdtf_checks::tally::Tally;
+use std::process::Abort;
+
+/// What the options are after words that belong to options.
+fn options_of(rt: &impl Abort, words: &[&str]) -> Options {
+    let mut options = Options::new();
+    for word in words {
+        assert_eq!(rt; options.take(word), Word::Option);
+    }
+    options
+}
+
+#[test]
+fn takes_options(rt: HostRuntime) {
+    let words = [
+        "--kind",
+        "month-day",
+        "--strict",
+        "--field",
+        "3",
+        "--separator",
+        ";",
+        "--quiet",
+    ];
+    let options = options_of(&rt, &words);
+    let Some(request) = options.request("f") else {
+        panic!(rt; "no request");
+    };
+    assert_eq!(rt; request.name, "f");
+    assert_eq!(rt; request.task, Task::Check(Kind::MonthDay));
+    assert_eq!(rt; request.profile, Profile::Strict);
+    assert_eq!(rt;
+        request.field,
+        Some(Field {
+            before: 2,
+            separator: b';'
+        })
+    );
+    assert!(rt; request.is_quiet);
+}
+
+#[test]
+fn asks_for_date_times_where_nothing_is_said(rt: HostRuntime) {
+    let Some(request) = Options::new().request("f") else {
+        panic!(rt; "no request");
+    };
+    assert_eq!(rt; request.task, Task::Check(Kind::DateTime));
+    assert_eq!(rt; request.profile, Profile::Crate);
+    assert_eq!(rt; request.field, None);
+    assert!(rt; !request.is_quiet);
+}
+
+/// Words that ask for something, or do not go together.
+const TOGETHER: &[(&[&str], bool)] = &[
+    (&[], true),
+    (&["--separator", ";"], false),
+    (&["--kind"], false),
+    (&["--kind", "time", "--canonical"], false),
+    (&["--kind", "date-time", "--canonical"], true),
+];
+
+#[test]
+fn refuses_words_that_do_not_go_together(rt: HostRuntime) {
+    for (words, wanted) in TOGETHER {
+        let options = options_of(&rt, words);
+        assert_eq!(rt; options.request("f").is_some(), *wanted);
+    }
+}
+
+/// Words in turn, and what each is.
+const WORDS: &[(&str, Word)] = &[
+    ("dates", Word::File),
+    ("-", Word::File),
+    ("--help", Word::Help),
+    ("--kinds", Word::Unknown),
+    ("--field", Word::Option),
+    ("0", Word::Unknown),
+    ("--kind", Word::Option),
+    ("date", Word::Unknown),
+    ("--separator", Word::Option),
+    (",,", Word::Unknown),
+    ("--", Word::Option),
+    ("--help", Word::File),
+];
+
+#[test]
+fn tells_files_from_options(rt: HostRuntime) {
+    let mut options = Options::new();
+    for (word, wanted) in WORDS {
+        assert_eq!(rt; options.take(word), *wanted);
+    }
+}
+
+#[test]
+fn adds_up(rt: HostRuntime) {
+    let mut total = Tally::new();
+    let one = Tally {
+        lines: 3,
+        refused: 1,
+        bytes: 40,
+    };
+    total.add(one);
+    total.add(one);
+    assert_eq!(rt;
+        total,
+        Tally {
+            lines: 6,
+            refused: 2,
+            bytes: 80
+        }
+    );
+    assert_eq!(rt; status_of(false, total.refused), 1);
+    assert_eq!(rt; status_of(true, 0), 2);
+    assert_eq!(rt; status_of(false, 0), 0);
+}

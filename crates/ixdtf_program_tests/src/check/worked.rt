@@ -1,0 +1,166 @@
+//! Worked lines.
+
+use super::check_written;
+use ixdtf::parsers::Profile;
+use ixdtf_checks::kind::Kind;
+use ixdtf_checks::request::{Field, Request, Task};
+use std::test::Fail;
+
+const DATE_TIMES: Request<'static> = Request {
+    name: "f",
+    task: Task::Check(Kind::DateTime),
+    profile: Profile::Crate,
+    field: None,
+    is_quiet: false,
+};
+
+const MIXED: &[u8] = b"2024-03-02T08:48:00Z\n2020-W01-1\n\n2021-02-29\r\n2020-01-01\r\n2020-13-01";
+
+const MIXED_REPORTS: &[u8] = b"f:2:6: Invalid character while parsing month value.\n\
+2020-W01-1\n     ^\n\
+f:3:1: Parsing ended abruptly while parsing digit\n\n^\n\
+f:4:11: Parsed day value not in a valid range.\n2021-02-29\n          ^\n\
+f:6:8: Parsed month value not in a valid range.\n2020-13-01\n       ^\n";
+
+#[test]
+fn reports_the_lines_that_are_refused(rt: HostRuntime) -> Result<(), Fail> {
+    check_written(&rt, rt.alloc(), &DATE_TIMES, MIXED, MIXED_REPORTS, (6, 4))?;
+    check_written(&rt, rt.alloc(), &DATE_TIMES, b"", b"", (0, 0))?;
+    check_written(&rt, rt.alloc(), &DATE_TIMES, b"2020-01-01", b"", (1, 0))
+}
+
+#[test]
+fn counts_in_quiet(rt: HostRuntime) -> Result<(), Fail> {
+    let mut request = DATE_TIMES;
+    request.is_quiet = true;
+    check_written(&rt, rt.alloc(), &request, MIXED, b"", (6, 4))
+}
+
+/// A kind, a profile, a text of the kind, and what is written of it.
+const TEXTS: &[(Kind, Profile, &str, &str)] = &[
+    (Kind::DateTime, Profile::Crate, "2020-01-01", ""),
+    (Kind::YearMonth, Profile::Crate, "2020-11", ""),
+    (Kind::MonthDay, Profile::Crate, "--11-07", ""),
+    (Kind::Time, Profile::Crate, "T12:30", ""),
+    (Kind::Offset, Profile::Crate, "+05:30", ""),
+    (Kind::Zone, Profile::Crate, "-05:00", ""),
+    (Kind::ZoneName, Profile::Crate, "America/Chicago", ""),
+    (Kind::Duration, Profile::Crate, "P1Y2M", ""),
+    (
+        Kind::YearMonth,
+        Profile::Crate,
+        "2020",
+        "f:1:5: Parsing ended abruptly while parsing digit\n2020\n    ^\n",
+    ),
+    (
+        Kind::ZoneName,
+        Profile::Crate,
+        "America/",
+        "f:1:9: Expected time zone character after '/'.\nAmerica/\n        ^\n",
+    ),
+    (Kind::MonthDay, Profile::Crate, "11-00", ""),
+    (
+        Kind::MonthDay,
+        Profile::Strict,
+        "11-00",
+        "f:1:6: MonthDay was not valid.\n11-00\n     ^\n",
+    ),
+];
+
+#[test]
+fn reads_each_kind(rt: HostRuntime) -> Result<(), Fail> {
+    for (kind, profile, text, report) in TEXTS {
+        let mut request = DATE_TIMES;
+        request.task = Task::Check(*kind);
+        request.profile = *profile;
+        let refused = u64::from(!report.is_empty());
+        check_written(
+            &rt,
+            rt.alloc(),
+            &request,
+            text.as_bytes(),
+            report.as_bytes(),
+            (1, refused),
+        )?;
+    }
+    Ok(())
+}
+
+#[test]
+fn reads_a_field(rt: HostRuntime) -> Result<(), Fail> {
+    let mut request = DATE_TIMES;
+    request.field = Some(Field {
+        before: 1,
+        separator: b',',
+    });
+    check_written(
+        &rt,
+        rt.alloc(),
+        &request,
+        b"a,2020-01-01,b\nab,2020-W01-1\nabc\n,2020-01-01\r\n",
+        b"f:2:9: Invalid character while parsing month value.\n2020-W01-1\n     ^\n\
+f:3:4: no such field\n",
+        (4, 2),
+    )
+}
+
+#[test]
+fn writes_canonical_texts(rt: HostRuntime) -> Result<(), Fail> {
+    let mut request = DATE_TIMES;
+    request.task = Task::Print;
+    check_written(
+        &rt,
+        rt.alloc(),
+        &request,
+        b"20200101T00+00[+00]\n2020-13-01\n",
+        b"2020-01-01T00:00:00+00:00[+00:00]\n\
+f:2:8: Parsed month value not in a valid range.\n2020-13-01\n       ^\n",
+        (2, 1),
+    )?;
+    request.is_quiet = true;
+    check_written(
+        &rt,
+        rt.alloc(),
+        &request,
+        b"20200101T00+00[+00]\n2020-13-01\n",
+        b"2020-01-01T00:00:00+00:00[+00:00]\n",
+        (2, 1),
+    )
+}
+
+#[test]
+fn shows_no_line_that_is_not_utf8(rt: HostRuntime) -> Result<(), Fail> {
+    check_written(
+        &rt,
+        rt.alloc(),
+        &DATE_TIMES,
+        b"2020-01-01\xff",
+        b"f:1:11: Unexpected character found after parsing was completed.\n",
+        (1, 1),
+    )
+}
+
+#[test]
+fn goes_on_after_a_long_line(rt: HostRuntime) -> Result<(), Fail> {
+    let mut input = Vec::new(rt.alloc());
+    for _ in 0..65536 {
+        input.push(b'2')?;
+    }
+    input.extend_from_slice(b"\n2020-01-01\n")?;
+    for _ in 0..65537 {
+        input.push(b'2')?;
+    }
+    input.extend_from_slice(b"\n2020-13-01\n")?;
+    let mut request = DATE_TIMES;
+    request.is_quiet = true;
+    check_written(&rt, rt.alloc(), &request, input.as_slice(), b"", (4, 3))?;
+    check_written(
+        &rt,
+        rt.alloc(),
+        &DATE_TIMES,
+        &input.as_slice()[65537..],
+        b"f:2:65537: line too long\n\
+f:3:8: Parsed month value not in a valid range.\n2020-13-01\n       ^\n",
+        (3, 2),
+    )
+}

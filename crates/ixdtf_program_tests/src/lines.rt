@@ -1,0 +1,221 @@
+//! What no clause says: worked lines, failing readers and writers, and the numbers of the statuses.
+
+mod faults;
+mod words;
+
+use ixdtf_answers::arguments::arguments_allowed;
+use ixdtf_answers::number::nine_digits;
+use ixdtf_answers::runner::run;
+use ixdtf_buffers::decimal::{Decimal, sign_of};
+use ixdtf_buffers::error::RunError;
+use std::alloc::{AllocError, Global};
+use std::process::Abort;
+use std::test::Fail;
+
+/// Lines of several words and of none, each with its answer.
+const LINES: [(&str, &str); 9] = [
+    ("parse 20201108", "ok date=2020,11,8"),
+    ("hello", "error unknown reader"),
+    ("offset -05:00:30.5", "ok offset=-5,0,30.500000000"),
+    (
+        "parse 2021-02-29",
+        "error Parsed day value not in a valid range.",
+    ),
+    ("iana Europe/Berlin", "ok tz=Europe/Berlin"),
+    (
+        "parse 2020",
+        "error Parsing ended abruptly while parsing Date",
+    ),
+    ("", "error unknown reader"),
+    ("parse -000400-02-29", "ok date=-400,2,29"),
+    (
+        "canonical 20200101T00+00[+00]",
+        "ok 2020-01-01T00:00:00+00:00[+00:00]",
+    ),
+];
+
+/// The lines of the stored run, each with its answer.
+const STORED: [(&str, &str); 6] = [
+    (
+        "parse 2021-01-29 02:12:48+01:00:00[u][u-ca=iso8601]",
+        "ok date=2021,1,29 time=2,12,48 offset=+1,0,0 tz=u calendar=iso8601",
+    ),
+    (
+        "duration -P1Y3wT0,5H",
+        "ok sign=- date=1,0,3,0 time=0.500000000",
+    ),
+    ("zone +05:30", "ok tz=+5,30"),
+    ("time 1200", "error Time is ambiguous with MonthDay"),
+    ("parse ", "error Parsing ended abruptly while parsing digit"),
+    ("hello", "error unknown reader"),
+];
+
+const TWO_LINES: &[u8] = b"parse 2020-01-01\nparse 2020-01-02\n";
+
+const TWO_ANSWERS: &[u8] = b"ok date=2020,1,1\nok date=2020,1,2\n";
+
+const FIRST_ANSWER: &[u8] = b"ok date=2020,1,1\n";
+
+/// A run on the input writes the bytes.
+fn check_run(rt: &impl Abort, alloc: Global, input: &[u8], bytes: &[u8]) -> Result<(), Fail> {
+    let mut reader = input;
+    let mut written = Vec::new(alloc);
+    run(&mut reader, &mut written)?;
+    assert_eq!(rt; written.as_slice(), bytes);
+    Ok(())
+}
+
+/// Lines and their answers, each of which ends with a newline.
+#[derive(Drop)]
+struct Session {
+    lines: Vec<u8>,
+    answers: Vec<u8>,
+}
+
+impl Session {
+    fn new(alloc: Global, rows: &[(&str, &str)]) -> Result<Session, AllocError> {
+        let mut lines = Vec::new(alloc);
+        let mut answers = Vec::new(alloc);
+        for (line, answer) in rows {
+            lines.extend_from_slice(line.as_bytes())?;
+            lines.push(b'\n')?;
+            answers.extend_from_slice(answer.as_bytes())?;
+            answers.push(b'\n')?;
+        }
+        Ok(Session { lines, answers })
+    }
+}
+
+/// A run answers each line with what stands beside it.
+fn check_answers(rt: &impl Abort, alloc: Global, rows: &[(&str, &str)]) -> Result<(), Fail> {
+    let session = Session::new(alloc, rows)?;
+    check_run(
+        rt,
+        alloc,
+        session.lines.as_slice(),
+        session.answers.as_slice(),
+    )
+}
+
+#[test]
+fn answers_each_line(rt: HostRuntime) -> Result<(), Fail> {
+    check_answers(&rt, rt.alloc(), &LINES)?;
+    check_answers(&rt, rt.alloc(), &STORED)
+}
+
+#[test]
+fn answers_nothing_for_nothing(rt: HostRuntime) -> Result<(), Fail> {
+    check_answers(&rt, rt.alloc(), &[])?;
+    check_answers(&rt, rt.alloc(), &[("", "error unknown reader")])
+}
+
+#[test]
+fn answers_unknown_words(rt: HostRuntime) -> Result<(), Fail> {
+    let lines = [
+        "hello",
+        "parse",
+        " parse 20201108",
+        "Parse 20201108",
+        "parse2 20201108",
+        "parse\t20201108",
+        "iana",
+        "Zone UTC",
+        "offsets +05:00",
+        "of +05:00",
+        "durations P1Y",
+    ];
+    for line in lines {
+        check_answers(&rt, rt.alloc(), &[(line, "error unknown reader")])?;
+    }
+    Ok(())
+}
+
+const AFTER_THE_FIRST_SPACE: &[(&str, &str)] = &[
+    ("parse ", "error Parsing ended abruptly while parsing digit"),
+    ("parse 2020-01-01 05", "ok date=2020,1,1 time=5,0,0"),
+    (
+        "parse 20201108\r",
+        "error Unexpected character found after parsing was completed.",
+    ),
+];
+
+#[test]
+fn takes_all_after_the_first_space_as_text(rt: HostRuntime) -> Result<(), Fail> {
+    check_answers(&rt, rt.alloc(), AFTER_THE_FIRST_SPACE)
+}
+
+#[test]
+fn answers_a_last_line_without_a_newline(rt: HostRuntime) -> Result<(), Fail> {
+    let rows = [
+        ("hello", "error unknown reader\n"),
+        ("parse", "error unknown reader\n"),
+        (
+            "parse ",
+            "error Parsing ended abruptly while parsing digit\n",
+        ),
+        ("parse 2020-01-01 05", "ok date=2020,1,1 time=5,0,0\n"),
+    ];
+    for (line, answer) in rows {
+        check_run(&rt, rt.alloc(), line.as_bytes(), answer.as_bytes())?;
+    }
+    Ok(())
+}
+
+#[test]
+fn bounds_the_line(rt: HostRuntime) -> Result<(), Fail> {
+    let mut line = Vec::new(rt.alloc());
+    line.extend_from_slice(b"parse ")?;
+    for _ in 0..4090 {
+        line.push(b'2')?;
+    }
+    check_run(
+        &rt,
+        rt.alloc(),
+        line.as_slice(),
+        b"error Parsed month value not in a valid range.\n",
+    )?;
+    line.extend_from_slice(b"2\nparse 20201108")?;
+    check_run(
+        &rt,
+        rt.alloc(),
+        line.as_slice(),
+        b"error line too long\nok date=2020,11,8\n",
+    )
+}
+
+#[test]
+fn answers_more_than_the_array_holds(rt: HostRuntime) -> Result<(), Fail> {
+    let mut lines = Vec::new(rt.alloc());
+    let mut answers = Vec::new(rt.alloc());
+    for _ in 0..1000 {
+        lines.extend_from_slice(b"x\n")?;
+        answers.extend_from_slice(b"error unknown reader\n")?;
+    }
+    check_run(&rt, rt.alloc(), lines.as_slice(), answers.as_slice())
+}
+
+#[test]
+fn takes_no_arguments(rt: HostRuntime) {
+    assert!(rt; arguments_allowed(0));
+    assert!(rt; !arguments_allowed(1));
+}
+
+#[test]
+fn numbers_the_errors(rt: HostRuntime) {
+    assert_eq!(rt; RunError::Read as u8, 1);
+    assert_eq!(rt; RunError::Write as u8, 2);
+}
+
+#[test]
+fn shows_numbers(rt: HostRuntime) {
+    let most = Decimal::new(u64::MAX);
+    assert_eq!(rt; most.as_slice(), b"18446744073709551615".as_slice());
+    let zero = Decimal::new(0);
+    assert_eq!(rt; zero.as_slice(), b"0".as_slice());
+    assert_eq!(rt; sign_of(-1), b"-".as_slice());
+    assert_eq!(rt; sign_of(0), b"".as_slice());
+    let quarter = nine_digits(250_000_000);
+    assert_eq!(rt; quarter.as_slice(), b"250000000".as_slice());
+    let short = nine_digits(7);
+    assert_eq!(rt; short.as_slice(), b"000000007".as_slice());
+}

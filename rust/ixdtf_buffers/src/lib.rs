@@ -1,0 +1,15 @@
+// Made by tools/to_rust.py of crates/ixdtf_buffers/src/lib.rt. Do not edit.
+
+//! What the programs over lines share: the line that is being read, the bytes that wait to be written, and decimal numbers.
+//!
+//! Nothing here takes memory: each buffer is an array of fixed size. It stands on the standard library alone.
+
+#![forbid(unsafe_code)]
+
+pub mod decimal;
+pub mod error;
+pub mod input;
+pub mod line;
+pub mod output;
+pub mod place;
+mod waiting;

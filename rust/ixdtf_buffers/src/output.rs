@@ -1,0 +1,88 @@
+// Made by tools/to_rust.py of crates/ixdtf_buffers/src/output.rt. Do not edit.
+
+//! A writer, and what waits to be written to it.
+
+use crate::error::RunError;
+use crate::waiting::{WAITING_LIMIT, Waiting};
+use std::fmt;
+use std::io::Write;
+
+/// A writer, and the bytes that wait to be written to it.
+pub struct Output<'w, W> {
+    writer: &'w mut W,
+    waiting: Waiting,
+}
+
+impl<'w, W: Write> Output<'w, W> {
+    /// An output to the writer. No byte waits.
+    pub fn new(writer: &'w mut W) -> Output<'w, W> {
+        Output {
+            writer,
+            waiting: Waiting::new(),
+        }
+    }
+
+    /// Puts the bytes behind those that wait.
+    pub fn put(&mut self, bytes: &[u8]) -> Result<(), RunError> {
+        if bytes.len() > self.waiting.room() {
+            return self.put_after(bytes);
+        }
+        self.waiting.push_all(bytes);
+        Ok(())
+    }
+
+    /// Hands on what waits, and then puts the bytes.
+    fn put_after(&mut self, bytes: &[u8]) -> Result<(), RunError> {
+        self.hand_on()?;
+        if bytes.len() > WAITING_LIMIT {
+            return write_whole(self.writer, bytes);
+        }
+        self.waiting.push_all(bytes);
+        Ok(())
+    }
+
+    /// Puts the pieces in turn.
+    pub fn put_all(&mut self, pieces: &[&[u8]]) -> Result<(), RunError> {
+        for piece in pieces {
+            self.put(piece)?;
+        }
+        Ok(())
+    }
+
+    /// Puts what the value displays. A text of more than 4,096 bytes counts as a write that failed.
+    pub fn put_display<D: fmt::Display>(&mut self, value: &D) -> Result<(), RunError> {
+        let mut text = Waiting::new();
+        match text.push_display(value) {
+            Ok(()) => self.put(text.as_slice()),
+            Err(fmt::Error) => Err(RunError::Write),
+        }
+    }
+
+    /// Hands what waits to the writer.
+    pub fn hand_on(&mut self) -> Result<(), RunError> {
+        write_whole(self.writer, self.waiting.as_slice())?;
+        self.waiting.clear();
+        Ok(())
+    }
+
+    /// Hands what waits to the writer, and flushes the writer.
+    pub fn finish(&mut self) -> Result<(), RunError> {
+        self.hand_on()?;
+        match self.writer.flush() {
+            Ok(()) => Ok(()),
+            Err(_) => Err(RunError::Write),
+        }
+    }
+}
+
+/// Writes all the bytes, or fails after a front of them.
+fn write_whole<W: Write>(writer: &mut W, bytes: &[u8]) -> Result<(), RunError> {
+    let mut rest = bytes;
+    'writes: while !rest.is_empty() {
+        match writer.write(rest) {
+            Ok(0) | Err(_) => return Err(RunError::Write),
+            Ok(count) => rest = &rest[count..],
+        }
+    }
+    Ok(())
+}

@@ -1,0 +1,49 @@
+// Made by tools/to_rust.py of crates/ixdtf_checks/src/kind.rt. Do not edit.
+
+//! The kinds of texts.
+
+/// What a text is read as.
+#[derive(Clone, Copy, Debug, PartialEq)]
+pub enum Kind {
+    /// `date-time`: a date, or a date and a time, with an offset, a zone and a calendar.
+    DateTime,
+    /// `year-month`: a year and a month, with a zone and a calendar.
+    YearMonth,
+    /// `month-day`: a month and a day, with a zone and a calendar.
+    MonthDay,
+    /// `time`: a time, with an offset, a zone and a calendar.
+    Time,
+    /// `offset`: an offset from UTC.
+    Offset,
+    /// `zone`: a time zone, by name or by offset.
+    Zone,
+    /// `zone-name`: a time zone by name.
+    ZoneName,
+    /// `duration`: a duration.
+    Duration,
+}
+
+impl Kind {
+    /// The kind of this name.
+    pub fn named(name: &[u8]) -> Option<Kind> {
+        if name == b"date-time".as_slice() {
+            Some(Kind::DateTime)
+        } else if name == b"year-month".as_slice() {
+            Some(Kind::YearMonth)
+        } else if name == b"month-day".as_slice() {
+            Some(Kind::MonthDay)
+        } else if name == b"time".as_slice() {
+            Some(Kind::Time)
+        } else if name == b"offset".as_slice() {
+            Some(Kind::Offset)
+        } else if name == b"zone".as_slice() {
+            Some(Kind::Zone)
+        } else if name == b"zone-name".as_slice() {
+            Some(Kind::ZoneName)
+        } else if name == b"duration".as_slice() {
+            Some(Kind::Duration)
+        } else {
+            None
+        }
+    }
+}

@@ -1,0 +1,67 @@
+// Made by tools/to_rust.py of crates/ixdtf_checks/src/part.rt. Do not edit.
+
+//! The part of a line that is its text.
+
+use crate::request::Field;
+use ixdtf_buffers::place::place_of;
+
+/// A part of a line.
+#[derive(Clone, Copy)]
+pub struct Part<'a> {
+    /// How many bytes of the line stand before it.
+    pub start: usize,
+    /// Its bytes.
+    pub text: &'a [u8],
+}
+
+/// The line without the carriage return at its end, where it has one.
+pub fn without_return(line: &[u8]) -> &[u8] {
+    match line.last() {
+        Some(b'\r') => &line[..line.len() - 1],
+        _ => line,
+    }
+}
+
+/// The part that is asked for, where the line has it.
+pub fn part_of(field: Option<Field>, line: &[u8]) -> Option<Part<'_>> {
+    match field {
+        None => Some(Part {
+            start: 0,
+            text: line,
+        }),
+        Some(field) => field_of(field, line),
+    }
+}
+
+/// The field, where the line has so many.
+fn field_of(field: Field, line: &[u8]) -> Option<Part<'_>> {
+    match field_start(field.separator, field.before, line) {
+        None => None,
+        Some(start) => Some(Part {
+            start,
+            text: front_field(field.separator, &line[start..]),
+        }),
+    }
+}
+
+/// Where the field begins that stands behind so many others.
+fn field_start(separator: u8, before: usize, line: &[u8]) -> Option<usize> {
+    let mut start = 0;
+    let mut left = before;
+    while left > 0 {
+        match place_of(separator, &line[start..]) {
+            None => return None,
+            Some(place) => start += place + 1,
+        }
+        left -= 1;
+    }
+    Some(start)
+}
+
+/// The field at the front.
+fn front_field(separator: u8, line: &[u8]) -> &[u8] {
+    match place_of(separator, line) {
+        None => line,
+        Some(place) => &line[..place],
+    }
+}

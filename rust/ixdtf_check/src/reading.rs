@@ -1,0 +1,68 @@
+// Made by tools/to_rust.py of crates/ixdtf_checks/src/reading.rt. Do not edit.
+
+//! Reading a text.
+
+use crate::kind::Kind;
+use crate::printed::PrintedText;
+use ixdtf::LocatedError;
+use ixdtf::encoding::Utf8;
+use ixdtf::parsers::{IsoDurationParser, IxdtfParser, Profile, TimeZoneParser};
+
+/// Reads the text as one of the kind, or tells where it is wrong.
+pub fn read(kind: Kind, profile: Profile, text: &[u8]) -> Result<(), LocatedError> {
+    match kind {
+        Kind::DateTime => match IxdtfParser::from_utf8(text).parse_located() {
+            Ok(_record) => Ok(()),
+            Err(error) => Err(error),
+        },
+        Kind::YearMonth => match IxdtfParser::from_utf8(text).parse_year_month_located() {
+            Ok(_record) => Ok(()),
+            Err(error) => Err(error),
+        },
+        Kind::MonthDay => match parser(profile, text).parse_month_day_located() {
+            Ok(_record) => Ok(()),
+            Err(error) => Err(error),
+        },
+        Kind::Time => match parser(profile, text).parse_time_located() {
+            Ok(_record) => Ok(()),
+            Err(error) => Err(error),
+        },
+        Kind::Offset => match TimeZoneParser::from_utf8(text).parse_offset_located() {
+            Ok(_offset) => Ok(()),
+            Err(error) => Err(error),
+        },
+        Kind::Zone => match TimeZoneParser::from_utf8(text).parse_identifier_located() {
+            Ok(_zone) => Ok(()),
+            Err(error) => Err(error),
+        },
+        Kind::ZoneName => match TimeZoneParser::from_utf8(text).parse_iana_identifier_located() {
+            Ok(_name) => Ok(()),
+            Err(error) => Err(error),
+        },
+        Kind::Duration => match duration_parser(profile, text).parse_located() {
+            Ok(_duration) => Ok(()),
+            Err(error) => Err(error),
+        },
+    }
+}
+
+/// A parser of the text under the profile.
+fn parser(profile: Profile, text: &[u8]) -> IxdtfParser<'_, Utf8> {
+    IxdtfParser::from_utf8(text).with_profile(profile)
+}
+
+/// The same of a duration.
+fn duration_parser(profile: Profile, text: &[u8]) -> IsoDurationParser<'_, Utf8> {
+    IsoDurationParser::<Utf8>::from_utf8(text).with_profile(profile)
+}
+
+/// Reads the text as a date-time and prints its canonical text, or tells where it is wrong.
+pub fn read_to_print(text: &[u8], printed: &mut PrintedText) -> Result<(), LocatedError> {
+    match IxdtfParser::from_utf8(text).parse_located() {
+        Ok(parts) => {
+            printed.print(&parts);
+            Ok(())
+        }
+        Err(error) => Err(error),
+    }
+}
