@@ -48,13 +48,13 @@ pub fn parse_annotation_key<'a, T: EncodingType>(
     ensures shorter { OnOk result (length cursor.new.rest < length cursor.old.rest) }
 {
     let start = cursor.rest();
-    let key = pass_letters(cursor, KeyLetters)?;
-    match key.next {
+    let passed = pass_letters(cursor, KeyLetters)?;
+    let key = &start[..start.len() - cursor.rest().len()];
+    match passed.next {
         None => Err(Stop::AnnotationKeyValueSeparator),
         Some(byte) if is_annotation_key_value_separator(byte) => {
-            let count = start.len() - cursor.rest().len();
             cursor.step();
-            Ok(&start[..count])
+            Ok(key)
         }
         Some(_) => Err(Stop::AnnotationKeyChar),
     }

@@ -31,13 +31,13 @@ pub fn parse_annotation_key<'a, T: EncodingType>(
     cursor: &mut Cursor<'a, T>,
 ) -> Result<&'a [T::CodeUnit], Stop> {
     let start = cursor.rest();
-    let key = pass_letters(cursor, KeyLetters)?;
-    match key.next {
+    let passed = pass_letters(cursor, KeyLetters)?;
+    let key = &start[..start.len() - cursor.rest().len()];
+    match passed.next {
         None => Err(Stop::AnnotationKeyValueSeparator),
         Some(byte) if is_annotation_key_value_separator(byte) => {
-            let count = start.len() - cursor.rest().len();
             cursor.step();
-            Ok(&start[..count])
+            Ok(key)
         }
         Some(_) => Err(Stop::AnnotationKeyChar),
     }

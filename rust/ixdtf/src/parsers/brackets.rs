@@ -91,15 +91,15 @@ fn parse_name_or_pair<'a, T: EncodingType>(
     critical: bool,
 ) -> Result<Bracket<'a, T>, Stop> {
     let start = cursor.rest();
-    let key = pass_letters(cursor, KeyLetters)?;
+    let passed = pass_letters(cursor, KeyLetters)?;
     let behind_key = cursor.rest();
-    if ends_key(key.next) {
-        let count = start.len() - behind_key.len();
+    let key = &start[..start.len() - behind_key.len()];
+    if ends_key(passed.next) {
         cursor.step();
         let value = parse_annotation_value(cursor)?;
         return Ok(Bracket::Pair(Annotation {
             critical,
-            key: &start[..count],
+            key,
             value,
         }));
     }
