@@ -143,11 +143,12 @@ outcome_is view (Err e) (at, there, is) = is ∙ λ i. Err (record { fault = fau
 
 -- ---- a chain of calls that list
 
--- each call replies none, and writes its annotation to its slot and counts it
-abbrev pub ListsEach : {T A F : Type 0} → Step T ℕ F → (F → ℕ) → (F → List A) → (Annotation T ℕ → A) → ℕ → Type 0
-ListsEach {T} {A} {F} step count slots item limit =
-    (state : F) (annotation : Annotation T ℕ) (reply : Option (Annotation T ℕ)) (next : F) → step state annotation reply next
+-- each call replies none, writes its annotation to its slot, as the pair that it is, and counts it
+abbrev pub ListsEach : {T U A F : Type 0} → (U → ℕ) → (A → Pair) → Step T U F → (F → ℕ) → (F → List A) → (Annotation T U → A) → ℕ → Type 0
+ListsEach {T} {U} {A} {F} number view step count slots item limit =
+    (state : F) (annotation : Annotation T U) (reply : Option (Annotation T U)) (next : F) → step state annotation reply next
     → (reply ≡ None) × (count next ≡ min (count state + 1) limit) × (slots next ≡ slice_set (slots state) (count state) (item annotation))
+    × (view (item annotation) ≡ pair_of number annotation)
 
 -- what each call keeps is kept by all of them
 pub kept : {T U F X : Type 0} (step : Step T U F) (name : F → X)
@@ -158,32 +159,29 @@ kept step name each (call ∷ calls) state last (next, stepped, chain) =
     sym (each state call.0 call.1 next stepped) ∙ kept step name each calls next last chain
 
 -- what is written of each annotation
-abbrev items : {T A : Type 0} → (Annotation T ℕ → A) → Calls T ℕ → List A
+abbrev items : {T U A : Type 0} → (Annotation T U → A) → Calls T U → List A
 items item calls = map (λ call. item call.0) calls
 
-abbrev unit_number : ℕ → ℕ
-unit_number = λ unit. unit
+items_length : {T U A : Type 0} (number : U → ℕ) (item : Annotation T U → A) (calls : Calls T U) → length (items item calls) ≡ length (handed number calls)
+items_length number item [] = refl
+items_length number item (call ∷ calls) = let tail = items_length number item calls in omega (arith, tail)
 
-items_seen : {T A : Type 0} (item : Annotation T ℕ → A) (view : A → Pair)
-    → ((annotation : Annotation T ℕ) → view (item annotation) ≡ pair_of unit_number annotation)
-    → (calls : Calls T ℕ) → map view (items item calls) ≡ handed unit_number calls
-items_seen item view same [] = refl
-items_seen item view same (call ∷ calls) = let head = same call.0 in let tail = items_seen item view same calls in λ i. head i ∷ tail i
+module _ {T U A F : Type 0} (number : U → ℕ) (view : A → Pair) (step : Step T U F) (count : F → ℕ) (slots : F → List A) (item : Annotation T U → A) (limit : ℕ)
+    (each : ListsEach number view step count slots item limit) where
+  items_seen : (calls : Calls T U) (state last : F) → IsChain step state calls last → map view (items item calls) ≡ handed number calls
+  items_seen [] state last chain = refl
+  items_seen (call ∷ calls) state last (next, stepped, chain) =
+      let head = (each state call.0 call.1 next stepped).3 in
+      let tail = items_seen calls next last chain in λ i. head i ∷ tail i
 
-items_length : {T A : Type 0} (item : Annotation T ℕ → A) (calls : Calls T ℕ) → length (items item calls) ≡ length (handed unit_number calls)
-items_length item [] = refl
-items_length item (call ∷ calls) = let tail = items_length item calls in omega (arith, tail)
-
-module _ {T A F : Type 0} (step : Step T ℕ F) (count : F → ℕ) (slots : F → List A) (item : Annotation T ℕ → A) (limit : ℕ)
-    (each : ListsEach step count slots item limit) where
-  replies_none : (calls : Calls T ℕ) (state last : F) → IsChain step state calls last → replies_of unit_number calls ≡ nones calls
+  replies_none : (calls : Calls T U) (state last : F) → IsChain step state calls last → replies_of number calls ≡ nones calls
   replies_none [] state last chain = refl
   replies_none (call ∷ calls) state last (next, stepped, chain) =
       let head = (each state call.0 call.1 next stepped).0 in
-      let tail = replies_none calls next last chain in λ i. option_map (pair_of unit_number) (head i) ∷ tail i
+      let tail = replies_none calls next last chain in λ i. option_map (pair_of number) (head i) ∷ tail i
 
   -- with these items written before
-  listed : (old : List A) (calls : Calls T ℕ) (state last : F) → IsChain step state calls last → (before : List A)
+  listed : (old : List A) (calls : Calls T U) (state last : F) → IsChain step state calls last → (before : List A)
       → count state ≡ length before → slots state ≡ overwritten old before → length before + length (items item calls) ≤ limit
       → (count last ≡ length (before ++ items item calls)) × (slots last ≡ overwritten old (before ++ items item calls))
   listed old [] state last chain before counted written fits = rw (append-nil before, ← chain) (counted, written)
@@ -197,40 +195,39 @@ module _ {T A F : Type 0} (step : Step T ℕ F) (count : F → ℕ) (slots : F �
       rw (← whole) (listed old calls next last chain more counted_more written_more (omega (arith, longer, fits)))
 
   -- what a form with a handler that lists says
-  pub lists : (view : A → Pair) → ((annotation : Annotation T ℕ) → view (item annotation) ≡ pair_of unit_number annotation)
-      → (profile : Profile) (kind : CoreKind) (text : Text) (state last : F)
+  pub lists : (profile : Profile) (kind : CoreKind) (text : Text) (state last : F)
       → {X E : Type 0} (named : E → Fault) (stands : ℕ → E → Type 0) (seen : X → Parsed) (result : Result X E)
-      → HandledToAt unit_number step state last (bracketed kind) text named stands seen result
+      → HandledToAt number step state last (bracketed kind) text named stands seen result
       → OnOk result (NoRowFits (bracketed kind) text) → OnOk result (InNoOther profile (bracketed kind) text)
       → count state ≡ 0 → length text ≤ limit
       → (outcome : Result Parsed FaultAt) × HasOutcome named stands seen result outcome
       × Lists view profile (bracketed kind) text (slots state) (slots last) (count last) outcome
-  lists view same profile kind text state last {X} {E} named stands seen result h no_row alone zero fits = of_outcome result h no_row alone
+  lists profile kind text state last {X} {E} named stands seen result h no_row alone zero fits = of_outcome result h no_row alone
     where
-      none : {r : Result X E} (h : HandledToAt unit_number step state last (bracketed kind) text named stands seen r)
-          → replies_of unit_number h.plain.calls ≡ nones h.plain.calls
+      none : {r : Result X E} (h : HandledToAt number step state last (bracketed kind) text named stands seen r)
+          → replies_of number h.plain.calls ≡ nones h.plain.calls
       none h = replies_none h.plain.calls state last h.plain.chain
 
       -- with this outcome, of the calls that were made
-      listing : {r : Result X E} (h : HandledToAt unit_number step state last (bracketed kind) text named stands seen r) (outcome : Result Parsed FaultAt)
-          → ((found : Parsed) → (outcome ≡ Ok found) ↔ GivesRecord (bracketed kind) text (handed unit_number h.plain.calls) (nones h.plain.calls) found)
-          → ((e : FaultAt) → outcome ≡ Err e → GivesFaultAt (bracketed kind) text (handed unit_number h.plain.calls) (nones h.plain.calls) e.fault e.at)
+      listing : {r : Result X E} (h : HandledToAt number step state last (bracketed kind) text named stands seen r) (outcome : Result Parsed FaultAt)
+          → ((found : Parsed) → (outcome ≡ Ok found) ↔ GivesRecord (bracketed kind) text (handed number h.plain.calls) (nones h.plain.calls) found)
+          → ((e : FaultAt) → outcome ≡ Err e → GivesFaultAt (bracketed kind) text (handed number h.plain.calls) (nones h.plain.calls) e.fault e.at)
           → OnOk outcome (NoRowFits (bracketed kind) text) → OnOk outcome (InNoOther profile (bracketed kind) text)
           → Lists view profile (bracketed kind) text (slots state) (slots last) (count last) outcome
       listing h outcome ok err no_row alone =
           let calls = h.plain.calls in
-          let pairs = handed unit_number calls in
+          let pairs = handed number calls in
           let shorter : length pairs ≤ length text = few kind text calls pairs outcome ok err in
           let all = listed (slots state) calls state last h.plain.chain [] zero (sym (overwritten-none (slots state)))
-          (omega (arith, items_length item calls, shorter, fits)) in
+          (omega (arith, items_length number item calls, shorter, fits)) in
           record {
             annotations = items item calls;
             counted = all.0;
             written = all.1;
-            read = rw (items_seen item view same calls) (passes_over kind text profile calls pairs outcome ok err no_row alone);
+            read = rw (items_seen calls state last h.plain.chain) (passes_over kind text profile calls pairs outcome ok err no_row alone);
           }
 
-      of_outcome : (r : Result X E) (h : HandledToAt unit_number step state last (bracketed kind) text named stands seen r)
+      of_outcome : (r : Result X E) (h : HandledToAt number step state last (bracketed kind) text named stands seen r)
           → OnOk r (NoRowFits (bracketed kind) text) → OnOk r (InNoOther profile (bracketed kind) text)
           → (outcome : Result Parsed FaultAt) × HasOutcome named stands seen r outcome
           × Lists view profile (bracketed kind) text (slots state) (slots last) (count last) outcome

@@ -1,4 +1,5 @@
 pub mod Crossing
+pub mod Fielded
 pub mod Lasting
 pub mod Listing
 pub mod Located

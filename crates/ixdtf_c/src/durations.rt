@@ -1,13 +1,14 @@
 //! Durations, as C sees them.
 
-ghost use Rattle.std.specs.Prelude.{◌≡◌, ◌≢◌};
-ghost use Rattle.ixdtf_c.specs.Crossing.{duration_for, with_date, with_time, no_duration, digits_for, value_for, GivesDuration};
-ghost use Rattle.ixdtf_c.specs.Located.{returned_at};
+ghost use Rattle.std.specs.Prelude.{◌≡◌, ◌≢◌, map};
+ghost use Rattle.ixdtf_c.specs.Crossing.{duration_for, with_date, with_time, no_duration, digits_for, value_for};
 ghost use Rattle.ixdtf_c.specs.Lasting.{contents, SameButError};
+ghost use Rattle.ixdtf_c.specs.Outcomes.{GivesLasting};
 
 use crate::errors::number_of;
 use crate::forms::{Digits, is_negative};
-use ixdtf::LocatedError;
+use ixdtf::encoding::EncodingType;
+use ixdtf::parsers::{IsoDurationParser, Profile};
 use ixdtf::records::{DateDurationRecord, DurationParseRecord, Fraction, TimeDurationRecord};
 
 /// A duration.
@@ -150,19 +151,21 @@ impl<'a> Duration<'a> {
     }
 }
 
-/// Writes what a reader of durations returned, and returns 0, or the number of the error.
+/// Reads a duration under the profile, and writes it.
 #[inline(always)]
-pub fn give_duration<'a>(
-    outcome: &Result<DurationParseRecord, LocatedError>,
-    out: &mut Duration<'a>,
+pub fn duration_into<T: EncodingType>(
+    text: &[T::CodeUnit],
+    profile: Profile,
+    out: &mut Duration<'_>,
 ) -> u32
-    ensures given { GivesDuration (returned_at (λ duration. duration) outcome.now) result
+    ensures read { GivesLasting profile (map (λ unit. T.letter (T.number unit)) text.now) result
         (contents out.old) (contents out.new) }
     ensures unchanged { result ≢ 0 → SameButError out.old out.new }
 {
-    match outcome {
+    let mut parser = IsoDurationParser::<T>::new(text).with_profile(profile);
+    match parser.parse_located() {
         Ok(found) => {
-            out.fill(found);
+            out.fill(&found);
             0
         }
         Err(located) => {

@@ -13,10 +13,11 @@ ghost use Rattle.ixdtf_c.specs.Standing.{record_by};
 ghost use Rattle.ixdtf_print.specs.Canonical.{canonical_text};
 ghost use Rattle.ixdtf_print.specs.Printable.{IsPrintable};
 
-use crate::durations::{Duration, give_duration};
-use crate::narrow::{Record, give, give_name, give_offset, give_zone};
+use crate::durations::{Duration, duration_into};
+use crate::narrow::Record;
+use crate::readers::{name_into, offset_into, read_into, zone_into};
 use ixdtf::encoding::Utf8;
-use ixdtf::parsers::{IsoDurationParser, IxdtfParser, Profile, TimeZoneParser};
+use ixdtf::parsers::{DateTimes, LoneTimes, MonthDays, Profile, YearMonths};
 
 /// Reads a date, or a date and a time, and the brackets after it.
 #[unsafe(no_mangle)]
@@ -31,7 +32,7 @@ pub extern "C" fn ixdtf_parse<'a>(text: &'a [u8], out: &mut Record<'a>) -> u32
     // After a refusal the record is as it was, its slices too, but for the location and the place.
     ensures unchanged { result ≢ 0 → SameButError out.old out.new }
 {
-    give(&IxdtfParser::from_utf8(text).parse_located(), out)
+    read_into::<Utf8, DateTimes, _>(text, Profile::Crate, out)
 }
 
 /// Reads a year and a month, and the brackets after it.
@@ -43,10 +44,7 @@ pub extern "C" fn ixdtf_parse_year_month<'a>(text: &'a [u8], out: &mut Record<'a
     // After a refusal the record is as it was, its slices too, but for the location and the place.
     ensures unchanged { result ≢ 0 → SameButError out.old out.new }
 {
-    give(
-        &IxdtfParser::from_utf8(text).parse_year_month_located(),
-        out,
-    )
+    read_into::<Utf8, YearMonths, _>(text, Profile::Crate, out)
 }
 
 /// Reads a month and a day, and the brackets after it.
@@ -58,7 +56,7 @@ pub extern "C" fn ixdtf_parse_month_day<'a>(text: &'a [u8], out: &mut Record<'a>
     // After a refusal the record is as it was, its slices too, but for the location and the place.
     ensures unchanged { result ≢ 0 → SameButError out.old out.new }
 {
-    give(&IxdtfParser::from_utf8(text).parse_month_day_located(), out)
+    read_into::<Utf8, MonthDays, _>(text, Profile::Crate, out)
 }
 
 /// Reads a time, and the brackets after it.
@@ -70,7 +68,7 @@ pub extern "C" fn ixdtf_parse_time<'a>(text: &'a [u8], out: &mut Record<'a>) -> 
     // After a refusal the record is as it was, its slices too, but for the location and the place.
     ensures unchanged { result ≢ 0 → SameButError out.old out.new }
 {
-    give(&IxdtfParser::from_utf8(text).parse_time_located(), out)
+    read_into::<Utf8, LoneTimes, _>(text, Profile::Crate, out)
 }
 
 /// Reads a month and a day, and the brackets after it, under the strict profile.
@@ -82,8 +80,7 @@ pub extern "C" fn ixdtf_parse_month_day_strict<'a>(text: &'a [u8], out: &mut Rec
     // After a refusal the record is as it was, its slices too, but for the location and the place.
     ensures unchanged { result ≢ 0 → SameButError out.old out.new }
 {
-    let mut parser = IxdtfParser::from_utf8(text).with_profile(Profile::Strict);
-    give(&parser.parse_month_day_located(), out)
+    read_into::<Utf8, MonthDays, _>(text, Profile::Strict, out)
 }
 
 /// Reads a time, and the brackets after it, under the strict profile.
@@ -95,8 +92,7 @@ pub extern "C" fn ixdtf_parse_time_strict<'a>(text: &'a [u8], out: &mut Record<'
     // After a refusal the record is as it was, its slices too, but for the location and the place.
     ensures unchanged { result ≢ 0 → SameButError out.old out.new }
 {
-    let mut parser = IxdtfParser::from_utf8(text).with_profile(Profile::Strict);
-    give(&parser.parse_time_located(), out)
+    read_into::<Utf8, LoneTimes, _>(text, Profile::Strict, out)
 }
 
 /// Reads an offset.
@@ -108,7 +104,7 @@ pub extern "C" fn ixdtf_parse_offset<'a>(text: &'a [u8], out: &mut Record<'a>) -
     // After a refusal the record is as it was, its slices too, but for the location and the place.
     ensures unchanged { result ≢ 0 → SameButError out.old out.new }
 {
-    give_offset(&TimeZoneParser::from_utf8(text).parse_offset_located(), out)
+    offset_into::<Utf8, _>(text, out)
 }
 
 /// Reads a time zone.
@@ -120,10 +116,7 @@ pub extern "C" fn ixdtf_parse_identifier<'a>(text: &'a [u8], out: &mut Record<'a
     // After a refusal the record is as it was, its slices too, but for the location and the place.
     ensures unchanged { result ≢ 0 → SameButError out.old out.new }
 {
-    give_zone(
-        &TimeZoneParser::from_utf8(text).parse_identifier_located(),
-        out,
-    )
+    zone_into::<Utf8, _>(text, out)
 }
 
 /// Reads the name of a time zone.
@@ -135,10 +128,7 @@ pub extern "C" fn ixdtf_parse_iana_identifier<'a>(text: &'a [u8], out: &mut Reco
     // After a refusal the record is as it was, its slices too, but for the location and the place.
     ensures unchanged { result ≢ 0 → SameButError out.old out.new }
 {
-    give_name(
-        &TimeZoneParser::from_utf8(text).parse_iana_identifier_located(),
-        out,
-    )
+    name_into::<Utf8, _>(text, out)
 }
 
 /// Reads a duration.
@@ -151,10 +141,7 @@ pub extern "C" fn ixdtf_parse_duration(text: &[u8], out: &mut Duration<'_>) -> u
     // After a refusal the duration is as it was, but for the location and the place.
     ensures unchanged { result ≢ 0 → SameLastingButError out.old out.new }
 {
-    give_duration(
-        &IsoDurationParser::<Utf8>::from_utf8(text).parse_located(),
-        out,
-    )
+    duration_into::<Utf8>(text, Profile::Crate, out)
 }
 
 /// Reads a duration, under the strict profile.
@@ -167,6 +154,5 @@ pub extern "C" fn ixdtf_parse_duration_strict(text: &[u8], out: &mut Duration<'_
     // After a refusal the duration is as it was, but for the location and the place.
     ensures unchanged { result ≢ 0 → SameLastingButError out.old out.new }
 {
-    let mut parser = IsoDurationParser::<Utf8>::from_utf8(text).with_profile(Profile::Strict);
-    give_duration(&parser.parse_located(), out)
+    duration_into::<Utf8>(text, Profile::Strict, out)
 }

@@ -1,20 +1,18 @@
 //! Records of 16-bit sources, as C sees them.
 
-ghost use Rattle.std.specs.Prelude.{◌≡◌, ◌≢◌, [], map, option_map};
+ghost use Rattle.std.specs.Prelude.{◌≡◌, ◌≢◌};
+ghost use Rattle.ixdtf.specs.Handlers.{pair_of};
 ghost use Rattle.ixdtf.specs.table.Faults.{fault_of_located};
-ghost use Rattle.ixdtf.specs.Views.{parsed_of, note_of, zone_of};
-ghost use Rattle.ixdtf_c.specs.Located.{returned_at};
+ghost use Rattle.ixdtf_c.specs.Fielded.{fields_contents, kept_pair};
 ghost use Rattle.ixdtf_c.specs.Numbers.{number_for, location_of};
-ghost use Rattle.ixdtf_c.specs.Crossing.{area_for, zone_for, units_for, is_there, record_for, nothing, Gives};
-ghost use Rattle.ixdtf_c.specs.Crossing.{offset_alone, zone_alone, name_alone};
-ghost use Rattle.ixdtf.specs.language.ZoneNames.Zone.{Name};
-ghost use Rattle.ixdtf_c.specs.Wide.{zone_contents, contents, SameButError};
+ghost use Rattle.ixdtf_c.specs.Wide.{contents as record_contents, SameButError, annotation_by, calendar_by};
 
 use crate::errors::number_of;
-use crate::forms::{Date, Offset, Time, is_negative};
-use ixdtf::LocatedError;
+use crate::fields::{Fields, Kept};
+use crate::forms::{Date, Offset, Time};
+use crate::widths::{AnnotationOf, CalendarOf, RecordOf};
 use ixdtf::encoding::Utf16;
-use ixdtf::records::{IxdtfParseRecord, TimeZoneAnnotation, TimeZoneRecord, UtcOffsetRecord};
+use ixdtf::{LocatedError, records};
 
 /// A time zone, where it is there.
 #[derive(Clone, Copy)]
@@ -80,115 +78,42 @@ pub struct Calendar<'a> {
     pub is_there: bool,
 }
 
-impl<'a> Zone<'a> {
-    // Writes the numbers of the zone, and zeros where there is none.
+impl<'a> RecordOf<'a, Utf16> for Record<'a> {
+    ghost contents = { record_contents };
+
+    ghost same_but_error = { SameButError };
+
     #[inline(always)]
-    fn put(&mut self, zone: &Option<TimeZoneAnnotation<'a, Utf16>>)
-        ensures { zone_contents self.new ≡ zone_for (option_map (note_of (λ unit. unit)) zone.now) }
+    fn write(&mut self, fields: Fields<'a, u16>)
+        ensures { record_contents self.new ≡ fields_contents (λ unit. unit) fields.entry }
     {
-        match zone {
-            None => {
-                *self = Zone {
-                    name: &[],
-                    form: 0,
-                    is_critical: false,
-                    is_negative: false,
-                    hour: 0,
-                    minute: 0,
-                }
-            }
-            Some(it) => self.put_area(it.critical, &it.tz),
-        }
+        *self = Record {
+            date: fields.date,
+            time: fields.time,
+            offset: fields.offset,
+            zone: Zone {
+                name: fields.zone.name,
+                form: fields.zone.form,
+                is_critical: fields.zone.is_critical,
+                is_negative: fields.zone.is_negative,
+                hour: fields.zone.hour,
+                minute: fields.zone.minute,
+            },
+            calendar: fields.calendar,
+            has_calendar: fields.has_calendar,
+            location: &[],
+            place: 0,
+        };
     }
 
-    // Writes the numbers of a name or an offset.
-    #[inline(always)]
-    fn put_area(&mut self, is_critical: bool, zone: &TimeZoneRecord<'a, Utf16>)
-        ensures { zone_contents self.new ≡ area_for is_critical (zone_of (λ unit. unit) zone.now) }
-    {
-        match zone {
-            TimeZoneRecord::Name(name) => self.put_name(is_critical, name),
-            TimeZoneRecord::Offset(offset) => {
-                self.name = &[];
-                self.form = 2;
-                self.is_critical = is_critical;
-                self.is_negative = is_negative(offset.sign);
-                self.hour = offset.hour;
-                self.minute = offset.minute;
-            }
-        }
-    }
-
-    // Writes the numbers of a name.
-    #[inline(always)]
-    fn put_name(&mut self, is_critical: bool, name: &'a [u16])
-        ensures { zone_contents self.new ≡ area_for is_critical (Name (map (λ unit. unit) name.now)) }
-    {
-        self.name = name;
-        self.form = 1;
-        self.is_critical = is_critical;
-        self.is_negative = false;
-        self.hour = 0;
-        self.minute = 0;
-    }
-}
-
-impl<'a> Record<'a> {
-    /// Clears all of it.
-    #[inline(always)]
-    fn clear(&mut self)
-        ensures { contents self.new ≡ record_for nothing }
-    {
-        self.date.put(None);
-        self.time.put(None);
-        self.offset.put(None);
-        self.zone.put(&None);
-        self.put_rest(None);
-    }
-
-    /// Writes what was read, and clears what was not.
-    #[inline(never)]
-    fn fill(&mut self, found: &IxdtfParseRecord<'a, Utf16>)
-        ensures { contents self.new ≡ record_for (parsed_of (λ unit. unit) found.now) }
-    {
-        self.date.put(found.date);
-        self.time.put(found.time);
-        self.offset.put(found.offset);
-        self.zone.put(&found.tz);
-        self.put_rest(found.calendar);
-    }
-
-    /// Writes the calendar, where there is one, and that there is no error.
-    #[inline(always)]
-    fn put_rest(&mut self, calendar: Option<&'a [u16]>)
-        ensures { contents self.new ≡ record (contents self.old) {
-          calendar = units_for (option_map (λ units. map (λ unit. unit) units.now) calendar.entry);
-          has_calendar = is_there (option_map (λ units. map (λ unit. unit) units.now) calendar.entry);
-          location = [];
-          place = 0;
-        } }
-    {
-        match calendar {
-            None => {
-                self.calendar = &[];
-                self.has_calendar = false;
-            }
-            Some(units) => {
-                self.calendar = units;
-                self.has_calendar = true;
-            }
-        }
-        self.location = &[];
-        self.place = 0;
-    }
-
-    /// Writes the location and the place of an error, and returns the error's number.
     #[inline(always)]
     fn refuse(&mut self, located: LocatedError) -> u32
         ensures number { result ≡ number_for (fault_of_located located) }
         ensures some { result ≢ 0 }
-        ensures location { self.new.location.now ≡ location_of (fault_of_located located) }
-        ensures place { self.new.place ≡ located.at }
+        ensures error { record_contents self.new ≡ record (record_contents self.old) {
+          location = location_of (fault_of_located located);
+          place = located.at;
+        } }
         ensures unchanged { SameButError self.old self.new }
     {
         let (number, location) = number_of(located.error);
@@ -198,76 +123,49 @@ impl<'a> Record<'a> {
     }
 }
 
-/// Writes what a reader of records returned, and returns 0, or the number of the error.
-#[inline(always)]
-pub fn give<'a>(
-    outcome: &Result<IxdtfParseRecord<'a, Utf16>, LocatedError>,
-    out: &mut Record<'a>,
-) -> u32
-    ensures given { Gives (λ found. found) (returned_at (parsed_of (λ unit. unit)) outcome.now) result
-        (contents out.old) (contents out.new) }
-    ensures unchanged { result ≢ 0 → SameButError out.old out.new }
-{
-    match outcome {
-        Ok(found) => {
-            out.fill(found);
-            0
+impl<'a> AnnotationOf<'a, Utf16> for Annotation<'a> {
+    ghost pair = { annotation_by };
+
+    #[inline(always)]
+    fn read(&self) -> records::Annotation<'a, Utf16>
+        ensures { pair_of (λ unit. unit) result ≡ annotation_by self.now }
+    {
+        records::Annotation {
+            critical: self.is_critical,
+            key: self.key,
+            value: self.value,
         }
-        Err(located) => out.refuse(*located),
     }
 }
 
-/// Writes what a reader of offsets returned, and returns 0, or the number of the error.
-#[inline(always)]
-pub fn give_offset<'a>(outcome: &Result<UtcOffsetRecord, LocatedError>, out: &mut Record<'a>) -> u32
-    ensures given { Gives offset_alone (returned_at (λ offset. offset) outcome.now) result
-        (contents out.old) (contents out.new) }
-    ensures unchanged { result ≢ 0 → SameButError out.old out.new }
-{
-    match outcome {
-        Ok(offset) => {
-            out.clear();
-            out.offset.put_shift(*offset);
-            0
-        }
-        Err(located) => out.refuse(*located),
-    }
-}
+impl<'a> CalendarOf<'a, Utf16> for Calendar<'a> {
+    ghost kept_of = { calendar_by };
 
-/// Writes what a reader of zones returned, and returns 0, or the number of the error.
-#[inline(always)]
-pub fn give_zone<'a>(
-    outcome: &Result<TimeZoneRecord<'a, Utf16>, LocatedError>,
-    out: &mut Record<'a>,
-) -> u32
-    ensures given { Gives zone_alone (returned_at (zone_of (λ unit. unit)) outcome.now) result
-        (contents out.old) (contents out.new) }
-    ensures unchanged { result ≢ 0 → SameButError out.old out.new }
-{
-    match outcome {
-        Ok(zone) => {
-            out.clear();
-            out.zone.put_area(false, zone);
-            0
+    #[inline(always)]
+    fn read(&self) -> Option<Kept<'a, u16>>
+        ensures { calendar_by self.now ≡ kept_pair (λ unit. unit) result }
+    {
+        if self.is_there {
+            Some(Kept {
+                value: self.value,
+                is_critical: self.is_critical,
+            })
+        } else {
+            None
         }
-        Err(located) => out.refuse(*located),
     }
-}
 
-/// Writes what a reader of names returned, and returns 0, or the number of the error.
-#[inline(always)]
-pub fn give_name<'a>(outcome: &Result<&'a [u16], LocatedError>, out: &mut Record<'a>) -> u32
-    ensures given { Gives name_alone
-        (returned_at (λ units. map (λ unit. unit) units.now) outcome.now) result
-        (contents out.old) (contents out.new) }
-    ensures unchanged { result ≢ 0 → SameButError out.old out.new }
-{
-    match outcome {
-        Ok(name) => {
-            out.clear();
-            out.zone.put_name(false, name);
-            0
+    #[inline(always)]
+    fn write(&mut self, kept: Option<Kept<'a, u16>>)
+        ensures { calendar_by self.new ≡ kept_pair (λ unit. unit) kept.entry }
+    {
+        match kept {
+            None => self.is_there = false,
+            Some(it) => {
+                self.value = it.value;
+                self.is_critical = it.is_critical;
+                self.is_there = true;
+            }
         }
-        Err(located) => out.refuse(*located),
     }
 }

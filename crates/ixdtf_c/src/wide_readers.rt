@@ -10,10 +10,11 @@ ghost use Rattle.ixdtf_c.specs.Lasting.{contents as lasting_contents, SameButErr
 ghost use Rattle.ixdtf_c.specs.Wide.{contents, SameButError};
 ghost use Rattle.ixdtf_c.specs.Outcomes.{GivesRecord, GivesPart, GivesLasting};
 
-use crate::durations::{Duration, give_duration};
-use crate::wide::{Record, give, give_name, give_offset, give_zone};
+use crate::durations::{Duration, duration_into};
+use crate::readers::{name_into, offset_into, read_into, zone_into};
+use crate::wide::Record;
 use ixdtf::encoding::Utf16;
-use ixdtf::parsers::{IsoDurationParser, IxdtfParser, Profile, TimeZoneParser};
+use ixdtf::parsers::{DateTimes, LoneTimes, MonthDays, Profile, YearMonths};
 
 /// Reads a date, or a date and a time, and the brackets after it.
 #[unsafe(no_mangle)]
@@ -24,7 +25,7 @@ pub extern "C" fn ixdtf16_parse<'a>(text: &'a [u16], out: &mut Record<'a>) -> u3
     // After a refusal the record is as it was, its slices too, but for the location and the place.
     ensures unchanged { result ≢ 0 → SameButError out.old out.new }
 {
-    give(&IxdtfParser::from_utf16(text).parse_located(), out)
+    read_into::<Utf16, DateTimes, _>(text, Profile::Crate, out)
 }
 
 /// Reads a year and a month, and the brackets after it.
@@ -36,10 +37,7 @@ pub extern "C" fn ixdtf16_parse_year_month<'a>(text: &'a [u16], out: &mut Record
     // After a refusal the record is as it was, its slices too, but for the location and the place.
     ensures unchanged { result ≢ 0 → SameButError out.old out.new }
 {
-    give(
-        &IxdtfParser::from_utf16(text).parse_year_month_located(),
-        out,
-    )
+    read_into::<Utf16, YearMonths, _>(text, Profile::Crate, out)
 }
 
 /// Reads a month and a day, and the brackets after it.
@@ -51,10 +49,7 @@ pub extern "C" fn ixdtf16_parse_month_day<'a>(text: &'a [u16], out: &mut Record<
     // After a refusal the record is as it was, its slices too, but for the location and the place.
     ensures unchanged { result ≢ 0 → SameButError out.old out.new }
 {
-    give(
-        &IxdtfParser::from_utf16(text).parse_month_day_located(),
-        out,
-    )
+    read_into::<Utf16, MonthDays, _>(text, Profile::Crate, out)
 }
 
 /// Reads a time, and the brackets after it.
@@ -66,7 +61,7 @@ pub extern "C" fn ixdtf16_parse_time<'a>(text: &'a [u16], out: &mut Record<'a>) 
     // After a refusal the record is as it was, its slices too, but for the location and the place.
     ensures unchanged { result ≢ 0 → SameButError out.old out.new }
 {
-    give(&IxdtfParser::from_utf16(text).parse_time_located(), out)
+    read_into::<Utf16, LoneTimes, _>(text, Profile::Crate, out)
 }
 
 /// Reads a month and a day, and the brackets after it, under the strict profile.
@@ -78,8 +73,7 @@ pub extern "C" fn ixdtf16_parse_month_day_strict<'a>(text: &'a [u16], out: &mut 
     // After a refusal the record is as it was, its slices too, but for the location and the place.
     ensures unchanged { result ≢ 0 → SameButError out.old out.new }
 {
-    let mut parser = IxdtfParser::from_utf16(text).with_profile(Profile::Strict);
-    give(&parser.parse_month_day_located(), out)
+    read_into::<Utf16, MonthDays, _>(text, Profile::Strict, out)
 }
 
 /// Reads a time, and the brackets after it, under the strict profile.
@@ -91,8 +85,7 @@ pub extern "C" fn ixdtf16_parse_time_strict<'a>(text: &'a [u16], out: &mut Recor
     // After a refusal the record is as it was, its slices too, but for the location and the place.
     ensures unchanged { result ≢ 0 → SameButError out.old out.new }
 {
-    let mut parser = IxdtfParser::from_utf16(text).with_profile(Profile::Strict);
-    give(&parser.parse_time_located(), out)
+    read_into::<Utf16, LoneTimes, _>(text, Profile::Strict, out)
 }
 
 /// Reads an offset.
@@ -104,10 +97,7 @@ pub extern "C" fn ixdtf16_parse_offset<'a>(text: &'a [u16], out: &mut Record<'a>
     // After a refusal the record is as it was, its slices too, but for the location and the place.
     ensures unchanged { result ≢ 0 → SameButError out.old out.new }
 {
-    give_offset(
-        &TimeZoneParser::from_utf16(text).parse_offset_located(),
-        out,
-    )
+    offset_into::<Utf16, _>(text, out)
 }
 
 /// Reads a time zone.
@@ -119,10 +109,7 @@ pub extern "C" fn ixdtf16_parse_identifier<'a>(text: &'a [u16], out: &mut Record
     // After a refusal the record is as it was, its slices too, but for the location and the place.
     ensures unchanged { result ≢ 0 → SameButError out.old out.new }
 {
-    give_zone(
-        &TimeZoneParser::from_utf16(text).parse_identifier_located(),
-        out,
-    )
+    zone_into::<Utf16, _>(text, out)
 }
 
 /// Reads the name of a time zone.
@@ -134,10 +121,7 @@ pub extern "C" fn ixdtf16_parse_iana_identifier<'a>(text: &'a [u16], out: &mut R
     // After a refusal the record is as it was, its slices too, but for the location and the place.
     ensures unchanged { result ≢ 0 → SameButError out.old out.new }
 {
-    give_name(
-        &TimeZoneParser::from_utf16(text).parse_iana_identifier_located(),
-        out,
-    )
+    name_into::<Utf16, _>(text, out)
 }
 
 /// Reads a duration.
@@ -150,10 +134,7 @@ pub extern "C" fn ixdtf16_parse_duration(text: &[u16], out: &mut Duration<'_>) -
     // After a refusal the duration is as it was, but for the location and the place.
     ensures unchanged { result ≢ 0 → SameLastingButError out.old out.new }
 {
-    give_duration(
-        &IsoDurationParser::<Utf16>::from_utf8(text).parse_located(),
-        out,
-    )
+    duration_into::<Utf16>(text, Profile::Crate, out)
 }
 
 /// Reads a duration, under the strict profile.
@@ -166,6 +147,5 @@ pub extern "C" fn ixdtf16_parse_duration_strict(text: &[u16], out: &mut Duration
     // After a refusal the duration is as it was, but for the location and the place.
     ensures unchanged { result ≢ 0 → SameLastingButError out.old out.new }
 {
-    let mut parser = IsoDurationParser::<Utf16>::from_utf8(text).with_profile(Profile::Strict);
-    give_duration(&parser.parse_located(), out)
+    duration_into::<Utf16>(text, Profile::Strict, out)
 }

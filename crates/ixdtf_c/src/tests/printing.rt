@@ -1,6 +1,7 @@
 //! Records printed as their canonical texts.
 
-use super::narrow::{no_record, units};
+use super::narrow::RECORD;
+use crate::forms::{Date, Offset, Time};
 use crate::narrow::Record;
 use crate::narrow_readers::ixdtf_parse;
 use crate::printing::ixdtf_print;
@@ -31,50 +32,116 @@ fn check_refused(rt: &impl Abort, given: &Record<'_>) {
     assert!(rt; out.iter().all(|byte| *byte == 7));
 }
 
+/// Texts, and the canonical ones of what they give.
+const CANONICAL: [(&[u8], &[u8]); 3] = [
+    (
+        b"20240302 084800,250-053010,5[!etc/utc][u-ca=hebrew][a=b]",
+        b"2024-03-02T08:48:00.250-05:30:10.5[!etc/utc][u-ca=hebrew]",
+    ),
+    (
+        b"-000001-12-31t235960+00[-0530]",
+        b"-000001-12-31T23:59:60+00:00[-05:30]",
+    ),
+    (b"2024-03-02T08Z", b"2024-03-02T08:00:00Z"),
+];
+
 #[test]
 fn prints_what_was_read(rt: HostRuntime) {
-    let mut record = no_record();
-    let text = units(b"20240302 084800,250-053010,5[!etc/utc][u-ca=hebrew][a=b]");
-    assert_eq!(rt; ixdtf_parse(&text, &mut record), 0);
-    let canonical = units(b"2024-03-02T08:48:00.250-05:30:10.5[!etc/utc][u-ca=hebrew]");
-    check_printed(&rt, &record, &canonical);
-    let text = units(b"-000001-12-31t235960+00[-0530]");
-    assert_eq!(rt; ixdtf_parse(&text, &mut record), 0);
-    let canonical = units(b"-000001-12-31T23:59:60+00:00[-05:30]");
-    check_printed(&rt, &record, &canonical);
-    let text = units(b"2024-03-02T08Z");
-    assert_eq!(rt; ixdtf_parse(&text, &mut record), 0);
-    let canonical = units(b"2024-03-02T08:00:00Z");
-    check_printed(&rt, &record, &canonical);
+    for (text, canonical) in CANONICAL {
+        let mut record = RECORD;
+        assert_eq!(rt; ixdtf_parse(text, &mut record), 0);
+        check_printed(&rt, &record, canonical);
+    }
 }
+
+/// The date of 2024-02-29.
+const DATE: Date = Date {
+    year: 2024,
+    month: 2,
+    day: 29,
+    is_there: true,
+};
+
+/// The time 08:48:00.25.
+const TIME: Time = Time {
+    fraction: 25,
+    fraction_digits: 2,
+    hour: 8,
+    minute: 48,
+    second: 0,
+    is_there: true,
+};
+
+/// The offset +01:00:00.5.
+const OFFSET: Offset = Offset {
+    fraction: 5,
+    fraction_digits: 1,
+    form: 3,
+    is_negative: false,
+    hour: 1,
+    minute: 0,
+    second: 0,
+};
+
+/// Dates, times and offsets of which no record is printed.
+const NOT_PRINTED: [(Date, Time, Offset); 6] = [
+    (Date { year: 2023, ..DATE }, TIME, OFFSET),
+    (
+        DATE,
+        Time {
+            fraction: 100,
+            ..TIME
+        },
+        OFFSET,
+    ),
+    (
+        DATE,
+        TIME,
+        Offset {
+            fraction: 10,
+            ..OFFSET
+        },
+    ),
+    (DATE, TIME, Offset { form: 4, ..OFFSET }),
+    (
+        DATE,
+        Time {
+            is_there: false,
+            ..TIME
+        },
+        OFFSET,
+    ),
+    (
+        Date {
+            is_there: false,
+            ..DATE
+        },
+        TIME,
+        OFFSET,
+    ),
+];
 
 #[test]
 fn prints_no_record_without_a_text(rt: HostRuntime) {
-    let mut record = no_record();
-    check_refused(&rt, &record);
-    let text = units(b"2024-02-29T08:48:00.25+01:00:00.5");
-    assert_eq!(rt; ixdtf_parse(&text, &mut record), 0);
-    record.date.year = 2023;
-    check_refused(&rt, &record);
-    record.date.year = 2024;
-    record.time.fraction = 100;
-    check_refused(&rt, &record);
-    record.time.fraction_digits = 0;
-    let canonical = units(b"2024-02-29T08:48:00+01:00:00.5");
-    check_printed(&rt, &record, &canonical);
-    record.offset.fraction = 10;
-    check_refused(&rt, &record);
-    record.offset.form = 2;
-    record.offset.is_negative = true;
-    let canonical = units(b"2024-02-29T08:48:00-01:00");
-    check_printed(&rt, &record, &canonical);
-    record.offset.form = 4;
-    check_refused(&rt, &record);
-    record.offset.form = 0;
-    record.zone.form = 3;
-    check_refused(&rt, &record);
+    for (date, time, offset) in NOT_PRINTED {
+        let mut record = RECORD;
+        record.date = date;
+        record.time = time;
+        record.offset = offset;
+        record.zone.form = 0;
+        record.has_calendar = false;
+        check_refused(&rt, &record);
+    }
+    let mut record = RECORD;
+    record.date = DATE;
+    record.time = Time {
+        fraction_digits: 0,
+        ..TIME
+    };
+    record.offset = Offset { form: 2, ..OFFSET };
     record.zone.form = 0;
-    record.offset.form = 1;
-    record.time.is_there = false;
+    record.has_calendar = false;
+    check_printed(&rt, &record, b"2024-02-29T08:48:00+01:00");
+    record.zone.form = 3;
     check_refused(&rt, &record);
 }

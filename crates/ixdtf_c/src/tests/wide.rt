@@ -1,278 +1,162 @@
-//! Each call on 16-bit units, on its happy path.
+//! Each call on 16-bit units.
 
-use super::{NO_DATE, NO_OFFSET, NO_TIME, no_duration};
+use super::rows::{Call, DATE, DURATION, DURATION_ROWS, LIST_ROWS, ListCall, OFFSET, ROWS, TIME};
 use crate::wide::{Annotation, Calendar, Record, Zone};
 use crate::wide_annotations::*;
 use crate::wide_readers::*;
 
-/// A record in which nothing stands.
-fn no_record<'a>() -> Record<'a> {
-    Record {
-        date: NO_DATE,
-        time: NO_TIME,
-        offset: NO_OFFSET,
-        zone: Zone {
-            name: &[],
-            form: 0,
-            is_critical: false,
-            is_negative: false,
-            hour: 0,
-            minute: 0,
-        },
-        calendar: &[],
-        has_calendar: false,
-        location: &[],
-        place: 0,
-    }
-}
-
-/// The units of a text.
-fn units<const N: usize>(text: &[u8; N]) -> [u16; N] {
-    let mut wide = [0u16; N];
-    for (unit, byte) in wide.iter_mut().zip(text) {
-        *unit = u16::from(*byte);
-    }
-    wide
-}
+/// A record in which all fields are set.
+const RECORD: Record<'static> = Record {
+    date: DATE,
+    time: TIME,
+    offset: OFFSET,
+    zone: Zone {
+        name: &[1],
+        form: 2,
+        is_critical: true,
+        is_negative: true,
+        hour: 1,
+        minute: 1,
+    },
+    calendar: &[1],
+    has_calendar: true,
+    location: &[1],
+    place: 1,
+};
 
 /// An annotation of no units.
-fn no_annotation<'a>() -> Annotation<'a> {
-    Annotation {
-        key: &[],
-        value: &[],
-        is_critical: false,
+const ANNOTATION: Annotation<'static> = Annotation {
+    key: &[],
+    value: &[],
+    is_critical: false,
+};
+
+/// The units of the bytes.
+fn units_of(bytes: &[u8]) -> [u16; 64] {
+    let mut units = [0u16; 64];
+    for (unit, byte) in units.iter_mut().zip(bytes) {
+        *unit = u16::from(*byte);
+    }
+    units
+}
+
+/// Makes the call.
+fn call<'a>(call: Call, text: &'a [u16], out: &mut Record<'a>) -> u32 {
+    match call {
+        Call::Parse => ixdtf16_parse(text, out),
+        Call::YearMonth => ixdtf16_parse_year_month(text, out),
+        Call::MonthDay => ixdtf16_parse_month_day(text, out),
+        Call::MonthDayStrict => ixdtf16_parse_month_day_strict(text, out),
+        Call::Time => ixdtf16_parse_time(text, out),
+        Call::TimeStrict => ixdtf16_parse_time_strict(text, out),
+        Call::Offset => ixdtf16_parse_offset(text, out),
+        Call::Identifier => ixdtf16_parse_identifier(text, out),
+        Call::IanaIdentifier => ixdtf16_parse_iana_identifier(text, out),
+    }
+}
+
+/// Makes the call that lists.
+fn list<'a>(
+    call: ListCall,
+    text: &'a [u16],
+    slots: &mut [Annotation<'a>],
+    count: &mut usize,
+    out: &mut Record<'a>,
+) -> u32 {
+    match call {
+        ListCall::Parse => ixdtf16_parse_with_annotations(text, slots, count, out),
+        ListCall::YearMonth => ixdtf16_parse_year_month_with_annotations(text, slots, count, out),
+        ListCall::MonthDay => ixdtf16_parse_month_day_with_annotations(text, slots, count, out),
+        ListCall::MonthDayStrict => {
+            ixdtf16_parse_month_day_with_annotations_strict(text, slots, count, out)
+        }
+        ListCall::Time => ixdtf16_parse_time_with_annotations(text, slots, count, out),
+        ListCall::TimeStrict => ixdtf16_parse_time_with_annotations_strict(text, slots, count, out),
     }
 }
 
 #[test]
-fn reads_dates_and_times(rt: HostRuntime) {
-    let mut record = no_record();
-    let text = units(b"2024-03-02T08:48:00.25-05:00[America/New_York][u-ca=hebrew]");
-    assert_eq!(rt; ixdtf16_parse(&text, &mut record), 0);
-    assert_eq!(rt;
-        (record.date.year, record.date.month, record.date.day),
-        (2024, 3, 2)
-    );
-    assert_eq!(rt;
-        (record.time.hour, record.time.minute, record.time.second),
-        (8, 48, 0)
-    );
-    assert_eq!(rt;
-        (record.time.fraction_digits, record.time.fraction),
-        (2, 25)
-    );
-    assert_eq!(rt;
-        (
-            record.offset.form,
-            record.offset.is_negative,
-            record.offset.hour
-        ),
-        (2, true, 5)
-    );
-    assert_eq!(rt; (record.zone.form, record.zone.name.len()), (1, 16));
-    assert_eq!(rt; (record.has_calendar, record.calendar.len()), (true, 6));
-    let text = units(b"2021-02-2");
-    assert_eq!(rt; ixdtf16_parse(&text, &mut record), 4);
-    assert_eq!(rt;
-        (record.date.year, record.location.len(), record.place),
-        (2024, 5, 9)
-    );
-}
-
-#[test]
-fn reads_the_other_cores(rt: HostRuntime) {
-    let mut record = no_record();
-    let text = units(b"2020-11");
-    assert_eq!(rt; ixdtf16_parse_year_month(&text, &mut record), 0);
-    assert_eq!(rt; (record.date.year, record.date.month), (2020, 11));
-    let text = units(b"12-00");
-    assert_eq!(rt; ixdtf16_parse_month_day(&text, &mut record), 0);
-    assert_eq!(rt; (record.date.month, record.date.day), (12, 0));
-    assert_eq!(rt; ixdtf16_parse_month_day_strict(&text, &mut record), 46);
-    let text = units(b"1200");
-    assert_eq!(rt; ixdtf16_parse_time(&text, &mut record), 44);
-    assert_eq!(rt; ixdtf16_parse_time_strict(&text, &mut record), 0);
-    assert_eq!(rt; record.time.hour, 12);
-    let text = units(b"T1330");
-    assert_eq!(rt; ixdtf16_parse_time(&text, &mut record), 0);
-    assert_eq!(rt; (record.time.hour, record.time.minute), (13, 30));
-    let text = units(b"11-07");
-    assert_eq!(rt; ixdtf16_parse_month_day_strict(&text, &mut record), 0);
-    assert_eq!(rt; record.date.day, 7);
-}
-
-#[test]
-fn reads_parts(rt: HostRuntime) {
-    let mut record = no_record();
-    let text = units(b"-05:30:10.5");
-    assert_eq!(rt; ixdtf16_parse_offset(&text, &mut record), 0);
-    assert_eq!(rt;
-        (
-            record.offset.form,
-            record.offset.is_negative,
-            record.offset.minute
-        ),
-        (3, true, 30)
-    );
-    assert_eq!(rt; (record.offset.second, record.offset.fraction), (10, 5));
-    let text = units(b"+05:30");
-    assert_eq!(rt; ixdtf16_parse_identifier(&text, &mut record), 0);
-    assert_eq!(rt;
-        (record.zone.form, record.zone.hour, record.zone.minute),
-        (2, 5, 30)
-    );
-    let text = units(b"Europe/Berlin");
-    assert_eq!(rt; ixdtf16_parse_iana_identifier(&text, &mut record), 0);
-    assert_eq!(rt; record.zone.name.len(), 13);
-    let mut duration = no_duration();
-    let text = units(b"-P1Y2Y3W4DT5H6.5M");
-    assert_eq!(rt; ixdtf16_parse_duration(&text, &mut duration), 0);
-    assert_eq!(rt;
-        (
-            duration.is_negative,
-            duration.years,
-            duration.weeks,
-            duration.days
-        ),
-        (true, 2, 3, 4)
-    );
-    assert_eq!(rt;
-        (
-            duration.time_form,
-            duration.hours,
-            duration.minutes,
-            duration.fraction
-        ),
-        (2, 5, 6, 5)
-    );
-    assert_eq!(rt; ixdtf16_parse_duration_strict(&text, &mut duration), 41);
-    assert_eq!(rt; (duration.years, duration.place), (2, 6));
-    let text = units(b"PT1S");
-    assert_eq!(rt; ixdtf16_parse_duration_strict(&text, &mut duration), 0);
-    assert_eq!(rt;
-        (duration.time_form, duration.seconds, duration.place),
-        (3, 1, 0)
-    );
-}
-
-#[test]
-fn clears_what_a_text_does_not_have(rt: HostRuntime) {
-    let mut record = no_record();
-    let text = units(b"2024-03-02T08:48:00.25-05:00:01.5[!-05:30][u-ca=hebrew]");
-    assert_eq!(rt; ixdtf16_parse(&text, &mut record), 0);
-    let text = units(b"2024-03-02");
-    assert_eq!(rt; ixdtf16_parse(&text, &mut record), 0);
-    assert_eq!(rt;
-        (
-            record.time.hour,
-            record.time.fraction,
-            record.time.fraction_digits
-        ),
-        (0, 0, 0)
-    );
-    assert_eq!(rt;
-        (
-            record.offset.form,
-            record.offset.second,
-            record.offset.fraction
-        ),
-        (0, 0, 0)
-    );
-    assert_eq!(rt;
-        (record.zone.form, record.zone.is_critical, record.zone.hour),
-        (0, false, 0)
-    );
-    assert_eq!(rt; (record.has_calendar, record.calendar.len()), (false, 0));
-    let text = units(b"Europe/Berlin");
-    assert_eq!(rt; ixdtf16_parse_iana_identifier(&text, &mut record), 0);
-    assert_eq!(rt;
-        (record.zone.form, record.date.is_there, record.date.year),
-        (1, false, 0)
-    );
+fn reads_texts(rt: HostRuntime) {
+    for row in ROWS {
+        let units = units_of(row.text);
+        let text = &units[..row.text.len().min(64)];
+        let mut record = RECORD;
+        assert_eq!(rt; call(row.call, text, &mut record), row.number);
+        let date = record.date;
+        assert_eq!(rt; (date.year, date.month, date.day), row.date);
+        let time = record.time;
+        assert_eq!(rt; (time.hour, time.minute, time.fraction), row.time);
+        let offset = record.offset;
+        assert_eq!(rt; (offset.form, offset.hour, offset.second), row.offset);
+        let zone = record.zone;
+        assert_eq!(rt; (zone.form, zone.hour, zone.name.len()), row.zone);
+        assert_eq!(rt;
+            (record.calendar.len(), record.location.len(), record.place),
+            row.others
+        );
+    }
 }
 
 #[test]
 fn lists_annotations(rt: HostRuntime) {
-    let mut record = no_record();
-    let mut slots = [no_annotation(), no_annotation()];
-    let mut count = 9;
-    let text = units(b"2024-03-02[a=b][!c=de][u-ca=x]");
-    assert_eq!(rt;
-        ixdtf16_parse_with_annotations(&text, &mut slots, &mut count, &mut record),
-        0
-    );
-    assert_eq!(rt;
-        (count, slots[0].is_critical, slots[1].is_critical),
-        (3, false, true)
-    );
-    assert_eq!(rt;
-        (
-            slots[1].key.len(),
-            slots[1].value.len(),
-            record.has_calendar
-        ),
-        (1, 2, false)
-    );
-    let text = units(b"2024-03[a=b]junk");
-    assert_eq!(rt;
-        ixdtf16_parse_year_month_with_annotations(&text, &mut slots, &mut count, &mut record),
-        5
-    );
-    assert_eq!(rt; (count, record.place), (1, 12));
-    let text = units(b"11-07[a=b]");
-    assert_eq!(rt;
-        ixdtf16_parse_month_day_with_annotations(&text, &mut slots, &mut count, &mut record),
-        0
-    );
-    assert_eq!(rt;
-        ixdtf16_parse_month_day_with_annotations_strict(&text, &mut slots, &mut count, &mut record),
-        0
-    );
-    assert_eq!(rt; (count, record.date.day), (1, 7));
-    let text = units(b"T12[a=b][c=d]");
-    assert_eq!(rt;
-        ixdtf16_parse_time_with_annotations(&text, &mut slots, &mut count, &mut record),
-        0
-    );
-    assert_eq!(rt;
-        ixdtf16_parse_time_with_annotations_strict(&text, &mut slots, &mut count, &mut record),
-        0
-    );
-    assert_eq!(rt; (count, record.time.hour), (2, 12));
-    let text = units(b"2024-03[a=b]");
-    assert_eq!(rt;
-        ixdtf16_parse_year_month_with_annotations(&text, &mut slots, &mut count, &mut record),
-        0
-    );
+    for row in LIST_ROWS {
+        let units = units_of(row.text);
+        let text = &units[..row.text.len().min(64)];
+        let mut record = RECORD;
+        let mut slots = [ANNOTATION, ANNOTATION];
+        let mut count = 9;
+        let number = list(row.call, text, &mut slots, &mut count, &mut record);
+        assert_eq!(rt; (number, record.place), row.outcome);
+        assert_eq!(rt; count, row.count);
+        let second = slots[1];
+        assert_eq!(rt;
+            (second.is_critical, second.key.len(), second.value.len()),
+            row.second
+        );
+    }
+}
+
+#[test]
+fn reads_durations(rt: HostRuntime) {
+    for row in DURATION_ROWS {
+        let units = units_of(row.text);
+        let text = &units[..row.text.len().min(64)];
+        let mut out = DURATION;
+        let number = if row.is_strict {
+            ixdtf16_parse_duration_strict(text, &mut out)
+        } else {
+            ixdtf16_parse_duration(text, &mut out)
+        };
+        assert_eq!(rt; (number, out.place), row.outcome);
+        assert_eq!(rt; (out.is_negative, out.years, out.weeks, out.days), row.date);
+        assert_eq!(rt;
+            (out.time_form, out.hours, out.minutes, out.fraction),
+            row.time
+        );
+    }
 }
 
 #[test]
 fn takes_replies(rt: HostRuntime) {
-    let key = units(b"u-ca");
-    let hebrew = units(b"hebrew");
-    let iso = units(b"iso8601");
+    let u_ca = units_of(b"u-ca");
+    let hebrew = units_of(b"hebrew");
+    let iso8601 = units_of(b"iso8601");
     let mut calendar = Calendar {
         value: &[],
         is_critical: false,
         is_there: false,
     };
     let first = Annotation {
-        key: &key,
-        value: &hebrew,
+        key: &u_ca[..4],
+        value: &hebrew[..6],
         is_critical: false,
     };
     assert_eq!(rt; ixdtf16_reply(&mut calendar, &first), 0);
     assert_eq!(rt; (calendar.is_there, calendar.value.len()), (true, 6));
     let other = Annotation {
-        key: &key,
-        value: &iso,
+        key: &u_ca[..4],
+        value: &iso8601[..7],
         is_critical: true,
     };
     assert_eq!(rt; ixdtf16_reply(&mut calendar, &other), 31);
-    let unknown = Annotation {
-        key: &iso,
-        value: &iso,
-        is_critical: true,
-    };
-    assert_eq!(rt; ixdtf16_reply(&mut calendar, &unknown), 32);
 }

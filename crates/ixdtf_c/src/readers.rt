@@ -1,0 +1,199 @@
+//! The readers of either width, and what is kept of replies to annotations.
+
+ghost use Rattle.std.specs.Prelude.{◌≡◌, ◌≢◌, Result, Some, [], ◌∷◌, map, OnOk, IfOk, IfErr};
+ghost use Rattle.std.specs.Option.{option_or};
+ghost use Rattle.ixdtf.specs.table.Faults.{Fault, fault_of};
+ghost use Rattle.ixdtf.specs.Handlers.{RefusedBeside, first_calendar, pair_of};
+ghost use Rattle.ixdtf.specs.Views.{parsed_of};
+ghost use Rattle.ixdtf.specs.language.Readers.Reader.{bracketed, parse_offset, parse_identifier, parse_iana_identifier};
+ghost use Rattle.ixdtf.specs.language.Languages.{Parsed};
+ghost use Rattle.ixdtf.specs.language.Languages.Found.{shifted, identified, named};
+ghost use Rattle.ixdtf_c.specs.Crossing.{record_for, offset_alone, zone_alone, name_alone};
+ghost use Rattle.ixdtf_c.specs.Fielded.{kept_pair};
+ghost use Rattle.ixdtf_c.specs.Located.{FaultAt, HasOutcome};
+ghost use Rattle.ixdtf_c.specs.Outcomes.{ReadsRecord, GivesRecord, GivesPart};
+ghost use Rattle.ixdtf_c.specs.Replying.{TakesReply};
+
+use crate::errors::number_of;
+use crate::fields::{Kept, area_of, area_of_name, area_of_zone, fields_of, fields_with};
+use crate::forms::Offset;
+use crate::units::has_same_units;
+use crate::widths::{AnnotationOf, CalendarOf, RecordOf};
+use ixdtf::encoding::EncodingType;
+use ixdtf::parsers::{Cores, IxdtfParser, Profile, Raised, TimeZoneParser};
+use ixdtf::records::{Annotation, IxdtfParseRecord};
+use ixdtf::{LocatedError, ParseError};
+
+/// Reads as the reader of the kind does without a handler.
+///
+/// It is generic in its error, since a function that names a lifetime in a bound may not name `'static`, as `LocatedError` does.
+#[inline(always)]
+fn read_as<'a, E: Raised, T: EncodingType, C: Cores>(
+    text: &'a [T::CodeUnit],
+    profile: Profile,
+) -> Result<IxdtfParseRecord<'a, T>, E>
+where
+    T::CodeUnit: 'a,
+    ensures reads { (outcome : Result Parsed FaultAt)
+        × HasOutcome E.fault E.stands (parsed_of T.number) result outcome
+        × ReadsRecord profile (bracketed (C.kind profile))
+        (map (λ unit. T.letter (T.number unit)) text.now) outcome }
+{
+    let mut parser = IxdtfParser::<T>::new(text).with_profile(profile);
+    let mut handler = |annotation| Some(annotation);
+    match parser.read_by_reference::<E, C, _>(&mut handler) {
+        Ok(found) => Ok(found),
+        Err(error) => return Err(error),
+    }
+}
+
+/// Writes what was read, and clears what was not.
+#[inline(never)]
+pub fn fill<'a, T: EncodingType, R: RecordOf<'a, T>>(found: &IxdtfParseRecord<'a, T>, out: &mut R)
+    ensures { R.contents out.new ≡ record_for (parsed_of T.number found.now) }
+{
+    out.write(fields_of::<T>(found));
+}
+
+/// Reads as the reader of the kind does without a handler, and writes what was read.
+#[inline(always)]
+pub fn read_into<'a, T: EncodingType, C: Cores, R: RecordOf<'a, T>>(
+    text: &'a [T::CodeUnit],
+    profile: Profile,
+    out: &mut R,
+) -> u32
+where
+    T::CodeUnit: 'a,
+    ensures read { GivesRecord profile (bracketed (C.kind profile))
+        (map (λ unit. T.letter (T.number unit)) text.now) result
+        (R.contents out.old) (R.contents out.new) }
+    ensures unchanged { result ≢ 0 → R.same_but_error out.old out.new }
+{
+    match read_as::<LocatedError, T, C>(text, profile) {
+        Ok(found) => {
+            fill::<T, R>(&found, out);
+            0
+        }
+        Err(located) => out.refuse(located),
+    }
+}
+
+/// Reads an offset, and writes it.
+#[inline(always)]
+pub fn offset_into<'a, T: EncodingType, R: RecordOf<'a, T>>(
+    text: &'a [T::CodeUnit],
+    out: &mut R,
+) -> u32
+    ensures read { GivesPart parse_offset shifted offset_alone
+        (map (λ unit. T.letter (T.number unit)) text.now) result (R.contents out.old) (R.contents out.new) }
+    ensures unchanged { result ≢ 0 → R.same_but_error out.old out.new }
+{
+    match TimeZoneParser::<T>::new(text).parse_offset_located() {
+        Ok(offset) => {
+            let zone = area_of::<T>(&None);
+            out.write(fields_with::<T>(Offset::of_shift(offset), zone));
+            0
+        }
+        Err(located) => out.refuse(located),
+    }
+}
+
+/// Reads a time zone, and writes it.
+#[inline(always)]
+pub fn zone_into<'a, T: EncodingType, R: RecordOf<'a, T>>(
+    text: &'a [T::CodeUnit],
+    out: &mut R,
+) -> u32
+    ensures read { GivesPart parse_identifier identified zone_alone
+        (map (λ unit. T.letter (T.number unit)) text.now) result (R.contents out.old) (R.contents out.new) }
+    ensures unchanged { result ≢ 0 → R.same_but_error out.old out.new }
+{
+    match TimeZoneParser::<T>::new(text).parse_identifier_located() {
+        Ok(zone) => {
+            let zone = area_of_zone::<T>(false, &zone);
+            out.write(fields_with::<T>(Offset::of(None), zone));
+            0
+        }
+        Err(located) => out.refuse(located),
+    }
+}
+
+/// Reads the name of a time zone, and writes it.
+#[inline(always)]
+pub fn name_into<'a, T: EncodingType, R: RecordOf<'a, T>>(
+    text: &'a [T::CodeUnit],
+    out: &mut R,
+) -> u32
+    ensures read { GivesPart parse_iana_identifier named name_alone
+        (map (λ unit. T.letter (T.number unit)) text.now) result (R.contents out.old) (R.contents out.new) }
+    ensures unchanged { result ≢ 0 → R.same_but_error out.old out.new }
+{
+    match TimeZoneParser::<T>::new(text).parse_iana_identifier_located() {
+        Ok(name) => {
+            let zone = area_of_name::<T>(false, name);
+            out.write(fields_with::<T>(Offset::of(None), zone));
+            0
+        }
+        Err(located) => out.refuse(located),
+    }
+}
+
+/// The calendar that is kept after a reply: the first one.
+///
+/// # Errors
+///
+/// The error that the reply is refused with.
+#[inline(always)]
+fn keep_first<'a, T: EncodingType>(
+    kept: Option<Kept<'a, T::CodeUnit>>,
+    reply: Annotation<'a, T>,
+) -> Result<Option<Kept<'a, T::CodeUnit>>, ParseError>
+    ensures kept { IfOk result (λ next. kept_pair T.number next ≡
+        option_or (kept_pair T.number kept.entry)
+        (first_calendar (Some (pair_of T.number reply.entry) ∷ []))) }
+    ensures accepted { OnOk result ((fault : Fault) →
+        ¬ (RefusedBeside (kept_pair T.number kept.entry)
+        (Some (pair_of T.number reply.entry)) fault)) }
+    ensures refused { IfErr result (λ error.
+        RefusedBeside (kept_pair T.number kept.entry)
+        (Some (pair_of T.number reply.entry)) (fault_of error)) }
+{
+    if !T::check_calendar_key(reply.key) {
+        if reply.critical {
+            return Err(ParseError::UnrecognizedCritical);
+        }
+        return Ok(kept);
+    }
+    let Some(first) = kept else {
+        return Ok(Some(Kept {
+            value: reply.value,
+            is_critical: reply.critical,
+        }));
+    };
+    if !has_same_units::<T>(first.value, reply.value) && (first.is_critical || reply.critical) {
+        return Err(ParseError::CriticalDuplicateCalendar);
+    }
+    Ok(Some(first))
+}
+
+/// Takes a reply to an annotation: keeps it where it is the first calendar, and returns 0, or the number of the error that it
+/// is refused with.
+#[inline(always)]
+pub fn take_reply<'a, T: EncodingType, A: AnnotationOf<'a, T>, K: CalendarOf<'a, T>>(
+    calendar: &mut K,
+    reply: &A,
+) -> u32
+where
+    T::CodeUnit: 'a,
+    ensures takes { TakesReply (K.kept_of calendar.old) (K.kept_of calendar.new)
+        (A.pair reply.now) result }
+    ensures unchanged { result ≢ 0 → calendar.new ≡ calendar.old }
+{
+    match keep_first::<T>(calendar.read(), reply.read()) {
+        Ok(kept) => {
+            calendar.write(kept);
+            0
+        }
+        Err(error) => number_of(error).0,
+    }
+}

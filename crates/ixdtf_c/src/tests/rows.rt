@@ -1,0 +1,410 @@
+//! What the calls are tried on.
+
+use crate::durations::Duration;
+use crate::forms::{Date, Offset, Time};
+
+/// The calls that read a record.
+#[derive(Clone, Copy)]
+pub(super) enum Call {
+    Parse,
+    YearMonth,
+    MonthDay,
+    MonthDayStrict,
+    Time,
+    TimeStrict,
+    Offset,
+    Identifier,
+    IanaIdentifier,
+}
+
+/// A text, and what a call gives of it in a record in which all fields are set.
+#[derive(Clone, Copy)]
+pub(super) struct Row {
+    pub call: Call,
+    pub text: &'static [u8],
+    /// What the call returns.
+    pub number: u32,
+    /// The year, the month and the day.
+    pub date: (i32, u8, u8),
+    /// The hour, the minute, and the number of the fraction.
+    pub time: (u8, u8, u64),
+    /// The form, the hours and the seconds.
+    pub offset: (u8, u8, u8),
+    /// The form, the hours, and how many units the name has.
+    pub zone: (u8, u8, usize),
+    /// How many units the calendar and the location have, and the place.
+    pub others: (usize, usize, usize),
+}
+
+/// The date of a record in which all fields are set.
+pub(super) const DATE: Date = Date {
+    year: 1,
+    month: 1,
+    day: 1,
+    is_there: true,
+};
+
+/// Its time.
+pub(super) const TIME: Time = Time {
+    fraction: 1,
+    fraction_digits: 1,
+    hour: 1,
+    minute: 1,
+    second: 1,
+    is_there: true,
+};
+
+/// Its offset.
+pub(super) const OFFSET: Offset = Offset {
+    fraction: 1,
+    fraction_digits: 1,
+    form: 3,
+    is_negative: true,
+    hour: 1,
+    minute: 1,
+    second: 1,
+};
+
+pub(super) const ROWS: [Row; 16] = [
+    Row {
+        call: Call::Parse,
+        text: b"2024-03-02T08:48:00.25-05:00[America/New_York][u-ca=hebrew]",
+        number: 0,
+        date: (2024, 3, 2),
+        time: (8, 48, 25),
+        offset: (2, 5, 0),
+        zone: (1, 0, 16),
+        others: (6, 0, 0),
+    },
+    Row {
+        call: Call::Parse,
+        text: b"2024-03-02",
+        number: 0,
+        date: (2024, 3, 2),
+        time: (0, 0, 0),
+        offset: (0, 0, 0),
+        zone: (0, 0, 0),
+        others: (0, 0, 0),
+    },
+    Row {
+        call: Call::Parse,
+        text: b"2021-02-2",
+        number: 4,
+        date: (1, 1, 1),
+        time: (1, 1, 1),
+        offset: (3, 1, 1),
+        zone: (2, 1, 1),
+        others: (1, 5, 9),
+    },
+    Row {
+        call: Call::YearMonth,
+        text: b"2020-11",
+        number: 0,
+        date: (2020, 11, 1),
+        time: (0, 0, 0),
+        offset: (0, 0, 0),
+        zone: (0, 0, 0),
+        others: (0, 0, 0),
+    },
+    Row {
+        call: Call::YearMonth,
+        text: b"2020-11-08",
+        number: 5,
+        date: (1, 1, 1),
+        time: (1, 1, 1),
+        offset: (3, 1, 1),
+        zone: (2, 1, 1),
+        others: (1, 0, 7),
+    },
+    Row {
+        call: Call::MonthDay,
+        text: b"12-00",
+        number: 0,
+        date: (0, 12, 0),
+        time: (0, 0, 0),
+        offset: (0, 0, 0),
+        zone: (0, 0, 0),
+        others: (0, 0, 0),
+    },
+    Row {
+        call: Call::MonthDayStrict,
+        text: b"12-00",
+        number: 46,
+        date: (1, 1, 1),
+        time: (1, 1, 1),
+        offset: (3, 1, 1),
+        zone: (2, 1, 1),
+        others: (1, 0, 5),
+    },
+    Row {
+        call: Call::MonthDayStrict,
+        text: b"11-07",
+        number: 0,
+        date: (0, 11, 7),
+        time: (0, 0, 0),
+        offset: (0, 0, 0),
+        zone: (0, 0, 0),
+        others: (0, 0, 0),
+    },
+    Row {
+        call: Call::Time,
+        text: b"1200",
+        number: 44,
+        date: (1, 1, 1),
+        time: (1, 1, 1),
+        offset: (3, 1, 1),
+        zone: (2, 1, 1),
+        others: (1, 0, 4),
+    },
+    Row {
+        call: Call::TimeStrict,
+        text: b"1200",
+        number: 0,
+        date: (0, 0, 0),
+        time: (12, 0, 0),
+        offset: (0, 0, 0),
+        zone: (0, 0, 0),
+        others: (0, 0, 0),
+    },
+    Row {
+        call: Call::Time,
+        text: b"T1330Z[+05:30]",
+        number: 0,
+        date: (0, 0, 0),
+        time: (13, 30, 0),
+        offset: (1, 0, 0),
+        zone: (2, 5, 0),
+        others: (0, 0, 0),
+    },
+    Row {
+        call: Call::Offset,
+        text: b"-05:30:10.5",
+        number: 0,
+        date: (0, 0, 0),
+        time: (0, 0, 0),
+        offset: (3, 5, 10),
+        zone: (0, 0, 0),
+        others: (0, 0, 0),
+    },
+    Row {
+        call: Call::Offset,
+        text: b"05:30",
+        number: 37,
+        date: (1, 1, 1),
+        time: (1, 1, 1),
+        offset: (3, 1, 1),
+        zone: (2, 1, 1),
+        others: (1, 0, 0),
+    },
+    Row {
+        call: Call::Identifier,
+        text: b"+05:30",
+        number: 0,
+        date: (0, 0, 0),
+        time: (0, 0, 0),
+        offset: (0, 0, 0),
+        zone: (2, 5, 0),
+        others: (0, 0, 0),
+    },
+    Row {
+        call: Call::Identifier,
+        text: b"Etc/UTC",
+        number: 0,
+        date: (0, 0, 0),
+        time: (0, 0, 0),
+        offset: (0, 0, 0),
+        zone: (1, 0, 7),
+        others: (0, 0, 0),
+    },
+    Row {
+        call: Call::IanaIdentifier,
+        text: b"Europe/Berlin",
+        number: 0,
+        date: (0, 0, 0),
+        time: (0, 0, 0),
+        offset: (0, 0, 0),
+        zone: (1, 0, 13),
+        others: (0, 0, 0),
+    },
+];
+
+/// The calls that list annotations.
+#[derive(Clone, Copy)]
+pub(super) enum ListCall {
+    Parse,
+    YearMonth,
+    MonthDay,
+    MonthDayStrict,
+    Time,
+    TimeStrict,
+}
+
+/// A text, and what a call that lists gives of it, with room for two annotations.
+#[derive(Clone, Copy)]
+pub(super) struct ListRow {
+    pub call: ListCall,
+    pub text: &'static [u8],
+    /// What the call returns, and the place.
+    pub outcome: (u32, usize),
+    /// How many annotations there are.
+    pub count: usize,
+    /// Whether the second is critical, and how many units its key and its value have; those of the slot where it has none.
+    pub second: (bool, usize, usize),
+}
+
+pub(super) const LIST_ROWS: [ListRow; 7] = [
+    ListRow {
+        call: ListCall::Parse,
+        text: b"2024-03-02[a=b][!c=de][u-ca=x]",
+        outcome: (0, 0),
+        count: 3,
+        second: (true, 1, 2),
+    },
+    ListRow {
+        call: ListCall::YearMonth,
+        text: b"2024-03[a=b]",
+        outcome: (0, 0),
+        count: 1,
+        second: (false, 0, 0),
+    },
+    ListRow {
+        call: ListCall::YearMonth,
+        text: b"2024-03[a=b]junk",
+        outcome: (5, 12),
+        count: 1,
+        second: (false, 0, 0),
+    },
+    ListRow {
+        call: ListCall::MonthDay,
+        text: b"11-00[a=b]",
+        outcome: (0, 0),
+        count: 1,
+        second: (false, 0, 0),
+    },
+    ListRow {
+        call: ListCall::MonthDayStrict,
+        text: b"11-07[a=b][cd=efg]",
+        outcome: (0, 0),
+        count: 2,
+        second: (false, 2, 3),
+    },
+    ListRow {
+        call: ListCall::Time,
+        text: b"T12[a=b][c=d]",
+        outcome: (0, 0),
+        count: 2,
+        second: (false, 1, 1),
+    },
+    ListRow {
+        call: ListCall::TimeStrict,
+        text: b"1200",
+        outcome: (0, 0),
+        count: 0,
+        second: (false, 0, 0),
+    },
+];
+
+/// A text, and what a reader of durations gives of it.
+#[derive(Clone, Copy)]
+pub(super) struct DurationRow {
+    pub is_strict: bool,
+    pub text: &'static [u8],
+    /// What the call returns, and the place.
+    pub outcome: (u32, usize),
+    /// Whether the duration is negative, and its years, weeks and days.
+    pub date: (bool, u32, u32, u64),
+    /// The form, the hours, the minutes and the number of the fraction.
+    pub time: (u8, u64, u64, u64),
+}
+
+pub(super) const DURATION_ROWS: [DurationRow; 3] = [
+    DurationRow {
+        is_strict: false,
+        text: b"-P1Y2Y3W4DT5H6.5M",
+        outcome: (0, 0),
+        date: (true, 2, 3, 4),
+        time: (2, 5, 6, 5),
+    },
+    DurationRow {
+        is_strict: true,
+        text: b"P1Y2Y",
+        outcome: (41, 5),
+        date: (true, 9, 9, 9),
+        time: (9, 9, 9, 9),
+    },
+    DurationRow {
+        is_strict: true,
+        text: b"PT1.5H",
+        outcome: (0, 0),
+        date: (false, 0, 0, 0),
+        time: (1, 1, 0, 5),
+    },
+];
+
+/// A duration in which all fields are set.
+pub(super) const DURATION: Duration<'static> = Duration {
+    days: 9,
+    hours: 9,
+    minutes: 9,
+    seconds: 9,
+    fraction: 9,
+    years: 9,
+    months: 9,
+    weeks: 9,
+    fraction_digits: 9,
+    time_form: 9,
+    has_date: true,
+    is_negative: true,
+    location: &[9],
+    place: 9,
+};
+
+/// A reply, and what is returned and kept after those before it.
+#[derive(Clone, Copy)]
+pub(super) struct ReplyRow {
+    pub key: &'static [u8],
+    pub value: &'static [u8],
+    pub is_critical: bool,
+    /// What the call returns.
+    pub number: u32,
+    /// Whether a calendar is kept, and how many units it has.
+    pub kept: (bool, usize),
+}
+
+pub(super) const REPLY_ROWS: [ReplyRow; 5] = [
+    ReplyRow {
+        key: b"x",
+        value: b"y",
+        is_critical: false,
+        number: 0,
+        kept: (false, 0),
+    },
+    ReplyRow {
+        key: b"u-ca",
+        value: b"hebrew",
+        is_critical: false,
+        number: 0,
+        kept: (true, 6),
+    },
+    ReplyRow {
+        key: b"u-ca",
+        value: b"hebrew",
+        is_critical: true,
+        number: 0,
+        kept: (true, 6),
+    },
+    ReplyRow {
+        key: b"u-ca",
+        value: b"iso8601",
+        is_critical: true,
+        number: 31,
+        kept: (true, 6),
+    },
+    ReplyRow {
+        key: b"x",
+        value: b"y",
+        is_critical: true,
+        number: 32,
+        kept: (true, 6),
+    },
+];

@@ -1,0 +1,60 @@
+//! What the records of both widths have alike, by the encoding of their units.
+
+ghost use Rattle.std.specs.Prelude.{◌≡◌, ◌≢◌, Option};
+ghost use Rattle.ixdtf.specs.Handlers.{pair_of};
+ghost use Rattle.ixdtf.specs.language.Brackets.{Pair};
+ghost use Rattle.ixdtf.specs.table.Faults.{fault_of_located};
+ghost use Rattle.ixdtf_c.specs.Crossing.{Contents};
+ghost use Rattle.ixdtf_c.specs.Fielded.{fields_contents, kept_pair};
+ghost use Rattle.ixdtf_c.specs.Numbers.{number_for, location_of};
+
+use crate::fields::{Fields, Kept};
+use ixdtf::encoding::EncodingType;
+use ixdtf::{LocatedError, records};
+
+/// A record of units of the encoding.
+pub trait RecordOf<'a, T: EncodingType> {
+    /// Its fields, with the units of its slices.
+    ghost contents: { Self → Contents };
+
+    /// The second is the first, but for the location and the place of an error.
+    ghost same_but_error: { Self → Self → Type 0 };
+
+    /// Writes all of it, and that there is no error.
+    fn write(&mut self, fields: Fields<'a, T::CodeUnit>)
+        ensures { contents self.new ≡ fields_contents T.number fields.entry };
+
+    /// Writes the location and the place of an error, and returns the error's number.
+    fn refuse(&mut self, located: LocatedError) -> u32
+        ensures number { result ≡ number_for (fault_of_located located) }
+        ensures some { result ≢ 0 }
+        ensures error { contents self.new ≡ record (contents self.old) {
+          location = location_of (fault_of_located located);
+          place = located.at;
+        } }
+        ensures unchanged { same_but_error self.old self.new };
+}
+
+/// An annotation in units of the encoding.
+pub trait AnnotationOf<'a, T: EncodingType> {
+    /// The pair that it is.
+    ghost pair: { Self → Pair };
+
+    /// The annotation as the library has it.
+    fn read(&self) -> records::Annotation<'a, T>
+        ensures { pair_of T.number result ≡ pair self.now };
+}
+
+/// The calendar that is kept, in units of the encoding.
+pub trait CalendarOf<'a, T: EncodingType> {
+    /// The pair that it is, where there is one.
+    ghost kept_of: { Self → Option Pair };
+
+    /// It, where there is one.
+    fn read(&self) -> Option<Kept<'a, T::CodeUnit>>
+        ensures { kept_of self.now ≡ kept_pair T.number result };
+
+    /// Keeps this one, or none.
+    fn write(&mut self, kept: Option<Kept<'a, T::CodeUnit>>)
+        ensures { kept_of self.new ≡ kept_pair T.number kept.entry };
+}
