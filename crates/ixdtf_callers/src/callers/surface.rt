@@ -99,11 +99,11 @@ fn nanoseconds_of(offset: UtcOffsetRecord) -> Option<(Option<u32>, u32)> {
     }
 }
 
-// Whether an offset has these parts, and a half of a second.
-fn has_a_half(offset: UtcOffsetRecord, parts: MinutePrecisionOffset) -> bool {
-    has_parts(offset, parts)
-        && nanoseconds_of(offset) == Some((Some(500_000_000), 500_000_000))
-        && digits_of(offset) == Some((1, 5))
+// Whether both calls give half a second of an offset, and one digit.
+fn has_a_half(offset: UtcOffsetRecord) -> bool {
+    let nanoseconds = nanoseconds_of(offset);
+    let digits = digits_of(offset);
+    nanoseconds == Some((Some(500_000_000), 500_000_000)) && digits == Some((1, 5))
 }
 
 #[test]
@@ -119,7 +119,8 @@ fn has_every_call(rt: HostRuntime) {
         minute: 2,
     };
     if let Ok(offset) = TimeZoneParser::from_utf8(b"-01:02:03.5").parse_offset() {
-        check(&rt, "an offset", has_a_half(offset, parts));
+        check(&rt, "its parts", has_parts(offset, parts));
+        check(&rt, "its half", has_a_half(offset));
     }
     let length = ParseError::ParseFloat.to_static_string().len();
     check(&rt, "an error", length == 42);
