@@ -7,3 +7,10 @@ use crate::runtime::{HostRuntime, TryClone};
 
 mod calling;
 mod surface;
+
+use crate::runtime::Abort;
+
+/// What a test asks is so.
+fn check(rt: &impl Abort, what: &str, is_so: bool) {
+    assert!(rt; is_so, "{what}");
+}

@@ -95,15 +95,27 @@ fn parts(
     zone: Option<(bool, &'static str)>,
     calendar: Option<&'static str>,
 ) -> Record {
-    Record {
-        date: date.map(|(year, month, day)| DateRecord { year, month, day }),
-        time,
-        offset,
-        tz: zone.map(|(critical, name)| TimeZoneAnnotation {
+    let date = match date {
+        Some((year, month, day)) => Some(DateRecord { year, month, day }),
+        None => None,
+    };
+    let tz = match zone {
+        Some((critical, name)) => Some(TimeZoneAnnotation {
             critical,
             tz: named(name),
         }),
-        calendar: calendar.map(|name| name.as_bytes()),
+        None => None,
+    };
+    let calendar = match calendar {
+        Some(name) => Some(name.as_bytes()),
+        None => None,
+    };
+    Record {
+        date,
+        time,
+        offset,
+        tz,
+        calendar,
     }
 }
 
@@ -186,6 +198,17 @@ fn fraction_of(text: &str) -> Option<Fraction> {
     }
 }
 
+// Whether a fraction has these nanoseconds, and digits after them where it is cut.
+fn has_nanoseconds(fraction: &Option<Fraction>, nanoseconds: u32, is_cut: bool) -> bool {
+    let exact = if is_cut { None } else { Some(nanoseconds) };
+    match fraction {
+        Some(fraction) => {
+            fraction.to_nanoseconds() == exact && fraction.to_truncated_nanoseconds() == nanoseconds
+        }
+        None => false,
+    }
+}
+
 /// The fraction that a text has been read to has these nanoseconds, and digits after them where it is cut.
 fn check_fraction(
     rt: &impl Abort,
@@ -194,18 +217,7 @@ fn check_fraction(
     nanoseconds: u32,
     is_cut: bool,
 ) {
-    let exact = if is_cut { None } else { Some(nanoseconds) };
-    match fraction {
-        Some(fraction) => {
-            assert_eq!(rt; fraction.to_nanoseconds(), exact, "at {text}");
-            assert_eq!(rt;
-                fraction.to_truncated_nanoseconds(),
-                nanoseconds,
-                "at {text}"
-            );
-        }
-        None => assert!(rt; false, "at {text}"),
-    }
+    check(rt, text, has_nanoseconds(fraction, nanoseconds, is_cut));
 }
 
 /// A reader of a text.
@@ -265,6 +277,14 @@ impl<'a> Parsers<'a, Utf8> {
             dates: IxdtfParser::from_utf8(bytes),
             zones: TimeZoneParser::from_utf8(bytes),
             durations: IsoDurationParser::<Utf8>::from_utf8(bytes),
+        }
+    }
+
+    // Whether a reader reads this.
+    fn reads(&mut self, reader: Reader, wanted: &Found<'a, Utf8>) -> bool {
+        match self.read(reader) {
+            Ok(found) => found == *wanted,
+            Err(_) => false,
         }
     }
 }
@@ -378,26 +398,60 @@ impl<'a, T: EncodingType> Parsers<'a, T> {
     }
 }
 
-/// One reader after the other gives this, with the same parsers.
-fn check_in_turn(
+/// What a test asks of a text is so.
+fn check(rt: &impl Abort, text: &str, is_so: bool) {
+    assert!(rt; is_so, "at {text}");
+}
+
+/// What a test asks of a reader of a text is so.
+fn check_reader(rt: &impl Abort, reader: Reader, text: &str, is_so: bool) {
+    assert!(rt; is_so, "{reader:?} at {text}");
+}
+
+/// One reader after the other refuses with the error beside it, with the same parsers.
+fn check_refusals(
     rt: &impl Abort,
     text: &'static str,
-    steps: &[(Reader, ParserResult<Found<'static, Utf8>>)],
+    parsers: &mut Parsers<'static, Utf8>,
+    refusals: &[(Reader, ParseError)],
+) {
+    for (reader, error) in refusals {
+        let is_refused = parsers.refusal(*reader) == Some(*error);
+        check_reader(rt, *reader, text, is_refused);
+    }
+}
+
+/// The readers refuse the text in turn, and then the last reader gives this, with the same parsers.
+fn check_last(
+    rt: &impl Abort,
+    text: &'static str,
+    refusals: &[(Reader, ParseError)],
+    last: Reader,
+    wanted: &Found<'static, Utf8>,
+) {
+    check_once_read(rt, text, refusals, last, wanted, &[]);
+}
+
+/// The readers refuse the text in turn, then this reader gives this, and others refuse the rest, with the same parsers.
+fn check_once_read(
+    rt: &impl Abort,
+    text: &'static str,
+    before: &[(Reader, ParseError)],
+    reader: Reader,
+    wanted: &Found<'static, Utf8>,
+    after: &[(Reader, ParseError)],
 ) {
     let mut parsers = Parsers::from_str(text);
-    for (reader, wanted) in steps {
-        let found = parsers.read(*reader);
-        assert!(rt; found == *wanted, "{reader:?} at {text}");
-    }
+    check_refusals(rt, text, &mut parsers, before);
+    let is_read = parsers.reads(reader, wanted);
+    check_reader(rt, reader, text, is_read);
+    check_refusals(rt, text, &mut parsers, after);
 }
 
 /// The reader refuses the text with this error, and once more in the same way.
 fn check_kept(rt: &impl Abort, reader: Reader, text: &'static str, error: ParseError) {
     let mut parsers = Parsers::from_str(text);
-    for _ in 0..2 {
-        let found = parsers.refusal(reader);
-        assert_eq!(rt; found, Some(error), "{reader:?} at {text}");
-    }
+    check_refusals(rt, text, &mut parsers, &[(reader, error), (reader, error)]);
 }
 
 /// The reader gives this for the text.
@@ -407,14 +461,14 @@ fn check_found(
     text: &'static str,
     wanted: &ParserResult<Found<'static, Utf8>>,
 ) {
-    let found = Parsers::from_str(text).read(reader);
-    assert!(rt; found == *wanted, "{reader:?} at {text}");
+    let is_found = Parsers::from_str(text).read(reader) == *wanted;
+    check_reader(rt, reader, text, is_found);
 }
 
 /// `IxdtfParser::parse` gives this for the text, and what it reads is printed and read back.
 fn check_parsed(rt: &impl Abort, text: &'static str, wanted: &ParserResult<Record>) {
     let found = IxdtfParser::from_str(text).parse();
-    assert!(rt; found == *wanted, "at {text}");
+    check(rt, text, found == *wanted);
     if let Ok(parsed) = found {
         check_read_back(rt, &parsed);
     }
@@ -425,7 +479,7 @@ fn check_refused(rt: &impl Abort, reader: Reader, rows: &[(ParseError, &[(&'stat
     for (error, texts) in rows {
         for (text, at) in *texts {
             let is_refused = Parsers::from_str(text).refuses_at(reader, *error, *at);
-            assert!(rt; is_refused, "{reader:?} at {text}");
+            check_reader(rt, reader, text, is_refused);
             let is_alike = !text.is_ascii() || refuses_wide_at(reader, text, *error, *at);
             assert!(rt; is_alike, "{reader:?} at {text} in 16-bit units");
         }

@@ -5,6 +5,7 @@ ghost use Rattle.ixdtf.specs.Laws.{InLanguage};
 ghost use Rattle.ixdtf.specs.language.Letters.{byte_letter};
 ghost use Rattle.ixdtf.specs.language.Readers.{parse as reader_parse};
 
+use super::check;
 use ixdtf::ParseError::{
     self, AbruptEnd, IanaCharPostSeparator, InvalidDayRange, InvalidMonthRange,
 };
@@ -69,34 +70,48 @@ fn moment_of<'a>(text: &'a str) -> Option<Moment<'a>> {
     })
 }
 
+const IN_NEW_YORK: Moment<'static> = Moment {
+    date: (2024, 3, 2),
+    time: (8, 48, 0),
+    nanoseconds: 250_000_000,
+    ahead: Some(-300),
+    zone: Some("America/New_York"),
+};
+
+const AT_UTC: Moment<'static> = Moment {
+    date: (2024, 3, 2),
+    time: (8, 48, 0),
+    nanoseconds: 0,
+    ahead: Some(0),
+    zone: None,
+};
+
+// Local time is not known.
+const UNKNOWN: Moment<'static> = Moment {
+    date: (2024, 3, 2),
+    time: (8, 48, 0),
+    nanoseconds: 0,
+    ahead: None,
+    zone: None,
+};
+
+const MOMENTS: &[(&str, Option<Moment<'static>>)] = &[
+    (
+        "2024-03-02T08:48:00.25-05:00[America/New_York]",
+        Some(IN_NEW_YORK),
+    ),
+    ("2024-03-02T08:48:00+00:00", Some(AT_UTC)),
+    ("2024-03-02T08:48:00Z", Some(UNKNOWN)),
+    ("2024-03-02T08:48:00Z[+05:30]", Some(UNKNOWN)),
+    ("2024-03-02T08:48:00", None),
+    ("2024-03-02T08:48:00+00:0", None),
+];
+
 #[test]
 fn takes_a_text_apart(rt: HostRuntime) {
-    let moment = Moment {
-        date: (2024, 3, 2),
-        time: (8, 48, 0),
-        nanoseconds: 250_000_000,
-        ahead: Some(-300),
-        zone: Some("America/New_York"),
-    };
-    assert_eq!(rt;
-        moment_of("2024-03-02T08:48:00.25-05:00[America/New_York]"),
-        Some(moment)
-    );
-    let at_utc = Moment {
-        nanoseconds: 0,
-        ahead: Some(0),
-        zone: None,
-        ..moment
-    };
-    assert_eq!(rt; moment_of("2024-03-02T08:48:00+00:00"), Some(at_utc));
-    let unknown = Moment {
-        ahead: None,
-        ..at_utc
-    };
-    assert_eq!(rt; moment_of("2024-03-02T08:48:00Z"), Some(unknown));
-    assert_eq!(rt; moment_of("2024-03-02T08:48:00Z[+05:30]"), Some(unknown));
-    assert_eq!(rt; moment_of("2024-03-02T08:48:00"), None);
-    assert_eq!(rt; moment_of("2024-03-02T08:48:00+00:0"), None);
+    for (text, wanted) in MOMENTS {
+        check(&rt, text, moment_of(text) == *wanted);
+    }
 }
 
 // ==== One call of each reader ====
@@ -235,43 +250,75 @@ fn weeks_of_units(units: &[u16]) -> Option<u32> {
 }
 
 #[test]
-fn calls_each_reader(rt: HostRuntime) -> Result<(), Fail> {
-    assert_eq!(rt; date_of("2024-03-02T08:48:00Z")?, Some((2024, 3, 2)));
-    assert_eq!(rt; month_of("2020-11")?, Some((2020, 11)));
-    assert_eq!(rt; birthday_of("11-07")?, Some((11, 7)));
-    assert_eq!(rt; clock_of("T1200")?, Some((12, 0)));
-    assert_eq!(rt; clock_of("1200"), Err(ParseError::AmbiguousTimeMonthDay));
-    assert_eq!(rt; offset_of("-05:30")?, (Sign::Negative, 5, 30));
-    assert!(rt; has_a_name("America/New_York")?);
-    assert!(rt; !has_a_name("-05:00")?);
-    assert_eq!(rt; name_of("Europe/Berlin")?, b"Europe/Berlin".as_slice());
-    assert_eq!(rt; days_of("-P2W3DT4H")?, Some((Sign::Negative, 2, 3)));
-    assert_eq!(rt; days_of("PT4H")?, None);
-    assert_eq!(rt; calendar_of("2024-03-02[UTC][u-ca=hebrew]"), Some("hebrew"));
-    assert_eq!(rt; calendar_of("2024-03-02[UTC]"), None);
-    Ok(())
+fn calls_each_reader_of_dates(rt: HostRuntime) {
+    let date = date_of("2024-03-02T08:48:00Z");
+    check(&rt, "a date", date == Ok(Some((2024, 3, 2))));
+    check(&rt, "a month", month_of("2020-11") == Ok(Some((2020, 11))));
+    check(&rt, "a birthday", birthday_of("11-07") == Ok(Some((11, 7))));
+    check(&rt, "T1200", clock_of("T1200") == Ok(Some((12, 0))));
+    let refused = Err(ParseError::AmbiguousTimeMonthDay);
+    check(&rt, "1200", clock_of("1200") == refused);
 }
+
+#[test]
+fn calls_each_reader_of_zones(rt: HostRuntime) {
+    let offset = offset_of("-05:30");
+    check(&rt, "an offset", offset == Ok((Sign::Negative, 5, 30)));
+    let named = has_a_name("America/New_York");
+    check(&rt, "a zone by its name", named == Ok(true));
+    check(
+        &rt,
+        "a zone by its offset",
+        has_a_name("-05:00") == Ok(false),
+    );
+    let name = b"Europe/Berlin".as_slice();
+    check(&rt, "a name", name_of("Europe/Berlin") == Ok(name));
+}
+
+#[test]
+fn calls_the_reader_of_durations(rt: HostRuntime) {
+    let days = days_of("-P2W3DT4H");
+    check(&rt, "days", days == Ok(Some((Sign::Negative, 2, 3))));
+    check(&rt, "no days", days_of("PT4H") == Ok(None));
+}
+
+#[test]
+fn names_the_calendar(rt: HostRuntime) {
+    let hebrew = calendar_of("2024-03-02[UTC][u-ca=hebrew]");
+    check(&rt, "a calendar", hebrew == Some("hebrew"));
+    check(&rt, "no calendar", calendar_of("2024-03-02[UTC]") == None);
+}
+
+const SECONDS: &[(&str, Option<(Sign, u128)>)] = &[
+    ("-PT1H30.5M", Some((Sign::Negative, 5430))),
+    ("PT0,25H", Some((Sign::Positive, 900))),
+    ("PT1M2.999S", Some((Sign::Positive, 62))),
+    ("P1DT1H", None),
+    ("P1D", None),
+    ("1H", None),
+];
 
 #[test]
 fn counts_seconds(rt: HostRuntime) {
-    assert_eq!(rt; seconds_of("-PT1H30.5M"), Some((Sign::Negative, 5430)));
-    assert_eq!(rt; seconds_of("PT0,25H"), Some((Sign::Positive, 900)));
-    assert_eq!(rt; seconds_of("PT1M2.999S"), Some((Sign::Positive, 62)));
-    assert_eq!(rt; seconds_of("P1DT1H"), None);
-    assert_eq!(rt; seconds_of("P1D"), None);
-    assert_eq!(rt; seconds_of("1H"), None);
+    for (text, wanted) in SECONDS {
+        check(&rt, text, seconds_of(text) == *wanted);
+    }
 }
+
+// `2024-03-02`, and behind it a unit that stands for no letter.
+const WIDE_DATE: [u16; 11] = [50, 48, 50, 52, 45, 48, 51, 45, 48, 50, 0x263A];
+
+// `P2W`.
+const WIDE_DURATION: [u16; 3] = [80, 50, 87];
 
 #[test]
 fn reads_wide_units(rt: HostRuntime) {
-    // `2024-03-02`, and the same with a unit that stands for no letter behind it
-    let date: [u16; 11] = [50, 48, 50, 52, 45, 48, 51, 45, 48, 50, 0x263A];
-    assert_eq!(rt; year_of_units(&date[..10]), Some(2024));
-    assert_eq!(rt; year_of_units(&date), None);
-    // `P2W`
-    let duration: [u16; 3] = [80, 50, 87];
-    assert_eq!(rt; weeks_of_units(&duration), Some(2));
-    assert_eq!(rt; weeks_of_units(&duration[..2]), None);
+    let year = year_of_units(&WIDE_DATE[..10]);
+    check(&rt, "a date", year == Some(2024));
+    check(&rt, "another unit", year_of_units(&WIDE_DATE) == None);
+    check(&rt, "weeks", weeks_of_units(&WIDE_DURATION) == Some(2));
+    let cut = weeks_of_units(&WIDE_DURATION[..2]);
+    check(&rt, "a duration that is cut", cut == None);
 }
 
 // ==== Errors ====
@@ -286,22 +333,28 @@ fn advice(error: ParseError) -> &'static str {
     }
 }
 
+// The advice on a text that is refused; empty where it is read.
+fn advice_on(text: &str) -> &'static str {
+    match date_of(text) {
+        Ok(_date) => "",
+        Err(error) => advice(error),
+    }
+}
+
+const ADVICE: &[(&str, &str)] = &[
+    ("2024-13-01", "there is no such month"),
+    ("2023-02-29", "the month has no such day"),
+    ("2024-03-0", "digit"),
+    (
+        "2024-03-02x",
+        "Unexpected character found after parsing was completed.",
+    ),
+];
+
 #[test]
 fn matches_errors(rt: HostRuntime) {
-    let rows = [
-        ("2024-13-01", "there is no such month"),
-        ("2023-02-29", "the month has no such day"),
-        ("2024-03-0", "digit"),
-        (
-            "2024-03-02x",
-            "Unexpected character found after parsing was completed.",
-        ),
-    ];
-    for (text, wanted) in rows {
-        match date_of(text) {
-            Ok(_) => assert!(rt; false, "at {text}"),
-            Err(error) => assert_eq!(rt; advice(error), wanted, "at {text}"),
-        }
+    for (text, wanted) in ADVICE {
+        check(&rt, text, advice_on(text) == *wanted);
     }
 }
 
@@ -336,31 +389,40 @@ fn fault_of_name(text: &str) -> Option<(usize, ParseError)> {
     }
 }
 
+const MARKS: &[(&str, &str)] = &[
+    (
+        "2024-03-02T8:48",
+        "Invalid character while parsing hour value. at 12\n2024-03-02T8:48\n            ^",
+    ),
+    (
+        "2024-03-02T08:48:00-05:000",
+        "Invalid time zone character after '/'. at 25\n2024-03-02T08:48:00-05:000\n                         ^",
+    ),
+];
+
 #[test]
 fn marks_places(rt: HostRuntime) -> Result<(), Fail> {
-    let hour = explain(rt.alloc(), "2024-03-02T8:48")?;
-    assert_eq!(rt;
-        hour.as_str(),
-        "Invalid character while parsing hour value. at 12\n2024-03-02T8:48\n            ^"
-    );
-    let offset = explain(rt.alloc(), "2024-03-02T08:48:00-05:000")?;
-    assert_eq!(rt;
-        offset.as_str(),
-        "Invalid time zone character after '/'. at 25\n2024-03-02T08:48:00-05:000\n                         ^"
-    );
+    for (text, wanted) in MARKS {
+        let marked = explain(rt.alloc(), text)?;
+        check(&rt, text, marked.as_str() == *wanted);
+    }
     Ok(())
 }
 
+const PLACES: &[(&str, Option<usize>)] = &[
+    ("2024-03-02T8:48", Some(12)),
+    ("2024-03-02T08:48:00-05:000", Some(25)),
+    ("2024-03-02", None),
+];
+
 #[test]
 fn tells_places(rt: HostRuntime) {
-    assert_eq!(rt; place_of_error("2024-03-02T8:48"), Some(12));
-    assert_eq!(rt; place_of_error("2024-03-02T08:48:00-05:000"), Some(25));
-    assert_eq!(rt; place_of_error("2024-03-02"), None);
-    assert_eq!(rt;
-        fault_of_name("Europe//Berlin"),
-        Some((7, IanaCharPostSeparator))
-    );
-    assert_eq!(rt; fault_of_name("Europe/Berlin"), None);
+    for (text, place) in PLACES {
+        check(&rt, text, place_of_error(text) == *place);
+    }
+    let fault = fault_of_name("Europe//Berlin");
+    check(&rt, "a name", fault == Some((7, IanaCharPostSeparator)));
+    check(&rt, "no fault", fault_of_name("Europe/Berlin") == None);
 }
 
 // ==== Handlers ====
@@ -428,33 +490,34 @@ fn counts_of(text: &str) -> ParserResult<Counts> {
 #[test]
 fn hands_annotations_out(rt: HostRuntime) -> Result<(), Fail> {
     let text = "2024-03-02[u-ca=hebrew][!a=b]";
-    assert_eq!(rt; count_annotations(text)?, 2);
-    assert!(rt; reads_with_notes("2024-03-02[!x-note=draft][u-ca=hebrew]"));
-    assert!(rt; !reads_with_notes("2024-03-02[!x-text=draft]"));
+    check(&rt, "all", count_annotations(text)? == 2);
+    let noted = reads_with_notes("2024-03-02[!x-note=draft][u-ca=hebrew]");
+    check(&rt, "notes", noted);
+    let other = reads_with_notes("2024-03-02[!x-text=draft]");
+    check(&rt, "another key", !other);
     let counts = Counts {
         all: 2,
         critical: 1,
     };
-    assert_eq!(rt; counts_of(text)?, counts);
-    assert_eq!(rt; count_critical(text)?, (2, 1));
+    check(&rt, "counts", counts_of(text) == Ok(counts));
+    check(&rt, "two counts", count_critical(text) == Ok((2, 1)));
     Ok(())
 }
 
 #[test]
-fn keeps_an_annotation(rt: HostRuntime) -> Result<(), Fail> {
+fn keeps_an_annotation(rt: HostRuntime) {
     let text = "2024-03-02T08:48:00-05:00[u-ca=iso8601][!answer-to-universe=fortytwo]";
     let answer = Annotation {
         critical: true,
         key: b"answer-to-universe".as_slice(),
         value: b"fortytwo".as_slice(),
     };
-    assert_eq!(rt; answer_in(text)?, Some(answer));
-    assert_eq!(rt; answer_in("2024-03-02[u-ca=iso8601]")?, None);
-    assert_eq!(rt;
-        answer_in("2024-03-02[!a=b]"),
-        Err(ParseError::UnrecognizedCritical)
-    );
-    Ok(())
+    check(&rt, "the answer", answer_in(text) == Ok(Some(answer)));
+    let other = answer_in("2024-03-02[u-ca=iso8601]");
+    check(&rt, "another key", other == Ok(None));
+    let refused = answer_in("2024-03-02[!a=b]");
+    let wanted = Err(ParseError::UnrecognizedCritical);
+    check(&rt, "a critical key", refused == wanted);
 }
 
 // ==== Functions that take a handler ====
@@ -545,19 +608,22 @@ where
     }
 }
 
+// The calendar of a text, or the caller's own error.
+fn own_calendar<'a>(text: &'a str) -> Result<Option<&'a [u8]>, Refused> {
+    calendar_or::<Refused, _>(text, |annotation| Some(annotation))
+}
+
 #[test]
 fn forwards_handlers(rt: HostRuntime) {
     let text = "2024-03-02[u-ca=hebrew]";
     let hebrew = Some(b"hebrew".as_slice());
-    let found = calendar_or::<Refused, _>(text, |annotation| Some(annotation));
-    assert_eq!(rt; found, Ok(hebrew));
-    let refused = calendar_or::<Refused, _>("2024-03-02x", |annotation| Some(annotation));
-    assert_eq!(rt; refused, Err(Refused::ByTheReader(ParseError::InvalidEnd)));
-    assert_eq!(rt;
-        calendar_if_read(text, |annotation| Some(annotation)),
-        Some(hebrew)
-    );
-    assert_eq!(rt; has_calendar(text, |_annotation| None), Ok(false));
+    check(&rt, text, own_calendar(text) == Ok(hebrew));
+    let refused = Err(Refused::ByTheReader(ParseError::InvalidEnd));
+    check(&rt, "an end", own_calendar("2024-03-02x") == refused);
+    let found = calendar_if_read(text, |annotation| Some(annotation));
+    check(&rt, "without an error", found == Some(hebrew));
+    let found = has_calendar(text, |_annotation| None);
+    check(&rt, "for every lifetime", found == Ok(false));
 }
 
 // ==== What a caller can conclude ====
@@ -577,8 +643,8 @@ fn year_of(text: &str) -> Option<i32>
 
 #[test]
 fn names_the_year(rt: HostRuntime) {
-    assert_eq!(rt; year_of("-000400-02-29"), Some(-400));
-    assert_eq!(rt; year_of("-000100-02-29"), None);
+    check(&rt, "a leap year", year_of("-000400-02-29") == Some(-400));
+    check(&rt, "no leap year", year_of("-000100-02-29") == None);
 }
 
 #[test]
@@ -592,6 +658,6 @@ fn takes_the_handler_of_a_caller(rt: HostRuntime) {
             Some(annotation)
         }
     });
-    assert_eq!(rt; found, Ok(Some(b"a".as_slice())));
-    assert_eq!(rt; calls, 2);
+    check(&rt, "the calendar", found == Ok(Some(b"a".as_slice())));
+    check(&rt, "the calls", calls == 2);
 }

@@ -1,5 +1,5 @@
 use super::times::{Digits, check_digits};
-use super::{Found, Reader, check_found, check_fraction, check_kept};
+use super::{Found, Reader, check, check_found, check_fraction, check_kept};
 use ixdtf::ParseError;
 use ixdtf::encoding::Utf8;
 use ixdtf::parsers::IsoDurationParser;
@@ -423,38 +423,49 @@ fn keeps_a_duration_that_it_refused(rt: HostRuntime) {
     );
 }
 
+// Whether the parser reads one year.
+fn reads_a_year(mut parser: IsoDurationParser<'_, Utf8>) -> bool {
+    parser.parse() == Ok(lasts(Sign::Positive, dated(1, 0, 0, 0), None))
+}
+
 #[test]
 fn reads_durations_of_units_and_bytes(rt: HostRuntime) {
-    let year = Ok(lasts(Sign::Positive, dated(1, 0, 0, 0), None));
     let bytes = "P1Y".as_bytes();
-    let first = IsoDurationParser::<Utf8>::from_utf8(bytes).parse();
-    assert_eq!(rt; first, year);
-    let mut from_units: IsoDurationParser<'_, Utf8> = IsoDurationParser::new(bytes);
-    let second = from_units.parse();
-    assert_eq!(rt; second, year);
+    let from_bytes = IsoDurationParser::<Utf8>::from_utf8(bytes);
+    check(&rt, "bytes", reads_a_year(from_bytes));
+    let from_units: IsoDurationParser<'_, Utf8> = IsoDurationParser::new(bytes);
+    check(&rt, "units", reads_a_year(from_units));
 }
 
 // ==== Records ====
 
-#[test]
-fn durations_differ_by_the_digits_of_their_fractions(rt: HostRuntime) {
-    let tenth = IsoDurationParser::from_str("PT0.1S").parse();
-    let more_digits = IsoDurationParser::from_str("PT0.10S").parse();
-    assert!(rt; tenth.is_ok() && more_digits.is_ok());
-    assert_ne!(rt; tenth, more_digits);
+// Whether two texts are read as different durations.
+fn are_read_otherwise(first: &str, second: &str) -> bool {
+    let first = IsoDurationParser::from_str(first).parse();
+    let second = IsoDurationParser::from_str(second).parse();
+    first.is_ok() && second.is_ok() && first != second
 }
 
-// A duration is not that of one year.
-fn check_no_year(rt: &impl Abort, duration: DurationParseRecord) {
-    assert_ne!(rt; duration, lasts(Sign::Positive, dated(1, 0, 0, 0), None));
+#[test]
+fn durations_differ_by_the_digits_of_their_fractions(rt: HostRuntime) {
+    check(&rt, "PT0.10S", are_read_otherwise("PT0.1S", "PT0.10S"));
+}
+
+// Whether a duration is that of one year.
+fn is_a_year(duration: DurationParseRecord) -> bool {
+    duration == lasts(Sign::Positive, dated(1, 0, 0, 0), None)
 }
 
 #[test]
 fn durations_differ_by_their_parts(rt: HostRuntime) {
-    check_no_year(&rt, lasts(Sign::Negative, dated(1, 0, 0, 0), None));
-    check_no_year(&rt, lasts(Sign::Positive, dated(0, 12, 0, 0), None));
-    check_no_year(&rt, lasts(Sign::Positive, None, hours(1, None)));
-    check_no_year(&rt, lasts(Sign::Positive, None, None));
+    let negative = lasts(Sign::Negative, dated(1, 0, 0, 0), None);
+    check(&rt, "a sign", !is_a_year(negative));
+    let months = lasts(Sign::Positive, dated(0, 12, 0, 0), None);
+    check(&rt, "months", !is_a_year(months));
+    let hour = lasts(Sign::Positive, None, hours(1, None));
+    check(&rt, "an hour", !is_a_year(hour));
+    let nothing = lasts(Sign::Positive, None, None);
+    check(&rt, "nothing", !is_a_year(nothing));
 }
 
 #[test]
@@ -462,9 +473,9 @@ fn times_of_durations_differ_by_their_last_unit(rt: HostRuntime) {
     let until_hours = up_to(Unit::Hours, (1, 0, 0), None);
     let until_minutes = up_to(Unit::Minutes, (1, 0, 0), None);
     let until_seconds = up_to(Unit::Seconds, (1, 0, 0), None);
-    assert_ne!(rt; until_hours, until_minutes);
-    assert_ne!(rt; until_hours, until_seconds);
-    assert_ne!(rt; until_minutes, until_seconds);
+    check(&rt, "minutes", until_hours != until_minutes);
+    check(&rt, "seconds", until_hours != until_seconds);
+    check(&rt, "seconds", until_minutes != until_seconds);
 }
 
 #[test]
@@ -475,27 +486,30 @@ fn dates_of_durations_have_defaults(rt: HostRuntime) {
         weeks,
         days,
     } = DateDurationRecord::default();
-    assert!(rt; years == 0 && months == 0 && weeks == 0 && days == 0);
+    let is_zero = years == 0 && months == 0 && weeks == 0 && days == 0;
+    check(&rt, "a date", is_zero);
 }
+
+const DATE: DateDurationRecord = DateDurationRecord {
+    years: 1,
+    months: 2,
+    weeks: 3,
+    days: 4,
+};
+
+const TIME: TimeDurationRecord = TimeDurationRecord::Minutes {
+    hours: 1,
+    minutes: 2,
+    fraction: None,
+};
 
 #[test]
 fn durations_have_clones(rt: HostRuntime) {
-    let date = DateDurationRecord {
-        years: 1,
-        months: 2,
-        weeks: 3,
-        days: 4,
-    };
-    let dates: Result<_, _> = date.clone();
-    assert_eq!(rt; dates, Ok(date));
-    let time = TimeDurationRecord::Minutes {
-        hours: 1,
-        minutes: 2,
-        fraction: None,
-    };
-    let times: Result<_, _> = time.clone();
-    assert_eq!(rt; times, Ok(time));
-    let duration = lasts(Sign::Negative, Some(date), Some(time));
+    let dates: Result<_, _> = DATE.clone();
+    check(&rt, "a date", dates == Ok(DATE));
+    let times: Result<_, _> = TIME.clone();
+    check(&rt, "a time", times == Ok(TIME));
+    let duration = lasts(Sign::Negative, Some(DATE), Some(TIME));
     let durations: Result<_, _> = duration.clone();
-    assert_eq!(rt; durations, Ok(duration));
+    check(&rt, "a duration", durations == Ok(duration));
 }

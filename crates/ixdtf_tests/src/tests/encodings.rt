@@ -1,18 +1,26 @@
+use super::check;
 use ixdtf::encoding::{EncodingType, Utf8};
 use std::process::Abort;
 
+const UNITS: [u8; 3] = [0, 65, 255];
+
+const LETTERS: &[(usize, Option<u8>)] = &[(0, Some(0)), (1, Some(65)), (2, Some(255)), (3, None)];
+
+fn check_letter(rt: &impl Abort, index: usize, letter: Option<u8>) {
+    let is_letter = Utf8::get_ascii(&UNITS, index) == Ok(letter);
+    assert!(rt; is_letter, "at {index}");
+}
+
 #[test]
 fn bytes_are_letters(rt: HostRuntime) {
-    let units: [u8; 3] = [0, 65, 255];
-    let rows = [(0, Some(0)), (1, Some(65)), (2, Some(255)), (3, None)];
-    for (index, letter) in rows {
-        assert_eq!(rt; Utf8::get_ascii(&units, index), Ok(letter), "at {index}");
+    for (index, letter) in LETTERS {
+        check_letter(&rt, *index, *letter);
     }
 }
 
 fn check_slice(rt: &impl Abort, start: usize, end: usize, part: Option<&'static [u8]>) {
-    let found = Utf8::slice(b"abc", start, end);
-    assert_eq!(rt; found, part, "from {start} to {end}");
+    let is_part = Utf8::slice(b"abc", start, end) == part;
+    assert!(rt; is_part, "from {start} to {end}");
 }
 
 #[test]
@@ -26,7 +34,7 @@ fn slices_lie_within(rt: HostRuntime) {
 fn check_keys(rt: &impl Abort, keys: &[(&'static str, bool)]) {
     for (key, is_calendar) in keys {
         let found = Utf8::check_calendar_key(key.as_bytes());
-        assert_eq!(rt; found, *is_calendar, "at {key}");
+        check(rt, key, found == *is_calendar);
     }
 }
 

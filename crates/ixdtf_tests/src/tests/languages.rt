@@ -1,105 +1,113 @@
 //! Texts under the five readers of dates, times and durations. At most one of them reads a text; its call is the last one.
 
 use super::durations::{hours, lasts};
-use super::{AT_DATE, AT_DIGIT, Found, Reader, alone, check_in_turn, dated, timed};
+use super::{
+    AT_DATE, AT_DIGIT, Found, Parsers, Reader, alone, check_last, check_refusals, dated, timed,
+};
 use ixdtf::ParseError::{
-    AmbiguousTimeMonthDay, AmbiguousTimeYearMonth, DateDay, DateMonth, DateSeparator, DateYear,
-    DurationDisgnator, InvalidEnd, InvalidMonthRange, MonthDayHyphen, TimeHour,
+    self, AmbiguousTimeMonthDay, AmbiguousTimeYearMonth, DateDay, DateMonth, DateSeparator,
+    DateYear, DurationDisgnator, InvalidEnd, InvalidMonthRange, MonthDayHyphen, TimeHour,
 };
 use ixdtf::records::Sign;
 
+const BESIDE_A_BASIC_DATE: &[(Reader, ParseError)] = &[
+    (Reader::YearMonth, InvalidEnd),
+    (Reader::MonthDay, InvalidMonthRange),
+    (Reader::Time, InvalidEnd),
+    (Reader::Duration, DurationDisgnator),
+];
+
 #[test]
 fn reads_a_basic_date_as_a_date(rt: HostRuntime) {
-    let steps = [
-        (Reader::YearMonth, Err(InvalidEnd)),
-        (Reader::MonthDay, Err(InvalidMonthRange)),
-        (Reader::Time, Err(InvalidEnd)),
-        (Reader::Duration, Err(DurationDisgnator)),
-        (Reader::Parse, Ok(Found::Parts(dated(2020, 11, 8, None)))),
-    ];
-    check_in_turn(&rt, "20201108", &steps);
+    let date = Found::Parts(dated(2020, 11, 8, None));
+    check_last(&rt, "20201108", BESIDE_A_BASIC_DATE, Reader::Parse, &date);
 }
+
+const BESIDE_A_YEAR_MONTH: &[(Reader, ParseError)] = &[
+    (Reader::Parse, DateSeparator),
+    (Reader::MonthDay, InvalidMonthRange),
+    (Reader::Time, AmbiguousTimeYearMonth),
+    (Reader::Duration, DurationDisgnator),
+];
 
 #[test]
 fn reads_a_year_and_a_month_as_a_year_month(rt: HostRuntime) {
-    let steps = [
-        (Reader::Parse, Err(DateSeparator)),
-        (Reader::MonthDay, Err(InvalidMonthRange)),
-        (Reader::Time, Err(AmbiguousTimeYearMonth)),
-        (Reader::Duration, Err(DurationDisgnator)),
-        (
-            Reader::YearMonth,
-            Ok(Found::Parts(dated(2021, 12, 1, None))),
-        ),
-    ];
-    check_in_turn(&rt, "2021-12", &steps);
+    let month = Found::Parts(dated(2021, 12, 1, None));
+    check_last(
+        &rt,
+        "2021-12",
+        BESIDE_A_YEAR_MONTH,
+        Reader::YearMonth,
+        &month,
+    );
 }
+
+const BESIDE_1208_10: &[(Reader, ParseError)] = &[
+    (Reader::Parse, DateSeparator),
+    (Reader::MonthDay, InvalidEnd),
+    (Reader::Time, AmbiguousTimeMonthDay),
+    (Reader::Duration, DurationDisgnator),
+];
 
 #[test]
 fn reads_a_year_that_begins_as_a_month_day_as_a_year_month(rt: HostRuntime) {
-    let steps = [
-        (Reader::Parse, Err(DateSeparator)),
-        (Reader::MonthDay, Err(InvalidEnd)),
-        (Reader::Time, Err(AmbiguousTimeMonthDay)),
-        (Reader::Duration, Err(DurationDisgnator)),
-        (
-            Reader::YearMonth,
-            Ok(Found::Parts(dated(1208, 10, 1, None))),
-        ),
-    ];
-    check_in_turn(&rt, "1208-10", &steps);
+    let month = Found::Parts(dated(1208, 10, 1, None));
+    check_last(&rt, "1208-10", BESIDE_1208_10, Reader::YearMonth, &month);
 }
+
+const BESIDE_A_MONTH_DAY: &[(Reader, ParseError)] = &[
+    (Reader::Parse, DateYear),
+    (Reader::YearMonth, DateYear),
+    (Reader::Time, AmbiguousTimeMonthDay),
+    (Reader::Duration, DurationDisgnator),
+];
 
 #[test]
 fn reads_a_month_and_a_day_as_a_month_day(rt: HostRuntime) {
-    let steps = [
-        (Reader::Parse, Err(DateYear)),
-        (Reader::YearMonth, Err(DateYear)),
-        (Reader::Time, Err(AmbiguousTimeMonthDay)),
-        (Reader::Duration, Err(DurationDisgnator)),
-        (Reader::MonthDay, Ok(Found::Parts(dated(0, 11, 7, None)))),
-    ];
-    check_in_turn(&rt, "11-07", &steps);
+    let day = Found::Parts(dated(0, 11, 7, None));
+    check_last(&rt, "11-07", BESIDE_A_MONTH_DAY, Reader::MonthDay, &day);
 }
+
+const BESIDE_A_TIME: &[(Reader, ParseError)] = &[
+    (Reader::Parse, DateYear),
+    (Reader::YearMonth, DateYear),
+    (Reader::MonthDay, DateDay),
+    (Reader::Duration, DurationDisgnator),
+];
 
 #[test]
 fn reads_an_hour_and_a_minute_as_a_time(rt: HostRuntime) {
-    let steps = [
-        (Reader::Parse, Err(DateYear)),
-        (Reader::YearMonth, Err(DateYear)),
-        (Reader::MonthDay, Err(DateDay)),
-        (Reader::Duration, Err(DurationDisgnator)),
-        (
-            Reader::Time,
-            Ok(Found::Parts(alone(timed(12, 0, 0, None), None))),
-        ),
-    ];
-    check_in_turn(&rt, "12:00", &steps);
+    let noon = Found::Parts(alone(timed(12, 0, 0, None), None));
+    check_last(&rt, "12:00", BESIDE_A_TIME, Reader::Time, &noon);
 }
+
+const BESIDE_A_DURATION: &[(Reader, ParseError)] = &[
+    (Reader::Parse, DateYear),
+    (Reader::YearMonth, DateYear),
+    (Reader::MonthDay, DateMonth),
+    (Reader::Time, TimeHour),
+];
 
 #[test]
 fn reads_a_duration_as_a_duration(rt: HostRuntime) {
-    let steps = [
-        (Reader::Parse, Err(DateYear)),
-        (Reader::YearMonth, Err(DateYear)),
-        (Reader::MonthDay, Err(DateMonth)),
-        (Reader::Time, Err(TimeHour)),
-        (
-            Reader::Duration,
-            Ok(Found::Duration(lasts(Sign::Positive, None, hours(1, None)))),
-        ),
-    ];
-    check_in_turn(&rt, "PT1H", &steps);
+    let hour = Found::Duration(lasts(Sign::Positive, None, hours(1, None)));
+    check_last(&rt, "PT1H", BESIDE_A_DURATION, Reader::Duration, &hour);
 }
+
+const OF_NO_LANGUAGE: &[(Reader, ParseError)] = &[
+    (Reader::Parse, AT_DATE),
+    (Reader::YearMonth, AT_DIGIT),
+    (Reader::MonthDay, MonthDayHyphen),
+    (Reader::Time, TimeHour),
+    (Reader::Duration, DurationDisgnator),
+];
 
 #[test]
 fn reads_six_digits_behind_a_sign_as_nothing(rt: HostRuntime) {
-    let steps = [
-        (Reader::Parse, Err(AT_DATE)),
-        (Reader::YearMonth, Err(AT_DIGIT)),
-        (Reader::MonthDay, Err(MonthDayHyphen)),
-        (Reader::Time, Err(TimeHour)),
-        (Reader::Duration, Err(DurationDisgnator)),
-    ];
-    check_in_turn(&rt, "-000001", &steps);
+    check_refusals(
+        &rt,
+        "-000001",
+        &mut Parsers::from_str("-000001"),
+        OF_NO_LANGUAGE,
+    );
 }

@@ -2,11 +2,13 @@
 
 use super::durations::{self, lasts};
 use super::widths::reads_alike;
-use super::{AT_BRACKET, Reader, check_fraction, dated, fraction_of, timed};
+use super::{AT_BRACKET, Reader, check, check_fraction, dated, fraction_of, timed};
 use ixdtf::ParseError;
 use ixdtf::encoding::Utf8;
 use ixdtf::parsers::{IsoDurationParser, IxdtfParser};
-use ixdtf::records::{Annotation, IxdtfParseRecord, Sign, TimeZoneAnnotation, TimeZoneRecord};
+use ixdtf::records::{
+    Annotation, Fraction, IxdtfParseRecord, Sign, TimeZoneAnnotation, TimeZoneRecord,
+};
 use std::alloc::{AllocError, Global};
 use std::ops::Range;
 use std::process::Abort;
@@ -58,12 +60,13 @@ fn check_calls(
     };
     let mut parser = IxdtfParser::from_str(text);
     let found = parser.parse_with_annotation_handler(|annotation| counter.reply(annotation));
-    match refused {
-        None => assert!(rt; found == Ok(dated(2020, 1, 1, None))),
-        Some(error) => assert!(rt; found == Err(error)),
-    }
-    assert_eq!(rt; counter.calls, calls);
-    assert_eq!(rt; counter.key_units, key_units);
+    let is_so = match refused {
+        None => found == Ok(dated(2020, 1, 1, None)),
+        Some(error) => found == Err(error),
+    };
+    check(rt, "what a text gives", is_so);
+    check(rt, "its calls", counter.calls == calls);
+    check(rt, "its keys", counter.key_units == key_units);
 }
 
 /// The zone of a record, by its `!` and its name.
@@ -82,17 +85,26 @@ fn zone_of<'a>(record: &IxdtfParseRecord<'a, Utf8>) -> Option<(bool, &'a str)> {
     }
 }
 
+// Whether a text is refused for its bracket that is open.
+fn is_open(text: &str) -> bool {
+    IxdtfParser::from_str(text).parse() == Err(AT_BRACKET)
+}
+
+// Whether a text has a zone of this name, without a `!`.
+fn has_zone(text: &str, name: &str) -> bool {
+    match IxdtfParser::from_str(text).parse() {
+        Ok(record) => zone_of(&record) == Some((false, name)),
+        Err(_) => false,
+    }
+}
+
 #[test]
 fn reads_names_and_keys_of_a_million_units(rt: HostRuntime) -> Result<(), Fail> {
     let name = repeated(rt.alloc(), "", "a", 1_000_000, "")?;
     let open = repeated(rt.alloc(), "2020-01-01[", name.as_str(), 1, "")?;
-    let unclosed = IxdtfParser::from_str(open.as_str()).parse();
-    assert!(rt; unclosed == Err(AT_BRACKET));
+    check(&rt, "an open bracket", is_open(open.as_str()));
     let closed = repeated(rt.alloc(), open.as_str(), "]", 1, "")?;
-    match IxdtfParser::from_str(closed.as_str()).parse() {
-        Ok(record) => assert!(rt; zone_of(&record) == Some((false, name.as_str()))),
-        Err(error) => assert!(rt; false, "{error}"),
-    }
+    check(&rt, "a name", has_zone(closed.as_str(), name.as_str()));
     let pair = repeated(rt.alloc(), open.as_str(), "=b]", 1, "")?;
     check_calls(&rt, pair.as_str(), None, 1, 1_000_000);
     Ok(())
@@ -108,29 +120,42 @@ fn asks_about_a_hundred_thousand_annotations(rt: HostRuntime) -> Result<(), Fail
     Ok(())
 }
 
+// Whether a text is the first second of 2020, with this fraction.
+fn has_fraction(text: &str, fraction: Option<Fraction>) -> bool {
+    IxdtfParser::from_str(text).parse() == Ok(dated(2020, 1, 1, timed(0, 0, 0, fraction)))
+}
+
 // The count of digits ends at 255, and the value at the 18th digit.
 #[test]
 fn reads_a_fraction_of_a_million_digits(rt: HostRuntime) -> Result<(), Fail> {
     let text = repeated(rt.alloc(), "2020-01-01T00:00:00.", "1", 1_000_000, "")?;
-    let found = IxdtfParser::from_str(text.as_str()).parse();
     let counted = repeated(rt.alloc(), "+00:00:00.111111111111111111", "0", 237, "")?;
     let fraction = fraction_of(counted.as_str());
     check_fraction(&rt, "255 digits", &fraction, 111_111_111, true);
     let fewer = repeated(rt.alloc(), "+00:00:00.111111111111111111", "0", 236, "")?;
-    assert_ne!(rt; fraction, fraction_of(fewer.as_str()));
-    assert_eq!(rt; found, Ok(dated(2020, 1, 1, timed(0, 0, 0, fraction))));
+    check(&rt, "254 digits", fraction != fraction_of(fewer.as_str()));
+    check(&rt, "all digits", has_fraction(text.as_str(), fraction));
     Ok(())
+}
+
+// Whether a text is a duration of these years and days.
+fn has_date(text: &str, years: u32, days: u64) -> bool {
+    let wanted = lasts(Sign::Positive, durations::dated(years, 0, 0, days), None);
+    IsoDurationParser::from_str(text).parse() == Ok(wanted)
 }
 
 #[test]
 fn reads_long_durations(rt: HostRuntime) -> Result<(), Fail> {
     let zeros = repeated(rt.alloc(), "P", "0", 1_000_000, "1D")?;
+    check(&rt, "zeros", has_date(zeros.as_str(), 0, 1));
     let groups = repeated(rt.alloc(), "P", "1Y", 100_000, "")?;
-    for (text, years, days) in [(zeros.as_str(), 0, 1), (groups.as_str(), 1, 0)] {
-        let wanted = lasts(Sign::Positive, durations::dated(years, 0, 0, days), None);
-        assert_eq!(rt; IsoDurationParser::from_str(text).parse(), Ok(wanted));
-    }
+    check(&rt, "groups", has_date(groups.as_str(), 1, 0));
     Ok(())
+}
+
+// Whether units are refused for one that stands for no letter.
+fn has_no_letter(units: &[u16]) -> bool {
+    IxdtfParser::from_utf16(units).parse() == Err(ParseError::NonAsciiCodePoint)
 }
 
 /// With each 16-bit unit in each of these places, a text is read as the same numbers in 8 bits are, or the unit is refused.
@@ -147,21 +172,16 @@ fn check_places(rt: &impl Abort, places: Range<usize>) {
             if let Some(at) = changed.get_mut(place) {
                 *at = unit;
             }
-            match u8::try_from(unit) {
+            let is_so = match u8::try_from(unit) {
                 Ok(byte) if byte > 0 && byte < 127 => {
                     if let Some(at) = bytes.get_mut(place) {
                         *at = byte;
                     }
-                    assert!(rt; reads_alike(Reader::Parse, &bytes), "{unit} at {place}");
+                    reads_alike(Reader::Parse, &bytes)
                 }
-                _ => {
-                    let found = IxdtfParser::from_utf16(&changed).parse();
-                    assert!(rt;
-                        found == Err(ParseError::NonAsciiCodePoint),
-                        "{unit} at {place}"
-                    );
-                }
-            }
+                _ => has_no_letter(&changed),
+            };
+            assert!(rt; is_so, "{unit} at {place}");
         }
     }
 }

@@ -9,7 +9,7 @@ ghost use Rattle.ixdtf.specs.table.Rows.{Row, Fits};
 ghost use Rattle.ixdtf.specs.table.Faults.Fault.{DateSeparator};
 ghost use Rattle.ixdtf.specs.Views.{returned, parsed_of};
 
-use super::{Record, dated, fraction_of};
+use super::{Record, check, dated, fraction_of};
 use ixdtf::encoding::{EncodingType, Utf8, Utf16};
 use ixdtf::laws::{
     clones_are_equal, defaults_are_zero, equality_is_of_what_is_seen, every_name_is_an_identifier,
@@ -240,111 +240,123 @@ fn finds_clones_and_nanoseconds_equal(rt: HostRuntime) {
         critical: true,
         tz: TimeZoneRecord::Name(&name),
     };
-    assert!(rt; equals_its_clone(&zone));
+    check(&rt, "a zone", equals_its_clone(&zone));
     if let Some(fraction) = fraction_of("+00:00:00.25") {
-        assert!(rt; drops_nothing(&fraction));
+        check(&rt, "a fraction", drops_nothing(&fraction));
     }
     if let Ok(duration) = IsoDurationParser::from_str("P1YT0.25S").parse() {
-        assert!(rt; duration_equals_its_clone(&duration));
+        check(&rt, "a duration", duration_equals_its_clone(&duration));
     }
 }
 
 #[test]
 fn reads_both_widths_as_one(rt: HostRuntime) {
     let offset: [u16; 6] = [43, 48, 53, 58, 51, 48];
-    assert!(rt; gives_one_offset("+05:30".as_bytes(), &offset));
-    assert!(rt; gives_one_offset("+05:3".as_bytes(), &offset[..5]));
+    check(&rt, "+05:30", gives_one_offset(b"+05:30", &offset));
+    check(&rt, "+05:3", gives_one_offset(b"+05:3", &offset[..5]));
 }
 
 #[test]
 fn finds_one_place_in_both_widths(rt: HostRuntime) {
     let month: [u16; 7] = [50, 48, 50, 48, 45, 49, 51];
-    assert_eq!(rt; places_of_both("2020-13".as_bytes(), &month), Some((7, 7)));
-    assert_eq!(rt;
-        places_of_both("2020-1".as_bytes(), &month[..6]),
-        Some((6, 6))
-    );
+    let places = places_of_both(b"2020-13", &month);
+    check(&rt, "2020-13", places == Some((7, 7)));
+    let places = places_of_both(b"2020-1", &month[..6]);
+    check(&rt, "2020-1", places == Some((6, 6)));
 }
 
 #[test]
 fn reads_date_times(rt: HostRuntime) {
-    let found = read_date_time("2024-02-29t23:59:60.25-05:30".as_bytes());
-    assert!(rt; matches!(found, Ok(IxdtfParseRecord { calendar: None, .. })));
+    let found = read_date_time(b"2024-02-29t23:59:60.25-05:30");
+    let is_read = matches!(found, Ok(IxdtfParseRecord { calendar: None, .. }));
+    check(&rt, "a date-time", is_read);
 }
 
 #[test]
 fn reads_names_as_zones(rt: HostRuntime) {
-    let name = "Europe/Berlin".as_bytes();
-    assert_eq!(rt; read_named_zone(name), Some(TimeZoneRecord::Name(name)));
-    assert_eq!(rt; read_named_zone("+01:00".as_bytes()), None);
+    let name = b"Europe/Berlin".as_slice();
+    let is_named = read_named_zone(name) == Some(TimeZoneRecord::Name(name));
+    check(&rt, "Europe/Berlin", is_named);
+    check(&rt, "+01:00", read_named_zone(b"+01:00") == None);
 }
 
 #[test]
 fn reads_faults_by_the_table(rt: HostRuntime) {
-    let found = read_by_the_table("2024-13-02".as_bytes());
-    assert!(rt; matches!(found, Err(ParseError::InvalidMonthRange)));
+    let found = read_by_the_table(b"2024-13-02");
+    let is_refused = matches!(found, Err(ParseError::InvalidMonthRange));
+    check(&rt, "2024-13-02", is_refused);
 }
 
 #[test]
 fn reads_by_one_reader(rt: HostRuntime) {
-    assert!(rt; is_read_by_one("2024-03-02".as_bytes()));
-    assert!(rt; !is_read_by_one("2024-03".as_bytes()));
+    check(&rt, "2024-03-02", is_read_by_one(b"2024-03-02"));
+    check(&rt, "2024-03", !is_read_by_one(b"2024-03"));
 }
 
 #[test]
 fn reads_a_text_twice(rt: HostRuntime) {
-    let (found, again) = reads_twice("2024-03-02[!a=b][u-ca=c]".as_bytes());
-    assert!(rt; matches!(found, Ok(IxdtfParseRecord { calendar: None, .. })));
-    assert!(rt; found == again);
+    let (found, again) = reads_twice(b"2024-03-02[!a=b][u-ca=c]");
+    check(&rt, "once more", found == again);
+    let is_read = matches!(found, Ok(IxdtfParseRecord { calendar: None, .. }));
+    check(&rt, "no calendar", is_read);
 }
 
 #[test]
 fn reads_offsets_of_both_readers(rt: HostRuntime) {
-    assert_eq!(rt; hours_of_both("-05:30".as_bytes()), Some((5, 5)));
-    assert_eq!(rt; hours_of_both("-05:30:15".as_bytes()), None);
+    check(&rt, "-05:30", hours_of_both(b"-05:30") == Some((5, 5)));
+    check(&rt, "-05:30:15", hours_of_both(b"-05:30:15") == None);
+}
+
+// Whether both forms of a date are read alike, or both are refused with this error.
+fn reads_forms_alike(plain: &[u8], hyphened: &[u8], error: Option<ParseError>) -> bool {
+    let (found, same) = read_both_forms(plain, hyphened);
+    let as_wanted = match &found {
+        Ok(_record) => error == None,
+        Err(fault) => error == Some(*fault),
+    };
+    as_wanted && found == same
 }
 
 #[test]
 fn reads_dates_by_their_hyphens(rt: HostRuntime) {
-    let (found, same) = read_both_forms(
-        "20240302T12[a=b]".as_bytes(),
-        "2024-03-02T12[a=b]".as_bytes(),
+    let is_read = reads_forms_alike(b"20240302T12[a=b]", b"2024-03-02T12[a=b]", None);
+    check(&rt, "20240302T12[a=b]", is_read);
+    let fault = Some(ParseError::InvalidDayRange);
+    check(
+        &rt,
+        "20240399",
+        reads_forms_alike(b"20240399", b"2024-03-99", fault),
     );
-    assert!(rt; found.is_ok());
-    assert!(rt; found == same);
-    let (fault, other) = read_both_forms("20240399".as_bytes(), "2024-03-99".as_bytes());
-    assert!(rt; matches!(fault, Err(ParseError::InvalidDayRange)));
-    assert!(rt; fault == other);
-    let refused = refuses_one_hyphen("2024-0302".as_bytes());
-    assert!(rt; matches!(refused, Err(ParseError::DateSeparator)));
+    let refused = refuses_one_hyphen(b"2024-0302");
+    let is_refused = matches!(refused, Err(ParseError::DateSeparator));
+    check(&rt, "2024-0302", is_refused);
 }
+
+const YEAR_ZERO: DateRecord = DateRecord {
+    year: 0,
+    month: 0,
+    day: 0,
+};
+
+const MIDNIGHT: TimeRecord = TimeRecord {
+    hour: 0,
+    minute: 0,
+    second: 0,
+    fraction: None,
+};
+
+const NO_DAYS: DateDurationRecord = DateDurationRecord {
+    years: 0,
+    months: 0,
+    weeks: 0,
+    days: 0,
+};
 
 #[test]
 fn defaults_are_zero_in_each_field(rt: HostRuntime) {
-    let midnight = TimeRecord {
-        hour: 0,
-        minute: 0,
-        second: 0,
-        fraction: None,
-    };
-    assert_eq!(rt;
-        default_date(),
-        DateRecord {
-            year: 0,
-            month: 0,
-            day: 0
-        }
-    );
-    assert_eq!(rt; default_time(), midnight);
-    assert_eq!(rt;
-        default_date_units(),
-        DateDurationRecord {
-            years: 0,
-            months: 0,
-            weeks: 0,
-            days: 0
-        }
-    );
+    check(&rt, "a date", default_date() == YEAR_ZERO);
+    check(&rt, "a time", default_time() == MIDNIGHT);
+    check(&rt, "a duration", default_date_units() == NO_DAYS);
 }
 
 // What a text gives where no annotation is answered.
@@ -355,8 +367,8 @@ fn unanswered(text: &'static str) -> ParserResult<Record> {
 
 #[test]
 fn leaves_no_calendar_unanswered(rt: HostRuntime) {
-    let found = unanswered("2020-01-01[u-ca=a][!u-ca=b][!c=d]");
-    assert_eq!(rt; found, Ok(dated(2020, 1, 1, None)));
-    let refused = unanswered("2020-01-01[!c=d]junk");
-    assert_eq!(rt; refused, Err(ParseError::InvalidEnd));
+    let is_read = unanswered("2020-01-01[u-ca=a][!u-ca=b][!c=d]") == Ok(dated(2020, 1, 1, None));
+    check(&rt, "pairs", is_read);
+    let is_refused = unanswered("2020-01-01[!c=d]junk") == Err(ParseError::InvalidEnd);
+    check(&rt, "an end", is_refused);
 }

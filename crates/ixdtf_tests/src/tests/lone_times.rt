@@ -1,5 +1,6 @@
 use super::{
-    AT_DIGIT, Found, Reader, alone, check_found, check_in_turn, dated, minutes, parts, short, timed,
+    AT_DIGIT, Found, Reader, alone, check_found, check_once_read, dated, minutes, parts, short,
+    timed,
 };
 use ixdtf::ParseError;
 use ixdtf::records::{Sign, TimeZoneAnnotation, TimeZoneRecord, UtcOffsetRecordOrZ};
@@ -83,15 +84,22 @@ fn reads_an_offset_in_brackets_after_a_time_alone(rt: HostRuntime) {
     );
 }
 
+const BEFORE_A_YEAR_MONTH: &[(Reader, ParseError)] = &[(
+    Reader::Time,
+    ParseError::AmbiguousTimeYearMonth,
+)];
+
+const BEHIND_A_YEAR_MONTH: &[(Reader, ParseError)] = &[(Reader::YearMonth, AT_DIGIT)];
+
 #[test]
 fn leaves_what_it_refused_to_another_reader(rt: HostRuntime) {
-    let steps = [
-        (Reader::Time, Err(ParseError::AmbiguousTimeYearMonth)),
-        (
-            Reader::YearMonth,
-            Ok(Found::Parts(dated(2021, 12, 1, None))),
-        ),
-        (Reader::YearMonth, Err(AT_DIGIT)),
-    ];
-    check_in_turn(&rt, "2021-12", &steps);
+    let month = Found::Parts(dated(2021, 12, 1, None));
+    check_once_read(
+        &rt,
+        "2021-12",
+        BEFORE_A_YEAR_MONTH,
+        Reader::YearMonth,
+        &month,
+        BEHIND_A_YEAR_MONTH,
+    );
 }

@@ -4,7 +4,7 @@ ghost use Rattle.std.specs.Prelude.{IsTrue};
 
 use super::wide::Wide;
 use super::widths::{SHARED, same_record};
-use super::{Record, alone, dated, long, minutes, morning, named, parts, short, timed};
+use super::{Record, alone, check, dated, long, minutes, morning, named, parts, short, timed};
 use ixdtf::ParserResult;
 use ixdtf::encoding::Utf8;
 use ixdtf::laws::equality_is_of_what_is_seen;
@@ -46,16 +46,26 @@ fn is_read_back(bytes: &[u8], out: &mut [u8]) -> bool
     }
 }
 
+// Whether the canonical text of a text is this.
+fn is_canonical(text: &str, out: &mut [u8], canonical: &str) -> bool {
+    canonical_of(text, out) == Some(canonical.as_bytes())
+}
+
+// Whether there is no canonical text of a text, or no room for it.
+fn prints_nothing(text: &str, out: &mut [u8]) -> bool {
+    canonical_of(text, out) == None
+}
+
 #[test]
 fn prints_for_callers(rt: HostRuntime) {
     let text = "20240302 084800z[u-ca=hebrew][a=b]";
     let canonical = "2024-03-02T08:48:00Z[u-ca=hebrew]";
     let mut out = [0; 64];
-    assert_eq!(rt; canonical_of(text, &mut out), Some(canonical.as_bytes()));
+    check(&rt, text, is_canonical(text, &mut out, canonical));
     let mut short = [0; 32];
-    assert_eq!(rt; canonical_of(text, &mut short), None);
-    assert_eq!(rt; canonical_of("2024-13-02", &mut out), None);
-    assert!(rt; is_read_back(text.as_bytes(), &mut out));
+    check(&rt, "too few bytes", prints_nothing(text, &mut short));
+    check(&rt, "month 13", prints_nothing("2024-13-02", &mut out));
+    check(&rt, "read back", is_read_back(text.as_bytes(), &mut out));
 }
 
 // ==== What is printed ====
@@ -71,9 +81,9 @@ fn is_untouched(bytes: &[u8]) -> bool {
 fn check_canonical(rt: &impl Abort, parsed: &IxdtfParseRecord<'_, Utf8>, canonical: &[u8]) {
     let mut out = UNTOUCHED;
     let count = canonical.len().min(512);
-    assert_eq!(rt; print(parsed, &mut out[..count]), Ok(count));
+    let is_printed = print(parsed, &mut out[..count]) == Ok(count);
     let printed = &out[..count];
-    assert!(rt; printed == canonical);
+    assert!(rt; is_printed && printed == canonical, "{canonical:?}");
     check_too_short(rt, parsed, count.saturating_sub(1));
 }
 
@@ -81,24 +91,33 @@ fn check_canonical(rt: &impl Abort, parsed: &IxdtfParseRecord<'_, Utf8>, canonic
 fn check_too_short(rt: &impl Abort, parsed: &IxdtfParseRecord<'_, Utf8>, count: usize) {
     let mut out = UNTOUCHED;
     let short = print(parsed, &mut out[..count.min(512)]);
-    assert_eq!(rt; short, Err(PrintError::TooShort));
-    assert!(rt; is_untouched(&out));
+    check(rt, "too few bytes", short == Err(PrintError::TooShort));
+    check(rt, "its bytes", is_untouched(&out));
+}
+
+// Whether the bytes are read as the record, under the profile.
+fn is_read_under(bytes: &[u8], profile: Profile, parsed: &IxdtfParseRecord<'_, Utf8>) -> bool {
+    match IxdtfParser::from_utf8(bytes).with_profile(profile).parse() {
+        Ok(again) => again == *parsed,
+        Err(_) => false,
+    }
+}
+
+// Whether the bytes are read as the record, as 16-bit units.
+fn is_read_wide(bytes: &[u8], parsed: &IxdtfParseRecord<'_, Utf8>) -> bool {
+    let wide = Wide::of_bytes(bytes);
+    match IxdtfParser::from_utf16(wide.units()).parse() {
+        Ok(again) => same_record(parsed, &again),
+        Err(_) => false,
+    }
 }
 
 /// The bytes are read as the record, under each profile, and as 16-bit units.
 fn check_read_as(rt: &impl Abort, bytes: &[u8], parsed: &IxdtfParseRecord<'_, Utf8>) {
-    for profile in [Profile::Crate, Profile::Strict] {
-        let mut parser = IxdtfParser::from_utf8(bytes).with_profile(profile);
-        match parser.parse() {
-            Ok(again) => assert!(rt; again == *parsed, "{bytes:?}"),
-            Err(error) => assert!(rt; false, "{error:?} at {bytes:?}"),
-        }
-    }
-    let wide = Wide::of_bytes(bytes);
-    match IxdtfParser::from_utf16(wide.units()).parse() {
-        Ok(again) => assert!(rt; same_record(parsed, &again), "{bytes:?}"),
-        Err(error) => assert!(rt; false, "{error:?} at {bytes:?}"),
-    }
+    let is_read = is_read_under(bytes, Profile::Crate, parsed)
+        && is_read_under(bytes, Profile::Strict, parsed)
+        && is_read_wide(bytes, parsed);
+    assert!(rt; is_read, "{bytes:?}");
 }
 
 /// The record is printed, and read back from what was printed.
@@ -107,11 +126,11 @@ pub(super) fn check_read_back(rt: &impl Abort, parsed: &IxdtfParseRecord<'_, Utf
     match print(parsed, &mut out) {
         Ok(count) => {
             let canonical = &out[..count];
-            assert!(rt; is_untouched(&out[count..]));
+            check(rt, "its bytes", is_untouched(&out[count..]));
             check_canonical(rt, parsed, canonical);
             check_read_as(rt, canonical, parsed);
         }
-        Err(error) => assert!(rt; false, "{error:?}"),
+        Err(_) => check(rt, "a record that was read", false),
     }
 }
 
@@ -122,34 +141,35 @@ fn check_printed(rt: &impl Abort, text: &[u8], canonical: &[u8]) {
             check_canonical(rt, &parsed, canonical);
             check_read_as(rt, canonical, &parsed);
         }
-        Err(error) => assert!(rt; false, "{error:?} at {text:?}"),
+        Err(_) => assert!(rt; false, "at {text:?}"),
     }
 }
 
+const CANONICAL_TEXTS: &[(&str, &str)] = &[
+    (
+        "+002020-11-08T12[cet][!u-ca=iso8601][x=y]",
+        "2020-11-08T12:00:00[cet][u-ca=iso8601]",
+    ),
+    ("-000001-01-01t00z", "-000001-01-01T00:00:00Z"),
+    (
+        "2020-01-01T00+01:00:00.50[!-05]",
+        "2020-01-01T00:00:00+01:00:00.50[!-05:00]",
+    ),
+    ("+0100000101", "+010000-01-01"),
+    ("99991231", "9999-12-31"),
+    ("+000000-02-29", "0000-02-29"),
+    ("-9999991231 235960,0", "-999999-12-31T23:59:60.0"),
+    ("20200101T00+00[+00]", "2020-01-01T00:00:00+00:00[+00:00]"),
+    ("2020-01-01T0102-0304", "2020-01-01T01:02:00-03:04"),
+    (
+        "2020-01-01[!_/+1][u-ca=a-B-0]",
+        "2020-01-01[!_/+1][u-ca=a-B-0]",
+    ),
+];
+
 #[test]
 fn prints_canonical_texts(rt: HostRuntime) {
-    let rows = [
-        (
-            "+002020-11-08T12[cet][!u-ca=iso8601][x=y]",
-            "2020-11-08T12:00:00[cet][u-ca=iso8601]",
-        ),
-        ("-000001-01-01t00z", "-000001-01-01T00:00:00Z"),
-        (
-            "2020-01-01T00+01:00:00.50[!-05]",
-            "2020-01-01T00:00:00+01:00:00.50[!-05:00]",
-        ),
-        ("+0100000101", "+010000-01-01"),
-        ("99991231", "9999-12-31"),
-        ("+000000-02-29", "0000-02-29"),
-        ("-9999991231 235960,0", "-999999-12-31T23:59:60.0"),
-        ("20200101T00+00[+00]", "2020-01-01T00:00:00+00:00[+00:00]"),
-        ("2020-01-01T0102-0304", "2020-01-01T01:02:00-03:04"),
-        (
-            "2020-01-01[!_/+1][u-ca=a-B-0]",
-            "2020-01-01[!_/+1][u-ca=a-B-0]",
-        ),
-    ];
-    for (text, canonical) in rows {
+    for (text, canonical) in CANONICAL_TEXTS {
         check_printed(&rt, text.as_bytes(), canonical.as_bytes());
     }
 }
@@ -186,69 +206,68 @@ fn check_not_printable(rt: &impl Abort, what: &str, built: &ParserResult<Record>
         return;
     };
     let mut out = [7; 64];
-    let refused = print(parsed, &mut out);
-    assert_eq!(rt; refused, Err(PrintError::NotPrintable), "{what}");
-    assert!(rt; is_untouched(&out), "{what}");
-    let refused = print(parsed, &mut out[..0]);
-    assert_eq!(rt;
-        refused,
-        Err(PrintError::NotPrintable),
-        "{what} into no bytes"
-    );
+    let is_refused = print(parsed, &mut out) == Err(PrintError::NotPrintable);
+    check(rt, what, is_refused && is_untouched(&out));
+    let is_refused = print(parsed, &mut out[..0]) == Err(PrintError::NotPrintable);
+    assert!(rt; is_refused, "{what} into no bytes");
 }
+
+const OTHER_DATES: &[(&str, i32, u8, u8)] = &[
+    ("month 0", 2020, 0, 1),
+    ("month 13", 2020, 13, 1),
+    ("day 0", 2020, 1, 0),
+    ("day 32", 2020, 1, 32),
+    ("day 31 of June", 2020, 6, 31),
+    ("29 February 1900", 1900, 2, 29),
+    ("year 1000000", 1_000_000, 1, 1),
+    ("year -1000000", -1_000_000, 1, 1),
+];
 
 #[test]
 fn prints_no_other_dates(rt: HostRuntime) {
-    let rows = [
-        ("month 0", 2020, 0, 1),
-        ("month 13", 2020, 13, 1),
-        ("day 0", 2020, 1, 0),
-        ("day 32", 2020, 1, 32),
-        ("day 31 of June", 2020, 6, 31),
-        ("29 February 1900", 1900, 2, 29),
-        ("year 1000000", 1_000_000, 1, 1),
-        ("year -1000000", -1_000_000, 1, 1),
-    ];
-    for (what, year, month, day) in rows {
-        check_not_printable(&rt, what, &Ok(dated(year, month, day, None)));
+    for (what, year, month, day) in OTHER_DATES {
+        check_not_printable(&rt, what, &Ok(dated(*year, *month, *day, None)));
     }
     check_not_printable(&rt, "nothing", &Ok(Record::default()));
 }
 
+const OTHER_TIMES: &[(&str, u8, u8, u8)] = &[
+    ("hour 24", 24, 0, 0),
+    ("minute 60", 0, 60, 0),
+    ("second 61", 0, 0, 61),
+];
+
 #[test]
 fn prints_no_other_times(rt: HostRuntime) {
-    let rows = [
-        ("hour 24", timed(24, 0, 0, None)),
-        ("minute 60", timed(0, 60, 0, None)),
-        ("second 61", timed(0, 0, 61, None)),
-    ];
-    for (what, time) in rows {
+    for (what, hour, minute, second) in OTHER_TIMES {
+        let time = timed(*hour, *minute, *second, None);
         check_not_printable(&rt, what, &Ok(dated(2020, 1, 1, time)));
     }
     check_not_printable(&rt, "a time alone", &Ok(alone(timed(0, 0, 0, None), None)));
 }
 
+// With a second, the offset is one in full.
+const OTHER_OFFSETS: &[(&str, Sign, (u8, u8), Option<u8>)] = &[
+    ("hour 24", Sign::Positive, (24, 0), None),
+    ("minute 60", Sign::Negative, (0, 60), None),
+    ("hour 24 in full", Sign::Positive, (24, 0), Some(0)),
+    ("minute 60 in full", Sign::Positive, (0, 60), Some(0)),
+    ("second 60", Sign::Negative, (0, 0), Some(60)),
+];
+
+// A morning with this offset.
+fn offset_by(sign: Sign, (hour, minute): (u8, u8), second: Option<u8>) -> Record {
+    let offset = match second {
+        Some(second) => long(minutes(sign, hour, minute), second, None),
+        None => short(sign, hour, minute),
+    };
+    morning(Some(UtcOffsetRecordOrZ::Offset(offset)), None, None)
+}
+
 #[test]
 fn prints_no_other_offsets(rt: HostRuntime) {
-    let rows = [
-        ("hour 24", short(Sign::Positive, 24, 0)),
-        ("minute 60", short(Sign::Negative, 0, 60)),
-        (
-            "hour 24 in full",
-            long(minutes(Sign::Positive, 24, 0), 0, None),
-        ),
-        (
-            "minute 60 in full",
-            long(minutes(Sign::Positive, 0, 60), 0, None),
-        ),
-        ("second 60", long(minutes(Sign::Negative, 0, 0), 60, None)),
-    ];
-    for (what, offset) in rows {
-        check_not_printable(
-            &rt,
-            what,
-            &Ok(morning(Some(UtcOffsetRecordOrZ::Offset(offset)), None, None)),
-        );
+    for (what, sign, time, second) in OTHER_OFFSETS {
+        check_not_printable(&rt, what, &Ok(offset_by(*sign, *time, *second)));
     }
     let mut untimed = dated(2020, 1, 1, None);
     untimed.offset = Some(UtcOffsetRecordOrZ::Z);
@@ -267,28 +286,29 @@ fn zoned(tz: TimeZoneRecord<'static, Utf8>) -> Record {
 
 #[test]
 fn prints_no_other_zones(rt: HostRuntime) {
-    let rows = [
-        ("hour 24", minutes(Sign::Negative, 24, 0)),
-        ("minute 60", minutes(Sign::Positive, 0, 60)),
-    ];
-    for (what, zone) in rows {
-        check_not_printable(&rt, what, &Ok(zoned(TimeZoneRecord::Offset(zone))));
-    }
+    let hour = minutes(Sign::Negative, 24, 0);
+    check_not_printable(&rt, "hour 24", &Ok(zoned(TimeZoneRecord::Offset(hour))));
+    let minute = minutes(Sign::Positive, 0, 60);
+    check_not_printable(&rt, "minute 60", &Ok(zoned(TimeZoneRecord::Offset(minute))));
 }
+
+const OTHER_NAMES: &[&str] = &["", "1", "a/", "a//b", "/a", "a b", "a]", "\u{e9}"];
 
 #[test]
 fn prints_no_other_names(rt: HostRuntime) {
-    for name in ["", "1", "a/", "a//b", "/a", "a b", "a]", "\u{e9}"] {
+    for name in OTHER_NAMES {
         check_not_printable(&rt, name, &Ok(zoned(named(name))));
     }
     let utc = Some((true, "UTC"));
     check_not_printable(&rt, "a zone alone", &Ok(parts(None, None, None, utc, None)));
 }
 
+const OTHER_CALENDARS: &[&str] = &["", "-", "-a", "a-", "a--b", "a_b", "a]", "\u{e9}"];
+
 #[test]
 fn prints_no_other_calendars(rt: HostRuntime) {
     let day = Some((2020, 1, 1));
-    for name in ["", "-", "-a", "a-", "a--b", "a_b", "a]", "\u{e9}"] {
+    for name in OTHER_CALENDARS {
         check_not_printable(&rt, name, &Ok(parts(day, None, None, None, Some(name))));
     }
     let hebrew = Some("hebrew");

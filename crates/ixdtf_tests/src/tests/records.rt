@@ -1,4 +1,5 @@
-use super::{check_fraction, fraction_of, long, minutes, short};
+use super::times::{Digits, check_digits};
+use super::{check, check_fraction, fraction_of, long, minutes, short};
 use ixdtf::encoding::{EncodingType, Utf8, Utf16};
 use ixdtf::records::{
     DateRecord, IxdtfParseRecord, MinutePrecisionOffset, Sign, TimeRecord, TimeZoneAnnotation,
@@ -116,55 +117,95 @@ fn fractions_are_cut_at_nanoseconds(rt: HostRuntime) {
     check_seconds(&rt, CUT_FRACTIONS);
 }
 
+const DIGITS: &[Digits] = &[
+    Digits {
+        text: "+00:00:00.0",
+        count: 1,
+        value: 0,
+    },
+    Digits {
+        text: "+00:00:00.50",
+        count: 2,
+        value: 50,
+    },
+    Digits {
+        text: "+00:00:00.00000000000000000150",
+        count: 20,
+        value: 1,
+    },
+    Digits {
+        text: "+00:00:00.1234567898765432101234567890987654321",
+        count: 37,
+        value: 123_456_789_876_543_210,
+    },
+    Digits {
+        text: LONGEST,
+        count: 255,
+        value: 123_456_789_876_543_210,
+    },
+    Digits {
+        text: LONGER,
+        count: 255,
+        value: 123_456_789_876_543_210,
+    },
+];
+
 #[test]
 fn fractions_tell_their_digits(rt: HostRuntime) {
-    let rows = [
-        ("+00:00:00.0", Some((1, 0))),
-        ("+00:00:00.50", Some((2, 50))),
-        ("+00:00:00.00000000000000000150", Some((20, 1))),
-        (
-            "+00:00:00.1234567898765432101234567890987654321",
-            Some((37, 123_456_789_876_543_210)),
-        ),
-        (LONGEST, Some((255, 123_456_789_876_543_210))),
-        (LONGER, Some((255, 123_456_789_876_543_210))),
-    ];
-    for (text, wanted) in rows {
-        let found = fraction_of(text);
-        let digits = found.map(|fraction| (fraction.digit_count(), fraction.leading_value()));
-        assert_eq!(rt; digits, wanted, "at {text}");
+    for row in DIGITS {
+        check_digits(&rt, row, fraction_of(row.text));
     }
 }
 
+// Whether two texts have one fraction.
+fn have_one_fraction(first: &str, second: &str) -> bool {
+    fraction_of(first) == fraction_of(second)
+}
+
+// Whether a text has a fraction that is equal to its clone.
+fn has_a_clone(text: &str) -> bool {
+    match fraction_of(text) {
+        Some(fraction) => {
+            let copy: Result<_, _> = fraction.clone();
+            copy == Ok(fraction)
+        }
+        None => false,
+    }
+}
+
+// The last text has no fraction, and the longest has 255 digits.
+const DIFFERENT_FRACTIONS: &[(&str, &str)] = &[
+    ("+00:00:00.1", "+00:00:00.10"),
+    ("+00:00:00.25", "+00:00:00.025"),
+    (LONGEST, "+00:00:00.123456789876543210"),
+    ("+00:00:00.25", "+00:00:00"),
+];
+
 #[test]
 fn fractions_differ_by_their_digits(rt: HostRuntime) {
-    assert_ne!(rt; fraction_of("+00:00:00.1"), fraction_of("+00:00:00.10"));
-    assert_ne!(rt; fraction_of("+00:00:00.25"), fraction_of("+00:00:00.025"));
-    assert_ne!(rt; fraction_of("+00:00:00.25"), None);
-    if let Some(tenth) = fraction_of("+00:00:00.1") {
-        let copy: Result<_, _> = tenth.clone();
-        assert_eq!(rt; copy, Ok(tenth));
+    for (first, second) in DIFFERENT_FRACTIONS {
+        check(&rt, first, !have_one_fraction(first, second));
     }
+    check(&rt, "a clone", has_a_clone("+00:00:00.1"));
 }
 
 #[test]
 fn a_count_of_digits_ends_at_255(rt: HostRuntime) {
-    assert_eq!(rt; fraction_of(LONGEST), fraction_of(LONGER));
-    let shorter = fraction_of("+00:00:00.123456789876543210");
-    assert_ne!(rt; fraction_of(LONGEST), shorter);
+    check(&rt, LONGEST, have_one_fraction(LONGEST, LONGER));
 }
 
 #[test]
 fn dates_and_times_have_defaults(rt: HostRuntime) {
     let DateRecord { year, month, day } = DateRecord::default();
-    assert!(rt; year == 0 && month == 0 && day == 0);
+    check(&rt, "a date", year == 0 && month == 0 && day == 0);
     let TimeRecord {
         hour,
         minute,
         second,
         fraction,
     } = TimeRecord::default();
-    assert!(rt; hour == 0 && minute == 0 && second == 0 && fraction == None);
+    let is_zero = hour == 0 && minute == 0 && second == 0;
+    check(&rt, "a time", is_zero && fraction == None);
 }
 
 // Whether nothing stands in the default record.
@@ -177,60 +218,78 @@ fn has_an_empty_default<T: EncodingType>() -> bool {
         && record.calendar.is_none()
 }
 
+// Whether a zone is equal to its clone.
+fn zone_has_a_clone(zone: TimeZoneAnnotation<'_, Utf8>) -> bool {
+    let copy: Result<_, _> = zone.clone();
+    copy == Ok(zone)
+}
+
 #[test]
 fn records_have_defaults_and_clones(rt: HostRuntime) {
-    assert!(rt; has_an_empty_default::<Utf8>() && has_an_empty_default::<Utf16>());
-    let annotation: TimeZoneAnnotation<'_, Utf8> = TimeZoneAnnotation {
+    check(&rt, "bytes", has_an_empty_default::<Utf8>());
+    check(&rt, "16-bit units", has_an_empty_default::<Utf16>());
+    let zone: TimeZoneAnnotation<'_, Utf8> = TimeZoneAnnotation {
         critical: true,
-        tz: TimeZoneRecord::Name("Europe/Paris".as_bytes()),
+        tz: TimeZoneRecord::Name(b"Europe/Paris"),
     };
-    let copy: Result<_, _> = annotation.clone();
-    assert_eq!(rt; copy, Ok(annotation));
+    check(&rt, "a zone", zone_has_a_clone(zone));
 }
 
 #[test]
 fn offsets_differ_by_their_precision(rt: HostRuntime) {
     let short = short_offset();
     let long = long(minutes(Sign::Negative, 5, 30), 0, None);
-    assert_ne!(rt; short, long);
-    assert_ne!(rt; UtcOffsetRecordOrZ::Offset(short), UtcOffsetRecordOrZ::Z);
-    assert!(rt; Sign::Negative as i8 == -1 && Sign::Positive as i8 == 1);
+    check(&rt, "a second of zero", short != long);
+    let is_z = UtcOffsetRecordOrZ::Offset(short) == UtcOffsetRecordOrZ::Z;
+    check(&rt, "an offset", !is_z);
+    let are_numbers = Sign::Negative as i8 == -1 && Sign::Positive as i8 == 1;
+    check(&rt, "signs", are_numbers);
 }
 
 #[test]
 fn signs_come_from_bools(rt: HostRuntime) {
-    assert!(rt; Sign::from(true) == Sign::Positive && Sign::from(false) == Sign::Negative);
+    check(&rt, "plus", Sign::from(true) == Sign::Positive);
+    check(&rt, "minus", Sign::from(false) == Sign::Negative);
 }
 
 #[test]
 fn zero_has_a_plus_and_no_seconds(rt: HostRuntime) {
     let zero = MinutePrecisionOffset::zero();
-    assert_eq!(rt; zero, minutes(Sign::Positive, 0, 0));
-    assert_eq!(rt; UtcOffsetRecord::zero(), short(Sign::Positive, 0, 0));
+    check(&rt, "minutes", zero == minutes(Sign::Positive, 0, 0));
+    let zero = UtcOffsetRecord::zero();
+    check(&rt, "an offset", zero == short(Sign::Positive, 0, 0));
+}
+
+// Whether this is an offset of five hours and a half to the west.
+fn is_west(offset: UtcOffsetRecord) -> bool {
+    offset.sign() == Sign::Negative && offset.hour() == 5 && offset.minute() == 30
 }
 
 #[test]
 fn offsets_have_parts(rt: HostRuntime) {
-    for offset in [short_offset(), long_offset()] {
-        assert_eq!(rt; offset.sign(), Sign::Negative);
-        assert!(rt; offset.hour() == 5 && offset.minute() == 30);
-    }
+    check(&rt, "a short offset", is_west(short_offset()));
+    check(&rt, "a long offset", is_west(long_offset()));
 }
 
 #[test]
 fn long_offsets_have_a_second(rt: HostRuntime) {
     let short = short_offset();
-    assert!(rt; short.is_minute_precision() && short.second() == None);
-    assert_eq!(rt; short.fraction(), None);
+    let is_short = short.is_minute_precision() && short.second() == None;
+    check(&rt, "a short offset", is_short && short.fraction() == None);
     let long = long_offset();
-    assert!(rt; !long.is_minute_precision() && long.second() == Some(15));
+    let is_long = !long.is_minute_precision() && long.second() == Some(15);
+    check(&rt, "a long offset", is_long);
     check_fraction(&rt, "a long offset", &long.fraction(), 250_000_000, false);
 }
 
 #[test]
 fn z_is_minus_zero(rt: HostRuntime) {
     let offset = UtcOffsetRecordOrZ::Offset(long_offset());
-    assert_eq!(rt; offset.resolve_rfc_9557(), long_offset());
+    check(&rt, "an offset", offset.resolve_rfc_9557() == long_offset());
     let unknown = short(Sign::Negative, 0, 0);
-    assert_eq!(rt; UtcOffsetRecordOrZ::Z.resolve_rfc_9557(), unknown);
+    check(
+        &rt,
+        "Z",
+        UtcOffsetRecordOrZ::Z.resolve_rfc_9557() == unknown,
+    );
 }

@@ -1,161 +1,204 @@
 //! Replies to the annotations of year-months, month-days and times alone.
 
-use super::replies::{Asked, Form, Kind, check_handled, check_wide_calendars, check_wide_refusals};
-use super::{alone, dated, minutes, parts, shifted, short, timed};
+use super::replies::{
+    Asked, Form, Heeded, Kind, check_handled, check_heeded, check_refused_replies,
+    check_wide_calendars, check_wide_refusals,
+};
+use super::{minutes, parts, shifted, short, timed};
 use ixdtf::ParseError::{
-    AmbiguousTimeMonthDay, AnnotationClose, AnnotationKeyChar, AnnotationValueChar,
+    self, AmbiguousTimeMonthDay, AnnotationClose, AnnotationKeyChar, AnnotationValueChar,
     CriticalDuplicateCalendar, DateYear, InvalidEnd, NonAsciiCodePoint, UnrecognizedCritical,
 };
 use ixdtf::records::{Sign, UtcOffsetRecordOrZ};
 
-const YEAR_MONTHS: &[Asked] = &[
-    Asked {
-        form: Form::YearMonth,
-        text: "2020-01[_=iso8601]",
-        kind: Kind::HandsBack,
-        calls: "[_=iso8601]",
-        place: None,
+const YEAR_MONTHS: &[Heeded] = &[
+    Heeded {
+        asked: Asked {
+            form: Form::YearMonth,
+            text: "2020-01[_=iso8601]",
+            kind: Kind::HandsBack,
+            calls: "[_=iso8601]",
+            place: None,
+        },
+        date: Some((2020, 1, 1)),
+        hour: None,
+        zone: None,
+        calendar: None,
     },
-    Asked {
-        form: Form::YearMonth,
-        text: "2020-01[!mr=A][!answer-to-universe=NLM-yw7][u-ca=eUfEnd]",
-        kind: Kind::RepliesNone,
-        calls: "[!mr=A][!answer-to-universe=NLM-yw7][u-ca=eUfEnd]",
-        place: None,
+    Heeded {
+        asked: Asked {
+            form: Form::YearMonth,
+            text: "2020-01[!mr=A][!answer-to-universe=NLM-yw7][u-ca=eUfEnd]",
+            kind: Kind::RepliesNone,
+            calls: "[!mr=A][!answer-to-universe=NLM-yw7][u-ca=eUfEnd]",
+            place: None,
+        },
+        date: Some((2020, 1, 1)),
+        hour: None,
+        zone: None,
+        calendar: None,
     },
-];
-
-#[test]
-fn heeds_handlers_of_year_months(rt: HostRuntime) {
-    check_handled(&rt, &Ok(dated(2020, 1, 1, None)), YEAR_MONTHS);
-    check_handled(
-        &rt,
-        &Ok(parts(Some((2020, 1, 1)), None, None, None, Some("a"))),
-        &[Asked {
+    Heeded {
+        asked: Asked {
             form: Form::YearMonth,
             text: "2020-01[u-ca=a]",
             kind: Kind::TurnsCritical,
             calls: "[u-ca=a]",
             place: None,
-        }],
-    );
-    let zone = minutes(Sign::Negative, 16, 0);
-    check_handled(
-        &rt,
-        &Ok(shifted((2020, 1, 1), None, None, false, zone)),
-        &[Asked {
-            form: Form::YearMonth,
-            text: "+00202001[-16:00][fgdci=a0sa-2l4s][!u-ca=FaoGG7-GO1GM-OUkuE][u-ca=FXVm-lFpcT-I-q97pX][!u-ca=iso8601][uh_ixs5qm=K4xwC-Hxl2-ivW5]",
-            kind: Kind::RepliesNone,
-            calls: "[fgdci=a0sa-2l4s][!u-ca=FaoGG7-GO1GM-OUkuE][u-ca=FXVm-lFpcT-I-q97pX][!u-ca=iso8601][uh_ixs5qm=K4xwC-Hxl2-ivW5]",
-            place: None,
-        }],
-    );
-}
-
-const MONTH_DAYS: &[Asked] = &[
-    Asked {
-        form: Form::MonthDay,
-        text: "11-07[u-ca=Agregory]",
-        kind: Kind::RepliesNone,
-        calls: "[u-ca=Agregory]",
-        place: None,
-    },
-    Asked {
-        form: Form::MonthDay,
-        text: "11-07[u-ca=1][u-c=Q1hBRV-7bzvj-opdF][u-caa=jKpQvd-FDtiq-Z][!u-ca=FDRH-KlFC-wT-B][!pd3v3t=04-LV2V]",
-        kind: Kind::RepliesNone,
-        calls: "[u-ca=1][u-c=Q1hBRV-7bzvj-opdF][u-caa=jKpQvd-FDtiq-Z][!u-ca=FDRH-KlFC-wT-B][!pd3v3t=04-LV2V]",
-        place: None,
+        },
+        date: Some((2020, 1, 1)),
+        hour: None,
+        zone: None,
+        calendar: Some("a"),
     },
 ];
 
+const YEAR_MONTH_WITH_AN_OFFSET: &[Asked] = &[Asked {
+    form: Form::YearMonth,
+    text: "+00202001[-16:00][fgdci=a0sa-2l4s][!u-ca=FaoGG7-GO1GM-OUkuE][u-ca=FXVm-lFpcT-I-q97pX][!u-ca=iso8601][uh_ixs5qm=K4xwC-Hxl2-ivW5]",
+    kind: Kind::RepliesNone,
+    calls: "[fgdci=a0sa-2l4s][!u-ca=FaoGG7-GO1GM-OUkuE][u-ca=FXVm-lFpcT-I-q97pX][!u-ca=iso8601][uh_ixs5qm=K4xwC-Hxl2-ivW5]",
+    place: None,
+}];
+
 #[test]
-fn heeds_handlers_of_month_days(rt: HostRuntime) {
-    check_handled(&rt, &Ok(dated(0, 11, 7, None)), MONTH_DAYS);
-    check_handled(
-        &rt,
-        &Ok(parts(Some((0, 11, 7)), None, None, Some((true, "u-ca7a-b")), None)),
-        &[Asked {
+fn heeds_handlers_of_year_months(rt: HostRuntime) {
+    check_heeded(&rt, YEAR_MONTHS);
+    let zone = minutes(Sign::Negative, 16, 0);
+    let wanted = Ok(shifted((2020, 1, 1), None, None, false, zone));
+    check_handled(&rt, &wanted, YEAR_MONTH_WITH_AN_OFFSET);
+}
+
+const MONTH_DAYS: &[Heeded] = &[
+    Heeded {
+        asked: Asked {
+            form: Form::MonthDay,
+            text: "11-07[u-ca=Agregory]",
+            kind: Kind::RepliesNone,
+            calls: "[u-ca=Agregory]",
+            place: None,
+        },
+        date: Some((0, 11, 7)),
+        hour: None,
+        zone: None,
+        calendar: None,
+    },
+    Heeded {
+        asked: Asked {
+            form: Form::MonthDay,
+            text: "11-07[u-ca=1][u-c=Q1hBRV-7bzvj-opdF][u-caa=jKpQvd-FDtiq-Z][!u-ca=FDRH-KlFC-wT-B][!pd3v3t=04-LV2V]",
+            kind: Kind::RepliesNone,
+            calls: "[u-ca=1][u-c=Q1hBRV-7bzvj-opdF][u-caa=jKpQvd-FDtiq-Z][!u-ca=FDRH-KlFC-wT-B][!pd3v3t=04-LV2V]",
+            place: None,
+        },
+        date: Some((0, 11, 7)),
+        hour: None,
+        zone: None,
+        calendar: None,
+    },
+    Heeded {
+        asked: Asked {
             form: Form::MonthDay,
             text: "11-07[!u-ca7a-b]",
             kind: Kind::TurnsCritical,
             calls: "",
             place: None,
-        }],
-    );
-    check_handled(
-        &rt,
-        &Ok(dated(0, 2, 29, None)),
-        &[Asked {
+        },
+        date: Some((0, 11, 7)),
+        hour: None,
+        zone: Some((true, "u-ca7a-b")),
+        calendar: None,
+    },
+    Heeded {
+        asked: Asked {
             form: Form::MonthDay,
             text: "--0229[r97bybgb-=mxYtOJ][u-ca=T-VkYi]",
             kind: Kind::RepliesNone,
             calls: "[r97bybgb-=mxYtOJ][u-ca=T-VkYi]",
             place: None,
-        }],
-    );
-    check_handled(
-        &rt,
-        &Ok(parts(Some((0, 2, 29)), None, None, None, Some("VywT9"))),
-        &[Asked {
+        },
+        date: Some((0, 2, 29)),
+        hour: None,
+        zone: None,
+        calendar: None,
+    },
+    Heeded {
+        asked: Asked {
             form: Form::MonthDay,
             text: "--0229[!answer-to-universe=j9Ew][!u-ca=VywT9]",
             kind: Kind::TurnsCritical,
             calls: "[!answer-to-universe=j9Ew][!u-ca=VywT9]",
             place: None,
-        }],
-    );
-    check_handled(
-        &rt,
-        &Ok(parts(Some((0, 2, 29)), None, None, None, Some("a"))),
-        &[Asked {
+        },
+        date: Some((0, 2, 29)),
+        hour: None,
+        zone: None,
+        calendar: Some("VywT9"),
+    },
+    Heeded {
+        asked: Asked {
             form: Form::MonthDay,
             text: "--0229[u-ca=K-lwPO-gDqQ][u-ca=jP5er][u_ca=A][u-ca=N6rxr]",
             kind: Kind::RepliesAnother,
             calls: "[u-ca=K-lwPO-gDqQ][u-ca=jP5er][u_ca=A][u-ca=N6rxr]",
             place: None,
-        }],
-    );
-}
+        },
+        date: Some((0, 2, 29)),
+        hour: None,
+        zone: None,
+        calendar: Some("a"),
+    },
+];
 
 #[test]
-fn heeds_handlers_of_times_alone(rt: HostRuntime) {
-    check_handled(
-        &rt,
-        &Ok(parts(None, timed(12, 0, 0, None), None, None, Some("a"))),
-        &[Asked {
+fn heeds_handlers_of_month_days(rt: HostRuntime) {
+    check_heeded(&rt, MONTH_DAYS);
+}
+
+const TIMES_ALONE: &[Heeded] = &[
+    Heeded {
+        asked: Asked {
             form: Form::Time,
             text: "T12[u-caa=ldJ-5I]",
             kind: Kind::RepliesAnother,
             calls: "[u-caa=ldJ-5I]",
             place: None,
-        }],
-    );
-    let zone = Some((true, "SN9diiX.vB-fbtR3cerg/r"));
-    check_handled(
-        &rt,
-        &Ok(parts(None, timed(12, 0, 0, None), None, zone, Some("a"))),
-        &[Asked {
+        },
+        date: None,
+        hour: Some(12),
+        zone: None,
+        calendar: Some("a"),
+    },
+    Heeded {
+        asked: Asked {
             form: Form::Time,
             text: "T12[!SN9diiX.vB-fbtR3cerg/r][pqrfra=a0sa-2l4s][u-ca=japanese]",
             kind: Kind::RepliesAnother,
             calls: "[pqrfra=a0sa-2l4s][u-ca=japanese]",
             place: None,
-        }],
-    );
+        },
+        date: None,
+        hour: Some(12),
+        zone: Some((true, "SN9diiX.vB-fbtR3cerg/r")),
+        calendar: Some("a"),
+    },
+];
+
+const TIME_ALONE_WITH_AN_OFFSET: &[Asked] = &[Asked {
+    form: Form::Time,
+    text: "12:00:00+01[m][u-ca=nTIl6][!u-ca=hebrew][u-ca=a0sa-2l4s][!vpzn-e=OZi5tA-W]",
+    kind: Kind::RepliesNone,
+    calls: "[u-ca=nTIl6][!u-ca=hebrew][u-ca=a0sa-2l4s][!vpzn-e=OZi5tA-W]",
+    place: None,
+}];
+
+#[test]
+fn heeds_handlers_of_times_alone(rt: HostRuntime) {
+    check_heeded(&rt, TIMES_ALONE);
     let east = Some(UtcOffsetRecordOrZ::Offset(short(Sign::Positive, 1, 0)));
-    check_handled(
-        &rt,
-        &Ok(parts(None, timed(12, 0, 0, None), east, Some((false, "m")), None)),
-        &[Asked {
-            form: Form::Time,
-            text: "12:00:00+01[m][u-ca=nTIl6][!u-ca=hebrew][u-ca=a0sa-2l4s][!vpzn-e=OZi5tA-W]",
-            kind: Kind::RepliesNone,
-            calls: "[u-ca=nTIl6][!u-ca=hebrew][u-ca=a0sa-2l4s][!vpzn-e=OZi5tA-W]",
-            place: None,
-        }],
-    );
+    let zone = Some((false, "m"));
+    let wanted = Ok(parts(None, timed(12, 0, 0, None), east, zone, None));
+    check_handled(&rt, &wanted, TIME_ALONE_WITH_AN_OFFSET);
 }
 
 const CRITICAL_REPLIES: &[Asked] = &[
@@ -283,10 +326,14 @@ const DUPLICATE_CALENDARS: &[Asked] = &[
     },
 ];
 
+const REFUSED_REPLIES: &[(ParseError, &[Asked])] = &[
+    (UnrecognizedCritical, CRITICAL_REPLIES),
+    (CriticalDuplicateCalendar, DUPLICATE_CALENDARS),
+];
+
 #[test]
 fn refuses_replies_in_each_form(rt: HostRuntime) {
-    check_handled(&rt, &Err(UnrecognizedCritical), CRITICAL_REPLIES);
-    check_handled(&rt, &Err(CriticalDuplicateCalendar), DUPLICATE_CALENDARS);
+    check_refused_replies(&rt, REFUSED_REPLIES);
 }
 
 const BEFORE_A_FAULT: &[Asked] = &[
@@ -344,12 +391,10 @@ const BEFORE_A_WRONG_CLOSE: &[Asked] = &[
     },
 ];
 
-#[test]
-fn asks_before_a_fault_in_each_form(rt: HostRuntime) {
-    check_handled(&rt, &Err(AnnotationKeyChar), BEFORE_A_FAULT);
-    check_handled(
-        &rt,
-        &Err(InvalidEnd),
+const BEFORE_FAULTS: &[(ParseError, &[Asked])] = &[
+    (AnnotationKeyChar, BEFORE_A_FAULT),
+    (
+        InvalidEnd,
         &[Asked {
             form: Form::MonthDay,
             text: "11-07[wv3a09-ea=a] ",
@@ -357,10 +402,9 @@ fn asks_before_a_fault_in_each_form(rt: HostRuntime) {
             calls: "[wv3a09-ea=a]",
             place: Some(18),
         }],
-    );
-    check_handled(
-        &rt,
-        &Err(AnnotationValueChar),
+    ),
+    (
+        AnnotationValueChar,
         &[Asked {
             form: Form::Time,
             text: "T12[u-caa=1_",
@@ -368,8 +412,13 @@ fn asks_before_a_fault_in_each_form(rt: HostRuntime) {
             calls: "",
             place: Some(11),
         }],
-    );
-    check_handled(&rt, &Err(AnnotationClose), BEFORE_A_WRONG_CLOSE);
+    ),
+    (AnnotationClose, BEFORE_A_WRONG_CLOSE),
+];
+
+#[test]
+fn asks_before_a_fault_in_each_form(rt: HostRuntime) {
+    check_refused_replies(&rt, BEFORE_FAULTS);
 }
 
 const BEFORE_A_FAULT_OF_A_CORE: &[Asked] = &[
@@ -389,11 +438,9 @@ const BEFORE_A_FAULT_OF_A_CORE: &[Asked] = &[
     },
 ];
 
-#[test]
-fn asks_nothing_before_a_fault_of_a_core(rt: HostRuntime) {
-    check_handled(
-        &rt,
-        &Err(DateYear),
+const FAULTS_OF_CORES: &[(ParseError, &[Asked])] = &[
+    (
+        DateYear,
         &[Asked {
             form: Form::YearMonth,
             text: ">2020-01[u-ca=Sf9MH-7a][o5",
@@ -401,52 +448,73 @@ fn asks_nothing_before_a_fault_of_a_core(rt: HostRuntime) {
             calls: "",
             place: Some(0),
         }],
-    );
-    check_handled(&rt, &Err(AmbiguousTimeMonthDay), BEFORE_A_FAULT_OF_A_CORE);
-}
-
-const PASSED_OVER: &[Asked] = &[
-    Asked {
-        form: Form::Parse,
-        text: "2020-01-01[a=b][!c=d][e=f]",
-        kind: Kind::RepliesNone,
-        calls: "[a=b][!c=d][e=f]",
-        place: None,
-    },
-    Asked {
-        form: Form::YearMonth,
-        text: "2020-01[a=b][!c=d][e=f]",
-        kind: Kind::RepliesNone,
-        calls: "[a=b][!c=d][e=f]",
-        place: None,
-    },
+    ),
+    (AmbiguousTimeMonthDay, BEFORE_A_FAULT_OF_A_CORE),
 ];
 
 #[test]
-fn asks_about_all_that_it_passes_over(rt: HostRuntime) {
-    check_handled(&rt, &Ok(dated(2020, 1, 1, None)), PASSED_OVER);
-    check_handled(
-        &rt,
-        &Ok(dated(0, 11, 7, None)),
-        &[Asked {
+fn asks_nothing_before_a_fault_of_a_core(rt: HostRuntime) {
+    check_refused_replies(&rt, FAULTS_OF_CORES);
+}
+
+const PASSED_OVER: &[Heeded] = &[
+    Heeded {
+        asked: Asked {
+            form: Form::Parse,
+            text: "2020-01-01[a=b][!c=d][e=f]",
+            kind: Kind::RepliesNone,
+            calls: "[a=b][!c=d][e=f]",
+            place: None,
+        },
+        date: Some((2020, 1, 1)),
+        hour: None,
+        zone: None,
+        calendar: None,
+    },
+    Heeded {
+        asked: Asked {
+            form: Form::YearMonth,
+            text: "2020-01[a=b][!c=d][e=f]",
+            kind: Kind::RepliesNone,
+            calls: "[a=b][!c=d][e=f]",
+            place: None,
+        },
+        date: Some((2020, 1, 1)),
+        hour: None,
+        zone: None,
+        calendar: None,
+    },
+    Heeded {
+        asked: Asked {
             form: Form::MonthDay,
             text: "11-07[a=b][!c=d][e=f]",
             kind: Kind::RepliesNone,
             calls: "[a=b][!c=d][e=f]",
             place: None,
-        }],
-    );
-    check_handled(
-        &rt,
-        &Ok(alone(timed(12, 0, 0, None), None)),
-        &[Asked {
+        },
+        date: Some((0, 11, 7)),
+        hour: None,
+        zone: None,
+        calendar: None,
+    },
+    Heeded {
+        asked: Asked {
             form: Form::Time,
             text: "T12[a=b][!c=d][e=f]",
             kind: Kind::RepliesNone,
             calls: "[a=b][!c=d][e=f]",
             place: None,
-        }],
-    );
+        },
+        date: None,
+        hour: Some(12),
+        zone: None,
+        calendar: None,
+    },
+];
+
+#[test]
+fn asks_about_all_that_it_passes_over(rt: HostRuntime) {
+    check_heeded(&rt, PASSED_OVER);
 }
 
 const WIDE_CALENDARS: &[Asked] = &[
@@ -541,11 +609,9 @@ const WIDE_TEXTS: &[Asked] = &[
     },
 ];
 
-#[test]
-fn refuses_wide_texts_with_handlers_in_each_form(rt: HostRuntime) {
-    check_wide_refusals(&rt, NonAsciiCodePoint, WIDE_TEXTS);
-    check_wide_refusals(
-        &rt,
+const WIDE_REFUSALS: &[(ParseError, &[Asked])] = &[
+    (NonAsciiCodePoint, WIDE_TEXTS),
+    (
         CriticalDuplicateCalendar,
         &[Asked {
             form: Form::MonthDay,
@@ -554,5 +620,10 @@ fn refuses_wide_texts_with_handlers_in_each_form(rt: HostRuntime) {
             calls: "[u-ca=1][u-ca=hnL-c7FsJ-v2eFk-baJ1Ai]",
             place: Some(43),
         }],
-    );
+    ),
+];
+
+#[test]
+fn refuses_wide_texts_with_handlers_in_each_form(rt: HostRuntime) {
+    check_wide_refusals(&rt, WIDE_REFUSALS);
 }

@@ -1,6 +1,6 @@
 //! Sources in 16-bit units. A unit from 1 to 126 is its ASCII letter, and every other stands for none.
 
-use super::{Parsers, Reader};
+use super::{Parsers, Reader, check, check_reader};
 use ixdtf::ParseError;
 use ixdtf::encoding::{EncodingType, Utf16};
 use ixdtf::parsers::TimeZoneParser;
@@ -82,7 +82,7 @@ pub(super) fn check_wide_refused(
     for (error, texts) in rows {
         for (text, at) in *texts {
             let is_refused = refuses_wide_at(reader, text, *error, *at);
-            assert!(rt; is_refused, "{reader:?} at {text}");
+            check_reader(rt, reader, text, is_refused);
         }
     }
 }
@@ -92,27 +92,32 @@ pub(super) fn check_no_letter(rt: &impl Abort, reader: Reader, texts: &[(&'stati
     check_wide_refused(rt, reader, &[(ParseError::NonAsciiCodePoint, texts)]);
 }
 
+// Whether a unit is seen as its letter, or as none.
+fn is_seen(unit: u16) -> bool {
+    let letter = Utf16::get_ascii(&[unit], 0);
+    match u8::try_from(unit) {
+        Ok(byte) if byte > 0 && byte < 127 => letter == Ok(Some(byte)),
+        _ => letter == Err(ParseError::NonAsciiCodePoint),
+    }
+}
+
 #[test]
 fn sees_each_unit(rt: HostRuntime) {
     for unit in 0..=u16::MAX {
-        let letter = Utf16::get_ascii(&[unit], 0);
-        match u8::try_from(unit) {
-            Ok(byte) if byte > 0 && byte < 127 => assert_eq!(rt; letter, Ok(Some(byte))),
-            _ => assert_eq!(rt; letter, Err(ParseError::NonAsciiCodePoint), "at {unit}"),
-        }
+        assert!(rt; is_seen(unit), "at {unit}");
     }
 }
 
 const UNITS: [u16; 3] = [97, 306, 99];
 
 fn check_slice(rt: &impl Abort, start: usize, end: usize, part: Option<&'static [u16]>) {
-    let found = Utf16::slice(&UNITS, start, end);
-    assert_eq!(rt; found, part, "from {start} to {end}");
+    let is_part = Utf16::slice(&UNITS, start, end) == part;
+    assert!(rt; is_part, "from {start} to {end}");
 }
 
 #[test]
 fn wide_slices_lie_within(rt: HostRuntime) {
-    assert_eq!(rt; Utf16::get_ascii(&UNITS, 3), Ok(None));
+    check(&rt, "the end", Utf16::get_ascii(&UNITS, 3) == Ok(None));
     check_slice(&rt, 1, 3, Some(&[306, 99]));
     check_slice(&rt, 3, 3, Some(&[]));
     check_slice(&rt, 2, 1, None);
@@ -123,7 +128,7 @@ fn check_wide_keys(rt: &impl Abort, keys: &[(&'static str, bool)]) {
     for (key, is_calendar) in keys {
         let wide = Wide::new(key);
         let found = Utf16::check_calendar_key(wide.units());
-        assert_eq!(rt; found, *is_calendar, "at {key}");
+        check(rt, key, found == *is_calendar);
     }
 }
 
@@ -142,5 +147,6 @@ fn one_wide_key_is_of_calendars(rt: HostRuntime) {
 #[test]
 fn a_wide_parser_of_zones_is_as_large_as_its_slice(rt: HostRuntime) {
     let slice = size_of::<&'static [u16]>();
-    assert_eq!(rt; size_of::<TimeZoneParser<'static, Utf16>>(), slice);
+    let is_so = size_of::<TimeZoneParser<'static, Utf16>>() == slice;
+    check(&rt, "its size", is_so);
 }

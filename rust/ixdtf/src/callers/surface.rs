@@ -6,6 +6,7 @@
 #[allow(unused_imports)]
 use crate::runtime::{HostRuntime, TryClone};
 
+use super::check;
 use ixdtf::encoding::{EncodingType, Utf8, Utf16};
 use ixdtf::parsers::{IsoDurationParser, IxdtfParser, Profile, TimeZoneParser};
 use ixdtf::records::{
@@ -103,25 +104,32 @@ fn nanoseconds_of(offset: UtcOffsetRecord) -> Option<(Option<u32>, u32)> {
     }
 }
 
+// Whether both calls give half a second of an offset, and one digit.
+fn has_a_half(offset: UtcOffsetRecord) -> bool {
+    let nanoseconds = nanoseconds_of(offset);
+    let digits = digits_of(offset);
+    nanoseconds == Some((Some(500_000_000), 500_000_000)) && digits == Some((1, 5))
+}
+
 #[test]
 fn has_every_call() {
     let rt = HostRuntime;
-    assert!(rt; sees_nothing::<Utf8>(&[]) && sees_nothing::<Utf16>(&[]));
-    assert!(rt; has_parts(UtcOffsetRecord::zero(), MinutePrecisionOffset::zero()));
+    check(&rt, "bytes", sees_nothing::<Utf8>(&[]));
+    check(&rt, "16-bit units", sees_nothing::<Utf16>(&[]));
+    let zero = has_parts(UtcOffsetRecord::zero(), MinutePrecisionOffset::zero());
+    check(&rt, "zero", zero);
     let sign = Sign::from(false);
-    let offset = TimeZoneParser::from_utf8(b"-01:02:03.5").parse_offset();
     let parts = MinutePrecisionOffset {
         sign,
         hour: 1,
         minute: 2,
     };
-    if let Ok(offset) = offset {
-        assert!(rt; has_parts(offset, parts));
-        let nanoseconds = nanoseconds_of(offset);
-        assert_eq!(rt; nanoseconds, Some((Some(500_000_000), 500_000_000)));
-        assert_eq!(rt; digits_of(offset), Some((1, 5)));
+    if let Ok(offset) = TimeZoneParser::from_utf8(b"-01:02:03.5").parse_offset() {
+        check(&rt, "its parts", has_parts(offset, parts));
+        check(&rt, "its half", has_a_half(offset));
     }
-    assert_eq!(rt; ParseError::ParseFloat.to_static_string().len(), 42);
+    let length = ParseError::ParseFloat.to_static_string().len();
+    check(&rt, "an error", length == 42);
 }
 
 #[test]
@@ -132,7 +140,8 @@ fn makes_every_parser_of_dates() {
     let bytes = IxdtfParser::from_utf8(b"2020-01");
     let text = IxdtfParser::from_str("01-01");
     let wide = IxdtfParser::from_utf16(&empty);
-    assert!(rt; has_the_readers_of_dates(units, bytes, text, wide));
+    let are_there = has_the_readers_of_dates(units, bytes, text, wide);
+    check(&rt, "readers of dates", are_there);
 }
 
 // Whether the readers are there, and read a date, a year-month, a month-day and no empty text.
@@ -148,85 +157,108 @@ fn has_the_readers_of_dates(
         && empty.parse_time().is_err()
 }
 
+// Whether the readers with a handler are there, and read a date and a year-month.
+fn reads_with_a_handler() -> bool {
+    let mut date = IxdtfParser::from_str("2020-01-01");
+    let mut year_month = IxdtfParser::from_str("2020-01");
+    date.parse_with_annotation_handler(|_annotation| None)
+        .is_ok()
+        && year_month
+            .parse_year_month_with_annotation_handler(|_annotation| None)
+            .is_ok()
+}
+
 #[test]
 fn has_every_reader_with_a_handler() {
     let rt = HostRuntime;
-    let mut date = IxdtfParser::from_str("2020-01-01");
-    let first = date.parse_with_annotation_handler(|_annotation| None);
-    assert!(rt; first.is_ok());
-    let mut year_month = IxdtfParser::from_str("2020-01");
-    let second = year_month.parse_year_month_with_annotation_handler(|_annotation| None);
-    assert!(rt; second.is_ok());
+    check(&rt, "handlers", reads_with_a_handler());
+}
+
+// Whether the other readers with a handler are there, and read a month-day and a time.
+fn reads_parts_with_a_handler() -> bool {
+    let mut month_day = IxdtfParser::from_str("01-01");
+    let mut time = IxdtfParser::from_str("T12");
+    month_day
+        .parse_month_day_with_annotation_handler(|_annotation| None)
+        .is_ok()
+        && time
+            .parse_time_with_annotation_handler(|_annotation| None)
+            .is_ok()
 }
 
 #[test]
 fn has_every_further_reader_with_a_handler() {
     let rt = HostRuntime;
-    let mut month_day = IxdtfParser::from_str("01-01");
-    let third = month_day.parse_month_day_with_annotation_handler(|_annotation| None);
-    assert!(rt; third.is_ok());
-    let mut time = IxdtfParser::from_str("T12");
-    let fourth = time.parse_time_with_annotation_handler(|_annotation| None);
-    assert!(rt; fourth.is_ok());
+    check(&rt, "handlers", reads_parts_with_a_handler());
+}
+
+// Whether the located readers of dates are there, and read a text each.
+fn reads_located() -> bool {
+    IxdtfParser::from_str("2020-01-01").parse_located().is_ok()
+        && IxdtfParser::from_str("2020-01")
+            .parse_year_month_located()
+            .is_ok()
+        && IxdtfParser::from_str("01-01")
+            .parse_month_day_located()
+            .is_ok()
+        && IxdtfParser::from_str("T12").parse_time_located().is_ok()
+}
+
+// Whether the located readers of zones are there, and read a text each.
+fn reads_located_zones() -> bool {
+    TimeZoneParser::from_str("+01")
+        .parse_offset_located()
+        .is_ok()
+        && TimeZoneParser::from_str("UTC")
+            .parse_identifier_located()
+            .is_ok()
+        && TimeZoneParser::from_str("UTC")
+            .parse_iana_identifier_located()
+            .is_ok()
 }
 
 #[test]
 fn has_every_located_reader() {
     let rt = HostRuntime;
-    assert!(rt; IxdtfParser::from_str("2020-01-01").parse_located().is_ok());
-    assert!(rt;
-        IxdtfParser::from_str("2020-01")
-            .parse_year_month_located()
+    check(&rt, "dates", reads_located());
+    check(&rt, "zones", reads_located_zones());
+    let duration = IsoDurationParser::<Utf8>::from_str("P1D").parse_located();
+    check(&rt, "durations", duration.is_ok());
+}
+
+// Whether the located readers with a handler are there, and read a date and a year-month.
+fn reads_located_with_a_handler() -> bool {
+    let mut date = IxdtfParser::from_str("2020-01-01");
+    let mut year_month = IxdtfParser::from_str("2020-01");
+    date.parse_with_annotation_handler_located(|_annotation| None)
+        .is_ok()
+        && year_month
+            .parse_year_month_with_annotation_handler_located(|_annotation| None)
             .is_ok()
-    );
-    assert!(rt;
-        IxdtfParser::from_str("01-01")
-            .parse_month_day_located()
-            .is_ok()
-    );
-    assert!(rt; IxdtfParser::from_str("T12").parse_time_located().is_ok());
-    assert!(rt;
-        TimeZoneParser::from_str("+01")
-            .parse_offset_located()
-            .is_ok()
-    );
-    assert!(rt;
-        TimeZoneParser::from_str("UTC")
-            .parse_identifier_located()
-            .is_ok()
-    );
-    assert!(rt;
-        TimeZoneParser::from_str("UTC")
-            .parse_iana_identifier_located()
-            .is_ok()
-    );
-    assert!(rt;
-        IsoDurationParser::<Utf8>::from_str("P1D")
-            .parse_located()
-            .is_ok()
-    );
 }
 
 #[test]
 fn has_every_located_reader_with_a_handler() {
     let rt = HostRuntime;
-    let mut date = IxdtfParser::from_str("2020-01-01");
-    let first = date.parse_with_annotation_handler_located(|_annotation| None);
-    assert!(rt; first.is_ok());
-    let mut year_month = IxdtfParser::from_str("2020-01");
-    let second = year_month.parse_year_month_with_annotation_handler_located(|_annotation| None);
-    assert!(rt; second.is_ok());
+    check(&rt, "handlers", reads_located_with_a_handler());
+}
+
+// Whether the other located readers with a handler are there, and read a month-day and a time.
+fn reads_located_parts_with_a_handler() -> bool {
+    let mut month_day = IxdtfParser::from_str("01-01");
+    let mut time = IxdtfParser::from_str("T12");
+    month_day
+        .parse_month_day_with_annotation_handler_located(|_annotation| None)
+        .is_ok()
+        && time
+            .parse_time_with_annotation_handler_located(|_annotation| None)
+            .is_ok()
 }
 
 #[test]
 fn has_every_further_located_reader_with_a_handler() {
     let rt = HostRuntime;
-    let mut month_day = IxdtfParser::from_str("01-01");
-    let third = month_day.parse_month_day_with_annotation_handler_located(|_annotation| None);
-    assert!(rt; third.is_ok());
-    let mut time = IxdtfParser::from_str("T12");
-    let fourth = time.parse_time_with_annotation_handler_located(|_annotation| None);
-    assert!(rt; fourth.is_ok());
+    check(&rt, "handlers", reads_located_parts_with_a_handler());
 }
 
 // The place of an error, and the error, each by its name.
@@ -237,24 +269,38 @@ fn has_an_error_with_its_place() {
         error: ParseError::InvalidEnd,
         at: 10,
     };
-    assert!(rt; error == ParseError::InvalidEnd && at == 10);
+    check(
+        &rt,
+        "its parts",
+        error == ParseError::InvalidEnd && at == 10,
+    );
     let plain = ParseError::from(LocatedError { error, at });
-    assert_eq!(rt; plain, error);
+    check(&rt, "its error", plain == error);
 }
 
 #[test]
 fn has_every_reader_of_zones() {
     let rt = HostRuntime;
     let empty: [u16; 0] = [];
-    let mut zone: TimeZoneParser<'_, Utf8> = TimeZoneParser::new(b"UTC");
-    let name = zone.parse_iana_identifier();
-    assert_eq!(rt; name, Ok(b"UTC".as_slice()));
-    let nothing = TimeZoneParser::from_str("").parse_identifier();
-    assert!(rt; nothing.is_err());
-    let offset = TimeZoneParser::from_utf8(b"+01").parse_offset();
-    assert!(rt; offset.is_ok());
-    let wide = TimeZoneParser::from_utf16(&empty).parse_offset();
-    assert!(rt; wide.is_err());
+    let zone: TimeZoneParser<'_, Utf8> = TimeZoneParser::new(b"UTC");
+    let nothing = TimeZoneParser::from_str("");
+    let offset = TimeZoneParser::from_utf8(b"+01");
+    let wide = TimeZoneParser::from_utf16(&empty);
+    let are_there = has_the_readers_of_zones(zone, nothing, offset, wide);
+    check(&rt, "readers of zones", are_there);
+}
+
+// Whether the readers are there, and read a name, an offset and no empty text.
+fn has_the_readers_of_zones(
+    mut zone: TimeZoneParser<'_, Utf8>,
+    mut nothing: TimeZoneParser<'_, Utf8>,
+    mut offset: TimeZoneParser<'_, Utf8>,
+    mut wide: TimeZoneParser<'_, Utf16>,
+) -> bool {
+    zone.parse_iana_identifier() == Ok(b"UTC".as_slice())
+        && nothing.parse_identifier().is_err()
+        && offset.parse_offset().is_ok()
+        && wide.parse_offset().is_err()
 }
 
 // The record of a text that has all parts, each field by its name.
@@ -290,18 +336,23 @@ fn fullest_record() -> IxdtfParseRecord<'static, Utf8> {
     }
 }
 
+// Whether that text gives that record.
+fn reads_the_fullest_record() -> bool {
+    let text = "0001-02-03T04:05:06+07:08:09[!+07:08][u-ca=iso8601]";
+    IxdtfParser::from_str(text).parse() == Ok(fullest_record())
+}
+
 #[test]
 fn has_every_field() {
     let rt = HostRuntime;
-    let text = "0001-02-03T04:05:06+07:08:09[!+07:08][u-ca=iso8601]";
-    let found = IxdtfParser::from_str(text).parse();
-    assert_eq!(rt; found, Ok(fullest_record()));
+    check(&rt, "a record", reads_the_fullest_record());
     let annotation: Annotation<'_, Utf8> = Annotation {
         critical: true,
         key: b"a",
         value: b"b",
     };
-    assert!(rt; annotation.critical && annotation.key != annotation.value);
+    let has_fields = annotation.critical && annotation.key != annotation.value;
+    check(&rt, "an annotation", has_fields);
 }
 
 // Whether the variants of an offset and of a zone are there, and differ.
@@ -310,9 +361,9 @@ fn has_every_variant() {
     let rt = HostRuntime;
     let zero = MinutePrecisionOffset::zero();
     let offset = UtcOffsetRecordOrZ::Offset(UtcOffsetRecord::MinutePrecision(zero));
-    assert_ne!(rt; offset, UtcOffsetRecordOrZ::Z);
+    check(&rt, "an offset", offset != UtcOffsetRecordOrZ::Z);
     let zone: TimeZoneRecord<'_, Utf8> = TimeZoneRecord::Offset(zero);
-    assert_ne!(rt; zone, TimeZoneRecord::Name(b"UTC"));
+    check(&rt, "a zone", zone != TimeZoneRecord::Name(b"UTC"));
     let hours = TimeDurationRecord::Hours {
         hours: 1,
         fraction: None,
@@ -322,7 +373,7 @@ fn has_every_variant() {
         minutes: 0,
         fraction: None,
     };
-    assert_ne!(rt; hours, minutes);
+    check(&rt, "a duration", hours != minutes);
 }
 
 // The records of a duration, with all that they have by its name.
@@ -344,29 +395,31 @@ fn longest_duration() -> DurationParseRecord {
     }
 }
 
+// Whether the parser reads that duration.
+fn reads_the_longest(mut parser: IsoDurationParser<'_, Utf8>) -> bool {
+    parser.parse() == Ok(longest_duration())
+}
+
 #[test]
 fn has_the_reader_of_durations() {
     let rt = HostRuntime;
     let empty: [u16; 0] = [];
-    let mut text: IsoDurationParser<'_, Utf8> = IsoDurationParser::new(b"-P1Y2M3W4DT5H6M7S");
-    let longest = text.parse();
-    assert_eq!(rt; longest, Ok(longest_duration()));
+    let text = IsoDurationParser::new(b"-P1Y2M3W4DT5H6M7S");
+    check(&rt, "a duration", reads_the_longest(text));
     let nothing = IsoDurationParser::from_str("").parse();
-    assert!(rt; nothing.is_err());
+    check(&rt, "no text", nothing.is_err());
     let bytes = IsoDurationParser::<Utf8>::from_utf8(b"").parse();
-    assert!(rt; bytes.is_err());
+    check(&rt, "no bytes", bytes.is_err());
     let wide = IsoDurationParser::<Utf16>::from_utf8(&empty).parse();
-    assert!(rt; wide.is_err());
+    check(&rt, "no units", wide.is_err());
 }
 
 #[test]
 fn has_each_profile() {
     let rt = HostRuntime;
-    assert_ne!(rt; Profile::Crate, Profile::Strict);
+    check(&rt, "profiles", Profile::Crate != Profile::Strict);
     let mut text = IxdtfParser::from_str("11-00").with_profile(Profile::Strict);
-    let day = text.parse_month_day();
-    assert!(rt; day.is_err());
+    check(&rt, "day zero", text.parse_month_day().is_err());
     let mut duration = IsoDurationParser::from_str("P1Y2Y").with_profile(Profile::Crate);
-    let years = duration.parse();
-    assert!(rt; years.is_ok());
+    check(&rt, "two years", duration.parse().is_ok());
 }

@@ -6,53 +6,59 @@
 use crate::runtime::{HostRuntime, TryClone};
 
 use super::replies::{Form, check_read_once};
-use super::{AT_DIGIT, AT_MONTH_DAY, AT_OFFSET, AT_START, AT_ZONE, Parsers, Reader};
+use super::{AT_DIGIT, AT_MONTH_DAY, AT_OFFSET, AT_START, AT_ZONE, Parsers, Reader, check_reader};
 use ixdtf::ParseError;
 use crate::runtime::Abort;
 
-fn check_once(rt: &impl Abort, reader: Reader, text: &'static str, at_end: ParseError) {
+// Whether the text is read, and then refused as the empty text is.
+fn is_read_once(reader: Reader, text: &'static str, at_end: ParseError) -> bool {
     let mut parsers = Parsers::from_str(text);
-    let first = parsers.refusal(reader);
-    assert_eq!(rt; first, None, "{reader:?} at {text}");
-    let second = parsers.refusal(reader);
-    assert_eq!(rt; second, Some(at_end), "{reader:?} after {text}");
-    let empty = Parsers::from_str("").refusal(reader);
-    assert_eq!(rt; empty, Some(at_end), "{reader:?}");
+    let is_read = parsers.refusal(reader) == None;
+    let is_at_its_end = parsers.refusal(reader) == Some(at_end);
+    is_read && is_at_its_end && Parsers::from_str("").refusal(reader) == Some(at_end)
 }
+
+fn check_once(rt: &impl Abort, rows: &[(Reader, &'static str, ParseError)]) {
+    for (reader, text, at_end) in rows {
+        check_reader(rt, *reader, text, is_read_once(*reader, text, *at_end));
+    }
+}
+
+const TEXTS: &[(Reader, &str, ParseError)] = &[
+    (Reader::Parse, "2020-04-08T12Z[cet][u-ca=iso8601]", AT_DIGIT),
+    (Reader::YearMonth, "2020-04[cet]", AT_DIGIT),
+    (Reader::MonthDay, "04-08[cet]", AT_MONTH_DAY),
+    (Reader::Time, "12:30Z[cet]", AT_DIGIT),
+];
 
 #[test]
 fn reads_a_text_once() {
     let rt = HostRuntime;
-    check_once(
-        &rt,
-        Reader::Parse,
-        "2020-04-08T12Z[cet][u-ca=iso8601]",
-        AT_DIGIT,
-    );
-    check_once(&rt, Reader::YearMonth, "2020-04[cet]", AT_DIGIT);
-    check_once(&rt, Reader::MonthDay, "04-08[cet]", AT_MONTH_DAY);
-    check_once(&rt, Reader::Time, "12:30Z[cet]", AT_DIGIT);
+    check_once(&rt, TEXTS);
 }
+
+const ZONES_AND_A_DURATION: &[(Reader, &str, ParseError)] = &[
+    (Reader::Offset, "+01:00:30", AT_OFFSET),
+    (Reader::Identifier, "UTC", AT_ZONE),
+    (Reader::IanaIdentifier, "UTC", ParseError::TzLeadingChar),
+    (Reader::Duration, "P1Y", AT_START),
+];
 
 #[test]
 fn reads_a_zone_or_a_duration_once() {
     let rt = HostRuntime;
-    check_once(&rt, Reader::Offset, "+01:00:30", AT_OFFSET);
-    check_once(&rt, Reader::Identifier, "UTC", AT_ZONE);
-    check_once(
-        &rt,
-        Reader::IanaIdentifier,
-        "UTC",
-        ParseError::TzLeadingChar,
-    );
-    check_once(&rt, Reader::Duration, "P1Y", AT_START);
+    check_once(&rt, ZONES_AND_A_DURATION);
 }
+
+const WITH_HANDLERS: &[(Form, &str, ParseError)] = &[
+    (Form::Parse, "2020-04-08[a=b]", AT_DIGIT),
+    (Form::YearMonth, "2020-04[a=b]", AT_DIGIT),
+    (Form::MonthDay, "04-08[a=b]", AT_MONTH_DAY),
+    (Form::Time, "12:30[a=b]", AT_DIGIT),
+];
 
 #[test]
 fn reads_a_text_once_with_a_handler() {
     let rt = HostRuntime;
-    check_read_once(&rt, Form::Parse, "2020-04-08[a=b]", AT_DIGIT);
-    check_read_once(&rt, Form::YearMonth, "2020-04[a=b]", AT_DIGIT);
-    check_read_once(&rt, Form::MonthDay, "04-08[a=b]", AT_MONTH_DAY);
-    check_read_once(&rt, Form::Time, "12:30[a=b]", AT_DIGIT);
+    check_read_once(&rt, WITH_HANDLERS);
 }

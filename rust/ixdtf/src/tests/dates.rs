@@ -3,7 +3,7 @@
 
 #[allow(unused_imports)]
 use crate::runtime::{HostRuntime, TryClone};
-use super::{Reader, check_kept, check_parsed, dated};
+use super::{Reader, check, check_kept, check_parsed, dated};
 use ixdtf::ParseError;
 use ixdtf::encoding::Utf8;
 use ixdtf::parsers::IxdtfParser;
@@ -56,12 +56,17 @@ fn keeps_what_it_refused() {
     );
 }
 
+// Whether the parser reads 1 January 2020.
+fn reads_new_year(mut parser: IxdtfParser<'_, Utf8>) -> bool {
+    parser.parse() == Ok(dated(2020, 1, 1, None))
+}
+
 #[test]
 fn reads_units_and_bytes() {
     let rt = HostRuntime;
     let bytes = "2020-01-01".as_bytes();
-    let mut from_bytes = IxdtfParser::from_utf8(bytes);
-    assert_eq!(rt; from_bytes.parse(), Ok(dated(2020, 1, 1, None)));
-    let mut from_units: IxdtfParser<'_, Utf8> = IxdtfParser::new(bytes);
-    assert_eq!(rt; from_units.parse(), Ok(dated(2020, 1, 1, None)));
+    let from_bytes = IxdtfParser::from_utf8(bytes);
+    check(&rt, "bytes", reads_new_year(from_bytes));
+    let from_units: IxdtfParser<'_, Utf8> = IxdtfParser::new(bytes);
+    check(&rt, "units", reads_new_year(from_units));
 }

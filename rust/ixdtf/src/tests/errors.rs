@@ -5,7 +5,7 @@
 #[allow(unused_imports)]
 use crate::runtime::{HostRuntime, TryClone};
 
-use super::AT_DATE;
+use super::{AT_DATE, AT_DIGIT, check};
 use ixdtf::ParseError::{
     self, AbruptEnd, AmbiguousTimeMonthDay, AmbiguousTimeYearMonth, AnnotationChar,
     AnnotationClose, AnnotationKeyChar, AnnotationKeyLeadingChar, AnnotationKeyValueSeparator,
@@ -25,7 +25,7 @@ use crate::runtime::Fail;
 // The errors have the texts beside them.
 fn check_texts(rt: &impl Abort, rows: &[(ParseError, &'static str)]) {
     for (error, text) in rows {
-        assert_eq!(rt; error.to_static_string(), *text);
+        check(rt, text, error.to_static_string() == *text);
     }
 }
 
@@ -175,9 +175,9 @@ fn check_printed(
     text: &'static str,
 ) -> Result<(), Fail> {
     let displayed = format!(in alloc; "{error}")?;
-    assert_eq!(rt; displayed.as_str(), text);
+    check(rt, text, displayed.as_str() == text);
     let wide = format!(in alloc; "{error:*>80}")?;
-    assert_eq!(rt; wide.as_str(), text);
+    check(rt, text, wide.as_str() == text);
     Ok(())
 }
 
@@ -201,13 +201,12 @@ fn prints_one_text_at_any_width() -> Result<(), Fail> {
 #[test]
 fn ends_are_equal_by_their_locations() {
     let rt = HostRuntime;
-    let at_digit = AbruptEnd { location: "digit" };
     let at_digits = AbruptEnd {
         location: &"digits"[..5],
     };
-    assert_eq!(rt; at_digit, at_digits);
-    assert_ne!(rt; at_digit, AT_DATE);
-    assert_ne!(rt; at_digit, InvalidEnd);
-    let copy: Result<ParseError, _> = at_digit.try_clone();
-    assert_eq!(rt; copy, Ok(at_digit));
+    check(&rt, "digit", AT_DIGIT == at_digits);
+    check(&rt, "Date", AT_DIGIT != AT_DATE);
+    check(&rt, "another error", AT_DIGIT != InvalidEnd);
+    let copy: Result<ParseError, _> = AT_DIGIT.try_clone();
+    check(&rt, "a clone", copy == Ok(AT_DIGIT));
 }

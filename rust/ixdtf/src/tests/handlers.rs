@@ -3,18 +3,17 @@
 
 #[allow(unused_imports)]
 use crate::runtime::{HostRuntime, TryClone};
-use super::{dated, morning, short};
+use super::{Record, check, dated, morning, short};
 use ixdtf::encoding::Utf8;
 use ixdtf::parsers::IxdtfParser;
 use ixdtf::records::{Annotation, DateRecord, Sign, UtcOffsetRecordOrZ};
 use ixdtf::{ParseError, ParserResult};
 use crate::runtime::Fail;
 
-#[test]
-fn takes_a_calendar_that_is_not_of_the_source() {
-    let rt = HostRuntime;
-    let mut parser = IxdtfParser::from_str("2020-01-01[x=y][u-ca=iso8601]");
-    let found = parser.parse_with_annotation_handler(|annotation| {
+// What a text gives where the calendar of the first reply is not of the source.
+fn with_a_foreign_calendar(text: &'static str) -> ParserResult<Record> {
+    let mut parser = IxdtfParser::from_str(text);
+    parser.parse_with_annotation_handler(|annotation| {
         if annotation.key == b"x".as_slice() {
             Some(Annotation {
                 critical: false,
@@ -24,10 +23,16 @@ fn takes_a_calendar_that_is_not_of_the_source() {
         } else {
             Some(annotation)
         }
-    });
+    })
+}
+
+#[test]
+fn takes_a_calendar_that_is_not_of_the_source() {
+    let rt = HostRuntime;
+    let text = "2020-01-01[x=y][u-ca=iso8601]";
     let mut record = dated(2020, 1, 1, None);
     record.calendar = Some(b"\xff\x00 foreign".as_slice());
-    assert_eq!(rt; found, Ok(record));
+    check(&rt, text, with_a_foreign_calendar(text) == Ok(record));
 }
 
 /// What a handler saw.
@@ -37,6 +42,12 @@ struct Seen {
 }
 
 impl Seen {
+    // What a text gives with this for its handler.
+    fn parse(&mut self, text: &'static str) -> ParserResult<Record> {
+        let mut parser = IxdtfParser::from_str(text);
+        parser.parse_with_annotation_handler(|annotation| self.reply(annotation))
+    }
+
     // Passes over the answer to the universe, and hands any other annotation back.
     fn reply<'a>(&mut self, annotation: Annotation<'a, Utf8>) -> Option<Annotation<'a, Utf8>> {
         self.calls = self.calls.saturating_add(1);
@@ -58,22 +69,31 @@ fn passes_over_the_answer_to_the_universe() {
         calls: 0,
         second_is_known: false,
     };
-    let mut parser = IxdtfParser::from_str(text);
-    let found = parser.parse_with_annotation_handler(|annotation| seen.reply(annotation));
+    let found = seen.parse(text);
     let offset = UtcOffsetRecordOrZ::Offset(short(Sign::Negative, 5, 0));
     let record = morning(Some(offset), None, Some("iso8601"));
-    assert_eq!(rt; found, Ok(record));
-    assert!(rt; seen.second_is_known && seen.calls == 2);
+    check(&rt, text, found == Ok(record));
+    check(&rt, "its calls", seen.second_is_known && seen.calls == 2);
+}
+
+// What a parser gives, and then what it gives where all annotations are passed over.
+fn read_in_turn(text: &'static str) -> (ParserResult<Record>, ParserResult<Record>) {
+    let mut parser = IxdtfParser::from_str(text);
+    let first = parser.parse();
+    (
+        first,
+        parser.parse_with_annotation_handler(|_annotation| None),
+    )
 }
 
 #[test]
 fn keeps_pairs_that_it_refused() {
     let rt = HostRuntime;
-    let mut parser = IxdtfParser::from_str("2020-01-01[u-ca=a][x=y][!c=d]");
-    let first = parser.parse();
-    assert_eq!(rt; first, Err(ParseError::UnrecognizedCritical));
-    let second = parser.parse_with_annotation_handler(|_annotation| None);
-    assert_eq!(rt; second, Ok(dated(2020, 1, 1, None)));
+    let (first, second) = read_in_turn("2020-01-01[u-ca=a][x=y][!c=d]");
+    let is_refused = first == Err(ParseError::UnrecognizedCritical);
+    check(&rt, "the first call", is_refused);
+    let is_read = second == Ok(dated(2020, 1, 1, None));
+    check(&rt, "the second call", is_read);
 }
 
 // The date of a text whose annotations are all passed over, as a result of the crate.
@@ -94,22 +114,26 @@ fn hands_an_error_on() -> Result<(), Fail> {
         month: 1,
         day: 2,
     };
-    assert_eq!(rt; date, Some(wanted));
-    assert_eq!(rt;
-        date_of("2020-01-02[!c=d"),
-        Err(ParseError::AnnotationClose)
-    );
+    check(&rt, "a date", date == Some(wanted));
+    let is_refused = date_of("2020-01-02[!c=d") == Err(ParseError::AnnotationClose);
+    check(&rt, "an open bracket", is_refused);
     Ok(())
 }
 
-#[test]
-fn may_be_discarded() {
-    let rt = HostRuntime;
-    let mut parser = IxdtfParser::from_str("2020-01-01[a=b][!c=d]");
+// How many calls a text makes, whatever it gives.
+fn count_calls(text: &str) -> u32 {
+    let mut parser = IxdtfParser::from_str(text);
     let mut calls = 0u32;
     let _ = parser.parse_with_annotation_handler(|annotation| {
         calls = calls.saturating_add(1);
         Some(annotation)
     });
-    assert_eq!(rt; calls, 2);
+    calls
+}
+
+#[test]
+fn may_be_discarded() {
+    let rt = HostRuntime;
+    let text = "2020-01-01[a=b][!c=d]";
+    check(&rt, text, count_calls(text) == 2);
 }

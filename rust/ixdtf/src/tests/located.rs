@@ -5,7 +5,7 @@
 #[allow(unused_imports)]
 use crate::runtime::{HostRuntime, TryClone};
 
-use super::AT_DIGIT;
+use super::{AT_DIGIT, check};
 use ixdtf::LocatedError;
 use ixdtf::ParseError::{self, InvalidEnd, InvalidMonthRange};
 use crate::runtime::{AllocError, Global, String};
@@ -17,57 +17,55 @@ const AT_FIVE: LocatedError = LocatedError {
     at: 5,
 };
 
+const AT_THE_END: LocatedError = LocatedError {
+    error: AT_DIGIT,
+    at: 1234,
+};
+
+fn check_displayed(
+    rt: &impl Abort,
+    alloc: Global,
+    error: LocatedError,
+    text: &'static str,
+) -> Result<(), Fail> {
+    let displayed = format!(in alloc; "{error}")?;
+    check(rt, text, displayed.as_str() == text);
+    let wide = format!(in alloc; "{error:*>80}")?;
+    check(rt, text, wide.as_str() == text);
+    Ok(())
+}
+
 #[test]
 fn displays_the_error_and_its_place() -> Result<(), Fail> {
     let rt = HostRuntime;
-    let month = format!(in rt.alloc(); "{AT_FIVE}")?;
-    assert_eq!(rt;
-        month.as_str(),
-        "Parsed month value not in a valid range. at 5"
-    );
-    let end = LocatedError {
-        error: AT_DIGIT,
-        at: 1234,
-    };
-    let written = format!(in rt.alloc(); "{end}")?;
-    assert_eq!(rt;
-        written.as_str(),
-        "Parsing ended abruptly while parsing digit at 1234"
-    );
-    let wide = format!(in rt.alloc(); "{end:*>80}")?;
-    assert_eq!(rt;
-        wide.as_str(),
-        "Parsing ended abruptly while parsing digit at 1234"
-    );
-    Ok(())
+    let month = "Parsed month value not in a valid range. at 5";
+    check_displayed(&rt, rt.alloc(), AT_FIVE, month)?;
+    let end = "Parsing ended abruptly while parsing digit at 1234";
+    check_displayed(&rt, rt.alloc(), AT_THE_END, end)
 }
 
 #[test]
 fn is_equal_by_error_and_place() {
     let rt = HostRuntime;
     let copy: Result<LocatedError, _> = AT_FIVE.try_clone();
-    assert_eq!(rt; copy, Ok(AT_FIVE));
-    assert_ne!(rt;
-        AT_FIVE,
-        LocatedError {
-            error: InvalidMonthRange,
-            at: 6
-        }
-    );
-    assert_ne!(rt;
-        AT_FIVE,
-        LocatedError {
-            error: InvalidEnd,
-            at: 5
-        }
-    );
+    check(&rt, "a clone", copy == Ok(AT_FIVE));
+    let place = LocatedError {
+        error: InvalidMonthRange,
+        at: 6,
+    };
+    check(&rt, "another place", AT_FIVE != place);
+    let error = LocatedError {
+        error: InvalidEnd,
+        at: 5,
+    };
+    check(&rt, "another error", AT_FIVE != error);
 }
 
 #[test]
 fn gives_its_error() {
     let rt = HostRuntime;
     let error: ParseError = ParseError::from(AT_FIVE);
-    assert_eq!(rt; error, InvalidMonthRange);
+    check(&rt, "its error", error == InvalidMonthRange);
 }
 
 // The two lines for a text and a place in it.
@@ -89,39 +87,62 @@ fn check_pointed(
     lines: &str,
 ) -> Result<(), Fail> {
     let written = pointed(alloc, text, at)?;
-    assert_eq!(rt; written.as_str(), lines);
+    check(rt, lines, written.as_str() == lines);
     Ok(())
 }
+
+// The texts have the lines, each with a mark under its place.
+fn check_marks(
+    rt: &impl Abort,
+    alloc: Global,
+    rows: &[(&'static str, usize, &'static str)],
+) -> Result<(), Fail> {
+    for (text, at, lines) in rows {
+        check_pointed(rt, alloc, text, *at, lines)?;
+    }
+    Ok(())
+}
+
+const MARKS: &[(&str, usize, &str)] = &[
+    ("2020-13-01", 7, "2020-13-01\n       ^"),
+    ("x", 0, "x\n^"),
+    ("2020-", 5, "2020-\n     ^"),
+    ("2020-", 1000, "2020-\n     ^"),
+    ("", 0, "\n^"),
+    ("", 1, "\n^"),
+];
 
 #[test]
 fn marks_the_place() -> Result<(), Fail> {
     let rt = HostRuntime;
-    check_pointed(&rt, rt.alloc(), "2020-13-01", 7, "2020-13-01\n       ^")?;
-    check_pointed(&rt, rt.alloc(), "x", 0, "x\n^")?;
-    check_pointed(&rt, rt.alloc(), "2020-", 5, "2020-\n     ^")?;
-    check_pointed(&rt, rt.alloc(), "2020-", 1000, "2020-\n     ^")?;
-    check_pointed(&rt, rt.alloc(), "", 0, "\n^")?;
-    check_pointed(&rt, rt.alloc(), "", 1, "\n^")
+    check_marks(&rt, rt.alloc(), MARKS)
 }
+
+// The last two places are inside a character.
+const COLUMNS: &[(&str, usize, &str)] = &[
+    ("\u{e9}1\u{1f600}2", 2, "\u{e9}1\u{1f600}2\n ^"),
+    ("\u{e9}1\u{1f600}2", 7, "\u{e9}1\u{1f600}2\n   ^"),
+    ("\u{e9}1\u{1f600}2", 8, "\u{e9}1\u{1f600}2\n    ^"),
+    ("\u{e9}1\u{1f600}2", 1, "\u{e9}1\u{1f600}2\n^"),
+    ("\u{e9}1\u{1f600}2", 6, "\u{e9}1\u{1f600}2\n  ^"),
+];
 
 #[test]
 fn counts_columns_by_characters() -> Result<(), Fail> {
     let rt = HostRuntime;
-    let text = "\u{e9}1\u{1f600}2";
-    check_pointed(&rt, rt.alloc(), text, 2, "\u{e9}1\u{1f600}2\n ^")?;
-    check_pointed(&rt, rt.alloc(), text, 7, "\u{e9}1\u{1f600}2\n   ^")?;
-    check_pointed(&rt, rt.alloc(), text, 8, "\u{e9}1\u{1f600}2\n    ^")?;
-    // inside a character
-    check_pointed(&rt, rt.alloc(), text, 1, "\u{e9}1\u{1f600}2\n^")?;
-    check_pointed(&rt, rt.alloc(), text, 6, "\u{e9}1\u{1f600}2\n  ^")
+    check_marks(&rt, rt.alloc(), COLUMNS)
 }
+
+const CONTROLS: &[(&str, usize, &str)] = &[
+    ("2020\n-01", 4, "2020.-01\n    ^"),
+    ("\t\0\r\u{7f}x", 4, "....x\n    ^"),
+    ("\u{85}\u{a0}", 2, ".\u{a0}\n ^"),
+];
 
 #[test]
 fn shows_controls_as_dots() -> Result<(), Fail> {
     let rt = HostRuntime;
-    check_pointed(&rt, rt.alloc(), "2020\n-01", 4, "2020.-01\n    ^")?;
-    check_pointed(&rt, rt.alloc(), "\t\0\r\u{7f}x", 4, "....x\n    ^")?;
-    check_pointed(&rt, rt.alloc(), "\u{85}\u{a0}", 2, ".\u{a0}\n ^")
+    check_marks(&rt, rt.alloc(), CONTROLS)
 }
 
 // Thirty times the ten digits.
@@ -133,70 +154,63 @@ fn long_text(alloc: Global) -> Result<String, AllocError> {
     Ok(text)
 }
 
+const OF_A_LONG_TEXT: &[(usize, &str)] = &[
+    (
+        150,
+        "..234567890123456789012345678901234567890123456789012345678901234567890123..\n                                                  ^",
+    ),
+    (0, "012345678901234567890123..\n^"),
+    (
+        300,
+        "..234567890123456789012345678901234567890123456789\n                                                  ^",
+    ),
+];
+
 #[test]
 fn cuts_long_texts() -> Result<(), Fail> {
     let rt = HostRuntime;
     let text = long_text(rt.alloc())?;
-    check_pointed(
-        &rt,
-        rt.alloc(),
-        text.as_str(),
-        150,
-        "..234567890123456789012345678901234567890123456789012345678901234567890123..\n                                                  ^",
-    )?;
-    check_pointed(
-        &rt,
-        rt.alloc(),
-        text.as_str(),
-        0,
-        "012345678901234567890123..\n^",
-    )?;
-    check_pointed(
-        &rt,
-        rt.alloc(),
-        text.as_str(),
-        300,
-        "..234567890123456789012345678901234567890123456789\n                                                  ^",
-    )
+    for (at, lines) in OF_A_LONG_TEXT {
+        check_pointed(&rt, rt.alloc(), text.as_str(), *at, lines)?;
+    }
+    Ok(())
 }
+
+const OF_A_CUT_FRONT: &[(&str, usize, &str)] = &[(
+    "2024-03-02T08:48:00-05:00[America/New_York][u-ca=hebrew][key=a_b]",
+    62,
+    "..48:00-05:00[America/New_York][u-ca=hebrew][key=a_b]\n                                                  ^",
+)];
 
 #[test]
 fn cuts_the_front_of_a_text() -> Result<(), Fail> {
     let rt = HostRuntime;
-    check_pointed(
-        &rt,
-        rt.alloc(),
-        "2024-03-02T08:48:00-05:00[America/New_York][u-ca=hebrew][key=a_b]",
-        62,
-        "..48:00-05:00[America/New_York][u-ca=hebrew][key=a_b]\n                                                  ^",
-    )
+    check_marks(&rt, rt.alloc(), OF_A_CUT_FRONT)
 }
 
 // As many characters before the place 48 and from it on as are written at most.
 const FULL: &str = "000000000011111111112222222222333333333344444444555555555566666666667777";
 
-#[test]
-fn cuts_no_text_that_fits() -> Result<(), Fail> {
-    let rt = HostRuntime;
-    check_pointed(
-        &rt,
-        rt.alloc(),
+const OF_A_FULL_TEXT: &[(&str, usize, &str)] = &[
+    (
         FULL,
         48,
         "000000000011111111112222222222333333333344444444555555555566666666667777\n                                                ^",
-    )?;
-    check_pointed(
-        &rt,
-        rt.alloc(),
+    ),
+    (
         FULL,
         47,
         "00000000001111111111222222222233333333334444444455555555556666666666777..\n                                               ^",
-    )?;
-    check_pointed(
-        &rt,
-        rt.alloc(),
+    ),
+    (
         FULL,
         49,
         "..00000000011111111112222222222333333333344444444555555555566666666667777\n                                                  ^",
-    )
+    ),
+];
+
+#[test]
+fn cuts_no_text_that_fits() -> Result<(), Fail> {
+    let rt = HostRuntime;
+    check_marks(&rt, rt.alloc(), OF_A_FULL_TEXT)
 }

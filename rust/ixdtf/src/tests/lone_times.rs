@@ -4,7 +4,8 @@
 #[allow(unused_imports)]
 use crate::runtime::{HostRuntime, TryClone};
 use super::{
-    AT_DIGIT, Found, Reader, alone, check_found, check_in_turn, dated, minutes, parts, short, timed,
+    AT_DIGIT, Found, Reader, alone, check_found, check_once_read, dated, minutes, parts, short,
+    timed,
 };
 use ixdtf::ParseError;
 use ixdtf::records::{Sign, TimeZoneAnnotation, TimeZoneRecord, UtcOffsetRecordOrZ};
@@ -92,16 +93,23 @@ fn reads_an_offset_in_brackets_after_a_time_alone() {
     );
 }
 
+const BEFORE_A_YEAR_MONTH: &[(Reader, ParseError)] = &[(
+    Reader::Time,
+    ParseError::AmbiguousTimeYearMonth,
+)];
+
+const BEHIND_A_YEAR_MONTH: &[(Reader, ParseError)] = &[(Reader::YearMonth, AT_DIGIT)];
+
 #[test]
 fn leaves_what_it_refused_to_another_reader() {
     let rt = HostRuntime;
-    let steps = [
-        (Reader::Time, Err(ParseError::AmbiguousTimeYearMonth)),
-        (
-            Reader::YearMonth,
-            Ok(Found::Parts(dated(2021, 12, 1, None))),
-        ),
-        (Reader::YearMonth, Err(AT_DIGIT)),
-    ];
-    check_in_turn(&rt, "2021-12", &steps);
+    let month = Found::Parts(dated(2021, 12, 1, None));
+    check_once_read(
+        &rt,
+        "2021-12",
+        BEFORE_A_YEAR_MONTH,
+        Reader::YearMonth,
+        &month,
+        BEHIND_A_YEAR_MONTH,
+    );
 }

@@ -6,7 +6,8 @@
 use crate::runtime::{HostRuntime, TryClone};
 
 use super::{
-    AT_DIGIT, AT_MONTH_DAY, AT_OFFSET, Found, Reader, Record, check_in_turn, dated, named, parts,
+    AT_DIGIT, AT_MONTH_DAY, AT_OFFSET, Found, Reader, Record, check, check_once_read, dated, named,
+    parts,
 };
 use ixdtf::encoding::Utf8;
 use ixdtf::parsers::IxdtfParser;
@@ -60,8 +61,8 @@ fn replied(odd: Odd) -> (ParserResult<Record>, usize) {
 // A text with two annotations gives this with such a handler, after so many calls.
 fn check_replied(rt: &impl Abort, odd: Odd, wanted: &ParserResult<Record>, wanted_calls: usize) {
     let (found, calls) = replied(odd);
-    assert!(rt; found == *wanted);
-    assert_eq!(rt; calls, wanted_calls);
+    check(rt, "what a text gives", found == *wanted);
+    check(rt, "how many calls", calls == wanted_calls);
 }
 
 #[test]
@@ -75,26 +76,35 @@ fn heeds_replies_of_no_source() {
     check_replied(&rt, Odd::EmptyKey, &critical, 1);
 }
 
+const BEHIND_A_DATE: &[(Reader, ParseError)] = &[
+    (Reader::Parse, AT_DIGIT),
+    (Reader::MonthDay, AT_MONTH_DAY),
+];
+
 #[test]
 fn leaves_no_date_to_the_next_reader() {
     let rt = HostRuntime;
     let date = Found::Parts(dated(2020, 1, 1, None));
-    let steps = [
-        (Reader::Parse, Ok(date)),
-        (Reader::Parse, Err(AT_DIGIT)),
-        (Reader::MonthDay, Err(AT_MONTH_DAY)),
-    ];
-    check_in_turn(&rt, "2020-01-01", &steps);
+    check_once_read(&rt, "2020-01-01", &[], Reader::Parse, &date, BEHIND_A_DATE);
 }
+
+const BEFORE_A_ZONE: &[(Reader, ParseError)] = &[(Reader::Offset, ParseError::OffsetNeedsSign)];
+
+const BEHIND_A_ZONE: &[(Reader, ParseError)] = &[
+    (Reader::IanaIdentifier, ParseError::TzLeadingChar),
+    (Reader::Offset, AT_OFFSET),
+];
 
 #[test]
 fn leaves_no_zone_to_the_next_reader() {
     let rt = HostRuntime;
-    let steps = [
-        (Reader::Offset, Err(ParseError::OffsetNeedsSign)),
-        (Reader::Identifier, Ok(Found::Zone(named("UTC")))),
-        (Reader::IanaIdentifier, Err(ParseError::TzLeadingChar)),
-        (Reader::Offset, Err(AT_OFFSET)),
-    ];
-    check_in_turn(&rt, "UTC", &steps);
+    let zone = Found::Zone(named("UTC"));
+    check_once_read(
+        &rt,
+        "UTC",
+        BEFORE_A_ZONE,
+        Reader::Identifier,
+        &zone,
+        BEHIND_A_ZONE,
+    );
 }

@@ -4,8 +4,8 @@
 #[allow(unused_imports)]
 use crate::runtime::{HostRuntime, TryClone};
 use super::{
-    AT_OFFSET, Found, Reader, check_found, check_fraction, check_in_turn, check_parsed, dated,
-    fraction_of, long, minutes, morning, short, timed,
+    AT_OFFSET, Found, Reader, check, check_found, check_fraction, check_once_read, check_parsed,
+    dated, fraction_of, long, minutes, morning, short, timed,
 };
 use ixdtf::ParseError;
 use ixdtf::records::{Sign, UtcOffsetRecord, UtcOffsetRecordOrZ};
@@ -70,10 +70,15 @@ fn check_east(rt: &impl Abort, rows: &[(&'static str, u8, u8, u8)]) {
     }
 }
 
+const OFFSETS_WITH_SECONDS: &[(&str, u8, u8, u8)] = &[
+    ("+235959", 23, 59, 59),
+    ("+01:00:00", 1, 0, 0),
+];
+
 #[test]
 fn reads_offsets_with_seconds() {
     let rt = HostRuntime;
-    check_east(&rt, &[("+235959", 23, 59, 59), ("+01:00:00", 1, 0, 0)]);
+    check_east(&rt, OFFSETS_WITH_SECONDS);
 }
 
 // Half a minute, five hours to the west, with a fraction of these nanoseconds.
@@ -150,7 +155,7 @@ fn reads_utc() {
     record.offset = Some(UtcOffsetRecordOrZ::Z);
     check_parsed(&rt, "2020-01-01T00:00z", &Ok(record));
     let resolved = UtcOffsetRecordOrZ::Z.resolve_rfc_9557();
-    assert_eq!(rt; resolved, short(Sign::Negative, 0, 0));
+    check(&rt, "Z", resolved == short(Sign::Negative, 0, 0));
 }
 
 #[test]
@@ -160,17 +165,23 @@ fn reads_the_offset_that_z_resolves_to() {
     check_morning(&rt, "2024-03-02T08:48:00-00:00", zulu);
 }
 
+const BEFORE_AN_OFFSET: &[(Reader, ParseError)] = &[(
+    Reader::Identifier,
+    ParseError::InvalidMinutePrecisionOffset,
+)];
+
+const BEHIND_AN_OFFSET: &[(Reader, ParseError)] = &[(Reader::Offset, AT_OFFSET)];
+
 #[test]
 fn reads_an_offset_once() {
     let rt = HostRuntime;
-    let offset = long(minutes(Sign::Positive, 1, 0), 30, None);
-    let steps = [
-        (
-            Reader::Identifier,
-            Err(ParseError::InvalidMinutePrecisionOffset),
-        ),
-        (Reader::Offset, Ok(Found::Offset(offset))),
-        (Reader::Offset, Err(AT_OFFSET)),
-    ];
-    check_in_turn(&rt, "+01:00:30", &steps);
+    let offset = Found::Offset(long(minutes(Sign::Positive, 1, 0), 30, None));
+    check_once_read(
+        &rt,
+        "+01:00:30",
+        BEFORE_AN_OFFSET,
+        Reader::Offset,
+        &offset,
+        BEHIND_AN_OFFSET,
+    );
 }

@@ -7,7 +7,9 @@ use crate::runtime::{HostRuntime, TryClone};
 
 use super::durations::{dated as lasting, hours, lasts};
 use super::wide::Wide;
-use super::{Found, Parsers, Reader, alone, dated, short, timed};
+use super::{
+    Found, Parsers, Reader, alone, check, check_reader, check_refusals, dated, short, timed,
+};
 use ixdtf::ParseError::{
     self, AmbiguousTimeMonthDay, AmbiguousTimeYearMonth, DateDurationPartOrder,
     DurationValueExceededRange, InvalidEnd, InvalidMonthDay, TimeDurationPartOrder,
@@ -36,16 +38,19 @@ fn read_under(reader: Reader, text: &'static str, profile: Profile) -> Outcome {
     under(Parsers::from_str(text), profile).read(reader)
 }
 
-/// The reader gives the first for each text, and under the strict profile the second.
-fn check_both(rt: &impl Abort, reader: Reader, rows: &[(&'static str, Outcome, Outcome)]) {
-    for (text, wanted, strictly) in rows {
-        let found = Parsers::from_str(text).read(reader);
-        assert!(rt; found == *wanted, "{reader:?} at {text}");
-        let found = read_under(reader, text, Profile::Crate);
-        assert!(rt; found == *wanted, "{reader:?} at {text}, set back");
-        let found = read_under(reader, text, Profile::Strict);
-        assert!(rt; found == *strictly, "{reader:?} at {text}, strictly");
-    }
+/// The reader gives the first for the text, and under the strict profile the second.
+fn check_both(
+    rt: &impl Abort,
+    reader: Reader,
+    text: &'static str,
+    wanted: &Outcome,
+    strictly: &Outcome,
+) {
+    let is_found = Parsers::from_str(text).read(reader) == *wanted;
+    let is_found_again = read_under(reader, text, Profile::Crate) == *wanted;
+    check_reader(rt, reader, text, is_found && is_found_again);
+    let is_found = read_under(reader, text, Profile::Strict) == *strictly;
+    assert!(rt; is_found, "{reader:?} at {text}, strictly");
 }
 
 fn month_day(month: u8, day: u8) -> Outcome {
@@ -60,189 +65,209 @@ fn duration(date: Option<DateDurationRecord>, time: Option<TimeDurationRecord>) 
     Ok(Found::Duration(lasts(Sign::Positive, date, time)))
 }
 
+const DAYS_OF_ZERO: &[(&str, u8)] = &[("11-00", 11), ("--11-00", 11), ("0200", 2)];
+
 #[test]
 fn reads_no_day_zero_strictly() {
     let rt = HostRuntime;
-    let rows = [
-        ("11-00", month_day(11, 0), Err(InvalidMonthDay)),
-        ("--11-00", month_day(11, 0), Err(InvalidMonthDay)),
-        ("0200", month_day(2, 0), Err(InvalidMonthDay)),
-        ("11-001", Err(InvalidEnd), Err(InvalidMonthDay)),
-    ];
-    check_both(&rt, Reader::MonthDay, &rows);
+    let refused = Err(InvalidMonthDay);
+    for (text, month) in DAYS_OF_ZERO {
+        check_both(&rt, Reader::MonthDay, text, &month_day(*month, 0), &refused);
+    }
+    check_refused_in_both(&rt, Reader::MonthDay, MONTH_DAYS);
+}
+
+/// A text that the reader refuses, with its error, and its error under the strict profile.
+type Refused = (&'static str, ParseError, ParseError);
+
+fn check_refused_in_both(rt: &impl Abort, reader: Reader, rows: &[Refused]) {
+    for (text, error, strictly) in rows {
+        check_both(rt, reader, text, &Err(*error), &Err(*strictly));
+    }
+}
+
+const MONTH_DAYS: &[Refused] = &[("11-001", InvalidEnd, InvalidMonthDay)];
+
+/// A text that is read under the strict profile alone, with its time, and its offset of zero to the west where it has one.
+const STRICT_TIMES: &[(&str, (u8, u8, u8), bool)] = &[
+    ("1200", (12, 0, 0), false),
+    ("11-00", (11, 0, 0), true),
+    ("110013", (11, 0, 13), false),
+];
+
+const TIMES: &[Refused] = &[("110010", AmbiguousTimeMonthDay, AmbiguousTimeYearMonth)];
+
+// The time, with an offset of zero to the west.
+fn strict_time((hour, minute, second): (u8, u8, u8), is_west: bool) -> Outcome {
+    let west = UtcOffsetRecordOrZ::Offset(short(Sign::Negative, 0, 0));
+    time(
+        timed(hour, minute, second, None),
+        if is_west { Some(west) } else { None },
+    )
 }
 
 #[test]
 fn reads_minutes_of_zero_strictly() {
     let rt = HostRuntime;
-    let west = Some(UtcOffsetRecordOrZ::Offset(short(Sign::Negative, 0, 0)));
-    let rows = [
-        (
-            "1200",
-            Err(AmbiguousTimeMonthDay),
-            time(timed(12, 0, 0, None), None),
-        ),
-        (
-            "11-00",
-            Err(AmbiguousTimeMonthDay),
-            time(timed(11, 0, 0, None), west),
-        ),
-        (
-            "110013",
-            Err(AmbiguousTimeMonthDay),
-            time(timed(11, 0, 13, None), None),
-        ),
-        (
-            "110010",
-            Err(AmbiguousTimeMonthDay),
-            Err(AmbiguousTimeYearMonth),
-        ),
-    ];
-    check_both(&rt, Reader::Time, &rows);
+    let refused = Err(AmbiguousTimeMonthDay);
+    for (text, time, is_west) in STRICT_TIMES {
+        check_both(
+            &rt,
+            Reader::Time,
+            text,
+            &refused,
+            &strict_time(*time, *is_west),
+        );
+    }
+    check_refused_in_both(&rt, Reader::Time, TIMES);
 }
+
+const DURATIONS: &[Refused] = &[
+    (
+        "P1Y4294967296Y",
+        DurationValueExceededRange,
+        DateDurationPartOrder,
+    ),
+    ("PT0.5H1H", InvalidEnd, InvalidEnd),
+];
 
 #[test]
 fn reads_no_unit_twice_strictly() {
     let rt = HostRuntime;
-    let rows = [
-        (
-            "P1Y2Y",
-            duration(lasting(2, 0, 0, 0), None),
-            Err(DateDurationPartOrder),
-        ),
-        (
-            "P1Y4294967296Y",
-            Err(DurationValueExceededRange),
-            Err(DateDurationPartOrder),
-        ),
-        (
-            "PT1H2H",
-            duration(None, hours(2, None)),
-            Err(TimeDurationPartOrder),
-        ),
-        ("PT0.5H1H", Err(InvalidEnd), Err(InvalidEnd)),
-    ];
-    check_both(&rt, Reader::Duration, &rows);
+    let years = duration(lasting(2, 0, 0, 0), None);
+    let refused = Err(DateDurationPartOrder);
+    check_both(&rt, Reader::Duration, "P1Y2Y", &years, &refused);
+    let time = duration(None, hours(2, None));
+    let refused = Err(TimeDurationPartOrder);
+    check_both(&rt, Reader::Duration, "PT1H2H", &time, &refused);
+    check_refused_in_both(&rt, Reader::Duration, DURATIONS);
     let found = read_under(Reader::Duration, "PT1S2S", Profile::Strict);
-    assert!(rt; found == Err(TimeDurationPartOrder), "PT1S2S");
+    check(&rt, "PT1S2S", found == refused);
 }
 
 /// The reader gives the same for each text under both profiles.
 fn check_same(rt: &impl Abort, reader: Reader, texts: &[&'static str]) {
     for text in texts {
-        let found = Parsers::from_str(text).read(reader);
         let strictly = read_under(reader, text, Profile::Strict);
-        assert!(rt; found == strictly, "{reader:?} at {text}");
+        let is_same = Parsers::from_str(text).read(reader) == strictly;
+        check_reader(rt, reader, text, is_same);
     }
 }
+
+const DATES: &[&str] = &[
+    "2024-03-02T08:48:00.25",
+    "2024-03-02[UTC][u-ca=hebrew][a=b]",
+    "2021-02-29",
+    "2020-01-00",
+    "2020-01-01[!a=b]",
+];
+
+const YEAR_MONTHS: &[&str] = &["2020-01", "+00202011", "2020-00", "2020", "2020-11-08"];
 
 #[test]
 fn reads_dates_alike() {
     let rt = HostRuntime;
-    let texts = [
-        "2024-03-02T08:48:00.25",
-        "2024-03-02[UTC][u-ca=hebrew][a=b]",
-        "2021-02-29",
-        "2020-01-00",
-        "2020-01-01[!a=b]",
-    ];
-    check_same(&rt, Reader::Parse, &texts);
-    let texts = ["2020-01", "+00202011", "2020-00", "2020", "2020-11-08"];
-    check_same(&rt, Reader::YearMonth, &texts);
+    check_same(&rt, Reader::Parse, DATES);
+    check_same(&rt, Reader::YearMonth, YEAR_MONTHS);
 }
+
+const OTHER_MONTH_DAYS: &[&str] = &[
+    "11-07",
+    "1107",
+    "--11-07",
+    "11-01",
+    "02-29",
+    "--0430",
+    "1231",
+    "--1107[+04:00]",
+    "02-30",
+    "04-31",
+    "00-07",
+    "1300",
+    "-11-07",
+    "110",
+    "11-0x",
+    "",
+];
 
 #[test]
 fn reads_other_month_days_alike() {
     let rt = HostRuntime;
-    let texts = [
-        "11-07",
-        "1107",
-        "--11-07",
-        "11-01",
-        "02-29",
-        "--0430",
-        "1231",
-        "--1107[+04:00]",
-        "02-30",
-        "04-31",
-        "00-07",
-        "1300",
-        "-11-07",
-        "110",
-        "11-0x",
-        "",
-    ];
-    check_same(&rt, Reader::MonthDay, &texts);
+    check_same(&rt, Reader::MonthDay, OTHER_MONTH_DAYS);
 }
+
+const OTHER_TIMES: &[&str] = &[
+    "12",
+    "T1200",
+    "t121430",
+    "0230",
+    "0631",
+    "1232",
+    "13-14",
+    "2021-13",
+    "202113-13",
+    "0000-00",
+    "T1214Z",
+    "15:23:30.1234567890",
+    "12:01:04-05:00[America/New_York][u-ca=iso8601]",
+    "1208-10",
+    "121430",
+    "1214Z",
+    "2021-12",
+    "202112[UTC]",
+    "20240801",
+    "T19:12-089",
+    "",
+];
 
 #[test]
 fn reads_other_times_alike() {
     let rt = HostRuntime;
-    let texts = [
-        "12",
-        "T1200",
-        "t121430",
-        "0230",
-        "0631",
-        "1232",
-        "13-14",
-        "2021-13",
-        "202113-13",
-        "0000-00",
-        "T1214Z",
-        "15:23:30.1234567890",
-        "12:01:04-05:00[America/New_York][u-ca=iso8601]",
-        "1208-10",
-        "121430",
-        "1214Z",
-        "2021-12",
-        "202112[UTC]",
-        "20240801",
-        "T19:12-089",
-        "",
-    ];
-    check_same(&rt, Reader::Time, &texts);
+    check_same(&rt, Reader::Time, OTHER_TIMES);
 }
+
+const OTHER_DURATIONS: &[&str] = &[
+    "P1Y",
+    "+P1M",
+    "-p1w",
+    "P1y2m3W4d",
+    "P0D",
+    "P4294967295W",
+    "P18446744073709551615D",
+    "Pt1h2m3s",
+    "PT1H3S",
+    "PT1H1.123456789123M",
+    "-P1Y3wT0,5H",
+    "P1D1Y",
+    "P1D4294967296Y",
+    "P4294967296Y",
+    "P99999999999999999999X",
+    "PT1S1M",
+    "PT0.5H1M",
+    "PT1.H",
+    "P1YT",
+    "P",
+    "",
+];
 
 #[test]
 fn reads_other_durations_alike() {
     let rt = HostRuntime;
-    let texts = [
-        "P1Y",
-        "+P1M",
-        "-p1w",
-        "P1y2m3W4d",
-        "P0D",
-        "P4294967295W",
-        "P18446744073709551615D",
-        "Pt1h2m3s",
-        "PT1H3S",
-        "PT1H1.123456789123M",
-        "-P1Y3wT0,5H",
-        "P1D1Y",
-        "P1D4294967296Y",
-        "P4294967296Y",
-        "P99999999999999999999X",
-        "PT1S1M",
-        "PT0.5H1M",
-        "PT1.H",
-        "P1YT",
-        "P",
-        "",
-    ];
-    check_same(&rt, Reader::Duration, &texts);
+    check_same(&rt, Reader::Duration, OTHER_DURATIONS);
 }
+
+const REFUSED_TWICE: &[(Reader, ParseError)] = &[
+    (Reader::MonthDay, InvalidMonthDay),
+    (Reader::MonthDay, InvalidMonthDay),
+];
 
 #[test]
 fn stays_strict() {
     let rt = HostRuntime;
     let mut parsers = under(Parsers::from_str("11-00"), Profile::Strict);
-    let first = parsers.read(Reader::MonthDay);
-    assert!(rt; first == Err(InvalidMonthDay), "the first call");
-    let second = parsers.read(Reader::MonthDay);
-    assert!(rt; second == Err(InvalidMonthDay), "the second call");
-    let third = parsers.read(Reader::Time);
-    assert!(rt; third.is_ok(), "the third call");
+    check_refusals(&rt, "11-00", &mut parsers, REFUSED_TWICE);
+    let third = parsers.refusal(Reader::Time);
+    check(&rt, "the third call", third == None);
 }
 
 // How many annotations a strict time has.
@@ -262,29 +287,33 @@ fn count_strictly(text: &str) -> ParserResult<u32> {
 #[test]
 fn asks_handlers_of_strict_times() {
     let rt = HostRuntime;
-    assert_eq!(rt; count_strictly("1200[a=b][!c=d]"), Ok(2));
-    assert_eq!(rt; count_strictly("1214[a=b]"), Err(AmbiguousTimeMonthDay));
+    let is_counted = count_strictly("1200[a=b][!c=d]") == Ok(2);
+    check(&rt, "1200[a=b][!c=d]", is_counted);
+    let is_refused = count_strictly("1214[a=b]") == Err(AmbiguousTimeMonthDay);
+    check(&rt, "1214[a=b]", is_refused);
 }
+
+// The error of a strict reader of 16-bit units, where it refuses.
+fn strict_refusal(reader: Reader, text: &'static str) -> Option<ParseError> {
+    let wide = Wide::new(text);
+    under(Parsers::from_utf16(wide.units()), Profile::Strict).refusal(reader)
+}
+
+const WIDE_TEXTS: &[(Reader, &str, Option<ParseError>)] = &[
+    (Reader::MonthDay, "11-00", Some(InvalidMonthDay)),
+    (Reader::MonthDay, "11-01", None),
+    (Reader::Time, "1200", None),
+    (Reader::Time, "110010", Some(AmbiguousTimeYearMonth)),
+    (Reader::Duration, "P1Y2Y", Some(DateDurationPartOrder)),
+    (Reader::Duration, "P1Y2M", None),
+];
 
 #[test]
 fn reads_wide_texts_strictly() {
     let rt = HostRuntime;
-    let rows = [
-        (Reader::MonthDay, "11-00", Some(InvalidMonthDay)),
-        (Reader::MonthDay, "11-01", None),
-        (Reader::Time, "1200", None),
-        (Reader::Time, "110010", Some(AmbiguousTimeYearMonth)),
-        (Reader::Duration, "P1Y2Y", Some(DateDurationPartOrder)),
-        (Reader::Duration, "P1Y2M", None),
-    ];
-    for (reader, text, wanted) in rows {
-        let wide = Wide::new(text);
-        let mut parsers = under(Parsers::from_utf16(wide.units()), Profile::Strict);
-        let refused: Option<ParseError> = match parsers.read(reader) {
-            Ok(_) => None,
-            Err(error) => Some(error),
-        };
-        assert_eq!(rt; refused, wanted, "{reader:?} at {text}");
+    for (reader, text, wanted) in WIDE_TEXTS {
+        let is_wanted = strict_refusal(*reader, text) == *wanted;
+        check_reader(&rt, *reader, text, is_wanted);
     }
 }
 
@@ -292,9 +321,13 @@ fn reads_wide_texts_strictly() {
 fn is_as_large_as_a_slice_and_a_profile() {
     let rt = HostRuntime;
     let size = size_of::<(&'static [u8], Profile)>();
-    assert_eq!(rt; size, size_of::<&'static [u8]>().saturating_mul(3) / 2);
-    assert_eq!(rt; size_of::<IxdtfParser<'static, Utf8>>(), size);
-    assert_eq!(rt; size_of::<IxdtfParser<'static, Utf16>>(), size);
-    assert_eq!(rt; size_of::<IsoDurationParser<'static, Utf8>>(), size);
-    assert_eq!(rt; size_of::<Profile>(), 1);
+    let slice = size_of::<&'static [u8]>();
+    check(&rt, "a profile", size == slice.saturating_mul(3) / 2);
+    let dates = size_of::<IxdtfParser<'static, Utf8>>();
+    check(&rt, "a parser", dates == size);
+    let wide_dates = size_of::<IxdtfParser<'static, Utf16>>();
+    check(&rt, "a wide parser", wide_dates == size);
+    let durations = size_of::<IsoDurationParser<'static, Utf8>>();
+    check(&rt, "a parser of durations", durations == size);
+    check(&rt, "a byte", size_of::<Profile>() == 1);
 }

@@ -5,7 +5,7 @@
 use crate::runtime::{HostRuntime, TryClone};
 use super::wide::Wide;
 use super::widths::same_calendar;
-use super::{AT_DIGIT, Record, check_fraction, dated, fraction_of, parts, timed};
+use super::{AT_DIGIT, Record, check, check_fraction, fraction_of, parts, timed};
 use ixdtf::ParseError::{
     self, AnnotationClose, AnnotationKeyLeadingChar, AnnotationKeyValueSeparator,
     AnnotationValueChar, CriticalDuplicateCalendar, DateYear, InvalidEnd, InvalidMonthRange,
@@ -242,38 +242,83 @@ impl Asked {
     }
 }
 
+// Whether a text gives this with its handler, after its calls and no more.
+fn is_handled(asked: &Asked, wanted: &ParserResult<Record>) -> bool {
+    let mut listener = Listener::new(asked.kind);
+    let mut parser = IxdtfParser::from_str(asked.text);
+    heard(&mut parser, asked.form, &mut listener) == *wanted && listener.has_heard(asked.calls)
+}
+
+/// The text gives this with its handler, after its calls and no more.
+fn check_asked(rt: &impl Abort, wanted: &ParserResult<Record>, asked: &Asked) {
+    check(rt, asked.text, is_handled(asked, wanted));
+    let error = match wanted {
+        Ok(_record) => None,
+        Err(error) => Some(*error),
+    };
+    let is_located = asked.is_located(&mut IxdtfParser::from_str(asked.text), error);
+    assert!(rt; is_located, "located at {}", asked.text);
+}
+
 /// Each text gives this with its handler, after its calls and no more.
 pub(super) fn check_handled(rt: &impl Abort, wanted: &ParserResult<Record>, rows: &[Asked]) {
     for row in rows {
-        let mut listener = Listener::new(row.kind);
-        let mut parser = IxdtfParser::from_str(row.text);
-        let found = heard(&mut parser, row.form, &mut listener);
-        assert!(rt; found == *wanted, "at {}", row.text);
-        assert!(rt; listener.has_heard(row.calls), "at {}", row.text);
-        let error = match found {
-            Ok(_record) => None,
-            Err(error) => Some(error),
-        };
-        let is_located = row.is_located(&mut IxdtfParser::from_str(row.text), error);
-        assert!(rt; is_located, "located at {}", row.text);
+        check_asked(rt, wanted, row);
     }
 }
 
-/// The text is read, and the parser refuses then as it refuses the empty text, with no call of the handler.
-pub(super) fn check_read_once(rt: &impl Abort, form: Form, text: &'static str, at_end: ParseError) {
+/// Each text is refused with the error beside it, after its calls and no more.
+pub(super) fn check_refused_replies(rt: &impl Abort, rows: &[(ParseError, &[Asked])]) {
+    for (error, texts) in rows {
+        check_handled(rt, &Err(*error), texts);
+    }
+}
+
+/// A text that is read, with its parts: a date, the hour of a time, a zone by its `!` and its name, and a calendar.
+pub(super) struct Heeded {
+    pub(super) asked: Asked,
+    pub(super) date: Option<(i32, u8, u8)>,
+    pub(super) hour: Option<u8>,
+    pub(super) zone: Option<(bool, &'static str)>,
+    pub(super) calendar: Option<&'static str>,
+}
+
+fn record_of(row: &Heeded) -> Record {
+    let time = match row.hour {
+        Some(hour) => timed(hour, 0, 0, None),
+        None => None,
+    };
+    parts(row.date, time, None, row.zone, row.calendar)
+}
+
+/// Each text gives its parts with its handler, after its calls and no more.
+pub(super) fn check_heeded(rt: &impl Abort, rows: &[Heeded]) {
+    for row in rows {
+        check_asked(rt, &Ok(record_of(row)), &row.asked);
+    }
+}
+
+// Whether the text is read, and refused then as the empty text is, with no call of the handler.
+fn is_read_once(form: Form, text: &'static str, at_end: ParseError) -> bool {
     let mut parser = IxdtfParser::from_str(text);
-    let mut first_calls = Listener::new(Kind::HandsBack);
-    let first = heard(&mut parser, form, &mut first_calls);
-    assert!(rt; first.is_ok(), "at {text}");
+    let is_read = heard(&mut parser, form, &mut Listener::new(Kind::HandsBack)).is_ok();
     let mut more_calls = Listener::new(Kind::HandsBack);
-    let second = heard(&mut parser, form, &mut more_calls);
-    assert!(rt;
-        second == Err(at_end) && more_calls.has_heard(""),
-        "after {text}"
-    );
-    let mut empty = IxdtfParser::from_str("");
-    let third = heard(&mut empty, form, &mut more_calls);
-    assert!(rt; third == Err(at_end), "instead of {text}");
+    let is_at_its_end = heard(&mut parser, form, &mut more_calls) == Err(at_end);
+    is_read && is_at_its_end && more_calls.has_heard("")
+}
+
+// Whether the reader refuses the empty text with this error.
+fn refuses_nothing(form: Form, at_end: ParseError) -> bool {
+    let mut listener = Listener::new(Kind::HandsBack);
+    heard(&mut IxdtfParser::from_str(""), form, &mut listener) == Err(at_end)
+}
+
+/// Each text is read, and the parser refuses then as it refuses the empty text, with no call of the handler.
+pub(super) fn check_read_once(rt: &impl Abort, rows: &[(Form, &'static str, ParseError)]) {
+    for (form, text, at_end) in rows {
+        check(rt, text, is_read_once(*form, text, *at_end));
+        check(rt, "nothing", refuses_nothing(*form, *at_end));
+    }
 }
 
 // Whether a text in 16-bit units is refused with this error, or gives this calendar and no zone, after its calls.
@@ -283,7 +328,10 @@ fn heeds_wide(asked: &Asked, error: Option<ParseError>, calendar: Option<&'stati
     let mut parser = IxdtfParser::from_utf16(wide.units());
     let as_wanted = match heard(&mut parser, asked.form, &mut listener) {
         Ok(record) => {
-            let name = calendar.map(|name| name.as_bytes());
+            let name = match calendar {
+                Some(name) => Some(name.as_bytes()),
+                None => None,
+            };
             error.is_none() && record.tz.is_none() && same_calendar(name, record.calendar)
         }
         Err(found) => error == Some(found),
@@ -292,10 +340,12 @@ fn heeds_wide(asked: &Asked, error: Option<ParseError>, calendar: Option<&'stati
     as_wanted && is_located && listener.has_heard(asked.calls)
 }
 
-/// Each text in 16-bit units is refused with this error, after its calls and no more.
-pub(super) fn check_wide_refusals(rt: &impl Abort, error: ParseError, rows: &[Asked]) {
-    for row in rows {
-        assert!(rt; heeds_wide(row, Some(error), None), "at {}", row.text);
+/// Each text in 16-bit units is refused with the error beside it, after its calls and no more.
+pub(super) fn check_wide_refusals(rt: &impl Abort, rows: &[(ParseError, &[Asked])]) {
+    for (error, texts) in rows {
+        for row in *texts {
+            check(rt, row.text, heeds_wide(row, Some(*error), None));
+        }
     }
 }
 
@@ -306,66 +356,82 @@ pub(super) fn check_wide_calendars(
     rows: &[Asked],
 ) {
     for row in rows {
-        assert!(rt; heeds_wide(row, None, calendar), "at {}", row.text);
+        check(rt, row.text, heeds_wide(row, None, calendar));
     }
 }
 
-const HEEDED: &[Asked] = &[
-    Asked {
-        form: Form::Parse,
-        text: "2020-01-01[a=a1]",
-        kind: Kind::HandsBack,
-        calls: "[a=a1]",
-        place: None,
+const HEEDED: &[Heeded] = &[
+    Heeded {
+        asked: Asked {
+            form: Form::Parse,
+            text: "2020-01-01[a=a1]",
+            kind: Kind::HandsBack,
+            calls: "[a=a1]",
+            place: None,
+        },
+        date: Some((2020, 1, 1)),
+        hour: None,
+        zone: None,
+        calendar: None,
     },
-    Asked {
-        form: Form::Parse,
-        text: "2020-01-01[u-ca=gregory][!u-ca=1][!u-ca=a0sa-2l4s][u-ca=k-H0EGv]",
-        kind: Kind::RepliesNone,
-        calls: "[u-ca=gregory][!u-ca=1][!u-ca=a0sa-2l4s][u-ca=k-H0EGv]",
-        place: None,
+    Heeded {
+        asked: Asked {
+            form: Form::Parse,
+            text: "2020-01-01[u-ca=gregory][!u-ca=1][!u-ca=a0sa-2l4s][u-ca=k-H0EGv]",
+            kind: Kind::RepliesNone,
+            calls: "[u-ca=gregory][!u-ca=1][!u-ca=a0sa-2l4s][u-ca=k-H0EGv]",
+            place: None,
+        },
+        date: Some((2020, 1, 1)),
+        hour: None,
+        zone: None,
+        calendar: None,
     },
-    Asked {
-        form: Form::Parse,
-        text: "2020-01-01[u-ca=japanese][!u-ca=FE-4-s-y]",
-        kind: Kind::RepliesNone,
-        calls: "[u-ca=japanese][!u-ca=FE-4-s-y]",
-        place: None,
+    Heeded {
+        asked: Asked {
+            form: Form::Parse,
+            text: "2020-01-01[u-ca=japanese][!u-ca=FE-4-s-y]",
+            kind: Kind::RepliesNone,
+            calls: "[u-ca=japanese][!u-ca=FE-4-s-y]",
+            place: None,
+        },
+        date: Some((2020, 1, 1)),
+        hour: None,
+        zone: None,
+        calendar: None,
+    },
+    Heeded {
+        asked: Asked {
+            form: Form::Parse,
+            text: "2020-01-01[u-ca=a0sa-2l4s][u-ca=a0sa-2l4s][answer-to-universe=hebrew][a=gregory][u-ca=45W-E0h61U-kXpZ]",
+            kind: Kind::HandsBack,
+            calls: "[u-ca=a0sa-2l4s][u-ca=a0sa-2l4s][answer-to-universe=hebrew][a=gregory][u-ca=45W-E0h61U-kXpZ]",
+            place: None,
+        },
+        date: Some((2020, 1, 1)),
+        hour: None,
+        zone: None,
+        calendar: Some("a0sa-2l4s"),
+    },
+    Heeded {
+        asked: Asked {
+            form: Form::Parse,
+            text: "20200101T12[u-ca=A][qe7idr62=O-QXB-Ir]",
+            kind: Kind::HandsBack,
+            calls: "[u-ca=A][qe7idr62=O-QXB-Ir]",
+            place: None,
+        },
+        date: Some((2020, 1, 1)),
+        hour: Some(12),
+        zone: None,
+        calendar: Some("A"),
     },
 ];
 
 #[test]
 fn heeds_handlers() {
     let rt = HostRuntime;
-    check_handled(&rt, &Ok(dated(2020, 1, 1, None)), HEEDED);
-    check_handled(
-        &rt,
-        &Ok(parts(Some((2020, 1, 1)), None, None, None, Some("a0sa-2l4s"))),
-        &[Asked {
-            form: Form::Parse,
-            text: "2020-01-01[u-ca=a0sa-2l4s][u-ca=a0sa-2l4s][answer-to-universe=hebrew][a=gregory][u-ca=45W-E0h61U-kXpZ]",
-            kind: Kind::HandsBack,
-            calls: "[u-ca=a0sa-2l4s][u-ca=a0sa-2l4s][answer-to-universe=hebrew][a=gregory][u-ca=45W-E0h61U-kXpZ]",
-            place: None,
-        }],
-    );
-    check_handled(
-        &rt,
-        &Ok(parts(
-            Some((2020, 1, 1)),
-            timed(12, 0, 0, None),
-            None,
-            None,
-            Some("A"),
-        )),
-        &[Asked {
-            form: Form::Parse,
-            text: "20200101T12[u-ca=A][qe7idr62=O-QXB-Ir]",
-            kind: Kind::HandsBack,
-            calls: "[u-ca=A][qe7idr62=O-QXB-Ir]",
-            place: None,
-        }],
-    );
+    check_heeded(&rt, HEEDED);
 }
 
 // Half a second past midnight, in UTC, with this calendar.
@@ -383,53 +449,56 @@ fn half_past(rt: &impl Abort, calendar: Option<&'static str>) -> Record {
     )
 }
 
-#[test]
-fn heeds_handlers_after_times() {
-    let rt = HostRuntime;
-    check_handled(
-        &rt,
-        &Ok(half_past(&rt, None)),
-        &[Asked {
+// Texts of half a second past midnight, with their calendars.
+const AFTER_TIMES: &[(Option<&str>, Asked)] = &[
+    (
+        None,
+        Asked {
             form: Form::Parse,
             text: "2020-01-01 00:00:00.5Z[!u-ca=A]",
             kind: Kind::RepliesNone,
             calls: "[!u-ca=A]",
             place: None,
-        }],
-    );
-    check_handled(
-        &rt,
-        &Ok(half_past(&rt, Some("n-dzMM2"))),
-        &[Asked {
+        },
+    ),
+    (
+        Some("n-dzMM2"),
+        Asked {
             form: Form::Parse,
             text: "2020-01-01 00:00:00.5Z[!u-ca=n-dzMM2]",
             kind: Kind::MakesCritical,
             calls: "[!u-ca=n-dzMM2]",
             place: None,
-        }],
-    );
-    check_handled(
-        &rt,
-        &Ok(half_past(&rt, Some("mr-nUk-EDkNu"))),
-        &[Asked {
+        },
+    ),
+    (
+        Some("mr-nUk-EDkNu"),
+        Asked {
             form: Form::Parse,
             text: "2020-01-01 00:00:00.5Z[u-ca=mr-nUk-EDkNu]",
             kind: Kind::TurnsCritical,
             calls: "[u-ca=mr-nUk-EDkNu]",
             place: None,
-        }],
-    );
-    check_handled(
-        &rt,
-        &Ok(half_past(&rt, Some("a"))),
-        &[Asked {
+        },
+    ),
+    (
+        Some("a"),
+        Asked {
             form: Form::Parse,
             text: "2020-01-01 00:00:00.5Z[answer-to-universe=OSR]",
             kind: Kind::RepliesAnother,
             calls: "[answer-to-universe=OSR]",
             place: None,
-        }],
-    );
+        },
+    ),
+];
+
+#[test]
+fn heeds_handlers_after_times() {
+    let rt = HostRuntime;
+    for (calendar, asked) in AFTER_TIMES {
+        check_asked(&rt, &Ok(half_past(&rt, *calendar)), asked);
+    }
 }
 
 const CRITICAL_REPLIES: &[Asked] = &[
@@ -508,11 +577,15 @@ const DUPLICATE_CALENDARS: &[Asked] = &[
     },
 ];
 
+const REFUSED_REPLIES: &[(ParseError, &[Asked])] = &[
+    (UnrecognizedCritical, CRITICAL_REPLIES),
+    (CriticalDuplicateCalendar, DUPLICATE_CALENDARS),
+];
+
 #[test]
 fn refuses_replies() {
     let rt = HostRuntime;
-    check_handled(&rt, &Err(UnrecognizedCritical), CRITICAL_REPLIES);
-    check_handled(&rt, &Err(CriticalDuplicateCalendar), DUPLICATE_CALENDARS);
+    check_refused_replies(&rt, REFUSED_REPLIES);
 }
 
 const BEFORE_A_WRONG_KEY: &[Asked] = &[
@@ -573,14 +646,11 @@ const BEFORE_A_WRONG_END: &[Asked] = &[
     },
 ];
 
-#[test]
-fn asks_before_a_fault() {
-    let rt = HostRuntime;
-    check_handled(&rt, &Err(AnnotationKeyLeadingChar), BEFORE_A_WRONG_KEY);
-    check_handled(&rt, &Err(AnnotationValueChar), BEFORE_A_WRONG_VALUE);
-    check_handled(
-        &rt,
-        &Err(AnnotationKeyValueSeparator),
+const BEFORE_FAULTS: &[(ParseError, &[Asked])] = &[
+    (AnnotationKeyLeadingChar, BEFORE_A_WRONG_KEY),
+    (AnnotationValueChar, BEFORE_A_WRONG_VALUE),
+    (
+        AnnotationKeyValueSeparator,
         &[Asked {
             form: Form::Parse,
             text: "2020-01-01 00:00:00.5Z[!u-ca=b][u-ca=AdUhu-LRdEB][!u-ca",
@@ -588,11 +658,10 @@ fn asks_before_a_fault() {
             calls: "[!u-ca=b][u-ca=AdUhu-LRdEB]",
             place: Some(55),
         }],
-    );
-    check_handled(&rt, &Err(InvalidEnd), BEFORE_A_WRONG_END);
-    check_handled(
-        &rt,
-        &Err(AnnotationClose),
+    ),
+    (InvalidEnd, BEFORE_A_WRONG_END),
+    (
+        AnnotationClose,
         &[Asked {
             form: Form::Parse,
             text: "2020-01-01[a=b][c=d",
@@ -600,7 +669,13 @@ fn asks_before_a_fault() {
             calls: "[a=b]",
             place: Some(19),
         }],
-    );
+    ),
+];
+
+#[test]
+fn asks_before_a_fault() {
+    let rt = HostRuntime;
+    check_refused_replies(&rt, BEFORE_FAULTS);
 }
 
 const BEFORE_A_FAULT_OF_A_DATE: &[Asked] = &[
@@ -620,13 +695,10 @@ const BEFORE_A_FAULT_OF_A_DATE: &[Asked] = &[
     },
 ];
 
-#[test]
-fn asks_nothing_before_a_fault_of_a_date() {
-    let rt = HostRuntime;
-    check_handled(&rt, &Err(AT_DIGIT), BEFORE_A_FAULT_OF_A_DATE);
-    check_handled(
-        &rt,
-        &Err(DateYear),
+const FAULTS_OF_DATES: &[(ParseError, &[Asked])] = &[
+    (AT_DIGIT, BEFORE_A_FAULT_OF_A_DATE),
+    (
+        DateYear,
         &[Asked {
             form: Form::Parse,
             text: "202-01-01[u-ca=iso8601][fgq=Czb32s-v-zayknf]",
@@ -634,10 +706,9 @@ fn asks_nothing_before_a_fault_of_a_date() {
             calls: "",
             place: Some(3),
         }],
-    );
-    check_handled(
-        &rt,
-        &Err(InvalidMonthRange),
+    ),
+    (
+        InvalidMonthRange,
         &[Asked {
             form: Form::Parse,
             text: "2020-13-01[a=b]",
@@ -645,7 +716,13 @@ fn asks_nothing_before_a_fault_of_a_date() {
             calls: "",
             place: Some(7),
         }],
-    );
+    ),
+];
+
+#[test]
+fn asks_nothing_before_a_fault_of_a_date() {
+    let rt = HostRuntime;
+    check_refused_replies(&rt, FAULTS_OF_DATES);
 }
 
 #[test]
@@ -723,11 +800,8 @@ const WIDE_NO_LETTER: &[Asked] = &[
     },
 ];
 
-#[test]
-fn refuses_wide_texts_with_handlers() {
-    let rt = HostRuntime;
-    check_wide_refusals(
-        &rt,
+const WIDE_REFUSALS: &[(ParseError, &[Asked])] = &[
+    (
         UnrecognizedCritical,
         &[Asked {
             form: Form::Parse,
@@ -736,10 +810,9 @@ fn refuses_wide_texts_with_handlers() {
             calls: "[x-y=iso8601]",
             place: Some(23),
         }],
-    );
-    check_wide_refusals(&rt, TzLeadingChar, WIDE_TEXTS);
-    check_wide_refusals(
-        &rt,
+    ),
+    (TzLeadingChar, WIDE_TEXTS),
+    (
         CriticalDuplicateCalendar,
         &[Asked {
             form: Form::Parse,
@@ -748,6 +821,12 @@ fn refuses_wide_texts_with_handlers() {
             calls: "[u-ca=iso8601][u-ca=e6dVZ]",
             place: Some(37),
         }],
-    );
-    check_wide_refusals(&rt, NonAsciiCodePoint, WIDE_NO_LETTER);
+    ),
+    (NonAsciiCodePoint, WIDE_NO_LETTER),
+];
+
+#[test]
+fn refuses_wide_texts_with_handlers() {
+    let rt = HostRuntime;
+    check_wide_refusals(&rt, WIDE_REFUSALS);
 }

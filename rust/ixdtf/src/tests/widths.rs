@@ -7,7 +7,7 @@
 use crate::runtime::{HostRuntime, TryClone};
 
 use super::wide::{Wide, refusal};
-use super::{Found, Parsers, Reader};
+use super::{Found, Parsers, Reader, check_reader};
 use ixdtf::encoding::{Utf8, Utf16};
 use ixdtf::records::{IxdtfParseRecord, TimeZoneRecord};
 use ixdtf::{ParseError, ParserResult};
@@ -186,10 +186,7 @@ pub(super) fn reads_alike(reader: Reader, bytes: &[u8]) -> bool {
 
 fn check_alike(rt: &impl Abort, reader: Reader, texts: &[&'static str]) {
     for text in texts {
-        assert!(rt;
-            reads_alike(reader, text.as_bytes()),
-            "{reader:?} at {text}"
-        );
+        check_reader(rt, reader, text, reads_alike(reader, text.as_bytes()));
     }
 }
 
@@ -201,12 +198,16 @@ fn reads_alike_in_both_widths() {
     }
 }
 
+// Whether a reader refuses the text for its unit that stands for no letter, or as it refuses the bytes.
+fn refuses_as_masked(reader: Reader, text: &'static str, mask: &'static [u8]) -> bool {
+    let found = refusal(reader, text);
+    let is_bad = found == Some(ParseError::NonAsciiCodePoint);
+    is_bad || found.is_some() && found == Parsers::from_utf8(mask).refusal(reader)
+}
+
 fn check_masked(rt: &impl Abort, reader: Reader, rows: &[(&'static str, &'static [u8])]) {
     for (text, mask) in rows {
-        let found = refusal(reader, text);
-        let is_bad = found == Some(ParseError::NonAsciiCodePoint);
-        let is_masked = found.is_some() && found == Parsers::from_utf8(mask).refusal(reader);
-        assert!(rt; is_bad || is_masked, "{reader:?} at {text}");
+        check_reader(rt, reader, text, refuses_as_masked(reader, text, mask));
     }
 }
 

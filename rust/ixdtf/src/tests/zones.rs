@@ -3,8 +3,8 @@
 
 #[allow(unused_imports)]
 use crate::runtime::{HostRuntime, TryClone};
-use super::{Found, Reader, check_found, check_in_turn, minutes, named};
-use ixdtf::ParseError;
+use super::{Found, Parsers, Reader, check, check_found, check_refusals, minutes, named};
+use ixdtf::ParseError::{self, IanaCharPostSeparator, OffsetNeedsSign};
 use ixdtf::encoding::Utf8;
 use ixdtf::parsers::TimeZoneParser;
 use ixdtf::records::{Sign, TimeZoneRecord};
@@ -55,38 +55,45 @@ fn reads_zones_that_are_offsets() {
     check_shifts(&rt, ZONES_THAT_ARE_OFFSETS);
 }
 
+const REFUSED_TWICE: &[(Reader, ParseError)] = &[
+    (Reader::IanaIdentifier, IanaCharPostSeparator),
+    (Reader::Identifier, IanaCharPostSeparator),
+    (Reader::Offset, OffsetNeedsSign),
+    (Reader::IanaIdentifier, IanaCharPostSeparator),
+    (Reader::Identifier, IanaCharPostSeparator),
+    (Reader::Offset, OffsetNeedsSign),
+];
+
 #[test]
 fn keeps_a_zone_that_it_refused() {
     let rt = HostRuntime;
-    let slash = ParseError::IanaCharPostSeparator;
-    let steps = [
-        (Reader::IanaIdentifier, Err(slash)),
-        (Reader::Identifier, Err(slash)),
-        (Reader::Offset, Err(ParseError::OffsetNeedsSign)),
-        (Reader::IanaIdentifier, Err(slash)),
-        (Reader::Identifier, Err(slash)),
-        (Reader::Offset, Err(ParseError::OffsetNeedsSign)),
-    ];
-    check_in_turn(&rt, "Europe/", &steps);
+    check_refusals(
+        &rt,
+        "Europe/",
+        &mut Parsers::from_str("Europe/"),
+        REFUSED_TWICE,
+    );
+}
+
+// Whether the parser reads all of the bytes as a name.
+fn reads_name(mut parser: TimeZoneParser<'_, Utf8>, bytes: &[u8]) -> bool {
+    parser.parse_iana_identifier() == Ok(bytes)
 }
 
 #[test]
 fn reads_zones_of_units_and_bytes() {
     let rt = HostRuntime;
     let bytes = "Europe/Paris".as_bytes();
-    let mut from_bytes = TimeZoneParser::from_utf8(bytes);
-    let first = from_bytes.parse_iana_identifier();
-    assert_eq!(rt; first, Ok(bytes));
-    let mut from_units: TimeZoneParser<'_, Utf8> = TimeZoneParser::new(bytes);
-    let second = from_units.parse_iana_identifier();
-    assert_eq!(rt; second, Ok(bytes));
+    let from_bytes = TimeZoneParser::from_utf8(bytes);
+    check(&rt, "bytes", reads_name(from_bytes, bytes));
+    let from_units: TimeZoneParser<'_, Utf8> = TimeZoneParser::new(bytes);
+    check(&rt, "units", reads_name(from_units, bytes));
 }
 
 #[test]
 fn a_zone_parser_is_as_large_as_its_slice() {
     let rt = HostRuntime;
-    assert_eq!(rt;
-        size_of::<TimeZoneParser<'static, Utf8>>(),
-        size_of::<&'static [u8]>()
-    );
+    let slice = size_of::<&'static [u8]>();
+    let is_so = size_of::<TimeZoneParser<'static, Utf8>>() == slice;
+    check(&rt, "its size", is_so);
 }
