@@ -4,7 +4,8 @@
 
 use crate::errors::number_of;
 use crate::forms::{Digits, is_negative};
-use ixdtf::LocatedError;
+use ixdtf::encoding::EncodingType;
+use ixdtf::parsers::{IsoDurationParser, Profile};
 use ixdtf::records::{DateDurationRecord, DurationParseRecord, Fraction, TimeDurationRecord};
 
 /// A duration.
@@ -134,15 +135,17 @@ impl<'a> Duration<'a> {
     }
 }
 
-/// Writes what a reader of durations returned, and returns 0, or the number of the error.
+/// Reads a duration under the profile, and writes it.
 #[inline(always)]
-pub fn give_duration<'a>(
-    outcome: &Result<DurationParseRecord, LocatedError>,
-    out: &mut Duration<'a>,
+pub fn duration_into<T: EncodingType>(
+    text: &[T::CodeUnit],
+    profile: Profile,
+    out: &mut Duration<'_>,
 ) -> u32 {
-    match outcome {
+    let mut parser = IsoDurationParser::<T>::new(text).with_profile(profile);
+    match parser.parse_located() {
         Ok(found) => {
-            out.fill(found);
+            out.fill(&found);
             0
         }
         Err(located) => {

@@ -89,71 +89,69 @@ impl Digits {
 }
 
 impl Date {
-    /// Writes the numbers of the date, and zeros where there is none.
+    /// The numbers of the date, and zeros where there is none.
     #[inline(always)]
-    pub(crate) fn put(&mut self, date: Option<DateRecord>) {
+    pub(crate) fn of(date: Option<DateRecord>) -> Date {
         match date {
-            None => {
-                *self = Date {
-                    year: 0,
-                    month: 0,
-                    day: 0,
-                    is_there: false,
-                }
-            }
-            Some(it) => {
-                self.year = it.year;
-                self.month = it.month;
-                self.day = it.day;
-                self.is_there = true;
-            }
+            None => Date {
+                year: 0,
+                month: 0,
+                day: 0,
+                is_there: false,
+            },
+            Some(it) => Date {
+                year: it.year,
+                month: it.month,
+                day: it.day,
+                is_there: true,
+            },
         }
     }
 }
 
 impl Time {
-    /// Writes the numbers of the time, and zeros where there is none.
+    /// The numbers of the time, and zeros where there is none.
     #[inline(always)]
-    pub(crate) fn put(&mut self, time: Option<TimeRecord>) {
+    pub(crate) fn of(time: Option<TimeRecord>) -> Time {
         match time {
-            None => {
-                *self = Time {
-                    fraction: 0,
-                    fraction_digits: 0,
-                    hour: 0,
-                    minute: 0,
-                    second: 0,
-                    is_there: false,
-                }
-            }
+            None => Time {
+                fraction: 0,
+                fraction_digits: 0,
+                hour: 0,
+                minute: 0,
+                second: 0,
+                is_there: false,
+            },
             Some(it) => {
                 let digits = Digits::of(it.fraction);
-                self.fraction = digits.value;
-                self.fraction_digits = digits.count;
-                self.hour = it.hour;
-                self.minute = it.minute;
-                self.second = it.second;
-                self.is_there = true;
+                Time {
+                    fraction: digits.value,
+                    fraction_digits: digits.count,
+                    hour: it.hour,
+                    minute: it.minute,
+                    second: it.second,
+                    is_there: true,
+                }
             }
         }
     }
 }
 
 impl Offset {
-    /// Writes the numbers of the offset, and zeros where there is none.
+    /// The numbers of the offset, and zeros where there is none.
     #[inline(always)]
-    pub(crate) fn put(&mut self, offset: Option<UtcOffsetRecordOrZ>) {
+    pub(crate) fn of(offset: Option<UtcOffsetRecordOrZ>) -> Offset {
         match offset {
-            None => self.put_form(0),
-            Some(UtcOffsetRecordOrZ::Z) => self.put_form(1),
-            Some(UtcOffsetRecordOrZ::Offset(it)) => self.put_shift(it),
+            None => Offset::of_form(0),
+            Some(UtcOffsetRecordOrZ::Z) => Offset::of_form(1),
+            Some(UtcOffsetRecordOrZ::Offset(it)) => Offset::of_shift(it),
         }
     }
 
-    // Writes a form, and zeros for all else.
+    // A form, and zeros for all else.
     #[inline(always)]
-    fn put_form(&mut self, form: u8) {
-        *self = Offset {
+    fn of_form(form: u8) -> Offset {
+        Offset {
             fraction: 0,
             fraction_digits: 0,
             form,
@@ -161,32 +159,34 @@ impl Offset {
             hour: 0,
             minute: 0,
             second: 0,
-        };
+        }
     }
 
-    /// Writes the numbers of an offset from UTC.
+    /// The numbers of an offset from UTC.
     #[inline(always)]
-    pub(crate) fn put_shift(&mut self, offset: UtcOffsetRecord) {
+    pub(crate) fn of_shift(offset: UtcOffsetRecord) -> Offset {
         match offset {
-            UtcOffsetRecord::MinutePrecision(it) => {
-                self.fraction = 0;
-                self.fraction_digits = 0;
-                self.form = 2;
-                self.is_negative = is_negative(it.sign);
-                self.hour = it.hour;
-                self.minute = it.minute;
-                self.second = 0;
-            }
+            UtcOffsetRecord::MinutePrecision(it) => Offset {
+                fraction: 0,
+                fraction_digits: 0,
+                form: 2,
+                is_negative: is_negative(it.sign),
+                hour: it.hour,
+                minute: it.minute,
+                second: 0,
+            },
             UtcOffsetRecord::FullPrecisionOffset(it) => {
                 let minutes = it.minute_precision_offset;
                 let digits = Digits::of(it.fraction);
-                self.fraction = digits.value;
-                self.fraction_digits = digits.count;
-                self.form = 3;
-                self.is_negative = is_negative(minutes.sign);
-                self.hour = minutes.hour;
-                self.minute = minutes.minute;
-                self.second = it.second;
+                Offset {
+                    fraction: digits.value,
+                    fraction_digits: digits.count,
+                    form: 3,
+                    is_negative: is_negative(minutes.sign),
+                    hour: minutes.hour,
+                    minute: minutes.minute,
+                    second: it.second,
+                }
             }
             _ => unreachable!(),
         }

@@ -6,16 +6,19 @@
 
 mod durations;
 mod errors;
+mod fields;
 mod forms;
 pub mod narrow;
 mod narrow_annotations;
 mod narrow_readers;
 mod printing;
+mod readers;
 mod units;
 mod version;
 pub mod wide;
 mod wide_annotations;
 mod wide_readers;
+mod widths;
 
 pub use durations::Duration;
 pub use errors::Text;

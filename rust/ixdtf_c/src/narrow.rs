@@ -3,10 +3,11 @@
 //! Records of 8-bit sources, as C sees them.
 
 use crate::errors::number_of;
-use crate::forms::{Date, Offset, Time, is_negative};
-use ixdtf::LocatedError;
+use crate::fields::{Fields, Kept};
+use crate::forms::{Date, Offset, Time};
+use crate::widths::{AnnotationOf, CalendarOf, RecordOf};
 use ixdtf::encoding::Utf8;
-use ixdtf::records::{IxdtfParseRecord, TimeZoneAnnotation, TimeZoneRecord, UtcOffsetRecord};
+use ixdtf::{LocatedError, records};
 
 /// A time zone, where it is there.
 #[derive(Clone, Copy)]
@@ -72,93 +73,28 @@ pub struct Calendar<'a> {
     pub is_there: bool,
 }
 
-impl<'a> Zone<'a> {
-    // Writes the numbers of the zone, and zeros where there is none.
+impl<'a> RecordOf<'a, Utf8> for Record<'a> {
     #[inline(always)]
-    fn put(&mut self, zone: &Option<TimeZoneAnnotation<'a, Utf8>>) {
-        match zone {
-            None => {
-                *self = Zone {
-                    name: &[],
-                    form: 0,
-                    is_critical: false,
-                    is_negative: false,
-                    hour: 0,
-                    minute: 0,
-                }
-            }
-            Some(it) => self.put_area(it.critical, &it.tz),
-        }
+    fn write(&mut self, fields: Fields<'a, u8>) {
+        *self = Record {
+            date: fields.date,
+            time: fields.time,
+            offset: fields.offset,
+            zone: Zone {
+                name: fields.zone.name,
+                form: fields.zone.form,
+                is_critical: fields.zone.is_critical,
+                is_negative: fields.zone.is_negative,
+                hour: fields.zone.hour,
+                minute: fields.zone.minute,
+            },
+            calendar: fields.calendar,
+            has_calendar: fields.has_calendar,
+            location: &[],
+            place: 0,
+        };
     }
 
-    // Writes the numbers of a name or an offset.
-    #[inline(always)]
-    fn put_area(&mut self, is_critical: bool, zone: &TimeZoneRecord<'a, Utf8>) {
-        match zone {
-            TimeZoneRecord::Name(name) => self.put_name(is_critical, name),
-            TimeZoneRecord::Offset(offset) => {
-                self.name = &[];
-                self.form = 2;
-                self.is_critical = is_critical;
-                self.is_negative = is_negative(offset.sign);
-                self.hour = offset.hour;
-                self.minute = offset.minute;
-            }
-            _ => unreachable!(),
-        }
-    }
-
-    // Writes the numbers of a name.
-    #[inline(always)]
-    fn put_name(&mut self, is_critical: bool, name: &'a [u8]) {
-        self.name = name;
-        self.form = 1;
-        self.is_critical = is_critical;
-        self.is_negative = false;
-        self.hour = 0;
-        self.minute = 0;
-    }
-}
-
-impl<'a> Record<'a> {
-    /// Clears all of it.
-    #[inline(always)]
-    fn clear(&mut self) {
-        self.date.put(None);
-        self.time.put(None);
-        self.offset.put(None);
-        self.zone.put(&None);
-        self.put_rest(None);
-    }
-
-    /// Writes what was read, and clears what was not.
-    #[inline(never)]
-    fn fill(&mut self, found: &IxdtfParseRecord<'a, Utf8>) {
-        self.date.put(found.date);
-        self.time.put(found.time);
-        self.offset.put(found.offset);
-        self.zone.put(&found.tz);
-        self.put_rest(found.calendar);
-    }
-
-    /// Writes the calendar, where there is one, and that there is no error.
-    #[inline(always)]
-    fn put_rest(&mut self, calendar: Option<&'a [u8]>) {
-        match calendar {
-            None => {
-                self.calendar = &[];
-                self.has_calendar = false;
-            }
-            Some(units) => {
-                self.calendar = units;
-                self.has_calendar = true;
-            }
-        }
-        self.location = &[];
-        self.place = 0;
-    }
-
-    /// Writes the location and the place of an error, and returns the error's number.
     #[inline(always)]
     fn refuse(&mut self, located: LocatedError) -> u32 {
         let (number, location) = number_of(located.error);
@@ -168,59 +104,39 @@ impl<'a> Record<'a> {
     }
 }
 
-/// Writes what a reader of records returned, and returns 0, or the number of the error.
-#[inline(always)]
-pub fn give<'a>(
-    outcome: &Result<IxdtfParseRecord<'a, Utf8>, LocatedError>,
-    out: &mut Record<'a>,
-) -> u32 {
-    match outcome {
-        Ok(found) => {
-            out.fill(found);
-            0
+impl<'a> AnnotationOf<'a, Utf8> for Annotation<'a> {
+    #[inline(always)]
+    fn read(&self) -> records::Annotation<'a, Utf8> {
+        records::Annotation {
+            critical: self.is_critical,
+            key: self.key,
+            value: self.value,
         }
-        Err(located) => out.refuse(*located),
     }
 }
 
-/// Writes what a reader of offsets returned, and returns 0, or the number of the error.
-#[inline(always)]
-pub fn give_offset<'a>(outcome: &Result<UtcOffsetRecord, LocatedError>, out: &mut Record<'a>) -> u32 {
-    match outcome {
-        Ok(offset) => {
-            out.clear();
-            out.offset.put_shift(*offset);
-            0
+impl<'a> CalendarOf<'a, Utf8> for Calendar<'a> {
+    #[inline(always)]
+    fn read(&self) -> Option<Kept<'a, u8>> {
+        if self.is_there {
+            Some(Kept {
+                value: self.value,
+                is_critical: self.is_critical,
+            })
+        } else {
+            None
         }
-        Err(located) => out.refuse(*located),
     }
-}
 
-/// Writes what a reader of zones returned, and returns 0, or the number of the error.
-#[inline(always)]
-pub fn give_zone<'a>(
-    outcome: &Result<TimeZoneRecord<'a, Utf8>, LocatedError>,
-    out: &mut Record<'a>,
-) -> u32 {
-    match outcome {
-        Ok(zone) => {
-            out.clear();
-            out.zone.put_area(false, zone);
-            0
+    #[inline(always)]
+    fn write(&mut self, kept: Option<Kept<'a, u8>>) {
+        match kept {
+            None => self.is_there = false,
+            Some(it) => {
+                self.value = it.value;
+                self.is_critical = it.is_critical;
+                self.is_there = true;
+            }
         }
-        Err(located) => out.refuse(*located),
-    }
-}
-
-/// Writes what a reader of names returned, and returns 0, or the number of the error.
-#[inline(always)]
-pub fn give_name<'a>(outcome: &Result<&'a [u8], LocatedError>, out: &mut Record<'a>) -> u32 {
-    match outcome {
-        Ok(name) => {
-            out.clear();
-            out.zone.put_name(false, name);
-            0
-        }
-        Err(located) => out.refuse(*located),
     }
 }

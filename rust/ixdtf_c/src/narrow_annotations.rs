@@ -2,14 +2,15 @@
 
 //! The readers of 8-bit sources that list the annotations, and what is kept of replies to them.
 
-use crate::errors::number_of;
-use crate::narrow::{Annotation, Calendar, Record, give};
-use crate::units::has_same_units;
-use ixdtf::encoding::{EncodingType, Utf8};
+use crate::narrow::{Annotation, Calendar, Record};
+use crate::readers::{fill, take_reply};
+use crate::widths::RecordOf;
+use ixdtf::LocatedError;
+use ixdtf::encoding::Utf8;
 use ixdtf::parsers::{
     Cores, DateTimes, IxdtfParser, LoneTimes, MonthDays, Profile, Raised, YearMonths,
 };
-use ixdtf::{LocatedError, ParseError, records};
+use ixdtf::records::{self, IxdtfParseRecord};
 
 /// The annotations that a reader listed.
 struct List<'l, 'a> {
@@ -32,37 +33,21 @@ impl<'l, 'a> List<'l, 'a> {
     }
 }
 
-/// Reads a text with a core of the kind under the profile, and asks the handler about each annotation.
+/// Reads as the reader of the kind does, passes the annotations over, and lists them.
 ///
 /// It is generic in its error, since a function that names a lifetime in a bound may not name `'static`, as `LocatedError` does.
-#[inline(always)]
-fn read_with<'a, E: Raised, C: Cores, F>(
-    text: &'a [u8],
-    profile: Profile,
-    handler: &mut F,
-) -> Result<records::IxdtfParseRecord<'a, Utf8>, E>
-where
-    F: FnMut(records::Annotation<'a, Utf8>) -> Option<records::Annotation<'a, Utf8>>,
-{
-    let mut parser = IxdtfParser::from_utf8(text).with_profile(profile);
-    match parser.read_by_reference::<E, C, F>(handler) {
-        Ok(found) => Ok(found),
-        Err(error) => return Err(error),
-    }
-}
-
-/// Reads as the reader of the kind does, passes the annotations over, and lists them.
 #[inline(always)]
 fn list_as<'a, E: Raised, C: Cores>(
     text: &'a [u8],
     profile: Profile,
     list: &mut List<'_, 'a>,
-) -> Result<records::IxdtfParseRecord<'a, Utf8>, E> {
+) -> Result<IxdtfParseRecord<'a, Utf8>, E> {
+    let mut parser = IxdtfParser::<Utf8>::new(text).with_profile(profile);
     let mut handler = |annotation| {
         list.add(annotation);
         None
     };
-    match read_with::<E, C, _>(text, profile, &mut handler) {
+    match parser.read_by_reference::<E, C, _>(&mut handler) {
         Ok(found) => Ok(found),
         Err(error) => return Err(error),
     }
@@ -83,7 +68,13 @@ fn list_into<'a, C: Cores>(
     };
     let read = list_as::<LocatedError, C>(text, profile, &mut list);
     *count = list.count;
-    give(&read, out)
+    match read {
+        Ok(found) => {
+            fill::<Utf8, _>(&found, out);
+            0
+        }
+        Err(located) => out.refuse(located),
+    }
 }
 
 /// Reads a date, or a date and a time, and the brackets after it. The annotations are passed over and listed.
@@ -188,43 +179,9 @@ pub unsafe extern "C" fn ixdtf_parse_time_with_annotations_strict<'a>(
     list_into::<LoneTimes>(text, Profile::Strict, annotations, count, out)
 }
 
-/// Keeps a reply where it is the first calendar.
-///
-/// # Errors
-///
-/// The error that the reply is refused with.
-#[inline(always)]
-fn keep<'a>(calendar: &mut Calendar<'a>, reply: &Annotation<'a>) -> Result<(), ParseError> {
-    if !Utf8::check_calendar_key(reply.key) {
-        if reply.is_critical {
-            return Err(ParseError::UnrecognizedCritical);
-        }
-        return Ok(());
-    }
-    if !calendar.is_there {
-        calendar.value = reply.value;
-        calendar.is_critical = reply.is_critical;
-        calendar.is_there = true;
-        return Ok(());
-    }
-    if has_same_units::<Utf8>(reply.value, calendar.value) {
-        return Ok(());
-    }
-    if calendar.is_critical {
-        return Err(ParseError::CriticalDuplicateCalendar);
-    }
-    if reply.is_critical {
-        return Err(ParseError::CriticalDuplicateCalendar);
-    }
-    Ok(())
-}
-
 /// Takes a reply to an annotation: keeps it where it is the first calendar, and returns 0, or the number of the error that it
 /// is refused with.
 #[unsafe(no_mangle)]
 pub extern "C" fn ixdtf_reply<'a>(calendar: &mut Calendar<'a>, reply: &Annotation<'a>) -> u32 {
-    match keep(calendar, reply) {
-        Ok(()) => 0,
-        Err(error) => number_of(error).0,
-    }
+    take_reply::<Utf8, _, _>(calendar, reply)
 }

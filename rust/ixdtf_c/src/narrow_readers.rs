@@ -2,17 +2,18 @@
 
 //! The readers of 8-bit sources.
 
-use crate::durations::{Duration, give_duration};
-use crate::narrow::{Record, give, give_name, give_offset, give_zone};
+use crate::durations::{Duration, duration_into};
+use crate::narrow::Record;
+use crate::readers::{name_into, offset_into, read_into, zone_into};
 use ixdtf::encoding::Utf8;
-use ixdtf::parsers::{IsoDurationParser, IxdtfParser, Profile, TimeZoneParser};
+use ixdtf::parsers::{DateTimes, LoneTimes, MonthDays, Profile, YearMonths};
 
 /// Reads a date, or a date and a time, and the brackets after it.
 #[unsafe(no_mangle)]
 pub unsafe extern "C" fn ixdtf_parse<'a>(text: *const u8, text_length: usize, out: &mut Record<'a>) -> u32 {
     // SAFETY: so the header has it.
     let text = unsafe { crate::slices::slice(text, text_length) };
-    give(&IxdtfParser::from_utf8(text).parse_located(), out)
+    read_into::<Utf8, DateTimes, _>(text, Profile::Crate, out)
 }
 
 /// Reads a year and a month, and the brackets after it.
@@ -20,10 +21,7 @@ pub unsafe extern "C" fn ixdtf_parse<'a>(text: *const u8, text_length: usize, ou
 pub unsafe extern "C" fn ixdtf_parse_year_month<'a>(text: *const u8, text_length: usize, out: &mut Record<'a>) -> u32 {
     // SAFETY: so the header has it.
     let text = unsafe { crate::slices::slice(text, text_length) };
-    give(
-        &IxdtfParser::from_utf8(text).parse_year_month_located(),
-        out,
-    )
+    read_into::<Utf8, YearMonths, _>(text, Profile::Crate, out)
 }
 
 /// Reads a month and a day, and the brackets after it.
@@ -31,7 +29,7 @@ pub unsafe extern "C" fn ixdtf_parse_year_month<'a>(text: *const u8, text_length
 pub unsafe extern "C" fn ixdtf_parse_month_day<'a>(text: *const u8, text_length: usize, out: &mut Record<'a>) -> u32 {
     // SAFETY: so the header has it.
     let text = unsafe { crate::slices::slice(text, text_length) };
-    give(&IxdtfParser::from_utf8(text).parse_month_day_located(), out)
+    read_into::<Utf8, MonthDays, _>(text, Profile::Crate, out)
 }
 
 /// Reads a time, and the brackets after it.
@@ -39,7 +37,7 @@ pub unsafe extern "C" fn ixdtf_parse_month_day<'a>(text: *const u8, text_length:
 pub unsafe extern "C" fn ixdtf_parse_time<'a>(text: *const u8, text_length: usize, out: &mut Record<'a>) -> u32 {
     // SAFETY: so the header has it.
     let text = unsafe { crate::slices::slice(text, text_length) };
-    give(&IxdtfParser::from_utf8(text).parse_time_located(), out)
+    read_into::<Utf8, LoneTimes, _>(text, Profile::Crate, out)
 }
 
 /// Reads a month and a day, and the brackets after it, under the strict profile.
@@ -47,8 +45,7 @@ pub unsafe extern "C" fn ixdtf_parse_time<'a>(text: *const u8, text_length: usiz
 pub unsafe extern "C" fn ixdtf_parse_month_day_strict<'a>(text: *const u8, text_length: usize, out: &mut Record<'a>) -> u32 {
     // SAFETY: so the header has it.
     let text = unsafe { crate::slices::slice(text, text_length) };
-    let mut parser = IxdtfParser::from_utf8(text).with_profile(Profile::Strict);
-    give(&parser.parse_month_day_located(), out)
+    read_into::<Utf8, MonthDays, _>(text, Profile::Strict, out)
 }
 
 /// Reads a time, and the brackets after it, under the strict profile.
@@ -56,8 +53,7 @@ pub unsafe extern "C" fn ixdtf_parse_month_day_strict<'a>(text: *const u8, text_
 pub unsafe extern "C" fn ixdtf_parse_time_strict<'a>(text: *const u8, text_length: usize, out: &mut Record<'a>) -> u32 {
     // SAFETY: so the header has it.
     let text = unsafe { crate::slices::slice(text, text_length) };
-    let mut parser = IxdtfParser::from_utf8(text).with_profile(Profile::Strict);
-    give(&parser.parse_time_located(), out)
+    read_into::<Utf8, LoneTimes, _>(text, Profile::Strict, out)
 }
 
 /// Reads an offset.
@@ -65,7 +61,7 @@ pub unsafe extern "C" fn ixdtf_parse_time_strict<'a>(text: *const u8, text_lengt
 pub unsafe extern "C" fn ixdtf_parse_offset<'a>(text: *const u8, text_length: usize, out: &mut Record<'a>) -> u32 {
     // SAFETY: so the header has it.
     let text = unsafe { crate::slices::slice(text, text_length) };
-    give_offset(&TimeZoneParser::from_utf8(text).parse_offset_located(), out)
+    offset_into::<Utf8, _>(text, out)
 }
 
 /// Reads a time zone.
@@ -73,10 +69,7 @@ pub unsafe extern "C" fn ixdtf_parse_offset<'a>(text: *const u8, text_length: us
 pub unsafe extern "C" fn ixdtf_parse_identifier<'a>(text: *const u8, text_length: usize, out: &mut Record<'a>) -> u32 {
     // SAFETY: so the header has it.
     let text = unsafe { crate::slices::slice(text, text_length) };
-    give_zone(
-        &TimeZoneParser::from_utf8(text).parse_identifier_located(),
-        out,
-    )
+    zone_into::<Utf8, _>(text, out)
 }
 
 /// Reads the name of a time zone.
@@ -84,10 +77,7 @@ pub unsafe extern "C" fn ixdtf_parse_identifier<'a>(text: *const u8, text_length
 pub unsafe extern "C" fn ixdtf_parse_iana_identifier<'a>(text: *const u8, text_length: usize, out: &mut Record<'a>) -> u32 {
     // SAFETY: so the header has it.
     let text = unsafe { crate::slices::slice(text, text_length) };
-    give_name(
-        &TimeZoneParser::from_utf8(text).parse_iana_identifier_located(),
-        out,
-    )
+    name_into::<Utf8, _>(text, out)
 }
 
 /// Reads a duration.
@@ -95,10 +85,7 @@ pub unsafe extern "C" fn ixdtf_parse_iana_identifier<'a>(text: *const u8, text_l
 pub unsafe extern "C" fn ixdtf_parse_duration(text: *const u8, text_length: usize, out: &mut Duration<'_>) -> u32 {
     // SAFETY: so the header has it.
     let text = unsafe { crate::slices::slice(text, text_length) };
-    give_duration(
-        &IsoDurationParser::<Utf8>::from_utf8(text).parse_located(),
-        out,
-    )
+    duration_into::<Utf8>(text, Profile::Crate, out)
 }
 
 /// Reads a duration, under the strict profile.
@@ -106,6 +93,5 @@ pub unsafe extern "C" fn ixdtf_parse_duration(text: *const u8, text_length: usiz
 pub unsafe extern "C" fn ixdtf_parse_duration_strict(text: *const u8, text_length: usize, out: &mut Duration<'_>) -> u32 {
     // SAFETY: so the header has it.
     let text = unsafe { crate::slices::slice(text, text_length) };
-    let mut parser = IsoDurationParser::<Utf8>::from_utf8(text).with_profile(Profile::Strict);
-    give_duration(&parser.parse_located(), out)
+    duration_into::<Utf8>(text, Profile::Strict, out)
 }

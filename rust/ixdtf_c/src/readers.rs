@@ -1,0 +1,152 @@
+// Made by tools/to_rust.py of crates/ixdtf_c/src/readers.rt. Do not edit.
+
+//! The readers of either width, and what is kept of replies to annotations.
+
+use crate::errors::number_of;
+use crate::fields::{Kept, area_of, area_of_name, area_of_zone, fields_of, fields_with};
+use crate::forms::Offset;
+use crate::units::has_same_units;
+use crate::widths::{AnnotationOf, CalendarOf, RecordOf};
+use ixdtf::encoding::EncodingType;
+use ixdtf::parsers::{Cores, IxdtfParser, Profile, Raised, TimeZoneParser};
+use ixdtf::records::{Annotation, IxdtfParseRecord};
+use ixdtf::{LocatedError, ParseError};
+
+/// Reads as the reader of the kind does without a handler.
+///
+/// It is generic in its error, since a function that names a lifetime in a bound may not name `'static`, as `LocatedError` does.
+#[inline(always)]
+fn read_as<'a, E: Raised, T: EncodingType, C: Cores>(
+    text: &'a [T::CodeUnit],
+    profile: Profile,
+) -> Result<IxdtfParseRecord<'a, T>, E>
+where
+    T::CodeUnit: 'a,
+{
+    let mut parser = IxdtfParser::<T>::new(text).with_profile(profile);
+    let mut handler = |annotation| Some(annotation);
+    match parser.read_by_reference::<E, C, _>(&mut handler) {
+        Ok(found) => Ok(found),
+        Err(error) => return Err(error),
+    }
+}
+
+/// Writes what was read, and clears what was not.
+#[inline(never)]
+pub fn fill<'a, T: EncodingType, R: RecordOf<'a, T>>(found: &IxdtfParseRecord<'a, T>, out: &mut R) {
+    out.write(fields_of::<T>(found));
+}
+
+/// Reads as the reader of the kind does without a handler, and writes what was read.
+#[inline(always)]
+pub fn read_into<'a, T: EncodingType, C: Cores, R: RecordOf<'a, T>>(
+    text: &'a [T::CodeUnit],
+    profile: Profile,
+    out: &mut R,
+) -> u32
+where
+    T::CodeUnit: 'a,
+{
+    match read_as::<LocatedError, T, C>(text, profile) {
+        Ok(found) => {
+            fill::<T, R>(&found, out);
+            0
+        }
+        Err(located) => out.refuse(located),
+    }
+}
+
+/// Reads an offset, and writes it.
+#[inline(always)]
+pub fn offset_into<'a, T: EncodingType, R: RecordOf<'a, T>>(
+    text: &'a [T::CodeUnit],
+    out: &mut R,
+) -> u32 {
+    match TimeZoneParser::<T>::new(text).parse_offset_located() {
+        Ok(offset) => {
+            let zone = area_of::<T>(&None);
+            out.write(fields_with::<T>(Offset::of_shift(offset), zone));
+            0
+        }
+        Err(located) => out.refuse(located),
+    }
+}
+
+/// Reads a time zone, and writes it.
+#[inline(always)]
+pub fn zone_into<'a, T: EncodingType, R: RecordOf<'a, T>>(
+    text: &'a [T::CodeUnit],
+    out: &mut R,
+) -> u32 {
+    match TimeZoneParser::<T>::new(text).parse_identifier_located() {
+        Ok(zone) => {
+            let zone = area_of_zone::<T>(false, &zone);
+            out.write(fields_with::<T>(Offset::of(None), zone));
+            0
+        }
+        Err(located) => out.refuse(located),
+    }
+}
+
+/// Reads the name of a time zone, and writes it.
+#[inline(always)]
+pub fn name_into<'a, T: EncodingType, R: RecordOf<'a, T>>(
+    text: &'a [T::CodeUnit],
+    out: &mut R,
+) -> u32 {
+    match TimeZoneParser::<T>::new(text).parse_iana_identifier_located() {
+        Ok(name) => {
+            let zone = area_of_name::<T>(false, name);
+            out.write(fields_with::<T>(Offset::of(None), zone));
+            0
+        }
+        Err(located) => out.refuse(located),
+    }
+}
+
+/// The calendar that is kept after a reply: the first one.
+///
+/// # Errors
+///
+/// The error that the reply is refused with.
+#[inline(always)]
+fn keep_first<'a, T: EncodingType>(
+    kept: Option<Kept<'a, T::CodeUnit>>,
+    reply: Annotation<'a, T>,
+) -> Result<Option<Kept<'a, T::CodeUnit>>, ParseError> {
+    if !T::check_calendar_key(reply.key) {
+        if reply.critical {
+            return Err(ParseError::UnrecognizedCritical);
+        }
+        return Ok(kept);
+    }
+    let Some(first) = kept else {
+        return Ok(Some(Kept {
+            value: reply.value,
+            is_critical: reply.critical,
+        }));
+    };
+    if !has_same_units::<T>(first.value, reply.value) && (first.is_critical || reply.critical) {
+        return Err(ParseError::CriticalDuplicateCalendar);
+    }
+    Ok(Some(first))
+}
+
+/// Takes a reply to an annotation: keeps it where it is the first calendar, and returns 0, or the number of the error that it
+/// is refused with.
+#[inline(always)]
+pub fn take_reply<'a, T: EncodingType, A: AnnotationOf<'a, T>, K: CalendarOf<'a, T>>(
+    calendar: &mut K,
+    reply: &A,
+) -> u32
+where
+    T::CodeUnit: 'a,
+{
+    match keep_first::<T>(calendar.read(), reply.read()) {
+        Ok(kept) => {
+            calendar.write(kept);
+            0
+        }
+        Err(error) => number_of(error).0,
+    }
+}

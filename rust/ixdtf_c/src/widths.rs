@@ -1,0 +1,31 @@
+// Made by tools/to_rust.py of crates/ixdtf_c/src/widths.rt. Do not edit.
+
+//! What the records of both widths have alike, by the encoding of their units.
+
+use crate::fields::{Fields, Kept};
+use ixdtf::encoding::EncodingType;
+use ixdtf::{LocatedError, records};
+
+/// A record of units of the encoding.
+pub trait RecordOf<'a, T: EncodingType> {
+    /// Writes all of it, and that there is no error.
+    fn write(&mut self, fields: Fields<'a, T::CodeUnit>);
+
+    /// Writes the location and the place of an error, and returns the error's number.
+    fn refuse(&mut self, located: LocatedError) -> u32;
+}
+
+/// An annotation in units of the encoding.
+pub trait AnnotationOf<'a, T: EncodingType> {
+    /// The annotation as the library has it.
+    fn read(&self) -> records::Annotation<'a, T>;
+}
+
+/// The calendar that is kept, in units of the encoding.
+pub trait CalendarOf<'a, T: EncodingType> {
+    /// It, where there is one.
+    fn read(&self) -> Option<Kept<'a, T::CodeUnit>>;
+
+    /// Keeps this one, or none.
+    fn write(&mut self, kept: Option<Kept<'a, T::CodeUnit>>);
+}
