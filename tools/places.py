@@ -17,9 +17,10 @@ The place of an error is a number of units from the front of the text: the lengt
     ambiguous;
     just behind the `]` of the annotation, where a reply to an annotation is refused.
 """
+import os
 import re
 import sys
-from functools import cached_property
+from functools import cache, cached_property
 from typing import Callable, Iterator, NamedTuple, Optional, Sequence
 
 
@@ -816,6 +817,37 @@ def outcome(name: str, units: Sequence[int], wide: bool = False, strict: bool = 
     if refused:
         return refused
     return OK if row is None else Fault(row.error, row.place)
+
+
+# ---------------------------------------------------------------------------------------------------------------------------------
+# The examples beside it.
+
+class Example(NamedTuple):
+    """A line of places.tsv."""
+    reader: str
+    strict: bool
+    wide: bool
+    line: str
+    row: str
+    units: list[int]
+    front: list[int]
+    error: Error
+    place: int
+
+
+def units_of(spelled: str) -> list[int]:
+    """The units of a text in which `\\uXXXX` is a unit."""
+    return [int(it[2:], 16) if len(it) > 1 else ord(it) for it in re.findall(r'\\u[0-9a-f]{4}|.', spelled)]
+
+
+@cache
+def examples() -> list[Example]:
+    """The lines of places.tsv, each a text whose place was counted by hand."""
+    with open(os.path.join(os.path.dirname(os.path.abspath(__file__)), 'places.tsv'), encoding='ascii') as lines:
+        cells = [it.rstrip('\n').split('\t') for it in lines][1:]
+    return [Example(reader, profile == 'strict', bits == '16', line, row, units_of(text), units_of(front),
+                    Error(*error.split(' ')), int(place))
+            for reader, profile, bits, line, row, text, front, error, place in cells]
 
 
 # ---------------------------------------------------------------------------------------------------------------------------------
