@@ -218,7 +218,7 @@ class Contracts:
 
 
 IMPL = re.compile(r'(?:impl|(?:pub )?trait)\b(.*)')
-FUNCTION = re.compile(r'\s*(?:pub(?:\([a-z]+\))? )?(?:const )?fn (\w+)')
+FUNCTION = re.compile(r'\s*(?:pub(?:\([a-z]+\))? )?(?:const |unsafe |extern "C" )*fn (\w+)')
 CLAUSE = re.compile(r'\s*(?:ensures|requires)\s+(?:(\w+)\s+)?\{(.*)')
 OF_IMPL = re.compile(r'    ghost (\w+)(?: =|:)(.*)')
 

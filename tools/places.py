@@ -25,7 +25,7 @@ from typing import Callable, Iterator, NamedTuple, Optional, Sequence
 
 
 # ---------------------------------------------------------------------------------------------------------------------------------
-# Letters (GRAMMAR, "Letters"). A text is a string of letters. A class is what stands between the brackets of a pattern.
+# Letters (GRAMMAR, "Code units"). A text is a string of letters. A class is what stands between the brackets of a pattern.
 
 BAD = '\uffff'  # the letter of a unit that stands for none
 
@@ -214,7 +214,7 @@ MINUTE_OFFSET = one(SIGN) + clock_text(MINUTE_OFFSET_CLOCK)
 
 
 # ---------------------------------------------------------------------------------------------------------------------------------
-# Zones and pairs (GRAMMAR, "Zones" and "Pairs").
+# Zones and pairs (GRAMMAR, "Zones" and "Annotations").
 
 NAME = one(ZONE_LEAD) + any_number(maybe('/') + one(ZONE_CHAR))
 ZONE = either(NAME, MINUTE_OFFSET)
@@ -521,7 +521,7 @@ def second_lines(clock: Clock, follow: Follow, of: str) -> list[Line]:
 
 
 # ---------------------------------------------------------------------------------------------------------------------------------
-# The other lines of times that stand alone, and of offsets (FAULTS, the sections of these names).
+# The other lines of times that stand alone, and of offsets (FAULTS, "Times that stand alone" and "Offsets and zone names").
 
 # the text is a time with its offset, up to its end or a `[`
 READS_AS_TIME = ahead(TIME + maybe(OFFSET_OR_Z) + either(r'\Z', one(OPENING)))
@@ -546,7 +546,7 @@ ZULU_LINES = [
 
 
 # ---------------------------------------------------------------------------------------------------------------------------------
-# Zone names, brackets and pairs (FAULTS, the sections of these names).
+# Zone names, brackets and pairs (FAULTS, "Offsets and zone names", "Brackets" and "Annotations").
 
 IDENTIFIER_LINES = [
     line('identifier_start', NOTHING,    ZONE_LEAD + SIGN,              abrupt('TimeZoneAnnotation'), 'TzLeadingChar'),
@@ -742,7 +742,7 @@ READERS = {strict: readers(strict) for strict in (False, True)}
 
 
 # ---------------------------------------------------------------------------------------------------------------------------------
-# Replies (GRAMMAR, "Replies, and the calendar"; FAULTS, "Replies that are refused").
+# Replies (GRAMMAR, "Annotations and the calendar"; FAULTS, "Annotations that are refused").
 
 class Annotation(NamedTuple):
     """A pair, or a reply to one."""
