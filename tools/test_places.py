@@ -16,6 +16,7 @@ from typing import Iterator, Optional
 TOOLS = os.path.dirname(os.path.abspath(__file__))
 sys.path.insert(0, TOOLS)
 import places
+from check_documents import ROOT, Document, Tree
 from places import Annotation, Error, Example, Fault, examples
 
 
@@ -78,6 +79,39 @@ def rows_of(line: places.Line) -> Iterator[tuple[str, Error]]:
         yield places.AT_END, line.end
     for _, error in line.other:
         yield places.AT_OTHER, error
+
+
+class Grammar(unittest.TestCase):
+    """The examples of docs/GRAMMAR.md that have an error: those of the two profiles, and those of annotations."""
+
+    def rows(self, head: str) -> list[dict[str, str]]:
+        """The rows of the tables that have this column."""
+        return [row for _, row in Document(Tree(ROOT), 'docs/GRAMMAR.md').tables() if head in row]
+
+    def variant(self, reader: str, text: str, strict: bool = False) -> str:
+        """The error of a text, or `ok`."""
+        found = places.outcome(reader, list(text.encode()), strict=strict)
+        return found if found == places.OK else found.error.variant
+
+    def said(self, cell: str) -> str:
+        """The error that a cell names, or `ok`."""
+        named = re.match('`([A-Z][a-zA-Z]+)`', cell)
+        return named[1] if named and named[1] in places.TEXTS else places.OK
+
+    def test_profiles(self):
+        rows = self.rows('The strict profile')
+        for row in rows:
+            reader, text = 'duration' if row['Reader'] == 'durations' else row['Reader'].strip('`'), row['Text'].strip('`')
+            for strict, head in enumerate(("The crate's profile", 'The strict profile')):
+                self.assertEqual(self.variant(reader, text, bool(strict)), self.said(row[head]), row)
+        self.assertGreater(len(rows), 7)
+
+    def test_annotations(self):
+        rows = [row for row in self.rows('Returns') if 'handler' not in row['`parse` of `2020-01-01` and']]
+        for row in rows:
+            for text in re.findall('`([^`]*)`', row['`parse` of `2020-01-01` and']):
+                self.assertEqual(self.variant('parse', '2020-01-01' + text), self.said(row['Returns']), row)
+        self.assertEqual(len(rows), 3)
 
 
 # ---------------------------------------------------------------------------------------------------------------------------------
