@@ -2,8 +2,9 @@
 """check_documents.py [--words]: sees that what the documents name is there.
 
 (a) Names. In every document each file and directory, each item in back-quotes, each target of a link with its heading, and each count
-that `COUNTS` knows must be there. `name` of `File.antt` asks that this file defines the name. In a table with a column `Clause` each
-function has the clauses that the row names, and each clause the fields in parentheses behind it.
+that `COUNTS` knows must be there. `name` of `File.antt` asks that this file defines the name, and `name` of `item` that the item has such
+a clause, field or function. In a table with a column `Clause` each function has the clauses that the row names, and each clause the
+fields in parentheses behind it.
 
 (b) Examples. The lines of docs/FAULTS.md are those of the model `places.py`: their names, what they go on with, and their errors. Each
 example, a text with its place, has this error at this place in the model, and in the row of `places.tsv`, whose place was counted by
@@ -142,6 +143,12 @@ class Tree:
         """Whether a path, from the top or from any directory, is one of a file or a directory."""
         return all(any(fnmatch.fnmatchcase(it, one) for it in self.paths) if '*' in one else one in self.paths
                    for one in expanded(path.rstrip('/')))
+
+    def is_part(self, name: str, item: str) -> bool:
+        """Whether an item has this clause, field or function. One that is a crate, or has none of these, may have anything."""
+        clauses, fields = self.contracts.found.get(item), self.fields.get(item)
+        return (clauses is None and fields is None or f'crates/{item}' in self.paths or name == 'impl' or name in (clauses or {})
+                or name in (fields or ()) or f'{item}::{name}' in self.contracts.found)
 
     def defines(self, path: str, name: str) -> bool:
         """Whether a file of this path defines the name."""
@@ -311,6 +318,7 @@ LINK = re.compile(r'\]\(([^)\s]+)\)')
 PATH = re.compile(r'[\w.{][\w./*-]*(?:\{[^}]*\}[\w./*-]*)?')
 TOP = ('crates/', 'docs/', 'tools/', 'rust/', 'c/', '.ci/', 'src/', 'specs/', 'proofs/', 'must-fail/', 'tests/')
 ITEM = re.compile(r"&?(?:mut )?[A-Za-z_]\w*(?:(?:::|\.| )[A-Za-z_]\w*)*(?:<[\w<>:', &]*>)?(?:\([\w&:', ]*\))?(?:::\w+)*!?")
+OF_ITEM = re.compile(r'((?:`[a-z_]\w*`(?:, and |, | and )?)+) of (?:the )?`([A-Za-z_]\w*)`')
 OF_FILE = re.compile(r'((?:`[^`]+`(?:, and |, | and )?)+) of `([\w/]+\.(?:antt|rt))`')
 
 
@@ -328,6 +336,10 @@ def findings_in_names(document: Document) -> Iterator[Finding]:
             for name in (it.split(' ')[0] for it in SPAN.findall(names)):
                 if WORD.fullmatch(name) and not tree.defines(file, name):
                     yield Finding(document.path, number, f'`{name}` is not defined in `{file}`')
+        for names, item in OF_ITEM.findall(line):
+            for name in SPAN.findall(names):
+                if not tree.is_part(name, item):
+                    yield Finding(document.path, number, f'`{item}` has no `{name}`')
         for target in LINK.findall(line):
             what = missing_in_link(document, target)
             if what:

@@ -11,7 +11,7 @@ import check_documents as check
 from check_documents import Document, Tree
 from places import Error
 
-CODE = '''//! Readers.
+CODE = '''//! Readers, and looks.
 pub struct Reader<'a, T> {
     rest: &'a [T],
 }
@@ -87,7 +87,7 @@ class Names(InATree):
 
     def test_what_is_there(self):
         self.assertEqual(self.names('`crates/reader/src/lib.rt`, `lib.rt`, `crates/{reader, reader}/src`, `specs/*.antt`, `Reader::read`,\n'
-                                    '`Leaves` and `Free` of `Views.antt`, `2020-01-01[a=b]`, `P1Y`, `rt check --only no_such`,\n'
+                                    '`Leaves` and `Free` of `Views.antt`, `ok` of `read`, `read` of `Reader`, `2020-01-01[a=b]`, `P1Y`, `rt check --only no_such`,\n'
                                     '[other](OTHER.md#the-second-part-too), [page](PAGE.md), [web](https://example.org)'), [])
 
     def test_what_is_not_there(self):
@@ -98,6 +98,8 @@ class Names(InATree):
             ('`no_such_item`', 'no item `no_such_item`'),
             ('`Reader::write`', 'no item `write` in `Reader::write`'),
             ('`Leaves` and `read` of `Views.antt`', '`read` is not defined in `Views.antt`'),
+            ('`ok` and `empty` of `read`', '`read` has no `empty`'),
+            ('`unchanged` and `looks` of `Leaves`', '`Leaves` has no `looks`'),
             ('[a](NONE.md)', 'no file NONE.md'),
             ('[a](OTHER.md#third)', 'no heading OTHER.md#third'),
         ]:
