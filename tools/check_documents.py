@@ -44,6 +44,7 @@ PRINTED_ONLY = {'README.md', 'CONTRIBUTING.md', 'CHANGELOG.md', 'docs/CALLING.md
 EXCEPTIONS = {
     'Rattle.std.specs': 'of the toolchain',
     'NonZeroU8': "of Rust's library",
+    'BufRead': "of Rust's library",
     'assert_syntax': 'of the Rust crate',
     'c/out': 'made by c/build',
     'must-fail/FILE.FUNCTION.what_it_does.edit': 'stands for the name of each edit',
@@ -317,7 +318,7 @@ SPAN = re.compile(r'`([^`]+)`')
 LINK = re.compile(r'\]\(([^)\s]+)\)')
 PATH = re.compile(r'[\w.{][\w./*-]*(?:\{[^}]*\}[\w./*-]*)?')
 TOP = ('crates/', 'docs/', 'tools/', 'rust/', 'c/', '.ci/', 'src/', 'specs/', 'proofs/', 'must-fail/', 'tests/')
-ITEM = re.compile(r"&?(?:mut )?[A-Za-z_]\w*(?:(?:::|\.| )[A-Za-z_]\w*)*(?:<[\w<>:', &]*>)?(?:\([\w&:', ]*\))?(?:::\w+)*!?")
+ITEM = re.compile(r"&?(?:mut )?[A-Za-z_]\w*(?:(?:::|\.)[A-Za-z_]\w*)*(?: \w+){0,2}(?:<[\w<>:', &]*>)?(?:\([\w&:', ]*\))?(?:::\w+)*!?")
 OF_ITEM = re.compile(r'((?:`[a-z_]\w*`(?:, and |, | and )?)+) of (?:the )?`([A-Za-z_]\w*)`')
 OF_FILE = re.compile(r'((?:`[^`]+`(?:, and |, | and )?)+) of `([\w/]+\.(?:antt|rt))`')
 
@@ -683,8 +684,11 @@ def findings_in_faults(document: Document) -> Iterator[Finding]:
                     yield Finding(document.path, number, f'the model has no {said.fault} for `{text}`')
         except (ValueError, KeyError, TypeError) as why:
             yield Finding(document.path, number, f'cannot be read: {why}')
-    yield from (Finding(document.path, 1, it) for it in differences_from_model(document))
-    yield from findings_in_errors(document)
+    try:
+        yield from (Finding(document.path, 1, it) for it in differences_from_model(document))
+        yield from findings_in_errors(document)
+    except KeyError as why:
+        yield Finding(document.path, 1, f'cannot be read: {why}')
 
 
 def differences_from_model(document: Document) -> Iterator[str]:

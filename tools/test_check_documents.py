@@ -193,6 +193,7 @@ class Repository(unittest.TestCase):
 
     def test_an_example_that_cannot_be_read(self):
         self.assertIn('cannot be read: no text with its place: `20-06-05`', self.faults('`20-06-05` at 2', '`20-06-05`'))
+        self.assertIn("cannot be read: 'any sign'", self.faults('nothing | digit, sign |', 'nothing | digit, any sign |'))
 
     def test_the_table_of_errors(self):
         self.assertIn('OffsetNeedsSign has another text', self.faults('UTC offset needs a sign |', 'UTC offset needs a sign. |'))
