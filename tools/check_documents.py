@@ -377,17 +377,22 @@ def missing_in_link(document: Document, target: str) -> Optional[str]:
 def findings_in_clauses(document: Document) -> Iterator[Finding]:
     """The clauses that tables name and no contract has."""
     for number, row in document.tables():
-        for owner, clause, fields in clauses_in(row.get('Clause', '')):
-            for what in missing_clauses(document.tree, owner, clause, fields):
-                yield Finding(document.path, number, what)
+        for head, cell in row.items():
+            for owner, clause, fields in clauses_in(head, cell):
+                for what in missing_clauses(document.tree, owner, clause, fields):
+                    yield Finding(document.path, number, what)
 
 
 NAMED_CLAUSE = re.compile(r'(?:`(\w+)`|\*\(unnamed\)\*)(?: \((`\w+`(?:, `\w+`)*)\))?')
 
 
-def clauses_in(cell: str) -> Iterator[tuple[str, str, list[str]]]:
-    """For each clause that a cell names its function or *group*, its name and the fields of it."""
-    for part in cell.split('; '):
+def clauses_in(head: str, cell: str) -> Iterator[tuple[str, str, list[str]]]:
+    """For each clause that a cell names its function or *group*, its name and the fields of it: in a column `Clause` each function
+    before its clauses, in a column "Clause of `function`" the clauses alone."""
+    of_one = re.fullmatch('Clause of (`.*`)', head)
+    if of_one:
+        yield from ((of_one[1], clause, []) for clause in SPAN.findall(cell))
+    for part in cell.split('; ') if head == 'Clause' else []:
         subject = re.match(r'(\*[\w ]+\*|`[^`]+`): (.*)', part)
         if subject:
             for clause, fields in NAMED_CLAUSE.findall(subject[2]):

@@ -136,6 +136,10 @@ class Clauses(InATree):
         ]:
             self.assertEqual(self.clauses(cell), [what])
 
+    def test_a_column_of_one_function(self):
+        document = self.document('| Clause of `read` | What it says |\n|---|---|\n| `ok`, `err` | it reads |\n')
+        self.assertEqual([it.what for it in check.findings_in_clauses(document)], ['`read` has no clause `err`'])
+
     def test_each_reader_of_a_group(self):
         self.assertEqual(len(check.members('each reader')), 24)
         self.assertEqual(check.members('part located')[-1], 'IsoDurationParser::parse_located')
