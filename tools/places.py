@@ -17,14 +17,15 @@ The place of an error is a number of units from the front of the text: the lengt
     ambiguous;
     just behind the `]` of the annotation, where a reply to an annotation is refused.
 """
+import os
 import re
 import sys
-from functools import cached_property
+from functools import cache, cached_property
 from typing import Callable, Iterator, NamedTuple, Optional, Sequence
 
 
 # ---------------------------------------------------------------------------------------------------------------------------------
-# Letters (GRAMMAR, "Letters"). A text is a string of letters. A class is what stands between the brackets of a pattern.
+# Letters (GRAMMAR, "Code units"). A text is a string of letters. A class is what stands between the brackets of a pattern.
 
 BAD = '\uffff'  # the letter of a unit that stands for none
 
@@ -213,7 +214,7 @@ MINUTE_OFFSET = one(SIGN) + clock_text(MINUTE_OFFSET_CLOCK)
 
 
 # ---------------------------------------------------------------------------------------------------------------------------------
-# Zones and pairs (GRAMMAR, "Zones" and "Pairs").
+# Zones and pairs (GRAMMAR, "Zones" and "Annotations").
 
 NAME = one(ZONE_LEAD) + any_number(maybe('/') + one(ZONE_CHAR))
 ZONE = either(NAME, MINUTE_OFFSET)
@@ -520,7 +521,7 @@ def second_lines(clock: Clock, follow: Follow, of: str) -> list[Line]:
 
 
 # ---------------------------------------------------------------------------------------------------------------------------------
-# The other lines of times that stand alone, and of offsets (FAULTS, the sections of these names).
+# The other lines of times that stand alone, and of offsets (FAULTS, "Times that stand alone" and "Offsets and zone names").
 
 # the text is a time with its offset, up to its end or a `[`
 READS_AS_TIME = ahead(TIME + maybe(OFFSET_OR_Z) + either(r'\Z', one(OPENING)))
@@ -545,7 +546,7 @@ ZULU_LINES = [
 
 
 # ---------------------------------------------------------------------------------------------------------------------------------
-# Zone names, brackets and pairs (FAULTS, the sections of these names).
+# Zone names, brackets and pairs (FAULTS, "Offsets and zone names", "Brackets" and "Annotations").
 
 IDENTIFIER_LINES = [
     line('identifier_start', NOTHING,    ZONE_LEAD + SIGN,              abrupt('TimeZoneAnnotation'), 'TzLeadingChar'),
@@ -741,7 +742,7 @@ READERS = {strict: readers(strict) for strict in (False, True)}
 
 
 # ---------------------------------------------------------------------------------------------------------------------------------
-# Replies (GRAMMAR, "Replies, and the calendar"; FAULTS, "Replies that are refused").
+# Replies (GRAMMAR, "Annotations and the calendar"; FAULTS, "Annotations that are refused").
 
 class Annotation(NamedTuple):
     """A pair, or a reply to one."""
@@ -816,6 +817,37 @@ def outcome(name: str, units: Sequence[int], wide: bool = False, strict: bool = 
     if refused:
         return refused
     return OK if row is None else Fault(row.error, row.place)
+
+
+# ---------------------------------------------------------------------------------------------------------------------------------
+# The examples beside it.
+
+class Example(NamedTuple):
+    """A line of places.tsv."""
+    reader: str
+    strict: bool
+    wide: bool
+    line: str
+    row: str
+    units: list[int]
+    front: list[int]
+    error: Error
+    place: int
+
+
+def units_of(spelled: str) -> list[int]:
+    """The units of a text in which `\\uXXXX` is a unit."""
+    return [int(it[2:], 16) if len(it) > 1 else ord(it) for it in re.findall(r'\\u[0-9a-f]{4}|.', spelled)]
+
+
+@cache
+def examples() -> list[Example]:
+    """The lines of places.tsv, each a text whose place was counted by hand."""
+    with open(os.path.join(os.path.dirname(os.path.abspath(__file__)), 'places.tsv'), encoding='ascii') as lines:
+        cells = [it.rstrip('\n').split('\t') for it in lines][1:]
+    return [Example(reader, profile == 'strict', bits == '16', line, row, units_of(text), units_of(front),
+                    Error(*error.split(' ')), int(place))
+            for reader, profile, bits, line, row, text, front, error, place in cells]
 
 
 # ---------------------------------------------------------------------------------------------------------------------------------

@@ -1,6 +1,6 @@
 #!/usr/bin/env python3
-"""Tests of places.py: each row of the fault table by an example whose place was counted by hand (places.tsv), the cells and the
-examples of docs/FAULTS.md beside the model's lines, and that of all rows one alone fits, with one front alone.
+"""Tests of places.py: each row of the fault table by an example whose place was counted by hand (places.tsv), and that of all rows
+one alone fits, with one front alone. check_documents.py compares the model with docs/FAULTS.md.
 
 places.tsv has in each line a reader, its profile, the bits of a unit, the line and the row (`end`, `bad`, `other` or `whole`; or
 `reply` and `refused`, where each pair replies for itself), a text, the front of the text that the row speaks of, the error and its
@@ -11,41 +11,13 @@ import re
 import subprocess
 import sys
 import unittest
-from typing import Iterator, NamedTuple, Optional
+from typing import Iterator, Optional
 
 TOOLS = os.path.dirname(os.path.abspath(__file__))
 sys.path.insert(0, TOOLS)
 import places
-from places import Annotation, Error, Fault
-
-FAULTS = os.path.join(TOOLS, '..', 'docs', 'FAULTS.md')
-
-
-class Example(NamedTuple):
-    """A line of places.tsv."""
-    reader: str
-    strict: bool
-    wide: bool
-    line: str
-    row: str
-    units: list[int]
-    front: list[int]
-    error: Error
-    place: int
-
-
-def units_of(spelled: str) -> list[int]:
-    """The units of a text in which `\\uXXXX` is a unit."""
-    return [int(it[2:], 16) if len(it) > 1 else ord(it) for it in re.findall(r'\\u[0-9a-f]{4}|.', spelled)]
-
-
-def examples() -> list[Example]:
-    """The lines of places.tsv."""
-    with open(os.path.join(TOOLS, 'places.tsv'), encoding='ascii') as lines:
-        cells = [it.rstrip('\n').split('\t') for it in lines][1:]
-    return [Example(reader, profile == 'strict', bits == '16', line, row, units_of(text), units_of(front),
-                    Error(*error.split(' ')), int(place))
-            for reader, profile, bits, line, row, text, front, error, place in cells]
+from check_documents import ROOT, Document, Tree
+from places import Annotation, Error, Example, Fault, examples
 
 
 def plain_examples() -> list[Example]:
@@ -109,190 +81,37 @@ def rows_of(line: places.Line) -> Iterator[tuple[str, Error]]:
         yield places.AT_OTHER, error
 
 
-# ---------------------------------------------------------------------------------------------------------------------------------
-# docs/FAULTS.md
+class Grammar(unittest.TestCase):
+    """The examples of docs/GRAMMAR.md that have an error: those of the two profiles, and those of annotations."""
 
-LOCATIONS = {'digit', 'Date', 'MonthDay', 'time-numoffset', 'TimeZoneAnnotation', 'AmbiguousAnnotation', 'DurationStart',
-             'DurationDesignator', 'Duration', 'DateDurationDesignator'}
-CLASSES = {'digit': places.DIGIT, 'sign': places.SIGN, 'Sign': places.SIGN, 'space': ' ', 'any letter': places.ANY_LETTER,
-           'nothing': places.NOTHING, 'ZoneLead': places.ZONE_LEAD, 'ZoneChar': places.ZONE_CHAR, 'KeyLead': places.KEY_LEAD,
-           'KeyChar': places.KEY_CHAR, 'ValueChar': places.VALUE_CHAR, 'DateUnit': places.DATE_UNIT, 'TimeUnit': places.TIME_UNIT}
-CLOCK_LINES = ('hour_', 'after_hour', 'minute_', 'after_basic_minute', 'after_colon_minute', 'second_', 'after_second',
-               'fraction_start', 'after_fraction')
+    def rows(self, head: str) -> list[dict[str, str]]:
+        """The rows of the tables that have this column."""
+        return [row for _, row in Document(Tree(ROOT), 'docs/GRAMMAR.md').tables() if head in row]
 
+    def variant(self, reader: str, text: str, strict: bool = False) -> str:
+        """The error of a text, or `ok`."""
+        found = places.outcome(reader, list(text.encode()), strict=strict)
+        return found if found == places.OK else found.error.variant
 
-def tables() -> Iterator[dict[str, str]]:
-    """The rows of all tables of docs/FAULTS.md, each as its cells by the heads of its columns."""
-    heads = None
-    with open(FAULTS, encoding='utf-8') as lines:
-        for line in lines:
-            if not line.startswith('|'):
-                heads = None
-                continue
-            cells = [it.strip() for it in line.strip()[1:-1].split('|')]
-            if heads is None:
-                heads = cells
-            elif not line.startswith('|---'):
-                yield dict(zip(heads, cells))
+    def said(self, cell: str) -> str:
+        """The error that a cell names, or `ok`."""
+        named = re.match('`([A-Z][a-zA-Z]+)`', cell)
+        return named[1] if named and named[1] in places.TEXTS else places.OK
 
+    def test_profiles(self):
+        rows = self.rows('The strict profile')
+        for row in rows:
+            reader, text = 'duration' if row['Reader'] == 'durations' else row['Reader'].strip('`'), row['Text'].strip('`')
+            for strict, head in enumerate(("The crate's profile", 'The strict profile')):
+                self.assertEqual(self.variant(reader, text, bool(strict)), self.said(row[head]), row)
+        self.assertGreater(len(rows), 7)
 
-def table_rows() -> list[tuple[list[str], dict[str, str]]]:
-    """The rows of the tables of lines: the names of the lines that one is of, and its cells."""
-    return [(re.findall(r'`([^`]*)`', row['Line']), row) for row in tables() if 'Line' in row]
-
-
-def is_clock_line(name: str) -> bool:
-    """Whether a line is there once for each clock."""
-    return name.startswith(CLOCK_LINES) and name != 'after_fraction_group'
-
-
-def error_in(cell: str) -> Optional[Error]:
-    """The error that a cell names, and None where the text may end."""
-    if cell in ('', 'ok'):
-        return None
-    name = re.search(r'`([^`]*)`', cell)[1]
-    return Error('AbruptEnd', name) if name in LOCATIONS or '*abrupt*' in cell else Error(name)
-
-
-def letters_in(cell: str) -> Optional[frozenset[str]]:
-    """The letters that a cell says a text goes on with; None for a whole line."""
-    if cell == 'whole':
-        return None
-    parts = re.findall(r'`([^`]*)`|(\w[\w ]*)', cell)
-    return frozenset(it for letter, name in parts for it in (letter or members(CLASSES[name])))
-
-
-def members(letters: str) -> frozenset[str]:
-    """The letters of a class."""
-    return frozenset(chr(it) for it in range(256) if letters and re.match(places.one(letters), chr(it)))
-
-
-def others_in(cell: str) -> frozenset[tuple[str, Error]]:
-    """The errors that a cell names for other letters: at a letter, or at the rest (an empty text)."""
-    if cell == '' or cell.startswith('none'):
-        return frozenset()
-    special = re.match(r'(.*) at `(.)`, else (.*)', cell)
-    if special:
-        return frozenset([(special[2], error_in(special[1])), ('', error_in(special[3]))])
-    return frozenset([('', error_in(cell))])
-
-
-def cells_in(row: dict[str, str]) -> tuple:
-    """With which letters a row says that its lines go on, and the errors at the end and at other letters."""
-    return letters_in(row['Goes on with']), error_in(row['End']), others_in(row['Other'])
-
-
-def cells_of(line: places.Line) -> tuple:
-    """The same of a line of the model."""
-    others = frozenset(('' if letters == places.ANY_LETTER else letters.removeprefix('\\'), error) for letters, error in line.other)
-    return None if line.goes_on is None else members(line.goes_on), line.end, others
-
-
-class Such(NamedTuple):
-    """A text that docs/FAULTS.md gives for a line, its error where it is said, and its place."""
-    text: str
-    error: Optional[Error]
-    place: int
-    strict: bool
-
-
-SUCH = re.compile(r'(strict: )?(?:`([^`]*)`|the empty text|nothing)(?:: (`[^`]*`))? at (\d+)(?:, but not strictly)?')
-
-
-def such_as(cell: str) -> Iterator[Such]:
-    """The texts of a cell. Raises ValueError where one is not written as these are."""
-    for part in cell.split('; ') if cell else []:
-        such = SUCH.fullmatch(part)
-        if such is None:
-            raise ValueError(f'no text with its place: {part}')
-        strict, text, error, place = such.groups()
-        yield Such(text or '', error and error_in(error), int(place), strict is not None)
-
-
-NAMED = re.compile(r'`(?P<reader>parse\w*|IsoDurationParser::parse)` of (?P<wide>the 16-bit units of )?`(?P<text>[^`]*)`: '
-                   r'(?P<error>`\w*`) at (?P<place>\d+)')
-
-
-class NamedExample(NamedTuple):
-    """A text that docs/FAULTS.md gives for a reader, and its error and its place."""
-    reader: str
-    wide: bool
-    text: str
-    fault: Fault
-
-
-def named_examples() -> Iterator[NamedExample]:
-    """The texts of the table of the kinds of places, and of that of replies."""
-    for row in tables():
-        if 'Place' in row:
-            for it in row['Such as'].split('; '):
-                named = NAMED.match(it)
-                reader = 'duration' if '::' in named['reader'] else named['reader']
-                fault = Fault(error_in(named['error']), int(named['place']))
-                yield NamedExample(reader, named['wide'] is not None, named['text'], fault)
-        elif 'Why' in row:
-            text, error, place = re.fullmatch(r'`([^`]*)`', row['`parse` of `2020-01-01` and'])[1], *row['Error'].split(' at ')
-            yield NamedExample('parse', False, '2020-01-01' + text, Fault(error_in(error), int(place)))
-
-
-def lines_of_model() -> list[places.Line]:
-    """The lines of all readers of the crate's profile."""
-    return [line for reader in places.READERS[False].values() for line in reader.lines]
-
-
-class Document(unittest.TestCase):
-    """The model's table is the one of docs/FAULTS.md."""
-
-    def test_names(self):
-        said = {name for names, _ in table_rows() for name in names}
-        had = {re.sub(' (Time|Offset|MinuteOffset)$', '', line.name) for line in lines_of_model()}
-        self.assertEqual(said, had)
-
-    def test_cells(self):
-        said = {(name, *cells_in(row)) for names, row in table_rows() for name in names
-                if 'Goes on with' in row and not is_clock_line(name)}
-        had = {(line.name, *cells_of(line)) for line in lines_of_model() if not is_clock_line(line.name)}
-        self.assertEqual(said, had)
-        self.assertGreater(len(said), 50)
-
-    def test_errors(self):
-        rows = [it for it in tables() if 'Variant' in it]
-        self.assertEqual(len(rows), 46)
-        said = {it['Variant'].strip('`'): it['Text'] for it in rows if it['Returned by'] != 'nothing'}
-        self.assertEqual(said, places.TEXTS)
-
-    def test_each_error_comes(self):
-        had = {error.variant for line in lines_of_model() for _, error in rows_of(line)}
-        self.assertEqual(had | {'CriticalDuplicateCalendar', 'UnrecognizedCritical'}, set(places.TEXTS))
-
-    def test_texts(self):
-        texts = 0
-        for names, row in table_rows():
-            for head, it in ((head, it) for head, cell in row.items() if head.startswith(('Such as', '`parse')) for it in such_as(cell)):
-                self.assertTrue(has_row(names, head, it), (names, it))
-                texts += 1
-        self.assertGreater(texts, 120)
-
-    def test_named_examples(self):
-        found = list(named_examples())
-        shown = {(it.reader, it.wide, tuple(it.units), Fault(it.error, it.place)) for it in examples() if not it.strict}
-        for it in found:
-            units = tuple(map(ord, it.text))
-            self.assertEqual(places.outcome(it.reader, units, it.wide), it.fault, it)
-            self.assertIn((it.reader, it.wide, units, it.fault), shown)
-        self.assertGreater(len(found), 12)
-
-
-def has_row(names: list[str], head: str, such: Such) -> bool:
-    """Whether a text has the row of one of these lines, at its place, in the reader that the head of its column names, or in any
-    reader."""
-    readers = places.READERS[such.strict]
-    named = re.match(r'`(parse\w*)`', head)
-    before = re.search(r'after `([^`]*)`', head)
-    text = (before[1] if before else '') + such.text
-    lines = {name + clock for name in names for clock in ('', ' Time', ' Offset', ' MinuteOffset')}
-    rows = (row for reader in ([readers[named[1]]] if named else readers.values()) for row in reader.rows_that_fit(text))
-    return any(row.line in lines and such.error in (None, row.error) and such.place == row.place for row in rows)
+    def test_annotations(self):
+        rows = [row for row in self.rows('Returns') if 'handler' not in row['`parse` of `2020-01-01` and']]
+        for row in rows:
+            for text in re.findall('`([^`]*)`', row['`parse` of `2020-01-01` and']):
+                self.assertEqual(self.variant('parse', '2020-01-01' + text), self.said(row['Returns']), row)
+        self.assertEqual(len(rows), 3)
 
 
 # ---------------------------------------------------------------------------------------------------------------------------------

@@ -1,0 +1,775 @@
+#!/usr/bin/env python3
+"""check_documents.py [--words]: sees that what the documents name is there.
+
+(a) Names. In every document each file and directory, each item in back-quotes, each target of a link with its heading, and each count
+that `COUNTS` knows must be there. `name` of `File.antt` asks that this file defines the name, and `name` of `item` that the item has such
+a clause, field or function. In a table with a column `Clause` each function has the clauses that the row names, and each clause the
+fields in parentheses behind it.
+
+(b) Examples. The lines of docs/FAULTS.md are those of the model `places.py`: their names, what they go on with, and their errors. Each
+example, a text with its place, has this error at this place in the model, and in the row of `places.tsv`, whose place was counted by
+hand. The errors have the texts of the code and of the model, and the readers that the model has them in.
+
+(c) Words. With --words the words of each document are within its limit too; without it those that are above are printed.
+
+It prints what it finds, one finding a line, and ends with status 1 where there is one. Findings in documents of `PRINTED_ONLY` and,
+without --words, those on words do not count."""
+import fnmatch
+import os
+import re
+import sys
+from functools import cache, cached_property
+from typing import Iterator, NamedTuple, Optional
+
+TOOLS = os.path.dirname(os.path.abspath(__file__))
+sys.path.insert(0, TOOLS)
+import places
+from places import Error, Fault
+
+ROOT = os.path.dirname(TOOLS)
+
+# at most so many words have these documents together, by `wc -w`
+LIMITS = [
+    (['README.md'], 1000), (['docs/CALLING.md'], 1800), (['docs/GRAMMAR.md'], 2800), (['docs/FAULTS.md'], 3200),
+    (['docs/TRUST.md'], 3400), (['docs/DECISIONS.md'], 2200), (['docs/NUMBERS.md'], 1300),
+    (['docs/DIFFERENCES.md', 'docs/RUST.md'], 1200), (['docs/C.md'], 1200), (['docs/PROGRAM.md'], 1200), (['CONTRIBUTING.md'], 1500),
+    (['rust/ixdtf/README.md'], 600), (['CHANGELOG.md'], 500),
+]
+
+# documents of which the findings are printed and do not count
+PRINTED_ONLY = {'README.md', 'CONTRIBUTING.md', 'CHANGELOG.md', 'docs/CALLING.md', 'docs/DECISIONS.md', 'docs/NUMBERS.md',
+                'docs/DIFFERENCES.md', 'docs/RUST.md', 'docs/C.md', 'docs/PROGRAM.md', 'rust/ixdtf/README.md'}
+
+# what a document may name and the repository does not have, and where it is
+EXCEPTIONS = {
+    'Rattle.std.specs': 'of the toolchain',
+    'NonZeroU8': "of Rust's library",
+    'BufRead': "of Rust's library",
+    'assert_syntax': 'of the Rust crate',
+    'c/out': 'made by c/build',
+    'must-fail/FILE.FUNCTION.what_it_does.edit': 'stands for the name of each edit',
+}
+# programs of other hands: of a command of theirs only the paths are looked for
+COMMANDS = ('rt', 'cargo', 'python3', 'bash', 'git', 'cd', 'gcc', 'clang', 'cc', 'wc', 'grep', 'nm', 'valgrind', 'rustc')
+# a column of names in the standards, and columns of names that a document gives
+OF_STANDARDS = 'From'
+GIVEN = ('Class', 'Production')
+
+CODE = ('.rt', '.antt', '.rs', '.py', '.c', '.h', '.toml', '.txt', '.tsv', '.edit', '.sh')
+EXTENSIONS = CODE + ('.md',)
+PASSED_OVER = {'.git', 'out', 'target', '__pycache__'}
+OWN_FILES = {'tools/check_documents.py', 'tools/test_check_documents.py'}
+
+
+class Finding(NamedTuple):
+    """What is not so, in which line of a document."""
+    document: str
+    line: int
+    what: str
+
+    def __str__(self) -> str:
+        return f'{self.document}:{self.line}: {self.what}'
+
+
+# ---------------------------------------------------------------------------------------------------------------------------------
+# The repository
+
+class Tree:
+    """The files of the repository, and what their code names."""
+
+    def __init__(self, root: str):
+        self.root = root
+        self.files = sorted(self.walk())
+
+    def walk(self) -> Iterator[str]:
+        """The paths of all files but what is built."""
+        for folder, folders, files in os.walk(self.root):
+            folders[:] = [it for it in folders if it not in PASSED_OVER]
+            for name in files:
+                yield os.path.relpath(os.path.join(folder, name), self.root).replace(os.sep, '/')
+
+    @cache
+    def read(self, path: str) -> str:
+        """The content of a file."""
+        with open(os.path.join(self.root, path), encoding='utf-8', errors='replace') as file:
+            return file.read()
+
+    def documents(self) -> list[str]:
+        """The documents."""
+        return [it for it in self.files if it.endswith('.md')]
+
+    def code(self) -> list[str]:
+        """The files whose names count."""
+        return [it for it in self.files if it not in OWN_FILES and (it.endswith(CODE) or '.' not in os.path.basename(it)
+                                                                     or it.startswith('.ci/'))]
+
+    @cached_property
+    def paths(self) -> set[str]:
+        """All files and directories, each by all ends of its path."""
+        whole = set(self.files) | {os.path.dirname(it) for it in self.files}
+        whole |= {parent for it in self.files for parent in parents(it)}
+        return {'/'.join(parts[at:]) for it in whole for parts in [it.split('/')] for at in range(len(parts))}
+
+    @cached_property
+    def names(self) -> set[str]:
+        """The words of all code, of its comments and of its paths."""
+        words = {word for path in self.code() for word in WORD.findall(self.read(path))}
+        return words | {word for it in self.files for word in WORD.findall(it)}
+
+    @cached_property
+    def given(self) -> set[str]:
+        """The names that documents give, as of productions."""
+        rows = (row for it in self.documents() for _, row in Document(self, it).tables())
+        return {row[head] for row in rows for head in GIVEN if head in row}
+
+    def has_name(self, name: str) -> bool:
+        """Whether code or a document has the name, or one that ends so where it begins with `_`."""
+        return name in self.names or name in self.given or name.startswith('_') and any(it.endswith(name) for it in self.names)
+
+    @cached_property
+    def contracts(self) -> 'Contracts':
+        """The contracts of the code."""
+        return Contracts({it: self.read(it) for it in self.files if it.startswith('crates/') and it.endswith('.rt')})
+
+    @cached_property
+    def fields(self) -> dict[str, set[str]]:
+        """The fields of the records of all definitions."""
+        found = {}
+        for path in (it for it in self.files if it.endswith('.antt')):
+            for name, body in re.findall(r'^(?:pub )?record (\S+)[^\n]*(?:\n +\(.*)*\n((?:  pub .*\n?)*)', self.read(path), re.M):
+                found.setdefault(name, set()).update(re.findall(r'^  pub (\S+) :', body, re.M))
+        return found
+
+    def has_path(self, path: str) -> bool:
+        """Whether a path, from the top or from any directory, is one of a file or a directory."""
+        return all(any(fnmatch.fnmatchcase(it, one) for it in self.paths) if '*' in one else one in self.paths
+                   for one in expanded(path.rstrip('/')))
+
+    def is_part(self, name: str, item: str) -> bool:
+        """Whether an item has this clause, field or function. One that is a crate, or has none of these, may have anything."""
+        clauses, fields = self.contracts.found.get(item), self.fields.get(item)
+        return (clauses is None and fields is None or f'crates/{item}' in self.paths or name == 'impl' or name in (clauses or {})
+                or name in (fields or ()) or f'{item}::{name}' in self.contracts.found)
+
+    def defines(self, path: str, name: str) -> bool:
+        """Whether a file of this path defines the name."""
+        return any(is_defined(self.read(it), name) for it in self.files if ('/' + it).endswith('/' + path))
+
+
+WORD = re.compile(r'[A-Za-z_]\w*')
+
+
+def parents(path: str) -> Iterator[str]:
+    """The directories that a file is in."""
+    while '/' in path:
+        path = path.rsplit('/', 1)[0]
+        yield path
+
+
+def expanded(path: str) -> list[str]:
+    """The paths that a path with `{a, b}` stands for."""
+    braces = re.fullmatch(r'(.*)\{(.*)\}(.*)', path)
+    return [braces[1] + it.strip() + braces[3] for it in braces[2].split(',')] if braces else [path]
+
+
+def is_defined(content: str, name: str) -> bool:
+    """Whether the code has a definition of the name: an item, a field, a constructor or a definition of its own."""
+    of_item = r'(?:abbrev|unfoldable|record|data|pub|fn|struct|enum|trait|type|const|mod|impl|use|ghost)'
+    return re.search(rf'^\s*(?:{of_item}(?:\([a-z]+\))?\s+)+{re.escape(name)}\b|^\s+(?:[\w-]+ )*{re.escape(name)}(?: [\w-]+)* :|'
+                     rf'^{re.escape(name)} :', content, re.M) is not None
+
+
+# ---------------------------------------------------------------------------------------------------------------------------------
+# Contracts
+
+class Contract(NamedTuple):
+    """The clauses of a function or an `impl`: for each name its text. A clause without a name is ''."""
+    owner: str
+    clauses: dict[str, str]
+
+
+RECORD_READERS = ['IxdtfParser::' + it for it in ('parse', 'parse_year_month', 'parse_month_day', 'parse_time')]
+HANDLER_READERS = [it + '_with_annotation_handler' for it in RECORD_READERS]
+ZONE_READERS = ['TimeZoneParser::' + it for it in ('parse_offset', 'parse_identifier', 'parse_iana_identifier')]
+DURATION_READERS = ['IsoDurationParser::parse']
+GROUPS = {
+    'each reader': RECORD_READERS + HANDLER_READERS + ZONE_READERS + DURATION_READERS,
+    'record': RECORD_READERS,
+    'handler': HANDLER_READERS,
+    'part': ZONE_READERS + DURATION_READERS,
+    'profile': RECORD_READERS + HANDLER_READERS + DURATION_READERS,
+}
+
+
+def members(group: str) -> list[str]:
+    """The functions of a group. Raises KeyError where there is no such group."""
+    located = [it + '_located' for it in GROUPS[group.removesuffix(' located')]]
+    return located if group.endswith(' located') else GROUPS[group] + located
+
+
+class Contracts:
+    """The contracts of code: of each function by its name, also with its type or its file before it, and of each `impl`."""
+
+    def __init__(self, sources: dict[str, str]):
+        self.found = {}
+        for path, source in sources.items():
+            module = os.path.basename(path).removesuffix('.rt')
+            for contract in contracts_of(source):
+                for name in {contract.owner, contract.owner.split('::')[-1], f'{module}::{contract.owner}'}:
+                    self.found.setdefault(name, {}).update(contract.clauses)
+
+    def missing(self, owner: str, clause: str) -> Optional[str]:
+        """What is not there: the function, or its clause."""
+        if owner not in self.found:
+            return f'no function `{owner}`'
+        return None if clause in self.found[owner] else f'`{owner}` has no clause {f"`{clause}`" if clause else "without a name"}'
+
+
+IMPL = re.compile(r'(?:impl|(?:pub )?trait)\b(.*)')
+FUNCTION = re.compile(r'\s*(?:pub(?:\([a-z]+\))? )?(?:const |unsafe |extern "C" )*fn (\w+)')
+CLAUSE = re.compile(r'\s*(?:ensures|requires)\s+(?:(\w+)\s+)?\{(.*)')
+OF_IMPL = re.compile(r'    ghost (\w+)(?: =|:)(.*)')
+
+
+def contracts_of(source: str) -> list[Contract]:
+    """The contracts of a file, in order. The clauses of the functions of an `impl` are clauses of the `impl` too."""
+    found, of_impl, clause = [Contract('', {})], Contract('', {}), None
+    for line in source.splitlines():
+        opens, function, begins, of_ghost = (it.match(line) for it in (IMPL, FUNCTION, CLAUSE, OF_IMPL))
+        if opens or function or line.strip() in ('{', '{}', '}', ''):
+            clause = None
+        if opens or line.startswith('}'):
+            of_impl = Contract(owner_of(opens[1]) if opens else '', {})
+            found.append(of_impl)
+        elif function:
+            found.append(Contract(f'{of_impl.owner}::{function[1]}' if of_impl.owner else function[1], {}))
+        elif begins:
+            clause = begins[1] or ''
+            found[-1].clauses[clause] = of_impl.clauses[clause] = begins[2]
+        elif of_ghost:
+            of_impl.clauses[of_ghost[1]] = of_ghost[2]
+        elif clause is not None:
+            found[-1].clauses[clause] += line
+    return found
+
+
+def owner_of(head: str) -> str:
+    """The name of an `impl` by its head: its type, or `Trait for Type`; the type has no generics, and no path."""
+    depth, at = 0, 0
+    if head.startswith('<'):
+        for at, letter in enumerate(head, 1):
+            depth += (letter == '<') - (letter == '>')
+            if depth == 0:
+                break
+    head = re.sub(r'\s*(\{.*|where.*)?$', '', head[at:]).strip()
+    head = re.sub(r':(?!:).*', '', re.sub(r'\w+::', '', head))
+    trait, space, name = head.rpartition(' for ')
+    return trait + space + re.sub(r'<.*', '', name)
+
+
+# ---------------------------------------------------------------------------------------------------------------------------------
+# Documents
+
+class Document:
+    """A document: its lines outside of blocks of code, by their numbers, and its headings."""
+
+    def __init__(self, tree: Tree, path: str):
+        self.tree, self.path = tree, path
+        self.text = tree.read(path)
+        self.lines = list(self.outside_of_code())
+
+    def outside_of_code(self) -> Iterator[tuple[int, str]]:
+        """The lines that are not in a block of code."""
+        inside = False
+        for number, line in enumerate(self.text.splitlines(), 1):
+            if line.lstrip().startswith('```'):
+                inside = not inside
+            elif not inside:
+                yield number, line
+
+    def anchors(self) -> set[str]:
+        """The anchors of the headings."""
+        heads = (re.sub(r'^#+ ', '', line) for _, line in self.lines if re.match(r'#+ ', line))
+        return {re.sub(r'[^\w\- ]', '', it.lower()).replace(' ', '-') for it in heads}
+
+    def tables(self) -> Iterator[tuple[int, dict[str, str]]]:
+        """The rows of all tables, each as its cells by the heads of its columns, with the number of its line."""
+        heads, rule = None, None
+        for at, (number, line) in enumerate(self.lines):
+            follows = self.lines[at + 1][1] if at + 1 < len(self.lines) else ''
+            if re.fullmatch(r'\|?-+(\|-+)+\|?', follows.strip()):
+                heads, rule = cells_in_line(line), number + 1
+            elif heads is not None and '|' not in line:
+                heads = None
+            elif heads is not None and number != rule:
+                cells = cells_in_line(line)
+                yield number, dict(zip(heads, cells + [''] * (len(heads) - len(cells))))
+
+
+def cells_in_line(line: str) -> list[str]:
+    """The cells of a row of a table, with or without the bars at its ends."""
+    line = line.strip()
+    line = line[1:] if line.startswith('|') else line
+    line = line[:-1] if line.endswith('|') else line
+    return [it.strip() for it in line.split('|')]
+
+
+SPAN = re.compile(r'`([^`]+)`')
+LINK = re.compile(r'\]\(([^)\s]+)\)')
+PATH = re.compile(r'[\w.{][\w./*-]*(?:\{[^}]*\}[\w./*-]*)?')
+TOP = ('crates/', 'docs/', 'tools/', 'rust/', 'c/', '.ci/', 'src/', 'specs/', 'proofs/', 'must-fail/', 'tests/')
+ITEM = re.compile(r"&?(?:mut )?[A-Za-z_]\w*(?:(?:::|\.)[A-Za-z_]\w*)*(?: \w+){0,2}(?:<[\w<>:', &]*>)?(?:\([\w&:', ]*\))?(?:::\w+)*!?")
+OF_ITEM = re.compile(r'((?:`[a-z_]\w*`(?:, and |, | and )?)+) of (?:the )?`([A-Za-z_]\w*)`')
+OF_FILE = re.compile(r'((?:`[^`]+`(?:, and |, | and )?)+) of `([\w/]+\.(?:antt|rt))`')
+
+
+def findings_in_names(document: Document) -> Iterator[Finding]:
+    """The names of a document that are not there."""
+    tree = document.tree
+    rows = dict(document.tables())
+    for number, line in document.lines:
+        of_standards = set(SPAN.findall(rows.get(number, {}).get(OF_STANDARDS, '')))
+        for span in (it for it in SPAN.findall(line) if it not in of_standards):
+            what = missing_in_span(tree, span)
+            if what:
+                yield Finding(document.path, number, what)
+        for names, file in OF_FILE.findall(line):
+            for name in (it.split(' ')[0] for it in SPAN.findall(names)):
+                if WORD.fullmatch(name) and not tree.defines(file, name):
+                    yield Finding(document.path, number, f'`{name}` is not defined in `{file}`')
+        for names, item in OF_ITEM.findall(line):
+            for name in SPAN.findall(names):
+                if not tree.is_part(name, item):
+                    yield Finding(document.path, number, f'`{item}` has no `{name}`')
+        for target in LINK.findall(line):
+            what = missing_in_link(document, target)
+            if what:
+                yield Finding(document.path, number, what)
+
+
+def missing_in_span(tree: Tree, span: str) -> Optional[str]:
+    """What a span names and is not there."""
+    if span in EXCEPTIONS:
+        return None
+    paths = [it for it in re.split(r' (?![^{]*\})', span) if PATH.fullmatch(it) and (it.endswith(EXTENSIONS) or it.startswith(TOP))]
+    for path in paths:
+        if path not in EXCEPTIONS and not tree.has_path(path):
+            return f'no file `{path}`'
+    if paths or span.split(' ')[0] in COMMANDS or not ITEM.fullmatch(span):
+        return None
+    words = [it for it in WORD.findall(span) if it not in EXCEPTIONS and not it.isupper() and not tree.has_name(it)]
+    return f'no item `{words[0]}`{f" in `{span}`" if words != [span] else ""}' if words else None
+
+
+def missing_in_link(document: Document, target: str) -> Optional[str]:
+    """What a link leads to and is not there."""
+    if re.match(r'[a-z]+:', target):
+        return None
+    file, _, anchor = target.partition('#')
+    path = os.path.normpath(os.path.join(os.path.dirname(document.path), file)) if file else document.path
+    if path not in document.tree.paths:
+        return f'no file {target}'
+    if anchor and anchor not in Document(document.tree, path).anchors():
+        return f'no heading {target}'
+    return None
+
+
+def findings_in_clauses(document: Document) -> Iterator[Finding]:
+    """The clauses that tables name and no contract has."""
+    for number, row in document.tables():
+        for head, cell in row.items():
+            for owner, clause, fields in clauses_in(head, cell):
+                for what in missing_clauses(document.tree, owner, clause, fields):
+                    yield Finding(document.path, number, what)
+
+
+NAMED_CLAUSE = re.compile(r'(?:`(\w+)`|\*\(unnamed\)\*)(?: \((`\w+`(?:, `\w+`)*)\))?')
+
+
+def clauses_in(head: str, cell: str) -> Iterator[tuple[str, str, list[str]]]:
+    """For each clause that a cell names its function or *group*, its name and the fields of it: in a column `Clause` each function
+    before its clauses, in a column "Clause of `function`" the clauses alone."""
+    of_one = re.fullmatch('Clause of (`.*`)', head)
+    if of_one:
+        yield from ((of_one[1], clause, []) for clause in SPAN.findall(cell))
+    for part in cell.split('; ') if head == 'Clause' else []:
+        subject = re.match(r'(\*[\w ]+\*|`[^`]+`): (.*)', part)
+        if subject:
+            for clause, fields in NAMED_CLAUSE.findall(subject[2]):
+                yield subject[1], clause, re.findall(r'\w+', fields)
+
+
+def missing_clauses(tree: Tree, owner: str, clause: str, fields: list[str]) -> Iterator[str]:
+    """What is not there of a clause: a function, the clause of it, or a field of what the clause says."""
+    if owner.startswith('*') and owner.strip('*').removesuffix(' located') not in GROUPS:
+        yield f'no group {owner}'
+        return
+    for name in members(owner.strip('*')) if owner.startswith('*') else [owner.strip('`')]:
+        what = tree.contracts.missing(name, clause)
+        if what:
+            yield what
+            continue
+        said = {field for word in WORD.findall(tree.contracts.found[name][clause]) for field in tree.fields.get(word, ())}
+        for field in fields:
+            if field not in said:
+                yield f'`{clause}` of `{name}` has no field `{field}`'
+
+
+# ---------------------------------------------------------------------------------------------------------------------------------
+# Counts
+
+NUMBERS = ['no', 'one', 'two', 'three', 'four', 'five', 'six', 'seven', 'eight', 'nine', 'ten', 'eleven', 'twelve']
+A_COUNT = r'(\d[\d,]*|' + '|'.join(NUMBERS) + ')'
+NO_DEFINITIONS = ('Lib.antt', 'language.antt', 'table.antt', 'FixedPlaces.antt')
+
+
+def value_of(count: str) -> int:
+    """The number of a count in figures or as a word."""
+    return NUMBERS.index(count.lower()) if count.lower() in NUMBERS else int(count.replace(',', ''))
+
+
+def definitions(tree: Tree) -> list[str]:
+    """The files of the definitions that public clauses cite."""
+    return [it for it in tree.files if it.startswith('crates/ixdtf_grammar/specs/') and os.path.basename(it) not in NO_DEFINITIONS]
+
+
+def lines_of_definitions(tree: Tree) -> list[str]:
+    """Their lines."""
+    return [line for it in definitions(tree) for line in tree.read(it).splitlines()]
+
+
+def edits(tree: Tree) -> list[str]:
+    """The edits that the check must refuse."""
+    return [it for it in tree.files if it.endswith('.edit')]
+
+
+def is_of_a_definition(path: str) -> bool:
+    """Whether an edit turns a definition, and no body."""
+    return 'definitions.' in path or '.canonical_fits.' in path
+
+
+def variants(tree: Tree) -> list[str]:
+    """The variants of `ParseError`."""
+    body = re.search(r'pub enum ParseError \{(.*?)\n\}', tree.read('crates/ixdtf_grammar/src/error.rt'), re.S)[1]
+    return re.findall(r'^    (\w+)(?: \{.*\})?,', body, re.M)
+
+
+def never_come(tree: Tree) -> list[str]:
+    """The errors that no reader returns."""
+    return re.findall(r'^never_comes (\w+) = true', tree.read('crates/ixdtf_grammar/specs/table/Faults.antt'), re.M)
+
+
+# documents of numbers of other things by the same words
+OWN_COUNTS = {'docs/NUMBERS.md'}
+COUNTS = [(re.compile(pattern, re.I), counted) for pattern, counted in [
+    (rf'{A_COUNT} variants', lambda tree: len(variants(tree))),
+    (r'the (\d+) errors', lambda tree: len(variants(tree))),
+    (rf'{A_COUNT} of the \d+ errors', lambda tree: len(never_come(tree))),
+    (rf'the {A_COUNT} with "none"', lambda tree: len(never_come(tree))),
+    (rf'is each of the {A_COUNT}:', lambda tree: len(members('each reader'))),
+    (rf'{A_COUNT} wrong bodies(?! that)', lambda tree: len([it for it in edits(tree) if not is_of_a_definition(it)])),
+    (rf'{A_COUNT} edits turn definitions', lambda tree: len([it for it in edits(tree) if is_of_a_definition(it)])),
+    (rf'have {A_COUNT} lines, of which', lambda tree: len(lines_of_definitions(tree))),
+    (rf'of which {A_COUNT} are definitions',
+     lambda tree: len([it for it in lines_of_definitions(tree) if it and not it.startswith(('use ', '--'))])),
+]]
+
+
+def findings_in_counts(document: Document) -> Iterator[Finding]:
+    """The counts that are others."""
+    for number, line in document.lines if document.path not in OWN_COUNTS else []:
+        for pattern, counted in COUNTS:
+            for said in pattern.finditer(line):
+                if value_of(said[1]) != counted(document.tree):
+                    yield Finding(document.path, number, f'"{said[0]}": there are {counted(document.tree)}')
+
+
+def findings_in_reading_order(document: Document) -> Iterator[Finding]:
+    """The files of definitions that the order of reading leaves out."""
+    named = {span for _, line in document.lines if re.match(r'\d\. ', line) for span in SPAN.findall(line)}
+    for path in definitions(document.tree):
+        if os.path.basename(path).removesuffix('.antt') not in named:
+            yield Finding(document.path, 1, f'{path} has no place in the order of reading')
+
+
+# ---------------------------------------------------------------------------------------------------------------------------------
+# The fault table
+
+LOCATIONS = {'digit', 'Date', 'MonthDay', 'time-numoffset', 'TimeZoneAnnotation', 'AmbiguousAnnotation', 'DurationStart',
+             'DurationDesignator', 'Duration', 'DateDurationDesignator'}
+CLASSES = {'digit': places.DIGIT, 'sign': places.SIGN, 'Sign': places.SIGN, 'space': ' ', 'any code unit': places.ANY_LETTER,
+           'nothing': places.NOTHING, 'ZoneLead': places.ZONE_LEAD, 'ZoneChar': places.ZONE_CHAR, 'KeyLead': places.KEY_LEAD,
+           'KeyChar': places.KEY_CHAR, 'ValueChar': places.VALUE_CHAR, 'DateUnit': places.DATE_UNIT, 'TimeUnit': places.TIME_UNIT}
+CLOCK_LINES = ('hour_', 'after_hour', 'minute_', 'after_basic_minute', 'after_colon_minute', 'second_', 'after_second',
+               'fraction_start', 'after_fraction')
+BRACKETS = ['parse', 'parse_year_month', 'parse_month_day', 'parse_time']
+NAMES_OF_READERS = {'none': [], 'brackets': BRACKETS, 'durations': ['duration'], 'all': list(places.READERS[False])}
+Row = dict[str, str]
+
+
+def is_clock_line(name: str) -> bool:
+    """Whether a line is there once for each clock."""
+    return name.startswith(CLOCK_LINES) and name != 'after_fraction_group'
+
+
+def error_in(cell: str) -> Optional[Error]:
+    """The error that a cell names, and None where it names none."""
+    named = re.search(r'`([^`]*)`', cell)
+    if cell == 'ok' or named is None:
+        return None
+    return Error('AbruptEnd', named[1]) if named[1] in LOCATIONS or '*abrupt*' in cell else Error(named[1])
+
+
+def letters_in(cell: str) -> Optional[frozenset[str]]:
+    """The code units that a cell says a text goes on with; None for a whole line."""
+    if cell == 'whole':
+        return None
+    parts = re.findall(r'`([^`]*)`|(\w[\w ]*)', cell)
+    return frozenset(it for letter, name in parts for it in (letter or of_class(CLASSES[name])))
+
+
+def of_class(letters: str) -> frozenset[str]:
+    """The code units of a class."""
+    return frozenset(chr(it) for it in range(256) if letters and re.match(places.one(letters), chr(it)))
+
+
+def others_in(cell: str) -> frozenset[tuple[str, Error]]:
+    """The errors that a cell names for other code units: at one, or at the rest (an empty text)."""
+    special = re.match(r'(.*) at `(.)`(?: or a digit)?, else (.*)', cell)
+    if special:
+        return frozenset([(special[2], error_in(special[1])), ('', error_in(special[3]))])
+    return frozenset() if cell in ('', 'none') else frozenset([('', error_in(cell))])
+
+
+def cells_of(line: places.Line) -> tuple:
+    """What a line of the model goes on with, and its errors at the end and at other code units."""
+    others = frozenset(('' if letters == places.ANY_LETTER else letters.removeprefix('\\'), error) for letters, error in line.other)
+    return None if line.goes_on is None else of_class(line.goes_on), line.end, others
+
+
+class Such(NamedTuple):
+    """A text that the table has for a line, its error where it is said, and its place."""
+    text: str
+    error: Optional[Error]
+    place: int
+    strict: bool
+
+
+SUCH = re.compile(r'(strict: )?(?:`([^`]*)`|the empty text|nothing)(?:: ((?:\*abrupt\* )?`[^`]*`))? at (\d+)(?:, but not strictly)?')
+
+
+def such_as(cell: str) -> Iterator[Such]:
+    """The texts of a cell. Raises ValueError where one is not written as these are."""
+    for part in cell.split('; ') if cell else []:
+        such = SUCH.fullmatch(part)
+        if such is None:
+            raise ValueError(f'no text with its place: {part}')
+        strict, text, error, place = such.groups()
+        yield Such(text or '', error and error_in(error), int(place), strict is not None)
+
+
+class Said(NamedTuple):
+    """An example of the table: the names of its lines, the reader where it is named, the whole text, and its error and place."""
+    lines: list[str]
+    reader: Optional[str]
+    units: tuple[int, ...]
+    wide: bool
+    strict: bool
+    fault: Fault
+
+
+def said_in_row(row: Row) -> Iterator[Said]:
+    """The examples of a row of lines. An error that is not said is that of the row: at the end of the text, or at another unit."""
+    lines = SPAN.findall(row['Line'])
+    for head in (it for it in row if it.startswith(('Such as', '`parse'))):
+        reader, before = re.search(r'`(parse\w*)`', head), re.search(r'after `([^`]*)`', head)
+        for such in such_as(row[head]):
+            text = (before[1] if before else '') + such.text
+            error = such.error or implied_error(row, text, such.place)
+            yield Said(lines, reader and reader[1], tuple(map(ord, text)), False, such.strict, Fault(error, such.place))
+
+
+def implied_error(row: Row, text: str, place: int) -> Optional[Error]:
+    """The error of a row at this place of a text: that of the end, or of another code unit. None where the clock says it."""
+    if row.get('Goes on with') == 'whole' or place == len(text):
+        return error_in(row.get('End', ''))
+    at_units = dict(others_in(row.get('Other', '')))
+    return at_units.get(text[place], at_units.get(''))
+
+
+NAMED = re.compile(r'`(?P<reader>parse\w*|IsoDurationParser::parse)` of (?P<wide>the 16-bit units of )?`(?P<text>[^`]*)`: '
+                   r'(?P<error>`\w*`) at (?P<place>\d+)')
+
+
+def said_of_places(row: Row) -> Iterator[Said]:
+    """The examples of the kinds of places."""
+    for it in row['Such as'].split('; '):
+        named = NAMED.fullmatch(it)
+        if named is None:
+            raise ValueError(f'no text with its reader: {it}')
+        reader = 'duration' if '::' in named['reader'] else named['reader']
+        yield Said([], reader, tuple(map(ord, named['text'])), named['wide'] is not None, False,
+                   Fault(error_in(named['error']), int(named['place'])))
+
+
+def said_of_refusals(row: Row) -> Iterator[Said]:
+    """The examples of annotations."""
+    text, (error, place) = re.fullmatch(r'`([^`]*)`', row['`parse` of `2020-01-01` and'])[1], row['Error'].split(' at ')
+    yield Said([], 'parse', tuple(map(ord, '2020-01-01' + text)), False, False, Fault(error_in(error), int(place)))
+
+
+def said_in(row: Row) -> Iterator[Said]:
+    """The examples of a row of any table."""
+    if 'Line' in row:
+        yield from said_in_row(row)
+    elif 'Place' in row and 'Such as' in row:
+        yield from said_of_places(row)
+    elif 'Why' in row:
+        yield from said_of_refusals(row)
+
+
+def is_line_of(said: Said, name: str) -> bool:
+    """Whether a line is one that the example is of; one that names no line is of any."""
+    return not said.lines or name in said.lines or name.split(' ')[0] in said.lines
+
+
+def in_the_list(said: Said) -> list[places.Example]:
+    """What the list that was counted by hand has of this: the same text, error and place in this line and this reader."""
+    return [it for it in places.examples() if (tuple(it.units), it.wide, it.strict) == (said.units, said.wide, said.strict)
+            and said.reader in (None, it.reader) and is_line_of(said, it.line)
+            and it.place == said.fault.place and said.fault.error in (None, it.error)]
+
+
+def is_in_the_model(said: Said, listed: places.Example) -> bool:
+    """Whether the model has the error at the place, as a row of the line that the list has it in, or as a refusal."""
+    reader, text = places.READERS[said.strict][listed.reader], places.letters_of(said.units, said.wide)
+    if listed.line == 'reply':
+        return places.refused_reply(reader, text, said.fault.place, places.each_replies_for_itself) == said.fault
+    lines = [it for it in reader.lines if it.name == listed.line]
+    rows = places.Reader(reader.language, lines, reader.core).rows_that_fit(text)
+    return any(row.place == said.fault.place and said.fault.error in (None, row.error) for row in rows)
+
+
+def lines_of_model() -> list[places.Line]:
+    """The lines of all readers of the crate's profile."""
+    return [line for reader in places.READERS[False].values() for line in reader.lines]
+
+
+def errors_of_line(line: places.Line) -> set[str]:
+    """The errors that a line has, but for that at a bad code unit."""
+    return {error.variant for error in [line.end] + [error for _, error in line.other] if error}
+
+
+def readers_of_model(variant: str) -> set[str]:
+    """The readers of the model that return an error."""
+    if variant == 'NonAsciiCodePoint':
+        return set(places.READERS[False])
+    if variant in ('CriticalDuplicateCalendar', 'UnrecognizedCritical'):
+        return set(BRACKETS)
+    return {name for name, reader in places.READERS[False].items() if any(variant in errors_of_line(line) for line in reader.lines)}
+
+
+def readers_in(cell: str) -> set[str]:
+    """The readers that a cell of the last table names."""
+    cell = cell.removesuffix(', for 16-bit text')
+    whole, _, but = cell.partition(' but ')
+    named = [name for part in whole.split(', ') for name in NAMES_OF_READERS.get(part, [part.strip('`')])]
+    return set(named) - {but.strip('`')}
+
+
+def findings_in_faults(document: Document) -> Iterator[Finding]:
+    """Where the fault table is another one than the model, or an example is not so."""
+    for number, row in document.tables():
+        try:
+            for said in said_in(row):
+                text, listed = ''.join(map(chr, said.units)), in_the_list(said)
+                if not listed:
+                    yield Finding(document.path, number, f'places.tsv has no {said.fault} for `{text}`')
+                if not all(is_in_the_model(said, it) for it in listed):
+                    yield Finding(document.path, number, f'the model has no {said.fault} for `{text}`')
+        except (ValueError, KeyError, TypeError) as why:
+            yield Finding(document.path, number, f'cannot be read: {why}')
+    try:
+        yield from (Finding(document.path, 1, it) for it in differences_from_model(document))
+        yield from findings_in_errors(document)
+    except KeyError as why:
+        yield Finding(document.path, 1, f'cannot be read: {why}')
+
+
+def differences_from_model(document: Document) -> Iterator[str]:
+    """The lines that the table or the model has alone, by their names and by their cells."""
+    rows = [(SPAN.findall(row['Line']), row) for _, row in document.tables() if 'Line' in row]
+    said = {name for names, _ in rows for name in names}
+    had = {re.sub(' (Time|Offset|MinuteOffset)$', '', line.name) for line in lines_of_model()}
+    yield from (f'the line {it} is in the table or in the model alone' for it in sorted(said ^ had))
+    cells = {(name, letters_in(row['Goes on with']), error_in(row['End']), others_in(row['Other'])) for names, row in rows
+             for name in names if 'Goes on with' in row and not is_clock_line(name)}
+    of_model = {(line.name, *cells_of(line)) for line in lines_of_model() if not is_clock_line(line.name)}
+    yield from sorted({f'the cells of {it[0]} are others in the model' for it in cells ^ of_model})
+
+
+def findings_in_errors(document: Document) -> Iterator[Finding]:
+    """Where the table of errors is another one than the code's or the model's."""
+    texts = dict(re.findall(r'ParseError::(\w+)(?: \{ \.\. \})? =>\s+"(.*)"', document.tree.read('crates/ixdtf_grammar/src/error.rt')))
+    said = {}
+    for number, row in document.tables():
+        if 'Variant' in row:
+            variant = row['Variant'].strip('`')
+            said[variant] = row['Text']
+            if row['Text'] != texts.get(variant) or row['Text'] != places.TEXTS.get(variant, row['Text']):
+                yield Finding(document.path, number, f'{variant} has another text')
+            if readers_in(row['Readers']) != readers_of_model(variant):
+                yield Finding(document.path, number, f'{variant} is returned by {", ".join(sorted(readers_of_model(variant)))}')
+    if list(said) != variants(document.tree):
+        yield Finding(document.path, 1, 'the errors are not those of the code, in its order')
+
+
+# ---------------------------------------------------------------------------------------------------------------------------------
+# All of it
+
+def findings(tree: Tree) -> Iterator[Finding]:
+    """What is not so, in all documents."""
+    for path in tree.documents():
+        document = Document(tree, path)
+        yield from findings_in_names(document)
+        yield from findings_in_clauses(document)
+        yield from findings_in_counts(document)
+        if path == 'docs/TRUST.md':
+            yield from findings_in_reading_order(document)
+        if path == 'docs/FAULTS.md':
+            yield from findings_in_faults(document)
+    yield from findings_in_code(tree)
+
+
+def findings_in_code(tree: Tree) -> Iterator[Finding]:
+    """The documents that code names and are not there."""
+    for path in tree.code():
+        content = tree.read(path)
+        for named in re.finditer(r'\bdocs/\w+\.md\b', content):
+            if named[0] not in tree.paths:
+                yield Finding(path, content.count('\n', 0, named.start()) + 1, f'no file {named[0]}')
+
+
+def words_above(tree: Tree) -> Iterator[str]:
+    """The documents that have more words than their limit."""
+    for paths, limit in LIMITS:
+        words = sum(len(tree.read(it).split()) for it in paths if it in tree.files)
+        if words > limit:
+            yield f'{" and ".join(paths)}: {words} words, and at most {limit} are wanted'
+
+
+def main(arguments: list[str]) -> int:
+    """The program."""
+    tree = Tree(ROOT)
+    found = list(findings(tree))
+    above = list(words_above(tree))
+    for it in [*found, *above]:
+        print(it)
+    counted = [it for it in found if it.document not in PRINTED_ONLY]
+    failed = bool(counted) or '--words' in arguments and bool(above)
+    print(f'documents: {len(found)} findings, {len(counted)} of them count; {len(above)} with too many words')
+    return 1 if failed else 0
+
+
+if __name__ == '__main__':
+    sys.exit(main(sys.argv[1:]))

@@ -1,0 +1,224 @@
+#!/usr/bin/env python3
+"""Tests of check_documents.py: that each thing it looks for is found where it is wrong, and nothing where it is right."""
+import os
+import sys
+import tempfile
+import unittest
+
+TOOLS = os.path.dirname(os.path.abspath(__file__))
+sys.path.insert(0, TOOLS)
+import check_documents as check
+from check_documents import Document, Tree
+from places import Error
+
+CODE = '''//! Readers, and looks.
+pub struct Reader<'a, T> {
+    rest: &'a [T],
+}
+
+impl<'a, T: Kind> Reader<'a, T> {
+    /// Reads.
+    pub fn read(&mut self) -> Result<u8, Wrong>
+        ensures ok { OnOk result (self.new.rest ≡ []) }
+        ensures leaves { Leaves self.old
+            self.new }
+        requires callable { F }
+    {
+        self.rest.next()
+    }
+}
+
+impl From<Wrong> for Right {
+    ghost from_gives = { λ a b. a ≡ b };
+}
+
+pub fn free()
+    ensures { Free }
+{}
+'''
+DEFINITIONS = '''-- What it leaves.
+pub record Leaves {X : Type 0} (old new : X) : Type 0 where
+  pub empty : new ≡ []
+  pub unchanged : new ≡ old
+
+abbrev pub Free : Type 0
+Free = Unit
+'''
+FILES = {
+    'crates/reader/src/lib.rt': CODE,
+    'crates/reader/specs/Views.antt': DEFINITIONS,
+    'docs/OTHER.md': '# Other\n\n## The `second` part, too\n',
+}
+
+
+class InATree(unittest.TestCase):
+    """Documents in a small tree."""
+
+    def setUp(self):
+        self.folder = tempfile.TemporaryDirectory()
+        self.addCleanup(self.folder.cleanup)
+        for path, content in FILES.items():
+            self.write(path, content)
+
+    def write(self, path: str, content: str):
+        """Writes a file of the tree."""
+        path = os.path.join(self.folder.name, path)
+        os.makedirs(os.path.dirname(path), exist_ok=True)
+        with open(path, 'w', encoding='utf-8') as file:
+            file.write(content)
+
+    def document(self, content: str) -> Document:
+        """A document of this content in the tree."""
+        self.write('docs/PAGE.md', content)
+        return Document(Tree(self.folder.name), 'docs/PAGE.md')
+
+    def names(self, content: str) -> list[str]:
+        """What is found in the names of a document."""
+        return [it.what for it in check.findings_in_names(self.document(content))]
+
+    def clauses(self, cell: str) -> list[str]:
+        """What is found in a cell of clauses."""
+        document = self.document(f'| Promise | Clause |\n|---|---|\n| it reads | {cell} |\n')
+        return [it.what for it in check.findings_in_clauses(document)]
+
+
+class Names(InATree):
+    """Names of files, items and headings."""
+
+    def test_what_is_there(self):
+        self.assertEqual(self.names('`crates/reader/src/lib.rt`, `lib.rt`, `crates/{reader, reader}/src`, `specs/*.antt`, `Reader::read`,\n'
+                                    '`Leaves` and `Free` of `Views.antt`, `ok` of `read`, `read` of `Reader`, `2020-01-01[a=b]`, `P1Y`, `rt check --only no_such`,\n'
+                                    '[other](OTHER.md#the-second-part-too), [page](PAGE.md), [web](https://example.org)'), [])
+
+    def test_what_is_not_there(self):
+        for content, what in [
+            ('`crates/reader/src/none.rt`', 'no file `crates/reader/src/none.rt`'),
+            ('`python3 tools/none.py`', 'no file `tools/none.py`'),
+            ('`crates/{reader, writer}/src`', 'no file `crates/{reader, writer}/src`'),
+            ('`no_such_item`', 'no item `no_such_item`'),
+            ('`Reader::write`', 'no item `write` in `Reader::write`'),
+            ('`Leaves` and `read` of `Views.antt`', '`read` is not defined in `Views.antt`'),
+            ('`ok` and `empty` of `read`', '`read` has no `empty`'),
+            ('`unchanged` and `looks` of `Leaves`', '`Leaves` has no `looks`'),
+            ('[a](NONE.md)', 'no file NONE.md'),
+            ('[a](OTHER.md#third)', 'no heading OTHER.md#third'),
+        ]:
+            self.assertEqual(self.names(content), [what])
+
+    def test_blocks_of_code_are_passed_over(self):
+        self.assertEqual(self.names('```rust\nlet a = `no_such_item`;\n```\n'), [])
+
+    def test_columns(self):
+        self.assertEqual(self.names('| Production | From |\n|---|---|\n| YearPart | `date-fullyear`, `OfAStandard` |\n\n`YearPart`'), [])
+
+    def test_documents_that_code_names(self):
+        self.write('crates/reader/src/more.rt', '//! As `docs/OTHER.md` says.\n//! As `docs/GONE.md` says.\n')
+        self.assertEqual([str(it) for it in check.findings_in_code(Tree(self.folder.name))],
+                         ['crates/reader/src/more.rt:2: no file docs/GONE.md'])
+
+
+class Clauses(InATree):
+    """Clauses of functions, and their fields."""
+
+    def test_what_is_there(self):
+        for cell in ('`Reader::read`: `ok`, `leaves` (`empty`, `unchanged`), `callable`; `free`: *(unnamed)*', 'the check itself',
+                     '`From<Wrong> for Right`: `from_gives`', '`lib::free`: *(unnamed)*'):
+            self.assertEqual(self.clauses(cell), [])
+
+    def test_what_is_not_there(self):
+        for cell, what in [
+            ('`Reader::read`: `err`', '`Reader::read` has no clause `err`'),
+            ('`Reader::write`: `ok`', 'no function `Reader::write`'),
+            ('`Reader::read`: *(unnamed)*', '`Reader::read` has no clause without a name'),
+            ('`Reader::read`: `leaves` (`empty`, `looks`)', '`leaves` of `Reader::read` has no field `looks`'),
+            ('`Reader::read`: `ok` (`empty`)', '`ok` of `Reader::read` has no field `empty`'),
+            ('*some*: `ok`', 'no group *some*'),
+        ]:
+            self.assertEqual(self.clauses(cell), [what])
+
+    def test_a_column_of_one_function(self):
+        document = self.document('| Clause of `read` | What it says |\n|---|---|\n| `ok`, `err` | it reads |\n')
+        self.assertEqual([it.what for it in check.findings_in_clauses(document)], ['`read` has no clause `err`'])
+
+    def test_each_reader_of_a_group(self):
+        self.assertEqual(len(check.members('each reader')), 24)
+        self.assertEqual(check.members('part located')[-1], 'IsoDurationParser::parse_located')
+        self.assertEqual(len(self.clauses('*handler located*: `handled`')), 4)
+
+
+class Tables(InATree):
+    """Rows of tables, with and without bars at their ends."""
+
+    def test_rows(self):
+        rows = [{'A': 'x', 'B': '', 'C': 'z'}]
+        self.assertEqual([row for _, row in self.document('| A | B | C |\n|---|---|---|\n| x | | z |\n').tables()], rows)
+        self.assertEqual([row for _, row in self.document('text\n\nA | B | C\n---|---|---\nx | | z\n\nno row').tables()], rows)
+
+    def test_a_row_that_lacks_cells(self):
+        self.assertEqual([row for _, row in self.document('A | B\n---|---\ny |\n').tables()], [{'A': 'y', 'B': ''}])
+
+
+class Repository(unittest.TestCase):
+    """The documents of the repository, and what is found when one is changed."""
+
+    TREE = Tree(check.ROOT)
+
+    def found(self, path: str, old: str, new: str, finder) -> list[str]:
+        """What is found in a document in which this is changed."""
+        document = Document(self.TREE, path)
+        self.assertEqual(document.text.count(old), 1, old)
+        document.text = document.text.replace(old, new)
+        document.lines = list(document.outside_of_code())
+        return [it.what for it in finder(document)]
+
+    def faults(self, old: str, new: str) -> list[str]:
+        """What is found in a changed fault table."""
+        return self.found('docs/FAULTS.md', old, new, check.findings_in_faults)
+
+    def test_nothing_is_found(self):
+        self.assertEqual([it for it in check.findings(self.TREE) if it.document not in check.PRINTED_ONLY], [])
+
+    def test_there_are_examples(self):
+        rows = [row for _, row in Document(self.TREE, 'docs/FAULTS.md').tables()]
+        self.assertGreater(sum(len(list(check.said_in(row))) for row in rows), 100)
+
+    def test_another_place(self):
+        self.assertEqual(self.faults('`20-06-05` at 2', '`20-06-05` at 3')[0], 'places.tsv has no Invalid chracter while parsing year '
+                         'value. at 3 for `20-06-05`')
+        self.assertTrue(self.faults('`[!c=d]junk` | `UnrecognizedCritical` at 16', '`[!c=d]junk` | `UnrecognizedCritical` at 15'))
+
+    def test_another_error(self):
+        self.assertTrue(self.faults('`UTC]`: `InvalidEnd` at 3', '`UTC]`: `IanaChar` at 3'))
+        self.assertIn('the cells of after_date are others in the model',
+                      self.faults('`T`, `t`, space, `[` | ok', '`T`, `t`, `[` | ok'))
+
+    def test_another_text(self):
+        self.assertTrue(self.faults('`+10000001108` at 11', '`+10000001109` at 11'))
+
+    def test_an_example_that_cannot_be_read(self):
+        self.assertIn('cannot be read: no text with its place: `20-06-05`', self.faults('`20-06-05` at 2', '`20-06-05`'))
+        self.assertIn("cannot be read: 'any sign'", self.faults('nothing | digit, sign |', 'nothing | digit, any sign |'))
+
+    def test_the_table_of_errors(self):
+        self.assertIn('OffsetNeedsSign has another text', self.faults('UTC offset needs a sign |', 'UTC offset needs a sign. |'))
+        self.assertIn('OffsetNeedsSign is returned by parse_offset',
+                      self.faults('UTC offset needs a sign | `parse_offset`', 'UTC offset needs a sign | `parse_time`'))
+
+    def test_counts(self):
+        self.assertEqual(self.found('docs/FAULTS.md', '46 variants', '45 variants', check.findings_in_counts),
+                         ['"45 variants": there are 46'])
+        self.assertEqual(len(self.found('docs/TRUST.md', 'They have 3', 'They have 4', check.findings_in_counts)), 1)
+
+    def test_the_order_of_reading(self):
+        self.assertEqual(self.found('docs/TRUST.md', '3. `Handlers`, ', '3. ', check.findings_in_reading_order),
+                         ['crates/ixdtf_grammar/specs/Handlers.antt has no place in the order of reading'])
+
+    def test_errors_that_a_row_implies(self):
+        row = {'Goes on with': 'digit', 'End': '`digit`', 'Other': '`DateSeparator` at `-`, else `DateDay`'}
+        self.assertEqual(check.implied_error(row, '2020', 4), Error('AbruptEnd', 'digit'))
+        self.assertEqual(check.implied_error(row, '2020-', 4), Error('DateSeparator'))
+        self.assertEqual(check.implied_error(row, '2020x', 4), Error('DateDay'))
+
+
+if __name__ == '__main__':
+    unittest.main()
