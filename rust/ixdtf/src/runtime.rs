@@ -72,6 +72,10 @@ macro_rules! assert {
     ($rt:expr; $($rest:tt)*) => {{ let _ = &$rt; std::assert!($($rest)*) }};
 }
 
+macro_rules! assert_eq {
+    ($rt:expr; $($rest:tt)*) => {{ let _ = &$rt; std::assert_eq!($($rest)*) }};
+}
+
 macro_rules! format {
     (in $alloc:expr; $($rest:tt)*) => {{ let _ = $alloc; Ok::<_, $crate::runtime::AllocError>($crate::runtime::String::of(std::format!($($rest)*))) }};
 }

@@ -104,32 +104,25 @@ fn nanoseconds_of(offset: UtcOffsetRecord) -> Option<(Option<u32>, u32)> {
     }
 }
 
-// Whether both calls give half a second of an offset, and one digit.
-fn has_a_half(offset: UtcOffsetRecord) -> bool {
-    let nanoseconds = nanoseconds_of(offset);
-    let digits = digits_of(offset);
-    nanoseconds == Some((Some(500_000_000), 500_000_000)) && digits == Some((1, 5))
-}
-
 #[test]
 fn has_every_call() {
     let rt = HostRuntime;
-    check(&rt, "bytes", sees_nothing::<Utf8>(&[]));
-    check(&rt, "16-bit units", sees_nothing::<Utf16>(&[]));
-    let zero = has_parts(UtcOffsetRecord::zero(), MinutePrecisionOffset::zero());
-    check(&rt, "zero", zero);
+    assert!(rt; sees_nothing::<Utf8>(&[]) && sees_nothing::<Utf16>(&[]));
+    assert!(rt; has_parts(UtcOffsetRecord::zero(), MinutePrecisionOffset::zero()));
     let sign = Sign::from(false);
+    let offset = TimeZoneParser::from_utf8(b"-01:02:03.5").parse_offset();
     let parts = MinutePrecisionOffset {
         sign,
         hour: 1,
         minute: 2,
     };
-    if let Ok(offset) = TimeZoneParser::from_utf8(b"-01:02:03.5").parse_offset() {
-        check(&rt, "its parts", has_parts(offset, parts));
-        check(&rt, "its half", has_a_half(offset));
+    if let Ok(offset) = offset {
+        assert!(rt; has_parts(offset, parts));
+        let nanoseconds = nanoseconds_of(offset);
+        assert_eq!(rt; nanoseconds, Some((Some(500_000_000), 500_000_000)));
+        assert_eq!(rt; digits_of(offset), Some((1, 5)));
     }
-    let length = ParseError::ParseFloat.to_static_string().len();
-    check(&rt, "an error", length == 42);
+    assert_eq!(rt; ParseError::ParseFloat.to_static_string().len(), 42);
 }
 
 #[test]
