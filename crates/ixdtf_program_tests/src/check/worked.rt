@@ -4,6 +4,8 @@ use super::check_written;
 use ixdtf::parsers::Profile;
 use ixdtf_checks::kind::Kind;
 use ixdtf_checks::request::{Field, Request, Task};
+use std::alloc::Global;
+use std::process::Abort;
 use std::test::Fail;
 
 const DATE_TIMES: Request<'static> = Request {
@@ -140,27 +142,31 @@ fn shows_no_line_that_is_not_utf8(rt: HostRuntime) -> Result<(), Fail> {
     )
 }
 
-#[test]
-fn goes_on_after_a_long_line(rt: HostRuntime) -> Result<(), Fail> {
-    let mut input = Vec::new(rt.alloc());
-    for _ in 0..65536 {
-        input.push(b'2')?;
-    }
-    input.extend_from_slice(b"\n2020-01-01\n")?;
-    for _ in 0..65537 {
+/// A line of so many bytes and a line that is refused are reported so.
+fn check_long(rt: &impl Abort, alloc: Global, count: usize, reports: &[u8]) -> Result<(), Fail> {
+    let mut input = Vec::new(alloc);
+    for _ in 0..count {
         input.push(b'2')?;
     }
     input.extend_from_slice(b"\n2020-13-01\n")?;
-    let mut request = DATE_TIMES;
-    request.is_quiet = true;
-    check_written(&rt, rt.alloc(), &request, input.as_slice(), b"", (4, 3))?;
-    check_written(
+    check_written(rt, alloc, &DATE_TIMES, input.as_slice(), reports, (2, 2))
+}
+
+#[test]
+fn goes_on_after_a_long_line(rt: HostRuntime) -> Result<(), Fail> {
+    check_long(
         &rt,
         rt.alloc(),
-        &DATE_TIMES,
-        &input.as_slice()[65537..],
-        b"f:2:65537: line too long\n\
-f:3:8: Parsed month value not in a valid range.\n2020-13-01\n       ^\n",
-        (3, 2),
+        65536,
+        b"f:1:7: Parsed month value not in a valid range.\n\
+222222222222222222222222222222..\n      ^\n\
+f:2:8: Parsed month value not in a valid range.\n2020-13-01\n       ^\n",
+    )?;
+    check_long(
+        &rt,
+        rt.alloc(),
+        65537,
+        b"f:1:65537: line too long\n\
+f:2:8: Parsed month value not in a valid range.\n2020-13-01\n       ^\n",
     )
 }
