@@ -115,6 +115,8 @@ CRATES = [
 ]
 WRITTEN_BY_HAND = {'rust/ixdtf/src/runtime.rs', 'rust/ixdtf/src/tests/printing.rs', 'rust/ixdtf_lines/src/main.rs', 'rust/ixdtf_check/src/main.rs',
                    'rust/ixdtf_c/src/abort.rs', 'rust/ixdtf_c/src/slices.rs'}
+# what is copied as it stands, since a package has no file from outside its folder
+COPIES = {'rust/ixdtf/tests/places.tsv': 'tools/places.tsv'}
 DERIVES = {'Clone', 'Copy', 'Debug', 'Default', 'PartialEq'}
 KEPT_ATTRIBUTES = {'inline(always)', 'inline(never)', 'cold', 'doc(hidden)'}
 TEST_ATTRIBUTES = {'test', 'cfg(test)'}
@@ -878,7 +880,10 @@ def main():
     if sys.argv[1:] not in ([], ['--check']):
         raise SystemExit(__doc__)
     files = made()
-    there = set()
+    for path, source in COPIES.items():
+        with open(os.path.join(TOP, source), encoding='utf-8') as file:
+            files[path] = file.read()
+    there = {path for path in COPIES if os.path.exists(os.path.join(TOP, path))}
     for target in {crate.target for crate in CRATES}:
         for folder, _, names in os.walk(os.path.join(TOP, target)):
             there |= {os.path.relpath(os.path.join(folder, name), TOP) for name in names}
