@@ -20,7 +20,13 @@ const BESIDE_A_BASIC_DATE: &[(Reader, ParseError)] = &[
 #[test]
 fn reads_a_basic_date_as_a_date(rt: HostRuntime) {
     let date = Found::Parts(dated(2020, 11, 8, None));
-    check_last(&rt, "20201108", BESIDE_A_BASIC_DATE, Reader::Parse, &date);
+    check_last(
+        &rt,
+        "20201108",
+        BESIDE_A_BASIC_DATE,
+        Reader::Parse,
+        &Ok(date),
+    );
 }
 
 const BESIDE_A_YEAR_MONTH: &[(Reader, ParseError)] = &[
@@ -38,7 +44,7 @@ fn reads_a_year_and_a_month_as_a_year_month(rt: HostRuntime) {
         "2021-12",
         BESIDE_A_YEAR_MONTH,
         Reader::YearMonth,
-        &month,
+        &Ok(month),
     );
 }
 
@@ -52,7 +58,13 @@ const BESIDE_1208_10: &[(Reader, ParseError)] = &[
 #[test]
 fn reads_a_year_that_begins_as_a_month_day_as_a_year_month(rt: HostRuntime) {
     let month = Found::Parts(dated(1208, 10, 1, None));
-    check_last(&rt, "1208-10", BESIDE_1208_10, Reader::YearMonth, &month);
+    check_last(
+        &rt,
+        "1208-10",
+        BESIDE_1208_10,
+        Reader::YearMonth,
+        &Ok(month),
+    );
 }
 
 const BESIDE_A_MONTH_DAY: &[(Reader, ParseError)] = &[
@@ -65,7 +77,7 @@ const BESIDE_A_MONTH_DAY: &[(Reader, ParseError)] = &[
 #[test]
 fn reads_a_month_and_a_day_as_a_month_day(rt: HostRuntime) {
     let day = Found::Parts(dated(0, 11, 7, None));
-    check_last(&rt, "11-07", BESIDE_A_MONTH_DAY, Reader::MonthDay, &day);
+    check_last(&rt, "11-07", BESIDE_A_MONTH_DAY, Reader::MonthDay, &Ok(day));
 }
 
 const BESIDE_A_TIME: &[(Reader, ParseError)] = &[
@@ -78,7 +90,7 @@ const BESIDE_A_TIME: &[(Reader, ParseError)] = &[
 #[test]
 fn reads_an_hour_and_a_minute_as_a_time(rt: HostRuntime) {
     let noon = Found::Parts(alone(timed(12, 0, 0, None), None));
-    check_last(&rt, "12:00", BESIDE_A_TIME, Reader::Time, &noon);
+    check_last(&rt, "12:00", BESIDE_A_TIME, Reader::Time, &Ok(noon));
 }
 
 const BESIDE_A_DURATION: &[(Reader, ParseError)] = &[
@@ -91,7 +103,7 @@ const BESIDE_A_DURATION: &[(Reader, ParseError)] = &[
 #[test]
 fn reads_a_duration_as_a_duration(rt: HostRuntime) {
     let hour = Found::Duration(lasts(Sign::Positive, None, hours(1, None)));
-    check_last(&rt, "PT1H", BESIDE_A_DURATION, Reader::Duration, &hour);
+    check_last(&rt, "PT1H", BESIDE_A_DURATION, Reader::Duration, &Ok(hour));
 }
 
 const OF_NO_LANGUAGE: &[(Reader, ParseError)] = &[
