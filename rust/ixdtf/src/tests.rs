@@ -279,14 +279,6 @@ impl<'a> Parsers<'a, Utf8> {
             durations: IsoDurationParser::<Utf8>::from_utf8(bytes),
         }
     }
-
-    // Whether a reader reads this.
-    fn reads(&mut self, reader: Reader, wanted: &Found<'a, Utf8>) -> bool {
-        match self.read(reader) {
-            Ok(found) => found == *wanted,
-            Err(_) => false,
-        }
-    }
 }
 
 impl<'a> Parsers<'a, Utf16> {
@@ -427,7 +419,7 @@ fn check_last(
     text: &'static str,
     refusals: &[(Reader, ParseError)],
     last: Reader,
-    wanted: &Found<'static, Utf8>,
+    wanted: &ParserResult<Found<'static, Utf8>>,
 ) {
     check_once_read(rt, text, refusals, last, wanted, &[]);
 }
@@ -438,12 +430,12 @@ fn check_once_read(
     text: &'static str,
     before: &[(Reader, ParseError)],
     reader: Reader,
-    wanted: &Found<'static, Utf8>,
+    wanted: &ParserResult<Found<'static, Utf8>>,
     after: &[(Reader, ParseError)],
 ) {
     let mut parsers = Parsers::from_str(text);
     check_refusals(rt, text, &mut parsers, before);
-    let is_read = parsers.reads(reader, wanted);
+    let is_read = parsers.read(reader) == *wanted;
     check_reader(rt, reader, text, is_read);
     check_refusals(rt, text, &mut parsers, after);
 }

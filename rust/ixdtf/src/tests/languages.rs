@@ -26,7 +26,13 @@ const BESIDE_A_BASIC_DATE: &[(Reader, ParseError)] = &[
 fn reads_a_basic_date_as_a_date() {
     let rt = HostRuntime;
     let date = Found::Parts(dated(2020, 11, 8, None));
-    check_last(&rt, "20201108", BESIDE_A_BASIC_DATE, Reader::Parse, &date);
+    check_last(
+        &rt,
+        "20201108",
+        BESIDE_A_BASIC_DATE,
+        Reader::Parse,
+        &Ok(date),
+    );
 }
 
 const BESIDE_A_YEAR_MONTH: &[(Reader, ParseError)] = &[
@@ -45,7 +51,7 @@ fn reads_a_year_and_a_month_as_a_year_month() {
         "2021-12",
         BESIDE_A_YEAR_MONTH,
         Reader::YearMonth,
-        &month,
+        &Ok(month),
     );
 }
 
@@ -60,7 +66,13 @@ const BESIDE_1208_10: &[(Reader, ParseError)] = &[
 fn reads_a_year_that_begins_as_a_month_day_as_a_year_month() {
     let rt = HostRuntime;
     let month = Found::Parts(dated(1208, 10, 1, None));
-    check_last(&rt, "1208-10", BESIDE_1208_10, Reader::YearMonth, &month);
+    check_last(
+        &rt,
+        "1208-10",
+        BESIDE_1208_10,
+        Reader::YearMonth,
+        &Ok(month),
+    );
 }
 
 const BESIDE_A_MONTH_DAY: &[(Reader, ParseError)] = &[
@@ -74,7 +86,7 @@ const BESIDE_A_MONTH_DAY: &[(Reader, ParseError)] = &[
 fn reads_a_month_and_a_day_as_a_month_day() {
     let rt = HostRuntime;
     let day = Found::Parts(dated(0, 11, 7, None));
-    check_last(&rt, "11-07", BESIDE_A_MONTH_DAY, Reader::MonthDay, &day);
+    check_last(&rt, "11-07", BESIDE_A_MONTH_DAY, Reader::MonthDay, &Ok(day));
 }
 
 const BESIDE_A_TIME: &[(Reader, ParseError)] = &[
@@ -88,7 +100,7 @@ const BESIDE_A_TIME: &[(Reader, ParseError)] = &[
 fn reads_an_hour_and_a_minute_as_a_time() {
     let rt = HostRuntime;
     let noon = Found::Parts(alone(timed(12, 0, 0, None), None));
-    check_last(&rt, "12:00", BESIDE_A_TIME, Reader::Time, &noon);
+    check_last(&rt, "12:00", BESIDE_A_TIME, Reader::Time, &Ok(noon));
 }
 
 const BESIDE_A_DURATION: &[(Reader, ParseError)] = &[
@@ -102,7 +114,7 @@ const BESIDE_A_DURATION: &[(Reader, ParseError)] = &[
 fn reads_a_duration_as_a_duration() {
     let rt = HostRuntime;
     let hour = Found::Duration(lasts(Sign::Positive, None, hours(1, None)));
-    check_last(&rt, "PT1H", BESIDE_A_DURATION, Reader::Duration, &hour);
+    check_last(&rt, "PT1H", BESIDE_A_DURATION, Reader::Duration, &Ok(hour));
 }
 
 const OF_NO_LANGUAGE: &[(Reader, ParseError)] = &[

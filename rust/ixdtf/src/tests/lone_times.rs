@@ -109,7 +109,7 @@ fn leaves_what_it_refused_to_another_reader() {
         "2021-12",
         BEFORE_A_YEAR_MONTH,
         Reader::YearMonth,
-        &month,
+        &Ok(month),
         BEHIND_A_YEAR_MONTH,
     );
 }

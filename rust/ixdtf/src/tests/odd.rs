@@ -85,7 +85,14 @@ const BEHIND_A_DATE: &[(Reader, ParseError)] = &[
 fn leaves_no_date_to_the_next_reader() {
     let rt = HostRuntime;
     let date = Found::Parts(dated(2020, 1, 1, None));
-    check_once_read(&rt, "2020-01-01", &[], Reader::Parse, &date, BEHIND_A_DATE);
+    check_once_read(
+        &rt,
+        "2020-01-01",
+        &[],
+        Reader::Parse,
+        &Ok(date),
+        BEHIND_A_DATE,
+    );
 }
 
 const BEFORE_A_ZONE: &[(Reader, ParseError)] = &[(Reader::Offset, ParseError::OffsetNeedsSign)];
@@ -104,7 +111,7 @@ fn leaves_no_zone_to_the_next_reader() {
         "UTC",
         BEFORE_A_ZONE,
         Reader::Identifier,
-        &zone,
+        &Ok(zone),
         BEHIND_A_ZONE,
     );
 }

@@ -181,7 +181,7 @@ fn reads_an_offset_once() {
         "+01:00:30",
         BEFORE_AN_OFFSET,
         Reader::Offset,
-        &offset,
+        &Ok(offset),
         BEHIND_AN_OFFSET,
     );
 }
