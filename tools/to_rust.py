@@ -138,7 +138,7 @@ CALLED = {'handler'}
 STD_PATHS = {'std::fmt', 'std::error::Error', 'std::marker::PhantomData', 'std::mem::replace', 'std::fmt::Debug', 'std::io::{Read,Write}',
              'std::io::Write'}
 STD_METHODS = set('get len is_ascii_digit is_ascii_alphabetic is_ascii_lowercase write_str as_bytes then_some pow is_ok'
-                  ' is_none to_le_bytes saturating_add saturating_sub min map copied checked_mul checked_add unsigned_abs'
+                  ' is_none max to_le_bytes saturating_add saturating_sub min map copied checked_mul checked_add unsigned_abs'
                   ' is_ascii_alphanumeric as_slice iter position is_empty copy_from_slice read write flush digit_count leading_value'
                   ' chars len_utf8 is_control encode_utf8'.split())
 # methods of the iterators over the characters of a text, and the heads of what they give
@@ -148,7 +148,7 @@ OWN_PATHS = {'self', 'crate', 'Self', 'T', 'C', 'E', 'L'}
 HIDDEN = '# [ doc ( hidden ) ] pub fn'.split()
 # hidden, and called by crates above the library too
 CALLED_FROM_ABOVE = {'of_parts'}
-STD_CALLS = {'u64::from', 'u64::from_le_bytes', 'u32::from', 'u16::from', 'usize::from', 'u128::from', 'i32::from', 'u32::try_from', 'fmt::Debug::fmt'}
+STD_CALLS = {'u64::from', 'u64::from_le_bytes', 'u32::from', 'u16::from', 'usize::from', 'u128::from', 'i32::from', 'char::from', 'u32::try_from', 'fmt::Debug::fmt'}
 # the names of the methods of `core`, as its documents of Rust 1.95 have them (`id="method.NAME"` and `id="tymethod.NAME"`)
 with open(os.path.join(os.path.dirname(os.path.abspath(__file__)), 'core_methods.txt'), encoding='ascii') as names:
     CORE_METHODS = set(names.read().split())

@@ -410,7 +410,7 @@ fn take_date_unit<'a, T: EncodingType>(
 
 /// The record of the numbers of date groups, which stand by their ranks.
 #[inline(always)]
-fn date_record(values: [u64; 5]) -> DateDurationRecord
+fn date_record(values: [u64; 8]) -> DateDurationRecord
     requires small { HasSmallDates values }
     ensures { IsDateRecord values result }
 {
@@ -445,13 +445,13 @@ fn parse_dates<'a, T: EncodingType>(
         ≡ Err (fault_of_stop e, map T.letter cursor.new.rest)) }
     ensures looks { Spends 1 cursor.old cursor.new }
 {
-    let mut values = [0; 5];
+    let mut values = [0; 8];
     let mut least = 1;
     let mut digit = first;
     loop {
         let number = parse_number(cursor, digit, Stop::AbruptDateDesignator)?;
         let rank = take_date_unit(cursor, number, least)?;
-        values[rank as usize] = number.value;
+        values[(rank % 8) as usize] = number.value;
         least = rank + profile.least_step();
         match cursor.look()? {
             None => {
@@ -550,7 +550,7 @@ fn take_time_unit<'a, T: EncodingType>(
 
 /// The record of the numbers of time groups, which stand by their ranks, by the rank of the last.
 #[inline(always)]
-fn time_record(values: [u64; 4], rank: u8, fraction: Option<Fraction>) -> TimeDurationRecord
+fn time_record(values: [u64; 8], rank: u8, fraction: Option<Fraction>) -> TimeDurationRecord
     requires rank { 1 ≤ rank }
     ensures { IsTimeRecord values rank fraction result }
 {
@@ -645,13 +645,13 @@ fn parse_time_groups<'a, T: EncodingType>(
         (λ time text. Ok (dated s (date_duration dates) (Some time), text)) }
     ensures looks { Spends 4 cursor.old cursor.new }
 {
-    let mut values = [0; 4];
+    let mut values = [0; 8];
     let mut least = 1;
     let mut digit = first;
     loop {
         let group = parse_time_group(cursor, digit)?;
         let rank = take_time_unit(cursor, group.letter, least)?;
-        values[rank as usize] = group.value;
+        values[(rank % 8) as usize] = group.value;
         least = rank + profile.least_step();
         match cursor.look()? {
             None => return Ok(time_record(values, rank, group.fraction)),

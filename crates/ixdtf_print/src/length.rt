@@ -1,10 +1,12 @@
 //! How long the text of a record is.
-ghost use Rattle.std.specs.Prelude.{◌≡◌, ◌<◌, ◌≤◌, ◌+◌, ◌^◌, length, map, option_map};
+ghost use Rattle.std.specs.Prelude.{◌≡◌, ◌↔◌, ◌<◌, ◌≤◌, ◌+◌, ◌^◌, length, map, option_map, IfOk, OnOk, Err};
 ghost use Rattle.ixdtf.specs.Views.{note_of, zone_of};
-ghost use Rattle.ixdtf_print.specs.Printable.{record_of};
+ghost use Rattle.ixdtf_print.specs.Printable.{IsPrintable, record_of};
 ghost use Rattle.ixdtf_print.specs.Canonical.{fraction_text, time_text, offset_text, zone_text, bracket_text, calendar_text};
 ghost use Rattle.ixdtf_print.specs.Canonical.{optional_date_text, canonical_text};
 
+use crate::check::is_spelled;
+use crate::error::PrintError;
 use ixdtf::encoding::Utf8;
 use ixdtf::records::{
     DateRecord, Fraction, IxdtfParseRecord, TimeRecord, TimeZoneAnnotation, TimeZoneRecord,
@@ -111,4 +113,35 @@ pub fn length_of(parsed: &IxdtfParseRecord<'_, Utf8>) -> u128
 {
     let core = date_length(parsed.date) + time_length(parsed.time) + offset_length(parsed.offset);
     u128::from(core) + bracket_length(&parsed.tz) + calendar_length(parsed.calendar)
+}
+
+/// How many bytes the canonical text of the record has, so that a slice of so many is long enough for [`print`](crate::print).
+///
+/// ```rust
+/// use ixdtf::parsers::IxdtfParser;
+/// use ixdtf_print::{print, printed_length};
+///
+/// let record = IxdtfParser::from_str("20240302 084800z[u-ca=hebrew]").parse().unwrap();
+/// let mut out = vec![0; printed_length(&record).unwrap()];
+/// assert_eq!(print(&record, &mut out), Ok(out.len()));
+/// ```
+///
+/// # Errors
+///
+/// [`PrintError::NotPrintable`] where no text stands for the record, and [`PrintError::TooShort`] where its text is longer
+/// than any slice.
+pub fn printed_length(parsed: &IxdtfParseRecord<'_, Utf8>) -> Result<usize, PrintError>
+    ensures length { IfOk result (λ n. n ≡ length (canonical_text (record_of parsed.now))) }
+    ensures printable { OnOk result (IsPrintable (record_of parsed.now)) }
+    ensures not_printable { (result ≡ Err PrintError.NotPrintable) ↔
+        ¬ (IsPrintable (record_of parsed.now)) }
+{
+    if !is_spelled(parsed) {
+        return Err(PrintError::NotPrintable);
+    }
+    let length = length_of(parsed);
+    if length > usize::MAX as u128 {
+        return Err(PrintError::TooShort);
+    }
+    Ok(length as usize)
 }

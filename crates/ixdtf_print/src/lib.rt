@@ -16,6 +16,7 @@ mod fields;
 mod laws;
 mod length;
 mod put;
+mod shown;
 
 use check::is_spelled;
 pub use error::PrintError;
@@ -26,6 +27,8 @@ pub use laws::{canonical_fits, canonical_is_read_back};
 // For crates of this repository, and no part of the interface.
 #[doc(hidden)]
 pub use length::length_of;
+pub use length::printed_length;
+pub use shown::Canonical;
 
 /// Writes the canonical text of the record into the front of the slice, and returns how many bytes these are.
 ///

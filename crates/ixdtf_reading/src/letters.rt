@@ -61,7 +61,10 @@ pub fn take_letters<'a, T: EncodingType, S: Letters>(
     *cursor = here;
     let next = found?;
     Ok(Taken {
-        units: &start[..count],
+        units: match start.get(..count) {
+            Some(units) => units,
+            None => start,
+        },
         state,
         next,
     })

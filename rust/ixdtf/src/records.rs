@@ -510,7 +510,7 @@ impl Fraction {
         if self.digits <= 9 {
             (value * 10u64.pow(u32::from(9 - self.digits))) as u32
         } else {
-            (value / 10u64.pow(u32::from(self.digits.min(18) - 9))) as u32
+            (value / 10u64.pow(u32::from(self.digits.min(18) - 9)).max(1)) as u32
         }
     }
 }

@@ -2,6 +2,8 @@
 
 //! How long the text of a record is.
 
+use crate::check::is_spelled;
+use crate::error::PrintError;
 use ixdtf::encoding::Utf8;
 use ixdtf::records::{
     DateRecord, Fraction, IxdtfParseRecord, TimeRecord, TimeZoneAnnotation, TimeZoneRecord,
@@ -86,4 +88,30 @@ fn calendar_length(calendar: Option<&[u8]>) -> u128 {
 pub fn length_of(parsed: &IxdtfParseRecord<'_, Utf8>) -> u128 {
     let core = date_length(parsed.date) + time_length(parsed.time) + offset_length(parsed.offset);
     u128::from(core) + bracket_length(&parsed.tz) + calendar_length(parsed.calendar)
+}
+
+/// How many bytes the canonical text of the record has, so that a slice of so many is long enough for [`print`](crate::print).
+///
+/// ```rust
+/// use ixdtf::parsers::IxdtfParser;
+/// use ixdtf_print::{print, printed_length};
+///
+/// let record = IxdtfParser::from_str("20240302 084800z[u-ca=hebrew]").parse().unwrap();
+/// let mut out = vec![0; printed_length(&record).unwrap()];
+/// assert_eq!(print(&record, &mut out), Ok(out.len()));
+/// ```
+///
+/// # Errors
+///
+/// [`PrintError::NotPrintable`] where no text stands for the record, and [`PrintError::TooShort`] where its text is longer
+/// than any slice.
+pub fn printed_length(parsed: &IxdtfParseRecord<'_, Utf8>) -> Result<usize, PrintError> {
+    if !is_spelled(parsed) {
+        return Err(PrintError::NotPrintable);
+    }
+    let length = length_of(parsed);
+    if length > usize::MAX as u128 {
+        return Err(PrintError::TooShort);
+    }
+    Ok(length as usize)
 }

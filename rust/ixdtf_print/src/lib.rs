@@ -10,6 +10,7 @@ mod error;
 mod fields;
 mod length;
 mod put;
+mod shown;
 
 use check::is_spelled;
 pub use error::PrintError;
@@ -19,6 +20,8 @@ use ixdtf::records::IxdtfParseRecord;
 // For crates of this repository, and no part of the interface.
 #[doc(hidden)]
 pub use length::length_of;
+pub use length::printed_length;
+pub use shown::Canonical;
 
 /// Writes the canonical text of the record into the front of the slice, and returns how many bytes these are.
 ///

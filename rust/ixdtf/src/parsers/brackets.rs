@@ -104,7 +104,7 @@ fn parse_name_or_pair<'a, T: EncodingType>(
     let behind_key = cursor.rest();
     let more = take_letters(cursor, NameLetters { may_end: true })?;
     if more.state.may_end && ends_bracket(more.next) {
-        let count = start.len() - cursor.rest().len();
+        let count = start.len().saturating_sub(cursor.rest().len());
         cursor.step();
         return Ok(Bracket::Zone(TimeZoneAnnotation {
             critical,

@@ -288,7 +288,7 @@ fn take_date_unit<'a, T: EncodingType>(
 
 /// The record of the numbers of date groups, which stand by their ranks.
 #[inline(always)]
-fn date_record(values: [u64; 5]) -> DateDurationRecord {
+fn date_record(values: [u64; 8]) -> DateDurationRecord {
     DateDurationRecord {
         years: values[1] as u32,
         months: values[2] as u32,
@@ -311,13 +311,13 @@ fn parse_dates<'a, T: EncodingType>(
     first: u8,
     profile: Profile,
 ) -> Result<Dates, Stop> {
-    let mut values = [0; 5];
+    let mut values = [0; 8];
     let mut least = 1;
     let mut digit = first;
     loop {
         let number = parse_number(cursor, digit, Stop::AbruptDateDesignator)?;
         let rank = take_date_unit(cursor, number, least)?;
-        values[rank as usize] = number.value;
+        values[(rank % 8) as usize] = number.value;
         least = rank + profile.least_step();
         match cursor.look()? {
             None => {
@@ -401,7 +401,7 @@ fn take_time_unit<'a, T: EncodingType>(
 
 /// The record of the numbers of time groups, which stand by their ranks, by the rank of the last.
 #[inline(always)]
-fn time_record(values: [u64; 4], rank: u8, fraction: Option<Fraction>) -> TimeDurationRecord {
+fn time_record(values: [u64; 8], rank: u8, fraction: Option<Fraction>) -> TimeDurationRecord {
     match rank {
         1 => TimeDurationRecord::Hours {
             hours: values[1],
@@ -469,13 +469,13 @@ fn parse_time_groups<'a, T: EncodingType>(
     first: u8,
     profile: Profile,
 ) -> Result<TimeDurationRecord, Stop> {
-    let mut values = [0; 4];
+    let mut values = [0; 8];
     let mut least = 1;
     let mut digit = first;
     loop {
         let group = parse_time_group(cursor, digit)?;
         let rank = take_time_unit(cursor, group.letter, least)?;
-        values[rank as usize] = group.value;
+        values[(rank % 8) as usize] = group.value;
         least = rank + profile.least_step();
         match cursor.look()? {
             None => return Ok(time_record(values, rank, group.fraction)),

@@ -1,0 +1,130 @@
+//! A record as a value that Display writes.
+ghost use Rattle.std.specs.Prelude.{◌≡◌, ◌↔◌, ◌<◌, ◌∷◌, [], Some, None, map, option_map};
+ghost use Rattle.std.specs.Fmt.{WritesStyledOnOk};
+ghost use Rattle.ixdtf.specs.Views.{note_of};
+ghost use Rattle.ixdtf_print.specs.Canonical.{core_text, bracket_text, calendar_text};
+ghost use Rattle.ixdtf_print.specs.Printable.{IsPrintable, record_of};
+ghost use Rattle.ixdtf_print.specs.Shown.{canonical_codes, number_of};
+
+use crate::check::is_spelled;
+use crate::fields::{opening_of, put_core, put_minute_offset};
+use ixdtf::encoding::Utf8;
+use ixdtf::records::{IxdtfParseRecord, TimeZoneAnnotation, TimeZoneRecord};
+use std::fmt;
+
+// The most bytes of a date, a time and an offset, each with a fraction of 255 digits.
+const MOST_OF_CORE: usize = 543;
+
+/// A record whose Display writes its canonical text. It does not allocate.
+///
+/// ```rust
+/// use ixdtf::parsers::IxdtfParser;
+/// use ixdtf_print::Canonical;
+///
+/// let record = IxdtfParser::from_str("20240302 084800z[u-ca=hebrew]").parse().unwrap();
+/// let canonical = Canonical::of(&record).unwrap();
+/// assert_eq!(canonical.to_string(), "2024-03-02T08:48:00Z[u-ca=hebrew]");
+///
+/// let time = IxdtfParser::from_str("T12:00").parse_time().unwrap();
+/// assert!(Canonical::of(&time).is_none());
+/// ```
+#[derive(Clone, Copy, Debug)]
+pub struct Canonical<'a> {
+    parsed: &'a IxdtfParseRecord<'a, Utf8>,
+}
+
+impl<'a> Canonical<'a> {
+    /// The record, or `None` where no text stands for it.
+    pub fn of(parsed: &'a IxdtfParseRecord<'a, Utf8>) -> Option<Canonical<'a>>
+        ensures none { (result ≡ None) ↔ ¬ (IsPrintable (record_of parsed.now)) }
+        ensures some { (canonical : Canonical) → result ≡ Some canonical →
+            record_of canonical.parsed.now ≡ record_of parsed.now }
+    {
+        if is_spelled(parsed) {
+            Some(Canonical { parsed })
+        } else {
+            None
+        }
+    }
+}
+
+// Display writes the canonical text. It heeds no width and no fill.
+impl<'a> fmt::Display for Canonical<'a> {
+    ghost use Rattle.std.specs.Prelude.{Some};
+    ghost use Rattle.ixdtf_print.specs.Printable.{record_of};
+    ghost use Rattle.ixdtf_print.specs.Shown.{canonical_codes};
+
+    ghost output = { λ c. Some (canonical_codes (record_of c.parsed.now)) };
+
+    ghost styled_output = { λ c _. Some (canonical_codes (record_of c.parsed.now)) };
+
+    fn fmt<W: fmt::Write>(&self, f: &mut fmt::Formatter<W>) -> fmt::Result {
+        let mut core = [0; MOST_OF_CORE];
+        let count = put_core(&mut core, 0, self.parsed);
+        write_bytes(f, &core[..count])?;
+        write_bracket(f, &self.parsed.tz)?;
+        write_calendar(f, self.parsed.calendar)
+    }
+}
+
+/// Writes the zone in its bracket, where there is one.
+fn write_bracket<W: fmt::Write>(
+    f: &mut fmt::Formatter<W>,
+    note: &Option<TimeZoneAnnotation<'_, Utf8>>,
+) -> fmt::Result
+    requires { IsBracket (option_map (note_of (λ byte. byte)) note.now) }
+    ensures { WritesStyledOnOk W.write_str_gives f.old result
+        (map number_of (bracket_text (option_map (note_of (λ byte. byte)) note.now))) f.new }
+{
+    match note {
+        None => Ok(()),
+        Some(note) => {
+            write_bytes(f, opening_of(note.critical))?;
+            match note.tz {
+                TimeZoneRecord::Name(name) => write_bytes(f, name)?,
+                TimeZoneRecord::Offset(offset) => {
+                    let mut bytes = [0; 6];
+                    let count = put_minute_offset(&mut bytes, 0, offset);
+                    write_bytes(f, &bytes[..count])?;
+                }
+            }
+            f.write_str("]")
+        }
+    }
+}
+
+/// Writes the calendar in its bracket, where there is one.
+fn write_calendar<W: fmt::Write>(f: &mut fmt::Formatter<W>, calendar: Option<&[u8]>) -> fmt::Result
+    requires { OnSome calendar (λ value. All (λ byte. byte < 128) value.now) }
+    ensures { WritesStyledOnOk W.write_str_gives f.old result
+        (map number_of (calendar_text (option_map (λ units. map (λ byte. byte) units.now) calendar.entry))) f.new }
+{
+    match calendar {
+        None => Ok(()),
+        Some(value) => {
+            f.write_str("[u-ca=")?;
+            write_bytes(f, value)?;
+            f.write_str("]")
+        }
+    }
+}
+
+/// Writes bytes, each of which is an ASCII character.
+fn write_bytes<W: fmt::Write>(f: &mut fmt::Formatter<W>, bytes: &[u8]) -> fmt::Result
+    requires { All (λ byte. byte < 128) bytes.now }
+    ensures { WritesStyledOnOk W.write_str_gives f.old result bytes.now f.new }
+{
+    for byte in bytes {
+        write_byte(f, *byte)?;
+    }
+    Ok(())
+}
+
+/// Writes a byte that is an ASCII character.
+fn write_byte<W: fmt::Write>(f: &mut fmt::Formatter<W>, byte: u8) -> fmt::Result
+    requires { byte < 128 }
+    ensures { WritesStyledOnOk W.write_str_gives f.old result (byte ∷ []) f.new }
+{
+    let mut bytes = [0; 4];
+    f.write_str(char::from(byte).encode_utf8(&mut bytes))
+}
