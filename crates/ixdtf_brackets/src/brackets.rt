@@ -30,7 +30,6 @@ pub enum Bracket<'a, T: EncodingType> {
 }
 
 /// Reads a first bracket after its `[`.
-#[inline(always)]
 pub fn parse_first_bracket<'a, T: EncodingType>(
     cursor: &mut Cursor<'a, T>,
 ) -> Result<Bracket<'a, T>, Stop>

@@ -214,7 +214,6 @@ fn parse_critical_pair<'a, T: EncodingType>(
 }
 
 /// Reads the next pair after whole brackets, or `None` at the end.
-#[inline(always)]
 pub fn next_annotation<'a, T: EncodingType>(
     cursor: &mut Cursor<'a, T>,
 ) -> Result<Option<Annotation<'a, T>>, Stop>

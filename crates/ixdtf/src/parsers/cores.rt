@@ -64,7 +64,6 @@ impl Cores for DateTimes {
 
     ghost is_under = { λ profile. tt };
 
-    #[inline(always)]
     fn parse_core<'a, T: EncodingType>(
         cursor: &mut Cursor<'a, T>,
         _profile: Profile,
@@ -88,7 +87,6 @@ impl Cores for YearMonths {
 
     ghost is_under = { λ profile. tt };
 
-    #[inline(always)]
     fn parse_core<'a, T: EncodingType>(
         cursor: &mut Cursor<'a, T>,
         _profile: Profile,
@@ -110,7 +108,6 @@ impl Cores for MonthDays {
 
     ghost is_under = { λ profile. refl };
 
-    #[inline(always)]
     fn parse_core<'a, T: EncodingType>(
         cursor: &mut Cursor<'a, T>,
         profile: Profile,
@@ -132,7 +129,6 @@ impl Cores for LoneTimes {
 
     ghost is_under = { λ profile. refl };
 
-    #[inline(always)]
     fn parse_core<'a, T: EncodingType>(
         cursor: &mut Cursor<'a, T>,
         profile: Profile,

@@ -21,6 +21,7 @@ use ixdtf_reading::stop::Stop;
 
 /// Reads a core of the kind under the profile, and the brackets after it to the end, into a record in which nothing stands
 /// yet. The handler is asked about each annotation of a key and a value.
+#[inline(always)]
 pub fn parse_text<'a, T: EncodingType, C: Cores, F>(
     cursor: &mut Cursor<'a, T>,
     profile: Profile,

@@ -33,7 +33,6 @@ pub trait Cores {
 pub struct DateTimes;
 
 impl Cores for DateTimes {
-    #[inline(always)]
     fn parse_core<'a, T: EncodingType>(
         cursor: &mut Cursor<'a, T>,
         _profile: Profile,
@@ -51,7 +50,6 @@ impl Cores for DateTimes {
 pub struct YearMonths;
 
 impl Cores for YearMonths {
-    #[inline(always)]
     fn parse_core<'a, T: EncodingType>(
         cursor: &mut Cursor<'a, T>,
         _profile: Profile,
@@ -67,7 +65,6 @@ impl Cores for YearMonths {
 pub struct MonthDays;
 
 impl Cores for MonthDays {
-    #[inline(always)]
     fn parse_core<'a, T: EncodingType>(
         cursor: &mut Cursor<'a, T>,
         profile: Profile,
@@ -83,7 +80,6 @@ impl Cores for MonthDays {
 pub struct LoneTimes;
 
 impl Cores for LoneTimes {
-    #[inline(always)]
     fn parse_core<'a, T: EncodingType>(
         cursor: &mut Cursor<'a, T>,
         profile: Profile,
