@@ -30,13 +30,13 @@ What is put in the place of something else, and there is nothing more of it:
   9 equality     `impl PartialEq for ..` of DERIVED is `#[derive(PartialEq)]`, and what that impl alone calls is left out
   10 exports     of a function for C, `#[unsafe(no_mangle)] pub extern "C" fn`, a slice `x: &[T]` is a pointer and a length, as C hands it in,
                  `x: *const T, x_length: usize`, of which the first line of the body makes the slice (src/slices.rs)
+  11 str         `str::from_utf8` is `std::str::from_utf8`, which older compilers have
 
 Of a test, besides (TESTS):
 
-  11 runtime     a test takes nothing, and makes the `rt` that the sources hand to it; `HostRuntime`, `Abort`, `Fail`, `Global`,
+  12 runtime     a test takes nothing, and makes the `rt` that the sources hand to it; `HostRuntime`, `Abort`, `Fail`, `Global`,
                  `AllocError`, `String` and the macros with an `rt` or an allocator are those of src/runtime.rs
-  12 clone       `x.clone()` is `x.try_clone()` of src/runtime.rs, since a clone is a result there
-  13 str         `str::from_utf8` is `std::str::from_utf8`, which older compilers have
+  13 clone       `x.clone()` is `x.try_clone()` of src/runtime.rs, since a clone is a result there
 
 What is not known here is refused: an attribute, a macro, a keyword, or a name of the standard library that is not listed.
 Whether Rust's and Rattle's name mean the same was looked up once for each listed one. A method of a crate's own that has
@@ -145,7 +145,7 @@ COUNT = '# [ inline ( always ) ] pub fn count ('.split()
 WRITER, FORMATTER = '< W : fmt :: Write >'.split(), 'fmt :: Formatter < W >'.split()
 USES = {'std::marker::Model': '', 'std::marker::{Model,PhantomData}': 'use std::marker::PhantomData;'}
 TEST_USES = {'std::process::Abort': 'Abort', 'std::test::Fail': 'Fail', 'std::alloc::{AllocError,Global}': '{AllocError, Global, String}', 'std::alloc::Global': 'Global'}
-TEST_TEXT = 'str :: from_utf8 ('.split()
+CORE_TEXT = 'str :: from_utf8 ('.split()
 TEST_USE = '\n#[allow(unused_imports)]\nuse crate::runtime::{HostRuntime, TryClone};\n'
 PROVE = 'const _ : ( ) = prove ! ('.split()
 MACROS = {'matches', 'assert', 'unreachable', 'write'}
@@ -155,7 +155,7 @@ REFUSED = set('unsafe extern dyn async await macro_rules union yield move box ra
 TEST_REFUSED = REFUSED - {'alloc', 'Global'}
 KEYWORDS = set('pub if match while for in return let else'.split())
 CALLED = {'handler'}
-STD_PATHS = {'std::fmt', 'std::error::Error', 'std::marker::PhantomData', 'std::mem::replace', 'std::fmt::Debug', 'std::io::{Read,Write}',
+STD_PATHS = {'std::str::from_utf8', 'std::fmt', 'std::error::Error', 'std::marker::PhantomData', 'std::mem::replace', 'std::fmt::Debug', 'std::io::{Read,Write}',
              'std::io::Write', 'std::io::Read', 'std::fmt::Write', 'std::str'}
 STD_METHODS = set('get len is_ascii_digit is_ascii_alphabetic is_ascii_lowercase write_str as_bytes then_some pow is_ok'
                   ' is_none to_le_bytes saturating_add saturating_sub min map copied checked_mul checked_add unsigned_abs'
@@ -372,7 +372,7 @@ def rewrite(tokens, module, crate):
             test_head(tokens, at, places)
         elif crate.tests and is_here(tokens, places, 0, TEST_CLONE):
             put(tokens, places[1], places[1], 'try_clone')
-        elif crate.tests and is_here(tokens, places, 0, TEST_TEXT) and tokens[at - 1].text != '::':
+        elif is_here(tokens, places, 0, CORE_TEXT) and tokens[at - 1].text != '::':
             put(tokens, at, at, 'std::str')
         elif token.text == 'fn' and is_here(tokens, places, 2, WRITER):
             put(tokens, places[2], places[len(WRITER) + 1], '')

@@ -72,7 +72,7 @@ fn refusal_of(error: LocatedError, part: Part<'_>) -> Verdict<'_> {
 
 /// The bytes as a text, where they are UTF-8.
 fn as_text(bytes: &[u8]) -> Option<&str> {
-    match str::from_utf8(bytes) {
+    match std::str::from_utf8(bytes) {
         Ok(text) => Some(text),
         Err(_) => None,
     }
