@@ -1,4 +1,4 @@
--- The answer to a line with a space, and what a reader makes of its text.
+-- The answer to a line with a space, and what a reader returns for its text.
 use Rattle.std.proofs.Common.{◌≡◌, ℕ, ◌+◌, ◌-◌, ◌≤◌, Bool, List, length, take, drop, Option, Some, MatchOption, position, inl, inr, refl, sym, subst}
 use Rattle.std.proofs.Common.{ap, arith, codes, ◌++◌}
 use Rattle.std.proofs.lemmas.Bool.{le-ltb}

@@ -28,7 +28,7 @@ pub record Rests {W : Type 0} (contents : W → Option (List ℕ)) (start : Opti
   pub none : output.waiting ≡ []
   pub answered : WritesAnswers start (written contents output) (ended_lines_of read)
 
--- writing failed, after a front of the answers to the lines
+-- writing failed, after a prefix of the answers to the lines
 abbrev pub Fails : Option (List ℕ) → Option (List ℕ) → List (List ℕ) → RunError → Type 0
 Fails start now lines error = (error ≡ Write) × WritesFront start now lines
 

@@ -7,7 +7,7 @@ use Rattle.ixdtf_buffers.specs.declared.error.RunError.{RunError}
 use Rattle.ixdtf_buffers.specs.declared.error.RunError.TheVariants.{Write}
 use Rattle.ixdtf_buffers.specs.declared.output.Output.{Output}
 
--- a front of the bytes was appended
+-- a prefix of the bytes was appended
 pub record AppendsFront (old new : Option (List ℕ)) (bytes : List ℕ) : Type 0 where
   pub front : List ℕ
   pub rest : List ℕ

@@ -19,7 +19,7 @@ pub record Reports (old new : Option (List ℕ)) (request : Request) (tally : Ta
   pub appended : Appends old new (reports_of request 1 verdicts)
   pub counts : Counts tally verdicts
 
--- what was written is a beginning of what is to be written of the first of the lines
+-- what was written is a prefix of the reports of the first of the lines
 pub record ReportsFront (old new : Option (List ℕ)) (request : Request) (lines : List (List ℕ)) : Type 0 where
   pub first : List (List ℕ)
   pub others : List (List ℕ)

@@ -1,4 +1,4 @@
--- A form with a handler only hands its arguments on to `read_as`, at the public error and its kind of cores. Assumes `Logic`.
+-- A form with a handler only passes its arguments on to `read_as`, at the public error and its kind of cores. Assumes `Logic`.
 use mir.Syntax.{Dict, Callee, a_type, dcons, dnil, named}
 use mir.Raw.{raw as bare}
 use seplogic.Ra.Ura.{Ura}

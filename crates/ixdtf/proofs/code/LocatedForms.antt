@@ -1,4 +1,5 @@
--- A form with a handler that gives places only hands its arguments on to `read_located_as`, at `LocatedError` and its kind of cores. Assumes `Logic`.
+-- A form with a handler that gives places only passes its arguments on to `read_located_as`, at `LocatedError` and its kind of
+-- cores. Assumes `Logic`.
 use mir.Syntax.{Dict, Callee, a_type, dcons, dnil, named}
 use mir.Raw.{raw as bare}
 use seplogic.Ra.Ura.{Ura}

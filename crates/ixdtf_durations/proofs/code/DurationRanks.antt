@@ -1,4 +1,4 @@
--- The ranks of the units of durations: the tables of them, and what a rank says of a letter.
+-- The ranks of the units of durations: their tables, and what a rank says of a code unit.
 use Rattle.std.proofs.Common.{◌≡◌, ℕ, zero, suc, ◌+◌, ◌<◌, ◌≤◌, Bool, true, false, nat_eq, nat_le, List, [], ◌∷◌, slice_index_or, if◌then◌else◌, refl, arith}
 use Rattle.std.proofs.lemmas.Bool.Decides.{nat_tests}
 use Rattle.ixdtf_grammar.specs.language.Letters.{year_letter, month_letter, week_letter, hour_letter, minute_letter}
