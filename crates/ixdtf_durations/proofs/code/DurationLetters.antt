@@ -24,7 +24,7 @@ use Rattle.ixdtf_reading.proofs.code.FirstLetter.{first_is}
 
 -- ---- code units
 
--- the code unit of a unit is not a digit, and neither is a decimal mark
+-- the letter of a unit is not a digit, and neither is a decimal mark
 designator_no_digit : (half : Half) (c : ℕ) → designator half c ≡ true → digit c ≡ false
 designator_no_digit date c is = grind (arith, nat_tests)
 designator_no_digit time c is = grind (arith, nat_tests)

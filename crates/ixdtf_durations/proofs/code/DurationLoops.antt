@@ -59,7 +59,7 @@ module _ (profile : Profile) (first : ℕ) (whole : Text) where
       → (s : Sign) → first_dates s ≡ Err fault
   date_fails rest values least c far fault refuses s = far.leads s ∙ refuses s far.dates
 
-  -- the digits of one more date group, and what is left behind the code unit of its unit, or at another code unit
+  -- the digits of one more date group, and what is left behind the letter of its unit, or at another code unit
   module _ {rest : Text} {values : List ℕ} {least c : ℕ} (far : DatesSoFar rest values least c) (n : Number) (mid next : Text)
       (read : (s : Sign) (dates : List Group) → run_from profile (in_number (in_dates s dates) (Plain c ∷ [])) rest
       ≡ run_where profile (date_read profile dates n) (between (in_dates s (date_group_of n ∷ dates))) (behind_unit date n.next mid))
@@ -143,7 +143,7 @@ module _ (profile : Profile) (first : ℕ) (whole : Text) where
       → (s : Sign) (dates : List Group) → first_times s dates ≡ Err fault
   time_fails rest values least c far fault refuses s dates = far.leads s dates ∙ refuses s dates far.times
 
-  -- one more time group up to the code unit of its unit, and what is left behind this code unit, or at another code unit
+  -- one more time group up to the letter of its unit, and what is left behind this letter, or at another code unit
   module _ {rest : Text} {values : List ℕ} {least c : ℕ} (far : TimesSoFar rest values least c) (g : TimeGroup) (mid next : Text)
       (read : (s : Sign) (dates times : List Group) → run_from profile (in_number (in_times s dates times) (Plain c ∷ [])) rest
       ≡ after_time_group profile s dates times g mid)

@@ -43,7 +43,7 @@ time_rank_small c lt = below _ _ (agree_at (λ c. nat_le (rank_at time c) 3) (λ
 
 -- ---- places
 
--- the place of a unit, by its rank
+-- the index of a unit, by its rank
 pub date_place : (c : ℕ) → place (unit_of date c) + 1 ≡ rank (unit_of date c)
 date_place c = go (year_letter c) (month_letter c) (week_letter c)
   where

@@ -57,7 +57,7 @@ ReadsNumber letter first end old (Err e) new =
 
 -- ---- groups
 
--- the group of a number and the code unit of a date unit after it
+-- the group of a number and the letter of a date unit after it
 abbrev pub date_group_of : Number → Group
 date_group_of n = record { unit = unit_of date n.next; value = n.value; fraction = None }
 
@@ -79,7 +79,7 @@ rank seconds = 3
 abbrev pub rank_seen : Half → ℕ → ℕ
 rank_seen half c = if designator half c then rank (unit_of half c) else 0
 
--- what remains behind the code unit of a unit of the half; another code unit is not taken
+-- what remains behind the letter of a unit of the half; another code unit is not taken
 abbrev pub behind_unit : Half → ℕ → Text → Text
 behind_unit half c text = if designator half c then drop 1 text else text
 

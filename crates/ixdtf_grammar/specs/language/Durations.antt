@@ -40,7 +40,7 @@ place seconds = 6
 abbrev pub same_unit : DurationUnit → DurationUnit → Bool
 same_unit a b = nat_eq (place a) (place b)
 
--- the code units of the units of the half
+-- the letters of the units of the half
 abbrev pub designator : Half → Class
 designator date = year_letter or month_letter or week_letter or day_letter
 designator time = hour_letter or minute_letter or second_letter
@@ -76,7 +76,7 @@ pub record Group : Type 0 where
 abbrev pub Number : Text → ℕ → Type 0
 Number text n = SomeDigits text × (n ≡ decimal text) × (n ≤ greatest_value)
 
--- a number, and the code unit of a unit of the half
+-- a number, and the letter of a unit of the half
 pub record IntegerGroup (half : Half) (text : Text) (g : Group) : Type 0 where
   pub ds : Text
   pub c : ℕ
@@ -86,7 +86,7 @@ pub record IntegerGroup (half : Half) (text : Text) (g : Group) : Type 0 where
   pub unit : g.unit ≡ unit_of half c
   pub fraction : g.fraction ≡ None
 
--- a number, a fraction (`TemporalDecimalFraction`), and the code unit of a time unit
+-- a number, a fraction (`TemporalDecimalFraction`), and the letter of a time unit
 pub record FractionGroup (text : Text) (g : Group) : Type 0 where
   pub ds : Text
   pub fs : Text

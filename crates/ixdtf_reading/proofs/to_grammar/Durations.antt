@@ -149,7 +149,7 @@ module _ {E : Type 0} (fault : Row → E) (profile : Profile) where
   to_mark (in_dates s dates) prior ds c front is b in_range mark = absurd (both_ways _ refl mark)
   to_mark (in_times s dates times) prior ds c front is b in_range mark = (prior, c, is, b, in_range, mark)
 
-  -- the code unit of a unit behind the digits of a group
+  -- the letter of a unit behind the digits of a group
   group_kept : (left : Text) (context : Context) (prior ds : Text) (c : ℕ) (front : Text) → front ≡ prior ++ (ds ++ (Plain c ∷ [])) → IsContext profile prior context
       → InRange ds
       → IsTrue (designator (half_of context) c)
