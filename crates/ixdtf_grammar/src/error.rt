@@ -45,7 +45,7 @@ pub enum ParseError {
     /// a sign, `Duration` after the `P`, and `DateDurationDesignator` and `TimeDurationDesignator` after the digits of a
     /// number. There another character than the letter of a unit has these errors too.
     AbruptEnd {
-        /// What was expected.
+        /// What the reader was parsing.
         location: &'static str,
     },
     /// A character that may not follow stands after a whole date, year and month, month and day, time, offset, bracket or
@@ -127,7 +127,7 @@ pub enum ParseError {
     UtcTimeSeparator,
     /// A text that is an offset alone begins with another character than a sign.
     OffsetNeedsSign,
-    /// One hyphen stands before a month and a day. Only two or none may.
+    /// One hyphen stands before a month and a day, in the place of two or none.
     MonthDayHyphen,
     /// Another character stands in the place of the `P` of a duration, or of its sign.
     DurationDisgnator,

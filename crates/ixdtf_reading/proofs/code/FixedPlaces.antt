@@ -580,7 +580,7 @@ too_short text short = none (date_time_place text) refl
     none None e = refl
     none (Some x) e = let long = long_enough text x e in absurd (omega arith)
 
--- and what the test of its numbers returned is what reading gives
+-- and what the test of its numbers returned is what reading returns
 pub reads_tested : {X Y : Type 0} (letter : ℕ → Letter) (view : X → Y) (old new : Unread) (result : Result X Stop) (reading : Text → Read Placed Y) (tested : Read Placed Y)
     → reading (map letter old.rest) ≡ tested → YieldsAt (λ x. (view x, map letter new.rest)) result (map letter new.rest) tested
     → Reads letter view old result new reading

@@ -24,7 +24,7 @@ with_one_more : {S : Type 0} (front : List ℕ) (c : ℕ) (read : Read Placed (T
 with_one_more front c (Ok x) = ap (λ t. Ok (record { letters = t; state = x.0.state; next = x.0.next }, x.1)) (sym (append_assoc front (c ∷ []) x.0.letters))
 with_one_more front c (Err e) = refl
 
--- what comes of a test comes of one that holds, and nothing of one that fails
+-- a test holds where this has a value, and fails where it has none
 pub test_held : {A : Type 0} (b : Bool) (x y : A) → (if b then Some x else None) ≡ Some y → b ≡ true
 test_held true x y e = refl
 test_held false x y e = absurd cc

@@ -1,4 +1,4 @@
--- The clauses of a reader that reads no pairs and gives the places of its errors, from what its reading returns.
+-- The clauses of a reader that reads no pairs and returns the places of its errors, from what its reading returns.
 use Rattle.std.proofs.Common.{◌≡◌, ℕ, ◌-◌, ◌≤◌, List, [], length, map, Result, Ok, Err, IfErr, OnOk, IsFalse, sym, ap, ◌∙◌, arith}
 use Rattle.std.proofs.lemmas.List.{length-map, length-append}
 use Rattle.ixdtf_grammar.specs.declared.located.LocatedError.{LocatedError}

@@ -1,4 +1,4 @@
--- A year is read exactly: a year gives its number and the rest, a row of a year's lines is returned; and back.
+-- A year is read exactly: for a year its number and the rest are returned, and a row of a year's lines is returned; and back.
 use Rattle.std.proofs.Common.{◌≡◌, ◌≢◌, ℕ, Bool, true, false, IsTrue, IsFalse, [], ◌∷◌, ◌++◌, Ok, refl, ◌∙◌, inl, inr, arith, ℤ, nat_eq, ◌&&◌}
 use Rattle.std.proofs.lemmas.Bool.{and_parts, and_from, both_ways, eqb-true, eq-eqb, ne_eqb}
 use Rattle.std.proofs.lemmas.Bool.Decides.{nat_tests}

@@ -173,7 +173,7 @@ module _ {T U F : Type 0} (number : U → ℕ) (step : Step T U F) (handler : F)
       ∙ ap (λ replies. calendar_value (first_calendar replies)) (replies_none none h.calls handler h.last h.chain)
       ∙ ap calendar_value (first_calendar-nones h.calls)
 
-  -- without an reply none is refused
+  -- without a reply none is refused
   pub ignored_err : NoReplies step → Handled number step handler reader text result → (fault : Fault) → result ≡ Err fault
       → (fault ≢ UnrecognizedCritical) × (fault ≢ CriticalDuplicateCalendar)
   ignored_err none h fault is = elim (h.err fault is) [

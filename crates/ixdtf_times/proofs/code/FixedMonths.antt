@@ -199,7 +199,7 @@ pub on_both : {A : Type 0} (found : Option A) {P R Q : A → Type 0} → ((x : A
 on_both None go is also = is
 on_both (Some x) go is also = go x is also
 
--- what was returned of a reading is what was returned of another that gives the same
+-- what was returned for a reading is what was returned for another one with the same result
 pub yields_as : {X Y : Type 0} (view : X → Y) (result : Result X Stop) (left : Text) (wanted wanted' : Result Y Placed) → wanted' ≡ wanted
     → YieldsAt view result left wanted → YieldsAt view result left wanted'
 yields_as view (Ok x) left wanted wanted' same is = same ∙ is
