@@ -32,7 +32,7 @@ pub record Rests {W : Type 0} (contents : W → Option (List ℕ)) (start : Opti
 abbrev pub Fails : Option (List ℕ) → Option (List ℕ) → List (List ℕ) → RunError → Type 0
 Fails start now lines error = (error ≡ Write) × WritesFront start now lines
 
--- what the clauses of `run` say: of the bytes to be read before it and after it, and of those written
+-- what the clauses of `run` say: of the remaining input before and after it, and of the bytes written
 pub record Runs (unread rest start now : Option (List ℕ)) (result : Result (Unit {0}) RunError) : Type 0 where
   pub ok : OnOk result (IfSome unread (λ bytes. WritesAnswers start now (lines_of bytes)))
   pub read : result ≡ Err Read → (bytes : List ℕ) × Consumes unread rest bytes × WritesAnswers start now (ended_lines_of bytes)
