@@ -10,7 +10,10 @@ fields in parentheses behind it.
 example, a text with its place, has this error at this place in the model, and in the row of `places.tsv`, whose place was counted by
 hand. The errors have the texts of the code and of the model, and the readers that the model has them in.
 
-(c) Words. With --words the words of each document are within its limit too; without it those that are above are printed.
+(c) Snippets. Each block of Rattle in README.md and docs/CALLING.md stands in a crate of tests, which compiles it: its items word by
+word, and what it imports among the imports there. Those of the READMEs of `rust/` are tests of their crates.
+
+(d) Words. With --words the words of each document are within its limit too; without it those that are above are printed.
 
 It prints what it finds, one finding a line, and ends with status 1 where there is one. Without --words those on words do not count."""
 import fnmatch
@@ -488,6 +491,42 @@ def findings_in_reading_order(document: Document) -> Iterator[Finding]:
 
 
 # ---------------------------------------------------------------------------------------------------------------------------------
+# Snippets
+
+WITH_SNIPPETS = ('README.md', 'docs/CALLING.md')
+COMPILING = ('crates/ixdtf_callers/src/', 'crates/ixdtf_tests/src/')
+BLOCK = re.compile(r'^```rust\n(.*?)^```', re.M | re.S)
+USE = re.compile(r'^use ([^;]+);\n?', re.M)
+
+
+def imported(source: str) -> set[str]:
+    """The paths that the `use` items of a source import."""
+    found = set()
+    for it in USE.findall(source):
+        path, braces, names = re.sub(r'\s+', ' ', it).partition('{')
+        found |= {(path + name.strip()).removesuffix('::self') for name in names.rstrip('}').split(',') if name.strip()} if braces else {path}
+    return found
+
+
+def in_one_line(source: str) -> str:
+    """A source with one space between its words."""
+    return ' '.join(source.split())
+
+
+def findings_in_snippets(document: Document) -> Iterator[Finding]:
+    """The blocks of Rattle that no crate of tests compiles."""
+    compiled = [document.tree.read(it) for it in document.tree.files if it.startswith(COMPILING) and it.endswith('.rt')]
+    imports = set().union(*map(imported, compiled))
+    for block in BLOCK.finditer(document.text):
+        line = document.text.count('\n', 0, block.start()) + 1
+        for path in sorted(imported(block[1]) - imports):
+            yield Finding(document.path, line, f'no test imports {path}')
+        items = in_one_line(USE.sub('', block[1]))
+        if not any(items in in_one_line(it) for it in compiled):
+            yield Finding(document.path, line, 'no test has the code of this block')
+
+
+# ---------------------------------------------------------------------------------------------------------------------------------
 # The fault table
 
 LOCATIONS = {'digit', 'Date', 'MonthDay', 'time-numoffset', 'TimeZoneAnnotation', 'AmbiguousAnnotation', 'DurationStart',
@@ -733,6 +772,8 @@ def findings(tree: Tree) -> Iterator[Finding]:
             yield from findings_in_reading_order(document)
         if path == 'docs/FAULTS.md':
             yield from findings_in_faults(document)
+        if path in WITH_SNIPPETS:
+            yield from findings_in_snippets(document)
     yield from findings_in_code(tree)
 
 

@@ -213,6 +213,15 @@ class Repository(unittest.TestCase):
         self.assertEqual(self.found('docs/TRUST.md', '3. `Handlers`, ', '3. ', check.findings_in_reading_order),
                          ['crates/ixdtf_grammar/specs/Handlers.antt has no place in the order of reading'])
 
+    def test_snippets(self):
+        for path in check.WITH_SNIPPETS:
+            self.assertEqual(list(check.findings_in_snippets(Document(self.TREE, path))), [])
+        self.assertEqual(self.found('docs/CALLING.md', 'let Ok(record) = parser.parse() else', 'let Ok(record) = parser.read() else',
+                                    check.findings_in_snippets), ['no test has the code of this block'])
+        self.assertEqual(self.found('docs/CALLING.md', 'use ixdtf::{LocatedError, ParserResult};', 'use ixdtf::{PlacedError, ParserResult};',
+                                    check.findings_in_snippets), ['no test imports ixdtf::PlacedError'])
+        self.assertEqual(check.imported('use a::{self, b as c};\nuse d::e;\n'), {'a', 'a::b as c', 'd::e'})
+
     def test_errors_that_a_row_implies(self):
         row = {'Goes on with': 'digit', 'End': '`digit`', 'Other': '`DateSeparator` at `-`, else `DateDay`'}
         self.assertEqual(check.implied_error(row, '2020', 4), Error('AbruptEnd', 'digit'))

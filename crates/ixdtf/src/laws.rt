@@ -1,7 +1,7 @@
 //! What follows from the readers' contracts, for callers to cite.
 //!
-//! A law is a function whose contract states it. A caller cites a law by calling the function: what that ensures is known
-//! from there on, at no cost where the law takes nothing and does nothing. [`parse_unanswered`] reads, and its contract is
+//! A law is a function whose contract states it. A caller cites a law by calling the function: what it ensures is known
+//! from there on. A law without parameters does nothing when it runs. [`parse_unanswered`] reads, and its contract is
 //! that of [`IxdtfParser::parse_with_annotation_handler`] with the law beside it.
 
 ghost use Rattle.std.specs.Prelude.{◌≡◌, ◌≢◌, map, OnOk, IfOk, IfErr, IfSome, None, pos};
@@ -28,18 +28,19 @@ use ixdtf_grammar::records::{
 };
 use ixdtf_reading::stop::Raised;
 
-/// Every date-time of RFC 3339, section 5.6, is read: [`IxdtfParser::parse`] returns `Ok` for it. That section's `T` and `Z`
-/// may be small letters.
+/// Every date-time of RFC 3339, section 5.6, is read: [`IxdtfParser::parse`] returns `Ok` for it. That section's `T`
+/// and `Z` may be lowercase.
 ///
-/// The law speaks of texts in letters, and so of sources in every encoding: what it says of a text is the right side of
-/// `ok` of `parse`.
+/// The law speaks of texts, and so of sources in every encoding: what it says of a text is the right side of `ok` of
+/// `parse`.
 pub fn every_rfc3339_date_time_is_read()
     ensures { EveryDateTimeIsRead }
 {}
 
-/// Every name that [`TimeZoneParser::parse_iana_identifier`](crate::parsers::TimeZoneParser::parse_iana_identifier) reads is
-/// the whole of its text, and [`TimeZoneParser::parse_identifier`](crate::parsers::TimeZoneParser::parse_identifier) reads
-/// the text as `Name` of the same units.
+/// Every name that [`TimeZoneParser::parse_iana_identifier`](crate::parsers::TimeZoneParser::parse_iana_identifier)
+/// reads is the whole of its text, and
+/// [`TimeZoneParser::parse_identifier`](crate::parsers::TimeZoneParser::parse_identifier) reads the text as `Name` of
+/// the same code units.
 pub fn every_name_is_an_identifier()
     ensures { EveryNameIsAnIdentifier }
 {}
@@ -53,7 +54,8 @@ pub fn offsets_agree()
 
 /// The hyphens of a date, under [`IxdtfParser::parse`]. A date here is a year, a month from 01 to 12 and two digits of a day.
 ///
-/// - `same`: a date without hyphens and the same date with both give the same, a record or an error, whatever follows.
+/// - `same`: for a date without hyphens and for the same date with both, `parse` returns the same record or error,
+///   whatever follows.
 /// - `one`: with one hyphen alone the error is `DateSeparator`, whatever follows.
 pub fn hyphens_say_nothing()
     ensures same { HyphensSayNothing }
@@ -64,19 +66,19 @@ pub fn hyphens_say_nothing()
 /// (`docs/FAULTS.md`) fits it. Never both, never neither, and never two values or two rows. A row that fits has its place in
 /// it, so there are never two places.
 ///
-/// The annotations are part of the outcome: those of the text where a value is derived, and else those that stand whole
-/// before the row. What a handler replies to them is not: where a reply is refused, a reader refuses a text from which a
-/// value is derived.
+/// The annotations are part of the outcome: those of the text where a value is derived, and else the whole ones before
+/// the row. What a handler replies to them is not: where a reply is refused, a reader refuses a text from which a value
+/// is derived.
 ///
 /// - `outcome`: this.
 /// - `begins`: the annotations of a front from which a value is derived are the first of the text's outcome, whether a value
 ///   is derived from the text or a row fits it.
-/// - `chain`: a text, with these annotations and these replies to them, gives one result, a record or an error.
-/// - `place`: a text, with these annotations and as many replies, gives one error at one place.
-/// - `replied`: whoever replies to each annotation by the annotations so far is asked about one list of them, and gets one
-///   result. There always is one.
+/// - `chain`: a text with these annotations and these replies to them has one result, a record or an error.
+/// - `place`: a text with these annotations and as many replies has one error at one place.
+/// - `replied`: a handler that replies to each annotation by the annotations so far is called with one list of them,
+///   and there is exactly one result.
 ///
-/// What this says of a call that returned stands in the contract of each reader, as `no_row` and `only`.
+/// The contract of each reader says this of a call that returned, as `no_row` and `only`.
 pub fn one_outcome()
     ensures outcome { OneOutcome }
     ensures begins { FrontsBegin }
@@ -89,21 +91,22 @@ pub fn one_outcome()
 /// [`IxdtfParser::parse_year_month`], [`IxdtfParser::parse_month_day`], [`IxdtfParser::parse_time`] and
 /// [`IsoDurationParser::parse`](crate::parsers::IsoDurationParser::parse).
 ///
-/// The law speaks of what is derived from a text, and so of the readers with a handler too, whatever it replies. What it says
-/// of a call that returned `Ok` stands in the contract of each of these readers, as `alone`.
+/// The law speaks of what is derived from a text, and so of the readers with a handler too, whatever it replies. The
+/// contract of each of these readers says this of a call that returned `Ok`, as `alone`.
 pub fn languages_disjoint()
     ensures { LanguagesDisjoint }
 {}
 
-/// What 16-bit units and 8-bit units of the same numbers give, in each reader without a handler.
+/// What each reader without a handler returns for 16-bit and for 8-bit code units of the same numbers.
 ///
-/// - A text has exactly one outcome there: what is read, with each slice by the numbers of its units, or an error.
+/// - A text has exactly one outcome there: what is read, with each slice by the numbers of its code units, or an error.
 /// - On numbers from 1 to 126 the two widths have the same outcome.
-/// - With any other number 16-bit units have an error: `NonAsciiCodePoint`, or the one that 8-bit units have where 128 stands
-///   in the place of each such number.
-/// - It is so of the places of errors too: on numbers from 1 to 126 the two widths have the same errors at the same places, and
-///   with any other number the error of 16-bit units is `NonAsciiCodePoint`, or stands where 8-bit units have it with 128.
-/// - `NonAsciiCodePoint` stands at the first number that is not from 1 to 126, and never comes from 8-bit units.
+/// - With any other number the 16-bit text has an error: `NonAsciiCodePoint`, or the one that the 8-bit text has with
+///   128 in the place of each such number.
+/// - The places of errors agree too: on numbers from 1 to 126 the two widths have the same errors at the same places.
+///   With any other number the error of the 16-bit text is `NonAsciiCodePoint`, or has the place that the 8-bit text
+///   with 128 has.
+/// - `NonAsciiCodePoint` has the place of the first number that is not from 1 to 126. No 8-bit text has it.
 pub fn widths_agree()
     ensures one { OneUnhandledOutcome }
     ensures same { SameWhereShared }
@@ -121,8 +124,9 @@ pub fn exact_nanoseconds_are_the_truncated_ones(fraction: &Fraction)
     let _ = fraction.to_nanoseconds();
 }
 
-/// Equality of slices of units, of each record and of errors is equality of what a contract sees of them, slices by the
-/// numbers of their units and locations by their bytes; and so it is reflexive, symmetric and transitive, in every encoding.
+/// Equality of slices of code units, of each record and of errors is equality of what a contract sees of them: slices
+/// by the numbers of their code units, and locations by their bytes. So it is reflexive, symmetric and transitive, in
+/// every encoding.
 pub fn equality_is_of_what_is_seen<'a, T: EncodingType>()
 where
     T::CodeUnit: 'a,
@@ -149,8 +153,8 @@ where
     ensures error { IsEqualityBy fault_of ⟦<ParseError as PartialEq>⟧.eq }
 {}
 
-/// `default` of a date, of a time and of the date units of a duration is 0 in each field, and the time has no fraction. In
-/// the default [`IxdtfParseRecord`] nothing stands, as its own contract says.
+/// `default` of a date, of a time and of the date units of a duration is 0 in each field, and the time has no fraction.
+/// The default [`IxdtfParseRecord`] is empty, as its own contract says.
 pub fn defaults_are_zero()
     ensures date { DefaultIs ⟦<DateRecord as Default>⟧.is_default
         (record { year = pos 0; month = 0; day = 0 }) }
@@ -226,7 +230,7 @@ where
     parse_unanswered_as::<T, ParseError, F>(parser, handler)
 }
 
-/// Reads as [`parse_unanswered`] does, with an error that a stop gives.
+/// Reads as [`parse_unanswered`] does, with an error made of a stop.
 #[inline(always)]
 fn parse_unanswered_as<'a, T: EncodingType, E: Raised, F>(
     parser: &mut IxdtfParser<'a, T>,

@@ -1,4 +1,4 @@
--- The answer to a line with a space, and what a reader makes of its text.
+-- The answer to a line with a space, and what a reader returns for its text.
 use Rattle.std.proofs.Common.{◌≡◌, ℕ, ◌+◌, ◌-◌, ◌≤◌, Bool, List, length, take, drop, Option, Some, MatchOption, position, inl, inr, refl, sym, subst}
 use Rattle.std.proofs.Common.{ap, arith, codes, ◌++◌}
 use Rattle.std.proofs.lemmas.Bool.{le-ltb}
@@ -31,7 +31,7 @@ pub IsReaderAnswer-word : (name text answer : List ℕ) (word : Word) → name �
     → IsReaderAnswer name text answer
 IsReaderAnswer-word name text answer word is outcome = inl (word, is, outcome)
 
--- what a reader has to read, which is the text, gives it the value
+-- the remaining input of a reader, which is the text, gives it the value
 pub Gives-text : (reader : Reader) (text rest : List ℕ) (found : Found) → rest ≡ text → Gives reader (letters rest) found → Gives reader (letters text) found
 Gives-text reader text rest found same gives = subst (λ (t : List ℕ). Gives reader (letters t) found) same gives
 

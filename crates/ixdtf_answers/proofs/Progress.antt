@@ -32,7 +32,7 @@ TakesAnswers-more {lines = lines} line answer p is sent = record {
   sent = Sent-trans (answer ++ newline ∷ []) p.sent sent;
 }
 
--- a front of the answers was written
+-- a prefix of the answers was written
 WritesFront-of : {start now : Option (List ℕ)} {lines : List (List ℕ)} {taken : List ℕ} → AreAnswers lines taken → AppendsFront start now taken
     → WritesFront start now lines
 WritesFront-of {lines = lines} are p = record {
@@ -42,14 +42,14 @@ WritesFront-of {lines = lines} are p = record {
   appended = p.appended;
 }
 
--- a front of the answer to one more line was written
+-- a prefix of the answer to one more line was written
 pub WritesFront-more : {start old new : Option (List ℕ)} {before : List ℕ} {lines : List (List ℕ)} (line answer : List ℕ)
     → TakesAnswers start old before lines → IsAnswer line answer → AppendsFront old new (before ++ (answer ++ newline ∷ []))
     → WritesFront start new (lines ++ line ∷ [])
 WritesFront-more {lines = lines} line answer p is front =
     WritesFront-of (AreAnswers-more lines p.taken line answer p.answers is) (Sent-front (answer ++ newline ∷ []) p.sent front)
 
--- a front of the answers to the first lines is a front of the answers to them all
+-- a prefix of the answers to the first lines is a prefix of the answers to them all
 pub WritesFront-append : (start now : Option (List ℕ)) (lines others : List (List ℕ)) → WritesFront start now lines → WritesFront start now (lines ++ others)
 WritesFront-append start now lines others p =
     let (bytes, answers) = all_answers others in
@@ -106,7 +106,7 @@ Takes-written {start = start} {now = now} none (written, are, appended) = record
   sent = subst (λ (t : List ℕ). Sent start now t written) (sym none) (Sent-written appended);
 }
 
--- what waits was handed on, or that failed
+-- what waits was written, or that failed
 pub handed_on : {W : Type 0} {contents : W → Option (List ℕ)} {start : Option (List ℕ)} {x y : Output W} {lines : List (List ℕ)}
     {r : Result (Unit {0}) RunError}
     → TakesAnswers start (written contents x) x.waiting lines → OnOk r (y.waiting ≡ []) → Puts contents x y r []

@@ -21,7 +21,7 @@ pub Rests-nil : {W : Type 0} (contents : W → Option (List ℕ)) {x : Output W}
 unfolding split_of
 Rests-nil contents {x = x} none empty = record { pending = empty; none = none; answered = ([], refl, Appends-nil (written contents x)) }
 
--- the last read gave no byte
+-- the last read returned no byte
 pub Consumes-last : (a b c : Option (List ℕ)) (xs ys : List ℕ) (count : ℕ) → count ≡ 0 → Consumes a b xs → Consumes b c (take count ys) → Consumes a c xs
 Consumes-last a b c xs ys count none p q =
     subst (Consumes a c) (append-nil xs) (Consumes-trans a b c xs [] p (subst (λ n. Consumes b c (take n ys)) none q))

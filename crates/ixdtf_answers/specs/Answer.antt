@@ -29,11 +29,11 @@ unknown_reader = codes "error unknown reader"
 abbrev pub is_space : ℕ → Bool
 is_space byte = byte == 32
 
--- the letters that the bytes stand for
+-- what the bytes stand for
 abbrev pub letters : List ℕ → Text
 letters bytes = map byte_letter bytes
 
--- what is shown of what the reader of a word gives: its fields, and for `canonical` the canonical text
+-- what is shown of a value of a reader: its fields, and for `canonical` the canonical text
 abbrev pub shown_of : Word → Found → List ℕ
 shown_of Parse found = fields_of found
 shown_of YearMonth found = fields_of found
@@ -69,8 +69,8 @@ Gives parse_identifier text found = Derives parse_identifier text found []
 Gives parse_iana_identifier text found = Derives parse_iana_identifier text found []
 Gives (parse_duration profile) text found = Derives (parse_duration profile) text found []
 
--- the reader refuses the text with the fault: one with brackets with one that the text gives, where each pair is its own reply, and
--- each other reader with one that the text has, with no pairs
+-- the reader refuses the text with the fault: a reader with brackets with one that the text gives, where each pair is its own
+-- reply, and any other reader with one that the text has, with no pairs
 abbrev pub Refuses : Reader → Text → Fault → Type 0
 Refuses (bracketed kind) text fault = UnhandledFault (bracketed kind) text fault
 Refuses parse_offset text fault = HasFault parse_offset text [] fault

@@ -34,7 +34,7 @@ comma = 44
 abbrev pub point : ℕ
 point = 46
 
--- the byte of a letter; no byte has the letter `Bad`
+-- the byte that a code unit stands for; `Bad` has none
 abbrev pub byte_of : Letter → ℕ
 byte_of (Plain byte) = byte
 byte_of Bad = 0

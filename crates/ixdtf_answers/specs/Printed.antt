@@ -4,6 +4,6 @@ use Rattle.ixdtf.specs.language.Languages.{Parsed}
 use Rattle.ixdtf_print.specs.Canonical.{canonical_text}
 use Rattle.ixdtf_print.specs.Printable.{IsPrintable}
 
--- it is not so that the record is not printable, and its canonical text fits into 4,352 bytes
+-- the record cannot be unprintable, and its canonical text fits into 4,352 bytes
 abbrev pub FitsArray : Parsed → Type 0
 FitsArray found = ¬ (¬ (IsPrintable found)) × (length (canonical_text found) ≤ 4352)

@@ -28,11 +28,11 @@ pub record Rests {W : Type 0} (contents : W → Option (List ℕ)) (start : Opti
   pub none : output.waiting ≡ []
   pub answered : WritesAnswers start (written contents output) (ended_lines_of read)
 
--- writing failed, after a front of the answers to the lines
+-- writing failed, after a prefix of the answers to the lines
 abbrev pub Fails : Option (List ℕ) → Option (List ℕ) → List (List ℕ) → RunError → Type 0
 Fails start now lines error = (error ≡ Write) × WritesFront start now lines
 
--- what the clauses of `run` say: of the bytes to be read before it and after it, and of those written
+-- what the clauses of `run` say: of the remaining input before and after it, and of the bytes written
 pub record Runs (unread rest start now : Option (List ℕ)) (result : Result (Unit {0}) RunError) : Type 0 where
   pub ok : OnOk result (IfSome unread (λ bytes. WritesAnswers start now (lines_of bytes)))
   pub read : result ≡ Err Read → (bytes : List ℕ) × Consumes unread rest bytes × WritesAnswers start now (ended_lines_of bytes)

@@ -14,7 +14,7 @@ AreAnswers (line ∷ lines) bytes =
 abbrev pub WritesAnswers : Option (List ℕ) → Option (List ℕ) → List (List ℕ) → Type 0
 WritesAnswers old new lines = (written : List ℕ) × AreAnswers lines written × Appends old new written
 
--- what was written is a front of the answers to the lines
+-- what was written is a prefix of the answers to the lines
 pub record WritesFront (old new : Option (List ℕ)) (lines : List (List ℕ)) : Type 0 where
   pub written : List ℕ
   pub rest : List ℕ

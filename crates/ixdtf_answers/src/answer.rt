@@ -35,7 +35,7 @@ pub enum Answer<'a> {
     Refused(ParseError),
 }
 
-/// What is found in the line, or why the line is refused.
+/// What the reader of the line found, or why the line is refused.
 pub fn answer_to(line: &Line<LINE_LIMIT>) -> Answer<'_>
     ensures { (text : List ℕ) → Holds line.now text → IsAnswer text (answer_text_of result) }
 {

@@ -1,7 +1,7 @@
-//! Answers lines of words and texts by what the readers read in them.
+//! Answers lines, each of a word and a text, with what the reader that the word names found in the text.
 //!
-//! `run` reads lines from a reader, and writes their answers to a writer. The program `ixdtf_lines` hands it standard input and
-//! standard output.
+//! `run` reads lines from a reader, and writes their answers to a writer. The program `ixdtf_lines` calls it with
+//! standard input and standard output.
 #![tactic(auto)]
 
 mod answer;

@@ -16,13 +16,13 @@ abbrev pub bracket_of : {T U : Type 0} → (U → ℕ) → CodeBracket T U → B
 bracket_of number (brackets.Zone annotation) = zoned (note_of number annotation)
 bracket_of number (brackets.Pair annotation) = paired (pair_of number annotation)
 
--- where reading of a part of a name is after a letter, and of a name
+-- the state of a part of a name after a code unit, and that of a name
 abbrev pub part_after : PartLetters → ℕ → Option PartLetters
 part_after letters c = if zone_char c then Some letters else None
 
 abbrev pub name_after : NameState → ℕ → Option NameState
 name_after state c = option_map (λ may_end. record { may_end = may_end }) (name_step c state.may_end)
 
--- where reading of a first bracket is after a letter before an `=` or a `]`
+-- the state of a first bracket after a code unit before an `=` or a `]`
 abbrev pub bracket_after : BracketLetters → ℕ → Option BracketLetters
 bracket_after letters c = if skipped c then Some letters else None

@@ -1,8 +1,9 @@
 //! Names of time zones, and the first bracket behind a date or a time, which is a zone or an annotation.
 //!
-//! A layer of the library `ixdtf`, above `ixdtf_grammar`, `ixdtf_reading` and `ixdtf_times`, whose offsets may stand in a bracket.
-//! To the layers above it promises that `timezone` reads a name or an offset without seconds, and `brackets` the first bracket,
-//! as their readings say, and how many looks they make. Later brackets are `ixdtf_reading::annotations`.
+//! A layer of the library `ixdtf`, above `ixdtf_grammar`, `ixdtf_reading` and `ixdtf_times`, whose offsets may stand in
+//! a bracket. It proves that `timezone` reads a name or an offset without seconds, and `brackets` the first bracket, as
+//! their readings say, and how many code unit accesses they make. `ixdtf_reading::annotations` reads the later
+//! brackets.
 #![tactic(auto)]
 
 pub mod brackets;

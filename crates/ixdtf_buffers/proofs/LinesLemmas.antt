@@ -54,7 +54,7 @@ split_of-byte [] last other = ap (λ test. step test last (record { ended = []; 
 split_of-byte (byte ∷ bytes) last other =
     ap (step (byte == newline) byte) (split_of-byte bytes last other) ∙ step_unended (byte == newline) byte last (split_of bytes)
 
--- a byte in front takes none of the lines away that follow the ended ones
+-- with a byte in front the lines after the ended ones stay
 before_more : (byte : ℕ) (ended : List (List ℕ)) (unended : List ℕ) (all : List (List ℕ)) (last : List ℕ) (others : List (List ℕ))
     → all ≡ ended ++ others
     → (more : List (List ℕ)) × ((before_split byte all last).ended ≡ (before_split byte ended unended).ended ++ more)
@@ -66,7 +66,7 @@ step_more : (test : Bool) (byte : ℕ) (s t : Split) → (others : List (List �
 step_more true byte s t (others, is) = (others, ap (λ (x : List (List ℕ)). [] ∷ x) is)
 step_more false byte s t (others, is) = before_more byte s.ended s.unended t.ended t.unended others is
 
--- more bytes take no ended line away
+-- with more bytes each ended line stays
 pub ended_lines_of-append : (bytes more : List ℕ) → (others : List (List ℕ)) × (ended_lines_of (bytes ++ more) ≡ ended_lines_of bytes ++ others)
 unfolding split_of
 ended_lines_of-append [] more = (ended_lines_of more, refl)

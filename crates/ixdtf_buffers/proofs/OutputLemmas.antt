@@ -32,7 +32,7 @@ Sent-trans {a = a} {b = b} {c = c} {u = u} {v = v} {taken = taken} bytes p q = r
   appended = Appends-trans a b c p.front q.front p.appended q.appended;
 }
 
--- bytes were sent, and then a front of what waited of them and of further bytes
+-- bytes were sent, and then a prefix of what waited of them and of further bytes
 pub Sent-front : {a b c : Option (List ℕ)} {u taken : List ℕ} (bytes : List ℕ) → Sent a b u taken → AppendsFront b c (u ++ bytes)
     → AppendsFront a c (taken ++ bytes)
 Sent-front {a = a} {b = b} {c = c} {u = u} bytes p q = record {
@@ -51,7 +51,7 @@ Sent-all {a = a} {b = b} p none = subst (Appends a b) (sym (p.whole ∙ ap (λ (
 pub Sent-written : {a b : Option (List ℕ)} {taken : List ℕ} → Appends a b taken → Sent a b [] taken
 Sent-written {taken = taken} appended = record { front = taken; whole = sym (append-nil taken); appended = appended }
 
--- a front of the first bytes is a front of them all
+-- a prefix of the first bytes is a prefix of them all
 pub AppendsFront-more : {a b : Option (List ℕ)} {xs : List ℕ} (ys : List ℕ) → AppendsFront a b xs → AppendsFront a b (xs ++ ys)
 AppendsFront-more ys p = record {
   front = p.front;

@@ -7,14 +7,14 @@ use Rattle.ixdtf_buffers.specs.declared.error.RunError.{RunError}
 use Rattle.ixdtf_buffers.specs.declared.error.RunError.TheVariants.{Write}
 use Rattle.ixdtf_buffers.specs.declared.output.Output.{Output}
 
--- a front of the bytes was appended
+-- a prefix of the bytes was appended
 pub record AppendsFront (old new : Option (List ℕ)) (bytes : List ℕ) : Type 0 where
   pub front : List ℕ
   pub rest : List ℕ
   pub whole : bytes ≡ front ++ rest
   pub appended : Appends old new front
 
--- all the bytes were appended, or writing failed after a front of them
+-- all the bytes were appended, or writing failed after a prefix of them
 pub record Writes (old new : Option (List ℕ)) (result : Result (Unit {0}) RunError) (bytes : List ℕ) : Type 0 where
   pub ok : OnOk result (Appends old new bytes)
   pub err : IfErr result (λ error. (error ≡ Write) × AppendsFront old new bytes)
@@ -29,7 +29,7 @@ pub record Sent (old new : Option (List ℕ)) (waiting taken : List ℕ) : Type 
 abbrev pub written : {W : Type 0} → (W → Option (List ℕ)) → Output W → Option (List ℕ)
 written contents output = contents output.writer.now
 
--- the bytes were taken behind those that waited before, or writing failed after a front of them all; the writer is the same
+-- the bytes were taken behind those that waited before, or writing failed after a prefix of them all; the writer is the same
 pub record Puts {W : Type 0} (contents : W → Option (List ℕ)) (before after : Output W) (result : Result (Unit {0}) RunError) (bytes : List ℕ) : Type 0 where
   pub same : after.writer.ghost_name ≡ before.writer.ghost_name
   pub ok : OnOk result (Sent (written contents before) (written contents after) after.waiting (before.waiting ++ bytes))

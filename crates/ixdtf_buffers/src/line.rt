@@ -13,7 +13,7 @@ pub struct Line<const LIMIT: usize> {
 impl<const LIMIT: usize> Line<LIMIT> {
     ghost use Rattle.ixdtf_buffers.specs.Line.{Holds};
 
-    /// A line of no byte.
+    /// An empty line.
     pub fn new() -> Line<LIMIT>
         ensures { Holds result [] }
     {

@@ -38,7 +38,7 @@ impl<'w, W: Write> Output<'w, W> {
         Ok(())
     }
 
-    /// Hands on what waits, and then puts the bytes.
+    /// Writes the waiting bytes, and then puts the bytes.
     fn put_after(&mut self, bytes: &[u8]) -> Result<(), RunError>
         ensures { Puts W.contents self.old self.new result bytes.now }
     {
@@ -72,7 +72,7 @@ impl<'w, W: Write> Output<'w, W> {
         }
     }
 
-    /// Hands what waits to the writer.
+    /// Writes the waiting bytes to the writer.
     pub fn hand_on(&mut self) -> Result<(), RunError>
         ensures empty { OnOk result (self.new.waiting ≡ []) }
         ensures puts { Puts W.contents self.old self.new result [] }
@@ -82,7 +82,7 @@ impl<'w, W: Write> Output<'w, W> {
         Ok(())
     }
 
-    /// Hands what waits to the writer, and flushes the writer.
+    /// Writes the waiting bytes to the writer, and flushes it.
     pub fn finish(&mut self) -> Result<(), RunError>
         ensures empty { OnOk result (self.new.waiting ≡ []) }
         ensures puts { Puts W.contents self.old self.new result [] }
@@ -95,7 +95,7 @@ impl<'w, W: Write> Output<'w, W> {
     }
 }
 
-/// Writes all the bytes, or fails after a front of them.
+/// Writes all the bytes, or fails after a prefix of them.
 fn write_whole<W: Write>(writer: &mut W, bytes: &[u8]) -> Result<(), RunError>
     ensures { Writes (W.contents writer.old) (W.contents writer.new) result bytes.now }
 {

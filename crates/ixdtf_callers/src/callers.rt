@@ -1,11 +1,11 @@
-//! Code that calls the readers, as a repository above this one has it.
+//! Code that calls the readers, as another repository has it.
 
 mod calling;
 mod surface;
 
 use std::process::Abort;
 
-/// What a test asks is so.
+/// Asserts what a test asks.
 fn check(rt: &impl Abort, what: &str, is_so: bool) {
     assert!(rt; is_so, "{what}");
 }

@@ -26,12 +26,12 @@ Reads each line of the files, or of standard input, and says which are wrong, wh
   --help         this usage. -- ends the options, and the FILE - is standard input\n\
 Status: 0 all were read; 1 some were refused; 2 wrong arguments, or a file or the output failed";
 
-/// What the checks of all files came to.
+/// The result of the checks of all files.
 #[derive(Drop)]
 struct Outcome {
     total: Tally,
     has_failed: bool,
-    /// Whether standard output takes nothing more.
+    /// Whether standard output accepts no more bytes.
     is_closed: bool,
 }
 
@@ -71,7 +71,7 @@ fn main(rt: HostRuntime) -> ExitCode {
     ExitCode::from(status_of(outcome.has_failed, refused))
 }
 
-/// Shows the usage to whoever asked for it.
+/// Shows the usage on request.
 fn help(rt: &HostRuntime) -> ExitCode {
     match println!(rt; "{USAGE}") {
         Ok(()) => ExitCode::SUCCESS,
@@ -79,13 +79,13 @@ fn help(rt: &HostRuntime) -> ExitCode {
     }
 }
 
-/// Shows the usage to whoever gave wrong arguments.
+/// Shows the usage after wrong arguments.
 fn refuse(rt: &impl Eprint) -> ExitCode {
     let _ = eprintln!(rt; "{USAGE}");
     ExitCode::from(2)
 }
 
-/// Checks the files that the arguments name, in order, up to one after which standard output takes nothing more.
+/// Checks the files that the arguments name, in order, until standard output accepts no more bytes.
 fn check_files(rt: &HostRuntime, options: &Options, outcome: &mut Outcome) {
     let Ok(words) = env::args(rt) else {
         outcome.has_failed = true;
@@ -110,7 +110,7 @@ fn check_file(rt: &HostRuntime, options: &Options, name: &str, outcome: &mut Out
     }
 }
 
-/// Checks what the reader gives, under this name.
+/// Checks what the reader returns, under this name.
 fn check_reader<R: Read>(
     rt: &HostRuntime,
     reader: &mut R,

@@ -73,7 +73,7 @@ pub reported : {W : Type 0} {contents : W → Option (List ℕ)} {start : Option
 reported {r = Ok t} text verdict number p is one same puts = Takes-more text verdict number p is one same puts.ok
 reported {r = Err e} text verdict number p is one same puts = (puts.err.0, Front-more text verdict number p is same puts.err.1)
 
--- what holds of a front of the reports of the first lines holds of more lines
+-- what holds of a prefix of the reports of the first lines holds of more lines
 pub ReportsFront-append : {start now : Option (List ℕ)} {request : Request} {lines : List (List ℕ)} (more : List (List ℕ))
     → ReportsFront start now request lines → ReportsFront start now request (lines ++ more)
 ReportsFront-append more p = record {
@@ -122,7 +122,7 @@ Stands-rest {contents = contents} {start = start} {request = request} {x = x} {a
   taken = subst (λ s. Takes start (written contents x) x.waiting request tally s.ended) (sym (split_of-rest read more none)) stands.taken;
 }
 
--- what waits was handed on, or that failed
+-- what waits was written, or that failed
 handed_on : {W : Type 0} {contents : W → Option (List ℕ)} {start : Option (List ℕ)} {x y : Output W} {request : Request} {tally : Tally}
     {lines : List (List ℕ)} {r : Result (Unit {0}) RunError}
     → Takes start (written contents x) x.waiting request tally lines → Puts contents x y r []
@@ -157,7 +157,7 @@ pub Takes-all : {start now : Option (List ℕ)} {waiting : List ℕ} {request : 
     → Takes start now waiting request tally lines → waiting ≡ [] → Reports start now request tally lines
 Takes-all p none = record { verdicts = p.verdicts; are = p.are; appended = Sent-all p.sent none; counts = p.counts }
 
--- at the end: what waits was handed on, or that failed
+-- at the end: what waits was written, or that failed
 pub finished : {W : Type 0} {contents : W → Option (List ℕ)} {start : Option (List ℕ)} {x y : Output W} {request : Request} {tally : Tally}
     {lines : List (List ℕ)} {r : Result (Unit {0}) RunError}
     → Takes start (written contents x) x.waiting request tally lines → OnOk r (y.waiting ≡ []) → Puts contents x y r []
@@ -244,7 +244,7 @@ Stands-few {request = request} {read = read} p =
     let as_many = AreVerdicts-length request (ended_lines_of read) p.taken.verdicts p.taken.are in
     (omega (arith, counts.lines, as_many, ended_most read), omega (arith, counts.refused, as_many, ended_most read, refusals_of-most p.taken.verdicts))
 
--- the last read gave no byte
+-- the last read returned no byte
 pub Consumes-last : (a b c : Option (List ℕ)) (xs ys : List ℕ) (count : ℕ) → count ≡ 0 → Consumes a b xs → Consumes b c (take count ys) → Consumes a c xs
 Consumes-last a b c xs ys count none p q =
     subst (Consumes a c) (append-nil xs) (Consumes-trans a b c xs [] p (subst (λ n. Consumes b c (take n ys)) none q))

@@ -1,4 +1,4 @@
--- What a reader makes of the text of a line.
+-- What a reader returns for the text of a line.
 use Rattle.std.proofs.Common.{◌≡◌, ℕ, ◌+◌, ◌≤◌, List, length, Option, Some, None, MatchOption, IsUtf8, Bor, inl, inr, refl, ap, subst, arith, length-append}
 use Rattle.std.proofs.lemmas.List.{length-map}
 use Rattle.ixdtf_grammar.specs.declared.profile.Profile.{Profile}
@@ -23,7 +23,7 @@ use Rattle.ixdtf_checks.specs.Verdicts.Verdict.{accepted, printed, refused}
 use Rattle.ixdtf_checks.specs.declared.kind.Kind.{Kind}
 use Rattle.ixdtf_checks.specs.declared.request.Task.TheVariants.{Check, Print}
 
--- what a reader has to read, which is the text, is read
+-- the remaining input of a reader, which is the text, is read
 pub read_text : (reader : Reader) (text rest : List ℕ) (found : Found) → rest ≡ text → HasUnhandledOutcome reader (byte_text rest) (read_as found)
     → IsRead reader text
 read_text reader text rest found same has =

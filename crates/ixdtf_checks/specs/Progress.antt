@@ -35,7 +35,7 @@ pub record Stands {W : Type 0} (contents : W → Option (List ℕ)) (start : Opt
 abbrev pub Fails : Option (List ℕ) → Option (List ℕ) → Request → List (List ℕ) → RunError → Type 0
 Fails start now request lines error = (error ≡ Write) × ReportsFront start now request lines
 
--- what the clauses of `check` say: of the bytes to be read before it and after it, and of those written
+-- what the clauses of `check` say: of the remaining input before and after it, and of the bytes written
 pub record Runs (unread rest start now : Option (List ℕ)) (request : Request) (tally : Tally) (result : Result (Unit {0}) RunError) : Type 0 where
   pub ok : OnOk result (IfSome unread (λ bytes. Reports start now request tally (lines_of bytes) × (tally.bytes ≡ length bytes)))
   pub read : result ≡ Err Read → (bytes : List ℕ) × Consumes unread rest bytes × Reports start now request tally (ended_lines_of bytes)

@@ -1,4 +1,4 @@
--- What is written of the lines of a file.
+-- The reports of the lines of a file.
 use Rattle.std.specs.Prelude.{ℕ, ◌+◌, if◌then◌else◌, List, [], ◌∷◌, ◌++◌, codes}
 use Rattle.std.specs.Fmt.{decimal}
 use Rattle.ixdtf_buffers.specs.Lines.{newline}
@@ -10,18 +10,18 @@ use Rattle.ixdtf_checks.specs.Verdicts.Verdict.{accepted, printed, refused}
 abbrev pub place_of : List ℕ → ℕ → ℕ → List ℕ
 place_of name number column = name ++ (codes ":" ++ (decimal number ++ (codes ":" ++ (decimal column ++ codes ": "))))
 
--- what is written of a line that is refused
+-- the report of a line that is refused
 abbrev pub refusal_of : List ℕ → ℕ → ℕ → List ℕ → List ℕ → List ℕ
 refusal_of name number column message lines = place_of name number column ++ (message ++ newline ∷ lines)
 
--- what is written of the line with this number
+-- the report of the line with this number
 abbrev pub report_of : Request → ℕ → Verdict → List ℕ
 report_of request number accepted = []
 report_of request number (printed canonical) = canonical ++ newline ∷ []
 report_of request number (refused column message lines) =
     if request.is_quiet then [] else refusal_of request.name.now number column message lines
 
--- what is written of lines, the first of which has this number
+-- the reports of lines, the first of which has this number
 abbrev pub reports_of : Request → ℕ → List Verdict → List ℕ
 reports_of request number [] = []
 reports_of request number (verdict ∷ verdicts) = report_of request number verdict ++ reports_of request (number + 1) verdicts
@@ -37,7 +37,7 @@ abbrev pub refusals_of : List Verdict → ℕ
 refusals_of [] = 0
 refusals_of (verdict ∷ verdicts) = refusal_count verdict + refusals_of verdicts
 
--- these come of the lines, one of each
+-- these are the verdicts on the lines, one for each
 abbrev pub AreVerdicts : Request → List (List ℕ) → List Verdict → Type 0
 AreVerdicts request [] [] = Unit {0}
 AreVerdicts request [] (verdict ∷ verdicts) = ⊥

@@ -1,4 +1,4 @@
--- What comes of a line.
+-- The verdict on a line.
 use Rattle.std.specs.Prelude.{◌≡◌, ◌⊎◌, ℕ, ◌+◌, List, [], ◌∷◌, ◌++◌, map, length, nat_lt, codes, IsUtf8, MatchOption}
 use Rattle.std.specs.Bool.{MatchBool}
 use Rattle.ixdtf_grammar.specs.declared.profile.Profile.{Profile}
@@ -49,7 +49,7 @@ IsRefused reader text column message lines =
     (fault : Fault) × (at : ℕ) × HasUnhandledFaultAt reader (byte_text text.bytes) fault at
     × (column ≡ text.start + at + 1) × (message ≡ message_of fault) × ShowsPlace text.bytes at lines
 
--- what comes of the text of a line
+-- the verdict on the text of a line
 abbrev pub IsTextVerdict : Task → Profile → Text → Verdict → Type 0
 IsTextVerdict (Check kind) profile text accepted = IsRead (reader_of kind profile) text.bytes
 IsTextVerdict (Check kind) profile text (printed canonical) = ⊥
@@ -58,13 +58,13 @@ IsTextVerdict Print profile text accepted = ⊥
 IsTextVerdict Print profile text (printed canonical) = IsCanonical text.bytes canonical
 IsTextVerdict Print profile text (refused column message lines) = IsRefused parse text column message lines
 
--- what comes of a line without its carriage return
+-- the verdict on a line without its carriage return
 abbrev pub IsLineVerdict : Request → List ℕ → Verdict → Type 0
 IsLineVerdict request line verdict = MatchOption (part_of request.field line)
     (verdict ≡ refused (length line + 1) (codes "no such field") [])
     (λ text. IsTextVerdict request.task request.profile text verdict)
 
--- what comes of a line
+-- the verdict on a line
 abbrev pub IsVerdict : Request → List ℕ → Verdict → Type 0
 IsVerdict request line verdict = MatchBool (nat_lt line_limit (length line))
     (verdict ≡ refused (line_limit + 1) (codes "line too long") [])

@@ -1,6 +1,6 @@
 //! Checks lines: which are wrong, where, and why.
 //!
-//! `check` reads lines from a reader, and writes to a writer what is to be written of them. The program `ixdtf_check` hands it
+//! `check` reads lines from a reader, and writes their reports to a writer. The program `ixdtf_check` calls it with
 //! files.
 #![tactic(auto)]
 

@@ -39,7 +39,7 @@ pub fn part_of(field: Option<Field>, line: &[u8]) -> Option<Part<'_>>
     }
 }
 
-/// The field, where the line has so many.
+/// The field, where the line has it.
 fn field_of(field: Field, line: &[u8]) -> Option<Part<'_>>
     ensures part { option_map seen_part result ≡ part_of (Some field) line.now }
     ensures within { IfSome result (λ part. part.start + length part.text.now ≤ length line.now) }
@@ -53,7 +53,7 @@ fn field_of(field: Field, line: &[u8]) -> Option<Part<'_>>
     }
 }
 
-/// Where the field begins that stands behind so many others.
+/// Where the field after `before` others begins.
 fn field_start(separator: u8, before: usize, line: &[u8]) -> Option<usize>
     ensures start { result ≡ field_start separator before line.now }
     ensures within { IfSome result (λ start. start ≤ length line.now) }

@@ -14,7 +14,7 @@ use ixdtf::encoding::Utf8;
 use ixdtf::parsers::{IsoDurationParser, IxdtfParser, Profile, TimeZoneParser};
 use ixdtf_print::canonical_fits;
 
-/// Reads the text as one of the kind, or tells where it is wrong.
+/// Reads the text as one of the kind, or returns the error with its place.
 pub fn read(kind: Kind, profile: Profile, text: &[u8]) -> Result<(), LocatedError>
     ensures ok { OnOk result (IsRead (reader_of kind profile) text.now) }
     ensures err { IfErr result (λ error. HasUnhandledFaultAt (reader_of kind profile)
@@ -72,7 +72,7 @@ fn duration_parser(profile: Profile, text: &[u8]) -> IsoDurationParser<'_, Utf8>
     IsoDurationParser::<Utf8>::from_utf8(text).with_profile(profile)
 }
 
-/// Reads the text as a date-time and prints its canonical text, or tells where it is wrong.
+/// Reads the text as a date-time and prints its canonical text, or returns the error with its place.
 pub fn read_to_print(text: &[u8], printed: &mut PrintedText) -> Result<(), LocatedError>
     requires { length text.now ≤ 65536 }
     ensures ok { OnOk result (IsCanonical text.now printed.new) }

@@ -1,4 +1,4 @@
-//! What is written of a line.
+//! The report of a line.
 ghost use Rattle.std.specs.Prelude.{◌≡◌, ◌∷◌, ◌++◌};
 ghost use Rattle.ixdtf_buffers.specs.Lines.{newline};
 ghost use Rattle.ixdtf_buffers.specs.Output.{Puts};
@@ -14,7 +14,7 @@ use ixdtf_buffers::error::RunError;
 use ixdtf_buffers::output::Output;
 use std::io::Write;
 
-/// Puts what is to be written of the line with this number, where this is the canonical text that was printed last.
+/// Puts the report of the line with this number, where this is the canonical text that was printed last.
 pub fn put_report<W: Write>(
     output: &mut Output<'_, W>,
     request: &Request<'_>,
@@ -37,7 +37,7 @@ pub fn put_report<W: Write>(
     }
 }
 
-/// Puts what is to be written of a line that is refused.
+/// Puts the report of a line that is refused.
 fn put_refusal<W: Write>(
     output: &mut Output<'_, W>,
     name: &str,

@@ -2,7 +2,7 @@
 ghost use Rattle.std.specs.Prelude.{◌≡◌};
 ghost use Rattle.ixdtf_checks.specs.Statuses.{status_of};
 
-/// The status where something failed or nothing did, and so many lines were refused.
+/// The status, by whether something failed and by how many lines were refused.
 pub fn status_of(has_failed: bool, refused: u64) -> u8
     ensures { result ≡ status_of has_failed refused }
 {

@@ -41,7 +41,7 @@ impl Tally {
         }
     }
 
-    /// Counts what was counted in another file. A number that is too great stays the greatest.
+    /// Adds the counts of another file. A number that overflows stays the greatest.
     pub fn add(&mut self, other: Tally)
         ensures lines { self.new.lines ≡ min (self.old.lines + other.lines) (2 ^ 64 - 1) }
         ensures refused { self.new.refused ≡ min (self.old.refused + other.refused) (2 ^ 64 - 1) }

@@ -1,4 +1,4 @@
-//! What comes of a line.
+//! The verdict on a line.
 ghost use Rattle.std.specs.Prelude.{◌≡◌, ℕ, List, if◌then◌else◌};
 
 use ixdtf::LocatedError;
@@ -6,7 +6,7 @@ use ixdtf::LocatedError;
 /// The longest line that is read, in bytes.
 pub const LINE_LIMIT: usize = 65536;
 
-/// What comes of a line.
+/// The verdict on a line.
 #[derive(Drop)]
 pub enum Verdict<'a> {
     /// Its text is read.
@@ -27,7 +27,7 @@ pub enum Verdict<'a> {
 pub enum Reason<'a> {
     /// It is too long.
     TooLong,
-    /// It has not so many fields.
+    /// It has too few fields.
     NoField,
     /// Its text is not read.
     Unread {

@@ -1,4 +1,4 @@
--- What a text of 16-bit units gives is what its 8-bit units give, up to the first unit that is no letter.
+-- A 16-bit text has the outcome of the 8-bit text of the same numbers, up to the first bad code unit.
 pub mod FirstBad
 pub mod PlainDurations
 pub mod PlainLines

@@ -90,19 +90,19 @@ pub record GivesOnlyFault (reader : Reader) (text : Text) (pairs : List Pair) (r
 
 -- ---- a handler
 
--- an annotation by the numbers of its units
+-- an annotation by the numbers of its code units
 abbrev pub pair_of : {T U : Type 0} → (U → ℕ) → Annotation T U → Pair
 pair_of number annotation = record { critical = annotation.critical; key = map number annotation.key.now; value = map number annotation.value.now }
 
--- the calls of a handler: each annotation that it was handed, and its reply
+-- the calls of a handler: each annotation that it was called with, and its reply
 abbrev pub Calls : Type 0 → Type 0 → Type 0
 Calls T U = List (Annotation T U × Option (Annotation T U))
 
--- the pairs that were handed to it
+-- the pairs that it was called with
 abbrev pub handed : {T U : Type 0} → (U → ℕ) → Calls T U → List Pair
 handed number calls = map (λ call. pair_of number call.0) calls
 
--- the replies that it gave
+-- its replies
 abbrev pub replies_of : {T U : Type 0} → (U → ℕ) → Calls T U → List Reply
 replies_of number calls = map (λ call. option_map (pair_of number) call.1) calls
 
@@ -125,7 +125,8 @@ pub record Handled {T U F : Type 0} (number : U → ℕ) (step : Step T U F)
   pub err : (fault : Fault) → result ≡ Err fault → GivesFault reader text (handed number calls) (replies_of number calls) fault
   pub only : (fault : Fault) → result ≡ Err fault → GivesOnlyFault reader text (handed number calls) (replies_of number calls) fault
 
--- The same for a handler that was lent and is left in the state `last`: the chain of calls ends there, so none follows it.
+-- The same for a handler that was borrowed and is left in the state `last`: the chain of calls ends there, so no call follows
+-- it.
 pub record HandledTo {T U F : Type 0} (number : U → ℕ) (step : Step T U F)
     (handler last : F) (reader : Reader) (text : Text) (result : Result Parsed Fault) : Type 0 where
   pub calls : Calls T U
@@ -140,14 +141,14 @@ pub record HandledTo {T U F : Type 0} (number : U → ℕ) (step : Step T U F)
 abbrev pub own_replies : List Pair → List Reply
 own_replies pairs = map (λ pair. Some pair) pairs
 
--- the text, whose pairs reply for themselves, gives the record
+-- the text, whose pairs are their own replies, gives the record
 abbrev pub UnhandledRecord : Reader → Text → Parsed → Type 0
 UnhandledRecord reader text found = (pairs : List Pair) × GivesRecord reader text pairs (own_replies pairs) found
 
--- the text, whose pairs reply for themselves, gives the fault
+-- the text, whose pairs are their own replies, gives the fault
 abbrev pub UnhandledFault : Reader → Text → Fault → Type 0
 UnhandledFault reader text fault = (pairs : List Pair) × GivesFault reader text pairs (own_replies pairs) fault
 
--- the text, whose pairs reply for themselves, gives the fault, and no other
+-- the text, whose pairs are their own replies, gives the fault, and no other
 abbrev pub UnhandledOnlyFault : Reader → Text → Fault → Type 0
 UnhandledOnlyFault reader text fault = (pairs : List Pair) × GivesOnlyFault reader text pairs (own_replies pairs) fault

@@ -105,12 +105,13 @@ abbrev pub OnePlace : Type 0
 OnePlace = (reader : Reader) (text : Text) (pairs : List Pair) (replies : List Reply) (fault : Fault) (at : ℕ) → length replies ≡ length pairs
     → GivesFaultAt reader text pairs replies fault at → GivesOnlyPlace reader text pairs replies fault at
 
--- the replies to these pairs of who replies to each by the pairs so far, the last of which is the one that is asked about
+-- the replies to these pairs of a handler that replies to each by the pairs so far, the last of which is the one that it is
+-- called with
 abbrev pub replies_to : (List Pair → Reply) → List Pair → List Reply
 replies_to reply [] = []
 replies_to reply (pair ∷ pairs) = reply (pair ∷ []) ∷ replies_to (λ more. reply (pair ∷ more)) pairs
 
--- whoever replies so is asked about one list of pairs, and gets one result
+-- such a handler is called with one list of pairs, and there is one result
 abbrev pub OneChain : Type 0
 OneChain = (kind : CoreKind) (text : Text) (reply : List Pair → Reply) →
     ExactlyOne (λ (x : List Pair × Result Parsed Fault). GivesResult (bracketed kind) text x.0 (replies_to reply x.0) x.1)
@@ -125,7 +126,7 @@ DefaultIs {K} is_default value = (it : K) → is_default it → it ≡ value
 abbrev pub ClonesAreEqual : {K : Type 0} → (K → K → Type 0) → (K → Type 0) → Type 0
 ClonesAreEqual {K} is_clone is_infallible = (source : K) → is_infallible source × ((copy : K) → is_clone source copy → copy ≡ source)
 
--- values are equal by this test exactly where they are seen as one, so the test is reflexive, symmetric and transitive
+-- this test holds exactly for values that contracts see as the same, so it is reflexive, symmetric and transitive
 pub record IsEqualityBy {K V : Type 0} (seen : K → V) (eq : K → K → Bool) : Type 0 where
   pub exact : (a b : K) → IsTrue (eq a b) ↔ (seen a ≡ seen b)
   pub equivalence : IsEquivalence eq

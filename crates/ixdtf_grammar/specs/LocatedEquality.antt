@@ -1,4 +1,4 @@
--- When two errors with their places are equal: where their places are one, and the errors are equal.
+-- When two errors with their places are equal: where their places are the same, and the errors are equal.
 use Rattle.std.specs.Prelude.{ℕ, Bool, List, ◌∷◌}
 use Rattle.std.specs.Ordering.{on}
 use Rattle.std.specs.Str.{bytes_eq}
@@ -12,7 +12,7 @@ use Rattle.ixdtf_grammar.specs.table.Faults.{fault_of}
 abbrev pub spelled_at : LocatedError → List ℕ
 spelled_at e = e.at ∷ spelled (fault_of e.error)
 
--- whether two errors with their places are one
+-- whether two errors with their places are equal
 abbrev pub same_located : LocatedError → LocatedError → Bool
 same_located = on spelled_at bytes_eq
 

@@ -1,4 +1,4 @@
--- What is written of an error with its place, and of a text with a mark under the place.
+-- The texts of an error with its place, and of a text with a mark under the place.
 use Rattle.std.specs.Prelude.{ℕ, ◌+◌, ◌-◌, Bool, List, [], ◌∷◌, ◌++◌, map, length, take, drop, replicate, codes, if◌then◌else◌, nat_lt}
 use Rattle.std.specs.Char.{is_control, len_utf8}
 use Rattle.std.specs.Str.{chars, encode_utf8_all}
@@ -14,8 +14,8 @@ located_text fault at = message_of fault ++ (codes " at " ++ decimal at)
 abbrev pub shown : ℕ → ℕ
 shown c = if is_control c then 46 else c
 
--- how many of the characters stand whole in the first `at` bytes: the column of the character that has byte `at`, and at the
--- end or past it one past the last
+-- how many whole characters the first `at` bytes have: the column of the character that has byte `at`, and at the end or past
+-- it one past the last
 abbrev pub column_of : List ℕ → ℕ → ℕ
 column_of [] at = 0
 column_of (c ∷ cs) at = if nat_lt at (len_utf8 c) then 0 else column_of cs (at - len_utf8 c) + 1

@@ -16,12 +16,12 @@ use Rattle.ixdtf_grammar.specs.language.Brackets.{ZoneNote}
 use Rattle.ixdtf_grammar.specs.language.Languages.{Parsed}
 use Rattle.ixdtf_grammar.specs.language.ZoneNames.Zone.{Name, Offset}
 
--- what a parser is to its callers: the numbers of the units still to be read, and how many looks were made
+-- what callers see of a parser: the numbers of the remaining code units, and the count of code unit accesses
 pub record Unread : Type 0 where
   pub rest : List ℕ
   pub looks : ℕ
 
--- what a parser that has a profile is to its callers: the same, and the profile
+-- what callers see of a parser that has a profile: the same, and the profile
 pub record UnreadUnder : Type 0 where
   pub rest : List ℕ
   pub looks : ℕ
@@ -34,13 +34,13 @@ under profile unread = record { rest = unread.rest; looks = unread.looks; profil
 abbrev pub unread_of : UnreadUnder → Unread
 unread_of parser = record { rest = parser.rest; looks = parser.looks }
 
--- what a look finds: a letter's number, or nothing past the end
+-- what a look finds: the number of a code unit, or nothing past the end
 abbrev pub looked : Option Letter → Result (Option ℕ) Fault
 looked None = Ok None
 looked (Some (Plain n)) = Ok (Some n)
 looked (Some Bad) = Err NonAsciiCodePoint
 
--- what a look at a place of a source finds, where a unit's number has that letter
+-- what a look at an index of a source finds, where `code unit` says what a code unit stands for
 abbrev pub ascii_at : (ℕ → Letter) → ℕ → List ℕ → Result (Option ℕ) Fault
 ascii_at letter place units = looked (option_map letter (slice_get units place))
 
@@ -53,12 +53,12 @@ returned_by fault view (Err e) = Err (fault e)
 abbrev pub returned : {X Y : Type 0} → (X → Y) → Result X ParseError → Result Y Fault
 returned = returned_by fault_of
 
--- what a function returned, seen so, is what is wanted
+-- what a function returned, seen so, is the expected result
 abbrev pub Returns : {X Y : Type 0} → (X → Y) → Result X ParseError → Result Y Fault → Type 0
 Returns view (Ok x) wanted = wanted ≡ Ok (view x)
 Returns view (Err e) wanted = wanted ≡ Err (fault_of e)
 
--- a zone, with its name by the numbers of its units
+-- a zone, with its name by the numbers of its code units
 abbrev pub zone_of : {T U : Type 0} → (U → ℕ) → TimeZoneRecord T U → Zone
 zone_of number (zones.Name units) = Name (map number units.now)
 zone_of number (zones.Offset offset) = Offset offset
@@ -66,7 +66,7 @@ zone_of number (zones.Offset offset) = Offset offset
 abbrev pub note_of : {T U : Type 0} → (U → ℕ) → TimeZoneAnnotation T U → ZoneNote
 note_of number annotation = record { critical = annotation.critical; zone = zone_of number annotation.tz }
 
--- a record, with its names by the numbers of their units
+-- a record, with its names by the numbers of their code units
 abbrev pub parsed_of : {T U : Type 0} → (U → ℕ) → IxdtfParseRecord T U → Parsed
 parsed_of number r = record {
   date = r.date;
@@ -76,7 +76,7 @@ parsed_of number r = record {
   calendar = option_map (λ units. map number units.now) r.calendar;
 }
 
--- a record in which nothing stands
+-- an empty record
 pub record IsEmptyRecord {T U : Type 0} (r : IxdtfParseRecord T U) : Type 0 where
   pub date : r.date ≡ None
   pub time : r.time ≡ None
@@ -84,12 +84,13 @@ pub record IsEmptyRecord {T U : Type 0} (r : IxdtfParseRecord T U) : Type 0 wher
   pub tz : r.tz ≡ None
   pub calendar : r.calendar ≡ None
 
--- the most looks that a reader makes at a text
+-- the most code unit accesses that a reader makes for a text
 abbrev pub most_looks : List ℕ → ℕ
 most_looks rest = 4 * length rest + 64
 
--- What a reader leaves behind, whose errors are seen by their faults: nothing to be read where it succeeds, and all of it where
--- it refuses, with none of the errors that no reader gives; and a count of looks that did not go down, nor up by more than the most.
+-- What a reader leaves, with its errors seen by their faults: no remaining input after `Ok`, and the same after an error, which
+-- is none of those that no reader returns; and a count of accesses that did not decrease, and increased by at most
+-- `most_looks`.
 pub record LeavesBehind {X E : Type 0} (fault : E → Fault) (old : Unread) (result : Result X E) (new : Unread) : Type 0 where
   pub empty : OnOk result (new.rest ≡ [])
   pub unchanged : OnErr result (new.rest ≡ old.rest)

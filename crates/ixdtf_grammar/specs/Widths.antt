@@ -1,4 +1,4 @@
--- Two widths: what a reader without a handler returns for numbers as 16-bit units, and as 8-bit units.
+-- Two widths: what a reader without a handler returns for numbers as 16-bit code units, and as 8-bit code units.
 use Rattle.std.specs.Prelude.{◌≡◌, ◌↔◌, ◌⊎◌, ℕ, Bool, IsTrue, IsFalse, List, [], ◌∷◌, ◌++◌, map, length, All, Any, nat_le, ◌&&◌, if◌then◌else◌}
 use Rattle.ixdtf_grammar.specs.language.Letters.{Text, byte_letter, wide_letter}
 use Rattle.ixdtf_grammar.specs.language.Readers.{Reader, CoreKind}
@@ -13,7 +13,7 @@ use Rattle.ixdtf_grammar.specs.Places.{HasUnhandledFaultAt}
 
 -- ---- outcomes without a handler
 
--- what a reader without a handler returns: slices stand in it by the numbers of their units
+-- what a reader without a handler returns, with slices by the numbers of their code units
 pub data UnhandledOutcome : Type 0 where
   read_as : Found → UnhandledOutcome
   faulted : Fault → UnhandledOutcome
@@ -46,11 +46,11 @@ OneUnhandledOutcome = (reader : Reader) (text : Text) → ExactlyOne (HasUnhandl
 
 -- ---- two widths
 
--- 1 to 126: the numbers whose units are letters in both widths
+-- 1 to 126: the numbers that stand for a character in both widths
 abbrev pub is_shared : ℕ → Bool
 is_shared n = nat_le 1 n && nat_le n 126
 
--- what the numbers are as 16-bit units, and as 8-bit units
+-- the text of the numbers as 16-bit code units, and as 8-bit code units
 abbrev pub wide_text : List ℕ → Text
 wide_text numbers = map wide_letter numbers
 
@@ -66,7 +66,8 @@ abbrev pub SameWhereShared : Type 0
 SameWhereShared = (reader : Reader) (numbers : List ℕ) → All (λ n. IsTrue (is_shared n)) numbers
     → (outcome : UnhandledOutcome) → HasUnhandledOutcome reader (wide_text numbers) outcome ↔ HasUnhandledOutcome reader (byte_text numbers) outcome
 
--- With another number the outcome of the 16-bit reading is a fault: `NonAsciiCodePoint`, or the outcome of the mask as 8-bit units.
+-- With another number the outcome of the 16-bit reading is a fault: `NonAsciiCodePoint`, or the outcome of the mask as 8-bit
+-- code units.
 abbrev pub FaultWhereNotShared : Type 0
 FaultWhereNotShared = (reader : Reader) (numbers : List ℕ) → Any (λ n. IsFalse (is_shared n)) numbers
     → (fault : Fault) × HasUnhandledOutcome reader (wide_text numbers) (faulted fault)
@@ -79,7 +80,8 @@ abbrev pub SamePlaceWhereShared : Type 0
 SamePlaceWhereShared = (reader : Reader) (numbers : List ℕ) → All (λ n. IsTrue (is_shared n)) numbers
     → (fault : Fault) (at : ℕ) → HasUnhandledFaultAt reader (wide_text numbers) fault at ↔ HasUnhandledFaultAt reader (byte_text numbers) fault at
 
--- With another number the 16-bit reading has a fault at a place: `NonAsciiCodePoint`, or one that the mask as 8-bit units has there too.
+-- With another number the 16-bit reading has a fault at a place: `NonAsciiCodePoint`, or one that the mask as 8-bit code units
+-- has there too.
 abbrev pub PlaceWhereNotShared : Type 0
 PlaceWhereNotShared = (reader : Reader) (numbers : List ℕ) → Any (λ n. IsFalse (is_shared n)) numbers
     → (fault : Fault) × (at : ℕ) × HasUnhandledFaultAt reader (wide_text numbers) fault at

@@ -21,17 +21,17 @@ use std::fmt;
 pub struct LocatedError {
     /// The error.
     pub error: ParseError,
-    /// How many code units of the rest of the input stand before the place of the error.
+    /// How many code units of the remaining input stand before the place of the error.
     pub at: usize,
 }
 
 impl LocatedError {
     /// The text with a mark under the place of the error, for people to read.
     ///
-    /// `text` is what the reader was given. The place counts its bytes, so it has to be that of a reader of 8-bit code
-    /// units: a place in 16-bit ones is another one in UTF-8, where a character before it is not ASCII.
+    /// `text` is what the reader was given. The place counts its bytes, so the reader has to be one of 8-bit code units. A
+    /// place in 16-bit code units is another one in UTF-8 where a character before it is not ASCII.
     ///
-    /// Display of what is returned writes two lines, with no newline at the end:
+    /// The Display of the result writes two lines, with no newline at the end:
     ///
     /// ```rust
     /// use ixdtf::parsers::IxdtfParser;
@@ -41,7 +41,7 @@ impl LocatedError {
     /// assert_eq!(error.in_text(text).to_string(), "2020-x1\n     ^");
     /// ```
     ///
-    /// [`PointedText`] says how they are made of a longer text, or of one with other characters.
+    /// [`PointedText`] says how they are made of a longer text, or of one with control characters.
     pub fn in_text<'a>(&self, text: &'a str) -> PointedText<'a>
         ensures text { result.text.now ≡ text.now }
         ensures place { result.at ≡ self.now.at }
@@ -59,7 +59,7 @@ impl PartialEq for LocatedError {
 
     ghost laws = { same_located-laws };
 
-    /// Whether the places are one, and the errors are equal.
+    /// Whether the places and the errors are equal.
     fn eq(&self, other: &LocatedError) -> bool
         ensures computes { result ≡ same_located self.now other.now }
         ensures equal { IsTrue result
@@ -69,7 +69,7 @@ impl PartialEq for LocatedError {
     }
 }
 
-// Display writes the text of the error, ` at ` and the place in decimal. It heeds no width and no fill.
+// Display writes the text of the error, ` at ` and the place in decimal. It ignores width and fill.
 impl fmt::Display for LocatedError {
     ghost use Rattle.std.specs.Prelude.{Some};
     ghost use Rattle.ixdtf_grammar.specs.table.Faults.{fault_of};

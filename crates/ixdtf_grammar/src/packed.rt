@@ -1,4 +1,4 @@
-//! Numbers that stand at any address.
+//! Numbers that need no alignment.
 
 ghost use Rattle.std.specs.Prelude.{◌≡◌, ℕ, nat_eq};
 ghost use Rattle.std.specs.Cmp.Rules.{comparing};
@@ -7,8 +7,8 @@ ghost use Rattle.std.proofs.Common.{rules};
 use std::fmt;
 use std::marker::Model;
 
-/// A number below 2 to the 64th, as its eight bytes, the lowest first. It stands at any address, so a record that has one
-/// has no unused bytes before it.
+/// A number below 2^64, as its eight bytes, the lowest first. It needs no alignment, so a record that has one has no
+/// padding before it.
 #[derive(Clone, Copy)]
 pub struct PackedNumber {
     bytes: [u8; 8],
@@ -62,7 +62,7 @@ impl PartialEq for PackedNumber {
 }
 
 impl fmt::Debug for PackedNumber {
-    /// Writes the number, as it writes a number that is not packed.
+    /// Writes the number, as a `u64` is written.
     fn fmt<W: fmt::Write>(&self, f: &mut fmt::Formatter<W>) -> fmt::Result {
         fmt::Debug::fmt(&self.number(), f)
     }

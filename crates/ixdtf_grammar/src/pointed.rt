@@ -8,10 +8,10 @@ ghost use Rattle.ixdtf_grammar.specs.LocatedTexts.{shown, column_of, cut_mark, l
 
 use std::fmt;
 
-/// How many characters before the place are written at most.
+/// The most characters that are written before the place.
 const BEFORE_PLACE: usize = 48;
 
-/// How many characters from the place on are written at most.
+/// The most characters that are written from the place on.
 const FROM_PLACE: usize = 24;
 
 /// A text with a mark under the place of an error, as [`LocatedError::in_text`](crate::LocatedError::in_text) returns it.
@@ -19,8 +19,8 @@ const FROM_PLACE: usize = 24;
 /// Display writes two lines with a newline between them and none at the end: the text, and spaces with a `^` under the place.
 /// It does not allocate.
 ///
-/// - The mark stands under the character that has the byte at the place, and one past the last where the place is the end of
-///   the text or past it. Columns are counted by characters, one for each code point.
+/// - The mark stands under the character that has the byte at the place. It stands one past the last where the place is
+///   the end of the text or past it. A column is one code point.
 /// - A control character, U+0000 to U+001F and U+007F to U+009F, is written as `.`.
 /// - At most 48 characters before the place are written, and at most 24 from it on. Where more stand there, `..` is written for
 ///   them. So a line has at most 76 columns.
@@ -51,7 +51,7 @@ impl<'a> PointedText<'a> {
     }
 }
 
-// Display heeds no width and no fill.
+// Display ignores width and fill.
 impl<'a> fmt::Display for PointedText<'a> {
     ghost use Rattle.std.specs.Prelude.{Some};
     ghost use Rattle.ixdtf_grammar.specs.LocatedTexts.{pointed_text};
@@ -69,7 +69,7 @@ impl<'a> fmt::Display for PointedText<'a> {
     }
 }
 
-/// How many characters of the text stand whole in its first `at` bytes.
+/// How many whole characters the first `at` bytes of the text have.
 fn column_of(text: &str, at: usize) -> usize
     ensures column { result ≡ column_of (chars text.now) at }
     ensures within { result ≤ length (chars text.now) }
@@ -87,7 +87,7 @@ fn column_of(text: &str, at: usize) -> usize
     column
 }
 
-/// How many columns of the first line stand before the place.
+/// How many columns of the first line are before the place.
 fn indent_of(column: usize) -> usize
     ensures { result ≡ indent_of column }
 {
@@ -145,7 +145,7 @@ fn write_character<W: fmt::Write>(f: &mut fmt::Formatter<W>, character: char) ->
     }
 }
 
-/// Writes so many spaces.
+/// Writes `count` spaces.
 fn write_spaces<W: fmt::Write>(f: &mut fmt::Formatter<W>, count: usize) -> fmt::Result
     ensures { WritesStyledOnOk W.write_str_gives f.old result (replicate count 32) f.new }
 {

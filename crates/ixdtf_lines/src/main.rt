@@ -22,7 +22,7 @@ fn main(rt: HostRuntime) -> ExitCode {
     }
 }
 
-/// What a line of the input is, for whoever gave arguments in its place.
+/// The usage, which says what a line of the input is.
 const USAGE: &str =
     "usage: a line of standard input is a word, a space and a text, and the words are \
     parse, year-month, month-day, time, offset, zone, iana, duration, strict-month-day, \

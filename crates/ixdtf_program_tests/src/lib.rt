@@ -1,6 +1,7 @@
-//! The tests of the programs `ixdtf_lines` and `ixdtf_check`, from a crate above what they stand on.
+//! The tests of the programs `ixdtf_lines` and `ixdtf_check`, from a crate above those that the programs use.
 //!
-//! They stand apart so that the check of a test takes what those crates state, and does not prove it again.
+//! They are a crate of their own, so that the check of a test uses the contracts of those crates, and does not prove
+//! them again.
 #![tactic(auto)]
 
 #[cfg(test)]

@@ -1,3 +1,3 @@
--- What a text of 16-bit units gives is what its 8-bit units give, up to the first unit that is no letter.
+-- A 16-bit text has the outcome of the 8-bit text of the same numbers, up to the first bad code unit.
 pub mod PlainBefore
 pub mod Widths

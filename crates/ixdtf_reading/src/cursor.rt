@@ -1,7 +1,7 @@
-//! A place in a source: the units that are still to be read.
+//! A cursor: the remaining code units of a source.
 //!
-//! There is no index: a cursor keeps the end of the source that is still to be read, as one slice. So a place past the end
-//! cannot be, and a reader that refuses puts back the slice that it began with.
+//! A cursor has no index. It keeps the remaining code units as one slice, so it cannot point past the end. A reader
+//! that returns an error restores the slice that it began with.
 
 #![tactic(auto, unfolding(crate::specs::reading::Looks::look_readings))]
 
@@ -18,12 +18,12 @@ use crate::stop::{Raised, Stop};
 use ixdtf_grammar::encoding::EncodingType;
 use std::marker::Model;
 
-/// The units that are still to be read.
+/// The remaining code units.
 #[derive(Drop)]
 #[derive_where(Debug)]
 pub struct Cursor<'a, T: EncodingType> {
     rest: &'a [T::CodeUnit],
-    // A count of looks at units. It takes no byte.
+    // The count of code unit accesses. It takes no byte.
     looks: Looks,
 }
 
@@ -45,7 +45,7 @@ impl<'a, T: EncodingType> Cursor<'a, T> {
         }
     }
 
-    /// The units that are still to be read. They are a part of the source, and outlive the cursor.
+    /// The remaining code units. They are borrowed from the source, and outlive the cursor.
     #[inline(always)]
     pub fn rest(&self) -> &'a [T::CodeUnit]
         ensures { map T.number result.now ≡ self.now.rest }
@@ -53,7 +53,7 @@ impl<'a, T: EncodingType> Cursor<'a, T> {
         self.rest
     }
 
-    /// How many units are still to be read.
+    /// How many code units remain.
     #[inline(always)]
     pub fn remaining(&self) -> usize
         ensures { result ≡ length self.now.rest }
@@ -61,8 +61,8 @@ impl<'a, T: EncodingType> Cursor<'a, T> {
         self.rest.len()
     }
 
-    /// A cursor of its own at the same place: this one keeps its rest. So a reader and its loops work on a value that nothing
-    /// else sees, and put it back at their end.
+    /// A second cursor at the same place, which takes over the count of accesses. This one keeps its remaining input. So a
+    /// reader and its loops work on a local value, and store it at their end.
     #[inline(always)]
     pub fn take(&mut self) -> Self
         ensures same { result ≡ self.old }
@@ -70,12 +70,13 @@ impl<'a, T: EncodingType> Cursor<'a, T> {
     {
         Cursor {
             rest: self.rest,
-            // The looks that were made go with it.
+            // The count of accesses moves to it.
             looks: std::mem::replace(&mut self.looks, Looks::none()),
         }
     }
 
-    /// A cursor of its own at a rest that was kept: this one keeps its rest.
+    /// A second cursor at remaining input that was kept, which takes over the count of accesses. This one keeps its
+    /// remaining input.
     #[inline(always)]
     pub fn at(&mut self, rest: &'a [T::CodeUnit]) -> Self
         ensures there { result.rest ≡ map T.number rest.now }
@@ -84,12 +85,12 @@ impl<'a, T: EncodingType> Cursor<'a, T> {
     {
         Cursor {
             rest,
-            // The looks that were made go with it.
+            // The count of accesses moves to it.
             looks: std::mem::replace(&mut self.looks, Looks::none()),
         }
     }
 
-    /// Stays where it is, and counts the looks of a cursor that went on from here.
+    /// Stays where it is, and takes over the count of a cursor that went on from here.
     #[inline(always)]
     pub fn count(&mut self, here: Self)
         ensures rest { self.new.rest ≡ self.old.rest }
@@ -98,8 +99,8 @@ impl<'a, T: EncodingType> Cursor<'a, T> {
         self.looks = here.looks;
     }
 
-    /// Ends a reader that worked on a cursor of its own. Where it found something, this cursor goes on from there; where it
-    /// stopped, this one keeps its rest, and the stop becomes the error, at the place where it stopped.
+    /// Ends a reader that worked on a second cursor. After `Ok` this cursor goes on from there. After a stop this cursor
+    /// keeps its remaining input, and the stop becomes the error, at the place where the reader stopped.
     #[inline(always)]
     pub fn settle<R, E: Raised>(&mut self, here: Self, read: Result<R, Stop>) -> Result<R, E>
         ensures settled { Settles E.fault read result }
@@ -122,8 +123,8 @@ impl<'a, T: EncodingType> Cursor<'a, T> {
         }
     }
 
-    /// Looks at a place of the rest: `None` past its end, and `NonAsciiCodePoint` at a unit that stands for no letter.
-    /// This is the one place that calls `get_ascii`.
+    /// The code unit at an index of the remaining input, as a byte: `None` past its end, and `NonAsciiCodePoint` for a bad
+    /// one. This is the only call of `get_ascii`.
     #[inline(always)]
     pub fn look_at(&mut self, index: usize) -> Result<Option<u8>, Stop>
         ensures letter { Yields (λ found. found) result (ascii_at T.letter index self.old.rest) }
@@ -137,7 +138,7 @@ impl<'a, T: EncodingType> Cursor<'a, T> {
         }
     }
 
-    /// Looks at the first letter of the rest.
+    /// The first code unit of the remaining input, as a byte.
     #[inline(always)]
     #[tactic(auto, using(crate::proofs::code::Units::first_look))]
     pub fn look(&mut self) -> Result<Option<u8>, Stop>
@@ -149,7 +150,7 @@ impl<'a, T: EncodingType> Cursor<'a, T> {
         self.look_at(0)
     }
 
-    /// Takes the first unit off, where there is one.
+    /// Skips the first code unit, where there is one.
     #[inline(always)]
     #[tactic(auto, using(crate::proofs::code::Units::texts))]
     pub fn step(&mut self)
@@ -163,8 +164,8 @@ impl<'a, T: EncodingType> Cursor<'a, T> {
         }
     }
 
-    /// Takes a digit off and returns it, as an ASCII byte. The end is `AbruptDigit`, and another letter this stop; both
-    /// stay.
+    /// Takes a digit, and returns it as an ASCII byte. The end of the input is `AbruptDigit`. Another code unit is this
+    /// stop, and is not taken.
     #[inline(always)]
     pub fn next_digit(&mut self, other: Stop) -> Result<u8, Stop>
         ensures digit { Reads T.letter (λ byte. byte) self.old result self.new
@@ -183,7 +184,8 @@ impl<'a, T: EncodingType> Cursor<'a, T> {
         }
     }
 
-    /// The digit at a place of the rest, as an ASCII byte. The end is `AbruptDigit`, and another letter this stop.
+    /// The digit at an index of the remaining input, as an ASCII byte. The end of the input is `AbruptDigit`. Another code
+    /// unit is this stop.
     #[inline(always)]
     fn digit_at(&mut self, index: usize, other: Stop) -> Result<u8, Stop>
         ensures digit { Yields (λ byte. byte) result
@@ -199,7 +201,7 @@ impl<'a, T: EncodingType> Cursor<'a, T> {
         }
     }
 
-    /// Takes two digits off and returns them, as ASCII bytes, with one test for the end.
+    /// Takes two digits, and returns them as ASCII bytes, with one test for the end.
     #[inline(always)]
     pub fn two_digits(&mut self, other: Stop) -> Result<(u8, u8), Stop>
         ensures digits { Reads T.letter (λ ds. Plain ds.0 ∷ Plain ds.1 ∷ [])
@@ -227,7 +229,7 @@ impl<'a, T: EncodingType> Cursor<'a, T> {
         }
     }
 
-    /// Takes so many units off.
+    /// Skips `count` code units.
     #[inline(always)]
     pub fn skip(&mut self, count: usize)
         requires { count ≤ length self.old.rest }
@@ -238,8 +240,8 @@ impl<'a, T: EncodingType> Cursor<'a, T> {
         self.rest = &self.rest[count..];
     }
 
-    /// The letter at a fixed place of the rest, as an ASCII byte, or 0 where none stands there: 0 is of no class that the
-    /// readers tell apart.
+    /// The code unit at a fixed index of the remaining input, as an ASCII byte, or 0 where there is none or a bad one: 0 is
+    /// in no class of `grammar`.
     #[inline(always)]
     #[tactic(auto, using(crate::proofs::code::FixedPlaces::byte_looked))]
     pub fn byte_at(&mut self, index: usize) -> u8
@@ -253,7 +255,7 @@ impl<'a, T: EncodingType> Cursor<'a, T> {
         }
     }
 
-    /// The letter, where it stands at a fixed place of the rest, or `None`.
+    /// The code unit at a fixed index of the remaining input, where it is this one, or `None`.
     #[inline(always)]
     #[tactic(auto, using(crate::proofs::code::FixedPlaces::place_looked))]
     pub fn fixed_letter(&mut self, index: usize, letter: u8) -> Option<u8>
@@ -268,7 +270,7 @@ impl<'a, T: EncodingType> Cursor<'a, T> {
         }
     }
 
-    /// Wants the end of the source: `InvalidEnd` at any letter.
+    /// Expects the end of the input: any code unit is `InvalidEnd`.
     #[inline(always)]
     pub fn close(&mut self) -> Result<(), Stop>
         ensures end { Reads T.letter (λ _. None) self.old result self.new (peek_by end_look) }

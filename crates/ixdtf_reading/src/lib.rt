@@ -1,10 +1,11 @@
-//! How a text is read: the cursor and its counted looks, the classes of letters, runs of letters, keys and values, and the stops
-//! that become errors.
+//! How a text is read: the cursor and its counted accesses, the classes of characters, runs of code units, keys and
+//! values, and the stops that become errors.
 //!
-//! A layer of the library `ixdtf`, above `ixdtf_grammar`. `specs/reading` says what is read as plain functions on lists of letters,
-//! in the shape of the code. To the layers above it promises, for every text, that a reading returns exactly what the grammar
+//! A layer of the library `ixdtf`, above `ixdtf_grammar`. `specs/reading` says what is read as plain functions on lists
+//! of code units, in the shape of the code. For every text it proves that a reading returns exactly what the grammar
 //! derives (`proofs/to_grammar`, `proofs/to_reading`), or the error of the one row of the fault table that fits
-//! (`proofs/theorems`), and the same in both widths (`proofs/widths`). So a function above is proved by being such a reading.
+//! (`proofs/theorems`), and the same in both widths (`proofs/widths`). So a function of a layer above is proved by
+//! being such a reading.
 #![tactic(auto)]
 
 pub mod annotations;

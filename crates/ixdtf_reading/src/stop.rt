@@ -6,8 +6,8 @@ ghost use Rattle.ixdtf_reading.specs.reading.Clauses.{fault_of_stop};
 
 use ixdtf_grammar::{LocatedError, ParseError};
 
-/// Why a reading stopped: an error that a reader returns, with `AbruptEnd` once for each location. It takes one byte,
-/// and the error is made of it only where a public reader returns.
+/// Why a reading stopped: an error that a reader returns, with `AbruptEnd` once for each location. It takes one byte.
+/// The error is made of it only where a public reader returns.
 #[derive(Clone, Copy)]
 pub enum Stop {
     NonAsciiCodePoint,
@@ -61,7 +61,7 @@ pub enum Stop {
 }
 
 impl Stop {
-    /// The error of it. It is inlined, so that a reader of records makes no call for it.
+    /// Its error. It is inlined, so that a reader of records makes no call for it.
     #[inline(always)]
     #[rattlefmt::skip]
     pub fn error(self) -> ParseError
@@ -122,16 +122,16 @@ impl Stop {
 
 const _: () = prove!(size_of::<Stop>() == 1);
 
-/// A stop, and how many units stand before its place.
+/// A stop and its place.
 #[derive(Clone, Copy)]
 pub struct StopAt {
     /// The stop.
     pub stop: Stop,
-    /// How many units stand before its place.
+    /// How many code units stand before its place.
     pub at: usize,
 }
 
-/// An error that a stop gives, with its place or without.
+/// An error made of a stop, with its place or without.
 ///
 /// What calls a handler is generic in its error by this bound, and is used at `ParseError` and at `LocatedError`. So its own
 /// signature does not name `'static`, as `ParseError` does.
@@ -139,10 +139,10 @@ pub trait Raised {
     /// The fault that an error names.
     ghost fault: { Self → Fault };
 
-    /// That an error stands behind so many units, where it has a place.
+    /// That the place of an error is behind so many code units, where it has a place.
     ghost stands: { ℕ → Self → Type 0 };
 
-    /// The error of a stop, behind so many units.
+    /// The error of a stop, whose place is behind `at` code units.
     fn of_stop(stop: Stop, at: usize) -> Self
         ensures fault { fault result ≡ fault_of_stop stop }
         ensures place { stands at result };
@@ -155,7 +155,7 @@ impl Raised for LocatedError {
 
     ghost stands = { stands_behind };
 
-    /// The error of the stop. It is not inlined, so that a loop over a name keeps to itself.
+    /// The error of the stop. It is not inlined, so that a loop over a name stays small.
     #[cold]
     #[inline(never)]
     fn of_stop(stop: Stop, at: usize) -> LocatedError {
@@ -180,7 +180,7 @@ impl Raised for ParseError {
     }
 }
 
-/// The error of the stop. It is not inlined, so that a loop over a name keeps to itself.
+/// The error of the stop. It is not inlined, so that a loop over a name stays small.
 #[cold]
 #[inline(never)]
 fn plain_error(stop: Stop) -> ParseError

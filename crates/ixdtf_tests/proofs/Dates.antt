@@ -122,7 +122,7 @@ no_day : Compute parse (
 unfolding all_readings
 no_day = refl
 
--- ---- units that stand for no letter, and the mask, which has 128 in their place
+-- ---- bad code units, and the mask, which has 128 in their place
 
 bad_in_dates : Compute parse (
     (Bad ∷ text_of (codes "020-01-01"), stops (of_date year_start) (bad ((Bad ∷ []) ++ text_of (codes "020-01-01"))) NonAsciiCodePoint)

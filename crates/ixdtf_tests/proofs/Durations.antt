@@ -87,7 +87,7 @@ unfolding all_readings
 durations Crate = refl
 durations Strict = refl
 
--- a unit that stands again: its last number counts
+-- a repeated unit: its last number counts
 repeated_units : Compute (parse_duration Crate) (
     gives (codes "P1Y2Y") (lasts Positive (dated 2 0 0 0) None)
     ∷ gives (codes "P1M2M0m3W") (lasts Positive (dated 0 0 3 0) None)
@@ -98,7 +98,7 @@ repeated_units : Compute (parse_duration Crate) (
 unfolding all_readings
 repeated_units = refl
 
--- and under the strict profile none stands again; the order comes before the range
+-- under the strict profile no unit may be repeated; the order comes before the range
 no_repeated_unit : Compute (parse_duration Strict) (
     stands (codes "P1Y2Y") [] (of_duration Strict (unit_order date)) DateDurationPartOrder
     ∷ stands (codes "P1M2M") (codes "0m3W") (of_duration Strict (unit_order date)) DateDurationPartOrder
@@ -130,7 +130,7 @@ unfolding all_readings
 no_duration Crate = refl
 no_duration Strict = refl
 
--- what is wrong with a number, or with the letter after it
+-- what is wrong with a number, or with the code unit after it
 no_group : (profile : Profile) → Compute (parse_duration profile) (
     goes_off (codes "P1Y1M1W0") (codes ",5D") (of_duration profile (group_digits date)) abrupt_date_designator
     ∷ goes_off (codes "P4294967296") (codes "X") (of_duration profile (group_digits date)) abrupt_date_designator

@@ -20,7 +20,7 @@ use Rattle.ixdtf_tests.proofs.Helpers.{meets_bad, stops, stops_after, two, three
 
 -- ---- each row of the lines of brackets
 
--- `first_bracket_scan` goes on with any letter, so it has no row for another one.
+-- `first_bracket_scan` goes on with any code unit, so it has no row for another one.
 abbrev bracket_rows : List Example
 bracket_rows =
     three (of_bracket first_bracket_start) (codes "2020-01-01[") abrupt_bracket (codes "]") TzLeadingChar
@@ -49,7 +49,7 @@ brackets = refl
 
 -- ---- whether a first bracket is a zone or a pair
 
--- what begins as a key may, with no `=` and no `]` before the end, or before a unit that stands for no letter
+-- what begins as a key may, with no `=` and no `]` before the end, or before a bad code unit
 open_brackets : Compute parse (
     ends (codes "2020-01-01[!cet") (of_bracket first_bracket_scan) abrupt_bracket
     ∷ ends (codes "2020-01-01[a!") (of_bracket first_bracket_scan) abrupt_bracket

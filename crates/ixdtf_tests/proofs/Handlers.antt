@@ -75,7 +75,7 @@ compared_with_the_first =
     last_refused (own_replies (calendar false (codes "a") ∷ calendar false (codes "b") ∷ [])) (Some (calendar true (codes "b"))) CriticalDuplicateCalendar
     refl (refl, differ _ _ refl, inr refl)
 
--- No reply is refused for what is passed over.
+-- No reply is refused for what the handler drops.
 none_is_never_refused : NoneRefused (Some (calendar false (codes "a")) ∷ None ∷ None ∷ Some (calendar true (codes "a")) ∷ [])
 none_is_never_refused = all_accepted _ refl
 
@@ -158,7 +158,7 @@ zone_after_a_pair = (
       (elective (codes "a") (codes "b") ∷ []) (own_replies (elective (codes "a") (codes "b") ∷ [])) refl refl,
 )
 
--- The reply is refused before the letters after the bracket are looked at.
+-- The reply is refused before the code units after the bracket are read.
 refused_before_the_end : UnhandledFault parse (text_of (codes "2020-01-01[!a=b]junk")) UnrecognizedCritical
 unfolding all_readings
 refused_before_the_end = (
@@ -176,7 +176,7 @@ unfolding all_readings
 handed_back = refuses (codes "2020-01-01[a=b][!c=d]") (codes "[e=f]") new_year (elective (codes "a") (codes "b") ∷ critical (codes "c") (codes "d") ∷ [])
     (Some (elective (codes "a") (codes "b")) ∷ []) (Some (critical (codes "c") (codes "d"))) UnrecognizedCritical refl refl (refl, differ _ _ refl)
 
--- a handler that replies none to each of the three
+-- a handler that replies `None` to each of the three
 all_passed_over : GivesRecord parse (text_of (codes "2020-01-01[a=b][!c=d][e=f]"))
     (elective (codes "a") (codes "b") ∷ critical (codes "c") (codes "d") ∷ elective (codes "e") (codes "f") ∷ []) (None ∷ None ∷ None ∷ []) new_year
 unfolding all_readings

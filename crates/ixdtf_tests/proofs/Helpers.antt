@@ -1,4 +1,4 @@
--- What the examples are written with.
+-- Helpers of the examples.
 use Rattle.std.proofs.Common.{◌≡◌, ℕ, Bool, List, [], ◌∷◌, ◌++◌, map, Option, Some, None, ℤ, pos}
 use Rattle.ixdtf_grammar.specs.declared.records.DateRecord.{DateRecord}
 use Rattle.ixdtf_grammar.specs.declared.records.TimeRecord.{TimeRecord}
@@ -46,11 +46,11 @@ all_readings = 0
 
 -- ---- texts and their outcomes
 
--- the letters of a text of plain letters
+-- the code units of a plain text
 abbrev pub text_of : List ℕ → Text
 text_of units = map Plain units
 
--- a text of plain letters, and Bad after it
+-- a plain text, and `Bad` after it
 abbrev pub and_bad : List ℕ → Text
 and_bad units = text_of units ++ (Bad ∷ [])
 
@@ -111,7 +111,7 @@ stops_after pairs name place fault = refused (row_of name place fault) pairs
 abbrev pub stops : LineName → Place → Fault → Outcome
 stops name place fault = stops_after [] name place fault
 
--- a text of plain letters, and what it is derived as
+-- a plain text, and what it is derived as
 abbrev pub gives : List ℕ → Outcome → Example
 gives units outcome = (text_of units, outcome)
 
@@ -119,7 +119,7 @@ gives units outcome = (text_of units, outcome)
 abbrev pub ends : List ℕ → LineName → Fault → Example
 ends front name fault = (text_of front, stops name (end []) fault)
 
--- a text with another letter there, what stands before the place and what stands from it on, and its row
+-- a text with another code unit there, what stands before the place and what stands from it on, and its row
 abbrev pub goes_off : List ℕ → List ℕ → LineName → Fault → Example
 goes_off front rest name fault = (text_of (front ++ rest), stops name (other (text_of rest)) fault)
 
@@ -131,13 +131,14 @@ meets_bad front name = (and_bad front, stops name (bad (Bad ∷ [])) NonAsciiCod
 abbrev pub stands : List ℕ → List ℕ → LineName → Fault → Example
 stands front rest name fault = (text_of (front ++ rest), stops name (anywhere (text_of rest)) fault)
 
--- The rows of a line where the text may end, after these pairs: a text with a front of the line, at another letter and at Bad.
+-- The rows of a line where the text may end, after these pairs: a text with a front of the line, at another code unit and at
+-- Bad.
 abbrev pub two_after : List Pair → LineName → List ℕ → List ℕ → Fault → List Example
 two_after pairs name front letter at_other =
     (text_of (front ++ letter), stops_after pairs name (other (text_of letter)) at_other)
     ∷ ((and_bad front, stops_after pairs name (bad (Bad ∷ [])) NonAsciiCodePoint) ∷ [])
 
--- The rows of a line where the text may not end, after these pairs: at the end, at another letter and at Bad.
+-- The rows of a line where the text may not end, after these pairs: at the end, at another code unit and at Bad.
 abbrev pub three_after : List Pair → LineName → List ℕ → Fault → List ℕ → Fault → List Example
 three_after pairs name front at_end letter at_other =
     (text_of front, stops_after pairs name (end []) at_end) ∷ two_after pairs name front letter at_other

@@ -1,4 +1,4 @@
--- What is written of errors with their places, computed.
+-- The texts of errors with their places, computed.
 use Rattle.std.proofs.Common.{◌≡◌, ℕ, List, [], ◌∷◌, ◌++◌, replicate, codes, refl}
 use Rattle.std.specs.Str.{chars}
 use Rattle.std.specs.Fmt.{digits}

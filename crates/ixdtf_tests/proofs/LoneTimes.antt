@@ -120,7 +120,7 @@ no_time_alone : (profile : Profile) → Compute (parse_time profile) (
     ∷ goes_off [] (codes ":12") (of_time time_start) TimeHour
     ∷ goes_off (codes "T") (codes "T12") (of_clock_time hour_start) TimeHour
     ∷ goes_off (codes "1") (codes ":00") (of_clock_time hour_digit) TimeHour
-    -- a unit that stands for no letter comes before the test of the front
+    -- a bad code unit comes before the test of the front
     ∷ meets_bad (codes "1200") (of_clock_time after_basic_minute)
     ∷ (Bad ∷ [], stops (of_time time_start) (bad (Bad ∷ [])) NonAsciiCodePoint)
     ∷ [])

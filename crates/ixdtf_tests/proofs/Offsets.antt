@@ -45,7 +45,8 @@ at units = codes "2020-01-01T00:00+" ++ units
 abbrev pub full_lines : List LineName
 full_lines = map of_full clock_lines
 
--- The rows of hours and minutes, after what stands before an offset: with a sign and a zero, and a letter that ends the offset.
+-- The rows of hours and minutes, after what stands before an offset: with a sign and a zero, and a code unit that ends the
+-- offset.
 abbrev minute_rows : (ClockLine → LineName) → List ℕ → List ℕ → List ℕ → List Example
 minute_rows of_line before zero letter =
     three (of_line hour_start) (before ++ codes "+") abrupt_digit (codes "x") TimeHour

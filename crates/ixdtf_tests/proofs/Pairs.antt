@@ -48,8 +48,8 @@ each_row_after_a_pair = (refl, refl)
 
 -- ---- each row in a first bracket
 
--- The first bracket begins with the lines of brackets. What begins as a key may is a key where an `=` comes before any `]`,
--- the end and any unit that stands for no letter, and so the rows of `in_key` for the end and for such a unit fit no text.
+-- The first bracket begins with the lines of brackets. What begins as a key may is a key where an `=` comes before any `]`, the
+-- end and any bad code unit. So the rows of `in_key` for the end and for a bad code unit fit no text.
 abbrev rows_in_a_first_bracket : List Example
 rows_in_a_first_bracket =
     three (of_pair value_start) (codes "2020-01-01[a=") AnnotationValueChar (codes "]") AnnotationValueChar

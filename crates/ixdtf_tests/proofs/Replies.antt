@@ -117,7 +117,7 @@ refuses front rest read pairs earlier reply fault is none is_refused = inl (
   last_refused earlier reply fault none is_refused,
 )
 
--- The pairs reply for themselves.
+-- Each pair is its own reply.
 pub unhandled_record : (units : List ℕ) (read : Parsed) (pairs : List Pair) → parsing units ≡ derived (parsed read) pairs
     → accepted [] (own_replies pairs) ≡ true
     → UnhandledRecord parse (text_of units) (with_calendar read (calendar_value (first_calendar (own_replies pairs))))

@@ -124,7 +124,7 @@ no_second : Compute parse (
 unfolding all_readings
 no_second = refl
 
--- a unit that stands for no letter, after what is refused whatever follows
+-- a bad code unit, after what is refused whatever follows
 bad_after_a_range : Compute parse (
     (and_bad (at (codes "24")), stops (of_clock_time hour_range) (anywhere (Bad ∷ [])) TimeHour)
     ∷ (and_bad (at (codes "12:60")), stops (of_clock_time minute_range) (anywhere (Bad ∷ [])) TimeMinuteSecond)

@@ -1,4 +1,4 @@
--- What `parse` returned is what the text has without a handler.
+-- What `parse` returned is the outcome of the text without a handler.
 use Rattle.std.proofs.Common.{◌≡◌, ◌↔◌, Result, Ok, Err, IfErr, refl, ap}
 use Rattle.ixdtf_grammar.specs.declared.error.ParseError.{ParseError}
 use Rattle.ixdtf.specs.Handlers.{UnhandledRecord, UnhandledFault}

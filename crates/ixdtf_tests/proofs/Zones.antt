@@ -47,13 +47,13 @@ each_row_in_brackets : ShowEachRow parse (of_zone in_zone_name ∷ of_zone after
 unfolding all_readings
 each_row_in_brackets = (refl, refl)
 
--- The name may begin as a key may. Then a `]` comes before any `=`, the end and any unit that stands for no letter, and so
--- the rows for the end and for such a unit fit no text.
+-- The name may begin as a key may. Then a `]` comes before any `=`, the end and any bad code unit. So the rows for the end and
+-- for a bad code unit fit no text.
 names_like_keys : Compute parse (
     goes_off (codes "2020-01-01[cet") (codes "!]") (of_zone in_zone_name) IanaChar
     ∷ goes_off (codes "2020-01-01[_x/") (codes "]") (of_zone after_zone_slash) IanaCharPostSeparator
     ∷ goes_off (codes "2020-01-01[a/") (codes "/b]") (of_zone after_zone_slash) IanaCharPostSeparator
-    -- the mask of a unit that stands for no letter
+    -- the mask of a bad code unit
     ∷ goes_off (codes "2020-01-01[cet") (codes "!" ++ (128 ∷ []) ++ codes "]") (of_zone in_zone_name) IanaChar
     ∷ [])
 unfolding all_readings

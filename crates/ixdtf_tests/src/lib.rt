@@ -1,7 +1,8 @@
-//! The tests of `ixdtf`, from a crate above it, as a caller sees it; and, in `proofs`, the examples that compute on its
-//! definitions.
+//! The tests of `ixdtf`, from a crate above it, as a caller sees it; and, in `proofs`, the examples that compute with
+//! its definitions.
 //!
-//! They stand apart so that the check of a test takes what `ixdtf` states, and does not prove it again.
+//! They are a crate of their own, so that the check of a test uses the contracts of `ixdtf`, and does not prove them
+//! again.
 #![tactic(auto)]
 
 #[cfg(test)]

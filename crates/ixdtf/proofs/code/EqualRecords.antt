@@ -1,4 +1,4 @@
--- When records are equal: where they are seen as one.
+-- When records are equal: where contracts see them as the same.
 use Rattle.std.proofs.Common.{◌≡◌, ◌↔◌, ℕ, Bool, true, false, ◌&&◌, IsTrue, map, Option, Some, None, option_map, refl, sym, ap, ◌∙◌}
 use Rattle.std.specs.Bool.{one_answer}
 use Rattle.std.specs.Cmp.{first_so, second_so}
@@ -17,7 +17,7 @@ use Rattle.ixdtf_grammar.specs.Laws.{IsEqualityBy}
 use Rattle.ixdtf_grammar.specs.Views.{zone_of}
 use Rattle.ixdtf_grammar.specs.language.ZoneNames.Zone.{Name, Offset}
 
--- a test holds exactly where what is seen is one
+-- a test holds exactly where what is seen is the same
 abbrev pub Exact : {K V : Type 0} → (K → V) → (K → K → Bool) → Type 0
 Exact {K} {V} seen eq = (a b : K) → IsTrue (eq a b) ↔ (seen a ≡ seen b)
 

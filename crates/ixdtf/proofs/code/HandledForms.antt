@@ -1,4 +1,4 @@
--- A form with a handler only hands its arguments on to `read_as`, at the public error and its kind of cores. Assumes `Logic`.
+-- A form with a handler only passes its arguments on to `read_as`, at the public error and its kind of cores. Assumes `Logic`.
 use mir.Syntax.{Dict, Callee, a_type, dcons, dnil, named}
 use mir.Raw.{raw as bare}
 use seplogic.Ra.Ura.{Ura}
@@ -147,7 +147,7 @@ module _ {M : Type 1} (𝓤 : Ura M) (𝓛 : Logic 𝓤) (𝓜 : Model 𝓤 𝓛
       (λ κs p. subst (λ (β : Lft). GO.Met 𝓛 𝓜 𝓡 𝓡.env β T' U E K.row F (Members.once g) d') p.2 (b' p.0 p.1))
       b'')
 
-  -- so does the form, which hands on to it
+  -- so does the form, which calls it
   pub form : Wired 𝓡.env G_symbol.code → Wired 𝓡.env raise_symbol.code
       → cores_bound.Met 𝓛 𝓜 𝓡 𝓡.env K.row K.ghosts K.dict
       → (h : Handing) (here : Callee) → ((κs : Lfts 5) → h.result ≡ layout (Got ParseError.the_row (at κs) 0 1 T' U)) → run ≡ 𝓣.C h.callee

@@ -1,4 +1,4 @@
--- A function that only hands its two arguments on, to a callee with the same contract, meets that contract: the first is a
+-- A function that only passes its two arguments on to a callee with the same contract meets that contract: the first is a
 -- reference, which it borrows anew, and the second is of any type.
 use mathlib.Core.Path.{sym, subst, refl}
 use mathlib.Core.List.{List, [], ◌∷◌, ◌++◌}

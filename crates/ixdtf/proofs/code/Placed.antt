@@ -20,7 +20,7 @@ use Rattle.ixdtf_reading.specs.reading.Chains.{PairsRead, TextReadAfter, TextRea
 use Rattle.ixdtf_reading.specs.reading.Clauses.{UnhandledForm, core_in, fault_of_stop_at}
 use Rattle.ixdtf.proofs.code.Tail.{core_alone, first_read}
 
--- a record in which no brackets stand
+-- a record without brackets
 pub no_brackets : {T U : Type 0} (number : U → ℕ) (found : IxdtfParseRecord T U) → found.tz ≡ None → found.calendar ≡ None
     → parsed_of number found ≡ with_calendar (parsed_with (core_in found) None) None
 no_brackets number found p q = cc
@@ -40,7 +40,7 @@ module _ {T U F : Type 0} (number : U → ℕ) (step : Step T U F) (handler : F)
       → TextReadAfter number step handler last core true inner (Err fault)
   placed_fault is same pairs = first_read number step handler _ _ _ _ _ (Err _) is (rw (← same) pairs)
 
--- what a reader without a handler returned, whose handler hands each annotation back
+-- what a reader without a handler returned, whose handler returns each annotation
 module _ {T U F X : Type 0} (number : U → ℕ) (step : Step T U F) (handler last : F) (view : X → Parsed) (reader : Reader) (text : Text) where
   pub unhandled_read : (result : Result X StopAt) → TextReadTo number step handler last view reader text result → OwnReplies step
       → UnhandledForm reader text (returned_by fault_of_stop_at view result)

@@ -51,7 +51,7 @@ module _ (Error : RattleType) where
   pub taken_laws : Laws Error → bare written ≡ written → Laws taken
   taken_laws error_laws is = arg_laws written no Error error_laws is
 
-  -- a record, of an encoding and its units by their numbers among the types, or this error
+  -- a record, of an encoding and its code units by their numbers among the types, or this error
   module _ (at : NamedLft) (i j : ℕ) (T' U : RattleType) where
     abbrev pub RecordRow : RattleType
     RecordRow = IxdtfParseRecord.the_row at (param i T') (param j U)

@@ -1,4 +1,4 @@
--- One pass over a first bracket that begins as a key may: letters of a key, and then letters of a name.
+-- One pass over a first bracket that begins as a key may: the code units of a key, and then those of a name.
 use Rattle.std.proofs.Common.{◌≡◌, ℕ, ◌&&◌, ◌||◌, not, Bool, true, false, IsTrue, List, [], ◌∷◌, ◌++◌, drop, Option, Some, None, option_map, Result, Ok, Err}
 use Rattle.std.proofs.Common.{refl, sym, ap, subst, ◌∙◌, arith, if◌then◌else◌}
 use Rattle.std.proofs.lemmas.Bool.{and_parts}
@@ -28,7 +28,7 @@ use Rattle.ixdtf_reading.proofs.parts.LookAhead.{over_letter, zone_char_skipped,
 abbrev sight : Text → Result Bool Placed
 sight text = sight_at error_of text
 
--- ---- the look ahead over letters
+-- ---- the look ahead over code units
 
 module _ {S : Type 0} (after : S → ℕ → Option S) where
   module _ (over : (state next : S) (c : ℕ) → after state c ≡ Some next → IsTrue (skipped c)) where
@@ -55,7 +55,7 @@ module _ {S : Type 0} (after : S → ℕ → Option S) where
     pub sight_goes_on : (state : S) (text rest : Text) (taken : Taken S) → letters_by after state text ≡ Ok (taken, rest) → sight text ≡ sight rest
     sight_goes_on state text rest taken e = sight_over state text ∙ rw e refl
 
--- what the next letter tells
+-- what the next code unit tells
 sight_at_end : (text : Text) → seen text ≡ Ok None → sight text ≡ Err (abrupt_bracket, text)
 unfolding sight_at
 sight_at_end text e = rw (nothing_is text e) refl
@@ -71,7 +71,7 @@ sight_at_closing : (text : Text) (c : ℕ) → seen text ≡ Ok (Some c) → clo
 unfolding sight_at
 sight_at_closing text c e is = rw (first_is text c e, no_equals c is, is) refl
 
--- ---- letters before an `=` or a `]`
+-- ---- code units before an `=` or a `]`
 
 bracket_over : (state next : BracketLetters) (c : ℕ) → bracket_after state c ≡ Some next → IsTrue (skipped c)
 bracket_over state next c e = test_held _ state next e
@@ -110,7 +110,7 @@ bracket_sighted letters text rest taken c e is =
 -- what stands before any `]`
 pub ruleset sights = (bracket_failed, bracket_ended, bracket_sighted)
 
--- ---- letters of a key, and letters of a name after them
+-- ---- the code units of a key, and those of a name after them
 
 key_over : (state next : KeyLetters) (c : ℕ) → key_after state c ≡ Some next → IsTrue (skipped c)
 key_over state next c e = key_char_skipped c (test_held (key_char c) state next e)
@@ -137,7 +137,7 @@ bad_in_name : (letters : KeyLetters) (rest : Text) → name_run error_of true (B
 unfolding name_run
 bad_in_name letters rest = refl
 
--- the letters of a key are the first of a name
+-- the code units of a key are the first of a name
 name_keyed : (letters : KeyLetters) (text rest : Text) (key : Taken KeyLetters) → letters_by key_after letters text ≡ Ok (key, rest)
     → name_run error_of true text ≡ in_front key.letters (name_run error_of true rest)
 name_keyed letters text rest key e = run_passed key_after (λ letters text. name_run error_of true text) key_in_name bad_in_name letters text rest key e

@@ -1,4 +1,4 @@
--- The letters of a zone name, taken off one by one.
+-- The code units of a zone name, taken one by one.
 use Rattle.std.proofs.Common.{◌≡◌, ℕ, ◌&&◌, Bool, true, false, List, ◌∷◌, ◌++◌, map, drop, Option, Some, None, option_map, IsSome, Ok, Err, refl, ap, subst, ◌∙◌, append-nil, if◌then◌else◌}
 use Rattle.ixdtf_brackets.specs.declared.timezone.NameState.{NameState}
 use Rattle.ixdtf_brackets.specs.declared.timezone.PartLetters.{PartLetters}
@@ -39,7 +39,7 @@ name_bad : (letters : NameState) (rest : Text) → reading letters (Bad ∷ rest
 unfolding name_run
 name_bad letters rest = refl
 
--- where no letter goes on the name ends, or may not
+-- where no code unit of a name follows, the name ends, or may not
 name_halts : (letters : NameState) (rest : Text) (next : Option ℕ) → seen rest ≡ Ok next → Stays name_after letters next
     → reading letters rest ≡ name_stops (IanaCharPostSeparator, rest) letters.may_end rest
 unfolding name_run
@@ -71,7 +71,7 @@ module _ (text rest : Text) (taken : Taken NameState) (passed : letters_by name_
 
 -- ---- parts of a name
 
--- a letter of a part goes on where the name may end
+-- a code unit of a part goes on where the name may end
 part_within : (state next : PartLetters) (c : ℕ) → part_after state c ≡ Some next → name_after name_start c ≡ Some name_start
 part_within state next c e = rw (test_held (zone_char c) state next e) refl
 
@@ -96,11 +96,11 @@ slash_last (Some c) other = go _ refl
 pub part_slashed : (letters : PartLetters) (c : ℕ) → part_after letters c ≡ None → slash c ≡ true → name_after name_start c ≡ Some name_slash
 part_slashed letters c stays is = rw (part_stays letters c stays, is) refl
 
--- a letter of a part goes on behind a slash
+-- a code unit of a part goes on behind a slash
 pub slash_joined : (c : ℕ) → zone_char c ≡ true → name_after name_slash c ≡ Some name_start
 slash_joined c is = rw is refl
 
--- the next letter is one of the class
+-- the next code unit is one of the class
 pub some_next : (class : Class) (next : Option ℕ) → next_is class next ≡ true → (c : ℕ) × (next ≡ Some c) × (class c ≡ true)
 some_next class None e = absurd cc
 some_next class (Some c) e = (c, refl, e)

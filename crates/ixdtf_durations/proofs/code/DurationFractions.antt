@@ -1,4 +1,4 @@
--- The fraction of a group, and the letter after it.
+-- The fraction of a group, and the code unit after it.
 use Rattle.std.proofs.Common.{◌≡◌, ℕ, Bool, true, false, [], ◌∷◌, ◌++◌, List, drop, Some, None, Ok, Err, refl, sym, ap, ◌∙◌, append_assoc, append-nil}
 use Rattle.ixdtf_grammar.specs.declared.profile.Profile.{Profile}
 use Rattle.ixdtf_grammar.specs.declared.records.Sign.{Sign}
@@ -124,7 +124,7 @@ fraction_fails (Plain c ∷ text) fault at profile s dates times ds = go (digit 
     go true is = rw (is, over_digits profile s dates times ds _ text) (digits_fail (digits_of text) (rw is at at))
     go false is = let same : (FractionPart, Plain c ∷ text) ≡ fault = cc (rw is at at) in rw (is, same) refl
 
--- ---- the letter after a fraction
+-- ---- the code unit after a fraction
 
 module _ (text : Text) (fraction : FractionParts) (rest : Text) (over : IsFractionOver text fraction rest) (profile : Profile) (s : Sign)
     (dates times : List Group) (ds : Text) where

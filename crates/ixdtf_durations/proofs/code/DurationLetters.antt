@@ -1,4 +1,4 @@
--- The letter after the digits of a group, and the groups that it ends.
+-- The code unit after the digits of a group, and the groups that it ends.
 use Rattle.std.proofs.Common.{◌≡◌, ℕ, Bool, true, false, [], ◌∷◌, List, None, IsSome, IfOk, Result, Ok, Err, map, drop, refl, sym, ◌∙◌, arith, nat_le, if◌then◌else◌}
 use Rattle.std.proofs.lemmas.Bool.Decides.{nat_tests}
 use Rattle.ixdtf_grammar.specs.declared.profile.Profile.{Profile}
@@ -22,9 +22,9 @@ use Rattle.ixdtf_durations.specs.reading.DurationClauses.{run_from, run_where, I
 use Rattle.ixdtf_durations.specs.reading.DurationClauses.{date_group_fits, time_group_fits}
 use Rattle.ixdtf_reading.proofs.code.FirstLetter.{first_is}
 
--- ---- letters
+-- ---- code units
 
--- a letter that ends a group is no digit, and neither is a decimal mark
+-- the letter of a unit is not a digit, and neither is a decimal mark
 designator_no_digit : (half : Half) (c : ℕ) → designator half c ≡ true → digit c ≡ false
 designator_no_digit date c is = grind (arith, nat_tests)
 designator_no_digit time c is = grind (arith, nat_tests)
@@ -107,7 +107,7 @@ module _ (letter : ℕ → Letter) (first : ℕ) (old : List ℕ) (number : Numb
           (time_step profile s dates times _ _ (drop 1 (map letter new)) (group_is time) (in_range (hour_letter number.next) (minute_letter number.next)))
       go false is = rw (first_is (map letter new) number.next reads.next, no_digit, is, miss) refl
 
-  -- a decimal mark, which was taken off
+  -- a decimal mark, which was taken
   pub at_decimal_mark : (profile : Profile) (s : Sign) (dates times : List Group) (left : Text) → left ≡ drop 1 (map letter new) → decimal_mark number.next ≡ true
       → from_first profile (in_times s dates times) ≡ run_from profile (at_mark s dates times reads.ds) left
   unfolding run step

@@ -24,7 +24,7 @@ use Rattle.ixdtf_durations.proofs.code.DurationGroups.{HasDates, HasTimes, date_
 use Rattle.ixdtf_durations.proofs.code.DurationSteps.{fails, at_digit, dates_end, dates_at_mark, dates_at_other, times_end, fraction_end, more_times_at_other}
 use Rattle.ixdtf_durations.proofs.code.DurationSteps.{fraction_at_other}
 
--- a letter that begins one more group, and one that begins none
+-- a code unit that begins one more group, and one that begins none
 pub begins_is : (fraction : Option FractionParts) (c : ℕ) → begins_group fraction c ≡ true → (fraction ≡ None) × (digit c ≡ true)
 begins_is None c is = (refl, is)
 begins_is (Some f) c is = absurd cc
@@ -59,7 +59,7 @@ module _ (profile : Profile) (first : ℕ) (whole : Text) where
       → (s : Sign) → first_dates s ≡ Err fault
   date_fails rest values least c far fault refuses s = far.leads s ∙ refuses s far.dates
 
-  -- the digits of one more date group, and what is left behind its letter, or at a letter that ends none
+  -- the digits of one more date group, and what is left behind the letter of its unit, or at another code unit
   module _ {rest : Text} {values : List ℕ} {least c : ℕ} (far : DatesSoFar rest values least c) (n : Number) (mid next : Text)
       (read : (s : Sign) (dates : List Group) → run_from profile (in_number (in_dates s dates) (Plain c ∷ [])) rest
       ≡ run_where profile (date_read profile dates n) (between (in_dates s (date_group_of n ∷ dates))) (behind_unit date n.next mid))
@@ -143,7 +143,7 @@ module _ (profile : Profile) (first : ℕ) (whole : Text) where
       → (s : Sign) (dates : List Group) → first_times s dates ≡ Err fault
   time_fails rest values least c far fault refuses s dates = far.leads s dates ∙ refuses s dates far.times
 
-  -- one more time group up to its letter, and what is left behind the letter, or at one that ends none
+  -- one more time group up to the letter of its unit, and what is left behind this letter, or at another code unit
   module _ {rest : Text} {values : List ℕ} {least c : ℕ} (far : TimesSoFar rest values least c) (g : TimeGroup) (mid next : Text)
       (read : (s : Sign) (dates times : List Group) → run_from profile (in_number (in_times s dates times) (Plain c ∷ [])) rest
       ≡ after_time_group profile s dates times g mid)

@@ -1,4 +1,4 @@
--- The digits of a number of a duration, taken off one by one.
+-- The digits of a number of a duration, taken one by one.
 use Rattle.std.proofs.Common.{◌≡◌, ℕ, ◌+◌, ◌-◌, ◌*◌, true, false, [], ◌∷◌, ◌++◌, drop, Some, None, Ok, Err, refl, sym, ◌∙◌, nat_le}
 use Rattle.ixdtf_grammar.specs.declared.profile.Profile.{Profile}
 use Rattle.ixdtf_grammar.specs.language.Letters.{Text, digit}
@@ -16,7 +16,7 @@ use Rattle.ixdtf_reading.proofs.code.GrowingDigits.{decimal_snoc}
 use Rattle.ixdtf_durations.proofs.code.DurationSteps.{fails}
 use Rattle.ixdtf_reading.proofs.code.FirstLetter.{first_is, nothing_is}
 
--- So far digits of this number were taken off, and the rest is still to be read.
+-- So far digits of this number were taken, and the rest remains.
 pub record IsSoFar (first : ℕ) (whole rest : Text) (value : ℕ) : Type 0 where
   pub ds : Text
   pub number : value ≡ decimal ds

@@ -1,4 +1,4 @@
--- The ranks of the units of durations: the tables of them, and what a rank says of a letter.
+-- The ranks of the units of durations: their tables, and what a rank says of a code unit.
 use Rattle.std.proofs.Common.{◌≡◌, ℕ, zero, suc, ◌+◌, ◌<◌, ◌≤◌, Bool, true, false, nat_eq, nat_le, List, [], ◌∷◌, slice_index_or, if◌then◌else◌, refl, arith}
 use Rattle.std.proofs.lemmas.Bool.Decides.{nat_tests}
 use Rattle.ixdtf_grammar.specs.language.Letters.{year_letter, month_letter, week_letter, hour_letter, minute_letter}
@@ -43,7 +43,7 @@ time_rank_small c lt = below _ _ (agree_at (λ c. nat_le (rank_at time c) 3) (λ
 
 -- ---- places
 
--- the place of a unit, by its rank
+-- the index of a unit, by its rank
 pub date_place : (c : ℕ) → place (unit_of date c) + 1 ≡ rank (unit_of date c)
 date_place c = go (year_letter c) (month_letter c) (week_letter c)
   where

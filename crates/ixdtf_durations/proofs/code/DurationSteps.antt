@@ -34,7 +34,7 @@ fails profile s (Bad ∷ more) fault e = let same : (NonAsciiCodePoint, Bad ∷ 
 fails profile s text fault e = absurd cc
 
 module _ (profile : Profile) (text : Text) where
-  -- there is no letter
+  -- there is no code unit
   module _ (none : seen text ≡ Ok None) where
     pub start_at_end : run_from profile started text ≡ Err (abrupt_duration_start, text)
     unfolding run
@@ -65,7 +65,7 @@ module _ (profile : Profile) (text : Text) where
     unfolding run
     fraction_end s dates times g = rw (nothing_is text none) refl
 
-  -- this letter is first
+  -- this code unit is first
   module _ (c : ℕ) (first : seen text ≡ Ok (Some c)) where
     pub start_at_sign : sign c ≡ true → run_from profile started text ≡ run_from profile (signed (sign_of c)) (drop 1 text)
     unfolding run step
@@ -130,22 +130,22 @@ module _ (profile : Profile) (text : Text) where
     at_digit (in_times s dates []) is = rw (first_is text c first, is, one_digit is) refl
     at_digit (in_times s dates (g ∷ times)) is = rw (first_is text c first, is, one_digit is) refl
 
--- a group begins, and its first digit was taken off
+-- a group begins, and its first digit was taken
 pub to_digit : (profile : Profile) (text next : Text) (c : ℕ) → seen text ≡ Ok (Some c) → digit c ≡ true → next ≡ drop 1 text
     → (context : Context) → run_from profile (between context) text ≡ run_from profile (in_number context (Plain c ∷ [])) next
 to_digit profile text next c first is moved context = at_digit profile text c first context is ∙ rw moved refl
 
--- a `T` stands behind `P` or behind date groups, and was taken off
+-- a `T` stands behind `P` or behind date groups, and was taken
 pub to_mark : (profile : Profile) (text next : Text) (c : ℕ) → seen text ≡ Ok (Some c) → time_letter c ≡ true → next ≡ drop 1 text
     → (s : Sign) (dates : List Group) → run_from profile (between (in_dates s dates)) text ≡ run_from profile (between (in_times s dates [])) next
 to_mark profile text next c first is moved s dates = dates_at_mark profile text c first s dates is ∙ rw moved refl
 
--- the letters that are left where a unit was taken off
+-- the text that is left where a unit was taken
 pub letters_left : (letter : ℕ → Letter) (old new : List ℕ) → new ≡ drop 1 old → map letter new ≡ drop 1 (map letter old)
 letters_left letter [] new is = ap (map letter) is
 letters_left letter (u ∷ us) new is = ap (map letter) is
 
--- a look found this letter first, and it stays
+-- a look found this code unit first, and it is not taken
 pub record LetterStays (letter : ℕ → Letter) (rest looked : List ℕ) (c : ℕ) : Type 0 where
   pub found : seen (map letter rest) ≡ Ok (Some c)
   pub here : seen (map letter looked) ≡ Ok (Some c)

@@ -32,14 +32,14 @@ use Rattle.ixdtf_reading.specs.reading.Durations.State.{between, in_number, ende
 abbrev pub run_from : Profile → State → Text → Read Placed DurationParseRecord
 run_from profile state text = run error_of profile state text
 
--- Reading from a state on, over what the function took off, is what comes of its value; or it is the fault of its stop.
+-- Reading from a state on, over what the function took, is what comes of its value; or it is the fault of its stop.
 abbrev pub ReadsOn : {X : Type 0} → (ℕ → Letter) → Profile → State → Unread → Result X Stop → Unread → (X → Text → Read Placed DurationParseRecord) → Type 0
 ReadsOn letter profile from old (Ok x) new next = run_from profile from (map letter old.rest) ≡ next x (map letter new.rest)
 ReadsOn letter profile from old (Err e) new next = run_from profile from (map letter old.rest) ≡ Err (fault_of_stop e, map letter new.rest)
 
 -- ---- numbers
 
--- reading, in a number of any context, goes over digits of this number, up to a letter that is no digit
+-- reading, in a number of any context, goes over digits of this number, up to a code unit that is not a digit
 pub record IsNumber (letter : ℕ → Letter) (first : ℕ) (old : List ℕ) (number : Number) (new : List ℕ) : Type 0 where
   pub ds : Text
   pub value : number.value ≡ decimal ds
@@ -57,7 +57,7 @@ ReadsNumber letter first end old (Err e) new =
 
 -- ---- groups
 
--- the group of a number and the letter after it, which ends a date group
+-- the group of a number and the letter of a date unit after it
 abbrev pub date_group_of : Number → Group
 date_group_of n = record { unit = unit_of date n.next; value = n.value; fraction = None }
 
@@ -75,11 +75,11 @@ rank hours = 1
 rank minutes = 2
 rank seconds = 3
 
--- the rank of the unit of the letter that ends a group, and 0 where it ends none
+-- the rank of the unit that the code unit names, and 0 where it names none
 abbrev pub rank_seen : Half → ℕ → ℕ
 rank_seen half c = if designator half c then rank (unit_of half c) else 0
 
--- what is still to be read behind a letter that ends a group of the half; another letter stays
+-- what remains behind the letter of a unit of the half; another code unit is not taken
 abbrev pub behind_unit : Half → ℕ → Text → Text
 behind_unit half c text = if designator half c then drop 1 text else text
 
@@ -113,19 +113,19 @@ abbrev pub after_group : Option FractionParts → Sign → List Group → List G
 after_group None s dates times g = between (in_times s dates (g ∷ times))
 after_group (Some fraction) s dates times g = ended s dates times g
 
--- what comes of the letter after a group, in a text behind these groups
+-- what comes of the code unit after a group, in a text behind these groups
 abbrev pub date_read : Profile → List Group → Number → Result (Unit {0}) Fault
 date_read profile dates n = if designator date n.next then date_group_fits profile dates (date_group_of n) else Err (no_designator date)
 
 abbrev pub time_read : Profile → List Group → TimeGroup → Result (Unit {0}) Fault
 time_read profile times g = if designator time g.letter then time_group_fits profile times (time_group_of g) else Err (no_designator time)
 
--- reading from the letter of a time group on, where it ends one and the group may stand there
+-- reading from the code unit after a number on, where it names a time unit and the group may stand there
 abbrev pub after_time_group : Profile → Sign → List Group → List Group → TimeGroup → Text → Read Placed DurationParseRecord
 after_time_group profile s dates times g text =
     run_where profile (time_read profile times g) (after_group g.fraction s dates times (time_group_of g)) (behind_unit time g.letter text)
 
--- whether the letter begins one more time group, after one with a fraction or without
+-- whether the code unit begins one more time group, after one with a fraction or without
 abbrev pub begins_group : Option FractionParts → ℕ → Bool
 begins_group None c = digit c
 begins_group (Some fraction) c = false

@@ -1,5 +1,6 @@
--- Letters that no core has: `[`, and `P` and `p`, which begin a duration. So where cores stand before the end or a bracket,
--- those of one text are one core's text, a front without these letters is a front of the core, and none begins as a duration.
+-- Code units that no core has: `[`, and `P` and `p`, which begin a duration. So where cores stand before the end or a bracket,
+-- those of one text are one core's text, a front without these code units is a front of the core, and none begins as a
+-- duration.
 use Rattle.std.proofs.Common.{◌≡◌, ℕ, zero, suc, IsTrue, IsFalse, ◌⊎◌, ℤ, [], ◌∷◌, ◌++◌, refl, sym, ◌∙◌, subst, inl, inr, arith}
 use Rattle.std.proofs.lemmas.Bool.{both_ways, eqb-true, or_parts}
 use Rattle.std.proofs.lemmas.Bool.Decides.{nat_tests}
@@ -16,7 +17,7 @@ use Rattle.ixdtf_grammar.specs.table.Before.{AtCoreEnd}
 abbrev pub outside : Class
 outside = opening or duration_designator
 
--- no such letter
+-- no such code unit
 abbrev pub Inside : Letter → Type 0
 Inside (Plain c) = IsFalse (outside c)
 Inside Bad = Unit {0}
@@ -43,7 +44,7 @@ not_at_end c more rest none (inr h) is =
     let same : c ≡ Plain 91 = cc in
     both_ways _ (subst Inside same none) refl
 
--- a front with none of these letters is one of the core
+-- a front with none of these code units is one of the core
 pub in_core : (front after cores rest : Text) → AllInside front → CoreEnds rest → cores ++ rest ≡ front ++ after → (more : Text) × (cores ≡ front ++ more)
 in_core [] after cores rest none ends is = (cores, refl)
 in_core (c ∷ front) after [] rest none ends is = absurd (not_at_end c (front ++ after) rest none.0 ends is)

@@ -1,4 +1,4 @@
--- Where the core of a text ends: no core has a letter that stands outside, and what stands after one is the end or a bracket.
+-- Where the core of a text ends: no core has one of the code units of `outside`, and after a core stands the end or a bracket.
 use Rattle.std.proofs.Common.{◌≡◌, ℕ, suc, Bool, true, false, IsTrue, IsFalse, List, [], ◌∷◌, ◌++◌, Option, Some, None, refl, ◌∙◌, inl, inr, arith}
 use Rattle.std.proofs.Common.{append_assoc}
 use Rattle.std.proofs.lemmas.Bool.Decides.{nat_tests}
@@ -91,7 +91,7 @@ in_marked_time text core h =
     rw h.is (inside_append h.marks _ (in_time_mark h.marks h.mark)
     (inside_append h.times _ (in_clock clocks.Time h.is_time.0 h.times h.time h.is_time.1) (in_offset h.offsets h.offset h.is_offset)))
 
--- no core has a letter that stands outside
+-- no core has one of the code units of `outside`
 pub core_inside : (kind : CoreKind) (text : Text) (core : Core) → IsCore kind text core → AllInside text
 core_inside date_time text core h = in_date_time text core h
 core_inside year_month text core h = in_year_month text h.0 h.1

@@ -11,7 +11,7 @@ use Rattle.ixdtf_grammar.specs.language.Dates.{Year, DateText}
 use Rattle.ixdtf_grammar.specs.language.Months.{OptionalHyphen, Marks, IsYearMonth, MonthDayText}
 use Rattle.ixdtf_grammar.specs.language.Cores.{Core, IsDateTimeCore}
 
--- the first letter is of the class
+-- the first code unit is of the class
 abbrev pub begins : Class → Text → Bool
 begins class [] = false
 begins class (Bad ∷ rest) = false
@@ -25,7 +25,7 @@ begins_once [] h g = absurd (both_ways false refl h)
 begins_once (Bad ∷ rest) h g = absurd (both_ways false refl h)
 begins_once (Plain c ∷ rest) h g = digit_no_sign c h g
 
--- it begins with a digit, and has `a` to `b` letters, or with a sign, and has `c` to `d`
+-- it begins with a digit, and has `a` to `b` code units, or with a sign, and has `c` to `d`
 abbrev pub Sized : ℕ → ℕ → ℕ → ℕ → Text → Type 0
 Sized a b c d text = (IsTrue (begins digit text) × (a ≤ length text) × (length text ≤ b)) ⊎ (IsTrue (begins sign text) × (c ≤ length text) × (length text ≤ d))
 
@@ -72,7 +72,7 @@ pub at_least : (text : Text) (a b c d a' c' : ℕ) → a' ≤ a → c' ≤ c →
 at_least text a b c d a' c' p q (inl h) = inl (h.0, omega (arith, h.1, p))
 at_least text a b c d a' c' p q (inr h) = inr (h.0, omega (arith, h.1, q))
 
--- a year, and four letters or more behind it
+-- a year, and four code units or more behind it
 year_and_more : (years after more : Text) (year : ℤ) → Year years year → 4 ≤ length after → AtLeast 8 11 ((years ++ after) ++ more)
 year_and_more years after more year h least =
     let rest : 4 ≤ length (after ++ more) = omega (arith, length-append after more, least) in

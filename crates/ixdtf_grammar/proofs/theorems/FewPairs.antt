@@ -1,4 +1,4 @@
--- A text has no more pairs than letters.
+-- A text has no more pairs than code units.
 use Rattle.std.proofs.Common.{◌≡◌, ℕ, ◌≤◌, List, [], ◌∷◌, ◌++◌, length, inl, inr, arith}
 use Rattle.std.proofs.lemmas.List.{length-append}
 use Rattle.ixdtf_grammar.specs.language.Letters.{Text}
@@ -25,7 +25,7 @@ part_few front rest n few = omega (arith, length-append front rest, few)
 front_few : (front rest : Text) (n : ℕ) → n ≤ length front → n ≤ length (front ++ rest)
 front_few front rest n few = omega (arith, length-append front rest, few)
 
--- a pair has a letter
+-- a pair has a code unit
 pair_some : (text : Text) (pair : Pair) → IsPair text pair → 1 ≤ length text
 pair_some text pair is = rw is.is (part_few is.start _ 1 (part_few is.keys _ 1 (omega arith)))
 

@@ -1,4 +1,4 @@
--- What holds of a text with Bad in it holds of each text with the same letters before the first Bad.
+-- What holds of a text with `Bad` in it holds of each text with the same code units before the first `Bad`.
 use Rattle.std.proofs.Common.{◌≡◌, ◌⊎◌, [], ◌∷◌, ◌++◌, refl, ◌∙◌, ap, subst, inl, inr}
 use Rattle.ixdtf_grammar.specs.language.Letters.{Text, Class}
 use Rattle.ixdtf_grammar.specs.language.Letters.Letter.{Plain, Bad}
@@ -12,7 +12,7 @@ use Rattle.ixdtf_grammar.specs.table.Rows.Place.{end, other, bad, anywhere}
 use Rattle.ixdtf_grammar.proofs.theorems.NoRow.{BeginsBad}
 use Rattle.ixdtf_grammar.proofs.widths.PlainTexts.{IsPlain, PlainShape, plain_nowhere, plain_one, plain_many}
 
--- The text has a Bad, and the other text has the letters before the first one.
+-- The text has a `Bad`, and the other text has the code units before the first one.
 abbrev pub Sees : Text → Text → Type 0
 Sees [] other_text = ⊥
 Sees (Bad ∷ rest) other_text = Unit {0}

@@ -1,4 +1,5 @@
--- Plain texts: no letter of them is Bad. Each text of a shape of the grammar is plain, but for durations (PlainDurations).
+-- Plain texts: none of their code units is `Bad`. Each text of a shape of the grammar is plain, but for durations
+-- (PlainDurations).
 use Rattle.std.proofs.Common.{ℕ, zero, suc, Bool, true, false, List, [], ◌∷◌, ◌++◌, Option, Some, None, inl, inr, ℤ}
 use Rattle.ixdtf_grammar.specs.declared.profile.Profile.{Profile}
 use Rattle.ixdtf_grammar.specs.declared.records.DateRecord.{DateRecord}
@@ -19,7 +20,7 @@ use Rattle.ixdtf_grammar.specs.language.Cores.{Core, TimeMark, OptionalOffset, I
 use Rattle.ixdtf_grammar.specs.language.Readers.{CoreKind}
 use Rattle.ixdtf_grammar.specs.language.Readers.CoreKind.{date_time, year_month, month_day, time_alone}
 
--- no letter is Bad
+-- no code unit is Bad
 abbrev pub IsPlain : Text → Type 0
 IsPlain [] = Unit {0}
 IsPlain (Bad ∷ rest) = ⊥

@@ -38,7 +38,7 @@ zone_only_lead c = zone_lead c && not (key_lead c)
 abbrev pub skipped : Class
 skipped c = not (equals c || closing c)
 
--- letters, and the first `=` or `]` of them is of the class; Bad does not stand before it
+-- a text whose first `=` or `]` is of the class, with no `Bad` before it
 abbrev pub FirstIs : Class → Shape
 FirstIs class = many (one skipped) then one class then anything
 
@@ -46,7 +46,7 @@ FirstIs class = many (one skipped) then one class then anything
 abbrev pub ReadsAsName : Shape
 ReadsAsName = (one zone_only_lead then anything) either (one key_lead then FirstIs closing)
 
--- an annotation, with its key and its value by the numbers of their units
+-- an annotation, with its key and its value by the numbers of their code units
 pub record Pair : Type 0 where
   pub critical : Bool
   pub key : List ℕ
@@ -55,11 +55,11 @@ pub record Pair : Type 0 where
 abbrev pub Key : Shape
 Key = one key_lead then many (one key_char)
 
--- letters of a value, at least one
+-- one or more code units of a value
 abbrev pub ValueRun : Shape
 ValueRun = one value_char then many (one value_char)
 
--- runs of letters, a hyphen between each two
+-- runs of code units, with a hyphen between each two
 abbrev pub Value : Shape
 Value = ValueRun then many (one hyphen then ValueRun)
 

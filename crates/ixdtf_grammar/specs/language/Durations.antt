@@ -27,7 +27,7 @@ pub data Half : Type 0 where
 pub data DurationUnit : Type 0 where
   years months weeks days hours minutes seconds : DurationUnit
 
--- the place of a unit in the list of them, from the longest to the shortest
+-- the index of a unit in the list of them, from the longest to the shortest
 abbrev pub place : DurationUnit → ℕ
 place years = 0
 place months = 1
@@ -40,17 +40,17 @@ place seconds = 6
 abbrev pub same_unit : DurationUnit → DurationUnit → Bool
 same_unit a b = nat_eq (place a) (place b)
 
--- the letters that end a group of the half
+-- the letters of the units of the half
 abbrev pub designator : Half → Class
 designator date = year_letter or month_letter or week_letter or day_letter
 designator time = hour_letter or minute_letter or second_letter
 
--- the unit of a letter that ends a group
+-- the unit of a code unit
 abbrev pub unit_of : Half → ℕ → DurationUnit
 unit_of date c = if year_letter c then years else (if month_letter c then months else (if week_letter c then weeks else days))
 unit_of time c = if hour_letter c then hours else (if minute_letter c then minutes else seconds)
 
--- no number of a group is greater: it is 2 ^ 64 - 1
+-- the greatest number of a group: 2 ^ 64 - 1
 unfoldable pub greatest_value : ℕ
 greatest_value = 18446744073709551615
 
@@ -76,7 +76,7 @@ pub record Group : Type 0 where
 abbrev pub Number : Text → ℕ → Type 0
 Number text n = SomeDigits text × (n ≡ decimal text) × (n ≤ greatest_value)
 
--- a number, and a letter of the half
+-- a number, and the letter of a unit of the half
 pub record IntegerGroup (half : Half) (text : Text) (g : Group) : Type 0 where
   pub ds : Text
   pub c : ℕ
@@ -86,7 +86,7 @@ pub record IntegerGroup (half : Half) (text : Text) (g : Group) : Type 0 where
   pub unit : g.unit ≡ unit_of half c
   pub fraction : g.fraction ≡ None
 
--- a number, a fraction (`TemporalDecimalFraction`), and a letter of times
+-- a number, a fraction (`TemporalDecimalFraction`), and the letter of a time unit
 pub record FractionGroup (text : Text) (g : Group) : Type 0 where
   pub ds : Text
   pub fs : Text
@@ -99,7 +99,7 @@ pub record FractionGroup (text : Text) (g : Group) : Type 0 where
   pub unit : g.unit ≡ unit_of time c
   pub fraction : g.fraction ≡ Some parts
 
--- the least step from the place of a unit to that of the next: an equal one may follow, or none
+-- the least difference between the indices of two units in a row: 0 where a unit may be repeated, and else 1
 abbrev pub least_step : Profile → ℕ
 least_step Crate = 0
 least_step Strict = 1

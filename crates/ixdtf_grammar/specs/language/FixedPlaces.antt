@@ -1,5 +1,5 @@
--- A date and a time whose letters stand at fixed places, `YYYY-MM-DD`, a separator and `HH:MM:SS`: `full-date` and `partial-time`
--- of RFC 3339 section 5.6, without a fraction.
+-- A date and a time whose code units stand at fixed places, `YYYY-MM-DD`, a separator and `HH:MM:SS`: `full-date` and
+-- `partial-time` of RFC 3339 section 5.6, without a fraction.
 use Rattle.std.specs.Prelude.{◌≡◌, ℕ, IsTrue, ◌∷◌, ◌++◌}
 use Rattle.ixdtf_grammar.specs.declared.records.DateRecord.{DateRecord}
 use Rattle.ixdtf_grammar.specs.declared.records.TimeRecord.{TimeRecord}
@@ -10,7 +10,7 @@ use Rattle.ixdtf_grammar.specs.language.Dates.{FourDigitYear, Month, IsDayOfMont
 use Rattle.ixdtf_grammar.specs.language.Times.{ColonSecondText}
 use Rattle.ixdtf_grammar.specs.language.Times.Clock.{Time}
 
--- a date of ten letters, with a year of four digits
+-- a date of ten code units, with a year of four digits
 pub record FixedDate (text : Text) (date : DateRecord) : Type 0 where
   pub years : Text
   pub months : Text
@@ -21,11 +21,11 @@ pub record FixedDate (text : Text) (date : DateRecord) : Type 0 where
   pub day : TwoDigits days date.day
   pub in_month : IsDayOfMonth date
 
--- a time of eight letters
+-- a time of eight code units
 abbrev pub FixedTime : Text → TimeRecord → Type 0
 FixedTime = ColonSecondText Time
 
--- the date, a separator and the time in the first nineteen letters, and the text after them
+-- the date, a separator and the time in the first nineteen code units, and the text after them
 pub record FixedDateTime (text : Text) (date : DateRecord) (time : TimeRecord) (rest : Text) : Type 0 where
   pub dates : Text
   pub separator : ℕ

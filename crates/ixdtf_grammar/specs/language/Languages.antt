@@ -15,7 +15,7 @@ use Rattle.ixdtf_grammar.specs.language.Durations.{IsDuration}
 use Rattle.ixdtf_grammar.specs.language.Readers.{Reader, CoreKind}
 use Rattle.ixdtf_grammar.specs.language.Readers.Reader.{bracketed, parse_offset, parse_identifier, parse_iana_identifier, parse_duration}
 
--- what is derived from a text with brackets, with names by the numbers of their units
+-- what is derived from a text with brackets, with names by the numbers of their code units
 pub record Parsed : Type 0 where
   pub date : Option DateRecord
   pub time : Option TimeRecord

@@ -1,24 +1,24 @@
--- Letters, which are what the units of a text stand for, as the readers see them, and classes of them (RFC 3339 section 5.6, ISO 8601).
+-- What the code units of a text stand for, as the readers see them, and classes of them (RFC 3339 section 5.6, ISO 8601).
 use Rattle.std.specs.Prelude.{◌≡◌, ℕ, List, Bool, true, false, cond, if◌then◌else◌, nat_eq, nat_le, ◌&&◌, ◌||◌}
 
--- The letter of a unit is the unit's number, or Bad for a unit that no reader takes.
+-- What a code unit stands for: `Plain` of its number, or `Bad` for one that no reader accepts. Below, a code unit means this.
 pub data Letter : Type 0 where
   Plain : ℕ → Letter
   Bad : Letter
 
--- a text is a list of letters
+-- a text is a list of code units
 abbrev pub Text : Type 0
 Text = List Letter
 
--- each 8-bit unit is its own letter
+-- an 8-bit code unit is plain
 abbrev pub byte_letter : ℕ → Letter
 byte_letter n = Plain n
 
--- a 16-bit unit from 1 to 126 is its own letter, and every other is Bad
+-- a 16-bit code unit is plain from 1 to 126, and else `Bad`
 abbrev pub wide_letter : ℕ → Letter
 wide_letter n = if nat_le 1 n && nat_le n 126 then Plain n else Bad
 
--- a plain letter is the number of its unit
+-- a plain code unit is its number
 pub byte_letter-faithful : (unit n : ℕ) → byte_letter unit ≡ Plain n → n ≡ unit
 byte_letter-faithful unit n is = cc
 
@@ -36,11 +36,11 @@ infixl 20 ◌or◌
 abbrev pub ◌or◌ : Class → Class → Class
 (a or b) c = a c || b c
 
--- no letter
+-- no code unit
 abbrev pub none : Class
 none c = false
 
--- any letter
+-- any code unit
 abbrev pub any : Class
 any c = true
 
@@ -116,7 +116,7 @@ underscore c = nat_eq c 95
 abbrev pub zone_lead : Class
 zone_lead c = upper c || lower c || underscore c || nat_eq c 46
 
--- what goes on in a zone name (`time-zone-char`)
+-- what follows in a zone name (`time-zone-char`)
 abbrev pub zone_char : Class
 zone_char = zone_lead or digit or sign
 
@@ -124,7 +124,7 @@ zone_char = zone_lead or digit or sign
 abbrev pub key_lead : Class
 key_lead = lower or underscore
 
--- what goes on in a key (`key-char`)
+-- what follows in a key (`key-char`)
 abbrev pub key_char : Class
 key_char = key_lead or digit or hyphen
 

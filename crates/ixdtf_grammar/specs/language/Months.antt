@@ -39,7 +39,7 @@ pub record MonthDayText (text : Text) (date : DateRecord) : Type 0 where
   pub day : TwoDigits days date.day
   pub no_year : date.year ≡ pos 0
 
--- the greatest day of a month that has it in some year: year 0 is a leap year
+-- the greatest day of a month in any year: year 0 is a leap year
 abbrev pub greatest_day : ℕ → ℕ
 greatest_day month = month_length (pos 0) month
 

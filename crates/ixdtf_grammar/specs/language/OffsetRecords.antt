@@ -9,7 +9,7 @@ use Rattle.ixdtf_grammar.specs.declared.records.UtcOffsetRecordOrZ.{UtcOffsetRec
 use Rattle.ixdtf_grammar.specs.declared.records.UtcOffsetRecordOrZ.TheVariants as stands
 use Rattle.ixdtf_grammar.specs.language.Fractions.{FractionParts}
 
--- the sign of what is counted forwards, or is not
+-- the sign of a flag: `Positive` for true
 abbrev pub sign_for : Bool → Sign
 sign_for true = Positive
 sign_for false = Negative
@@ -41,7 +41,7 @@ abbrev pub fraction_of_offset : UtcOffsetRecord → Option FractionParts
 fraction_of_offset (offsets.MinutePrecision _) = None
 fraction_of_offset (offsets.FullPrecisionOffset full) = full.fraction
 
--- `Z` says as much of the local offset as -00:00 does
+-- `Z` says the same of the local offset as -00:00
 abbrev pub resolved_offset : UtcOffsetRecordOrZ → UtcOffsetRecord
 resolved_offset (stands.Offset offset) = offset
 resolved_offset stands.Z = offsets.MinutePrecision unknown_offset

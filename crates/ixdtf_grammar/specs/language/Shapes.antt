@@ -12,7 +12,7 @@ Shape = Text → Type 0
 abbrev pub nothing : Shape
 nothing text = text ≡ []
 
--- one letter of the class
+-- one code unit of the class
 abbrev pub one : Class → Shape
 one class text = (c : ℕ) × (text ≡ Plain c ∷ []) × IsTrue (class c)
 
@@ -26,12 +26,12 @@ infixr 20 ◌either◌
 abbrev pub ◌either◌ : Shape → Shape → Shape
 (a either b) text = a text ⊎ b text
 
--- so many digits
+-- exactly so many digits
 abbrev pub digits : ℕ → Shape
 digits zero text = text ≡ []
 digits (suc n) text = (c : ℕ) × (rest : Text) × (text ≡ Plain c ∷ rest) × IsTrue (digit c) × digits n rest
 
--- fewer digits than so many, or none
+-- fewer digits than so many
 abbrev pub fewer_digits_than : ℕ → Shape
 fewer_digits_than n text = (count : ℕ) × (count < n) × digits count text
 

@@ -7,18 +7,18 @@ use Rattle.ixdtf_grammar.specs.language.Letters.{zone_lead, zone_char, slash}
 use Rattle.ixdtf_grammar.specs.language.Shapes.{Shape, one, ◌then◌, ◌either◌, many}
 use Rattle.ixdtf_grammar.specs.language.Offsets.{IsMinuteOffset}
 
--- a letter of a name, or a slash and a letter
+-- a code unit of a name, or a slash and a code unit
 abbrev pub NameItem : Shape
 NameItem = one zone_char either (one slash then one zone_char)
 
 abbrev pub ZoneName : Shape
 ZoneName = one zone_lead then many NameItem
 
--- the name, by the numbers of its units
+-- the name, by the numbers of its code units
 abbrev pub IsZoneName : Text → List ℕ → Type 0
 IsZoneName text name = ZoneName text × (text ≡ map Plain name)
 
--- a zone: a name by the numbers of its units, or an offset
+-- a zone: a name by the numbers of its code units, or an offset
 pub data Zone : Type 0 where
   Name : List ℕ → Zone
   Offset : MinutePrecisionOffset → Zone

@@ -116,7 +116,7 @@ BeforeCore kind (year_months line) before rest = BeforeYearMonth kind before
 BeforeCore kind (month_days line) before rest = BeforeMonthDay kind line before
 BeforeCore kind (times line) before rest = BeforeTimeAlone kind line before rest
 
--- what stands before a line of times; a time that stands alone has its own line where it begins, but for its letter
+-- what stands before a line of times; a time that stands alone has its own line where it begins without `T` or `t`
 abbrev pub BeforeTime : CoreKind → ClockLine → Shape
 BeforeTime date_time line before = DateAndSeparator before
 BeforeTime year_month line before = ⊥

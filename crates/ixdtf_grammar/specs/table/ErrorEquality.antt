@@ -1,4 +1,4 @@
--- When two errors are equal: where they are one variant, and their locations have equal bytes.
+-- When two errors are equal: where they are the same variant, and their locations have equal bytes.
 use Rattle.std.specs.Prelude.{◌≡◌, ℕ, Bool, List, [], ◌∷◌, slice_index_or, refl}
 use Rattle.std.proofs.Common.{sym, ap, ◌∙◌}
 use Rattle.std.specs.Bool.{Decides}
@@ -18,7 +18,7 @@ use Rattle.ixdtf_grammar.specs.table.Faults.Fault.{UnrecognizedCritical, TzLeadi
 use Rattle.ixdtf_grammar.specs.table.Faults.Fault.{MonthDayHyphen, DurationDisgnator, DurationValueExceededRange, DateDurationPartOrder, TimeDurationPartOrder}
 use Rattle.ixdtf_grammar.specs.table.Faults.Fault.{TimeDurationDesignator, AmbiguousTimeMonthDay, AmbiguousTimeYearMonth, InvalidMonthDay}
 
--- the place of a fault in the list of faults
+-- the index of a fault in the list of faults
 abbrev pub place_of : Fault → ℕ
 place_of ImplAssert = 0
 place_of NonAsciiCodePoint = 1
@@ -72,18 +72,18 @@ abbrev pub location_of : Fault → List ℕ
 location_of (AbruptEnd location) = location
 location_of fault = []
 
--- the place and the location in one list
+-- the index and the location in one list
 abbrev pub spelled : Fault → List ℕ
 spelled f = place_of f ∷ location_of f
 
--- whether two errors are one
+-- whether two errors are equal
 abbrev pub same_error : ParseError → ParseError → Bool
 same_error = on (λ e. spelled (fault_of e)) bytes_eq
 
 pub same_error-laws : IsPartialEquivalence same_error
 same_error-laws = partial_equiv_from_equiv (on_texts_equal (λ e. spelled (fault_of e)))
 
--- each fault, in the order of their places
+-- each fault, in the order of the list
 faults : List ℕ → List Fault
 faults location =
     ImplAssert ∷ NonAsciiCodePoint ∷ ParseFloat ∷ AbruptEnd location ∷ InvalidEnd ∷ InvalidMonthRange ∷ InvalidDayRange ∷ DateYear ∷

@@ -106,15 +106,15 @@ fault_of errors.InvalidMonthDay = InvalidMonthDay
 abbrev pub fault_of_located : LocatedError → Fault
 fault_of_located e = fault_of e.error
 
--- so many units stand before the place of the error
+-- so many code units stand before the place of the error
 abbrev pub stands_behind : ℕ → LocatedError → Type 0
 stands_behind at e = e.at ≡ at
 
--- an error that has no place may stand behind any number of units
+-- an error without a place may stand behind any number of code units
 abbrev pub stands_anywhere : ℕ → ParseError → Type 0
 stands_anywhere at e = Unit {0}
 
--- the errors that no reader gives
+-- the errors that no reader returns
 abbrev pub never_comes : Fault → Bool
 never_comes ImplAssert = true
 never_comes ParseFloat = true

@@ -52,15 +52,14 @@ pub data Ending : Type 0 where
   ok : Ending
   error : Fault → Ending
 
--- A line has a front, the letters that go on, what the end is, and the error at each other letter.
--- A scanned line goes on with any letter, and the end is its error.
--- A whole line has a front, and its error stands whatever follows.
+-- A line has a front, the code units that may follow, what the end is, and the error at each other code unit. A scanned line
+-- goes on with any code unit, and the end is its error. A whole line has a front, and its error stands whatever follows.
 pub data Line : Type 1 where
   line : Shape → Class → Ending → (ℕ → Fault) → Line
   scanned : Shape → Fault → Line
   whole : Shape → Fault → Line
 
--- one error at every other letter
+-- one error at every other code unit
 abbrev pub always : Fault → ℕ → Fault
 always fault c = fault
 
@@ -144,7 +143,7 @@ SecondPast clock text = IsTrue (has_seconds clock)
 -- ---- dates
 
 abbrev pub date_line : DateLine → Line
--- no letter of a year yet
+-- nothing of a year yet
 date_line year_start = line nothing (digit or sign) (error abrupt_digit) (always DateYear)
 -- one to three digits of a year
 date_line year_digits = line (one digit then fewer_digits_than 3) digit (error abrupt_digit) (always DateYear)
@@ -192,7 +191,7 @@ abbrev pub NoMonthDay : Profile → Text → DateRecord → Type 0
 NoMonthDay profile text date = MonthDayText text date × ¬ (IsDayOfSomeYear profile date)
 
 abbrev pub month_day_line : MonthDayLine → Line
--- no letter of a month-day yet
+-- nothing of a month-day yet
 month_day_line month_day_start = line nothing (hyphen or digit) (error abrupt_month_day) (always DateMonth)
 -- the first of two hyphens
 month_day_line month_day_hyphen = line (one hyphen) hyphen (error abrupt_month_day) (always MonthDayHyphen)
@@ -212,7 +211,7 @@ month_day_line (after_month_day profile) = line (some (IsMonthDay profile)) open
 -- ---- the other lines of times that stand alone
 
 abbrev pub time_line : TimeLine → Line
--- no letter of a time yet
+-- nothing of a time yet
 time_line time_start = line nothing (digit or time_letter) (error abrupt_digit) (always TimeHour)
 -- a month-day
 time_line (time_reads_as_month_day profile) = whole (some (IsMonthDay profile)) AmbiguousTimeMonthDay
@@ -227,13 +226,13 @@ core_line (times name) = time_line name
 
 -- ---- times, and offsets after their sign
 
--- what may follow a part: the letters, what the end is, and the error at another letter
+-- what may follow a part: the code units, what the end is, and the error at another code unit
 pub record Follow : Type 0 where
   pub letters : Class
   pub at_end : Ending
   pub at_other : Fault
 
--- letters of the class where seconds may be written, else none
+-- code units of the class where seconds may be written, else none
 abbrev pub seconds_after : Clock → Class → Class
 seconds_after clock class c = has_seconds clock && class c
 
@@ -249,7 +248,7 @@ second_fault Time = TimeSecond
 second_fault Offset = TimeMinuteSecond
 second_fault MinuteOffset = TimeMinuteSecond
 
--- the error at another letter after a minute
+-- the error at another code unit after a minute
 abbrev pub after_minute : Follow → Clock → ℕ → Fault
 after_minute follow clock c = if colon c || digit c then mixed clock else follow.at_other
 
@@ -304,9 +303,9 @@ abbrev pub zone_other : Bool → ℕ → Fault
 zone_other in_bracket c = if in_bracket then IanaChar else (if closing c then InvalidEnd else IanaChar)
 
 abbrev pub zone_line : Bool → ZoneLine → Line
--- no letter of a name or an offset yet
+-- nothing of a name or an offset yet
 zone_line in_bracket identifier_start = line nothing (zone_lead or sign) (error abrupt_zone) (always TzLeadingChar)
--- no letter of a name yet
+-- nothing of a name yet
 zone_line in_bracket zone_name_start = line nothing zone_lead (error TzLeadingChar) (always TzLeadingChar)
 -- a name
 zone_line in_bracket in_zone_name = line ZoneName (zone_letters in_bracket) (zone_end in_bracket) (zone_other in_bracket)
@@ -315,7 +314,7 @@ zone_line in_bracket after_zone_slash = line (ZoneName then one slash) zone_char
 
 -- ---- brackets
 
--- a letter that a key may begin with, and letters that are neither `=` nor `]`
+-- a code unit that a key may begin with, and code units that are neither `=` nor `]`
 abbrev pub LetterOfKey : Shape
 LetterOfKey = one key_lead then many (one skipped)
 
@@ -348,7 +347,7 @@ pair_line after_value_hyphen =
 
 -- ---- durations
 
--- the error where a group has no letter of its half
+-- the error where a group has no unit of its half
 abbrev pub no_designator : Half → Fault
 no_designator halves.date = abrupt_date_designator
 no_designator halves.time = abrupt_time_designator

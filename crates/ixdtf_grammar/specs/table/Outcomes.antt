@@ -11,7 +11,7 @@ use Rattle.ixdtf_grammar.specs.table.Rows.{Row, Fits, left_at}
 abbrev pub HasFault : Reader → Text → List Pair → Fault → Type 0
 HasFault reader text pairs fault = (row : Row) × Fits reader row pairs text × (row.error ≡ fault)
 
--- the same, where so many letters stand before the row's place
+-- the same, where so many code units stand before the row's place
 abbrev pub HasFaultAt : Reader → Text → List Pair → Fault → ℕ → Type 0
 HasFaultAt reader text pairs fault at =
     (row : Row) × Fits reader row pairs text × (row.error ≡ fault) × (at + length (left_at row.place) ≡ length text)

@@ -13,7 +13,7 @@ use Rattle.ixdtf_grammar.specs.table.Lines.Line.{line, scanned, whole}
 use Rattle.ixdtf_grammar.specs.table.Lines.Ending.{error}
 use Rattle.ixdtf_grammar.specs.table.Before.{Before}
 
--- where a row stands: at the end of the text, at another letter, at Bad, or anywhere, with what the text has from there on
+-- where a row stands: at the end of the text, at another code unit, at Bad, or anywhere, with what the text has from there on
 pub data Place : Type 0 where
   end other bad anywhere : Text → Place
 

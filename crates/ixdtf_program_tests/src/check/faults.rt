@@ -23,7 +23,7 @@ const TWO_LINES: &[u8] = b"2020-13-01\n2020-W01-1\n";
 const FIRST_REPORT: &[u8] =
     b"f:1:8: Parsed month value not in a valid range.\n2020-13-01\n       ^\n";
 
-/// A reader that gives some bytes, and then fails.
+/// A reader that returns some bytes, and then fails.
 #[derive(Drop)]
 struct BrokenReader<'a> {
     rest: &'a [u8],

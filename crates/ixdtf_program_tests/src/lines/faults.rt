@@ -1,4 +1,4 @@
-//! Readers and writers that give and take few bytes at a time, and fail.
+//! Readers and writers of few bytes at a time that fail.
 ghost use Rattle.std.specs.Prelude.{◌≤◌};
 
 use super::{FIRST_ANSWER, LINES, STORED, Session, TWO_ANSWERS, TWO_LINES};
@@ -9,11 +9,11 @@ use std::io::{ErrorKind, Read, Write};
 use std::process::Abort;
 use std::test::Fail;
 
-/// A reader that gives few bytes at a time, fails at one of its reads, and then goes on.
+/// A reader that returns few bytes at a time, fails at one of its reads, and then goes on.
 #[derive(Drop)]
 struct FaultyReader<'a> {
     rest: &'a [u8],
-    /// The most bytes that one read gives.
+    /// The most bytes that one read returns.
     most: usize,
     /// How many reads succeed before the one that fails.
     good_reads: usize,
@@ -104,7 +104,8 @@ impl Write for FaultyWriter {
     }
 }
 
-/// What a run on the two lines has written where the reader fails once, after so many reads. The run reads no more then.
+/// What a run on the two lines has written where the reader fails once, after so many reads. The run does not read
+/// again.
 fn check_reader(rt: &impl Abort, most: usize, good_reads: usize, bytes: &[u8]) {
     let mut reader = FaultyReader::new(TWO_LINES, most, good_reads);
     let mut writer = FaultyWriter::new();

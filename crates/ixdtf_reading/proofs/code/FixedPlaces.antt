@@ -28,13 +28,13 @@ use Rattle.ixdtf_reading.specs.reading.FixedPlaces.{ranged, ◌>>?◌, first_in,
 use Rattle.ixdtf_reading.specs.reading.FixedPlaces.{year_place, days_place, basic_days_place, date_place, basic_date_place, time_place, date_in_range}
 use Rattle.ixdtf_reading.specs.reading.FixedPlaces.{time_in_range, date_time_place}
 
--- the letter that a look found, where it is of the class
+-- the code unit that a look found, where it is of the class
 abbrev pub class_at_place : Class → Result (Option ℕ) Fault → Option ℕ
 class_at_place class (Ok None) = None
 class_at_place class (Ok (Some c)) = if class c then Some c else None
 class_at_place class (Err e) = None
 
--- what stands at a place of the letters is what a look at the place of the units finds
+-- what stands at a place of the text is what a look at this index of the source finds
 pub place_looked : (letter : ℕ → Letter) (class : Class) (place : ℕ) (units : List ℕ)
     → letter_place class place (map letter units) ≡ class_at_place class (ascii_at letter place units)
 place_looked letter class zero [] = refl
@@ -46,7 +46,7 @@ place_looked letter class zero (u ∷ more) = go (letter u)
     go Bad = refl
 place_looked letter class (suc place) (u ∷ more) = place_looked letter class place more
 
--- the letter that a look found, or 0
+-- the code unit that a look found, or 0
 abbrev pub byte_of_look : Result (Option ℕ) Fault → ℕ
 byte_of_look (Ok None) = 0
 byte_of_look (Ok (Some c)) = c
@@ -132,7 +132,7 @@ pub then_held : {A : Type 0} (t : Bool) (x y : A) → (if t then Some x else Non
 then_held true x y e = (refl, cc)
 then_held false x y e = absurd cc
 
--- the letter at a place, and the text after it
+-- the code unit at a place, and the text after it
 pub letter_at_place : (class : Class) (place : ℕ) (text : Text) (c : ℕ) → letter_place class place text ≡ Some c
     → (drop place text ≡ Plain c ∷ drop (suc place) text) × IsTrue (class c)
 letter_at_place class zero (Plain n ∷ rest) c e =
@@ -195,7 +195,7 @@ century_and_year a b c d = 100 * decimal (Plain a ∷ Plain b ∷ []) + decimal 
 pub year_is : (a b c d : ℕ) → century_and_year a b c d
 year_is a b c d = omega arith
 
--- the letters of a date whose month and day are any numbers, and the text after them
+-- the code units of a date whose month and day are any numbers, and the text after them
 record DateLetters (text : Text) (date : DateRecord) : Type 0 where
   years : Text
   months : Text
@@ -250,7 +250,7 @@ date_at_place text date e =
     (mark_at_place hyphen 45 4 text first hyphen_is f2) (number_at_place 5 text month f3) (mark_at_place hyphen 45 7 text second hyphen_is f4)
     (number_at_place 8 text day f5) (same_year month day y1 e5)
 
--- the letters of a time whose numbers are any, after a date and a separator, and the text after them
+-- the code units of a time whose numbers are any, after a date and a separator, and the text after them
 record TimeLetters (text : Text) (time : TimeRecord) : Type 0 where
   hours : Text
   minutes : Text
@@ -330,7 +330,7 @@ of_letters text date c time d separator t in_date in_time =
       };
     }
 
--- what is found is a date and a time of the grammar, in the first nineteen letters
+-- what is found is a date and a time of the grammar, in the first nineteen code units
 pub date_time_at_place : (text : Text) (found : DateRecord × TimeRecord) → date_time_place text ≡ Some found → FixedDateTime text found.0 found.1 (drop 19 text)
 unfolding date_time_place
 date_time_at_place text found e =
@@ -344,7 +344,7 @@ date_time_at_place text found e =
 
 -- ---- nothing is missed
 
--- two digits and four, as letters, and the numbers that they are
+-- two digits and four, as code units, and their numbers
 abbrev two_letters : (text : Text) → digits 2 text → Text
 two_letters text h = Plain h.0 ∷ Plain h.4.0 ∷ []
 
@@ -393,7 +393,7 @@ same_time time hour minute second h m s f = λ i. record { hour = h i; minute = 
 is_in_range : (date : DateRecord) → (1 ≤ date.month) × (date.month ≤ 12) → IsDayOfMonth date → IsTrue (date_in_range date)
 is_in_range date month day = grind (arith, nat_tests)
 
--- a date and a time of the grammar in the first nineteen letters are found
+-- a date and a time of the grammar in the first nineteen code units are found
 pub date_time_stands : (text : Text) (date : DateRecord) (time : TimeRecord) (rest : Text) → FixedDateTime text date time rest
     → date_time_place text ≡ Some (date, time)
 date_time_stands text date time rest f =
@@ -524,7 +524,7 @@ never : (b : Bool) → b ≡ false → IsTrue b → ⊥
 never true no_one is = absurd cc
 never false no_one is = absurd cc
 
--- the letter at a place is of a class that 0 is not of
+-- the code unit at a place is of a class that 0 is not of
 pub byte_in_class : (class : Class) (place : ℕ) (text : Text) → class 0 ≡ false → IsTrue (class (byte_place place text))
     → letter_place class place text ≡ Some (byte_place place text)
 byte_in_class class place text not_zero is = go (drop place text) is
@@ -556,7 +556,7 @@ pub basic_is_read : (text : Text) (year : ℕ) (date : DateRecord) → year_plac
     → date_at error_of text ≡ ranged date (drop 6 text) (drop 8 text)
 basic_is_read text year date years days = basic_date_is_read text date (basic_of_parts text year date years days)
 
--- what is found has nineteen letters
+-- what is found has nineteen code units
 long_enough : (text : Text) (found : DateRecord × TimeRecord) → date_time_place text ≡ Some found → 19 ≤ length text
 unfolding date_time_place time_place
 long_enough text found e =
@@ -580,7 +580,7 @@ too_short text short = none (date_time_place text) refl
     none None e = refl
     none (Some x) e = let long = long_enough text x e in absurd (omega arith)
 
--- and what the test of its numbers returned is what reading gives
+-- and what the test of its numbers returned is what reading returns
 pub reads_tested : {X Y : Type 0} (letter : ℕ → Letter) (view : X → Y) (old new : Unread) (result : Result X Stop) (reading : Text → Read Placed Y) (tested : Read Placed Y)
     → reading (map letter old.rest) ≡ tested → YieldsAt (λ x. (view x, map letter new.rest)) result (map letter new.rest) tested
     → Reads letter view old result new reading

@@ -1,4 +1,4 @@
--- The digits of a fraction, taken off one by one.
+-- The digits of a fraction, taken one by one.
 use Rattle.std.proofs.Common.{◌≡◌, ℕ, ◌+◌, true, false, List, [], ◌∷◌, ◌++◌, length, map, drop, Option, Some, None, Ok, Err, refl, sym, ap, ◌∙◌, arith}
 use Rattle.std.proofs.Common.{append_assoc, append-nil}
 use Rattle.ixdtf_grammar.specs.language.Letters.{Letter, Text}
@@ -35,7 +35,7 @@ run_other : (c : ℕ) (rest : Text) → digit c ≡ false → run_of (Plain c �
 unfolding digit_run
 run_other c rest is = rw is refl
 
--- So far digits were taken off behind the first ones: the fraction is theirs, and the rest is still to be read.
+-- So far digits were taken behind the first ones: the fraction is theirs, and the rest remains.
 pub record IsSoFar (front whole rest : Text) (fraction : FractionParts) : Type 0 where
   pub ds : Text
   pub read : run_of whole ≡ with_front ds (run_of rest)
@@ -84,7 +84,7 @@ unfolding look_at digit_run
 fails front whole (Bad ∷ rest) fraction fault far e = let same : (NonAsciiCodePoint, Bad ∷ rest) ≡ fault = cc in rw (far.read, same) refl
 fails front whole rest fraction fault far e = absurd cc
 
--- a look found this letter first, and a step took it off
+-- a look found this code unit first, and a step took it
 pub record OneTaken (letter : ℕ → Letter) (rest next : List ℕ) (c : ℕ) : Type 0 where
   pub found : seen (map letter rest) ≡ Ok (Some c)
   pub moved : next ≡ drop 1 rest

@@ -1,4 +1,4 @@
--- Letters that a loop takes off one by one.
+-- Code units that a loop takes one by one.
 use Rattle.std.proofs.Common.{◌≡◌, ℕ, ◌-◌, Bool, true, false, if◌then◌else◌, List, [], ◌∷◌, ◌++◌, length, map, drop, take, Option, Some, None, Ok, Err, refl, sym, ap, subst, ◌∙◌, arith}
 use Rattle.std.proofs.Common.{append_assoc, append-nil}
 use Rattle.std.proofs.lemmas.List.{take-map, length-map, length-append, take_all, take-append-le}
@@ -10,7 +10,7 @@ use Rattle.ixdtf_reading.specs.reading.Zones.{with_letter}
 use Rattle.ixdtf_reading.specs.reading.Runs.{Taken, one_more, nothing_taken, on_letter, letters_by}
 use Rattle.ixdtf_reading.proofs.code.FirstLetter.{nothing_is}
 
--- letters that were taken off, with more in front of them
+-- code units that were taken, with more in front of them
 abbrev pub with_letters : {S : Type 0} → List ℕ → Read Placed (Taken S) → Read Placed (Taken S)
 with_letters front (Ok x) = Ok (record { letters = front ++ x.0.letters; state = x.0.state; next = x.0.next }, x.1)
 with_letters front (Err e) = Err e
@@ -24,7 +24,7 @@ with_one_more : {S : Type 0} (front : List ℕ) (c : ℕ) (read : Read Placed (T
 with_one_more front c (Ok x) = ap (λ t. Ok (record { letters = t; state = x.0.state; next = x.0.next }, x.1)) (sym (append_assoc front (c ∷ []) x.0.letters))
 with_one_more front c (Err e) = refl
 
--- what comes of a test comes of one that holds, and nothing of one that fails
+-- a test holds where this has a value, and fails where it has none
 pub test_held : {A : Type 0} (b : Bool) (x y : A) → (if b then Some x else None) ≡ Some y → b ≡ true
 test_held true x y e = refl
 test_held false x y e = absurd cc
@@ -33,7 +33,7 @@ pub test_failed : {A : Type 0} (b : Bool) (x : A) → (if b then Some x else Non
 test_failed true x e = absurd cc
 test_failed false x e = refl
 
--- a look found this letter first
+-- a look found this code unit first
 pub first_is : (letter : ℕ → Letter) → ((unit n : ℕ) → letter unit ≡ Plain n → n ≡ unit) → (units : List ℕ) (c : ℕ)
     → seen (map letter units) ≡ Ok (Some c) → (more : List ℕ) × (units ≡ c ∷ more) × (map letter units ≡ Plain c ∷ map letter more)
 unfolding look_at
@@ -70,7 +70,7 @@ module _ {S : Type 0} (after : S → ℕ → Option S) where
   run_fails state (Bad ∷ more) fault e = let same : (NonAsciiCodePoint, Bad ∷ more) ≡ fault = cc in rw same refl
   run_fails state text fault e = absurd cc
 
-  -- the letter does not go on, or there is none
+  -- the code unit does not go on, or there is none
   abbrev pub Stays : S → Option ℕ → Type 0
   Stays state None = Unit {0}
   Stays state (Some c) = after state c ≡ None
@@ -95,7 +95,7 @@ module _ {S : Type 0} (after : S → ℕ → Option S) where
   shown state (Bad ∷ rest) = tt
   shown state (Plain c ∷ rest) = shown_on state c rest (after state c) refl (λ n. shown n rest)
 
-  -- the letter that does not go on stands next
+  -- the code unit that does not go on stands next
   pub next_shown : (state : S) (text rest : Text) (taken : Taken S) → letters_by after state text ≡ Ok (taken, rest)
       → seen rest ≡ Ok taken.next
   next_shown state text rest taken e = let h : Shown (Ok (taken, rest)) = subst (λ read. Shown read) e (shown state text) in h.0
@@ -103,7 +103,7 @@ module _ {S : Type 0} (after : S → ℕ → Option S) where
   pub next_stays : (state : S) (text rest : Text) (taken : Taken S) → letters_by after state text ≡ Ok (taken, rest) → Stays taken.state taken.next
   next_stays state text rest taken e = let h : Shown (Ok (taken, rest)) = subst (λ read. Shown read) e (shown state text) in h.1
 
-  -- So far these letters were taken off, and the others are still to be read.
+  -- So far these code units were taken, and the others remain.
   pub record IsSoFar (letter : ℕ → Letter) (start : S) (whole rest : List ℕ) (state : S) : Type 0 where
     pub taken : List ℕ
     pub units : whole ≡ taken ++ rest
@@ -114,7 +114,7 @@ module _ {S : Type 0} (after : S → ℕ → Option S) where
 
   module _ (letter : ℕ → Letter) (faithful : (unit n : ℕ) → letter unit ≡ Plain n → n ≡ unit) (start : S) (whole rest : List ℕ) (state : S)
       (far : IsSoFar letter start whole rest state) where
-    -- the letter goes on
+    -- the code unit goes on
     pub goes_on : (left : List ℕ) (next : S) (c : ℕ) → seen (map letter rest) ≡ Ok (Some c) → after state c ≡ Some next
         → left ≡ drop 1 rest → IsSoFar letter start whole left next
     goes_on left next c e is moved =
@@ -127,7 +127,7 @@ module _ {S : Type 0} (after : S → ℕ → Option S) where
               ∙ with_one_more far.taken c (run next (map letter here.0)) ∙ ap (λ t. with_letters (far.taken ++ (c ∷ [])) (run next (map letter t))) (sym same);
         }
 
-    -- the letter does not go on
+    -- the code unit does not go on
     pub stays : (c : ℕ) → seen (map letter rest) ≡ Ok (Some c) → after state c ≡ None
         → run start (map letter whole) ≡ Ok (record { letters = far.taken; state = state; next = Some c }, map letter rest)
     stays c e is =
@@ -135,7 +135,7 @@ module _ {S : Type 0} (after : S → ℕ → Option S) where
         far.read ∙ ap (λ t. with_letters far.taken (run state t)) here.2 ∙ ap (with_letters far.taken) (run_stays state c (map letter here.0) is)
         ∙ rw (append-nil far.taken, here.2) refl
 
-    -- there is no letter
+    -- there is no code unit
     pub ends : seen (map letter rest) ≡ Ok None
         → run start (map letter whole) ≡ Ok (record { letters = far.taken; state = state; next = None }, map letter rest)
     ends e = far.read ∙ ap (with_letters far.taken) (run_ends state (map letter rest) e) ∙ rw (append-nil far.taken) refl
@@ -149,7 +149,7 @@ module _ {S : Type 0} (after : S → ℕ → Option S) where
     pub fails : (fault : Placed) → seen (map letter rest) ≡ Err fault → run start (map letter whole) ≡ Err fault
     fails fault e = far.read ∙ ap (with_letters far.taken) (run_fails state (map letter rest) fault e)
 
--- the units that were taken off are the front of those before
+-- the code units that were taken are the first of those before
 pub front_is : {U : Type 0} (number : U → ℕ) (start after : List U) (taken rest whole : List ℕ) → map number start ≡ whole → whole ≡ taken ++ rest
     → map number after ≡ rest → map number (take (length start - length after) start) ≡ taken
 front_is number start after taken rest whole all split left =
@@ -157,9 +157,9 @@ front_is number start after taken rest whole all split left =
     omega (arith, length-map start number, length-map after number, ap length all, ap length split, ap length left, length-append taken rest) in
     rw count (sym (take-map number _ start) ∙ rw (all, split) (take-append-le _ taken rest (omega arith) ∙ take_all _ taken (omega arith)))
 
--- ---- what is read behind letters
+-- ---- what is read behind code units
 
--- letters in front of what was read
+-- code units in front of what was read
 abbrev pub in_front : List ℕ → Read Placed (List ℕ) → Read Placed (List ℕ)
 in_front letters (Ok x) = Ok (letters ++ x.0, x.1)
 in_front letters (Err e) = Err e
@@ -176,11 +176,11 @@ pub in_front_more : (a : List ℕ) (c : ℕ) (read : Read Placed (List ℕ)) →
 in_front_more a c (Ok x) = ap (λ t. Ok (t, x.1)) (sym (append_assoc a (c ∷ []) x.0))
 in_front_more a c (Err e) = refl
 
--- a reading that takes each letter that goes on
+-- a reading that takes each code unit that goes on
 module _ {S : Type 0} (after : S → ℕ → Option S) (reading : S → Text → Read Placed (List ℕ))
     (over : (state next : S) (c : ℕ) (rest : Text) → after state c ≡ Some next → reading state (Plain c ∷ rest) ≡ with_letter c (reading next rest))
     (at_bad : (state : S) (rest : Text) → reading state (Bad ∷ rest) ≡ Err (NonAsciiCodePoint, Bad ∷ rest)) where
-  -- the letters, and what is read behind them
+  -- the code units, and what is read behind them
   abbrev behind : Read Placed (Taken S) → Read Placed (List ℕ)
   behind read = read >>= λ x. in_front x.0.letters (reading x.0.state x.1)
 
@@ -212,16 +212,16 @@ module _ {S : Type 0} (after : S → ℕ → Option S) (reading : S → Text →
       → reading state text ≡ in_front taken.letters (reading taken.state rest)
   run_passed state text rest taken e = reads_over state text ∙ ap behind e
 
--- ---- letters of one kind within another
+-- ---- code units of one kind within another
 
 with_both : {S : Type 0} (a b : List ℕ) (read : Read Placed (Taken S)) → with_letters a (with_letters b read) ≡ with_letters (a ++ b) read
 with_both a b (Ok x) = ap (λ t. Ok (record { letters = t; state = x.0.state; next = x.0.next }, x.1)) (sym (append_assoc a b x.0.letters))
 with_both a b (Err e) = refl
 
--- letters that leave reading of the other kind where it is
+-- code units that leave reading of the other kind where it is
 module _ {S U : Type 0} (after : S → ℕ → Option S) (wider : U → ℕ → Option U) (here : U)
     (within : (state next : S) (c : ℕ) → after state c ≡ Some next → wider here c ≡ Some here) where
-  -- those letters, and what is read behind them
+  -- those code units, and what is read behind them
   abbrev beyond : Read Placed (Taken S) → Read Placed (Taken U)
   beyond (Ok x) = with_letters x.0.letters (letters_by wider here x.1)
   beyond (Err e) = Err e
@@ -249,7 +249,7 @@ module _ {S U : Type 0} (after : S → ℕ → Option S) (wider : U → ℕ → 
   passes_over state (Plain c ∷ rest) = beyond_on state c rest (λ next. passes_over next rest) (after state c) refl
 
   module _ (letter : ℕ → Letter) (start : U) (whole rest : List ℕ) (far : IsSoFar wider letter start whole rest here) where
-    -- these letters were passed over
+    -- these code units were passed over
     pub goes_over : (left letters : List ℕ) (state : S) (taken : Taken S) → rest ≡ letters ++ left
         → letters_by after state (map letter rest) ≡ Ok (taken, map letter left) → taken.letters ≡ letters → IsSoFar wider letter start whole left here
     goes_over left letters state taken split passed same = record {

@@ -1,4 +1,4 @@
--- The clauses of a reader that reads no pairs and gives the places of its errors, from what its reading returns.
+-- The clauses of a reader that reads no pairs and returns the places of its errors, from what its reading returns.
 use Rattle.std.proofs.Common.{◌≡◌, ℕ, ◌-◌, ◌≤◌, List, [], length, map, Result, Ok, Err, IfErr, OnOk, IsFalse, sym, ap, ◌∙◌, arith}
 use Rattle.std.proofs.lemmas.List.{length-map, length-append}
 use Rattle.ixdtf_grammar.specs.declared.located.LocatedError.{LocatedError}
@@ -59,7 +59,7 @@ module _ {U A : Type 0} (letter : ℕ → Letter) (view : U → A) (reader : Rea
       → (row : Row) × ((fault, left) ≡ error_of row) × Fits reader row [] (map letter old.rest)
   row_at fault left is = rw is at gives
 
-  -- it fits, and so many units stand before its place
+  -- it fits, and so many code units stand before its place
   fault_at : (start : List ℕ) → start ≡ old.rest → (stop : Stop) (e : LocatedError) → reading (map letter old.rest) ≡ Err (fault_of_stop stop, map letter new.rest)
       → fault_of_located e ≡ fault_of_stop stop → stands_behind (length start - length new.rest) e
       → HasFaultAt reader (map letter old.rest) [] (fault_of_located e) e.at

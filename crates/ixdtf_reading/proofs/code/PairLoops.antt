@@ -1,4 +1,4 @@
--- The letters of a key and of a value, taken off one by one.
+-- The code units of a key and of a value, taken one by one.
 use Rattle.std.proofs.Common.{◌≡◌, ℕ, Bool, true, false, List, [], ◌∷◌, ◌++◌, map, drop, Option, Some, None, Ok, Err, refl, sym, ap, subst, ◌∙◌, if◌then◌else◌}
 use Rattle.std.proofs.Common.{append_assoc, append-nil, arith}
 use Rattle.std.proofs.lemmas.Bool.Decides.{nat_tests}
@@ -95,7 +95,7 @@ value_unstarted state fault at_end other marks (Plain c ∷ rest) placed e = go 
         let same : (fault, Plain c ∷ rest) ≡ placed = cc in
         value_stops state c rest step ∙ ap (λ f. Err (f, Plain c ∷ rest)) other ∙ ap Err same
 
--- the letter that a component begins with
+-- the code unit that a component begins with
 started : (fault : Fault) (text left : Text) (c : ℕ) → next_by (component_look fault) text ≡ Ok (c, left) → (seen text ≡ Ok (Some c)) × (value_char c ≡ true)
 unfolding next_by look_at
 started fault [] left c e = absurd cc
@@ -120,7 +120,7 @@ unfolding value_run
 component_bad letters rest = refl
 
 module _ (letter : ℕ → Letter) (whole : List ℕ) where
-  -- So far these letters of a value were taken off, and the others are still to be read.
+  -- So far these code units of a value were taken, and the others remain.
   pub record ValueSoFar (rest : List ℕ) (state : ValueState) : Type 0 where
     pub taken : List ℕ
     pub units : whole ≡ taken ++ rest
@@ -134,7 +134,7 @@ module _ (letter : ℕ → Letter) (faithful : (unit n : ℕ) → letter unit �
   Far rest state = ValueSoFar letter whole rest state
 
   module _ (rest : List ℕ) (state : ValueState) (far : ValueSoFar letter whole rest state) where
-    -- one more letter
+    -- one more code unit
     value_more : (left : List ℕ) (next : ValueState) (c : ℕ) → seen (map letter rest) ≡ Ok (Some c) → value_step state c ≡ GoesOn next → left ≡ drop 1 rest
         → Far left next
     value_more left next c e step moved =
@@ -213,7 +213,7 @@ module _ (letter : ℕ → Letter) (faithful : (unit n : ℕ) → letter unit �
       component_joined c after is test moved =
           value_more left Inside component_passed after AfterHyphen c (next_is (Some c) is) (rw (no_letter c is, test) refl) moved
 
-      -- another letter stands behind it
+      -- another code unit stands behind it
       pub component_refused : (c : ℕ) → taken.next ≡ Some c → closing c ≡ false → hyphen c ≡ false
           → value_run error_of AtStart (map letter whole) ≡ Err (AnnotationValueChar, map letter left)
       component_refused c is shut dash =

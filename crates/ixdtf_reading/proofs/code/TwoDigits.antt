@@ -14,7 +14,7 @@ module _ (letter : ℕ → Letter) (other : Fault) where
   abbrev two : List ℕ → Read Placed Text
   two units = digits_by (digit_look other) 2 (map letter units)
 
-  -- fewer than two units
+  -- fewer than two code units
   pub too_short : (units : List ℕ) → length units < 2 → two units ≡ (placed (map letter units) (digit_seen other (ascii_at letter 0 units)) >>= λ a. Err (abrupt_digit, drop 1 (map letter units)))
   unfolding digits_by next_by look_at
   too_short [] short = refl
@@ -57,7 +57,7 @@ module _ (letter : ℕ → Letter) (other : Fault) where
   first Bad v units = refl
   first (Plain c) v units = plain_first c v units (digit c) refl
 
-  -- two units and more
+  -- two code units or more
   pub long_enough : (units : List ℕ) → 2 ≤ length units
       → two units ≡ (placed (map letter units) (digit_seen other (ascii_at letter 0 units)) >>= λ a. placed (drop 1 (map letter units)) (digit_seen other (ascii_at letter 1 units))
       >>= λ b. Ok (Plain a ∷ Plain b ∷ [], map letter (drop 2 units)))

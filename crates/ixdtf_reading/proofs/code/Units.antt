@@ -1,4 +1,4 @@
--- The letters of a text and the units of a text.
+-- A text, and the code units of its source.
 use Rattle.std.proofs.Common.{◌≡◌, ℕ, ◌+◌, List, [], ◌∷◌, map, length, drop, Option, Some, Result, Ok, Err, refl, arith}
 use Rattle.std.proofs.lemmas.Option.{slice_get-map}
 use Rattle.ixdtf_grammar.specs.language.Letters.{Letter, Text}
@@ -7,10 +7,10 @@ use Rattle.ixdtf_grammar.specs.table.Faults.{Fault}
 use Rattle.ixdtf_grammar.specs.Views.{ascii_at, looked}
 use Rattle.ixdtf_reading.specs.reading.Looks.{look_at, seen, Placed}
 
--- what the letters of a text are, given its units
+-- what a text is, given the code units of its source
 pub ruleset texts = (slice_get-map)
 
--- where there are no letters there are no units
+-- an empty text has an empty source
 pub no_units : {A B : Type 0} (f : A → B) (xs : List A) → map f xs ≡ [] → xs ≡ []
 no_units f [] e = refl
 no_units f (x ∷ xs) e = absurd cc
@@ -20,7 +20,7 @@ abbrev pub placed : {A : Type 0} → Text → Result A Fault → Result A Placed
 placed left (Ok found) = Ok found
 placed left (Err e) = Err (e, left)
 
--- a look at place 0 of a source is a look at the first letter
+-- a look at index 0 of a source is a look at the first code unit
 pub first_look : (letter : ℕ → Letter) (units : List ℕ) → seen (map letter units) ≡ placed (map letter units) (ascii_at letter 0 units)
 unfolding look_at
 first_look letter [] = refl
@@ -30,7 +30,7 @@ first_look letter (unit ∷ units) = go (letter unit)
     go (Plain n) = refl
     go Bad = refl
 
--- where a letter is seen there is a unit, and a step takes it off
+-- where a code unit is seen there is one in the source, and a step takes it
 pub stepped : (letter : ℕ → Letter) (units : List ℕ) (c : ℕ) → seen (map letter units) ≡ Ok (Some c)
     → length (drop 1 units) + 1 ≡ length units
 unfolding look_at

@@ -1,4 +1,5 @@
--- Durations letter by letter: a letter that goes on leads to the next state, and the row of a state's line is returned where it fits.
+-- Durations code unit by code unit: a code unit that goes on leads to the next state, and the row of a state's line is returned
+-- where it fits.
 use Rattle.std.proofs.Common.{◌≡◌, ℕ, zero, suc, ◌≤◌, IsTrue, [], ◌∷◌, ◌++◌, Ok, Err, refl, ◌∙◌, arith, append_assoc, append-nil, nat_le, if◌then◌else◌}
 use Rattle.std.proofs.lemmas.Bool.{leb-true, le-leb}
 use Rattle.ixdtf_grammar.specs.declared.profile.Profile.{Profile}
@@ -23,7 +24,7 @@ use Rattle.ixdtf_reading.proofs.code.GrowingDigits.{decimal_snoc}
 
 -- ---- digits
 
--- each letter is a digit
+-- each code unit is a digit
 abbrev pub AllDigits : Text → Type 0
 AllDigits [] = Unit {0}
 AllDigits (Plain c ∷ rest) = IsTrue (digit c) × AllDigits rest
@@ -64,7 +65,7 @@ below_front greatest ds more h = let a = leb-true _ _ h in let b = decimal_grows
 
 -- ---- lines
 
--- a line at which a letter is looked at
+-- a line at which a code unit is looked at
 abbrev pub Asks : Line → Type 0
 Asks (line front goes_on ends at_other) = Unit {0}
 Asks (scanned front e) = ⊥
@@ -76,7 +77,7 @@ state_asks profile (between (in_times s dates [])) = tt
 state_asks profile s = tt
 
 module _ {E : Type 0} (fault : Row → E) (profile : Profile) where
-  -- ---- a letter that goes on
+  -- ---- a code unit that goes on
 
   by_look : {A : Type 0} (name : LineName) (l : Line) (c : ℕ) (x y : Read E A) → Goes l c → (if (look_of fault name l).goes_on c then x else y) ≡ x
   by_look name (line front goes_on ends at_other) c x y h = rw h refl

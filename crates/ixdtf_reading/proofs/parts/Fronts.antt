@@ -35,7 +35,7 @@ not_there test holds h none = false_from_ne_true test (λ yes. none (h.0 yes))
 none_there : (test : Bool) (holds : Type 0) → Exact test holds → IsFalse test → ¬ holds
 none_there test holds h fails there = both_ways test fails (h.1 there)
 
--- a reading that takes each front of the part, and gives nothing else, tells whether one stands in front
+-- a reading that takes each front of the part, and returns nothing else, tells whether one stands in front
 exact : (part : Text → DateRecord → Type 0) (text : Text) (read : Read Placed DateRecord) (stopped : Row → Type 0)
     → OnRead error_of read (FrontIs part text) stopped
     → ((front : Text) (date : DateRecord) (rest : Text) → text ≡ front ++ rest → part front date → read ≡ Ok (date, rest))

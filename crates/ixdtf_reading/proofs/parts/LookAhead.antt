@@ -19,7 +19,7 @@ use Rattle.ixdtf_grammar.specs.table.Rows.Place.{end, other, bad, anywhere}
 use Rattle.ixdtf_reading.specs.reading.Looks.{row_of}
 use Rattle.ixdtf_reading.specs.reading.Brackets.{sight_at}
 
--- ---- letters that are passed
+-- ---- code units that are passed
 
 skipped_no_equals : (c : ℕ) → IsTrue (skipped c) → IsFalse (equals c)
 skipped_no_equals c h = grind (arith, nat_tests)
@@ -53,7 +53,7 @@ module _ {E : Type 0} (fault : Row → E) where
   over_joined [] text rest h = rw h refl
   over_joined (part ∷ parts) text rest h = rw (h.1, h.2.1) (over_letter h.2.0 _ h.2.2 ∙ over_joined parts h.0 rest h.3)
 
-  -- the letters of the line of the sight
+  -- the code units of the line of the sight
   pub over_scanned : (text rest : Text) → LetterOfKey text → sight_at fault (text ++ rest) ≡ sight_at fault rest
   over_scanned text rest h =
       rw (h.2, h.3.1) (over_letter h.3.0 _ (key_lead_skipped h.3.0 h.3.2) ∙ over_joined h.4.0 h.1 rest h.4.1)

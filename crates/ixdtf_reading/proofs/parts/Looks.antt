@@ -1,4 +1,4 @@
--- One look at a line: a letter that goes on is read further, a row that fits is returned; and back.
+-- One look at a line: a code unit that goes on is read further, a row that fits is returned; and back.
 use Rattle.std.proofs.Common.{◌≡◌, ℕ, zero, suc, ◌<◌, ◌⊎◌, Bool, true, false, IsTrue, IsFalse, [], ◌∷◌, ◌++◌, Ok, Err, Option, Some, None, refl, sym, ap, ◌∙◌}
 use Rattle.std.proofs.Common.{inl, inr, arith, append_assoc, if◌then◌else◌}
 use Rattle.ixdtf_grammar.specs.language.Letters.{Text, Class, digit}
@@ -265,7 +265,7 @@ one_as_digits t h = (h.0, [], h.1, h.2, refl)
 
 -- ---- looks where the text may end
 
--- the text ends, or goes on with a letter of the class
+-- the text ends, or goes on with a code unit of the class
 abbrev pub Peeked : Class → Text → Option ℕ → Text → Type 0
 Peeked class text None rest = (text ≡ []) × (rest ≡ [])
 Peeked class text (Some c) rest = (text ≡ Plain c ∷ rest) × IsTrue (class c)
@@ -315,7 +315,7 @@ module _ {E : Type 0} (fault : Row → E) (name : LineName) (front : Shape) (goe
 
 -- ---- going on, or staying
 
--- the text ends, or another letter than one of the class stands next, and not Bad
+-- the text ends, or another code unit than one of the class stands next, and not Bad
 abbrev pub NotNext : Class → Text → Type 0
 NotNext class [] = Unit {0}
 NotNext class (Bad ∷ rest) = ⊥

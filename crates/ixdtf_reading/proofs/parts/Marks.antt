@@ -1,4 +1,4 @@
--- A hyphen that may stand before digits: where one stands it is taken off, and where a digit stands it stays; and back.
+-- A hyphen that may stand before digits: where one stands it is taken, and where a digit stands it stays; and back.
 use Rattle.std.proofs.Common.{◌≡◌, ℕ, zero, suc, ◌<◌, ◌⊎◌, Bool, true, false, IsTrue, IsFalse, [], ◌∷◌, ◌++◌, Ok, Err, refl, sym, ◌∙◌, inl, inr, arith}
 use Rattle.std.proofs.Common.{if◌then◌else◌}
 use Rattle.std.proofs.lemmas.Bool.{both_ways, eqb-true}

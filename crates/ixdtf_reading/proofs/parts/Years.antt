@@ -1,4 +1,4 @@
--- A year is read exactly: a year gives its number and the rest, a row of a year's lines is returned; and back.
+-- A year is read exactly: for a year its number and the rest are returned, and a row of a year's lines is returned; and back.
 use Rattle.std.proofs.Common.{◌≡◌, ◌≢◌, ℕ, Bool, true, false, IsTrue, IsFalse, [], ◌∷◌, ◌++◌, Ok, refl, ◌∙◌, inl, inr, arith, ℤ, nat_eq, ◌&&◌}
 use Rattle.std.proofs.lemmas.Bool.{and_parts, and_from, both_ways, eqb-true, eq-eqb, ne_eqb}
 use Rattle.std.proofs.lemmas.Bool.Decides.{nat_tests}
@@ -45,7 +45,7 @@ abbrev pub YearFront : Text → ℤ → Text → Type 0
 YearFront text year rest = (years : Text) × (text ≡ years ++ rest) × Year years year
 
 module _ {E : Type 0} (fault : Row → E) where
-  -- a first letter that is a digit leads to a year of four digits, a sign to an extended one
+  -- a first code unit that is a digit leads to a year of four digits, a sign to an extended one
   four_digit_start : (c : ℕ) (text : Text) → IsTrue (digit c) → year_at fault (Plain c ∷ text) ≡ four_digit_year_at fault c text
   unfolding year_at
   four_digit_start c text h = rw (goes fault (of_date year_start) c text tt (grind (arith, nat_tests)), digit_no_sign c h) refl

@@ -50,7 +50,7 @@ no_sign_lead c h unsigned = at (or_cases _ (sign c) h)
     at (inl g) = g
     at (inr g) = absurd (both_ways _ unsigned g)
 
--- a name begins with a letter that a name begins with
+-- a name begins with a code unit that a name begins with
 pub first_letter : (text : Text) → ZoneName text → (c : ℕ) × (more : Text) × (text ≡ Plain c ∷ more) × IsTrue (zone_lead c)
 first_letter text h = (h.3.0, h.1, rw (h.2, h.3.1) refl, h.3.2)
 
@@ -64,7 +64,7 @@ lift_name reader row c text more is lead inside slashed f = ([], text, refl, at 
     at (inl h) = rw h inside
     at (inr h) = rw h slashed
 
--- the row at which the first letter is looked for
+-- the row at which the first code unit is looked for
 lift_start : (reader : Reader) (name : LineName) (row : Row) (text : Text) → row.name ≡ name → Before reader name [] [] text → front_of (table reader name) []
     → Stops (table reader name) row.place row.error text → Fits reader row [] text
 lift_start reader name row text is stands shape at = ([], text, refl, rw is stands, ([], text, refl, rw is shape, rw is at))
@@ -191,7 +191,7 @@ module _ {E : Type 0} (fault : Row → E) where
   unfolding name_alone_at
   alone_slash_row place e front rest f at = rw (slash_row fault false place e front rest f at) refl
 
-  -- from its first letter on
+  -- from its first code unit on
   alone_read : (c : ℕ) (text more : Text) → text ≡ Plain c ∷ more → IsTrue (zone_lead c)
       → OnRead fault (name_alone_at fault text) (λ name rest. (rest ≡ []) × IsZoneName text name) (λ row. FitsIn of_zone false row text)
   unfolding name_alone_at
@@ -210,7 +210,7 @@ module _ {E : Type 0} (fault : Row → E) where
       at_next name rest h None left g = let whole : text ≡ h.0 = h.1 ∙ rw g.0 (append-nil h.0) in (g.1, rw whole (h.2, h.3))
       at_next name rest h (Some d) left g = absurd (true≢false (sym g.1))
 
-  -- a name is read from its first letter on
+  -- a name is read from its first code unit on
   iana_lead : (text rest : Text) → ZoneName text → iana_identifier_at fault (text ++ rest) ≡ name_alone_at fault (text ++ rest)
   unfolding iana_identifier_at
   iana_lead text rest h = let first = first_letter text h in rw first.2 (rw (goes fault _ first.0 _ tt first.3) refl)
@@ -244,7 +244,7 @@ module _ {E : Type 0} (fault : Row → E) where
   abbrev zone_record : ℕ → TimeShape → TimeRecord → Zone
   zone_record c shape time = Offset (minutes_of c time)
 
-  -- a sign leads to a time, and the first letter of a name to a name
+  -- a sign leads to a time, and the first code unit of a name to a name
   zone_sign_lead : StartsWithSign clocks.MinuteOffset zone_record (identifier_at fault)
   unfolding identifier_at signed_alone_at
   zone_sign_lead c h body = rw (goes fault _ c body tt (or_right _ _ h), h) refl

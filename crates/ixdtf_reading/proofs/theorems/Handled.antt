@@ -114,7 +114,7 @@ module _ {T U F : Type 0} (number : U → ℕ) (step : Step T U F) (handler : F)
   pub handled_accepted : Handled number step handler reader text result → (found : Parsed) → result ≡ Ok found → Accepted reader text
   handled_accepted h found is = let gives = (h.ok found).0 is in accepted reader text (parsed gives.read, handed number h.calls, gives.whole)
 
-  -- each call's reply is the pair that it was handed
+  -- each call's reply is the pair that it was called with
   pub replies_own : OwnReplies step → (calls : Calls T U) (state last : F) → IsChain step state calls last
       → replies_of number calls ≡ own_replies (handed number calls)
   replies_own own [] state last chain = refl
@@ -173,7 +173,7 @@ module _ {T U F : Type 0} (number : U → ℕ) (step : Step T U F) (handler : F)
       ∙ ap (λ replies. calendar_value (first_calendar replies)) (replies_none none h.calls handler h.last h.chain)
       ∙ ap calendar_value (first_calendar-nones h.calls)
 
-  -- without an reply none is refused
+  -- without a reply none is refused
   pub ignored_err : NoReplies step → Handled number step handler reader text result → (fault : Fault) → result ≡ Err fault
       → (fault ≢ UnrecognizedCritical) × (fault ≢ CriticalDuplicateCalendar)
   ignored_err none h fault is = elim (h.err fault is) [
@@ -216,7 +216,7 @@ module _ {T U F : Type 0} (number : U → ℕ) (step : Step T U F) (handler : F)
   pub handled_to : (last : F) → TextRead number step handler last reader text placed → HandledTo number step handler last reader text (unplaced placed)
   handled_to last read = handled_to_of number step handler reader text (unplaced placed) read.calls last read.chain (gives_result reader text _ _ placed read.gives)
 
--- what a form without a handler promises, where the handler hands each annotation back
+-- what a form without a handler promises, where the handler returns each annotation
 pub unhandled_form : {T U F : Type 0} {number : U → ℕ} {step : Step T U F} {handler : F} {reader : Reader} {text : Text} {result : Result Parsed Fault}
     → Handled number step handler reader text result → OwnReplies step → UnhandledForm reader text result
 unhandled_form {number = number} {step = step} {handler = handler} {reader = reader} {text = text} {result = Ok found} h own = let whole =

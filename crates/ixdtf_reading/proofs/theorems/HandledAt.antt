@@ -20,7 +20,7 @@ use Rattle.ixdtf_reading.proofs.theorems.OnlyOutcome.{gives_only}
 as_many : {T U : Type 0} (number : U → ℕ) (calls : Calls T U) → length (replies_of number calls) ≡ length (handed number calls)
 as_many number calls = length-map calls _ ∙ sym (length-map calls _)
 
--- a fault stands where so many letters are before it
+-- a fault stands where so many code units are before it
 pub stands_at : (reader : Reader) (text : Text) (pairs : List Pair) (replies : List Reply) (fault : Fault) (left : Text) (at : ℕ) → at + length left ≡ length text
     → TextGives reader text pairs replies (Err (fault, left)) → GivesFaultAt reader text pairs replies fault at
 stands_at reader text pairs replies fault left at is gives = elim gives [

@@ -1,4 +1,4 @@
--- Whoever replies to the pairs of a text is asked about one list of them, and gets one result.
+-- A handler that replies to the pairs of a text is called with one list of them, and there is one result.
 use Rattle.std.proofs.Common.{◌≡◌, ◌≢◌, ◌⊎◌, ℕ, Bool, true, false, List, [], ◌∷◌, ◌++◌, Option, Some, None, Result, Ok, Err, IsTrue}
 use Rattle.std.proofs.Common.{refl, sym, ap, subst, ◌∙◌, inl, inr, append_assoc, true≢false, length, arith, length-append}
 use Rattle.std.proofs.lemmas.List.{append-nil}

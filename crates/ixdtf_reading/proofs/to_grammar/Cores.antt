@@ -280,7 +280,7 @@ marked_line : (profile : Profile) (l : ClockLine) (prior : Text) → IsLater l �
 marked_line profile hour_start prior is_later mark = absurd is_later
 marked_line profile l prior is_later mark = mark
 
--- and before any line of a time, where the letter stands
+-- and before any line of a time, where `T` or `t` stands
 lettered_line : (profile : Profile) (l : ClockLine) (prior : Text) → one time_letter prior → BeforeTime (time_alone profile) l prior
 lettered_line profile hour_start prior letter = letter
 lettered_line profile l prior letter = inr letter

@@ -59,7 +59,7 @@ abbrev FitsAnywhere : Profile → Text → Text → Row → Type 0
 FitsAnywhere profile left front row =
     InDuration profile row.name [] × front_of (line_of false row.name) front × Stops (line_of false row.name) row.place row.error left
 
--- ---- letters and numbers
+-- ---- code units and numbers
 
 or_other : (x y : Bool) → IsTrue (x || y) → IsFalse x → IsTrue y
 or_other true y h misses = absurd (both_ways _ misses refl)
@@ -81,7 +81,7 @@ any_integer date text g h = h
 any_integer time text g h = inl h
 
 module _ {E : Type 0} (fault : Row → E) (profile : Profile) where
-  -- what is known of the state after a letter, or of the row of its fault
+  -- what is known of the state after a code unit, or of the row of its fault
   abbrev OnState : Result State E → (State → Type 0) → (Row → Type 0) → Type 0
   OnState (Ok to) found stopped = found to
   OnState (Err e) found stopped = IsRowFault fault e stopped
@@ -91,7 +91,7 @@ module _ {E : Type 0} (fault : Row → E) (profile : Profile) where
   state_if true x y found stopped yes_case no_case = yes_case refl
   state_if false x y found stopped yes_case no_case = no_case refl
 
-  -- ---- one letter more
+  -- ---- one code unit more
 
   -- a state that says so of the front, or a row that fits at it, before this text
   abbrev Kept : Text → Text → Result State E → Type 0
@@ -149,7 +149,7 @@ module _ {E : Type 0} (fault : Row → E) (profile : Profile) where
   to_mark (in_dates s dates) prior ds c front is b in_range mark = absurd (both_ways _ refl mark)
   to_mark (in_times s dates times) prior ds c front is b in_range mark = (prior, c, is, b, in_range, mark)
 
-  -- a letter of a group behind its digits
+  -- the letter of a unit behind the digits of a group
   group_kept : (left : Text) (context : Context) (prior ds : Text) (c : ℕ) (front : Text) → front ≡ prior ++ (ds ++ (Plain c ∷ [])) → IsContext profile prior context
       → InRange ds
       → IsTrue (designator (half_of context) c)

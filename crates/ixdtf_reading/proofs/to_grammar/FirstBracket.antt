@@ -72,7 +72,7 @@ ZoneFront text zone rest = (inside : Text) × (text ≡ inside ++ (Plain 93 ∷ 
 
 -- ---- rows
 
--- no row of a line with nothing before it fits where a letter goes on
+-- no row of a line with nothing before it fits where a code unit goes on
 goes_here : (goes_on : Class) (at_end : Ending) (at_other : ℕ → Fault) (c : ℕ) (more : Text) → IsTrue (goes_on c) → (place : Place) (e : Fault)
     → Stops (line nothing goes_on at_end at_other) place e (Plain c ∷ more) → ⊥
 goes_here goes_on at_end at_other c more goes (end left) e at = absurd (grind (arith, at.0))
@@ -125,7 +125,7 @@ of_pairs row text reads h start opens = (start, text, refl, subst (λ n. InBrack
 module _ {E : Type 0} (fault : Row → E) where
   -- ---- names
 
-  -- a name's letters were read
+  -- a name's code units were read
   after_name_read : (text : Text) (name : List ℕ) (rest : Text) → NameFront text name rest
       → OnRead fault (next_by (name_look fault true closing) rest) (λ d left. rest ≡ Plain 93 ∷ left) (λ row. FitsIn of_zone true row text)
   unfolding next_by look_at
@@ -216,7 +216,7 @@ module _ {E : Type 0} (fault : Row → E) where
         sighted c text more is lead key (sight_at fault text) (subst (OnSight fault more)
         (sym (ap (sight_at fault) is ∙ over_letter fault c more (key_lead_skipped c key))) (sight_read fault more))
 
-    -- from the first letter on
+    -- from the first code unit on
     inside_read : (c : ℕ) (text more : Text) → text ≡ Plain c ∷ more → IsTrue ((zone_lead or sign) c)
         → BracketRead (start ++ text) (inside_at fault critical c text)
     unfolding inside_at

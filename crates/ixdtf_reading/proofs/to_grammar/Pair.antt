@@ -36,7 +36,7 @@ FitsInPair text row = (l : PairLine) × InPair l × (row.name ≡ of_pair l) × 
 one_more : (shape : Shape) (c : ℕ) (text : Text) → shape (Plain c ∷ []) → many shape text → many shape (Plain c ∷ text)
 one_more shape c text h m = ((Plain c ∷ []) ∷ m.0, (text, refl, h, m.1))
 
--- what a value has after its first letter
+-- what a value has after its first code unit
 abbrev Tail : Shape
 Tail = many (one value_char) then many (one hyphen then ValueRun)
 
@@ -75,7 +75,7 @@ stays AtStart = refl
 stays Inside = no_tail
 stays AfterHyphen = inl refl
 
--- a letter leads so from a state to the next
+-- a code unit leads so from a state to the next
 abbrev Grows : ℕ → ValueState → ValueState → Type 0
 Grows c state next = (last : ValueState) (text : Text) → Reach next last text → Reach state last (Plain c ∷ text)
 
@@ -100,7 +100,7 @@ grows_again c h AtStart text r = absurd r
 grows_again c h Inside text r = char_value c text h r
 grows_again c h AfterHyphen text r = inr (grow_then Tail Value (one hyphen) c (λ t. char_value c t h) text r)
 
--- ---- letters
+-- ---- code units
 
 key_lead_goes : (c : ℕ) → IsTrue (key_lead c) → IsTrue (key_char c)
 key_lead_goes c h = grind (arith, nat_tests)
@@ -170,7 +170,7 @@ module _ {E : Type 0} (fault : Row → E) where
         ([], Plain c ∷ rest, refl, ([], refl), refl, (c, rest, refl, rw (no_key, no_equals), refl, refl)),
       )))
 
-  -- from its first letter on
+  -- from its first code unit on
   abbrev WholeKey : Text → List ℕ → Text → Type 0
   WholeKey text key rest = (part : Text) × (text ≡ part ++ (Plain 61 ∷ rest)) × Key part × (part ≡ map Plain key)
 
@@ -195,7 +195,7 @@ module _ {E : Type 0} (fault : Row → E) where
   value_more state next c rest grows (Err e) h =
       (h.0, h.1, (h.2.0, (Plain c ∷ h.2.1.0, h.2.1.1, onto c h.2.1.2, grows h.2.0 h.2.1.0 h.2.1.3, h.2.1.4, h.2.1.5)))
 
-  -- another letter
+  -- another code unit
   value_out : (state : ValueState) (c : ℕ) (rest : Text) → Stops (pair_line (value_line state)) (other (Plain c ∷ rest)) (value_other state) (Plain c ∷ rest)
       → ReadsValue state (Plain c ∷ rest) (stepped fault state c rest steps.Stops)
   value_out state c rest at = (row_of (of_pair (value_line state)) (other (Plain c ∷ rest)) (value_other state), refl, (state, ([], Plain c ∷ rest, refl, stays state, refl, at)))
@@ -204,7 +204,7 @@ module _ {E : Type 0} (fault : Row → E) where
   abbrev ReadsRest : Text → Type 0
   ReadsRest rest = (state : ValueState) → ReadsValue state rest (value_run fault state rest)
 
-  -- at a letter that takes this step
+  -- at a code unit that takes this step
   at_letter : (state : ValueState) (c : ℕ) (rest : Text) (step : ValueStep) → value_step state c ≡ step
       → ReadsValue state (Plain c ∷ rest) (stepped fault state c rest step) → ReadsValue state (Plain c ∷ rest) (value_run fault state (Plain c ∷ rest))
   at_letter state c rest step is h = subst (ReadsValue state (Plain c ∷ rest)) (sym (by_step fault state c rest step is)) h

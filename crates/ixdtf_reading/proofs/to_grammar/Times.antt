@@ -50,7 +50,7 @@ abbrev marks : Bool → Text
 marks true = Plain 58 ∷ []
 marks false = []
 
--- a digit stands next where no colon was taken off
+-- a digit stands next where no colon was taken
 abbrev Starts : Bool → Text → Type 0
 Starts true rest = Unit {0}
 Starts false rest = (c : ℕ) × (more : Text) × (rest ≡ Plain c ∷ more) × IsTrue (digit c)
@@ -197,7 +197,7 @@ module _ {E : Type 0} (fault : Row → E) where
       open_end seconds t e x next ends = fits after_second tt (end rest) e front rest is (t, x) (next, ends, refl)
       open_end fractions t e x next ends = fits after_fraction tt (end rest) e front rest is (t, x) (next, ends, refl)
 
-      -- at a letter that may not follow
+      -- at a code unit that may not follow
       open_other : (shape : TimeShape) (t : TimeRecord) (c : ℕ) (more : Text) (e : Fault) → ClockOf clock shape front t → rest ≡ Plain c ∷ more
           → IsFalse ((follow_of brackets clock).letters c) → e ≡ (follow_of brackets clock).at_other → Closed clock shape (Plain c ∷ more)
           → Fitting (row_of (line_after clock shape) (other rest) e)
@@ -355,7 +355,7 @@ module _ {E : Type 0} (fault : Row → E) where
     clock_stops x (other left) e rest h at = rw at.5 (open_other h.0 rest h.1 x.0 x.1 at.0 at.1 e h.2 at.2 at.3 at.4 (rw at.2 at h.3))
     clock_stops x place e rest h at = absurd at
 
-    -- at a letter that may not follow
+    -- at a code unit that may not follow
     other_read : (x : OpenTime) (rest : Text) → TimeFront clock text x rest → (c : ℕ) (more : Text) → rest ≡ Plain c ∷ more
         → IsFalse ((follow_of brackets clock).letters c) → IsRowFault fault ((follow_look fault brackets clock x).at_other c rest) Fitting
     other_read x rest h c more next out =

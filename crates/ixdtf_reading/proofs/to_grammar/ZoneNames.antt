@@ -84,7 +84,7 @@ module _ {E : Type 0} (fault : Row → E) where
     bad_read false whole front rest is h =
         (row_of (of_zone after_zone_slash) (bad (Bad ∷ rest)) NonAsciiCodePoint, refl, (after_zone_slash, refl, (front, Bad ∷ rest, is, h, (rest, refl, refl, refl))))
 
-    -- a slash where the name may not end is another letter
+    -- a slash where the name may not end is another code unit
     out_read : (may_end : Bool) (c : ℕ) (whole front rest : Text) → whole ≡ front ++ (Plain c ∷ rest) → Begun may_end front → IsFalse (zone_char c)
         → IsFalse (slash c && may_end) → ReadsMore whole front (Plain c ∷ rest)
         (name_stops (fault (row_of (of_zone after_zone_slash) (other (Plain c ∷ rest)) IanaCharPostSeparator)) may_end (Plain c ∷ rest))
@@ -114,7 +114,7 @@ module _ {E : Type 0} (fault : Row → E) where
         (run_read rest false whole (front ++ (Plain c ∷ [])) next (slash_may may_end front c h slashed)))
         (out_read may_end c whole front rest is h no_char))
 
-    -- from its first letter on
+    -- from its first code unit on
     pub name_read : (c : ℕ) (text more : Text) → text ≡ Plain c ∷ more → IsTrue (zone_lead c)
         → OnRead fault (name_run fault true text) (NameFront text) (λ row. FitsIn of_zone brackets row text)
     unfolding name_run

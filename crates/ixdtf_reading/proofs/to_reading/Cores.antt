@@ -53,7 +53,7 @@ use Rattle.ixdtf_reading.proofs.to_reading.Times.{closed_at_end, Closed, IsLater
 use Rattle.ixdtf_reading.proofs.to_reading.ClockRows.{RowsBehind, Refuses, TimeLead}
 use Rattle.ixdtf_reading.proofs.to_reading.ClockRows.{hour_start_row, clock_lead, over_time, start_rows, later_rows, over_clock, clock_rows}
 
--- a letter that goes on in no time
+-- a code unit that does not go on in any time
 abbrev OutsideTimes : ℕ → Type 0
 OutsideTimes c = IsFalse (digit c) × IsFalse (colon c) × IsFalse (decimal_mark c)
 
@@ -296,7 +296,7 @@ module _ {E : Type 0} (fault : Row → E) where
   unfolding marked_core_at
   over_nothing prior none body = rw none
 
-  -- behind a letter a time starts with its hour, and else in its own way
+  -- behind `T` or `t` a time starts with its hour, and else in its own way
   abbrev mark_lead : (prior : Text) → TimeMark prior → TimeLead fault Clock.Time (marked_core_at fault) (after_time None) prior
   mark_lead prior (inl none) = record { start = marked_time_at fault; starts = lone_starts; over = over_nothing prior none }
   mark_lead prior (inr letter) = clock_lead fault Clock.Time (marked_core_at fault) (after_time None) prior (over_letter prior letter)

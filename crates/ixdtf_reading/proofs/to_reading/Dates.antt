@@ -1,4 +1,4 @@
--- A date gives its record and the rest, and each row of a date's lines is returned.
+-- For a date its record and the rest are returned, and each row of a date's lines is returned.
 use Rattle.std.proofs.Common.{◌≡◌, ℕ, ◌<◌, ◌⊎◌, Bool, true, false, [], ◌++◌, Ok, Err, refl, sym, ap, ◌∙◌, inl, inr, arith, append_assoc, ℤ, nat_le, ◌&&◌}
 use Rattle.std.proofs.lemmas.{Bool.{and_parts, and_from, leb-true, le-leb, false_from_ne_true}, Bool.Decides.nat_tests}
 use Rattle.ixdtf_grammar.specs.declared.records.DateRecord.{DateRecord}

@@ -38,7 +38,7 @@ use Rattle.ixdtf_reading.proofs.parts.Looks.{RowsRead, ◌before◌, ◌till◌,
 use Rattle.ixdtf_reading.proofs.parts.DurationRuns.{AllDigits, all_digits, some_all, digits_snoc, below_front, Asks, Over}
 use Rattle.ixdtf_reading.proofs.parts.DurationRuns.{Stays, stays, one_letter, letter_stops, run_stops}
 
--- ---- letters
+-- ---- code units
 
 designator_no_digit : (half : Half) (c : ℕ) → IsTrue (designator half c) → IsFalse (digit c)
 designator_no_digit date c h = grind (arith, h, nat_tests)

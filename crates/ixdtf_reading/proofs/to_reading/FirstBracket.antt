@@ -36,7 +36,7 @@ use Rattle.ixdtf_reading.proofs.to_reading.ZoneNames.{StopsName, name_takes, nam
 use Rattle.ixdtf_reading.proofs.to_reading.Pair.{pair_text, pair_takes, pair_rows}
 use Rattle.ixdtf_reading.proofs.to_grammar.FirstBracket.{InBracket, IsBracket}
 
--- ---- letters
+-- ---- code units
 
 no_exclamation : (c : ℕ) → IsTrue ((zone_lead or sign) c) → IsFalse (exclamation c)
 no_exclamation c h = grind (arith, nat_tests)
@@ -92,7 +92,7 @@ module _ {E : Type 0} (fault : Row → E) where
 
   -- ---- names
 
-  -- what the first letter leads to
+  -- what the first code unit leads to
   abbrev ReadsInside : Bool → Text → Read E Bracket → Type 0
   ReadsInside critical text given =
       (c : ℕ) × (more : Text) × (text ≡ Plain c ∷ more) × IsTrue ((zone_lead or sign) c) × (inside_at fault critical c text ≡ given)
@@ -172,7 +172,7 @@ module _ {E : Type 0} (fault : Row → E) where
 
   -- ---- zones
 
-  -- a zone and `]`, from the zone's first letter on
+  -- a zone and `]`, from the zone's first code unit on
   zone_takes : (critical : Bool) (inside : Text) (zone : Zone) (rest : Text) → IsZone inside zone
       → ReadsInside critical (inside ++ (Plain 93 ∷ rest)) (Ok (zoned (record { critical = critical; zone = zone }), rest))
   zone_takes critical inside zone rest (inl h) =

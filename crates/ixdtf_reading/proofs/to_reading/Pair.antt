@@ -43,7 +43,7 @@ pub record PairText (text : Text) (pair : Pair) : Type 0 where
 pub pair_text : {text : Text} {pair : Pair} (h : IsPair text pair) → PairText (h.keys ++ (Plain 61 ∷ (h.values ++ (Plain 93 ∷ [])))) pair
 pair_text h = record { keys = h.keys; values = h.values; is = refl; is_key = h.is_key; is_value = h.is_value; key = h.key; value = h.value }
 
--- ---- letters
+-- ---- code units
 
 key_lead_goes : (c : ℕ) → IsTrue (key_lead c) → IsTrue (key_char c)
 key_lead_goes c h = grind (arith, nat_tests)
@@ -61,15 +61,15 @@ lead_no_exclamation c h = grind (arith, nat_tests)
 no_value : (c : ℕ) → IsFalse ((value_char or hyphen or closing) c) → IsFalse (value_char c) × IsFalse (hyphen c) × IsFalse (closing c)
 no_value c h = (grind (arith, nat_tests), grind (arith, nat_tests), grind (arith, nat_tests))
 
--- ---- letters that are read over
+-- ---- code units that are read over
 
--- the letters of two runs in a row
+-- the code units of two runs in a row
 letters_more : {E : Type 0} (front more : List ℕ) (r : Read E (List ℕ)) → with_letters front (with_letters more r) ≡ with_letters (front ++ more) r
 letters_more [] more r = refl
 letters_more (c ∷ front) more r = rw (letters_more front more r)
 
 module _ {E : Type 0} where
-  -- the text is letters that lead from a run to a run
+  -- the text is code units that lead from a run to a run
   record IsOver (run next : Text → Read E (List ℕ)) (text : Text) : Type 0 where
     letters : List ℕ
     is : text ≡ map Plain letters
@@ -125,7 +125,7 @@ module _ {E : Type 0} (fault : Row → E) where
 
   -- ---- values
 
-  -- what the step at a letter returns
+  -- what the step at a code unit returns
   abbrev pub stepped : ValueState → ℕ → Text → ValueStep → Read E (List ℕ)
   stepped state c rest step =
       elim step [
@@ -139,7 +139,7 @@ module _ {E : Type 0} (fault : Row → E) where
   unfolding value_run
   by_step state c rest step h = ap (stepped state c rest) h
 
-  -- a letter leads into a value from each of its states
+  -- a code unit leads into a value from each of its states
   value_letter : (state : ValueState) (c : ℕ) → IsTrue (value_char c) → IsOver (value_run fault state) (value_run fault Inside) (Plain c ∷ [])
   value_letter state c h = over_one c (λ rest. by_step state c rest (GoesOn Inside) (rw h))
 

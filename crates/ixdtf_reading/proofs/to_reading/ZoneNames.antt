@@ -29,14 +29,14 @@ StopsName brackets (other left) e rest =
 StopsName brackets (bad left) e rest = ⊥
 StopsName brackets (anywhere left) e rest = ⊥
 
--- a slash does not go on as a letter of a name, and what a name begins with does
+-- a slash does not go on as a code unit of a name, and what a name begins with does
 slash_no_char : (c : ℕ) → IsTrue (slash c) → IsFalse (zone_char c)
 slash_no_char c h = rw (eqb-true c 47 h)
 
 pub lead_char : (c : ℕ) → IsTrue (zone_lead c) → IsTrue (zone_char c)
 lead_char c h = rw h
 
--- what stops a name in some brackets is no letter of it
+-- what ends a name in some brackets is not a code unit of it
 no_letter : (brackets : Bool) (c : ℕ) → IsFalse (zone_letters brackets c) → IsFalse (zone_char c) × IsFalse (slash c)
 no_letter true c h = let both = or_parts _ _ h in or_parts _ _ both.0
 no_letter false c h = or_parts _ _ h
@@ -47,7 +47,7 @@ plain_faithful [] (y ∷ ys) h = absurd cc
 plain_faithful (x ∷ xs) [] h = absurd cc
 plain_faithful (x ∷ xs) (y ∷ ys) h = let e : xs ≡ ys = plain_faithful xs ys cc in cc
 
--- letters in front of the others
+-- code units in front of the others
 abbrev pub with_letters : {E : Type 0} → List ℕ → Read E (List ℕ) → Read E (List ℕ)
 with_letters [] r = r
 with_letters (c ∷ cs) r = with_letter c (with_letters cs r)
@@ -61,7 +61,7 @@ letters_ok [] rest = refl
 letters_ok {E} (c ∷ cs) rest = rw (letters_ok {E = E} cs rest)
 
 module _ {E : Type 0} (fault : Row → E) where
-  -- the text is letters that are read over
+  -- the text is code units that are read over
   abbrev IsOver : Text → Type 0
   IsOver text = (cs : List ℕ) × (text ≡ map Plain cs) × ((rest : Text) → name_run fault true (text ++ rest) ≡ with_letters cs (name_run fault true rest))
 

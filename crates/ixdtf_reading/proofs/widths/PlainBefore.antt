@@ -1,5 +1,6 @@
--- What stands before a line is plain, and what is asked of the rest is asked of letters before the first Bad alone. So a row
--- that fits a text with Bad in it is a row of Bad, or fits each text with the same letters before the first Bad.
+-- What stands before a line is plain, and what the line asks of the rest depends only on the code units before the first `Bad`.
+-- So a row that fits a text with `Bad` in it is a row of `Bad`, or fits each text with the same code units before the first
+-- `Bad`.
 use Rattle.std.proofs.Common.{◌≡◌, ◌⊎◌, List, ◌++◌, inl, inr, sym, ap, ◌∙◌, subst, append_assoc}
 use Rattle.ixdtf_grammar.specs.declared.profile.Profile.{Profile}
 use Rattle.ixdtf_grammar.specs.language.Letters.{Text}
@@ -192,7 +193,8 @@ before_line (parse_duration profile) name pairs = besides (alone (in_duration pr
 abbrev pub row_moved : Text → Row → Row
 row_moved rest row = record { name = row.name; place = moved_to rest row.place; error = row.error }
 
--- A row that fits a text with Bad stands behind plain letters, and is a row of Bad, or fits the other text too, behind the same letters.
+-- A row that fits a text with `Bad` stands behind plain code units, and is a row of `Bad`, or fits the other text too, behind
+-- the same code units.
 pub fits_move : (reader : Reader) (row : Row) (pairs : List Pair) (text other_text : Text) → Sees text other_text → Fits reader row pairs text
     → (front : Text) × IsPlain front × (text ≡ front ++ left_at row.place)
     × (BeginsBad row.error (left_at row.place) ⊎ ((rest : Text) × (other_text ≡ front ++ rest) × Fits reader (row_moved rest row) pairs other_text))

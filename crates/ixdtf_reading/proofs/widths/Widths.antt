@@ -1,4 +1,4 @@
--- Two widths: numbers from 1 to 126 are the same letters in each, and the first other one is Bad as a 16-bit unit.
+-- Two widths: numbers from 1 to 126 are the same code units in each, and the first other number is `Bad` as a 16-bit code unit.
 use Rattle.std.proofs.Common.{◌≡◌, ◌⊎◌, ℕ, suc, ◌-◌, length, arith, Bool, true, false, cond, IsTrue, IsFalse, List, [], ◌∷◌, ◌++◌, not, All, Any, if◌then◌else◌, refl, sym, ◌∙◌, ap, subst, inl, inr}
 use Rattle.std.specs.List.{list_any}
 use Rattle.std.proofs.lemmas.List.Elements.{All-nil, All-cons, All-head, All-tail}
@@ -42,7 +42,7 @@ same_letters (n ∷ numbers) all =
     let first = shared_letter n (All-head (λ x. IsTrue (is_shared x)) n numbers all) in
     let others = same_letters numbers (All-tail (λ x. IsTrue (is_shared x)) n numbers all) in λ i. first i ∷ others i
 
--- the mask has the letters before the first number that is not shared
+-- the mask has the code units before the first number that is not shared
 mask_sees : (numbers : List ℕ) → IsTrue (list_any (λ n. not (is_shared n)) numbers) → Sees (wide_text numbers) (byte_text (mask numbers))
 mask_sees [] h = absurd cc
 mask_sees (n ∷ numbers) h = by_first _ refl (λ is. mask_sees numbers (rw is at h))
@@ -63,7 +63,7 @@ derived_plain reader text found pairs (as_identified h) = zone_plain text _ h
 derived_plain reader text found pairs (as_named h) = plain_name.plain text h.0
 derived_plain reader text found pairs (as_lasting h) = duration_plain _ text _ h
 
--- the text has its first Bad behind so many letters
+-- the text has its first Bad behind so many code units
 abbrev FirstBadAt : Text → ℕ → Type 0
 FirstBadAt text at = (front more : Text) × IsPlain front × (text ≡ front ++ (Bad ∷ more)) × (at ≡ length front)
 
@@ -134,7 +134,8 @@ module _ (text other_text : Text) (sees : Sees text other_text) where
   outcome_fault (bracketed kind) outcome h = with_pairs_fault kind outcome h
   outcome_fault reader outcome h = alone_fault reader outcome h
 
-  -- What a text with Bad gives: the fault of the first Bad, there, or what each text with the same letters before it gives.
+  -- The outcome of a text with `Bad`: the fault of the first `Bad`, at its place, or the outcome of each text with the same
+  -- code units before it.
   place_moves : (reader : Reader) (fault : Fault) (at : ℕ) → HasUnhandledFaultAt reader text fault at
       → BadOr text fault at (HasUnhandledFaultAt reader other_text fault at)
   place_moves (bracketed kind) fault at h = unhandled_fault_moves (bracketed kind) text other_text sees fault at h
@@ -218,7 +219,7 @@ first_not_shared (n ∷ numbers) (Plain c ∷ front) more plain is =
       not_so,
     )
 
--- no letter of 8-bit units is Bad
+-- no 8-bit code unit is `Bad`
 no_bad_byte : (numbers : List ℕ) (front more : Text) → byte_text numbers ≡ front ++ (Bad ∷ more) → ⊥
 no_bad_byte [] [] more is = cc
 no_bad_byte [] (x ∷ front) more is = cc
@@ -240,7 +241,7 @@ pub non_ascii_is_wide : NonAsciiIsWide
 non_ascii_is_wide (bracketed kind) numbers at h = never_unhandled (bracketed kind) numbers at h
 non_ascii_is_wide reader numbers at h = never_alone reader numbers [] at h
 
--- numbers are the same letters in both widths, or some of them is not shared
+-- numbers are the same text in both widths, or one of them is not shared
 sees_or_same : (numbers : List ℕ) → Sees (wide_text numbers) (byte_text (mask numbers)) ⊎ (wide_text numbers ≡ byte_text numbers)
 sees_or_same [] = inr refl
 sees_or_same (n ∷ numbers) = by_first _ refl (sees_or_same numbers)

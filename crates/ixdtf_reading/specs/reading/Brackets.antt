@@ -27,19 +27,20 @@ sight_at fault [] = Err (fault (row_of (of_bracket first_bracket_scan) (end []) 
 sight_at fault (Bad ∷ rest) = Err (fault (row_of (of_bracket first_bracket_scan) (bad (Bad ∷ rest)) NonAsciiCodePoint))
 sight_at fault (Plain c ∷ rest) = if equals c then Ok true else (if closing c then Ok false else sight_at fault rest)
 
--- Why a bracket is refused that is no name, and where: with an `=` before any `]` it is a pair, whose key does not go on with
--- what stands behind the letters of a key, and else a name, which does not with what stands behind those of a name.
+-- Why a bracket is refused that is not a name, and where: with an `=` before any `]` it is a pair, whose key does not go on
+-- with what stands behind the code units of a key. Else it is a name, which does not go on with what stands behind those of a
+-- name.
 abbrev pub refusal : Result Bool Placed → Fault → Text → Text → Placed
 refusal (Ok true) name behind_key behind_name = (AnnotationKeyChar, behind_key)
 refusal (Ok false) name behind_key behind_name = (name, behind_name)
 refusal (Err e) name behind_key behind_name = e
 
--- why a name is refused where its letters go no further, and it may end there or not
+-- why a name is refused where its code units end, by whether it may end there
 abbrev pub name_fault : Bool → Fault
 name_fault true = IanaChar
 name_fault false = IanaCharPostSeparator
 
--- whether the next letter is of the class
+-- whether the next code unit is of the class
 abbrev pub next_is : Class → Option ℕ → Bool
 next_is class None = false
 next_is class (Some c) = class c
@@ -78,7 +79,7 @@ offset_in_bracket_at fault c text = do
   next ← next_by (follow_look fault true clocks.MinuteOffset time.0) time.1
   Ok (Offset (minutes_of c time.0.1), next.1)
 
--- what stands in a first bracket and its `]`, by its first letter
+-- what stands in a first bracket and its `]`, by its first code unit
 unfoldable pub inside_at : {E : Type 0} → (Row → E) → Bool → ℕ → Text → Read E Bracket
 inside_at fault critical lead text =
     if sign lead then noted critical (offset_in_bracket_at fault lead (drop 1 text))

@@ -90,7 +90,7 @@ module _ {T U F : Type 0} (number : U → ℕ) (step : Step T U F) (handler last
   TextReadAfter core has_bracket rest result =
       (kind : CoreKind) (text : Text) → core_at error_of kind text ≡ Ok ((core, has_bracket), rest) → TextRead (bracketed kind) text result
 
-  -- For what was returned of a whole text: a fault stands behind so many letters.
+  -- For what was returned for a whole text: a fault stands behind so many code units.
   abbrev pub TextReadTo : {X : Type 0} → (X → Parsed) → Reader → Text → Result X StopAt → Type 0
   TextReadTo view reader text (Ok x) = TextRead reader text (Ok (view x))
   TextReadTo view reader text (Err why) = (left : Text) × (why.at + length left ≡ length text) × TextRead reader text (Err (fault_of_stop why.stop, left))

@@ -84,7 +84,7 @@ abbrev pub yielded : {X Y : Type 0} → (X → Y) → Result X Stop → Result Y
 yielded view (Ok x) = Ok (view x)
 yielded view (Err e) = Err (fault_of_stop e)
 
--- the same, with what was still to be read after it
+-- the same, with what was remaining after it
 abbrev pub yielded_at : {X Y : Type 0} → (X → Y) → Result X Stop → Text → Result Y Placed
 yielded_at view (Ok x) left = Ok (view x)
 yielded_at view (Err e) left = Err (fault_of_stop e, left)
@@ -94,17 +94,17 @@ abbrev pub Yields : {X Y : Type 0} → (X → Y) → Result X Stop → Result Y 
 Yields view (Ok x) wanted = wanted ≡ Ok (view x)
 Yields view (Err e) wanted = wanted ≡ Err (fault_of_stop e)
 
--- the same, with what was still to be read after it
+-- the same, with what was remaining after it
 abbrev pub YieldsAt : {X Y : Type 0} → (X → Y) → Result X Stop → Text → Result Y Placed → Type 0
 YieldsAt view (Ok x) left wanted = wanted ≡ Ok (view x)
 YieldsAt view (Err e) left wanted = wanted ≡ Err (fault_of_stop e, left)
 
--- what a function returned of the letters that were still to be read, and what it left of them, is what reading gives
+-- what a function returned for the remaining input, and what it left of it, is what reading returns
 abbrev pub Reads : {X Y : Type 0} → (ℕ → Letter) → (X → Y) → Unread → Result X Stop → Unread → (Text → Read Placed Y) → Type 0
 Reads letter view old (Ok x) new reading = reading (map letter old.rest) ≡ Ok (view x, map letter new.rest)
 Reads letter view old (Err e) new reading = reading (map letter old.rest) ≡ Err (fault_of_stop e, map letter new.rest)
 
--- what reading gives of the letters that were still to be read is what it gives from where a function left them, or its stop
+-- what reading returns for the remaining input is what it returns from where a function left it, or its stop
 abbrev pub GoesOn : {X Y : Type 0} → (ℕ → Letter) → Unread → Result X Stop → Unread → (Text → Read Placed Y) → (X → Text → Read Placed Y) → Type 0
 GoesOn letter old (Ok x) new reading further = reading (map letter old.rest) ≡ further x (map letter new.rest)
 GoesOn letter old (Err e) new reading further = reading (map letter old.rest) ≡ Err (fault_of_stop e, map letter new.rest)
@@ -116,15 +116,16 @@ Settles named (Ok x) (Err e) = ⊥
 Settles named (Err stop) (Ok y) = ⊥
 Settles named (Err stop) (Err e) = named e ≡ fault_of_stop stop
 
--- looks at letters that are then taken are paid for by the letters; so many looks more were made at most, and none is lost
+-- a look at a code unit that is then taken is paid for by it; at most so many looks more were made, and the count did not
+-- decrease
 abbrev pub Spends : ℕ → Unread → Unread → Type 0
 Spends more old new = (new.looks + length new.rest ≤ old.looks + length old.rest + more) × (old.looks ≤ new.looks)
 
--- so many looks more than the letters pay for, and no more than so many in all
+-- so many looks more than the taken code units pay for, and no more than so many in all
 abbrev pub SpendsInAll : ℕ → ℕ → Unread → Unread → Type 0
 SpendsInAll more all old new = Spends more old new × (new.looks ≤ old.looks + all)
 
--- so many looks more than the letters pay for, and so many where nothing stopped
+-- so many looks more than the taken code units pay for, and so many where nothing stopped
 abbrev pub SpendsOr : {X : Type 0} → ℕ → ℕ → Unread → Result X Stop → Unread → Type 0
 SpendsOr more found old (Ok x) new = Spends found old new
 SpendsOr more found old (Err e) new = Spends more old new
@@ -148,7 +149,7 @@ Checks view (Err e) wanted test fault = (fault_of_stop e ≡ fault) × IsFalse t
 abbrev pub end_look : Look Placed
 end_look = look_for none None faults.InvalidEnd
 
--- the look for a hyphen or a digit, with the errors at the end and at another letter
+-- the look for a hyphen or a digit, with the errors at the end and at another code unit
 abbrev pub hyphen_look : Fault → Fault → Look Placed
 hyphen_look at_end other = look_for (hyphen or digit) (Some at_end) other
 
@@ -156,7 +157,7 @@ hyphen_look at_end other = look_for (hyphen or digit) (Some at_end) other
 abbrev pub closing_look : Fault → Look Placed
 closing_look fault = look_for closing (Some faults.AnnotationClose) fault
 
--- what a look for a digit finds, with the error at another letter
+-- what a look for a digit finds, with the error at another code unit
 abbrev pub digit_seen : Fault → Result (Option ℕ) Fault → Result ℕ Fault
 digit_seen other (Ok None) = Err abrupt_digit
 digit_seen other (Ok (Some c)) = if digit c then Ok c else Err other

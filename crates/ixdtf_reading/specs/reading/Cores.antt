@@ -38,7 +38,7 @@ hour_look fault = record {
   at_bad = λ text. fault (row_of (of_time time_start) (bad text) NonAsciiCodePoint);
 }
 
--- a core, and whether a bracket follows, whose `[` is taken off; else the text ends
+-- a core, and whether a bracket follows, whose `[` is taken; else the text ends
 abbrev pub ClosedCore : Type 0
 ClosedCore = Core × Bool
 

@@ -1,4 +1,4 @@
--- Reading a duration, letter by letter.
+-- Reading a duration, code unit by code unit.
 use Rattle.std.specs.Prelude.{ℕ, List, [], ◌∷◌, ◌++◌, Option, Result, Ok, Err, Some, None, nat_le, if◌then◌else◌}
 use Rattle.ixdtf_grammar.specs.declared.profile.Profile.{Profile}
 use Rattle.ixdtf_grammar.specs.declared.records.Sign.{Sign}
@@ -102,7 +102,7 @@ abbrev pub to_fraction : Context → Text → State
 to_fraction (in_dates s dates) ds = started
 to_fraction (in_times s dates times) ds = at_mark s dates times ds
 
--- The state after a letter with which the state's line goes on, before this text, or the fault of a whole line.
+-- The state after a code unit with which the state's line goes on, before this text, or the fault of a whole line.
 unfoldable pub step : {E : Type 0} → (Row → E) → Profile → Text → State → ℕ → Result State E
 step fault profile left started c = if sign c then Ok (signed (sign_of c)) else Ok (between (in_dates Positive []))
 step fault profile left (signed s) c = Ok (between (in_dates s []))

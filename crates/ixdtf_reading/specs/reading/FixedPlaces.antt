@@ -23,17 +23,17 @@ abbrev pub ◌>>?◌ : {A B : Type 0} → Option A → (A → Option B) → Opti
 None >>? go = None
 (Some x) >>? go = go x
 
--- the first letter, where it is of the class
+-- the first code unit, where it is of the class
 abbrev pub first_in : Class → Text → Option ℕ
 first_in class [] = None
 first_in class (Bad ∷ rest) = None
 first_in class (Plain c ∷ rest) = if class c then Some c else None
 
--- the letter at a place, where it is of the class
+-- the code unit at a place, where it is of the class
 abbrev pub letter_place : Class → ℕ → Text → Option ℕ
 letter_place class place text = first_in class (drop place text)
 
--- the letter at a place, or 0 where none stands there
+-- the code unit at a place, or 0 where there is none
 abbrev pub first_byte : Text → ℕ
 first_byte [] = 0
 first_byte (Bad ∷ rest) = 0
@@ -42,7 +42,7 @@ first_byte (Plain c ∷ rest) = c
 abbrev pub byte_place : ℕ → Text → ℕ
 byte_place place text = first_byte (drop place text)
 
--- what a digit counts as the first of two and as the second, and 100 for a letter that is none
+-- the value of a digit as the first of two and as the second, and 100 for any other code unit
 abbrev pub tens_value : ℕ → ℕ
 tens_value c = if digit c then 10 * digit_value (Plain c) else 100
 

@@ -31,7 +31,7 @@ row_of name place fault = record { name = name; place = place; error = fault }
 abbrev pub Placed : Type 0
 Placed = Fault × Text
 
--- an error before a text, whatever the letter
+-- an error before a text, whatever the code unit
 abbrev pub before : Fault → Text → Placed
 before fault text = (fault, text)
 
@@ -46,7 +46,7 @@ end_before (Some fault) text = Some (fault, text)
 abbrev pub error_of : Row → Placed
 error_of row = (row.error, left_at row.place)
 
--- one look: the letters that go on, and in a text the faults at its end, at another letter and at Bad
+-- one look: the code units that go on, and in a text the faults at its end, at another code unit and at `Bad`
 pub record Look (E : Type 0) : Type 0 where
   pub goes_on : Class
   pub at_end : Text → Option E
@@ -81,7 +81,7 @@ look_of fault name (whole front e) = record {
 abbrev pub look_at_line : {E : Type 0} → (Row → E) → LineName → Look E
 look_at_line fault name = look_of fault name (line_of true name)
 
--- the look for letters of the class, with the errors at the end and at another letter
+-- the look for code units of the class, with the errors at the end and at another code unit
 abbrev pub look_for : Class → Option Fault → Fault → Look Placed
 look_for class at_end fault = record {
   goes_on = class;
@@ -90,17 +90,17 @@ look_for class at_end fault = record {
   at_bad = before NonAsciiCodePoint;
 }
 
--- the look for a digit, with the error at another letter
+-- the look for a digit, with the error at another code unit
 abbrev pub digit_look : Fault → Look Placed
 digit_look fault = look_for digit (Some abrupt_digit) fault
 
--- the next letter, or nothing at the end, where Bad is this fault
+-- the next code unit, or nothing at the end, where `Bad` is this fault
 unfoldable pub look_at : {E : Type 0} → E → Text → Result (Option ℕ) E
 look_at at_bad [] = Ok None
 look_at at_bad (Bad ∷ rest) = Err at_bad
 look_at at_bad (Plain c ∷ rest) = Ok (Some c)
 
--- the next letter, as the code looks at it
+-- the next code unit, as the code looks at it
 abbrev pub seen : Text → Result (Option ℕ) Placed
 seen text = look_at (NonAsciiCodePoint, text) text
 
@@ -112,7 +112,7 @@ abbrev pub needed : {E : Type 0} → Look E → Option ℕ → Text → Read E �
 needed l None text = missing (l.at_end text) (l.at_bad text)
 needed l (Some c) text = if l.goes_on c then Ok (c, drop 1 text) else Err (l.at_other c text)
 
--- the next letter, taken off where the line goes on with it
+-- the next code unit, taken where the line goes on with it
 unfoldable pub next_by : {E : Type 0} → Look E → Text → Read E ℕ
 next_by l text = do
   next ← look_at (l.at_bad text) text
@@ -121,7 +121,7 @@ next_by l text = do
 abbrev pub letter_at : {E : Type 0} → (Row → E) → LineName → Text → Read E ℕ
 letter_at fault name text = next_by (look_at_line fault name) text
 
--- so many letters of the line, one after the other
+-- so many code units of the line, one after the other
 unfoldable pub digits_by : {E : Type 0} → Look E → ℕ → Text → Read E Text
 digits_by l zero text = Ok ([], text)
 digits_by l (suc n) text =
@@ -135,7 +135,7 @@ abbrev pub number_of : {E : Type 0} → Read E Text → Read E ℕ
 number_of (Ok x) = Ok (decimal x.0, x.1)
 number_of (Err e) = Err e
 
--- where the text may end: nothing, or the next letter, taken off
+-- where the text may end: nothing, or the next code unit, taken
 abbrev pub peeked : {E : Type 0} → Look E → Option ℕ → Text → Read E (Option ℕ)
 peeked l None text = Ok (None, text)
 peeked l (Some c) text = if l.goes_on c then Ok (Some c, drop 1 text) else Err (l.at_other c text)
@@ -145,7 +145,7 @@ peek_by l text = do
   next ← look_at (l.at_bad text) text
   peeked l next text
 
--- a letter of the class is taken off and read on from; else reading stays
+-- a code unit of the class is taken, and reading goes on after it; else reading stays
 abbrev pub chosen : {E A : Type 0} → Class → (ℕ → Text → Result A E) → (Text → Result A E) → Option ℕ → Text → Result A E
 chosen class go stay None text = stay text
 chosen class go stay (Some c) text = if class c then go c (drop 1 text) else stay text
@@ -153,7 +153,7 @@ chosen class go stay (Some c) text = if class c then go c (drop 1 text) else sta
 abbrev pub on_next : {E A : Type 0} → (Text → E) → Class → (ℕ → Text → Result A E) → (Text → Result A E) → Text → Result A E
 on_next at_bad class go stay text = look_at (at_bad text) text >>= λ next. chosen class go stay next text
 
--- whether a mark stands where the line goes on with it or without it; it is taken off, and any other letter stays
+-- whether a mark stands where the line goes on with it or without it; it is taken, and any other code unit is not
 unfoldable pub mark_by : {E : Type 0} → Look E → Class → Text → Read E Bool
 mark_by l mark text = do
   next ← next_by l text
@@ -177,7 +177,7 @@ digit_run at_bad (Bad ∷ rest) = Err (at_bad (Bad ∷ rest))
 digit_run at_bad (Plain c ∷ rest) =
     if digit c then (digit_run at_bad rest >>= λ more. Ok (Plain c ∷ more.0, more.1)) else Ok ([], Plain c ∷ rest)
 
--- opening this opens the looks at single letters
+-- opening this opens the looks at single code units
 unfoldable pub look_readings : ℕ
 unfolding next_by digits_by peek_by mark_by in_range digit_run
 look_readings = 0

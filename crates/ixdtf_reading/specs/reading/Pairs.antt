@@ -16,7 +16,7 @@ use Rattle.ixdtf_grammar.specs.table.Rows.Place.{end, other, bad}
 use Rattle.ixdtf_reading.specs.reading.Looks.{Read, Look, Placed, look_for, ◌>>=◌, row_of, look_at_line, letter_at, peek_by, look_readings}
 use Rattle.ixdtf_reading.specs.reading.Zones.{with_letter}
 
--- The letters of a key and the `=` after them.
+-- The code units of a key and the `=` after them.
 unfoldable pub key_run : {E : Type 0} → (Row → E) → Text → Read E (List ℕ)
 key_run fault [] = Err (fault (row_of (of_pair in_key) (end []) AnnotationKeyValueSeparator))
 key_run fault (Bad ∷ rest) = Err (fault (row_of (of_pair in_key) (bad (Bad ∷ rest)) NonAsciiCodePoint))
@@ -24,29 +24,29 @@ key_run fault (Plain c ∷ rest) =
     if key_char c then with_letter c (key_run fault rest)
     else (if equals c then Ok ([], rest) else Err (fault (row_of (of_pair in_key) (other (Plain c ∷ rest)) AnnotationKeyChar)))
 
--- how far reading of a value is: before its first letter, after a letter, or after a hyphen
+-- the state of a value: before its first code unit, after a code unit, or after a hyphen
 pub data ValueState : Type 0 where
   AtStart : ValueState
   Inside : ValueState
   AfterHyphen : ValueState
 
--- what a letter does in a value: it is one of it, it closes the bracket, or it is an error
+-- what a code unit does in a value: it is one of the value, it closes the bracket, or it is an error
 pub data ValueStep : Type 0 where
   GoesOn : ValueState → ValueStep
   Ends : ValueStep
   Stops : ValueStep
 
--- the look for the first letter of a component of a value, with the error at another letter and at the end
+-- the look for the first code unit of a component of a value, with the error at another code unit and at the end
 abbrev pub component_look : Fault → Look Placed
 component_look fault = look_for value_char (Some fault) fault
 
--- the line of a value, by how far reading of it is
+-- the line of a value, by its state
 abbrev pub value_line : ValueState → PairLine
 value_line AtStart = value_start
 value_line Inside = in_value
 value_line AfterHyphen = after_value_hyphen
 
--- the error at the end of the text, and at another letter
+-- the error at the end of the text, and at another code unit
 abbrev pub value_end : ValueState → Fault
 value_end AtStart = AnnotationValueChar
 value_end Inside = AnnotationClose
@@ -57,7 +57,7 @@ value_other AtStart = AnnotationValueChar
 value_other Inside = AnnotationValueChar
 value_other AfterHyphen = AnnotationValueCharPostHyphen
 
--- a letter that is no letter of a value
+-- a code unit that is not one of a value
 abbrev pub value_mark : ValueState → ℕ → ValueStep
 value_mark Inside c = if hyphen c then GoesOn AfterHyphen else (if closing c then Ends else Stops)
 value_mark AtStart c = Stops
@@ -66,7 +66,7 @@ value_mark AfterHyphen c = Stops
 abbrev pub value_step : ValueState → ℕ → ValueStep
 value_step state c = if value_char c then GoesOn Inside else value_mark state c
 
--- The letters of a value and the `]` after them.
+-- The code units of a value and the `]` after them.
 unfoldable pub value_run : {E : Type 0} → (Row → E) → ValueState → Text → Read E (List ℕ)
 value_run fault state [] = Err (fault (row_of (of_pair (value_line state)) (end []) (value_end state)))
 value_run fault state (Bad ∷ rest) = Err (fault (row_of (of_pair (value_line state)) (bad (Bad ∷ rest)) NonAsciiCodePoint))

@@ -81,7 +81,7 @@ second_start false = digit
 abbrev pub mixed_after : {E : Type 0} → (Row → E) → Clock → TimeShape → Text → E
 mixed_after fault clock shape text = fault (row_of (line_after clock shape) (other text) (mixed clock))
 
--- the colon is taken off, and a digit stays
+-- the colon is taken, and a digit stays
 unfoldable pub after_minute_at : {E : Type 0} → (Row → E) → Clock → Bool → ℕ → ℕ → Text → Read E OpenTime
 after_minute_at fault clock colons hour minute text = on_next (bad_after fault clock (minutes_shape colons)) (seconds_after clock (second_start colons))
     (λ c rest. second_at fault clock hour minute (if colons then rest else text))

@@ -37,11 +37,11 @@ abbrev pub name_line : Bool → LineName
 name_line true = of_zone in_zone_name
 name_line false = of_zone after_zone_slash
 
--- whether the name may end after the letter, or None where the letter does not go on in it
+-- whether the name may end after the code unit, or None where the code unit does not go on in it
 abbrev pub name_step : ℕ → Bool → Option Bool
 name_step c may_end = if zone_char c then Some true else (if slash c && may_end then Some false else None)
 
--- a letter in front of the others
+-- a code unit in front of the others
 abbrev pub with_letter : {E : Type 0} → ℕ → Read E (List ℕ) → Read E (List ℕ)
 with_letter c (Ok x) = Ok (c ∷ x.0, x.1)
 with_letter c (Err e) = Err e
@@ -51,7 +51,7 @@ abbrev pub name_stops : {E : Type 0} → E → Bool → Text → Read E (List �
 name_stops after_slash true text = Ok ([], text)
 name_stops after_slash false text = Err after_slash
 
--- The letters of a name as far as they go: it may end here, or a slash stands before.
+-- The run of code units of a name: it may end here, or a slash stands before.
 unfoldable pub name_run : {E : Type 0} → (Row → E) → Bool → Text → Read E (List ℕ)
 name_run fault may_end [] = name_stops (fault (row_of (of_zone after_zone_slash) (end []) IanaCharPostSeparator)) may_end []
 name_run fault may_end (Bad ∷ rest) = Err (fault (row_of (name_line may_end) (bad (Bad ∷ rest)) NonAsciiCodePoint))
@@ -60,7 +60,7 @@ name_run fault may_end (Plain c ∷ rest) =
     else (if slash c && may_end then with_letter c (name_run fault false rest)
     else name_stops (fault (row_of (of_zone after_zone_slash) (other (Plain c ∷ rest)) IanaCharPostSeparator)) may_end (Plain c ∷ rest))
 
--- the look at what follows a name, in a bracket or where it stands alone, where the letters of the class go on
+-- the look at what follows a name, in a bracket or where it stands alone, where the code units of the class go on
 abbrev pub name_look : {E : Type 0} → (Row → E) → Bool → Class → Look E
 name_look fault in_bracket class = record {
   goes_on = class;
@@ -78,7 +78,7 @@ name_alone_at fault text = do
   next ← peek_by (name_look fault false none) name.1
   Ok (name.0, next.1)
 
--- a name that begins with a letter of the line, and the end
+-- a name that begins with a code unit of the line, and the end
 unfoldable pub iana_identifier_at : {E : Type 0} → (Row → E) → Text → Read E (List ℕ)
 iana_identifier_at fault text = do
   lead ← letter_at fault (of_zone zone_name_start) text

@@ -23,7 +23,7 @@ use ixdtf::records::{
 };
 use ixdtf::{ParseError, ParserResult};
 
-// What a caller makes of the law: where the bytes are a date-time of RFC 3339, no error comes.
+// What a caller concludes from the law: for a date-time of RFC 3339 there is no error.
 fn read_date_time<'a>(bytes: &'a [u8]) -> ParserResult<IxdtfParseRecord<'a, Utf8>>
     ensures { IsRfcDateTime (map byte_letter bytes.now) → IsOk result }
 {
@@ -31,7 +31,7 @@ fn read_date_time<'a>(bytes: &'a [u8]) -> ParserResult<IxdtfParseRecord<'a, Utf8
     IxdtfParser::from_utf8(bytes).parse()
 }
 
-// What a caller makes of the law: where the bytes are a name, no error comes.
+// What a caller concludes from the law: for a name there is no error.
 fn read_named_zone<'a>(bytes: &'a [u8]) -> Option<TimeZoneRecord<'a, Utf8>> {
     match TimeZoneParser::from_utf8(bytes).parse_iana_identifier() {
         Ok(_name) => {
@@ -45,8 +45,8 @@ fn read_named_zone<'a>(bytes: &'a [u8]) -> Option<TimeZoneRecord<'a, Utf8>> {
     }
 }
 
-// What a caller makes of the law: where a row of the fault table fits the bytes, with no annotation before it, its error
-// comes.
+// What a caller concludes from the law: where a row of the fault table fits the bytes, with no annotation before it,
+// its error is returned.
 fn read_by_the_table<'a>(bytes: &'a [u8]) -> ParserResult<IxdtfParseRecord<'a, Utf8>>
     ensures { (row : Row) → Fits reader_parse row [] (map byte_letter bytes.now) →
         returned (λ it. it) result ≡ Err row.error }
@@ -55,7 +55,8 @@ fn read_by_the_table<'a>(bytes: &'a [u8]) -> ParserResult<IxdtfParseRecord<'a, U
     IxdtfParser::from_utf8(bytes).parse()
 }
 
-// What a caller makes of the law: who passes every annotation over reads a text twice alike.
+// What a caller concludes from the law: with a handler that drops every annotation, a text is read twice with the same
+// result.
 fn reads_twice<'a>(
     bytes: &'a [u8],
 ) -> (
@@ -73,7 +74,7 @@ fn reads_twice<'a>(
     (found, again)
 }
 
-// What a caller makes of the law: where bytes are an offset and a zone, the hours of both are one.
+// What a caller concludes from the law: where bytes are an offset and a zone, both have the same hours.
 fn hours_of_both(bytes: &[u8]) -> Option<(u8, u8)>
     ensures { IfSome result (λ hours. hours.0 ≡ hours.1) }
 {
@@ -92,8 +93,8 @@ fn hours_of_both(bytes: &[u8]) -> Option<(u8, u8)>
     }
 }
 
-// What a caller makes of the laws: a date without hyphens and the same date with both, each before the same bytes, give the
-// same record, or the same error.
+// What a caller concludes from the laws: for a date without hyphens and for the same date with both, each before the
+// same bytes, the reader returns the same record or the same error.
 fn read_both_forms<'a>(
     plain: &'a [u8],
     hyphened: &'a [u8],
@@ -115,7 +116,7 @@ fn read_both_forms<'a>(
     (found, same)
 }
 
-// What a caller makes of the laws: where a hyphen stands before the month alone, the error is `DateSeparator`.
+// What a caller concludes from the laws: where a hyphen stands before the month alone, the error is `DateSeparator`.
 fn refuses_one_hyphen<'a>(bytes: &'a [u8]) -> ParserResult<IxdtfParseRecord<'a, Utf8>>
     ensures { (years months days rest : Text) → IsDateParts years months days →
         map byte_letter bytes.now ≡ years ++ (Plain 45 ∷ (months ++ (days ++ rest))) →
@@ -126,7 +127,7 @@ fn refuses_one_hyphen<'a>(bytes: &'a [u8]) -> ParserResult<IxdtfParseRecord<'a, 
     IxdtfParser::from_utf8(bytes).parse()
 }
 
-// What a caller makes of the law.
+// What a caller concludes from the law.
 fn default_date() -> DateRecord
     ensures { result ≡ record { year = pos 0; month = 0; day = 0 } }
 {
@@ -134,7 +135,7 @@ fn default_date() -> DateRecord
     DateRecord::default()
 }
 
-// What a caller makes of the law.
+// What a caller concludes from the law.
 fn default_time() -> TimeRecord
     ensures { result ≡ record { hour = 0; minute = 0; second = 0; fraction = None } }
 {
@@ -142,7 +143,7 @@ fn default_time() -> TimeRecord
     TimeRecord::default()
 }
 
-// What a caller makes of the law.
+// What a caller concludes from the law.
 fn default_date_units() -> DateDurationRecord
     ensures { result ≡ record { years = 0; months = 0; weeks = 0; days = 0 } }
 {
@@ -150,7 +151,7 @@ fn default_date_units() -> DateDurationRecord
     DateDurationRecord::default()
 }
 
-// What a caller makes of the law: bytes that are a date, or a date and a time, are no year-month.
+// What a caller concludes from the law: bytes that are a date, or a date and a time, are not a year-month.
 fn is_read_by_one(bytes: &[u8]) -> bool {
     match IxdtfParser::from_utf8(bytes).parse() {
         Ok(_date) => {
@@ -164,7 +165,7 @@ fn is_read_by_one(bytes: &[u8]) -> bool {
     }
 }
 
-// What a caller makes of the laws, in every encoding: a zone is equal to its clone.
+// What a caller concludes from the laws, in every encoding: a zone is equal to its clone.
 fn equals_its_clone<'a, T: EncodingType>(zone: &TimeZoneAnnotation<'a, T>) -> bool
     ensures { IsTrue result }
 {
@@ -176,7 +177,7 @@ fn equals_its_clone<'a, T: EncodingType>(zone: &TimeZoneAnnotation<'a, T>) -> bo
     }
 }
 
-// What a caller makes of the laws: a duration is equal to its clone.
+// What a caller concludes from the laws: a duration is equal to its clone.
 fn duration_equals_its_clone(duration: &DurationParseRecord) -> bool
     ensures { IsTrue result }
 {
@@ -188,7 +189,7 @@ fn duration_equals_its_clone(duration: &DurationParseRecord) -> bool
     }
 }
 
-// What a caller makes of the law: where there are exact nanoseconds, nothing was dropped.
+// What a caller concludes from the law: where there are exact nanoseconds, nothing was dropped.
 fn drops_nothing(fraction: &Fraction) -> bool
     ensures { IsTrue result }
 {
@@ -199,7 +200,8 @@ fn drops_nothing(fraction: &Fraction) -> bool
     }
 }
 
-// What a caller makes of the law: of the same numbers from 1 to 126 the two widths give one offset, or one error.
+// What a caller concludes from the law: for the same numbers from 1 to 126 the reader returns the same offset or the
+// same error in both widths.
 fn gives_one_offset(bytes: &[u8], units: &[u16]) -> bool
     ensures { All (λ n. IsTrue (is_shared n)) bytes.now → units.now ≡ bytes.now → IsTrue result }
 {
@@ -218,7 +220,7 @@ fn gives_one_offset(bytes: &[u8], units: &[u16]) -> bool
     }
 }
 
-// What a caller makes of the law: of the same numbers from 1 to 126 the two widths have the place of one error.
+// What a caller concludes from the law: for the same numbers from 1 to 126 the error has the same place in both widths.
 fn places_of_both(bytes: &[u8], units: &[u16]) -> Option<(usize, usize)>
     ensures { All (λ n. IsTrue (is_shared n)) bytes.now → units.now ≡ bytes.now →
         IfSome result (λ places. places.0 ≡ places.1) }
@@ -307,7 +309,7 @@ fn reads_offsets_of_both_readers(rt: HostRuntime) {
     check(&rt, "-05:30:15", hours_of_both(b"-05:30:15") == None);
 }
 
-// Whether both forms of a date are read alike, or both are refused with this error.
+// Whether both forms of a date are read with the same result, or both are refused with this error.
 fn reads_forms_alike(plain: &[u8], hyphened: &[u8], error: Option<ParseError>) -> bool {
     let (found, same) = read_both_forms(plain, hyphened);
     let as_wanted = match &found {
@@ -359,7 +361,7 @@ fn defaults_are_zero_in_each_field(rt: HostRuntime) {
     check(&rt, "a duration", default_date_units() == NO_DAYS);
 }
 
-// What a text gives where no annotation is answered.
+// The result for a text where the handler drops every annotation.
 fn unanswered(text: &'static str) -> ParserResult<Record> {
     let mut parser = IxdtfParser::from_str(text);
     parse_unanswered(&mut parser, |_annotation| None)

@@ -17,7 +17,7 @@ use std::process::Abort;
 
 // ==== Calls, as `docs/CALLING.md` shows them ====
 
-// The canonical text of a text, in the bytes that are handed in; `None` where the text is refused, or they are too few.
+// The canonical text of a text, in the given bytes; `None` where the text is refused, or the bytes are too few.
 fn canonical_of<'a>(text: &str, out: &'a mut [u8]) -> Option<&'a [u8]> {
     let Ok(parsed) = IxdtfParser::from_str(text).parse() else {
         return None;
@@ -28,7 +28,8 @@ fn canonical_of<'a>(text: &str, out: &'a mut [u8]) -> Option<&'a [u8]> {
     }
 }
 
-// What a caller makes of the contracts: what was read is printable, and what is printed is read, as an equal record.
+// What a caller concludes from the contracts: what was read is printable, and what is printed is read, as an equal
+// record.
 fn is_read_back(bytes: &[u8], out: &mut [u8]) -> bool
     ensures { IsTrue result }
 {
@@ -87,7 +88,7 @@ fn check_canonical(rt: &impl Abort, parsed: &IxdtfParseRecord<'_, Utf8>, canonic
     check_too_short(rt, parsed, count.saturating_sub(1));
 }
 
-/// The record is not printed into so many bytes, and these stay as they were.
+/// The record is not printed into so many bytes, and these are unchanged.
 fn check_too_short(rt: &impl Abort, parsed: &IxdtfParseRecord<'_, Utf8>, count: usize) {
     let mut out = UNTOUCHED;
     let short = print(parsed, &mut out[..count.min(512)]);
@@ -103,7 +104,7 @@ fn is_read_under(bytes: &[u8], profile: Profile, parsed: &IxdtfParseRecord<'_, U
     }
 }
 
-// Whether the bytes are read as the record, as 16-bit units.
+// Whether the bytes are read as the record, as 16-bit code units.
 fn is_read_wide(bytes: &[u8], parsed: &IxdtfParseRecord<'_, Utf8>) -> bool {
     let wide = Wide::of_bytes(bytes);
     match IxdtfParser::from_utf16(wide.units()).parse() {
@@ -112,7 +113,7 @@ fn is_read_wide(bytes: &[u8], parsed: &IxdtfParseRecord<'_, Utf8>) -> bool {
     }
 }
 
-/// The bytes are read as the record, under each profile, and as 16-bit units.
+/// The bytes are read as the record, under each profile, and as 16-bit code units.
 fn check_read_as(rt: &impl Abort, bytes: &[u8], parsed: &IxdtfParseRecord<'_, Utf8>) {
     let is_read = is_read_under(bytes, Profile::Crate, parsed)
         && is_read_under(bytes, Profile::Strict, parsed)
@@ -199,7 +200,8 @@ fn prints_back_what_was_read(rt: HostRuntime) {
 
 // ==== What is not ====
 
-/// The record, handed over as a reader returns it, is not printed, also not into no bytes, and the bytes are as they were.
+/// The record, passed as a reader returns it, is not printed, also not into an empty slice, and the bytes are
+/// unchanged.
 fn check_not_printable(rt: &impl Abort, what: &str, built: &ParserResult<Record>) {
     let Ok(parsed) = built else {
         assert!(rt; false, "{what}");

@@ -1,4 +1,4 @@
-//! Sources in 16-bit units. A unit from 1 to 126 is its ASCII letter, and every other stands for none.
+//! Sources in 16-bit code units. Those from 1 to 126 are ASCII characters, and every other is bad.
 
 use super::{Parsers, Reader, check, check_reader};
 use ixdtf::ParseError;
@@ -6,7 +6,7 @@ use ixdtf::encoding::{EncodingType, Utf16};
 use ixdtf::parsers::TimeZoneParser;
 use std::process::Abort;
 
-/// A text in 16-bit units, each character or each byte in one unit.
+/// A text in 16-bit code units, each character or each byte in one.
 #[derive(Drop)]
 pub(super) struct Wide {
     units: [u16; 512],
@@ -62,7 +62,7 @@ pub(super) fn refusal(reader: Reader, text: &'static str) -> Option<ParseError> 
     Parsers::from_utf16(wide.units()).refusal(reader)
 }
 
-// Whether a text, each character of which is one unit, is refused with this error at this place.
+// Whether a text, each character of which is one code unit, is refused with this error at this place.
 pub(super) fn refuses_wide_at(
     reader: Reader,
     text: &'static str,
@@ -73,7 +73,7 @@ pub(super) fn refuses_wide_at(
     Parsers::from_utf16(wide.units()).refuses_at(reader, error, at)
 }
 
-/// The reader refuses the texts beside each error with it, each at its place, where each character is one unit.
+/// The reader refuses the texts beside each error with it, each at its place, where each character is one code unit.
 pub(super) fn check_wide_refused(
     rt: &impl Abort,
     reader: Reader,
@@ -87,12 +87,12 @@ pub(super) fn check_wide_refused(
     }
 }
 
-/// The reader refuses each text for a unit that stands for no letter, at the place of this unit.
+/// The reader refuses each text for a bad code unit, at its place.
 pub(super) fn check_no_letter(rt: &impl Abort, reader: Reader, texts: &[(&'static str, usize)]) {
     check_wide_refused(rt, reader, &[(ParseError::NonAsciiCodePoint, texts)]);
 }
 
-// Whether a unit is seen as its letter, or as none.
+// Whether a code unit is seen as its ASCII character, or as a bad one.
 fn is_seen(unit: u16) -> bool {
     let letter = Utf16::get_ascii(&[unit], 0);
     match u8::try_from(unit) {

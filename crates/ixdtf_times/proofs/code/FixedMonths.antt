@@ -168,7 +168,7 @@ basic_day_is_read profile text start month date months days =
     ∙ ap (λ x. ranged_day profile x (Plain d.a ∷ Plain d.b ∷ drop (start + 4) text) (drop (start + 4) text)) (same_day month day _ _ date is_date m.value d.value)
     ∙ ap (λ t. ranged_day profile date t (drop (start + 4) text)) (sym behind)
 
--- two hyphens in front are taken off
+-- two hyphens in front are taken
 pub marked_is_read : (profile : Profile) (text : Text) → IsTrue (marks_place text) → month_day_at error_of profile text ≡ unmarked_at profile (drop 2 text)
 unfolding month_day_at marks_at mark_by next_by look_at
 marked_is_read profile text marks =
@@ -199,7 +199,7 @@ pub on_both : {A : Type 0} (found : Option A) {P R Q : A → Type 0} → ((x : A
 on_both None go is also = is
 on_both (Some x) go is also = go x is also
 
--- what was returned of a reading is what was returned of another that gives the same
+-- what was returned for a reading is what was returned for another one with the same result
 pub yields_as : {X Y : Type 0} (view : X → Y) (result : Result X Stop) (left : Text) (wanted wanted' : Result Y Placed) → wanted' ≡ wanted
     → YieldsAt view result left wanted → YieldsAt view result left wanted'
 yields_as view (Ok x) left wanted wanted' same is = same ∙ is

@@ -22,7 +22,7 @@ use Rattle.ixdtf_reading.proofs.code.FixedPlaces.{then_some, then_held, Number, 
 use Rattle.ixdtf_reading.proofs.to_reading.Times.{Closed, time_takes}
 use Rattle.ixdtf_reading.proofs.to_reading.ClockRows.{clock_starts}
 
--- the letters of an hour, a colon and a minute, the text after them, and the offset that they are
+-- the code units of an hour, a colon and a minute, the text after them, and the offset that they are
 record OffsetLetters (c : ℕ) (text : Text) (offset : MinutePrecisionOffset) : Type 0 where
   letters : Text
   time : TimeRecord
@@ -69,7 +69,7 @@ module _ (c : ℕ) (text : Text) (offset : MinutePrecisionOffset) (found : offse
   abbrev there : OffsetLetters c text offset
   there = offset_letters c text offset found
 
-  -- its letters are read as those of an hour and a minute, where nothing goes on behind them
+  -- its code units are read as those of an hour and a minute, where nothing goes on behind them
   is_read : (clock : Clock) → Closed clock colon_minutes (drop 5 text) → clock_at error_of clock text ≡ Ok ((colon_minutes, there.time), drop 5 text)
   is_read clock closed =
       ap (clock_at error_of clock) there.is ∙ time_takes error_of clock _ (clock_starts error_of clock) colon_minutes there.letters there.time

@@ -54,7 +54,7 @@ unfolding time_alone_core_at marked_core_at marked_time_at lone_time_at timed_co
 unmarked_is profile text None first other date none = rw (none, first) refl
 unmarked_is profile text (Some c) first other date none = rw (none, first, other) refl
 
--- where the first unit stands for no letter, nothing is read
+-- where the first code unit is bad, nothing is read
 pub bad_is : (profile : Profile) (text : Text) (fault : Placed) → seen text ≡ Err fault
     → time_alone_core_at error_of profile text ≡ Err fault
 unfolding time_alone_core_at marked_core_at marked_time_at

@@ -1,4 +1,4 @@
--- The function only hands its arguments on to `parse_unanswered_as`, at the public error. Assumes `Logic`.
+-- The function only passes its arguments on to `parse_unanswered_as`, at the public error. Assumes `Logic`.
 use Rattle.ixdtf.proofs.code.RaisedErrors.{refl, subst, named, sep, via, id⊢, fst∗, snd∗, Lft, Tables, ⊑_refl, ⊑_static, Lfts, fact, fact_use, tables}
 use Rattle.ixdtf.proofs.code.RaisedErrors.{tables_of, Denots, param, NamedLft, types_at, implements, insides_in, with_fact, SpecAt, run_framed, hands_on}
 use Rattle.ixdtf.proofs.code.RaisedErrors.{taken, taken_laws, Under, Got, lands}

@@ -1,4 +1,4 @@
--- What each reader gave, and what it refused.
+-- What each reader returned, and what it refused.
 use Rattle.std.proofs.Common.{refl, map}
 use Rattle.ixdtf.specs.Views.{parsed_of, zone_of}
 use Rattle.ixdtf.specs.table.Faults.{fault_of}

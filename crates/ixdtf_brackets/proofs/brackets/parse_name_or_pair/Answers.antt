@@ -32,7 +32,7 @@ returns-in_err-more-clause-bracket g c =
     let p = err_from_is_err_and c.from_residual-in_err-more.result c.from_residual-in_err-more.ensures.1 in
     rw (p.1, p.2) (more_failed _ _ _ _ _ c.in_ok-passed.ensures.letters.2 _ c.in_err-more.ensures.letters)
 
--- a name: its units are those of the letters of a key, and of the letters after them
+-- a name: its code units are those of a key, and those after them
 pub returns-then-ends_bracket-clause-bracket : goal.returns-then-ends_bracket-clause-bracket
 returns-then-ends_bracket-clause-bracket g c =
     let keys = c.in_ok-passed.ensures.letters in

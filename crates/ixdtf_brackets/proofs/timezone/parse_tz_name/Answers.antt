@@ -14,7 +14,7 @@ returns-then-not-name-clause-name g c =
     let slash : c.in_ok-name.name.state.may_end ≡ false = search rules in
     name_refused _ _ _ c.in_ok-name.ensures.letters.2 slash
 
--- the units are those of the letters that were passed over
+-- the code units are those that were passed over
 pub returns-clause-name : goal.returns-clause-name
 returns-clause-name g c =
     let passed = c.in_ok-name.ensures.letters in

@@ -3,7 +3,7 @@ use Rattle.std.proofs.Common.{◌≡◌, ℕ, List, ◌++◌, length}
 use Rattle.std.specs.Io.KnownBytes.{Appends}
 use Rattle.ixdtf_buffers.proofs.output.write_whole.Given as goal
 
--- the front that was written, and the rest, are the bytes
+-- the prefix that was written, and the rest, are the bytes
 abbrev pub invariant-writes : goal.invariant-writes
 invariant-writes g l = (front : List ℕ) × (l.bytes ≡ front ++ l.rest)
     × Appends (g.W.Write.contents l.fn.writer) (g.W.Write.contents l.writer) front

@@ -3,7 +3,7 @@ use Rattle.std.proofs.Common.{◌≡◌, ℕ, List, ◌++◌, length, Option}
 use Rattle.ixdtf_checks.specs.Progress.{Stands, GrowsBy}
 use Rattle.ixdtf_checks.proofs.checker.check_bytes.Given as goal
 
--- the lines that end in a front of the bytes were reported, and at most so many were counted; the writer is the same
+-- the lines that end in a prefix of the bytes were reported, and at most so many were counted; the writer is the same
 abbrev pub invariant-lines : goal.invariant-lines
 invariant-lines g l = (front : List ℕ) × (l.bytes ≡ front ++ l.rest)
     × (l.output.writer.ghost_name ≡ l.fn.output.writer.ghost_name) × (l.kept.tally.bytes ≡ l.fn.kept.tally.bytes)

@@ -39,7 +39,7 @@ returns-in-Some-2-clause-duration g c =
     reads_on_earlier _ _ _ _ c.args.cursor.now c.step-in-Some-2.new.self _ _ _ (to_digit _ _ _ _ found is left (in_dates c.args.sign []))
     c.parse_dated.ensures.duration
 
--- another letter stands there
+-- another code unit stands there
 pub returns-in-Some-3-clause-duration : goal.returns-in-Some-3-clause-duration
 returns-in-Some-3-clause-duration g c =
     let found : seen (map g.T.EncodingType.letter c.args.cursor.now.rest) ≡ Ok (Some c.in-Some.byte) =

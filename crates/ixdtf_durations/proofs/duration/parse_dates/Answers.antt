@@ -89,7 +89,7 @@ returns-in-Some-2-clause-dates g c =
     c.step-in-Some-2.ensures.letters ∙ ap (λ (t : List ℕ). drop 1 (map g.T.EncodingType.letter t)) c.in_ok-look.ensures.rest in
     dates_timed _ _ _ read g.T.EncodingType.letter _ refl _ _ c.date_record-in-Some-2.ensures _ found is left
 
--- another letter follows
+-- another code unit follows
 pub returns-in-Some-3-clause-refused : goal.returns-in-Some-3-clause-refused
 returns-in-Some-3-clause-refused g c =
     let read = date_added_on _ _ _ c.loop-number.invariant.far c.in_ok-number.number (map g.T.EncodingType.letter c.parse_number.new.cursor.rest)

@@ -24,7 +24,7 @@ returns-in-None-clause-group g c profile s dates times ds number =
     cc (c.in_ok-look.ensures.letter, c.in-None.is) in
     rw c.in_ok-look.ensures.rest (no_letter _ _ _ (fraction_over _ _ _ c.in_ok-fraction.ensures.fraction) profile s dates times ds none)
 
--- a letter stands there
+-- a code unit stands there
 pub returns-in-Some-clause-group : goal.returns-in-Some-clause-group
 returns-in-Some-clause-group g c profile s dates times ds number =
     let stays = letter_stays {letter = g.T.EncodingType.letter} c.in_ok-look.ensures.letter c.in-Some.is c.in_ok-look.ensures.rest in

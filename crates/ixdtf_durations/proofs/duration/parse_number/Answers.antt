@@ -24,7 +24,7 @@ returns-in_err-byte-clause-number g c =
     let p = err_from_is_err_and c.from_residual.result c.from_residual.ensures.1 in
     rw (p.1, p.2, c.in_err-byte.ensures.rest) (λ profile context at. breaks _ _ _ _ c.loop-byte.invariant.far _ c.in_err-byte.ensures.letter profile context)
 
--- the letter is no digit
+-- the code unit is not a digit
 pub returns-then-not-is_ascii_digit-clause-number : goal.returns-then-not-is_ascii_digit-clause-number
 returns-then-not-is_ascii_digit-clause-number g c =
     let stays = letter_stays {letter = g.T.EncodingType.letter} c.in_ok-byte.ensures.letter c.in-Some.is c.in_ok-byte.ensures.rest in

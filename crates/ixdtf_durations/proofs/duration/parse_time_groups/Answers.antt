@@ -67,7 +67,7 @@ loop-group-preserved g c =
       counted = omega (arith, paid, c.in_ok-rank.ensures.looks, c.loop-group.invariant.counted, c.in_ok-look.ensures.looks, c.step.ensures.looks);
     }
 
--- another letter follows, or any after a fraction
+-- another code unit follows, or any after a fraction
 pub returns-in-Some-2-clause-times : goal.returns-in-Some-2-clause-times
 returns-in-Some-2-clause-times g c s dates =
     let read = time_added_on _ _ _ c.loop-group.invariant.far c.in_ok-group.group (map g.T.EncodingType.letter c.parse_time_group.new.cursor.rest)

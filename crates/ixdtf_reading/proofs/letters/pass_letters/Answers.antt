@@ -43,7 +43,7 @@ returns-in_err-next-clause-letters g c =
       | in-Ok-Some+in-None w ↦ cc (w.found-is, c.in_err-next.was)
     ]
 
--- the letters go no further, at a letter or at the end
+-- the run ends, at a code unit or at the end
 pub returns-clause-letters : goal.returns-clause-letters
 returns-clause-letters g c =
     let far = c.loop-stop.invariant.far in
@@ -64,7 +64,7 @@ returns-clause-letters g c =
       ],
     )
 
--- a letter that stays is taken off by a step
+-- a code unit that was looked at is taken by a step
 pub returns-clause-stays : goal.returns-clause-stays
 returns-clause-stays g c some = elim c.match-look.branch [
   | in-Err w ↦ cc (w.found-is, c.in_ok-next.was)

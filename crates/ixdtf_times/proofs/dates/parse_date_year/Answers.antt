@@ -4,7 +4,7 @@ use Rattle.ixdtf_reading.specs.reading.Looks.{look_at, seen}
 use Rattle.ixdtf_reading.proofs.code.Units.{stepped}
 use Rattle.ixdtf_times.proofs.dates.parse_date_year.Goals as goal
 
--- the sign is looked at and taken off, so its look is paid for
+-- the sign is looked at and taken, so its look is paid for
 pub returns-in-Some-2-clause-looks : goal.returns-in-Some-2-clause-looks
 returns-in-Some-2-clause-looks g c =
     let old = c.args.cursor.now.rest in

@@ -1,4 +1,4 @@
--- The function only hands its arguments on to `read_as`, at the public error and cores of its kind. Assumes `Logic`.
+-- The function only passes its arguments on to `read_as`, at the public error and cores of its kind. Assumes `Logic`.
 use Rattle.ixdtf.proofs.code.HandledForms.{tables_of, refl, ⊑_static, kind_of, form}
 use Rattle.ixdtf.specs.contracts.parsers.cores.MonthDays
 use Rattle.ixdtf.proofs.parsers.cores.MonthDays.TheLaws as cores_laws

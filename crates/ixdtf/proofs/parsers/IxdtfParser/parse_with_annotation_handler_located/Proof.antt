@@ -1,4 +1,4 @@
--- The function only hands its arguments on to `read_located_as`, at `LocatedError` and cores of its kind. Assumes `Logic`.
+-- The function only passes its arguments on to `read_located_as`, at `LocatedError` and cores of its kind. Assumes `Logic`.
 use Rattle.ixdtf.proofs.code.LocatedForms.{tables_of, refl, ⊑_static, kind_of, form}
 use Rattle.ixdtf.specs.contracts.parsers.cores.DateTimes
 use Rattle.ixdtf.proofs.parsers.cores.DateTimes.TheLaws as cores_laws

@@ -1,4 +1,4 @@
--- The handler hands each annotation back.
+-- The handler returns each annotation.
 use Rattle.std.proofs.Common.{rules}
 use Rattle.ixdtf.proofs.code.Placed.{unhandled_read, unhandled_err, unhandled_place}
 use Rattle.ixdtf.proofs.parsers.IxdtfParser.read_unhandled.Goals as goal

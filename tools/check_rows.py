@@ -1,0 +1,590 @@
+#!/usr/bin/env python3
+"""check_rows.py: sees that texts in tests, examples and proofs have the errors and places of the list that was counted by hand.
+
+A row is a text, a reader and what the reader does: it accepts the text, or returns an error, at a place where the row says it. Rows are
+read from
+
+    tests      the tables that the tests of crates/ixdtf_tests walk, with handlers too
+    examples   the examples on located readers in crates/*/src, as their doc comments show them
+    proofs     the tables of computed examples in crates/ixdtf_tests/proofs
+    C          the rows of c/test_rows.h
+
+Each row has the error and the place that places.tsv has for its text, where it has the text, and that the model places.py has. What a row
+says is never taken from the library's own output.
+
+It prints what differs, one finding a line, and how many rows it read; it ends with status 1 where there is a finding, or a source has
+fewer rows than `LEAST` says, so that a table that is no longer read is seen."""
+import os
+import re
+import sys
+from functools import cache, cached_property
+from typing import Callable, Iterator, NamedTuple, Optional, Union
+
+TOOLS = os.path.dirname(os.path.abspath(__file__))
+sys.path.insert(0, TOOLS)
+import places
+from places import Annotation, Error, Fault, Handler
+
+ROOT = os.path.dirname(TOOLS)
+
+# a source has at least so many rows
+LEAST = {'tests': 850, 'examples': 24, 'proofs': 2500, 'C': 700}
+
+
+# ---------------------------------------------------------------------------------------------------------------------------------
+# Rows
+
+class Row(NamedTuple):
+    """A text, its reader, and the error and the place that a file says of it: no error where the text is accepted, and no place where the
+    file has none. `handler` makes a handler, and is None for the forms without one."""
+    path: str
+    reader: str
+    strict: bool
+    wide: bool
+    units: tuple[int, ...]
+    error: Optional[Error]
+    place: Optional[int]
+    handler: Optional[Callable[[], Handler]] = None
+
+    def __str__(self) -> str:
+        text = ''.join(map(chr, self.units))
+        return f'{self.path}: {"strict " if self.strict else ""}{self.reader} of {"16-bit " if self.wide else ""}{text!r}'
+
+
+def said(error: Optional[Error], place: Optional[int]) -> str:
+    """An error and its place in words."""
+    if error is None:
+        return 'ok'
+    name = ' '.join(it for it in error if it)
+    return name if place is None else f'{name} at {place}'
+
+
+@cache
+def counted_by_hand() -> dict[tuple, list[tuple[Error, int]]]:
+    """The errors and places of places.tsv, for each reader, profile, width and text."""
+    found = {}
+    for it in places.examples():
+        found.setdefault((it.reader, it.strict, it.wide, tuple(it.units)), []).append((it.error, it.place))
+    return found
+
+
+def listed(row: Row) -> list[tuple[Error, int]]:
+    """What places.tsv has of the text. It has no handlers."""
+    return [] if row.handler else counted_by_hand().get((row.reader, row.strict, row.wide, row.units), [])
+
+
+def modelled(row: Row) -> tuple[Optional[Error], Optional[int]]:
+    """What the model has of the text."""
+    handler = row.handler() if row.handler else places.each_replies_for_itself
+    found = places.outcome(row.reader, row.units, row.wide, row.strict, handler)
+    return (found.error, found.place) if isinstance(found, Fault) else (None, None)
+
+
+def findings(row: Row) -> Iterator[str]:
+    """Where the row differs from the list or from the model."""
+    for source, (error, place) in [('places.tsv', it) for it in listed(row)] + [('the model', modelled(row))]:
+        if error != row.error or row.place is not None and place != row.place:
+            yield f'{row} is {said(row.error, row.place)}; {source} has {said(error, place)}'
+
+
+# ---------------------------------------------------------------------------------------------------------------------------------
+# Handlers
+
+def answers_another() -> Handler:
+    """The handler that replies first the calendar `a`, then the calendar `b` with the flag of the annotation, then none, and later the
+    annotation."""
+    calls = []
+
+    def reply(pair: Annotation) -> Optional[Annotation]:
+        calls.append(pair)
+        replies = [Annotation(False, 'u-ca', 'a'), Annotation(pair.critical, 'u-ca', 'b'), None]
+        return replies[len(calls) - 1] if len(calls) <= len(replies) else pair
+    return reply
+
+
+def always(reply: Callable[[Annotation], Optional[Annotation]]) -> Callable[[], Handler]:
+    """What makes a handler that keeps no state."""
+    return lambda: reply
+
+
+GIVES_BACK = always(lambda pair: pair)
+GIVES_NONE = always(lambda pair: None)
+MAKES_CRITICAL = always(lambda pair: pair._replace(critical=True))
+TURNS_CRITICAL = always(lambda pair: pair._replace(critical=not pair.critical))
+# by their names in the tests of crates/ixdtf_tests, and in those for C
+HANDLERS = {'HandsBack': GIVES_BACK, 'RepliesNone': GIVES_NONE, 'MakesCritical': MAKES_CRITICAL, 'TurnsCritical': TURNS_CRITICAL,
+            'RepliesAnother': answers_another}
+C_HANDLERS = {'id': GIVES_BACK, 'none': GIVES_NONE, 'crit': MAKES_CRITICAL, 'flip': TURNS_CRITICAL, 'foreign': answers_another}
+
+
+# ---------------------------------------------------------------------------------------------------------------------------------
+# Values in Rattle
+
+class Named(NamedTuple):
+    """A name, without its path, and the arguments or the fields that stand behind it."""
+    name: str
+    arguments: tuple = ()
+    fields: dict = {}
+
+
+Value = Union[str, bytes, int, list, tuple, Named]
+TOKEN = re.compile(r'\s+|//[^\n]*|(?P<string>b?"(?:[^"\\]|\\.)*")|(?P<number>\d[\d_]*)|(?P<name>[A-Za-z_]\w*(?:::\w+)*)|'
+                   r'(?P<mark>[^\s\w])', re.S)
+CLOSING = {'(': ')', '[': ']', '{': '}'}
+
+
+class Values:
+    """Reads values from a place in a source on. Raises ValueError where none stands."""
+
+    def __init__(self, source: str, at: int):
+        self.tokens = ((it.lastgroup, it[0]) for it in TOKEN.finditer(source, at) if it.lastgroup)
+        self.kind, self.text = next(self.tokens)
+
+    def take(self) -> str:
+        """The next token, which is passed."""
+        text = self.text
+        self.kind, self.text = next(self.tokens, ('end', ''))
+        return text
+
+    def value(self) -> Value:
+        """The value that stands next."""
+        while self.text == '&':
+            self.take()
+        kind = self.kind
+        if self.text in ('(', '['):
+            opening = self.text
+            parts = self.parts(self.value)
+            return list(parts) if opening == '[' else tuple(parts)
+        text = self.take()
+        if kind == 'string':
+            return unescaped(text)
+        if kind == 'number':
+            return int(text.replace('_', ''))
+        if kind == 'name':
+            return self.named(text.split('::')[-1])
+        raise ValueError(f'no value: {text}')
+
+    def named(self, name: str) -> Named:
+        """A name, and what stands behind it."""
+        if self.text == '(':
+            return Named(name, tuple(self.parts(self.value)))
+        if self.text == '{':
+            return Named(name, fields=dict(self.parts(self.field)))
+        return Named(name)
+
+    def field(self) -> tuple[str, Value]:
+        """A field and its value."""
+        name, colon = self.take(), self.take()
+        if colon != ':':
+            raise ValueError(f'no field: {name}')
+        return name, self.value()
+
+    def parts(self, part: Callable) -> list:
+        """The parts between brackets."""
+        closing, found = CLOSING[self.take()], []
+        while self.text != closing:
+            found.append(part())
+            if self.text == ',':
+                self.take()
+            elif self.text != closing:
+                raise ValueError(f'no end of a part: {self.text}')
+        self.take()
+        return found
+
+
+ESCAPE = re.compile(r'\\(?:u\{(?P<code>[0-9a-f]+)\}|x(?P<byte>[0-9a-f]{2})|(?P<newline>\n\s*)|(?P<letter>.))', re.S)
+LETTERS = {'n': '\n', 't': '\t', 'r': '\r', '0': '\0', '\\': '\\', '"': '"', "'": "'"}
+
+
+def unescaped(literal: str) -> Union[str, bytes]:
+    """The value of a literal of a text or of bytes."""
+    def meant(it: re.Match) -> str:
+        number = it['code'] or it['byte']
+        return chr(int(number, 16)) if number else '' if it['newline'] else LETTERS[it['letter']]
+    text = ESCAPE.sub(meant, literal[literal.index('"') + 1:-1])
+    return text.encode('latin-1') if literal.startswith('b') else text
+
+
+# ---------------------------------------------------------------------------------------------------------------------------------
+# Tables of tests
+
+# the readers of the model, by the names that they have in the tests
+READERS = {'Parse': 'parse', 'YearMonth': 'parse_year_month', 'MonthDay': 'parse_month_day', 'Time': 'parse_time',
+           'Offset': 'parse_offset', 'Identifier': 'parse_identifier', 'IanaIdentifier': 'parse_iana_identifier', 'Duration': 'duration'}
+CONSTANT = re.compile(r'^\s*(?:pub(?:\(\w+\))? )?(?:const|static) (\w+):[^=]*=\s', re.M)
+CALL = re.compile(r'(?<!fn )\bcheck_(refused|wide_refused|no_letter|refused_in_both|refused_replies|wide_refusals)\(')
+
+
+class TestFile:
+    """A file of tests: its constants, beside those of the module above it, and the tables that its tests walk."""
+
+    def __init__(self, path: str, source: str, above: Optional['TestFile'] = None):
+        self.path, self.source, self.above = path, source, above
+
+    @cached_property
+    def constants(self) -> dict[str, int]:
+        """Where the value of each constant begins."""
+        return {it[1]: it.end() for it in CONSTANT.finditer(self.source)}
+
+    def resolved(self, value: Value) -> Value:
+        """The value, or that of the constant which it names."""
+        if not isinstance(value, Named) or value.arguments or value.fields:
+            return value
+        if value.name in self.constants:
+            return self.resolved(Values(self.source, self.constants[value.name]).value())
+        return self.above.resolved(value) if self.above else value
+
+    def rows(self) -> Iterator[Row]:
+        """The rows of all tables that are walked by name."""
+        for call in CALL.finditer(self.source):
+            arguments = Values(self.source, call.end() - 1).value()
+            values = [self.resolved(it) for it in arguments[1:]]
+            if isinstance(values[-1], list) and READERS.get(getattr(values[0], 'name', 'Parse')):
+                yield from getattr(self, call[1])(*values)
+
+    def row(self, reader: Value, text: str, error: Value, place: Optional[int], **others) -> Row:
+        """A row of these parts, of 8-bit code units where nothing else is said."""
+        units = tuple(map(ord, text)) if others.get('wide') else tuple(text.encode())
+        return Row(self.path, READERS[reader.name], False, False, units, self.error(error), place)._replace(**others)
+
+    def error(self, value: Value) -> Error:
+        """The error that a value is."""
+        named = self.resolved(value)
+        return Error(named.name, named.fields.get('location'))
+
+    def refused(self, reader: Value, table: list) -> Iterator[Row]:
+        """Texts of 8-bit code units, and where they are ASCII of 16-bit ones."""
+        for error, texts in table:
+            for text, place in self.resolved(texts):
+                yield self.row(reader, text, error, place)
+                if text.isascii():
+                    yield self.row(reader, text, error, place, wide=True)
+
+    def wide_refused(self, reader: Value, table: list) -> Iterator[Row]:
+        """Texts whose characters are 16-bit code units."""
+        for error, texts in table:
+            for text, place in self.resolved(texts):
+                yield self.row(reader, text, error, place, wide=True)
+
+    def no_letter(self, reader: Value, texts: list) -> Iterator[Row]:
+        """Texts that are refused for a bad code unit."""
+        return self.wide_refused(reader, [(Named('NonAsciiCodePoint'), texts)])
+
+    def refused_in_both(self, reader: Value, table: list) -> Iterator[Row]:
+        """Texts with their errors under both profiles."""
+        for text, error, strictly in table:
+            yield self.row(reader, text, error, None)
+            yield self.row(reader, text, strictly, None, strict=True)
+
+    def refused_replies(self, table: list, wide: bool = False) -> Iterator[Row]:
+        """Texts with a handler."""
+        for error, texts in table:
+            for asked in map(self.resolved, self.resolved(texts)):
+                form, text, kind, place = (asked.fields[it] for it in ('form', 'text', 'kind', 'place'))
+                yield self.row(form, text, error, place.arguments[0], wide=wide, handler=HANDLERS[kind.name])
+
+    def wide_refusals(self, table: list) -> Iterator[Row]:
+        """Texts of 16-bit code units with a handler."""
+        return self.refused_replies(table, wide=True)
+
+
+# ---------------------------------------------------------------------------------------------------------------------------------
+# Examples of doc comments
+
+PARSERS = {'IxdtfParser': '', 'TimeZoneParser': '', 'IsoDurationParser': 'duration'}
+EACH = re.compile(r'for \(text, error, at\) in (?=\[)')
+LOCATED = re.compile(r'let located = (\w+)::from_str\(("(?:[^"\\]|\\.)*"|text)\)\.(\w+?)(?:_with_annotation_handler)?_located\((?:Some)?\)'
+                     r'\.unwrap_err\(\);')
+EQUAL = re.compile(r'\s*assert_eq!\(\(located\.error, located\.at\), (?=\()')
+
+
+def rows_of_examples(path: str, source: str) -> Iterator[Row]:
+    """The rows of the examples on located readers in the doc comments of a source."""
+    shown = '\n'.join(it.strip().removeprefix('///') for it in source.splitlines() if it.strip().startswith('///'))
+    for located in LOCATED.finditer(shown):
+        parser, text, method = located.groups()
+        if text == 'text':
+            table = [it.end() for it in EACH.finditer(shown, 0, located.start())][-1]
+            rows = Values(shown, table).value()
+        else:
+            equal = EQUAL.match(shown, located.end())
+            rows = [(unescaped(text), *Values(shown, equal.end()).value())] if equal else []
+        for text, named, place in rows:
+            error = Error(named.name, named.fields.get('location'))
+            yield Row(path, PARSERS[parser] or method, False, False, tuple(text.encode()), error, place)
+
+
+# ---------------------------------------------------------------------------------------------------------------------------------
+# Rows for C
+
+C_TABLE = re.compile(r'^static const struct \w+ (\w+)\[\] = \{\n(.*?)^\};', re.M | re.S)
+C_ROW = re.compile(r'\{ "(?P<word>[\w-]+)", (?:"(?P<handler>\w+)", )?TEXT\("(?P<text>(?:[^"\\]|\\.)*)"\), '
+                   r'"(?:ok|error (?:AE )?(?P<error>\S+) at (?P<place>\d+))')
+C_ESCAPE = re.compile(r'\\([0-7]{1,3}|.)')
+
+
+def c_text(literal: str) -> str:
+    """The bytes of a literal in C, each as a character."""
+    return C_ESCAPE.sub(lambda it: chr(int(it[1], 8)) if it[1].isdigit() else LETTERS[it[1]], literal)
+
+
+def rows_for_c(path: str, source: str) -> Iterator[Row]:
+    """The rows of readers in the tables for C."""
+    for table, body in C_TABLE.findall(source):
+        for it in C_ROW.finditer(body) if table != 'error_rows' else ():
+            text, wide = c_text(it['text']), table == 'wide_rows'
+            units = tuple(places.units_of(text) if wide else map(ord, text))
+            error = it['error'] and (Error('AbruptEnd', it['error']) if 'error AE ' in it[0] else Error(it['error']))
+            yield Row(path, places.WORDS[it['word']], table == 'strict_rows', wide, units, error, it['place'] and int(it['place']),
+                      it['handler'] and C_HANDLERS[it['handler']])
+
+
+# ---------------------------------------------------------------------------------------------------------------------------------
+# Computed examples: terms of definitions
+
+class Term(NamedTuple):
+    """A name and its arguments, where the name has no definition here."""
+    name: str
+    arguments: tuple = ()
+
+
+Meaning = Union[Term, int, list, tuple]
+WORDS = re.compile(r'\s+|(?P<string>"[^"]*")|(?P<number>\d+(?![\w-]))|(?P<record>record \{)|(?P<mark>[(),{}]|\+\+|∷|\[\])|'
+                   r'(?P<name>[^\s(),{}]+)')
+BAD = 'Bad'
+BAD_UNIT = 0xe9  # a 16-bit code unit that is bad
+
+
+class Terms:
+    """Reads terms from a text: applications, lists and tuples."""
+
+    def __init__(self, text: str):
+        self.tokens = [(it.lastgroup, it[0]) for it in WORDS.finditer(text) if it.lastgroup]
+        self.at = 0
+
+    def peek(self) -> tuple[str, str]:
+        """The next token."""
+        return self.tokens[self.at] if self.at < len(self.tokens) else ('end', '')
+
+    def take(self) -> tuple[str, str]:
+        """The next token, which is passed."""
+        self.at += 1
+        return self.tokens[self.at - 1]
+
+    def term(self) -> tuple:
+        """A term, as a name and its arguments, where `++` and `∷` group to the right."""
+        left = self.application()
+        if self.peek()[1] in ('++', '∷'):
+            return (self.take()[1], left, self.term())
+        return left
+
+    def application(self) -> tuple:
+        """A name and its arguments, or one part alone."""
+        parts = [self.part()]
+        while self.peek()[0] != 'end' and self.peek()[1] not in ('++', '∷', ')', ',', '}'):
+            parts.append(self.part())
+        return ('apply', *parts) if len(parts) > 1 else parts[0]
+
+    def part(self) -> tuple:
+        """One part: a literal, a name, or what stands in brackets."""
+        kind, text = self.take()
+        if kind == 'record':
+            return self.passed_record()
+        if text != '(':
+            return (kind, text)
+        parts = [self.term()]
+        while self.peek()[1] == ',':
+            self.take()
+            parts.append(self.term())
+        self.take()
+        return ('tuple', *parts) if len(parts) > 1 else parts[0]
+
+    def passed_record(self) -> tuple:
+        """A record, whose fields are passed."""
+        depth = 1
+        while depth:
+            text = self.take()[1]
+            depth += text.endswith('{') - (text == '}')
+        return ('name', 'record')
+
+
+DEFINITION = re.compile(r'(\w[\w-]*)((?: \w+)*) =\s(.*)', re.S)
+IMPORT = re.compile(r'^use Rattle\.ixdtf_tests\.proofs\.(\w+)\.\{(.*)\}$', re.M)
+TABLE = re.compile(r'\w+ : (?:\(profile : Profile\) → )?(?:Compute|ShowEachRow) (.*)', re.S)
+BUILT_IN = {
+    'codes': lambda text: list(text.encode()),
+    'text_of': lambda units: units,
+    'and_bad': lambda units: units + [BAD],
+    'narrow': lambda units: units,
+    'wide': lambda units: [it if 1 <= it <= 126 else BAD for it in units],
+}
+
+
+class Proofs:
+    """The files of computed examples, by their names."""
+
+    def __init__(self, sources: dict[str, str]):
+        chunks = {name: top_level(source) for name, source in sources.items()}
+        self.imports = {name: {it.strip(): module for module, names in IMPORT.findall(source) for it in names.split(',')}
+                        for name, source in sources.items()}
+        self.definitions = {name: {it[1]: (it[2].split(), it[3]) for it in map(DEFINITION.match, of_file) if it}
+                            for name, of_file in chunks.items()}
+        self.tables = [(name, it[1]) for name, of_file in chunks.items() for it in map(TABLE.match, of_file) if it]
+
+    def meaning(self, module: str, term: tuple, local: dict[str, Meaning]) -> Meaning:
+        """What a term is in a module, where these names stand for these meanings."""
+        kind, *parts = term
+        if kind in ('++', '∷', 'tuple', 'apply'):
+            of_parts = [self.meaning(module, it, local) for it in parts]
+            if kind == '++':
+                return as_list(of_parts[0]) + as_list(of_parts[1])
+            if kind == '∷':
+                return [of_parts[0], *as_list(of_parts[1])]
+            return tuple(of_parts) if kind == 'tuple' else self.applied(of_parts[0], tuple(of_parts[1:]))
+        text = parts[0]
+        if kind == 'string':
+            return Term(text[1:-1])
+        if kind == 'number':
+            return int(text)
+        return local[text] if text in local else [] if text == '[]' else self.named(module, text)
+
+    def named(self, module: str, name: str) -> Meaning:
+        """What a name is in a module: the term that it is defined as, where it is defined here."""
+        module = self.imports.get(module, {}).get(name, module)
+        if name in BUILT_IN or name not in self.definitions.get(module, {}):
+            return Term(name)
+        parameters, body = self.definitions[module][name]
+        return Term(f'{module}.{name}') if parameters else self.meaning(module, Terms(body).term(), {})
+
+    def applied(self, function: Meaning, arguments: tuple) -> Meaning:
+        """A function and its arguments, as it is defined where it is defined here."""
+        module, dot, name = function.name.rpartition('.')
+        if name in BUILT_IN:
+            return BUILT_IN[name](*(it.name if isinstance(it, Term) else it for it in arguments))
+        parameters, body = self.definitions[module][name] if dot and module in self.definitions else ([], '')
+        if len(parameters) != len(arguments):
+            return Term(name, function.arguments + arguments)
+        return self.meaning(module, Terms(body).term(), dict(zip(parameters, arguments)))
+
+    def rows(self, folder: str) -> Iterator[Row]:
+        """The rows of all tables of examples. The first argument of a table is its reader, and the last one the examples."""
+        for module, arguments in self.tables:
+            kind, first, *others = Terms(arguments).term()
+            reader, profiles = reader_of(self.meaning(module, first, {}))
+            for text, outcome in as_list(self.meaning(module, others[-1], {})):
+                for strict in profiles:
+                    yield from rows_of_outcome(f'{folder}/{module}.antt', reader, strict, text, outcome)
+
+
+def top_level(source: str) -> list[str]:
+    """The lines that begin in the first column, each with the indented ones after it, without comments."""
+    lines = [it for it in source.splitlines() if not it.lstrip().startswith('-- ')]
+    found = []
+    for line in lines:
+        if line and not line[0].isspace() or not found:
+            found.append(line)
+        else:
+            found[-1] += '\n' + line
+    return found
+
+
+def as_list(meaning: Meaning) -> list:
+    """A list. Raises ValueError where the meaning is none."""
+    if isinstance(meaning, list):
+        return meaning
+    raise ValueError(f'no list: {meaning}')
+
+
+def reader_of(meaning: Meaning) -> tuple[str, list[bool]]:
+    """A reader and the profiles that an example is of: both where it has none or any."""
+    profile = meaning.arguments[0].name if meaning.arguments else ''
+    name = 'duration' if meaning.name == 'parse_duration' else meaning.name
+    return name, {'Crate': [False], 'Strict': [True]}.get(profile, [False, True])
+
+
+def rows_of_outcome(path: str, reader: str, strict: bool, text: list, outcome: Meaning) -> Iterator[Row]:
+    """The rows of a text and its outcome: of 16-bit code units where one is bad, and in both widths where all are
+    from 1 to 126."""
+    error, place = fault_of(text, outcome)
+    units = tuple(it if isinstance(it, int) else BAD_UNIT for it in text)
+    is_bad = BAD in text or Term(BAD) in text
+    if not is_bad:
+        yield Row(path, reader, strict, False, units, error, place)
+    if is_bad or all(1 <= it <= 126 for it in units):
+        yield Row(path, reader, strict, True, units, error, place)
+
+
+def fault_of(text: list, outcome: Meaning) -> tuple[Optional[Error], Optional[int]]:
+    """The error and the place of an outcome: it stands before what the text has left there."""
+    if outcome.name != 'refused':
+        return None, None
+    name, where, fault = outcome.arguments[0].arguments
+    location = bytes(fault.arguments[0]).decode() if fault.arguments else None
+    return Error(fault.name, location), len(text) - len(as_list(where.arguments[0]))
+
+
+ABRUPT = re.compile(r'^(abrupt_\w+) = AbruptEnd \(codes "(.*)"\)$', re.M)
+
+
+# ---------------------------------------------------------------------------------------------------------------------------------
+# All of it
+
+def read(path: str) -> str:
+    """The content of a file."""
+    with open(os.path.join(ROOT, path), encoding='utf-8') as file:
+        return file.read()
+
+
+def files(folder: str, ending: str) -> list[str]:
+    """The files below a folder whose names end so, but for what is built."""
+    found = []
+    for at, folders, names in os.walk(os.path.join(ROOT, folder)):
+        folders[:] = [it for it in folders if it != 'out']
+        found += [os.path.relpath(os.path.join(at, it), ROOT) for it in names if it.endswith(ending)]
+    return sorted(found)
+
+
+def rows_of_tests() -> Iterator[Row]:
+    """The rows of the tests."""
+    above = TestFile('crates/ixdtf_tests/src/tests.rt', read('crates/ixdtf_tests/src/tests.rt'))
+    for path in files('crates/ixdtf_tests/src/tests', '.rt'):
+        yield from TestFile(path, read(path), above).rows()
+
+
+def rows_of_proofs() -> Iterator[Row]:
+    """The rows of the computed examples."""
+    folder = 'crates/ixdtf_tests/proofs'
+    sources = {os.path.basename(it).removesuffix('.antt'): read(it) for it in files(folder, '.antt') if os.path.dirname(it) == folder}
+    proofs = Proofs(sources)
+    lines = read('crates/ixdtf_grammar/specs/table/Lines.antt')
+    errors = {name: ([], f'AbruptEnd (codes "{location}")') for name, location in ABRUPT.findall(lines)}
+    for definitions in proofs.definitions.values():
+        definitions.update(errors)
+    yield from proofs.rows(folder)
+
+
+def all_rows() -> dict[str, list[Row]]:
+    """The rows of each source."""
+    c_path = 'c/test_rows.h'
+    return {
+        'tests': list(rows_of_tests()),
+        'examples': [row for path in files('crates', '.rt') if '/src/' in path for row in rows_of_examples(path, read(path))],
+        'proofs': list(rows_of_proofs()),
+        'C': list(rows_for_c(c_path, read(c_path))),
+    }
+
+
+def main() -> int:
+    """The program."""
+    rows = all_rows()
+    found = [it for of_source in rows.values() for row in of_source for it in findings(row)]
+    found += [f'{source}: {len(rows[source])} rows are read, and {least} are wanted' for source, least in LEAST.items()
+              if len(rows[source]) < least]
+    for it in found:
+        print(it)
+    print(f'rows: {", ".join(f"{len(of_source)} of {source}" for source, of_source in rows.items())}; {len(found)} findings')
+    return 1 if found else 0
+
+
+if __name__ == '__main__':
+    sys.exit(main())

@@ -1,0 +1,223 @@
+#!/usr/bin/env python3
+"""Tests of check_rows.py: that it reads the rows of each source, and finds those that are wrong."""
+import os
+import sys
+import unittest
+
+TOOLS = os.path.dirname(os.path.abspath(__file__))
+sys.path.insert(0, TOOLS)
+import check_rows as check
+from check_rows import Proofs, Row, TestFile, Values
+from places import Annotation, Error
+
+DIGIT = Error('AbruptEnd', 'digit')
+MONTH = Error('InvalidMonthRange')
+
+
+def row(text: str, error, place, **others) -> Row:
+    """A row of `parse` and 8-bit code units, but for these parts."""
+    return Row('file', 'parse', False, False, tuple(text.encode()), error, place)._replace(**others)
+
+
+class Findings(unittest.TestCase):
+    """What is found in a row."""
+
+    def test_right(self):
+        for it in [row('2020-13-01', MONTH, 7), row('2020-13-01', MONTH, None), row('2020-01-01', None, None), row('', DIGIT, 0),
+                   row('é', Error('DateYear'), 0), row('é', Error('NonAsciiCodePoint'), 0, wide=True, units=(0xe9,)),
+                   row('11-00', Error('InvalidMonthDay'), 5, reader='parse_month_day', strict=True),
+                   row('11-00', None, None, reader='parse_month_day')]:
+            self.assertEqual(list(check.findings(it)), [])
+
+    def test_wrong(self):
+        for it in [row('2020-13-01', MONTH, 8), row('2020-13-01', Error('DateMonth'), 7), row('2020-01-01', MONTH, 7),
+                   row('2020-1', None, None), row('', Error('AbruptEnd', 'Date'), 0), row('11-00', Error('InvalidMonthDay'), 5, reader='parse_month_day')]:
+            self.assertTrue(list(check.findings(it)), it)
+
+    def test_both_sources(self):
+        # the list that was counted by hand has this text, and the model too
+        self.assertEqual(list(check.findings(row('2020-13-01', MONTH, 8))), [
+            "file: parse of '2020-13-01' is InvalidMonthRange at 8; places.tsv has InvalidMonthRange at 7",
+            "file: parse of '2020-13-01' is InvalidMonthRange at 8; the model has InvalidMonthRange at 7"])
+
+    def test_handlers(self):
+        text = '2020-01-01[!a=b][!u-ca=c][!u-ca=d]'
+        self.assertEqual(list(check.findings(row(text, Error('UnrecognizedCritical'), 16, handler=check.GIVES_BACK))), [])
+        self.assertEqual(list(check.findings(row(text, None, None, handler=check.GIVES_NONE))), [])
+        self.assertEqual(list(check.findings(row(text, Error('CriticalDuplicateCalendar'), 25, handler=check.answers_another))), [])
+        pair = Annotation(True, 'x', 'y')
+        self.assertEqual(check.TURNS_CRITICAL()(pair), Annotation(False, 'x', 'y'))
+        self.assertEqual(check.MAKES_CRITICAL()(pair), pair)
+
+    def test_a_handler_is_made_anew(self):
+        it = row('2020-01-01[a=b][!a=b]', Error('CriticalDuplicateCalendar'), 21, handler=check.answers_another)
+        self.assertEqual(list(check.findings(it)) + list(check.findings(it)), [])
+
+
+class Literals(unittest.TestCase):
+    """Values in Rattle."""
+
+    def value(self, source: str):
+        return Values(source, 0).value()
+
+    def test_values(self):
+        self.assertEqual(self.value(r'&[("a\u{e9}\x7f\"", 1_0), (b"\xff", 2)]'), [('aé\x7f"', 10), (b'\xff', 2)])
+        self.assertEqual(self.value('AbruptEnd { location: "digit", }'), check.Named('AbruptEnd', (), {'location': 'digit'}))
+        self.assertEqual(self.value('Some(5)'), check.Named('Some', (5,)))
+        self.assertEqual(self.value('[ // a comment, with "text"\n Reader::Parse,\n]'), [check.Named('Parse')])
+
+    def test_no_values(self):
+        for source in ('*error', '[1; 5]', '(1'):
+            with self.assertRaises(ValueError):
+                self.value(source)
+
+
+ABOVE = '''
+const AT_DIGIT: ParseError = AbruptEnd { location: "digit" };
+'''
+TABLES = '''
+const DATES: &[(ParseError, &[(&str, usize)])] = &[
+    (AT_DIGIT, &[("2020-", 5)]), // a digit
+    (InvalidEnd, &[("2020-01-01é", 10)]),
+];
+const BAD: &[(&str, usize)] = &[("2020\\u{130}", 4)];
+const REPLIES: &[Asked] = &[Asked { form: Form::Time, text: "T12[!a=b]", kind: Kind::HandsBack, calls: "[!a=b]", place: Some(9) }];
+fn check_refused(rt: &impl Abort, reader: Reader, rows: &[(ParseError, &[(&'static str, usize)])]) {}
+fn all() {
+    check_refused(&rt, Reader::Parse, DATES);
+    check_no_letter(&rt, Reader::Parse, BAD);
+    check_refused_in_both(&rt, Reader::MonthDay, &[("11-001", InvalidEnd, InvalidMonthDay)]);
+    check_refused_replies(&rt, &[(UnrecognizedCritical, REPLIES)]);
+}
+'''
+
+
+class Sources(unittest.TestCase):
+    """The rows of each source."""
+
+    def texts(self, rows) -> list[tuple]:
+        """The parts of rows that most tables have."""
+        return [(it.reader, it.strict, it.wide, ''.join(map(chr, it.units)), it.error and check.said(it.error, None), it.place) for it in rows]
+
+    def test_tests(self):
+        rows = list(TestFile('file', TABLES, TestFile('above', ABOVE)).rows())
+        self.assertEqual(self.texts(rows), [
+            ('parse', False, False, '2020-', 'AbruptEnd digit', 5),
+            ('parse', False, True, '2020-', 'AbruptEnd digit', 5),
+            ('parse', False, False, '2020-01-01\xc3\xa9', 'InvalidEnd', 10),
+            ('parse', False, True, '2020\u0130', 'NonAsciiCodePoint', 4),
+            ('parse_month_day', False, False, '11-001', 'InvalidEnd', None),
+            ('parse_month_day', True, False, '11-001', 'InvalidMonthDay', None),
+            ('parse_time', False, False, 'T12[!a=b]', 'UnrecognizedCritical', 9)])
+        self.assertIs(rows[-1].handler, check.GIVES_BACK)
+
+    def test_a_table_that_cannot_be_read(self):
+        with self.assertRaises(ValueError):
+            list(TestFile('file', 'check_refused(&rt, Reader::Parse, &[(*error, DATES)]);' + TABLES, TestFile('above', ABOVE)).rows())
+
+    def test_examples(self):
+        rows = check.rows_of_examples('file', '''
+/// for (text, error, at) in [
+///     ("11-8", ParseError::AbruptEnd { location: "digit" }, 4), // the end
+/// ] {
+///     let located = IxdtfParser::from_str(text).parse_month_day_located().unwrap_err();
+/// }
+/// let located = IsoDurationParser::from_str("P1").parse_located().unwrap_err();
+/// let located = IxdtfParser::from_str("T12[!a=b]").parse_time_with_annotation_handler_located(Some).unwrap_err();
+/// assert_eq!((located.error, located.at), (ParseError::UnrecognizedCritical, 9));
+''')
+        self.assertEqual(self.texts(rows), [('parse_month_day', False, False, '11-8', 'AbruptEnd digit', 4),
+                                            ('parse_time', False, False, 'T12[!a=b]', 'UnrecognizedCritical', 9)])
+
+    def test_c(self):
+        rows = list(check.rows_for_c('file', r'''
+static const struct error_row error_rows[] = {
+    { 1, "ImplAssert", "Implementation error: this error must not throw." },
+};
+
+static const struct row rows[] = {
+    { "month-day", TEXT("--\200"), "error DateMonth at 2" },
+    { "duration", TEXT("+"), "error AE DurationDesignator at 1" },
+    { "parse", TEXT("2020-01-01"), "ok date=2020,1,1" },
+};
+
+static const struct row wide_rows[] = {
+    { "duration", TEXT("P1Y\\u0080"), "error NonAsciiCodePoint at 3" },
+};
+
+static const struct handler_row handler_rows[] = {
+    { "time", "flip", TEXT("T12[!a=b]"), "ok time=12,0,0", "[!a=b]" },
+};
+'''))
+        self.assertEqual(self.texts(rows), [
+            ('parse_month_day', False, False, '--\x80', 'DateMonth', 2),
+            ('duration', False, False, '+', 'AbruptEnd DurationDesignator', 1),
+            ('parse', False, False, '2020-01-01', None, None),
+            ('duration', False, True, 'P1Y\x80', 'NonAsciiCodePoint', 3),
+            ('parse_time', False, False, 'T12[!a=b]', None, None)])
+        self.assertIs(rows[-1].handler, check.TURNS_CRITICAL)
+
+
+HELPERS = '''-- Helpers.
+abbrev pub stops_after : List Pair → LineName → Place → Fault → Outcome
+stops_after pairs name place fault = refused (row_of name place fault) pairs
+
+abbrev pub ends : List ℕ → LineName → Fault → Example
+ends front name fault = (text_of front, stops_after [] name (end []) fault)
+
+abbrev pub two : LineName → List ℕ → List ℕ → Fault → List Example
+two name front letter fault =
+    (text_of (front ++ letter), stops_after [] name (other (text_of letter)) fault)
+    ∷ ((and_bad front, stops_after [] name (bad (Bad ∷ [])) NonAsciiCodePoint) ∷ [])
+'''
+EXAMPLES = '''use Rattle.ixdtf_tests.proofs.Helpers.{ends, two}
+
+abbrev at : List ℕ → List ℕ
+at units = codes "2020-01-01T" ++ units
+
+abbrev rows : List Example
+rows =
+    two (of_date after_date) (codes "2020-01-01") (codes "x") InvalidEnd
+    -- the end
+    ++ ends (at (codes "1")) (of_clock hour_digit) (AbruptEnd (codes "digit")) ∷ []
+
+each_row : ShowEachRow parse (of_date after_date ∷ []) rows
+each_row = (refl, refl)
+
+strict : Compute (parse_month_day Strict) (
+    (wide (50 ∷ 233 ∷ []), derived (record { a = record { b = 1 } }) [])
+    ∷ [])
+strict = refl
+'''
+
+
+class ComputedExamples(unittest.TestCase):
+    """The tables of proofs."""
+
+    def test_rows(self):
+        rows = {it._replace(path='') for it in Proofs({'Helpers': HELPERS, 'Dates': EXAMPLES}).rows('proofs')}
+        wanted = set()
+        for strict in (False, True):
+            for wide in (False, True):
+                wanted.add(Row('', 'parse', strict, wide, tuple(b'2020-01-01x'), Error('InvalidEnd'), 10))
+                wanted.add(Row('', 'parse', strict, wide, tuple(b'2020-01-01T1'), DIGIT, 12))
+            wanted.add(Row('', 'parse', strict, True, tuple(b'2020-01-01\xe9'), Error('NonAsciiCodePoint'), 10))
+        wanted.add(Row('', 'parse_month_day', True, True, (50, 0xe9), None, None))
+        self.assertEqual(rows, wanted)
+
+
+class Repository(unittest.TestCase):
+    """The rows that are there."""
+
+    def test_each_source_is_read(self):
+        rows = check.all_rows()
+        for source, least in check.LEAST.items():
+            self.assertGreaterEqual(len(rows[source]), least, source)
+        of_tests = {os.path.basename(it.path) for it in rows['tests']}
+        self.assertLessEqual({'replies.rt', 'replies_in_parts.rt', 'refused.rt', 'wide_refused.rt', 'profiles.rt'}, of_tests)
+        for source in rows.values():
+            self.assertTrue(any(it.error and it.error.location for it in source))
+
+
+if __name__ == '__main__':
+    unittest.main()
