@@ -28,7 +28,7 @@ from places import Annotation, Error, Fault, Handler
 ROOT = os.path.dirname(TOOLS)
 
 # a source has at least so many rows
-LEAST = {'tests': 850, 'examples': 24, 'proofs': 2500, 'C': 700}
+LEAST = {'tests': 850, 'examples': 20, 'proofs': 2500, 'C': 700}
 
 
 # ---------------------------------------------------------------------------------------------------------------------------------
