@@ -28,7 +28,7 @@ from places import Annotation, Error, Fault, Handler
 ROOT = os.path.dirname(TOOLS)
 
 # a source has at least so many rows
-LEAST = {'tests': 850, 'examples': 24, 'proofs': 2500, 'C': 700}
+LEAST = {'tests': 850, 'examples': 20, 'proofs': 2500, 'C': 700}
 
 
 # ---------------------------------------------------------------------------------------------------------------------------------
@@ -60,17 +60,18 @@ def said(error: Optional[Error], place: Optional[int]) -> str:
 
 
 @cache
-def counted_by_hand() -> dict[tuple, list[tuple[Error, int]]]:
-    """The errors and places of places.tsv, for each reader, profile, width and text."""
+def counted_by_hand() -> dict[tuple, list[places.Example]]:
+    """The examples of places.tsv, for each reader, profile, width and text."""
     found = {}
     for it in places.examples():
-        found.setdefault((it.reader, it.strict, it.wide, tuple(it.units)), []).append((it.error, it.place))
+        found.setdefault((it.reader, it.strict, it.wide, tuple(it.units)), []).append(it)
     return found
 
 
 def listed(row: Row) -> list[tuple[Error, int]]:
-    """What places.tsv has of the text. It has no handlers."""
-    return [] if row.handler else counted_by_hand().get((row.reader, row.strict, row.wide, row.units), [])
+    """What places.tsv has of the text without a handler, and with one that replies none where no reply is refused there."""
+    found = counted_by_hand().get((row.reader, row.strict, row.wide, row.units), [])
+    return [(it.error, it.place) for it in found if row.handler is None or row.handler is GIVES_NONE and it.line != 'reply']
 
 
 def modelled(row: Row) -> tuple[Optional[Error], Optional[int]]:
@@ -503,15 +504,15 @@ def reader_of(meaning: Meaning) -> tuple[str, list[bool]]:
 
 
 def rows_of_outcome(path: str, reader: str, strict: bool, text: list, outcome: Meaning) -> Iterator[Row]:
-    """The rows of a text and its outcome: of 16-bit code units where one is bad, and in both widths where all are
-    from 1 to 126."""
+    """The rows of a text and its outcome, which no reply changes: of 16-bit code units where one is bad, and in both widths where all
+    are from 1 to 126."""
     error, place = fault_of(text, outcome)
     units = tuple(it if isinstance(it, int) else BAD_UNIT for it in text)
     is_bad = BAD in text or Term(BAD) in text
     if not is_bad:
-        yield Row(path, reader, strict, False, units, error, place)
+        yield Row(path, reader, strict, False, units, error, place, GIVES_NONE)
     if is_bad or all(1 <= it <= 126 for it in units):
-        yield Row(path, reader, strict, True, units, error, place)
+        yield Row(path, reader, strict, True, units, error, place, GIVES_NONE)
 
 
 def fault_of(text: list, outcome: Meaning) -> tuple[Optional[Error], Optional[int]]:

@@ -45,6 +45,8 @@ class Findings(unittest.TestCase):
         self.assertEqual(list(check.findings(row(text, Error('UnrecognizedCritical'), 16, handler=check.GIVES_BACK))), [])
         self.assertEqual(list(check.findings(row(text, None, None, handler=check.GIVES_NONE))), [])
         self.assertEqual(list(check.findings(row(text, Error('CriticalDuplicateCalendar'), 25, handler=check.answers_another))), [])
+        self.assertEqual(list(check.findings(row('2020-13-01', MONTH, 8, handler=check.GIVES_NONE)))[0][-37:],
+                         'places.tsv has InvalidMonthRange at 7')
         pair = Annotation(True, 'x', 'y')
         self.assertEqual(check.TURNS_CRITICAL()(pair), Annotation(False, 'x', 'y'))
         self.assertEqual(check.MAKES_CRITICAL()(pair), pair)
@@ -195,7 +197,7 @@ class ComputedExamples(unittest.TestCase):
     """The tables of proofs."""
 
     def test_rows(self):
-        rows = {it._replace(path='') for it in Proofs({'Helpers': HELPERS, 'Dates': EXAMPLES}).rows('proofs')}
+        rows = {it._replace(path='', handler=None) for it in Proofs({'Helpers': HELPERS, 'Dates': EXAMPLES}).rows('proofs')}
         wanted = set()
         for strict in (False, True):
             for wide in (False, True):

@@ -242,7 +242,8 @@ impl<'a, T: EncodingType> IxdtfParser<'a, T> {
     ///   in a key, and `AnnotationKeyValueSeparator` where the input ends in a key;
     /// - `AnnotationValueChar` where no value begins, or at another character in it, and `AnnotationValueCharPostHyphen`
     ///   where no ASCII letter or digit follows a `-`;
-    /// - `AnnotationClose` where a bracket has no `]`;
+    /// - `AnnotationClose` where the input ends after the name or the value in a bracket, or where no `]` follows the
+    ///   offset in it;
     /// - `UnrecognizedCritical` for an annotation that is critical and has another key than `u-ca`, and
     ///   `CriticalDuplicateCalendar` for one with the key `u-ca` and another value than the first such one, where at least
     ///   one of the two is critical; what follows this annotation is not read;

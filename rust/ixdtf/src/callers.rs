@@ -1,6 +1,6 @@
 // Made by tools/to_rust.py of crates/ixdtf_callers/src/callers.rt. Do not edit.
 
-//! Code that calls the readers, as a repository above this one has it.
+//! Code that calls the readers, as another repository has it.
 
 #[allow(unused_imports)]
 use crate::runtime::{HostRuntime, TryClone};
@@ -10,7 +10,7 @@ mod surface;
 
 use crate::runtime::Abort;
 
-/// What a test asks is so.
+/// Asserts what a test asks.
 fn check(rt: &impl Abort, what: &str, is_so: bool) {
     assert!(rt; is_so, "{what}");
 }

@@ -1,14 +1,14 @@
 // Made by tools/to_rust.py of crates/ixdtf_reading/src/cursor.rt. Do not edit.
 
-//! A place in a source: the units that are still to be read.
+//! A cursor: the remaining code units of a source.
 //!
-//! There is no index: a cursor keeps the end of the source that is still to be read, as one slice. So a place past the end
-//! cannot be, and a reader that refuses puts back the slice that it began with.
+//! A cursor has no index. It keeps the remaining code units as one slice, so it cannot point past the end. A reader
+//! that returns an error restores the slice that it began with.
 
 use crate::stop::{Raised, Stop};
 use crate::encoding::EncodingType;
 
-/// The units that are still to be read.
+/// The remaining code units.
 #[derive(Debug)]
 pub struct Cursor<'a, T: EncodingType> {
     rest: &'a [T::CodeUnit],
@@ -22,20 +22,20 @@ impl<'a, T: EncodingType> Cursor<'a, T> {
         }
     }
 
-    /// The units that are still to be read. They are a part of the source, and outlive the cursor.
+    /// The remaining code units. They are borrowed from the source, and outlive the cursor.
     #[inline(always)]
     pub fn rest(&self) -> &'a [T::CodeUnit] {
         self.rest
     }
 
-    /// How many units are still to be read.
+    /// How many code units remain.
     #[inline(always)]
     pub fn remaining(&self) -> usize {
         self.rest.len()
     }
 
-    /// A cursor of its own at the same place: this one keeps its rest. So a reader and its loops work on a value that nothing
-    /// else sees, and put it back at their end.
+    /// A second cursor at the same place, which takes over the count of accesses. This one keeps its remaining input. So a
+    /// reader and its loops work on a local value, and store it at their end.
     #[inline(always)]
     pub fn take(&mut self) -> Self {
         Cursor {
@@ -43,7 +43,8 @@ impl<'a, T: EncodingType> Cursor<'a, T> {
         }
     }
 
-    /// A cursor of its own at a rest that was kept: this one keeps its rest.
+    /// A second cursor at remaining input that was kept, which takes over the count of accesses. This one keeps its
+    /// remaining input.
     #[inline(always)]
     pub fn at(&mut self, rest: &'a [T::CodeUnit]) -> Self {
         Cursor {
@@ -51,8 +52,8 @@ impl<'a, T: EncodingType> Cursor<'a, T> {
         }
     }
 
-    /// Ends a reader that worked on a cursor of its own. Where it found something, this cursor goes on from there; where it
-    /// stopped, this one keeps its rest, and the stop becomes the error, at the place where it stopped.
+    /// Ends a reader that worked on a second cursor. After `Ok` this cursor goes on from there. After a stop this cursor
+    /// keeps its remaining input, and the stop becomes the error, at the place where the reader stopped.
     #[inline(always)]
     pub fn settle<R, E: Raised>(&mut self, here: Self, read: Result<R, Stop>) -> Result<R, E> {
         match read {
@@ -67,8 +68,8 @@ impl<'a, T: EncodingType> Cursor<'a, T> {
         }
     }
 
-    /// Looks at a place of the rest: `None` past its end, and `NonAsciiCodePoint` at a unit that stands for no letter.
-    /// This is the one place that calls `get_ascii`.
+    /// The code unit at an index of the remaining input, as a byte: `None` past its end, and `NonAsciiCodePoint` for a bad
+    /// one. This is the only call of `get_ascii`.
     #[inline(always)]
     pub fn look_at(&mut self, index: usize) -> Result<Option<u8>, Stop> {
         match T::get_ascii(self.rest, index) {
@@ -77,13 +78,13 @@ impl<'a, T: EncodingType> Cursor<'a, T> {
         }
     }
 
-    /// Looks at the first letter of the rest.
+    /// The first code unit of the remaining input, as a byte.
     #[inline(always)]
     pub fn look(&mut self) -> Result<Option<u8>, Stop> {
         self.look_at(0)
     }
 
-    /// Takes the first unit off, where there is one.
+    /// Skips the first code unit, where there is one.
     #[inline(always)]
     pub fn step(&mut self) {
         if let [_, rest @ ..] = self.rest {
@@ -91,8 +92,8 @@ impl<'a, T: EncodingType> Cursor<'a, T> {
         }
     }
 
-    /// Takes a digit off and returns it, as an ASCII byte. The end is `AbruptDigit`, and another letter this stop; both
-    /// stay.
+    /// Takes a digit, and returns it as an ASCII byte. The end of the input is `AbruptDigit`. Another code unit is this
+    /// stop, and is not taken.
     #[inline(always)]
     pub fn next_digit(&mut self, other: Stop) -> Result<u8, Stop> {
         match self.look()? {
@@ -105,7 +106,8 @@ impl<'a, T: EncodingType> Cursor<'a, T> {
         }
     }
 
-    /// The digit at a place of the rest, as an ASCII byte. The end is `AbruptDigit`, and another letter this stop.
+    /// The digit at an index of the remaining input, as an ASCII byte. The end of the input is `AbruptDigit`. Another code
+    /// unit is this stop.
     #[inline(always)]
     fn digit_at(&mut self, index: usize, other: Stop) -> Result<u8, Stop> {
         match self.look_at(index)? {
@@ -115,7 +117,7 @@ impl<'a, T: EncodingType> Cursor<'a, T> {
         }
     }
 
-    /// Takes two digits off and returns them, as ASCII bytes, with one test for the end.
+    /// Takes two digits, and returns them as ASCII bytes, with one test for the end.
     #[inline(always)]
     pub fn two_digits(&mut self, other: Stop) -> Result<(u8, u8), Stop> {
         if self.rest.len() < 2 {
@@ -136,14 +138,14 @@ impl<'a, T: EncodingType> Cursor<'a, T> {
         }
     }
 
-    /// Takes so many units off.
+    /// Skips `count` code units.
     #[inline(always)]
     pub fn skip(&mut self, count: usize) {
         self.rest = &self.rest[count..];
     }
 
-    /// The letter at a fixed place of the rest, as an ASCII byte, or 0 where none stands there: 0 is of no class that the
-    /// readers tell apart.
+    /// The code unit at a fixed index of the remaining input, as an ASCII byte, or 0 where there is none or a bad one: 0 is
+    /// in no class of `grammar`.
     #[inline(always)]
     pub fn byte_at(&mut self, index: usize) -> u8 {
         match self.look_at(index) {
@@ -152,7 +154,7 @@ impl<'a, T: EncodingType> Cursor<'a, T> {
         }
     }
 
-    /// The letter, where it stands at a fixed place of the rest, or `None`.
+    /// The code unit at a fixed index of the remaining input, where it is this one, or `None`.
     #[inline(always)]
     pub fn fixed_letter(&mut self, index: usize, letter: u8) -> Option<u8> {
         match self.look_at(index) {
@@ -161,7 +163,7 @@ impl<'a, T: EncodingType> Cursor<'a, T> {
         }
     }
 
-    /// Wants the end of the source: `InvalidEnd` at any letter.
+    /// Expects the end of the input: any code unit is `InvalidEnd`.
     #[inline(always)]
     pub fn close(&mut self) -> Result<(), Stop> {
         match self.look()? {

@@ -2,20 +2,20 @@
 
 //! The encodings that a source may have.
 //!
-//! The readers are written once for all encodings. They see a code unit by the ASCII byte that it stands for, and an
-//! encoding says which byte that is, or that it stands for none.
+//! The readers are generic in the encoding. They see a code unit as the ASCII byte that it stands for. An encoding says
+//! which byte that is, or that there is none.
 
 use crate::{ParseError, ParserResult};
 
 mod private {
-    /// Only this crate's encodings are encodings.
+    /// Sealed: only the encodings of this crate implement it.
     pub trait Sealed {}
 }
 
 /// An encoding of a source in code units.
 ///
-/// Each code unit is a number, and the number stands for a character: for itself, or for none that a reader takes. No crate
-/// but this one can write an encoding.
+/// Each code unit is a number. It stands for the ASCII character of this number, or for none that a reader accepts. No
+/// other crate can implement this trait.
 ///
 /// ```rust
 /// use ixdtf::ParseError;
@@ -28,21 +28,21 @@ pub trait EncodingType: private::Sealed {
     /// The code unit of a source.
     type CodeUnit: PartialEq + core::fmt::Debug + Clone;
 
-    /// The code units from `start` up to `end`, or `None` where these are not places in order within the source.
+    /// The code units from `start` up to `end`, or `None` where an index is out of range or `start` is after `end`.
     fn slice(source: &[Self::CodeUnit], start: usize, end: usize) -> Option<&[Self::CodeUnit]>;
 
-    /// The character at a place of the source, as a byte, or `None` past its end. The readers take ASCII alone, so a byte
-    /// from 128 up is a character that none of them accepts.
+    /// The code unit at an index of the source, as a byte, or `None` past its end. The readers accept ASCII alone, so none
+    /// of them accepts a byte from 128 up.
     ///
-    /// The error `NonAsciiCodePoint` comes exactly where the code unit there stands for no character.
+    /// The error is `NonAsciiCodePoint`, and is returned exactly where the code unit there stands for no character.
     fn get_ascii(source: &[Self::CodeUnit], index: usize) -> ParserResult<Option<u8>>;
 
     /// Whether the key is `u-ca`, the key of calendars (RFC 9557 section 4.1).
     fn check_calendar_key(key: &[Self::CodeUnit]) -> bool;
 }
 
-/// Sources in 8-bit code units, as UTF-8. Each is its own character, also 0 and those from 128 up, and `get_ascii` returns
-/// no error. That they are UTF-8 is not checked.
+/// Sources in 8-bit code units, as UTF-8. Each stands for itself, also 0 and those from 128 up, and `get_ascii` returns
+/// no error. Whether they are UTF-8 is not checked.
 #[derive(Clone, Debug, PartialEq)]
 pub struct Utf8;
 
@@ -66,8 +66,8 @@ impl EncodingType for Utf8 {
     }
 }
 
-/// Sources in 16-bit code units, as UTF-16. Those from 1 to 126 are their own characters, and every other stands for none,
-/// also 0 and 127. That they are UTF-16 is not checked.
+/// Sources in 16-bit code units, as UTF-16. Those from 1 to 126 stand for themselves. Every other stands for no
+/// character, also 0 and 127. Whether they are UTF-16 is not checked.
 #[derive(Clone, Debug, PartialEq)]
 pub struct Utf16;
 

@@ -1,15 +1,15 @@
 // Made by tools/to_rust.py of crates/ixdtf_grammar/src/error.rt. Do not edit.
 
-//! What a text, or a reply to an annotation, can be refused for, and what is written of it.
+//! The errors of the readers, and their texts.
 
 use core::error::Error;
 use core::fmt;
 
 /// Why a reader refused a text, or a reply to an annotation.
 ///
-/// Each error that a reader returns for a text has a row in a table, `docs/FAULTS.md` of the repository, which says at which
-/// place of the text it comes. `CriticalDuplicateCalendar` and `UnrecognizedCritical` come for replies. The names and the
-/// texts are those of `ixdtf` 0.6.7 of ICU4X, as they are spelled there.
+/// Each error that a reader returns for a text has a row in the fault table, `docs/FAULTS.md` of the repository, with
+/// its place in the text. `CriticalDuplicateCalendar` and `UnrecognizedCritical` are errors of replies. The names and
+/// the texts are those of `ixdtf` 0.6.7 of ICU4X, as they are spelled there.
 ///
 /// ```rust
 /// use ixdtf::ParseError;
@@ -30,26 +30,26 @@ use core::fmt;
 #[derive(PartialEq)]
 #[non_exhaustive]
 pub enum ParseError {
-    /// A mistake of the reader itself. No reader returns it.
+    /// An internal error. No reader returns it.
     ImplAssert,
-    /// The next code unit stands for no character. Each 8-bit one stands for one, so a `Utf8` source never has this error.
+    /// The next code unit is a 16-bit one that is not from 1 to 126. A `Utf8` source never has this error.
     NonAsciiCodePoint,
     /// No reader returns it.
     ParseFloat,
     /// The text ends where more has to follow. The location is `digit` where a digit has to follow, `Date` right after the
-    /// year of a date, and `AmbiguousAnnotation` after the `[` or `[!` of a first bracket, or in a first bracket that begins
-    /// with a lowercase letter or `_` and has no `=` and no `]`. Where there is nothing at all it is `time-numoffset` from
-    /// `parse_offset` and `TimeZoneAnnotation` from `parse_identifier`, and from `parse_month_day` it is `MonthDay` there
-    /// and after one hyphen. In a duration it is `DurationStart` where there is nothing at all, `DurationDesignator` after a
-    /// sign, `Duration` after the `P`, and `DateDurationDesignator` and `TimeDurationDesignator` in a number before its
-    /// unit, where another character than a unit has these errors too.
+    /// year of a date, and `AmbiguousAnnotation` after the `[` or `[!` of a first bracket, or in a first bracket that
+    /// begins with a lowercase letter or `_` and has no `=` and no `]`. For the empty text it is `time-numoffset` from
+    /// `parse_offset` and `TimeZoneAnnotation` from `parse_identifier`. From `parse_month_day` it is `MonthDay` for the
+    /// empty text and after one hyphen. In a duration it is `DurationStart` for the empty text, `DurationDesignator` after
+    /// a sign, `Duration` after the `P`, and `DateDurationDesignator` and `TimeDurationDesignator` after the digits of a
+    /// number. There another character than the letter of a unit has these errors too.
     AbruptEnd {
-        /// What was being read.
+        /// What the reader was parsing.
         location: &'static str,
     },
-    /// A character stands after a whole date, year and month, month and day, time, offset, bracket or duration, and the text
-    /// does not go on with it. In a text that is a name alone, a `]` after the name has this error, and in a duration a
-    /// character after the `P` that is neither a digit nor a `T`.
+    /// A character that may not follow stands after a whole date, year and month, month and day, time, offset, bracket or
+    /// duration. In a text that is a name alone, a `]` after the name has this error. In a duration a character after the
+    /// `P` that is neither a digit nor a `T` has it.
     InvalidEnd,
     /// The two digits of a month are not 01 to 12.
     InvalidMonthRange,
@@ -90,47 +90,47 @@ pub enum ParseError {
     InvalidAnnotation,
     /// No reader returns it.
     AnnotationOpen,
-    /// A bracket is not closed: the text ends after the zone name or the annotation's value in it, or after the offset in it
-    /// the text ends or another character stands.
+    /// A bracket is not closed: the text ends after the zone name or the annotation's value in it, or no `]` follows the
+    /// offset in it.
     AnnotationClose,
     /// No reader returns it.
     AnnotationChar,
     /// The text ends in the key of an annotation, before its `=`.
     AnnotationKeyValueSeparator,
-    /// A character stands where the key of an annotation begins, in a bracket after others, and no key begins so. The end of
-    /// the text there has this error too.
+    /// In a bracket after others, the key of an annotation begins with a character that no key begins with. The end of the
+    /// text there has this error too.
     AnnotationKeyLeadingChar,
-    /// A character stands in the key of an annotation that no key has, and that is not the `=` after it.
+    /// The key of an annotation has a character that is neither one of a key nor the `=` after it.
     AnnotationKeyChar,
     /// No ASCII letter or digit follows a hyphen in the value of an annotation. The end of the text there has this error too.
     AnnotationValueCharPostHyphen,
-    /// A character stands in the value of an annotation that no value has, and that does not close the bracket; or no ASCII
-    /// letter or digit follows the `=`, where the end of the text has this error too.
+    /// The value of an annotation has a character that is neither one of a value nor the `]` after it; or no ASCII letter
+    /// or digit follows the `=`. The end of the text after the `=` has this error too.
     AnnotationValueChar,
     /// A colon or a digit follows the minute of an offset that may have no seconds: one in brackets, or one that
     /// `parse_identifier` reads.
     InvalidMinutePrecisionOffset,
-    /// A reply to an annotation has the key `u-ca` and another value than the first reply with this key, and one of the
-    /// two is critical. Without a handler each annotation is its own reply.
+    /// A reply to an annotation has the key `u-ca` and another value than the first reply with this key, and at least one
+    /// of the two is critical. Without a handler each annotation is its own reply.
     CriticalDuplicateCalendar,
     /// A reply to an annotation is critical, and its key is not `u-ca`. Without a handler each annotation is its own reply.
     UnrecognizedCritical,
-    /// A character stands where a time zone begins, and none begins so. From `parse_iana_identifier` the empty text has this
+    /// A time zone begins with a character that none begins with. From `parse_iana_identifier` the empty text has this
     /// error too.
     TzLeadingChar,
     /// No character of a name follows a `/` in the name of a time zone. The end of the text there has this error too.
     IanaCharPostSeparator,
-    /// A character stands in the name of a time zone that no name has, and that does not close a bracket.
+    /// The name of a time zone has a character that is neither one of a name nor the `]` of its bracket.
     IanaChar,
     /// An offset has one of its two colons: after `+05:00` a digit follows, or after `+0500` a colon does.
     UtcTimeSeparator,
     /// A text that is an offset alone begins with another character than a sign.
     OffsetNeedsSign,
-    /// One hyphen stands before a month and a day, where there may be two or none.
+    /// One hyphen stands before a month and a day, in the place of two or none.
     MonthDayHyphen,
-    /// Another character stands where the `P` of a duration has to, or its sign.
+    /// Another character stands in the place of the `P` of a duration, or of its sign.
     DurationDisgnator,
-    /// A number of a duration is 2 to the 64th or more, or that of its years, months or weeks 2 to the 32nd or more.
+    /// A number of a duration is 2^64 or more, or that of its years, months or weeks is 2^32 or more.
     DurationValueExceededRange,
     /// The years, months, weeks and days of a duration are not in this order, or under the strict profile one of them
     /// stands twice.
@@ -218,8 +218,8 @@ impl ParseError {
     }
 }
 
-// Display writes the text of the error, and for `AbruptEnd` `Parsing ended abruptly while parsing ` and the location. It
-// heeds no width and no fill.
+// Display writes the text of the error, and for `AbruptEnd` `Parsing ended abruptly while parsing ` and the location.
+// It ignores width and fill.
 impl fmt::Display for ParseError {
     fn fmt(&self, f: &mut fmt::Formatter<'_>) -> fmt::Result {
         if let ParseError::AbruptEnd { location } = *self {

@@ -22,17 +22,17 @@ use core::fmt;
 pub struct LocatedError {
     /// The error.
     pub error: ParseError,
-    /// How many code units of the rest of the input stand before the place of the error.
+    /// How many code units of the remaining input stand before the place of the error.
     pub at: usize,
 }
 
 impl LocatedError {
     /// The text with a mark under the place of the error, for people to read.
     ///
-    /// `text` is what the reader was given. The place counts its bytes, so it has to be that of a reader of 8-bit code
-    /// units: a place in 16-bit ones is another one in UTF-8, where a character before it is not ASCII.
+    /// `text` is what the reader was given. The place counts its bytes, so the reader has to be one of 8-bit code units. A
+    /// place in 16-bit code units is another one in UTF-8 where a character before it is not ASCII.
     ///
-    /// Display of what is returned writes two lines, with no newline at the end:
+    /// The Display of the result writes two lines, with no newline at the end:
     ///
     /// ```rust
     /// use ixdtf::parsers::IxdtfParser;
@@ -42,14 +42,14 @@ impl LocatedError {
     /// assert_eq!(error.in_text(text).to_string(), "2020-x1\n     ^");
     /// ```
     ///
-    /// [`PointedText`] says how they are made of a longer text, or of one with other characters.
+    /// [`PointedText`] says how they are made of a longer text, or of one with control characters.
     #[must_use]
     pub fn in_text<'a>(&self, text: &'a str) -> PointedText<'a> {
         PointedText::new(text, self.at)
     }
 }
 
-// Display writes the text of the error, ` at ` and the place in decimal. It heeds no width and no fill.
+// Display writes the text of the error, ` at ` and the place in decimal. It ignores width and fill.
 impl fmt::Display for LocatedError {
     fn fmt(&self, f: &mut fmt::Formatter<'_>) -> fmt::Result {
         let error = self.error;

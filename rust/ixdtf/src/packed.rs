@@ -1,11 +1,11 @@
 // Made by tools/to_rust.py of crates/ixdtf_grammar/src/packed.rt. Do not edit.
 
-//! Numbers that stand at any address.
+//! Numbers that need no alignment.
 
 use core::fmt;
 
-/// A number below 2 to the 64th, as its eight bytes, the lowest first. It stands at any address, so a record that has one
-/// has no unused bytes before it.
+/// A number below 2^64, as its eight bytes, the lowest first. It needs no alignment, so a record that has one has no
+/// padding before it.
 #[derive(Clone, Copy)]
 pub struct PackedNumber {
     bytes: [u8; 8],
@@ -36,7 +36,7 @@ impl PartialEq for PackedNumber {
 }
 
 impl fmt::Debug for PackedNumber {
-    /// Writes the number, as it writes a number that is not packed.
+    /// Writes the number, as a `u64` is written.
     fn fmt(&self, f: &mut fmt::Formatter<'_>) -> fmt::Result {
         fmt::Debug::fmt(&self.number(), f)
     }

@@ -3,9 +3,10 @@
 //! The readers: [`IxdtfParser`] of dates and times, [`TimeZoneParser`] of offsets and zones alone, and [`IsoDurationParser`]
 //! of durations.
 //!
-//! A reader takes the whole of its input or refuses it: it returns `Ok` exactly where a written grammar has the input and no
-//! reply of a handler is refused, and an error only where a row of a written table with this error fits the input, or a
-//! reply is refused with it. The repository has both, as `docs/GRAMMAR.md` and `docs/FAULTS.md`.
+//! A reader reads the whole of its input, or returns an error. It returns `Ok` exactly where a written grammar derives
+//! the input and no reply of a handler is refused. It returns an error only where a row of a written table with this
+//! error fits the input, or a reply is refused with it. The repository has both, as `docs/GRAMMAR.md` and
+//! `docs/FAULTS.md`.
 
 mod annotations;
 mod brackets;
@@ -24,7 +25,7 @@ mod time;
 mod timezone;
 mod zones;
 
-// For crates of this repository, and no part of the interface: what `read_by_reference` is generic in.
+// Only for crates of this repository; not part of the public interface: what `read_by_reference` is generic in.
 #[doc(hidden)]
 pub use self::cores::{Cores, DateTimes, LoneTimes, MonthDays, YearMonths};
 use self::texts::parse_text;
@@ -41,7 +42,7 @@ use crate::stop::StopAt;
 
 /// A reader of dates and times, with an offset, a time zone and annotations.
 ///
-/// It borrows its source, and is as large as a slice, the rest of the input, and its profile.
+/// It borrows its source. It is as large as a slice, the remaining input, and its profile.
 ///
 /// ```rust
 /// use ixdtf::parsers::IxdtfParser;
@@ -128,8 +129,8 @@ impl<'a, T: EncodingType> IxdtfParser<'a, T> {
         }
     }
 
-    /// The parser with this profile, which decides what a month and a day are, also where a time is told from them. The rest
-    /// of the input stays.
+    /// The parser with this profile, which decides what a month and a day are, also where a time may not begin as one. The
+    /// remaining input is unchanged.
     ///
     /// ```rust
     /// use ixdtf::ParseError;
@@ -148,22 +149,21 @@ impl<'a, T: EncodingType> IxdtfParser<'a, T> {
         }
     }
 
-    /// Reads the rest of the input as a date, or as a date and a time with an offset (RFC 3339, section 5.6, and ISO 8601's
+    /// Reads the remaining input as a date, or as a date and a time with an offset (RFC 3339, section 5.6, and ISO 8601's
     /// forms of it), and then, in brackets, one time zone where there is one and annotations of a key and a value (`suffix`
     /// of RFC 9557, section 4.1).
     ///
-    /// A date is `2020-11-08` or `20201108`, where the year is four digits or a sign and six digits. After it may stand `T`,
-    /// `t` or a space, and a time: `12`, `12:30`, `1230`, `12:30:45` or `123045`, the last two with a fraction, as `.25` or
-    /// `,25`. After a time may stand `Z`, `z` or an offset, as in [`TimeZoneParser::parse_offset`]. After all of it may
-    /// stand `[`, an optional `!`, a zone as in [`TimeZoneParser::parse_identifier`], and `]`; and then any number of
-    /// annotations, each of them `[`, an optional `!`, a key, `=`, a value and `]`. A key begins with a lowercase ASCII
-    /// letter or `_`, and goes on with these, digits and `-`. A value is ASCII letters and digits, with a single `-` between
-    /// two of them where one stands.
+    /// A date is `2020-11-08` or `20201108`, where the year is four digits or a sign and six digits. `T`, `t` or a space
+    /// and a time may follow: `12`, `12:30`, `1230`, `12:30:45` or `123045`. The last two may have a fraction, as `.25` or
+    /// `,25`. `Z`, `z` or an offset may follow a time, as in [`TimeZoneParser::parse_offset`]. Then `[`, an optional `!`, a
+    /// zone as in [`TimeZoneParser::parse_identifier`], and `]` may follow; and then any number of annotations, each of
+    /// them `[`, an optional `!`, a key, `=`, a value and `]`. A key begins with a lowercase ASCII letter or `_`, and goes
+    /// on with these, digits and `-`. A value is runs of ASCII letters and digits, with a single `-` between two runs.
     ///
-    /// The record has `date`, and `time`, `offset` and `tz` where they stand. `calendar` is the value of the first annotation
-    /// with the key `u-ca`, and `None` without one. Other annotations are passed over, but a critical one, which has the `!`,
-    /// is refused, as is a calendar that differs from the first one where one of the two is critical.
-    /// [`parse_with_annotation_handler`](Self::parse_with_annotation_handler) lets the caller say what counts.
+    /// The record has `date`, and `time`, `offset` and `tz` where the text has them. `calendar` is the value of the first
+    /// annotation with the key `u-ca`, and `None` without one. Other annotations are ignored, except that a critical one,
+    /// which has the `!`, is an error. So is a calendar that differs from the first one, where at least one of the two is
+    /// critical. [`parse_with_annotation_handler`](Self::parse_with_annotation_handler) lets the caller decide.
     ///
     /// ```rust
     /// use ixdtf::ParseError;
@@ -196,13 +196,13 @@ impl<'a, T: EncodingType> IxdtfParser<'a, T> {
     /// # Ok::<(), ParseError>(())
     /// ```
     ///
-    /// After `Ok` the rest of the input is empty, so a later call returns the error of the empty text. After an error the
-    /// rest is as it was, so a second call returns the same.
+    /// After `Ok` the remaining input is empty, so a later call returns the error of the empty text. After an error it is
+    /// unchanged, so a second call returns the same.
     ///
     /// # Errors
     ///
-    /// The first part that is wrong decides. A month, day, hour, minute or second that is out of its range is refused before
-    /// the next character is looked at.
+    /// The first part that is wrong decides. A month, day, hour, minute or second out of its range is an error before the
+    /// next code unit is read.
     ///
     /// - `AbruptEnd` where the input ends after a year (at `Date`), where a digit has to follow (at `digit`), and after the
     ///   `[` or `[!` of a first bracket, or in a first bracket that begins with a lowercase letter or `_` and has no `=` and
@@ -216,18 +216,19 @@ impl<'a, T: EncodingType> IxdtfParser<'a, T> {
     ///   one of two colons;
     /// - `InvalidMinutePrecisionOffset` at a colon or a digit after the minute of an offset in brackets;
     /// - `FractionPart` where no digit follows a decimal mark;
-    /// - `TzLeadingChar`, `IanaChar` and `IanaCharPostSeparator` in a first bracket where no zone and no key can begin so,
-    ///   where a name does not go on, and where it does not go on after a `/`;
-    /// - `AnnotationKeyLeadingChar` in a bracket after others where no key begins, `AnnotationKeyChar` where a key does not
-    ///   go on, and `AnnotationKeyValueSeparator` where the input ends in a key;
-    /// - `AnnotationValueChar` where no value begins, or where it does not go on, and `AnnotationValueCharPostHyphen` where it
-    ///   does not go on after a `-`;
-    /// - `AnnotationClose` where a bracket ends without its `]`;
+    /// - in a first bracket, `TzLeadingChar` at a character that neither a zone nor a key begins with, `IanaChar` at
+    ///   another character in a name, and `IanaCharPostSeparator` where no character of a name follows a `/`;
+    /// - `AnnotationKeyLeadingChar` in a bracket after others where no key begins, `AnnotationKeyChar` at another character
+    ///   in a key, and `AnnotationKeyValueSeparator` where the input ends in a key;
+    /// - `AnnotationValueChar` where no value begins, or at another character in it, and `AnnotationValueCharPostHyphen`
+    ///   where no ASCII letter or digit follows a `-`;
+    /// - `AnnotationClose` where the input ends after the name or the value in a bracket, or where no `]` follows the
+    ///   offset in it;
     /// - `UnrecognizedCritical` for an annotation that is critical and has another key than `u-ca`, and
-    ///   `CriticalDuplicateCalendar` for one with the key `u-ca` and another value than the first such one, where one of the
-    ///   two is critical; nothing after this annotation counts then;
+    ///   `CriticalDuplicateCalendar` for one with the key `u-ca` and another value than the first such one, where at least
+    ///   one of the two is critical; what follows this annotation is not read;
     /// - `InvalidEnd` at any other character after a date, a time, an offset or a bracket;
-    /// - `NonAsciiCodePoint` at a code unit that stands for no character, which no 8-bit one does.
+    /// - `NonAsciiCodePoint` at a 16-bit code unit that is not from 1 to 126.
     #[inline(always)]
     pub fn parse(&mut self) -> ParserResult<IxdtfParseRecord<'a, T>> {
         let mut found = IxdtfParseRecord::default();
@@ -239,11 +240,11 @@ impl<'a, T: EncodingType> IxdtfParser<'a, T> {
 
     /// Reads as [`parse`](Self::parse) does, and calls the handler on each annotation of a key and a value.
     ///
-    /// The handler is called once on each annotation whose bracket was read whole, in order, up to the first reply that is
-    /// refused or the first error of the text. What it returns, its reply, stands in the annotation's place, and may be
-    /// another annotation; `None` is passed over. The record's `calendar` is the value of the first reply whose key is
-    /// `u-ca`, a slice of that reply, which need not be of the source. `|annotation| Some(annotation)` gives
-    /// [`parse`](Self::parse).
+    /// The handler is called once on each annotation whose bracket was read whole, in order, up to the first refused reply
+    /// or the first error of the text. What it returns, its reply, replaces the annotation, and may be another annotation;
+    /// `None` drops it. The record's `calendar` is the value of the first reply whose key is `u-ca`, a slice of that reply,
+    /// which need not be of the source. With `|annotation| Some(annotation)` it returns what [`parse`](Self::parse)
+    /// returns.
     ///
     /// ```rust
     /// use ixdtf::ParseError;
@@ -294,13 +295,13 @@ impl<'a, T: EncodingType> IxdtfParser<'a, T> {
     /// assert_eq!(calendar_of("2024-03-02[u-ca=hebrew]", |_| None), Ok(None));
     /// ```
     ///
-    /// After `Ok` the rest of the input is empty, so a later call returns the error of the empty text. After an error the
-    /// rest is as it was. Calls that were made stay made.
+    /// After `Ok` the remaining input is empty, so a later call returns the error of the empty text. After an error it is
+    /// unchanged. Calls of the handler are not undone.
     ///
     /// # Errors
     ///
-    /// Those of [`parse`](Self::parse), where `CriticalDuplicateCalendar` and `UnrecognizedCritical` come for the replies
-    /// alone: the first reply that is refused ends the call, and nothing after its bracket counts.
+    /// Those of [`parse`](Self::parse), where only replies have `CriticalDuplicateCalendar` and `UnrecognizedCritical`. The
+    /// first refused reply ends the call, and what follows its bracket is not read.
     pub fn parse_with_annotation_handler<F>(
         &mut self,
         handler: F,
@@ -311,7 +312,7 @@ impl<'a, T: EncodingType> IxdtfParser<'a, T> {
         self.read_as::<ParseError, DateTimes, F>(handler)
     }
 
-    /// Reads the rest of the input as a year and a month (ISO 8601; `DateSpecYearMonth` of the Temporal grammar), and then,
+    /// Reads the remaining input as a year and a month (ISO 8601; `DateSpecYearMonth` of the Temporal grammar), and then,
     /// in brackets, what [`parse`](Self::parse) reads there.
     ///
     /// A year and a month are `2020-11` or `202011`, where the year is as in [`parse`](Self::parse). The record has `date`,
@@ -335,8 +336,8 @@ impl<'a, T: EncodingType> IxdtfParser<'a, T> {
     /// # Ok::<(), ParseError>(())
     /// ```
     ///
-    /// After `Ok` the rest of the input is empty, so a later call returns the error of the empty text. After an error the
-    /// rest is as it was, so a second call returns the same.
+    /// After `Ok` the remaining input is empty, so a later call returns the error of the empty text. After an error it is
+    /// unchanged, so a second call returns the same.
     ///
     /// # Errors
     ///
@@ -347,7 +348,7 @@ impl<'a, T: EncodingType> IxdtfParser<'a, T> {
     ///   the year with a sign and the month;
     /// - `InvalidMonthRange` where the month is not from 1 to 12, and `DateExtendedYear` for the year `-000000`;
     /// - `InvalidEnd` at any other character after the month;
-    /// - `NonAsciiCodePoint` at a code unit that stands for no character, which no 8-bit one does.
+    /// - `NonAsciiCodePoint` at a 16-bit code unit that is not from 1 to 126.
     #[inline(always)]
     pub fn parse_year_month(&mut self) -> ParserResult<IxdtfParseRecord<'a, T>> {
         let mut found = IxdtfParseRecord::default();
@@ -362,8 +363,8 @@ impl<'a, T: EncodingType> IxdtfParser<'a, T> {
     ///
     /// # Errors
     ///
-    /// Those of [`parse_year_month`](Self::parse_year_month), where `CriticalDuplicateCalendar` and `UnrecognizedCritical` come for
-    /// the replies alone.
+    /// Those of [`parse_year_month`](Self::parse_year_month), where only replies have `CriticalDuplicateCalendar` and
+    /// `UnrecognizedCritical`.
     ///
     /// ```rust
     /// use ixdtf::parsers::IxdtfParser;
@@ -383,7 +384,7 @@ impl<'a, T: EncodingType> IxdtfParser<'a, T> {
         self.read_as::<ParseError, YearMonths, F>(handler)
     }
 
-    /// Reads the rest of the input as a month and a day (ISO 8601; `DateSpecMonthDay` of the Temporal grammar), and then, in
+    /// Reads the remaining input as a month and a day (ISO 8601; `DateSpecMonthDay` of the Temporal grammar), and then, in
     /// brackets, what [`parse`](Self::parse) reads there.
     ///
     /// A month and a day are `11-07`, `1107`, `--11-07` or `--1107`. The day is from 0 to the greatest that the month has in
@@ -410,20 +411,20 @@ impl<'a, T: EncodingType> IxdtfParser<'a, T> {
     /// # Ok::<(), ParseError>(())
     /// ```
     ///
-    /// After `Ok` the rest of the input is empty, so a later call returns the error of the empty text. After an error the
-    /// rest is as it was, so a second call returns the same.
+    /// After `Ok` the remaining input is empty, so a later call returns the error of the empty text. After an error it is
+    /// unchanged, so a second call returns the same.
     ///
     /// # Errors
     ///
     /// The first part that is wrong decides. Brackets have the errors that they have in [`parse`](Self::parse). Before them:
     ///
-    /// - `AbruptEnd` where there is nothing or one hyphen alone (at `MonthDay`), and where a digit has to follow (at `digit`);
+    /// - `AbruptEnd` for the empty text and for one hyphen (at `MonthDay`), and where a digit has to follow (at `digit`);
     /// - `MonthDayHyphen` where another character than a second hyphen follows the first;
     /// - `DateMonth` and `DateDay` where another character stands in the place of a digit of the month and the day;
     /// - `InvalidMonthRange` where the month is not from 1 to 12;
     /// - `InvalidMonthDay` where the month has the day in no year, and for day 0 under [`Profile::Strict`];
     /// - `InvalidEnd` at any other character after the day;
-    /// - `NonAsciiCodePoint` at a code unit that stands for no character, which no 8-bit one does.
+    /// - `NonAsciiCodePoint` at a 16-bit code unit that is not from 1 to 126.
     #[inline(always)]
     pub fn parse_month_day(&mut self) -> ParserResult<IxdtfParseRecord<'a, T>> {
         let mut found = IxdtfParseRecord::default();
@@ -438,8 +439,8 @@ impl<'a, T: EncodingType> IxdtfParser<'a, T> {
     ///
     /// # Errors
     ///
-    /// Those of [`parse_month_day`](Self::parse_month_day), where `CriticalDuplicateCalendar` and `UnrecognizedCritical` come for
-    /// the replies alone.
+    /// Those of [`parse_month_day`](Self::parse_month_day), where only replies have `CriticalDuplicateCalendar` and
+    /// `UnrecognizedCritical`.
     ///
     /// ```rust
     /// use ixdtf::parsers::IxdtfParser;
@@ -459,8 +460,8 @@ impl<'a, T: EncodingType> IxdtfParser<'a, T> {
         self.read_as::<ParseError, MonthDays, F>(handler)
     }
 
-    /// Reads the rest of the input as a time (RFC 3339, section 5.6, and ISO 8601's forms of it), and then, in brackets,
-    /// what [`parse`](Self::parse) reads there.
+    /// Reads the remaining input as a time (RFC 3339, section 5.6, and ISO 8601's forms of it), and then, in brackets, what
+    /// [`parse`](Self::parse) reads there.
     ///
     /// `T` or `t` may stand before the time. The time is as in [`parse`](Self::parse), and so is what may stand after it, `Z`,
     /// `z` or an offset. A text that begins as [`parse_month_day`](Self::parse_month_day) or
@@ -496,13 +497,13 @@ impl<'a, T: EncodingType> IxdtfParser<'a, T> {
     /// # Ok::<(), ParseError>(())
     /// ```
     ///
-    /// After `Ok` the rest of the input is empty, so a later call returns the error of the empty text. After an error the
-    /// rest is as it was, so a second call returns the same.
+    /// After `Ok` the remaining input is empty, so a later call returns the error of the empty text. After an error it is
+    /// unchanged, so a second call returns the same.
     ///
     /// # Errors
     ///
-    /// The first part that is wrong decides. Brackets have the errors that they have in [`parse`](Self::parse), and a time and
-    /// an offset have those that they have there, the time at the start of the text too. Beside them:
+    /// The first part that is wrong decides. Brackets, a time and an offset have the errors that they have in
+    /// [`parse`](Self::parse), also where the time is the start of the text. Beside them:
     ///
     /// - `AmbiguousTimeMonthDay` where a text that does not begin with `T` or `t` begins as a month and a day do, and
     ///   `AmbiguousTimeYearMonth` where it begins as a year and a month do, and not as a month and a day; both only where
@@ -521,8 +522,8 @@ impl<'a, T: EncodingType> IxdtfParser<'a, T> {
     ///
     /// # Errors
     ///
-    /// Those of [`parse_time`](Self::parse_time), where `CriticalDuplicateCalendar` and `UnrecognizedCritical` come for
-    /// the replies alone.
+    /// Those of [`parse_time`](Self::parse_time), where only replies have `CriticalDuplicateCalendar` and
+    /// `UnrecognizedCritical`.
     ///
     /// ```rust
     /// use ixdtf::parsers::IxdtfParser;
@@ -542,12 +543,11 @@ impl<'a, T: EncodingType> IxdtfParser<'a, T> {
         self.read_as::<ParseError, LoneTimes, F>(handler)
     }
 
-    /// Reads as [`parse`](Self::parse) does, and returns an error with its place: the number of code units that stand before
-    /// it in the rest of the input.
+    /// Reads as [`parse`](Self::parse) does, and returns an error with its place: the number of code units before it in the
+    /// remaining input.
     ///
-    /// The place is that of the character that does not fit, or of the code unit that stands for no character, and the end
-    /// where the input ends too soon. A number that is out of its range has its place after it, and an annotation that is
-    /// refused after its bracket.
+    /// The place is that of the code unit that does not fit, or the end of the input where more has to follow. The place of
+    /// a number out of its range is after the number. The place of a refused annotation is after its bracket.
     ///
     /// ```rust
     /// use ixdtf::ParseError;
@@ -584,8 +584,8 @@ impl<'a, T: EncodingType> IxdtfParser<'a, T> {
     ///
     /// # Errors
     ///
-    /// Those of [`parse_with_annotation_handler`](Self::parse_with_annotation_handler), each with its place: that of a reply
-    /// that is refused stands after its annotation's bracket.
+    /// Those of [`parse_with_annotation_handler`](Self::parse_with_annotation_handler), each with its place: the place of a
+    /// refused reply is after its annotation's bracket.
     ///
     /// ```rust
     /// use ixdtf::ParseError;
@@ -605,11 +605,10 @@ impl<'a, T: EncodingType> IxdtfParser<'a, T> {
     }
 
     /// Reads as [`parse_year_month`](Self::parse_year_month) does, and returns an error with its place: the number of code
-    /// units that stand before it in the rest of the input.
+    /// units before it in the remaining input.
     ///
-    /// The place is that of the character that does not fit, or of the code unit that stands for no character, and the end
-    /// where the input ends too soon. A number that is out of its range has its place after it, and an annotation that is
-    /// refused after its bracket.
+    /// The place is that of the code unit that does not fit, or the end of the input where more has to follow. The place of
+    /// a number out of its range is after the number. The place of a refused annotation is after its bracket.
     ///
     /// ```rust
     /// use ixdtf::ParseError;
@@ -645,7 +644,7 @@ impl<'a, T: EncodingType> IxdtfParser<'a, T> {
     /// # Errors
     ///
     /// Those of [`parse_year_month_with_annotation_handler`](Self::parse_year_month_with_annotation_handler), each with its
-    /// place: that of a reply that is refused stands after its annotation's bracket.
+    /// place: the place of a refused reply is after its annotation's bracket.
     ///
     /// ```rust
     /// use ixdtf::ParseError;
@@ -665,11 +664,10 @@ impl<'a, T: EncodingType> IxdtfParser<'a, T> {
     }
 
     /// Reads as [`parse_month_day`](Self::parse_month_day) does, and returns an error with its place: the number of code
-    /// units that stand before it in the rest of the input.
+    /// units before it in the remaining input.
     ///
-    /// The place is that of the character that does not fit, or of the code unit that stands for no character, and the end
-    /// where the input ends too soon. A number that is out of its range has its place after it, and an annotation that is
-    /// refused after its bracket.
+    /// The place is that of the code unit that does not fit, or the end of the input where more has to follow. The place of
+    /// a number out of its range is after the number. The place of a refused annotation is after its bracket.
     ///
     /// ```rust
     /// use ixdtf::ParseError;
@@ -705,7 +703,7 @@ impl<'a, T: EncodingType> IxdtfParser<'a, T> {
     /// # Errors
     ///
     /// Those of [`parse_month_day_with_annotation_handler`](Self::parse_month_day_with_annotation_handler), each with its
-    /// place: that of a reply that is refused stands after its annotation's bracket.
+    /// place: the place of a refused reply is after its annotation's bracket.
     ///
     /// ```rust
     /// use ixdtf::ParseError;
@@ -724,12 +722,11 @@ impl<'a, T: EncodingType> IxdtfParser<'a, T> {
         self.read_located_as::<LocatedError, MonthDays, F>(handler)
     }
 
-    /// Reads as [`parse_time`](Self::parse_time) does, and returns an error with its place: the number of code units that
-    /// stand before it in the rest of the input.
+    /// Reads as [`parse_time`](Self::parse_time) does, and returns an error with its place: the number of code units before
+    /// it in the remaining input.
     ///
-    /// The place is that of the character that does not fit, or of the code unit that stands for no character, and the end
-    /// where the input ends too soon. A number that is out of its range has its place after it, and an annotation that is
-    /// refused after its bracket.
+    /// The place is that of the code unit that does not fit, or the end of the input where more has to follow. The place of
+    /// a number out of its range is after the number. The place of a refused annotation is after its bracket.
     ///
     /// ```rust
     /// use ixdtf::ParseError;
@@ -764,8 +761,8 @@ impl<'a, T: EncodingType> IxdtfParser<'a, T> {
     ///
     /// # Errors
     ///
-    /// Those of [`parse_time_with_annotation_handler`](Self::parse_time_with_annotation_handler), each with its place: that
-    /// of a reply that is refused stands after its annotation's bracket.
+    /// Those of [`parse_time_with_annotation_handler`](Self::parse_time_with_annotation_handler), each with its place: the
+    /// place of a refused reply is after its annotation's bracket.
     ///
     /// ```rust
     /// use ixdtf::ParseError;
@@ -784,8 +781,8 @@ impl<'a, T: EncodingType> IxdtfParser<'a, T> {
         self.read_located_as::<LocatedError, LoneTimes, F>(handler)
     }
 
-    /// Reads a text with a core of the kind, as [`parse_with_annotation_handler`](Self::parse_with_annotation_handler) does, with
-    /// an error that a stop gives.
+    /// Reads a text with a core of the kind, as [`parse_with_annotation_handler`](Self::parse_with_annotation_handler)
+    /// does, with an error made of a stop.
     #[inline(always)]
     pub(crate) fn read_as<E: Raised, C: Cores, F>(
         &mut self,
@@ -817,10 +814,11 @@ impl<'a, T: EncodingType> IxdtfParser<'a, T> {
         }
     }
 
-    /// Reads a text with a core of the kind, as [`parse_with_annotation_handler`](Self::parse_with_annotation_handler) does, and
-    /// leaves the handler as its last call left it, so that what it noted can be told. The error is one that a stop gives.
+    /// Reads a text with a core of the kind, as [`parse_with_annotation_handler`](Self::parse_with_annotation_handler)
+    /// does, and leaves the handler in the state after its last call, so that the caller can use it. The error is made of a
+    /// stop.
     ///
-    /// It is for crates of this repository, and no part of the interface.
+    /// Only for crates of this repository; not part of the public interface.
     ///
     /// # Errors
     ///
@@ -841,7 +839,7 @@ impl<'a, T: EncodingType> IxdtfParser<'a, T> {
         }
     }
 
-    /// Reads as [`read_into`](Self::read_into) does, with a handler that hands each annotation back.
+    /// Reads as [`read_into`](Self::read_into) does, with a handler that returns each annotation.
     #[inline(always)]
     fn read_unhandled<C: Cores>(
         &mut self,
@@ -850,11 +848,10 @@ impl<'a, T: EncodingType> IxdtfParser<'a, T> {
         self.read_into::<C, _>(&mut |annotation| Some(annotation), found)
     }
 
-    /// Reads all that is still to be read into a record in which nothing stands yet. After an error what was still to be
-    /// read still is.
+    /// Reads all of the remaining input into an empty record. After an error the remaining input is unchanged.
     ///
-    /// Each public reader of records calls this one, and returns by itself in each arm: where a reader hands on what another
-    /// returned, or its arms meet before it returns, the whole record is copied once more.
+    /// Each public reader of records calls this one, and returns in each arm. Where a reader returns the result of another
+    /// one, or its arms meet before it returns, the whole record is copied once more.
     #[inline(always)]
     fn read_into<C: Cores, F>(
         &mut self,

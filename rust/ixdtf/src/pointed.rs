@@ -4,10 +4,10 @@
 
 use core::fmt;
 
-/// How many characters before the place are written at most.
+/// The most characters that are written before the place.
 const BEFORE_PLACE: usize = 48;
 
-/// How many characters from the place on are written at most.
+/// The most characters that are written from the place on.
 const FROM_PLACE: usize = 24;
 
 /// A text with a mark under the place of an error, as [`LocatedError::in_text`](crate::LocatedError::in_text) returns it.
@@ -15,8 +15,8 @@ const FROM_PLACE: usize = 24;
 /// Display writes two lines with a newline between them and none at the end: the text, and spaces with a `^` under the place.
 /// It does not allocate.
 ///
-/// - The mark stands under the character that has the byte at the place, and one past the last where the place is the end of
-///   the text or past it. Columns are counted by characters, one for each code point.
+/// - The mark stands under the character that has the byte at the place. It stands one past the last where the place is
+///   the end of the text or past it. A column is one code point.
 /// - A control character, U+0000 to U+001F and U+007F to U+009F, is written as `.`.
 /// - At most 48 characters before the place are written, and at most 24 from it on. Where more stand there, `..` is written for
 ///   them. So a line has at most 76 columns.
@@ -44,7 +44,7 @@ impl<'a> PointedText<'a> {
     }
 }
 
-// Display heeds no width and no fill.
+// Display ignores width and fill.
 impl<'a> fmt::Display for PointedText<'a> {
     fn fmt(&self, f: &mut fmt::Formatter<'_>) -> fmt::Result {
         let column = column_of(self.text, self.at);
@@ -55,7 +55,7 @@ impl<'a> fmt::Display for PointedText<'a> {
     }
 }
 
-/// How many characters of the text stand whole in its first `at` bytes.
+/// How many whole characters the first `at` bytes of the text have.
 fn column_of(text: &str, at: usize) -> usize {
     let mut column = 0;
     let mut left = at;
@@ -70,7 +70,7 @@ fn column_of(text: &str, at: usize) -> usize {
     column
 }
 
-/// How many columns of the first line stand before the place.
+/// How many columns of the first line are before the place.
 fn indent_of(column: usize) -> usize {
     if BEFORE_PLACE < column {
         BEFORE_PLACE + 2
@@ -116,7 +116,7 @@ fn write_character(f: &mut fmt::Formatter<'_>, character: char) -> fmt::Result {
     }
 }
 
-/// Writes so many spaces.
+/// Writes `count` spaces.
 fn write_spaces(f: &mut fmt::Formatter<'_>, count: usize) -> fmt::Result {
     for _ in 0..count {
         f.write_str(" ")?;

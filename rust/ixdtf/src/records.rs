@@ -32,7 +32,7 @@ pub struct IxdtfParseRecord<'a, T: EncodingType> {
 }
 
 impl<'a, T: EncodingType> Default for IxdtfParseRecord<'a, T> {
-    /// A record in which nothing stands.
+    /// An empty record.
     #[inline(always)]
     fn default() -> Self {
         IxdtfParseRecord {
@@ -45,7 +45,7 @@ impl<'a, T: EncodingType> Default for IxdtfParseRecord<'a, T> {
     }
 }
 
-/// A date of the Gregorian calendar, also before that calendar was in use (`full-date` of RFC 3339, section 5.6).
+/// A date of the proleptic Gregorian calendar (`full-date` of RFC 3339, section 5.6).
 #[derive(Clone, Copy, Debug, Default, PartialEq)]
 pub struct DateRecord {
     /// The year: 0 to 9999 from four digits, or -999999 to 999999 from a sign and six digits. Year 0 is the year before
@@ -85,8 +85,8 @@ pub struct TimeRecord {
 #[derive(Clone, Debug, PartialEq)]
 #[cfg_attr(not(feature = "open-records"), non_exhaustive)]
 pub struct TimeZoneAnnotation<'a, T: EncodingType> {
-    /// Whether a `!` stands right after the opening bracket (`critical-flag`): who uses the text must then heed the zone,
-    /// or refuse the text.
+    /// Whether a `!` stands right after the opening bracket (`critical-flag`). An application must then process the zone,
+    /// or reject the text.
     pub critical: bool,
     /// The zone between the brackets.
     pub tz: TimeZoneRecord<'a, T>,
@@ -109,8 +109,8 @@ pub struct TimeZoneAnnotation<'a, T: EncodingType> {
 #[derive(Clone, Debug, PartialEq)]
 #[cfg_attr(not(feature = "open-records"), non_exhaustive)]
 pub struct Annotation<'a, T: EncodingType> {
-    /// Whether a `!` stands right after the opening bracket (`critical-flag`): who uses the text must then heed the
-    /// annotation, or refuse the text.
+    /// Whether a `!` stands right after the opening bracket (`critical-flag`). An application must then process the
+    /// annotation, or reject the text.
     pub critical: bool,
     /// The code units of the key (`suffix-key`), as they stand in the text.
     pub key: &'a [T::CodeUnit],
@@ -122,14 +122,14 @@ pub struct Annotation<'a, T: EncodingType> {
 #[derive(Clone, Debug, PartialEq)]
 #[non_exhaustive]
 pub enum TimeZoneRecord<'a, T: EncodingType> {
-    /// The code units of a name (`time-zone-name` of RFC 9557, section 4.1), as they stand in the text. That such a zone
+    /// The code units of a name (`time-zone-name` of RFC 9557, section 4.1), as they stand in the text. Whether such a zone
     /// exists is not checked.
     Name(&'a [T::CodeUnit]),
     /// A fixed offset (`time-numoffset` of RFC 3339, section 5.6).
     Offset(MinutePrecisionOffset),
 }
 
-/// Whether a number is counted forwards or backwards.
+/// The sign of an offset or of a duration.
 #[derive(Clone, Copy, Debug, PartialEq)]
 #[repr(i8)]
 pub enum Sign {
@@ -311,8 +311,8 @@ impl UtcOffsetRecordOrZ {
     }
 }
 
-/// A duration (`Duration` of the Temporal grammar; ISO 8601, section 5.5.2), in the units that it was written in: no unit
-/// is carried over to another.
+/// A duration (`Duration` of the Temporal grammar; ISO 8601, section 5.5.2), in the units that it was written in. No
+/// unit is converted to another.
 #[derive(Clone, Copy, Debug, PartialEq)]
 pub struct DurationParseRecord {
     /// `Negative` exactly where the text begins with a `-`. The sign is that of the whole duration.
@@ -324,7 +324,7 @@ pub struct DurationParseRecord {
 }
 
 /// The date units of a duration (`DurationDate` of the Temporal grammar; ISO 8601, section 5.5.2). A unit that the text
-/// leaves out is zero, and of a unit that it repeats this is the last number.
+/// leaves out is zero. A unit that it repeats has the last number.
 #[derive(Clone, Copy, Debug, Default, PartialEq)]
 pub struct DateDurationRecord {
     /// The years (`Y`).
@@ -337,8 +337,8 @@ pub struct DateDurationRecord {
     pub days: u64,
 }
 
-/// The time units of a duration (`DurationTime` of the Temporal grammar; ISO 8601, section 5.5.2), by the last unit that
-/// stands in the text. A unit that the text leaves out is zero, and of a unit that it repeats this is the last number.
+/// The time units of a duration (`DurationTime` of the Temporal grammar; ISO 8601, section 5.5.2). The variant is the
+/// last unit of the text. A unit that the text leaves out is zero. A unit that it repeats has the last number.
 ///
 /// ```rust
 /// use ixdtf::parsers::IsoDurationParser;
@@ -390,8 +390,9 @@ pub enum TimeDurationRecord {
     },
 }
 
-/// A fraction of a second (`time-secfrac` of RFC 3339, section 5.6), or of the last unit of a duration: the digits after a
-/// `.` or a `,`. Of an hour or a minute, what its calls name nanoseconds are billionths of it.
+/// A fraction of a second (`time-secfrac` of RFC 3339, section 5.6), or of the last unit of a duration: the digits
+/// after a `.` or a `,`. For a fraction of an hour or a minute, what its methods call nanoseconds are billionths of the
+/// hour or minute.
 ///
 /// It keeps how many digits there were, up to 255, and the number of the first 18 of them, or of all where there are
 /// fewer. So `.1` and `.10` are two fractions, and digits behind the eighteenth are only counted.
@@ -422,10 +423,10 @@ impl Fraction {
         }
     }
 
-    /// The fraction that has so many digits, where this is the number of the first 18 of them, or of all where there are
+    /// The fraction of `count` digits, where `value` is the number of the first 18 of them, or of all where there are
     /// fewer; or `None` where no fraction has both.
     ///
-    /// It is for crates of this repository, and no part of the interface.
+    /// Only for crates of this repository; not part of the public interface.
     #[doc(hidden)]
     pub fn of_parts(count: u8, value: u64) -> Option<Fraction> {
         if count == 0 || value >= 10u64.pow(u32::from(count.min(18))) {
@@ -437,7 +438,7 @@ impl Fraction {
         })
     }
 
-    /// Whether it has fewer than 18 digits, so that one more digit changes its number.
+    /// Whether it has fewer than 18 digits, so that one more digit changes its value.
     #[inline(always)]
     pub(crate) fn is_short(self) -> bool {
         self.digits < 18
@@ -477,7 +478,7 @@ impl Fraction {
     }
 
     /// The nanoseconds of the fraction, or `None` where it has more than nine digits, also where those after the ninth are
-    /// zeros. Where they are there, they are what [`to_truncated_nanoseconds`](Self::to_truncated_nanoseconds) returns.
+    /// zeros. `Some` has the number that [`to_truncated_nanoseconds`](Self::to_truncated_nanoseconds) returns.
     ///
     /// ```rust
     /// use ixdtf::parsers::IxdtfParser;
@@ -494,8 +495,8 @@ impl Fraction {
         Some(self.to_truncated_nanoseconds())
     }
 
-    /// The whole nanoseconds of the fraction: its first nine digits, with zeros after them where there are fewer. What is
-    /// left of a nanosecond is dropped.
+    /// The whole nanoseconds of the fraction: its first nine digits, with zeros after them where there are fewer. The
+    /// digits after the ninth are dropped.
     ///
     /// ```rust
     /// use ixdtf::parsers::IxdtfParser;

@@ -4,8 +4,8 @@
 
 use crate::{LocatedError, ParseError};
 
-/// Why a reading stopped: an error that a reader returns, with `AbruptEnd` once for each location. It takes one byte,
-/// and the error is made of it only where a public reader returns.
+/// Why a reading stopped: an error that a reader returns, with `AbruptEnd` once for each location. It takes one byte.
+/// The error is made of it only where a public reader returns.
 #[derive(Clone, Copy)]
 pub enum Stop {
     NonAsciiCodePoint,
@@ -59,7 +59,7 @@ pub enum Stop {
 }
 
 impl Stop {
-    /// The error of it. It is inlined, so that a reader of records makes no call for it.
+    /// Its error. It is inlined, so that a reader of records makes no call for it.
     #[inline(always)]
     pub fn error(self) -> ParseError {
         match self {
@@ -117,26 +117,26 @@ impl Stop {
 
 const _: () = assert!(size_of::<Stop>() == 1);
 
-/// A stop, and how many units stand before its place.
+/// A stop and its place.
 #[derive(Clone, Copy)]
 pub struct StopAt {
     /// The stop.
     pub stop: Stop,
-    /// How many units stand before its place.
+    /// How many code units stand before its place.
     pub at: usize,
 }
 
-/// An error that a stop gives, with its place or without.
+/// An error made of a stop, with its place or without.
 ///
 /// What calls a handler is generic in its error by this bound, and is used at `ParseError` and at `LocatedError`. So its own
 /// signature does not name `'static`, as `ParseError` does.
 pub trait Raised {
-    /// The error of a stop, behind so many units.
+    /// The error of a stop, whose place is behind `at` code units.
     fn of_stop(stop: Stop, at: usize) -> Self;
 }
 
 impl Raised for LocatedError {
-    /// The error of the stop. It is not inlined, so that a loop over a name keeps to itself.
+    /// The error of the stop. It is not inlined, so that a loop over a name stays small.
     #[cold]
     #[inline(never)]
     fn of_stop(stop: Stop, at: usize) -> LocatedError {
@@ -155,7 +155,7 @@ impl Raised for ParseError {
     }
 }
 
-/// The error of the stop. It is not inlined, so that a loop over a name keeps to itself.
+/// The error of the stop. It is not inlined, so that a loop over a name stays small.
 #[cold]
 #[inline(never)]
 fn plain_error(stop: Stop) -> ParseError {

@@ -1,6 +1,6 @@
 // Made by tools/to_rust.py of crates/ixdtf_tests/src/tests.rt. Do not edit.
 
-//! Texts of the readers, with the records and errors that they give.
+//! Texts of the readers, with the records and errors that they return.
 
 #[allow(unused_imports)]
 use crate::runtime::{HostRuntime, TryClone};
@@ -209,7 +209,7 @@ fn has_nanoseconds(fraction: &Option<Fraction>, nanoseconds: u32, is_cut: bool) 
     }
 }
 
-/// The fraction that a text has been read to has these nanoseconds, and digits after them where it is cut.
+/// The fraction of a text that was read has these nanoseconds, and digits after them where it is cut.
 fn check_fraction(
     rt: &impl Abort,
     text: &str,
@@ -250,7 +250,7 @@ enum Found<'a, T: EncodingType> {
     Offset(UtcOffsetRecord),
     /// A time zone, by name or by offset.
     Zone(TimeZoneRecord<'a, T>),
-    /// The units of a time zone's name.
+    /// The code units of a time zone's name.
     Name(&'a [T::CodeUnit]),
     /// A duration.
     Duration(DurationParseRecord),
@@ -383,19 +383,19 @@ impl<'a, T: EncodingType> Parsers<'a, T> {
         }
     }
 
-    // Whether a reader refuses with this error, and its located form, which is asked next, with the error at this place.
+    // Whether a reader refuses with this error, and its located form, which is called next, with the error at this place.
     fn refuses_at(&mut self, reader: Reader, error: ParseError, at: usize) -> bool {
         self.refusal(reader) == Some(error)
             && self.located_refusal(reader) == Some(LocatedError { error, at })
     }
 }
 
-/// What a test asks of a text is so.
+/// Asserts what a test asks of a text.
 fn check(rt: &impl Abort, text: &str, is_so: bool) {
     assert!(rt; is_so, "at {text}");
 }
 
-/// What a test asks of a reader of a text is so.
+/// Asserts what a test asks of a reader of a text.
 fn check_reader(rt: &impl Abort, reader: Reader, text: &str, is_so: bool) {
     assert!(rt; is_so, "{reader:?} at {text}");
 }
@@ -413,7 +413,7 @@ fn check_refusals(
     }
 }
 
-/// The readers refuse the text in turn, and then the last reader gives this, with the same parsers.
+/// The readers refuse the text in turn, and then the last reader returns this, with the same parsers.
 fn check_last(
     rt: &impl Abort,
     text: &'static str,
@@ -424,7 +424,8 @@ fn check_last(
     check_once_read(rt, text, refusals, last, wanted, &[]);
 }
 
-/// The readers refuse the text in turn, then this reader gives this, and others refuse the rest, with the same parsers.
+/// The readers refuse the text in turn, then this reader returns this, and others refuse the remaining input, with the
+/// same parsers.
 fn check_once_read(
     rt: &impl Abort,
     text: &'static str,
@@ -446,7 +447,7 @@ fn check_kept(rt: &impl Abort, reader: Reader, text: &'static str, error: ParseE
     check_refusals(rt, text, &mut parsers, &[(reader, error), (reader, error)]);
 }
 
-/// The reader gives this for the text.
+/// The reader returns this for the text.
 fn check_found(
     rt: &impl Abort,
     reader: Reader,
@@ -457,7 +458,7 @@ fn check_found(
     check_reader(rt, reader, text, is_found);
 }
 
-/// `IxdtfParser::parse` gives this for the text, and what it reads is printed and read back.
+/// `IxdtfParser::parse` returns this for the text, and what it reads is printed and read back.
 fn check_parsed(rt: &impl Abort, text: &'static str, wanted: &ParserResult<Record>) {
     let found = IxdtfParser::from_str(text).parse();
     check(rt, text, found == *wanted);
@@ -466,7 +467,8 @@ fn check_parsed(rt: &impl Abort, text: &'static str, wanted: &ParserResult<Recor
     }
 }
 
-/// The reader refuses the texts beside each error with it, each at its place, and one of ASCII in 16-bit units too.
+/// The reader refuses the texts beside each error with it, each at its place, and one of ASCII in 16-bit code units
+/// too.
 fn check_refused(rt: &impl Abort, reader: Reader, rows: &[(ParseError, &[(&'static str, usize)])]) {
     for (error, texts) in rows {
         for (text, at) in *texts {

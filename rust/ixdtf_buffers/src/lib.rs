@@ -2,7 +2,7 @@
 
 //! What the programs over lines share: the line that is being read, the bytes that wait to be written, and decimal numbers.
 //!
-//! Nothing here takes memory: each buffer is an array of fixed size. It stands on the standard library alone.
+//! Nothing here allocates: each buffer is an array of fixed size. The crate uses the standard library alone.
 
 #![forbid(unsafe_code)]
 

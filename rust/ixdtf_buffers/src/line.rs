@@ -10,7 +10,7 @@ pub struct Line<const LIMIT: usize> {
 }
 
 impl<const LIMIT: usize> Line<LIMIT> {
-    /// A line of no byte.
+    /// An empty line.
     pub fn new() -> Line<LIMIT> {
         Line {
             bytes: [0; LIMIT],

@@ -31,7 +31,7 @@ impl<'w, W: Write> Output<'w, W> {
         Ok(())
     }
 
-    /// Hands on what waits, and then puts the bytes.
+    /// Writes the waiting bytes, and then puts the bytes.
     fn put_after(&mut self, bytes: &[u8]) -> Result<(), RunError> {
         self.hand_on()?;
         if bytes.len() > WAITING_LIMIT {
@@ -58,14 +58,14 @@ impl<'w, W: Write> Output<'w, W> {
         }
     }
 
-    /// Hands what waits to the writer.
+    /// Writes the waiting bytes to the writer.
     pub fn hand_on(&mut self) -> Result<(), RunError> {
         write_whole(self.writer, self.waiting.as_slice())?;
         self.waiting.clear();
         Ok(())
     }
 
-    /// Hands what waits to the writer, and flushes the writer.
+    /// Writes the waiting bytes to the writer, and flushes it.
     pub fn finish(&mut self) -> Result<(), RunError> {
         self.hand_on()?;
         match self.writer.flush() {
@@ -75,7 +75,7 @@ impl<'w, W: Write> Output<'w, W> {
     }
 }
 
-/// Writes all the bytes, or fails after a front of them.
+/// Writes all the bytes, or fails after a prefix of them.
 fn write_whole<W: Write>(writer: &mut W, bytes: &[u8]) -> Result<(), RunError> {
     let mut rest = bytes;
     'writes: while !rest.is_empty() {

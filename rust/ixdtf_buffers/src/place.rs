@@ -2,7 +2,7 @@
 
 //! Looking for a byte.
 
-/// Where the first byte that is this one stands.
+/// The index of the first byte that is this one.
 pub fn place_of(wanted: u8, bytes: &[u8]) -> Option<usize> {
     bytes.iter().position(|byte| *byte == wanted)
 }

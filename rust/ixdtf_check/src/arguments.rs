@@ -16,13 +16,13 @@ pub enum Word {
     Option,
     /// The name of a file.
     File,
-    /// The wish to see the usage.
+    /// A request for the usage.
     Help,
-    /// Nothing that the program knows.
+    /// A word that the program does not know.
     Unknown,
 }
 
-/// What the next word is to say.
+/// What the next word means.
 #[derive(Clone, Copy, Debug, PartialEq)]
 enum Awaited {
     Anything,
@@ -32,7 +32,7 @@ enum Awaited {
     File,
 }
 
-/// What the words so far have asked for.
+/// What the words so far ask for.
 #[derive(Clone, Copy, Debug, PartialEq)]
 pub struct Options {
     awaited: Awaited,

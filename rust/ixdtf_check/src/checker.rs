@@ -28,7 +28,7 @@ pub struct Checked {
     pub end: Result<(), RunError>,
 }
 
-/// Checks each line of the reader, and writes what is to be written of it.
+/// Checks each line of the reader, and writes its report.
 pub fn check<R: Read, W: Write>(reader: &mut R, writer: &mut W, request: &Request<'_>) -> Checked {
     let mut output = Output::new(writer);
     let mut kept = Kept::new();
@@ -59,7 +59,7 @@ fn check_all<R: Read, W: Write>(
     Err(RunError::Read)
 }
 
-/// Takes the bytes of a read, reports each line that ends in them, and hands the reports on.
+/// Takes the bytes of a read, reports each line that ends in them, and writes the reports.
 fn check_bytes<W: Write>(
     output: &mut Output<'_, W>,
     kept: &mut Kept,
@@ -77,7 +77,7 @@ fn check_bytes<W: Write>(
 
 /// Takes the last bytes of a line, reports it, and begins the next one.
 ///
-/// It is not inlined: what a report needs is cleared on entry.
+/// It is not inlined, since it clears the room for a report on entry.
 #[inline(never)]
 fn end_line<W: Write>(
     output: &mut Output<'_, W>,
@@ -103,7 +103,7 @@ fn report_line<W: Write>(
     put_report(output, request, number, &kept.printed, &verdict)
 }
 
-/// Reports what stands after the last newline, hands the report to the writer, and flushes it.
+/// Reports what stands after the last newline, writes the report, and flushes the writer.
 fn finish<W: Write>(
     output: &mut Output<'_, W>,
     kept: &mut Kept,

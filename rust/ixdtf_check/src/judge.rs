@@ -11,7 +11,7 @@ use ixdtf::LocatedError;
 use ixdtf_buffers::line::Line;
 use std::str;
 
-/// What comes of the line.
+/// The verdict on the line.
 pub fn verdict_on<'a>(
     request: &Request<'_>,
     line: &'a Line<LINE_LIMIT>,
@@ -26,7 +26,7 @@ pub fn verdict_on<'a>(
     }
 }
 
-/// What comes of a line that is not too long, without its carriage return.
+/// The verdict on a line that is not too long, without its carriage return.
 fn verdict_on_line<'a>(
     request: &Request<'_>,
     line: &'a [u8],
@@ -41,7 +41,7 @@ fn verdict_on_line<'a>(
     }
 }
 
-/// What comes of the text of a line.
+/// The verdict on the text of a line.
 fn verdict_on_text<'a>(
     request: &Request<'_>,
     part: Part<'a>,
@@ -59,7 +59,7 @@ fn verdict_on_text<'a>(
     }
 }
 
-/// What comes of a line whose text is refused by a reader.
+/// The verdict on a line whose text a reader refuses.
 fn refusal_of(error: LocatedError, part: Part<'_>) -> Verdict<'_> {
     Verdict::Refused {
         column: part.start + error.at + 1,

@@ -33,7 +33,7 @@ pub fn part_of(field: Option<Field>, line: &[u8]) -> Option<Part<'_>> {
     }
 }
 
-/// The field, where the line has so many.
+/// The field, where the line has it.
 fn field_of(field: Field, line: &[u8]) -> Option<Part<'_>> {
     match field_start(field.separator, field.before, line) {
         None => None,
@@ -44,7 +44,7 @@ fn field_of(field: Field, line: &[u8]) -> Option<Part<'_>> {
     }
 }
 
-/// Where the field begins that stands behind so many others.
+/// Where the field after `before` others begins.
 fn field_start(separator: u8, before: usize, line: &[u8]) -> Option<usize> {
     let mut start = 0;
     let mut left = before;

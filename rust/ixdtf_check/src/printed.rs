@@ -6,7 +6,7 @@ use ixdtf::encoding::Utf8;
 use ixdtf::records::IxdtfParseRecord;
 use ixdtf_print::print;
 
-/// How many bytes the canonical text of what is read in a line has at most, and some more.
+/// At least as many bytes as the canonical text of a record that was read from a line has.
 const MOST_BYTES: usize = 65792;
 
 /// A canonical text, in an array of fixed size.

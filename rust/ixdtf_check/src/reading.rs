@@ -8,7 +8,7 @@ use ixdtf::LocatedError;
 use ixdtf::encoding::Utf8;
 use ixdtf::parsers::{IsoDurationParser, IxdtfParser, Profile, TimeZoneParser};
 
-/// Reads the text as one of the kind, or tells where it is wrong.
+/// Reads the text as one of the kind, or returns the error with its place.
 pub fn read(kind: Kind, profile: Profile, text: &[u8]) -> Result<(), LocatedError> {
     match kind {
         Kind::DateTime => match IxdtfParser::from_utf8(text).parse_located() {
@@ -56,7 +56,7 @@ fn duration_parser(profile: Profile, text: &[u8]) -> IsoDurationParser<'_, Utf8>
     IsoDurationParser::<Utf8>::from_utf8(text).with_profile(profile)
 }
 
-/// Reads the text as a date-time and prints its canonical text, or tells where it is wrong.
+/// Reads the text as a date-time and prints its canonical text, or returns the error with its place.
 pub fn read_to_print(text: &[u8], printed: &mut PrintedText) -> Result<(), LocatedError> {
     match IxdtfParser::from_utf8(text).parse_located() {
         Ok(parts) => {

@@ -1,6 +1,6 @@
 // Made by tools/to_rust.py of crates/ixdtf_checks/src/report.rt. Do not edit.
 
-//! What is written of a line.
+//! The report of a line.
 
 use crate::printed::PrintedText;
 use crate::request::Request;
@@ -11,7 +11,7 @@ use ixdtf_buffers::error::RunError;
 use ixdtf_buffers::output::Output;
 use std::io::Write;
 
-/// Puts what is to be written of the line with this number, where this is the canonical text that was printed last.
+/// Puts the report of the line with this number, where this is the canonical text that was printed last.
 pub fn put_report<W: Write>(
     output: &mut Output<'_, W>,
     request: &Request<'_>,
@@ -31,7 +31,7 @@ pub fn put_report<W: Write>(
     }
 }
 
-/// Puts what is to be written of a line that is refused.
+/// Puts the report of a line that is refused.
 fn put_refusal<W: Write>(
     output: &mut Output<'_, W>,
     name: &str,

@@ -2,7 +2,7 @@
 
 //! The status with which the program ends.
 
-/// The status where something failed or nothing did, and so many lines were refused.
+/// The status, by whether something failed and by how many lines were refused.
 pub fn status_of(has_failed: bool, refused: u64) -> u8 {
     if has_failed {
         2

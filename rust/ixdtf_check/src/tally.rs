@@ -31,7 +31,7 @@ impl Tally {
         }
     }
 
-    /// Counts what was counted in another file. A number that is too great stays the greatest.
+    /// Adds the counts of another file. A number that overflows stays the greatest.
     pub fn add(&mut self, other: Tally) {
         self.lines = self.lines.saturating_add(other.lines);
         self.refused = self.refused.saturating_add(other.refused);

@@ -1,13 +1,13 @@
 // Made by tools/to_rust.py of crates/ixdtf_checks/src/verdict.rt. Do not edit.
 
-//! What comes of a line.
+//! The verdict on a line.
 
 use ixdtf::LocatedError;
 
 /// The longest line that is read, in bytes.
 pub const LINE_LIMIT: usize = 65536;
 
-/// What comes of a line.
+/// The verdict on a line.
 pub enum Verdict<'a> {
     /// Its text is read.
     Accepted,
@@ -26,7 +26,7 @@ pub enum Verdict<'a> {
 pub enum Reason<'a> {
     /// It is too long.
     TooLong,
-    /// It has not so many fields.
+    /// It has too few fields.
     NoField,
     /// Its text is not read.
     Unread {

@@ -27,7 +27,7 @@ pub enum Answer<'a> {
     Refused(ParseError),
 }
 
-/// What is found in the line, or why the line is refused.
+/// What the reader of the line found, or why the line is refused.
 pub fn answer_to(line: &Line<LINE_LIMIT>) -> Answer<'_> {
     match line.as_slice() {
         None => Answer::TooLong,

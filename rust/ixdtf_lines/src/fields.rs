@@ -17,7 +17,7 @@ use ixdtf_buffers::output::Output;
 use ixdtf_print::print;
 use std::io::Write;
 
-/// How many bytes the canonical text of a record that was read from a line has at most, and some more.
+/// At least as many bytes as the canonical text of a record that was read from a line has.
 const MOST_BYTES: usize = 4352;
 
 /// Puts each field of what a reader found, after a space.

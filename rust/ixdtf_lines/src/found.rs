@@ -25,7 +25,7 @@ pub enum Found<'a> {
     Canonical(PrintedRecord<'a>),
 }
 
-/// What the reader of the word finds in the text.
+/// What the reader that the word names finds in the text.
 pub fn read(word: Word, text: &[u8]) -> ParserResult<Found<'_>> {
     match word {
         Word::Parse => match IxdtfParser::from_utf8(text).parse() {

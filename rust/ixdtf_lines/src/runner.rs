@@ -23,7 +23,7 @@ pub fn run<R: Read, W: Write>(reader: &mut R, writer: &mut W) -> Result<(), RunE
 fn answer_all<R: Read, W: Write>(reader: &mut R, output: &mut Output<'_, W>) -> Result<(), RunError> {
     let mut line = Line::new();
     let mut input = [0; INPUT_SIZE];
-    // It counts its reads, so that it ends in any case. No byte waits at any of them.
+    // It counts its reads, so that it ends in any case. No byte waits at any read.
     'reads: for _ in 0..u64::MAX {
         let count = read_some(reader, &mut input)?;
         if count == 0 {
@@ -34,7 +34,7 @@ fn answer_all<R: Read, W: Write>(reader: &mut R, output: &mut Output<'_, W>) -> 
     Err(RunError::Read)
 }
 
-/// Takes the bytes of a read, answers each line that ends in them, and hands the answers on.
+/// Takes the bytes of a read, answers each line that ends in them, and writes the answers.
 fn answer_bytes<W: Write>(
     output: &mut Output<'_, W>,
     line: &mut Line<LINE_LIMIT>,
@@ -51,7 +51,7 @@ fn answer_bytes<W: Write>(
 
 /// Takes the last bytes of a line, answers it, and begins the next one.
 ///
-/// It is not inlined: the room for an answer is cleared on entry.
+/// It is not inlined, since it clears the room for an answer on entry.
 #[inline(never)]
 fn end_line<W: Write>(
     output: &mut Output<'_, W>,
@@ -64,7 +64,7 @@ fn end_line<W: Write>(
     Ok(())
 }
 
-/// Answers what stands after the last newline, hands the answer to the writer, and flushes it.
+/// Answers what stands after the last newline, writes the answer, and flushes the writer.
 fn finish<W: Write>(output: &mut Output<'_, W>, line: &Line<LINE_LIMIT>) -> Result<(), RunError> {
     if line.is_empty() {
         return output.finish();

@@ -230,7 +230,7 @@ fn seconds_of(text: &str) -> Option<(Sign, u128)> {
     Some((duration.sign, whole + u128::from(part)))
 }
 
-// The year of a date in 16-bit units.
+// The year of a date in 16-bit code units.
 fn year_of_units(units: &[u16]) -> Option<i32> {
     let mut parser = IxdtfParser::from_utf16(units);
     let Ok(record) = parser.parse() else {
@@ -240,7 +240,7 @@ fn year_of_units(units: &[u16]) -> Option<i32> {
     Some(date.year)
 }
 
-// The weeks of a duration in 16-bit units.
+// The weeks of a duration in 16-bit code units.
 fn weeks_of_units(units: &[u16]) -> Option<u32> {
     let mut parser = IsoDurationParser::<Utf16>::from_utf8(units);
     let Ok(duration) = parser.parse() else {
@@ -311,7 +311,7 @@ fn counts_seconds() {
     }
 }
 
-// `2024-03-02`, and behind it a unit that stands for no letter.
+// `2024-03-02`, and a bad code unit after it.
 const WIDE_DATE: [u16; 11] = [50, 48, 50, 52, 45, 48, 51, 45, 48, 50, 0x263A];
 
 // `P2W`.
@@ -330,7 +330,7 @@ fn reads_wide_units() {
 
 // ==== Errors ====
 
-// What to tell whoever wrote the text.
+// Advice for the author of the text.
 fn advice(error: ParseError) -> &'static str {
     match error {
         InvalidMonthRange => "there is no such month",

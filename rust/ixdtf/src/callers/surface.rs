@@ -71,7 +71,7 @@ fn has_every_trait() {
     is_copied::<Profile>();
 }
 
-// Whether the calls of an encoding are there, and see no letter, no part and no calendar in nothing.
+// Whether the calls of an encoding are there, and find no code unit, no slice and no calendar in an empty source.
 fn sees_nothing<T: EncodingType>(units: &[T::CodeUnit]) -> bool {
     let letter: ParserResult<Option<u8>> = T::get_ascii(units, 0);
     let part = T::slice(units, 1, 0);
@@ -93,7 +93,7 @@ fn digits_of(offset: UtcOffsetRecord) -> Option<(u8, u64)> {
     Some((fraction.digit_count(), fraction.leading_value()))
 }
 
-// The nanoseconds of an offset, as both calls give them.
+// The nanoseconds of an offset, as both calls return them.
 fn nanoseconds_of(offset: UtcOffsetRecord) -> Option<(Option<u32>, u32)> {
     match offset.fraction() {
         Some(fraction) => Some((
@@ -329,7 +329,7 @@ fn fullest_record() -> IxdtfParseRecord<'static, Utf8> {
     }
 }
 
-// Whether that text gives that record.
+// Whether `parse` returns that record for that text.
 fn reads_the_fullest_record() -> bool {
     let text = "0001-02-03T04:05:06+07:08:09[!+07:08][u-ca=iso8601]";
     IxdtfParser::from_str(text).parse() == Ok(fullest_record())

@@ -14,7 +14,7 @@ use crate::records::Annotation;
 
 // ==== Keys and values ====
 
-/// The letters of a key.
+/// The code units of a key.
 #[derive(Clone, Copy)]
 pub struct KeyLetters;
 
@@ -25,7 +25,7 @@ impl Letters for KeyLetters {
     }
 }
 
-/// Reads a key from its first letter on, and the `=` after it, and returns the key's units.
+/// Reads a key and the `=` after it, and returns the key's code units. Its first code unit has been seen.
 #[inline(always)]
 pub fn parse_annotation_key<'a, T: EncodingType>(
     cursor: &mut Cursor<'a, T>,
@@ -43,7 +43,7 @@ pub fn parse_annotation_key<'a, T: EncodingType>(
     }
 }
 
-/// The letters of a component of a value.
+/// The code units of a component of a value.
 #[derive(Clone, Copy)]
 pub struct ComponentLetters;
 
@@ -54,7 +54,8 @@ impl Letters for ComponentLetters {
     }
 }
 
-/// Takes the first letter of a component off. Another letter, or the end, is this stop; both stay.
+/// Takes the first code unit of a component. Another code unit, or the end of the input, is this stop, and is not
+/// taken.
 #[inline(always)]
 fn start_component<'a, T: EncodingType>(cursor: &mut Cursor<'a, T>, other: Stop) -> Result<u8, Stop> {
     match cursor.look()? {
@@ -66,7 +67,7 @@ fn start_component<'a, T: EncodingType>(cursor: &mut Cursor<'a, T>, other: Stop)
     }
 }
 
-/// Reads a value, component by component between its hyphens, and the `]` after it, and returns the value's units.
+/// Reads a value, component by component between its hyphens, and the `]` after it, and returns the value's code units.
 #[inline(always)]
 pub fn parse_annotation_value<'a, T: EncodingType>(
     cursor: &mut Cursor<'a, T>,
@@ -132,7 +133,7 @@ fn parse_critical_pair<'a, T: EncodingType>(
     }
 }
 
-/// Reads the next pair after whole brackets, or `None` at the end.
+/// Reads the next pair after whole brackets, or returns `None` at the end of the input.
 #[inline(always)]
 pub fn next_annotation<'a, T: EncodingType>(
     cursor: &mut Cursor<'a, T>,

@@ -52,7 +52,7 @@ fn parse_critical_bracket<'a, T: EncodingType>(
     }
 }
 
-/// Reads what stands in a first bracket from its first letter on, and its `]`.
+/// Reads what stands in a first bracket, and its `]`. Its first code unit has been seen.
 #[inline(always)]
 fn parse_inside<'a, T: EncodingType>(
     cursor: &mut Cursor<'a, T>,
@@ -71,20 +71,20 @@ fn parse_inside<'a, T: EncodingType>(
     Ok(Bracket::Zone(TimeZoneAnnotation { critical, tz }))
 }
 
-/// Whether the letter is the `=` after a key.
+/// Whether the code unit is the `=` after a key.
 #[inline(always)]
 fn ends_key(next: Option<u8>) -> bool {
     matches!(next, Some(byte) if is_annotation_key_value_separator(byte))
 }
 
-/// Whether the letter is the `]` of a bracket.
+/// Whether the code unit is the `]` of a bracket.
 #[inline(always)]
 fn ends_bracket(next: Option<u8>) -> bool {
     matches!(next, Some(byte) if is_annotation_close(byte))
 }
 
-/// Reads a pair where an `=` comes before any `]`, else a name, and the bracket's `]`. Letters of a key are letters of a
-/// name too, so it takes these first, and it looks further ahead only where it refuses.
+/// Reads a pair where an `=` comes before any `]`, else a name, and the bracket's `]`. A name may have all the code
+/// units of a key, so it takes these first. It looks further ahead only where it returns an error.
 #[inline(always)]
 fn parse_name_or_pair<'a, T: EncodingType>(
     cursor: &mut Cursor<'a, T>,
@@ -120,7 +120,7 @@ fn parse_name_or_pair<'a, T: EncodingType>(
     Err(refused.stop)
 }
 
-/// The letters of a first bracket before an `=` or a `]`.
+/// The code units of a first bracket before an `=` or a `]`.
 #[derive(Clone, Copy)]
 pub struct BracketLetters;
 
@@ -132,15 +132,15 @@ impl Letters for BracketLetters {
     }
 }
 
-/// Why a first bracket is refused, and where.
+/// The error of a first bracket, and its place.
 struct Refused<'a, T: EncodingType> {
     stop: Stop,
     there: Cursor<'a, T>,
 }
 
-/// Why a first bracket is refused that is no name, after the letters of one: with an `=` before any `]` it is a pair, whose
-/// key does not go on. It is refused where the key or the name goes no further, or where the look ahead ended. The cursor is
-/// handed over, so that the one of the caller is in no memory.
+/// Why a first bracket is refused that is not a name, after the code units of one: with an `=` before any `]` it is a
+/// pair, whose key ends there. Its place is the end of the key or of the name, or where the look ahead ended. The
+/// cursor is passed by value, so that the compiler can keep the caller's in registers.
 fn refuse_bracket<'a, T: EncodingType>(
     here: Cursor<'a, T>,
     behind_key: &'a [T::CodeUnit],

@@ -1,6 +1,6 @@
 // Made by tools/to_rust.py of crates/ixdtf/src/parsers/cores.rt. Do not edit.
 
-//! Reading cores, which are what stands before the brackets of a text, into a record.
+//! Reading cores into a record. A core is what stands before the brackets of a text.
 
 use crate::encoding::EncodingType;
 use crate::parsers::profile::Profile;
@@ -19,9 +19,9 @@ use crate::parsers::months::{
 use crate::parsers::offsets::{offset_from, take_fixed_offset};
 use crate::parsers::time::{Clock, TimeShape, parse_after_second, parse_clock};
 
-/// Cores of one kind. What reads whole texts is generic in it, so that nothing asks for the kind when it runs.
+/// Cores of one kind. What reads whole texts is generic in it, so that no code tests the kind when it runs.
 pub trait Cores {
-    /// Reads a core into a record in which nothing stands yet, and returns whether a bracket follows, whose `[` is taken off.
+    /// Reads a core into an empty record, and returns whether a bracket follows, whose `[` is taken.
     fn parse_core<'a, T: EncodingType>(
         cursor: &mut Cursor<'a, T>,
         profile: Profile,
@@ -29,7 +29,7 @@ pub trait Cores {
     ) -> Result<bool, Stop>;
 }
 
-/// A date, and a time and an offset where there are.
+/// A date, and a time and an offset where there are any.
 pub struct DateTimes;
 
 impl Cores for DateTimes {
@@ -140,7 +140,7 @@ fn parse_date_time<'a, T: EncodingType>(
 
 // ==== Times ====
 
-/// Reads a time, and an offset or `Z` where there is one, behind the date that stands in the record, or none.
+/// Reads a time, and an offset or `Z` where there is one, after the date in the record where there is one.
 #[inline(always)]
 fn parse_timed<'a, T: EncodingType>(
     cursor: &mut Cursor<'a, T>,
@@ -151,7 +151,8 @@ fn parse_timed<'a, T: EncodingType>(
     parse_after_time(cursor, time, found)
 }
 
-/// Refuses a time whose text began as a month-day or as a year-month does, with the cursor behind these. Otherwise it stays.
+/// Refuses a time whose text begins as a month-day or as a year-month does, with the cursor behind these. Otherwise the
+/// cursor does not move.
 #[inline(always)]
 fn check_front<'a, T: EncodingType>(
     cursor: &mut Cursor<'a, T>,
@@ -196,8 +197,8 @@ fn parse_after_time<'a, T: EncodingType>(
     }
 }
 
-/// Reads an offset behind its sign: at its places where it has no seconds and the core ends with it, and else by a cursor of
-/// its own, as far as it goes.
+/// Reads an offset after its sign: at fixed places where it has no seconds and the core ends with it, and else with a
+/// second cursor.
 #[inline(always)]
 fn parse_signed<'a, T: EncodingType>(
     cursor: &mut Cursor<'a, T>,
@@ -213,7 +214,7 @@ fn parse_signed<'a, T: EncodingType>(
     read
 }
 
-/// Reads an offset of any form behind its sign. It is not inlined: most texts have their offset at its places.
+/// Reads an offset of any form after its sign. It is not inlined, since most texts have their offset at fixed places.
 #[inline(never)]
 fn parse_any_offset<'a, T: EncodingType>(
     cursor: &mut Cursor<'a, T>,
@@ -227,8 +228,8 @@ fn parse_any_offset<'a, T: EncodingType>(
     close_core(cursor)
 }
 
-/// Wants the end of the text or a `[` after a core, and returns whether it is the `[`, which is taken off: `InvalidEnd` at
-/// any other letter.
+/// Expects the end of the input or a `[` after a core, and returns whether it is the `[`, which is taken. Any other
+/// code unit is `InvalidEnd`.
 #[inline(always)]
 fn close_core<'a, T: EncodingType>(cursor: &mut Cursor<'a, T>) -> Result<bool, Stop> {
     match cursor.look()? {

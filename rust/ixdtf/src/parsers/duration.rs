@@ -18,7 +18,7 @@ use crate::parsers::time::parse_fraction;
 
 /// A reader of durations.
 ///
-/// It borrows its source, and is as large as a slice, the rest of the input, and its profile.
+/// It borrows its source. It is as large as a slice, the remaining input, and its profile.
 ///
 /// ```rust
 /// use ixdtf::parsers::IsoDurationParser;
@@ -78,7 +78,7 @@ impl<'a, T: EncodingType> IsoDurationParser<'a, T> {
         }
     }
 
-    /// The parser with this profile, which decides whether a unit may stand again. The rest of the input stays.
+    /// The parser with this profile, which decides whether a unit may be repeated. The remaining input is unchanged.
     ///
     /// ```rust
     /// use ixdtf::ParseError;
@@ -97,16 +97,16 @@ impl<'a, T: EncodingType> IsoDurationParser<'a, T> {
         }
     }
 
-    /// Reads the rest of the input as a duration (`Duration` of the Temporal grammar; ISO 8601, section 5.5.2).
+    /// Reads the remaining input as a duration (`Duration` of the Temporal grammar; ISO 8601, section 5.5.2).
     ///
-    /// An optional sign stands first, then `P`, then date groups, and then, after a `T`, time groups; a group at all, and
-    /// one after a `T`. A group is a number and its unit: `Y`, `M`, `W` and `D` for years, months, weeks and days, and `H`,
-    /// `M` and `S` for hours, minutes and seconds. No unit may stand after a shorter one of its half; a unit may be
-    /// repeated, and its last number counts, but under [`Profile::Strict`] none may. The last time group may have a
+    /// A duration is an optional sign, `P`, date groups, and then, where there are any, `T` and time groups. It has at
+    /// least one group. A group is a number and the letter of its unit: `Y`, `M`, `W` and `D` for years, months, weeks and
+    /// days, and `H`, `M` and `S` for hours, minutes and seconds. No unit may stand after a shorter one of its half. A unit
+    /// may be repeated, and its last number counts; under [`Profile::Strict`] none may. The last time group may have a
     /// fraction, as `.25` or `,25`. All letters may be lowercase.
     ///
-    /// A number is below 2^64, and below 2^32 of years, months and weeks. The record has the date groups where any stand there,
-    /// and the time groups where a `T` does.
+    /// A number is below 2^64, and below 2^32 for years, months and weeks. The record has a date where there are date
+    /// groups, and a time where there is a `T`.
     ///
     /// ```rust
     /// use ixdtf::ParseError;
@@ -135,37 +135,37 @@ impl<'a, T: EncodingType> IsoDurationParser<'a, T> {
     /// # Ok::<(), ParseError>(())
     /// ```
     ///
-    /// After `Ok` the rest of the input is empty, so a later call returns the error of the empty text. After an error the
-    /// rest is as it was, so a second call returns the same.
+    /// After `Ok` the remaining input is empty, so a later call returns the error of the empty text. After an error it is
+    /// unchanged, so a second call returns the same.
     ///
     /// # Errors
     ///
-    /// The first part that is wrong decides. Of a group the order comes before the range of its unit.
+    /// The first part that is wrong decides. For a group the order is tested before the range of its unit.
     ///
-    /// - `AbruptEnd` where the input ends before anything (at `DurationStart`), after a sign (at `DurationDesignator`) and
-    ///   after `P` (at `Duration`), and where the digits of a group are followed by no letter of its half, or by nothing (at
+    /// - `AbruptEnd` where the input is empty (at `DurationStart`), where it ends after a sign (at `DurationDesignator`) or
+    ///   after `P` (at `Duration`), and where no unit of its half follows the digits of a group (at
     ///   `DateDurationDesignator` and `TimeDurationDesignator`);
     /// - `DurationDisgnator` where neither a sign nor `P` stands first, or no `P` after a sign;
     /// - `TimeDurationDesignator` where no digit follows a `T`;
     /// - `DateDurationPartOrder` and `TimeDurationPartOrder` for a group after one of a shorter unit, and under
     ///   [`Profile::Strict`] for one after another of its unit;
-    /// - `DurationValueExceededRange` at a digit with which a number is no more below 2^64, and for years, months and weeks
-    ///   that are not below 2^32;
+    /// - `DurationValueExceededRange` at a digit with which a number reaches 2^64, and for years, months and weeks of 2^32
+    ///   or more;
     /// - `FractionPart` where no digit follows a decimal mark;
     /// - `InvalidEnd` at any other character after `P` or after a group;
-    /// - `NonAsciiCodePoint` at a code unit that stands for no character, which no 8-bit one does.
+    /// - `NonAsciiCodePoint` at a 16-bit code unit that is not from 1 to 126.
     pub fn parse(&mut self) -> ParserResult<DurationParseRecord> {
         let mut here = self.cursor.take();
         let read = parse_duration_text(&mut here, self.profile);
         self.cursor.settle(here, read)
     }
 
-    /// Reads as [`parse`](Self::parse) does, and returns an error with its place: the number of code units that stand before
-    /// it in the rest of the input.
+    /// Reads as [`parse`](Self::parse) does, and returns an error with its place: the number of code units before it in the
+    /// remaining input.
     ///
-    /// The place is that of the character that does not fit, or of the code unit that stands for no character, and the end
-    /// where the input ends too soon. A number that is too great has its place after the digit with which it is, or after
-    /// the letter of its years, months or weeks, and a group that is out of order has it after its letter.
+    /// The place is that of the code unit that does not fit, or the end of the input where more has to follow. The place of
+    /// a number out of range is after the digit with which it overflows, or after the letter of its unit for years, months
+    /// and weeks. The place of a group out of order is after the letter of its unit.
     ///
     /// ```rust
     /// use ixdtf::ParseError;
@@ -193,14 +193,14 @@ impl<'a, T: EncodingType> IsoDurationParser<'a, T> {
 
 // ==== Numbers ====
 
-/// A number, and the letter after it, which is no digit and is still to be taken off.
+/// A number, and the code unit after it, which is not a digit and is not taken yet.
 #[derive(Clone, Copy)]
 struct Number {
     value: u64,
     next: u8,
 }
 
-/// The number with one more digit after it where it is below 2^64.
+/// The number with one more digit, where it does not overflow.
 #[inline(always)]
 fn add_digit(value: u64, byte: u8) -> Result<u64, Stop> {
     match value.checked_mul(10) {
@@ -212,7 +212,8 @@ fn add_digit(value: u64, byte: u8) -> Result<u64, Stop> {
     }
 }
 
-/// Takes the other digits of a number off, and returns it with the letter after them, which stays. The end is this stop.
+/// Takes the other digits of a number, and returns it with the code unit after them, which is not taken. The end of the
+/// input is this stop.
 #[inline(always)]
 fn parse_number<'a, T: EncodingType>(
     cursor: &mut Cursor<'a, T>,
@@ -236,8 +237,8 @@ fn parse_number<'a, T: EncodingType>(
 // The greatest number of years, and of months, and of weeks.
 const MOST_OF_LONG_UNITS: u64 = 0xffff_ffff;
 
-// The rank of the unit that a letter ends a date group of: years are 1, months 2, weeks 3 and days 4. A letter that ends none
-// has 0.
+// The rank of the date unit that a code unit names: years are 1, months 2, weeks 3 and days 4. Any other code unit has
+// 0.
 static DATE_RANKS: [u8; 256] = [
     0, 0, 0, 0, 0, 0, 0, 0, 0, 0, 0, 0, 0, 0, 0, 0,
     0, 0, 0, 0, 0, 0, 0, 0, 0, 0, 0, 0, 0, 0, 0, 0,
@@ -257,14 +258,14 @@ static DATE_RANKS: [u8; 256] = [
     0, 0, 0, 0, 0, 0, 0, 0, 0, 0, 0, 0, 0, 0, 0, 0,
 ];
 
-/// The rank of the unit that a letter ends a date group of, or 0 where it ends none.
+/// The rank of the date unit that the code unit names, or 0.
 #[inline(always)]
 fn date_rank(letter: u8) -> u8 {
     DATE_RANKS[letter as usize]
 }
 
-/// Takes the letter after a number off, which ends a date group, and returns the rank of its unit where the group may stand
-/// from this rank on and its number is in the range of the unit. A letter that ends none stays.
+/// Takes the letter of a date unit after a number, and returns its rank where it is at least `least` and the number is
+/// in the range of the unit. Another code unit is not taken.
 #[inline(always)]
 fn take_date_unit<'a, T: EncodingType>(
     cursor: &mut Cursor<'a, T>,
@@ -286,7 +287,7 @@ fn take_date_unit<'a, T: EncodingType>(
     Ok(rank)
 }
 
-/// The record of the numbers of date groups, which stand by their ranks.
+/// The record of the numbers of date groups, indexed by their ranks.
 #[inline(always)]
 fn date_record(values: [u64; 5]) -> DateDurationRecord {
     DateDurationRecord {
@@ -297,14 +298,14 @@ fn date_record(values: [u64; 5]) -> DateDurationRecord {
     }
 }
 
-/// Date groups that were read, and whether a `T` follows them, which is taken off.
+/// Date groups that were read, and whether a `T` followed them. It is taken.
 #[derive(Clone, Copy)]
 struct Dates {
     record: DateDurationRecord,
     timed: bool,
 }
 
-/// Reads date groups after their first digit, and what follows them: the end, or a `T`.
+/// Reads date groups after their first digit, and what follows them: the end of the input, or a `T`.
 #[inline(always)]
 fn parse_dates<'a, T: EncodingType>(
     cursor: &mut Cursor<'a, T>,
@@ -344,8 +345,7 @@ fn parse_dates<'a, T: EncodingType>(
 
 // ==== Times ====
 
-// The rank of the unit that a letter ends a time group of: hours are 1, minutes 2 and seconds 3. A letter that ends none has
-// 0.
+// The rank of the time unit that a code unit names: hours are 1, minutes 2 and seconds 3. Any other code unit has 0.
 static TIME_RANKS: [u8; 256] = [
     0, 0, 0, 0, 0, 0, 0, 0, 0, 0, 0, 0, 0, 0, 0, 0,
     0, 0, 0, 0, 0, 0, 0, 0, 0, 0, 0, 0, 0, 0, 0, 0,
@@ -365,13 +365,13 @@ static TIME_RANKS: [u8; 256] = [
     0, 0, 0, 0, 0, 0, 0, 0, 0, 0, 0, 0, 0, 0, 0, 0,
 ];
 
-/// The rank of the unit that a letter ends a time group of, or 0 where it ends none.
+/// The rank of the time unit that the code unit names, or 0.
 #[inline(always)]
 fn time_rank(letter: u8) -> u8 {
     TIME_RANKS[letter as usize]
 }
 
-/// A time group: a number, the part of a unit beyond it, and the letter after them, which is still to be taken off.
+/// A time group: a number, its fraction, and the code unit after them, which is not taken yet.
 #[derive(Clone, Copy)]
 struct TimeGroup {
     value: u64,
@@ -379,8 +379,7 @@ struct TimeGroup {
     letter: u8,
 }
 
-/// Takes the letter of a time group off, and returns the rank of its unit where the group may stand from this rank on. A
-/// letter that ends none stays.
+/// Takes the letter of a time unit, and returns its rank where it is at least `least`. Another code unit is not taken.
 #[inline(always)]
 fn take_time_unit<'a, T: EncodingType>(
     cursor: &mut Cursor<'a, T>,
@@ -399,7 +398,7 @@ fn take_time_unit<'a, T: EncodingType>(
     Ok(rank)
 }
 
-/// The record of the numbers of time groups, which stand by their ranks, by the rank of the last.
+/// The record of the numbers of time groups, indexed by their ranks. The rank of the last is its variant.
 #[inline(always)]
 fn time_record(values: [u64; 4], rank: u8, fraction: Option<Fraction>) -> TimeDurationRecord {
     match rank {
@@ -421,13 +420,14 @@ fn time_record(values: [u64; 4], rank: u8, fraction: Option<Fraction>) -> TimeDu
     }
 }
 
-/// Whether the byte begins one more group after one with this fraction: a digit does, where there is none.
+/// Whether the code unit begins one more group: a digit does, where the group before has no fraction.
 #[inline(always)]
 fn begins_time_group(byte: u8, fraction: Option<Fraction>) -> bool {
     byte.is_ascii_digit() && fraction.is_none()
 }
 
-/// Reads the digits of a fraction after its decimal mark, and returns them with the letter after them, which stays.
+/// Reads the digits of a fraction after its decimal mark, and returns them with the code unit after them, which is not
+/// taken.
 #[inline(always)]
 fn parse_fraction_group<'a, T: EncodingType>(
     cursor: &mut Cursor<'a, T>,
@@ -444,7 +444,7 @@ fn parse_fraction_group<'a, T: EncodingType>(
     }
 }
 
-/// Reads a time group after its first digit, up to its letter, which is not tested and stays.
+/// Reads a time group after its first digit, up to the letter of its unit, which is neither tested nor taken.
 #[inline(always)]
 fn parse_time_group<'a, T: EncodingType>(
     cursor: &mut Cursor<'a, T>,
@@ -462,7 +462,7 @@ fn parse_time_group<'a, T: EncodingType>(
     })
 }
 
-/// Reads time groups after their first digit, and wants the end.
+/// Reads time groups after their first digit, and expects the end of the input.
 #[inline(always)]
 fn parse_time_groups<'a, T: EncodingType>(
     cursor: &mut Cursor<'a, T>,
@@ -488,7 +488,7 @@ fn parse_time_groups<'a, T: EncodingType>(
     }
 }
 
-/// Reads time groups after their `T`, and wants the end.
+/// Reads time groups after their `T`, and expects the end of the input.
 #[inline(always)]
 fn parse_times<'a, T: EncodingType>(
     cursor: &mut Cursor<'a, T>,
@@ -514,7 +514,7 @@ fn parse_times<'a, T: EncodingType>(
 
 // ==== Durations ====
 
-/// Takes `P` or `p` off after a sign, which it returns.
+/// Takes the `P` or `p` after a sign, and returns the sign.
 #[inline(always)]
 fn parse_designator<'a, T: EncodingType>(
     cursor: &mut Cursor<'a, T>,
@@ -547,7 +547,7 @@ fn parse_opening<'a, T: EncodingType>(cursor: &mut Cursor<'a, T>) -> Result<Sign
     }
 }
 
-/// Reads a duration that begins with date groups, after their first digit, and wants the end.
+/// Reads a duration that begins with date groups, after their first digit, and expects the end of the input.
 #[inline(always)]
 fn parse_dated<'a, T: EncodingType>(
     cursor: &mut Cursor<'a, T>,
@@ -566,7 +566,7 @@ fn parse_dated<'a, T: EncodingType>(
     })
 }
 
-/// Reads a duration after its sign and its `P` or `p`, and wants the end.
+/// Reads a duration after its sign and its `P` or `p`, and expects the end of the input.
 #[inline(always)]
 fn parse_after_designator<'a, T: EncodingType>(
     cursor: &mut Cursor<'a, T>,
@@ -587,7 +587,7 @@ fn parse_after_designator<'a, T: EncodingType>(
     }
 }
 
-/// Reads a duration, and wants the end.
+/// Reads a duration, and expects the end of the input.
 #[inline(always)]
 fn parse_duration_text<'a, T: EncodingType>(
     cursor: &mut Cursor<'a, T>,

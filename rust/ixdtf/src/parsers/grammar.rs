@@ -1,8 +1,9 @@
 // Made by tools/to_rust.py of crates/ixdtf_reading/src/grammar.rt. Do not edit.
 
-//! The classes of letters that the readers tell apart.
+//! The classes of characters.
 
-// The classes that a byte is of, one bit for each: 1 goes on in a key, 2 in a zone name, 4 stands in a value.
+// The classes of each byte, one bit for each: 1 for the characters of a key, 2 for those of a zone name, 4 for those of
+// a value.
 static CLASSES: [u8; 256] = [
     0, 0, 0, 0, 0, 0, 0, 0, 0, 0, 0, 0, 0, 0, 0, 0,
     0, 0, 0, 0, 0, 0, 0, 0, 0, 0, 0, 0, 0, 0, 0, 0,
@@ -22,7 +23,7 @@ static CLASSES: [u8; 256] = [
     0, 0, 0, 0, 0, 0, 0, 0, 0, 0, 0, 0, 0, 0, 0, 0,
 ];
 
-// Ten times the number of each digit, and 100 at each byte that is none.
+// Ten times the value of each digit, and 100 for any other byte.
 static TENS: [u8; 256] = [
     100, 100, 100, 100, 100, 100, 100, 100, 100, 100, 100, 100, 100, 100, 100, 100,
     100, 100, 100, 100, 100, 100, 100, 100, 100, 100, 100, 100, 100, 100, 100, 100,
@@ -42,7 +43,7 @@ static TENS: [u8; 256] = [
     100, 100, 100, 100, 100, 100, 100, 100, 100, 100, 100, 100, 100, 100, 100, 100,
 ];
 
-// The number of each digit, and 100 at each byte that is none.
+// The value of each digit, and 100 for any other byte.
 static ONES: [u8; 256] = [
     100, 100, 100, 100, 100, 100, 100, 100, 100, 100, 100, 100, 100, 100, 100, 100,
     100, 100, 100, 100, 100, 100, 100, 100, 100, 100, 100, 100, 100, 100, 100, 100,
@@ -146,49 +147,49 @@ pub fn is_tz_leading_char(byte: u8) -> bool {
     byte.is_ascii_alphabetic() || byte == b'_' || byte == b'.'
 }
 
-/// What goes on in a zone name: what begins one, a digit, `+` or `-`.
+/// What follows in a zone name: what begins one, a digit, `+` or `-`.
 #[inline(always)]
 pub fn is_tz_char(byte: u8) -> bool {
     CLASSES[byte as usize] & 2 != 0
 }
 
-/// What a key begins with: a small ASCII letter or `_`.
+/// What a key begins with: a lowercase ASCII letter or `_`.
 #[inline(always)]
 pub fn is_a_key_leading_char(byte: u8) -> bool {
     byte.is_ascii_lowercase() || byte == b'_'
 }
 
-/// What goes on in a key: what begins one, a digit or `-`.
+/// What follows in a key: what begins one, a digit or `-`.
 #[inline(always)]
 pub fn is_a_key_char(byte: u8) -> bool {
     CLASSES[byte as usize] & 1 != 0
 }
 
-/// What stands in a value: an ASCII letter or a digit.
+/// What a component of a value has: ASCII letters and digits.
 #[inline(always)]
 pub fn is_annotation_value_component(byte: u8) -> bool {
     CLASSES[byte as usize] & 4 != 0
 }
 
-/// The number of two digits.
+/// The value of two digits.
 #[inline(always)]
 pub fn digits_value(tens: u8, ones: u8) -> u8 {
     10 * (tens - b'0') + (ones - b'0')
 }
 
-/// The number of two digits, or at least 100 where one of the bytes is no digit.
+/// The value of two digits, or at least 100 where one of the bytes is not a digit.
 #[inline(always)]
 pub fn number_of(tens: u8, ones: u8) -> u8 {
     tens_of(tens) + ones_of(ones)
 }
 
-/// Ten times the number of a digit, or 100 where the byte is none.
+/// Ten times the value of a digit, or 100 for any other byte.
 #[inline(always)]
 fn tens_of(byte: u8) -> u8 {
     TENS[byte as usize]
 }
 
-/// The number of a digit, or 100 where the byte is none.
+/// The value of a digit, or 100 for any other byte.
 #[inline(always)]
 fn ones_of(byte: u8) -> u8 {
     ONES[byte as usize]

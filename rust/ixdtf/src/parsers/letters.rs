@@ -1,24 +1,24 @@
 // Made by tools/to_rust.py of crates/ixdtf_reading/src/letters.rt. Do not edit.
 
-//! Passing over letters one by one.
+//! Passing over code units one by one.
 
 use crate::cursor::Cursor;
 use crate::stop::Stop;
 use crate::encoding::EncodingType;
 
-/// Letters of one kind, by where reading of them is.
+/// The state of a run of code units of one kind.
 pub trait Letters: Copy {
-    /// Where reading is after the letter, or `None` where the letter does not go on.
+    /// The state after the code unit, or `None` where it ends the run.
     fn go_on(self, byte: u8) -> Option<Self>;
 }
 
-/// Where reading is after letters that were passed over, and the letter that does not go on.
+/// The state after a run, and the code unit that ended it.
 pub struct Passed<S: Copy> {
     pub state: S,
     pub next: Option<u8>,
 }
 
-/// Passes over letters as far as they go. The letter that does not go on stays.
+/// Passes over the run of code units. The one that ends it is not taken.
 #[inline(always)]
 pub fn pass_letters<'a, T: EncodingType, S: Letters>(
     cursor: &mut Cursor<'a, T>,

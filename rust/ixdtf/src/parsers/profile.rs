@@ -1,11 +1,10 @@
 // Made by tools/to_rust.py of crates/ixdtf_grammar/src/profile.rt. Do not edit.
 
-//! Which of two readings a parser makes.
+//! The profile of a parser.
 
-/// Which reading a parser makes: that of `ixdtf` 0.6.7 of ICU4X, or one that is stricter with month-days and
-/// durations.
+/// How a parser reads: as `ixdtf` 0.6.7 of ICU4X does, or more strictly for month-days and durations.
 ///
-/// A new parser has [`Profile::Crate`]. Dates, year-months, offsets and zones are read alike under both.
+/// A new parser has [`Profile::Crate`]. Dates, year-months, offsets and zones are read in the same way under both.
 ///
 /// ```rust
 /// use ixdtf::ParseError;
@@ -23,11 +22,10 @@
 /// ```
 #[derive(Clone, Copy, Debug, PartialEq)]
 pub enum Profile {
-    /// The reading of `ixdtf` 0.6.7 of ICU4X: a month-day may have the day 0, and a unit of a duration may be repeated.
+    /// As `ixdtf` 0.6.7 of ICU4X: a month-day may have the day 0, and a unit of a duration may be repeated.
     Crate,
-    /// The stricter reading: the day of a month-day is at least 1, and each unit of a duration is shorter than the one before
-    /// it. A time is told from a month-day by the same rule, so `Strict` reads some times that are ambiguous under
-    /// [`Profile::Crate`], such as `1200`.
+    /// Stricter: the day of a month-day is at least 1, and each unit of a duration is shorter than the one before it. So
+    /// `parse_time` reads some texts that are ambiguous under [`Profile::Crate`], such as `1200`.
     Strict,
 }
 
@@ -41,7 +39,7 @@ impl Profile {
         }
     }
 
-    /// The least step from the place of a unit of a duration to that of the next.
+    /// The least difference between the ranks of two units of a duration, one after the other.
     #[inline(always)]
     pub(crate) fn least_step(self) -> u8 {
         match self {

@@ -1,6 +1,6 @@
 // Made by tools/to_rust.py of crates/ixdtf/src/parsers/replies.rt. Do not edit.
 
-//! What a handler replies to the annotations of a text, and what is kept of it.
+//! Calling the handler, and keeping its first calendar.
 
 use crate::encoding::EncodingType;
 use crate::records::Annotation;
@@ -8,7 +8,7 @@ use crate::parsers::annotations::next_annotation;
 use crate::cursor::Cursor;
 use crate::stop::Stop;
 
-/// Asks the handler about an annotation. This is the one place that calls it.
+/// Calls the handler with an annotation. This is the only call of it.
 #[inline(always)]
 fn ask<'a, T: EncodingType, F>(
     handler: &mut F,
@@ -25,9 +25,9 @@ fn has_same_units<T: EncodingType>(left: &[T::CodeUnit], right: &[T::CodeUnit]) 
     left == right
 }
 
-/// Keeps the calendar of a reply where it is the first one. A reply that is critical and no calendar is
-/// `UnrecognizedCritical`, and a calendar with another value than the first is `CriticalDuplicateCalendar` where one of
-/// the two is critical.
+/// Keeps the calendar of a reply where it is the first one. A critical reply that is not a calendar is
+/// `UnrecognizedCritical`. A calendar with another value than the first is `CriticalDuplicateCalendar` where at least
+/// one of the two is critical.
 #[inline(always)]
 fn keep_first_calendar<'a, T: EncodingType>(
     calendar: &mut Option<Annotation<'a, T>>,
@@ -58,8 +58,8 @@ fn keep_first_calendar<'a, T: EncodingType>(
     }
 }
 
-/// Reads the pairs to the end, asks the handler about each as soon as it was read whole, and returns the calendar that is
-/// kept. A first pair may have been read already.
+/// Reads the pairs to the end of the input, calls the handler with each as soon as it was read whole, and returns the
+/// calendar that is kept. A first pair may have been read already.
 #[inline(always)]
 pub fn parse_annotations<'a, T: EncodingType, F>(
     cursor: &mut Cursor<'a, T>,

@@ -11,8 +11,8 @@ use crate::records::{Annotation, IxdtfParseRecord};
 use crate::cursor::Cursor;
 use crate::stop::Stop;
 
-/// Reads a core of the kind under the profile, and the brackets after it to the end, into a record in which nothing stands
-/// yet. The handler is asked about each annotation of a key and a value.
+/// Reads a core of the kind under the profile, and the brackets after it to the end of the input, into an empty record.
+/// The handler is called with each annotation of a key and a value.
 pub fn parse_text<'a, T: EncodingType, C: Cores, F>(
     cursor: &mut Cursor<'a, T>,
     profile: Profile,
@@ -31,7 +31,7 @@ where
     parse_brackets(cursor, handler, found)
 }
 
-/// Reads the brackets after a core and the first `[`, to the end: a first one, and the pairs after it.
+/// Reads the brackets after a core and the first `[`, to the end of the input: a first one, and the pairs after it.
 #[inline(never)]
 fn parse_brackets<'a, T: EncodingType, F>(
     cursor: &mut Cursor<'a, T>,

@@ -15,7 +15,7 @@ use crate::parsers::time::{Clock, parse_clock};
 
 // ==== Names ====
 
-/// The letters of a part of a name.
+/// The code units of a part of a name.
 #[derive(Clone, Copy)]
 pub struct PartLetters;
 
@@ -26,14 +26,14 @@ impl Letters for PartLetters {
     }
 }
 
-/// Where reading of a name is, by whether it may end there: after a `/` it may not.
+/// The state of a name: whether it may end there. After a `/` it may not.
 #[derive(Clone, Copy)]
 pub struct NameState {
     pub may_end: bool,
 }
 
 impl NameState {
-    /// Why a name is refused where its letters go no further.
+    /// The error of a name that may not end where it does.
     #[inline(always)]
     pub fn stop(self) -> Stop {
         if self.may_end {
@@ -44,19 +44,19 @@ impl NameState {
     }
 }
 
-/// Whether the letter is the `/` after a part of a name.
+/// Whether the code unit is the `/` after a part of a name.
 #[inline(always)]
 fn ends_part(next: Option<u8>) -> bool {
     matches!(next, Some(byte) if is_tz_name_separator(byte))
 }
 
-/// Whether the letter is one of a part of a name.
+/// Whether the code unit is one of a part of a name.
 #[inline(always)]
 fn starts_part(next: Option<u8>) -> bool {
     matches!(next, Some(byte) if is_tz_char(byte))
 }
 
-/// Passes over the letters of a name as far as they go, part by part between its slashes.
+/// Passes over the code units of a name, part by part between its slashes.
 #[inline(always)]
 pub fn pass_name<'a, T: EncodingType>(cursor: &mut Cursor<'a, T>) -> Result<Passed<NameState>, Stop> {
     let mut here = cursor.take();
@@ -65,7 +65,7 @@ pub fn pass_name<'a, T: EncodingType>(cursor: &mut Cursor<'a, T>) -> Result<Pass
     passed
 }
 
-/// Passes over the parts of a name, as `pass_name` does, by the cursor itself.
+/// Passes over the parts of a name, as `pass_name` does, with this cursor itself.
 #[inline(always)]
 fn pass_parts<'a, T: EncodingType>(cursor: &mut Cursor<'a, T>) -> Result<Passed<NameState>, Stop> {
     loop {
@@ -88,13 +88,13 @@ fn pass_parts<'a, T: EncodingType>(cursor: &mut Cursor<'a, T>) -> Result<Passed<
     }
 }
 
-/// A name that was read, and the letter behind it.
+/// A name, and the code unit after it.
 pub struct ReadName<'a, T: EncodingType> {
     pub units: &'a [T::CodeUnit],
     pub next: Option<u8>,
 }
 
-/// Reads a name as far as it goes, from its first letter on, and returns its units and the letter behind it.
+/// Reads a name, and returns its code units and the one after it. Its first code unit has been seen.
 #[inline(always)]
 pub fn parse_tz_name<'a, T: EncodingType>(
     cursor: &mut Cursor<'a, T>,
@@ -111,7 +111,7 @@ pub fn parse_tz_name<'a, T: EncodingType>(
     })
 }
 
-/// Reads a name, and wants the end.
+/// Reads a name, and expects the end of the input.
 fn parse_name_alone<'a, T: EncodingType>(
     cursor: &mut Cursor<'a, T>,
 ) -> Result<&'a [T::CodeUnit], Stop> {
@@ -123,7 +123,7 @@ fn parse_name_alone<'a, T: EncodingType>(
     }
 }
 
-/// Reads a name from its first letter on, and wants the end.
+/// Reads a name, and expects the end of the input. Its first code unit has been seen.
 pub fn parse_iana_identifier_text<'a, T: EncodingType>(
     cursor: &mut Cursor<'a, T>,
 ) -> Result<&'a [T::CodeUnit], Stop> {
@@ -133,7 +133,7 @@ pub fn parse_iana_identifier_text<'a, T: EncodingType>(
     }
 }
 
-/// Reads a name, or an offset without seconds, and wants the end.
+/// Reads a name, or an offset without seconds, and expects the end of the input.
 pub fn parse_identifier_text<'a, T: EncodingType>(
     cursor: &mut Cursor<'a, T>,
 ) -> Result<TimeZoneRecord<'a, T>, Stop> {
@@ -159,7 +159,7 @@ pub fn parse_identifier_text<'a, T: EncodingType>(
 
 // ==== Brackets ====
 
-/// Wants `]`: the end is `AnnotationClose`, and another letter this stop.
+/// Expects `]`: the end of the input is `AnnotationClose`, and another code unit is this stop.
 #[inline(always)]
 fn close_bracket<'a, T: EncodingType>(cursor: &mut Cursor<'a, T>, other: Stop) -> Result<u8, Stop> {
     match cursor.look()? {

@@ -10,9 +10,9 @@ use crate::records::{TimeZoneRecord, UtcOffsetRecord};
 use crate::cursor::Cursor;
 use crate::parsers::offsets::parse_offset_text;
 
-/// A reader of offsets from UTC and of time zones, where a text is one of these alone.
+/// A reader of texts that are an offset from UTC or a time zone alone.
 ///
-/// It borrows its source, and is as large as a slice, the rest of the input.
+/// It borrows its source. It is as large as a slice, the remaining input.
 ///
 /// ```rust
 /// use ixdtf::parsers::TimeZoneParser;
@@ -66,12 +66,12 @@ impl<'a, T: EncodingType> TimeZoneParser<'a, T> {
         TimeZoneParser { cursor }
     }
 
-    /// Reads the rest of the input as a time zone: a name (`time-zone-name` of RFC 9557, section 4.1), or an offset without
+    /// Reads the remaining input as a time zone: a name (`time-zone-name` of RFC 9557, section 4.1), or an offset without
     /// seconds.
     ///
     /// A name begins with an ASCII letter, `_` or `.`, and goes on with these, digits, `+`, `-`, and `/` where another
     /// character of a name follows it. The record has its code units as they stand. Whether there is such a zone is not
-    /// checked. An offset is as in [`parse_offset`](Self::parse_offset), with no seconds.
+    /// checked. An offset is as in [`parse_offset`](Self::parse_offset), without seconds.
     ///
     /// ```rust
     /// use ixdtf::ParseError;
@@ -91,30 +91,30 @@ impl<'a, T: EncodingType> TimeZoneParser<'a, T> {
     /// # Ok::<(), ParseError>(())
     /// ```
     ///
-    /// After `Ok` the rest of the input is empty, so a later call returns the error of the empty text. After an error the
-    /// rest is as it was, so a second call returns the same.
+    /// After `Ok` the remaining input is empty, so a later call returns the error of the empty text. After an error it is
+    /// unchanged, so a second call returns the same.
     ///
     /// # Errors
     ///
-    /// - `AbruptEnd` where there is nothing (at `TimeZoneAnnotation`), or where a digit has to follow (at `digit`);
-    /// - `TzLeadingChar` where neither a name nor an offset can begin so;
-    /// - `IanaChar` and `IanaCharPostSeparator` where a name does not go on, and where it does not go on after a `/`;
+    /// - `AbruptEnd` for the empty text (at `TimeZoneAnnotation`), and where a digit has to follow (at `digit`);
+    /// - `TzLeadingChar` at a character that neither a name nor an offset begins with;
+    /// - `IanaChar` at another character in a name, and `IanaCharPostSeparator` where no character of a name follows a `/`;
     /// - `TimeHour` and `TimeMinuteSecond` as in [`parse_offset`](Self::parse_offset);
     /// - `InvalidMinutePrecisionOffset` at a colon or a digit after an offset's minute;
     /// - `InvalidEnd` at a `]` after a name, and at any other character after an offset;
-    /// - `NonAsciiCodePoint` at a code unit that stands for no character, which no 8-bit one does.
+    /// - `NonAsciiCodePoint` at a 16-bit code unit that is not from 1 to 126.
     pub fn parse_identifier(&mut self) -> ParserResult<TimeZoneRecord<'a, T>> {
         let mut here = self.cursor.take();
         let read = parse_identifier_text(&mut here);
         self.cursor.settle(here, read)
     }
 
-    /// Reads the rest of the input as an offset from UTC (`time-numoffset` of RFC 3339, section 5.6, and longer and shorter
+    /// Reads the remaining input as an offset from UTC (`time-numoffset` of RFC 3339, section 5.6, and longer and shorter
     /// forms).
     ///
-    /// A sign stands first, and then `05`, `0530`, `05:30`, `053045` or `05:30:45`, the last two with a fraction, as `.25` or
-    /// `,25`. With seconds the record is a `FullPrecisionOffset`, without them a `MinutePrecision`, with minute 0 where none
-    /// is written. Seconds are at most 59.
+    /// An offset is a sign and `05`, `0530`, `05:30`, `053045` or `05:30:45`. The last two may have a fraction, as `.25` or
+    /// `,25`. With seconds the record is a `FullPrecisionOffset`, without them a `MinutePrecision`, with minute 0 where
+    /// none is written. Seconds are at most 59.
     ///
     /// ```rust
     /// use ixdtf::ParseError;
@@ -132,27 +132,27 @@ impl<'a, T: EncodingType> TimeZoneParser<'a, T> {
     /// # Ok::<(), ParseError>(())
     /// ```
     ///
-    /// After `Ok` the rest of the input is empty, so a later call returns the error of the empty text. After an error the
-    /// rest is as it was, so a second call returns the same.
+    /// After `Ok` the remaining input is empty, so a later call returns the error of the empty text. After an error it is
+    /// unchanged, so a second call returns the same.
     ///
     /// # Errors
     ///
-    /// - `AbruptEnd` where there is nothing (at `time-numoffset`), or where a digit has to follow (at `digit`);
-    /// - `OffsetNeedsSign` where no sign stands first;
+    /// - `AbruptEnd` for the empty text (at `time-numoffset`), and where a digit has to follow (at `digit`);
+    /// - `OffsetNeedsSign` where the text does not begin with a sign;
     /// - `TimeHour` and `TimeMinuteSecond` where another character stands in the place of a digit of the hour, or of the
     ///   minute and the second, and where they are out of their range;
     /// - `UtcTimeSeparator` where it has one of two colons;
     /// - `FractionPart` where no digit follows a decimal mark;
     /// - `InvalidEnd` at any other character after it;
-    /// - `NonAsciiCodePoint` at a code unit that stands for no character, which no 8-bit one does.
+    /// - `NonAsciiCodePoint` at a 16-bit code unit that is not from 1 to 126.
     pub fn parse_offset(&mut self) -> ParserResult<UtcOffsetRecord> {
         let mut here = self.cursor.take();
         let read = parse_offset_text(&mut here);
         self.cursor.settle(here, read)
     }
 
-    /// Reads the rest of the input as the name of a time zone (`time-zone-name` of RFC 9557, section 4.1), and returns its
-    /// code units, the rest of the input. Whether there is such a zone is not checked.
+    /// Reads the remaining input as the name of a time zone (`time-zone-name` of RFC 9557, section 4.1), and returns its
+    /// code units, all of the remaining input. Whether there is such a zone is not checked.
     ///
     /// ```rust
     /// use ixdtf::ParseError;
@@ -168,15 +168,15 @@ impl<'a, T: EncodingType> TimeZoneParser<'a, T> {
     /// }
     /// ```
     ///
-    /// After `Ok` the rest of the input is empty, so a later call returns the error of the empty text. After an error the
-    /// rest is as it was, so a second call returns the same.
+    /// After `Ok` the remaining input is empty, so a later call returns the error of the empty text. After an error it is
+    /// unchanged, so a second call returns the same.
     ///
     /// # Errors
     ///
-    /// - `TzLeadingChar` where there is nothing, or where no name can begin so;
-    /// - `IanaChar` and `IanaCharPostSeparator` where a name does not go on, and where it does not go on after a `/`;
+    /// - `TzLeadingChar` for the empty text, and at a character that no name begins with;
+    /// - `IanaChar` at another character in a name, and `IanaCharPostSeparator` where no character of a name follows a `/`;
     /// - `InvalidEnd` at a `]` after a name;
-    /// - `NonAsciiCodePoint` at a code unit that stands for no character, which no 8-bit one does.
+    /// - `NonAsciiCodePoint` at a 16-bit code unit that is not from 1 to 126.
     pub fn parse_iana_identifier(&mut self) -> ParserResult<&'a [T::CodeUnit]> {
         let mut here = self.cursor.take();
         let read = parse_iana_identifier_text(&mut here);
@@ -184,8 +184,7 @@ impl<'a, T: EncodingType> TimeZoneParser<'a, T> {
     }
 
     /// Reads as [`parse_offset`](Self::parse_offset) does, and returns an error with its place: the number of code units
-    /// that stand before it in the rest of the input. A number that is out of its range has its place after its second
-    /// digit.
+    /// before it in the remaining input. The place of a number out of its range is after its second digit.
     ///
     /// ```rust
     /// use ixdtf::ParseError;
@@ -210,8 +209,8 @@ impl<'a, T: EncodingType> TimeZoneParser<'a, T> {
         self.cursor.settle(here, outcome)
     }
 
-    /// Reads as [`parse_iana_identifier`](Self::parse_iana_identifier) does, and returns an error with its place: the number
-    /// of code units that stand before it in the rest of the input.
+    /// Reads as [`parse_iana_identifier`](Self::parse_iana_identifier) does, and returns an error with its place: the
+    /// number of code units before it in the remaining input.
     ///
     /// ```rust
     /// use ixdtf::ParseError;
@@ -236,7 +235,7 @@ impl<'a, T: EncodingType> TimeZoneParser<'a, T> {
     }
 
     /// Reads as [`parse_identifier`](Self::parse_identifier) does, and returns an error with its place: the number of code
-    /// units that stand before it in the rest of the input.
+    /// units before it in the remaining input.
     ///
     /// ```rust
     /// use ixdtf::ParseError;

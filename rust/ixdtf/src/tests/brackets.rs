@@ -189,7 +189,7 @@ const BYTES: &[(&[u8], ParseError)] = &[
     (b"\x80020-01-01", ParseError::DateYear),
 ];
 
-// A byte past the letters is a letter of no class.
+// A byte that is not ASCII is in no class.
 fn check_bytes_refused(rt: &impl Abort, bytes: &'static [u8], error: ParseError) {
     let is_refused = IxdtfParser::from_utf8(bytes).parse() == Err(error);
     assert!(rt; is_refused, "at {bytes:?}");

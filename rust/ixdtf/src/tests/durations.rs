@@ -62,7 +62,7 @@ enum Unit {
     Seconds,
 }
 
-// A time up to its last unit. What is shorter stands for nothing there.
+// A time up to its last unit. The fields of shorter units are not used.
 fn up_to(
     last: Unit,
     time: (u64, u64, u64),

@@ -10,7 +10,7 @@ use ixdtf::records::{Annotation, DateRecord, Sign, UtcOffsetRecordOrZ};
 use ixdtf::{ParseError, ParserResult};
 use crate::runtime::Fail;
 
-// What a text gives where the calendar of the first reply is not of the source.
+// The result for a text where the calendar of the first reply is not of the source.
 fn with_a_foreign_calendar(text: &'static str) -> ParserResult<Record> {
     let mut parser = IxdtfParser::from_str(text);
     parser.parse_with_annotation_handler(|annotation| {
@@ -42,13 +42,13 @@ struct Seen {
 }
 
 impl Seen {
-    // What a text gives with this for its handler.
+    // The result for a text with this as the handler.
     fn parse(&mut self, text: &'static str) -> ParserResult<Record> {
         let mut parser = IxdtfParser::from_str(text);
         parser.parse_with_annotation_handler(|annotation| self.reply(annotation))
     }
 
-    // Passes over the answer to the universe, and hands any other annotation back.
+    // Drops the answer to the universe, and returns any other annotation.
     fn reply<'a>(&mut self, annotation: Annotation<'a, Utf8>) -> Option<Annotation<'a, Utf8>> {
         self.calls = self.calls.saturating_add(1);
         if annotation.key != "answer-to-universe".as_bytes() {
@@ -76,7 +76,7 @@ fn passes_over_the_answer_to_the_universe() {
     check(&rt, "its calls", seen.second_is_known && seen.calls == 2);
 }
 
-// What a parser gives, and then what it gives where all annotations are passed over.
+// The result of a parser, and then its result where the handler drops all annotations.
 fn read_in_turn(text: &'static str) -> (ParserResult<Record>, ParserResult<Record>) {
     let mut parser = IxdtfParser::from_str(text);
     let first = parser.parse();
@@ -96,7 +96,7 @@ fn keeps_pairs_that_it_refused() {
     check(&rt, "the second call", is_read);
 }
 
-// The date of a text whose annotations are all passed over, as a result of the crate.
+// The date of a text whose annotations are all dropped, as a result of the crate.
 fn date_of(text: &'static str) -> ParserResult<Option<DateRecord>> {
     let mut parser = IxdtfParser::from_str(text);
     match parser.parse_with_annotation_handler(|_annotation| None) {
@@ -120,7 +120,7 @@ fn hands_an_error_on() -> Result<(), Fail> {
     Ok(())
 }
 
-// How many calls a text makes, whatever it gives.
+// How many calls of the handler a text makes, whatever the result.
 fn count_calls(text: &str) -> u32 {
     let mut parser = IxdtfParser::from_str(text);
     let mut calls = 0u32;

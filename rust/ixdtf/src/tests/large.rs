@@ -1,6 +1,6 @@
 // Made by tools/to_rust.py of crates/ixdtf_tests/src/tests/large.rt. Do not edit.
 
-//! Texts that are longer than any that is meant, and each 16-bit unit at each place of a text.
+//! Texts that are longer than any real one, and each 16-bit code unit at each place of a text.
 
 #[allow(unused_imports)]
 use crate::runtime::{HostRuntime, TryClone};
@@ -19,7 +19,7 @@ use std::ops::Range;
 use crate::runtime::Abort;
 use crate::runtime::Fail;
 
-/// A front, then a part so many times, and then an end.
+/// A prefix, then a part so many times, and then an end.
 fn repeated(
     alloc: Global,
     front: &str,
@@ -36,7 +36,7 @@ fn repeated(
     Ok(text)
 }
 
-/// A handler that counts its calls and the units of the keys, and hands each annotation back.
+/// A handler that counts its calls and the code units of the keys, and returns each annotation.
 struct Counter {
     calls: usize,
     key_units: usize,
@@ -50,7 +50,8 @@ impl Counter {
     }
 }
 
-/// Reads a text that gives 1 January 2020, or is refused with this error, after so many calls on keys of so many units.
+/// Reads a text that is 1 January 2020, or is refused with this error, after so many calls with keys of so many code
+/// units.
 fn check_calls(
     rt: &impl Abort,
     text: &str,
@@ -161,12 +162,13 @@ fn reads_long_durations() -> Result<(), Fail> {
     Ok(())
 }
 
-// Whether units are refused for one that stands for no letter.
+// Whether code units are refused for a bad one.
 fn has_no_letter(units: &[u16]) -> bool {
     IxdtfParser::from_utf16(units).parse() == Err(ParseError::NonAsciiCodePoint)
 }
 
-/// With each 16-bit unit in each of these places, a text is read as the same numbers in 8 bits are, or the unit is refused.
+/// With each 16-bit code unit in each of these places, a text is read as the same numbers in 8 bits are, or the code
+/// unit is refused.
 fn check_places(rt: &impl Abort, places: Range<usize>) {
     let text = *b"2020-01-01[cet]";
     let mut units = [0u16; 15];

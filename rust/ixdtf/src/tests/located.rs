@@ -1,6 +1,6 @@
 // Made by tools/to_rust.py of crates/ixdtf_tests/src/tests/located.rt. Do not edit.
 
-//! What is written of errors with their places, and of texts with a mark under the place.
+//! The texts of errors with their places, and of texts with a mark under the place.
 
 #[allow(unused_imports)]
 use crate::runtime::{HostRuntime, TryClone};
@@ -188,7 +188,7 @@ fn cuts_the_front_of_a_text() -> Result<(), Fail> {
     check_marks(&rt, rt.alloc(), OF_A_CUT_FRONT)
 }
 
-// As many characters before the place 48 and from it on as are written at most.
+// The most characters that are written before the place 48 and from it on.
 const FULL: &str = "000000000011111111112222222222333333333344444444555555555566666666667777";
 
 const OF_A_FULL_TEXT: &[(&str, usize, &str)] = &[

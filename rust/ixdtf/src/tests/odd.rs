@@ -1,6 +1,6 @@
 // Made by tools/to_rust.py of crates/ixdtf_tests/src/tests/odd.rt. Do not edit.
 
-//! Handlers with odd replies, and one parser through several readers.
+//! Handlers with odd replies, and one parser for several readers.
 
 #[allow(unused_imports)]
 use crate::runtime::{HostRuntime, TryClone};
@@ -50,7 +50,7 @@ impl Replier {
     }
 }
 
-// What a text with two annotations gives with such a handler, and how many calls were made.
+// The result for a text with two annotations and such a handler, and how many calls were made.
 fn replied(odd: Odd) -> (ParserResult<Record>, usize) {
     let mut replier = Replier { odd, calls: 0 };
     let mut parser = IxdtfParser::from_str("2020-01-01[x=1][x=2]");
@@ -58,7 +58,7 @@ fn replied(odd: Odd) -> (ParserResult<Record>, usize) {
     (found, replier.calls)
 }
 
-// A text with two annotations gives this with such a handler, after so many calls.
+// For a text with two annotations and such a handler this is the result, after so many calls.
 fn check_replied(rt: &impl Abort, odd: Odd, wanted: &ParserResult<Record>, wanted_calls: usize) {
     let (found, calls) = replied(odd);
     check(rt, "what a text gives", found == *wanted);

@@ -33,12 +33,12 @@ fn under<'a, T: EncodingType>(parsers: Parsers<'a, T>, profile: Profile) -> Pars
     }
 }
 
-/// What the reader gives for the text under the profile.
+/// What the reader returns for the text under the profile.
 fn read_under(reader: Reader, text: &'static str, profile: Profile) -> Outcome {
     under(Parsers::from_str(text), profile).read(reader)
 }
 
-/// The reader gives the first for the text, and under the strict profile the second.
+/// The reader returns the first for the text, and under the strict profile the second.
 fn check_both(
     rt: &impl Abort,
     reader: Reader,
@@ -145,7 +145,7 @@ fn reads_no_unit_twice_strictly() {
     check(&rt, "PT1S2S", found == refused);
 }
 
-/// The reader gives the same for each text under both profiles.
+/// The reader returns the same for each text under both profiles.
 fn check_same(rt: &impl Abort, reader: Reader, texts: &[&'static str]) {
     for text in texts {
         let strictly = read_under(reader, text, Profile::Strict);
@@ -293,7 +293,7 @@ fn asks_handlers_of_strict_times() {
     check(&rt, "1214[a=b]", is_refused);
 }
 
-// The error of a strict reader of 16-bit units, where it refuses.
+// The error of a strict reader of 16-bit code units, where it refuses.
 fn strict_refusal(reader: Reader, text: &'static str) -> Option<ParseError> {
     let wide = Wide::new(text);
     under(Parsers::from_utf16(wide.units()), Profile::Strict).refusal(reader)

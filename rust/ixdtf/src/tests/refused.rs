@@ -161,7 +161,8 @@ fn refuses_at_each_fixed_place() {
     check_refused(&rt, Reader::Parse, AT_EACH_FIXED_PLACE);
 }
 
-// Texts whose letters fit each place, and whose numbers are no date or no time; and texts that end or go wrong after it.
+// Texts whose characters fit each place, and whose numbers are not a date or not a time; and texts that end or go wrong
+// after it.
 const NUMBERS_AT_FIXED_PLACES: &[(ParseError, &[(&str, usize)])] = &[
     (
         InvalidDayRange,

@@ -32,7 +32,7 @@ pub(super) enum Kind {
     RepliesAnother,
 }
 
-/// Units that are of no source, for replies.
+/// Code units that are not of a source, for replies.
 trait Foreign: EncodingType {
     /// `u-ca`.
     fn key() -> &'static [Self::CodeUnit];
@@ -72,7 +72,7 @@ impl Foreign for Utf16 {
     }
 }
 
-// What the handler replies at a call, where so many were made before it.
+// What the handler replies at a call, after so many others.
 fn reply<'a, T: Foreign + 'static>(
     kind: Kind,
     before: usize,
@@ -108,7 +108,7 @@ fn reply<'a, T: Foreign + 'static>(
     }
 }
 
-/// A handler that writes down what it was asked about, as `[key=value]` and `[!key=value]`.
+/// A handler that writes down the annotations that it is called with, as `[key=value]` and `[!key=value]`.
 struct Listener {
     kind: Kind,
     calls: usize,
@@ -159,7 +159,7 @@ impl Listener {
         }
     }
 
-    // Whether it heard these calls, in this order, and no more.
+    // Whether it had these calls, in this order, and no more.
     fn has_heard(&self, calls: &'static str) -> bool {
         self.heard.get(..self.length) == Some(calls.as_bytes())
     }
@@ -178,7 +178,7 @@ pub(super) enum Form {
     Time,
 }
 
-// What the reader gives with the listener for its handler.
+// What the reader returns with the listener as its handler.
 fn heard<'a, T: Foreign + 'static>(
     parser: &mut IxdtfParser<'a, T>,
     form: Form,
@@ -218,8 +218,8 @@ pub(super) struct Asked {
 }
 
 impl Asked {
-    // Whether the located form refuses with this error at the place of the row, or reads where there is none, after the calls
-    // and no more.
+    // Whether the located form refuses with this error at the place of the row, or reads where there is no error, after the
+    // calls and no more.
     fn is_located<'a, T: Foreign + 'static>(
         &self,
         parser: &mut IxdtfParser<'a, T>,
@@ -233,7 +233,7 @@ impl Asked {
         found == self.wanted(error) && listener.has_heard(self.calls)
     }
 
-    // What the error has to be, with the place of it.
+    // The expected error, with its place.
     fn wanted(&self, error: Option<ParseError>) -> Option<LocatedError> {
         match (error, self.place) {
             (Some(error), Some(at)) => Some(LocatedError { error, at }),
@@ -242,14 +242,14 @@ impl Asked {
     }
 }
 
-// Whether a text gives this with its handler, after its calls and no more.
+// Whether this is the result for a text and its handler, after its calls and no more.
 fn is_handled(asked: &Asked, wanted: &ParserResult<Record>) -> bool {
     let mut listener = Listener::new(asked.kind);
     let mut parser = IxdtfParser::from_str(asked.text);
     heard(&mut parser, asked.form, &mut listener) == *wanted && listener.has_heard(asked.calls)
 }
 
-/// The text gives this with its handler, after its calls and no more.
+/// This is the result for the text and its handler, after its calls and no more.
 fn check_asked(rt: &impl Abort, wanted: &ParserResult<Record>, asked: &Asked) {
     check(rt, asked.text, is_handled(asked, wanted));
     let error = match wanted {
@@ -260,7 +260,7 @@ fn check_asked(rt: &impl Abort, wanted: &ParserResult<Record>, asked: &Asked) {
     assert!(rt; is_located, "located at {}", asked.text);
 }
 
-/// Each text gives this with its handler, after its calls and no more.
+/// This is the result for each text and its handler, after its calls and no more.
 pub(super) fn check_handled(rt: &impl Abort, wanted: &ParserResult<Record>, rows: &[Asked]) {
     for row in rows {
         check_asked(rt, wanted, row);
@@ -291,7 +291,7 @@ fn record_of(row: &Heeded) -> Record {
     parts(row.date, time, None, row.zone, row.calendar)
 }
 
-/// Each text gives its parts with its handler, after its calls and no more.
+/// Each text has its parts with its handler, after its calls and no more.
 pub(super) fn check_heeded(rt: &impl Abort, rows: &[Heeded]) {
     for row in rows {
         check_asked(rt, &Ok(record_of(row)), &row.asked);
@@ -321,7 +321,7 @@ pub(super) fn check_read_once(rt: &impl Abort, rows: &[(Form, &'static str, Pars
     }
 }
 
-// Whether a text in 16-bit units is refused with this error, or gives this calendar and no zone, after its calls.
+// Whether a text in 16-bit code units is refused with this error, or has this calendar and no zone, after its calls.
 fn heeds_wide(asked: &Asked, error: Option<ParseError>, calendar: Option<&'static str>) -> bool {
     let mut listener = Listener::new(asked.kind);
     let wide = Wide::new(asked.text);
@@ -340,7 +340,7 @@ fn heeds_wide(asked: &Asked, error: Option<ParseError>, calendar: Option<&'stati
     as_wanted && is_located && listener.has_heard(asked.calls)
 }
 
-/// Each text in 16-bit units is refused with the error beside it, after its calls and no more.
+/// Each text in 16-bit code units is refused with the error beside it, after its calls and no more.
 pub(super) fn check_wide_refusals(rt: &impl Abort, rows: &[(ParseError, &[Asked])]) {
     for (error, texts) in rows {
         for row in *texts {
@@ -349,7 +349,7 @@ pub(super) fn check_wide_refusals(rt: &impl Abort, rows: &[(ParseError, &[Asked]
     }
 }
 
-/// Each text in 16-bit units gives this calendar and no zone, after its calls and no more.
+/// Each text in 16-bit code units has this calendar and no zone, after its calls and no more.
 pub(super) fn check_wide_calendars(
     rt: &impl Abort,
     calendar: Option<&'static str>,

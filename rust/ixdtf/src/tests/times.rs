@@ -232,7 +232,7 @@ pub(super) struct Digits {
     pub(super) value: u64,
 }
 
-/// The fraction that the text has been read to has this count of digits and this value.
+/// The fraction of the text that was read has this count of digits and this value.
 pub(super) fn check_digits(rt: &impl Abort, row: &Digits, fraction: Option<Fraction>) {
     let has_digits = match fraction {
         Some(fraction) => {

@@ -1,6 +1,6 @@
 // Made by tools/to_rust.py of crates/ixdtf_tests/src/tests/wide.rt. Do not edit.
 
-//! Sources in 16-bit units. A unit from 1 to 126 is its ASCII letter, and every other stands for none.
+//! Sources in 16-bit code units. Those from 1 to 126 are ASCII characters, and every other is bad.
 
 #[allow(unused_imports)]
 use crate::runtime::{HostRuntime, TryClone};
@@ -11,7 +11,7 @@ use ixdtf::encoding::{EncodingType, Utf16};
 use ixdtf::parsers::TimeZoneParser;
 use crate::runtime::Abort;
 
-/// A text in 16-bit units, each character or each byte in one unit.
+/// A text in 16-bit code units, each character or each byte in one.
 pub(super) struct Wide {
     units: [u16; 512],
     length: usize,
@@ -66,7 +66,7 @@ pub(super) fn refusal(reader: Reader, text: &'static str) -> Option<ParseError> 
     Parsers::from_utf16(wide.units()).refusal(reader)
 }
 
-// Whether a text, each character of which is one unit, is refused with this error at this place.
+// Whether a text, each character of which is one code unit, is refused with this error at this place.
 pub(super) fn refuses_wide_at(
     reader: Reader,
     text: &'static str,
@@ -77,7 +77,7 @@ pub(super) fn refuses_wide_at(
     Parsers::from_utf16(wide.units()).refuses_at(reader, error, at)
 }
 
-/// The reader refuses the texts beside each error with it, each at its place, where each character is one unit.
+/// The reader refuses the texts beside each error with it, each at its place, where each character is one code unit.
 pub(super) fn check_wide_refused(
     rt: &impl Abort,
     reader: Reader,
@@ -91,12 +91,12 @@ pub(super) fn check_wide_refused(
     }
 }
 
-/// The reader refuses each text for a unit that stands for no letter, at the place of this unit.
+/// The reader refuses each text for a bad code unit, at its place.
 pub(super) fn check_no_letter(rt: &impl Abort, reader: Reader, texts: &[(&'static str, usize)]) {
     check_wide_refused(rt, reader, &[(ParseError::NonAsciiCodePoint, texts)]);
 }
 
-// Whether a unit is seen as its letter, or as none.
+// Whether a code unit is seen as its ASCII character, or as a bad one.
 fn is_seen(unit: u16) -> bool {
     let letter = Utf16::get_ascii(&[unit], 0);
     match u8::try_from(unit) {

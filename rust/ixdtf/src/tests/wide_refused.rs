@@ -1,7 +1,7 @@
 // Made by tools/to_rust.py of crates/ixdtf_tests/src/tests/wide_refused.rt. Do not edit.
 
-//! Texts with a 16-bit unit that stands for no letter, each with its error. What the readers give for other units the tables
-//! of 8-bit units have, and `widths.rt` has texts of them in both widths.
+//! Texts with a bad 16-bit code unit, each with its error. The tables of 8-bit texts have what the readers return for
+//! other code units, and `widths.rt` has texts of them in both widths.
 
 #[allow(unused_imports)]
 use crate::runtime::{HostRuntime, TryClone};
@@ -269,7 +269,7 @@ fn refuses_units_that_stand_for_no_letter_in_durations() {
     check_no_letter(&rt, Reader::Duration, NO_LETTER_IN_DURATIONS);
 }
 
-// A unit that stands for no letter is met where it stands, and not before what goes wrong earlier.
+// A bad code unit is an error at its own place. An error before it comes first.
 const BEFORE_NO_LETTER_IN_DATES: &[(ParseError, &[(&str, usize)])] = &[
     (DateExtendedYear, &[("-0020W0\u{7fff}0225", 5)]),
     (

@@ -1,7 +1,7 @@
 // Made by tools/to_rust.py of crates/ixdtf_tests/src/tests/widths.rt. Do not edit.
 
-//! Texts in both widths: the same numbers from 1 to 126 give the same in each reader, and where another number stands among
-//! 16-bit units, the error is `NonAsciiCodePoint`, or that of 8-bit units with 128 in its place.
+//! Texts in both widths: for the same numbers from 1 to 126 each reader returns the same. Where another number is among
+//! 16-bit code units, the error is `NonAsciiCodePoint`, or that of the 8-bit text with 128 in its place.
 
 #[allow(unused_imports)]
 use crate::runtime::{HostRuntime, TryClone};
@@ -24,7 +24,8 @@ const READERS: [Reader; 8] = [
     Reader::Duration,
 ];
 
-// Texts of units from 1 to 126. Most are of one reader, and the others refuse them in both widths alike.
+// Texts of code units from 1 to 126. Most are of one reader, and the others refuse them with the same error in both
+// widths.
 pub(super) const SHARED: [&'static str; 67] = [
     "",
     "2024-03-02T08:48:00-05:00[America/New_York]",
@@ -95,7 +96,7 @@ pub(super) const SHARED: [&'static str; 67] = [
     "Etc/GMT+8",
 ];
 
-// Texts with a unit that stands for no letter in 16 bits, and the same with 128 in its place.
+// Texts with a bad code unit in 16 bits, and the same with 128 in its place.
 const MASKED: [(&'static str, &'static [u8]); 11] = [
     ("2020-01-01[cet!\u{e9}]", b"2020-01-01[cet!\x80]"),
     ("2020-13-01\u{e9}", b"2020-13-01\x80"),
@@ -133,7 +134,7 @@ pub(super) fn same_calendar(narrow: Option<&[u8]>, wide: Option<&[u16]>) -> bool
     }
 }
 
-// Whether two records are the same, slices by the numbers of their units.
+// Whether two records are the same, slices by the numbers of their code units.
 pub(super) fn same_record(
     narrow: &IxdtfParseRecord<'_, Utf8>,
     wide: &IxdtfParseRecord<'_, Utf16>,
@@ -163,7 +164,7 @@ fn same_found(narrow: &Found<'_, Utf8>, wide: &Found<'_, Utf16>) -> bool {
     }
 }
 
-// Whether a reader gave the same in both widths.
+// Whether a reader returned the same in both widths.
 fn same_result(
     narrow: &ParserResult<Found<'_, Utf8>>,
     wide: &ParserResult<Found<'_, Utf16>>,
@@ -175,7 +176,8 @@ fn same_result(
     }
 }
 
-// Whether the reader gives the same for the bytes and for 16-bit units of the same numbers, whichever way the parser is made.
+// Whether the reader returns the same for the bytes and for 16-bit code units of the same numbers, whichever way the
+// parser is made.
 pub(super) fn reads_alike(reader: Reader, bytes: &[u8]) -> bool {
     let numbers = Wide::of_bytes(bytes);
     let narrow = Parsers::from_utf8(bytes).read(reader);
@@ -198,7 +200,7 @@ fn reads_alike_in_both_widths() {
     }
 }
 
-// Whether a reader refuses the text for its unit that stands for no letter, or as it refuses the bytes.
+// Whether a reader refuses the text for its bad code unit, or as it refuses the bytes.
 fn refuses_as_masked(reader: Reader, text: &'static str, mask: &'static [u8]) -> bool {
     let found = refusal(reader, text);
     let is_bad = found == Some(ParseError::NonAsciiCodePoint);
