@@ -10,6 +10,7 @@ ghost use Rattle.ixdtf_c.specs.Narrow.{contents as record_contents, SameButError
 use crate::errors::number_of;
 use crate::fields::{Fields, Kept};
 use crate::forms::{Date, Offset, Time};
+use crate::slices::{Slice, from_c, to_c};
 use crate::widths::{AnnotationOf, CalendarOf, RecordOf};
 use ixdtf::encoding::Utf8;
 use ixdtf::{LocatedError, records};
@@ -19,7 +20,7 @@ use ixdtf::{LocatedError, records};
 #[repr(C)]
 pub struct Zone<'a> {
     /// The units of the name, and none where there is no name.
-    pub name: &'a [u8],
+    pub name: Slice<'a, u8>,
     /// 0: there is none. 1: a name. 2: an offset.
     pub form: u8,
     /// Whether a `!` stands before it.
@@ -45,11 +46,11 @@ pub struct Record<'a> {
     /// The time zone.
     pub zone: Zone<'a>,
     /// The units of the calendar, and none where there is no calendar.
-    pub calendar: &'a [u8],
+    pub calendar: Slice<'a, u8>,
     /// Whether there is a calendar.
     pub has_calendar: bool,
     /// What the text broke off in, of the error `AbruptEnd`, and else nothing.
-    pub location: &'a [u8],
+    pub location: Slice<'a, u8>,
     /// How many units stand before the place of the error, and 0 where there is none.
     pub place: usize,
 }
@@ -59,9 +60,9 @@ pub struct Record<'a> {
 #[repr(C)]
 pub struct Annotation<'a> {
     /// The units of the key.
-    pub key: &'a [u8],
+    pub key: Slice<'a, u8>,
     /// The units of the value.
-    pub value: &'a [u8],
+    pub value: Slice<'a, u8>,
     /// Whether a `!` stands before it.
     pub is_critical: bool,
 }
@@ -71,7 +72,7 @@ pub struct Annotation<'a> {
 #[repr(C)]
 pub struct Calendar<'a> {
     /// Its value.
-    pub value: &'a [u8],
+    pub value: Slice<'a, u8>,
     /// Whether it is critical.
     pub is_critical: bool,
     /// Whether there is one.
@@ -92,16 +93,16 @@ impl<'a> RecordOf<'a, Utf8> for Record<'a> {
             time: fields.time,
             offset: fields.offset,
             zone: Zone {
-                name: fields.zone.name,
+                name: to_c(fields.zone.name),
                 form: fields.zone.form,
                 is_critical: fields.zone.is_critical,
                 is_negative: fields.zone.is_negative,
                 hour: fields.zone.hour,
                 minute: fields.zone.minute,
             },
-            calendar: fields.calendar,
+            calendar: to_c(fields.calendar),
             has_calendar: fields.has_calendar,
-            location: &[],
+            location: to_c(&[]),
             place: 0,
         };
     }
@@ -117,7 +118,7 @@ impl<'a> RecordOf<'a, Utf8> for Record<'a> {
         ensures unchanged { SameButError self.old self.new }
     {
         let (number, location) = number_of(located.error);
-        self.location = location;
+        self.location = to_c(location);
         self.place = located.at;
         number
     }
@@ -132,8 +133,8 @@ impl<'a> AnnotationOf<'a, Utf8> for Annotation<'a> {
     {
         records::Annotation {
             critical: self.is_critical,
-            key: self.key,
-            value: self.value,
+            key: from_c(self.key),
+            value: from_c(self.value),
         }
     }
 }
@@ -147,7 +148,7 @@ impl<'a> CalendarOf<'a, Utf8> for Calendar<'a> {
     {
         if self.is_there {
             Some(Kept {
-                value: self.value,
+                value: from_c(self.value),
                 is_critical: self.is_critical,
             })
         } else {
@@ -162,7 +163,7 @@ impl<'a> CalendarOf<'a, Utf8> for Calendar<'a> {
         match kept {
             None => self.is_there = false,
             Some(it) => {
-                self.value = it.value;
+                self.value = to_c(it.value);
                 self.is_critical = it.is_critical;
                 self.is_there = true;
             }
