@@ -8,7 +8,7 @@ pub type Slice<'a, U> = &'a [U];
 /// The slice as C has it.
 #[inline(always)]
 pub fn to_c<'a, U>(slice: &'a [U]) -> Slice<'a, U>
-    ensures { result ≡ slice }
+    ensures { result ≡ slice.entry }
 {
     slice
 }

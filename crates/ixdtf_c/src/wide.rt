@@ -1,14 +1,14 @@
 //! Records of 16-bit sources, as C sees them.
 
-ghost use Rattle.std.specs.Prelude.{◌≡◌, ◌≢◌};
-ghost use Rattle.ixdtf.specs.Handlers.{pair_of};
+ghost use Rattle.std.specs.Prelude.{◌≡◌, ◌≢◌, map, option_map, IfSome};
+ghost use Rattle.ixdtf.specs.Handlers.{calendar_key, pair_of};
 ghost use Rattle.ixdtf.specs.table.Faults.{fault_of_located};
-ghost use Rattle.ixdtf_c.specs.Fielded.{fields_contents, kept_pair};
+ghost use Rattle.ixdtf_c.specs.Fielded.{fields_contents, keyed};
 ghost use Rattle.ixdtf_c.specs.Numbers.{number_for, location_of};
 ghost use Rattle.ixdtf_c.specs.Wide.{contents as record_contents, SameButError, annotation_by, calendar_by};
 
 use crate::errors::number_of;
-use crate::fields::{Fields, Kept};
+use crate::fields::Fields;
 use crate::forms::{Date, Offset, Time};
 use crate::slices::{Slice, from_c, to_c};
 use crate::widths::{AnnotationOf, CalendarOf, RecordOf};
@@ -79,6 +79,9 @@ pub struct Calendar<'a> {
     pub is_there: bool,
 }
 
+/// The key of calendars.
+const CALENDAR_KEY: &[u16] = &[0x75, 0x2d, 0x63, 0x61];
+
 impl<'a> RecordOf<'a, Utf16> for Record<'a> {
     ghost contents = { record_contents };
 
@@ -143,13 +146,15 @@ impl<'a> CalendarOf<'a, Utf16> for Calendar<'a> {
     ghost kept_of = { calendar_by };
 
     #[inline(always)]
-    fn read(&self) -> Option<Kept<'a, u16>>
-        ensures { calendar_by self.now ≡ kept_pair (λ unit. unit) result }
+    fn read(&self) -> Option<records::Annotation<'a, Utf16>>
+        ensures kept { calendar_by self.now ≡ option_map (pair_of (λ unit. unit)) result }
+        ensures key { IfSome result (λ it. map (λ unit. unit) it.key.now ≡ calendar_key) }
     {
         if self.is_there {
-            Some(Kept {
+            Some(records::Annotation {
+                critical: self.is_critical,
+                key: CALENDAR_KEY,
                 value: from_c(self.value),
-                is_critical: self.is_critical,
             })
         } else {
             None
@@ -157,14 +162,14 @@ impl<'a> CalendarOf<'a, Utf16> for Calendar<'a> {
     }
 
     #[inline(always)]
-    fn write(&mut self, kept: Option<Kept<'a, u16>>)
-        ensures { calendar_by self.new ≡ kept_pair (λ unit. unit) kept.entry }
+    fn write(&mut self, kept: Option<records::Annotation<'a, Utf16>>)
+        ensures { calendar_by self.new ≡ option_map (λ it. keyed (pair_of (λ unit. unit) it)) kept.entry }
     {
         match kept {
             None => self.is_there = false,
             Some(it) => {
                 self.value = to_c(it.value);
-                self.is_critical = it.is_critical;
+                self.is_critical = it.critical;
                 self.is_there = true;
             }
         }
