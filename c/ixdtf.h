@@ -9,9 +9,8 @@
  * TEXTS. A text is a pointer to its first unit and a length in units. A unit has 8 bits in
  * ixdtf_.., and 16 in ixdtf16_... Exactly these units are read, all of them, and none is written. A
  * text need not end in a zero, which counts as a unit where it is inside the length. It need not be
- * UTF-8 or UTF-16. The pointer is never NULL, also with length 0: pass "" for an empty text. A text
- * of 16-bit units is aligned as uint16_t is. A length is at most PTRDIFF_MAX bytes, as that of
- * every object.
+ * UTF-8 or UTF-16. With length 0 the pointer may be NULL. A text of 16-bit units is aligned as
+ * uint16_t is. A length is at most PTRDIFF_MAX bytes, as that of every object.
  *
  * RESULTS. Each reader returns 0 (IXDTF_OK) or the number of the error that the text is refused
  * with. A compiler warns where what a call returns is not looked at.
@@ -25,17 +24,18 @@
  * is wrong as a whole, as a number out of its range or an annotation that is refused.
  * docs/FAULTS.md says it of each error.
  *
- * RECORDS. The caller owns every record, array and text. A record is handed in initialised, by the
- * macro of its type (IXDTF_RECORD for an ixdtf_record) or by a call before, and aligned as it is.
- * Whatever a call left in it may stand there, also slices of a text that is gone: no reader reads
- * them. ixdtf_print reads those of the parts that are there. `is_there`, `form` and `has_..` say
- * which parts are there. After 0 no `form` is another one than those that are named below.
- * No pointer handed in is NULL, and what a call writes overlaps nothing else that is handed in.
+ * RECORDS. The caller owns every record, array and text. A record is handed in initialised, by
+ * zeros ({0}, calloc), by the macro of its type (IXDTF_RECORD for an ixdtf_record) or by a call
+ * before, and aligned as it is. Whatever a call left in it may stand there, also slices of a text
+ * that is gone: no reader reads them. ixdtf_print reads those of the parts that are there.
+ * `is_there`, `form` and `has_..` say which parts are there. After 0 no `form` is another one than
+ * those that are named below. What a call writes overlaps nothing else that is handed in. A pointer
+ * with a length or a room of 0 may be NULL, also in a struct. No other pointer handed in is NULL.
  *
  * SLICES. A name, a calendar, a key or a value in a record is a pointer into the text that was
  * read, and a length. It is not ended by a zero. It is valid while the text is there, unchanged.
  * The library keeps no pointer between calls. A location and an error's text are valid as long as
- * the program runs. A slice is never NULL, also where its length is 0.
+ * the program runs. No slice that a call writes is NULL, also where its length is 0.
  *
  * THREADS. Any number of threads may call at one time, as long as none writes what another uses. No
  * call blocks, and each returns, in time linear in the length of its text, or of the slices of its
@@ -232,8 +232,7 @@ typedef struct ixdtf_duration {
     size_t place;
 } ixdtf_duration;
 
-/* Initial values of one: ixdtf_record record = IXDTF_RECORD; of an array each place is set, since
- * `ixdtf_annotation list[8] = { IXDTF_ANNOTATION }` sets the first alone: ixdtf_set_annotations. */
+/* Initial values of one, as ixdtf_record record = IXDTF_RECORD. Zeros are as good. */
 #ifdef __cplusplus
 #define IXDTF_AT_(type, text) reinterpret_cast<const type *>(text)
 #define IXDTF_AS_(type, value) static_cast<type>(value)
@@ -301,8 +300,7 @@ IXDTF_CHECKED_ uint32_t ixdtf_parse_duration_strict(const uint8_t *text, size_t 
  * `count` is how many stand before the end of the text, or before its error. It is written after an
  * error too. The first `room` of them are written to `annotations`, in order; the other places of
  * the array stay. Where `count` is more than `room`, call again with as much room. A text of n
- * units has at most n / 5 annotations. With room 0 `annotations` is still not NULL. docs/C.md says
- * what to do with the list ("Handlers"). */
+ * units has at most n / 5 annotations. docs/C.md says what to do with the list ("Handlers"). */
 IXDTF_CHECKED_ uint32_t ixdtf_parse_with_annotations(const uint8_t *text, size_t length,
     ixdtf_annotation *annotations, size_t room, size_t *count, ixdtf_record *out);
 IXDTF_CHECKED_ uint32_t ixdtf_parse_year_month_with_annotations(const uint8_t *text, size_t length,
@@ -333,11 +331,11 @@ IXDTF_CHECKED_ uint32_t ixdtf_reply(ixdtf_calendar *calendar, const ixdtf_annota
  * with a fraction whose number has more digits than it counts. Or else it returns IXDTF_TOO_SHORT:
  * `count` is then how much room the text takes (SIZE_MAX where that is no size_t).
  * The other bytes of `out` are as they were, after an error all of them, and after
- * IXDTF_NOT_PRINTABLE `count` too. With room 0 `out` is still not NULL.
+ * IXDTF_NOT_PRINTABLE `count` too.
  * A record that ixdtf_parse gave of a text of n bytes is always printed where there is room for
  * n + 14. Its slices are read, so that text is still there. A record may also be filled in by hand:
- * then the fields of each part that is there are set, and no slice is NULL. What stands in the
- * other fields does not matter. */
+ * then the fields of each part that is there are set. What stands in the other fields does not
+ * matter. */
 IXDTF_CHECKED_ uint32_t ixdtf_print(const ixdtf_record *record, uint8_t *out, size_t room,
     size_t *count);
 
@@ -604,7 +602,7 @@ static inline size_t ixdtf16_reply_place(const uint16_t *text, const ixdtf16_ann
     return IXDTF_AS_(size_t, listed->value.at + listed->value.length - text) + 1;
 }
 
-/* Sets each place of an array to the initial value. */
+/* Sets each place of an array to the initial value, as zeros in each would do too. */
 static inline void ixdtf_set_annotations(ixdtf_annotation *annotations, size_t room) {
     const ixdtf_annotation none = IXDTF_ANNOTATION;
     size_t i;

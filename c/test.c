@@ -604,6 +604,30 @@ static void test_by_hand(void) {
     row_shown = "";
 }
 
+/* A record of zeros is filled in by hand and printed. A name and a calendar without units are those of no text, also where they are NULL. */
+static void test_zeros(void) {
+    ixdtf_record record;
+    ixdtf_text text;
+    size_t count = 7;
+    memset(&record, 0, sizeof record);
+    memset(&text, 0, sizeof text);
+    ixdtf_error_text(IXDTF_DATE_MONTH, &text);
+    check(text.length == 44 && !memcmp(text.at, ixdtf_error_message(IXDTF_DATE_MONTH), 44), "the text of an error, into zeros");
+    test_printed(&record, IXDTF_NOT_PRINTABLE, "");
+    record.date.is_there = true;
+    record.date.month = 3;
+    record.date.day = 2;
+    test_printed(&record, IXDTF_OK, "0000-03-02");
+    check(ixdtf_print(&record, NULL, 0, &count) == IXDTF_TOO_SHORT && count == 10, "room 0 is NULL");
+    record.zone.form = IXDTF_ZONE_OFFSET;
+    test_printed(&record, IXDTF_OK, "0000-03-02[+00:00]");
+    record.zone.form = IXDTF_NAME;
+    test_printed(&record, IXDTF_NOT_PRINTABLE, "");
+    record.zone.form = IXDTF_NO_ZONE;
+    record.has_calendar = true;
+    test_printed(&record, IXDTF_NOT_PRINTABLE, "");
+}
+
 /* Each error that a text can have came, and no other. */
 static void test_met(void) {
     static const unsigned char never[] = { 1, 3, 12, 13, 20, 21, 22, 24 };
@@ -637,6 +661,7 @@ int main(int count, char **arguments) {
     test_kept_calendar();
     test_read_back();
     test_by_hand();
+    test_zeros();
     test_met();
     printf("%lu checks, %lu failed\n", checks, failures);
     return failures == 0 ? 0 : 1;

@@ -190,21 +190,24 @@ static CALL(record) OWN(used_record)(void) {
     return record;
 }
 
-/* A row, in a new record and in one that was used before, and with the text at either end of what can be read. */
+/* A row, in a new record, in one that was used before and in one of zeros, and with the text at either end of what can be read. */
 static void OWN(test_row)(const struct row *row, int strict) {
     int used;
-    for (used = 0; used < 2; used++) {
+    for (used = 0; used < 3; used++) {
         struct line line;
         size_t length;
-        const UNIT *text = OWN(placed)(row->text, row->length, used, &length);
+        const UNIT *text = OWN(placed)(row->text, row->length, used > 0, &length);
         CALL(record) record = NEW_RECORD;
         ixdtf_duration duration = IXDTF_DURATION;
         uint32_t error;
         CALL(record) before;
         ixdtf_duration duration_before;
-        if (used) {
+        if (used == 1) {
             record = OWN(used_record)();
             duration = used_duration();
+        } else if (used == 2) {
+            memset(&record, 0, sizeof record);
+            memset(&duration, 0, sizeof duration);
         }
         before = record;
         duration_before = duration;
@@ -299,17 +302,20 @@ static size_t OWN(test_listing)(const struct handler_row *row, const UNIT *text,
     return count;
 }
 
-/* Lists, asks the handler about each annotation in order, and stops at the first reply that is refused. */
+/* Lists, asks the handler about each annotation in order, and stops at the first reply that is refused; in a list, a record and a calendar of
+ * zeros. */
 static void OWN(test_handler)(const struct handler_row *row) {
     struct line line, calls;
     size_t length, count = 0, found, i;
     const UNIT *text = OWN(placed)(row->text, row->length, 1, &length);
     CALL(annotation) list[64];
-    CALL(record) record = NEW_RECORD;
-    CALL(calendar) calendar = NEW_CALENDAR;
+    CALL(record) record;
+    CALL(calendar) calendar;
     ixdtf_duration duration = IXDTF_DURATION;
     uint32_t error, refused = 0;
-    CALL(set_annotations)(list, 64);
+    memset(list, 0, sizeof list);
+    memset(&record, 0, sizeof record);
+    memset(&calendar, 0, sizeof calendar);
     found = OWN(test_listing)(row, text, length);
     error = OWN(list)(row->reader, 0, text, length, list, 64, &count, &record);
     check(count == found, "the count is always the same");
@@ -410,9 +416,70 @@ static void OWN(test_texts)(void) {
     check(CALL(reply)(&calendar, &critical) == IXDTF_UNRECOGNIZED_CRITICAL && !calendar.is_there, "a critical reply without units");
 }
 
+/* NULL with length 0 is the text without units, and the list without room. */
+static void OWN(test_null)(void) {
+    static const char *readers[] = { "parse", "year-month", "month-day", "time", "offset", "zone", "iana", "duration" };
+    static const UNIT nothing[1] = { 0 };
+    static const UNIT listed[] = { '2', '0', '2', '4', '-', '0', '3', '-', '0', '2', '[', 'a', '=', 'b', ']', '[', 'c', '=', 'd', ']' };
+    size_t i, count;
+    int strict;
+    for (i = 0; i < COUNT(readers); i++) {
+        for (strict = 0; strict < 2; strict++) {
+            struct line line, wanted;
+            CALL(record) record = NEW_RECORD, zeros;
+            ixdtf_duration duration = IXDTF_DURATION, zero;
+            memset(&zeros, 0, sizeof zeros);
+            memset(&zero, 0, sizeof zero);
+            OWN(show_outcome)(&wanted, readers[i], OWN(read)(readers[i], strict, nothing, 0, &record, &duration), &record, &duration);
+            OWN(show_outcome)(&line, readers[i], OWN(read)(readers[i], strict, NULL, 0, &zeros, &zero), &zeros, &zero);
+            is(line.text, wanted.text, readers[i], "NULL");
+            if (i < 4) {
+                count = 7;
+                memset(&zeros, 0, sizeof zeros);
+                OWN(show_outcome)(&line, readers[i], OWN(list)(readers[i], strict, NULL, 0, NULL, 0, &count, &zeros), &zeros, &zero);
+                is(line.text, wanted.text, readers[i], "NULL, with a list");
+                check(count == 0, "a text without units has no annotations");
+            }
+        }
+    }
+    {
+        CALL(record) zeros;
+        memset(&zeros, 0, sizeof zeros);
+        count = 7;
+        check(CALL(parse_with_annotations)(listed, COUNT(listed), NULL, 0, &count, &zeros) == IXDTF_OK && count == 2, "a list without room is NULL");
+        OWN(check_cleared)(&zeros);
+    }
+}
+
+/* Replies of zeros, beside a calendar of zeros, and slices without units and without a pointer. */
+static void OWN(test_zero_replies)(void) {
+    static const UNIT key[] = { 'u', '-', 'c', 'a' };
+    CALL(annotation) reply;
+    CALL(calendar) calendar;
+    memset(&reply, 0, sizeof reply);
+    memset(&calendar, 0, sizeof calendar);
+    check(CALL(reply)(&calendar, &reply) == IXDTF_OK && !calendar.is_there, "a reply of zeros");
+    reply.is_critical = true;
+    check(CALL(reply)(&calendar, &reply) == IXDTF_UNRECOGNIZED_CRITICAL && !calendar.is_there, "a critical reply of zeros");
+    reply.key.at = key;
+    reply.key.length = 4;
+    reply.is_critical = false;
+    check(CALL(reply)(&calendar, &reply) == IXDTF_OK && calendar.is_there && calendar.value.length == 0 && !calendar.is_critical, "a calendar without units");
+    calendar.value.at = NULL;
+    reply.is_critical = true;
+    check(CALL(reply)(&calendar, &reply) == IXDTF_OK && !calendar.is_critical, "the same calendar, critical");
+    reply.value.at = key;
+    reply.value.length = 1;
+    check(CALL(reply)(&calendar, &reply) == IXDTF_CRITICAL_DUPLICATE_CALENDAR && calendar.value.length == 0, "another calendar, critical");
+    reply.is_critical = false;
+    check(CALL(reply)(&calendar, &reply) == IXDTF_OK && calendar.value.length == 0 && calendar.is_there, "another calendar");
+}
+
 static void OWN(test_all)(void) {
     size_t i;
     OWN(test_texts)();
+    OWN(test_null)();
+    OWN(test_zero_replies)();
     for (i = 0; i < COUNT(rows); i++) {
         row_shown = rows[i].text;
         if (is_shared(rows[i].text, rows[i].length, sizeof(UNIT))) {

@@ -29,7 +29,8 @@ What is put in the place of something else, and there is nothing more of it:
                  hidden, and in those of INLINED `#[inline]` too
   9 equality     `impl PartialEq for ..` of DERIVED is `#[derive(PartialEq)]`, and what that impl alone calls is left out
   10 exports     of a function for C, `#[unsafe(no_mangle)] pub extern "C" fn`, a slice `x: &[T]` is a pointer and a length, as C hands it in,
-                 `x: *const T, x_length: usize`, of which the first line of the body makes the slice (src/slices.rs)
+                 `x: *const T, x_length: usize`, of which the first line of the body makes the slice (src/slices.rs). There stands by hand
+                 what a slice in a struct is: a pointer, which may be null where the length is 0, and the length
   11 str         `str::from_utf8` is `std::str::from_utf8`, which older compilers have
 
 Of a test, besides (TESTS):
@@ -57,7 +58,7 @@ LIBRARY = (README + '#![cfg_attr(not(test), no_std)]\n#![forbid(unsafe_code)]\n\
            '\n#[cfg(test)]\n#[macro_use]\nmod runtime;\n#[cfg(test)]\nmod callers;\n#[cfg(test)]\nmod tests;\n')
 PRINTER = (README + '#![no_std]\n#![forbid(unsafe_code)]\n', '')
 PROGRAM = ('#![forbid(unsafe_code)]\n', '')
-FOR_C = ('#![cfg_attr(not(test), no_std)]\n', '\n#[cfg(not(test))]\nmod abort;\nmod slices;\n')
+FOR_C = ('#![cfg_attr(not(test), no_std)]\n', '\n#[cfg(not(test))]\nmod abort;\n')
 
 
 # the layers of the library, and where their modules stand in the crate that is made of all of them
@@ -111,7 +112,7 @@ CRATES = [
     Crate('crates/ixdtf_buffers/src', 'rust/ixdtf_buffers/src', ends=PROGRAM, above=True),
     Crate('crates/ixdtf_answers/src', 'rust/ixdtf_lines/src', ['lib'], ends=PROGRAM, above=True),
     Crate('crates/ixdtf_checks/src', 'rust/ixdtf_check/src', ['lib'], ends=PROGRAM, above=True),
-    Crate('crates/ixdtf_c/src', 'rust/ixdtf_c/src', ['laws', 'turns', 'tests'], ends=FOR_C, above=True, exports=True),
+    Crate('crates/ixdtf_c/src', 'rust/ixdtf_c/src', ['laws', 'turns', 'tests', 'slices'], ends=FOR_C, above=True, exports=True),
 ]
 WRITTEN_BY_HAND = {'rust/ixdtf/src/runtime.rs', 'rust/ixdtf/src/tests/printing.rs', 'rust/ixdtf_lines/src/main.rs', 'rust/ixdtf_check/src/main.rs',
                    'rust/ixdtf_c/src/abort.rs', 'rust/ixdtf_c/src/slices.rs'}
@@ -154,7 +155,8 @@ REFUSED = set('unsafe extern dyn async await macro_rules union yield move box ra
               ' requires ensures ghost Model tactic derive_where invariant decreases alloc Global'.split())
 TEST_REFUSED = REFUSED - {'alloc', 'Global'}
 KEYWORDS = set('pub if match while for in return let else'.split())
-CALLED = {'handler'}
+# the handler of a reader, and what stands in src/slices.rs of the library for C
+CALLED = {'handler', 'to_c', 'from_c'}
 STD_PATHS = {'std::str::from_utf8', 'std::fmt', 'std::error::Error', 'std::marker::PhantomData', 'std::mem::replace', 'std::fmt::Debug', 'std::io::{Read,Write}',
              'std::io::Write', 'std::io::Read', 'std::fmt::Write', 'std::str'}
 STD_METHODS = set('get len is_ascii_digit is_ascii_alphabetic is_ascii_lowercase write_str as_bytes then_some pow is_ok'

@@ -1,10 +1,9 @@
 -- The fields of a record in either width.
-use Rattle.std.specs.Prelude.{ℕ, [], map, Option, option_map}
+use Rattle.std.specs.Prelude.{ℕ, [], map}
 use Rattle.ixdtf.specs.language.Brackets.{Pair}
 use Rattle.ixdtf.specs.Handlers.{calendar_key}
 use Rattle.ixdtf_c.specs.declared.fields.Area.{Area}
 use Rattle.ixdtf_c.specs.declared.fields.Fields.{Fields}
-use Rattle.ixdtf_c.specs.declared.fields.Kept.{Kept}
 use Rattle.ixdtf_c.specs.Crossing.{Contents, ZoneContents}
 
 abbrev pub area_contents : {U : Type 0} → (U → ℕ) → Area U → ZoneContents
@@ -29,6 +28,6 @@ fields_contents number r = record {
   place = 0;
 }
 
--- the calendar that is kept, where there is one
-abbrev pub kept_pair : {U : Type 0} → (U → ℕ) → Option (Kept U) → Option Pair
-kept_pair number kept = option_map (λ it. record { critical = it.is_critical; key = calendar_key; value = map number it.value.now }) kept
+-- a pair with the key of calendars in the place of its own
+abbrev pub keyed : Pair → Pair
+keyed pair = record pair { key = calendar_key }

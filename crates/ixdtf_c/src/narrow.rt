@@ -1,15 +1,16 @@
 //! Records of 8-bit sources, as C sees them.
 
-ghost use Rattle.std.specs.Prelude.{◌≡◌, ◌≢◌};
-ghost use Rattle.ixdtf.specs.Handlers.{pair_of};
+ghost use Rattle.std.specs.Prelude.{◌≡◌, ◌≢◌, map, option_map, IfSome};
+ghost use Rattle.ixdtf.specs.Handlers.{calendar_key, pair_of};
 ghost use Rattle.ixdtf.specs.table.Faults.{fault_of_located};
-ghost use Rattle.ixdtf_c.specs.Fielded.{fields_contents, kept_pair};
+ghost use Rattle.ixdtf_c.specs.Fielded.{fields_contents, keyed};
 ghost use Rattle.ixdtf_c.specs.Numbers.{number_for, location_of};
 ghost use Rattle.ixdtf_c.specs.Narrow.{contents as record_contents, SameButError, annotation_by, calendar_by};
 
 use crate::errors::number_of;
-use crate::fields::{Fields, Kept};
+use crate::fields::Fields;
 use crate::forms::{Date, Offset, Time};
+use crate::slices::{Slice, from_c, to_c};
 use crate::widths::{AnnotationOf, CalendarOf, RecordOf};
 use ixdtf::encoding::Utf8;
 use ixdtf::{LocatedError, records};
@@ -19,7 +20,7 @@ use ixdtf::{LocatedError, records};
 #[repr(C)]
 pub struct Zone<'a> {
     /// The units of the name, and none where there is no name.
-    pub name: &'a [u8],
+    pub name: Slice<'a, u8>,
     /// 0: there is none. 1: a name. 2: an offset.
     pub form: u8,
     /// Whether a `!` stands before it.
@@ -45,11 +46,11 @@ pub struct Record<'a> {
     /// The time zone.
     pub zone: Zone<'a>,
     /// The units of the calendar, and none where there is no calendar.
-    pub calendar: &'a [u8],
+    pub calendar: Slice<'a, u8>,
     /// Whether there is a calendar.
     pub has_calendar: bool,
     /// What the text broke off in, of the error `AbruptEnd`, and else nothing.
-    pub location: &'a [u8],
+    pub location: Slice<'a, u8>,
     /// How many units stand before the place of the error, and 0 where there is none.
     pub place: usize,
 }
@@ -59,9 +60,9 @@ pub struct Record<'a> {
 #[repr(C)]
 pub struct Annotation<'a> {
     /// The units of the key.
-    pub key: &'a [u8],
+    pub key: Slice<'a, u8>,
     /// The units of the value.
-    pub value: &'a [u8],
+    pub value: Slice<'a, u8>,
     /// Whether a `!` stands before it.
     pub is_critical: bool,
 }
@@ -71,12 +72,15 @@ pub struct Annotation<'a> {
 #[repr(C)]
 pub struct Calendar<'a> {
     /// Its value.
-    pub value: &'a [u8],
+    pub value: Slice<'a, u8>,
     /// Whether it is critical.
     pub is_critical: bool,
     /// Whether there is one.
     pub is_there: bool,
 }
+
+/// The key of calendars.
+const CALENDAR_KEY: &[u8] = &[b'u', b'-', b'c', b'a'];
 
 impl<'a> RecordOf<'a, Utf8> for Record<'a> {
     ghost contents = { record_contents };
@@ -92,16 +96,16 @@ impl<'a> RecordOf<'a, Utf8> for Record<'a> {
             time: fields.time,
             offset: fields.offset,
             zone: Zone {
-                name: fields.zone.name,
+                name: to_c(fields.zone.name),
                 form: fields.zone.form,
                 is_critical: fields.zone.is_critical,
                 is_negative: fields.zone.is_negative,
                 hour: fields.zone.hour,
                 minute: fields.zone.minute,
             },
-            calendar: fields.calendar,
+            calendar: to_c(fields.calendar),
             has_calendar: fields.has_calendar,
-            location: &[],
+            location: to_c(&[]),
             place: 0,
         };
     }
@@ -117,7 +121,7 @@ impl<'a> RecordOf<'a, Utf8> for Record<'a> {
         ensures unchanged { SameButError self.old self.new }
     {
         let (number, location) = number_of(located.error);
-        self.location = location;
+        self.location = to_c(location);
         self.place = located.at;
         number
     }
@@ -132,8 +136,8 @@ impl<'a> AnnotationOf<'a, Utf8> for Annotation<'a> {
     {
         records::Annotation {
             critical: self.is_critical,
-            key: self.key,
-            value: self.value,
+            key: from_c(self.key),
+            value: from_c(self.value),
         }
     }
 }
@@ -142,13 +146,15 @@ impl<'a> CalendarOf<'a, Utf8> for Calendar<'a> {
     ghost kept_of = { calendar_by };
 
     #[inline(always)]
-    fn read(&self) -> Option<Kept<'a, u8>>
-        ensures { calendar_by self.now ≡ kept_pair (λ unit. unit) result }
+    fn read(&self) -> Option<records::Annotation<'a, Utf8>>
+        ensures kept { calendar_by self.now ≡ option_map (pair_of (λ unit. unit)) result }
+        ensures key { IfSome result (λ it. map (λ unit. unit) it.key.now ≡ calendar_key) }
     {
         if self.is_there {
-            Some(Kept {
-                value: self.value,
-                is_critical: self.is_critical,
+            Some(records::Annotation {
+                critical: self.is_critical,
+                key: CALENDAR_KEY,
+                value: from_c(self.value),
             })
         } else {
             None
@@ -156,14 +162,14 @@ impl<'a> CalendarOf<'a, Utf8> for Calendar<'a> {
     }
 
     #[inline(always)]
-    fn write(&mut self, kept: Option<Kept<'a, u8>>)
-        ensures { calendar_by self.new ≡ kept_pair (λ unit. unit) kept.entry }
+    fn write(&mut self, kept: Option<records::Annotation<'a, Utf8>>)
+        ensures { calendar_by self.new ≡ option_map (λ it. keyed (pair_of (λ unit. unit) it)) kept.entry }
     {
         match kept {
             None => self.is_there = false,
             Some(it) => {
-                self.value = it.value;
-                self.is_critical = it.is_critical;
+                self.value = to_c(it.value);
+                self.is_critical = it.critical;
                 self.is_there = true;
             }
         }

@@ -12,6 +12,7 @@ ghost use Rattle.ixdtf_print.specs.Spelled.{HasDigits, IsDayTime, IsShift};
 
 use crate::forms::{Date, Offset, Time};
 use crate::narrow::{Record, Zone};
+use crate::slices::from_c;
 use ixdtf::encoding::Utf8;
 use ixdtf::records::{
     DateRecord, Fraction, FullPrecisionOffset, IxdtfParseRecord, MinutePrecisionOffset, Sign,
@@ -121,7 +122,7 @@ fn zone_of<'a>(zone: &Zone<'a>) -> Option<Option<TimeZoneAnnotation<'a, Utf8>>>
     if zone.form == 1 {
         return Some(Some(TimeZoneAnnotation {
             critical: zone.is_critical,
-            tz: TimeZoneRecord::Name(zone.name),
+            tz: TimeZoneRecord::Name(from_c(zone.name)),
         }));
     }
     if zone.form != 2 {
@@ -149,7 +150,7 @@ fn record_of<'a>(given: &Record<'a>) -> Option<IxdtfParseRecord<'a, Utf8>>
         return None;
     };
     let calendar = if given.has_calendar {
-        Some(given.calendar)
+        Some(from_c(given.calendar))
     } else {
         None
     };

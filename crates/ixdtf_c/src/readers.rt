@@ -1,28 +1,23 @@
 //! The readers of either width, and what is kept of replies to annotations.
 
-ghost use Rattle.std.specs.Prelude.{◌≡◌, ◌≢◌, Result, Some, [], ◌∷◌, map, OnOk, IfOk, IfErr};
-ghost use Rattle.std.specs.Option.{option_or};
-ghost use Rattle.ixdtf.specs.table.Faults.{Fault, fault_of};
-ghost use Rattle.ixdtf.specs.Handlers.{RefusedBeside, first_calendar, pair_of};
+ghost use Rattle.std.specs.Prelude.{◌≡◌, ◌≢◌, Result, map};
 ghost use Rattle.ixdtf.specs.Views.{parsed_of};
 ghost use Rattle.ixdtf.specs.language.Readers.Reader.{bracketed, parse_offset, parse_identifier, parse_iana_identifier};
 ghost use Rattle.ixdtf.specs.language.Languages.{Parsed};
 ghost use Rattle.ixdtf.specs.language.Languages.Found.{shifted, identified, named};
 ghost use Rattle.ixdtf_c.specs.Crossing.{record_for, offset_alone, zone_alone, name_alone};
-ghost use Rattle.ixdtf_c.specs.Fielded.{kept_pair};
 ghost use Rattle.ixdtf_c.specs.Located.{FaultAt, HasOutcome};
 ghost use Rattle.ixdtf_c.specs.Outcomes.{ReadsRecord, GivesRecord, GivesPart};
 ghost use Rattle.ixdtf_c.specs.Replying.{TakesReply};
 
 use crate::errors::number_of;
-use crate::fields::{Kept, area_of, area_of_name, area_of_zone, fields_of, fields_with};
+use crate::fields::{area_of, area_of_name, area_of_zone, fields_of, fields_with};
 use crate::forms::Offset;
-use crate::units::has_same_units;
 use crate::widths::{AnnotationOf, CalendarOf, RecordOf};
+use ixdtf::LocatedError;
 use ixdtf::encoding::EncodingType;
-use ixdtf::parsers::{Cores, IxdtfParser, Profile, Raised, TimeZoneParser};
-use ixdtf::records::{Annotation, IxdtfParseRecord};
-use ixdtf::{LocatedError, ParseError};
+use ixdtf::parsers::{Cores, IxdtfParser, Profile, Raised, TimeZoneParser, keep_first_calendar};
+use ixdtf::records::IxdtfParseRecord;
 
 /// Reads as the reader of the kind does without a handler.
 ///
@@ -138,44 +133,6 @@ pub fn name_into<'a, T: EncodingType, R: RecordOf<'a, T>>(
     }
 }
 
-/// The calendar that is kept after a reply: the first one.
-///
-/// # Errors
-///
-/// The error that the reply is refused with.
-#[inline(always)]
-fn keep_first<'a, T: EncodingType>(
-    kept: Option<Kept<'a, T::CodeUnit>>,
-    reply: Annotation<'a, T>,
-) -> Result<Option<Kept<'a, T::CodeUnit>>, ParseError>
-    ensures kept { IfOk result (λ next. kept_pair T.number next ≡
-        option_or (kept_pair T.number kept.entry)
-        (first_calendar (Some (pair_of T.number reply.entry) ∷ []))) }
-    ensures accepted { OnOk result ((fault : Fault) →
-        ¬ (RefusedBeside (kept_pair T.number kept.entry)
-        (Some (pair_of T.number reply.entry)) fault)) }
-    ensures refused { IfErr result (λ error.
-        RefusedBeside (kept_pair T.number kept.entry)
-        (Some (pair_of T.number reply.entry)) (fault_of error)) }
-{
-    if !T::check_calendar_key(reply.key) {
-        if reply.critical {
-            return Err(ParseError::UnrecognizedCritical);
-        }
-        return Ok(kept);
-    }
-    let Some(first) = kept else {
-        return Ok(Some(Kept {
-            value: reply.value,
-            is_critical: reply.critical,
-        }));
-    };
-    if !has_same_units::<T>(first.value, reply.value) && (first.is_critical || reply.critical) {
-        return Err(ParseError::CriticalDuplicateCalendar);
-    }
-    Ok(Some(first))
-}
-
 /// Takes a reply to an annotation: keeps it where it is the first calendar, and returns 0, or the number of the error that it
 /// is refused with.
 #[inline(always)]
@@ -189,11 +146,12 @@ where
         (A.pair reply.now) result }
     ensures unchanged { result ≢ 0 → calendar.new ≡ calendar.old }
 {
-    match keep_first::<T>(calendar.read(), reply.read()) {
-        Ok(kept) => {
+    let mut kept = calendar.read();
+    match keep_first_calendar::<T>(&mut kept, Some(reply.read())) {
+        Ok(()) => {
             calendar.write(kept);
             0
         }
-        Err(error) => number_of(error).0,
+        Err(stop) => number_of(stop.error()).0,
     }
 }

@@ -1,14 +1,14 @@
 //! What the records of both widths have alike, by the encoding of their units.
 
-ghost use Rattle.std.specs.Prelude.{◌≡◌, ◌≢◌, Option};
-ghost use Rattle.ixdtf.specs.Handlers.{pair_of};
+ghost use Rattle.std.specs.Prelude.{◌≡◌, ◌≢◌, Option, map, option_map, IfSome};
+ghost use Rattle.ixdtf.specs.Handlers.{calendar_key, pair_of};
 ghost use Rattle.ixdtf.specs.language.Brackets.{Pair};
 ghost use Rattle.ixdtf.specs.table.Faults.{fault_of_located};
 ghost use Rattle.ixdtf_c.specs.Crossing.{Contents};
-ghost use Rattle.ixdtf_c.specs.Fielded.{fields_contents, kept_pair};
+ghost use Rattle.ixdtf_c.specs.Fielded.{fields_contents, keyed};
 ghost use Rattle.ixdtf_c.specs.Numbers.{number_for, location_of};
 
-use crate::fields::{Fields, Kept};
+use crate::fields::Fields;
 use ixdtf::encoding::EncodingType;
 use ixdtf::{LocatedError, records};
 
@@ -50,11 +50,12 @@ pub trait CalendarOf<'a, T: EncodingType> {
     /// The pair that it is, where there is one.
     ghost kept_of: { Self → Option Pair };
 
-    /// It, where there is one.
-    fn read(&self) -> Option<Kept<'a, T::CodeUnit>>
-        ensures { kept_of self.now ≡ kept_pair T.number result };
+    /// It as an annotation, where there is one.
+    fn read(&self) -> Option<records::Annotation<'a, T>>
+        ensures kept { kept_of self.now ≡ option_map (pair_of T.number) result }
+        ensures key { IfSome result (λ it. map T.number it.key.now ≡ calendar_key) };
 
-    /// Keeps this one, or none.
-    fn write(&mut self, kept: Option<Kept<'a, T::CodeUnit>>)
-        ensures { kept_of self.new ≡ kept_pair T.number kept.entry };
+    /// Keeps what this one has besides its key, or none.
+    fn write(&mut self, kept: Option<records::Annotation<'a, T>>)
+        ensures { kept_of self.new ≡ option_map (λ it. keyed (pair_of T.number it)) kept.entry };
 }

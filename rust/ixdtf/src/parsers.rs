@@ -28,6 +28,9 @@ mod zones;
 // Only for crates of this repository; not part of the public interface: what `read_by_reference` is generic in.
 #[doc(hidden)]
 pub use self::cores::{Cores, DateTimes, LoneTimes, MonthDays, YearMonths};
+// The library for C keeps the calendar of replies by the same rule.
+#[doc(hidden)]
+pub use self::replies::keep_first_calendar;
 use self::texts::parse_text;
 pub use self::zones::TimeZoneParser;
 use crate::{LocatedError, ParseError, ParserResult};

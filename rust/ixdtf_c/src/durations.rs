@@ -4,6 +4,7 @@
 
 use crate::errors::number_of;
 use crate::forms::{Digits, is_negative};
+use crate::slices::{Slice, to_c};
 use ixdtf::encoding::EncodingType;
 use ixdtf::parsers::{IsoDurationParser, Profile};
 use ixdtf::records::{DateDurationRecord, DurationParseRecord, Fraction, TimeDurationRecord};
@@ -37,7 +38,7 @@ pub struct Duration<'a> {
     /// Whether the sign is a `-`.
     pub is_negative: bool,
     /// What the text broke off in, of the error `AbruptEnd`, and else nothing.
-    pub location: &'a [u8],
+    pub location: Slice<'a, u8>,
     /// How many units stand before the place of the error, and 0 where there is none.
     pub place: usize,
 }
@@ -59,7 +60,7 @@ impl<'a> Duration<'a> {
             time_form: 0,
             has_date: false,
             is_negative,
-            location: &[],
+            location: to_c(&[]),
             place: 0,
         }
     }
@@ -150,7 +151,7 @@ pub fn duration_into<T: EncodingType>(
         }
         Err(located) => {
             let (number, location) = number_of(located.error);
-            out.location = location;
+            out.location = to_c(location);
             out.place = located.at;
             number
         }

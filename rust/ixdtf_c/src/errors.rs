@@ -2,6 +2,7 @@
 
 //! Errors as C sees them.
 
+use crate::slices::{Slice, to_c};
 use ixdtf::ParseError;
 
 /// The number of an error, from 1, in the order in which `ParseError` declares them, and where the text ended, of `AbruptEnd`.
@@ -63,7 +64,7 @@ pub fn number_of(error: ParseError) -> (u32, &'static [u8]) {
 #[repr(C)]
 pub struct Text<'a> {
     /// Its bytes.
-    pub bytes: &'a [u8],
+    pub bytes: Slice<'a, u8>,
 }
 
 /// The errors in the order of their numbers, from 1 on, where `AbruptEnd` has no location.
@@ -125,8 +126,8 @@ fn error_of(number: u32) -> ParseError {
 #[unsafe(no_mangle)]
 pub extern "C" fn ixdtf_error_text(number: u32, out: &mut Text<'_>) {
     if number < 1 || number > 46 {
-        out.bytes = &[];
+        out.bytes = to_c(&[]);
     } else {
-        out.bytes = error_of(number).to_static_string().as_bytes();
+        out.bytes = to_c(error_of(number).to_static_string().as_bytes());
     }
 }

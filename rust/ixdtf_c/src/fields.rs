@@ -38,14 +38,6 @@ pub struct Fields<'a, U> {
     pub has_calendar: bool,
 }
 
-/// The calendar that is kept of replies.
-pub struct Kept<'a, U> {
-    /// Its value.
-    pub value: &'a [U],
-    /// Whether it is critical.
-    pub is_critical: bool,
-}
-
 /// The fields of a zone, and zeros where there is none.
 #[inline(always)]
 pub fn area_of<'a, T: EncodingType>(

@@ -13,7 +13,7 @@ mod narrow_annotations;
 mod narrow_readers;
 mod printing;
 mod readers;
-mod units;
+mod slices;
 mod version;
 pub mod wide;
 mod wide_annotations;
@@ -26,4 +26,3 @@ pub use forms::{Date, Offset, Time};
 
 #[cfg(not(test))]
 mod abort;
-mod slices;

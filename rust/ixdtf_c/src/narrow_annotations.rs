@@ -4,6 +4,7 @@
 
 use crate::narrow::{Annotation, Calendar, Record};
 use crate::readers::{fill, take_reply};
+use crate::slices::to_c;
 use crate::widths::RecordOf;
 use ixdtf::LocatedError;
 use ixdtf::encoding::Utf8;
@@ -24,8 +25,8 @@ impl<'l, 'a> List<'l, 'a> {
     fn add(&mut self, annotation: records::Annotation<'a, Utf8>) {
         if self.count < self.slots.len() {
             self.slots[self.count] = Annotation {
-                key: annotation.key,
-                value: annotation.value,
+                key: to_c(annotation.key),
+                value: to_c(annotation.value),
                 is_critical: annotation.critical,
             };
         }

@@ -3,14 +3,13 @@
 //! The readers of either width, and what is kept of replies to annotations.
 
 use crate::errors::number_of;
-use crate::fields::{Kept, area_of, area_of_name, area_of_zone, fields_of, fields_with};
+use crate::fields::{area_of, area_of_name, area_of_zone, fields_of, fields_with};
 use crate::forms::Offset;
-use crate::units::has_same_units;
 use crate::widths::{AnnotationOf, CalendarOf, RecordOf};
+use ixdtf::LocatedError;
 use ixdtf::encoding::EncodingType;
-use ixdtf::parsers::{Cores, IxdtfParser, Profile, Raised, TimeZoneParser};
-use ixdtf::records::{Annotation, IxdtfParseRecord};
-use ixdtf::{LocatedError, ParseError};
+use ixdtf::parsers::{Cores, IxdtfParser, Profile, Raised, TimeZoneParser, keep_first_calendar};
+use ixdtf::records::IxdtfParseRecord;
 
 /// Reads as the reader of the kind does without a handler.
 ///
@@ -104,34 +103,6 @@ pub fn name_into<'a, T: EncodingType, R: RecordOf<'a, T>>(
     }
 }
 
-/// The calendar that is kept after a reply: the first one.
-///
-/// # Errors
-///
-/// The error that the reply is refused with.
-#[inline(always)]
-fn keep_first<'a, T: EncodingType>(
-    kept: Option<Kept<'a, T::CodeUnit>>,
-    reply: Annotation<'a, T>,
-) -> Result<Option<Kept<'a, T::CodeUnit>>, ParseError> {
-    if !T::check_calendar_key(reply.key) {
-        if reply.critical {
-            return Err(ParseError::UnrecognizedCritical);
-        }
-        return Ok(kept);
-    }
-    let Some(first) = kept else {
-        return Ok(Some(Kept {
-            value: reply.value,
-            is_critical: reply.critical,
-        }));
-    };
-    if !has_same_units::<T>(first.value, reply.value) && (first.is_critical || reply.critical) {
-        return Err(ParseError::CriticalDuplicateCalendar);
-    }
-    Ok(Some(first))
-}
-
 /// Takes a reply to an annotation: keeps it where it is the first calendar, and returns 0, or the number of the error that it
 /// is refused with.
 #[inline(always)]
@@ -142,11 +113,12 @@ pub fn take_reply<'a, T: EncodingType, A: AnnotationOf<'a, T>, K: CalendarOf<'a,
 where
     T::CodeUnit: 'a,
 {
-    match keep_first::<T>(calendar.read(), reply.read()) {
-        Ok(kept) => {
+    let mut kept = calendar.read();
+    match keep_first_calendar::<T>(&mut kept, Some(reply.read())) {
+        Ok(()) => {
             calendar.write(kept);
             0
         }
-        Err(error) => number_of(error).0,
+        Err(stop) => number_of(stop.error()).0,
     }
 }

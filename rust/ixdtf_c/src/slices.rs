@@ -1,7 +1,32 @@
-//! Slices of what C hands in.
+//! Slices of what C hands in and gets back.
 
-// A slice in a struct is seen by C as its pointer and its length, which rustc has, and does not promise.
-const _: () = assert!(size_of::<&[u8]>() == size_of::<*const u8>() + size_of::<usize>());
+use core::marker::PhantomData;
+
+/// A slice in a struct, which C has as a pointer and a length. Of one without units the pointer may be `NULL`.
+#[derive(Clone, Copy)]
+#[repr(C)]
+pub struct Slice<'a, U> {
+    at: *const U,
+    length: usize,
+    units: PhantomData<&'a [U]>,
+}
+
+/// The slice as C has it.
+#[inline(always)]
+pub fn to_c<'a, U>(slice: &'a [U]) -> Slice<'a, U> {
+    Slice {
+        at: slice.as_ptr(),
+        length: slice.len(),
+        units: PhantomData,
+    }
+}
+
+/// The slice that C hands in. Of one without units the pointer, which C may have as `NULL`, is not handed on.
+#[inline(always)]
+pub fn from_c<'a, U>(given: Slice<'a, U>) -> &'a [U] {
+    // SAFETY: so the header has it.
+    unsafe { slice(given.at, given.length) }
+}
 
 /// The slice of so many places from the pointer on, and an empty one where there are none.
 ///

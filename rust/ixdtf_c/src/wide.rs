@@ -3,8 +3,9 @@
 //! Records of 16-bit sources, as C sees them.
 
 use crate::errors::number_of;
-use crate::fields::{Fields, Kept};
+use crate::fields::Fields;
 use crate::forms::{Date, Offset, Time};
+use crate::slices::{Slice, from_c, to_c};
 use crate::widths::{AnnotationOf, CalendarOf, RecordOf};
 use ixdtf::encoding::Utf16;
 use ixdtf::{LocatedError, records};
@@ -14,7 +15,7 @@ use ixdtf::{LocatedError, records};
 #[repr(C)]
 pub struct Zone<'a> {
     /// The units of the name, and none where there is no name.
-    pub name: &'a [u16],
+    pub name: Slice<'a, u16>,
     /// 0: there is none. 1: a name. 2: an offset.
     pub form: u8,
     /// Whether a `!` stands before it.
@@ -40,11 +41,11 @@ pub struct Record<'a> {
     /// The time zone.
     pub zone: Zone<'a>,
     /// The units of the calendar, and none where there is no calendar.
-    pub calendar: &'a [u16],
+    pub calendar: Slice<'a, u16>,
     /// Whether there is a calendar.
     pub has_calendar: bool,
     /// What the text broke off in, of the error `AbruptEnd`, and else nothing.
-    pub location: &'a [u8],
+    pub location: Slice<'a, u8>,
     /// How many units stand before the place of the error, and 0 where there is none.
     pub place: usize,
 }
@@ -54,9 +55,9 @@ pub struct Record<'a> {
 #[repr(C)]
 pub struct Annotation<'a> {
     /// The units of the key.
-    pub key: &'a [u16],
+    pub key: Slice<'a, u16>,
     /// The units of the value.
-    pub value: &'a [u16],
+    pub value: Slice<'a, u16>,
     /// Whether a `!` stands before it.
     pub is_critical: bool,
 }
@@ -66,12 +67,15 @@ pub struct Annotation<'a> {
 #[repr(C)]
 pub struct Calendar<'a> {
     /// Its value.
-    pub value: &'a [u16],
+    pub value: Slice<'a, u16>,
     /// Whether it is critical.
     pub is_critical: bool,
     /// Whether there is one.
     pub is_there: bool,
 }
+
+/// The key of calendars.
+const CALENDAR_KEY: &[u16] = &[0x75, 0x2d, 0x63, 0x61];
 
 impl<'a> RecordOf<'a, Utf16> for Record<'a> {
     #[inline(always)]
@@ -81,16 +85,16 @@ impl<'a> RecordOf<'a, Utf16> for Record<'a> {
             time: fields.time,
             offset: fields.offset,
             zone: Zone {
-                name: fields.zone.name,
+                name: to_c(fields.zone.name),
                 form: fields.zone.form,
                 is_critical: fields.zone.is_critical,
                 is_negative: fields.zone.is_negative,
                 hour: fields.zone.hour,
                 minute: fields.zone.minute,
             },
-            calendar: fields.calendar,
+            calendar: to_c(fields.calendar),
             has_calendar: fields.has_calendar,
-            location: &[],
+            location: to_c(&[]),
             place: 0,
         };
     }
@@ -98,7 +102,7 @@ impl<'a> RecordOf<'a, Utf16> for Record<'a> {
     #[inline(always)]
     fn refuse(&mut self, located: LocatedError) -> u32 {
         let (number, location) = number_of(located.error);
-        self.location = location;
+        self.location = to_c(location);
         self.place = located.at;
         number
     }
@@ -109,19 +113,20 @@ impl<'a> AnnotationOf<'a, Utf16> for Annotation<'a> {
     fn read(&self) -> records::Annotation<'a, Utf16> {
         records::Annotation {
             critical: self.is_critical,
-            key: self.key,
-            value: self.value,
+            key: from_c(self.key),
+            value: from_c(self.value),
         }
     }
 }
 
 impl<'a> CalendarOf<'a, Utf16> for Calendar<'a> {
     #[inline(always)]
-    fn read(&self) -> Option<Kept<'a, u16>> {
+    fn read(&self) -> Option<records::Annotation<'a, Utf16>> {
         if self.is_there {
-            Some(Kept {
-                value: self.value,
-                is_critical: self.is_critical,
+            Some(records::Annotation {
+                critical: self.is_critical,
+                key: CALENDAR_KEY,
+                value: from_c(self.value),
             })
         } else {
             None
@@ -129,12 +134,12 @@ impl<'a> CalendarOf<'a, Utf16> for Calendar<'a> {
     }
 
     #[inline(always)]
-    fn write(&mut self, kept: Option<Kept<'a, u16>>) {
+    fn write(&mut self, kept: Option<records::Annotation<'a, Utf16>>) {
         match kept {
             None => self.is_there = false,
             Some(it) => {
-                self.value = it.value;
-                self.is_critical = it.is_critical;
+                self.value = to_c(it.value);
+                self.is_critical = it.critical;
                 self.is_there = true;
             }
         }

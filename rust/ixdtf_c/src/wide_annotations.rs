@@ -3,6 +3,7 @@
 //! The readers of 16-bit sources that list the annotations, and what is kept of replies to them.
 
 use crate::readers::{fill, take_reply};
+use crate::slices::to_c;
 use crate::wide::{Annotation, Calendar, Record};
 use crate::widths::RecordOf;
 use ixdtf::LocatedError;
@@ -24,8 +25,8 @@ impl<'l, 'a> List<'l, 'a> {
     fn add(&mut self, annotation: records::Annotation<'a, Utf16>) {
         if self.count < self.slots.len() {
             self.slots[self.count] = Annotation {
-                key: annotation.key,
-                value: annotation.value,
+                key: to_c(annotation.key),
+                value: to_c(annotation.value),
                 is_critical: annotation.critical,
             };
         }

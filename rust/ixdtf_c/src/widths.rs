@@ -2,7 +2,7 @@
 
 //! What the records of both widths have alike, by the encoding of their units.
 
-use crate::fields::{Fields, Kept};
+use crate::fields::Fields;
 use ixdtf::encoding::EncodingType;
 use ixdtf::{LocatedError, records};
 
@@ -23,9 +23,9 @@ pub trait AnnotationOf<'a, T: EncodingType> {
 
 /// The calendar that is kept, in units of the encoding.
 pub trait CalendarOf<'a, T: EncodingType> {
-    /// It, where there is one.
-    fn read(&self) -> Option<Kept<'a, T::CodeUnit>>;
+    /// It as an annotation, where there is one.
+    fn read(&self) -> Option<records::Annotation<'a, T>>;
 
-    /// Keeps this one, or none.
-    fn write(&mut self, kept: Option<Kept<'a, T::CodeUnit>>);
+    /// Keeps what this one has besides its key, or none.
+    fn write(&mut self, kept: Option<records::Annotation<'a, T>>);
 }

@@ -41,8 +41,9 @@ fn has_same_units<T: EncodingType>(left: &[T::CodeUnit], right: &[T::CodeUnit]) 
 /// Keeps the calendar of a reply where it is the first one. A critical reply that is not a calendar is
 /// `UnrecognizedCritical`. A calendar with another value than the first is `CriticalDuplicateCalendar` where at least
 /// one of the two is critical.
+#[doc(hidden)]
 #[inline(always)]
-fn keep_first_calendar<'a, T: EncodingType>(
+pub fn keep_first_calendar<'a, T: EncodingType>(
     calendar: &mut Option<Annotation<'a, T>>,
     reply: Option<Annotation<'a, T>>,
 ) -> Result<(), Stop>

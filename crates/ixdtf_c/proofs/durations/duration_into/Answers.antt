@@ -1,4 +1,4 @@
-use Rattle.std.proofs.Common.{◌∙◌}
+use Rattle.std.proofs.Common.{◌∙◌, ap}
 use Rattle.ixdtf_c.specs.Lasting.{contents}
 use Rattle.ixdtf_c.proofs.Crossed.{crossed_lasting}
 use Rattle.ixdtf_c.proofs.Read.{lasts_ok, lasts_err, letters_are}
@@ -19,6 +19,6 @@ returns-in-Err-clause-read g c =
     c.parse_located.ensures.err c.parse_located.ensures.no_row c.parse_located.ensures.only c.parse_located.ensures.place
     c.parse_located.ensures.alone
     (lasts_err _ c.parse_located.result c.in-Err.located _ (contents c.args.out.now) _ c.in-Err.is c.number_of-number.ensures.number
-    (λ i. record (contents c.args.out.now) { location = c.number_of-number.ensures.location i; place = c.in-Err.located.at }))
+    (λ i. record (contents c.args.out.now) { location = (ap (λ it. it.now) c.to_c-out.ensures ∙ c.number_of-number.ensures.location) i; place = c.in-Err.located.at }))
     (letters_are g.T.EncodingType.letter g.T.EncodingType.number c.args.text.now (c.with_profile-parser.ensures.rest ∙ c.new.ensures.rest))
     c.with_profile-parser.ensures.profile
