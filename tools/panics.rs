@@ -74,7 +74,13 @@ in_width!(wide, u16, Utf16);
 
 #[cfg(printer)]
 fn printed(record: &ixdtf::records::IxdtfParseRecord<'_, Utf8>, out: &mut [u8]) {
-    black_box(ixdtf_print::print(record, out)).is_ok();
+    if let Err(error) = black_box(ixdtf_print::print(record, out)) {
+        let _ = write!(Nowhere, "{error}");
+    }
+    black_box(ixdtf_print::printed_length(record));
+    if let Some(canonical) = ixdtf_print::Canonical::of(record) {
+        let _ = write!(Nowhere, "{canonical}");
+    }
 }
 
 #[unsafe(no_mangle)]

@@ -53,14 +53,20 @@ four_digit_date_long date from to = omega (arith, date_long date, year_four date
 pub signed_date_long : (date : DateRecord) → ((pos 9999 <ℤ date.year) ⊎ (date.year <ℤ pos 0)) → length (date_text date) ≡ 13
 signed_date_long date h = omega (arith, date_long date, year_seven date.year h)
 
-pub canonical_long : (found : Parsed) → length (canonical_text found)
+pub core_long : (found : Parsed) → length (core_text found)
     ≡ length (optional_date_text found.date) + length (time_text found.time) + length (offset_text found.offset)
-    + length (bracket_text found.zone) + length (calendar_text found.calendar)
-unfolding canonical_text core_text
-canonical_long found = omega (
+unfolding core_text
+core_long found = omega (
   arith,
-  length-append (optional_date_text found.date ++ (time_text found.time ++ offset_text found.offset)) (bracket_text found.zone ++ calendar_text found.calendar),
   length-append (optional_date_text found.date) (time_text found.time ++ offset_text found.offset),
   length-append (time_text found.time) (offset_text found.offset),
+)
+
+pub canonical_long : (found : Parsed) → length (canonical_text found)
+    ≡ length (core_text found) + length (bracket_text found.zone) + length (calendar_text found.calendar)
+unfolding canonical_text
+canonical_long found = omega (
+  arith,
+  length-append (core_text found) (bracket_text found.zone ++ calendar_text found.calendar),
   length-append (bracket_text found.zone) (calendar_text found.calendar),
 )

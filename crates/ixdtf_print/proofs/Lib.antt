@@ -10,3 +10,5 @@ pub mod Values
 pub mod Lengths
 pub mod Years
 pub mod ValueLoop
+pub mod Shown
+pub mod Ascii

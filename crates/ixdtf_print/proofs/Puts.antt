@@ -15,7 +15,7 @@ long_bytes bytes text e = let spell : ℕ → Letter = λ n. Plain n in sym (len
 pub text_long : (old new : List ℕ) (from to : ℕ) (text : Text) (p : Puts old new from to text) → to ≡ from + length text
 text_long old new from to text p = omega (arith, p.ends, long_bytes p.bytes text p.spelled)
 
-front_of_new : (old new : List ℕ) (from to : ℕ) (text : Text) (p : Puts old new from to text) → from ≤ length old → take to new ≡ take from old ++ p.bytes
+pub front_of_new : (old new : List ℕ) (from to : ℕ) (text : Text) (p : Puts old new from to text) → from ≤ length old → take to new ≡ take from old ++ p.bytes
 front_of_new old new from to text p h =
     let front : length (take from old) ≡ from = length-take-le from old h in
     let e : to ≡ length (take from old ++ p.bytes) = omega (arith, length-append (take from old) p.bytes, front, p.ends) in

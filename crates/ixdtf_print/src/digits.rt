@@ -4,7 +4,7 @@ ghost use Rattle.ixdtf.specs.language.Digits.{padded_digits};
 ghost use Rattle.ixdtf_print.specs.Canonical.{fraction_text};
 ghost use Rattle.ixdtf_print.specs.Puts.{HasRoom, Puts};
 
-use crate::put::put_byte;
+use crate::put::{put_byte, set_byte};
 use ixdtf::records::Fraction;
 
 /// Puts so many digits of the number at the place, with leading zeros, and returns the place behind them.
@@ -21,7 +21,7 @@ pub fn put_digits(out: &mut [u8], at: usize, count: usize, number: u64) -> usize
     let mut left = number;
     while place > at {
         place -= 1;
-        out[place] = b'0' + (left % 10) as u8;
+        set_byte(out, place, b'0' + (left % 10) as u8);
         left /= 10;
     }
     end

@@ -120,7 +120,7 @@ fn byte_of(sign: Sign) -> u8
 }
 
 /// Puts an offset of hours and minutes at the place, and returns the place behind it.
-fn put_minute_offset(out: &mut [u8], at: usize, offset: MinutePrecisionOffset) -> usize
+pub fn put_minute_offset(out: &mut [u8], at: usize, offset: MinutePrecisionOffset) -> usize
     requires { HasRoom out.old at (minute_offset_text offset) }
     ensures { Puts out.old out.new at result (minute_offset_text offset) }
 {
@@ -155,7 +155,7 @@ fn put_offset(out: &mut [u8], at: usize, offset: Option<UtcOffsetRecordOrZ>) -> 
 }
 
 /// What stands before a zone.
-fn opening_of(critical: bool) -> &'static [u8]
+pub fn opening_of(critical: bool) -> &'static [u8]
     ensures { map Plain result.now ≡ opening_text critical }
 {
     if critical {
@@ -211,7 +211,7 @@ fn put_calendar(out: &mut [u8], at: usize, calendar: Option<&[u8]>) -> usize
 
 /// Puts the date, the time and the offset at the place, and returns the place behind them.
 #[tactic(auto, using(crate::proofs::Puts::putting), unfolding(crate::specs::Canonical::core_text))]
-fn put_core(out: &mut [u8], at: usize, parsed: &IxdtfParseRecord<'_, Utf8>) -> usize
+pub fn put_core(out: &mut [u8], at: usize, parsed: &IxdtfParseRecord<'_, Utf8>) -> usize
     requires { HasRoom out.old at (core_text (record_of parsed.now)) }
     ensures { Puts out.old out.new at result (core_text (record_of parsed.now)) }
 {

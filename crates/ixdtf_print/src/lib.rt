@@ -9,6 +9,7 @@ ghost use Rattle.ixdtf.specs.language.Letters.{byte_letter};
 ghost use Rattle.ixdtf_print.specs.Canonical.{canonical_text};
 ghost use Rattle.ixdtf_print.specs.Printable.{IsPrintable, IsReadBack, record_of};
 
+mod canonical;
 mod check;
 mod digits;
 mod error;
@@ -17,6 +18,7 @@ mod laws;
 mod length;
 mod put;
 
+pub use canonical::Canonical;
 use check::is_spelled;
 pub use error::PrintError;
 use fields::put_record;
@@ -26,6 +28,7 @@ pub use laws::{canonical_fits, canonical_is_read_back};
 // For crates of this repository, and no part of the interface.
 #[doc(hidden)]
 pub use length::length_of;
+pub use length::printed_length;
 
 /// Writes the canonical text of the record into the front of the slice, and returns how many bytes these are.
 ///

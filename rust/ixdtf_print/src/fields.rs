@@ -90,7 +90,7 @@ fn byte_of(sign: Sign) -> u8 {
 }
 
 /// Puts an offset of hours and minutes at the place, and returns the place behind it.
-fn put_minute_offset(out: &mut [u8], at: usize, offset: MinutePrecisionOffset) -> usize {
+pub fn put_minute_offset(out: &mut [u8], at: usize, offset: MinutePrecisionOffset) -> usize {
     put_minutes(out, at, byte_of(offset.sign), offset.hour, offset.minute)
 }
 
@@ -120,7 +120,7 @@ fn put_offset(out: &mut [u8], at: usize, offset: Option<UtcOffsetRecordOrZ>) -> 
 }
 
 /// What stands before a zone.
-fn opening_of(critical: bool) -> &'static [u8] {
+pub fn opening_of(critical: bool) -> &'static [u8] {
     if critical {
         b"[!".as_slice()
     } else {
@@ -162,7 +162,7 @@ fn put_calendar(out: &mut [u8], at: usize, calendar: Option<&[u8]>) -> usize {
 }
 
 /// Puts the date, the time and the offset at the place, and returns the place behind them.
-fn put_core(out: &mut [u8], at: usize, parsed: &IxdtfParseRecord<'_, Utf8>) -> usize {
+pub fn put_core(out: &mut [u8], at: usize, parsed: &IxdtfParseRecord<'_, Utf8>) -> usize {
     let time = put_optional_date(out, at, parsed.date);
     let offset = put_time(out, time, parsed.time);
     put_offset(out, offset, parsed.offset)

@@ -2,6 +2,7 @@
 
 //! How long the text of a record is.
 
+use crate::check::is_spelled;
 use ixdtf::encoding::Utf8;
 use ixdtf::records::{
     DateRecord, Fraction, IxdtfParseRecord, TimeRecord, TimeZoneAnnotation, TimeZoneRecord,
@@ -82,8 +83,31 @@ fn calendar_length(calendar: Option<&[u8]>) -> u128 {
     }
 }
 
+/// How many bytes the date, the time and the offset have.
+pub fn core_length(parsed: &IxdtfParseRecord<'_, Utf8>) -> u16 {
+    date_length(parsed.date) + time_length(parsed.time) + offset_length(parsed.offset)
+}
+
 /// How many bytes the canonical text of the record has.
 pub fn length_of(parsed: &IxdtfParseRecord<'_, Utf8>) -> u128 {
-    let core = date_length(parsed.date) + time_length(parsed.time) + offset_length(parsed.offset);
-    u128::from(core) + bracket_length(&parsed.tz) + calendar_length(parsed.calendar)
+    u128::from(core_length(parsed)) + bracket_length(&parsed.tz) + calendar_length(parsed.calendar)
+}
+
+/// How many bytes the canonical text of the record has: a slice of so many is long enough for [`print`](crate::print). It is
+/// `None` where no text stands for the record, and where its text is longer than any slice.
+///
+/// ```rust
+/// use ixdtf::parsers::IxdtfParser;
+/// use ixdtf_print::{print, printed_length};
+///
+/// let record = IxdtfParser::from_str("20240302 084800z[u-ca=hebrew]").parse().unwrap();
+/// let length = printed_length(&record).unwrap();
+/// let mut out = vec![0; length];
+/// assert_eq!(print(&record, &mut out), Ok(length));
+/// ```
+pub fn printed_length(parsed: &IxdtfParseRecord<'_, Utf8>) -> Option<usize> {
+    if !is_spelled(parsed) {
+        return None;
+    }
+    usize::try_from(length_of(parsed)).ok()
 }

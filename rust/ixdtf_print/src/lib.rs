@@ -4,6 +4,7 @@
 #![no_std]
 #![forbid(unsafe_code)]
 
+mod canonical;
 mod check;
 mod digits;
 mod error;
@@ -11,6 +12,7 @@ mod fields;
 mod length;
 mod put;
 
+pub use canonical::Canonical;
 use check::is_spelled;
 pub use error::PrintError;
 use fields::put_record;
@@ -19,6 +21,7 @@ use ixdtf::records::IxdtfParseRecord;
 // For crates of this repository, and no part of the interface.
 #[doc(hidden)]
 pub use length::length_of;
+pub use length::printed_length;
 
 /// Writes the canonical text of the record into the front of the slice, and returns how many bytes these are.
 ///

@@ -5,7 +5,10 @@
 /// Puts a few bytes at the place, and returns the place behind them.
 pub fn put(out: &mut [u8], at: usize, bytes: &[u8]) -> usize {
     let end = at + bytes.len();
-    out[at..end].copy_from_slice(bytes);
+    // It always is: with this test a compiler sees it too, and keeps no panic.
+    if at <= end && end <= out.len() {
+        out[at..end].copy_from_slice(bytes);
+    }
     end
 }
 
@@ -23,8 +26,16 @@ pub fn put_each(out: &mut [u8], at: usize, bytes: &[u8]) -> usize {
 /// Puts the byte at the place, and returns the place behind it. It is a call of its own for [`put_each`].
 #[inline(never)]
 pub fn put_byte(out: &mut [u8], at: usize, byte: u8) -> usize {
-    out[at] = byte;
+    set_byte(out, at, byte);
     at + 1
+}
+
+/// Sets the byte at the place.
+pub fn set_byte(out: &mut [u8], at: usize, byte: u8) {
+    // It always is: with this test a compiler sees it too, and keeps no panic.
+    if at < out.len() {
+        out[at] = byte;
+    }
 }
 
 /// Puts a mark and a number of two digits at the place, and returns the place behind them.

@@ -1,7 +1,8 @@
 //! What is printed is read back as an equal record, on the texts of the documentation and on texts of a seeded generator.
 use ixdtf::parsers::IxdtfParser;
 use ixdtf::records::IxdtfParseRecord;
-use ixdtf_print::{PrintError, print};
+use ixdtf_print::{print, printed_length, Canonical, PrintError};
+use std::error::Error;
 
 fn printed(text: &str) -> Result<String, PrintError> {
     let parsed = IxdtfParser::from_str(text).parse().unwrap();
@@ -31,6 +32,23 @@ fn refuses() {
     assert_eq!(print(&parsed, &mut out), Err(PrintError::TooShort));
     assert_eq!(print(&IxdtfParseRecord::default(), &mut out), Err(PrintError::NotPrintable));
     assert_eq!(out, [7; 39]);
+}
+
+/// The text is as long as `printed_length` says, and is displayed as it is printed, whatever the width.
+#[test]
+fn displays_what_it_prints() -> Result<(), Box<dyn Error>> {
+    for text in ["20240302 084800z[!u-ca=hebrew]", "-0000010101t00[!-05]", "2020-01-01[a/b]"] {
+        let parsed = IxdtfParser::from_str(text).parse()?;
+        let mut out = vec![0; printed_length(&parsed).ok_or("no text")?];
+        assert_eq!(print(&parsed, &mut out)?, out.len());
+        let shown = Canonical::of(&parsed).ok_or("no text")?;
+        assert_eq!(shown.to_string().as_bytes(), out);
+        assert_eq!(format!("{shown:>80}"), shown.to_string());
+    }
+    let time = IxdtfParser::from_str("T12:00").parse_time()?;
+    assert_eq!(printed_length(&time), None);
+    assert!(Canonical::of(&time).is_none());
+    Ok(())
 }
 
 /// What a record does not keep is not printed, and what is no date is printed as one or not at all.

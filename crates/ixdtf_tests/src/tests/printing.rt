@@ -12,8 +12,10 @@ use ixdtf::parsers::{IxdtfParser, Profile};
 use ixdtf::records::{
     IxdtfParseRecord, Sign, TimeZoneAnnotation, TimeZoneRecord, UtcOffsetRecordOrZ,
 };
-use ixdtf_print::{PrintError, print};
+use ixdtf_print::{Canonical, PrintError, print, printed_length};
+use std::alloc::Global;
 use std::process::Abort;
+use std::test::Fail;
 
 // ==== Calls, as `docs/CALLING.md` shows them ====
 
@@ -85,6 +87,8 @@ fn check_canonical(rt: &impl Abort, parsed: &IxdtfParseRecord<'_, Utf8>, canonic
     let is_printed = print(parsed, &mut out[..count]) == Ok(count);
     let printed = &out[..count];
     assert!(rt; is_printed && printed == canonical, "{canonical:?}");
+    let is_counted = printed_length(parsed) == Some(canonical.len());
+    check(rt, "its length", is_counted);
     check_too_short(rt, parsed, count.saturating_sub(1));
 }
 
@@ -198,6 +202,55 @@ fn prints_back_what_was_read(rt: HostRuntime) {
     check_each_read_back(&rt, &SHARED);
 }
 
+// ==== What is displayed ====
+
+/// The record of the text is displayed so, whatever the width and the fill.
+fn check_displayed(
+    rt: &impl Abort,
+    alloc: Global,
+    text: &str,
+    canonical: &str,
+) -> Result<(), Fail> {
+    let Ok(parsed) = IxdtfParser::from_str(text).parse() else {
+        check(rt, text, false);
+        return Ok(());
+    };
+    let Some(shown) = Canonical::of(&parsed) else {
+        check(rt, text, false);
+        return Ok(());
+    };
+    let plain = format!(in alloc; "{shown}")?;
+    let wide = format!(in alloc; "{shown:*>80}")?;
+    check(rt, text, plain.as_str() == canonical);
+    check(rt, text, wide.as_str() == canonical);
+    Ok(())
+}
+
+#[test]
+fn displays_canonical_texts(rt: HostRuntime) -> Result<(), Fail> {
+    for (text, canonical) in CANONICAL_TEXTS {
+        check_displayed(&rt, rt.alloc(), text, canonical)?;
+    }
+    Ok(())
+}
+
+const ERROR_TEXTS: &[(PrintError, &str)] = &[
+    (PrintError::NotPrintable, "No text stands for the record."),
+    (
+        PrintError::TooShort,
+        "There is less room than the text takes.",
+    ),
+];
+
+#[test]
+fn displays_errors(rt: HostRuntime) -> Result<(), Fail> {
+    for (error, text) in ERROR_TEXTS {
+        let plain = format!(in rt.alloc(); "{error}")?;
+        check(&rt, text, plain.as_str() == *text);
+    }
+    Ok(())
+}
+
 // ==== What is not ====
 
 /// The record, passed as a reader returns it, is not printed, also not into an empty slice, and the bytes are
@@ -210,6 +263,8 @@ fn check_not_printable(rt: &impl Abort, what: &str, built: &ParserResult<Record>
     let mut out = [7; 64];
     let is_refused = print(parsed, &mut out) == Err(PrintError::NotPrintable);
     check(rt, what, is_refused && is_untouched(&out));
+    let is_nothing = printed_length(parsed) == None && Canonical::of(parsed).is_none();
+    check(rt, what, is_nothing);
     let is_refused = print(parsed, &mut out[..0]) == Err(PrintError::NotPrintable);
     assert!(rt; is_refused, "{what} into no bytes");
 }

@@ -1,0 +1,224 @@
+-- The canonical text of a record that has a text is ASCII, so it is displayed as it is.
+use Rattle.std.proofs.Common.{ℕ, zero, suc, ◌+◌, ◌-◌, ◌/◌, ◌%◌, ◌^◌, ◌<◌, ◌≡◌, ℤ, pos, negsuc, Bool, true, false, cond, IsTrue, List, [], ◌∷◌, ◌++◌, map}
+use Rattle.std.proofs.Common.{replicate, codes, Option, Some, None, refl, ◌∙◌, ap, arith, nat_le, inl, inr}
+use Rattle.std.proofs.lemmas.Bool.Decides.{nat_tests}
+use Rattle.std.proofs.lemmas.Str.{encode_ascii}
+use Rattle.ixdtf_grammar.specs.declared.records.DateRecord.{DateRecord}
+use Rattle.ixdtf_grammar.specs.declared.records.MinutePrecisionOffset.{MinutePrecisionOffset}
+use Rattle.ixdtf_grammar.specs.declared.records.Sign.{Sign}
+use Rattle.ixdtf_grammar.specs.declared.records.Sign.TheVariants.{Positive, Negative}
+use Rattle.ixdtf_grammar.specs.declared.records.TimeRecord.{TimeRecord}
+use Rattle.ixdtf_grammar.specs.declared.records.UtcOffsetRecord.TheVariants as offsets
+use Rattle.ixdtf_grammar.specs.declared.records.UtcOffsetRecordOrZ.{UtcOffsetRecordOrZ}
+use Rattle.ixdtf_grammar.specs.declared.records.UtcOffsetRecordOrZ.TheVariants as stands
+use Rattle.ixdtf.specs.language.Letters.{Text, Class, zone_lead, zone_char, slash, hyphen, value_char}
+use Rattle.ixdtf.specs.language.Letters.Letter.{Plain, Bad}
+use Rattle.ixdtf.specs.language.Shapes.{Shape, one, ◌then◌, ◌either◌, Joined, many}
+use Rattle.ixdtf.specs.language.Digits.{padded_digits}
+use Rattle.ixdtf.specs.language.Fractions.{FractionParts, places_of}
+use Rattle.ixdtf.specs.language.ZoneNames.{Zone, ZoneName}
+use Rattle.ixdtf.specs.language.ZoneNames.Zone.{Name, Offset}
+use Rattle.ixdtf.specs.language.Brackets.{ZoneNote, Value}
+use Rattle.ixdtf.specs.language.Languages.{Parsed}
+use Rattle.ixdtf_print.specs.Canonical.{two_digits, year_text, date_text, minutes_text, seconds_text, fraction_digits, fraction_text, clock_text, time_text, sign_of}
+use Rattle.ixdtf_print.specs.Canonical.{minute_offset_text, offset_text, zone_text, opening_text, bracket_text, calendar_text}
+use Rattle.ixdtf_print.specs.Canonical.{optional_date_text, core_text, canonical_text}
+use Rattle.ixdtf_print.specs.Shown.{bytes_of, shown_text}
+use Rattle.ixdtf_print.specs.Spelled.{IsZoneText, HasZone, HasCalendar, IsSpelled}
+
+-- each letter is an ASCII character
+abbrev IsAsciiText : Text → Type 0
+IsAsciiText [] = Unit {0}
+IsAsciiText (Bad ∷ rest) = ⊥
+IsAsciiText (Plain c ∷ rest) = (c < 128) × IsAsciiText rest
+
+ascii_append : (a b : Text) → IsAsciiText a → IsAsciiText b → IsAsciiText (a ++ b)
+ascii_append [] b h g = g
+ascii_append (Bad ∷ a) b h g = absurd h
+ascii_append (Plain c ∷ a) b h g = (h.0, ascii_append a b h.1 g)
+
+-- ---- shapes
+
+-- each text of the shape is ASCII
+record AsciiShape (shape : Shape) : Type 0 where
+  ascii : (text : Text) → shape text → IsAsciiText text
+
+ascii_one : {class : Class} → ((c : ℕ) → IsTrue (class c) → c < 128) → AsciiShape (one class)
+ascii_one within = record { ascii = λ text h. rw h.1 (within h.0 h.2, tt) }
+
+ascii_then : {a b : Shape} → AsciiShape a → AsciiShape b → AsciiShape (a then b)
+ascii_then x y = record { ascii = λ text h. rw h.2 (ascii_append h.0 h.1 (x.ascii h.0 h.3) (y.ascii h.1 h.4)) }
+
+ascii_either : {a b : Shape} → AsciiShape a → AsciiShape b → AsciiShape (a either b)
+ascii_either x y = record {
+  ascii = λ text h. elim h [
+    | inl p ↦ x.ascii text p
+    | inr p ↦ y.ascii text p
+  ];
+}
+
+joined_ascii : {shape : Shape} → AsciiShape shape → (parts : List Text) (text : Text) → Joined shape parts text → IsAsciiText text
+joined_ascii x [] text h = rw h tt
+joined_ascii x (part ∷ parts) text h = rw h.1 (ascii_append part h.0 (x.ascii part h.2) (joined_ascii x parts h.0 h.3))
+
+ascii_many : {shape : Shape} → AsciiShape shape → AsciiShape (many shape)
+ascii_many x = record { ascii = λ text h. joined_ascii x h.0 text h.1 }
+
+lead_within : (c : ℕ) → IsTrue (zone_lead c) → c < 128
+lead_within c h = grind (arith, nat_tests, h)
+
+char_within : (c : ℕ) → IsTrue (zone_char c) → c < 128
+char_within c h = grind (arith, nat_tests, h)
+
+slash_within : (c : ℕ) → IsTrue (slash c) → c < 128
+slash_within c h = grind (arith, nat_tests, h)
+
+hyphen_within : (c : ℕ) → IsTrue (hyphen c) → c < 128
+hyphen_within c h = grind (arith, nat_tests, h)
+
+value_within : (c : ℕ) → IsTrue (value_char c) → c < 128
+value_within c h = grind (arith, nat_tests, h)
+
+ascii_name : AsciiShape ZoneName
+ascii_name = ascii_then (ascii_one lead_within) (ascii_many (ascii_either (ascii_one char_within) (ascii_then (ascii_one slash_within) (ascii_one char_within))))
+
+ascii_value : AsciiShape Value
+ascii_value =
+    let run = ascii_then (ascii_one value_within) (ascii_many (ascii_one value_within)) in
+    ascii_then run (ascii_many (ascii_then (ascii_one hyphen_within) run))
+
+-- ---- digits
+
+digit_within : (n : ℕ) → 48 + n % 10 < 128
+digit_within n = omega arith
+
+padded_ascii : (count number : ℕ) → IsAsciiText (padded_digits count number)
+padded_ascii zero number = tt
+padded_ascii (suc count) number = (digit_within (number / 10 ^ count), padded_ascii count number)
+
+zeros_ascii : (count : ℕ) → IsAsciiText (replicate count (Plain 48))
+zeros_ascii zero = tt
+zeros_ascii (suc count) = (omega arith, zeros_ascii count)
+
+two_ascii : (number : ℕ) → IsAsciiText (two_digits number)
+unfolding two_digits
+two_ascii number = padded_ascii 2 number
+
+-- ---- dates and times
+
+year_ascii : (year : ℤ) → IsAsciiText (year_text year)
+unfolding year_text
+year_ascii (pos n) = by_test (nat_le n 9999)
+  where
+    by_test : (b : Bool) → IsAsciiText (cond b (padded_digits 4 n) (Plain 43 ∷ padded_digits 6 n))
+    by_test true = padded_ascii 4 n
+    by_test false = (omega arith, padded_ascii 6 n)
+year_ascii (negsuc n) = (omega arith, padded_ascii 6 (suc n))
+
+date_ascii : (date : Option DateRecord) → IsAsciiText (optional_date_text date)
+unfolding date_text
+date_ascii None = tt
+date_ascii (Some date) =
+    let days : Text = Plain 45 ∷ two_digits date.day in
+    let month : IsAsciiText (two_digits date.month ++ days) = ascii_append (two_digits date.month) days (two_ascii date.month) (omega arith, two_ascii date.day) in
+    ascii_append (year_text date.year) (Plain 45 ∷ (two_digits date.month ++ days)) (year_ascii date.year) (omega arith, month)
+
+minutes_ascii : (hour minute : ℕ) → IsAsciiText (minutes_text hour minute)
+unfolding minutes_text
+minutes_ascii hour minute = ascii_append (two_digits hour) (Plain 58 ∷ two_digits minute) (two_ascii hour) (omega arith, two_ascii minute)
+
+fraction_ascii : (fraction : Option FractionParts) → IsAsciiText (fraction_text fraction)
+unfolding fraction_digits
+fraction_ascii None = tt
+fraction_ascii (Some fraction) =
+    let digits = padded_digits (places_of fraction) fraction.value in
+    let zeros : Text = replicate (fraction.count - 18) (Plain 48) in
+    (omega arith, ascii_append digits zeros (padded_ascii (places_of fraction) fraction.value) (zeros_ascii (fraction.count - 18)))
+
+seconds_ascii : (hour minute second : ℕ) → IsAsciiText (seconds_text hour minute second)
+unfolding seconds_text
+seconds_ascii hour minute second =
+    let last : Text = Plain 58 ∷ two_digits second in
+    let from_minute : IsAsciiText (two_digits minute ++ last) = ascii_append (two_digits minute) last (two_ascii minute) (omega arith, two_ascii second) in
+    ascii_append (two_digits hour) (Plain 58 ∷ (two_digits minute ++ last)) (two_ascii hour) (omega arith, from_minute)
+
+clock_ascii : (hour minute second : ℕ) (fraction : Option FractionParts) → IsAsciiText (clock_text hour minute second fraction)
+unfolding clock_text
+clock_ascii hour minute second fraction =
+    ascii_append (seconds_text hour minute second) (fraction_text fraction) (seconds_ascii hour minute second) (fraction_ascii fraction)
+
+time_ascii : (time : Option TimeRecord) → IsAsciiText (time_text time)
+time_ascii None = tt
+time_ascii (Some time) = (omega arith, clock_ascii time.hour time.minute time.second time.fraction)
+
+sign_within : (sign : Sign) → sign_of sign < 128
+sign_within Positive = omega arith
+sign_within Negative = omega arith
+
+minute_offset_ascii : (offset : MinutePrecisionOffset) → IsAsciiText (minute_offset_text offset)
+minute_offset_ascii offset = (sign_within offset.sign, minutes_ascii offset.hour offset.minute)
+
+offset_ascii : (offset : Option UtcOffsetRecordOrZ) → IsAsciiText (offset_text offset)
+offset_ascii None = tt
+offset_ascii (Some stands.Z) = (omega arith, tt)
+offset_ascii (Some (stands.Offset (offsets.MinutePrecision offset))) = minute_offset_ascii offset
+offset_ascii (Some (stands.Offset (offsets.FullPrecisionOffset offset))) =
+    let minutes = offset.minute_precision_offset in
+    (sign_within minutes.sign, clock_ascii minutes.hour minutes.minute offset.second offset.fraction)
+
+-- ---- brackets
+
+closing_ascii : IsAsciiText (Plain 93 ∷ [])
+closing_ascii = (omega arith, tt)
+
+opening_ascii : (critical : Bool) → IsAsciiText (opening_text critical)
+opening_ascii true = (omega arith, (omega arith, tt))
+opening_ascii false = (omega arith, tt)
+
+zone_ascii : (zone : Zone) → IsZoneText zone → IsAsciiText (zone_text zone)
+zone_ascii (Name name) h = ascii_name.ascii (map Plain name) h
+zone_ascii (Offset offset) h = minute_offset_ascii offset
+
+bracket_ascii : (note : Option ZoneNote) → HasZone note → IsAsciiText (bracket_text note)
+bracket_ascii None h = tt
+bracket_ascii (Some note) h =
+    let closed : IsAsciiText (zone_text note.zone ++ (Plain 93 ∷ [])) = ascii_append (zone_text note.zone) (Plain 93 ∷ []) (zone_ascii note.zone h) closing_ascii in
+    ascii_append (opening_text note.critical) (zone_text note.zone ++ (Plain 93 ∷ [])) (opening_ascii note.critical) closed
+
+calendar_key_ascii : IsAsciiText (map Plain (codes "[u-ca="))
+calendar_key_ascii = (omega arith, (omega arith, (omega arith, (omega arith, (omega arith, (omega arith, tt))))))
+
+calendar_ascii : (calendar : Option (List ℕ)) → HasCalendar calendar → IsAsciiText (calendar_text calendar)
+calendar_ascii None h = tt
+calendar_ascii (Some value) h =
+    let closed : IsAsciiText (map Plain value ++ (Plain 93 ∷ [])) = ascii_append (map Plain value) (Plain 93 ∷ []) (ascii_value.ascii (map Plain value) h) closing_ascii in
+    ascii_append (map Plain (codes "[u-ca=")) (map Plain value ++ (Plain 93 ∷ [])) calendar_key_ascii closed
+
+-- ---- the whole text
+
+core_ascii : (found : Parsed) → IsAsciiText (core_text found)
+unfolding core_text
+core_ascii found =
+    let times = time_text found.time in
+    let shifts = offset_text found.offset in
+    ascii_append (optional_date_text found.date) (times ++ shifts) (date_ascii found.date)
+    (ascii_append times shifts (time_ascii found.time) (offset_ascii found.offset))
+
+canonical_ascii : (found : Parsed) → IsSpelled found → IsAsciiText (canonical_text found)
+unfolding canonical_text
+canonical_ascii found h =
+    let zones = bracket_text found.zone in
+    let calendars = calendar_text found.calendar in
+    ascii_append (core_text found) (zones ++ calendars) (core_ascii found)
+    (ascii_append zones calendars (bracket_ascii found.zone h.zone) (calendar_ascii found.calendar h.calendar))
+
+shown_as_it_is : (text : Text) → IsAsciiText text → map Plain (bytes_of text) ≡ text
+shown_as_it_is [] h = refl
+shown_as_it_is (Bad ∷ rest) h = absurd h
+shown_as_it_is (Plain c ∷ rest) h =
+    let first : bytes_of (Plain c ∷ rest) ≡ c ∷ bytes_of rest = ap (λ l. l ++ bytes_of rest) (encode_ascii c h.0) in
+    ap (λ (l : List ℕ). map Plain l) first ∙ ap (λ t. Plain c ∷ t) (shown_as_it_is rest h.1)
+
+-- the bytes that are displayed of a record that has a text are those of its canonical text
+pub shown_is_canonical : (found : Parsed) → IsSpelled found → map Plain (shown_text found) ≡ canonical_text found
+shown_is_canonical found h = shown_as_it_is (canonical_text found) (canonical_ascii found h)

@@ -1,0 +1,91 @@
+-- What is displayed of the parts of a canonical text.
+use Rattle.std.proofs.Common.{ℕ, ◌+◌, ◌<◌, ◌≡◌, List, [], ◌∷◌, ◌++◌, map, length, take, get_or, Some, codes, refl, sym, ◌∙◌, ap, arith, add-one}
+use Rattle.std.proofs.Common.{append-nil, take_all}
+use Rattle.std.proofs.Math.Seq.{take-suc}
+use Rattle.std.proofs.lemmas.List.{map-append}
+use Rattle.std.proofs.lemmas.Str.{encodes-append}
+use Rattle.std.specs.Char.{encode_utf8}
+use Rattle.std.specs.Str.{encode_utf8_all}
+use Rattle.ixdtf.specs.language.Letters.{Text}
+use Rattle.ixdtf.specs.language.Letters.Letter.{Plain}
+use Rattle.ixdtf.specs.language.Brackets.{ZoneNote}
+use Rattle.ixdtf.specs.language.Languages.{Parsed}
+use Rattle.ixdtf_print.specs.Canonical.{opening_text, zone_text, bracket_text, calendar_text, core_text, canonical_text}
+use Rattle.ixdtf_print.specs.Puts.{Puts}
+use Rattle.ixdtf_print.specs.Shown.{number_of, bytes_of, shown_text}
+use Rattle.ixdtf_print.proofs.Puts.{front_of_new, text_long, puts_length}
+
+bytes-append : (a b : Text) → bytes_of (a ++ b) ≡ bytes_of a ++ bytes_of b
+bytes-append a b = ap encode_utf8_all (map-append number_of a b) ∙ encodes-append (map number_of a) (map number_of b)
+
+numbers : (bytes : List ℕ) → map number_of (map Plain bytes) ≡ bytes
+numbers [] = refl
+numbers (byte ∷ bytes) = ap (λ l. byte ∷ l) (numbers bytes)
+
+pub bytes-plain : (bytes : List ℕ) → bytes_of (map Plain bytes) ≡ encode_utf8_all bytes
+bytes-plain bytes = ap encode_utf8_all (numbers bytes)
+
+-- ---- bytes, one behind another
+
+pub one_more : (bytes : List ℕ) (i d : ℕ) → i < length bytes
+    → encode_utf8_all (take i bytes) ++ encode_utf8 (get_or bytes i d) ≡ encode_utf8_all (take (i + 1) bytes)
+one_more bytes i d more =
+    let longer : take (i + 1) bytes ≡ take i bytes ++ (get_or bytes i d ∷ []) = rw add-one (take-suc bytes i d more) in
+    ap (λ l. encode_utf8_all (take i bytes) ++ l) (sym (append-nil (encode_utf8 (get_or bytes i d))))
+    ∙ sym (encodes-append (take i bytes) (get_or bytes i d ∷ []))
+    ∙ ap encode_utf8_all (sym longer)
+
+-- ---- what was put at the front
+
+front_bytes : (old new : List ℕ) (to : ℕ) (text : Text) → Puts old new 0 to text → encode_utf8_all (take to new) ≡ bytes_of text
+front_bytes old new to text p =
+    ap encode_utf8_all (front_of_new old new 0 to text p (omega arith)) ∙ sym (bytes-plain p.bytes) ∙ ap bytes_of p.spelled
+
+pub counted_bytes : (old new : List ℕ) (to count : ℕ) (text : Text) → Puts old new 0 to text → count ≡ length text
+    → encode_utf8_all (take count new) ≡ bytes_of text
+counted_bytes old new to count text p counted =
+    let same : count ≡ to = omega (arith, text_long old new 0 to text p, counted) in
+    ap (λ n. encode_utf8_all (take n new)) same ∙ front_bytes old new to text p
+
+pub whole_bytes : (old new : List ℕ) (to : ℕ) (text : Text) → Puts old new 0 to text → length old ≡ length text → encode_utf8_all new ≡ bytes_of text
+whole_bytes old new to text p same =
+    let long = text_long old new 0 to text p in
+    let kept = puts_length old new 0 to text p (omega (arith, long, same)) in
+    ap encode_utf8_all (sym (take_all to new (omega (arith, long, kept, same)))) ∙ front_bytes old new to text p
+
+-- ---- brackets
+
+closing : bytes_of (Plain 93 ∷ []) ≡ codes "]"
+unfolding lib.Utf8.encode
+closing = refl
+
+calendar_key : bytes_of (map Plain (codes "[u-ca=")) ≡ codes "[u-ca="
+unfolding lib.Utf8.encode
+calendar_key = refl
+
+closed : (text : Text) → bytes_of text ++ codes "]" ≡ bytes_of (text ++ (Plain 93 ∷ []))
+closed text = ap (λ l. bytes_of text ++ l) (sym closing) ∙ sym (bytes-append text (Plain 93 ∷ []))
+
+pub bracket_bytes : (note : ZoneNote) (opening : List ℕ) → map Plain opening ≡ opening_text note.critical
+    → encode_utf8_all opening ++ (bytes_of (zone_text note.zone) ++ codes "]") ≡ bytes_of (bracket_text (Some note))
+bracket_bytes note opening is =
+    let zone = zone_text note.zone in
+    ap (λ l. l ++ (bytes_of zone ++ codes "]")) (sym (bytes-plain opening) ∙ ap bytes_of is)
+    ∙ ap (λ l. bytes_of (opening_text note.critical) ++ l) (closed zone)
+    ∙ sym (bytes-append (opening_text note.critical) (zone ++ (Plain 93 ∷ [])))
+
+pub calendar_bytes : (value : List ℕ) → codes "[u-ca=" ++ (encode_utf8_all value ++ codes "]") ≡ bytes_of (calendar_text (Some value))
+calendar_bytes value =
+    ap (λ l. l ++ (encode_utf8_all value ++ codes "]")) (sym calendar_key)
+    ∙ ap (λ l. bytes_of (map Plain (codes "[u-ca=")) ++ (l ++ codes "]")) (sym (bytes-plain value))
+    ∙ ap (λ l. bytes_of (map Plain (codes "[u-ca=")) ++ l) (closed (map Plain value))
+    ∙ sym (bytes-append (map Plain (codes "[u-ca=")) (map Plain value ++ (Plain 93 ∷ [])))
+
+-- ---- the whole text
+
+pub all_bytes : (found : Parsed)
+    → bytes_of (core_text found) ++ (bytes_of (bracket_text found.zone) ++ bytes_of (calendar_text found.calendar)) ≡ shown_text found
+unfolding canonical_text
+all_bytes found =
+    ap (λ l. bytes_of (core_text found) ++ l) (sym (bytes-append (bracket_text found.zone) (calendar_text found.calendar)))
+    ∙ sym (bytes-append (core_text found) (bracket_text found.zone ++ calendar_text found.calendar))

@@ -1,0 +1,18 @@
+use Rattle.std.proofs.Common.{refl}
+use Rattle.std.proofs.Output.{has_written_styled_append, has_written_styled_of_eq}
+use Rattle.ixdtf.specs.Views.{parsed_of}
+use Rattle.ixdtf_print.proofs.Shown.{all_bytes}
+use Rattle.ixdtf_print.proofs.canonical.CanonicalDisplay.fmt.Goals as goal
+
+pub returns-clause-styled : goal.returns-clause-styled
+returns-clause-styled g c = λ flush ok.
+    let core = c.in_ok-write_core.ensures flush refl in
+    let bracket = c.in_ok-write_bracket.ensures core.flush refl in
+    let calendar = c.write_calendar.ensures bracket.flush ok in
+    has_written_styled_of_eq _ _ _ _ _ (all_bytes (parsed_of (λ byte. byte) c.args.self.now.parsed.now))
+    (has_written_styled_append _ _ _ _ _ _ core (has_written_styled_append _ _ _ _ _ _ bracket calendar))
+
+pub returns-clause-writes : goal.returns-clause-writes
+returns-clause-writes g c = λ plain ok.
+    let styled = returns-clause-styled g c plain.flush ok in
+    record { wrote = styled.wrote; plain = record { bare = rw styled.spec plain.bare; flush = styled.flush } }

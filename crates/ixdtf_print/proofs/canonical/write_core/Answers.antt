@@ -1,0 +1,14 @@
+use Rattle.std.proofs.Common.{ap, ◌∙◌, arith}
+use Rattle.std.proofs.Output.{has_written_styled_of_eq}
+use Rattle.std.specs.Str.{encode_utf8_all}
+use Rattle.ixdtf_print.proofs.Shown.{counted_bytes}
+use Rattle.ixdtf_print.proofs.canonical.write_core.Goals as goal
+
+pub put_core-requires : goal.put_core-requires
+put_core-requires g c = record { room = omega (arith, c.core_length.ensures.length, c.core_length.ensures.small) }
+
+pub returns : goal.returns
+returns g c = λ flush ok.
+    let counted = c.from-count.ensures ∙ c.core_length.ensures.length in
+    has_written_styled_of_eq _ _ _ _ _ (ap encode_utf8_all c.front_of.ensures ∙ counted_bytes _ _ _ _ _ c.put_core.ensures counted)
+    (c.write_bytes.ensures flush ok)

@@ -1,0 +1,9 @@
+use Rattle.std.proofs.Common.{sym}
+use Rattle.std.proofs.Output.{has_written_styled_of_eq}
+use Rattle.std.proofs.lemmas.List.{map-id}
+use Rattle.ixdtf_print.proofs.Shown.{bytes-plain}
+use Rattle.ixdtf_print.proofs.canonical.write_zone.Goals as goal
+
+pub returns-in-Name : goal.returns-in-Name
+returns-in-Name g c = λ flush ok.
+    rw (c.in-Name.is, map-id) (has_written_styled_of_eq _ _ _ _ _ (sym (bytes-plain c.in-Name.name.now)) (c.write_bytes.ensures flush ok))

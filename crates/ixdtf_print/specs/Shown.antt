@@ -1,0 +1,20 @@
+-- What Display writes of a record.
+use Rattle.std.specs.Prelude.{ℕ, List, map}
+use Rattle.std.specs.Str.{encode_utf8_all}
+use Rattle.ixdtf.specs.language.Letters.{Letter, Text}
+use Rattle.ixdtf.specs.language.Letters.Letter.{Plain, Bad}
+use Rattle.ixdtf.specs.language.Languages.{Parsed}
+use Rattle.ixdtf_print.specs.Canonical.{canonical_text}
+
+-- the number of a letter; no letter of a canonical text is Bad
+abbrev pub number_of : Letter → ℕ
+number_of (Plain n) = n
+number_of Bad = 0
+
+-- the characters of a text in UTF-8
+abbrev pub bytes_of : Text → List ℕ
+bytes_of text = encode_utf8_all (map number_of text)
+
+-- the canonical text, as it is displayed
+abbrev pub shown_text : Parsed → List ℕ
+shown_text found = bytes_of (canonical_text found)

@@ -1,0 +1,131 @@
+// Made by tools/to_rust.py of crates/ixdtf_print/src/canonical.rt. Do not edit.
+
+//! A record that is displayed as its canonical text.
+
+use crate::check::is_spelled;
+use crate::fields::{opening_of, put_core, put_minute_offset};
+use crate::length::core_length;
+use ixdtf::encoding::Utf8;
+use ixdtf::records::{IxdtfParseRecord, MinutePrecisionOffset, TimeZoneAnnotation, TimeZoneRecord};
+use core::fmt;
+
+/// The most bytes that a date, a time and an offset have: 13, and 265 with a fraction of 255 digits each.
+const MOST_OF_CORE: usize = 543;
+
+/// A record that Display writes as its canonical text, the one that [`print`](crate::print) puts into a slice. It does not
+/// allocate, and ignores width and fill.
+///
+/// ```rust
+/// use ixdtf::parsers::IxdtfParser;
+/// use ixdtf_print::Canonical;
+///
+/// let record = IxdtfParser::from_str("20240302 084800z[u-ca=hebrew]").parse().unwrap();
+/// let canonical = Canonical::of(&record).unwrap();
+/// assert_eq!(canonical.to_string(), "2024-03-02T08:48:00Z[u-ca=hebrew]");
+/// ```
+#[derive(Clone, Copy, Debug)]
+pub struct Canonical<'a> {
+    parsed: &'a IxdtfParseRecord<'a, Utf8>,
+}
+
+impl<'a> Canonical<'a> {
+    /// The record to display, or `None` where no text stands for it, as for one of `parse_time`, which has no date.
+    pub fn of(parsed: &'a IxdtfParseRecord<'a, Utf8>) -> Option<Canonical<'a>> {
+        if !is_spelled(parsed) {
+            return None;
+        }
+        Some(Canonical { parsed })
+    }
+}
+
+// Display heeds no width and no fill.
+impl<'a> fmt::Display for Canonical<'a> {
+    fn fmt(&self, f: &mut fmt::Formatter<'_>) -> fmt::Result {
+        let parsed = self.parsed;
+        write_core(f, parsed)?;
+        write_bracket(f, &parsed.tz)?;
+        write_calendar(f, parsed.calendar)
+    }
+}
+
+/// Writes the date, the time and the offset.
+fn write_core(
+    f: &mut fmt::Formatter<'_>,
+    parsed: &IxdtfParseRecord<'_, Utf8>,
+) -> fmt::Result {
+    let count = usize::from(core_length(parsed));
+    let mut bytes = [0; MOST_OF_CORE];
+    put_core(&mut bytes, 0, parsed);
+    write_bytes(f, front_of(&bytes, count))
+}
+
+/// The first bytes, so many.
+fn front_of(bytes: &[u8], count: usize) -> &[u8] {
+    match bytes.get(..count) {
+        Some(front) => front,
+        None => bytes,
+    }
+}
+
+/// Writes the zone in its bracket, where there is one.
+fn write_bracket(
+    f: &mut fmt::Formatter<'_>,
+    note: &Option<TimeZoneAnnotation<'_, Utf8>>,
+) -> fmt::Result {
+    match note {
+        None => Ok(()),
+        Some(note) => {
+            write_bytes(f, opening_of(note.critical))?;
+            write_zone(f, &note.tz)?;
+            f.write_str("]")
+        }
+    }
+}
+
+/// Writes the zone.
+fn write_zone(
+    f: &mut fmt::Formatter<'_>,
+    zone: &TimeZoneRecord<'_, Utf8>,
+) -> fmt::Result {
+    match zone {
+        TimeZoneRecord::Name(name) => write_bytes(f, name),
+        TimeZoneRecord::Offset(offset) => write_minute_offset(f, *offset),
+        _ => unreachable!(),
+    }
+}
+
+/// Writes an offset of hours and minutes.
+fn write_minute_offset(
+    f: &mut fmt::Formatter<'_>,
+    offset: MinutePrecisionOffset,
+) -> fmt::Result {
+    let mut bytes = [0; 6];
+    put_minute_offset(&mut bytes, 0, offset);
+    write_bytes(f, &bytes)
+}
+
+/// Writes the calendar in its bracket, where there is one.
+fn write_calendar(f: &mut fmt::Formatter<'_>, calendar: Option<&[u8]>) -> fmt::Result {
+    match calendar {
+        None => Ok(()),
+        Some(value) => {
+            f.write_str("[u-ca=")?;
+            write_bytes(f, value)?;
+            f.write_str("]")
+        }
+    }
+}
+
+/// Writes each byte as the character of its number. Of a record that has a text they are ASCII.
+fn write_bytes(f: &mut fmt::Formatter<'_>, bytes: &[u8]) -> fmt::Result {
+    for byte in bytes {
+        write_byte(f, *byte)?;
+    }
+    Ok(())
+}
+
+/// Writes the byte as the character of its number.
+fn write_byte(f: &mut fmt::Formatter<'_>, byte: u8) -> fmt::Result {
+    let mut bytes = [0; 4];
+    f.write_str(char::from(byte).encode_utf8(&mut bytes))
+}
