@@ -6,6 +6,7 @@ pub mod FixedCores
 pub mod HandledForms
 pub mod HandsOn
 pub mod Placed
+pub mod Promised
 pub mod RaisedErrors
 pub mod Tail
 pub mod LocatedForms

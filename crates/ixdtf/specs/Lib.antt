@@ -4,5 +4,6 @@ pub use Rattle.ixdtf_grammar.specs.Handlers
 pub use Rattle.ixdtf_grammar.specs.Views
 pub use Rattle.ixdtf_grammar.specs.Laws
 pub use Rattle.ixdtf_grammar.specs.Places
+pub use Rattle.ixdtf_grammar.specs.Promises
 pub use Rattle.ixdtf_grammar.specs.LocatedTexts
 pub use Rattle.ixdtf_grammar.specs.Widths

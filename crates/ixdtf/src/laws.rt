@@ -4,19 +4,20 @@
 //! from there on. A law without parameters does nothing when it runs. [`parse_unanswered`] reads, and its contract is
 //! that of [`IxdtfParser::parse_with_annotation_handler`] with the law beside it.
 
-ghost use Rattle.std.specs.Prelude.{◌≡◌, ◌≢◌, map, OnOk, IfOk, IfErr, IfSome, None, pos};
+ghost use Rattle.std.specs.Prelude.{◌≡◌, ◌≢◌, map, IfOk, IfErr, IfSome, None, pos};
 ghost use Rattle.ixdtf_grammar.specs.table.Faults.{fault_of};
 ghost use Rattle.ixdtf_grammar.specs.table.Faults.Fault.{CriticalDuplicateCalendar, UnrecognizedCritical};
 ghost use Rattle.ixdtf_grammar.specs.language.Readers.{parse as reader_parse};
-ghost use Rattle.ixdtf_grammar.specs.Handlers.{Handled, pair_of};
-ghost use Rattle.ixdtf_grammar.specs.Laws.{EveryDateTimeIsRead, EveryNameIsAnIdentifier, LanguagesDisjoint, InNoOther};
+ghost use Rattle.ixdtf_grammar.specs.Handlers.{pair_of};
+ghost use Rattle.ixdtf_grammar.specs.Laws.{EveryDateTimeIsRead, EveryNameIsAnIdentifier, LanguagesDisjoint};
 ghost use Rattle.ixdtf_grammar.specs.Laws.{OffsetsAgree, HyphensSayNothing, OneHyphenIsRefused, OneResult, OnePlace, OneChain};
 ghost use Rattle.ixdtf_grammar.specs.Laws.{DefaultIs, ClonesAreEqual, IsEqualityBy};
 ghost use Rattle.ixdtf_grammar.specs.Widths.{OneUnhandledOutcome, SameWhereShared, FaultWhereNotShared};
 ghost use Rattle.ixdtf_grammar.specs.Widths.{SamePlaceWhereShared, PlaceWhereNotShared, NonAsciiIsFirst, NonAsciiIsWide};
-ghost use Rattle.ixdtf_grammar.specs.table.Outcomes.{OneOutcome, FrontsBegin, NoRowFits};
+ghost use Rattle.ixdtf_grammar.specs.table.Outcomes.{OneOutcome, FrontsBegin};
 ghost use Rattle.ixdtf_grammar.specs.language.Fractions.{exact_nanoseconds_of, nanoseconds_of};
-ghost use Rattle.ixdtf_grammar.specs.Views.{unread_of, LeavesBehind, returned, returned_by, zone_of, note_of, parsed_of};
+ghost use Rattle.ixdtf_grammar.specs.Views.{zone_of, note_of, parsed_of};
+ghost use Rattle.ixdtf_grammar.specs.Promises.{HandlesText};
 
 use crate::parsers::{DateTimes, IxdtfParser};
 use crate::{ParseError, ParserResult};
@@ -219,13 +220,7 @@ where
     ensures unrecognized { IfErr result (λ e. fault_of e ≢ UnrecognizedCritical) }
     ensures duplicate { IfErr result (λ e. fault_of e ≢ CriticalDuplicateCalendar) }
 
-    ensures handled { Handled T.number F.step handler reader_parse (map T.letter parser.old.rest)
-        (returned (parsed_of T.number) result) }
-    ensures no_row { OnOk result (NoRowFits reader_parse (map T.letter parser.old.rest)) }
-    ensures alone { OnOk result (InNoOther parser.old.profile reader_parse
-        (map T.letter parser.old.rest)) }
-    ensures leaves { LeavesBehind fault_of (unread_of parser.old) result (unread_of parser.new) }
-    ensures profile { parser.new.profile ≡ parser.old.profile }
+    ensures handles { HandlesText T.letter T.number F.step handler fault_of (parsed_of T.number) reader_parse parser.old result parser.new }
 {
     parse_unanswered_as::<T, ParseError, F>(parser, handler)
 }
@@ -245,13 +240,7 @@ where
     ensures unrecognized { IfErr result (λ e. E.fault e ≢ UnrecognizedCritical) }
     ensures duplicate { IfErr result (λ e. E.fault e ≢ CriticalDuplicateCalendar) }
 
-    ensures handled { Handled T.number F.step handler reader_parse (map T.letter parser.old.rest)
-        (returned_by E.fault (parsed_of T.number) result) }
-    ensures no_row { OnOk result (NoRowFits reader_parse (map T.letter parser.old.rest)) }
-    ensures alone { OnOk result (InNoOther parser.old.profile reader_parse
-        (map T.letter parser.old.rest)) }
-    ensures leaves { LeavesBehind E.fault (unread_of parser.old) result (unread_of parser.new) }
-    ensures profile { parser.new.profile ≡ parser.old.profile }
+    ensures handles { HandlesText T.letter T.number F.step handler E.fault (parsed_of T.number) reader_parse parser.old result parser.new }
 {
     parser.read_as::<E, DateTimes, F>(handler)
 }

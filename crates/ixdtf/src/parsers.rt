@@ -6,17 +6,16 @@
 //! error fits the input, or a reply is refused with it. The repository has both, as `docs/GRAMMAR.md` and
 //! `docs/FAULTS.md`.
 
-ghost use Rattle.std.specs.Prelude.{◌≡◌, ◌↔◌, map, Ok, OnOk, IfErr};
+ghost use Rattle.std.specs.Prelude.{◌≡◌, map, OnOk, IfErr};
 ghost use Rattle.ixdtf_grammar.specs.table.Faults.{fault_of, fault_of_located, stands_behind};
 ghost use Rattle.ixdtf_grammar.specs.table.Outcomes.{NoRowFits};
 ghost use Rattle.ixdtf_grammar.specs.language.Readers.{parse as reader_parse, parse_year_month as reader_parse_year_month};
 ghost use Rattle.ixdtf_grammar.specs.language.Readers.{parse_month_day as reader_parse_month_day, parse_time as reader_parse_time};
 ghost use Rattle.ixdtf_grammar.specs.language.Readers.Reader.{bracketed};
-ghost use Rattle.ixdtf_grammar.specs.language.Languages.{Parsed};
-ghost use Rattle.ixdtf_grammar.specs.Handlers.{Handled, UnhandledRecord, UnhandledFault, UnhandledOnlyFault};
 ghost use Rattle.ixdtf_grammar.specs.Laws.{InNoOther};
-ghost use Rattle.ixdtf_grammar.specs.Views.{UnreadUnder, under, unread_of, LeavesBehind, IsEmptyRecord, returned, returned_by, parsed_of};
-ghost use Rattle.ixdtf_grammar.specs.Places.{HandledAt, HandledToAt, UnhandledFaultAt, UnhandledOnlyPlace};
+ghost use Rattle.ixdtf_grammar.specs.Views.{UnreadUnder, under, unread_of, LeavesBehind, IsEmptyRecord, returned_by, parsed_of};
+ghost use Rattle.ixdtf_grammar.specs.Places.{HandledToAt, UnhandledFaultAt, UnhandledOnlyPlace};
+ghost use Rattle.ixdtf_grammar.specs.Promises.{ReadsText, ReadsTextAt, HandlesText, HandlesTextAt};
 ghost use Rattle.ixdtf_reading.specs.reading.Chains.{TextReadTo};
 ghost use Rattle.ixdtf_reading.specs.reading.Clauses.{UnhandledForm, fault_of_stop_at};
 
@@ -254,25 +253,7 @@ impl<'a, T: EncodingType> IxdtfParser<'a, T> {
     /// - `NonAsciiCodePoint` at a 16-bit code unit that is not from 1 to 126.
     #[inline(always)]
     pub fn parse(&mut self) -> ParserResult<IxdtfParseRecord<'a, T>>
-        // `Ok` exactly with the record that the text gives, where each pair is its own reply.
-        ensures ok { (p : Parsed) → (returned (parsed_of T.number) result ≡ Ok p) ↔
-            UnhandledRecord reader_parse (map T.letter self.old.rest) p }
-        // `Err` only with an error that it gives so.
-        ensures err { IfErr result
-            (λ e. UnhandledFault reader_parse (map T.letter self.old.rest) (fault_of e)) }
-
-        // `Ok` only where no row of the fault table fits, and where no other reader of dates, times and durations accepts the
-        // text.
-        ensures no_row { OnOk result (NoRowFits reader_parse (map T.letter self.old.rest)) }
-        ensures alone { OnOk result (InNoOther self.old.profile reader_parse
-            (map T.letter self.old.rest)) }
-        // `Err` only with the one error that it gives: that of the last pair, which is refused, or of the only row that fits.
-        ensures only { IfErr result
-            (λ e. UnhandledOnlyFault reader_parse (map T.letter self.old.rest) (fault_of e)) }
-
-        // After `Ok` the remaining input is empty. After an error it is unchanged.
-        ensures leaves { LeavesBehind fault_of (unread_of self.old) result (unread_of self.new) }
-        ensures profile { self.new.profile ≡ self.old.profile }
+        ensures reads { ReadsText T.letter fault_of (parsed_of T.number) reader_parse self.old result self.new }
     {
         let mut found = IxdtfParseRecord::default();
         match self.read_unhandled::<DateTimes>(&mut found) {
@@ -353,20 +334,7 @@ impl<'a, T: EncodingType> IxdtfParser<'a, T> {
         F: FnMut(Annotation<'a, T>) -> Option<Annotation<'a, T>>,
         // The handler may be called at any time, in any state that it reached, on any annotation.
         requires callable { F.IsAlwaysCallable handler }
-        // For the one chain of its calls: `Ok` exactly with the record, and `Err` only with the one error, that the text and
-        // the replies give.
-        ensures handled { Handled T.number F.step handler reader_parse (map T.letter self.old.rest)
-            (returned (parsed_of T.number) result) }
-
-        // `Ok` only where no row of the fault table fits, and where no other reader of dates, times and durations accepts the
-        // text.
-        ensures no_row { OnOk result (NoRowFits reader_parse (map T.letter self.old.rest)) }
-        ensures alone { OnOk result (InNoOther self.old.profile reader_parse
-            (map T.letter self.old.rest)) }
-
-        // After `Ok` the remaining input is empty. After an error it is unchanged.
-        ensures leaves { LeavesBehind fault_of (unread_of self.old) result (unread_of self.new) }
-        ensures profile { self.new.profile ≡ self.old.profile }
+        ensures handles { HandlesText T.letter T.number F.step handler fault_of (parsed_of T.number) reader_parse self.old result self.new }
     {
         self.read_as::<ParseError, DateTimes, F>(handler)
     }
@@ -410,29 +378,7 @@ impl<'a, T: EncodingType> IxdtfParser<'a, T> {
     /// - `NonAsciiCodePoint` at a 16-bit code unit that is not from 1 to 126.
     #[inline(always)]
     pub fn parse_year_month(&mut self) -> ParserResult<IxdtfParseRecord<'a, T>>
-        // `Ok` exactly with the record that the text gives, where each pair is its own reply.
-        ensures ok { (p : Parsed) → (returned (parsed_of T.number) result ≡ Ok p) ↔
-            UnhandledRecord reader_parse_year_month (map T.letter self.old.rest) p }
-        // `Err` only with an error that it gives so.
-        ensures err { IfErr result
-            (λ e. UnhandledFault reader_parse_year_month (map T.letter self.old.rest)
-            (fault_of e)) }
-
-        // `Ok` only where no row of the fault table fits, and where no other reader of dates, times and durations accepts the
-        // text.
-        ensures no_row { OnOk result
-            (NoRowFits reader_parse_year_month (map T.letter self.old.rest)) }
-        ensures alone { OnOk result
-            (InNoOther self.old.profile reader_parse_year_month
-            (map T.letter self.old.rest)) }
-        // `Err` only with the one error that it gives: that of the last pair, which is refused, or of the only row that fits.
-        ensures only { IfErr result
-            (λ e. UnhandledOnlyFault reader_parse_year_month (map T.letter self.old.rest)
-            (fault_of e)) }
-
-        // After `Ok` the remaining input is empty. After an error it is unchanged.
-        ensures leaves { LeavesBehind fault_of (unread_of self.old) result (unread_of self.new) }
-        ensures profile { self.new.profile ≡ self.old.profile }
+        ensures reads { ReadsText T.letter fault_of (parsed_of T.number) reader_parse_year_month self.old result self.new }
     {
         let mut found = IxdtfParseRecord::default();
         match self.read_unhandled::<YearMonths>(&mut found) {
@@ -465,23 +411,7 @@ impl<'a, T: EncodingType> IxdtfParser<'a, T> {
         F: FnMut(Annotation<'a, T>) -> Option<Annotation<'a, T>>,
         // The handler may be called at any time, in any state that it reached, on any annotation.
         requires callable { F.IsAlwaysCallable handler }
-        // For the one chain of its calls: `Ok` exactly with the record, and `Err` only with the one error, that the text and
-        // the replies give.
-        ensures handled { Handled T.number F.step handler reader_parse_year_month
-            (map T.letter self.old.rest)
-            (returned (parsed_of T.number) result) }
-
-        // `Ok` only where no row of the fault table fits, and where no other reader of dates, times and durations accepts the
-        // text.
-        ensures no_row { OnOk result
-            (NoRowFits reader_parse_year_month (map T.letter self.old.rest)) }
-        ensures alone { OnOk result
-            (InNoOther self.old.profile reader_parse_year_month
-            (map T.letter self.old.rest)) }
-
-        // After `Ok` the remaining input is empty. After an error it is unchanged.
-        ensures leaves { LeavesBehind fault_of (unread_of self.old) result (unread_of self.new) }
-        ensures profile { self.new.profile ≡ self.old.profile }
+        ensures handles { HandlesText T.letter T.number F.step handler fault_of (parsed_of T.number) reader_parse_year_month self.old result self.new }
     {
         self.read_as::<ParseError, YearMonths, F>(handler)
     }
@@ -529,32 +459,7 @@ impl<'a, T: EncodingType> IxdtfParser<'a, T> {
     /// - `NonAsciiCodePoint` at a 16-bit code unit that is not from 1 to 126.
     #[inline(always)]
     pub fn parse_month_day(&mut self) -> ParserResult<IxdtfParseRecord<'a, T>>
-        // `Ok` exactly with the record that the text gives, where each pair is its own reply.
-        ensures ok { (p : Parsed) → (returned (parsed_of T.number) result ≡ Ok p) ↔
-            UnhandledRecord (reader_parse_month_day self.old.profile)
-            (map T.letter self.old.rest) p }
-        // `Err` only with an error that it gives so.
-        ensures err { IfErr result
-            (λ e. UnhandledFault (reader_parse_month_day self.old.profile)
-            (map T.letter self.old.rest)
-            (fault_of e)) }
-
-        // `Ok` only where no row of the fault table fits, and where no other reader of dates, times and durations accepts the
-        // text.
-        ensures no_row { OnOk result
-            (NoRowFits (reader_parse_month_day self.old.profile)
-            (map T.letter self.old.rest)) }
-        ensures alone { OnOk result
-            (InNoOther self.old.profile (reader_parse_month_day self.old.profile)
-            (map T.letter self.old.rest)) }
-        // `Err` only with the one error that it gives: that of the last pair, which is refused, or of the only row that fits.
-        ensures only { IfErr result
-            (λ e. UnhandledOnlyFault (reader_parse_month_day self.old.profile)
-            (map T.letter self.old.rest) (fault_of e)) }
-
-        // After `Ok` the remaining input is empty. After an error it is unchanged.
-        ensures leaves { LeavesBehind fault_of (unread_of self.old) result (unread_of self.new) }
-        ensures profile { self.new.profile ≡ self.old.profile }
+        ensures reads { ReadsText T.letter fault_of (parsed_of T.number) (reader_parse_month_day self.old.profile) self.old result self.new }
     {
         let mut found = IxdtfParseRecord::default();
         match self.read_unhandled::<MonthDays>(&mut found) {
@@ -587,24 +492,7 @@ impl<'a, T: EncodingType> IxdtfParser<'a, T> {
         F: FnMut(Annotation<'a, T>) -> Option<Annotation<'a, T>>,
         // The handler may be called at any time, in any state that it reached, on any annotation.
         requires callable { F.IsAlwaysCallable handler }
-        // For the one chain of its calls: `Ok` exactly with the record, and `Err` only with the one error, that the text and
-        // the replies give.
-        ensures handled { Handled T.number F.step handler (reader_parse_month_day self.old.profile)
-            (map T.letter self.old.rest)
-            (returned (parsed_of T.number) result) }
-
-        // `Ok` only where no row of the fault table fits, and where no other reader of dates, times and durations accepts the
-        // text.
-        ensures no_row { OnOk result
-            (NoRowFits (reader_parse_month_day self.old.profile)
-            (map T.letter self.old.rest)) }
-        ensures alone { OnOk result
-            (InNoOther self.old.profile (reader_parse_month_day self.old.profile)
-            (map T.letter self.old.rest)) }
-
-        // After `Ok` the remaining input is empty. After an error it is unchanged.
-        ensures leaves { LeavesBehind fault_of (unread_of self.old) result (unread_of self.new) }
-        ensures profile { self.new.profile ≡ self.old.profile }
+        ensures handles { HandlesText T.letter T.number F.step handler fault_of (parsed_of T.number) (reader_parse_month_day self.old.profile) self.old result self.new }
     {
         self.read_as::<ParseError, MonthDays, F>(handler)
     }
@@ -659,29 +547,7 @@ impl<'a, T: EncodingType> IxdtfParser<'a, T> {
     ///   the input ends after the time and its offset, or `[` follows, and before anything in a bracket is looked at.
     #[inline(always)]
     pub fn parse_time(&mut self) -> ParserResult<IxdtfParseRecord<'a, T>>
-        // `Ok` exactly with the record that the text gives, where each pair is its own reply.
-        ensures ok { (p : Parsed) → (returned (parsed_of T.number) result ≡ Ok p) ↔
-            UnhandledRecord (reader_parse_time self.old.profile) (map T.letter self.old.rest) p }
-        // `Err` only with an error that it gives so.
-        ensures err { IfErr result
-            (λ e. UnhandledFault (reader_parse_time self.old.profile) (map T.letter self.old.rest)
-            (fault_of e)) }
-
-        // `Ok` only where no row of the fault table fits, and where no other reader of dates, times and durations accepts the
-        // text.
-        ensures no_row { OnOk result (NoRowFits (reader_parse_time self.old.profile)
-            (map T.letter self.old.rest)) }
-        ensures alone { OnOk result (InNoOther self.old.profile (reader_parse_time self.old.profile)
-            (map T.letter self.old.rest)) }
-        // `Err` only with the one error that it gives: that of the last pair, which is refused, or of the only row that fits.
-        ensures only { IfErr result
-            (λ e. UnhandledOnlyFault (reader_parse_time self.old.profile)
-            (map T.letter self.old.rest)
-            (fault_of e)) }
-
-        // After `Ok` the remaining input is empty. After an error it is unchanged.
-        ensures leaves { LeavesBehind fault_of (unread_of self.old) result (unread_of self.new) }
-        ensures profile { self.new.profile ≡ self.old.profile }
+        ensures reads { ReadsText T.letter fault_of (parsed_of T.number) (reader_parse_time self.old.profile) self.old result self.new }
     {
         let mut found = IxdtfParseRecord::default();
         match self.read_unhandled::<LoneTimes>(&mut found) {
@@ -714,22 +580,7 @@ impl<'a, T: EncodingType> IxdtfParser<'a, T> {
         F: FnMut(Annotation<'a, T>) -> Option<Annotation<'a, T>>,
         // The handler may be called at any time, in any state that it reached, on any annotation.
         requires callable { F.IsAlwaysCallable handler }
-        // For the one chain of its calls: `Ok` exactly with the record, and `Err` only with the one error, that the text and
-        // the replies give.
-        ensures handled { Handled T.number F.step handler (reader_parse_time self.old.profile)
-            (map T.letter self.old.rest)
-            (returned (parsed_of T.number) result) }
-
-        // `Ok` only where no row of the fault table fits, and where no other reader of dates, times and durations accepts the
-        // text.
-        ensures no_row { OnOk result (NoRowFits (reader_parse_time self.old.profile)
-            (map T.letter self.old.rest)) }
-        ensures alone { OnOk result (InNoOther self.old.profile (reader_parse_time self.old.profile)
-            (map T.letter self.old.rest)) }
-
-        // After `Ok` the remaining input is empty. After an error it is unchanged.
-        ensures leaves { LeavesBehind fault_of (unread_of self.old) result (unread_of self.new) }
-        ensures profile { self.new.profile ≡ self.old.profile }
+        ensures handles { HandlesText T.letter T.number F.step handler fault_of (parsed_of T.number) (reader_parse_time self.old.profile) self.old result self.new }
     {
         self.read_as::<ParseError, LoneTimes, F>(handler)
     }
@@ -760,33 +611,7 @@ impl<'a, T: EncodingType> IxdtfParser<'a, T> {
     /// Those of [`parse`](Self::parse), each with its place.
     #[inline(always)]
     pub fn parse_located(&mut self) -> Result<IxdtfParseRecord<'a, T>, LocatedError>
-        // `Ok` exactly with the record that the text gives, where each pair is its own reply.
-        ensures ok { (p : Parsed) →
-            (returned_by fault_of_located (parsed_of T.number) result ≡ Ok p) ↔
-            UnhandledRecord reader_parse (map T.letter self.old.rest) p }
-        // `Err` only with an error and a place that it gives so.
-        ensures err { IfErr result
-            (λ e. UnhandledFaultAt reader_parse (map T.letter self.old.rest)
-            (fault_of_located e) e.at) }
-        // No other error comes, nor one at another place.
-        ensures place { IfErr result
-            (λ e. UnhandledOnlyPlace reader_parse (map T.letter self.old.rest)
-            (fault_of_located e) e.at) }
-
-        // `Ok` only where no row of the fault table fits, and where no other reader of dates, times and durations accepts the
-        // text.
-        ensures no_row { OnOk result (NoRowFits reader_parse (map T.letter self.old.rest)) }
-        ensures alone { OnOk result (InNoOther self.old.profile reader_parse
-            (map T.letter self.old.rest)) }
-        // `Err` only with the one error that it gives, that of the last pair, which is refused, or of the only row that fits.
-        ensures only { IfErr result
-            (λ e. UnhandledOnlyFault reader_parse (map T.letter self.old.rest)
-            (fault_of_located e)) }
-
-        // After `Ok` the remaining input is empty. After an error it is unchanged.
-        ensures leaves { LeavesBehind fault_of_located
-            (unread_of self.old) result (unread_of self.new) }
-        ensures profile { self.new.profile ≡ self.old.profile }
+        ensures reads { ReadsTextAt T.letter (parsed_of T.number) reader_parse self.old result self.new }
     {
         let mut parsed = IxdtfParseRecord::default();
         match self.read_unhandled::<DateTimes>(&mut parsed) {
@@ -821,21 +646,7 @@ impl<'a, T: EncodingType> IxdtfParser<'a, T> {
         F: FnMut(Annotation<'a, T>) -> Option<Annotation<'a, T>>,
         // The handler may be called at any time, in any state that it reached, on any annotation.
         requires callable { F.IsAlwaysCallable handler }
-        // For the one chain of its calls: `Ok` exactly with the record, and `Err` only with the one error at the one place,
-        // that the text and the replies give.
-        ensures handled { HandledAt T.number F.step handler reader_parse (map T.letter self.old.rest)
-            fault_of_located stands_behind (parsed_of T.number) result }
-
-        // `Ok` only where no row of the fault table fits, and where no other reader of dates, times and durations accepts the
-        // text.
-        ensures no_row { OnOk result (NoRowFits reader_parse (map T.letter self.old.rest)) }
-        ensures alone { OnOk result (InNoOther self.old.profile reader_parse
-            (map T.letter self.old.rest)) }
-
-        // After `Ok` the remaining input is empty. After an error it is unchanged.
-        ensures leaves { LeavesBehind fault_of_located
-            (unread_of self.old) result (unread_of self.new) }
-        ensures profile { self.new.profile ≡ self.old.profile }
+        ensures handles { HandlesTextAt T.letter T.number F.step handler fault_of_located stands_behind (parsed_of T.number) reader_parse self.old result self.new }
     {
         self.read_located_as::<LocatedError, DateTimes, F>(handler)
     }
@@ -864,33 +675,7 @@ impl<'a, T: EncodingType> IxdtfParser<'a, T> {
     /// Those of [`parse_year_month`](Self::parse_year_month), each with its place.
     #[inline(always)]
     pub fn parse_year_month_located(&mut self) -> Result<IxdtfParseRecord<'a, T>, LocatedError>
-        // `Ok` exactly with the record that the text gives, where each pair is its own reply.
-        ensures ok { (p : Parsed) →
-            (returned_by fault_of_located (parsed_of T.number) result ≡ Ok p) ↔
-            UnhandledRecord reader_parse_year_month (map T.letter self.old.rest) p }
-        // `Err` only with an error and a place that it gives so.
-        ensures err { IfErr result
-            (λ e. UnhandledFaultAt reader_parse_year_month (map T.letter self.old.rest)
-            (fault_of_located e) e.at) }
-        // No other error comes, nor one at another place.
-        ensures place { IfErr result
-            (λ e. UnhandledOnlyPlace reader_parse_year_month (map T.letter self.old.rest)
-            (fault_of_located e) e.at) }
-
-        // `Ok` only where no row of the fault table fits, and where no other reader of dates, times and durations accepts the
-        // text.
-        ensures no_row { OnOk result (NoRowFits reader_parse_year_month (map T.letter self.old.rest)) }
-        ensures alone { OnOk result (InNoOther self.old.profile reader_parse_year_month
-            (map T.letter self.old.rest)) }
-        // `Err` only with the one error that it gives, that of the last pair, which is refused, or of the only row that fits.
-        ensures only { IfErr result
-            (λ e. UnhandledOnlyFault reader_parse_year_month (map T.letter self.old.rest)
-            (fault_of_located e)) }
-
-        // After `Ok` the remaining input is empty. After an error it is unchanged.
-        ensures leaves { LeavesBehind fault_of_located
-            (unread_of self.old) result (unread_of self.new) }
-        ensures profile { self.new.profile ≡ self.old.profile }
+        ensures reads { ReadsTextAt T.letter (parsed_of T.number) reader_parse_year_month self.old result self.new }
     {
         let mut parsed = IxdtfParseRecord::default();
         match self.read_unhandled::<YearMonths>(&mut parsed) {
@@ -925,21 +710,7 @@ impl<'a, T: EncodingType> IxdtfParser<'a, T> {
         F: FnMut(Annotation<'a, T>) -> Option<Annotation<'a, T>>,
         // The handler may be called at any time, in any state that it reached, on any annotation.
         requires callable { F.IsAlwaysCallable handler }
-        // For the one chain of its calls: `Ok` exactly with the record, and `Err` only with the one error at the one place,
-        // that the text and the replies give.
-        ensures handled { HandledAt T.number F.step handler reader_parse_year_month (map T.letter self.old.rest)
-            fault_of_located stands_behind (parsed_of T.number) result }
-
-        // `Ok` only where no row of the fault table fits, and where no other reader of dates, times and durations accepts the
-        // text.
-        ensures no_row { OnOk result (NoRowFits reader_parse_year_month (map T.letter self.old.rest)) }
-        ensures alone { OnOk result (InNoOther self.old.profile reader_parse_year_month
-            (map T.letter self.old.rest)) }
-
-        // After `Ok` the remaining input is empty. After an error it is unchanged.
-        ensures leaves { LeavesBehind fault_of_located
-            (unread_of self.old) result (unread_of self.new) }
-        ensures profile { self.new.profile ≡ self.old.profile }
+        ensures handles { HandlesTextAt T.letter T.number F.step handler fault_of_located stands_behind (parsed_of T.number) reader_parse_year_month self.old result self.new }
     {
         self.read_located_as::<LocatedError, YearMonths, F>(handler)
     }
@@ -968,33 +739,7 @@ impl<'a, T: EncodingType> IxdtfParser<'a, T> {
     /// Those of [`parse_month_day`](Self::parse_month_day), each with its place.
     #[inline(always)]
     pub fn parse_month_day_located(&mut self) -> Result<IxdtfParseRecord<'a, T>, LocatedError>
-        // `Ok` exactly with the record that the text gives, where each pair is its own reply.
-        ensures ok { (p : Parsed) →
-            (returned_by fault_of_located (parsed_of T.number) result ≡ Ok p) ↔
-            UnhandledRecord (reader_parse_month_day self.old.profile) (map T.letter self.old.rest) p }
-        // `Err` only with an error and a place that it gives so.
-        ensures err { IfErr result
-            (λ e. UnhandledFaultAt (reader_parse_month_day self.old.profile) (map T.letter self.old.rest)
-            (fault_of_located e) e.at) }
-        // No other error comes, nor one at another place.
-        ensures place { IfErr result
-            (λ e. UnhandledOnlyPlace (reader_parse_month_day self.old.profile) (map T.letter self.old.rest)
-            (fault_of_located e) e.at) }
-
-        // `Ok` only where no row of the fault table fits, and where no other reader of dates, times and durations accepts the
-        // text.
-        ensures no_row { OnOk result (NoRowFits (reader_parse_month_day self.old.profile) (map T.letter self.old.rest)) }
-        ensures alone { OnOk result (InNoOther self.old.profile (reader_parse_month_day self.old.profile)
-            (map T.letter self.old.rest)) }
-        // `Err` only with the one error that it gives, that of the last pair, which is refused, or of the only row that fits.
-        ensures only { IfErr result
-            (λ e. UnhandledOnlyFault (reader_parse_month_day self.old.profile) (map T.letter self.old.rest)
-            (fault_of_located e)) }
-
-        // After `Ok` the remaining input is empty. After an error it is unchanged.
-        ensures leaves { LeavesBehind fault_of_located
-            (unread_of self.old) result (unread_of self.new) }
-        ensures profile { self.new.profile ≡ self.old.profile }
+        ensures reads { ReadsTextAt T.letter (parsed_of T.number) (reader_parse_month_day self.old.profile) self.old result self.new }
     {
         let mut parsed = IxdtfParseRecord::default();
         match self.read_unhandled::<MonthDays>(&mut parsed) {
@@ -1029,21 +774,7 @@ impl<'a, T: EncodingType> IxdtfParser<'a, T> {
         F: FnMut(Annotation<'a, T>) -> Option<Annotation<'a, T>>,
         // The handler may be called at any time, in any state that it reached, on any annotation.
         requires callable { F.IsAlwaysCallable handler }
-        // For the one chain of its calls: `Ok` exactly with the record, and `Err` only with the one error at the one place,
-        // that the text and the replies give.
-        ensures handled { HandledAt T.number F.step handler (reader_parse_month_day self.old.profile) (map T.letter self.old.rest)
-            fault_of_located stands_behind (parsed_of T.number) result }
-
-        // `Ok` only where no row of the fault table fits, and where no other reader of dates, times and durations accepts the
-        // text.
-        ensures no_row { OnOk result (NoRowFits (reader_parse_month_day self.old.profile) (map T.letter self.old.rest)) }
-        ensures alone { OnOk result (InNoOther self.old.profile (reader_parse_month_day self.old.profile)
-            (map T.letter self.old.rest)) }
-
-        // After `Ok` the remaining input is empty. After an error it is unchanged.
-        ensures leaves { LeavesBehind fault_of_located
-            (unread_of self.old) result (unread_of self.new) }
-        ensures profile { self.new.profile ≡ self.old.profile }
+        ensures handles { HandlesTextAt T.letter T.number F.step handler fault_of_located stands_behind (parsed_of T.number) (reader_parse_month_day self.old.profile) self.old result self.new }
     {
         self.read_located_as::<LocatedError, MonthDays, F>(handler)
     }
@@ -1072,33 +803,7 @@ impl<'a, T: EncodingType> IxdtfParser<'a, T> {
     /// Those of [`parse_time`](Self::parse_time), each with its place.
     #[inline(always)]
     pub fn parse_time_located(&mut self) -> Result<IxdtfParseRecord<'a, T>, LocatedError>
-        // `Ok` exactly with the record that the text gives, where each pair is its own reply.
-        ensures ok { (p : Parsed) →
-            (returned_by fault_of_located (parsed_of T.number) result ≡ Ok p) ↔
-            UnhandledRecord (reader_parse_time self.old.profile) (map T.letter self.old.rest) p }
-        // `Err` only with an error and a place that it gives so.
-        ensures err { IfErr result
-            (λ e. UnhandledFaultAt (reader_parse_time self.old.profile) (map T.letter self.old.rest)
-            (fault_of_located e) e.at) }
-        // No other error comes, nor one at another place.
-        ensures place { IfErr result
-            (λ e. UnhandledOnlyPlace (reader_parse_time self.old.profile) (map T.letter self.old.rest)
-            (fault_of_located e) e.at) }
-
-        // `Ok` only where no row of the fault table fits, and where no other reader of dates, times and durations accepts the
-        // text.
-        ensures no_row { OnOk result (NoRowFits (reader_parse_time self.old.profile) (map T.letter self.old.rest)) }
-        ensures alone { OnOk result (InNoOther self.old.profile (reader_parse_time self.old.profile)
-            (map T.letter self.old.rest)) }
-        // `Err` only with the one error that it gives, that of the last pair, which is refused, or of the only row that fits.
-        ensures only { IfErr result
-            (λ e. UnhandledOnlyFault (reader_parse_time self.old.profile) (map T.letter self.old.rest)
-            (fault_of_located e)) }
-
-        // After `Ok` the remaining input is empty. After an error it is unchanged.
-        ensures leaves { LeavesBehind fault_of_located
-            (unread_of self.old) result (unread_of self.new) }
-        ensures profile { self.new.profile ≡ self.old.profile }
+        ensures reads { ReadsTextAt T.letter (parsed_of T.number) (reader_parse_time self.old.profile) self.old result self.new }
     {
         let mut parsed = IxdtfParseRecord::default();
         match self.read_unhandled::<LoneTimes>(&mut parsed) {
@@ -1133,21 +838,7 @@ impl<'a, T: EncodingType> IxdtfParser<'a, T> {
         F: FnMut(Annotation<'a, T>) -> Option<Annotation<'a, T>>,
         // The handler may be called at any time, in any state that it reached, on any annotation.
         requires callable { F.IsAlwaysCallable handler }
-        // For the one chain of its calls: `Ok` exactly with the record, and `Err` only with the one error at the one place,
-        // that the text and the replies give.
-        ensures handled { HandledAt T.number F.step handler (reader_parse_time self.old.profile) (map T.letter self.old.rest)
-            fault_of_located stands_behind (parsed_of T.number) result }
-
-        // `Ok` only where no row of the fault table fits, and where no other reader of dates, times and durations accepts the
-        // text.
-        ensures no_row { OnOk result (NoRowFits (reader_parse_time self.old.profile) (map T.letter self.old.rest)) }
-        ensures alone { OnOk result (InNoOther self.old.profile (reader_parse_time self.old.profile)
-            (map T.letter self.old.rest)) }
-
-        // After `Ok` the remaining input is empty. After an error it is unchanged.
-        ensures leaves { LeavesBehind fault_of_located
-            (unread_of self.old) result (unread_of self.new) }
-        ensures profile { self.new.profile ≡ self.old.profile }
+        ensures handles { HandlesTextAt T.letter T.number F.step handler fault_of_located stands_behind (parsed_of T.number) (reader_parse_time self.old.profile) self.old result self.new }
     {
         self.read_located_as::<LocatedError, LoneTimes, F>(handler)
     }
@@ -1163,22 +854,7 @@ impl<'a, T: EncodingType> IxdtfParser<'a, T> {
         F: FnMut(Annotation<'a, T>) -> Option<Annotation<'a, T>>,
         // The handler may be called at any time, in any state that it reached, on any annotation.
         requires callable { F.IsAlwaysCallable handler }
-        // For the one chain of its calls: `Ok` exactly with the record, and `Err` only with the one error, that the text and
-        // the replies give.
-        ensures handled { Handled T.number F.step handler (bracketed (C.kind self.old.profile))
-            (map T.letter self.old.rest)
-            (returned_by E.fault (parsed_of T.number) result) }
-
-        // `Ok` only where no row of the fault table fits, and where no other reader of dates, times and durations accepts the
-        // text.
-        ensures no_row { OnOk result (NoRowFits (bracketed (C.kind self.old.profile))
-            (map T.letter self.old.rest)) }
-        ensures alone { OnOk result (InNoOther self.old.profile
-            (bracketed (C.kind self.old.profile)) (map T.letter self.old.rest)) }
-
-        // After `Ok` the remaining input is empty. After an error it is unchanged.
-        ensures leaves { LeavesBehind E.fault (unread_of self.old) result (unread_of self.new) }
-        ensures profile { self.new.profile ≡ self.old.profile }
+        ensures handles { HandlesText T.letter T.number F.step handler E.fault (parsed_of T.number) (bracketed (C.kind self.old.profile)) self.old result self.new }
     {
         let mut found = IxdtfParseRecord::default();
         match self.read_into::<C, F>(&mut handler, &mut found) {
@@ -1197,21 +873,7 @@ impl<'a, T: EncodingType> IxdtfParser<'a, T> {
         F: FnMut(Annotation<'a, T>) -> Option<Annotation<'a, T>>,
         // The handler may be called at any time, in any state that it reached, on any annotation.
         requires callable { F.IsAlwaysCallable handler }
-        // For the one chain of its calls: `Ok` exactly with the record, and `Err` only with the one error at the one place,
-        // that the text and the replies give.
-        ensures handled { HandledAt T.number F.step handler (bracketed (C.kind self.old.profile))
-            (map T.letter self.old.rest) E.fault E.stands (parsed_of T.number) result }
-
-        // `Ok` only where no row of the fault table fits, and where no other reader of dates, times and durations accepts the
-        // text.
-        ensures no_row { OnOk result (NoRowFits (bracketed (C.kind self.old.profile))
-            (map T.letter self.old.rest)) }
-        ensures alone { OnOk result (InNoOther self.old.profile
-            (bracketed (C.kind self.old.profile)) (map T.letter self.old.rest)) }
-
-        // After `Ok` the remaining input is empty. After an error it is unchanged.
-        ensures leaves { LeavesBehind E.fault (unread_of self.old) result (unread_of self.new) }
-        ensures profile { self.new.profile ≡ self.old.profile }
+        ensures handles { HandlesTextAt T.letter T.number F.step handler E.fault E.stands (parsed_of T.number) (bracketed (C.kind self.old.profile)) self.old result self.new }
     {
         let mut found = IxdtfParseRecord::default();
         match self.read_into::<C, F>(&mut handler, &mut found) {

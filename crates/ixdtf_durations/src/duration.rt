@@ -17,6 +17,7 @@ ghost use Rattle.ixdtf_grammar.specs.language.Languages.{lasting, Derives};
 ghost use Rattle.ixdtf_grammar.specs.table.Faults.{fault_of, fault_of_located};
 ghost use Rattle.ixdtf_grammar.specs.table.Outcomes.{HasFault, HasFaultAt, OnlyPlace, NoRowFits, OnlyFault};
 ghost use Rattle.ixdtf_grammar.specs.Laws.{InNoOther};
+ghost use Rattle.ixdtf_grammar.specs.Promises.{ReadsPart, ReadsPartAt};
 ghost use Rattle.ixdtf_grammar.specs.Views.{UnreadUnder, under, unread_of, LeavesBehind, returned, returned_by};
 ghost use Rattle.ixdtf_reading.specs.reading.Looks.{error_of};
 ghost use Rattle.ixdtf_reading.specs.reading.Clauses.{Reads, Spends, Checks, Yields, fault_of_stop};
@@ -198,28 +199,9 @@ impl<'a, T: EncodingType> IsoDurationParser<'a, T> {
     /// - `InvalidEnd` at any other character after `P` or after a group;
     /// - `NonAsciiCodePoint` at a 16-bit code unit that is not from 1 to 126.
     pub fn parse(&mut self) -> ParserResult<DurationParseRecord>
-        // `Ok` exactly where the language derives the duration.
-        ensures ok { (duration : DurationParseRecord) →
-            (returned (λ duration. duration) result ≡ Ok duration) ↔
-            Derives (parse_duration self.old.profile) (map T.letter self.old.rest)
-            (lasting duration) [] }
-        // `Err` only where a row of the fault table with this error fits.
-        ensures err { IfErr result
-            (λ e. HasFault (parse_duration self.old.profile) (map T.letter self.old.rest) []
-            (fault_of e)) }
-
-        // `Ok` only where no row fits, and where no other reader of dates, times and durations accepts the text.
-        ensures no_row { OnOk result (NoRowFits (parse_duration self.old.profile)
-            (map T.letter self.old.rest)) }
-        ensures alone { OnOk result (InNoOther self.old.profile (parse_duration self.old.profile)
-            (map T.letter self.old.rest)) }
-        // `Err` only where no other row fits, and nothing is derived.
-        ensures only { IfErr result
-            (λ e. OnlyFault (parse_duration self.old.profile) (map T.letter self.old.rest) []
-            (fault_of e)) }
-
-        // After `Ok` the remaining input is empty. After an error it is unchanged.
-        ensures leaves { LeavesBehind fault_of (unread_of self.old) result (unread_of self.new) }
+        ensures reads { ReadsPart T.letter fault_of (λ duration. duration) lasting (parse_duration self.old.profile) (unread_of self.old) result (unread_of self.new) }
+        // `Ok` only where no other reader of dates, times and durations accepts the text.
+        ensures alone { OnOk result (InNoOther self.old.profile (parse_duration self.old.profile) (map T.letter self.old.rest)) }
         ensures profile { self.new.profile ≡ self.old.profile }
     {
         let mut here = self.cursor.take();
@@ -252,32 +234,9 @@ impl<'a, T: EncodingType> IsoDurationParser<'a, T> {
     ///
     /// Those of [`parse`](Self::parse), each with its place.
     pub fn parse_located(&mut self) -> Result<DurationParseRecord, LocatedError>
-        // `Ok` exactly where the language derives the duration.
-        ensures ok { (duration : DurationParseRecord) →
-            (returned_by fault_of_located (λ duration. duration) result ≡ Ok duration) ↔
-            Derives (parse_duration self.old.profile) (map T.letter self.old.rest)
-            (lasting duration) [] }
-        // `Err` only where a row of the fault table with this error and this place fits.
-        ensures err { IfErr result
-            (λ e. HasFaultAt (parse_duration self.old.profile) (map T.letter self.old.rest) []
-            (fault_of_located e) e.at) }
-
-        // `Ok` only where no row fits, and where no other reader of dates, times and durations accepts the text.
-        ensures no_row { OnOk result (NoRowFits (parse_duration self.old.profile)
-            (map T.letter self.old.rest)) }
-        ensures alone { OnOk result (InNoOther self.old.profile (parse_duration self.old.profile)
-            (map T.letter self.old.rest)) }
-        // `Err` only where no other row fits, and nothing is derived; and no other error or place has a row that fits.
-        ensures only { IfErr result
-            (λ e. OnlyFault (parse_duration self.old.profile) (map T.letter self.old.rest) []
-            (fault_of_located e)) }
-        ensures place { IfErr result
-            (λ e. OnlyPlace (parse_duration self.old.profile) (map T.letter self.old.rest)
-            (fault_of_located e) e.at) }
-
-        // After `Ok` the remaining input is empty. After an error it is unchanged.
-        ensures leaves { LeavesBehind fault_of_located (unread_of self.old) result
-            (unread_of self.new) }
+        ensures reads { ReadsPartAt T.letter (λ duration. duration) lasting (parse_duration self.old.profile) (unread_of self.old) result (unread_of self.new) }
+        // `Ok` only where no other reader of dates, times and durations accepts the text.
+        ensures alone { OnOk result (InNoOther self.old.profile (parse_duration self.old.profile) (map T.letter self.old.rest)) }
         ensures profile { self.new.profile ≡ self.old.profile }
     {
         let mut here = self.cursor.take();

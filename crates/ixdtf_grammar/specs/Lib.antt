@@ -3,6 +3,7 @@ pub mod Laws
 pub mod LocatedEquality
 pub mod LocatedTexts
 pub mod Places
+pub mod Promises
 pub mod Views
 pub mod Widths
 pub mod language

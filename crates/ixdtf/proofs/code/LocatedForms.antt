@@ -1,7 +1,6 @@
 -- A form with a handler that gives places only passes its arguments on to `read_located_as`, at `LocatedError` and its kind of
 -- cores. Assumes `Logic`.
 use mir.Syntax.{Dict, Callee, a_type, dcons, dnil, named}
-use mir.Raw.{raw as bare}
 use seplogic.Ra.Ura.{Ura}
 pub use base.Logic.{SProp, ent, sep, via, id⊢, fst∗, snd∗}
 use base.Fml.{Lft}
@@ -14,11 +13,10 @@ use contract.Lifetimes.{Lfts}
 use contract.Monad.{Fun, fact, fact_use}
 use contract.Running.{Running, tables}
 unfoldable pub use contract.Running.{tables_of}
-use denote.Exit.{no}
 use denote.RattleType.{RattleType, Denots}
 use denote.Ref.{NamedLft}
-use denote.Param.{param, arg, layout, bounded}
-use denote.Param.Laws.{Laws, arg_laws}
+use denote.Param.{param, layout, bounded}
+use denote.Param.Laws.{Laws}
 use denote.Param.Glue
 use denote.Param.Members as Members
 use denote.Signature.{Signature, types_at}
@@ -39,7 +37,6 @@ use Rattle.ixdtf_grammar.specs.declared.encoding.private.Sealed as sealed
 use Rattle.ixdtf_grammar.specs.contracts.encoding.private.Sealed.TheBound as sealed_bound
 use Rattle.ixdtf_grammar.specs.contracts.located.LocatedError
 use Rattle.ixdtf_grammar.proofs.located.LocatedError.TheLaws as error_laws
-use Rattle.ixdtf.specs.declared.parsers.cores.Cores as cores
 use Rattle.ixdtf.specs.contracts.parsers.cores.Cores.TheBound as cores_bound
 use Rattle.ixdtf_reading.specs.contracts.stop.LocatedErrorRaised.TheImpl as raises
 use Rattle.ixdtf_reading.proofs.stop.LocatedErrorRaised.TheImpl.Met as raises_met

@@ -9,7 +9,6 @@ use Rattle.ixdtf_grammar.specs.language.Brackets.{Pair}
 use Rattle.ixdtf_grammar.specs.language.Languages.{parsed_with}
 use Rattle.ixdtf_grammar.specs.language.Readers.{CoreKind}
 use Rattle.ixdtf_grammar.specs.language.Readers.Reader.{bracketed}
-use Rattle.ixdtf_grammar.specs.table.Faults.{Fault}
 use Rattle.ixdtf_grammar.specs.Handlers.{Step, with_calendar}
 use Rattle.ixdtf_reading.specs.reading.Looks.{Read, Placed, error_of}
 use Rattle.ixdtf_reading.specs.reading.Cores.{ClosedCore, core_at}

@@ -1,13 +1,11 @@
 //! The reader of offsets and zones alone.
 
-ghost use Rattle.std.specs.Prelude.{◌≡◌, ◌↔◌, ℕ, List, [], map, Ok, OnOk, IfErr};
-ghost use Rattle.ixdtf_grammar.specs.declared.records.UtcOffsetRecord.{UtcOffsetRecord};
-ghost use Rattle.ixdtf_grammar.specs.table.Faults.{fault_of, fault_of_located};
-ghost use Rattle.ixdtf_grammar.specs.table.Outcomes.{HasFault, HasFaultAt, OnlyPlace, NoRowFits, OnlyFault};
+ghost use Rattle.std.specs.Prelude.{◌≡◌, map};
+ghost use Rattle.ixdtf_grammar.specs.table.Faults.{fault_of};
 ghost use Rattle.ixdtf_grammar.specs.language.Readers.Reader.{parse_offset, parse_identifier, parse_iana_identifier};
-ghost use Rattle.ixdtf_grammar.specs.language.ZoneNames.{Zone};
-ghost use Rattle.ixdtf_grammar.specs.language.Languages.{shifted, identified, named, Derives};
-ghost use Rattle.ixdtf_grammar.specs.Views.{Unread, LeavesBehind, returned, returned_by, zone_of};
+ghost use Rattle.ixdtf_grammar.specs.language.Languages.{shifted, identified, named};
+ghost use Rattle.ixdtf_grammar.specs.Views.{Unread, zone_of};
+ghost use Rattle.ixdtf_grammar.specs.Promises.{ReadsPart, ReadsPartAt};
 
 use crate::ParserResult;
 use ixdtf_brackets::timezone::{parse_iana_identifier_text, parse_identifier_text};
@@ -124,21 +122,7 @@ impl<'a, T: EncodingType> TimeZoneParser<'a, T> {
     /// - `InvalidEnd` at a `]` after a name, and at any other character after an offset;
     /// - `NonAsciiCodePoint` at a 16-bit code unit that is not from 1 to 126.
     pub fn parse_identifier(&mut self) -> ParserResult<TimeZoneRecord<'a, T>>
-        // `Ok` exactly where the language derives the zone.
-        ensures ok { (zone : Zone) → (returned (zone_of T.number) result ≡ Ok zone) ↔
-            Derives parse_identifier (map T.letter self.old.rest) (identified zone) [] }
-        // `Err` only where a row of the fault table with this error fits.
-        ensures err { IfErr result
-            (λ e. HasFault parse_identifier (map T.letter self.old.rest) [] (fault_of e)) }
-
-        // `Ok` only where no row fits.
-        ensures no_row { OnOk result (NoRowFits parse_identifier (map T.letter self.old.rest)) }
-        // `Err` only where no other row fits, and nothing is derived.
-        ensures only { IfErr result
-            (λ e. OnlyFault parse_identifier (map T.letter self.old.rest) [] (fault_of e)) }
-
-        // After `Ok` the remaining input is empty. After an error it is unchanged.
-        ensures leaves { LeavesBehind fault_of self.old result self.new }
+        ensures reads { ReadsPart T.letter fault_of (zone_of T.number) identified parse_identifier self.old result self.new }
     {
         let mut here = self.cursor.take();
         let read = parse_identifier_text(&mut here);
@@ -182,22 +166,7 @@ impl<'a, T: EncodingType> TimeZoneParser<'a, T> {
     /// - `InvalidEnd` at any other character after it;
     /// - `NonAsciiCodePoint` at a 16-bit code unit that is not from 1 to 126.
     pub fn parse_offset(&mut self) -> ParserResult<UtcOffsetRecord>
-        // `Ok` exactly where the language derives the offset.
-        ensures ok { (offset : UtcOffsetRecord) →
-            (returned (λ offset. offset) result ≡ Ok offset) ↔
-            Derives parse_offset (map T.letter self.old.rest) (shifted offset) [] }
-        // `Err` only where a row of the fault table with this error fits.
-        ensures err { IfErr result
-            (λ e. HasFault parse_offset (map T.letter self.old.rest) [] (fault_of e)) }
-
-        // `Ok` only where no row fits.
-        ensures no_row { OnOk result (NoRowFits parse_offset (map T.letter self.old.rest)) }
-        // `Err` only where no other row fits, and nothing is derived.
-        ensures only { IfErr result
-            (λ e. OnlyFault parse_offset (map T.letter self.old.rest) [] (fault_of e)) }
-
-        // After `Ok` the remaining input is empty. After an error it is unchanged.
-        ensures leaves { LeavesBehind fault_of self.old result self.new }
+        ensures reads { ReadsPart T.letter fault_of (λ offset. offset) shifted parse_offset self.old result self.new }
     {
         let mut here = self.cursor.take();
         let read = parse_offset_text(&mut here);
@@ -231,23 +200,7 @@ impl<'a, T: EncodingType> TimeZoneParser<'a, T> {
     /// - `InvalidEnd` at a `]` after a name;
     /// - `NonAsciiCodePoint` at a 16-bit code unit that is not from 1 to 126.
     pub fn parse_iana_identifier(&mut self) -> ParserResult<&'a [T::CodeUnit]>
-        // `Ok` exactly where the language derives the name.
-        ensures ok { (name : List ℕ) →
-            (returned (λ units. map T.number units.now) result ≡ Ok name) ↔
-            Derives parse_iana_identifier (map T.letter self.old.rest) (named name) [] }
-        // `Err` only where a row of the fault table with this error fits.
-        ensures err { IfErr result
-            (λ e. HasFault parse_iana_identifier (map T.letter self.old.rest) [] (fault_of e)) }
-
-        // `Ok` only where no row fits.
-        ensures no_row { OnOk result
-            (NoRowFits parse_iana_identifier (map T.letter self.old.rest)) }
-        // `Err` only where no other row fits, and nothing is derived.
-        ensures only { IfErr result
-            (λ e. OnlyFault parse_iana_identifier (map T.letter self.old.rest) [] (fault_of e)) }
-
-        // After `Ok` the remaining input is empty. After an error it is unchanged.
-        ensures leaves { LeavesBehind fault_of self.old result self.new }
+        ensures reads { ReadsPart T.letter fault_of (λ units. map T.number units.now) named parse_iana_identifier self.old result self.new }
     {
         let mut here = self.cursor.take();
         let read = parse_iana_identifier_text(&mut here);
@@ -275,24 +228,7 @@ impl<'a, T: EncodingType> TimeZoneParser<'a, T> {
     ///
     /// Those of [`parse_offset`](Self::parse_offset), each with its place.
     pub fn parse_offset_located(&mut self) -> Result<UtcOffsetRecord, LocatedError>
-        // `Ok` exactly where the language derives the offset.
-        ensures ok { (offset : UtcOffsetRecord) →
-            (returned_by fault_of_located (λ offset. offset) result ≡ Ok offset) ↔
-            Derives parse_offset (map T.letter self.old.rest) (shifted offset) [] }
-        // `Err` only where a row of the fault table with this error and this place fits.
-        ensures err { IfErr result
-            (λ e. HasFaultAt parse_offset (map T.letter self.old.rest) [] (fault_of_located e) e.at) }
-
-        // `Ok` only where no row fits.
-        ensures no_row { OnOk result (NoRowFits parse_offset (map T.letter self.old.rest)) }
-        // `Err` only where no other row fits, and nothing is derived; and no other error or place has a row that fits.
-        ensures only { IfErr result
-            (λ e. OnlyFault parse_offset (map T.letter self.old.rest) [] (fault_of_located e)) }
-        ensures place { IfErr result
-            (λ e. OnlyPlace parse_offset (map T.letter self.old.rest) (fault_of_located e) e.at) }
-
-        // After `Ok` the remaining input is empty. After an error it is unchanged.
-        ensures leaves { LeavesBehind fault_of_located self.old result self.new }
+        ensures reads { ReadsPartAt T.letter (λ offset. offset) shifted parse_offset self.old result self.new }
     {
         let mut here = self.cursor.take();
         let outcome = parse_offset_text(&mut here);
@@ -319,24 +255,7 @@ impl<'a, T: EncodingType> TimeZoneParser<'a, T> {
     ///
     /// Those of [`parse_iana_identifier`](Self::parse_iana_identifier), each with its place.
     pub fn parse_iana_identifier_located(&mut self) -> Result<&'a [T::CodeUnit], LocatedError>
-        // `Ok` exactly where the language derives the name.
-        ensures ok { (name : List ℕ) →
-            (returned_by fault_of_located (λ units. map T.number units.now) result ≡ Ok name) ↔
-            Derives parse_iana_identifier (map T.letter self.old.rest) (named name) [] }
-        // `Err` only where a row of the fault table with this error and this place fits.
-        ensures err { IfErr result
-            (λ e. HasFaultAt parse_iana_identifier (map T.letter self.old.rest) [] (fault_of_located e) e.at) }
-
-        // `Ok` only where no row fits.
-        ensures no_row { OnOk result (NoRowFits parse_iana_identifier (map T.letter self.old.rest)) }
-        // `Err` only where no other row fits, and nothing is derived; and no other error or place has a row that fits.
-        ensures only { IfErr result
-            (λ e. OnlyFault parse_iana_identifier (map T.letter self.old.rest) [] (fault_of_located e)) }
-        ensures place { IfErr result
-            (λ e. OnlyPlace parse_iana_identifier (map T.letter self.old.rest) (fault_of_located e) e.at) }
-
-        // After `Ok` the remaining input is empty. After an error it is unchanged.
-        ensures leaves { LeavesBehind fault_of_located self.old result self.new }
+        ensures reads { ReadsPartAt T.letter (λ units. map T.number units.now) named parse_iana_identifier self.old result self.new }
     {
         let mut here = self.cursor.take();
         let outcome = parse_iana_identifier_text(&mut here);
@@ -363,24 +282,7 @@ impl<'a, T: EncodingType> TimeZoneParser<'a, T> {
     ///
     /// Those of [`parse_identifier`](Self::parse_identifier), each with its place.
     pub fn parse_identifier_located(&mut self) -> Result<TimeZoneRecord<'a, T>, LocatedError>
-        // `Ok` exactly where the language derives the zone.
-        ensures ok { (zone : Zone) →
-            (returned_by fault_of_located (zone_of T.number) result ≡ Ok zone) ↔
-            Derives parse_identifier (map T.letter self.old.rest) (identified zone) [] }
-        // `Err` only where a row of the fault table with this error and this place fits.
-        ensures err { IfErr result
-            (λ e. HasFaultAt parse_identifier (map T.letter self.old.rest) [] (fault_of_located e) e.at) }
-
-        // `Ok` only where no row fits.
-        ensures no_row { OnOk result (NoRowFits parse_identifier (map T.letter self.old.rest)) }
-        // `Err` only where no other row fits, and nothing is derived; and no other error or place has a row that fits.
-        ensures only { IfErr result
-            (λ e. OnlyFault parse_identifier (map T.letter self.old.rest) [] (fault_of_located e)) }
-        ensures place { IfErr result
-            (λ e. OnlyPlace parse_identifier (map T.letter self.old.rest) (fault_of_located e) e.at) }
-
-        // After `Ok` the remaining input is empty. After an error it is unchanged.
-        ensures leaves { LeavesBehind fault_of_located self.old result self.new }
+        ensures reads { ReadsPartAt T.letter (zone_of T.number) identified parse_identifier self.old result self.new }
     {
         let mut here = self.cursor.take();
         let outcome = parse_identifier_text(&mut here);

@@ -8,15 +8,15 @@ use Rattle.ixdtf_c.proofs.readers.zone_into.Goals as goal
 
 pub returns-in-Ok-clause-read : goal.returns-in-Ok-clause-read
 returns-in-Ok-clause-read g c =
-    crossed_part parse_identifier identified zone_alone _ c.parse_identifier_located.result _ (g.R.RecordOf.contents c.args.out.now) _ c.parse_identifier_located.ensures.ok
-    c.parse_identifier_located.ensures.err c.parse_identifier_located.ensures.no_row c.parse_identifier_located.ensures.only c.parse_identifier_located.ensures.place
+    crossed_part parse_identifier identified zone_alone _ c.parse_identifier_located.result _ (g.R.RecordOf.contents c.args.out.now) _ c.parse_identifier_located.ensures.reads.ok
+    c.parse_identifier_located.ensures.reads.err c.parse_identifier_located.ensures.reads.no_row c.parse_identifier_located.ensures.reads.only c.parse_identifier_located.ensures.reads.place
     (gives_ok zone_alone _ c.parse_identifier_located.result c.in-Ok.zone (g.R.RecordOf.contents c.args.out.now) _ c.in-Ok.is (c.write.ensures ∙ c.fields_with.ensures
     ∙ λ i. record (record_for nothing) { offset = c.of.ensures i; zone = c.area_of_zone-zone.ensures i }))
     (letters_are g.T.EncodingType.letter g.T.EncodingType.number c.args.text.now c.new.ensures.rest)
 
 pub returns-in-Err-clause-read : goal.returns-in-Err-clause-read
 returns-in-Err-clause-read g c =
-    crossed_part parse_identifier identified zone_alone _ c.parse_identifier_located.result _ (g.R.RecordOf.contents c.args.out.now) _ c.parse_identifier_located.ensures.ok
-    c.parse_identifier_located.ensures.err c.parse_identifier_located.ensures.no_row c.parse_identifier_located.ensures.only c.parse_identifier_located.ensures.place
+    crossed_part parse_identifier identified zone_alone _ c.parse_identifier_located.result _ (g.R.RecordOf.contents c.args.out.now) _ c.parse_identifier_located.ensures.reads.ok
+    c.parse_identifier_located.ensures.reads.err c.parse_identifier_located.ensures.reads.no_row c.parse_identifier_located.ensures.reads.only c.parse_identifier_located.ensures.reads.place
     (gives_err zone_alone _ c.parse_identifier_located.result c.in-Err.located _ (g.R.RecordOf.contents c.args.out.now) _ c.in-Err.is c.refuse.ensures.number c.refuse.ensures.error)
     (letters_are g.T.EncodingType.letter g.T.EncodingType.number c.args.text.now c.new.ensures.rest)

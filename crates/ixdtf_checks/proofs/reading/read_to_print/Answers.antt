@@ -7,10 +7,10 @@ use Rattle.ixdtf_checks.proofs.reading.read_to_print.Goals as goal
 pub print-requires : goal.print-requires
 print-requires c =
     let found = parsed_of (λ byte. byte) c.in-Ok.parts in
-    let given = rw c.from_utf8.ensures.rest at ((c.in-Ok.ensures.ok found).0 refl) in
+    let given = rw c.from_utf8.ensures.rest at ((c.in-Ok.ensures.reads.ok found).0 refl) in
     read_fits c.args.text.now found c.canonical_fits.ensures given c.requires
 
 pub returns-in-Ok-clause-ok : goal.returns-in-Ok-clause-ok
 returns-in-Ok-clause-ok c =
     let found = parsed_of (λ byte. byte) c.in-Ok.parts in
-    (found, rw c.from_utf8.ensures.rest at ((c.in-Ok.ensures.ok found).0 refl), c.print.ensures)
+    (found, rw c.from_utf8.ensures.rest at ((c.in-Ok.ensures.reads.ok found).0 refl), c.print.ensures)

@@ -23,5 +23,5 @@ names view (Err e) units h = (λ t. absurd cc, λ z. let wrong = (h units).1 (as
 
 pub returns : goal.returns
 returns c =
-    let ok = rw c.from_utf8.ensures.rest at c.parse_iana_identifier.ensures.ok in
+    let ok = rw c.from_utf8.ensures.rest at c.parse_iana_identifier.ensures.reads.ok in
     rw c.is_ok.ensures.value (names _ c.parse_iana_identifier.result c.args.name.now ok)

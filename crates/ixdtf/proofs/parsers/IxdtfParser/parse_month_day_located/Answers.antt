@@ -1,8 +1,11 @@
-use Rattle.std.proofs.Common.{rules}
+use Rattle.std.proofs.Common.{refl}
+use Rattle.ixdtf.proofs.code.Promised.{reads_ok_at, reads_err_at}
 use Rattle.ixdtf.proofs.parsers.IxdtfParser.parse_month_day_located.Goals as goal
 
+pub returns : goal.returns
+returns g c = record { reads = reads_ok_at _ _ _ _ _ refl _ c.in-Ok.ensures.unhandled c.in-Ok.ensures.leaves c.in-Ok.ensures.profile }
+
 pub returns-in-Err : goal.returns-in-Err
-returns-in-Err g c =
-    let gives = rw (← c.error.ensures) at c.in-Err.ensures.unhandled in
-    let stands = rw (← c.error.ensures) at c.in-Err.ensures.err in
-    let place = rw (← c.error.ensures) at c.in-Err.ensures.place in search rules
+returns-in-Err g c = record {
+  reads = reads_err_at _ _ _ _ _ refl _ _ c.error.ensures refl c.in-Err.ensures.unhandled c.in-Err.ensures.err c.in-Err.ensures.place c.in-Err.ensures.leaves c.in-Err.ensures.profile;
+}

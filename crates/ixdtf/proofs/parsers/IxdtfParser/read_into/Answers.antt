@@ -1,4 +1,4 @@
-use Rattle.std.proofs.Common.{◌≡◌, map, length, Err, refl, sym, ap, ◌∙◌, List, ℕ, arith, rules}
+use Rattle.std.proofs.Common.{map, length, refl, sym, ap, ◌∙◌, List, ℕ, arith, rules}
 use Rattle.std.proofs.lemmas.List.{length-map}
 use Rattle.ixdtf_grammar.specs.Views.{Unread}
 use Rattle.ixdtf_reading.proofs.theorems.Handled.{handled, handled_comes}

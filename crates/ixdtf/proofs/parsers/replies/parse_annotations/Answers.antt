@@ -1,4 +1,4 @@
-use Rattle.std.proofs.Common.{◌≡◌, [], ◌∷◌, map, Some, None, Ok, option_map, IsSome, refl, sym, ap, subst, arith, rules, of_calls}
+use Rattle.std.proofs.Common.{◌≡◌, [], ◌∷◌, map, Some, None, Ok, option_map, IsSome, refl, sym, subst, arith, rules, of_calls}
 use Rattle.std.proofs.lemmas.Result.{err_from_is_err_and}
 use Rattle.ixdtf_reading.specs.reading.Looks.{error_of}
 use Rattle.ixdtf_reading.specs.reading.Pairs.{next_pair_at}

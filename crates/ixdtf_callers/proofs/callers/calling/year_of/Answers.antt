@@ -6,5 +6,5 @@ use Rattle.ixdtf_callers.proofs.callers.calling.year_of.Goals as goal
 -- `ok` of `parse`, read from the left to the right, gives the record that the text derives, and its pairs
 pub returns-in-Some : goal.returns-in-Some
 returns-in-Some c =
-    let (pairs, given) = (c.in-Ok.ensures.ok (parsed_of (λ unit. unit) c.in-Ok.record)).0 refl in
+    let (pairs, given) = (c.in-Ok.ensures.reads.ok (parsed_of (λ unit. unit) c.in-Ok.record)).0 refl in
     (parsed given.read, pairs, rw (← c.from_str.ensures.rest) given.whole)

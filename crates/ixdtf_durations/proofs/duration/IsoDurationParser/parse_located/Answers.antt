@@ -14,4 +14,4 @@ returns g c =
     c.parse_duration_text-outcome.ensures.duration c.settle.ensures.settled c.settle.ensures.place in
     let plain = gives.plain in
     let alone = plain.alone c.self.inside.profile refl in
-    rw (← c.self.view_is, ← c.take-here.ensures.same) (search rules)
+    rw (← c.self.view_is, ← c.take-here.ensures.same) (record { reads = record { ok = plain.ok; err = gives.err; place = gives.place; no_row = plain.no_row; only = plain.only; leaves = search rules }; alone = alone; profile = search rules })

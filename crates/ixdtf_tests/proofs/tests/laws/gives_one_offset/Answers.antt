@@ -16,8 +16,8 @@ one_outcome one same bytes units shared is narrow wide h g =
 
 pub returns-in-Ok-narrow : goal.returns-in-Ok-narrow
 returns-in-Ok-narrow c shared is =
-    let narrow = (c.in-Ok-narrow.ensures.ok c.in-Ok-narrow.offset).0 refl in
-    let wide = (c.in-Ok.ensures.ok c.in-Ok.wide).0 refl in
+    let narrow = (c.in-Ok-narrow.ensures.reads.ok c.in-Ok-narrow.offset).0 refl in
+    let wide = (c.in-Ok.ensures.reads.ok c.in-Ok.wide).0 refl in
     let outcomes = one_outcome c.widths_agree.ensures.one c.widths_agree.ensures.same c.args.bytes.now c.args.units.now shared is
     (read_as (shifted c.in-Ok-narrow.offset)) (read_as (shifted c.in-Ok.wide))
     (rw (← c.from_utf8.ensures.rest) narrow) (rw (← c.from_utf16.ensures.rest) wide) in
@@ -26,24 +26,24 @@ returns-in-Ok-narrow c shared is =
 
 pub returns-in-Err-narrow : goal.returns-in-Err-narrow
 returns-in-Err-narrow c shared is =
-    let wide = (c.in-Ok.ensures.ok c.in-Ok.wide).0 refl in
+    let wide = (c.in-Ok.ensures.reads.ok c.in-Ok.wide).0 refl in
     let outcomes = one_outcome c.widths_agree.ensures.one c.widths_agree.ensures.same c.args.bytes.now c.args.units.now shared is
     (faulted (fault_of c.in-Err-narrow.field-0)) (read_as (shifted c.in-Ok.wide))
-    (rw (← c.from_utf8.ensures.rest) c.in-Err-narrow.ensures.err) (rw (← c.from_utf16.ensures.rest) wide) in
+    (rw (← c.from_utf8.ensures.rest) c.in-Err-narrow.ensures.reads.err) (rw (← c.from_utf16.ensures.rest) wide) in
     absurd cc
 
 pub returns-in-Ok-narrow-2 : goal.returns-in-Ok-narrow-2
 returns-in-Ok-narrow-2 c shared is =
-    let narrow = (c.in-Ok-narrow-2.ensures.ok c.in-Ok-narrow-2.field-0).0 refl in
+    let narrow = (c.in-Ok-narrow-2.ensures.reads.ok c.in-Ok-narrow-2.field-0).0 refl in
     let outcomes = one_outcome c.widths_agree.ensures.one c.widths_agree.ensures.same c.args.bytes.now c.args.units.now shared is
     (read_as (shifted c.in-Ok-narrow-2.field-0)) (faulted (fault_of c.in-Err.wide))
-    (rw (← c.from_utf8.ensures.rest) narrow) (rw (← c.from_utf16.ensures.rest) c.in-Err.ensures.err) in
+    (rw (← c.from_utf8.ensures.rest) narrow) (rw (← c.from_utf16.ensures.rest) c.in-Err.ensures.reads.err) in
     absurd cc
 
 pub returns-in-Err-narrow-2 : goal.returns-in-Err-narrow-2
 returns-in-Err-narrow-2 c shared is =
     let outcomes = one_outcome c.widths_agree.ensures.one c.widths_agree.ensures.same c.args.bytes.now c.args.units.now shared is
     (faulted (fault_of c.in-Err-narrow-2.error)) (faulted (fault_of c.in-Err.wide))
-    (rw (← c.from_utf8.ensures.rest) c.in-Err-narrow-2.ensures.err) (rw (← c.from_utf16.ensures.rest) c.in-Err.ensures.err) in
+    (rw (← c.from_utf8.ensures.rest) c.in-Err-narrow-2.ensures.reads.err) (rw (← c.from_utf16.ensures.rest) c.in-Err.ensures.reads.err) in
     let same : fault_of c.in-Err-narrow-2.error ≡ fault_of c.in-Err.wide = cc in
     c.eq-in-Err-narrow-2.ensures.equal.1 same

@@ -25,15 +25,15 @@ one_hour agree text offset minutes d e =
 
 pub unreachable-requires : goal.unreachable-requires
 unreachable-requires c =
-    let offset = (c.in-Ok.ensures.ok c.in-Ok.offset).0 refl in
-    let zone = (c.in-Ok-parse_identifier.ensures.ok (Name (map (λ unit. unit) c.in-Name.field-0.now))).0 (rw c.in-Name.is refl) in
+    let offset = (c.in-Ok.ensures.reads.ok c.in-Ok.offset).0 refl in
+    let zone = (c.in-Ok-parse_identifier.ensures.reads.ok (Name (map (λ unit. unit) c.in-Name.field-0.now))).0 (rw c.in-Name.is refl) in
     no_name c.offsets_agree.ensures (map byte_letter c.args.bytes.now) c.in-Ok.offset (map (λ unit. unit) c.in-Name.field-0.now)
     (rw (← c.from_utf8.ensures.rest) offset) (rw (← c.from_utf8-in-Ok.ensures.rest) zone)
 
 pub returns-in-Offset : goal.returns-in-Offset
 returns-in-Offset c =
-    let offset = (c.in-Ok.ensures.ok c.in-Ok.offset).0 refl in
-    let zone = (c.in-Ok-parse_identifier.ensures.ok (Offset c.in-Offset.minutes)).0 (rw c.in-Offset.is refl) in
+    let offset = (c.in-Ok.ensures.reads.ok c.in-Ok.offset).0 refl in
+    let zone = (c.in-Ok-parse_identifier.ensures.reads.ok (Offset c.in-Offset.minutes)).0 (rw c.in-Offset.is refl) in
     c.hour.ensures
     ∙ one_hour c.offsets_agree.ensures (map byte_letter c.args.bytes.now) c.in-Ok.offset c.in-Offset.minutes
     (rw (← c.from_utf8.ensures.rest) offset) (rw (← c.from_utf8-in-Ok.ensures.rest) zone)

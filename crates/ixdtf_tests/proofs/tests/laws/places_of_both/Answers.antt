@@ -15,4 +15,4 @@ pub returns-in-Err-parse_located : goal.returns-in-Err-parse_located
 returns-in-Err-parse_located c shared is =
     one_place c.widths_agree.ensures.same_place c.args.bytes.now c.args.units.now shared is (fault_of_located c.in-Err.narrow)
     (fault_of_located c.in-Err-parse_located.wide) c.in-Err.narrow.at c.in-Err-parse_located.wide.at
-    (rw (← c.from_utf8.ensures.rest) c.in-Err.ensures.err) (rw (← c.from_utf16.ensures.rest) c.in-Err-parse_located.ensures.place)
+    (rw (← c.from_utf8.ensures.rest) c.in-Err.ensures.reads.err) (rw (← c.from_utf16.ensures.rest) c.in-Err-parse_located.ensures.reads.place)

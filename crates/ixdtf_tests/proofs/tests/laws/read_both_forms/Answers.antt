@@ -13,8 +13,8 @@ returns c years months days rest parts plain hyphened =
     let view = parsed_of (λ unit. unit) in
     let is_one = ap (map byte_letter) c.from_utf8.ensures.rest ∙ plain in
     let is_other = ap (map byte_letter) c.from_utf8-2.ensures.rest ∙ hyphened in
-    let found = has_result view _ one c.parse-found.result is_one c.parse-found.ensures.ok c.parse-found.ensures.err in
-    let same = has_result view _ other c.parse-same.result is_other c.parse-same.ensures.ok c.parse-same.ensures.err in
+    let found = has_result view _ one c.parse-found.result is_one c.parse-found.ensures.reads.ok c.parse-found.ensures.reads.err in
+    let same = has_result view _ other c.parse-same.result is_other c.parse-same.ensures.reads.ok c.parse-same.ensures.reads.err in
     let alike = (c.hyphens_say_nothing.ensures.same years months days rest parts (outcome_of (returned view c.parse-found.result))).0 found in
     let only = c.widths_agree.ensures.one parse other in
     same_result (returned view c.parse-found.result) (returned view c.parse-same.result) (only.2 _ alike ∙ sym (only.2 _ same))

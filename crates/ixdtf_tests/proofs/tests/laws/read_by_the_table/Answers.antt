@@ -40,4 +40,4 @@ returns c row fits =
     let text : Text = map byte_letter c.from_utf8.result.rest in
     let one = c.one_outcome.ensures in
     by_the_row (parsed_of (λ unit. unit)) text row (rw c.from_utf8.ensures.rest fits) (one.outcome parse text) one.begins c.parse.result
-    c.parse.ensures.ok c.parse.ensures.err
+    c.parse.ensures.reads.ok c.parse.ensures.reads.err

@@ -11,4 +11,4 @@ ok_returned view (Err e) y is = absurd cc
 pub returns : goal.returns
 returns c is =
     let (found, derived, unhandled) = c.every_rfc3339_date_time_is_read.ensures (map byte_letter c.args.bytes.now) is in
-    ok_returned _ c.parse.result found ((c.parse.ensures.ok found).1 (rw c.from_utf8.ensures.rest unhandled))
+    ok_returned _ c.parse.result found ((c.parse.ensures.reads.ok found).1 (rw c.from_utf8.ensures.rest unhandled))

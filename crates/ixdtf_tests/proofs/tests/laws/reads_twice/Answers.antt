@@ -37,8 +37,8 @@ once one text x y (xs, h) (ys, g) =
 pub returns : goal.returns
 returns c =
     let text : Text = map byte_letter c.args.bytes.now in
-    let found = gives (λ unit. unit) c.parse_unanswered-found.ensures.handled (λ state annotation reply next stepped. search rules) text
+    let found = gives (λ unit. unit) c.parse_unanswered-found.ensures.handles.handled (λ state annotation reply next stepped. search rules) text
     (ap (map byte_letter) c.from_utf8-first.ensures.rest) in
-    let again = gives (λ unit. unit) c.parse_unanswered-again.ensures.handled (λ state annotation reply next stepped. search rules) text
+    let again = gives (λ unit. unit) c.parse_unanswered-again.ensures.handles.handled (λ state annotation reply next stepped. search rules) text
     (ap (map byte_letter) c.from_utf8-second.ensures.rest) in
     once c.one_outcome.ensures.replied text _ _ found again

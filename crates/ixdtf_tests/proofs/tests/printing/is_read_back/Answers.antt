@@ -16,19 +16,19 @@ pub unreachable-requires : goal.unreachable-requires
 unreachable-requires c =
     let found = record_of c.in-Ok.parsed in
     let rest = ap (map byte_letter) c.from_utf8-in-Ok-print.ensures.rest in
-    let again = (c.in-Err.ensures.ok found).1 (given found _ _ rest c.in-Ok-print.ensures.text c.in-Ok-print.ensures.read_back.same) in
+    let again = (c.in-Err.ensures.reads.ok found).1 (given found _ _ rest c.in-Ok-print.ensures.text c.in-Ok-print.ensures.read_back.same) in
     absurd cc
 
 pub unreachable-requires-in-Err-NotPrintable : goal.unreachable-requires-in-Err-NotPrintable
 unreachable-requires-in-Err-NotPrintable c =
     let found = record_of c.in-Ok.parsed in
-    let printable : IsPrintable found = (map byte_letter c.from_utf8.result.rest, (c.in-Ok.ensures.ok found).0 refl) in
+    let printable : IsPrintable found = (map byte_letter c.from_utf8.result.rest, (c.in-Ok.ensures.reads.ok found).0 refl) in
     c.in-Err-NotPrintable.ensures.not_printable.0 (ap Err c.in-Err-NotPrintable.field-0-is) printable
 
 pub returns-in-Ok-parse : goal.returns-in-Ok-parse
 returns-in-Ok-parse c =
     let found = record_of c.in-Ok.parsed in
     let rest = ap (map byte_letter) c.from_utf8-in-Ok-print.ensures.rest in
-    let again = (c.in-Ok-parse.ensures.ok found).1 (given found _ _ rest c.in-Ok-print.ensures.text c.in-Ok-print.ensures.read_back.same) in
+    let again = (c.in-Ok-parse.ensures.reads.ok found).1 (given found _ _ rest c.in-Ok-print.ensures.text c.in-Ok-print.ensures.read_back.same) in
     let same : record_of c.in-Ok-parse.again ≡ found = cc in
     c.eq.ensures ∙ (c.equality_is_of_what_is_seen.ensures.record.exact c.in-Ok-parse.again c.in-Ok.parsed).1 same

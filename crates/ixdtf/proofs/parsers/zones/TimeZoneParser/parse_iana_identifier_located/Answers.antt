@@ -13,4 +13,4 @@ returns g c =
     (iana_identifier_read error_of _) _ (c.take-here.ensures.rest ∙ ap (λ (u : Unread). u.rest) (sym c.take-here.ensures.same)) _ _
     c.parse_iana_identifier_text-outcome.ensures.name c.settle.ensures.settled c.settle.ensures.place in
     let plain = gives.plain in
-    rw (← c.self.view_is, ← c.take-here.ensures.same) (search rules)
+    rw (← c.self.view_is, ← c.take-here.ensures.same) (record { reads = record { ok = plain.ok; err = gives.err; place = gives.place; no_row = plain.no_row; only = plain.only; leaves = search rules } })
