@@ -127,7 +127,20 @@ class Tree:
     @cached_property
     def contracts(self) -> 'Contracts':
         """The contracts of the code."""
-        return Contracts({it: self.read(it) for it in self.files if it.startswith('crates/') and it.endswith('.rt')})
+        return Contracts({it: self.read(it) for it in self.files if it.startswith('crates/') and it.endswith('.rt')}, self.promises)
+
+    @cached_property
+    def promises(self) -> dict[str, dict[str, str]]:
+        """What the fields of each record say that is the whole clause of a reader."""
+        found, record = {}, {}
+        for path in (it for it in self.files if it.endswith('specs/Promises.antt')):
+            for line in self.read(path).splitlines():
+                begins, field = re.match(r'pub record (\S+)', line), re.match(r'  pub (\S+) : (.*)', line)
+                if begins:
+                    record = found.setdefault(begins[1], {})
+                elif field:
+                    record[field[1]] = field[2]
+        return found
 
     @cached_property
     def fields(self) -> dict[str, set[str]]:
@@ -206,15 +219,20 @@ def members(group: str) -> list[str]:
 
 
 class Contracts:
-    """The contracts of code: of each function by its name, also with its type or its file before it, and of each `impl`."""
+    """The contracts of code: of each function by its name, also with its type or its file before it, and of each `impl`. Where a clause
+    is one of `promises`, a record, the fields of it are clauses too."""
 
-    def __init__(self, sources: dict[str, str]):
+    def __init__(self, sources: dict[str, str], promises: dict[str, dict[str, str]] = {}):
         self.found = {}
         for path, source in sources.items():
             module = os.path.basename(path).removesuffix('.rt')
             for contract in contracts_of(source):
                 for name in {contract.owner, contract.owner.split('::')[-1], f'{module}::{contract.owner}'}:
                     self.found.setdefault(name, {}).update(contract.clauses)
+        for clauses in self.found.values():
+            for said in list(clauses.values()):
+                promise = re.match(r'\s*(\w+)', said)
+                clauses.update(promises.get(promise[1], {}) if promise else {})
 
     def missing(self, owner: str, clause: str) -> Optional[str]:
         """What is not there: the function, or its clause."""
