@@ -96,77 +96,79 @@ impl Digits {
 }
 
 impl Date {
-    /// The numbers of the date, and zeros where there is none.
+    /// Writes the numbers of the date, and zeros where there is none.
     #[inline(always)]
-    pub(crate) fn of(date: Option<DateRecord>) -> Date
-        ensures { result ≡ date_for date }
+    pub(crate) fn put(&mut self, date: Option<DateRecord>)
+        ensures { self.new ≡ date_for date }
     {
         match date {
-            None => Date {
-                year: 0,
-                month: 0,
-                day: 0,
-                is_there: false,
-            },
-            Some(it) => Date {
-                year: it.year,
-                month: it.month,
-                day: it.day,
-                is_there: true,
-            },
+            None => {
+                *self = Date {
+                    year: 0,
+                    month: 0,
+                    day: 0,
+                    is_there: false,
+                }
+            }
+            Some(it) => {
+                self.year = it.year;
+                self.month = it.month;
+                self.day = it.day;
+                self.is_there = true;
+            }
         }
     }
 }
 
 impl Time {
-    /// The numbers of the time, and zeros where there is none.
+    /// Writes the numbers of the time, and zeros where there is none.
     #[inline(always)]
-    pub(crate) fn of(time: Option<TimeRecord>) -> Time
-        ensures { result ≡ time_for time }
+    pub(crate) fn put(&mut self, time: Option<TimeRecord>)
+        ensures { self.new ≡ time_for time }
     {
         match time {
-            None => Time {
-                fraction: 0,
-                fraction_digits: 0,
-                hour: 0,
-                minute: 0,
-                second: 0,
-                is_there: false,
-            },
+            None => {
+                *self = Time {
+                    fraction: 0,
+                    fraction_digits: 0,
+                    hour: 0,
+                    minute: 0,
+                    second: 0,
+                    is_there: false,
+                }
+            }
             Some(it) => {
                 let digits = Digits::of(it.fraction);
-                Time {
-                    fraction: digits.value,
-                    fraction_digits: digits.count,
-                    hour: it.hour,
-                    minute: it.minute,
-                    second: it.second,
-                    is_there: true,
-                }
+                self.fraction = digits.value;
+                self.fraction_digits = digits.count;
+                self.hour = it.hour;
+                self.minute = it.minute;
+                self.second = it.second;
+                self.is_there = true;
             }
         }
     }
 }
 
 impl Offset {
-    /// The numbers of the offset, and zeros where there is none.
+    /// Writes the numbers of the offset, and zeros where there is none.
     #[inline(always)]
-    pub(crate) fn of(offset: Option<UtcOffsetRecordOrZ>) -> Offset
-        ensures { result ≡ offset_for offset }
+    pub(crate) fn put(&mut self, offset: Option<UtcOffsetRecordOrZ>)
+        ensures { self.new ≡ offset_for offset }
     {
         match offset {
-            None => Offset::of_form(0),
-            Some(UtcOffsetRecordOrZ::Z) => Offset::of_form(1),
-            Some(UtcOffsetRecordOrZ::Offset(it)) => Offset::of_shift(it),
+            None => self.put_form(0),
+            Some(UtcOffsetRecordOrZ::Z) => self.put_form(1),
+            Some(UtcOffsetRecordOrZ::Offset(it)) => self.put_shift(it),
         }
     }
 
-    // A form, and zeros for all else.
+    // Writes a form, and zeros for all else.
     #[inline(always)]
-    fn of_form(form: u8) -> Offset
-        ensures { result ≡ offset_of_form form }
+    fn put_form(&mut self, form: u8)
+        ensures { self.new ≡ offset_of_form form }
     {
-        Offset {
+        *self = Offset {
             fraction: 0,
             fraction_digits: 0,
             form,
@@ -174,36 +176,34 @@ impl Offset {
             hour: 0,
             minute: 0,
             second: 0,
-        }
+        };
     }
 
-    /// The numbers of an offset from UTC.
+    /// Writes the numbers of an offset from UTC.
     #[inline(always)]
-    pub(crate) fn of_shift(offset: UtcOffsetRecord) -> Offset
-        ensures { result ≡ shift_for offset }
+    pub(crate) fn put_shift(&mut self, offset: UtcOffsetRecord)
+        ensures { self.new ≡ shift_for offset }
     {
         match offset {
-            UtcOffsetRecord::MinutePrecision(it) => Offset {
-                fraction: 0,
-                fraction_digits: 0,
-                form: 2,
-                is_negative: is_negative(it.sign),
-                hour: it.hour,
-                minute: it.minute,
-                second: 0,
-            },
+            UtcOffsetRecord::MinutePrecision(it) => {
+                self.fraction = 0;
+                self.fraction_digits = 0;
+                self.form = 2;
+                self.is_negative = is_negative(it.sign);
+                self.hour = it.hour;
+                self.minute = it.minute;
+                self.second = 0;
+            }
             UtcOffsetRecord::FullPrecisionOffset(it) => {
                 let minutes = it.minute_precision_offset;
                 let digits = Digits::of(it.fraction);
-                Offset {
-                    fraction: digits.value,
-                    fraction_digits: digits.count,
-                    form: 3,
-                    is_negative: is_negative(minutes.sign),
-                    hour: minutes.hour,
-                    minute: minutes.minute,
-                    second: it.second,
-                }
+                self.fraction = digits.value;
+                self.fraction_digits = digits.count;
+                self.form = 3;
+                self.is_negative = is_negative(minutes.sign);
+                self.hour = minutes.hour;
+                self.minute = minutes.minute;
+                self.second = it.second;
             }
         }
     }

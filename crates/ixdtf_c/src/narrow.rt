@@ -1,19 +1,21 @@
 //! Records of 8-bit sources, as C sees them.
 
-ghost use Rattle.std.specs.Prelude.{◌≡◌, ◌≢◌, map, option_map, IfSome};
+ghost use Rattle.std.specs.Prelude.{◌≡◌, ◌≢◌, [], map, option_map, IfSome};
 ghost use Rattle.ixdtf.specs.Handlers.{calendar_key, pair_of};
 ghost use Rattle.ixdtf.specs.table.Faults.{fault_of_located};
-ghost use Rattle.ixdtf_c.specs.Fielded.{fields_contents, keyed};
+ghost use Rattle.ixdtf.specs.Views.{parsed_of, note_of, zone_of};
+ghost use Rattle.ixdtf_c.specs.Crossing.{record_for, zone_for, area_for, units_for, is_there};
+ghost use Rattle.ixdtf_c.specs.Fielded.{keyed};
 ghost use Rattle.ixdtf_c.specs.Numbers.{number_for, location_of};
-ghost use Rattle.ixdtf_c.specs.Narrow.{contents as record_contents, SameButError, annotation_by, calendar_by};
+ghost use Rattle.ixdtf_c.specs.Narrow.{contents as record_contents, zone_contents, SameButError, annotation_by, calendar_by};
 
 use crate::errors::number_of;
-use crate::fields::Fields;
-use crate::forms::{Date, Offset, Time};
+use crate::forms::{Date, Offset, Time, is_negative};
 use crate::slices::{Slice, from_c, to_c};
 use crate::widths::{AnnotationOf, CalendarOf, RecordOf};
+use ixdtf::LocatedError;
 use ixdtf::encoding::Utf8;
-use ixdtf::{LocatedError, records};
+use ixdtf::records::{self, IxdtfParseRecord, TimeZoneAnnotation, TimeZoneRecord};
 
 /// A time zone, where it is there.
 #[derive(Clone, Copy)]
@@ -82,32 +84,93 @@ pub struct Calendar<'a> {
 /// The key of calendars.
 const CALENDAR_KEY: &[u8] = &[b'u', b'-', b'c', b'a'];
 
+impl<'a> Zone<'a> {
+    // Writes the numbers of the zone, and zeros where there is none.
+    #[inline(always)]
+    fn put(&mut self, zone: &Option<TimeZoneAnnotation<'a, Utf8>>)
+        ensures { zone_contents self.new ≡ zone_for (option_map (note_of (λ unit. unit)) zone.now) }
+    {
+        match zone {
+            None => {
+                *self = Zone {
+                    name: to_c(&[]),
+                    form: 0,
+                    is_critical: false,
+                    is_negative: false,
+                    hour: 0,
+                    minute: 0,
+                }
+            }
+            Some(it) => self.put_area(it.critical, &it.tz),
+        }
+    }
+
+    // Writes the numbers of a name or an offset.
+    #[inline(always)]
+    fn put_area(&mut self, is_critical: bool, zone: &TimeZoneRecord<'a, Utf8>)
+        ensures { zone_contents self.new ≡ area_for is_critical (zone_of (λ unit. unit) zone.now) }
+    {
+        match zone {
+            TimeZoneRecord::Name(name) => {
+                self.name = to_c(name);
+                self.form = 1;
+                self.is_critical = is_critical;
+                self.is_negative = false;
+                self.hour = 0;
+                self.minute = 0;
+            }
+            TimeZoneRecord::Offset(offset) => {
+                self.name = to_c(&[]);
+                self.form = 2;
+                self.is_critical = is_critical;
+                self.is_negative = is_negative(offset.sign);
+                self.hour = offset.hour;
+                self.minute = offset.minute;
+            }
+        }
+    }
+}
+
+impl<'a> Record<'a> {
+    /// Writes the calendar, where there is one, and that there is no error.
+    #[inline(always)]
+    fn put_rest(&mut self, calendar: Option<&'a [u8]>)
+        ensures { record_contents self.new ≡ record (record_contents self.old) {
+          calendar = units_for (option_map (λ units. map (λ unit. unit) units.now) calendar.entry);
+          has_calendar = is_there (option_map (λ units. map (λ unit. unit) units.now) calendar.entry);
+          location = [];
+          place = 0;
+        } }
+    {
+        match calendar {
+            None => {
+                self.calendar = to_c(&[]);
+                self.has_calendar = false;
+            }
+            Some(units) => {
+                self.calendar = to_c(units);
+                self.has_calendar = true;
+            }
+        }
+        self.location = to_c(&[]);
+        self.place = 0;
+    }
+}
+
 impl<'a> RecordOf<'a, Utf8> for Record<'a> {
     ghost contents = { record_contents };
 
     ghost same_but_error = { SameButError };
 
-    #[inline(always)]
-    fn write(&mut self, fields: Fields<'a, u8>)
-        ensures { record_contents self.new ≡ fields_contents (λ unit. unit) fields.entry }
+    #[inline(never)]
+    fn write(&mut self, found: &IxdtfParseRecord<'a, Utf8>)
+        ensures { record_contents self.new ≡ record_for (parsed_of (λ unit. unit) found.now) }
     {
-        *self = Record {
-            date: fields.date,
-            time: fields.time,
-            offset: fields.offset,
-            zone: Zone {
-                name: to_c(fields.zone.name),
-                form: fields.zone.form,
-                is_critical: fields.zone.is_critical,
-                is_negative: fields.zone.is_negative,
-                hour: fields.zone.hour,
-                minute: fields.zone.minute,
-            },
-            calendar: to_c(fields.calendar),
-            has_calendar: fields.has_calendar,
-            location: to_c(&[]),
-            place: 0,
-        };
+        self.date.put(found.date);
+        self.time.put(found.time);
+        self.offset.put(found.offset);
+        self.zone.put(&found.tz);
+        self.put_rest(found.calendar);
     }
 
     #[inline(always)]

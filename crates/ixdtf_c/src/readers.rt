@@ -1,23 +1,21 @@
 //! The readers of either width, and what is kept of replies to annotations.
 
-ghost use Rattle.std.specs.Prelude.{◌≡◌, ◌≢◌, Result, map};
-ghost use Rattle.ixdtf.specs.Views.{parsed_of};
+ghost use Rattle.std.specs.Prelude.{◌≡◌, ◌≢◌, Result, map, option_map};
+ghost use Rattle.ixdtf.specs.Views.{parsed_of, note_of};
 ghost use Rattle.ixdtf.specs.language.Readers.Reader.{bracketed, parse_offset, parse_identifier, parse_iana_identifier};
 ghost use Rattle.ixdtf.specs.language.Languages.{Parsed};
 ghost use Rattle.ixdtf.specs.language.Languages.Found.{shifted, identified, named};
-ghost use Rattle.ixdtf_c.specs.Crossing.{record_for, offset_alone, zone_alone, name_alone};
+ghost use Rattle.ixdtf_c.specs.Crossing.{nothing, offset_alone, zone_alone, name_alone};
 ghost use Rattle.ixdtf_c.specs.Located.{FaultAt, HasOutcome};
 ghost use Rattle.ixdtf_c.specs.Outcomes.{ReadsRecord, GivesRecord, GivesPart};
 ghost use Rattle.ixdtf_c.specs.Replying.{TakesReply};
 
 use crate::errors::number_of;
-use crate::fields::{area_of, area_of_name, area_of_zone, fields_of, fields_with};
-use crate::forms::Offset;
 use crate::widths::{AnnotationOf, CalendarOf, RecordOf};
 use ixdtf::LocatedError;
 use ixdtf::encoding::EncodingType;
 use ixdtf::parsers::{Cores, IxdtfParser, Profile, Raised, TimeZoneParser, keep_first_calendar};
-use ixdtf::records::IxdtfParseRecord;
+use ixdtf::records::{IxdtfParseRecord, TimeZoneAnnotation, TimeZoneRecord, UtcOffsetRecordOrZ};
 
 /// Reads as the reader of the kind does without a handler.
 ///
@@ -42,12 +40,24 @@ where
     }
 }
 
-/// Writes what was read, and clears what was not.
-#[inline(never)]
-pub fn fill<'a, T: EncodingType, R: RecordOf<'a, T>>(found: &IxdtfParseRecord<'a, T>, out: &mut R)
-    ensures { R.contents out.new ≡ record_for (parsed_of T.number found.now) }
+/// A record in which no more than an offset and a zone stand.
+#[inline(always)]
+fn with_parts<'a, T: EncodingType>(
+    offset: Option<UtcOffsetRecordOrZ>,
+    tz: Option<TimeZoneAnnotation<'a, T>>,
+) -> IxdtfParseRecord<'a, T>
+    ensures { parsed_of T.number result ≡ record nothing {
+      offset = offset;
+      zone = option_map (note_of T.number) tz.entry;
+    } }
 {
-    out.write(fields_of::<T>(found));
+    IxdtfParseRecord {
+        date: None,
+        time: None,
+        offset,
+        tz,
+        calendar: None,
+    }
 }
 
 /// Reads as the reader of the kind does without a handler, and writes what was read.
@@ -66,7 +76,7 @@ where
 {
     match read_as::<LocatedError, T, C>(text, profile) {
         Ok(found) => {
-            fill::<T, R>(&found, out);
+            out.write(&found);
             0
         }
         Err(located) => out.refuse(located),
@@ -85,8 +95,8 @@ pub fn offset_into<'a, T: EncodingType, R: RecordOf<'a, T>>(
 {
     match TimeZoneParser::<T>::new(text).parse_offset_located() {
         Ok(offset) => {
-            let zone = area_of::<T>(&None);
-            out.write(fields_with::<T>(Offset::of_shift(offset), zone));
+            let offset = UtcOffsetRecordOrZ::Offset(offset);
+            out.write(&with_parts::<T>(Some(offset), None));
             0
         }
         Err(located) => out.refuse(located),
@@ -105,8 +115,11 @@ pub fn zone_into<'a, T: EncodingType, R: RecordOf<'a, T>>(
 {
     match TimeZoneParser::<T>::new(text).parse_identifier_located() {
         Ok(zone) => {
-            let zone = area_of_zone::<T>(false, &zone);
-            out.write(fields_with::<T>(Offset::of(None), zone));
+            let alone = TimeZoneAnnotation {
+                critical: false,
+                tz: zone,
+            };
+            out.write(&with_parts::<T>(None, Some(alone)));
             0
         }
         Err(located) => out.refuse(located),
@@ -125,8 +138,11 @@ pub fn name_into<'a, T: EncodingType, R: RecordOf<'a, T>>(
 {
     match TimeZoneParser::<T>::new(text).parse_iana_identifier_located() {
         Ok(name) => {
-            let zone = area_of_name::<T>(false, name);
-            out.write(fields_with::<T>(Offset::of(None), zone));
+            let named = TimeZoneAnnotation {
+                critical: false,
+                tz: TimeZoneRecord::Name(name),
+            };
+            out.write(&with_parts::<T>(None, Some(named)));
             0
         }
         Err(located) => out.refuse(located),

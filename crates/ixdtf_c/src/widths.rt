@@ -4,13 +4,14 @@ ghost use Rattle.std.specs.Prelude.{◌≡◌, ◌≢◌, Option, map, option_ma
 ghost use Rattle.ixdtf.specs.Handlers.{calendar_key, pair_of};
 ghost use Rattle.ixdtf.specs.language.Brackets.{Pair};
 ghost use Rattle.ixdtf.specs.table.Faults.{fault_of_located};
-ghost use Rattle.ixdtf_c.specs.Crossing.{Contents};
-ghost use Rattle.ixdtf_c.specs.Fielded.{fields_contents, keyed};
+ghost use Rattle.ixdtf.specs.Views.{parsed_of};
+ghost use Rattle.ixdtf_c.specs.Crossing.{Contents, record_for};
+ghost use Rattle.ixdtf_c.specs.Fielded.{keyed};
 ghost use Rattle.ixdtf_c.specs.Numbers.{number_for, location_of};
 
-use crate::fields::Fields;
+use ixdtf::LocatedError;
 use ixdtf::encoding::EncodingType;
-use ixdtf::{LocatedError, records};
+use ixdtf::records::{self, IxdtfParseRecord};
 
 /// A record of units of the encoding.
 pub trait RecordOf<'a, T: EncodingType> {
@@ -20,9 +21,9 @@ pub trait RecordOf<'a, T: EncodingType> {
     /// The second is the first, but for the location and the place of an error.
     ghost same_but_error: { Self → Self → Type 0 };
 
-    /// Writes all of it, and that there is no error.
-    fn write(&mut self, fields: Fields<'a, T::CodeUnit>)
-        ensures { contents self.new ≡ fields_contents T.number fields.entry };
+    /// Writes what was read, clears what was not, and that there is no error.
+    fn write(&mut self, found: &IxdtfParseRecord<'a, T>)
+        ensures { contents self.new ≡ record_for (parsed_of T.number found.now) };
 
     /// Writes the location and the place of an error, and returns the error's number.
     fn refuse(&mut self, located: LocatedError) -> u32

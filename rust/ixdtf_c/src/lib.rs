@@ -6,7 +6,6 @@
 
 mod durations;
 mod errors;
-mod fields;
 mod forms;
 pub mod narrow;
 mod narrow_annotations;

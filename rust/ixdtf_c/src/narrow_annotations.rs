@@ -3,7 +3,7 @@
 //! The readers of 8-bit sources that list the annotations, and what is kept of replies to them.
 
 use crate::narrow::{Annotation, Calendar, Record};
-use crate::readers::{fill, take_reply};
+use crate::readers::take_reply;
 use crate::slices::to_c;
 use crate::widths::RecordOf;
 use ixdtf::LocatedError;
@@ -71,7 +71,7 @@ fn list_into<'a, C: Cores>(
     *count = list.count;
     match read {
         Ok(found) => {
-            fill::<Utf8, _>(&found, out);
+            out.write(&found);
             0
         }
         Err(located) => out.refuse(located),

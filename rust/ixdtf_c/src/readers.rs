@@ -3,13 +3,11 @@
 //! The readers of either width, and what is kept of replies to annotations.
 
 use crate::errors::number_of;
-use crate::fields::{area_of, area_of_name, area_of_zone, fields_of, fields_with};
-use crate::forms::Offset;
 use crate::widths::{AnnotationOf, CalendarOf, RecordOf};
 use ixdtf::LocatedError;
 use ixdtf::encoding::EncodingType;
 use ixdtf::parsers::{Cores, IxdtfParser, Profile, Raised, TimeZoneParser, keep_first_calendar};
-use ixdtf::records::IxdtfParseRecord;
+use ixdtf::records::{IxdtfParseRecord, TimeZoneAnnotation, TimeZoneRecord, UtcOffsetRecordOrZ};
 
 /// Reads as the reader of the kind does without a handler.
 ///
@@ -30,10 +28,19 @@ where
     }
 }
 
-/// Writes what was read, and clears what was not.
-#[inline(never)]
-pub fn fill<'a, T: EncodingType, R: RecordOf<'a, T>>(found: &IxdtfParseRecord<'a, T>, out: &mut R) {
-    out.write(fields_of::<T>(found));
+/// A record in which no more than an offset and a zone stand.
+#[inline(always)]
+fn with_parts<'a, T: EncodingType>(
+    offset: Option<UtcOffsetRecordOrZ>,
+    tz: Option<TimeZoneAnnotation<'a, T>>,
+) -> IxdtfParseRecord<'a, T> {
+    IxdtfParseRecord {
+        date: None,
+        time: None,
+        offset,
+        tz,
+        calendar: None,
+    }
 }
 
 /// Reads as the reader of the kind does without a handler, and writes what was read.
@@ -48,7 +55,7 @@ where
 {
     match read_as::<LocatedError, T, C>(text, profile) {
         Ok(found) => {
-            fill::<T, R>(&found, out);
+            out.write(&found);
             0
         }
         Err(located) => out.refuse(located),
@@ -63,8 +70,8 @@ pub fn offset_into<'a, T: EncodingType, R: RecordOf<'a, T>>(
 ) -> u32 {
     match TimeZoneParser::<T>::new(text).parse_offset_located() {
         Ok(offset) => {
-            let zone = area_of::<T>(&None);
-            out.write(fields_with::<T>(Offset::of_shift(offset), zone));
+            let offset = UtcOffsetRecordOrZ::Offset(offset);
+            out.write(&with_parts::<T>(Some(offset), None));
             0
         }
         Err(located) => out.refuse(located),
@@ -79,8 +86,11 @@ pub fn zone_into<'a, T: EncodingType, R: RecordOf<'a, T>>(
 ) -> u32 {
     match TimeZoneParser::<T>::new(text).parse_identifier_located() {
         Ok(zone) => {
-            let zone = area_of_zone::<T>(false, &zone);
-            out.write(fields_with::<T>(Offset::of(None), zone));
+            let alone = TimeZoneAnnotation {
+                critical: false,
+                tz: zone,
+            };
+            out.write(&with_parts::<T>(None, Some(alone)));
             0
         }
         Err(located) => out.refuse(located),
@@ -95,8 +105,11 @@ pub fn name_into<'a, T: EncodingType, R: RecordOf<'a, T>>(
 ) -> u32 {
     match TimeZoneParser::<T>::new(text).parse_iana_identifier_located() {
         Ok(name) => {
-            let zone = area_of_name::<T>(false, name);
-            out.write(fields_with::<T>(Offset::of(None), zone));
+            let named = TimeZoneAnnotation {
+                critical: false,
+                tz: TimeZoneRecord::Name(name),
+            };
+            out.write(&with_parts::<T>(None, Some(named)));
             0
         }
         Err(located) => out.refuse(located),

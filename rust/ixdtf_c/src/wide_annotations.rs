@@ -2,7 +2,7 @@
 
 //! The readers of 16-bit sources that list the annotations, and what is kept of replies to them.
 
-use crate::readers::{fill, take_reply};
+use crate::readers::take_reply;
 use crate::slices::to_c;
 use crate::wide::{Annotation, Calendar, Record};
 use crate::widths::RecordOf;
@@ -71,7 +71,7 @@ fn list_into<'a, C: Cores>(
     *count = list.count;
     match read {
         Ok(found) => {
-            fill::<Utf16, _>(&found, out);
+            out.write(&found);
             0
         }
         Err(located) => out.refuse(located),

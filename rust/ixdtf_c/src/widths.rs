@@ -2,14 +2,14 @@
 
 //! What the records of both widths have alike, by the encoding of their units.
 
-use crate::fields::Fields;
+use ixdtf::LocatedError;
 use ixdtf::encoding::EncodingType;
-use ixdtf::{LocatedError, records};
+use ixdtf::records::{self, IxdtfParseRecord};
 
 /// A record of units of the encoding.
 pub trait RecordOf<'a, T: EncodingType> {
-    /// Writes all of it, and that there is no error.
-    fn write(&mut self, fields: Fields<'a, T::CodeUnit>);
+    /// Writes what was read, clears what was not, and that there is no error.
+    fn write(&mut self, found: &IxdtfParseRecord<'a, T>);
 
     /// Writes the location and the place of an error, and returns the error's number.
     fn refuse(&mut self, located: LocatedError) -> u32;

@@ -5,7 +5,7 @@ use Rattle.ixdtf_c.proofs.readers.read_into.Goals as goal
 pub returns-in-Ok-clause-read : goal.returns-in-Ok-clause-read
 returns-in-Ok-clause-read g c =
     let (outcome, has, reads) = c.read_as.ensures.reads in
-    (outcome, reads, rw (outcome_is _ c.read_as.result has) (gives_ok (λ found. found) _ c.read_as.result c.in-Ok.found (g.R.RecordOf.contents c.args.out.now) _ c.in-Ok.is c.fill.ensures))
+    (outcome, reads, rw (outcome_is _ c.read_as.result has) (gives_ok (λ found. found) _ c.read_as.result c.in-Ok.found (g.R.RecordOf.contents c.args.out.now) _ c.in-Ok.is c.write.ensures))
 
 pub returns-in-Err-clause-read : goal.returns-in-Err-clause-read
 returns-in-Err-clause-read g c =

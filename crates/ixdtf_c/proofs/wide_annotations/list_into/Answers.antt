@@ -10,7 +10,7 @@ returns-in-Ok-clause-lists g c =
     let (outcome, has, listing) = c.list_as-read.ensures.lists in (
       outcome,
       lists_left (search rules) refl listing,
-      rw (outcome_is _ c.list_as-read.result has) (gives_ok (λ found. found) _ c.list_as-read.result c.in-Ok.found (contents c.args.out.now) _ c.in-Ok.is c.fill.ensures),
+      rw (outcome_is _ c.list_as-read.result has) (gives_ok (λ found. found) _ c.list_as-read.result c.in-Ok.found (contents c.args.out.now) _ c.in-Ok.is c.write.ensures),
     )
 
 pub returns-in-Err-clause-lists : goal.returns-in-Err-clause-lists
