@@ -21,7 +21,7 @@ use Rattle.ixdtf.specs.language.ZoneNames.Zone.{Name, Offset}
 use Rattle.ixdtf.specs.language.Brackets.{ZoneNote, Value}
 use Rattle.ixdtf.specs.language.Languages.{Parsed}
 use Rattle.ixdtf_print.specs.Canonical.{two_digits, year_text, date_text, minutes_text, seconds_text, fraction_digits, fraction_text, clock_text, time_text, sign_of}
-use Rattle.ixdtf_print.specs.Canonical.{minute_offset_text, full_offset_text, offset_text, zone_text, opening_text, bracket_text, calendar_text}
+use Rattle.ixdtf_print.specs.Canonical.{minute_offset_text, offset_text, zone_text, opening_text, bracket_text, calendar_text}
 use Rattle.ixdtf_print.specs.Canonical.{optional_date_text, core_text, canonical_text}
 use Rattle.ixdtf_print.specs.Shown.{bytes_of, shown_text}
 use Rattle.ixdtf_print.specs.Spelled.{IsZoneText, HasZone, HasCalendar, IsSpelled}
@@ -172,7 +172,7 @@ closing_ascii : IsAsciiText (Plain 93 ∷ [])
 closing_ascii = (omega arith, tt)
 
 opening_ascii : (critical : Bool) → IsAsciiText (opening_text critical)
-opening_ascii true = (omega arith, omega arith, tt)
+opening_ascii true = (omega arith, (omega arith, tt))
 opening_ascii false = (omega arith, tt)
 
 zone_ascii : (zone : Zone) → IsZoneText zone → IsAsciiText (zone_text zone)
@@ -186,7 +186,7 @@ bracket_ascii (Some note) h =
     ascii_append (opening_text note.critical) (zone_text note.zone ++ (Plain 93 ∷ [])) (opening_ascii note.critical) closed
 
 calendar_key_ascii : IsAsciiText (map Plain (codes "[u-ca="))
-calendar_key_ascii = (omega arith, omega arith, omega arith, omega arith, omega arith, omega arith, tt)
+calendar_key_ascii = (omega arith, (omega arith, (omega arith, (omega arith, (omega arith, (omega arith, tt))))))
 
 calendar_ascii : (calendar : Option (List ℕ)) → HasCalendar calendar → IsAsciiText (calendar_text calendar)
 calendar_ascii None h = tt

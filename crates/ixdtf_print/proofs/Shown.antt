@@ -1,5 +1,5 @@
 -- What is displayed of the parts of a canonical text.
-use Rattle.std.proofs.Common.{ℕ, ◌+◌, ◌<◌, ◌≤◌, ◌≡◌, List, [], ◌∷◌, ◌++◌, map, length, take, get_or, Some, codes, refl, sym, ◌∙◌, ap, arith, add-one}
+use Rattle.std.proofs.Common.{ℕ, ◌+◌, ◌<◌, ◌≡◌, List, [], ◌∷◌, ◌++◌, map, length, take, get_or, Some, codes, refl, sym, ◌∙◌, ap, arith, add-one}
 use Rattle.std.proofs.Common.{append-nil, take_all}
 use Rattle.std.proofs.Math.Seq.{take-suc}
 use Rattle.std.proofs.lemmas.List.{map-append}

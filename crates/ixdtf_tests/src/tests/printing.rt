@@ -235,7 +235,10 @@ fn displays_canonical_texts(rt: HostRuntime) -> Result<(), Fail> {
 
 const ERROR_TEXTS: &[(PrintError, &str)] = &[
     (PrintError::NotPrintable, "No text stands for the record."),
-    (PrintError::TooShort, "There is less room than the text takes."),
+    (
+        PrintError::TooShort,
+        "There is less room than the text takes.",
+    ),
 ];
 
 #[test]

@@ -1,4 +1,4 @@
-use Rattle.std.proofs.Common.{ap, ◌∙◌, arith, length-replicate}
+use Rattle.std.proofs.Common.{ap, ◌∙◌, arith}
 use Rattle.std.proofs.Output.{has_written_styled_of_eq}
 use Rattle.std.specs.Str.{encode_utf8_all}
 use Rattle.ixdtf_print.proofs.Shown.{counted_bytes}

@@ -1,6 +1,5 @@
 use Rattle.std.proofs.Common.{arith}
 use Rattle.std.proofs.Output.{has_written_styled_of_eq}
-use Rattle.ixdtf_print.specs.Canonical.{minute_offset_text}
 use Rattle.ixdtf_print.proofs.Lengths.{minute_offset_long}
 use Rattle.ixdtf_print.proofs.Shown.{whole_bytes}
 use Rattle.ixdtf_print.proofs.canonical.write_minute_offset.Goals as goal

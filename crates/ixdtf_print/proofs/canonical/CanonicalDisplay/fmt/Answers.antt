@@ -11,3 +11,8 @@ returns-clause-styled g c = λ flush ok.
     let calendar = c.write_calendar.ensures bracket.flush ok in
     has_written_styled_of_eq _ _ _ _ _ (all_bytes (parsed_of (λ byte. byte) c.args.self.now.parsed.now))
     (has_written_styled_append _ _ _ _ _ _ core (has_written_styled_append _ _ _ _ _ _ bracket calendar))
+
+pub returns-clause-writes : goal.returns-clause-writes
+returns-clause-writes g c = λ plain ok.
+    let styled = returns-clause-styled g c plain.flush ok in
+    record { wrote = styled.wrote; plain = record { bare = rw styled.spec plain.bare; flush = styled.flush } }
