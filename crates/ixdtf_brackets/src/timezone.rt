@@ -138,7 +138,7 @@ pub fn parse_tz_name<'a, T: EncodingType>(
     if !name.state.may_end {
         return Err(Stop::IanaCharPostSeparator);
     }
-    let count = start.len() - cursor.rest().len();
+    let count = start.len().saturating_sub(cursor.rest().len());
     Ok(ReadName {
         units: &start[..count],
         next: name.next,

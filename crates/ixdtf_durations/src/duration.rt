@@ -1,6 +1,6 @@
 //! The reader of durations.
 
-ghost use Rattle.std.specs.Prelude.{◌≡◌, ◌↔◌, ◌+◌, ◌-◌, ◌*◌, ◌≤◌, List, [], ◌∷◌, map, length, nat_le};
+ghost use Rattle.std.specs.Prelude.{◌≡◌, ◌↔◌, ◌+◌, ◌-◌, ◌*◌, ◌≤◌, List, [], ◌∷◌, map, length, nat_le, ◌<◌, slice_set};
 ghost use Rattle.std.specs.Prelude.{Ok, Err, Some, None, OnOk, IfOk, IfErr, IsTrue, IsFalse, IsSome};
 ghost use Rattle.ixdtf_grammar.specs.declared.profile.Profile.{Profile};
 ghost use Rattle.ixdtf_grammar.specs.language.Letters.{Text, digit};
@@ -368,6 +368,19 @@ fn take_date_unit<'a, T: EncodingType>(
     Ok(rank)
 }
 
+/// Keeps the number of a group by the rank of its unit.
+#[inline(always)]
+fn keep_number(values: &mut [u64], rank: u8, number: u64)
+    requires { rank < length values.old }
+    ensures { values.new ≡ slice_set values.old rank number }
+{
+    let place = usize::from(rank);
+    // It always is: with this test a compiler sees it too, and keeps no panic.
+    if place < values.len() {
+        values[place] = number;
+    }
+}
+
 /// The record of the numbers of date groups, indexed by their ranks.
 #[inline(always)]
 fn date_record(values: [u64; 5]) -> DateDurationRecord
@@ -411,7 +424,7 @@ fn parse_dates<'a, T: EncodingType>(
     loop {
         let number = parse_number(cursor, digit, Stop::AbruptDateDesignator)?;
         let rank = take_date_unit(cursor, number, least)?;
-        values[rank as usize] = number.value;
+        keep_number(&mut values, rank, number.value);
         least = rank + profile.least_step();
         match cursor.look()? {
             None => {
@@ -610,7 +623,7 @@ fn parse_time_groups<'a, T: EncodingType>(
     loop {
         let group = parse_time_group(cursor, digit)?;
         let rank = take_time_unit(cursor, group.letter, least)?;
-        values[rank as usize] = group.value;
+        keep_number(&mut values, rank, group.value);
         least = rank + profile.least_step();
         match cursor.look()? {
             None => return Ok(time_record(values, rank, group.fraction)),

@@ -574,7 +574,8 @@ impl Fraction {
         if self.digits <= 9 {
             (value * 10u64.pow(u32::from(9 - self.digits))) as u32
         } else {
-            (value / 10u64.pow(u32::from(self.digits.min(18) - 9))) as u32
+            // At least 1, which a compiler does not see of a power: no division by zero is compiled.
+            (value / 10u64.pow(u32::from(self.digits.min(18) - 9)).max(1)) as u32
         }
     }
 }

@@ -93,7 +93,7 @@ fn parse_name_or_pair<'a, T: EncodingType>(
     let start = cursor.rest();
     let passed = pass_letters(cursor, KeyLetters)?;
     let behind_key = cursor.rest();
-    let key = &start[..start.len() - behind_key.len()];
+    let key = &start[..start.len().saturating_sub(behind_key.len())];
     if ends_key(passed.next) {
         cursor.step();
         let value = parse_annotation_value(cursor)?;
@@ -105,7 +105,7 @@ fn parse_name_or_pair<'a, T: EncodingType>(
     }
     let more = pass_name(cursor)?;
     if more.state.may_end && ends_bracket(more.next) {
-        let count = start.len() - cursor.rest().len();
+        let count = start.len().saturating_sub(cursor.rest().len());
         cursor.step();
         return Ok(Bracket::Zone(TimeZoneAnnotation {
             critical,

@@ -25,7 +25,7 @@ returns-then-ends_key-clause-bracket g c =
     let keys = c.in_ok-passed.ensures.letters in
     let front = front_is g.T.EncodingType.number c.rest-start.result.now c.rest-behind_key.result.now keys.0 c.pass_letters.new.cursor.rest _ c.rest-start.ensures
     keys.1 c.rest-behind_key.ensures in
-    rw front (pair_read _ _ _ _ _ keys.2 (sym c.ends_key.ensures ∙ c.if-ends_key.true) _ _ (rw c.step.ensures.letters at c.in_ok-value.ensures.value))
+    rw (c.saturating_sub.ensures, front) (pair_read _ _ _ _ _ keys.2 (sym c.ends_key.ensures ∙ c.if-ends_key.true) _ _ (rw c.step.ensures.letters at c.in_ok-value.ensures.value))
 
 pub returns-in_err-more-clause-bracket : goal.returns-in_err-more-clause-bracket
 returns-in_err-more-clause-bracket g c =
@@ -43,7 +43,7 @@ returns-then-ends_bracket-clause-bracket g c =
     split c.rest.ensures in
     let is : (c.in_ok-more.more.state.may_end && next_is closing c.in_ok-more.more.next) ≡ true =
     rw c.if-more.true (sym c.ends_bracket.ensures ∙ c.if-ends_bracket.true) in
-    rw (front, c.step-then-ends_bracket.ensures.letters) (name_read _ _ _ _ _ keys.2 _ _ passed.2 is)
+    rw (c.saturating_sub-count.ensures, front, c.step-then-ends_bracket.ensures.letters) (name_read _ _ _ _ _ keys.2 _ _ passed.2 is)
 
 -- the text ends in the bracket
 pub returns-then-is_none-clause-bracket : goal.returns-then-is_none-clause-bracket

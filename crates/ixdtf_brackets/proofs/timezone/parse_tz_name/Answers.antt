@@ -21,7 +21,7 @@ returns-clause-name g c =
     let front = front_is g.T.EncodingType.number c.rest-start.result.now c.rest.result.now passed.0 c.pass_name.new.cursor.rest _ c.rest-start.ensures
     passed.1 c.rest.ensures in
     let ends : c.in_ok-name.name.state.may_end ≡ true = search rules in
-    rw front (name_ended _ _ _ passed.2 ends)
+    rw (c.saturating_sub-count.ensures, front) (name_ended _ _ _ passed.2 ends)
 
 pub returns-clause-next : goal.returns-clause-next
 returns-clause-next g c = next_shown _ _ _ _ _ c.in_ok-name.ensures.letters.2

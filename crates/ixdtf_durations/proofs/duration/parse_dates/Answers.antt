@@ -29,19 +29,19 @@ returns-in_err-rank-clause-refused g c =
 pub returns-in_err-look-clause-refused : goal.returns-in_err-look-clause-refused
 returns-in_err-look-clause-refused g c =
     let p = err_from_is_err_and c.from_residual-in_err-look.result c.from_residual-in_err-look.ensures.1 in
-    let read = date_added_on _ _ _ c.loop-number.invariant.far c.in_ok-number.number (map g.T.EncodingType.letter c.parse_number.new.cursor.rest)
+    let read = rw (← c.keep_number.ensures) at (date_added_on _ _ _ c.loop-number.invariant.far c.in_ok-number.number (map g.T.EncodingType.letter c.parse_number.new.cursor.rest)
     (map g.T.EncodingType.letter c.take_date_unit.new.cursor.rest)
     (ends_date _ _ _ c.in_ok-number.number _ c.in_ok-number.ensures.number c.args.profile) c.in_ok-rank.ensures.left
-    _ _ c.in_ok-rank.ensures.rank c.least_step.ensures in
+    _ _ c.in_ok-rank.ensures.rank c.least_step.ensures) in
     rw (p.1, p.2, c.in_err-look.ensures.rest) (dates_break _ _ _ read _ c.in_err-look.ensures.letter)
 
 -- the text ends
 pub returns-in-None-clause-dates : goal.returns-in-None-clause-dates
 returns-in-None-clause-dates g c =
-    let read = date_added_on _ _ _ c.loop-number.invariant.far c.in_ok-number.number (map g.T.EncodingType.letter c.parse_number.new.cursor.rest)
+    let read = rw (← c.keep_number.ensures) at (date_added_on _ _ _ c.loop-number.invariant.far c.in_ok-number.number (map g.T.EncodingType.letter c.parse_number.new.cursor.rest)
     (map g.T.EncodingType.letter c.take_date_unit.new.cursor.rest)
     (ends_date _ _ _ c.in_ok-number.number _ c.in_ok-number.ensures.number c.args.profile) c.in_ok-rank.ensures.left
-    _ _ c.in_ok-rank.ensures.rank c.least_step.ensures in
+    _ _ c.in_ok-rank.ensures.rank c.least_step.ensures) in
     let none : seen (map g.T.EncodingType.letter c.take_date_unit.new.cursor.rest) ≡ Ok None =
     cc (c.in_ok-look.ensures.letter, c.in-None.is) in
     dates_alone _ _ _ read g.T.EncodingType.letter _ refl _ _ c.date_record.ensures none (rw c.in_ok-look.ensures.rest refl)
@@ -54,10 +54,10 @@ loop-number-smaller g c =
 
 pub loop-number-preserved : goal.loop-number-preserved
 loop-number-preserved g c =
-    let read = date_added_on _ _ _ c.loop-number.invariant.far c.in_ok-number.number (map g.T.EncodingType.letter c.parse_number.new.cursor.rest)
+    let read = rw (← c.keep_number.ensures) at (date_added_on _ _ _ c.loop-number.invariant.far c.in_ok-number.number (map g.T.EncodingType.letter c.parse_number.new.cursor.rest)
     (map g.T.EncodingType.letter c.take_date_unit.new.cursor.rest)
     (ends_date _ _ _ c.in_ok-number.number _ c.in_ok-number.ensures.number c.args.profile) c.in_ok-rank.ensures.left
-    _ _ c.in_ok-rank.ensures.rank c.least_step.ensures in
+    _ _ c.in_ok-rank.ensures.rank c.least_step.ensures) in
     let off = one_taken {letter = g.T.EncodingType.letter} c.in_ok-look.ensures.letter c.in-Some.is c.in_ok-look.ensures.rest c.step.ensures.rest in
     record {
       far = dates_go_on _ _ _ read _ _ off.found (search rules) off.left;
@@ -70,18 +70,18 @@ loop-number-preserved g c =
 -- a `T` follows
 pub date_record-requires-in-Some-2 : goal.date_record-requires-in-Some-2
 date_record-requires-in-Some-2 g c =
-    let read = date_added_on _ _ _ c.loop-number.invariant.far c.in_ok-number.number (map g.T.EncodingType.letter c.parse_number.new.cursor.rest)
+    let read = rw (← c.keep_number.ensures) at (date_added_on _ _ _ c.loop-number.invariant.far c.in_ok-number.number (map g.T.EncodingType.letter c.parse_number.new.cursor.rest)
     (map g.T.EncodingType.letter c.take_date_unit.new.cursor.rest)
     (ends_date _ _ _ c.in_ok-number.number _ c.in_ok-number.ensures.number c.args.profile) c.in_ok-rank.ensures.left
-    _ _ c.in_ok-rank.ensures.rank c.least_step.ensures in
+    _ _ c.in_ok-rank.ensures.rank c.least_step.ensures) in
     record { small = dates_small _ _ _ read }
 
 pub returns-in-Some-2-clause-dates : goal.returns-in-Some-2-clause-dates
 returns-in-Some-2-clause-dates g c =
-    let read = date_added_on _ _ _ c.loop-number.invariant.far c.in_ok-number.number (map g.T.EncodingType.letter c.parse_number.new.cursor.rest)
+    let read = rw (← c.keep_number.ensures) at (date_added_on _ _ _ c.loop-number.invariant.far c.in_ok-number.number (map g.T.EncodingType.letter c.parse_number.new.cursor.rest)
     (map g.T.EncodingType.letter c.take_date_unit.new.cursor.rest)
     (ends_date _ _ _ c.in_ok-number.number _ c.in_ok-number.ensures.number c.args.profile) c.in_ok-rank.ensures.left
-    _ _ c.in_ok-rank.ensures.rank c.least_step.ensures in
+    _ _ c.in_ok-rank.ensures.rank c.least_step.ensures) in
     let found : seen (map g.T.EncodingType.letter c.take_date_unit.new.cursor.rest) ≡ Ok (Some c.in-Some-2.byte) =
     cc (c.in_ok-look.ensures.letter, c.in-Some-2.is) in
     let is : time_letter c.in-Some-2.byte ≡ true = search rules in
@@ -92,10 +92,10 @@ returns-in-Some-2-clause-dates g c =
 -- another code unit follows
 pub returns-in-Some-3-clause-refused : goal.returns-in-Some-3-clause-refused
 returns-in-Some-3-clause-refused g c =
-    let read = date_added_on _ _ _ c.loop-number.invariant.far c.in_ok-number.number (map g.T.EncodingType.letter c.parse_number.new.cursor.rest)
+    let read = rw (← c.keep_number.ensures) at (date_added_on _ _ _ c.loop-number.invariant.far c.in_ok-number.number (map g.T.EncodingType.letter c.parse_number.new.cursor.rest)
     (map g.T.EncodingType.letter c.take_date_unit.new.cursor.rest)
     (ends_date _ _ _ c.in_ok-number.number _ c.in_ok-number.ensures.number c.args.profile) c.in_ok-rank.ensures.left
-    _ _ c.in_ok-rank.ensures.rank c.least_step.ensures in
+    _ _ c.in_ok-rank.ensures.rank c.least_step.ensures) in
     let found : seen (map g.T.EncodingType.letter c.take_date_unit.new.cursor.rest) ≡ Ok (Some c.in-Some.byte) =
     cc (c.in_ok-look.ensures.letter, c.in-Some.is) in
     let miss : digit c.in-Some.byte ≡ false = search rules in

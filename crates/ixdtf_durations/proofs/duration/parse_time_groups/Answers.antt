@@ -28,17 +28,17 @@ returns-in_err-rank-clause-times g c s dates =
 pub returns-in_err-look-clause-times : goal.returns-in_err-look-clause-times
 returns-in_err-look-clause-times g c s dates =
     let p = err_from_is_err_and c.from_residual-in_err-look.result c.from_residual-in_err-look.ensures.1 in
-    let read = time_added_on _ _ _ c.loop-group.invariant.far c.in_ok-group.group (map g.T.EncodingType.letter c.parse_time_group.new.cursor.rest)
+    let read = rw (← c.keep_number.ensures) at (time_added_on _ _ _ c.loop-group.invariant.far c.in_ok-group.group (map g.T.EncodingType.letter c.parse_time_group.new.cursor.rest)
     (map g.T.EncodingType.letter c.take_time_unit.new.cursor.rest)
-    (c.in_ok-group.ensures.group _) c.in_ok-rank.ensures.left _ _ c.in_ok-rank.ensures.rank c.least_step.ensures in
+    (c.in_ok-group.ensures.group _) c.in_ok-rank.ensures.left _ _ c.in_ok-rank.ensures.rank c.least_step.ensures) in
     rw (p.1, p.2, c.in_err-look.ensures.rest) (times_break _ _ _ read _ c.in_err-look.ensures.letter s dates)
 
 -- the text ends
 pub returns-in-None-clause-times : goal.returns-in-None-clause-times
 returns-in-None-clause-times g c s dates =
-    let read = time_added_on _ _ _ c.loop-group.invariant.far c.in_ok-group.group (map g.T.EncodingType.letter c.parse_time_group.new.cursor.rest)
+    let read = rw (← c.keep_number.ensures) at (time_added_on _ _ _ c.loop-group.invariant.far c.in_ok-group.group (map g.T.EncodingType.letter c.parse_time_group.new.cursor.rest)
     (map g.T.EncodingType.letter c.take_time_unit.new.cursor.rest)
-    (c.in_ok-group.ensures.group _) c.in_ok-rank.ensures.left _ _ c.in_ok-rank.ensures.rank c.least_step.ensures in
+    (c.in_ok-group.ensures.group _) c.in_ok-rank.ensures.left _ _ c.in_ok-rank.ensures.rank c.least_step.ensures) in
     let none : seen (map g.T.EncodingType.letter c.take_time_unit.new.cursor.rest) ≡ Ok None =
     cc (c.in_ok-look.ensures.letter, c.in-None.is) in
     rw c.in_ok-look.ensures.rest (times_end_with _ _ _ read _ none c.time_record.ensures s dates)
@@ -53,9 +53,9 @@ loop-group-smaller g c =
 
 pub loop-group-preserved : goal.loop-group-preserved
 loop-group-preserved g c =
-    let read = time_added_on _ _ _ c.loop-group.invariant.far c.in_ok-group.group (map g.T.EncodingType.letter c.parse_time_group.new.cursor.rest)
+    let read = rw (← c.keep_number.ensures) at (time_added_on _ _ _ c.loop-group.invariant.far c.in_ok-group.group (map g.T.EncodingType.letter c.parse_time_group.new.cursor.rest)
     (map g.T.EncodingType.letter c.take_time_unit.new.cursor.rest)
-    (c.in_ok-group.ensures.group _) c.in_ok-rank.ensures.left _ _ c.in_ok-rank.ensures.rank c.least_step.ensures in
+    (c.in_ok-group.ensures.group _) c.in_ok-rank.ensures.left _ _ c.in_ok-rank.ensures.rank c.least_step.ensures) in
     let begins = begins_is c.in_ok-group.group.fraction c.in-Some.byte (sym c.if-begins_time_group.ensures) in
     let paid = c.in_ok-group.ensures.paid begins.0 in
     let off = one_taken {letter = g.T.EncodingType.letter} c.in_ok-look.ensures.letter c.in-Some.is c.in_ok-look.ensures.rest c.step.ensures.rest in
@@ -70,9 +70,9 @@ loop-group-preserved g c =
 -- another code unit follows, or any after a fraction
 pub returns-in-Some-2-clause-times : goal.returns-in-Some-2-clause-times
 returns-in-Some-2-clause-times g c s dates =
-    let read = time_added_on _ _ _ c.loop-group.invariant.far c.in_ok-group.group (map g.T.EncodingType.letter c.parse_time_group.new.cursor.rest)
+    let read = rw (← c.keep_number.ensures) at (time_added_on _ _ _ c.loop-group.invariant.far c.in_ok-group.group (map g.T.EncodingType.letter c.parse_time_group.new.cursor.rest)
     (map g.T.EncodingType.letter c.take_time_unit.new.cursor.rest)
-    (c.in_ok-group.ensures.group _) c.in_ok-rank.ensures.left _ _ c.in_ok-rank.ensures.rank c.least_step.ensures in
+    (c.in_ok-group.ensures.group _) c.in_ok-rank.ensures.left _ _ c.in_ok-rank.ensures.rank c.least_step.ensures) in
     let found : seen (map g.T.EncodingType.letter c.take_time_unit.new.cursor.rest) ≡ Ok (Some c.in-Some.byte) =
     cc (c.in_ok-look.ensures.letter, c.in-Some.is) in
     let never : digit c.in-Some.byte ≡ true → c.in_ok-group.group.fraction ≡ None → ⊥ = begins_none _ _ (sym c.if-begins_time_group.ensures) in
