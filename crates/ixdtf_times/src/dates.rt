@@ -7,17 +7,18 @@ ghost use Rattle.ixdtf_grammar.specs.language.Letters.{Text, digit, hyphen};
 ghost use Rattle.ixdtf_grammar.specs.language.Dates.{is_leap, month_length};
 ghost use Rattle.ixdtf_grammar.specs.table.Faults.Fault.{DateExtendedYear, DateMonth, InvalidMonthRange, InvalidDayRange};
 ghost use Rattle.ixdtf_reading.specs.reading.Clauses.{Reads, Spends, SpendsInAll, SpendsOr, Checks, Yields, fault_of_stop, hyphen_look};
+ghost use Rattle.ixdtf_reading.specs.reading.FixedPlaces.{ranged};
 ghost use Rattle.ixdtf_reading.specs.reading.Looks.{error_of, number_of, digits_by, digit_look, mark_by, mark_at};
 ghost use Rattle.ixdtf_reading.specs.reading.Dates.{date_of, year_at, four_digit_year_at, extended_year_at, date_at, month_by, day_at, line_after_month};
 
-use crate::fixed::fixed_year;
+use crate::fixed::take_fixed_date;
 use ixdtf_grammar::encoding::EncodingType;
 use ixdtf_grammar::records::DateRecord;
 use ixdtf_reading::cursor::Cursor;
 use ixdtf_reading::grammar::{digits_value, is_ascii_sign, is_hyphen};
 use ixdtf_reading::stop::Stop;
 
-/// Reads a date, part by part. Where it has the units of one, the compiler leaves most tests for the end out.
+/// Reads a date: at its ten places or its eight where these fit, and else part by part. Fewer units than eight are no date.
 #[inline(always)]
 pub fn parse_date<'a, T: EncodingType>(cursor: &mut Cursor<'a, T>) -> Result<DateRecord, Stop>
     ensures date { Reads T.letter (λ date. date) cursor.old result cursor.new
@@ -27,22 +28,13 @@ pub fn parse_date<'a, T: EncodingType>(cursor: &mut Cursor<'a, T>) -> Result<Dat
     if cursor.remaining() < 8 {
         return parse_short_date(cursor);
     }
-    parse_date_parts(cursor)
+    match take_fixed_date(cursor) {
+        Some(read) => read,
+        None => parse_other_date(cursor),
+    }
 }
 
-/// Reads the parts of a date.
-#[inline(always)]
-fn parse_date_parts<'a, T: EncodingType>(cursor: &mut Cursor<'a, T>) -> Result<DateRecord, Stop>
-    ensures date { Reads T.letter (λ date. date) cursor.old result cursor.new
-        (date_at error_of) }
-    ensures looks { Spends 10 cursor.old cursor.new }
-{
-    let year = parse_year(cursor)?;
-    let (month, hyphened) = parse_month(cursor, Stop::AbruptDate)?;
-    parse_day(cursor, year, month, hyphened)
-}
-
-/// Finds the fault of fewer units than a date has: without a call where the first letter begins no year.
+/// Finds the fault of fewer units than a date has, without a call.
 #[inline(always)]
 #[tactic(auto, unfolding(ixdtf_reading::specs::reading::Dates::date_at, ixdtf_reading::specs::reading::Dates::year_at, ixdtf_reading::specs::reading::Looks::next_by))]
 fn parse_short_date<'a, T: EncodingType>(cursor: &mut Cursor<'a, T>) -> Result<DateRecord, Stop>
@@ -52,7 +44,7 @@ fn parse_short_date<'a, T: EncodingType>(cursor: &mut Cursor<'a, T>) -> Result<D
 {
     match cursor.look()? {
         None => Err(Stop::AbruptDigit),
-        Some(byte) if byte.is_ascii_digit() || is_ascii_sign(byte) => parse_other_date(cursor),
+        Some(byte) if byte.is_ascii_digit() || is_ascii_sign(byte) => parse_date_parts(cursor),
         Some(_) => Err(Stop::DateYear),
     }
 }
@@ -80,23 +72,19 @@ fn parse_any_date<'a, T: EncodingType>(cursor: &mut Cursor<'a, T>) -> Result<Dat
     parse_date_parts(cursor)
 }
 
-// ==== Years ====
-
-/// Reads a year: four digits at their places, or part by part.
+/// Reads the parts of a date.
 #[inline(always)]
-pub fn parse_year<'a, T: EncodingType>(cursor: &mut Cursor<'a, T>) -> Result<i32, Stop>
-    ensures year { Reads T.letter (λ year. year) cursor.old result cursor.new
-        (year_at error_of) }
+fn parse_date_parts<'a, T: EncodingType>(cursor: &mut Cursor<'a, T>) -> Result<DateRecord, Stop>
+    ensures date { Reads T.letter (λ date. date) cursor.old result cursor.new
+        (date_at error_of) }
     ensures looks { Spends 6 cursor.old cursor.new }
 {
-    if cursor.remaining() >= 4 {
-        if let Some(year) = fixed_year(cursor) {
-            cursor.skip(4);
-            return Ok(i32::from(year));
-        }
-    }
-    parse_date_year(cursor)
+    let year = parse_date_year(cursor)?;
+    let (month, hyphened) = parse_month(cursor, Stop::AbruptDate)?;
+    parse_day(cursor, year, month, hyphened)
 }
+
+// ==== Years ====
 
 /// Reads a year: four digits, or a sign and six digits.
 #[inline(always)]

@@ -3,16 +3,17 @@
 #![tactic(auto, unfolding(ixdtf_reading::specs::reading::Months::month_readings))]
 
 ghost use Rattle.std.specs.Prelude.{◌≡◌, ◌+◌, ◌≤◌, ◌&&◌, nat_le, pos};
+ghost use Rattle.ixdtf_grammar.specs.language.Letters.{Text};
 ghost use Rattle.ixdtf_grammar.specs.language.Months.{greatest_day, least_day};
 ghost use Rattle.ixdtf_grammar.specs.table.Faults.Fault.{InvalidMonthDay};
-ghost use Rattle.ixdtf_reading.specs.reading.Clauses.{Reads, Checks, Spends, SpendsInAll};
+ghost use Rattle.ixdtf_reading.specs.reading.Clauses.{Reads, Checks, YieldsAt, Spends, SpendsInAll};
 ghost use Rattle.ixdtf_reading.specs.reading.Looks.{error_of};
 ghost use Rattle.ixdtf_reading.specs.reading.Dates.{date_of};
 ghost use Rattle.ixdtf_reading.specs.reading.Months.{year_month_at, marks_at, month_day_at};
+ghost use Rattle.ixdtf_reading.specs.reading.FixedPlaces.{ranged_month};
 
-use crate::dates::{
-    check_month, days_in_month, parse_date_year, parse_month, parse_year, take_hyphen,
-};
+use crate::dates::{check_month, days_in_month, parse_date_year, parse_month, take_hyphen};
+use crate::fixed::{take_fixed_month_day, take_fixed_year_month};
 use ixdtf_grammar::encoding::EncodingType;
 use ixdtf_grammar::profile::Profile;
 use ixdtf_grammar::records::DateRecord;
@@ -22,7 +23,7 @@ use ixdtf_reading::stop::Stop;
 
 // ==== Year-months ====
 
-/// Reads a year-month, as a date with day 1. Where it has the units of one, the compiler leaves most tests for the end out.
+/// Reads a year-month, as a date with day 1: at its seven places or its six where these fit, and else part by part.
 #[inline(always)]
 pub fn parse_year_month_date<'a, T: EncodingType>(
     cursor: &mut Cursor<'a, T>,
@@ -31,12 +32,20 @@ pub fn parse_year_month_date<'a, T: EncodingType>(
         (year_month_at error_of) }
     ensures looks { Spends 12 cursor.old cursor.new }
 {
-    if cursor.remaining() < 6 {
-        return parse_other_year_month(cursor);
+    match take_fixed_year_month(cursor) {
+        Some(date) => check_year_month(date),
+        None => parse_other_year_month(cursor),
     }
-    let year = parse_year(cursor)?;
-    let (month, _) = parse_month(cursor, Stop::AbruptDigit)?;
-    Ok(first_of(year, month))
+}
+
+/// The year-month that begins with the day, where its month is one.
+#[inline(always)]
+fn check_year_month(first: DateRecord) -> Result<DateRecord, Stop>
+    ensures { (rest : Text) → YieldsAt (λ date. (date, rest)) result rest
+        (ranged_month first rest) }
+{
+    check_month(first.month)?;
+    Ok(first)
 }
 
 /// Reads a year-month part by part, by a cursor of its own.
@@ -75,24 +84,17 @@ pub fn parse_year_month_parts<'a, T: EncodingType>(
 {
     let year = parse_date_year(cursor)?;
     let (month, _) = parse_month(cursor, Stop::AbruptDigit)?;
-    Ok(first_of(year, month))
-}
-
-/// The first day of the month.
-#[inline(always)]
-fn first_of(year: i32, month: u8) -> DateRecord
-    ensures { result ≡ date_of year month 1 }
-{
-    DateRecord {
+    Ok(DateRecord {
         year,
         month,
         day: 1,
-    }
+    })
 }
 
 // ==== Month-days ====
 
-/// Reads a month-day, as a date with year 0. Where it has the units of one, the compiler leaves most tests for the end out.
+/// Reads a month-day, as a date with year 0: at its five places or its four where these fit, with two hyphens before them or
+/// none, and else part by part.
 #[inline(always)]
 pub fn parse_month_day_date<'a, T: EncodingType>(
     cursor: &mut Cursor<'a, T>,
@@ -102,39 +104,10 @@ pub fn parse_month_day_date<'a, T: EncodingType>(
         (month_day_at error_of profile) }
     ensures looks { Spends 14 cursor.old cursor.new }
 {
-    if cursor.remaining() < 4 {
-        return parse_other_month_day(cursor, profile);
+    match take_fixed_month_day(cursor, profile) {
+        Some(read) => read,
+        None => parse_month_day_parts(cursor, profile),
     }
-    parse_month_day_parts(cursor, profile)
-}
-
-/// Reads a month-day part by part, by a cursor of its own.
-#[inline(always)]
-fn parse_other_month_day<'a, T: EncodingType>(
-    cursor: &mut Cursor<'a, T>,
-    profile: Profile,
-) -> Result<DateRecord, Stop>
-    ensures date { Reads T.letter (λ date. date) cursor.old result cursor.new
-        (month_day_at error_of profile) }
-    ensures looks { Spends 7 cursor.old cursor.new }
-{
-    let mut here = cursor.take();
-    let read = parse_any_month_day(&mut here, profile);
-    *cursor = here;
-    read
-}
-
-/// Reads a month-day of any form. It is not inlined: texts with one have it at fixed places, and others have a fault here.
-#[inline(never)]
-fn parse_any_month_day<'a, T: EncodingType>(
-    cursor: &mut Cursor<'a, T>,
-    profile: Profile,
-) -> Result<DateRecord, Stop>
-    ensures date { Reads T.letter (λ date. date) cursor.old result cursor.new
-        (month_day_at error_of profile) }
-    ensures looks { Spends 7 cursor.old cursor.new }
-{
-    parse_month_day_parts(cursor, profile)
 }
 
 /// Reads the parts of a month-day.

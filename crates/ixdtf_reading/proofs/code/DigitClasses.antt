@@ -1,8 +1,11 @@
 -- Which classes exclude each other.
 use Rattle.std.proofs.Common.{◌≡◌, ℕ, IsTrue, false, arith}
 use Rattle.std.proofs.lemmas.Bool.Decides.{nat_tests}
-use Rattle.ixdtf_grammar.specs.language.Letters.{digit, sign}
+use Rattle.ixdtf_grammar.specs.language.Letters.{digit, sign, hyphen}
 
 -- a digit is no sign
 pub digit_no_sign : (c : ℕ) → IsTrue (digit c) → sign c ≡ false
 digit_no_sign c is = grind (arith, nat_tests)
+
+pub digit_no_hyphen : (c : ℕ) → IsTrue (digit c) → hyphen c ≡ false
+digit_no_hyphen c is = grind (arith, nat_tests)

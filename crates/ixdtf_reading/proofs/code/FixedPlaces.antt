@@ -1,4 +1,4 @@
--- A date and a time at fixed places: what is found there is what the grammar has.
+-- A date and a time at fixed places: what is found there is what the grammar has, and is read so.
 use Rattle.std.proofs.Common.{subst, ◌≡◌, ℕ, zero, suc, ◌+◌, ◌-◌, ◌*◌, ◌<◌, ◌≤◌, Bool, true, false, IsTrue, List, [], ◌∷◌, ◌++◌, map, drop, length, Option}
 use Rattle.std.proofs.Common.{Some, None, Result, Ok, Err, refl, sym, ap, ◌∙◌, nat_le, ◌&&◌, if◌then◌else◌, ℤ, pos, arith}
 use Rattle.std.proofs.lemmas.Bool.{and_parts, and_from, le-leb}
@@ -13,14 +13,20 @@ use Rattle.ixdtf_grammar.specs.language.Shapes.{digits}
 use Rattle.ixdtf_grammar.specs.language.Dates.{FourDigitYear, IsDayOfMonth, month_length}
 use Rattle.ixdtf_grammar.specs.language.FixedPlaces.{FixedDateTime}
 use Rattle.ixdtf_grammar.specs.table.Faults.{Fault}
-use Rattle.ixdtf_grammar.specs.Views.{ascii_at, looked}
-use Rattle.ixdtf_reading.specs.reading.Dates.{date_of, year_at, four_digit_year_at}
+use Rattle.ixdtf_reading.specs.declared.stop.Stop.{Stop}
+use Rattle.ixdtf_grammar.specs.Views.{Unread, ascii_at, looked}
+use Rattle.ixdtf_reading.specs.reading.Clauses.{Reads, YieldsAt}
+use Rattle.ixdtf_reading.specs.reading.Dates.{date_of, year_at, four_digit_year_at, month_in_range, month_by, month_at, day_in_range, day_at, date_at}
 use Rattle.ixdtf_reading.specs.reading.Times.{time_of}
-use Rattle.ixdtf_reading.specs.reading.Looks.{error_of, look_at, next_by, digits_by}
-use Rattle.ixdtf_reading.proofs.parts.Looks.{onto}
-use Rattle.ixdtf_reading.proofs.code.DigitClasses.{digit_no_sign}
-use Rattle.ixdtf_reading.specs.reading.FixedPlaces.{◌>>?◌, first_in, letter_place, first_byte, byte_place, byte_of_look, tens_value, ones_value, number_place}
-use Rattle.ixdtf_reading.specs.reading.FixedPlaces.{year_place, days_place, date_place, time_place, date_in_range, time_in_range, date_time_place}
+use Rattle.ixdtf_grammar.specs.table.Faults.Fault.{InvalidMonthRange}
+use Rattle.ixdtf_grammar.specs.table.LineNames.{of_date}
+use Rattle.ixdtf_grammar.specs.table.LineNames.DateLine.{after_year}
+use Rattle.ixdtf_reading.specs.reading.Looks.{Read, Placed, ◌>>=◌, error_of, look_at, next_by, mark_by, digits_by}
+use Rattle.ixdtf_reading.proofs.parts.Looks.{in_turn, onto}
+use Rattle.ixdtf_reading.proofs.code.DigitClasses.{digit_no_sign, digit_no_hyphen}
+use Rattle.ixdtf_reading.specs.reading.FixedPlaces.{ranged, ◌>>?◌, first_in, letter_place, first_byte, byte_place, byte_of_look, tens_value, ones_value, number_place}
+use Rattle.ixdtf_reading.specs.reading.FixedPlaces.{year_place, days_place, basic_days_place, date_place, basic_date_place, time_place, date_in_range}
+use Rattle.ixdtf_reading.specs.reading.FixedPlaces.{time_in_range, date_time_place}
 
 -- the letter that a look found, where it is of the class
 abbrev pub class_at_place : Class → Result (Option ℕ) Fault → Option ℕ
@@ -403,26 +409,146 @@ date_time_stands text date time rest f =
     ∙ there y m d f.separator h n x rest f.separates in_date in_time
     ∙ (λ i. Some (is_date i, is_time i))
 
--- ---- a year that is found is read
+-- ---- what is found is read
 
-year_read : (a b c d : ℕ) (more : Text) → IsTrue (digit a) → IsTrue (digit b) → IsTrue (digit c) → IsTrue (digit d)
-    → year_at error_of (Plain a ∷ Plain b ∷ Plain c ∷ Plain d ∷ more) ≡ Ok (pos (decimal (Plain a ∷ Plain b ∷ Plain c ∷ Plain d ∷ [])), more)
-unfolding year_at four_digit_year_at digits_by next_by look_at
-year_read a b c d more ea eb ec ed = rw (ea, digit_no_sign a ea, eb, ec, ed) refl
+-- a test between a reading and what goes on from it
+on_test : {A B : Type 0} (t : Bool) (x : A × Text) (f : Placed) (k : A × Text → Read Placed B) → ((if t then Ok x else Err f) >>= k) ≡ (if t then k x else Err f)
+on_test true x f k = refl
+on_test false x f k = refl
 
-year_of_numbers : (text : Text) (year century rest : ℕ) → (c : Number 0 text century) → (y : Number 2 text rest) → 100 * century + rest ≡ year
-    → year_at error_of text ≡ Ok (pos year, drop 4 text)
-year_of_numbers text year century rest c y is =
-    let value : decimal (Plain c.a ∷ Plain c.b ∷ Plain y.a ∷ Plain y.b ∷ []) ≡ year = sym (rw (c.value, y.value) (year_is c.a c.b y.a y.b)) ∙ is in
-    ap (year_at error_of) (over_two c (over_two y refl)) ∙ year_read c.a c.b y.a y.b (drop 4 text) c.is_a c.is_b y.is_a y.is_b
-    ∙ ap (λ n. Ok (pos n, drop 4 text)) value
+day_read : (y : _) (month p q : ℕ) (more : Text) → IsTrue (digit p) → IsTrue (digit q)
+    → day_at error_of y (month, true) (Plain 45 ∷ Plain p ∷ Plain q ∷ more) ≡ day_in_range error_of (date_of y month (decimal (Plain p ∷ Plain q ∷ []))) more
+unfolding day_at mark_by digits_by next_by look_at
+day_read y month p q more ep eq = rw (ep, eq) refl
 
-pub year_is_read : (text : Text) (year : ℕ) → year_place text ≡ Some year → year_at error_of text ≡ Ok (pos year, drop 4 text)
-unfolding year_place
-year_is_read text year e =
-    then_some (number_place 0 text) _ year e λ century f0 e0.
-    then_some (number_place 2 text) _ year e0 λ rest f1 e1.
-    year_of_numbers text year century rest (number_at_place 0 text century f0) (number_at_place 2 text rest f1) cc
+month_read : (y : _) (m n p q : ℕ) (more : Text) → IsTrue (digit m) → IsTrue (digit n) → IsTrue (digit p) → IsTrue (digit q)
+    → (month_at error_of (of_date after_year) (Plain 45 ∷ Plain m ∷ Plain n ∷ Plain 45 ∷ Plain p ∷ Plain q ∷ more)
+    >>= λ month. day_at error_of y month.0 month.1)
+    ≡ ranged (date_of y (decimal (Plain m ∷ Plain n ∷ [])) (decimal (Plain p ∷ Plain q ∷ []))) (Plain 45 ∷ Plain p ∷ Plain q ∷ more) more
+unfolding month_by mark_by month_in_range digits_by next_by look_at
+month_read y m n p q more em en ep eq =
+    let month = decimal (Plain m ∷ Plain n ∷ []) in
+    let test = nat_le 1 month && nat_le month 12 in
+    let step = on_test test (month, Plain 45 ∷ Plain p ∷ Plain q ∷ more) (InvalidMonthRange, Plain 45 ∷ Plain p ∷ Plain q ∷ more) (λ x. day_at error_of y (x.0, true) x.1) in
+    rw (em, en) (in_turn (if test then Ok (month, Plain 45 ∷ Plain p ∷ Plain q ∷ more) else Err (InvalidMonthRange, Plain 45 ∷ Plain p ∷ Plain q ∷ more)) (λ x. Ok ((x.0, true), x.1))
+    (λ x. day_at error_of y x.0 x.1) ∙ step ∙ rw (day_read y month p q more ep eq) refl)
+
+fixed_read : (a b c d m n p q : ℕ) (more : Text) → IsTrue (digit a) → IsTrue (digit b) → IsTrue (digit c) → IsTrue (digit d) → IsTrue (digit m)
+    → IsTrue (digit n) → IsTrue (digit p) → IsTrue (digit q)
+    → date_at error_of (Plain a ∷ Plain b ∷ Plain c ∷ Plain d ∷ Plain 45 ∷ Plain m ∷ Plain n ∷ Plain 45 ∷ Plain p ∷ Plain q ∷ more)
+    ≡ ranged (date_of (pos (decimal (Plain a ∷ Plain b ∷ Plain c ∷ Plain d ∷ []))) (decimal (Plain m ∷ Plain n ∷ [])) (decimal (Plain p ∷ Plain q ∷ [])))
+    (Plain 45 ∷ Plain p ∷ Plain q ∷ more) more
+unfolding date_at year_at four_digit_year_at digits_by next_by look_at
+fixed_read a b c d m n p q more ea eb ec ed em en ep eq =
+    rw (ea, digit_no_sign a ea, eb, ec, ed) (month_read (pos (decimal (Plain a ∷ Plain b ∷ Plain c ∷ Plain d ∷ []))) m n p q more em en ep eq)
+
+letters_read : (years months days : Text) (date : DateRecord) (more : Text) → FourDigitYear years date.year → TwoDigits months date.month
+    → TwoDigits days date.day
+    → date_at error_of ((years ++ (Plain 45 ∷ (months ++ (Plain 45 ∷ days)))) ++ more)
+    ≡ ranged date (drop 7 ((years ++ (Plain 45 ∷ (months ++ (Plain 45 ∷ days)))) ++ more)) more
+letters_read years months days date more year month day =
+    let y = year.0 in
+    let m = month.0 in
+    let d = day.0 in
+    let same = same_date date _ _ _ (year_of _ _ year) (number_of _ _ month) (number_of _ _ day) in
+    rw (four_are _ y, two_are _ m, two_are _ d) (fixed_read _ _ _ _ _ _ _ _ more y.3 y.4.3 y.4.4.3 y.4.4.4.3 m.3 m.4.3 d.3 d.4.3
+    ∙ ap (λ r. ranged r (Plain 45 ∷ Plain d.0 ∷ Plain d.4.0 ∷ more) more) same)
+
+-- a date that is found is the one that is read, where its numbers are in range
+pub date_is_read : (text : Text) (date : DateRecord) → date_place text ≡ Some date → date_at error_of text ≡ ranged date (drop 7 text) (drop 10 text)
+date_is_read text date e =
+    let d = date_at_place text date e in
+    ap (date_at error_of) d.is ∙ letters_read d.years d.months d.days date (drop 10 text) d.year d.month d.day
+    ∙ ap (λ t. ranged date (drop 7 t) (drop 10 text)) (sym d.is)
+
+-- ---- without hyphens
+
+basic_day_read : (y : _) (month p q : ℕ) (more : Text) → IsTrue (digit p) → IsTrue (digit q)
+    → day_at error_of y (month, false) (Plain p ∷ Plain q ∷ more) ≡ day_in_range error_of (date_of y month (decimal (Plain p ∷ Plain q ∷ []))) more
+unfolding day_at mark_by digits_by next_by look_at
+basic_day_read y month p q more ep eq = rw (ep, digit_no_hyphen p ep, ep, eq) refl
+
+basic_month_read : (y : _) (m n p q : ℕ) (more : Text) → IsTrue (digit m) → IsTrue (digit n) → IsTrue (digit p) → IsTrue (digit q)
+    → (month_at error_of (of_date after_year) (Plain m ∷ Plain n ∷ Plain p ∷ Plain q ∷ more)
+    >>= λ month. day_at error_of y month.0 month.1)
+    ≡ ranged (date_of y (decimal (Plain m ∷ Plain n ∷ [])) (decimal (Plain p ∷ Plain q ∷ []))) (Plain p ∷ Plain q ∷ more) more
+unfolding month_by mark_by month_in_range digits_by next_by look_at
+basic_month_read y m n p q more em en ep eq =
+    let month = decimal (Plain m ∷ Plain n ∷ []) in
+    let test = nat_le 1 month && nat_le month 12 in
+    let step = on_test test (month, Plain p ∷ Plain q ∷ more) (InvalidMonthRange, Plain p ∷ Plain q ∷ more) (λ x. day_at error_of y (x.0, false) x.1) in
+    rw (em, digit_no_hyphen m em, digit_no_hyphen m em, em, en)
+    (in_turn (if test then Ok (month, Plain p ∷ Plain q ∷ more) else Err (InvalidMonthRange, Plain p ∷ Plain q ∷ more)) (λ x. Ok ((x.0, false), x.1))
+    (λ x. day_at error_of y x.0 x.1) ∙ step ∙ rw (basic_day_read y month p q more ep eq) refl)
+
+basic_read : (a b c d m n p q : ℕ) (more : Text) → IsTrue (digit a) → IsTrue (digit b) → IsTrue (digit c) → IsTrue (digit d) → IsTrue (digit m)
+    → IsTrue (digit n) → IsTrue (digit p) → IsTrue (digit q)
+    → date_at error_of (Plain a ∷ Plain b ∷ Plain c ∷ Plain d ∷ Plain m ∷ Plain n ∷ Plain p ∷ Plain q ∷ more)
+    ≡ ranged (date_of (pos (decimal (Plain a ∷ Plain b ∷ Plain c ∷ Plain d ∷ []))) (decimal (Plain m ∷ Plain n ∷ [])) (decimal (Plain p ∷ Plain q ∷ [])))
+    (Plain p ∷ Plain q ∷ more) more
+unfolding date_at year_at four_digit_year_at digits_by next_by look_at
+basic_read a b c d m n p q more ea eb ec ed em en ep eq =
+    rw (ea, digit_no_sign a ea, eb, ec, ed) (basic_month_read (pos (decimal (Plain a ∷ Plain b ∷ Plain c ∷ Plain d ∷ []))) m n p q more em en ep eq)
+
+basic_of_numbers : (text : Text) (date : DateRecord) (century year month day : ℕ)
+    → (c : Number 0 text century) → (y : Number 2 text year) → (m : Number 4 text month) → (d : Number 6 text day)
+    → date_of (pos (100 * century + year)) month day ≡ date → date_at error_of text ≡ ranged date (drop 6 text) (drop 8 text)
+basic_of_numbers text date century year month day c y m d is =
+    let whole : text ≡ Plain c.a ∷ Plain c.b ∷ Plain y.a ∷ Plain y.b ∷ Plain m.a ∷ Plain m.b ∷ Plain d.a ∷ Plain d.b ∷ drop 8 text =
+    over_two c (over_two y (over_two m (over_two d refl))) in
+    let years = ap (λ n. pos n) (sym (year_is c.a c.b y.a y.b) ∙ rw (c.value, y.value) refl) in
+    let same = same_date date _ _ _ (years ∙ ap (λ x. x.year) is) (sym m.value ∙ ap (λ x. x.month) is) (sym d.value ∙ ap (λ x. x.day) is) in
+    ap (date_at error_of) whole ∙ basic_read _ _ _ _ _ _ _ _ (drop 8 text) c.is_a c.is_b y.is_a y.is_b m.is_a m.is_b d.is_a d.is_b
+    ∙ ap (λ r. ranged r (Plain d.a ∷ Plain d.b ∷ drop 8 text) (drop 8 text)) same ∙ ap (λ t. ranged date (drop 6 t) (drop 8 text)) (sym whole)
+
+-- a date without hyphens that is found is the one that is read, where its numbers are in range
+pub basic_date_is_read : (text : Text) (date : DateRecord) → basic_date_place text ≡ Some date
+    → date_at error_of text ≡ ranged date (drop 6 text) (drop 8 text)
+unfolding basic_date_place year_place basic_days_place
+basic_date_is_read text date e =
+    then_some (year_place text) _ date e λ years fy e1.
+    then_some (number_place 0 text) _ years fy λ century f0 y0.
+    then_some (number_place 2 text) _ years y0 λ year f1 y1.
+    then_some (number_place 4 text) _ date e1 λ month f2 e2.
+    then_some (number_place 6 text) _ date e2 λ day f3 e3.
+    basic_of_numbers text date century year month day (number_at_place 0 text century f0) (number_at_place 2 text year f1)
+    (number_at_place 4 text month f2) (number_at_place 6 text day f3) (same_year month day y1 e3)
+
+never : (b : Bool) → b ≡ false → IsTrue b → ⊥
+never true no_one is = absurd cc
+never false no_one is = absurd cc
+
+-- the letter at a place is of a class that 0 is not of
+pub byte_in_class : (class : Class) (place : ℕ) (text : Text) → class 0 ≡ false → IsTrue (class (byte_place place text))
+    → letter_place class place text ≡ Some (byte_place place text)
+byte_in_class class place text not_zero is = go (drop place text) is
+  where
+    go : (text : Text) → IsTrue (class (first_byte text)) → first_in class text ≡ Some (first_byte text)
+    go [] is = absurd (never (class 0) not_zero is)
+    go (Bad ∷ rest) is = absurd (never (class 0) not_zero is)
+    go (Plain c ∷ rest) is = rw is refl
+
+date_of_parts : (text : Text) (year : ℕ) (date : DateRecord) (mark : ℕ) → year_place text ≡ Some year → letter_place hyphen 4 text ≡ Some mark
+    → days_place year text ≡ Some date → date_place text ≡ Some date
+unfolding date_place
+date_of_parts text year date mark years first days =
+    ap (λ found. found >>? λ year. letter_place hyphen 4 text >>? λ _. days_place year text) years
+    ∙ (ap (λ found. found >>? λ _. days_place year text) first ∙ days)
+
+-- what is found of a year, a hyphen, a month and a day, and of the same without hyphens
+pub hyphened_is_read : (text : Text) (year : ℕ) (date : DateRecord) → year_place text ≡ Some year → IsTrue (hyphen (byte_place 4 text))
+    → days_place year text ≡ Some date → date_at error_of text ≡ ranged date (drop 7 text) (drop 10 text)
+hyphened_is_read text year date years mark days =
+    date_is_read text date (date_of_parts text year date (byte_place 4 text) years (byte_in_class hyphen 4 text refl mark) days)
+
+basic_of_parts : (text : Text) (year : ℕ) (date : DateRecord) → year_place text ≡ Some year → basic_days_place year text ≡ Some date
+    → basic_date_place text ≡ Some date
+unfolding basic_date_place
+basic_of_parts text year date years days = ap (λ found. found >>? λ year. basic_days_place year text) years ∙ days
+
+pub basic_is_read : (text : Text) (year : ℕ) (date : DateRecord) → year_place text ≡ Some year → basic_days_place year text ≡ Some date
+    → date_at error_of text ≡ ranged date (drop 6 text) (drop 8 text)
+basic_is_read text year date years days = basic_date_is_read text date (basic_of_parts text year date years days)
 
 -- what is found has nineteen letters
 long_enough : (text : Text) (found : DateRecord × TimeRecord) → date_time_place text ≡ Some found → 19 ≤ length text
@@ -447,3 +573,10 @@ too_short text short = none (date_time_place text) refl
     none : (found : Option (DateRecord × TimeRecord)) → date_time_place text ≡ found → found ≡ None
     none None e = refl
     none (Some x) e = let long = long_enough text x e in absurd (omega arith)
+
+-- and what the test of its numbers returned is what reading gives
+pub reads_tested : {X Y : Type 0} (letter : ℕ → Letter) (view : X → Y) (old new : Unread) (result : Result X Stop) (reading : Text → Read Placed Y) (tested : Read Placed Y)
+    → reading (map letter old.rest) ≡ tested → YieldsAt (λ x. (view x, map letter new.rest)) result (map letter new.rest) tested
+    → Reads letter view old result new reading
+reads_tested letter view old new (Ok x) reading tested read is = read ∙ is
+reads_tested letter view old new (Err stop) reading tested read is = read ∙ is

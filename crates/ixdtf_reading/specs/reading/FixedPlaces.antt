@@ -1,5 +1,6 @@
 -- Reading at fixed places: each place is looked at in turn, and nothing is read where one does not fit.
 use Rattle.std.specs.Prelude.{ℕ, Bool, pos, [], ◌∷◌, ◌+◌, ◌*◌, drop, Option, Some, None, Result, Ok, Err, nat_le, ◌&&◌, if◌then◌else◌}
+use Rattle.ixdtf_grammar.specs.declared.profile.Profile.{Profile}
 use Rattle.ixdtf_grammar.specs.declared.records.DateRecord.{DateRecord}
 use Rattle.ixdtf_grammar.specs.declared.records.MinutePrecisionOffset.{MinutePrecisionOffset}
 use Rattle.ixdtf_grammar.specs.declared.records.TimeRecord.{TimeRecord}
@@ -8,7 +9,12 @@ use Rattle.ixdtf_grammar.specs.language.Letters.Letter.{Plain, Bad}
 use Rattle.ixdtf_grammar.specs.language.Digits.{digit_value, decimal}
 use Rattle.ixdtf_grammar.specs.language.Dates.{month_length}
 use Rattle.ixdtf_grammar.specs.language.Offsets.{minutes_of}
-use Rattle.ixdtf_reading.specs.reading.Dates.{date_of}
+use Rattle.ixdtf_grammar.specs.table.Faults.Fault.{InvalidMonthRange}
+use Rattle.ixdtf_grammar.specs.table.LineNames.{of_month_day}
+use Rattle.ixdtf_grammar.specs.table.LineNames.MonthDayLine.{month_day_month_digits}
+use Rattle.ixdtf_reading.specs.reading.Looks.{Read, Placed, ◌>>=◌, error_of, digits_at}
+use Rattle.ixdtf_reading.specs.reading.Dates.{date_of, day_in_range}
+use Rattle.ixdtf_reading.specs.reading.Months.{lone_month_in_range, lone_day_in_range, lone_day_at}
 use Rattle.ixdtf_reading.specs.reading.Times.{time_of}
 
 -- from what was found to what is found with it
@@ -63,15 +69,28 @@ unfoldable pub days_place : ℕ → Text → Option DateRecord
 days_place year text =
     number_place 5 text >>? λ month. letter_place hyphen 7 text >>? λ _. number_place 8 text >>? λ day. Some (date_of (pos year) month day)
 
+-- the same without hyphens
+unfoldable pub basic_days_place : ℕ → Text → Option DateRecord
+basic_days_place year text = number_place 4 text >>? λ month. number_place 6 text >>? λ day. Some (date_of (pos year) month day)
+
 -- the date at the first ten places, whatever its month and its day
 unfoldable pub date_place : Text → Option DateRecord
 date_place text = year_place text >>? λ year. letter_place hyphen 4 text >>? λ _. days_place year text
+
+-- the date at the eight places of one without hyphens, whatever its month and its day
+unfoldable pub basic_date_place : Text → Option DateRecord
+basic_date_place text = year_place text >>? λ year. basic_days_place year text
 
 -- the time at the eight places after a date and a separator, whatever its numbers
 unfoldable pub time_place : Text → Option TimeRecord
 time_place text =
     number_place 11 text >>? λ hour. letter_place colon 13 text >>? λ _. number_place 14 text >>? λ minute.
     letter_place colon 16 text >>? λ _. number_place 17 text >>? λ second. Some (time_of hour minute second None)
+
+-- the date with the text after it, where its month and its day are in range, and the text after its month
+abbrev pub ranged : DateRecord → Text → Text → Read Placed DateRecord
+ranged date after_month rest =
+    if nat_le 1 date.month && nat_le date.month 12 then day_in_range error_of date rest else Err (InvalidMonthRange, after_month)
 
 -- whether the month is one and has the day
 abbrev pub date_in_range : DateRecord → Bool
@@ -94,7 +113,37 @@ offset_place c text =
     number_place 0 text >>? λ hour. letter_place colon 2 text >>? λ _. number_place 3 text >>? λ minute.
     if nat_le hour 23 && nat_le minute 59 then Some (minutes_of c (time_of hour minute 0 None)) else None
 
+-- the first day of a year's month that stands at a place and the next, whatever it is
+unfoldable pub month_of_year_place : ℕ → ℕ → Text → Option DateRecord
+month_of_year_place year place text = number_place place text >>? λ month. Some (date_of (pos year) month 1)
+
+-- the month-day of a month's day that stands at a place and the next, whatever these are
+unfoldable pub day_of_month_place : ℕ → ℕ → Text → Option DateRecord
+day_of_month_place month place text = number_place place text >>? λ day. Some (date_of (pos 0) month day)
+
+-- the year-month with the text after it, where its month is one
+abbrev pub ranged_month : DateRecord → Text → Read Placed DateRecord
+ranged_month date rest = if nat_le 1 date.month && nat_le date.month 12 then Ok (date, rest) else Err (InvalidMonthRange, rest)
+
+-- the month-day with the text after it, where its month is one and the profile has its day, and the text after its month
+abbrev pub ranged_day : Profile → DateRecord → Text → Text → Read Placed DateRecord
+ranged_day profile date after_month rest =
+    if nat_le 1 date.month && nat_le date.month 12 then lone_day_in_range error_of profile date.month date.day rest
+    else Err (InvalidMonthRange, after_month)
+
+-- whether two hyphens stand in front
+abbrev pub marks_place : Text → Bool
+marks_place text = hyphen (byte_place 0 text) && hyphen (byte_place 1 text)
+
+-- a month-day, without the hyphens that may stand before its month
+abbrev pub unmarked_at : Profile → Text → Read Placed DateRecord
+unmarked_at profile text = do
+  ds ← digits_at error_of (of_month_day month_day_month_digits) 2 text
+  month ← lone_month_in_range error_of ds
+  lone_day_at error_of profile month.0 month.1
+
 -- opening this opens the readings of parts at fixed places
 unfoldable pub fixed_readings : ℕ
-unfolding number_place year_place days_place date_place time_place date_time_place offset_place
+unfolding number_place year_place days_place basic_days_place date_place basic_date_place time_place date_time_place
+    offset_place month_of_year_place day_of_month_place
 fixed_readings = 0

@@ -12,7 +12,7 @@ use crate::encoding::EncodingType;
 use crate::parsers::profile::Profile;
 use crate::records::DateRecord;
 use crate::cursor::Cursor;
-use crate::parsers::grammar::{is_date_time_separator, is_hyphen, number_of};
+use crate::grammar::{is_date_time_separator, is_hyphen, number_of};
 use crate::stop::Stop;
 
 /// A time to its second.

@@ -173,7 +173,7 @@ pub fn is_annotation_value_component(byte: u8) -> bool {
 /// The number of two digits.
 #[inline(always)]
 pub fn digits_value(tens: u8, ones: u8) -> u8 {
-    10 * (tens - b'0') + (ones - b'0')
+    number_of(tens, ones)
 }
 
 /// The number of two digits, or at least 100 where one of the bytes is no digit.

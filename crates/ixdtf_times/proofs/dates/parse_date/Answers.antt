@@ -1,0 +1,11 @@
+use Rattle.std.proofs.Common.{subst}
+use Rattle.std.specs.Prelude.{IfSome}
+use Rattle.ixdtf_reading.specs.reading.Clauses.{Reads}
+use Rattle.ixdtf_reading.specs.reading.Looks.{error_of}
+use Rattle.ixdtf_reading.specs.reading.Dates.{date_at}
+use Rattle.ixdtf_times.proofs.dates.parse_date.Goals as goal
+
+pub returns-in-Some-clause-date : goal.returns-in-Some-clause-date
+returns-in-Some-clause-date g c =
+    subst (λ found. IfSome found (λ read. Reads g.T.EncodingType.letter (λ d. d) c.args.cursor.now read c.take_fixed_date.new.cursor (date_at error_of)))
+    c.in-Some.is c.take_fixed_date.ensures.read
