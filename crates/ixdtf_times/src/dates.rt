@@ -2,14 +2,14 @@
 
 #![tactic(auto, unfolding(ixdtf_reading::specs::reading::Dates::date_readings))]
 
-ghost use Rattle.std.specs.Prelude.{◌≡◌, ◌&&◌, ◌+◌, ◌*◌, ◌-◌, ◌<◌, ◌≤◌, map, nat_le, length, None, IsTrue, IfOk, IfSome, OnOk};
+ghost use Rattle.std.specs.Prelude.{◌≡◌, ◌&&◌, ◌+◌, ◌*◌, ◌-◌, ◌<◌, ◌≤◌, map, nat_le, pos, length, None, IsTrue, IfOk, IfSome, OnOk};
 ghost use Rattle.ixdtf_grammar.specs.language.Letters.{Text, digit, hyphen};
 ghost use Rattle.ixdtf_grammar.specs.language.Dates.{is_leap, month_length};
 ghost use Rattle.ixdtf_grammar.specs.table.Faults.Fault.{DateExtendedYear, DateMonth, InvalidMonthRange, InvalidDayRange};
 ghost use Rattle.ixdtf_reading.specs.reading.Clauses.{Reads, Spends, SpendsInAll, SpendsOr, Checks, Yields, fault_of_stop, hyphen_look};
 ghost use Rattle.ixdtf_reading.specs.reading.FixedPlaces.{ranged};
 ghost use Rattle.ixdtf_reading.specs.reading.Looks.{error_of, number_of, digits_by, digit_look, mark_by, mark_at};
-ghost use Rattle.ixdtf_reading.specs.reading.Dates.{date_of, year_at, four_digit_year_at, extended_year_at, date_at, month_by, day_at, line_after_month};
+ghost use Rattle.ixdtf_reading.specs.reading.Dates.{date_of, year_at, four_digit_year_at, extended_year_at, date_at, days_at, month_by, day_at, line_after_month};
 
 use crate::fixed::take_fixed_date;
 use ixdtf_grammar::encoding::EncodingType;
@@ -82,6 +82,20 @@ fn parse_date_parts<'a, T: EncodingType>(cursor: &mut Cursor<'a, T>) -> Result<D
     let year = parse_date_year(cursor)?;
     let (month, hyphened) = parse_month(cursor, Stop::AbruptDate)?;
     parse_day(cursor, year, month, hyphened)
+}
+
+/// Reads the month and the day after a year of four digits, part by part.
+#[inline(always)]
+pub fn parse_days<'a, T: EncodingType>(
+    cursor: &mut Cursor<'a, T>,
+    year: u16,
+) -> Result<DateRecord, Stop>
+    ensures date { Reads T.letter (λ date. date) cursor.old result cursor.new
+        (days_at error_of (pos year)) }
+    ensures looks { Spends 4 cursor.old cursor.new }
+{
+    let (month, hyphened) = parse_month(cursor, Stop::AbruptDate)?;
+    parse_day(cursor, i32::from(year), month, hyphened)
 }
 
 // ==== Years ====

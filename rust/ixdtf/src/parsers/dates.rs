@@ -54,6 +54,16 @@ fn parse_date_parts<'a, T: EncodingType>(cursor: &mut Cursor<'a, T>) -> Result<D
     parse_day(cursor, year, month, hyphened)
 }
 
+/// Reads the month and the day after a year of four digits, part by part.
+#[inline(always)]
+pub fn parse_days<'a, T: EncodingType>(
+    cursor: &mut Cursor<'a, T>,
+    year: u16,
+) -> Result<DateRecord, Stop> {
+    let (month, hyphened) = parse_month(cursor, Stop::AbruptDate)?;
+    parse_day(cursor, i32::from(year), month, hyphened)
+}
+
 // ==== Years ====
 
 /// Reads a year: four digits, or a sign and six digits.
