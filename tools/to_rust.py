@@ -64,7 +64,7 @@ FOR_C = ('#![cfg_attr(not(test), no_std)]\n', '\n#[cfg(not(test))]\nmod abort;\n
 # the layers of the library, and where their modules stand in the crate that is made of all of them
 LAYERS = {
     'ixdtf_grammar': 'encoding error located packed pointed records parsers/profile'.split(),
-    'ixdtf_reading': 'cursor stop parsers/annotations parsers/grammar parsers/letters'.split(),
+    'ixdtf_reading': 'cursor grammar stop parsers/annotations parsers/letters'.split(),
     'ixdtf_times': 'parsers/dates parsers/fixed parsers/months parsers/offsets parsers/time'.split(),
     'ixdtf_brackets': 'parsers/brackets parsers/timezone'.split(),
     'ixdtf_durations': 'parsers/duration'.split(),

@@ -5,14 +5,16 @@
 
 #![tactic(auto, unfolding(crate::specs::reading::Looks::look_readings))]
 
-ghost use Rattle.std.specs.Prelude.{◌≡◌, ℕ, ◌+◌, ◌-◌, ◌<◌, ◌≤◌, ◌∷◌, List, [], map, length, drop, Ok, Some, None, IfOk, IfErr, OnOk, OnErr, IsTrue, nat_eq};
+ghost use Rattle.std.specs.Prelude.{◌≡◌, ℕ, ◌+◌, ◌-◌, ◌<◌, ◌≤◌, ◌∷◌, List, [], map, length, drop, Option, Result, Ok, Err, Some, None, IfOk, IfErr, OnOk, OnErr, IsTrue, IsFalse, nat_eq};
 ghost use Rattle.ixdtf_grammar.specs.language.Letters.{digit};
 ghost use Rattle.ixdtf_grammar.specs.language.Letters.Letter.{Plain};
+ghost use Rattle.ixdtf_grammar.specs.table.Faults.{Fault};
 ghost use Rattle.ixdtf_grammar.specs.Views.{Unread, ascii_at};
 ghost use Rattle.ixdtf_reading.specs.reading.Clauses.{Reads, Settles, Spends, SpendsOr, Yields, YieldsAt, fault_of_stop, digit_seen, end_look};
-ghost use Rattle.ixdtf_reading.specs.reading.FixedPlaces.{letter_place, byte_place};
+ghost use Rattle.ixdtf_reading.specs.reading.FixedPlaces.{letter_place, byte_place, byte_of_look};
 ghost use Rattle.ixdtf_reading.specs.reading.Looks.{seen, next_by, peek_by, digit_look, digits_by};
 
+use crate::grammar::number_of;
 use crate::looks::Looks;
 use crate::stop::{Raised, Stop};
 use ixdtf_grammar::encoding::EncodingType;
@@ -201,7 +203,7 @@ impl<'a, T: EncodingType> Cursor<'a, T> {
         }
     }
 
-    /// Takes two digits, and returns them as ASCII bytes, with one test for the end.
+    /// Takes two digits, and returns them as ASCII bytes, with one test for the end, and one by the tables for both.
     #[inline(always)]
     pub fn two_digits(&mut self, other: Stop) -> Result<(u8, u8), Stop>
         ensures digits { Reads T.letter (λ ds. Plain ds.0 ∷ Plain ds.1 ∷ [])
@@ -216,17 +218,19 @@ impl<'a, T: EncodingType> Cursor<'a, T> {
             self.step();
             return Err(Stop::AbruptDigit);
         }
-        let tens = self.digit_at(0, other)?;
-        match self.digit_at(1, other) {
-            Err(stop) => {
-                self.step();
-                Err(stop)
-            }
-            Ok(ones) => {
-                self.skip(2);
-                Ok((tens, ones))
-            }
+        let first = self.look_at(0);
+        let second = self.look_at(1);
+        let tens = byte_of(first);
+        let ones = byte_of(second);
+        if number_of(tens, ones) <= 99 {
+            self.skip(2);
+            return Ok((tens, ones));
         }
+        if !tens.is_ascii_digit() {
+            return Err(no_digit(first, other));
+        }
+        self.step();
+        Err(no_digit(second, other))
     }
 
     /// Skips `count` code units.
@@ -281,5 +285,30 @@ impl<'a, T: EncodingType> Cursor<'a, T> {
             None => Ok(()),
             Some(_) => Err(Stop::InvalidEnd),
         }
+    }
+}
+
+/// The letter that a look found, as an ASCII byte, or 0 where it found none.
+#[inline(always)]
+fn byte_of(found: Result<Option<u8>, Stop>) -> u8
+    ensures { result ≡ byte_of_look found }
+{
+    match found {
+        Ok(Some(byte)) => byte,
+        _ => 0,
+    }
+}
+
+/// Why a look that found no digit stops: another letter is this stop.
+#[inline(always)]
+fn no_digit(found: Result<Option<u8>, Stop>, other: Stop) -> Stop
+    requires { IsFalse (digit (byte_of_look found)) }
+    ensures { (seen : Result (Option ℕ) Fault) → Yields (λ found. found) found seen →
+        digit_seen (fault_of_stop other) seen ≡ Err (fault_of_stop result) }
+{
+    match found {
+        Ok(None) => Stop::AbruptDigit,
+        Ok(Some(_)) => other,
+        Err(stop) => stop,
     }
 }

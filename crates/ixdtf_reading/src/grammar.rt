@@ -1,6 +1,6 @@
 //! The classes of characters.
 
-ghost use Rattle.std.specs.Prelude.{◌≡◌, ◌+◌, ◌<◌, ◌≤◌, ◌∷◌, [], IsTrue};
+ghost use Rattle.std.specs.Prelude.{◌≡◌, ◌+◌, ◌<◌, ◌≤◌, ◌∷◌, [], IsTrue, IsFalse};
 ghost use Rattle.ixdtf_grammar.specs.language.Letters.{digit, sign, hyphen, colon, decimal_mark, date_time_separator, time_letter, duration_designator, zulu};
 ghost use Rattle.ixdtf_grammar.specs.language.Letters.{opening, closing, exclamation, equals, slash, zone_lead, zone_char, key_lead, key_char, value_char};
 ghost use Rattle.ixdtf_grammar.specs.language.Letters.Letter.{Plain};
@@ -223,13 +223,15 @@ pub fn digits_value(tens: u8, ones: u8) -> u8
     ensures value { result ≡ decimal (Plain tens ∷ Plain ones ∷ []) }
     ensures small { result < 100 }
 {
-    10 * (tens - b'0') + (ones - b'0')
+    number_of(tens, ones)
 }
 
 /// The value of two digits, or at least 100 where one of the bytes is not a digit.
 #[inline(always)]
 pub fn number_of(tens: u8, ones: u8) -> u8
-    ensures { result ≡ tens_value tens + ones_value ones }
+    ensures value { result ≡ tens_value tens + ones_value ones }
+    ensures digits { result ≤ 99 → IsTrue (digit tens) × IsTrue (digit ones) }
+    ensures other { 99 < result → IsTrue (digit tens) → IsFalse (digit ones) }
 {
     tens_of(tens) + ones_of(ones)
 }

@@ -2,14 +2,14 @@
 
 #![tactic(auto, unfolding(ixdtf_reading::specs::reading::Dates::date_readings))]
 
-ghost use Rattle.std.specs.Prelude.{◌≡◌, ◌&&◌, ◌+◌, ◌*◌, ◌-◌, ◌<◌, ◌≤◌, map, nat_le, length, None, IsTrue, IfOk, IfSome, OnOk};
+ghost use Rattle.std.specs.Prelude.{◌≡◌, ◌&&◌, ◌+◌, ◌*◌, ◌-◌, ◌<◌, ◌≤◌, map, nat_le, pos, length, None, IsTrue, IfOk, IfSome, OnOk};
 ghost use Rattle.ixdtf_grammar.specs.language.Letters.{Text, digit, hyphen};
 ghost use Rattle.ixdtf_grammar.specs.language.Dates.{is_leap, month_length};
 ghost use Rattle.ixdtf_grammar.specs.table.Faults.Fault.{DateExtendedYear, DateMonth, InvalidMonthRange, InvalidDayRange};
 ghost use Rattle.ixdtf_reading.specs.reading.Clauses.{Reads, Spends, SpendsInAll, SpendsOr, Checks, Yields, fault_of_stop, hyphen_look};
 ghost use Rattle.ixdtf_reading.specs.reading.FixedPlaces.{ranged};
 ghost use Rattle.ixdtf_reading.specs.reading.Looks.{error_of, number_of, digits_by, digit_look, mark_by, mark_at};
-ghost use Rattle.ixdtf_reading.specs.reading.Dates.{date_of, year_at, four_digit_year_at, extended_year_at, date_at, month_by, day_at, line_after_month};
+ghost use Rattle.ixdtf_reading.specs.reading.Dates.{date_of, year_at, four_digit_year_at, extended_year_at, date_at, days_at, month_by, day_at, line_after_month};
 
 use crate::fixed::take_fixed_date;
 use ixdtf_grammar::encoding::EncodingType;
@@ -34,7 +34,7 @@ pub fn parse_date<'a, T: EncodingType>(cursor: &mut Cursor<'a, T>) -> Result<Dat
     }
 }
 
-/// Finds the fault of fewer units than a date has: without a call where the first letter begins no year.
+/// Finds the fault of fewer units than a date has, without a call.
 #[inline(always)]
 #[tactic(auto, unfolding(ixdtf_reading::specs::reading::Dates::date_at, ixdtf_reading::specs::reading::Dates::year_at, ixdtf_reading::specs::reading::Looks::next_by))]
 fn parse_short_date<'a, T: EncodingType>(cursor: &mut Cursor<'a, T>) -> Result<DateRecord, Stop>
@@ -44,7 +44,7 @@ fn parse_short_date<'a, T: EncodingType>(cursor: &mut Cursor<'a, T>) -> Result<D
 {
     match cursor.look()? {
         None => Err(Stop::AbruptDigit),
-        Some(byte) if byte.is_ascii_digit() || is_ascii_sign(byte) => parse_other_date(cursor),
+        Some(byte) if byte.is_ascii_digit() || is_ascii_sign(byte) => parse_date_parts(cursor),
         Some(_) => Err(Stop::DateYear),
     }
 }
@@ -69,9 +69,33 @@ fn parse_any_date<'a, T: EncodingType>(cursor: &mut Cursor<'a, T>) -> Result<Dat
         (date_at error_of) }
     ensures looks { Spends 6 cursor.old cursor.new }
 {
+    parse_date_parts(cursor)
+}
+
+/// Reads the parts of a date.
+#[inline(always)]
+fn parse_date_parts<'a, T: EncodingType>(cursor: &mut Cursor<'a, T>) -> Result<DateRecord, Stop>
+    ensures date { Reads T.letter (λ date. date) cursor.old result cursor.new
+        (date_at error_of) }
+    ensures looks { Spends 6 cursor.old cursor.new }
+{
     let year = parse_date_year(cursor)?;
     let (month, hyphened) = parse_month(cursor, Stop::AbruptDate)?;
     parse_day(cursor, year, month, hyphened)
+}
+
+/// Reads the month and the day after a year of four digits, part by part.
+#[inline(always)]
+pub fn parse_days<'a, T: EncodingType>(
+    cursor: &mut Cursor<'a, T>,
+    year: u16,
+) -> Result<DateRecord, Stop>
+    ensures date { Reads T.letter (λ date. date) cursor.old result cursor.new
+        (days_at error_of (pos year)) }
+    ensures looks { Spends 4 cursor.old cursor.new }
+{
+    let (month, hyphened) = parse_month(cursor, Stop::AbruptDate)?;
+    parse_day(cursor, i32::from(year), month, hyphened)
 }
 
 // ==== Years ====
@@ -210,11 +234,11 @@ pub fn take_hyphen<'a, T: EncodingType>(
 {
     match cursor.look()? {
         None => Err(at_end),
-        Some(byte) if byte.is_ascii_digit() => Ok(false),
         Some(byte) if is_hyphen(byte) => {
             cursor.step();
             Ok(true)
         }
+        Some(byte) if byte.is_ascii_digit() => Ok(false),
         Some(_) => Err(other),
     }
 }

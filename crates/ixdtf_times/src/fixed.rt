@@ -20,7 +20,7 @@ ghost use Rattle.ixdtf_reading.specs.reading.FixedPlaces.{letter_place, byte_pla
 ghost use Rattle.ixdtf_reading.specs.reading.FixedPlaces.{ranged_month, ranged_day, marks_place, unmarked_at, date_in_range, time_in_range, ranged};
 ghost use Rattle.ixdtf_reading.specs.reading.FixedPlaces.{year_place, days_place, basic_days_place, date_place, basic_date_place, time_place, date_time_place};
 
-use crate::dates::{check_date, check_month, has_day};
+use crate::dates::{check_date, check_month, has_day, parse_days};
 use crate::months::check_month_day;
 use ixdtf_grammar::encoding::EncodingType;
 use ixdtf_grammar::profile::Profile;
@@ -102,8 +102,8 @@ fn fixed_date<'a, T: EncodingType>(cursor: &mut Cursor<'a, T>) -> Option<DateRec
     fixed_days(cursor, year)
 }
 
-/// Reads the date that stands at the first ten places, or at the eight of one without hyphens. It is `None`, with the rest
-/// unchanged, at the first place that does not fit.
+/// Reads the date that stands at the first ten places, or at the eight of one without hyphens. Where only its year does, what
+/// follows is read on part by part. It is `None`, with the rest unchanged, where its year does not fit.
 #[inline(always)]
 pub fn take_fixed_date<'a, T: EncodingType>(
     cursor: &mut Cursor<'a, T>,
@@ -111,20 +111,22 @@ pub fn take_fixed_date<'a, T: EncodingType>(
     ensures read { IfSome result (λ read. Reads T.letter (λ date. date) cursor.old read cursor.new
         (date_at error_of)) }
     ensures rest { result ≡ None → cursor.new.rest ≡ cursor.old.rest }
-    ensures shorter { length cursor.new.rest ≤ length cursor.old.rest }
-    ensures few { cursor.new.looks ≤ cursor.old.looks + 10 }
-    ensures counted { cursor.old.looks ≤ cursor.new.looks }
+    ensures few { result ≡ None → cursor.new.looks ≤ cursor.old.looks + 4 }
+    ensures looks { Spends 10 cursor.old cursor.new }
 {
     if cursor.remaining() < 8 {
         return None;
     }
     let year = fixed_year(cursor)?;
     if is_hyphen(cursor.byte_at(4)) {
-        let date = fixed_days(cursor, year)?;
-        return Some(take_date(cursor, date, 7, 10));
+        if let Some(date) = fixed_days(cursor, year) {
+            return Some(take_date(cursor, date, 7, 10));
+        }
+    } else if let Some(date) = fixed_basic_days(cursor, year) {
+        return Some(take_date(cursor, date, 6, 8));
     }
-    let date = fixed_basic_days(cursor, year)?;
-    Some(take_date(cursor, date, 6, 8))
+    cursor.skip(4);
+    Some(parse_days(cursor, year))
 }
 
 /// Takes a date off, whose month and whose day end behind so many units. Where its month is none, what stands behind the

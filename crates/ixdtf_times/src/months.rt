@@ -106,37 +106,8 @@ pub fn parse_month_day_date<'a, T: EncodingType>(
 {
     match take_fixed_month_day(cursor, profile) {
         Some(read) => read,
-        None => parse_other_month_day(cursor, profile),
+        None => parse_month_day_parts(cursor, profile),
     }
-}
-
-/// Reads a month-day part by part, by a cursor of its own.
-#[inline(always)]
-fn parse_other_month_day<'a, T: EncodingType>(
-    cursor: &mut Cursor<'a, T>,
-    profile: Profile,
-) -> Result<DateRecord, Stop>
-    ensures date { Reads T.letter (λ date. date) cursor.old result cursor.new
-        (month_day_at error_of profile) }
-    ensures looks { Spends 7 cursor.old cursor.new }
-{
-    let mut here = cursor.take();
-    let read = parse_any_month_day(&mut here, profile);
-    *cursor = here;
-    read
-}
-
-/// Reads a month-day of any form. It is not inlined: texts with one have it at fixed places, and others have a fault here.
-#[inline(never)]
-fn parse_any_month_day<'a, T: EncodingType>(
-    cursor: &mut Cursor<'a, T>,
-    profile: Profile,
-) -> Result<DateRecord, Stop>
-    ensures date { Reads T.letter (λ date. date) cursor.old result cursor.new
-        (month_day_at error_of profile) }
-    ensures looks { Spends 7 cursor.old cursor.new }
-{
-    parse_month_day_parts(cursor, profile)
 }
 
 /// Reads the parts of a month-day.

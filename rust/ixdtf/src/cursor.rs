@@ -5,6 +5,7 @@
 //! A cursor has no index. It keeps the remaining code units as one slice, so it cannot point past the end. A reader
 //! that returns an error restores the slice that it began with.
 
+use crate::grammar::number_of;
 use crate::stop::{Raised, Stop};
 use crate::encoding::EncodingType;
 
@@ -117,7 +118,7 @@ impl<'a, T: EncodingType> Cursor<'a, T> {
         }
     }
 
-    /// Takes two digits, and returns them as ASCII bytes, with one test for the end.
+    /// Takes two digits, and returns them as ASCII bytes, with one test for the end, and one by the tables for both.
     #[inline(always)]
     pub fn two_digits(&mut self, other: Stop) -> Result<(u8, u8), Stop> {
         if self.rest.len() < 2 {
@@ -125,17 +126,19 @@ impl<'a, T: EncodingType> Cursor<'a, T> {
             self.step();
             return Err(Stop::AbruptDigit);
         }
-        let tens = self.digit_at(0, other)?;
-        match self.digit_at(1, other) {
-            Err(stop) => {
-                self.step();
-                Err(stop)
-            }
-            Ok(ones) => {
-                self.skip(2);
-                Ok((tens, ones))
-            }
+        let first = self.look_at(0);
+        let second = self.look_at(1);
+        let tens = byte_of(first);
+        let ones = byte_of(second);
+        if number_of(tens, ones) <= 99 {
+            self.skip(2);
+            return Ok((tens, ones));
         }
+        if !tens.is_ascii_digit() {
+            return Err(no_digit(first, other));
+        }
+        self.step();
+        Err(no_digit(second, other))
     }
 
     /// Skips `count` code units.
@@ -170,5 +173,24 @@ impl<'a, T: EncodingType> Cursor<'a, T> {
             None => Ok(()),
             Some(_) => Err(Stop::InvalidEnd),
         }
+    }
+}
+
+/// The letter that a look found, as an ASCII byte, or 0 where it found none.
+#[inline(always)]
+fn byte_of(found: Result<Option<u8>, Stop>) -> u8 {
+    match found {
+        Ok(Some(byte)) => byte,
+        _ => 0,
+    }
+}
+
+/// Why a look that found no digit stops: another letter is this stop.
+#[inline(always)]
+fn no_digit(found: Result<Option<u8>, Stop>, other: Stop) -> Stop {
+    match found {
+        Ok(None) => Stop::AbruptDigit,
+        Ok(Some(_)) => other,
+        Err(stop) => stop,
     }
 }

@@ -10,6 +10,7 @@ extern crate self as ixdtf;
 mod cursor;
 pub mod encoding;
 mod error;
+mod grammar;
 mod located;
 mod packed;
 pub mod parsers;

@@ -14,7 +14,6 @@ mod cores;
 mod dates;
 mod duration;
 mod fixed;
-mod grammar;
 mod letters;
 mod months;
 mod offsets;

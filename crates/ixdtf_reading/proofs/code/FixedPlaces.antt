@@ -16,7 +16,7 @@ use Rattle.ixdtf_grammar.specs.table.Faults.{Fault}
 use Rattle.ixdtf_reading.specs.declared.stop.Stop.{Stop}
 use Rattle.ixdtf_grammar.specs.Views.{Unread, ascii_at, looked}
 use Rattle.ixdtf_reading.specs.reading.Clauses.{Reads, YieldsAt}
-use Rattle.ixdtf_reading.specs.reading.Dates.{date_of, year_at, four_digit_year_at, month_in_range, month_by, month_at, day_in_range, day_at, date_at}
+use Rattle.ixdtf_reading.specs.reading.Dates.{date_of, year_at, four_digit_year_at, month_in_range, month_by, month_at, day_in_range, day_at, days_at, date_at}
 use Rattle.ixdtf_reading.specs.reading.Times.{time_of}
 use Rattle.ixdtf_grammar.specs.table.Faults.Fault.{InvalidMonthRange}
 use Rattle.ixdtf_grammar.specs.table.LineNames.{of_date}
@@ -24,7 +24,7 @@ use Rattle.ixdtf_grammar.specs.table.LineNames.DateLine.{after_year}
 use Rattle.ixdtf_reading.specs.reading.Looks.{Read, Placed, ◌>>=◌, error_of, look_at, next_by, mark_by, digits_by}
 use Rattle.ixdtf_reading.proofs.parts.Looks.{in_turn, onto}
 use Rattle.ixdtf_reading.proofs.code.DigitClasses.{digit_no_sign, digit_no_hyphen}
-use Rattle.ixdtf_reading.specs.reading.FixedPlaces.{ranged, ◌>>?◌, first_in, letter_place, first_byte, byte_place, tens_value, ones_value, number_place}
+use Rattle.ixdtf_reading.specs.reading.FixedPlaces.{ranged, ◌>>?◌, first_in, letter_place, first_byte, byte_place, byte_of_look, tens_value, ones_value, number_place}
 use Rattle.ixdtf_reading.specs.reading.FixedPlaces.{year_place, days_place, basic_days_place, date_place, basic_date_place, time_place, date_in_range}
 use Rattle.ixdtf_reading.specs.reading.FixedPlaces.{time_in_range, date_time_place}
 
@@ -45,12 +45,6 @@ place_looked letter class zero (u ∷ more) = go (letter u)
     go (Plain n) = refl
     go Bad = refl
 place_looked letter class (suc place) (u ∷ more) = place_looked letter class place more
-
--- the code unit that a look found, or 0
-abbrev pub byte_of_look : Result (Option ℕ) Fault → ℕ
-byte_of_look (Ok None) = 0
-byte_of_look (Ok (Some c)) = c
-byte_of_look (Err e) = 0
 
 pub byte_looked : (letter : ℕ → Letter) (place : ℕ) (units : List ℕ) → byte_place place (map letter units) ≡ byte_of_look (ascii_at letter place units)
 byte_looked letter zero [] = refl
@@ -586,3 +580,29 @@ pub reads_tested : {X Y : Type 0} (letter : ℕ → Letter) (view : X → Y) (ol
     → Reads letter view old result new reading
 reads_tested letter view old new (Ok x) reading tested read is = read ∙ is
 reads_tested letter view old new (Err stop) reading tested read is = read ∙ is
+
+-- and what a reading goes on with from where another began is what it gives
+pub reads_on : {X Y : Type 0} (letter : ℕ → Letter) (view : X → Y) (old here new : Unread) (result : Result X Stop) (reading further : Text → Read Placed Y)
+    → reading (map letter old.rest) ≡ further (map letter here.rest) → Reads letter view here result new further → Reads letter view old result new reading
+reads_on letter view old here new (Ok x) reading further same is = same ∙ is
+reads_on letter view old here new (Err stop) reading further same is = same ∙ is
+
+year_read : (a b c d : ℕ) (more : Text) → IsTrue (digit a) → IsTrue (digit b) → IsTrue (digit c) → IsTrue (digit d)
+    → date_at error_of (Plain a ∷ Plain b ∷ Plain c ∷ Plain d ∷ more) ≡ days_at error_of (pos (decimal (Plain a ∷ Plain b ∷ Plain c ∷ Plain d ∷ []))) more
+unfolding date_at year_at four_digit_year_at digits_by next_by look_at
+year_read a b c d more ea eb ec ed = rw (ea, digit_no_sign a ea, eb, ec, ed) refl
+
+year_of_numbers : (text : Text) (year century rest : ℕ) → (c : Number 0 text century) → (y : Number 2 text rest) → 100 * century + rest ≡ year
+    → date_at error_of text ≡ days_at error_of (pos year) (drop 4 text)
+year_of_numbers text year century rest c y is =
+    let value : decimal (Plain c.a ∷ Plain c.b ∷ Plain y.a ∷ Plain y.b ∷ []) ≡ year = sym (rw (c.value, y.value) (year_is c.a c.b y.a y.b)) ∙ is in
+    ap (date_at error_of) (over_two c (over_two y refl)) ∙ year_read c.a c.b y.a y.b (drop 4 text) c.is_a c.is_b y.is_a y.is_b
+    ∙ ap (λ n. days_at error_of (pos n) (drop 4 text)) value
+
+-- a year that is found is read, and the month and the day after it
+pub year_is_read : (text : Text) (year : ℕ) → year_place text ≡ Some year → date_at error_of text ≡ days_at error_of (pos year) (drop 4 text)
+unfolding year_place
+year_is_read text year e =
+    then_some (number_place 0 text) _ year e λ century f0 e0.
+    then_some (number_place 2 text) _ year e0 λ rest f1 e1.
+    year_of_numbers text year century rest (number_at_place 0 text century f0) (number_at_place 2 text rest f1) cc

@@ -1,10 +1,10 @@
 -- Tables, held against what they are tables of at each place by computing.
-use Rattle.std.proofs.Common.{◌≡◌, ℕ, zero, suc, ◌+◌, ◌<◌, ◌≤◌, Bool, true, false, ◌&&◌, nat_eq, List, [], ◌∷◌, slice_index_or, bit_and, refl, arith, inl, inr}
-use Rattle.std.specs.Prelude.{not}
+use Rattle.std.proofs.Common.{◌≡◌, ℕ, zero, suc, ◌+◌, ◌<◌, ◌≤◌, Bool, true, false, ◌&&◌, nat_eq, List, [], ◌∷◌, slice_index_or, bit_and, IsTrue, refl, arith, inl, inr}
+use Rattle.std.specs.Prelude.{not, IsFalse}
 use Rattle.std.specs.Bool.{beq}
 use Rattle.std.proofs.lemmas.Bool.Decides.{nat_tests}
 use Rattle.std.proofs.lemmas.Bool.{cases_eq}
-use Rattle.ixdtf_grammar.specs.language.Letters.{zone_char, key_char, value_char}
+use Rattle.ixdtf_grammar.specs.language.Letters.{digit, zone_char, key_char, value_char}
 use Rattle.ixdtf_reading.specs.reading.FixedPlaces.{tens_value, ones_value}
 
 -- the two tests agree below n
@@ -88,3 +88,13 @@ tens_small c = grind (arith, nat_tests)
 
 pub ones_small : (c : ℕ) → ones_value c ≤ 100
 ones_small c = grind (arith, nat_tests)
+
+-- a number below 100 by the tables is one of two digits, and any other is not
+pub tens_is_digit : (tens ones : ℕ) → tens_value tens + ones_value ones ≤ 99 → IsTrue (digit tens)
+tens_is_digit tens ones small = grind (arith, nat_tests)
+
+pub ones_is_digit : (tens ones : ℕ) → tens_value tens + ones_value ones ≤ 99 → IsTrue (digit ones)
+ones_is_digit tens ones small = grind (arith, nat_tests)
+
+pub ones_is_none : (tens ones : ℕ) → 99 < tens_value tens + ones_value ones → IsTrue (digit tens) → IsFalse (digit ones)
+ones_is_none tens ones great is = grind (arith, nat_tests)

@@ -1,5 +1,6 @@
 -- Two digits, by looks at the first two places.
-use Rattle.std.proofs.Common.{◌≡◌, ℕ, ◌≤◌, ◌<◌, Bool, true, false, List, [], ◌∷◌, length, map, drop, Some, Ok, Err, refl, arith}
+use Rattle.std.proofs.Common.{◌≡◌, ℕ, ◌≤◌, ◌<◌, Bool, true, false, IsTrue, List, [], ◌∷◌, length, map, drop, Option, Some, None, Result, Ok, Err, refl, arith}
+use Rattle.ixdtf_reading.specs.declared.stop.Stop.{Stop}
 use Rattle.ixdtf_grammar.specs.language.Letters.{Letter, Text}
 use Rattle.ixdtf_grammar.specs.language.Letters.Letter.{Plain, Bad}
 use Rattle.ixdtf_grammar.specs.language.Letters.{digit}
@@ -7,8 +8,16 @@ use Rattle.ixdtf_grammar.specs.table.Faults.{Fault}
 use Rattle.ixdtf_grammar.specs.table.Lines.{abrupt_digit}
 use Rattle.ixdtf_grammar.specs.Views.{ascii_at, looked}
 use Rattle.ixdtf_reading.specs.reading.Looks.{Placed, Read, ◌>>=◌, look_at, next_by, digits_by, digit_look}
-use Rattle.ixdtf_reading.specs.reading.Clauses.{digit_seen}
+use Rattle.ixdtf_reading.specs.reading.Clauses.{digit_seen, Yields}
+use Rattle.ixdtf_reading.specs.reading.FixedPlaces.{byte_of_look}
 use Rattle.ixdtf_reading.proofs.code.Units.{placed}
+
+-- a look that found a digit
+pub seen_digit : (other : Fault) (found : Result (Option ℕ) Stop) (seen : Result (Option ℕ) Fault) → Yields (λ x. x) found seen
+    → IsTrue (digit (byte_of_look found)) → digit_seen other seen ≡ Ok (byte_of_look found)
+seen_digit other (Ok None) seen is digits = absurd cc
+seen_digit other (Ok (Some c)) seen is digits = rw (is, digits) refl
+seen_digit other (Err stop) seen is digits = absurd cc
 
 module _ (letter : ℕ → Letter) (other : Fault) where
   abbrev two : List ℕ → Read Placed Text

@@ -71,6 +71,10 @@ day_at fault year month text = do
   ds ← digits_at fault (of_date day_digits) 2 mark.1
   day_in_range fault (date_of year month.0 (decimal ds.0)) ds.1
 
+-- after a year
+abbrev pub days_at : {E : Type 0} → (Row → E) → ℤ → Text → Read E DateRecord
+days_at fault year text = month_at fault (of_date after_year) text >>= λ month. day_at fault year month.0 month.1
+
 unfoldable pub date_at : {E : Type 0} → (Row → E) → Text → Read E DateRecord
 date_at fault text = do
   year ← year_at fault text

@@ -1,5 +1,5 @@
 -- Reading at fixed places: each place is looked at in turn, and nothing is read where one does not fit.
-use Rattle.std.specs.Prelude.{ℕ, Bool, pos, [], ◌∷◌, ◌+◌, ◌*◌, drop, Option, Some, None, Ok, Err, nat_le, ◌&&◌, if◌then◌else◌}
+use Rattle.std.specs.Prelude.{ℕ, Bool, pos, [], ◌∷◌, ◌+◌, ◌*◌, drop, Option, Some, None, Result, Ok, Err, nat_le, ◌&&◌, if◌then◌else◌}
 use Rattle.ixdtf_grammar.specs.declared.profile.Profile.{Profile}
 use Rattle.ixdtf_grammar.specs.declared.records.DateRecord.{DateRecord}
 use Rattle.ixdtf_grammar.specs.declared.records.MinutePrecisionOffset.{MinutePrecisionOffset}
@@ -41,6 +41,12 @@ first_byte (Plain c ∷ rest) = c
 
 abbrev pub byte_place : ℕ → Text → ℕ
 byte_place place text = first_byte (drop place text)
+
+-- the code unit that a look found, or 0 where it found none
+abbrev pub byte_of_look : {E : Type 0} → Result (Option ℕ) E → ℕ
+byte_of_look (Ok None) = 0
+byte_of_look (Ok (Some c)) = c
+byte_of_look (Err e) = 0
 
 -- the value of a digit as the first of two and as the second, and 100 for any other code unit
 abbrev pub tens_value : ℕ → ℕ

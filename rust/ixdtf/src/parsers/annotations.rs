@@ -3,7 +3,7 @@
 //! Reading annotations of a key and a value.
 
 use crate::cursor::Cursor;
-use crate::parsers::grammar::{
+use crate::grammar::{
     is_a_key_char, is_a_key_leading_char, is_annotation_close, is_annotation_key_value_separator,
     is_annotation_open, is_annotation_value_component, is_critical_flag, is_hyphen,
 };

@@ -6,7 +6,7 @@ use crate::encoding::EncodingType;
 use crate::parsers::profile::Profile;
 use crate::records::{DateRecord, IxdtfParseRecord, TimeRecord, UtcOffsetRecordOrZ};
 use crate::cursor::Cursor;
-use crate::parsers::grammar::{
+use crate::grammar::{
     is_annotation_open, is_ascii_sign, is_date_time_separator, is_time_designator,
     is_utc_designator,
 };

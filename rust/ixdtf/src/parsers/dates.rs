@@ -6,7 +6,7 @@ use crate::parsers::fixed::take_fixed_date;
 use crate::encoding::EncodingType;
 use crate::records::DateRecord;
 use crate::cursor::Cursor;
-use crate::parsers::grammar::{digits_value, is_ascii_sign, is_hyphen};
+use crate::grammar::{digits_value, is_ascii_sign, is_hyphen};
 use crate::stop::Stop;
 
 /// Reads a date: at its ten places or its eight where these fit, and else part by part. Fewer units than eight are no date.
@@ -21,12 +21,12 @@ pub fn parse_date<'a, T: EncodingType>(cursor: &mut Cursor<'a, T>) -> Result<Dat
     }
 }
 
-/// Finds the fault of fewer units than a date has: without a call where the first letter begins no year.
+/// Finds the fault of fewer units than a date has, without a call.
 #[inline(always)]
 fn parse_short_date<'a, T: EncodingType>(cursor: &mut Cursor<'a, T>) -> Result<DateRecord, Stop> {
     match cursor.look()? {
         None => Err(Stop::AbruptDigit),
-        Some(byte) if byte.is_ascii_digit() || is_ascii_sign(byte) => parse_other_date(cursor),
+        Some(byte) if byte.is_ascii_digit() || is_ascii_sign(byte) => parse_date_parts(cursor),
         Some(_) => Err(Stop::DateYear),
     }
 }
@@ -43,9 +43,25 @@ fn parse_other_date<'a, T: EncodingType>(cursor: &mut Cursor<'a, T>) -> Result<D
 /// Reads a date of any form. It is not inlined: most texts have their date at fixed places.
 #[inline(never)]
 fn parse_any_date<'a, T: EncodingType>(cursor: &mut Cursor<'a, T>) -> Result<DateRecord, Stop> {
+    parse_date_parts(cursor)
+}
+
+/// Reads the parts of a date.
+#[inline(always)]
+fn parse_date_parts<'a, T: EncodingType>(cursor: &mut Cursor<'a, T>) -> Result<DateRecord, Stop> {
     let year = parse_date_year(cursor)?;
     let (month, hyphened) = parse_month(cursor, Stop::AbruptDate)?;
     parse_day(cursor, year, month, hyphened)
+}
+
+/// Reads the month and the day after a year of four digits, part by part.
+#[inline(always)]
+pub fn parse_days<'a, T: EncodingType>(
+    cursor: &mut Cursor<'a, T>,
+    year: u16,
+) -> Result<DateRecord, Stop> {
+    let (month, hyphened) = parse_month(cursor, Stop::AbruptDate)?;
+    parse_day(cursor, i32::from(year), month, hyphened)
 }
 
 // ==== Years ====
@@ -142,11 +158,11 @@ pub fn take_hyphen<'a, T: EncodingType>(
 ) -> Result<bool, Stop> {
     match cursor.look()? {
         None => Err(at_end),
-        Some(byte) if byte.is_ascii_digit() => Ok(false),
         Some(byte) if is_hyphen(byte) => {
             cursor.step();
             Ok(true)
         }
+        Some(byte) if byte.is_ascii_digit() => Ok(false),
         Some(_) => Err(other),
     }
 }

@@ -9,7 +9,7 @@ use crate::records::{
 };
 use crate::{LocatedError, ParserResult};
 use crate::cursor::Cursor;
-use crate::parsers::grammar::{
+use crate::grammar::{
     is_ascii_sign, is_decimal_separator, is_duration_designator, is_time_designator,
 };
 use crate::stop::Stop;

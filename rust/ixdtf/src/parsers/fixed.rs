@@ -6,13 +6,13 @@
 //! The places are looked at in order, and nothing is taken off where one does not fit: the text is then read part by part,
 //! which finds the record or the fault.
 
-use crate::parsers::dates::{check_date, check_month, has_day};
+use crate::parsers::dates::{check_date, check_month, has_day, parse_days};
 use crate::parsers::months::check_month_day;
 use crate::encoding::EncodingType;
 use crate::parsers::profile::Profile;
 use crate::records::DateRecord;
 use crate::cursor::Cursor;
-use crate::parsers::grammar::{is_date_time_separator, is_hyphen, number_of};
+use crate::grammar::{is_date_time_separator, is_hyphen, number_of};
 use crate::stop::Stop;
 
 /// A time to its second.
@@ -63,8 +63,8 @@ fn fixed_date<'a, T: EncodingType>(cursor: &mut Cursor<'a, T>) -> Option<DateRec
     fixed_days(cursor, year)
 }
 
-/// Reads the date that stands at the first ten places, or at the eight of one without hyphens. It is `None`, with the rest
-/// unchanged, at the first place that does not fit.
+/// Reads the date that stands at the first ten places, or at the eight of one without hyphens. Where only its year does, what
+/// follows is read on part by part. It is `None`, with the rest unchanged, where its year does not fit.
 #[inline(always)]
 pub fn take_fixed_date<'a, T: EncodingType>(
     cursor: &mut Cursor<'a, T>,
@@ -74,11 +74,14 @@ pub fn take_fixed_date<'a, T: EncodingType>(
     }
     let year = fixed_year(cursor)?;
     if is_hyphen(cursor.byte_at(4)) {
-        let date = fixed_days(cursor, year)?;
-        return Some(take_date(cursor, date, 7, 10));
+        if let Some(date) = fixed_days(cursor, year) {
+            return Some(take_date(cursor, date, 7, 10));
+        }
+    } else if let Some(date) = fixed_basic_days(cursor, year) {
+        return Some(take_date(cursor, date, 6, 8));
     }
-    let date = fixed_basic_days(cursor, year)?;
-    Some(take_date(cursor, date, 6, 8))
+    cursor.skip(4);
+    Some(parse_days(cursor, year))
 }
 
 /// Takes a date off, whose month and whose day end behind so many units. Where its month is none, what stands behind the

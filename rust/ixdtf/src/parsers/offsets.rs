@@ -10,7 +10,7 @@ use crate::records::{
     UtcOffsetRecordOrZ,
 };
 use crate::cursor::Cursor;
-use crate::parsers::grammar::{is_annotation_open, is_ascii_sign, is_hyphen};
+use crate::grammar::{is_annotation_open, is_ascii_sign, is_hyphen};
 use crate::stop::Stop;
 
 /// The sign of a `+` or a `-`.

@@ -5,7 +5,7 @@
 use crate::encoding::EncodingType;
 use crate::records::{Fraction, TimeRecord};
 use crate::cursor::Cursor;
-use crate::parsers::grammar::{digits_value, is_decimal_separator, is_time_separator};
+use crate::grammar::{digits_value, is_decimal_separator, is_time_separator};
 use crate::stop::Stop;
 
 /// What is written as a time is.

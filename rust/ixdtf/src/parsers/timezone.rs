@@ -5,7 +5,7 @@
 use crate::encoding::EncodingType;
 use crate::records::{TimeRecord, TimeZoneRecord};
 use crate::cursor::Cursor;
-use crate::parsers::grammar::{
+use crate::grammar::{
     is_annotation_close, is_ascii_sign, is_tz_char, is_tz_leading_char, is_tz_name_separator,
 };
 use crate::parsers::letters::{Letters, Passed, pass_letters};

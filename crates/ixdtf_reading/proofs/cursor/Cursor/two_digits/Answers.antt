@@ -1,9 +1,9 @@
-use Rattle.std.proofs.Common.{◌∙◌, length, refl, ap, arith}
+use Rattle.std.proofs.Common.{rules, subst, ◌∙◌, List, ℕ, length, refl, ap, arith}
 use Rattle.std.proofs.lemmas.List.{length-map}
 use Rattle.std.proofs.lemmas.Result.{err_from_is_err_and}
-use Rattle.ixdtf_grammar.specs.Views.{Unread}
-use Rattle.ixdtf_reading.specs.reading.Clauses.{fault_of_stop}
-use Rattle.ixdtf_reading.proofs.code.TwoDigits.{too_short, long_enough}
+use Rattle.ixdtf_grammar.specs.Views.{Unread, ascii_at}
+use Rattle.ixdtf_reading.specs.reading.Clauses.{fault_of_stop, Yields}
+use Rattle.ixdtf_reading.proofs.code.TwoDigits.{seen_digit, too_short, long_enough}
 use Rattle.ixdtf_reading.proofs.cursor.Cursor.two_digits.Goals as goal
 
 pub returns-in_err-digit_at-clause-digits : goal.returns-in_err-digit_at-clause-digits
@@ -19,21 +19,36 @@ returns-then-self-lt2-clause-digits g c =
     (omega (arith, ap (λ (u : Unread). length u.rest) c.self.view_is, length-map c.self.inside.rest.now g.T.EncodingType.number)) in
     read ∙ rw (c.in_ok-digit_at.ensures.digit, c.step.ensures.letters, c.in_ok-digit_at.ensures.rest) refl
 
-pub returns-in_err-tens-clause-digits : goal.returns-in_err-tens-clause-digits
-returns-in_err-tens-clause-digits g c =
-    let p = err_from_is_err_and c.from_residual-in_err-tens.result c.from_residual-in_err-tens.ensures.1 in
-    let read = long_enough g.T.EncodingType.letter (fault_of_stop c.args.other) c.args.self.now.rest
+pub returns-then-number_of-le99-clause-digits : goal.returns-then-number_of-le99-clause-digits
+returns-then-number_of-le99-clause-digits g c =
+    let letter = g.T.EncodingType.letter in
+    let units = c.args.self.now.rest in
+    let digits = c.number_of.ensures.digits c.if-number_of-le99.true in
+    let read = long_enough letter (fault_of_stop c.args.other) units
     (omega (arith, ap (λ (u : Unread). length u.rest) c.self.view_is, length-map c.self.inside.rest.now g.T.EncodingType.number)) in
-    rw (p.1, p.2) (read ∙ rw (c.in_err-tens.ensures.digit, c.in_err-tens.ensures.rest) refl)
+    let second = subst (λ (t : List ℕ). Yields (λ x. x) c.look_at-second.result (ascii_at letter 1 t)) c.look_at-first.ensures.rest c.look_at-second.ensures.letter in
+    let tens = seen_digit (fault_of_stop c.args.other) c.look_at-first.result (ascii_at letter 0 units) c.look_at-first.ensures.letter
+    (rw (← c.byte_of-tens.ensures) digits.0) in
+    let ones = seen_digit (fault_of_stop c.args.other) c.look_at-second.result (ascii_at letter 1 units) second (rw (← c.byte_of-ones.ensures) digits.1) in
+    read ∙ rw (tens, ones, c.byte_of-tens.ensures, c.byte_of-ones.ensures, c.skip.ensures.rest, c.look_at-second.ensures.rest, c.look_at-first.ensures.rest) refl
 
-pub returns-in-Err-clause-digits : goal.returns-in-Err-clause-digits
-returns-in-Err-clause-digits g c =
-    let read = long_enough g.T.EncodingType.letter (fault_of_stop c.args.other) c.args.self.now.rest
+pub returns-then-not-is_ascii_digit-clause-digits : goal.returns-then-not-is_ascii_digit-clause-digits
+returns-then-not-is_ascii_digit-clause-digits g c =
+    let letter = g.T.EncodingType.letter in
+    let units = c.args.self.now.rest in
+    let read = long_enough letter (fault_of_stop c.args.other) units
     (omega (arith, ap (λ (u : Unread). length u.rest) c.self.view_is, length-map c.self.inside.rest.now g.T.EncodingType.number)) in
-    read ∙ rw (c.in_ok-tens.ensures.digit, ← c.in_ok-tens.ensures.rest, c.in-Err.ensures.digit, c.step-in-Err.ensures.letters, c.in-Err.ensures.rest) refl
+    let stop = c.no_digit.ensures (ascii_at letter 0 units) c.look_at-first.ensures.letter in
+    read ∙ rw (stop, c.look_at-second.ensures.rest, c.look_at-first.ensures.rest) refl
 
-pub returns-in-Ok-clause-digits : goal.returns-in-Ok-clause-digits
-returns-in-Ok-clause-digits g c =
-    let read = long_enough g.T.EncodingType.letter (fault_of_stop c.args.other) c.args.self.now.rest
+pub returns-clause-digits : goal.returns-clause-digits
+returns-clause-digits g c =
+    let letter = g.T.EncodingType.letter in
+    let units = c.args.self.now.rest in
+    let read = long_enough letter (fault_of_stop c.args.other) units
     (omega (arith, ap (λ (u : Unread). length u.rest) c.self.view_is, length-map c.self.inside.rest.now g.T.EncodingType.number)) in
-    read ∙ rw (c.in_ok-tens.ensures.digit, ← c.in_ok-tens.ensures.rest, c.in-Ok.ensures.digit, c.skip.ensures.rest, c.in-Ok.ensures.rest) refl
+    let second = subst (λ (t : List ℕ). Yields (λ x. x) c.look_at-second.result (ascii_at letter 1 t)) c.look_at-first.ensures.rest c.look_at-second.ensures.letter in
+    let tens = seen_digit (fault_of_stop c.args.other) c.look_at-first.result (ascii_at letter 0 units) c.look_at-first.ensures.letter
+    (rw (← c.byte_of-tens.ensures) (search rules)) in
+    let stop = c.no_digit-2.ensures (ascii_at letter 1 units) second in
+    read ∙ rw (tens, stop, c.step-2.ensures.letters, c.look_at-second.ensures.rest, c.look_at-first.ensures.rest) refl

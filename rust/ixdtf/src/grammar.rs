@@ -174,7 +174,7 @@ pub fn is_annotation_value_component(byte: u8) -> bool {
 /// The value of two digits.
 #[inline(always)]
 pub fn digits_value(tens: u8, ones: u8) -> u8 {
-    10 * (tens - b'0') + (ones - b'0')
+    number_of(tens, ones)
 }
 
 /// The value of two digits, or at least 100 where one of the bytes is not a digit.
