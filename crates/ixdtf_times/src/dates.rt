@@ -198,7 +198,7 @@ fn parse_year_pair<'a, T: EncodingType>(cursor: &mut Cursor<'a, T>) -> Result<u8
     Ok(digits_value(tens, ones))
 }
 
-/// Reads three digits, and returns their number. Another letter is this stop.
+/// Reads three digits, and returns their number. Another code unit is this stop.
 #[inline(always)]
 #[tactic(auto, unfolding(ixdtf_reading::specs::reading::Looks::digits_by))]
 fn parse_three_digits<'a, T: EncodingType>(
@@ -220,7 +220,7 @@ fn parse_three_digits<'a, T: EncodingType>(
 
 // ==== Months and days ====
 
-/// Takes a hyphen off, and returns whether one stands there: a digit stays. The end is one stop, and another letter the
+/// Takes a hyphen off, and returns whether one stands there: a digit stays. The end is one stop, another code unit the
 /// other.
 #[inline(always)]
 pub fn take_hyphen<'a, T: EncodingType>(

@@ -110,7 +110,7 @@ fn check_most(number: u8, greatest: u8, stop: Stop) -> Result<u8, Stop>
 }
 
 /// Takes two digits off and returns their number, which is at most the greatest of its place. The end is `AbruptDigit`, and
-/// another letter or a greater number this stop.
+/// another code unit or a greater number this stop.
 #[inline(always)]
 #[tactic(auto, unfolding(ixdtf_reading::specs::reading::Looks::number_by, ixdtf_reading::specs::reading::Looks::in_range))]
 fn next_number<'a, T: EncodingType>(
