@@ -9,4 +9,4 @@ returns g c =
     let gives = exact _ _ (parse_duration c.self.inside.profile) lasting (λ x y e. cc) tt _ c.take-here.result c.parse_duration_text-read.new.cursor refl _ _ _
     c.parse_duration_text-read.ensures.duration c.settle.ensures.settled in
     let alone = gives.alone c.self.inside.profile refl in
-    rw (← c.self.view_is, ← c.take-here.ensures.same) (record { reads = record { ok = gives.ok; err = gives.err; no_row = gives.no_row; only = gives.only; leaves = search rules }; alone = alone; profile = search rules })
+    rw (← c.self.view_is, ← c.take-here.ensures.same) (record { reads = record { ok = search rules; err = gives.err; no_row = gives.no_row; only = gives.only; leaves = search rules }; alone = alone; profile = search rules })

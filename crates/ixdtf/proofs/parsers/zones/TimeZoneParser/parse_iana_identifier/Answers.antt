@@ -8,4 +8,4 @@ pub returns : goal.returns
 returns g c =
     let gives = exact _ _ parse_iana_identifier named (λ x y e. cc) tt _ c.take-here.result c.parse_iana_identifier_text-read.new.cursor refl _ _ _
     c.parse_iana_identifier_text-read.ensures.name c.settle.ensures.settled in
-    rw (← c.self.view_is, ← c.take-here.ensures.same) (record { reads = record { ok = gives.ok; err = gives.err; no_row = gives.no_row; only = gives.only; leaves = search rules } })
+    rw (← c.self.view_is, ← c.take-here.ensures.same) (record { reads = record { ok = search rules; err = gives.err; no_row = gives.no_row; only = gives.only; leaves = search rules } })

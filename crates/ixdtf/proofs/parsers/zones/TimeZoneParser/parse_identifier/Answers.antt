@@ -8,4 +8,4 @@ pub returns : goal.returns
 returns g c =
     let gives = exact _ _ parse_identifier identified (λ x y e. cc) tt _ c.take-here.result c.parse_identifier_text-read.new.cursor refl _ _ _
     c.parse_identifier_text-read.ensures.zone c.settle.ensures.settled in
-    rw (← c.self.view_is, ← c.take-here.ensures.same) (record { reads = record { ok = gives.ok; err = gives.err; no_row = gives.no_row; only = gives.only; leaves = search rules } })
+    rw (← c.self.view_is, ← c.take-here.ensures.same) (record { reads = record { ok = search rules; err = gives.err; no_row = gives.no_row; only = gives.only; leaves = search rules } })
