@@ -21,7 +21,8 @@ pub trait RecordOf<'a, T: EncodingType> {
     /// The second is the first, but for the location and the place of an error.
     ghost same_but_error: { Self → Self → Type 0 };
 
-    /// Writes what was read, clears what was not, and that there is no error.
+    /// Writes what was read, clears what was not, and says that there is no error. Each part is written in place, in the arm that
+    /// reads it: a record that is put together first takes sixty instructions more.
     fn write(&mut self, found: &IxdtfParseRecord<'a, T>)
         ensures { contents self.new ≡ record_for (parsed_of T.number found.now) };
 
