@@ -121,7 +121,7 @@ module _ (kind : CoreKind) (text : Text) where
     | inr p ↦ let (row, fits, has, there) = p.0 in inr ((row, fits, has), p.1)
   ]
 
-  -- no more pairs than letters
+  -- no more pairs than code units
   few : {A : Type 0} (calls : List A) (pairs : List Pair) (outcome : Result Parsed FaultAt)
       → ((found : Parsed) → (outcome ≡ Ok found) ↔ GivesRecord (bracketed kind) text pairs (nones calls) found)
       → ((e : FaultAt) → outcome ≡ Err e → GivesFaultAt (bracketed kind) text pairs (nones calls) e.fault e.at)

@@ -88,7 +88,7 @@ pub lasts_err : {X : Type 0} (view : X → DurationParseRecord) (r : Result X Lo
     → new ≡ record old { location = location_of (fault_of_located e); place = e.at } → GivesDuration (returned_at view r) number old new
 lasts_err view r e number old new is named written = rw is (named, written)
 
--- the letters of a text, of which a parser has its units' numbers to read
+-- the code units of a text, of which a parser has their numbers to read
 pub letters_are : {U : Type 0} (letter : ℕ → Letter) (number : U → ℕ) (units : List U) {rest : List ℕ} → rest ≡ map number units
     → map letter rest ≡ map (λ unit. letter (number unit)) units
 letters_are letter number units is = ap (map letter) is ∙ map-map letter number units

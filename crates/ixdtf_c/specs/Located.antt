@@ -3,7 +3,7 @@ use Rattle.std.specs.Prelude.{◌≡◌, ℕ, Result, Ok, Err}
 use Rattle.ixdtf_grammar.specs.declared.located.LocatedError.{LocatedError}
 use Rattle.ixdtf.specs.table.Faults.{Fault, fault_of_located}
 
--- a fault, and how many letters stand before its place
+-- a fault, and how many code units stand before its place
 pub record FaultAt : Type 0 where
   pub fault : Fault
   pub at : ℕ

@@ -17,7 +17,7 @@ use Rattle.ixdtf_c.specs.Located.{FaultAt}
 
 -- Of a text with brackets, where each pair replies for itself: `Ok` exactly with the record that the text gives, and only where
 -- no row of the fault table fits and no other reader has the text; and `Err` only with the one fault that it gives, behind so
--- many letters, and at no other place.
+-- many code units, and at no other place.
 pub record ReadsRecord (profile : Profile) (reader : Reader) (text : Text) (outcome : Result Parsed FaultAt) : Type 0 where
   pub ok : (found : Parsed) → (outcome ≡ Ok found) ↔ UnhandledRecord reader text found
   pub err : (e : FaultAt) → outcome ≡ Err e → UnhandledFaultAt reader text e.fault e.at
@@ -27,7 +27,7 @@ pub record ReadsRecord (profile : Profile) (reader : Reader) (text : Text) (outc
   pub place : (e : FaultAt) → outcome ≡ Err e → UnhandledOnlyPlace reader text e.fault e.at
 
 -- Of a text that is one part alone: `Ok` exactly where the language derives the part, and only where no row of the fault table
--- fits; and `Err` only with the one fault that the text has, behind so many letters, and at no other place.
+-- fits; and `Err` only with the one fault that the text has, behind so many code units, and at no other place.
 pub record ReadsPart {A : Type 0} (reader : Reader) (part : A → Found) (text : Text) (outcome : Result A FaultAt) : Type 0 where
   pub ok : (found : A) → (outcome ≡ Ok found) ↔ Derives reader text (part found) []
   pub err : (e : FaultAt) → outcome ≡ Err e → HasFaultAt reader text [] e.fault e.at
