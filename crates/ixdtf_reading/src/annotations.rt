@@ -49,7 +49,10 @@ pub fn parse_annotation_key<'a, T: EncodingType>(
 {
     let start = cursor.rest();
     let passed = pass_letters(cursor, KeyLetters)?;
-    let key = &start[..start.len() - cursor.rest().len()];
+    // It always is there: with this test a compiler sees it too, and keeps no panic.
+    let Some(key) = start.get(..start.len() - cursor.rest().len()) else {
+        return Err(Stop::AnnotationKeyChar);
+    };
     match passed.next {
         None => Err(Stop::AnnotationKeyValueSeparator),
         Some(byte) if is_annotation_key_value_separator(byte) => {
@@ -109,9 +112,9 @@ pub fn parse_annotation_value<'a, T: EncodingType>(
         match component.next {
             None => return Err(Stop::AnnotationClose),
             Some(byte) if is_annotation_close(byte) => {
-                let count = start.len() - cursor.rest().len();
                 cursor.step();
-                return Ok(&start[..count]);
+                let behind = cursor.rest().len() + 1;
+                return Ok(&start[..start.len().saturating_sub(behind)]);
             }
             Some(byte) if is_hyphen(byte) => cursor.step(),
             Some(_) => return Err(Stop::AnnotationValueChar),

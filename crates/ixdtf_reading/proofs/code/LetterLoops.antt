@@ -9,6 +9,7 @@ use Rattle.ixdtf_reading.specs.reading.Looks.{Placed, Read, ◌>>=◌, look_at, 
 use Rattle.ixdtf_reading.specs.reading.Zones.{with_letter}
 use Rattle.ixdtf_reading.specs.reading.Runs.{Taken, one_more, nothing_taken, on_letter, letters_by}
 use Rattle.ixdtf_reading.proofs.code.FirstLetter.{nothing_is}
+use Rattle.std.specs.List.{slice_range}
 
 -- code units that were taken, with more in front of them
 abbrev pub with_letters : {S : Type 0} → List ℕ → Read Placed (Taken S) → Read Placed (Taken S)
@@ -149,13 +150,22 @@ module _ {S : Type 0} (after : S → ℕ → Option S) where
     pub fails : (fault : Placed) → seen (map letter rest) ≡ Err fault → run start (map letter whole) ≡ Err fault
     fails fault e = far.read ∙ ap (with_letters far.taken) (run_fails state (map letter rest) fault e)
 
--- the code units that were taken are the first of those before
+-- the code units that were taken are the first of those before, so many as do not follow
+pub front_before : {U : Type 0} (number : U → ℕ) (start : List U) (behind : ℕ) (taken rest whole : List ℕ) → map number start ≡ whole → whole ≡ taken ++ rest
+    → behind ≡ length rest → map number (take (length start - behind) start) ≡ taken
+front_before number start behind taken rest whole all split left =
+    let count : length start - behind ≡ length taken =
+    omega (arith, length-map start number, ap length all, ap length split, left, length-append taken rest) in
+    rw count (sym (take-map number _ start) ∙ rw (all, split) (take-append-le _ taken rest (omega arith) ∙ take_all _ taken (omega arith)))
+
 pub front_is : {U : Type 0} (number : U → ℕ) (start after : List U) (taken rest whole : List ℕ) → map number start ≡ whole → whole ≡ taken ++ rest
     → map number after ≡ rest → map number (take (length start - length after) start) ≡ taken
 front_is number start after taken rest whole all split left =
-    let count : length start - length after ≡ length taken =
-    omega (arith, length-map start number, length-map after number, ap length all, ap length split, ap length left, length-append taken rest) in
-    rw count (sym (take-map number _ start) ∙ rw (all, split) (take-append-le _ taken rest (omega arith) ∙ take_all _ taken (omega arith)))
+    front_before number start (length after) taken rest whole all split (sym (length-map after number) ∙ ap length left)
+
+-- a range from the front
+pub range_is : {U : Type 0} (units : List U) (n : ℕ) → slice_range units 0 n ≡ take n units
+range_is units n = ap (λ m. take m units) (omega arith)
 
 -- ---- what is read behind code units
 

@@ -17,7 +17,7 @@ pub fn parse_date<'a, T: EncodingType>(cursor: &mut Cursor<'a, T>) -> Result<Dat
     }
     match take_fixed_date(cursor) {
         Some(read) => read,
-        None => parse_other_date(cursor),
+        None => parse_date_parts(cursor),
     }
 }
 
@@ -29,21 +29,6 @@ fn parse_short_date<'a, T: EncodingType>(cursor: &mut Cursor<'a, T>) -> Result<D
         Some(byte) if byte.is_ascii_digit() || is_ascii_sign(byte) => parse_date_parts(cursor),
         Some(_) => Err(Stop::DateYear),
     }
-}
-
-/// Reads a date part by part, by a cursor of its own.
-#[inline(always)]
-fn parse_other_date<'a, T: EncodingType>(cursor: &mut Cursor<'a, T>) -> Result<DateRecord, Stop> {
-    let mut here = cursor.take();
-    let read = parse_any_date(&mut here);
-    *cursor = here;
-    read
-}
-
-/// Reads a date of any form. It is not inlined: most texts have their date at fixed places.
-#[inline(never)]
-fn parse_any_date<'a, T: EncodingType>(cursor: &mut Cursor<'a, T>) -> Result<DateRecord, Stop> {
-    parse_date_parts(cursor)
 }
 
 /// Reads the parts of a date.
@@ -93,21 +78,12 @@ fn parse_four_digit_year<'a, T: EncodingType>(
     Ok((1000 * u32::from(thousands - b'0') + ones) as i32)
 }
 
-/// Reads the six digits of a year with a sign, by a cursor of its own.
+/// Reads the six digits of a year with a sign.
 #[inline(always)]
 fn parse_extended_year<'a, T: EncodingType>(
     cursor: &mut Cursor<'a, T>,
     sign: u8,
 ) -> Result<i32, Stop> {
-    let mut here = cursor.take();
-    let read = parse_signed_year(&mut here, sign);
-    *cursor = here;
-    read
-}
-
-/// Reads the six digits of a year with a sign.
-#[inline(always)]
-fn parse_signed_year<'a, T: EncodingType>(cursor: &mut Cursor<'a, T>, sign: u8) -> Result<i32, Stop> {
     let value = parse_six_digits(cursor)?;
     if !is_hyphen(sign) {
         return Ok(value as i32);

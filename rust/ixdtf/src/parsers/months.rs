@@ -20,7 +20,7 @@ pub fn parse_year_month_date<'a, T: EncodingType>(
 ) -> Result<DateRecord, Stop> {
     match take_fixed_year_month(cursor) {
         Some(date) => check_year_month(date),
-        None => parse_other_year_month(cursor),
+        None => parse_year_month_parts(cursor),
     }
 }
 
@@ -29,23 +29,6 @@ pub fn parse_year_month_date<'a, T: EncodingType>(
 fn check_year_month(first: DateRecord) -> Result<DateRecord, Stop> {
     check_month(first.month)?;
     Ok(first)
-}
-
-/// Reads a year-month part by part, by a cursor of its own.
-#[inline(always)]
-fn parse_other_year_month<'a, T: EncodingType>(
-    cursor: &mut Cursor<'a, T>,
-) -> Result<DateRecord, Stop> {
-    let mut here = cursor.take();
-    let read = parse_any_year_month(&mut here);
-    *cursor = here;
-    read
-}
-
-/// Reads a year-month of any form. It is not inlined: most texts have their year-month at fixed places.
-#[inline(never)]
-fn parse_any_year_month<'a, T: EncodingType>(cursor: &mut Cursor<'a, T>) -> Result<DateRecord, Stop> {
-    parse_year_month_parts(cursor)
 }
 
 /// Reads the parts of a year-month.
