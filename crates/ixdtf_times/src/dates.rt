@@ -18,34 +18,16 @@ use ixdtf_reading::cursor::Cursor;
 use ixdtf_reading::grammar::{digits_value, is_ascii_sign, is_hyphen};
 use ixdtf_reading::stop::Stop;
 
-/// Reads a date: at its ten places or its eight where these fit, and else part by part. Fewer units than eight are no date.
+/// Reads a date: at its ten places or its eight where these fit, and else part by part.
 #[inline(always)]
 pub fn parse_date<'a, T: EncodingType>(cursor: &mut Cursor<'a, T>) -> Result<DateRecord, Stop>
     ensures date { Reads T.letter (λ date. date) cursor.old result cursor.new
         (date_at error_of) }
     ensures looks { Spends 16 cursor.old cursor.new }
 {
-    if cursor.remaining() < 8 {
-        return parse_short_date(cursor);
-    }
     match take_fixed_date(cursor) {
         Some(read) => read,
         None => parse_date_parts(cursor),
-    }
-}
-
-/// Finds the fault of fewer units than a date has, without a call.
-#[inline(always)]
-#[tactic(auto, unfolding(ixdtf_reading::specs::reading::Dates::date_at, ixdtf_reading::specs::reading::Dates::year_at, ixdtf_reading::specs::reading::Looks::next_by))]
-fn parse_short_date<'a, T: EncodingType>(cursor: &mut Cursor<'a, T>) -> Result<DateRecord, Stop>
-    ensures date { Reads T.letter (λ date. date) cursor.old result cursor.new
-        (date_at error_of) }
-    ensures looks { Spends 7 cursor.old cursor.new }
-{
-    match cursor.look()? {
-        None => Err(Stop::AbruptDigit),
-        Some(byte) if byte.is_ascii_digit() || is_ascii_sign(byte) => parse_date_parts(cursor),
-        Some(_) => Err(Stop::DateYear),
     }
 }
 

@@ -9,25 +9,12 @@ use crate::cursor::Cursor;
 use crate::grammar::{digits_value, is_ascii_sign, is_hyphen};
 use crate::stop::Stop;
 
-/// Reads a date: at its ten places or its eight where these fit, and else part by part. Fewer units than eight are no date.
+/// Reads a date: at its ten places or its eight where these fit, and else part by part.
 #[inline(always)]
 pub fn parse_date<'a, T: EncodingType>(cursor: &mut Cursor<'a, T>) -> Result<DateRecord, Stop> {
-    if cursor.remaining() < 8 {
-        return parse_short_date(cursor);
-    }
     match take_fixed_date(cursor) {
         Some(read) => read,
         None => parse_date_parts(cursor),
-    }
-}
-
-/// Finds the fault of fewer units than a date has, without a call.
-#[inline(always)]
-fn parse_short_date<'a, T: EncodingType>(cursor: &mut Cursor<'a, T>) -> Result<DateRecord, Stop> {
-    match cursor.look()? {
-        None => Err(Stop::AbruptDigit),
-        Some(byte) if byte.is_ascii_digit() || is_ascii_sign(byte) => parse_date_parts(cursor),
-        Some(_) => Err(Stop::DateYear),
     }
 }
 
