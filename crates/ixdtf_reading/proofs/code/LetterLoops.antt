@@ -1,5 +1,5 @@
 -- Code units that a loop takes one by one.
-use Rattle.std.proofs.Common.{◌≡◌, ℕ, ◌-◌, Bool, true, false, if◌then◌else◌, List, [], ◌∷◌, ◌++◌, length, map, drop, take, Option, Some, None, Ok, Err, refl, sym, ap, subst, ◌∙◌, arith}
+use Rattle.std.proofs.Common.{◌≡◌, ℕ, ◌+◌, ◌-◌, Bool, true, false, if◌then◌else◌, List, [], ◌∷◌, ◌++◌, length, map, drop, take, Option, Some, None, Ok, Err, refl, sym, ap, subst, ◌∙◌, arith}
 use Rattle.std.proofs.Common.{append_assoc, append-nil}
 use Rattle.std.proofs.lemmas.List.{take-map, length-map, length-append, take_all, take-append-le}
 use Rattle.ixdtf_grammar.specs.language.Letters.{Letter, Text}
@@ -9,7 +9,6 @@ use Rattle.ixdtf_reading.specs.reading.Looks.{Placed, Read, ◌>>=◌, look_at, 
 use Rattle.ixdtf_reading.specs.reading.Zones.{with_letter}
 use Rattle.ixdtf_reading.specs.reading.Runs.{Taken, one_more, nothing_taken, on_letter, letters_by}
 use Rattle.ixdtf_reading.proofs.code.FirstLetter.{nothing_is}
-use Rattle.std.specs.List.{slice_range}
 
 -- code units that were taken, with more in front of them
 abbrev pub with_letters : {S : Type 0} → List ℕ → Read Placed (Taken S) → Read Placed (Taken S)
@@ -163,9 +162,10 @@ pub front_is : {U : Type 0} (number : U → ℕ) (start after : List U) (taken r
 front_is number start after taken rest whole all split left =
     front_before number start (length after) taken rest whole all split (sym (length-map after number) ∙ ap length left)
 
--- a range from the front
-pub range_is : {U : Type 0} (units : List U) (n : ℕ) → slice_range units 0 n ≡ take n units
-range_is units n = ap (λ m. take m units) (omega arith)
+-- what follows the first of so many code units, and that one
+pub behind_last : {U : Type 0} (number : U → ℕ) (after : List U) (rest left : List ℕ) → map number after ≡ left → left ≡ drop 1 rest
+    → length (drop 1 rest) + 1 ≡ length rest → length after + 1 ≡ length rest
+behind_last number after rest left all split stays = omega (arith, stays, length-map after number, ap length all, ap length split)
 
 -- ---- what is read behind code units
 

@@ -1,9 +1,8 @@
-use Rattle.std.proofs.Common.{◌≡◌, ℕ, ◌+◌, false, true, List, length, IsSome, refl, sym, ap, subst, arith, rules}
-use Rattle.std.proofs.lemmas.List.{length-map}
+use Rattle.std.proofs.Common.{◌≡◌, ℕ, false, true, List, length, IsSome, refl, sym, ap, subst, arith, rules}
 use Rattle.std.proofs.lemmas.Result.{err_from_is_err_and}
 use Rattle.ixdtf_grammar.specs.language.Letters.{closing, hyphen}
 use Rattle.ixdtf_reading.specs.reading.Pairs.{AtStart, AfterHyphen}
-use Rattle.ixdtf_reading.proofs.code.LetterLoops.{front_before}
+use Rattle.ixdtf_reading.proofs.code.LetterLoops.{front_before, behind_last}
 use Rattle.ixdtf_reading.proofs.code.PairLoops.{value_unstarted, value_begins, value_fails, value_starts}
 use Rattle.ixdtf_reading.proofs.code.PairLoops.{component_fails, component_last, component_closed, component_joined, component_refused}
 use Rattle.ixdtf_reading.proofs.annotations.parse_annotation_value.Goals as goal
@@ -40,10 +39,8 @@ returns-in-Some-clause-value g c =
     let closes : closing c.in-Some.byte ≡ true = search rules in
     let closed = component_closed g.T.EncodingType.letter g.met.T.EncodingType.faithful _ _ c.loop-component.invariant.far _ _ _ passed.2 passed.1 _ c.in-Some.is closes in
     let stays = c.in_ok-component.ensures.stays (subst (λ next. IsSome next) (sym c.in-Some.is) refl) in
-    let behind : length c.rest.result.now + 1 ≡ length c.pass_letters.new.cursor.rest =
-    omega (arith, stays, length-map c.rest.result.now g.T.EncodingType.number, ap length c.rest.ensures, ap length c.step.ensures.rest) in
     let front = front_before g.T.EncodingType.number c.rest-start.result.now _ closed.0 c.pass_letters.new.cursor.rest _ c.loop-component.invariant.start
-    closed.1 behind in
+    closed.1 (behind_last g.T.EncodingType.number c.rest.result.now _ _ c.rest.ensures c.step.ensures.rest stays) in
     rw (c.saturating_sub.ensures, front, c.step.ensures.letters) closed.2
 
 pub returns-in-Some-3-clause-value : goal.returns-in-Some-3-clause-value
