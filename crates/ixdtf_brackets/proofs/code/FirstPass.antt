@@ -1,29 +1,17 @@
 -- One pass over a first bracket that begins as a key may: the code units of a key, and then those of a name.
 use Rattle.std.proofs.Common.{◌≡◌, ℕ, ◌&&◌, ◌||◌, not, Bool, true, false, IsTrue, List, [], ◌∷◌, ◌++◌, drop, Option, Some, None, option_map, Result, Ok, Err}
-use Rattle.std.proofs.Common.{refl, sym, ap, subst, ◌∙◌, arith, if◌then◌else◌}
-use Rattle.std.proofs.lemmas.Bool.{and_parts}
-use Rattle.std.proofs.lemmas.Bool.Decides.{nat_tests}
-use Rattle.ixdtf_reading.specs.declared.annotations.KeyLetters.{KeyLetters}
-use Rattle.ixdtf_brackets.specs.declared.brackets.BracketLetters.{BracketLetters}
-use Rattle.ixdtf_brackets.specs.declared.timezone.NameState.{NameState}
-use Rattle.ixdtf_grammar.specs.language.Letters.{Text}
-use Rattle.ixdtf_grammar.specs.language.Letters.Letter.{Plain, Bad}
-use Rattle.ixdtf_grammar.specs.language.Letters.{equals, closing, slash, key_char, zone_char}
-use Rattle.ixdtf_grammar.specs.language.ZoneNames.Zone.{Name}
-use Rattle.ixdtf_grammar.specs.language.Brackets.{skipped}
-use Rattle.ixdtf_grammar.specs.table.Faults.Fault.{NonAsciiCodePoint, AnnotationKeyChar, IanaCharPostSeparator}
-use Rattle.ixdtf_grammar.specs.table.Lines.{abrupt_bracket}
-use Rattle.ixdtf_reading.specs.reading.Looks.{Placed, Read, ◌>>=◌, seen, next_by, error_of}
-use Rattle.ixdtf_reading.specs.reading.Zones.{with_letter, name_run, as_zone}
-use Rattle.ixdtf_reading.specs.reading.Pairs.{AtStart, value_run, pair_at}
-use Rattle.ixdtf_reading.specs.reading.Runs.{Taken, one_more, nothing_taken, on_letter, letters_by, key_after}
-use Rattle.ixdtf_brackets.specs.BracketTypes.{name_after, bracket_after}
-use Rattle.ixdtf_reading.specs.reading.Brackets.{Bracket, zoned, paired, noted, as_pair, refusal, name_fault, next_is, sight_at, name_in_bracket_at, name_or_pair_at}
-use Rattle.ixdtf_reading.proofs.code.FirstLetter.{first_is, nothing_is}
+use Rattle.std.proofs.{Common.{refl, sym, ap, subst, ◌∙◌, arith, if◌then◌else◌}, lemmas.Bool.{and_parts, Decides.nat_tests}}
+use Rattle.ixdtf_reading.specs.{declared.annotations.KeyLetters.KeyLetters, reading.Looks.{Placed, Read, ◌>>=◌, seen, next_by, error_of}}
+use Rattle.ixdtf_reading.specs.reading.{Zones.{with_letter, name_run, as_zone}, Pairs.{AtStart, value_run, pair_at}}
+use Rattle.ixdtf_reading.specs.reading.{Runs.{Taken, one_more, nothing_taken, on_letter, letters_by, key_after}, Brackets.{Bracket, zoned, paired, noted}}
+use Rattle.ixdtf_reading.specs.reading.Brackets.{as_pair, refusal, name_fault, next_is, sight_at, name_in_bracket_at, name_or_pair_at}
+use Rattle.ixdtf_reading.proofs.code.{FirstLetter.{first_is, nothing_is}, LetterLoops.{test_held, Stays, next_shown, next_stays, in_front, run_passed}}
+use Rattle.ixdtf_reading.proofs.{code.PairLoops.{key_closed, key_refused}, parts.LookAhead.{over_letter, zone_char_skipped, slash_skipped, key_char_skipped}}
+use Rattle.ixdtf_brackets.specs.{declared.{brackets.BracketLetters.BracketLetters, timezone.NameState.NameState}, BracketTypes.{name_after, bracket_after}}
 use Rattle.ixdtf_brackets.proofs.code.NameLoop.{name_start, name_ended, name_refused, some_next}
-use Rattle.ixdtf_reading.proofs.code.LetterLoops.{test_held, Stays, next_shown, next_stays, in_front, run_passed}
-use Rattle.ixdtf_reading.proofs.code.PairLoops.{key_closed, key_refused}
-use Rattle.ixdtf_reading.proofs.parts.LookAhead.{over_letter, zone_char_skipped, slash_skipped, key_char_skipped}
+use Rattle.ixdtf_grammar.specs.language.{Letters.{Text, equals, closing, slash, key_char, zone_char, Letter.{Plain, Bad}}, ZoneNames.Zone.Name}
+use Rattle.ixdtf_grammar.specs.{language.Brackets.skipped, table.Faults.Fault.{NonAsciiCodePoint, AnnotationKeyChar, IanaCharPostSeparator}}
+use Rattle.ixdtf_grammar.specs.table.Lines.{abrupt_bracket}
 
 abbrev sight : Text → Result Bool Placed
 sight text = sight_at error_of text

@@ -1,18 +1,13 @@
 -- The code units of a zone name, taken one by one.
-use Rattle.std.proofs.Common.{◌≡◌, ℕ, ◌&&◌, Bool, true, false, List, ◌∷◌, ◌++◌, map, drop, Option, Some, None, option_map, IsSome, Ok, Err, refl, ap, subst, ◌∙◌, append-nil, if◌then◌else◌}
-use Rattle.ixdtf_brackets.specs.declared.timezone.NameState.{NameState}
-use Rattle.ixdtf_brackets.specs.declared.timezone.PartLetters.{PartLetters}
-use Rattle.ixdtf_grammar.specs.language.Letters.{Letter, Text}
-use Rattle.ixdtf_grammar.specs.language.Letters.Letter.{Plain, Bad}
-use Rattle.ixdtf_grammar.specs.language.Letters.{Class, zone_char, slash}
+use Rattle.std.proofs.Common.{◌≡◌, ℕ, ◌&&◌, Bool, true, false, List, ◌∷◌, ◌++◌, map, drop, Option, Some, None, option_map, IsSome, Ok, Err, refl, ap, subst}
+use Rattle.std.proofs.Common.{◌∙◌, append-nil, if◌then◌else◌}
+use Rattle.ixdtf_brackets.specs.{declared.timezone.{NameState.NameState, PartLetters.PartLetters}, BracketTypes.{part_after, name_after}}
+use Rattle.ixdtf_grammar.specs.language.Letters.{Letter, Text, Class, zone_char, slash, Letter.{Plain, Bad}}
 use Rattle.ixdtf_grammar.specs.table.Faults.Fault.{NonAsciiCodePoint, IanaCharPostSeparator}
-use Rattle.ixdtf_reading.specs.reading.Looks.{Placed, Read, seen, error_of}
-use Rattle.ixdtf_reading.specs.reading.Zones.{with_letter, name_stops, name_run}
-use Rattle.ixdtf_reading.specs.reading.Runs.{Taken, letters_by}
-use Rattle.ixdtf_brackets.specs.BracketTypes.{part_after, name_after}
-use Rattle.ixdtf_reading.proofs.code.FirstLetter.{first_is, nothing_is}
-use Rattle.ixdtf_reading.proofs.code.LetterLoops.{test_held, test_failed, in_front, run_failed, run_passed, Stays, IsSoFar, goes_on, ceases, fails, goes_over, fails_over, next_shown, next_stays}
+use Rattle.ixdtf_reading.specs.reading.{Looks.{Placed, Read, seen, error_of}, Zones.{with_letter, name_stops, name_run}, Runs.{Taken, letters_by}}
 use Rattle.ixdtf_reading.specs.reading.Brackets.{next_is}
+use Rattle.ixdtf_reading.proofs.code.{FirstLetter.{first_is, nothing_is}, LetterLoops.{test_held, test_failed, in_front, run_failed, run_passed, Stays}}
+use Rattle.ixdtf_reading.proofs.code.LetterLoops.{IsSoFar, goes_on, ceases, fails, goes_over, fails_over, next_shown, next_stays}
 
 -- where a name may end, and behind a slash
 abbrev pub name_start : NameState

@@ -1,32 +1,19 @@
 -- A date and a time at fixed places: what is found there is what the grammar has, and is read so.
 use Rattle.std.proofs.Common.{subst, ◌≡◌, ℕ, zero, suc, ◌+◌, ◌-◌, ◌*◌, ◌<◌, ◌≤◌, Bool, true, false, IsTrue, List, [], ◌∷◌, ◌++◌, map, drop, length, Option}
 use Rattle.std.proofs.Common.{Some, None, Result, Ok, Err, refl, sym, ap, ◌∙◌, nat_le, ◌&&◌, if◌then◌else◌, ℤ, pos, arith}
-use Rattle.std.proofs.lemmas.Bool.{and_parts, and_from, le-leb}
-use Rattle.std.proofs.lemmas.Bool.Decides.{nat_tests}
-use Rattle.std.proofs.lemmas.List.{length-drop}
-use Rattle.ixdtf_grammar.specs.declared.records.DateRecord.{DateRecord}
-use Rattle.ixdtf_grammar.specs.declared.records.TimeRecord.{TimeRecord}
-use Rattle.ixdtf_grammar.specs.language.Letters.{Letter, Text, Class, digit, hyphen, colon, opening, date_time_separator}
-use Rattle.ixdtf_grammar.specs.language.Letters.Letter.{Plain, Bad}
-use Rattle.ixdtf_grammar.specs.language.Digits.{decimal, TwoDigits}
-use Rattle.ixdtf_grammar.specs.language.Shapes.{digits}
-use Rattle.ixdtf_grammar.specs.language.Dates.{FourDigitYear, IsDayOfMonth, month_length}
-use Rattle.ixdtf_grammar.specs.language.FixedPlaces.{FixedDateTime}
-use Rattle.ixdtf_grammar.specs.table.Faults.{Fault}
-use Rattle.ixdtf_reading.specs.declared.stop.Stop.{Stop}
+use Rattle.std.proofs.lemmas.{Bool.{and_parts, and_from, le-leb, Decides.nat_tests}, List.length-drop}
+use Rattle.ixdtf_grammar.specs.declared.records.{DateRecord.DateRecord, TimeRecord.TimeRecord}
+use Rattle.ixdtf_grammar.specs.language.Letters.{Letter, Text, Class, digit, hyphen, colon, opening, date_time_separator, Letter.{Plain, Bad}}
+use Rattle.ixdtf_grammar.specs.language.{Digits.{decimal, TwoDigits}, Shapes.digits, Dates.{FourDigitYear, IsDayOfMonth, month_length}}
+use Rattle.ixdtf_grammar.specs.{language.FixedPlaces.FixedDateTime, table.{Faults.{Fault, Fault.InvalidMonthRange}, LineNames.{of_date, DateLine.after_year}}}
 use Rattle.ixdtf_grammar.specs.Views.{Unread, ascii_at, looked}
-use Rattle.ixdtf_reading.specs.reading.Clauses.{Reads, YieldsAt}
-use Rattle.ixdtf_reading.specs.reading.Dates.{date_of, year_at, four_digit_year_at, month_in_range, month_by, month_at, day_in_range, day_at, days_at, date_at}
-use Rattle.ixdtf_reading.specs.reading.Times.{time_of}
-use Rattle.ixdtf_grammar.specs.table.Faults.Fault.{InvalidMonthRange}
-use Rattle.ixdtf_grammar.specs.table.LineNames.{of_date}
-use Rattle.ixdtf_grammar.specs.table.LineNames.DateLine.{after_year}
-use Rattle.ixdtf_reading.specs.reading.Looks.{Read, Placed, ◌>>=◌, error_of, look_at, next_by, mark_by, digits_by}
-use Rattle.ixdtf_reading.proofs.parts.Looks.{in_turn, onto}
-use Rattle.ixdtf_reading.proofs.code.DigitClasses.{digit_no_sign, digit_no_hyphen}
-use Rattle.ixdtf_reading.specs.reading.FixedPlaces.{ranged, ◌>>?◌, first_in, letter_place, first_byte, byte_place, byte_of_look, tens_value, ones_value, number_place}
-use Rattle.ixdtf_reading.specs.reading.FixedPlaces.{year_place, days_place, basic_days_place, date_place, basic_date_place, time_place, date_in_range}
-use Rattle.ixdtf_reading.specs.reading.FixedPlaces.{time_in_range, date_time_place}
+use Rattle.ixdtf_reading.specs.{declared.stop.Stop.Stop, reading.{Clauses.{Reads, YieldsAt}, Dates.{date_of, year_at, four_digit_year_at, month_in_range}}}
+use Rattle.ixdtf_reading.specs.reading.{Dates.{month_by, month_at, day_in_range, day_at, days_at, date_at}, Times.time_of}
+use Rattle.ixdtf_reading.specs.reading.{Looks.{Read, Placed, ◌>>=◌, error_of, look_at, next_by, mark_by, digits_by}, FixedPlaces.{ranged, ◌>>?◌, first_in}}
+use Rattle.ixdtf_reading.specs.reading.FixedPlaces.{letter_place, first_byte, byte_place, byte_of_look, tens_value, ones_value, number_place, year_place}
+use Rattle.ixdtf_reading.specs.reading.FixedPlaces.{days_place, basic_days_place, date_place, basic_date_place, time_place, date_in_range, time_in_range}
+use Rattle.ixdtf_reading.specs.reading.FixedPlaces.{date_time_place}
+use Rattle.ixdtf_reading.proofs.{parts.Looks.{in_turn, onto}, code.DigitClasses.{digit_no_sign, digit_no_hyphen}}
 
 -- the code unit that a look found, where it is of the class
 abbrev pub class_at_place : Class → Result (Option ℕ) Fault → Option ℕ
@@ -55,63 +42,6 @@ byte_looked letter zero (u ∷ more) = go (letter u)
     go (Plain n) = refl
     go Bad = refl
 byte_looked letter (suc place) (u ∷ more) = byte_looked letter place more
-
--- ---- two digits by two tables
-
--- a number below 100
-abbrev pub below_100 : ℕ → Option ℕ
-below_100 n = if nat_le n 99 then Some n else None
-
-not_below : (n : ℕ) → 100 ≤ n → nat_le n 99 ≡ false
-not_below n h = grind (arith, nat_tests)
-
-is_below : (n : ℕ) → n ≤ 99 → nat_le n 99 ≡ true
-is_below n h = grind (arith, nat_tests)
-
-not_both : (n : ℕ) → 100 ≤ n → None ≡ below_100 n
-not_both n h = rw (not_below n h) refl
-
-both : (n m : ℕ) → n ≡ m → m ≤ 99 → Some n ≡ below_100 m
-both n m same h = rw (is_below m h, same) refl
-
-digit_bounds : (c : ℕ) → digit c ≡ true → (48 ≤ c) × (c ≤ 57)
-digit_bounds c is = (grind (arith, nat_tests), grind (arith, nat_tests))
-
-abbrev of_two : Text → Text → Option ℕ
-of_two tens ones = first_in digit tens >>? λ a. first_in digit ones >>? λ b. Some (decimal (Plain a ∷ Plain b ∷ []))
-
-abbrev ByTables : Text → Text → Type 0
-ByTables tens ones = of_two tens ones ≡ below_100 (tens_value (first_byte tens) + ones_value (first_byte ones))
-
-abbrev ByOnes : ℕ → Text → Type 0
-ByOnes a ones = (first_in digit ones >>? λ b. Some (decimal (Plain a ∷ Plain b ∷ []))) ≡ below_100 (10 * (a - 48) + ones_value (first_byte ones))
-
-by_ones_letter : (a b : ℕ) (rest : Text) → (t : Bool) → digit a ≡ true → digit b ≡ t → ByOnes a (Plain b ∷ rest)
-by_ones_letter a b rest false ea eb = rw eb (not_both (10 * (a - 48) + 100) (omega arith))
-by_ones_letter a b rest true ea eb =
-    let (la, ga) = digit_bounds a ea in
-    let (lb, gb) = digit_bounds b eb in
-    rw eb (both (decimal (Plain a ∷ Plain b ∷ [])) (10 * (a - 48) + (b - 48)) (omega arith) (omega arith))
-
-by_ones : (a : ℕ) (ones : Text) → digit a ≡ true → ByOnes a ones
-by_ones a [] ea = not_both (10 * (a - 48) + 100) (omega arith)
-by_ones a (Bad ∷ rest) ea = not_both (10 * (a - 48) + 100) (omega arith)
-by_ones a (Plain b ∷ rest) ea = by_ones_letter a b rest (digit b) ea refl
-
-by_tens_letter : (a : ℕ) (rest ones : Text) → (t : Bool) → digit a ≡ t → ByTables (Plain a ∷ rest) ones
-by_tens_letter a rest ones false ea = rw ea (not_both (100 + ones_value (first_byte ones)) (omega arith))
-by_tens_letter a rest ones true ea = rw ea (by_ones a ones ea)
-
-by_tens : (tens ones : Text) → ByTables tens ones
-by_tens [] ones = not_both (100 + ones_value (first_byte ones)) (omega arith)
-by_tens (Bad ∷ rest) ones = not_both (100 + ones_value (first_byte ones)) (omega arith)
-by_tens (Plain a ∷ rest) ones = by_tens_letter a rest ones (digit a) refl
-
--- the number of two digits is the sum of what the two tables have, where it is below 100
-pub number_by_tables : (place : ℕ) (text : Text)
-    → number_place place text ≡ below_100 (tens_value (byte_place place text) + ones_value (byte_place (place + 1) text))
-unfolding number_place
-number_by_tables place text = by_tens (drop place text) (drop (place + 1) text)
 
 -- ---- what stands where something was found
 

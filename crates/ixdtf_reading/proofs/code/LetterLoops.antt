@@ -1,12 +1,9 @@
 -- Code units that a loop takes one by one.
-use Rattle.std.proofs.Common.{◌≡◌, ℕ, ◌-◌, Bool, true, false, if◌then◌else◌, List, [], ◌∷◌, ◌++◌, length, map, drop, take, Option, Some, None, Ok, Err, refl, sym, ap, subst, ◌∙◌, arith}
-use Rattle.std.proofs.Common.{append_assoc, append-nil}
+use Rattle.std.proofs.Common.{◌≡◌, ℕ, ◌-◌, Bool, true, false, if◌then◌else◌, List, [], ◌∷◌, ◌++◌, length, map, drop, take, Option, Some, None, Ok, Err, refl}
+use Rattle.std.proofs.Common.{sym, ap, subst, ◌∙◌, arith, append_assoc, append-nil}
 use Rattle.std.proofs.lemmas.List.{take-map, length-map, length-append, take_all, take-append-le}
-use Rattle.ixdtf_grammar.specs.language.Letters.{Letter, Text}
-use Rattle.ixdtf_grammar.specs.language.Letters.Letter.{Plain, Bad}
-use Rattle.ixdtf_grammar.specs.table.Faults.Fault.{NonAsciiCodePoint}
-use Rattle.ixdtf_reading.specs.reading.Looks.{Placed, Read, ◌>>=◌, look_at, seen}
-use Rattle.ixdtf_reading.specs.reading.Zones.{with_letter}
+use Rattle.ixdtf_grammar.specs.{language.Letters.{Letter, Text, Letter.{Plain, Bad}}, table.Faults.Fault.NonAsciiCodePoint}
+use Rattle.ixdtf_reading.specs.reading.{Looks.{Placed, Read, ◌>>=◌, look_at, seen}, Zones.with_letter}
 use Rattle.ixdtf_reading.specs.reading.Runs.{Taken, one_more, nothing_taken, on_letter, letters_by}
 use Rattle.ixdtf_reading.proofs.code.FirstLetter.{nothing_is}
 

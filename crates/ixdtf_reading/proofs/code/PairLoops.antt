@@ -1,22 +1,14 @@
 -- The code units of a key and of a value, taken one by one.
-use Rattle.std.proofs.Common.{◌≡◌, ℕ, Bool, true, false, List, [], ◌∷◌, ◌++◌, map, drop, Option, Some, None, Ok, Err, refl, sym, ap, subst, ◌∙◌, if◌then◌else◌}
-use Rattle.std.proofs.Common.{append_assoc, append-nil, arith}
-use Rattle.std.proofs.lemmas.Bool.Decides.{nat_tests}
-use Rattle.ixdtf_reading.specs.declared.annotations.KeyLetters.{KeyLetters}
-use Rattle.ixdtf_reading.specs.declared.annotations.ComponentLetters.{ComponentLetters}
-use Rattle.ixdtf_reading.specs.reading.Pairs.{ValueState, AtStart, Inside, AfterHyphen, GoesOn, Ends, Stops}
-use Rattle.ixdtf_grammar.specs.language.Letters.Letter.{Plain, Bad}
-use Rattle.ixdtf_grammar.specs.language.Letters.{Letter, Text, equals, hyphen, closing, key_char, value_char}
-use Rattle.ixdtf_grammar.specs.table.Faults.{Fault}
-use Rattle.ixdtf_grammar.specs.table.Faults.Fault.{AnnotationKeyValueSeparator, AnnotationKeyChar}
-use Rattle.ixdtf_grammar.specs.table.Faults.Fault.{NonAsciiCodePoint, AnnotationValueChar, AnnotationClose}
-use Rattle.ixdtf_reading.specs.reading.Looks.{Placed, Read, look_at, seen, next_by, error_of}
-use Rattle.ixdtf_reading.specs.reading.Zones.{with_letter}
+use Rattle.std.proofs.Common.{◌≡◌, ℕ, Bool, true, false, List, [], ◌∷◌, ◌++◌, map, drop, Option, Some, None, Ok, Err, refl, sym, ap, subst, ◌∙◌}
+use Rattle.std.proofs.{Common.{if◌then◌else◌, append_assoc, append-nil, arith}, lemmas.Bool.Decides.nat_tests}
+use Rattle.ixdtf_reading.specs.{declared.annotations.{KeyLetters.KeyLetters, ComponentLetters.ComponentLetters}, reading.Pairs.{ValueState, AtStart, Inside}}
+use Rattle.ixdtf_reading.specs.reading.Pairs.{AfterHyphen, GoesOn, Ends, Stops, key_run, component_look, value_run, value_mark, value_step, value_end}
+use Rattle.ixdtf_reading.specs.reading.{Pairs.value_other, Looks.{Placed, Read, look_at, seen, next_by, error_of}, Zones.with_letter}
 use Rattle.ixdtf_reading.specs.reading.Runs.{Taken, letters_by, key_after, component_after}
-use Rattle.ixdtf_reading.specs.reading.Pairs.{key_run, component_look, value_run, value_mark, value_step, value_end, value_other}
-use Rattle.ixdtf_reading.proofs.code.FirstLetter.{first_is as letter_first, nothing_is}
-use Rattle.ixdtf_reading.proofs.code.LetterLoops.{test_held, test_failed, first_is, Stays, next_shown, next_stays}
-use Rattle.ixdtf_reading.proofs.code.LetterLoops.{in_front, in_front_none, in_front_both, in_front_more, run_failed, run_passed}
+use Rattle.ixdtf_reading.proofs.code.{FirstLetter.{first_is as letter_first, nothing_is}, LetterLoops.{test_held, test_failed, first_is, Stays, next_shown}}
+use Rattle.ixdtf_reading.proofs.code.LetterLoops.{next_stays, in_front, in_front_none, in_front_both, in_front_more, run_failed, run_passed}
+use Rattle.ixdtf_grammar.specs.{language.Letters.{Letter, Text, equals, hyphen, closing, key_char, value_char, Letter.{Plain, Bad}}, table.Faults.Fault}
+use Rattle.ixdtf_grammar.specs.table.Faults.Fault.{AnnotationKeyValueSeparator, AnnotationKeyChar, NonAsciiCodePoint, AnnotationValueChar, AnnotationClose}
 
 -- ---- keys
 

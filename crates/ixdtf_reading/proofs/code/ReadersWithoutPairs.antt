@@ -1,24 +1,13 @@
 -- The clauses of a reader that reads no pairs, from what its reading returns.
 use Rattle.std.proofs.Common.{refl, ◌≡◌, ℕ, List, [], map, Result, Ok, Err, sym, ap, ◌∙◌, IfErr, OnOk, IsFalse}
-use Rattle.ixdtf_grammar.specs.declared.profile.Profile.{Profile}
-use Rattle.ixdtf_grammar.specs.language.Letters.{Letter, Text}
-use Rattle.ixdtf_grammar.specs.table.Faults.{Fault, never_comes}
-use Rattle.ixdtf_reading.specs.declared.stop.Stop.{Stop}
-use Rattle.ixdtf_grammar.specs.Views.{Unread, returned_by}
-use Rattle.ixdtf_reading.specs.reading.Clauses.{Reads, Settles, fault_of_stop}
-use Rattle.ixdtf_grammar.specs.language.Brackets.{Pair}
-use Rattle.ixdtf_grammar.specs.language.Readers.{Reader}
+use Rattle.ixdtf_grammar.specs.{declared.profile.Profile.Profile, language.{Letters.{Letter, Text}, Brackets.Pair, Readers.Reader}}
 use Rattle.ixdtf_grammar.specs.language.Readers.Reader.{bracketed, parse_offset, parse_identifier, parse_iana_identifier, parse_duration}
-use Rattle.ixdtf_grammar.specs.table.Rows.{Row, Fits}
-use Rattle.ixdtf_grammar.specs.language.Languages.{Found, Derives}
-use Rattle.ixdtf_grammar.specs.table.Outcomes.{HasFault, NoRowFits, OnlyFault}
-use Rattle.ixdtf_grammar.specs.Laws.{IsTextReader, InNoOther}
-use Rattle.ixdtf_reading.specs.reading.Looks.{Read, Placed, error_of}
-use Rattle.ixdtf_reading.specs.reading.Wholes.{finding, read_at}
-use Rattle.ixdtf_reading.proofs.to_grammar.Wholes.{OnWhole, whole_read}
-use Rattle.ixdtf_reading.proofs.to_reading.Wholes.{takes}
+use Rattle.ixdtf_grammar.specs.{language.Languages.{Found, Derives}, table.{Faults.{Fault, never_comes}, Rows.{Row, Fits}}}
+use Rattle.ixdtf_grammar.specs.{table.Outcomes.{HasFault, NoRowFits, OnlyFault}, Views.{Unread, returned_by}, Laws.{IsTextReader, InNoOther}}
 use Rattle.ixdtf_grammar.proofs.theorems.NoRow.{fault_comes}
-use Rattle.ixdtf_reading.proofs.theorems.OnlyOutcome.{Accepted, accepted, only_fault}
+use Rattle.ixdtf_reading.specs.{declared.stop.Stop.Stop, reading.{Clauses.{Reads, Settles, fault_of_stop}, Looks.{Read, Placed, error_of}}}
+use Rattle.ixdtf_reading.specs.reading.Wholes.{finding, read_at}
+use Rattle.ixdtf_reading.proofs.{to_grammar.Wholes.{OnWhole, whole_read}, to_reading.Wholes.takes, theorems.OnlyOutcome.{Accepted, accepted, only_fault}}
 use Rattle.ixdtf_reading.proofs.code.Units.{no_units}
 
 abbrev done : {A : Type 0} → A → Result A Fault

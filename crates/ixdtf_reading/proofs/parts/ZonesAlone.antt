@@ -1,42 +1,23 @@
 -- The readers of an offset, of a zone and of a zone's name: what holds of a text decides what they value, and back.
 use Rattle.std.proofs.Common.{◌≡◌, ℕ, true, IsTrue, IsFalse, ◌⊎◌, List, [], ◌∷◌, ◌++◌, Option, Some, None, Ok, Err, refl, sym, ap, ◌∙◌, inl, inr, arith}
-use Rattle.std.proofs.Common.{append_assoc, append-nil, false}
-use Rattle.std.proofs.lemmas.Bool.{or_from, or_cases, or_left, or_right, both_ways, true≢false}
-use Rattle.std.proofs.lemmas.Bool.Decides.{nat_tests}
-use Rattle.ixdtf_grammar.specs.language.Times.{Clock as clocks}
-use Rattle.ixdtf_grammar.specs.declared.records.TimeRecord.{TimeRecord}
-use Rattle.ixdtf_grammar.specs.declared.records.MinutePrecisionOffset.{MinutePrecisionOffset}
-use Rattle.ixdtf_grammar.specs.declared.records.UtcOffsetRecord.{UtcOffsetRecord}
-use Rattle.ixdtf_grammar.specs.language.Letters.{Text}
-use Rattle.ixdtf_grammar.specs.language.Letters.Letter.{Plain}
-use Rattle.ixdtf_grammar.specs.language.Letters.{◌or◌, none, sign, slash, zone_lead, zone_char}
-use Rattle.ixdtf_grammar.specs.table.Faults.{Fault}
-use Rattle.ixdtf_grammar.specs.language.Offsets.{IsSigned, IsOffset, IsMinuteOffset, offset_of, minutes_of}
-use Rattle.ixdtf_grammar.specs.language.Times.{Clock, TimeShape, writes_seconds}
-use Rattle.ixdtf_grammar.specs.language.ZoneNames.{Zone, ZoneName, IsZone, IsZoneName}
-use Rattle.ixdtf_grammar.specs.language.ZoneNames.Zone.{Offset}
-use Rattle.ixdtf_grammar.specs.language.Brackets.{Pair}
-use Rattle.ixdtf_grammar.specs.language.Readers.{Reader, has_brackets}
-use Rattle.ixdtf_grammar.specs.table.LineNames.{LineName}
-use Rattle.ixdtf_grammar.specs.language.Readers.Reader.{parse_offset, parse_identifier, parse_iana_identifier}
-use Rattle.ixdtf_grammar.specs.table.LineNames.LineName.{of_clock, of_offset, of_zone}
-use Rattle.ixdtf_grammar.specs.table.LineNames.OffsetLine.{offset_start}
+use Rattle.std.proofs.{Common.{append_assoc, append-nil, false}, lemmas.Bool.{or_from, or_cases, or_left, or_right, both_ways, true≢false, Decides.nat_tests}}
+use Rattle.ixdtf_grammar.specs.language.Times.{Clock as clocks, Clock, TimeShape, writes_seconds}
+use Rattle.ixdtf_grammar.specs.language.Letters.{Text, ◌or◌, none, sign, slash, zone_lead, zone_char, Letter.Plain}
+use Rattle.ixdtf_grammar.specs.language.{Offsets.{IsSigned, IsOffset, IsMinuteOffset, offset_of, minutes_of}, ZoneNames.{Zone, ZoneName, IsZone, IsZoneName}}
+use Rattle.ixdtf_grammar.specs.language.{ZoneNames.Zone.Offset, Brackets.Pair, Readers.{Reader, has_brackets}}
+use Rattle.ixdtf_grammar.specs.{language.Readers.Reader.{parse_offset, parse_identifier, parse_iana_identifier}, declared.records.TimeRecord.TimeRecord}
+use Rattle.ixdtf_grammar.specs.{declared.records.{MinutePrecisionOffset.MinutePrecisionOffset, UtcOffsetRecord.UtcOffsetRecord}, table.Faults.Fault}
+use Rattle.ixdtf_grammar.specs.table.LineNames.{LineName, LineName.{of_clock, of_offset, of_zone}, OffsetLine.offset_start}
 use Rattle.ixdtf_grammar.specs.table.LineNames.ZoneLine.{identifier_start, zone_name_start, in_zone_name, after_zone_slash}
-use Rattle.ixdtf_grammar.specs.table.Lines.{table, line_of, follow_of}
-use Rattle.ixdtf_grammar.specs.table.Before.{Before}
-use Rattle.ixdtf_grammar.specs.table.Rows.{Row, Place, Stops, Fits, front_of}
+use Rattle.ixdtf_grammar.specs.table.{Lines.{table, line_of, follow_of}, Before.Before, Rows.{Row, Place, Stops, Fits, front_of}}
 use Rattle.ixdtf_grammar.specs.table.Rows.Place.{end, other, bad, anywhere}
-use Rattle.ixdtf_reading.specs.reading.Looks.{Read, ◌>>=◌, row_of, letter_at, peek_by}
-use Rattle.ixdtf_reading.specs.reading.Times.{OpenTime, line_after, clock_at}
-use Rattle.ixdtf_reading.specs.reading.Zones.{follow_look, name_run, name_look, name_alone_at, iana_identifier_at, signed_alone_at, offset_alone_at, offset_at}
+use Rattle.ixdtf_reading.specs.reading.{Looks.{Read, ◌>>=◌, row_of, letter_at, peek_by}, Times.{OpenTime, line_after, clock_at}, Zones.follow_look}
+use Rattle.ixdtf_reading.specs.reading.Zones.{name_run, name_look, name_alone_at, iana_identifier_at, signed_alone_at, offset_alone_at, offset_at}
 use Rattle.ixdtf_reading.specs.reading.Zones.{minute_offset_alone_at, as_zone, identifier_at}
-use Rattle.ixdtf_reading.proofs.parts.Looks.{lift, OnRead, then_read, read_weaker, read_if, FitsIn, goes, stops, read_letter, Peeked, peek_end, peek_other, peek_read}
-use Rattle.ixdtf_reading.proofs.parts.Looks.{NotNext}
-use Rattle.ixdtf_reading.proofs.to_reading.ZoneNames.{StopsName, name_takes, name_row, slash_row}
-use Rattle.ixdtf_reading.proofs.to_grammar.ZoneNames.{NameFront, name_read, name_stops_here, name_lines}
-use Rattle.ixdtf_reading.proofs.to_reading.Times.{closed_at_end, Closed, StopsAfter}
-use Rattle.ixdtf_reading.proofs.to_reading.ClockRows.{over_clock, clock_rows, peek_stops_after}
-use Rattle.ixdtf_reading.proofs.to_grammar.Times.{TimeFront, clock_read, clock_peek_read}
+use Rattle.ixdtf_reading.proofs.parts.Looks.{lift, OnRead, then_read, read_weaker, read_if, FitsIn, goes, stops, read_letter, Peeked, peek_end, peek_other}
+use Rattle.ixdtf_reading.proofs.{parts.Looks.{peek_read, NotNext}, to_reading.ZoneNames.{StopsName, name_takes, name_row, slash_row}}
+use Rattle.ixdtf_reading.proofs.to_reading.{Times.{closed_at_end, Closed, StopsAfter}, ClockRows.{over_clock, clock_rows, peek_stops_after}}
+use Rattle.ixdtf_reading.proofs.to_grammar.{ZoneNames.{NameFront, name_read, name_stops_here, name_lines}, Times.{TimeFront, clock_read, clock_peek_read}}
 
 -- what a name begins with is no sign
 pub lead_no_sign : (c : ℕ) → IsTrue (zone_lead c) → IsFalse (sign c)

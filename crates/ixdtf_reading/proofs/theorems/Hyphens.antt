@@ -1,28 +1,11 @@
 -- A date's hyphens say nothing where both stand, and are refused where one does.
-use Rattle.std.proofs.Common.{◌≡◌, ℕ, IsTrue, IsFalse, ◌∷◌, ◌++◌, [], refl, sym, ◌∙◌, ap, inl, inr, append_assoc, arith}
-use Rattle.std.proofs.lemmas.Bool.Decides.{nat_tests}
-use Rattle.ixdtf_grammar.specs.declared.records.DateRecord.{DateRecord}
-use Rattle.ixdtf_grammar.specs.Laws.{HyphensSayNothing, OneHyphenIsRefused, IsDateParts}
-use Rattle.ixdtf_grammar.specs.Widths.{UnhandledOutcome, HasUnhandledOutcome}
-use Rattle.ixdtf_grammar.specs.Widths.UnhandledOutcome.{faulted}
-use Rattle.ixdtf_grammar.specs.language.Dates.{DateText}
-use Rattle.ixdtf_grammar.specs.language.Digits.{decimal}
-use Rattle.ixdtf_grammar.specs.language.Letters.{Text, digit, hyphen}
-use Rattle.ixdtf_grammar.specs.language.Letters.Letter.{Plain}
-use Rattle.ixdtf_grammar.specs.language.Readers.{parse}
-use Rattle.ixdtf_grammar.specs.language.Readers.CoreKind.{date_time}
-use Rattle.ixdtf_grammar.specs.table.Faults.Fault.{DateSeparator}
-use Rattle.ixdtf_grammar.specs.table.LineNames.{of_date}
-use Rattle.ixdtf_grammar.specs.table.LineNames.DateLine.{after_hyphened_month, after_basic_month}
-use Rattle.ixdtf_grammar.specs.table.Outcomes.{HasFault}
-use Rattle.ixdtf_grammar.specs.table.Rows.Place.{other}
-use Rattle.ixdtf_reading.specs.reading.Cores.{date_time_core_at}
-use Rattle.ixdtf_reading.specs.reading.Dates.{date_of}
-use Rattle.ixdtf_reading.specs.reading.Looks.{row_of}
-use Rattle.ixdtf_reading.specs.reading.Wholes.{row_behind, bracketed_text_at, outcome}
-use Rattle.ixdtf_reading.proofs.code.OneMoreReply.{NoneRefused-nothing}
-use Rattle.ixdtf_reading.proofs.theorems.OneOutcome.{outcome_holds}
-use Rattle.ixdtf_reading.proofs.theorems.OneUnhandledOutcome.{same_plain}
+use Rattle.std.proofs.{Common.{◌≡◌, ℕ, IsTrue, IsFalse, ◌∷◌, ◌++◌, [], refl, sym, ◌∙◌, ap, inl, inr, append_assoc, arith}, lemmas.Bool.Decides.nat_tests}
+use Rattle.ixdtf_grammar.specs.{declared.records.DateRecord.DateRecord, Laws.{HyphensSayNothing, OneHyphenIsRefused, IsDateParts}}
+use Rattle.ixdtf_grammar.specs.{Widths.{UnhandledOutcome, HasUnhandledOutcome, UnhandledOutcome.faulted}, language.{Dates.DateText, Digits.decimal}}
+use Rattle.ixdtf_grammar.specs.{language.{Letters.{Text, digit, hyphen, Letter.Plain}, Readers.{parse, CoreKind.date_time}}, table.Faults.Fault.DateSeparator}
+use Rattle.ixdtf_grammar.specs.table.{LineNames.{of_date, DateLine.{after_hyphened_month, after_basic_month}}, Outcomes.HasFault, Rows.Place.other}
+use Rattle.ixdtf_reading.specs.reading.{Cores.date_time_core_at, Dates.date_of, Looks.row_of, Wholes.{row_behind, bracketed_text_at, outcome}}
+use Rattle.ixdtf_reading.proofs.{code.OneMoreReply.NoneRefused-nothing, theorems.{OneOutcome.outcome_holds, OneUnhandledOutcome.same_plain}}
 use Rattle.ixdtf_reading.proofs.to_reading.Dates.{over_date}
 
 -- the date of these parts

@@ -1,31 +1,15 @@
 -- `parse` derives a record from every date-time of RFC 3339 section 5.6.
-use Rattle.ixdtf_grammar.specs.language.Readers.{parse}
+use Rattle.ixdtf_grammar.specs.language.{Readers.parse, Times.{Clock as clocks, IsTime, SecondText, TimeShape.{colon_minutes, seconds, fractions}}}
+use Rattle.ixdtf_grammar.specs.language.{Letters.{Text, time_letter, date_time_separator}, Shapes.{nothing, ◌either◌}, Digits.decimal}
+use Rattle.ixdtf_grammar.specs.language.{Fractions.{FractionParts, fraction_of}, Dates.IsDate, Offsets.{offset_of, IsOffsetOrZ}, Cores.core_of}
+use Rattle.ixdtf_grammar.specs.language.Languages.{Parsed, parsed_with, Derives, Derives.as_parsed, Found.parsed}
+use Rattle.ixdtf_grammar.specs.{language.Rfc3339.{FullDate, WholeTime, SecondFraction, TimeOffset, IsRfcDateTime}, declared.records.DateRecord.DateRecord}
+use Rattle.ixdtf_grammar.specs.declared.records.{TimeRecord.TimeRecord, UtcOffsetRecordOrZ.{UtcOffsetRecordOrZ, TheVariants.{Offset, Z}}}
+use Rattle.ixdtf_grammar.specs.{Handlers.UnhandledRecord, Laws.EveryDateTimeIsRead}
 use Rattle.std.proofs.Common.{ℕ, IsTrue, [], ◌++◌, Some, None, pos, refl, sym, ◌∙◌, false, inl, inr, arith, append_assoc, append-nil}
 use Rattle.std.proofs.lemmas.Bool.Decides.{nat_tests}
-use Rattle.ixdtf_grammar.specs.language.Times.{Clock as clocks}
-use Rattle.ixdtf_grammar.specs.declared.records.DateRecord.{DateRecord}
-use Rattle.ixdtf_grammar.specs.declared.records.TimeRecord.{TimeRecord}
-use Rattle.ixdtf_grammar.specs.declared.records.UtcOffsetRecordOrZ.{UtcOffsetRecordOrZ}
-use Rattle.ixdtf_grammar.specs.declared.records.UtcOffsetRecordOrZ.TheVariants.{Offset, Z}
-use Rattle.ixdtf_grammar.specs.language.Letters.{Text}
-use Rattle.ixdtf_grammar.specs.language.Letters.{time_letter, date_time_separator}
-use Rattle.ixdtf_grammar.specs.language.Shapes.{nothing, ◌either◌}
-use Rattle.ixdtf_grammar.specs.language.Digits.{decimal}
-use Rattle.ixdtf_grammar.specs.language.Fractions.{FractionParts, fraction_of}
-use Rattle.ixdtf_grammar.specs.language.Dates.{IsDate}
-use Rattle.ixdtf_grammar.specs.language.Times.{IsTime, SecondText}
-use Rattle.ixdtf_grammar.specs.language.Times.TimeShape.{colon_minutes, seconds, fractions}
-use Rattle.ixdtf_grammar.specs.language.Offsets.{offset_of, IsOffsetOrZ}
-use Rattle.ixdtf_grammar.specs.language.Cores.{core_of}
-use Rattle.ixdtf_grammar.specs.language.Languages.Derives.{as_parsed}
-use Rattle.ixdtf_grammar.specs.language.Languages.{Parsed, parsed_with, Derives}
-use Rattle.ixdtf_grammar.specs.language.Languages.Found.{parsed}
-use Rattle.ixdtf_reading.specs.reading.Dates.{date_of}
-use Rattle.ixdtf_reading.specs.reading.Times.{time_of}
-use Rattle.ixdtf_grammar.specs.Handlers.{UnhandledRecord}
-use Rattle.ixdtf_grammar.specs.Laws.{EveryDateTimeIsRead}
+use Rattle.ixdtf_reading.specs.reading.{Dates.date_of, Times.time_of}
 use Rattle.ixdtf_reading.proofs.code.OneMoreReply.{NoneRefused-nothing}
-use Rattle.ixdtf_grammar.specs.language.Rfc3339.{FullDate, WholeTime, SecondFraction, TimeOffset, IsRfcDateTime}
 
 full_date : (text : Text) → FullDate text → (date : DateRecord) × IsDate text date
 full_date text d = (

@@ -1,37 +1,19 @@
 -- What reading a duration returns is a duration, or the fault of a row that fits.
 use Rattle.std.proofs.Common.{◌≡◌, ℕ, ◌≤◌, ◌<◌, ◌||◌, Bool, true, false, IsTrue, IsFalse, List, [], ◌∷◌, ◌++◌, Result, Ok, Err, refl, inl, inr, arith}
-use Rattle.std.proofs.{Common.{append_assoc, append-nil, nat_le, if◌then◌else◌}, lemmas.{Bool.{or_from, both_ways, leb-true}, Bool.Decides.nat_tests}}
-use Rattle.ixdtf_grammar.specs.declared.profile.Profile.{Profile}
-use Rattle.ixdtf_grammar.specs.declared.records.DurationParseRecord.{DurationParseRecord}
-use Rattle.ixdtf_grammar.specs.language.Letters.Letter.{Plain, Bad}
-use Rattle.ixdtf_grammar.specs.language.Letters.{Text, digit, sign, decimal_mark, hour_letter, minute_letter}
-use Rattle.ixdtf_grammar.specs.language.Digits.{decimal}
-use Rattle.ixdtf_grammar.specs.language.Fractions.{SomeDigits, IsFraction, fraction_of}
-use Rattle.ixdtf_grammar.specs.language.Offsets.{sign_of}
-use Rattle.ixdtf_grammar.specs.language.Durations.{Half, Group, IntegerGroup, FractionGroup}
-use Rattle.ixdtf_grammar.specs.language.Durations.Half.{date}
-use Rattle.ixdtf_grammar.specs.language.Durations.{AtLeastOne, unit_of, designator, in_order, greatest, greatest_value, IsDuration, DurationUnit as units}
-use Rattle.ixdtf_grammar.specs.language.Durations.Half.{time}
-use Rattle.ixdtf_grammar.specs.language.Readers.Reader.{parse_duration}
-use Rattle.ixdtf_grammar.specs.table.Faults.Fault.{NonAsciiCodePoint}
-use Rattle.ixdtf_grammar.specs.table.Faults.{Fault}
-use Rattle.ixdtf_grammar.specs.table.LineNames.LineName.{of_duration}
-use Rattle.ixdtf_grammar.specs.table.LineNames.{LineName}
-use Rattle.ixdtf_grammar.specs.table.DurationFronts.Context.{in_dates, in_times}
-use Rattle.ixdtf_grammar.specs.table.DurationFronts.{Context, half_of, groups_of, IsContext, AnyGroup, group_mark}
-use Rattle.ixdtf_grammar.specs.table.Lines.Line.{line}
-use Rattle.ixdtf_grammar.specs.table.Lines.Ending.{ok, error}
-use Rattle.ixdtf_grammar.specs.table.Lines.{Line, duration_line, line_of}
-use Rattle.ixdtf_grammar.specs.table.Before.{InDuration}
-use Rattle.ixdtf_grammar.specs.table.Rows.Place.{end, other, bad}
-use Rattle.ixdtf_grammar.specs.table.Rows.{Row, Stops, Fits, front_of}
-use Rattle.ixdtf_reading.specs.reading.Looks.{Read, ◌>>=◌, row_of, look_of}
-use Rattle.ixdtf_reading.specs.reading.Durations.{State, line_of_state, add, integer_group, fraction_group, unit_past, grow}
-use Rattle.ixdtf_reading.specs.reading.Durations.State.{started}
-use Rattle.ixdtf_reading.specs.reading.Durations.{add_in_range, in_its_order, to_times, to_fraction, step, finished, at_end, run, duration_at}
-use Rattle.ixdtf_reading.specs.reading.Durations.State.{signed, between, in_number, at_mark, in_fraction, ended}
-use Rattle.ixdtf_reading.proofs.parts.Looks.{IsRowFault, OnRead, read_if, Goes}
-use Rattle.ixdtf_reading.proofs.parts.DurationRuns.{Asks, state_asks, one_digit, digits_longer}
+use Rattle.std.proofs.{Common.{append_assoc, append-nil, nat_le, if◌then◌else◌}, lemmas.Bool.{or_from, both_ways, leb-true, Decides.nat_tests}}
+use Rattle.ixdtf_grammar.specs.declared.{profile.Profile.Profile, records.DurationParseRecord.DurationParseRecord}
+use Rattle.ixdtf_grammar.specs.language.{Letters.{Text, digit, sign, decimal_mark, hour_letter, minute_letter, Letter.{Plain, Bad}}, Digits.decimal}
+use Rattle.ixdtf_grammar.specs.language.{Fractions.{SomeDigits, IsFraction, fraction_of}, Offsets.sign_of, Durations.{Half, Group, IntegerGroup}}
+use Rattle.ixdtf_grammar.specs.language.Durations.{FractionGroup, AtLeastOne, unit_of, designator, in_order, greatest, greatest_value, IsDuration}
+use Rattle.ixdtf_grammar.specs.{language.{Durations.{DurationUnit as units, Half.{date, time}}, Readers.Reader.parse_duration}, table.Faults.Fault}
+use Rattle.ixdtf_grammar.specs.table.{Faults.Fault.NonAsciiCodePoint, LineNames.{LineName, LineName.of_duration}}
+use Rattle.ixdtf_grammar.specs.table.DurationFronts.{Context, half_of, groups_of, IsContext, AnyGroup, group_mark, Context.{in_dates, in_times}}
+use Rattle.ixdtf_grammar.specs.table.{Lines.{Line, duration_line, line_of, Line.line, Ending.{ok, error}}, Before.InDuration}
+use Rattle.ixdtf_grammar.specs.table.Rows.{Row, Stops, Fits, front_of, Place.{end, other, bad}}
+use Rattle.ixdtf_reading.specs.reading.{Looks.{Read, ◌>>=◌, row_of, look_of}, Durations.{State, line_of_state, add, integer_group, fraction_group, unit_past}}
+use Rattle.ixdtf_reading.specs.reading.Durations.{grow, add_in_range, in_its_order, to_times, to_fraction, step, finished, at_end, run, duration_at}
+use Rattle.ixdtf_reading.specs.reading.Durations.State.{started, signed, between, in_number, at_mark, in_fraction, ended}
+use Rattle.ixdtf_reading.proofs.parts.{Looks.{IsRowFault, OnRead, read_if, Goes}, DurationRuns.{Asks, state_asks, one_digit, digits_longer}}
 
 -- ---- what a state says of the text that was read
 

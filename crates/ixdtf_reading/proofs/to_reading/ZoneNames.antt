@@ -1,20 +1,11 @@
 -- A zone name is read as far as it goes, and each row of a name's lines is returned.
 use Rattle.std.proofs.Common.{◌≡◌, ℕ, true, false, IsTrue, IsFalse, ◌⊎◌, List, [], ◌∷◌, ◌++◌, map, Ok, Err, refl, sym, ap, ◌∙◌, inl, inr, arith, append_assoc}
-use Rattle.std.proofs.{Common.Bool, lemmas.{Bool.{or_parts, and_right, eqb-true}}}
-use Rattle.ixdtf_grammar.specs.language.Letters.Letter.{Plain, Bad}
-use Rattle.ixdtf_grammar.specs.language.Letters.{Text, zone_lead, zone_char, slash}
-use Rattle.ixdtf_grammar.specs.language.Shapes.{Joined}
-use Rattle.ixdtf_grammar.specs.language.ZoneNames.{NameItem, ZoneName}
-use Rattle.ixdtf_grammar.specs.table.Faults.Fault.{NonAsciiCodePoint}
-use Rattle.ixdtf_grammar.specs.table.Faults.{Fault}
-use Rattle.ixdtf_grammar.specs.table.LineNames.LineName.{of_zone}
-use Rattle.ixdtf_grammar.specs.table.LineNames.ZoneLine.{in_zone_name, after_zone_slash}
-use Rattle.ixdtf_grammar.specs.table.Lines.Ending.{error}
-use Rattle.ixdtf_grammar.specs.table.Lines.{line_of, zone_letters, zone_end, zone_other}
+use Rattle.std.proofs.{Common.Bool, lemmas.Bool.{or_parts, and_right, eqb-true}}
+use Rattle.ixdtf_grammar.specs.language.{Letters.{Text, zone_lead, zone_char, slash, Letter.{Plain, Bad}}, Shapes.Joined, ZoneNames.{NameItem, ZoneName}}
+use Rattle.ixdtf_grammar.specs.table.{Faults.{Fault, Fault.NonAsciiCodePoint}, LineNames.{LineName.of_zone, ZoneLine.{in_zone_name, after_zone_slash}}}
+use Rattle.ixdtf_grammar.specs.table.{Lines.{line_of, zone_letters, zone_end, zone_other, Ending.error}, Rows.{Row, Place, Stops}}
 use Rattle.ixdtf_grammar.specs.table.Rows.Place.{end, other, bad, anywhere}
-use Rattle.ixdtf_grammar.specs.table.Rows.{Row, Place, Stops}
-use Rattle.ixdtf_reading.specs.reading.Looks.{Read, row_of}
-use Rattle.ixdtf_reading.specs.reading.Zones.{with_letter, name_run}
+use Rattle.ixdtf_reading.specs.reading.{Looks.{Read, row_of}, Zones.{with_letter, name_run}}
 use Rattle.ixdtf_reading.proofs.parts.Looks.{RowsRead, NotNext}
 
 -- a name does not go on, and Bad does not stand next

@@ -1,24 +1,15 @@
 -- A year-month, and a month-day, at fixed places: what is found there is read so.
-use Rattle.std.proofs.Common.{subst, ◌≡◌, ℕ, suc, ◌+◌, ◌*◌, Bool, true, false, IsTrue, [], ◌∷◌, map, drop, Option}
-use Rattle.std.proofs.Common.{Some, None, Result, Ok, Err, refl, sym, ap, ◌∙◌, nat_le, ◌&&◌, pos, arith}
+use Rattle.std.proofs.Common.{subst, ◌≡◌, ℕ, suc, ◌+◌, ◌*◌, Bool, true, false, IsTrue, [], ◌∷◌, map, drop, Option, Some, None, Result, Ok, Err, refl, sym, ap}
+use Rattle.std.proofs.{Common.{◌∙◌, nat_le, ◌&&◌, pos, arith}, lemmas.Bool.and_parts}
 use Rattle.std.specs.Prelude.{IfSome}
-use Rattle.std.proofs.lemmas.Bool.{and_parts}
-use Rattle.ixdtf_grammar.specs.declared.profile.Profile.{Profile}
-use Rattle.ixdtf_grammar.specs.declared.records.DateRecord.{DateRecord}
-use Rattle.ixdtf_reading.specs.declared.stop.Stop.{Stop}
-use Rattle.ixdtf_grammar.specs.Views.{Unread}
-use Rattle.ixdtf_grammar.specs.table.Faults.{Fault}
-use Rattle.ixdtf_reading.specs.reading.Clauses.{YieldsAt}
-use Rattle.ixdtf_grammar.specs.language.Letters.{Letter, Text, digit, hyphen}
-use Rattle.ixdtf_grammar.specs.language.Letters.Letter.{Plain, Bad}
-use Rattle.ixdtf_grammar.specs.language.Digits.{decimal}
-use Rattle.ixdtf_reading.specs.reading.Dates.{date_of, year_at, four_digit_year_at, month_in_range, month_by}
+use Rattle.ixdtf_grammar.specs.{declared.{profile.Profile.Profile, records.DateRecord.DateRecord}, Views.Unread, table.Faults.Fault}
+use Rattle.ixdtf_grammar.specs.language.{Letters.{Letter, Text, digit, hyphen, Letter.{Plain, Bad}}, Digits.decimal}
+use Rattle.ixdtf_reading.specs.{declared.stop.Stop.Stop, reading.{Clauses.YieldsAt, Dates.{date_of, year_at, four_digit_year_at, month_in_range, month_by}}}
 use Rattle.ixdtf_reading.specs.reading.Looks.{Placed, Read, error_of, look_at, next_by, mark_by, digits_by}
-use Rattle.ixdtf_reading.specs.reading.Months.{year_month_at, marks_at, month_day_at, lone_month_in_range, lone_day_at}
-use Rattle.ixdtf_reading.specs.reading.FixedPlaces.{first_byte, byte_place, number_place, year_place, month_of_year_place}
-use Rattle.ixdtf_reading.specs.reading.FixedPlaces.{day_of_month_place, ranged_month, ranged_day, marks_place, unmarked_at}
-use Rattle.ixdtf_reading.proofs.parts.Looks.{onto}
-use Rattle.ixdtf_reading.proofs.code.DigitClasses.{digit_no_sign, digit_no_hyphen}
+use Rattle.ixdtf_reading.specs.reading.{Months.{year_month_at, marks_at, month_day_at, lone_month_in_range, lone_day_at}, FixedPlaces.first_byte}
+use Rattle.ixdtf_reading.specs.reading.FixedPlaces.{byte_place, number_place, year_place, month_of_year_place, day_of_month_place, ranged_month, ranged_day}
+use Rattle.ixdtf_reading.specs.reading.FixedPlaces.{marks_place, unmarked_at}
+use Rattle.ixdtf_reading.proofs.{parts.Looks.onto, code.DigitClasses.{digit_no_sign, digit_no_hyphen}}
 use Rattle.ixdtf_reading.proofs.code.FixedPlaces.{then_some, Number, number_at_place, hyphen_is, mark_at_place, over_two, year_is, byte_in_class}
 
 -- whether it is a month

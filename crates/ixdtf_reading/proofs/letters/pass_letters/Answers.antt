@@ -1,9 +1,7 @@
-use Rattle.std.proofs.Common.{◌≡◌, ℕ, map, Option, Some, None, Ok, IsSome, refl, arith, rules}
-use Rattle.std.proofs.lemmas.Result.{err_from_is_err_and}
-use Rattle.ixdtf_reading.specs.reading.Looks.{seen}
-use Rattle.ixdtf_reading.proofs.code.FractionLoop.{one_taken}
-use Rattle.ixdtf_reading.proofs.code.LetterLoops.{begins, goes_on, stays, ends, fails}
 use Rattle.ixdtf_reading.proofs.letters.pass_letters.Goals as goal
+use Rattle.std.proofs.{Common.{◌≡◌, ℕ, map, Option, Some, None, Ok, IsSome, refl, arith, rules}, lemmas.Result.err_from_is_err_and}
+use Rattle.ixdtf_reading.specs.reading.Looks.{seen}
+use Rattle.ixdtf_reading.proofs.code.{FractionLoop.one_taken, LetterLoops.{begins, goes_on, stays, ends, fails}}
 use Rattle.ixdtf_reading.proofs.letters.pass_letters.Goals.{in-Err, in-Ok-None, in-Ok-Some+in-None}
 
 pub loop-stop-init : goal.loop-stop-init
