@@ -10,9 +10,8 @@ use Rattle.ixdtf_grammar.specs.Views.{Unread, ascii_at, looked}
 use Rattle.ixdtf_reading.specs.{declared.stop.Stop.Stop, reading.{Clauses.{Reads, YieldsAt}, Dates.{date_of, year_at, four_digit_year_at, month_in_range}}}
 use Rattle.ixdtf_reading.specs.reading.{Dates.{month_by, month_at, day_in_range, day_at, days_at, date_at}, Times.time_of}
 use Rattle.ixdtf_reading.specs.reading.{Looks.{Read, Placed, ◌>>=◌, error_of, look_at, next_by, mark_by, digits_by}, FixedPlaces.{ranged, ◌>>?◌, first_in}}
-use Rattle.ixdtf_reading.specs.reading.FixedPlaces.{letter_place, first_byte, byte_place, byte_of_look, tens_value, ones_value, number_place, year_place}
-use Rattle.ixdtf_reading.specs.reading.FixedPlaces.{days_place, basic_days_place, date_place, basic_date_place, time_place, date_in_range, time_in_range}
-use Rattle.ixdtf_reading.specs.reading.FixedPlaces.{date_time_place}
+use Rattle.ixdtf_reading.specs.reading.FixedPlaces.{letter_place, first_byte, byte_place, byte_of_look, number_place, year_place, days_place}
+use Rattle.ixdtf_reading.specs.reading.FixedPlaces.{basic_days_place, date_place, basic_date_place, time_place, date_in_range, time_in_range, date_time_place}
 use Rattle.ixdtf_reading.proofs.{parts.Looks.{in_turn, onto}, code.DigitClasses.{digit_no_sign, digit_no_hyphen}}
 
 -- the code unit that a look found, where it is of the class

@@ -1,7 +1,7 @@
 -- The digits of a fraction, taken one by one.
 use Rattle.std.proofs.Common.{◌≡◌, ℕ, ◌+◌, true, false, List, [], ◌∷◌, ◌++◌, length, map, drop, Option, Some, None, Ok, Err, refl, sym, ap, ◌∙◌, arith}
 use Rattle.std.proofs.Common.{append_assoc, append-nil}
-use Rattle.ixdtf_grammar.specs.{language.{Letters.{Letter, Text, digit, Letter.{Plain, Bad}}, Fractions.{FractionParts, fraction_of}}, table.Faults.Fault}
+use Rattle.ixdtf_grammar.specs.language.{Letters.{Letter, Text, digit, Letter.{Plain, Bad}}, Fractions.{FractionParts, fraction_of}}
 use Rattle.ixdtf_grammar.specs.table.Faults.Fault.{NonAsciiCodePoint}
 use Rattle.ixdtf_reading.specs.reading.{Looks.{Placed, before, Read, ◌>>=◌, look_at, seen, digit_run}, Clauses.more_digits_at}
 use Rattle.ixdtf_reading.proofs.code.{FirstLetter.{first_is, nothing_is}, GrowingDigits.{Grown, fraction_grows}}

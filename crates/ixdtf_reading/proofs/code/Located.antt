@@ -1,11 +1,8 @@
 -- The clauses of a reader that reads no pairs and returns the places of its errors, from what its reading returns.
-use Rattle.std.proofs.Common.{◌≡◌, ℕ, ◌-◌, ◌≤◌, List, [], length, map, Result, Ok, Err, IfErr, OnOk, IsFalse, sym, ap, ◌∙◌, arith}
-use Rattle.std.proofs.lemmas.List.{length-map, length-append}
-use Rattle.ixdtf_grammar.specs.{declared.{located.LocatedError.LocatedError, profile.Profile.Profile}, Laws.{IsTextReader, InNoOther}}
-use Rattle.ixdtf_grammar.specs.{Views.{Unread, returned_by}, language.{Languages.{Found, Derives}, Letters.{Letter, Text}, Readers.Reader}}
-use Rattle.ixdtf_grammar.specs.table.{Faults.{Fault, fault_of_located, stands_behind, never_comes}, Lines.{Line, Line.{line, scanned, whole}}}
-use Rattle.ixdtf_grammar.specs.table.{Outcomes.{HasFaultAt, NoRowFits, OnlyFault, OnlyPlace}, Rows.{Row, Place, Stops, Fits, left_at}}
-use Rattle.ixdtf_grammar.specs.table.Rows.Place.{end, other, bad, anywhere}
+use Rattle.std.proofs.{Common.{◌≡◌, ℕ, ◌-◌, ◌≤◌, List, [], length, map, Result, Ok, Err, IfErr, sym, ap, ◌∙◌, arith}, lemmas.List.{length-map, length-append}}
+use Rattle.ixdtf_grammar.specs.{declared.located.LocatedError.LocatedError, Views.Unread, language.{Languages.Found, Letters.{Letter, Text}, Readers.Reader}}
+use Rattle.ixdtf_grammar.specs.table.{Faults.{Fault, fault_of_located, stands_behind}, Lines.{Line, Line.{line, scanned, whole}}}
+use Rattle.ixdtf_grammar.specs.table.{Outcomes.{HasFaultAt, OnlyPlace}, Rows.{Row, Place, Stops, Fits, left_at, Place.{end, other, bad, anywhere}}}
 use Rattle.ixdtf_reading.specs.{declared.stop.Stop.Stop, reading.{Looks.{Read, Placed, error_of}, Clauses.{Reads, Settles, fault_of_stop}}}
 use Rattle.ixdtf_reading.specs.reading.Wholes.{finding, read_at}
 use Rattle.ixdtf_reading.proofs.{code.ReadersWithoutPairs.{ReadsNoPairs, error_after, Exact, exact}, parts.Looks.OnRead, theorems.OneOutcome.place_once}

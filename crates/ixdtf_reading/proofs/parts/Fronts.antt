@@ -2,7 +2,7 @@
 -- stands in front, and where a core stands before the end or a bracket, it is one in front of the core.
 use Rattle.std.proofs.{Common.{◌≡◌, Bool, false, IsTrue, IsFalse, ◌++◌, Ok, Err, refl, ap, ◌∙◌, append_assoc}, lemmas.Bool.{both_ways, false_from_ne_true}}
 use Rattle.ixdtf_grammar.specs.{declared.{profile.Profile.Profile, records.DateRecord.DateRecord}, language.{Letters.Text, Shapes.{Shape, some}}}
-use Rattle.ixdtf_grammar.specs.{language.{Months.{IsYearMonth, IsMonthDay}, Cores.{HasFront, HasNoDateFront}}, table.Faults.Fault}
+use Rattle.ixdtf_grammar.specs.language.{Months.{IsYearMonth, IsMonthDay}, Cores.{HasFront, HasNoDateFront}}
 use Rattle.ixdtf_grammar.specs.table.{Faults.Fault.{AmbiguousTimeMonthDay, AmbiguousTimeYearMonth}, LineNames.of_time}
 use Rattle.ixdtf_grammar.specs.table.{LineNames.TimeLine.{time_reads_as_month_day, time_reads_as_year_month}, Rows.{Row, Place.anywhere}}
 use Rattle.ixdtf_grammar.proofs.parts.CoreLetters.{AllInside, CoreEnds, in_core, in_month_day, in_year_month}

@@ -1,9 +1,9 @@
 -- Each text has exactly one outcome, and the pairs of a front begin those of the text.
-use Rattle.std.proofs.Common.{◌≡◌, ℕ, ◌+◌, length, arith, ◌⊎◌, List, [], ◌++◌, Option, Ok, Err, refl, sym, ap, ◌∙◌, subst, inl, inr, append_assoc}
+use Rattle.std.proofs.Common.{◌≡◌, ℕ, length, arith, ◌⊎◌, List, [], ◌++◌, Option, Ok, Err, refl, sym, ap, ◌∙◌, subst, inl, inr, append_assoc}
 use Rattle.ixdtf_grammar.specs.language.{Letters.Text, Brackets.{ZoneNote, Pair}, Cores.Core, Readers.Reader, Languages.{Parsed, parsed_with, Found, Derives}}
 use Rattle.ixdtf_grammar.specs.{language.Languages.{Derives.{as_parsed, as_shifted, as_identified, as_named, as_lasting}, Found.parsed}, table.Faults.Fault}
 use Rattle.ixdtf_grammar.specs.table.Outcomes.{HasFault, HasFaultAt, OnlyPlace, NoRowFits, Outcome, Holds, OneOutcome, pairs_of, Begins, FrontsBegin}
-use Rattle.ixdtf_grammar.specs.{table.{Outcomes.Outcome.{derived, refused}, Rows.{Row, left_at}}, Laws.InLanguage}
+use Rattle.ixdtf_grammar.specs.{table.{Outcomes.Outcome.{derived, refused}, Rows.left_at}, Laws.InLanguage}
 use Rattle.ixdtf_reading.specs.reading.{Looks.{Read, ◌>>=◌}, Pairs.pairs_at}
 use Rattle.ixdtf_reading.specs.reading.Wholes.{bracketed_text_at, with_pairs, read_at, RowBehind, row_behind, outcome_of, outcome}
 use Rattle.ixdtf_reading.proofs.to_grammar.{MorePairs.{OnPairs, pairs_read}, Wholes.{OnWhole, whole_read}}

@@ -1,7 +1,7 @@
 -- What reading the pairs after whole brackets returns is pairs of the whole text, or a row behind whole pairs.
 use Rattle.std.proofs.Common.{◌≡◌, ℕ, zero, suc, ◌<◌, List, [], ◌∷◌, ◌++◌, length, Ok, Err, Option, Some, None, refl, sym, ap, ◌∙◌, subst, arith}
 use Rattle.std.proofs.{Common.{append_assoc, append-nil}, lemmas.Bool.eqb-true}
-use Rattle.ixdtf_grammar.specs.{language.{Letters.{Text, opening}, Shapes.nothing, Brackets.{Pair, IsPair, ArePairs}}, table.Faults.{Fault, Fault.InvalidEnd}}
+use Rattle.ixdtf_grammar.specs.{language.{Letters.{Text, opening}, Shapes.nothing, Brackets.{Pair, IsPair, ArePairs}}, table.Faults.Fault.InvalidEnd}
 use Rattle.ixdtf_grammar.specs.table.{LineNames.{LineName.of_bracket, BracketLine.after_bracket}, Lines.always, Rows.Row}
 use Rattle.ixdtf_reading.specs.reading.{Looks.{Read, Placed, ◌>>=◌, error_of, look_at_line, peek_by}, Pairs.{later_pair_at, next_pair_at, pairs_at}}
 use Rattle.ixdtf_reading.specs.reading.Chains.{FitsAfterBrackets, PairsUpTo}
