@@ -24,11 +24,6 @@ onto c e = ap (λ t. Plain c ∷ t) e
 
 -- ---- from reading to reading
 
--- a reading after a reading after a reading
-pub in_turn : {E A B C : Type 0} (r : Read E A) (f : A × Text → Read E B) (g : B × Text → Read E C) → ((r >>= f) >>= g) ≡ (r >>= λ x. f x >>= g)
-in_turn (Ok x) f g = refl
-in_turn (Err e) f g = refl
-
 -- from a reading to the reading after it
 pub then_read : {E A B : Type 0} (fault : Row → E) (r : Read E A) (f : A × Text → Read E B) (found : A → Text → Type 0) (stopped : Row → Type 0)
     (found' : B → Text → Type 0) (stopped' : Row → Type 0) → OnRead fault r found stopped

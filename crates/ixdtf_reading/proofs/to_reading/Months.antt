@@ -2,7 +2,7 @@
 use Rattle.std.proofs.Common.{◌≡◌, ℕ, Bool, true, false, [], ◌∷◌, ◌++◌, Ok, Err, refl, sym, ap, ◌∙◌, subst, inl, inr, append_assoc, ℤ, pos, nat_le}
 use Rattle.std.proofs.lemmas.Bool.{and_parts, and_from, leb-true, le-leb, false_from_ne_true}
 use Rattle.ixdtf_grammar.specs.{declared.{profile.Profile.Profile, records.DateRecord.DateRecord}, language.Letters.{Text, digit, hyphen, Letter.Plain}}
-use Rattle.ixdtf_grammar.specs.language.{Shapes.{one, ◌then◌, ◌either◌}, Digits.TwoDigits, Dates.Month}
+use Rattle.ixdtf_grammar.specs.language.{Shapes.{one, ◌then◌, ◌either◌}, Digits.{TwoDigits, decimal}, Dates.Month}
 use Rattle.ixdtf_grammar.specs.language.Months.{Marks, OptionalHyphen, IsYearMonth, MonthDayText, IsDayOfSomeYear, IsMonthDay, greatest_day, least_day}
 use Rattle.ixdtf_grammar.specs.{language.Readers.CoreKind.year_month, table.Faults.{Fault, Fault.{InvalidMonthRange, InvalidMonthDay}}}
 use Rattle.ixdtf_grammar.specs.table.LineNames.{DateLine, MonthDayLine, of_date, of_year_month, of_month_day, YearMonthLine.after_year_in_year_month}
@@ -111,8 +111,8 @@ module _ {E : Type 0} (fault : Row → E) (profile : Profile) where
           append_assoc,
           over_marks b (ms ++ rest) (digits_start b 1 ms rest h.0.0),
           digits_go fault (of_month_day month_day_month_digits) (λ c. refl) 2 ms rest h.0.0,
-          month_is h,
-          h.0.1,
+          sym h.0.1,
+          month_is m h.1 h.2,
         ) refl;
   }
 
@@ -133,10 +133,10 @@ module _ {E : Type 0} (fault : Row → E) (profile : Profile) where
         append_assoc,
         over_marks b (ds ++ rest) (digits_start b 1 ds rest h.0),
         digits_go fault (of_month_day month_day_month_digits) (λ c. refl) 2 ds rest h.0,
-        month_is_none ds h.1,
+        month_is_none (decimal ds) h.1,
       ) refl
 
-  over_lone_day : (m : ℕ) (b : Bool) (ds : Text) (d : ℕ) → TwoDigits ds d
+  pub over_lone_day : (m : ℕ) (b : Bool) (ds : Text) (d : ℕ) → TwoDigits ds d
       → ReadsOver (lone_day_at fault profile m) (hyphens_of b ++ ds) (lone_day_in_range fault profile m d)
   unfolding lone_day_at
   over_lone_day m b ds d h = record {
