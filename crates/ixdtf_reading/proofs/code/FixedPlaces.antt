@@ -8,7 +8,7 @@ use Rattle.ixdtf_grammar.specs.language.{Digits.{decimal, TwoDigits}, Shapes.dig
 use Rattle.ixdtf_grammar.specs.{language.FixedPlaces.{FixedDateTime, FixedDate, FixedTime}, table.{Faults.Fault, LineNames.{of_date, DateLine.after_year}}}
 use Rattle.ixdtf_grammar.specs.Views.{Unread, ascii_at, looked}
 use Rattle.ixdtf_reading.specs.{declared.stop.Stop.Stop, reading.{Clauses.{Reads, YieldsAt}, Dates.{date_of, day_in_range, day_at, days_at, date_at}}}
-use Rattle.ixdtf_reading.specs.reading.{Times.time_of, Looks.{Read, Placed, ◌>>=◌, error_of}, FixedPlaces.{ranged, ◌>>?◌, first_in, letter_place, first_byte}}
+use Rattle.ixdtf_reading.specs.reading.{Times.time_of, Looks.{Read, Placed, error_of}, FixedPlaces.{ranged, ◌>>?◌, first_in, letter_place, first_byte}}
 use Rattle.ixdtf_reading.specs.reading.FixedPlaces.{byte_place, byte_of_look, number_place, year_place, days_place, basic_days_place, date_place, time_place}
 use Rattle.ixdtf_reading.specs.reading.FixedPlaces.{date_in_range, time_in_range, date_time_place}
 use Rattle.ixdtf_reading.proofs.parts.{Looks.onto, Marks.hyphens_of, Years.year_takes}

@@ -9,7 +9,7 @@ use Rattle.ixdtf_grammar.specs.table.{Lines.{line_of, pair_line}, Rows.{Row, Pla
 use Rattle.ixdtf_reading.specs.reading.{Looks.{Read, row_of}, Zones.with_letter, Pairs.{value_line, value_other, value_step, key_run, value_run, pair_at}}
 use Rattle.ixdtf_reading.specs.reading.Pairs.{critical_pair_at, later_pair_at, ValueState, AtStart, Inside, AfterHyphen, ValueStep, GoesOn, Ends}
 use Rattle.ixdtf_reading.specs.reading.{Pairs.{ValueStep as steps}, Chains.AfterBrackets}
-use Rattle.ixdtf_reading.proofs.{parts.Looks.{goes, stops}, to_reading.ZoneNames.{with_letters, letters_err, letters_ok, plain_faithful}}
+use Rattle.ixdtf_reading.proofs.{parts.{Looks.{goes, stops}, Steps.{with_letters, letters_err, letters_ok, steps_both}}, to_reading.ZoneNames.plain_faithful}
 
 -- the lines from the key on
 abbrev pub InPair : PairLine → Type 0
@@ -50,11 +50,6 @@ no_value c h = (grind (arith, nat_tests), grind (arith, nat_tests), grind (arith
 
 -- ---- code units that are read over
 
--- the code units of two runs in a row
-letters_more : {E : Type 0} (front more : List ℕ) (r : Read E (List ℕ)) → with_letters front (with_letters more r) ≡ with_letters (front ++ more) r
-letters_more [] more r = refl
-letters_more (c ∷ front) more r = rw (letters_more front more r)
-
 module _ {E : Type 0} where
   -- the text is code units that lead from a run to a run
   record IsOver (run next : Text → Read E (List ℕ)) (text : Text) : Type 0 where
@@ -70,7 +65,7 @@ module _ {E : Type 0} where
   over_both {last} {second} next a b = record {
     letters = a.letters ++ b.letters;
     is = rw (a.is, b.is) (sym (map-append Plain a.letters b.letters));
-    over = λ rest. rw append_assoc (a.over (second ++ rest) ∙ rw (b.over rest) (letters_more a.letters b.letters (last rest)));
+    over = λ rest. rw append_assoc (a.over (second ++ rest) ∙ rw (b.over rest) (steps_both with_letter a.letters b.letters (last rest)));
   }
 
   over_many : {run : Text → Read E (List ℕ)} {shape : Shape} → ((text : Text) → shape text → IsOver run run text) → (parts : List Text) (text : Text)

@@ -5,8 +5,8 @@ use Rattle.ixdtf_grammar.specs.language.{Letters.{Text, zone_lead, zone_char, sl
 use Rattle.ixdtf_grammar.specs.table.{Faults.{Fault, Fault.NonAsciiCodePoint}, LineNames.{LineName.of_zone, ZoneLine.{in_zone_name, after_zone_slash}}}
 use Rattle.ixdtf_grammar.specs.table.{Lines.{line_of, zone_letters, zone_end, zone_other, Ending.error}, Rows.{Row, Place, Stops}}
 use Rattle.ixdtf_grammar.specs.table.Rows.Place.{end, other, bad, anywhere}
-use Rattle.ixdtf_reading.specs.reading.{Looks.{Read, row_of}, Zones.{with_letter, name_run}}
-use Rattle.ixdtf_reading.proofs.parts.Looks.{RowsRead, NotNext}
+use Rattle.ixdtf_reading.specs.reading.{Looks.row_of, Zones.name_run}
+use Rattle.ixdtf_reading.proofs.parts.{Looks.{RowsRead, NotNext}, Steps.{with_letters, letters_err, letters_ok}}
 
 -- a name does not go on, and Bad does not stand next
 abbrev pub NameEnds : Text → Type 0
@@ -37,19 +37,6 @@ plain_faithful [] [] h = refl
 plain_faithful [] (y ∷ ys) h = absurd cc
 plain_faithful (x ∷ xs) [] h = absurd cc
 plain_faithful (x ∷ xs) (y ∷ ys) h = let e : xs ≡ ys = plain_faithful xs ys cc in cc
-
--- code units in front of the others
-abbrev pub with_letters : {E : Type 0} → List ℕ → Read E (List ℕ) → Read E (List ℕ)
-with_letters [] r = r
-with_letters (c ∷ cs) r = with_letter c (with_letters cs r)
-
-pub letters_err : {E : Type 0} (cs : List ℕ) (e : E) → with_letters cs (Err e) ≡ Err e
-letters_err [] e = refl
-letters_err (c ∷ cs) e = rw (letters_err cs e)
-
-pub letters_ok : {E : Type 0} (cs : List ℕ) (rest : Text) → with_letters {E = E} cs (Ok ([], rest)) ≡ Ok (cs, rest)
-letters_ok [] rest = refl
-letters_ok {E} (c ∷ cs) rest = rw (letters_ok {E = E} cs rest)
 
 module _ {E : Type 0} (fault : Row → E) where
   -- the text is code units that are read over
