@@ -1,16 +1,19 @@
 -- A year-month, and a month-day, at fixed places: what is found there is read so.
-use Rattle.std.proofs.Common.{subst, ◌≡◌, ℕ, suc, ◌+◌, ◌*◌, Bool, true, false, IsTrue, [], ◌∷◌, map, drop, Option, Some, None, Result, Ok, Err, refl, sym, ap}
-use Rattle.std.proofs.{Common.{◌∙◌, nat_le, ◌&&◌, pos, arith}, lemmas.Bool.and_parts}
+use Rattle.std.proofs.Common.{subst, ◌≡◌, ℕ, suc, ◌+◌, Bool, true, false, IsTrue, [], ◌∷◌, drop, Option, Some, None, Result, Ok, Err, refl, sym, ap, ◌∙◌, pos}
+use Rattle.std.proofs.{Common.{arith, ◌++◌, append_assoc, inl, inr}, lemmas.Bool.and_parts}
 use Rattle.std.specs.Prelude.{IfSome}
-use Rattle.ixdtf_grammar.specs.{declared.{profile.Profile.Profile, records.DateRecord.DateRecord}, Views.Unread, table.Faults.Fault}
-use Rattle.ixdtf_grammar.specs.language.{Letters.{Letter, Text, digit, hyphen, Letter.{Plain, Bad}}, Digits.decimal}
-use Rattle.ixdtf_reading.specs.{declared.stop.Stop.Stop, reading.{Clauses.YieldsAt, Dates.{date_of, year_at, four_digit_year_at, month_in_range, month_by}}}
-use Rattle.ixdtf_reading.specs.reading.Looks.{Placed, Read, error_of, look_at, next_by, mark_by, digits_by}
+use Rattle.ixdtf_grammar.specs.{declared.{profile.Profile.Profile, records.DateRecord.DateRecord}, language.Letters.{Text, digit, hyphen}}
+use Rattle.ixdtf_grammar.specs.{language.Letters.Letter.{Plain, Bad}, table.LineNames.{of_year_month, of_month_day, YearMonthLine.after_year_in_year_month}}
+use Rattle.ixdtf_grammar.specs.table.LineNames.MonthDayLine.{month_day_month_digits}
+use Rattle.ixdtf_reading.specs.{declared.stop.Stop.Stop, reading.{Clauses.YieldsAt, Dates.{date_of, month_at}}}
+use Rattle.ixdtf_reading.specs.reading.Looks.{Placed, error_of, look_at, next_by, mark_by, digits_by, ◌>>=◌}
 use Rattle.ixdtf_reading.specs.reading.{Months.{year_month_at, marks_at, month_day_at, lone_month_in_range, lone_day_at}, FixedPlaces.first_byte}
 use Rattle.ixdtf_reading.specs.reading.FixedPlaces.{byte_place, number_place, year_place, month_of_year_place, day_of_month_place, ranged_month, ranged_day}
 use Rattle.ixdtf_reading.specs.reading.FixedPlaces.{marks_place, unmarked_at}
-use Rattle.ixdtf_reading.proofs.{parts.Looks.onto, code.DigitClasses.{digit_no_sign, digit_no_hyphen}}
-use Rattle.ixdtf_reading.proofs.code.FixedPlaces.{then_some, Number, number_at_place, hyphen_is, mark_at_place, over_two, year_is, byte_in_class}
+use Rattle.ixdtf_reading.proofs.{parts.{Looks.{onto, digits_go}, Marks.hyphens_of, Years.year_takes}, code.DigitClasses.digit_no_hyphen}
+use Rattle.ixdtf_reading.proofs.code.FixedPlaces.{then_some, Number, number_at_place, hyphen_is, mark_at_place, over_two, byte_in_class, two_digits, two}
+use Rattle.ixdtf_reading.proofs.{code.FixedPlaces.year_at_place, to_reading.Dates.{month_is, month_is_none, month_or_none, month_takes, month_out}}
+use Rattle.ixdtf_reading.proofs.to_reading.Months.{over_lone_day}
 
 -- ---- year-months
 
@@ -71,9 +74,9 @@ days_are_read b profile text start behind place last month day date m d e is_beh
     ∙ rw (digits_go error_of (of_month_day month_day_month_digits) (λ c. refl) 2 (two m) (drop behind text) (two_digits m refl).0, ← m.value, ← is)
     (elim (month_or_none month) [
       | inl h ↦ rw (month_is month h.0 h.1) (
-        ap (lone_day_at error_of profile month) split
-        ∙ (over_lone_day error_of profile month b (two d) day (two_digits d refl)).over (drop last text)
-      )
+          ap (lone_day_at error_of profile month) split
+          ∙ (over_lone_day error_of profile month b (two d) day (two_digits d refl)).over (drop last text)
+          )
       | inr h ↦ rw (month_is_none month h) refl
     ])
 

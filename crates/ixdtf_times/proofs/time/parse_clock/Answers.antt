@@ -1,6 +1,6 @@
 use Rattle.ixdtf_times.proofs.time.parse_clock.Goals as goal
 use Rattle.std.proofs.Common.{true, false, rules}
-use Rattle.ixdtf_reading.specs.reading.{Looks.{error_of, next_by, digits_by, in_range}, Times.{minute_at, after_hour_at, hour_from, clock_at}}
+use Rattle.ixdtf_reading.specs.reading.{Looks.{error_of, digits_by, in_range}, Times.{minute_at, after_hour_at, hour_from, clock_at}}
 use Rattle.ixdtf_times.specs.TimeTypes.{clock_of, open_time_of}
 use Rattle.ixdtf_times.proofs.code.LoneTimes.{reads_as}
 

@@ -1,6 +1,6 @@
 use Rattle.ixdtf_times.proofs.time.parse_minute.Goals as goal
 use Rattle.std.proofs.Common.{rules}
-use Rattle.ixdtf_reading.specs.reading.{Looks.{error_of, number_by}, Times.{minute_at, after_minute_at, second_at}}
+use Rattle.ixdtf_reading.specs.reading.{Looks.error_of, Times.{minute_at, after_minute_at, second_at}}
 use Rattle.ixdtf_times.specs.TimeTypes.{clock_of, open_time_of}
 use Rattle.ixdtf_times.proofs.{code.LoneTimes.reads_as, time.parse_minute.Goals.{then-colons, else-colons}}
 
