@@ -7,6 +7,7 @@ use Rattle.ixdtf_grammar.specs.language.Letters.{Letter, Text, Class, digit, hyp
 use Rattle.ixdtf_grammar.specs.language.{Digits.{decimal, TwoDigits}, Shapes.digits, Dates.{FourDigitYear, IsDayOfMonth, month_length}}
 use Rattle.ixdtf_grammar.specs.{language.FixedPlaces.{FixedDateTime, FixedDate, FixedTime}, table.{Faults.Fault, LineNames.{of_date, DateLine.after_year}}}
 use Rattle.ixdtf_grammar.specs.Views.{Unread, ascii_at, looked}
+use Rattle.ixdtf_grammar.proofs.parts.Texts.{colon_seconds_text}
 use Rattle.ixdtf_reading.specs.{declared.stop.Stop.Stop, reading.{Clauses.{Reads, YieldsAt}, Dates.{date_of, day_in_range, day_at, days_at, date_at}}}
 use Rattle.ixdtf_reading.specs.reading.{Times.time_of, Looks.{Read, Placed, error_of}, FixedPlaces.{ranged, ◌>>?◌, first_in, letter_place, first_byte}}
 use Rattle.ixdtf_reading.specs.reading.FixedPlaces.{byte_place, byte_of_look, number_place, year_place, days_place, basic_days_place, date_place, time_place}
@@ -241,17 +242,8 @@ fixed_time text time hour minute second h first m last s e in_range =
     let seconds = two_digits s (ap (λ x. x.second) is) in (
       two h ++ (Plain 58 ∷ (two m ++ (Plain 58 ∷ two s))),
       over_two h (first ∙ onto 58 (over_two m (last ∙ onto 58 (over_two s refl)))),
-      record {
-        hs = two h;
-        ms = two m;
-        ss = two s;
-        is = refl;
-        may = refl;
-        hour = (hours.0, hours.1, r.0);
-        minute = (minutes.0, minutes.1, r.1);
-        second = (seconds.0, seconds.1, r.2);
-        no_fraction = sym (ap (λ x. x.fraction) is);
-      },
+      colon_seconds_text (two h) (two m) (two s) refl refl (hours.0, hours.1, r.0) (minutes.0, minutes.1, r.1) (seconds.0, seconds.1, r.2)
+          (sym (ap (λ x. x.fraction) is)),
     )
 
 time_at_place : (text : Text) (time : TimeRecord) → time_place text ≡ Some time → IsTrue (time_in_range time)

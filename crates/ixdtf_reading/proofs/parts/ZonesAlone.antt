@@ -11,6 +11,7 @@ use Rattle.ixdtf_grammar.specs.table.LineNames.{LineName, LineName.{of_clock, of
 use Rattle.ixdtf_grammar.specs.table.LineNames.ZoneLine.{identifier_start, zone_name_start, in_zone_name, after_zone_slash}
 use Rattle.ixdtf_grammar.specs.table.{Lines.{table, line_of, follow_of}, Before.Before, Rows.{Row, Place, Stops, Fits, front_of}}
 use Rattle.ixdtf_grammar.specs.table.Rows.Place.{end, other, bad, anywhere}
+use Rattle.ixdtf_grammar.proofs.parts.Texts.{signed_text}
 use Rattle.ixdtf_reading.specs.reading.{Looks.{Read, ◌>>=◌, row_of, letter_at, peek_by}, Times.{OpenTime, line_after, clock_at}, Zones.follow_look}
 use Rattle.ixdtf_reading.specs.reading.Zones.{name_run, name_look, name_alone_at, iana_identifier_at, signed_alone_at, offset_alone_at, offset_at}
 use Rattle.ixdtf_reading.specs.reading.Zones.{minute_offset_alone_at, as_zone, identifier_at}
@@ -91,19 +92,7 @@ module _ {E : Type 0} (fault : Row → E) where
       where
         at_next : (x : OpenTime) (left : Text) → TimeFront clock body x left → (next : Option ℕ) (last : Text) → Peeked none left next last
             → (last ≡ []) × IsSigned clock record_of (Plain c ∷ body) (record_of c x.0 x.1)
-        at_next x left g None last k = (
-          k.1,
-          record {
-            c = c;
-            body = body;
-            shape = x.0;
-            time = x.1;
-            is = refl;
-            sign = signed;
-            clock = rw (g.1, k.0, append-nil) g.2;
-            value = refl;
-          },
-        )
+        at_next x left g None last k = (k.1, signed_text c body x.0 x.1 refl signed (rw (g.1, k.0, append-nil) g.2))
         at_next x left g (Some d) last k = absurd (true≢false (sym k.1))
 
   -- ---- offsets
@@ -238,16 +227,7 @@ module _ {E : Type 0} (fault : Row → E) where
   -- the offset of a zone, as the zone
   zone_of_offset : (text : Text) (zone : Zone) (offset : MinutePrecisionOffset) → IsMinuteOffset text offset → zone ≡ Offset offset
       → IsSigned clocks.MinuteOffset zone_record text zone
-  zone_of_offset text zone offset h is = record {
-    c = h.c;
-    body = h.body;
-    shape = h.shape;
-    time = h.time;
-    is = h.is;
-    sign = h.sign;
-    clock = h.clock;
-    value = is ∙ ap (λ o. Offset o) h.value;
-  }
+  zone_of_offset text zone offset h is = rw (is, h.value) (signed_text h.c h.body h.shape h.time h.is h.sign h.clock)
 
   pub identifier_takes : (text : Text) (zone : Zone) → IsZone text zone → identifier_at fault text ≡ Ok (zone, [])
   identifier_takes text zone (inl h) = rw h.2
@@ -272,20 +252,7 @@ module _ {E : Type 0} (fault : Row → E) where
 
   -- an offset that was read is a zone
   offset_is_zone : (text : Text) (zone : Zone) → IsSigned clocks.MinuteOffset zone_record text zone → IsZone text zone
-  offset_is_zone text zone h = inr (
-    minutes_of h.c h.time,
-    record {
-      c = h.c;
-      body = h.body;
-      shape = h.shape;
-      time = h.time;
-      is = h.is;
-      sign = h.sign;
-      clock = h.clock;
-      value = refl;
-    },
-    h.value,
-  )
+  offset_is_zone text zone h = inr (minutes_of h.c h.time, signed_text h.c h.body h.shape h.time h.is h.sign h.clock, h.value)
 
   -- a name that was read is a zone
   zone_of_name : (text : Text) (stopped : Row → Type 0) (r : Read E (List ℕ)) → OnRead fault r (λ name rest. (rest ≡ []) × IsZoneName text name) stopped

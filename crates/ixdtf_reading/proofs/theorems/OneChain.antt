@@ -9,6 +9,7 @@ use Rattle.ixdtf_grammar.specs.table.{Faults.Fault.{UnrecognizedCritical, Critic
 use Rattle.ixdtf_grammar.specs.table.LineNames.{LineName.{of_clock, of_zone, of_bracket, of_pair, of_duration}, ZoneLine.{identifier_start, zone_name_start}}
 use Rattle.ixdtf_grammar.specs.table.{LineNames.PairLine.{key_start, critical_key_start}, Before.{Bracketed, BeforeKey, BeforeBracketed}}
 use Rattle.ixdtf_grammar.specs.table.{Outcomes.{ExactlyOne, Outcome, Holds, Outcome.{derived, refused}}, Rows.{Row, Fits}}
+use Rattle.ixdtf_grammar.proofs.parts.Texts.{bracketed_text}
 use Rattle.ixdtf_reading.proofs.code.OneMoreReply.{nothing_split, split_more, NoneRefused-nothing, NoneRefused-more, refused_last, refused_split}
 use Rattle.ixdtf_reading.proofs.{code.OneMoreReply.neither_refused, theorems.Handled.{derived_once, record_once, no_record_and_fault}}
 use Rattle.ixdtf_reading.proofs.theorems.OneOutcome.{one_outcome, no_row_fits, fault_once, derived_begins, fault_begins}
@@ -266,16 +267,7 @@ whole_front kind cores brackets more core zone xs ys is_core (first, rest, is, o
       b ++ more,
       regrouped cores brackets first rest a b more is split,
       parsed_with core zone,
-      as_parsed (record {
-        cores = cores;
-        brackets = first ++ a;
-        core = core;
-        zone = zone;
-        is = refl;
-        is_core = is_core;
-        is_tail = (first, a, refl, one, are);
-        has = refl;
-      }),
+      as_parsed (bracketed_text cores (first ++ a) core zone xs refl is_core (first, a, refl, one, are)),
     )
 
 -- what stands before a row, begins with the brackets of the pairs, or there are none

@@ -14,6 +14,7 @@ use Rattle.ixdtf_grammar.specs.table.LineNames.{DateLine.{year_start, after_date
 use Rattle.ixdtf_grammar.specs.table.{LineNames.{TimeLine.time_start, ClockLine.hour_start, OffsetLine.after_zulu}, Lines.{line_of, abrupt_digit, always}}
 use Rattle.ixdtf_grammar.specs.table.{Lines.{Line.line, Ending.ok}, Before.{BeforeDate, BeforeTime, BeforeOffset, DateAndSeparator, AtCoreEnd, ReadsAsTime}}
 use Rattle.ixdtf_grammar.specs.table.Rows.{Row, Place, Stops, Fits, Place.{end, other, bad}}
+use Rattle.ixdtf_grammar.proofs.parts.Texts.{date_and_time}
 use Rattle.ixdtf_reading.specs.reading.{Looks.{Read, row_of, look_at, next_by}, Months.{year_month_at, month_day_at}}
 use Rattle.ixdtf_reading.specs.reading.{Times.{OpenTime, line_after, bad_after, hour_from, clock_at}, Cores.{ClosedCore, core_look, core_end_at, with_offset}}
 use Rattle.ixdtf_reading.specs.reading.Cores.{offset_core_at, after_time_at, time_core_at, after_date_at, date_time_core_at, date_alone_at, hour_look}
@@ -181,21 +182,8 @@ module _ {E : Type 0} (fault : Row → E) (text : Text) where
       let before : DateAndSeparator (ds ++ separator) = (ds, separator, refl, (date, is_date), separates) in
       then_read fault _ _ _ _ _ _ (clock_read fault true Clock.Time body)
       (after_time_read fault date_time text IsDateTimeCore (Some date) (ds ++ separator) body is (λ l later_line. before)
-      (λ ts offsets t offset is_time o. inr (record {
-        dates = ds;
-        separator = separator;
-        times = ts;
-        offsets = offsets;
-        date = date;
-        time = t;
-        offset = offset;
-        is = append_assoc ds separator (ts ++ offsets);
-        is_date = is_date;
-        separates = separates;
-        is_time = is_time;
-        is_offset = o;
-        has = refl;
-      }))
+      (λ ts offsets t offset is_time o.
+      inr (date_and_time ds separator ts offsets date t offset (append_assoc ds separator (ts ++ offsets)) is_date separates is_time o))
       (λ ts t is_time. (ds ++ separator, ts, refl, before, (t, is_time))))
       (λ row f. lift (of_clock Clock.Time) (bracketed date_time) row text (ds ++ separator) body is (λ l. (before, refl)) f)
 

@@ -12,6 +12,7 @@ use Rattle.ixdtf_grammar.specs.table.LineNames.ClockLine.{hour_start, hour_digit
 use Rattle.ixdtf_grammar.specs.table.LineNames.ClockLine.{after_colon_minute, second_digits, second_range, after_second, fraction_start, after_fraction}
 use Rattle.ixdtf_grammar.specs.table.Lines.{line_of, follow_of, seconds_after, second_fault, mixed, ColonOrDigit, Past, Ending.{ok, error}}
 use Rattle.ixdtf_grammar.specs.table.Rows.{Row, Place, Stops, front_of, Place.{end, other, bad, anywhere}}
+use Rattle.ixdtf_grammar.proofs.parts.Texts.{colon_seconds_text}
 use Rattle.ixdtf_reading.specs.reading.Looks.{Read, ◌>>=◌, row_of, letter_at, look_at, next_by, digits_at, peek_by, in_range, number_by, digit_run}
 use Rattle.ixdtf_reading.specs.reading.Times.{OpenTime, time_of, line_after, bad_after, mixed_after, hour_past, minute_past, second_past, minutes_shape}
 use Rattle.ixdtf_reading.specs.reading.Times.{second_start, number_at, fraction_at, after_second_at, second_at, after_minute_at, minute_at, after_hour_at}
@@ -78,17 +79,7 @@ second_text : (clock : Clock) (colons : Bool) (h m s : ℕ) (front ds : Text) �
     → ClockOf clock (minutes_shape colons) front (time_of h m 0 None) → UpTo (greatest_second clock) ds s
     → SecondText clock (front ++ (marks colons ++ ds)) (time_of h m s None)
 second_text clock true h m s front ds may x u =
-    inr (record {
-      hs = x.hs;
-      ms = x.ms;
-      ss = ds;
-      is = rw x.is (simp append_assoc);
-      may = may;
-      hour = x.hour;
-      minute = x.minute;
-      second = u;
-      no_fraction = refl;
-    })
+    inr (colon_seconds_text x.hs x.ms ds (rw x.is (simp append_assoc)) may x.hour x.minute u refl)
 second_text clock false h m s front ds may x u =
     inl (record {
       hs = x.hs;

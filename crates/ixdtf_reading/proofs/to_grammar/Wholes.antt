@@ -9,6 +9,7 @@ use Rattle.ixdtf_grammar.specs.{language.Languages.Found.{shifted, identified, n
 use Rattle.ixdtf_grammar.specs.table.LineNames.{LineName.{of_clock, of_zone, of_bracket, of_pair}, ZoneLine.{in_zone_name, after_zone_slash}}
 use Rattle.ixdtf_grammar.specs.table.LineNames.BracketLine.{first_bracket_start, first_critical_start, first_bracket_scan, after_bracket}
 use Rattle.ixdtf_grammar.specs.table.{LineNames.PairLine.{key_start, critical_key_start}, Before.{Before, Bracketed}, Rows.{Row, Fits}}
+use Rattle.ixdtf_grammar.proofs.parts.Texts.{bracketed_text}
 use Rattle.ixdtf_reading.specs.reading.{Looks.{Read, ◌>>=◌, error_of}, Pairs.pairs_at, Durations.duration_at}
 use Rattle.ixdtf_reading.specs.reading.Zones.{offset_at, identifier_at, iana_identifier_at}
 use Rattle.ixdtf_reading.specs.reading.{Brackets.{Bracket, zoned, paired, zone_in, pairs_in, bracket_at}, Cores.{ClosedCore, core_at}}
@@ -84,19 +85,8 @@ module _ {E : Type 0} (fault : List Pair → Row → E) (kind : CoreKind) where
     where
       go : (r : Read E (List Pair)) → OnPairs fault (pairs_in bracket) rest r
           → OnBracketed text (r >>= λ pairs. Ok ((parsed_with core (zone_in bracket), pairs.0), pairs.1))
-      go (Ok x) h = (
-        h.0,
-        record {
-          cores = cores;
-          brackets = first ++ rest;
-          core = core;
-          zone = zone_in bracket;
-          is = is;
-          is_core = is_core;
-          is_tail = rw h.2 (tail_of bracket first rest h.1 b h.3);
-          has = refl;
-        },
-      )
+      go (Ok x) h =
+          (h.0, bracketed_text cores (first ++ rest) core (zone_in bracket) x.0 is is_core (rw h.2 (tail_of bracket first rest h.1 b h.3)))
       go (Err e) h = (
         pairs_in bracket ++ h.0,
         h.3,
@@ -117,19 +107,8 @@ module _ {E : Type 0} (fault : List Pair → Row → E) (kind : CoreKind) where
       go (Err e) h = ([], h.0, h.1, after_core kind h.0 text cores (Plain 91 ∷ inner) is (core, is_core) h.2)
 
   tail_read : (text : Text) (x : ClosedCore) (rest : Text) → CoreFront kind text x rest → OnBracketed text (tail_at fault x rest)
-  tail_read text (core, false) rest h = (
-    h.1.1,
-    record {
-      cores = h.0;
-      brackets = [];
-      core = core;
-      zone = None;
-      is = h.1.0 ∙ sym (append-nil h.0);
-      is_core = h.2;
-      is_tail = ([], [], refl, refl, refl);
-      has = refl;
-    },
-  )
+  tail_read text (core, false) rest h =
+      (h.1.1, bracketed_text h.0 [] core None [] (h.1.0 ∙ sym (append-nil h.0)) h.2 ([], [], refl, refl, refl))
   tail_read text (core, true) rest h = annotated_read text h.0 rest core h.1 h.2
 
   text_read : (text : Text) → OnBracketed text (bracketed_text_at fault kind text)
