@@ -1,10 +1,18 @@
 -- Texts of their parts, where what they stand for is made of these.
 use Rattle.std.proofs.Common.{◌≡◌, ℕ, IsTrue, ◌∷◌, ◌++◌, List, Option, Some, None, refl}
 use Rattle.ixdtf_grammar.specs.declared.records.{DateRecord.DateRecord, TimeRecord.TimeRecord, UtcOffsetRecordOrZ.UtcOffsetRecordOrZ}
-use Rattle.ixdtf_grammar.specs.language.{Letters.{Text, sign, date_time_separator, Letter.Plain}, Shapes.one, Digits.UpTo, Dates.IsDate, Offsets.IsSigned}
+use Rattle.ixdtf_grammar.specs.language.{Letters.{Text, sign, date_time_separator, Letter.Plain}, Shapes.one, Digits.UpTo, Dates.{IsDate, Year, Month}}
+use Rattle.ixdtf_grammar.specs.language.Offsets.{IsSigned}
 use Rattle.ixdtf_grammar.specs.language.Times.{Clock, TimeShape, ClockOf, IsTime, ColonMinuteText, ColonSecondText, greatest_second, has_seconds}
 use Rattle.ixdtf_grammar.specs.language.{Brackets.{Pair, ZoneNote, IsTail}, Cores.{Core, core_of, OptionalOffset, DateAndTime, IsCore}, Readers.CoreKind}
-use Rattle.ixdtf_grammar.specs.language.Languages.{parsed_with, IsBracketed}
+use Rattle.ixdtf_grammar.specs.language.{Languages.{parsed_with, IsBracketed}, Months.{OptionalHyphen, IsYearMonth}}
+
+-- ---- dates
+
+pub year_month_text : {text : Text} {date : DateRecord} (years hyphens months : Text) → text ≡ years ++ (hyphens ++ months) → Year years date.year
+    → OptionalHyphen hyphens → Month months date.month → date.day ≡ 1 → IsYearMonth text date
+year_month_text years hyphens months is year hyphen month first =
+    record { years = years; hyphens = hyphens; months = months; is = is; year = year; hyphen = hyphen; month = month; first_day = first }
 
 -- ---- times
 
