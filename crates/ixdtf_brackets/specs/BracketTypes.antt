@@ -1,16 +1,10 @@
 -- What the code's own types of brackets stand for.
-use Rattle.ixdtf_brackets.specs.declared.brackets.Bracket.{Bracket as CodeBracket}
 use Rattle.ixdtf_brackets.specs.declared.brackets.Bracket.TheVariants as brackets
-use Rattle.ixdtf_grammar.specs.Views.{note_of}
-use Rattle.ixdtf_grammar.specs.Handlers.{pair_of}
-use Rattle.ixdtf_reading.specs.reading.Brackets.{Bracket, zoned, paired}
-use Rattle.std.specs.Prelude.{ℕ, Option, Some, None, option_map, if◌then◌else◌}
-use Rattle.ixdtf_brackets.specs.declared.brackets.BracketLetters.{BracketLetters}
-use Rattle.ixdtf_brackets.specs.declared.timezone.NameState.{NameState}
+use Rattle.ixdtf_brackets.specs.declared.{brackets.{Bracket.{Bracket as CodeBracket}, BracketLetters.BracketLetters}, timezone.NameState.NameState}
 use Rattle.ixdtf_brackets.specs.declared.timezone.PartLetters.{PartLetters}
-use Rattle.ixdtf_grammar.specs.language.Letters.{zone_char}
-use Rattle.ixdtf_grammar.specs.language.Brackets.{skipped}
-use Rattle.ixdtf_reading.specs.reading.Zones.{name_step}
+use Rattle.ixdtf_grammar.specs.{Views.note_of, Handlers.pair_of, language.{Letters.zone_char, Brackets.skipped}}
+use Rattle.ixdtf_reading.specs.reading.{Brackets.{Bracket, zoned, paired}, Zones.name_step}
+use Rattle.std.specs.Prelude.{ℕ, Option, Some, None, option_map, if◌then◌else◌}
 
 abbrev pub bracket_of : {T U : Type 0} → (U → ℕ) → CodeBracket T U → Bracket
 bracket_of number (brackets.Zone annotation) = zoned (note_of number annotation)

@@ -1,12 +1,8 @@
 -- The digits of a number, with leading zeros: how many they are, and that they stand for the number. Crates above cite this module.
-use Rattle.std.proofs.Common.{◌≡◌, ◌<◌, ◌≤◌, ℕ, zero, suc, ◌+◌, ◌-◌, ◌*◌, ◌/◌, ◌%◌, ◌^◌, [], ◌∷◌, ◌++◌, length, take}
-use Rattle.std.proofs.Common.{take_all, refl, sym, ap, ◌∙◌, arith}
-use Rattle.std.proofs.Math.Nat.{pow-succ', one-le-pow, div-one, mod-one, zero-div, zero-mod, mod-eq_of_lt, div-div-eq-div-mul}
-use Rattle.std.proofs.Math.Arith.{mod-mul}
-use Rattle.std.proofs.lemmas.Nat.{pow-add}
-use Rattle.std.proofs.lemmas.List.{length-append, length-take-le}
-use Rattle.ixdtf_grammar.specs.language.Letters.{Text}
-use Rattle.ixdtf_grammar.specs.language.Digits.{decimal, padded_digits}
+use Rattle.std.proofs.Common.{◌≡◌, ◌<◌, ◌≤◌, ℕ, zero, suc, ◌+◌, ◌-◌, ◌*◌, ◌/◌, ◌%◌, ◌^◌, [], ◌∷◌, ◌++◌, length, take, take_all, refl, sym, ap, ◌∙◌, arith}
+use Rattle.std.proofs.Math.{Nat.{pow-succ', one-le-pow, div-one, mod-one, zero-div, zero-mod, mod-eq_of_lt, div-div-eq-div-mul}, Arith.mod-mul}
+use Rattle.std.proofs.lemmas.{Nat.pow-add, List.{length-append, length-take-le}}
+use Rattle.ixdtf_grammar.specs.language.{Letters.Text, Digits.{decimal, padded_digits}}
 
 -- a power of ten is above zero
 pub ten_pos : (k : ℕ) → 0 < 10 ^ k

@@ -1,2 +1,3 @@
 -- What readings are made of.
 pub mod CoreLetters
+pub mod Texts

@@ -1,17 +1,9 @@
 -- Handlers: what the replies to the pairs of a text make of it.
-use Rattle.std.specs.Prelude.{◌≡◌, ◌≢◌, ◌↔◌, ◌⊎◌, ℕ, Bool, IsTrue, IsFalse, nat_eq, List, [], ◌∷◌, ◌++◌}
-use Rattle.std.specs.Prelude.{map, find, filter_map, codes, Option, Some, None, option_map, Result, Ok, Err}
-use Rattle.std.specs.Cmp.Lexicographic.{pointwise}
-use Rattle.std.specs.List.{FoldsTo}
-use Rattle.ixdtf_grammar.specs.declared.records.Annotation.{Annotation}
-use Rattle.ixdtf_grammar.specs.language.Letters.{Text}
-use Rattle.ixdtf_grammar.specs.table.Faults.{Fault, is_refusal}
-use Rattle.ixdtf_grammar.specs.table.Faults.Fault.{UnrecognizedCritical, CriticalDuplicateCalendar}
-use Rattle.ixdtf_grammar.specs.language.Brackets.{Pair}
-use Rattle.ixdtf_grammar.specs.language.Readers.{Reader}
-use Rattle.ixdtf_grammar.specs.language.Languages.{Parsed, Derives}
+use Rattle.std.specs.Prelude.{◌≡◌, ◌≢◌, ◌↔◌, ◌⊎◌, ℕ, Bool, IsTrue, IsFalse, nat_eq, List, [], ◌∷◌, ◌++◌, map, find, filter_map, codes, Option, Some, None}
+use Rattle.std.specs.{Prelude.{option_map, Result, Ok, Err}, Cmp.Lexicographic.pointwise, List.FoldsTo}
+use Rattle.ixdtf_grammar.specs.{declared.records.Annotation.Annotation, language.{Letters.Text, Brackets.Pair, Readers.Reader, Languages.{Parsed, Derives}}}
+use Rattle.ixdtf_grammar.specs.{language.Languages.Found.parsed, table.Faults.{Fault, is_refusal, Fault.{UnrecognizedCritical, CriticalDuplicateCalendar}}}
 use Rattle.ixdtf_grammar.specs.table.Outcomes.{HasFault, OnlyFault}
-use Rattle.ixdtf_grammar.specs.language.Languages.Found.{parsed}
 
 -- ---- replies
 

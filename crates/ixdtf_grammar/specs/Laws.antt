@@ -1,30 +1,14 @@
 -- What the laws say, each for every text.
-use Rattle.std.specs.Prelude.{◌≡◌, ◌≢◌, ◌↔◌, ℕ, Bool, IsTrue, List, [], ◌∷◌, ◌++◌, map, length, Result, Ok, Err}
-use Rattle.std.specs.Cmp.{IsEquivalence}
-use Rattle.ixdtf_grammar.specs.declared.profile.Profile.{Profile}
-use Rattle.ixdtf_grammar.specs.declared.records.MinutePrecisionOffset.{MinutePrecisionOffset}
-use Rattle.ixdtf_grammar.specs.declared.records.UtcOffsetRecord.{UtcOffsetRecord}
-use Rattle.ixdtf_grammar.specs.declared.records.UtcOffsetRecord.TheVariants.{MinutePrecision}
-use Rattle.ixdtf_grammar.specs.Handlers.{Reply, GivesRecord, GivesFault, UnhandledRecord}
-use Rattle.ixdtf_grammar.specs.language.Brackets.{Pair}
-use Rattle.ixdtf_grammar.specs.language.Dates.{Year, Month}
-use Rattle.ixdtf_grammar.specs.language.Languages.{Parsed, Found, Derives}
-use Rattle.ixdtf_grammar.specs.language.Languages.Found.{parsed, shifted, identified, named}
-use Rattle.ixdtf_grammar.specs.language.Letters.{Text}
-use Rattle.ixdtf_grammar.specs.language.Letters.Letter.{Plain}
-use Rattle.ixdtf_grammar.specs.language.Readers.{Reader, CoreKind, parse}
+use Rattle.std.specs.{Prelude.{◌≡◌, ◌≢◌, ◌↔◌, ℕ, Bool, IsTrue, List, [], ◌∷◌, ◌++◌, map, length, Result, Ok, Err}, Cmp.IsEquivalence}
+use Rattle.ixdtf_grammar.specs.declared.{profile.Profile.Profile, records.{MinutePrecisionOffset.MinutePrecisionOffset, UtcOffsetRecord.UtcOffsetRecord}}
+use Rattle.ixdtf_grammar.specs.{declared.records.UtcOffsetRecord.TheVariants.MinutePrecision, Handlers.{Reply, GivesRecord, GivesFault, UnhandledRecord}}
+use Rattle.ixdtf_grammar.specs.language.{Brackets.Pair, Dates.{Year, Month}, Languages.{Parsed, Found, Derives, Found.{parsed, shifted, identified, named}}}
+use Rattle.ixdtf_grammar.specs.language.{Letters.{Text, Letter.Plain}, Readers.{Reader, CoreKind, parse}}
 use Rattle.ixdtf_grammar.specs.language.Readers.CoreKind.{date_time, year_month, month_day, time_alone}
 use Rattle.ixdtf_grammar.specs.language.Readers.Reader.{bracketed, parse_offset, parse_identifier, parse_iana_identifier, parse_duration}
-use Rattle.ixdtf_grammar.specs.language.Rfc3339.{IsRfcDateTime}
-use Rattle.ixdtf_grammar.specs.language.Shapes.{digits, some}
-use Rattle.ixdtf_grammar.specs.language.ZoneNames.{Zone}
-use Rattle.ixdtf_grammar.specs.language.ZoneNames.Zone.{Name, Offset}
-use Rattle.ixdtf_grammar.specs.table.Faults.{Fault}
-use Rattle.ixdtf_grammar.specs.table.Faults.Fault.{DateSeparator}
-use Rattle.ixdtf_grammar.specs.table.Outcomes.{ExactlyOne}
-use Rattle.ixdtf_grammar.specs.Places.{GivesFaultAt, GivesOnlyPlace}
-use Rattle.ixdtf_grammar.specs.Widths.{UnhandledOutcome, HasUnhandledOutcome}
-use Rattle.ixdtf_grammar.specs.Widths.UnhandledOutcome.{faulted}
+use Rattle.ixdtf_grammar.specs.{language.{Rfc3339.IsRfcDateTime, Shapes.{digits, some}, ZoneNames.{Zone, Zone.{Name, Offset}}}, table.Faults.Fault}
+use Rattle.ixdtf_grammar.specs.{table.{Faults.Fault.DateSeparator, Outcomes.ExactlyOne}, Places.{GivesFaultAt, GivesOnlyPlace}}
+use Rattle.ixdtf_grammar.specs.Widths.{UnhandledOutcome, HasUnhandledOutcome, UnhandledOutcome.faulted}
 
 -- a record is derived from every date-time of RFC 3339 section 5.6, with no pairs, and `parse` has it for this text
 abbrev pub EveryDateTimeIsRead : Type 0

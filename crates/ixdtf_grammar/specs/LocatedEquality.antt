@@ -1,12 +1,7 @@
 -- When two errors with their places are equal: where their places are the same, and the errors are equal.
-use Rattle.std.specs.Prelude.{ℕ, Bool, List, ◌∷◌}
-use Rattle.std.specs.Ordering.{on}
-use Rattle.std.specs.Str.{bytes_eq}
-use Rattle.std.specs.Cmp.{IsPartialEquivalence, partial_equiv_from_equiv}
+use Rattle.std.specs.{Prelude.{ℕ, Bool, List, ◌∷◌}, Ordering.on, Str.bytes_eq, Cmp.{IsPartialEquivalence, partial_equiv_from_equiv}}
 use Rattle.std.specs.Cmp.Lexicographic.{on_texts_equal}
-use Rattle.ixdtf_grammar.specs.declared.located.LocatedError.{LocatedError}
-use Rattle.ixdtf_grammar.specs.table.ErrorEquality.{spelled}
-use Rattle.ixdtf_grammar.specs.table.Faults.{fault_of}
+use Rattle.ixdtf_grammar.specs.{declared.located.LocatedError.LocatedError, table.{ErrorEquality.spelled, Faults.fault_of}}
 
 -- the place, and the error as it is spelled, in one list
 abbrev pub spelled_at : LocatedError → List ℕ

@@ -1,10 +1,7 @@
 -- The texts of an error with its place, and of a text with a mark under the place.
 use Rattle.std.specs.Prelude.{ℕ, ◌+◌, ◌-◌, Bool, List, [], ◌∷◌, ◌++◌, map, length, take, drop, replicate, codes, if◌then◌else◌, nat_lt}
-use Rattle.std.specs.Char.{is_control, len_utf8}
-use Rattle.std.specs.Str.{chars, encode_utf8_all}
-use Rattle.std.specs.Fmt.{decimal}
-use Rattle.ixdtf_grammar.specs.table.Faults.{Fault}
-use Rattle.ixdtf_grammar.specs.table.ErrorTexts.{message_of}
+use Rattle.std.specs.{Char.{is_control, len_utf8}, Str.{chars, encode_utf8_all}, Fmt.decimal}
+use Rattle.ixdtf_grammar.specs.table.{Faults.Fault, ErrorTexts.message_of}
 
 -- what is printed of an error with its place
 abbrev pub located_text : Fault → ℕ → List ℕ

@@ -1,14 +1,9 @@
 -- The place of the fault that a text and the replies to its pairs give: how many code units stand before it.
 use Rattle.std.specs.Prelude.{◌≡◌, ◌↔◌, ◌⊎◌, ℕ, List, [], ◌++◌, length, Result, Ok, Err}
-use Rattle.ixdtf_grammar.specs.language.Letters.{Text}
-use Rattle.ixdtf_grammar.specs.language.Brackets.{Pair}
-use Rattle.ixdtf_grammar.specs.language.Readers.{Reader}
+use Rattle.ixdtf_grammar.specs.language.{Letters.Text, Brackets.Pair, Readers.Reader}
 use Rattle.ixdtf_grammar.specs.language.Readers.Reader.{bracketed, parse_offset, parse_identifier, parse_iana_identifier, parse_duration}
-use Rattle.ixdtf_grammar.specs.language.Languages.{Parsed, Derives}
-use Rattle.ixdtf_grammar.specs.language.Languages.Found.{parsed}
-use Rattle.ixdtf_grammar.specs.table.Faults.{Fault}
-use Rattle.ixdtf_grammar.specs.table.Outcomes.{HasFaultAt}
-use Rattle.ixdtf_grammar.specs.Handlers.{Reply, NoneRefused, LastRefused, GivesRecord, GivesOnlyFault, Calls, handed, replies_of, Step, IsChain, own_replies, HandledTo}
+use Rattle.ixdtf_grammar.specs.{language.Languages.{Parsed, Derives, Found.parsed}, table.{Faults.Fault, Outcomes.HasFaultAt}, Handlers.{Reply, NoneRefused}}
+use Rattle.ixdtf_grammar.specs.Handlers.{LastRefused, GivesRecord, GivesOnlyFault, Calls, handed, replies_of, Step, IsChain, own_replies, HandledTo}
 use Rattle.ixdtf_grammar.specs.Views.{returned_by}
 
 -- a front of the text with so many code units is derived with these pairs

@@ -1,15 +1,10 @@
 -- What a public reader of whole texts promises, as one clause: what it returned, with its value and its error each seen by a
 -- view, and what it left of the parser.
 use Rattle.std.specs.Prelude.{◌≡◌, ◌↔◌, ℕ, [], map, Result, Ok, OnOk, IfErr}
-use Rattle.ixdtf_grammar.specs.declared.located.LocatedError.{LocatedError}
-use Rattle.ixdtf_grammar.specs.language.Letters.{Letter}
-use Rattle.ixdtf_grammar.specs.language.Readers.{Reader}
-use Rattle.ixdtf_grammar.specs.language.Languages.{Parsed, Found, Derives}
-use Rattle.ixdtf_grammar.specs.table.Faults.{Fault, fault_of_located}
-use Rattle.ixdtf_grammar.specs.table.Outcomes.{HasFault, HasFaultAt, OnlyPlace, NoRowFits, OnlyFault}
+use Rattle.ixdtf_grammar.specs.{declared.located.LocatedError.LocatedError, language.{Letters.Letter, Readers.Reader, Languages.{Parsed, Found, Derives}}}
+use Rattle.ixdtf_grammar.specs.table.{Faults.{Fault, fault_of_located}, Outcomes.{HasFault, HasFaultAt, OnlyPlace, NoRowFits, OnlyFault}}
 use Rattle.ixdtf_grammar.specs.Handlers.{Step, Handled, UnhandledRecord, UnhandledFault, UnhandledOnlyFault}
-use Rattle.ixdtf_grammar.specs.Places.{HandledAt, UnhandledFaultAt, UnhandledOnlyPlace}
-use Rattle.ixdtf_grammar.specs.Laws.{InNoOther}
+use Rattle.ixdtf_grammar.specs.{Places.{HandledAt, UnhandledFaultAt, UnhandledOnlyPlace}, Laws.InNoOther}
 use Rattle.ixdtf_grammar.specs.Views.{Unread, UnreadUnder, unread_of, LeavesBehind, returned_by}
 
 -- without a handler

@@ -1,20 +1,11 @@
 -- What public clauses see: a parser, a result, and the records that the code returns.
-use Rattle.std.specs.Prelude.{◌≡◌, ℕ, ◌+◌, ◌*◌, List, map, length, Option, Some, None, option_map, slice_get, Result, Ok, Err, OnOk, OnErr, IfErr, IsFalse, []}
-use Rattle.std.specs.Prelude.{◌≤◌}
-use Rattle.ixdtf_grammar.specs.declared.error.ParseError.{ParseError}
-use Rattle.ixdtf_grammar.specs.declared.profile.Profile.{Profile}
-use Rattle.ixdtf_grammar.specs.declared.records.TimeZoneRecord.{TimeZoneRecord}
 use Rattle.ixdtf_grammar.specs.declared.records.TimeZoneRecord.TheVariants as zones
-use Rattle.ixdtf_grammar.specs.declared.records.TimeZoneAnnotation.{TimeZoneAnnotation}
-use Rattle.ixdtf_grammar.specs.declared.records.IxdtfParseRecord.{IxdtfParseRecord}
-use Rattle.ixdtf_grammar.specs.language.Letters.{Letter}
-use Rattle.ixdtf_grammar.specs.language.Letters.Letter.{Plain, Bad}
-use Rattle.ixdtf_grammar.specs.table.Faults.{Fault, fault_of, never_comes}
-use Rattle.ixdtf_grammar.specs.table.Faults.Fault.{NonAsciiCodePoint}
-use Rattle.ixdtf_grammar.specs.language.ZoneNames.{Zone}
-use Rattle.ixdtf_grammar.specs.language.Brackets.{ZoneNote}
-use Rattle.ixdtf_grammar.specs.language.Languages.{Parsed}
-use Rattle.ixdtf_grammar.specs.language.ZoneNames.Zone.{Name, Offset}
+use Rattle.std.specs.Prelude.{◌≡◌, ℕ, ◌+◌, ◌*◌, List, map, length, Option, Some, None, option_map, slice_get, Result, Ok, Err, OnOk, OnErr, IfErr, IsFalse}
+use Rattle.std.specs.Prelude.{[], ◌≤◌}
+use Rattle.ixdtf_grammar.specs.declared.{error.ParseError.ParseError, profile.Profile.Profile, records.TimeZoneRecord.TimeZoneRecord}
+use Rattle.ixdtf_grammar.specs.{declared.records.{TimeZoneAnnotation.TimeZoneAnnotation, IxdtfParseRecord.IxdtfParseRecord}, language.Letters.Letter}
+use Rattle.ixdtf_grammar.specs.language.{Letters.Letter.{Plain, Bad}, ZoneNames.{Zone, Zone.{Name, Offset}}, Brackets.ZoneNote, Languages.Parsed}
+use Rattle.ixdtf_grammar.specs.table.Faults.{Fault, fault_of, never_comes, Fault.NonAsciiCodePoint}
 
 -- what callers see of a parser: the numbers of the remaining code units, and the count of code unit accesses
 pub record Unread : Type 0 where

@@ -1,14 +1,9 @@
 -- Two widths: what a reader without a handler returns for numbers as 16-bit code units, and as 8-bit code units.
 use Rattle.std.specs.Prelude.{◌≡◌, ◌↔◌, ◌⊎◌, ℕ, Bool, IsTrue, IsFalse, List, [], ◌∷◌, ◌++◌, map, length, All, Any, nat_le, ◌&&◌, if◌then◌else◌}
-use Rattle.ixdtf_grammar.specs.language.Letters.{Text, byte_letter, wide_letter}
-use Rattle.ixdtf_grammar.specs.language.Readers.{Reader, CoreKind}
+use Rattle.ixdtf_grammar.specs.language.{Letters.{Text, byte_letter, wide_letter}, Readers.{Reader, CoreKind}}
 use Rattle.ixdtf_grammar.specs.language.Readers.Reader.{bracketed, parse_offset, parse_identifier, parse_iana_identifier, parse_duration}
-use Rattle.ixdtf_grammar.specs.language.Languages.{Found, Derives}
-use Rattle.ixdtf_grammar.specs.language.Languages.Found.{parsed, shifted, identified, named, lasting}
-use Rattle.ixdtf_grammar.specs.table.Faults.{Fault}
-use Rattle.ixdtf_grammar.specs.table.Faults.Fault.{NonAsciiCodePoint}
-use Rattle.ixdtf_grammar.specs.table.Outcomes.{HasFault, ExactlyOne}
-use Rattle.ixdtf_grammar.specs.Handlers.{UnhandledRecord, UnhandledFault}
+use Rattle.ixdtf_grammar.specs.{language.Languages.{Found, Derives, Found.{parsed, shifted, identified, named, lasting}}, table.Faults.Fault}
+use Rattle.ixdtf_grammar.specs.{table.{Faults.Fault.NonAsciiCodePoint, Outcomes.{HasFault, ExactlyOne}}, Handlers.{UnhandledRecord, UnhandledFault}}
 use Rattle.ixdtf_grammar.specs.Places.{HasUnhandledFaultAt}
 
 -- ---- outcomes without a handler

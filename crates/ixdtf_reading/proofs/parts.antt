@@ -4,5 +4,6 @@ pub mod Fronts
 pub mod LookAhead
 pub mod Looks
 pub mod Marks
+pub mod Steps
 pub mod Years
 pub mod ZonesAlone

@@ -1,22 +1,12 @@
 -- What the code's own types of times stand for.
-use Rattle.std.specs.Prelude.{Option, Some, None}
-use Rattle.ixdtf_grammar.specs.declared.records.DateRecord.{DateRecord}
-use Rattle.ixdtf_times.specs.declared.time.Clock.{Clock as CodeClock}
 use Rattle.ixdtf_times.specs.declared.time.Clock.TheVariants as code_clocks
-use Rattle.ixdtf_times.specs.declared.time.TimeShape.{TimeShape as CodeTimeShape}
 use Rattle.ixdtf_times.specs.declared.time.TimeShape.TheVariants as code_shapes
-use Rattle.ixdtf_times.specs.declared.fixed.WholeTime.{WholeTime}
-use Rattle.ixdtf_grammar.specs.declared.records.TimeRecord.{TimeRecord}
-use Rattle.ixdtf_grammar.specs.language.Letters.{Text}
-use Rattle.ixdtf_grammar.specs.language.Times.{Clock, TimeShape}
-use Rattle.ixdtf_grammar.specs.language.Times.{Clock as clocks}
-use Rattle.ixdtf_grammar.specs.language.Times.{TimeShape as shapes}
-use Rattle.ixdtf_grammar.specs.language.Cores.{core_of}
-use Rattle.ixdtf_reading.specs.reading.Looks.{Read, Placed, error_of}
-use Rattle.ixdtf_reading.specs.reading.Times.{OpenTime, time_of}
-use Rattle.ixdtf_reading.specs.reading.Cores.{ClosedCore, core_end_at, after_time_at}
-use Rattle.ixdtf_grammar.specs.table.LineNames.{of_date}
+use Rattle.std.specs.Prelude.{Option, Some, None}
+use Rattle.ixdtf_grammar.specs.{declared.records.{DateRecord.DateRecord, TimeRecord.TimeRecord}, language.Letters.Text}
+use Rattle.ixdtf_grammar.specs.{language.{Times.{Clock, TimeShape, Clock as clocks, TimeShape as shapes}, Cores.core_of}, table.LineNames.of_date}
 use Rattle.ixdtf_grammar.specs.table.LineNames.DateLine.{after_date}
+use Rattle.ixdtf_times.specs.declared.{time.{Clock.{Clock as CodeClock}, TimeShape.{TimeShape as CodeTimeShape}}, fixed.WholeTime.WholeTime}
+use Rattle.ixdtf_reading.specs.reading.{Looks.{Read, Placed, error_of}, Times.{OpenTime, time_of}, Cores.{ClosedCore, core_end_at, after_time_at}}
 
 abbrev pub clock_of : CodeClock → Clock
 clock_of code_clocks.Time = clocks.Time

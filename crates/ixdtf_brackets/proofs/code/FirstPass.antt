@@ -1,59 +1,44 @@
 -- One pass over a first bracket that begins as a key may: the code units of a key, and then those of a name.
 use Rattle.std.proofs.Common.{◌≡◌, ℕ, ◌&&◌, ◌||◌, not, Bool, true, false, IsTrue, List, [], ◌∷◌, ◌++◌, drop, Option, Some, None, option_map, Result, Ok, Err}
-use Rattle.std.proofs.Common.{refl, sym, ap, subst, ◌∙◌, arith, if◌then◌else◌}
-use Rattle.std.proofs.lemmas.Bool.{and_parts}
-use Rattle.std.proofs.lemmas.Bool.Decides.{nat_tests}
-use Rattle.ixdtf_reading.specs.declared.annotations.KeyLetters.{KeyLetters}
-use Rattle.ixdtf_brackets.specs.declared.brackets.BracketLetters.{BracketLetters}
-use Rattle.ixdtf_brackets.specs.declared.timezone.NameState.{NameState}
-use Rattle.ixdtf_grammar.specs.language.Letters.{Text}
-use Rattle.ixdtf_grammar.specs.language.Letters.Letter.{Plain, Bad}
-use Rattle.ixdtf_grammar.specs.language.Letters.{equals, closing, slash, key_char, zone_char}
-use Rattle.ixdtf_grammar.specs.language.ZoneNames.Zone.{Name}
-use Rattle.ixdtf_grammar.specs.language.Brackets.{skipped}
-use Rattle.ixdtf_grammar.specs.table.Faults.Fault.{NonAsciiCodePoint, AnnotationKeyChar, IanaCharPostSeparator}
-use Rattle.ixdtf_grammar.specs.table.Lines.{abrupt_bracket}
-use Rattle.ixdtf_reading.specs.reading.Looks.{Placed, Read, ◌>>=◌, seen, next_by, error_of}
-use Rattle.ixdtf_reading.specs.reading.Zones.{with_letter, name_run, as_zone}
-use Rattle.ixdtf_reading.specs.reading.Pairs.{AtStart, value_run, pair_at}
-use Rattle.ixdtf_reading.specs.reading.Runs.{Taken, one_more, nothing_taken, on_letter, letters_by, key_after}
-use Rattle.ixdtf_brackets.specs.BracketTypes.{name_after, bracket_after}
-use Rattle.ixdtf_reading.specs.reading.Brackets.{Bracket, zoned, paired, noted, as_pair, refusal, name_fault, next_is, sight_at, name_in_bracket_at, name_or_pair_at}
+use Rattle.std.proofs.{Common.{refl, sym, ap, subst, ◌∙◌, arith, if◌then◌else◌}, lemmas.Bool.{and_parts, Decides.nat_tests}}
+use Rattle.ixdtf_reading.specs.{declared.annotations.KeyLetters.KeyLetters, reading.Looks.{Placed, Read, ◌>>=◌, seen, next_by, error_of}}
+use Rattle.ixdtf_reading.specs.reading.{Zones.{with_letter, name_run, as_zone}, Pairs.{AtStart, value_run, pair_at}, Runs.{Taken, letters_by, key_after}}
+use Rattle.ixdtf_reading.specs.reading.Brackets.{Bracket, zoned, paired, noted, as_pair, refusal, name_fault, next_is, sight_at, name_in_bracket_at}
+use Rattle.ixdtf_reading.specs.reading.Brackets.{name_or_pair_at}
 use Rattle.ixdtf_reading.proofs.code.FirstLetter.{first_is, nothing_is}
+use Rattle.ixdtf_reading.proofs.code.LetterLoops.{test_held, Stays, next_shown, next_stays, run_passed, walk_failed, walk_passed}
+use Rattle.ixdtf_reading.proofs.{code.PairLoops.{key_closed, key_refused}, parts.LookAhead.{over_letter, zone_char_skipped, slash_skipped, key_char_skipped}}
+use Rattle.ixdtf_reading.proofs.parts.Steps.{steps, with_letters, letters_before, letters_err}
+use Rattle.ixdtf_brackets.specs.{declared.{brackets.BracketLetters.BracketLetters, timezone.NameState.NameState}, BracketTypes.{name_after, bracket_after}}
 use Rattle.ixdtf_brackets.proofs.code.NameLoop.{name_start, name_ended, name_refused, some_next}
-use Rattle.ixdtf_reading.proofs.code.LetterLoops.{test_held, Stays, next_shown, next_stays, in_front, run_passed}
-use Rattle.ixdtf_reading.proofs.code.PairLoops.{key_closed, key_refused}
-use Rattle.ixdtf_reading.proofs.parts.LookAhead.{over_letter, zone_char_skipped, slash_skipped, key_char_skipped}
+use Rattle.ixdtf_grammar.specs.language.{Letters.{Text, equals, closing, slash, key_char, zone_char, Letter.{Plain, Bad}}, ZoneNames.Zone.Name}
+use Rattle.ixdtf_grammar.specs.{language.Brackets.skipped, table.Faults.Fault.{NonAsciiCodePoint, AnnotationKeyChar, IanaCharPostSeparator}}
+use Rattle.ixdtf_grammar.specs.table.Lines.{abrupt_bracket}
 
 abbrev sight : Text → Result Bool Placed
 sight text = sight_at error_of text
 
 -- ---- the look ahead over code units
 
+no_steps : (letters : List ℕ) (read : Result Bool Placed) → steps (λ c read. read) letters read ≡ read
+no_steps [] read = refl
+no_steps (c ∷ letters) read = no_steps letters read
+
 module _ {S : Type 0} (after : S → ℕ → Option S) where
   module _ (over : (state next : S) (c : ℕ) → after state c ≡ Some next → IsTrue (skipped c)) where
-    sight_more : (c : ℕ) (read : Read Placed (Taken S)) → (read >>= λ x. sight x.1) ≡ (one_more c read >>= λ x. sight x.1)
-    sight_more c (Ok x) = refl
-    sight_more c (Err e) = refl
+    sight_over : (state next : S) (c : ℕ) (rest : Text) → after state c ≡ Some next → sight (Plain c ∷ rest) ≡ sight rest
+    sight_over state next c rest e = over_letter error_of c rest (over state next c e)
 
-    sight_on : (state : S) (c : ℕ) (rest : Text) → ((n : S) → sight rest ≡ (letters_by after n rest >>= λ x. sight x.1)) → (next : Option S)
-        → after state c ≡ next
-        → sight (Plain c ∷ rest) ≡ (on_letter next (λ n. one_more c (letters_by after n rest)) (Ok (nothing_taken state (Some c), Plain c ∷ rest))
-        >>= λ x. sight x.1)
-    sight_on state c rest same None e = refl
-    sight_on state c rest same (Some next) e = over_letter error_of c rest (over state next c e) ∙ same next ∙ sight_more c _
-
-    sight_over : (state : S) (text : Text) → sight text ≡ (letters_by after state text >>= λ x. sight x.1)
-    unfolding letters_by sight_at
-    sight_over state [] = refl
-    sight_over state (Bad ∷ rest) = refl
-    sight_over state (Plain c ∷ rest) = sight_on state c rest (λ n. sight_over n rest) (after state c) refl
+    sight_bad : (state : S) (rest : Text) → sight (Bad ∷ rest) ≡ Err (NonAsciiCodePoint, Bad ∷ rest)
+    unfolding sight_at
+    sight_bad state rest = refl
 
     pub sight_fails : (state : S) (text : Text) (fault : Placed) → letters_by after state text ≡ Err fault → sight text ≡ Err fault
-    sight_fails state text fault e = sight_over state text ∙ rw e refl
+    sight_fails = walk_failed after (λ c read. read) (λ state text. sight text) sight_over sight_bad (λ c e. refl)
 
     pub sight_goes_on : (state : S) (text rest : Text) (taken : Taken S) → letters_by after state text ≡ Ok (taken, rest) → sight text ≡ sight rest
-    sight_goes_on state text rest taken e = sight_over state text ∙ rw e refl
+    sight_goes_on state text rest taken e =
+        walk_passed after (λ c read. read) (λ state text. sight text) sight_over sight_bad (λ c e. refl) state text rest taken e ∙ no_steps taken.letters (sight rest)
 
 -- what the next code unit tells
 sight_at_end : (text : Text) → seen text ≡ Ok None → sight text ≡ Err (abrupt_bracket, text)
@@ -139,7 +124,7 @@ bad_in_name letters rest = refl
 
 -- the code units of a key are the first of a name
 name_keyed : (letters : KeyLetters) (text rest : Text) (key : Taken KeyLetters) → letters_by key_after letters text ≡ Ok (key, rest)
-    → name_run error_of true text ≡ in_front key.letters (name_run error_of true rest)
+    → name_run error_of true text ≡ with_letters key.letters (name_run error_of true rest)
 name_keyed letters text rest key e = run_passed key_after (λ letters text. name_run error_of true text) key_in_name bad_in_name letters text rest key e
 
 -- ---- what the bracket is
@@ -201,10 +186,10 @@ module _ (critical : Bool) (letters : KeyLetters) (text : Text) where
       more_next o is = next_shown name_after name_start rest after more mores ∙ ap Ok is
 
       name_ends_so : more.state.may_end ≡ true → name_run error_of true text ≡ Ok (key.letters ++ more.letters, after)
-      name_ends_so e = name_keyed letters text rest key keys ∙ rw (name_ended rest after more mores e) refl
+      name_ends_so e = name_keyed letters text rest key keys ∙ rw (name_ended rest after more mores e) (letters_before key.letters more.letters after)
 
       name_refused_so : more.state.may_end ≡ false → name_run error_of true text ≡ Err (IanaCharPostSeparator, after)
-      name_refused_so e = name_keyed letters text rest key keys ∙ rw (name_refused rest after more mores e) refl
+      name_refused_so e = name_keyed letters text rest key keys ∙ rw (name_refused rest after more mores e) (letters_err key.letters (IanaCharPostSeparator, after))
 
       -- the text ends in the bracket
       pub name_unended : more.next ≡ None → read_at critical text ≡ Err (abrupt_bracket, after)

@@ -1,18 +1,14 @@
 -- The code units of a zone name, taken one by one.
-use Rattle.std.proofs.Common.{◌≡◌, ℕ, ◌&&◌, Bool, true, false, List, ◌∷◌, ◌++◌, map, drop, Option, Some, None, option_map, IsSome, Ok, Err, refl, ap, subst, ◌∙◌, append-nil, if◌then◌else◌}
-use Rattle.ixdtf_brackets.specs.declared.timezone.NameState.{NameState}
-use Rattle.ixdtf_brackets.specs.declared.timezone.PartLetters.{PartLetters}
-use Rattle.ixdtf_grammar.specs.language.Letters.{Letter, Text}
-use Rattle.ixdtf_grammar.specs.language.Letters.Letter.{Plain, Bad}
-use Rattle.ixdtf_grammar.specs.language.Letters.{Class, zone_char, slash}
+use Rattle.std.proofs.Common.{◌≡◌, ℕ, ◌&&◌, Bool, true, false, List, ◌∷◌, ◌++◌, map, drop, Option, Some, None, option_map, IsSome, Ok, Err, refl, ap, subst}
+use Rattle.std.proofs.Common.{◌∙◌, if◌then◌else◌}
+use Rattle.ixdtf_brackets.specs.{declared.timezone.{NameState.NameState, PartLetters.PartLetters}, BracketTypes.{part_after, name_after}}
+use Rattle.ixdtf_grammar.specs.language.Letters.{Letter, Text, Class, zone_char, slash, Letter.{Plain, Bad}}
 use Rattle.ixdtf_grammar.specs.table.Faults.Fault.{NonAsciiCodePoint, IanaCharPostSeparator}
-use Rattle.ixdtf_reading.specs.reading.Looks.{Placed, Read, seen, error_of}
-use Rattle.ixdtf_reading.specs.reading.Zones.{with_letter, name_stops, name_run}
-use Rattle.ixdtf_reading.specs.reading.Runs.{Taken, letters_by}
-use Rattle.ixdtf_brackets.specs.BracketTypes.{part_after, name_after}
-use Rattle.ixdtf_reading.proofs.code.FirstLetter.{first_is, nothing_is}
-use Rattle.ixdtf_reading.proofs.code.LetterLoops.{test_held, test_failed, in_front, run_failed, run_passed, Stays, IsSoFar, goes_on, ceases, fails, goes_over, fails_over, next_shown, next_stays}
+use Rattle.ixdtf_reading.specs.reading.{Looks.{Placed, Read, seen, error_of}, Zones.{with_letter, name_stops, name_run}, Runs.{Taken, letters_by}}
 use Rattle.ixdtf_reading.specs.reading.Brackets.{next_is}
+use Rattle.ixdtf_reading.proofs.code.{FirstLetter.{first_is, nothing_is}, LetterLoops.{test_held, test_failed, run_failed, run_passed, Stays, IsSoFar}}
+use Rattle.ixdtf_reading.proofs.code.LetterLoops.{goes_on, ceases, fails, goes_over, fails_over, next_shown, next_stays}
+use Rattle.ixdtf_reading.proofs.parts.Steps.{with_letters, letters_ok, letters_err}
 
 -- where a name may end, and behind a slash
 abbrev pub name_start : NameState
@@ -57,17 +53,17 @@ pub name_failed : (text : Text) (fault : Placed) → letters_by name_after name_
 name_failed text fault e = run_failed name_after reading name_over name_bad name_start text fault e
 
 module _ (text rest : Text) (taken : Taken NameState) (passed : letters_by name_after name_start text ≡ Ok (taken, rest)) where
-  name_passed : name_run error_of true text ≡ in_front taken.letters (name_stops (IanaCharPostSeparator, rest) taken.state.may_end rest)
+  name_passed : name_run error_of true text ≡ with_letters taken.letters (name_stops (IanaCharPostSeparator, rest) taken.state.may_end rest)
   name_passed =
       run_passed name_after reading name_over name_bad name_start text rest taken passed
-      ∙ ap (in_front taken.letters) (name_halts taken.state rest taken.next (next_shown name_after name_start text rest taken passed)
+      ∙ ap (with_letters taken.letters) (name_halts taken.state rest taken.next (next_shown name_after name_start text rest taken passed)
       (next_stays name_after name_start text rest taken passed))
 
   pub name_ended : taken.state.may_end ≡ true → name_run error_of true text ≡ Ok (taken.letters, rest)
-  name_ended is = name_passed ∙ rw is (ap (λ t. Ok (t, rest)) (append-nil taken.letters))
+  name_ended is = name_passed ∙ rw is (letters_ok taken.letters rest)
 
   pub name_refused : taken.state.may_end ≡ false → name_run error_of true text ≡ Err (IanaCharPostSeparator, rest)
-  name_refused is = name_passed ∙ rw is refl
+  name_refused is = name_passed ∙ rw is (letters_err taken.letters (IanaCharPostSeparator, rest))
 
 -- ---- parts of a name
 

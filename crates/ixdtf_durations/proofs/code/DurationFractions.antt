@@ -1,25 +1,14 @@
 -- The fraction of a group, and the code unit after it.
 use Rattle.std.proofs.Common.{◌≡◌, ℕ, Bool, true, false, [], ◌∷◌, ◌++◌, List, drop, Some, None, Ok, Err, refl, sym, ap, ◌∙◌, append_assoc, append-nil}
-use Rattle.ixdtf_grammar.specs.declared.profile.Profile.{Profile}
-use Rattle.ixdtf_grammar.specs.declared.records.Sign.{Sign}
-use Rattle.ixdtf_grammar.specs.declared.records.DurationParseRecord.{DurationParseRecord}
-use Rattle.ixdtf_grammar.specs.language.Letters.{Text, digit}
-use Rattle.ixdtf_grammar.specs.language.Letters.Letter.{Plain, Bad}
-use Rattle.ixdtf_grammar.specs.language.Digits.{decimal}
-use Rattle.ixdtf_grammar.specs.language.Fractions.{FractionParts, fraction_of}
-use Rattle.ixdtf_grammar.specs.language.Times.Clock.{Time}
-use Rattle.ixdtf_grammar.specs.language.Durations.{Group, designator, unit_of}
-use Rattle.ixdtf_grammar.specs.language.Durations.Half.{time}
-use Rattle.ixdtf_grammar.specs.table.Faults.Fault.{NonAsciiCodePoint, FractionPart}
+use Rattle.ixdtf_grammar.specs.declared.{profile.Profile.Profile, records.{Sign.Sign, DurationParseRecord.DurationParseRecord}}
+use Rattle.ixdtf_grammar.specs.language.{Letters.{Text, digit, Letter.{Plain, Bad}}, Digits.decimal, Fractions.{FractionParts, fraction_of}, Times.Clock.Time}
+use Rattle.ixdtf_grammar.specs.{language.Durations.{Group, designator, unit_of, Half.time}, table.Faults.Fault.{NonAsciiCodePoint, FractionPart}}
 use Rattle.ixdtf_grammar.specs.table.Lines.{abrupt_time_designator}
-use Rattle.ixdtf_reading.specs.reading.Looks.{Placed, before, Read, ◌>>=◌, error_of, look_at, seen, next_by, digit_run}
-use Rattle.ixdtf_reading.specs.reading.Times.{fraction_at}
-use Rattle.ixdtf_reading.specs.reading.Durations.{step, run, fraction_group}
-use Rattle.ixdtf_reading.specs.reading.Durations.State.{at_mark, in_fraction}
-use Rattle.ixdtf_durations.specs.reading.DurationClauses.{run_from, time_group_of, after_time_group}
-use Rattle.ixdtf_durations.proofs.code.DurationSteps.{fails}
+use Rattle.ixdtf_reading.specs.reading.{Looks.{Placed, before, Read, ◌>>=◌, error_of, look_at, seen, next_by, digit_run}, Times.fraction_at}
+use Rattle.ixdtf_reading.specs.reading.Durations.{step, run, fraction_group, State.{at_mark, in_fraction}}
 use Rattle.ixdtf_reading.proofs.code.FirstLetter.{first_is, nothing_is}
-use Rattle.ixdtf_durations.proofs.code.DurationLetters.{end_step}
+use Rattle.ixdtf_durations.specs.reading.DurationClauses.{run_from, time_group_of, after_time_group}
+use Rattle.ixdtf_durations.proofs.code.{DurationSteps.fails, DurationLetters.end_step}
 
 ok_is : {A : Type 0} (x y : A × Text) → ◌≡◌ {A = Read Placed A} (Ok x) (Ok y) → x ≡ y
 ok_is x y e = cc

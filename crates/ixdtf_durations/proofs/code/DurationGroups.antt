@@ -1,19 +1,13 @@
 -- Groups of a duration, by what the loops over them keep: their numbers, and the least rank that may follow.
-use Rattle.std.proofs.Common.{◌≡◌, ℕ, ◌+◌, ◌≤◌, Bool, true, false, [], ◌∷◌, List, None, Result}
-use Rattle.std.proofs.Common.{Ok, Err, refl, sym, arith, nat_le, ◌&&◌, slice_set, if◌then◌else◌}
-use Rattle.std.proofs.lemmas.Bool.Decides.{nat_tests}
-use Rattle.ixdtf_grammar.specs.declared.profile.Profile.{Profile}
-use Rattle.ixdtf_durations.specs.declared.duration.Number.{Number}
-use Rattle.ixdtf_durations.specs.declared.duration.TimeGroup.{TimeGroup}
-use Rattle.ixdtf_grammar.specs.language.Letters.{year_letter, month_letter, week_letter, hour_letter, minute_letter}
-use Rattle.ixdtf_grammar.specs.language.Durations.{Half, Group, place, unit_of, designator, greatest, least_step, in_order, number_of}
-use Rattle.ixdtf_grammar.specs.language.Durations.Half.{date, time}
-use Rattle.ixdtf_grammar.specs.language.Durations.DurationUnit.{years, months, weeks, days, hours, minutes, seconds}
-use Rattle.ixdtf_grammar.specs.table.Faults.{Fault}
+use Rattle.std.proofs.Common.{◌≡◌, ℕ, ◌+◌, ◌≤◌, Bool, true, false, [], ◌∷◌, List, None, Result, Ok, Err, refl, sym, arith, nat_le, ◌&&◌, slice_set}
+use Rattle.std.proofs.{Common.if◌then◌else◌, lemmas.Bool.Decides.nat_tests}
+use Rattle.ixdtf_grammar.specs.{declared.profile.Profile.Profile, language.Letters.{year_letter, month_letter, week_letter, hour_letter, minute_letter}}
+use Rattle.ixdtf_grammar.specs.language.Durations.{Half, Group, place, unit_of, designator, greatest, least_step, in_order, number_of, Half.{date, time}}
+use Rattle.ixdtf_grammar.specs.{language.Durations.DurationUnit.{years, months, weeks, days, hours, minutes, seconds}, table.Faults.Fault}
 use Rattle.ixdtf_grammar.specs.table.Faults.Fault.{DurationValueExceededRange, DateDurationPartOrder, TimeDurationPartOrder}
 use Rattle.ixdtf_grammar.specs.table.Lines.{abrupt_date_designator, abrupt_time_designator}
-use Rattle.ixdtf_durations.specs.reading.DurationClauses.{rank, date_numbers, time_numbers, date_group_of, time_group_of, date_rank_from, time_rank_from}
-use Rattle.ixdtf_durations.specs.reading.DurationClauses.{date_read, time_read}
+use Rattle.ixdtf_durations.specs.{declared.duration.{Number.Number, TimeGroup.TimeGroup}, reading.DurationClauses.{rank, date_numbers, time_numbers}}
+use Rattle.ixdtf_durations.specs.reading.DurationClauses.{date_group_of, time_group_of, date_rank_from, time_rank_from, date_read, time_read}
 use Rattle.ixdtf_durations.proofs.code.DurationRanks.{below, date_place, time_place}
 
 -- a unit of the half may follow these groups from this rank on

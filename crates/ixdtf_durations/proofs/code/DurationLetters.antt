@@ -1,36 +1,18 @@
 -- The code unit after the digits of a group, and the groups that it ends.
-use Rattle.std.proofs.Common.{◌≡◌, ℕ, Bool, true, false, [], ◌∷◌, List, None, IsSome, IfOk, Result, Ok, Err, map, drop, refl, sym, ◌∙◌, arith, nat_le, if◌then◌else◌}
-use Rattle.std.proofs.lemmas.Bool.Decides.{nat_tests}
-use Rattle.ixdtf_grammar.specs.declared.profile.Profile.{Profile}
-use Rattle.ixdtf_grammar.specs.declared.records.Sign.{Sign}
-use Rattle.ixdtf_grammar.specs.declared.records.DurationParseRecord.{DurationParseRecord}
-use Rattle.ixdtf_reading.specs.declared.stop.Stop.{Stop}
-use Rattle.ixdtf_durations.specs.declared.duration.TimeGroup.{TimeGroup}
-use Rattle.ixdtf_durations.specs.declared.duration.Number.{Number}
-use Rattle.ixdtf_grammar.specs.language.Letters.{Letter, Text, digit, decimal_mark, hour_letter, minute_letter}
-use Rattle.ixdtf_grammar.specs.language.Letters.Letter.{Plain}
-use Rattle.ixdtf_grammar.specs.language.Durations.{Half, Group, designator, unit_of, greatest, greatest_value, in_order}
-use Rattle.ixdtf_grammar.specs.language.Durations.Half.{date, time}
-use Rattle.ixdtf_grammar.specs.language.Durations.DurationUnit.{hours, minutes, seconds}
-use Rattle.ixdtf_grammar.specs.table.Faults.{Fault}
-use Rattle.ixdtf_grammar.specs.table.DurationFronts.{Context}
+use Rattle.std.proofs.Common.{◌≡◌, ℕ, Bool, true, false, [], ◌∷◌, List, None, IsSome, IfOk, Result, Ok, Err, map, drop, refl, sym, ◌∙◌, arith, nat_le}
+use Rattle.std.proofs.{Common.if◌then◌else◌, lemmas.Bool.Decides.nat_tests}
+use Rattle.ixdtf_grammar.specs.declared.{profile.Profile.Profile, records.{Sign.Sign, DurationParseRecord.DurationParseRecord}}
+use Rattle.ixdtf_grammar.specs.language.Letters.{Letter, Text, digit, decimal_mark, hour_letter, minute_letter, Letter.Plain}
+use Rattle.ixdtf_grammar.specs.language.Durations.{Half, Group, designator, unit_of, greatest, greatest_value, in_order, Half.{date, time}}
+use Rattle.ixdtf_grammar.specs.{language.Durations.DurationUnit.{hours, minutes, seconds}, table.{Faults.Fault, DurationFronts.Context}}
 use Rattle.ixdtf_grammar.specs.table.DurationFronts.Context.{in_dates, in_times}
-use Rattle.ixdtf_reading.specs.reading.Looks.{Placed, Read, ◌>>=◌, error_of}
-use Rattle.ixdtf_reading.specs.reading.Durations.{State, add_group, end_group, step, run, integer_group}
-use Rattle.ixdtf_reading.specs.reading.Durations.State.{between, in_number, at_mark, ended}
-use Rattle.ixdtf_durations.specs.reading.DurationClauses.{run_from, run_where, IsNumber, behind_unit, date_group_of, date_read, after_time_group}
-use Rattle.ixdtf_durations.specs.reading.DurationClauses.{date_group_fits, time_group_fits}
+use Rattle.ixdtf_reading.specs.{declared.stop.Stop.Stop, reading.Looks.{Placed, Read, ◌>>=◌, error_of}}
+use Rattle.ixdtf_reading.specs.reading.Durations.{State, add_group, end_group, step, run, integer_group, State.{between, in_number, at_mark, ended}}
 use Rattle.ixdtf_reading.proofs.code.FirstLetter.{first_is}
+use Rattle.ixdtf_durations.specs.{declared.duration.{TimeGroup.TimeGroup, Number.Number}, reading.DurationClauses.{run_from, run_where, IsNumber}}
+use Rattle.ixdtf_durations.specs.reading.DurationClauses.{behind_unit, date_group_of, date_read, after_time_group, date_group_fits, time_group_fits}
 
 -- ---- code units
-
--- the letter of a unit is not a digit, and neither is a decimal mark
-designator_no_digit : (half : Half) (c : ℕ) → designator half c ≡ true → digit c ≡ false
-designator_no_digit date c is = grind (arith, nat_tests)
-designator_no_digit time c is = grind (arith, nat_tests)
-
-mark_no_digit : (c : ℕ) → decimal_mark c ≡ true → digit c ≡ false
-mark_no_digit c is = grind (arith, nat_tests)
 
 mark_no_designator : (c : ℕ) → decimal_mark c ≡ true → designator time c ≡ false
 mark_no_designator c is = grind (arith, nat_tests)

@@ -1,28 +1,17 @@
 -- The groups of a duration, read one by one.
 use Rattle.std.proofs.Common.{◌≡◌, ℕ, Bool, true, false, [], ◌∷◌, List, ◌+◌, slice_set, drop, map, Option, Some, None, Ok, Err, refl, ◌∙◌}
-use Rattle.ixdtf_grammar.specs.declared.profile.Profile.{Profile}
-use Rattle.ixdtf_grammar.specs.declared.records.Sign.{Sign}
-use Rattle.ixdtf_grammar.specs.declared.records.DurationParseRecord.{DurationParseRecord}
-use Rattle.ixdtf_grammar.specs.declared.records.TimeDurationRecord.{TimeDurationRecord}
-use Rattle.ixdtf_grammar.specs.declared.records.DateDurationRecord.{DateDurationRecord}
-use Rattle.ixdtf_durations.specs.declared.duration.Number.{Number}
-use Rattle.ixdtf_durations.specs.declared.duration.TimeGroup.{TimeGroup}
-use Rattle.ixdtf_grammar.specs.language.Letters.{Letter, Text, digit, time_letter}
-use Rattle.ixdtf_grammar.specs.language.Letters.Letter.{Plain}
-use Rattle.ixdtf_grammar.specs.language.Fractions.{FractionParts}
-use Rattle.ixdtf_grammar.specs.language.Durations.{Group, unit_of, least_step, date_duration, time_duration_to}
-use Rattle.ixdtf_grammar.specs.language.Durations.Half.{date, time}
-use Rattle.ixdtf_grammar.specs.table.Faults.{Fault}
-use Rattle.ixdtf_grammar.specs.table.Faults.Fault.{InvalidEnd}
-use Rattle.ixdtf_grammar.specs.table.DurationFronts.Context.{in_dates, in_times}
-use Rattle.ixdtf_reading.specs.reading.Looks.{Placed, Read, seen}
-use Rattle.ixdtf_reading.specs.reading.Durations.State.{between, in_number}
-use Rattle.ixdtf_durations.specs.reading.DurationClauses.{run_from, run_where, date_group_of, time_group_of, rank, date_rank_from, time_rank_from, behind_unit, date_read}
-use Rattle.ixdtf_durations.specs.reading.DurationClauses.{after_group, after_time_group, begins_group, HasSmallDates, IsDateRecord, IsTimeRecord, AreDates, dated}
-use Rattle.ixdtf_durations.proofs.code.DurationRanks.{below}
-use Rattle.ixdtf_durations.proofs.code.DurationGroups.{HasDates, HasTimes, date_added, date_refused, time_added, time_refused}
+use Rattle.ixdtf_grammar.specs.declared.{profile.Profile.Profile, records.{Sign.Sign, DurationParseRecord.DurationParseRecord}}
+use Rattle.ixdtf_grammar.specs.declared.records.{TimeDurationRecord.TimeDurationRecord, DateDurationRecord.DateDurationRecord}
+use Rattle.ixdtf_grammar.specs.language.{Letters.{Letter, Text, digit, time_letter, Letter.Plain}, Fractions.FractionParts}
+use Rattle.ixdtf_grammar.specs.{language.Durations.{Group, unit_of, least_step, date_duration, time_duration_to, Half.{date, time}}, table.Faults.Fault}
+use Rattle.ixdtf_grammar.specs.table.{Faults.Fault.InvalidEnd, DurationFronts.Context.{in_dates, in_times}}
+use Rattle.ixdtf_durations.specs.{declared.duration.{Number.Number, TimeGroup.TimeGroup}, reading.DurationClauses.{run_from, run_where, date_group_of}}
+use Rattle.ixdtf_durations.specs.reading.DurationClauses.{time_group_of, rank, date_rank_from, time_rank_from, behind_unit, date_read, after_group}
+use Rattle.ixdtf_durations.specs.reading.DurationClauses.{after_time_group, begins_group, HasSmallDates, IsDateRecord, IsTimeRecord, AreDates, dated}
+use Rattle.ixdtf_durations.proofs.code.{DurationRanks.below, DurationGroups.{HasDates, HasTimes, date_added, date_refused, time_added, time_refused}}
 use Rattle.ixdtf_durations.proofs.code.DurationSteps.{fails, at_digit, dates_end, dates_at_mark, dates_at_other, times_end, fraction_end, more_times_at_other}
 use Rattle.ixdtf_durations.proofs.code.DurationSteps.{fraction_at_other}
+use Rattle.ixdtf_reading.specs.reading.{Looks.{Placed, Read, seen}, Durations.State.{between, in_number}}
 
 -- a code unit that begins one more group, and one that begins none
 pub begins_is : (fraction : Option FractionParts) (c : ℕ) → begins_group fraction c ≡ true → (fraction ≡ None) × (digit c ≡ true)
@@ -52,12 +41,6 @@ module _ (profile : Profile) (first : ℕ) (whole : Text) where
     pub earlier : List Group
     pub has : HasDates profile values least (last ∷ earlier)
     pub leads : (s : Sign) → first_dates s ≡ run_from profile (between (in_dates s (last ∷ earlier))) rest
-
-  -- where one more date group is refused by its digits
-  pub date_fails : (rest : Text) (values : List ℕ) (least c : ℕ) → DatesSoFar rest values least c → (fault : Placed)
-      → ((s : Sign) (dates : List Group) → run_from profile (in_number (in_dates s dates) (Plain c ∷ [])) rest ≡ Err fault)
-      → (s : Sign) → first_dates s ≡ Err fault
-  date_fails rest values least c far fault refuses s = far.leads s ∙ refuses s far.dates
 
   -- the digits of one more date group, and what is left behind the letter of its unit, or at another code unit
   module _ {rest : Text} {values : List ℕ} {least c : ℕ} (far : DatesSoFar rest values least c) (n : Number) (mid next : Text)
@@ -136,12 +119,6 @@ module _ (profile : Profile) (first : ℕ) (whole : Text) where
     pub has : HasTimes profile values least (time_group_of g ∷ earlier)
     pub ranked : r ≡ rank (unit_of time g.letter)
     pub leads : (s : Sign) (dates : List Group) → first_times s dates ≡ run_from profile (after_group g.fraction s dates earlier (time_group_of g)) rest
-
-  -- where one more time group is refused by its digits
-  pub time_fails : (rest : Text) (values : List ℕ) (least c : ℕ) → TimesSoFar rest values least c → (fault : Placed)
-      → ((s : Sign) (dates times : List Group) → run_from profile (in_number (in_times s dates times) (Plain c ∷ [])) rest ≡ Err fault)
-      → (s : Sign) (dates : List Group) → first_times s dates ≡ Err fault
-  time_fails rest values least c far fault refuses s dates = far.leads s dates ∙ refuses s dates far.times
 
   -- one more time group up to the letter of its unit, and what is left behind this letter, or at another code unit
   module _ {rest : Text} {values : List ℕ} {least c : ℕ} (far : TimesSoFar rest values least c) (g : TimeGroup) (mid next : Text)

@@ -1,20 +1,11 @@
 -- The digits of a number of a duration, taken one by one.
 use Rattle.std.proofs.Common.{◌≡◌, ℕ, ◌+◌, ◌-◌, ◌*◌, true, false, [], ◌∷◌, ◌++◌, drop, Some, None, Ok, Err, refl, sym, ◌∙◌, nat_le}
-use Rattle.ixdtf_grammar.specs.declared.profile.Profile.{Profile}
-use Rattle.ixdtf_grammar.specs.language.Letters.{Text, digit}
-use Rattle.ixdtf_grammar.specs.language.Letters.Letter.{Plain}
-use Rattle.ixdtf_grammar.specs.language.Digits.{decimal}
-use Rattle.ixdtf_grammar.specs.language.Durations.{greatest_value}
-use Rattle.ixdtf_grammar.specs.table.Faults.Fault.{DurationValueExceededRange}
-use Rattle.ixdtf_grammar.specs.table.Lines.{no_designator}
-use Rattle.ixdtf_grammar.specs.table.DurationFronts.{Context, half_of}
-use Rattle.ixdtf_reading.specs.reading.Looks.{Placed, seen}
-use Rattle.ixdtf_reading.specs.reading.Durations.{step, run}
-use Rattle.ixdtf_reading.specs.reading.Durations.State.{in_number}
+use Rattle.ixdtf_grammar.specs.{declared.profile.Profile.Profile, language.{Letters.{Text, digit, Letter.Plain}, Digits.decimal, Durations.greatest_value}}
+use Rattle.ixdtf_grammar.specs.table.{Faults.Fault.DurationValueExceededRange, Lines.no_designator, DurationFronts.{Context, half_of}}
+use Rattle.ixdtf_reading.specs.reading.{Looks.{Placed, seen}, Durations.{step, run, State.in_number}}
+use Rattle.ixdtf_reading.proofs.code.{GrowingDigits.decimal_snoc, FirstLetter.{first_is, nothing_is}}
 use Rattle.ixdtf_durations.specs.reading.DurationClauses.{run_from}
-use Rattle.ixdtf_reading.proofs.code.GrowingDigits.{decimal_snoc}
 use Rattle.ixdtf_durations.proofs.code.DurationSteps.{fails}
-use Rattle.ixdtf_reading.proofs.code.FirstLetter.{first_is, nothing_is}
 
 -- So far digits of this number were taken, and the rest remains.
 pub record IsSoFar (first : ℕ) (whole rest : Text) (value : ℕ) : Type 0 where

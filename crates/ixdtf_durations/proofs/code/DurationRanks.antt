@@ -1,10 +1,8 @@
 -- The ranks of the units of durations: their tables, and what a rank says of a code unit.
 use Rattle.std.proofs.Common.{◌≡◌, ℕ, zero, suc, ◌+◌, ◌<◌, ◌≤◌, Bool, true, false, nat_eq, nat_le, List, [], ◌∷◌, slice_index_or, if◌then◌else◌, refl, arith}
 use Rattle.std.proofs.lemmas.Bool.Decides.{nat_tests}
-use Rattle.ixdtf_grammar.specs.language.Letters.{year_letter, month_letter, week_letter, hour_letter, minute_letter}
-use Rattle.ixdtf_grammar.specs.language.Durations.{Half, unit_of, place}
-use Rattle.ixdtf_grammar.specs.language.Durations.Half.{date, time}
-use Rattle.ixdtf_grammar.specs.language.Durations.DurationUnit.{years, months, weeks, days, hours, minutes, seconds}
+use Rattle.ixdtf_grammar.specs.language.{Letters.{year_letter, month_letter, week_letter, hour_letter, minute_letter}, Durations.{Half, unit_of, place}}
+use Rattle.ixdtf_grammar.specs.language.Durations.{Half.{date, time}, DurationUnit.{years, months, weeks, days, hours, minutes, seconds}}
 use Rattle.ixdtf_durations.specs.reading.DurationClauses.{rank, rank_seen}
 use Rattle.ixdtf_reading.proofs.code.Tables.{agree_below, agree_at}
 

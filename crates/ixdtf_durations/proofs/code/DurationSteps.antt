@@ -1,26 +1,16 @@
 -- Reading a duration from a state on, by what the first look finds.
 use Rattle.std.proofs.Common.{◌≡◌, ℕ, ◌≤◌, true, false, List, [], ◌∷◌, drop, length, map, Option, Some, None, Result, Ok, Err, refl, ap, ◌∙◌, arith, nat_le}
 use Rattle.std.proofs.lemmas.Bool.Decides.{nat_tests}
-use Rattle.ixdtf_grammar.specs.declared.profile.Profile.{Profile}
-use Rattle.ixdtf_grammar.specs.declared.records.Sign.{Sign}
-use Rattle.ixdtf_grammar.specs.declared.records.Sign.TheVariants.{Positive}
-use Rattle.ixdtf_reading.specs.declared.stop.Stop.{Stop}
-use Rattle.ixdtf_grammar.specs.declared.records.DurationParseRecord.{DurationParseRecord}
-use Rattle.ixdtf_grammar.specs.Views.{Unread}
-use Rattle.ixdtf_grammar.specs.language.Letters.{Letter, Text, digit, sign, duration_designator, time_letter}
-use Rattle.ixdtf_grammar.specs.language.Letters.Letter.{Plain, Bad}
-use Rattle.ixdtf_grammar.specs.language.Digits.{decimal}
-use Rattle.ixdtf_grammar.specs.language.Offsets.{sign_of}
-use Rattle.ixdtf_grammar.specs.language.Durations.{Group, greatest_value, duration_of}
+use Rattle.ixdtf_grammar.specs.declared.{profile.Profile.Profile, records.{Sign.{Sign, TheVariants.Positive}, DurationParseRecord.DurationParseRecord}}
+use Rattle.ixdtf_grammar.specs.{Views.Unread, language.Letters.{Letter, Text, digit, sign, duration_designator, time_letter, Letter.{Plain, Bad}}}
+use Rattle.ixdtf_grammar.specs.language.{Digits.decimal, Offsets.sign_of, Durations.{Group, greatest_value, duration_of}}
 use Rattle.ixdtf_grammar.specs.table.Faults.Fault.{NonAsciiCodePoint, InvalidEnd, DurationDisgnator, TimeDurationDesignator}
-use Rattle.ixdtf_grammar.specs.table.Lines.{abrupt_duration_start, abrupt_duration_designator, abrupt_duration}
-use Rattle.ixdtf_grammar.specs.table.DurationFronts.{Context}
+use Rattle.ixdtf_grammar.specs.table.{Lines.{abrupt_duration_start, abrupt_duration_designator, abrupt_duration}, DurationFronts.Context}
 use Rattle.ixdtf_grammar.specs.table.DurationFronts.Context.{in_dates, in_times}
-use Rattle.ixdtf_reading.specs.reading.Looks.{Placed, Read, error_of, look_at, seen}
-use Rattle.ixdtf_reading.specs.reading.Durations.{State, state_look, step, run}
+use Rattle.ixdtf_reading.specs.{declared.stop.Stop.Stop, reading.{Looks.{Placed, Read, error_of, look_at, seen}, Durations.{State, state_look, step, run}}}
 use Rattle.ixdtf_reading.specs.reading.Durations.State.{started, signed, between, in_number, ended}
-use Rattle.ixdtf_durations.specs.reading.DurationClauses.{run_from, ReadsOn}
 use Rattle.ixdtf_reading.proofs.code.FirstLetter.{first_is, nothing_is}
+use Rattle.ixdtf_durations.specs.reading.DurationClauses.{run_from, ReadsOn}
 
 at_bad_is : (profile : Profile) (s : State) (text : Text) → (state_look error_of profile s).at_bad text ≡ (NonAsciiCodePoint, text)
 at_bad_is profile (between (in_dates s [])) text = refl

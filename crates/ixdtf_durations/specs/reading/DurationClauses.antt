@@ -1,32 +1,16 @@
 -- Forms of the clauses of the private functions that read durations, and what their types stand for. No public clause cites one.
-use Rattle.std.specs.Prelude.{◌≡◌, ◌≤◌, ℕ, Bool, false, IsFalse, IsTrue, List, [], ◌∷◌, map}
-use Rattle.std.specs.Prelude.{Option, Some, None, Result, Ok, Err, nat_le, drop, slice_index_or, if◌then◌else◌}
-use Rattle.ixdtf_grammar.specs.declared.profile.Profile.{Profile}
-use Rattle.ixdtf_grammar.specs.declared.records.Sign.{Sign}
-use Rattle.ixdtf_grammar.specs.declared.records.DurationParseRecord.{DurationParseRecord}
-use Rattle.ixdtf_grammar.specs.declared.records.DateDurationRecord.{DateDurationRecord}
-use Rattle.ixdtf_grammar.specs.declared.records.TimeDurationRecord.{TimeDurationRecord}
-use Rattle.ixdtf_reading.specs.declared.stop.Stop.{Stop}
-use Rattle.ixdtf_durations.specs.declared.duration.Number.{Number}
-use Rattle.ixdtf_durations.specs.declared.duration.Dates.{Dates}
-use Rattle.ixdtf_durations.specs.declared.duration.TimeGroup.{TimeGroup}
-use Rattle.ixdtf_grammar.specs.language.Letters.{Letter, Text, digit}
-use Rattle.ixdtf_grammar.specs.language.Letters.Letter.{Plain}
-use Rattle.ixdtf_grammar.specs.language.Digits.{decimal}
-use Rattle.ixdtf_grammar.specs.language.Fractions.{FractionParts}
-use Rattle.ixdtf_grammar.specs.language.Durations.{Half, DurationUnit, Group, designator, unit_of, greatest, in_order, number_of, date_duration, time_duration_to}
-use Rattle.ixdtf_grammar.specs.language.Durations.Half.{date, time}
-use Rattle.ixdtf_grammar.specs.language.Durations.DurationUnit.{years, months, weeks, days, hours, minutes, seconds}
-use Rattle.ixdtf_grammar.specs.table.Faults.{Fault}
-use Rattle.ixdtf_grammar.specs.table.Faults.Fault.{DurationValueExceededRange, DateDurationPartOrder, TimeDurationPartOrder}
-use Rattle.ixdtf_grammar.specs.table.DurationFronts.{Context, half_of}
-use Rattle.ixdtf_grammar.specs.table.DurationFronts.Context.{in_dates, in_times}
-use Rattle.ixdtf_grammar.specs.table.Lines.{no_designator}
-use Rattle.ixdtf_grammar.specs.Views.{Unread}
-use Rattle.ixdtf_reading.specs.reading.Looks.{Read, Placed, error_of, seen}
-use Rattle.ixdtf_reading.specs.reading.Clauses.{fault_of_stop}
-use Rattle.ixdtf_reading.specs.reading.Durations.{State, run}
+use Rattle.std.specs.Prelude.{◌≡◌, ◌≤◌, ℕ, Bool, false, IsFalse, IsTrue, List, [], ◌∷◌, map, Option, Some, None, Result, Ok, Err, nat_le, drop}
+use Rattle.std.specs.Prelude.{slice_index_or, if◌then◌else◌}
+use Rattle.ixdtf_grammar.specs.declared.{profile.Profile.Profile, records.{Sign.Sign, DurationParseRecord.DurationParseRecord}}
+use Rattle.ixdtf_grammar.specs.declared.records.{DateDurationRecord.DateDurationRecord, TimeDurationRecord.TimeDurationRecord}
+use Rattle.ixdtf_grammar.specs.language.{Letters.{Letter, Text, digit, Letter.Plain}, Digits.decimal, Fractions.FractionParts, Durations.{Half, DurationUnit}}
+use Rattle.ixdtf_grammar.specs.language.Durations.{Group, designator, unit_of, greatest, in_order, number_of, date_duration, time_duration_to}
+use Rattle.ixdtf_grammar.specs.language.Durations.{Half.{date, time}, DurationUnit.{years, months, weeks, days, hours, minutes, seconds}}
+use Rattle.ixdtf_grammar.specs.table.Faults.{Fault, Fault.{DurationValueExceededRange, DateDurationPartOrder, TimeDurationPartOrder}}
+use Rattle.ixdtf_grammar.specs.{table.{DurationFronts.{Context, half_of, Context.{in_dates, in_times}}, Lines.no_designator}, Views.Unread}
+use Rattle.ixdtf_reading.specs.{declared.stop.Stop.Stop, reading.{Looks.{Read, Placed, error_of, seen}, Clauses.fault_of_stop, Durations.{State, run}}}
 use Rattle.ixdtf_reading.specs.reading.Durations.State.{between, in_number, ended}
+use Rattle.ixdtf_durations.specs.declared.duration.{Number.Number, Dates.Dates, TimeGroup.TimeGroup}
 
 -- reading a duration from a state on, by errors
 abbrev pub run_from : Profile → State → Text → Read Placed DurationParseRecord

@@ -1,15 +1,8 @@
 -- The nanoseconds of a fraction: the number that its digits stand for, from its value.
-use Rattle.std.proofs.Common.{true, cond, nat_le, Some, None, ◌≡◌, ◌<◌, ◌≤◌, ℕ, suc, ◌+◌, ◌-◌, ◌*◌, ◌/◌, ◌^◌, min, ◌++◌, length, take}
-use Rattle.std.proofs.Common.{refl, sym, ap, ◌∙◌, arith}
-use Rattle.std.proofs.lemmas.Bool.Decides.{nat_tests}
-use Rattle.std.proofs.Math.Nat.{pow-succ', pow-le-pow_right, mod-eq_of_lt, min-le_right}
-use Rattle.std.proofs.Math.Nat.{mul-lt-mul_of_pos_right}
-use Rattle.std.proofs.Math.Seq.{take-append-add}
-use Rattle.std.proofs.lemmas.Nat.{pow-add, div_below}
-use Rattle.std.proofs.lemmas.List.{length-take-le, take-append-le}
-use Rattle.ixdtf_grammar.specs.language.Letters.{Text}
-use Rattle.ixdtf_grammar.specs.language.Digits.{decimal, padded_digits}
-use Rattle.ixdtf_grammar.specs.language.Fractions.{FractionParts, exact_nanoseconds_of, nanoseconds_of}
+use Rattle.std.proofs.Common.{true, cond, nat_le, Some, None, ◌≡◌, ◌<◌, ◌≤◌, ℕ, suc, ◌+◌, ◌-◌, ◌*◌, ◌/◌, ◌^◌, min, ◌++◌, length, take, refl, sym, ap, ◌∙◌}
+use Rattle.std.proofs.{Common.arith, lemmas.{Bool.Decides.nat_tests, Nat.{pow-add, div_below}, List.{length-take-le, take-append-le}}}
+use Rattle.std.proofs.Math.{Nat.{pow-succ', pow-le-pow_right, mod-eq_of_lt, min-le_right, mul-lt-mul_of_pos_right}, Seq.take-append-add}
+use Rattle.ixdtf_grammar.specs.language.{Letters.Text, Digits.{decimal, padded_digits}, Fractions.{FractionParts, exact_nanoseconds_of, nanoseconds_of}}
 use Rattle.ixdtf_grammar.proofs.PaddedDigits.{ten_pos, length-padded, decimal-append, decimal-padded, decimal-zeros, decimal-whole}
 
 -- fewer digits than are wanted: zeros fill the number on the right

@@ -2,17 +2,11 @@
 -- those of one text are one core's text, a front without these code units is a front of the core, and none begins as a
 -- duration.
 use Rattle.std.proofs.Common.{◌≡◌, ℕ, zero, suc, IsTrue, IsFalse, ◌⊎◌, ℤ, [], ◌∷◌, ◌++◌, refl, sym, ◌∙◌, subst, inl, inr, arith}
-use Rattle.std.proofs.lemmas.Bool.{both_ways, eqb-true, or_parts}
-use Rattle.std.proofs.lemmas.Bool.Decides.{nat_tests}
-use Rattle.ixdtf_grammar.specs.declared.records.DateRecord.{DateRecord}
-use Rattle.ixdtf_grammar.specs.declared.records.Sign.{Sign}
-use Rattle.ixdtf_grammar.specs.language.Letters.{Class, ◌or◌, Letter, Text, digit, hyphen, sign, opening, duration_designator}
-use Rattle.ixdtf_grammar.specs.language.Letters.Letter.{Plain, Bad}
-use Rattle.ixdtf_grammar.specs.language.Shapes.{Shape, one, digits}
-use Rattle.ixdtf_grammar.specs.language.Dates.{Year}
-use Rattle.ixdtf_grammar.specs.language.Durations.{SignedDesignator}
-use Rattle.ixdtf_grammar.specs.language.Months.{OptionalHyphen, Marks, IsYearMonth, MonthDayText}
-use Rattle.ixdtf_grammar.specs.table.Before.{AtCoreEnd}
+use Rattle.std.proofs.lemmas.Bool.{both_ways, eqb-true, or_parts, Decides.nat_tests}
+use Rattle.ixdtf_grammar.specs.declared.records.{DateRecord.DateRecord, Sign.Sign}
+use Rattle.ixdtf_grammar.specs.language.Letters.{Class, ◌or◌, Letter, Text, digit, hyphen, sign, opening, duration_designator, Letter.{Plain, Bad}}
+use Rattle.ixdtf_grammar.specs.language.{Shapes.{Shape, one, digits}, Dates.Year, Durations.SignedDesignator}
+use Rattle.ixdtf_grammar.specs.{language.Months.{OptionalHyphen, Marks, IsYearMonth, MonthDayText}, table.Before.AtCoreEnd}
 
 abbrev pub outside : Class
 outside = opening or duration_designator

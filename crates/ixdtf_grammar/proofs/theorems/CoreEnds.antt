@@ -1,20 +1,14 @@
 -- Where the core of a text ends: no core has one of the code units of `outside`, and after a core stands the end or a bracket.
 use Rattle.std.proofs.Common.{◌≡◌, ℕ, suc, Bool, true, false, IsTrue, IsFalse, List, [], ◌∷◌, ◌++◌, Option, Some, None, refl, ◌∙◌, inl, inr, arith}
-use Rattle.std.proofs.Common.{append_assoc}
-use Rattle.std.proofs.lemmas.Bool.Decides.{nat_tests}
-use Rattle.ixdtf_grammar.specs.declared.records.DateRecord.{DateRecord}
-use Rattle.ixdtf_grammar.specs.declared.records.TimeRecord.{TimeRecord}
-use Rattle.ixdtf_grammar.specs.declared.records.UtcOffsetRecordOrZ.{UtcOffsetRecordOrZ}
-use Rattle.ixdtf_grammar.specs.language.Letters.{Text, opening, zulu, decimal_mark, time_letter, date_time_separator}
-use Rattle.ixdtf_grammar.specs.language.Fractions.{FractionParts, IsFraction}
-use Rattle.ixdtf_grammar.specs.language.Dates.{DateText}
-use Rattle.ixdtf_grammar.specs.language.Times.{Clock, Clock as clocks, TimeShape, SecondText, ClockOf}
-use Rattle.ixdtf_grammar.specs.language.Times.TimeShape.{hours, basic_minutes, colon_minutes, seconds, fractions}
-use Rattle.ixdtf_grammar.specs.language.Brackets.{ZoneNote, Opens, Pair, IsTail}
-use Rattle.ixdtf_grammar.specs.language.Cores.{Core, OptionalOffset, IsDateTimeCore, TimeMark, MarkedTime, IsCore}
-use Rattle.ixdtf_grammar.specs.language.Readers.{CoreKind}
+use Rattle.std.proofs.{Common.append_assoc, lemmas.Bool.Decides.nat_tests}
+use Rattle.ixdtf_grammar.specs.declared.records.{DateRecord.DateRecord, TimeRecord.TimeRecord, UtcOffsetRecordOrZ.UtcOffsetRecordOrZ}
+use Rattle.ixdtf_grammar.specs.language.{Letters.{Text, opening, zulu, decimal_mark, time_letter, date_time_separator}, Fractions.{FractionParts, IsFraction}}
+use Rattle.ixdtf_grammar.specs.language.{Dates.DateText, Times.{Clock, Clock as clocks, TimeShape, SecondText, ClockOf}}
+use Rattle.ixdtf_grammar.specs.language.{Times.TimeShape.{hours, basic_minutes, colon_minutes, seconds, fractions}, Brackets.{ZoneNote, Opens, Pair, IsTail}}
+use Rattle.ixdtf_grammar.specs.language.{Cores.{Core, OptionalOffset, IsDateTimeCore, TimeMark, MarkedTime, IsCore}, Readers.CoreKind}
 use Rattle.ixdtf_grammar.specs.language.Readers.CoreKind.{date_time, year_month, month_day, time_alone}
-use Rattle.ixdtf_grammar.proofs.parts.CoreLetters.{outside, AllInside, CoreEnds, inside_append, of_sign, in_one, in_digits, in_year, in_year_month, in_month_day}
+use Rattle.ixdtf_grammar.proofs.parts.CoreLetters.{outside, AllInside, CoreEnds, inside_append, of_sign, in_one, in_digits, in_year, in_year_month}
+use Rattle.ixdtf_grammar.proofs.parts.CoreLetters.{in_month_day}
 
 -- ---- what stands after a core
 

@@ -1,14 +1,8 @@
 -- How long cores are: a date, a year-month and a month-day differ by their lengths, where they begin alike.
-use Rattle.std.proofs.Common.{◌≡◌, ℕ, zero, suc, ◌+◌, ◌≤◌, ◌⊎◌, ℤ, Bool, false, IsTrue, [], ◌∷◌, ◌++◌, length, refl, inl, inr, arith, append_assoc, append-nil}
-use Rattle.std.proofs.lemmas.Bool.{both_ways}
-use Rattle.std.proofs.lemmas.Bool.Decides.{nat_tests}
-use Rattle.std.proofs.lemmas.List.{length-append}
-use Rattle.ixdtf_grammar.specs.declared.records.DateRecord.{DateRecord}
-use Rattle.ixdtf_grammar.specs.language.Letters.{Class, Text, digit, hyphen, sign}
-use Rattle.ixdtf_grammar.specs.language.Letters.Letter.{Plain, Bad}
-use Rattle.ixdtf_grammar.specs.language.Shapes.{digits}
-use Rattle.ixdtf_grammar.specs.language.Dates.{Year, DateText}
-use Rattle.ixdtf_grammar.specs.language.Months.{OptionalHyphen, Marks, IsYearMonth, MonthDayText}
+use Rattle.std.proofs.Common.{◌≡◌, ℕ, zero, suc, ◌+◌, ◌≤◌, ◌⊎◌, ℤ, Bool, false, IsTrue, [], ◌∷◌, ◌++◌, length, refl, inl, inr, arith, append_assoc}
+use Rattle.std.proofs.{Common.append-nil, lemmas.{Bool.{both_ways, Decides.nat_tests}, List.length-append}}
+use Rattle.ixdtf_grammar.specs.{declared.records.DateRecord.DateRecord, language.Letters.{Class, Text, digit, hyphen, sign, Letter.{Plain, Bad}}}
+use Rattle.ixdtf_grammar.specs.language.{Shapes.digits, Dates.{Year, DateText}, Months.{OptionalHyphen, Marks, IsYearMonth, MonthDayText}}
 use Rattle.ixdtf_grammar.specs.language.Cores.{Core, IsDateTimeCore}
 
 -- the first code unit is of the class

@@ -1,23 +1,13 @@
 -- No text is in the languages of two of the readers of dates, times and durations.
 use Rattle.std.proofs.Common.{◌≡◌, List, [], ◌∷◌, ◌++◌, refl, sym, ap, ◌∙◌, subst, inl, inr, arith, append_assoc, append-nil}
-use Rattle.ixdtf_grammar.specs.declared.profile.Profile.{Profile}
-use Rattle.ixdtf_grammar.specs.declared.records.DateRecord.{DateRecord}
-use Rattle.ixdtf_grammar.specs.language.Letters.{Text}
-use Rattle.ixdtf_grammar.specs.language.Letters.Letter.{Plain}
-use Rattle.ixdtf_grammar.specs.language.Shapes.{Shape, some}
-use Rattle.ixdtf_grammar.specs.language.Dates.{DateText}
-use Rattle.ixdtf_grammar.specs.language.Months.{IsYearMonth, IsMonthDay}
-use Rattle.ixdtf_grammar.specs.language.Brackets.{Pair}
-use Rattle.ixdtf_grammar.specs.language.Cores.{Core, IsDateTimeCore, HasFront, IsCore}
-use Rattle.ixdtf_grammar.specs.language.Durations.{IsDuration}
-use Rattle.ixdtf_grammar.specs.language.Readers.{Reader, CoreKind}
+use Rattle.ixdtf_grammar.specs.{declared.{profile.Profile.Profile, records.DateRecord.DateRecord}, language.Letters.{Text, Letter.Plain}}
+use Rattle.ixdtf_grammar.specs.language.{Shapes.{Shape, some}, Dates.DateText, Months.{IsYearMonth, IsMonthDay}, Brackets.Pair}
+use Rattle.ixdtf_grammar.specs.language.{Cores.{Core, IsDateTimeCore, HasFront, IsCore}, Durations.IsDuration, Readers.{Reader, CoreKind}}
 use Rattle.ixdtf_grammar.specs.language.Readers.CoreKind.{date_time, year_month, month_day, time_alone}
 use Rattle.ixdtf_grammar.specs.language.Readers.Reader.{bracketed, parse_offset, parse_identifier, parse_iana_identifier, parse_duration}
-use Rattle.ixdtf_grammar.specs.language.Languages.{Parsed, IsBracketed}
-use Rattle.ixdtf_grammar.specs.language.Languages.Derives.{as_parsed, as_lasting}
+use Rattle.ixdtf_grammar.specs.language.Languages.{Parsed, IsBracketed, Derives.{as_parsed, as_lasting}}
 use Rattle.ixdtf_grammar.specs.Laws.{IsKindUnder, IsTextReader, InLanguage, LanguagesDisjoint, InNoOther}
-use Rattle.ixdtf_grammar.proofs.parts.CoreLetters.{same_core, no_duration}
-use Rattle.ixdtf_grammar.proofs.theorems.CoreEnds.{tail_ends, core_inside}
+use Rattle.ixdtf_grammar.proofs.{parts.{CoreLetters.{same_core, no_duration}, Texts.year_month_text}, theorems.CoreEnds.{tail_ends, core_inside}}
 use Rattle.ixdtf_grammar.proofs.theorems.CoreSizes.{date_time_size, year_month_size, month_day_size, at_least, longer}
 
 -- ---- fronts of cores
@@ -32,26 +22,14 @@ date_front text more date (inl h) = (
   h.years ++ h.months,
   h.days ++ more,
   rw h.is (simp append_assoc),
-  (month_of date, record { years = h.years; hyphens = []; months = h.months; is = refl; year = h.year; hyphen = inl refl; month = h.month; first_day = refl }),
+  (month_of date, year_month_text h.years [] h.months refl h.year (inl refl) h.month refl),
   tt,
 )
 date_front text more date (inr h) = (
   h.years ++ (Plain 45 ∷ h.months),
   Plain 45 ∷ (h.days ++ more),
   rw h.is (simp append_assoc),
-  (
-    month_of date,
-    record {
-      years = h.years;
-      hyphens = Plain 45 ∷ [];
-      months = h.months;
-      is = refl;
-      year = h.year;
-      hyphen = inr (45, refl, refl);
-      month = h.month;
-      first_day = refl;
-    },
-  ),
+  (month_of date, year_month_text h.years (Plain 45 ∷ []) h.months refl h.year (inr (45, refl, refl)) h.month refl),
   tt,
 )
 

@@ -1,22 +1,12 @@
 -- A text has no more pairs than code units.
-use Rattle.std.proofs.Common.{◌≡◌, ℕ, ◌≤◌, List, [], ◌∷◌, ◌++◌, length, inl, inr, arith}
-use Rattle.std.proofs.lemmas.List.{length-append}
-use Rattle.ixdtf_grammar.specs.language.Letters.{Text}
-use Rattle.ixdtf_grammar.specs.language.Times.Clock.{Time, Offset, MinuteOffset}
-use Rattle.ixdtf_grammar.specs.language.Brackets.{Pair, IsPair, ArePairs}
-use Rattle.ixdtf_grammar.specs.language.Readers.{CoreKind}
-use Rattle.ixdtf_grammar.specs.language.Readers.Reader.{bracketed}
-use Rattle.ixdtf_grammar.specs.language.Languages.{Found, Derives}
-use Rattle.ixdtf_grammar.specs.language.Languages.Derives.{as_parsed}
-use Rattle.ixdtf_grammar.specs.table.Faults.{Fault}
-use Rattle.ixdtf_grammar.specs.table.LineNames.{LineName}
+use Rattle.std.proofs.{Common.{◌≡◌, ℕ, ◌≤◌, List, [], ◌∷◌, ◌++◌, length, inl, inr, arith}, lemmas.List.length-append}
+use Rattle.ixdtf_grammar.specs.language.{Letters.Text, Times.Clock.{Time, Offset, MinuteOffset}, Brackets.{Pair, IsPair, ArePairs}, Readers.CoreKind}
+use Rattle.ixdtf_grammar.specs.{language.{Readers.Reader.bracketed, Languages.{Found, Derives, Derives.as_parsed}}, table.{Faults.Fault, LineNames.LineName}}
 use Rattle.ixdtf_grammar.specs.table.LineNames.ZoneLine.{identifier_start, zone_name_start, in_zone_name, after_zone_slash}
 use Rattle.ixdtf_grammar.specs.table.LineNames.BracketLine.{first_bracket_start, first_critical_start, first_bracket_scan, after_bracket}
 use Rattle.ixdtf_grammar.specs.table.LineNames.PairLine.{key_start, critical_key_start, in_key, value_start, in_value, after_value_hyphen}
 use Rattle.ixdtf_grammar.specs.table.LineNames.LineName.{of_core, of_clock, of_offset, of_zone, of_bracket, of_pair, of_duration}
-use Rattle.ixdtf_grammar.specs.table.Before.{BeforeBracketed, Bracketed, BeforeKey}
-use Rattle.ixdtf_grammar.specs.table.Outcomes.{HasFault}
-use Rattle.ixdtf_grammar.specs.Handlers.{Reply, GivesFault}
+use Rattle.ixdtf_grammar.specs.{table.{Before.{BeforeBracketed, Bracketed, BeforeKey}, Outcomes.HasFault}, Handlers.{Reply, GivesFault}}
 
 -- a part of a text is no longer than it
 part_few : (front rest : Text) (n : ℕ) → n ≤ length rest → n ≤ length (front ++ rest)

@@ -1,41 +1,21 @@
 -- The errors that no row of the fault table has: those that never come, and those of refused replies; and that of Bad, which stands at Bad alone.
 use Rattle.std.proofs.Common.{◌≡◌, ◌⊎◌, ℕ, Bool, true, false, ◌||◌, cond, IsFalse, List, ◌∷◌, ◌++◌, refl, sym, ap, ◌∙◌, ◌≢◌, inl, inr, append_assoc}
-use Rattle.ixdtf_grammar.specs.language.Letters.{Text}
-use Rattle.ixdtf_grammar.specs.language.Letters.Letter.{Bad}
-use Rattle.ixdtf_grammar.specs.language.Letters.{hyphen, colon, digit}
-use Rattle.ixdtf_grammar.specs.language.Times.{Clock}
-use Rattle.ixdtf_grammar.specs.language.Times.{Clock as clocks}
-use Rattle.ixdtf_grammar.specs.language.Durations.{Half}
-use Rattle.ixdtf_grammar.specs.language.Durations.{Half as halves}
-use Rattle.ixdtf_grammar.specs.table.Faults.{Fault, never_comes, is_refusal}
-use Rattle.ixdtf_grammar.specs.table.Faults.Fault.{NonAsciiCodePoint, UnrecognizedCritical, CriticalDuplicateCalendar, DateSeparator, DateDay, InvalidEnd, IanaChar}
-use Rattle.ixdtf_grammar.specs.language.Brackets.{Pair}
-use Rattle.ixdtf_grammar.specs.language.Readers.{Reader, has_brackets}
-use Rattle.ixdtf_grammar.specs.table.LineNames.{LineName}
-use Rattle.ixdtf_grammar.specs.table.LineNames.DateLine.{minus_zero_year}
-use Rattle.ixdtf_grammar.specs.table.LineNames.DateLine.{month_range, after_basic_month, day_range, after_date}
-use Rattle.ixdtf_grammar.specs.table.LineNames.YearMonthLine.{after_year_month}
-use Rattle.ixdtf_grammar.specs.table.LineNames.MonthDayLine.{month_day_month_range}
-use Rattle.ixdtf_grammar.specs.table.LineNames.MonthDayLine.{month_day_range, after_month_day}
-use Rattle.ixdtf_grammar.specs.table.LineNames.TimeLine.{time_reads_as_month_day, time_reads_as_year_month}
-use Rattle.ixdtf_grammar.specs.table.LineNames.ClockLine.{hour_range, after_hour, minute_range, after_basic_minute}
-use Rattle.ixdtf_grammar.specs.table.LineNames.ClockLine.{after_colon_minute, second_digits, second_range, after_second, after_fraction}
-use Rattle.ixdtf_grammar.specs.table.LineNames.OffsetLine.{after_zulu}
-use Rattle.ixdtf_grammar.specs.table.LineNames.ZoneLine.{in_zone_name}
-use Rattle.ixdtf_grammar.specs.table.LineNames.BracketLine.{first_bracket_scan, after_bracket}
-use Rattle.ixdtf_grammar.specs.table.LineNames.PairLine.{key_start}
-use Rattle.ixdtf_grammar.specs.table.LineNames.DurationLine.{after_date_groups}
-use Rattle.ixdtf_grammar.specs.table.LineNames.DurationLine.{group_digits, group_value_range, unit_order, date_unit_range}
-use Rattle.ixdtf_grammar.specs.table.LineNames.DurationLine.{after_time_groups, after_fraction_group}
-use Rattle.ixdtf_grammar.specs.table.LineNames.{of_date, of_year_month, of_month_day, of_time}
-use Rattle.ixdtf_grammar.specs.table.LineNames.LineName.{of_clock, of_offset, of_zone, of_bracket, of_pair, of_duration}
-use Rattle.ixdtf_grammar.specs.table.Lines.{Line, Ending, Follow, follow_of, mixed, second_fault, zone_line, no_designator, order_fault, line_of}
-use Rattle.ixdtf_grammar.specs.table.Lines.Line.{line, scanned, whole}
-use Rattle.ixdtf_grammar.specs.table.Lines.Ending.{ok, error}
-use Rattle.ixdtf_grammar.specs.table.Rows.{Place, Stops}
-use Rattle.ixdtf_grammar.specs.table.Rows.Place.{end, other, bad, anywhere}
-use Rattle.ixdtf_grammar.specs.table.Outcomes.{HasFault}
 use Rattle.std.proofs.lemmas.Bool.{both_ways, or_parts}
+use Rattle.ixdtf_grammar.specs.language.{Letters.{Text, hyphen, colon, digit, Letter.Bad}, Times.{Clock, Clock as clocks}, Durations.{Half, Half as halves}}
+use Rattle.ixdtf_grammar.specs.{language.{Brackets.Pair, Readers.{Reader, has_brackets}}, table.Faults.{Fault, never_comes, is_refusal}}
+use Rattle.ixdtf_grammar.specs.table.Faults.Fault.{NonAsciiCodePoint, UnrecognizedCritical, CriticalDuplicateCalendar, DateSeparator, DateDay, InvalidEnd}
+use Rattle.ixdtf_grammar.specs.table.{Faults.Fault.IanaChar, LineNames.{LineName, of_date, of_year_month, of_month_day, of_time}}
+use Rattle.ixdtf_grammar.specs.table.LineNames.DateLine.{minus_zero_year, month_range, after_basic_month, day_range, after_date}
+use Rattle.ixdtf_grammar.specs.table.LineNames.{YearMonthLine.after_year_month, MonthDayLine.{month_day_month_range, month_day_range, after_month_day}}
+use Rattle.ixdtf_grammar.specs.table.LineNames.{TimeLine.{time_reads_as_month_day, time_reads_as_year_month}, ClockLine.{hour_range, after_hour}}
+use Rattle.ixdtf_grammar.specs.table.LineNames.ClockLine.{minute_range, after_basic_minute, after_colon_minute, second_digits, second_range, after_second}
+use Rattle.ixdtf_grammar.specs.table.LineNames.{ClockLine.after_fraction, OffsetLine.after_zulu, ZoneLine.in_zone_name}
+use Rattle.ixdtf_grammar.specs.table.LineNames.{BracketLine.{first_bracket_scan, after_bracket}, PairLine.key_start, DurationLine.after_date_groups}
+use Rattle.ixdtf_grammar.specs.table.LineNames.DurationLine.{group_digits, group_value_range, unit_order, date_unit_range, after_time_groups}
+use Rattle.ixdtf_grammar.specs.table.LineNames.{DurationLine.after_fraction_group, LineName.{of_clock, of_offset, of_zone, of_bracket, of_pair, of_duration}}
+use Rattle.ixdtf_grammar.specs.table.Lines.{Line, Ending, Follow, follow_of, mixed, second_fault, zone_line, no_designator, order_fault, line_of}
+use Rattle.ixdtf_grammar.specs.table.{Lines.{Line.{line, scanned, whole}, Ending.{ok, error}}, Rows.{Place, Stops, Place.{end, other, bad, anywhere}}}
+use Rattle.ixdtf_grammar.specs.table.Outcomes.{HasFault}
 
 -- the fault of Bad
 abbrev is_of_bad : Fault → Bool

@@ -1,16 +1,9 @@
 -- What holds of a text with `Bad` in it holds of each text with the same code units before the first `Bad`.
 use Rattle.std.proofs.Common.{◌≡◌, ◌⊎◌, [], ◌∷◌, ◌++◌, refl, ◌∙◌, ap, subst, inl, inr}
-use Rattle.ixdtf_grammar.specs.language.Letters.{Text, Class}
-use Rattle.ixdtf_grammar.specs.language.Letters.Letter.{Plain, Bad}
-use Rattle.ixdtf_grammar.specs.language.Shapes.{Shape, nothing, ◌then◌, ◌either◌, anything}
-use Rattle.ixdtf_grammar.specs.language.Brackets.{FirstIs}
-use Rattle.ixdtf_grammar.specs.table.Faults.{Fault}
-use Rattle.ixdtf_grammar.specs.table.Lines.{Line}
-use Rattle.ixdtf_grammar.specs.table.Lines.Line.{line, scanned, whole}
-use Rattle.ixdtf_grammar.specs.table.Rows.{Place, Stops, left_at}
+use Rattle.ixdtf_grammar.specs.language.{Letters.{Text, Class, Letter.{Plain, Bad}}, Shapes.{Shape, nothing, ◌then◌, ◌either◌, anything}, Brackets.FirstIs}
+use Rattle.ixdtf_grammar.specs.table.{Faults.Fault, Lines.{Line, Line.{line, scanned, whole}}, Rows.{Place, Stops, left_at}}
 use Rattle.ixdtf_grammar.specs.table.Rows.Place.{end, other, bad, anywhere}
-use Rattle.ixdtf_grammar.proofs.theorems.NoRow.{BeginsBad}
-use Rattle.ixdtf_grammar.proofs.widths.PlainTexts.{IsPlain, PlainShape, plain_nowhere, plain_one, plain_many}
+use Rattle.ixdtf_grammar.proofs.{theorems.NoRow.BeginsBad, widths.PlainTexts.{IsPlain, PlainShape, plain_nowhere, plain_one, plain_many}}
 
 -- The text has a `Bad`, and the other text has the code units before the first one.
 abbrev pub Sees : Text → Text → Type 0

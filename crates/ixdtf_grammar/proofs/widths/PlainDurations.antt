@@ -1,15 +1,10 @@
 -- Each text of a shape of durations is plain.
 use Rattle.std.proofs.Common.{ℕ, List, [], ◌∷◌, inl, inr}
-use Rattle.ixdtf_grammar.specs.declared.profile.Profile.{Profile}
-use Rattle.ixdtf_grammar.specs.declared.records.Sign.{Sign}
-use Rattle.ixdtf_grammar.specs.declared.records.DurationParseRecord.{DurationParseRecord}
-use Rattle.ixdtf_grammar.specs.language.Letters.{Text}
-use Rattle.ixdtf_grammar.specs.language.Shapes.{Shape, some}
-use Rattle.ixdtf_grammar.specs.language.Durations.{Half, Group, Number, IntegerGroup, FractionGroup, Groups, SignedDesignator, TimeGroups, TimePart, IsDuration}
-use Rattle.ixdtf_grammar.specs.language.Durations.Half.{date, time}
-use Rattle.ixdtf_grammar.specs.table.DurationFronts.{Context, IsContext, InContext, AfterDateGroups, AfterTimeDesignator, AfterTimeGroups, ValuePast, AnyGroup}
-use Rattle.ixdtf_grammar.specs.table.DurationFronts.{OutOfOrder, UnitPast, LastGroup}
-use Rattle.ixdtf_grammar.specs.table.DurationFronts.Context.{in_dates, in_times}
+use Rattle.ixdtf_grammar.specs.{declared.{profile.Profile.Profile, records.{Sign.Sign, DurationParseRecord.DurationParseRecord}}, language.Letters.Text}
+use Rattle.ixdtf_grammar.specs.language.{Shapes.{Shape, some}, Durations.{Half, Group, Number, IntegerGroup, FractionGroup, Groups, SignedDesignator}}
+use Rattle.ixdtf_grammar.specs.{language.Durations.{TimeGroups, TimePart, IsDuration, Half.{date, time}}, table.DurationFronts.{Context, IsContext}}
+use Rattle.ixdtf_grammar.specs.table.DurationFronts.{InContext, AfterDateGroups, AfterTimeDesignator, AfterTimeGroups, ValuePast, AnyGroup, OutOfOrder}
+use Rattle.ixdtf_grammar.specs.table.DurationFronts.{UnitPast, LastGroup, Context.{in_dates, in_times}}
 use Rattle.ixdtf_grammar.proofs.widths.PlainTexts.{IsPlain, plain_append, PlainShape, plain_one, plain_some, plain_some_digits, fraction_plain}
 
 -- ---- groups

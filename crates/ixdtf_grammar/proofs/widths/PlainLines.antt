@@ -1,39 +1,32 @@
 -- The front of each line is plain.
 use Rattle.std.proofs.Common.{Bool}
-use Rattle.ixdtf_grammar.specs.declared.profile.Profile.{Profile}
-use Rattle.ixdtf_grammar.specs.language.Shapes.{some}
-use Rattle.ixdtf_grammar.specs.language.Times.{Clock, TimeShape, BasicMinuteText, ColonMinuteText, ClockOf}
-use Rattle.ixdtf_grammar.specs.language.Times.Clock.{Time}
-use Rattle.ixdtf_grammar.specs.language.Times.TimeShape.{hours, basic_minutes, colon_minutes, seconds, fractions}
-use Rattle.ixdtf_grammar.specs.table.LineNames.{DateLine, YearMonthLine, MonthDayLine, TimeLine, CoreLine, ClockLine, OffsetLine, ZoneLine, BracketLine, PairLine}
-use Rattle.ixdtf_grammar.specs.table.LineNames.{DurationLine, LineName}
-use Rattle.ixdtf_grammar.specs.table.LineNames.DateLine.{year_start, year_digits, extended_year_digits, minus_zero_year, after_year, month_digits, month_range}
-use Rattle.ixdtf_grammar.specs.table.LineNames.DateLine.{after_hyphened_month, after_basic_month, day_digits, day_range, after_date}
-use Rattle.ixdtf_grammar.specs.table.LineNames.YearMonthLine.{after_year_in_year_month, after_year_month}
-use Rattle.ixdtf_grammar.specs.table.LineNames.MonthDayLine.{month_day_start, month_day_hyphen, month_day_month_digits, month_day_month_range}
-use Rattle.ixdtf_grammar.specs.table.LineNames.MonthDayLine.{after_month_day_month, month_day_day_digits, month_day_range, after_month_day}
+use Rattle.ixdtf_grammar.specs.{declared.profile.Profile.Profile, language.{Shapes.some, Times.{Clock, TimeShape, BasicMinuteText, ColonMinuteText, ClockOf}}}
+use Rattle.ixdtf_grammar.specs.{language.Times.{Clock.Time, TimeShape.{hours, basic_minutes, colon_minutes, seconds, fractions}}, table.LineNames.DateLine}
+use Rattle.ixdtf_grammar.specs.table.LineNames.{YearMonthLine, MonthDayLine, TimeLine, CoreLine, ClockLine, OffsetLine, ZoneLine, BracketLine, PairLine}
+use Rattle.ixdtf_grammar.specs.table.LineNames.{DurationLine, LineName, DateLine.{year_start, year_digits, extended_year_digits, minus_zero_year, after_year}}
+use Rattle.ixdtf_grammar.specs.table.LineNames.DateLine.{month_digits, month_range, after_hyphened_month, after_basic_month, day_digits, day_range}
+use Rattle.ixdtf_grammar.specs.table.LineNames.{DateLine.after_date, YearMonthLine.{after_year_in_year_month, after_year_month}, MonthDayLine.month_day_start}
+use Rattle.ixdtf_grammar.specs.table.LineNames.MonthDayLine.{month_day_hyphen, month_day_month_digits, month_day_month_range, after_month_day_month}
+use Rattle.ixdtf_grammar.specs.table.LineNames.MonthDayLine.{month_day_day_digits, month_day_range, after_month_day}
 use Rattle.ixdtf_grammar.specs.table.LineNames.TimeLine.{time_start, time_reads_as_month_day, time_reads_as_year_month}
-use Rattle.ixdtf_grammar.specs.table.LineNames.CoreLine.{dates, year_months, month_days, times}
-use Rattle.ixdtf_grammar.specs.table.LineNames.ClockLine.{hour_start, hour_digit, hour_range, after_hour, minute_digits, minute_range, after_basic_minute}
-use Rattle.ixdtf_grammar.specs.table.LineNames.ClockLine.{after_colon_minute, second_digits, second_range, after_second, fraction_start, after_fraction}
-use Rattle.ixdtf_grammar.specs.table.LineNames.OffsetLine.{offset_start, after_zulu}
+use Rattle.ixdtf_grammar.specs.table.LineNames.{CoreLine.{dates, year_months, month_days, times}, ClockLine.{hour_start, hour_digit, hour_range, after_hour}}
+use Rattle.ixdtf_grammar.specs.table.LineNames.ClockLine.{minute_digits, minute_range, after_basic_minute, after_colon_minute, second_digits, second_range}
+use Rattle.ixdtf_grammar.specs.table.LineNames.{ClockLine.{after_second, fraction_start, after_fraction}, OffsetLine.{offset_start, after_zulu}}
 use Rattle.ixdtf_grammar.specs.table.LineNames.ZoneLine.{identifier_start, zone_name_start, in_zone_name, after_zone_slash}
 use Rattle.ixdtf_grammar.specs.table.LineNames.BracketLine.{first_bracket_start, first_critical_start, first_bracket_scan, after_bracket}
 use Rattle.ixdtf_grammar.specs.table.LineNames.PairLine.{key_start, critical_key_start, in_key, value_start, in_value, after_value_hyphen}
 use Rattle.ixdtf_grammar.specs.table.LineNames.DurationLine.{duration_start, after_duration_sign, after_duration_designator, after_date_groups}
 use Rattle.ixdtf_grammar.specs.table.LineNames.DurationLine.{after_time_designator, group_digits, group_value_range, unit_order, date_unit_range}
 use Rattle.ixdtf_grammar.specs.table.LineNames.DurationLine.{group_fraction_start, group_fraction_digits, after_time_groups, after_fraction_group}
-use Rattle.ixdtf_grammar.specs.table.LineNames.LineName.{of_core, of_clock, of_offset, of_zone, of_bracket, of_pair, of_duration}
-use Rattle.ixdtf_grammar.specs.table.Lines.{Follow, date_line, year_month_line, month_day_line, time_line, core_line, clock_line, offset_line, zone_line, bracket_line}
-use Rattle.ixdtf_grammar.specs.table.Lines.{pair_line, duration_line}
-use Rattle.ixdtf_grammar.specs.table.Lines.{Hour, line_of}
-use Rattle.ixdtf_grammar.specs.table.Rows.{front_of}
+use Rattle.ixdtf_grammar.specs.table.{LineNames.LineName.{of_core, of_clock, of_offset, of_zone, of_bracket, of_pair, of_duration}, Lines.{Follow, date_line}}
+use Rattle.ixdtf_grammar.specs.table.Lines.{year_month_line, month_day_line, time_line, core_line, clock_line, offset_line, zone_line, bracket_line}
+use Rattle.ixdtf_grammar.specs.table.{Lines.{pair_line, duration_line, Hour, line_of}, Rows.front_of}
 use Rattle.ixdtf_grammar.proofs.widths.PlainTexts.{PlainShape, plain_nothing, plain_one, ◌and_then◌, ◌or_else◌, plain_digits, plain_fewer, plain_some_digits}
-use Rattle.ixdtf_grammar.proofs.widths.PlainTexts.{plain_many}
-use Rattle.ixdtf_grammar.proofs.widths.PlainTexts.{plain_with, plain_where, plain_some, year_plain, month_plain, date_text_plain, date_plain, plain_hyphen, plain_marks}
-use Rattle.ixdtf_grammar.proofs.widths.PlainTexts.{year_month_plain, month_day_text_plain, month_day_plain, clock_plain, plain_name, plain_key, plain_value}
-use Rattle.ixdtf_grammar.proofs.widths.PlainDurations.{designator_plain, plain_number, plain_in_context, plain_after_dates, plain_after_time, plain_after_times}
-use Rattle.ixdtf_grammar.proofs.widths.PlainDurations.{plain_value_past, plain_out_of_order, plain_unit_past, plain_last_group}
+use Rattle.ixdtf_grammar.proofs.widths.PlainTexts.{plain_many, plain_with, plain_where, plain_some, year_plain, month_plain, date_text_plain, date_plain}
+use Rattle.ixdtf_grammar.proofs.widths.PlainTexts.{plain_hyphen, plain_marks, year_month_plain, month_day_text_plain, month_day_plain, clock_plain}
+use Rattle.ixdtf_grammar.proofs.widths.{PlainTexts.{plain_name, plain_key, plain_value}, PlainDurations.{designator_plain, plain_number, plain_in_context}}
+use Rattle.ixdtf_grammar.proofs.widths.PlainDurations.{plain_after_dates, plain_after_time, plain_after_times, plain_value_past, plain_out_of_order}
+use Rattle.ixdtf_grammar.proofs.widths.PlainDurations.{plain_unit_past, plain_last_group}
 
 -- ---- cores
 

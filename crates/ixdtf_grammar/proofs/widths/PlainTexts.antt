@@ -1,23 +1,15 @@
 -- Plain texts: none of their code units is `Bad`. Each text of a shape of the grammar is plain, but for durations
 -- (PlainDurations).
 use Rattle.std.proofs.Common.{ℕ, zero, suc, Bool, true, false, List, [], ◌∷◌, ◌++◌, Option, Some, None, inl, inr, ℤ}
-use Rattle.ixdtf_grammar.specs.declared.profile.Profile.{Profile}
-use Rattle.ixdtf_grammar.specs.declared.records.DateRecord.{DateRecord}
-use Rattle.ixdtf_grammar.specs.declared.records.TimeRecord.{TimeRecord}
-use Rattle.ixdtf_grammar.specs.declared.records.UtcOffsetRecordOrZ.{UtcOffsetRecordOrZ}
-use Rattle.ixdtf_grammar.specs.language.Letters.{Text, Class}
-use Rattle.ixdtf_grammar.specs.language.Letters.Letter.{Plain, Bad}
+use Rattle.ixdtf_grammar.specs.declared.{profile.Profile.Profile, records.{DateRecord.DateRecord, TimeRecord.TimeRecord}}
+use Rattle.ixdtf_grammar.specs.{declared.records.UtcOffsetRecordOrZ.UtcOffsetRecordOrZ, language.Letters.{Text, Class, Letter.{Plain, Bad}}}
 use Rattle.ixdtf_grammar.specs.language.Shapes.{Shape, nothing, one, ◌then◌, ◌either◌, digits, fewer_digits_than, some, Joined, many}
-use Rattle.ixdtf_grammar.specs.language.Dates.{Year, Month, DateText, IsDate}
-use Rattle.ixdtf_grammar.specs.language.Months.{OptionalHyphen, Marks, IsYearMonth, MonthDayText, IsMonthDay}
+use Rattle.ixdtf_grammar.specs.language.{Dates.{Year, Month, DateText, IsDate}, Months.{OptionalHyphen, Marks, IsYearMonth, MonthDayText, IsMonthDay}}
 use Rattle.ixdtf_grammar.specs.language.Times.{Clock, TimeShape, SecondText, ClockOf, IsTime}
 use Rattle.ixdtf_grammar.specs.language.Times.TimeShape.{hours, basic_minutes, colon_minutes, seconds, fractions}
-use Rattle.ixdtf_grammar.specs.language.Fractions.{SomeDigits, FractionParts, IsFraction}
-use Rattle.ixdtf_grammar.specs.language.Offsets.{IsSigned, IsOffsetOrZ}
-use Rattle.ixdtf_grammar.specs.language.ZoneNames.{ZoneName, Zone, IsZone}
-use Rattle.ixdtf_grammar.specs.language.Brackets.{ZoneNote, Opens, OptionalBracket, Pair, Key, Value, ArePairs, IsTail}
-use Rattle.ixdtf_grammar.specs.language.Cores.{Core, TimeMark, OptionalOffset, IsDateTimeCore, MarkedTime, IsCore}
-use Rattle.ixdtf_grammar.specs.language.Readers.{CoreKind}
+use Rattle.ixdtf_grammar.specs.language.{Fractions.{SomeDigits, FractionParts, IsFraction}, Offsets.{IsSigned, IsOffsetOrZ}}
+use Rattle.ixdtf_grammar.specs.language.{ZoneNames.{ZoneName, Zone, IsZone}, Brackets.{ZoneNote, Opens, OptionalBracket, Pair, Key, Value, ArePairs, IsTail}}
+use Rattle.ixdtf_grammar.specs.language.{Cores.{Core, TimeMark, OptionalOffset, IsDateTimeCore, MarkedTime, IsCore}, Readers.CoreKind}
 use Rattle.ixdtf_grammar.specs.language.Readers.CoreKind.{date_time, year_month, month_day, time_alone}
 
 -- no code unit is Bad

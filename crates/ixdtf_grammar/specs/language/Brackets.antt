@@ -2,9 +2,7 @@
 -- first bracket of a text is told.
 use Rattle.std.specs.Prelude.{◌≡◌, Bool, true, false, [], ◌∷◌, ◌++◌, Option, Some, None, not, ◌&&◌, ◌||◌, ℕ, List, map}
 use Rattle.ixdtf_grammar.specs.language.Letters.{Text, Class, zone_lead, key_lead, opening, closing, exclamation, equals, hyphen, key_char, value_char}
-use Rattle.ixdtf_grammar.specs.language.Letters.Letter.{Plain}
-use Rattle.ixdtf_grammar.specs.language.Shapes.{Shape, one, ◌then◌, ◌either◌, many, anything}
-use Rattle.ixdtf_grammar.specs.language.ZoneNames.{Zone, IsZone}
+use Rattle.ixdtf_grammar.specs.language.{Letters.Letter.Plain, Shapes.{Shape, one, ◌then◌, ◌either◌, many, anything}, ZoneNames.{Zone, IsZone}}
 
 -- a zone bracket, and whether it is critical
 pub record ZoneNote : Type 0 where

@@ -1,17 +1,9 @@
 -- Cores: what stands before the brackets of a text.
 use Rattle.std.specs.Prelude.{◌≡◌, ◌⊎◌, [], ◌++◌, Option, Some, None}
-use Rattle.ixdtf_grammar.specs.declared.profile.Profile.{Profile}
-use Rattle.ixdtf_grammar.specs.declared.records.DateRecord.{DateRecord}
-use Rattle.ixdtf_grammar.specs.declared.records.TimeRecord.{TimeRecord}
-use Rattle.ixdtf_grammar.specs.declared.records.UtcOffsetRecordOrZ.{UtcOffsetRecordOrZ}
-use Rattle.ixdtf_grammar.specs.language.Letters.{Text, date_time_separator, time_letter}
-use Rattle.ixdtf_grammar.specs.language.Shapes.{Shape, nothing, one, ◌then◌, ◌either◌, some, anything}
-use Rattle.ixdtf_grammar.specs.language.Dates.{IsDate}
-use Rattle.ixdtf_grammar.specs.language.Months.{IsYearMonth, IsMonthDay}
-use Rattle.ixdtf_grammar.specs.language.Times.{IsTime}
-use Rattle.ixdtf_grammar.specs.language.Offsets.{IsOffsetOrZ}
-use Rattle.ixdtf_grammar.specs.language.Readers.{CoreKind}
-use Rattle.ixdtf_grammar.specs.language.Readers.CoreKind.{date_time, year_month, month_day, time_alone}
+use Rattle.ixdtf_grammar.specs.declared.{profile.Profile.Profile, records.{DateRecord.DateRecord, TimeRecord.TimeRecord}}
+use Rattle.ixdtf_grammar.specs.{declared.records.UtcOffsetRecordOrZ.UtcOffsetRecordOrZ, language.Letters.{Text, date_time_separator, time_letter}}
+use Rattle.ixdtf_grammar.specs.language.{Shapes.{Shape, nothing, one, ◌then◌, ◌either◌, some, anything}, Dates.IsDate, Months.{IsYearMonth, IsMonthDay}}
+use Rattle.ixdtf_grammar.specs.language.{Times.IsTime, Offsets.IsOffsetOrZ, Readers.{CoreKind, CoreKind.{date_time, year_month, month_day, time_alone}}}
 
 -- what stands before the brackets
 pub record Core : Type 0 where

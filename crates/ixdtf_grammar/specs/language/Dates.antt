@@ -1,10 +1,6 @@
 -- Dates: which texts stand for which dates (RFC 3339 section 5.6, ISO 8601; signed years by the Temporal grammar).
 use Rattle.std.specs.Prelude.{Bool, ◌≡◌, ◌≢◌, ℕ, ◌%◌, ◌≤◌, IsTrue, ◌⊎◌, ◌∷◌, ◌++◌, ℤ, pos, neg_ℤ, nat_abs, nat_eq, ◌&&◌, ◌||◌, not, if◌then◌else◌}
-use Rattle.ixdtf_grammar.specs.declared.records.DateRecord.{DateRecord}
-use Rattle.ixdtf_grammar.specs.language.Letters.{Text}
-use Rattle.ixdtf_grammar.specs.language.Letters.Letter.{Plain}
-use Rattle.ixdtf_grammar.specs.language.Letters.{sign, hyphen}
-use Rattle.ixdtf_grammar.specs.language.Shapes.{digits}
+use Rattle.ixdtf_grammar.specs.{declared.records.DateRecord.DateRecord, language.{Letters.{Text, sign, hyphen, Letter.Plain}, Shapes.digits}}
 use Rattle.ixdtf_grammar.specs.language.Digits.{decimal, TwoDigits}
 
 -- a number with its sign

@@ -1,8 +1,6 @@
 -- The numbers that digits stand for, and the digits of a number.
 use Rattle.std.specs.Prelude.{◌≡◌, ℕ, zero, suc, ◌+◌, ◌-◌, ◌*◌, ◌/◌, ◌%◌, ◌^◌, ◌≤◌, [], ◌∷◌, length}
-use Rattle.ixdtf_grammar.specs.language.Letters.{Letter, Text}
-use Rattle.ixdtf_grammar.specs.language.Letters.Letter.{Plain, Bad}
-use Rattle.ixdtf_grammar.specs.language.Shapes.{digits}
+use Rattle.ixdtf_grammar.specs.language.{Letters.{Letter, Text, Letter.{Plain, Bad}}, Shapes.digits}
 
 -- the number of one digit
 abbrev pub digit_value : Letter → ℕ

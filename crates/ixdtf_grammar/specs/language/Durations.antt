@@ -1,21 +1,12 @@
 -- Durations: which texts stand for which durations (ISO 8601 section 5.5.2, `TemporalDurationString` of the Temporal grammar).
 -- Unlike there, a unit may be repeated, but not under the strict profile.
 use Rattle.std.specs.Prelude.{◌≡◌, ℕ, ◌+◌, ◌≤◌, ◌⊎◌, Bool, true, IsTrue, List, [], ◌∷◌, ◌++◌, Option, Some, None, nat_eq, nat_le, ◌&&◌, if◌then◌else◌}
-use Rattle.ixdtf_grammar.specs.declared.profile.Profile.{Profile}
-use Rattle.ixdtf_grammar.specs.declared.profile.Profile.TheVariants.{Crate, Strict}
-use Rattle.ixdtf_grammar.specs.declared.records.Sign.{Sign}
-use Rattle.ixdtf_grammar.specs.declared.records.Sign.TheVariants.{Positive}
-use Rattle.ixdtf_grammar.specs.declared.records.DurationParseRecord.{DurationParseRecord}
-use Rattle.ixdtf_grammar.specs.declared.records.DateDurationRecord.{DateDurationRecord}
-use Rattle.ixdtf_grammar.specs.declared.records.TimeDurationRecord.{TimeDurationRecord}
-use Rattle.ixdtf_grammar.specs.declared.records.TimeDurationRecord.TheVariants.{Hours, Minutes, Seconds}
-use Rattle.ixdtf_grammar.specs.language.Letters.{Text, Class, ◌or◌, sign, duration_designator, time_letter}
-use Rattle.ixdtf_grammar.specs.language.Letters.{year_letter, month_letter, week_letter, day_letter, hour_letter, minute_letter, second_letter}
-use Rattle.ixdtf_grammar.specs.language.Letters.Letter.{Plain}
-use Rattle.ixdtf_grammar.specs.language.Shapes.{one}
-use Rattle.ixdtf_grammar.specs.language.Digits.{decimal}
-use Rattle.ixdtf_grammar.specs.language.Fractions.{FractionParts, SomeDigits, IsFraction}
-use Rattle.ixdtf_grammar.specs.language.Offsets.{sign_of}
+use Rattle.ixdtf_grammar.specs.declared.{profile.Profile.{Profile, TheVariants.{Crate, Strict}}, records.Sign.{Sign, TheVariants.Positive}}
+use Rattle.ixdtf_grammar.specs.declared.records.{DurationParseRecord.DurationParseRecord, DateDurationRecord.DateDurationRecord}
+use Rattle.ixdtf_grammar.specs.{declared.records.TimeDurationRecord.{TimeDurationRecord, TheVariants.{Hours, Minutes, Seconds}}, language.Letters.Text}
+use Rattle.ixdtf_grammar.specs.language.Letters.{Class, ◌or◌, sign, duration_designator, time_letter, year_letter, month_letter, week_letter, day_letter}
+use Rattle.ixdtf_grammar.specs.language.{Letters.{hour_letter, minute_letter, second_letter, Letter.Plain}, Shapes.one, Digits.decimal}
+use Rattle.ixdtf_grammar.specs.language.{Fractions.{FractionParts, SomeDigits, IsFraction}, Offsets.sign_of}
 
 -- ---- units
 

@@ -1,14 +1,8 @@
 -- A date and a time whose code units stand at fixed places, `YYYY-MM-DD`, a separator and `HH:MM:SS`: `full-date` and
 -- `partial-time` of RFC 3339 section 5.6, without a fraction.
 use Rattle.std.specs.Prelude.{◌≡◌, ℕ, IsTrue, ◌∷◌, ◌++◌}
-use Rattle.ixdtf_grammar.specs.declared.records.DateRecord.{DateRecord}
-use Rattle.ixdtf_grammar.specs.declared.records.TimeRecord.{TimeRecord}
-use Rattle.ixdtf_grammar.specs.language.Letters.{Text, date_time_separator}
-use Rattle.ixdtf_grammar.specs.language.Letters.Letter.{Plain}
-use Rattle.ixdtf_grammar.specs.language.Digits.{TwoDigits}
-use Rattle.ixdtf_grammar.specs.language.Dates.{FourDigitYear, Month, IsDayOfMonth}
-use Rattle.ixdtf_grammar.specs.language.Times.{ColonSecondText}
-use Rattle.ixdtf_grammar.specs.language.Times.Clock.{Time}
+use Rattle.ixdtf_grammar.specs.{declared.records.{DateRecord.DateRecord, TimeRecord.TimeRecord}, language.Letters.{Text, date_time_separator, Letter.Plain}}
+use Rattle.ixdtf_grammar.specs.language.{Digits.TwoDigits, Dates.{FourDigitYear, Month, IsDayOfMonth}, Times.{ColonSecondText, Clock.Time}}
 
 -- a date of ten code units, with a year of four digits
 pub record FixedDate (text : Text) (date : DateRecord) : Type 0 where

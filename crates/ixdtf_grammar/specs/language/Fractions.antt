@@ -1,10 +1,6 @@
 -- Fractions of a second (ISO 8601, Temporal grammar).
 use Rattle.std.specs.Prelude.{◌≡◌, ℕ, suc, ◌-◌, ◌*◌, ◌^◌, min, IsTrue, if◌then◌else◌, nat_le, ◌∷◌, ◌++◌, length, take, Option, Some, None}
-use Rattle.ixdtf_grammar.specs.language.Letters.{Text}
-use Rattle.ixdtf_grammar.specs.language.Letters.Letter.{Plain}
-use Rattle.ixdtf_grammar.specs.language.Letters.{decimal_mark}
-use Rattle.ixdtf_grammar.specs.language.Shapes.{digits}
-use Rattle.ixdtf_grammar.specs.language.Digits.{decimal, padded_digits}
+use Rattle.ixdtf_grammar.specs.language.{Letters.{Text, decimal_mark, Letter.Plain}, Shapes.digits, Digits.{decimal, padded_digits}}
 
 -- what is kept of a fraction: how many digits it has, and the number of the first of them
 pub record FractionParts : Type 0 where

@@ -1,18 +1,9 @@
 -- The languages of the readers: which texts stand for what.
 use Rattle.std.specs.Prelude.{◌≡◌, ℕ, List, [], ◌++◌, Option, None}
-use Rattle.ixdtf_grammar.specs.declared.records.DateRecord.{DateRecord}
-use Rattle.ixdtf_grammar.specs.declared.records.TimeRecord.{TimeRecord}
-use Rattle.ixdtf_grammar.specs.declared.records.UtcOffsetRecord.{UtcOffsetRecord}
-use Rattle.ixdtf_grammar.specs.declared.records.UtcOffsetRecordOrZ.{UtcOffsetRecordOrZ}
-use Rattle.ixdtf_grammar.specs.declared.records.DurationParseRecord.{DurationParseRecord}
-use Rattle.ixdtf_grammar.specs.declared.profile.Profile.{Profile}
-use Rattle.ixdtf_grammar.specs.language.Letters.{Text}
-use Rattle.ixdtf_grammar.specs.language.Offsets.{IsOffset}
-use Rattle.ixdtf_grammar.specs.language.ZoneNames.{Zone, IsZoneName, IsZone}
-use Rattle.ixdtf_grammar.specs.language.Brackets.{ZoneNote, Pair, IsTail}
-use Rattle.ixdtf_grammar.specs.language.Cores.{Core, IsCore}
-use Rattle.ixdtf_grammar.specs.language.Durations.{IsDuration}
-use Rattle.ixdtf_grammar.specs.language.Readers.{Reader, CoreKind}
+use Rattle.ixdtf_grammar.specs.declared.records.{DateRecord.DateRecord, TimeRecord.TimeRecord, UtcOffsetRecord.UtcOffsetRecord}
+use Rattle.ixdtf_grammar.specs.declared.{records.{UtcOffsetRecordOrZ.UtcOffsetRecordOrZ, DurationParseRecord.DurationParseRecord}, profile.Profile.Profile}
+use Rattle.ixdtf_grammar.specs.language.{Letters.Text, Offsets.IsOffset, ZoneNames.{Zone, IsZoneName, IsZone}, Brackets.{ZoneNote, Pair, IsTail}}
+use Rattle.ixdtf_grammar.specs.language.{Cores.{Core, IsCore}, Durations.IsDuration, Readers.{Reader, CoreKind}}
 use Rattle.ixdtf_grammar.specs.language.Readers.Reader.{bracketed, parse_offset, parse_identifier, parse_iana_identifier, parse_duration}
 
 -- what is derived from a text with brackets, with names by the numbers of their code units

@@ -1,11 +1,7 @@
 -- A year and a month, and a month and a day (ISO 8601, Temporal grammar).
 use Rattle.std.specs.Prelude.{◌≡◌, ℕ, ◌≤◌, ◌++◌, pos}
-use Rattle.ixdtf_grammar.specs.declared.profile.Profile.{Profile}
-use Rattle.ixdtf_grammar.specs.declared.profile.Profile.TheVariants.{Crate, Strict}
-use Rattle.ixdtf_grammar.specs.declared.records.DateRecord.{DateRecord}
-use Rattle.ixdtf_grammar.specs.language.Letters.{Text, hyphen}
-use Rattle.ixdtf_grammar.specs.language.Shapes.{Shape, nothing, one, ◌then◌, ◌either◌}
-use Rattle.ixdtf_grammar.specs.language.Digits.{TwoDigits}
+use Rattle.ixdtf_grammar.specs.declared.{profile.Profile.{Profile, TheVariants.{Crate, Strict}}, records.DateRecord.DateRecord}
+use Rattle.ixdtf_grammar.specs.language.{Letters.{Text, hyphen}, Shapes.{Shape, nothing, one, ◌then◌, ◌either◌}, Digits.TwoDigits}
 use Rattle.ixdtf_grammar.specs.language.Dates.{Year, Month, month_length}
 
 abbrev pub OptionalHyphen : Shape

@@ -1,19 +1,10 @@
 -- Offsets from UTC: which texts stand for which offsets (RFC 3339 section 5.6, Temporal grammar).
 use Rattle.std.specs.Prelude.{◌≡◌, ℕ, Bool, IsTrue, ◌⊎◌, ◌∷◌, if◌then◌else◌}
-use Rattle.ixdtf_grammar.specs.language.Times.{Clock as clocks}
-use Rattle.ixdtf_grammar.specs.declared.records.Sign.{Sign}
-use Rattle.ixdtf_grammar.specs.declared.records.Sign.TheVariants.{Positive, Negative}
-use Rattle.ixdtf_grammar.specs.declared.records.TimeRecord.{TimeRecord}
-use Rattle.ixdtf_grammar.specs.declared.records.MinutePrecisionOffset.{MinutePrecisionOffset}
-use Rattle.ixdtf_grammar.specs.declared.records.UtcOffsetRecord.{UtcOffsetRecord}
-use Rattle.ixdtf_grammar.specs.declared.records.UtcOffsetRecord.TheVariants.{MinutePrecision, FullPrecisionOffset}
-use Rattle.ixdtf_grammar.specs.declared.records.UtcOffsetRecordOrZ.{UtcOffsetRecordOrZ}
+use Rattle.ixdtf_grammar.specs.language.{Times.{Clock as clocks, Clock, TimeShape, ClockOf, writes_seconds}, Letters.{Text, sign, hyphen, zulu, Letter.Plain}}
+use Rattle.ixdtf_grammar.specs.{language.Shapes.one, declared.records.{Sign.{Sign, TheVariants.{Positive, Negative}}, TimeRecord.TimeRecord}}
+use Rattle.ixdtf_grammar.specs.declared.records.{MinutePrecisionOffset.MinutePrecisionOffset, UtcOffsetRecord.UtcOffsetRecord}
+use Rattle.ixdtf_grammar.specs.declared.records.{UtcOffsetRecord.TheVariants.{MinutePrecision, FullPrecisionOffset}, UtcOffsetRecordOrZ.UtcOffsetRecordOrZ}
 use Rattle.ixdtf_grammar.specs.declared.records.UtcOffsetRecordOrZ.TheVariants.{Offset, Z}
-use Rattle.ixdtf_grammar.specs.language.Letters.{Text}
-use Rattle.ixdtf_grammar.specs.language.Letters.Letter.{Plain}
-use Rattle.ixdtf_grammar.specs.language.Letters.{sign, hyphen, zulu}
-use Rattle.ixdtf_grammar.specs.language.Shapes.{one}
-use Rattle.ixdtf_grammar.specs.language.Times.{Clock, TimeShape, ClockOf, writes_seconds}
 
 -- `-` is negative
 abbrev pub sign_of : ℕ → Sign

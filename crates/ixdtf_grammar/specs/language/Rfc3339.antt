@@ -1,11 +1,7 @@
 -- The date-times of RFC 3339 section 5.6, by its own productions.
 use Rattle.std.specs.Prelude.{◌≡◌, ◌≤◌, ℕ, suc, [], ◌∷◌, ◌++◌, pos}
-use Rattle.ixdtf_grammar.specs.language.Letters.{Text}
-use Rattle.ixdtf_grammar.specs.language.Letters.Letter.{Plain}
-use Rattle.ixdtf_grammar.specs.language.Letters.{sign, zulu, time_letter}
-use Rattle.ixdtf_grammar.specs.language.Shapes.{Shape, nothing, one, ◌then◌, ◌either◌, digits}
-use Rattle.ixdtf_grammar.specs.language.Digits.{decimal, TwoDigits, UpTo}
-use Rattle.ixdtf_grammar.specs.language.Dates.{Month, month_length}
+use Rattle.ixdtf_grammar.specs.language.{Letters.{Text, sign, zulu, time_letter, Letter.Plain}, Shapes.{Shape, nothing, one, ◌then◌, ◌either◌, digits}}
+use Rattle.ixdtf_grammar.specs.language.{Digits.{decimal, TwoDigits, UpTo}, Dates.{Month, month_length}}
 
 -- `date-fullyear "-" date-month "-" date-mday`, the day within the month
 pub record FullDate (text : Text) : Type 0 where

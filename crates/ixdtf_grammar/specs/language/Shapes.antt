@@ -1,8 +1,6 @@
 -- Shapes: which texts look so.
 use Rattle.std.specs.Prelude.{◌≡◌, ℕ, zero, suc, ◌<◌, IsTrue, ◌⊎◌, List, [], ◌∷◌, ◌++◌}
-use Rattle.ixdtf_grammar.specs.language.Letters.{Text}
-use Rattle.ixdtf_grammar.specs.language.Letters.Letter.{Plain}
-use Rattle.ixdtf_grammar.specs.language.Letters.{Class, digit}
+use Rattle.ixdtf_grammar.specs.language.Letters.{Text, Class, digit, Letter.Plain}
 
 -- which texts have the shape
 abbrev pub Shape : Type 1

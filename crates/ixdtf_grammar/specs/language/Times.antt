@@ -1,10 +1,7 @@
 -- Times: which texts stand for which times (RFC 3339 section 5.6, ISO 8601, Temporal grammar). Second 60 is kept. An
 -- offset is written as a time is, after its sign.
 use Rattle.std.specs.Prelude.{◌≡◌, ℕ, Bool, true, false, IsTrue, ◌⊎◌, ◌∷◌, ◌++◌, Some, None}
-use Rattle.ixdtf_grammar.specs.declared.records.TimeRecord.{TimeRecord}
-use Rattle.ixdtf_grammar.specs.language.Letters.{Text}
-use Rattle.ixdtf_grammar.specs.language.Letters.Letter.{Plain}
-use Rattle.ixdtf_grammar.specs.language.Digits.{UpTo}
+use Rattle.ixdtf_grammar.specs.{declared.records.TimeRecord.TimeRecord, language.{Letters.{Text, Letter.Plain}, Digits.UpTo}}
 use Rattle.ixdtf_grammar.specs.language.Fractions.{FractionParts, IsFraction}
 
 -- what is written as a time is: a time of day, an offset after its sign, and an offset without seconds after its sign

@@ -1,11 +1,7 @@
 -- Zones: which texts are names of time zones (`time-zone-name` of RFC 9557 section 4.1), and what a zone is.
 use Rattle.std.specs.Prelude.{◌≡◌, ℕ, ◌⊎◌, List, map}
-use Rattle.ixdtf_grammar.specs.declared.records.MinutePrecisionOffset.{MinutePrecisionOffset}
-use Rattle.ixdtf_grammar.specs.language.Letters.{Text}
-use Rattle.ixdtf_grammar.specs.language.Letters.Letter.{Plain}
-use Rattle.ixdtf_grammar.specs.language.Letters.{zone_lead, zone_char, slash}
-use Rattle.ixdtf_grammar.specs.language.Shapes.{Shape, one, ◌then◌, ◌either◌, many}
-use Rattle.ixdtf_grammar.specs.language.Offsets.{IsMinuteOffset}
+use Rattle.ixdtf_grammar.specs.{declared.records.MinutePrecisionOffset.MinutePrecisionOffset, language.Letters.{Text, zone_lead, zone_char, slash}}
+use Rattle.ixdtf_grammar.specs.language.{Letters.Letter.Plain, Shapes.{Shape, one, ◌then◌, ◌either◌, many}, Offsets.IsMinuteOffset}
 
 -- a code unit of a name, or a slash and a code unit
 abbrev pub NameItem : Shape

@@ -1,27 +1,20 @@
 -- Where a line is looked at: what stands before its front in a reader, and what the text has from the front on.
 use Rattle.std.specs.Prelude.{◌≡◌, ◌≢◌, ◌⊎◌, List, [], ◌++◌, Option}
-use Rattle.ixdtf_grammar.specs.declared.profile.Profile.{Profile}
-use Rattle.ixdtf_grammar.specs.language.Letters.{Text, sign, date_time_separator, time_letter, opening}
-use Rattle.ixdtf_grammar.specs.language.Shapes.{Shape, nothing, one, ◌then◌, ◌either◌, some, anything}
-use Rattle.ixdtf_grammar.specs.language.Dates.{IsDate}
-use Rattle.ixdtf_grammar.specs.language.Months.{IsMonthDay}
-use Rattle.ixdtf_grammar.specs.language.Times.{IsTime}
-use Rattle.ixdtf_grammar.specs.language.Times.Clock.{Time, Offset, MinuteOffset}
-use Rattle.ixdtf_grammar.specs.language.Brackets.{ZoneNote, Opens, ReadsAsName, ReadsAsPair, Pair, IsTail}
-use Rattle.ixdtf_grammar.specs.language.Cores.{TimeMark, MarkedTime, HasFront, IsCore}
-use Rattle.ixdtf_grammar.specs.language.Readers.{Reader, CoreKind}
+use Rattle.ixdtf_grammar.specs.{declared.profile.Profile.Profile, language.Letters.{Text, sign, date_time_separator, time_letter, opening}}
+use Rattle.ixdtf_grammar.specs.language.{Shapes.{Shape, nothing, one, ◌then◌, ◌either◌, some, anything}, Dates.IsDate, Months.IsMonthDay, Times.IsTime}
+use Rattle.ixdtf_grammar.specs.language.{Times.Clock.{Time, Offset, MinuteOffset}, Brackets.{ZoneNote, Opens, ReadsAsName, ReadsAsPair, Pair, IsTail}}
+use Rattle.ixdtf_grammar.specs.language.{Cores.{TimeMark, MarkedTime, HasFront, IsCore}, Readers.{Reader, CoreKind}}
 use Rattle.ixdtf_grammar.specs.language.Readers.CoreKind.{date_time, year_month, month_day, time_alone}
 use Rattle.ixdtf_grammar.specs.language.Readers.Reader.{bracketed, parse_offset, parse_identifier, parse_iana_identifier, parse_duration}
-use Rattle.ixdtf_grammar.specs.table.LineNames.{DateLine, MonthDayLine, TimeLine, CoreLine, ClockLine, OffsetLine, LineName}
-use Rattle.ixdtf_grammar.specs.table.LineNames.DateLine.{year_start, year_digits, extended_year_digits, minus_zero_year, after_year, month_digits}
-use Rattle.ixdtf_grammar.specs.table.LineNames.DateLine.{month_range, after_hyphened_month, after_basic_month, day_digits, day_range, after_date}
+use Rattle.ixdtf_grammar.specs.table.LineNames.{DateLine, MonthDayLine, TimeLine, CoreLine, ClockLine, OffsetLine, LineName, DateLine.year_start}
+use Rattle.ixdtf_grammar.specs.table.LineNames.DateLine.{year_digits, extended_year_digits, minus_zero_year, after_year, month_digits, month_range}
+use Rattle.ixdtf_grammar.specs.table.LineNames.DateLine.{after_hyphened_month, after_basic_month, day_digits, day_range, after_date}
 use Rattle.ixdtf_grammar.specs.table.LineNames.MonthDayLine.{month_day_start, month_day_hyphen, month_day_month_digits, month_day_month_range}
 use Rattle.ixdtf_grammar.specs.table.LineNames.MonthDayLine.{after_month_day_month, month_day_day_digits, month_day_range, after_month_day}
 use Rattle.ixdtf_grammar.specs.table.LineNames.TimeLine.{time_start, time_reads_as_month_day, time_reads_as_year_month}
-use Rattle.ixdtf_grammar.specs.table.LineNames.CoreLine.{dates, year_months, month_days, times}
-use Rattle.ixdtf_grammar.specs.table.LineNames.ClockLine.{hour_start, hour_digit, hour_range, after_hour, minute_digits, minute_range, after_basic_minute}
-use Rattle.ixdtf_grammar.specs.table.LineNames.ClockLine.{after_colon_minute, second_digits, second_range, after_second, fraction_start, after_fraction}
-use Rattle.ixdtf_grammar.specs.table.LineNames.OffsetLine.{offset_start, after_zulu}
+use Rattle.ixdtf_grammar.specs.table.LineNames.{CoreLine.{dates, year_months, month_days, times}, ClockLine.{hour_start, hour_digit, hour_range, after_hour}}
+use Rattle.ixdtf_grammar.specs.table.LineNames.ClockLine.{minute_digits, minute_range, after_basic_minute, after_colon_minute, second_digits, second_range}
+use Rattle.ixdtf_grammar.specs.table.LineNames.{ClockLine.{after_second, fraction_start, after_fraction}, OffsetLine.{offset_start, after_zulu}}
 use Rattle.ixdtf_grammar.specs.table.LineNames.ZoneLine.{identifier_start, zone_name_start, in_zone_name, after_zone_slash}
 use Rattle.ixdtf_grammar.specs.table.LineNames.BracketLine.{first_bracket_start, first_critical_start, first_bracket_scan, after_bracket}
 use Rattle.ixdtf_grammar.specs.table.LineNames.PairLine.{key_start, critical_key_start, in_key, value_start, in_value, after_value_hyphen}

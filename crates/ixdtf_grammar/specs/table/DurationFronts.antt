@@ -1,12 +1,7 @@
 -- The fronts of the lines of durations.
 use Rattle.std.specs.Prelude.{◌≡◌, ◌⊎◌, ℕ, ◌≤◌, ◌<◌, IsTrue, IsFalse, List, [], ◌∷◌, ◌++◌}
-use Rattle.ixdtf_grammar.specs.declared.profile.Profile.{Profile}
-use Rattle.ixdtf_grammar.specs.declared.records.Sign.{Sign}
-use Rattle.ixdtf_grammar.specs.language.Letters.{Text, Class, none, decimal_mark, time_letter}
-use Rattle.ixdtf_grammar.specs.language.Letters.Letter.{Plain}
-use Rattle.ixdtf_grammar.specs.language.Shapes.{Shape}
-use Rattle.ixdtf_grammar.specs.language.Digits.{decimal}
-use Rattle.ixdtf_grammar.specs.language.Fractions.{SomeDigits}
+use Rattle.ixdtf_grammar.specs.{declared.{profile.Profile.Profile, records.Sign.Sign}, language.Letters.{Text, Class, none, decimal_mark, time_letter}}
+use Rattle.ixdtf_grammar.specs.language.{Letters.Letter.Plain, Shapes.Shape, Digits.decimal, Fractions.SomeDigits}
 use Rattle.ixdtf_grammar.specs.language.Durations.{Half, Group, IntegerGroup, FractionGroup, Groups, SignedDesignator, in_order, greatest, greatest_value}
 use Rattle.ixdtf_grammar.specs.language.Durations.Half.{date, time}
 

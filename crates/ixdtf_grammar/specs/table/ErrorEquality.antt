@@ -1,21 +1,15 @@
 -- When two errors are equal: where they are the same variant, and their locations have equal bytes.
-use Rattle.std.specs.Prelude.{◌≡◌, ℕ, Bool, List, [], ◌∷◌, slice_index_or, refl}
-use Rattle.std.proofs.Common.{sym, ap, ◌∙◌}
-use Rattle.std.specs.Bool.{Decides}
-use Rattle.std.specs.Ordering.{on}
-use Rattle.std.specs.Str.{bytes_eq}
-use Rattle.std.specs.Cmp.{IsPartialEquivalence, partial_equiv_from_equiv}
-use Rattle.std.specs.Cmp.Lexicographic.{on_texts_equal}
-use Rattle.std.proofs.lemmas.Slice.Eq.{bytes_eq-Decides}
-use Rattle.ixdtf_grammar.specs.declared.error.ParseError.{ParseError}
-use Rattle.ixdtf_grammar.specs.table.Faults.{Fault, fault_of}
-use Rattle.ixdtf_grammar.specs.table.Faults.Fault.{ImplAssert, NonAsciiCodePoint, ParseFloat, AbruptEnd, InvalidEnd, InvalidMonthRange, InvalidDayRange, DateYear}
-use Rattle.ixdtf_grammar.specs.table.Faults.Fault.{DateExtendedYear, DateMonth, DateDay, DateUnexpectedEnd, TimeRequired, TimeHour, TimeMinuteSecond, TimeSecond}
-use Rattle.ixdtf_grammar.specs.table.Faults.Fault.{FractionPart, DateSeparator, TimeSeparator, DecimalSeparator, InvalidAnnotation, AnnotationOpen, AnnotationClose}
-use Rattle.ixdtf_grammar.specs.table.Faults.Fault.{AnnotationChar, AnnotationKeyValueSeparator, AnnotationKeyLeadingChar, AnnotationKeyChar}
-use Rattle.ixdtf_grammar.specs.table.Faults.Fault.{AnnotationValueCharPostHyphen, AnnotationValueChar, InvalidMinutePrecisionOffset, CriticalDuplicateCalendar}
-use Rattle.ixdtf_grammar.specs.table.Faults.Fault.{UnrecognizedCritical, TzLeadingChar, IanaCharPostSeparator, IanaChar, UtcTimeSeparator, OffsetNeedsSign}
-use Rattle.ixdtf_grammar.specs.table.Faults.Fault.{MonthDayHyphen, DurationDisgnator, DurationValueExceededRange, DateDurationPartOrder, TimeDurationPartOrder}
+use Rattle.std.specs.{Prelude.{◌≡◌, ℕ, Bool, List, [], ◌∷◌, slice_index_or, refl}, Bool.Decides, Ordering.on, Str.bytes_eq}
+use Rattle.std.specs.Cmp.{IsPartialEquivalence, partial_equiv_from_equiv, Lexicographic.on_texts_equal}
+use Rattle.std.proofs.{Common.{sym, ap, ◌∙◌}, lemmas.Slice.Eq.bytes_eq-Decides}
+use Rattle.ixdtf_grammar.specs.{declared.error.ParseError.ParseError, table.Faults.{Fault, fault_of, Fault.{ImplAssert, NonAsciiCodePoint, ParseFloat}}}
+use Rattle.ixdtf_grammar.specs.table.Faults.Fault.{AbruptEnd, InvalidEnd, InvalidMonthRange, InvalidDayRange, DateYear, DateExtendedYear, DateMonth, DateDay}
+use Rattle.ixdtf_grammar.specs.table.Faults.Fault.{DateUnexpectedEnd, TimeRequired, TimeHour, TimeMinuteSecond, TimeSecond, FractionPart, DateSeparator}
+use Rattle.ixdtf_grammar.specs.table.Faults.Fault.{TimeSeparator, DecimalSeparator, InvalidAnnotation, AnnotationOpen, AnnotationClose, AnnotationChar}
+use Rattle.ixdtf_grammar.specs.table.Faults.Fault.{AnnotationKeyValueSeparator, AnnotationKeyLeadingChar, AnnotationKeyChar, AnnotationValueCharPostHyphen}
+use Rattle.ixdtf_grammar.specs.table.Faults.Fault.{AnnotationValueChar, InvalidMinutePrecisionOffset, CriticalDuplicateCalendar, UnrecognizedCritical}
+use Rattle.ixdtf_grammar.specs.table.Faults.Fault.{TzLeadingChar, IanaCharPostSeparator, IanaChar, UtcTimeSeparator, OffsetNeedsSign, MonthDayHyphen}
+use Rattle.ixdtf_grammar.specs.table.Faults.Fault.{DurationDisgnator, DurationValueExceededRange, DateDurationPartOrder, TimeDurationPartOrder}
 use Rattle.ixdtf_grammar.specs.table.Faults.Fault.{TimeDurationDesignator, AmbiguousTimeMonthDay, AmbiguousTimeYearMonth, InvalidMonthDay}
 
 -- the index of a fault in the list of faults

@@ -1,14 +1,14 @@
 -- The text of an error.
 use Rattle.std.specs.Prelude.{ℕ, List, ◌++◌, codes}
-use Rattle.ixdtf_grammar.specs.table.Faults.{Fault}
-use Rattle.ixdtf_grammar.specs.table.Faults.Fault.{ImplAssert, NonAsciiCodePoint, ParseFloat, AbruptEnd, InvalidEnd, InvalidMonthRange, InvalidDayRange, DateYear}
-use Rattle.ixdtf_grammar.specs.table.Faults.Fault.{DateExtendedYear, DateMonth, DateDay, DateUnexpectedEnd, TimeRequired, TimeHour, TimeMinuteSecond, TimeSecond}
-use Rattle.ixdtf_grammar.specs.table.Faults.Fault.{FractionPart, DateSeparator, TimeSeparator, DecimalSeparator, InvalidAnnotation, AnnotationOpen, AnnotationClose}
-use Rattle.ixdtf_grammar.specs.table.Faults.Fault.{AnnotationChar, AnnotationKeyValueSeparator, AnnotationKeyLeadingChar, AnnotationKeyChar}
-use Rattle.ixdtf_grammar.specs.table.Faults.Fault.{AnnotationValueCharPostHyphen, AnnotationValueChar, InvalidMinutePrecisionOffset, CriticalDuplicateCalendar}
-use Rattle.ixdtf_grammar.specs.table.Faults.Fault.{UnrecognizedCritical, TzLeadingChar, IanaCharPostSeparator, IanaChar, UtcTimeSeparator, OffsetNeedsSign}
-use Rattle.ixdtf_grammar.specs.table.Faults.Fault.{MonthDayHyphen, DurationDisgnator, DurationValueExceededRange, DateDurationPartOrder, TimeDurationPartOrder}
-use Rattle.ixdtf_grammar.specs.table.Faults.Fault.{TimeDurationDesignator, AmbiguousTimeMonthDay, AmbiguousTimeYearMonth, InvalidMonthDay}
+use Rattle.ixdtf_grammar.specs.table.Faults.{Fault, Fault.{ImplAssert, NonAsciiCodePoint, ParseFloat, AbruptEnd, InvalidEnd, InvalidMonthRange}}
+use Rattle.ixdtf_grammar.specs.table.Faults.Fault.{InvalidDayRange, DateYear, DateExtendedYear, DateMonth, DateDay, DateUnexpectedEnd, TimeRequired, TimeHour}
+use Rattle.ixdtf_grammar.specs.table.Faults.Fault.{TimeMinuteSecond, TimeSecond, FractionPart, DateSeparator, TimeSeparator, DecimalSeparator}
+use Rattle.ixdtf_grammar.specs.table.Faults.Fault.{InvalidAnnotation, AnnotationOpen, AnnotationClose, AnnotationChar, AnnotationKeyValueSeparator}
+use Rattle.ixdtf_grammar.specs.table.Faults.Fault.{AnnotationKeyLeadingChar, AnnotationKeyChar, AnnotationValueCharPostHyphen, AnnotationValueChar}
+use Rattle.ixdtf_grammar.specs.table.Faults.Fault.{InvalidMinutePrecisionOffset, CriticalDuplicateCalendar, UnrecognizedCritical, TzLeadingChar}
+use Rattle.ixdtf_grammar.specs.table.Faults.Fault.{IanaCharPostSeparator, IanaChar, UtcTimeSeparator, OffsetNeedsSign, MonthDayHyphen, DurationDisgnator}
+use Rattle.ixdtf_grammar.specs.table.Faults.Fault.{DurationValueExceededRange, DateDurationPartOrder, TimeDurationPartOrder, TimeDurationDesignator}
+use Rattle.ixdtf_grammar.specs.table.Faults.Fault.{AmbiguousTimeMonthDay, AmbiguousTimeYearMonth, InvalidMonthDay}
 
 -- the text of a fault
 abbrev pub text_of : Fault → List ℕ

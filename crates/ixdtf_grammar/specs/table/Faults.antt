@@ -1,8 +1,7 @@
 -- The errors as the definitions speak of them: an error with the bytes of its location, and not with an address.
-use Rattle.std.specs.Prelude.{◌≡◌, ℕ, List, Bool, true, false}
-use Rattle.ixdtf_grammar.specs.declared.error.ParseError.{ParseError}
-use Rattle.ixdtf_grammar.specs.declared.located.LocatedError.{LocatedError}
 use Rattle.ixdtf_grammar.specs.declared.error.ParseError.TheVariants as errors
+use Rattle.std.specs.Prelude.{◌≡◌, ℕ, List, Bool, true, false}
+use Rattle.ixdtf_grammar.specs.declared.{error.ParseError.ParseError, located.LocatedError.LocatedError}
 
 -- an error, with the bytes of its location
 pub data Fault : Type 0 where

@@ -1,7 +1,5 @@
 -- The names of the lines of the fault table.
-use Rattle.ixdtf_grammar.specs.declared.profile.Profile.{Profile}
-use Rattle.ixdtf_grammar.specs.language.Times.{Clock}
-use Rattle.ixdtf_grammar.specs.language.Durations.{Half}
+use Rattle.ixdtf_grammar.specs.{declared.profile.Profile.Profile, language.{Times.Clock, Durations.Half}}
 
 -- the lines of dates
 pub data DateLine : Type 0 where

@@ -1,44 +1,34 @@
 -- The fault table, line by line.
 use Rattle.std.specs.Prelude.{◌≡◌, ◌⊎◌, IsTrue, ℕ, ◌<◌, ◌&&◌, ◌||◌, Bool, codes, if◌then◌else◌}
-use Rattle.ixdtf_grammar.specs.declared.profile.Profile.{Profile}
-use Rattle.ixdtf_grammar.specs.declared.records.DateRecord.{DateRecord}
-use Rattle.ixdtf_grammar.specs.language.Letters.{Text, Class, ◌or◌, none, digit, sign, hyphen, colon, decimal_mark, date_time_separator, zulu, opening, closing}
-use Rattle.ixdtf_grammar.specs.language.Letters.{time_letter}
-use Rattle.ixdtf_grammar.specs.language.Letters.{exclamation, equals, slash, zone_lead, zone_char, key_lead, key_char, value_char, duration_designator}
-use Rattle.ixdtf_grammar.specs.language.Shapes.{Shape, nothing, one, ◌then◌, ◌either◌, digits, fewer_digits_than, some, many}
-use Rattle.ixdtf_grammar.specs.language.Digits.{decimal, UpTo}
-use Rattle.ixdtf_grammar.specs.table.Faults.{Fault}
-use Rattle.ixdtf_grammar.specs.table.Faults.Fault.{AbruptEnd, InvalidEnd, InvalidMonthRange, InvalidDayRange, DateYear, DateExtendedYear, DateMonth, DateDay}
-use Rattle.ixdtf_grammar.specs.table.Faults.Fault.{DateSeparator, TimeHour, TimeMinuteSecond, TimeSecond, TimeSeparator, FractionPart, UtcTimeSeparator}
-use Rattle.ixdtf_grammar.specs.table.Faults.Fault.{InvalidMinutePrecisionOffset, OffsetNeedsSign, TzLeadingChar, IanaChar, IanaCharPostSeparator, AnnotationClose}
-use Rattle.ixdtf_grammar.specs.table.Faults.Fault.{AnnotationKeyLeadingChar, AnnotationKeyChar, AnnotationKeyValueSeparator, AnnotationValueChar}
-use Rattle.ixdtf_grammar.specs.table.Faults.Fault.{DurationDisgnator, DurationValueExceededRange, DateDurationPartOrder, TimeDurationPartOrder, TimeDurationDesignator}
-use Rattle.ixdtf_grammar.specs.table.Faults.Fault.{AnnotationValueCharPostHyphen, MonthDayHyphen, InvalidMonthDay, AmbiguousTimeMonthDay, AmbiguousTimeYearMonth}
+use Rattle.ixdtf_grammar.specs.{declared.{profile.Profile.Profile, records.DateRecord.DateRecord}, language.Letters.{Text, Class, ◌or◌, none, digit, sign}}
+use Rattle.ixdtf_grammar.specs.language.Letters.{hyphen, colon, decimal_mark, date_time_separator, zulu, opening, closing, time_letter, exclamation, equals}
+use Rattle.ixdtf_grammar.specs.language.Letters.{slash, zone_lead, zone_char, key_lead, key_char, value_char, duration_designator}
+use Rattle.ixdtf_grammar.specs.language.{Shapes.{Shape, nothing, one, ◌then◌, ◌either◌, digits, fewer_digits_than, some, many}, Digits.{decimal, UpTo}}
 use Rattle.ixdtf_grammar.specs.language.Dates.{Year, Month, DateText, IsDayOfMonth, IsDate}
 use Rattle.ixdtf_grammar.specs.language.Months.{Marks, OptionalHyphen, IsYearMonth, MonthDayText, IsDayOfSomeYear, IsMonthDay}
 use Rattle.ixdtf_grammar.specs.language.Times.{Clock, ClockOf, BasicMinuteText, ColonMinuteText, greatest_second, has_seconds}
-use Rattle.ixdtf_grammar.specs.language.Times.Clock.{Time, Offset, MinuteOffset}
-use Rattle.ixdtf_grammar.specs.language.Times.TimeShape.{hours, basic_minutes, colon_minutes, seconds, fractions}
-use Rattle.ixdtf_grammar.specs.language.ZoneNames.{ZoneName}
-use Rattle.ixdtf_grammar.specs.language.Brackets.{skipped, Key, Value}
-use Rattle.ixdtf_grammar.specs.language.Readers.{Reader, has_brackets}
-use Rattle.ixdtf_grammar.specs.language.Fractions.{SomeDigits}
-use Rattle.ixdtf_grammar.specs.language.Durations.{Half, Number, SignedDesignator, designator}
-use Rattle.ixdtf_grammar.specs.language.Durations.{Half as halves}
-use Rattle.ixdtf_grammar.specs.table.DurationFronts.{InContext, AfterDateGroups, AfterTimeDesignator, AfterTimeGroups, ValuePast, OutOfOrder, UnitPast, LastGroup}
-use Rattle.ixdtf_grammar.specs.table.DurationFronts.{group_mark}
-use Rattle.ixdtf_grammar.specs.table.LineNames.{DateLine, YearMonthLine, MonthDayLine, TimeLine, CoreLine, ClockLine, OffsetLine, ZoneLine, BracketLine, PairLine}
-use Rattle.ixdtf_grammar.specs.table.LineNames.{DurationLine, LineName}
-use Rattle.ixdtf_grammar.specs.table.LineNames.DateLine.{year_start, year_digits, extended_year_digits, minus_zero_year, after_year, month_digits, month_range}
-use Rattle.ixdtf_grammar.specs.table.LineNames.DateLine.{after_hyphened_month, after_basic_month, day_digits, day_range, after_date}
-use Rattle.ixdtf_grammar.specs.table.LineNames.YearMonthLine.{after_year_in_year_month, after_year_month}
-use Rattle.ixdtf_grammar.specs.table.LineNames.MonthDayLine.{month_day_start, month_day_hyphen, month_day_month_digits, month_day_month_range}
-use Rattle.ixdtf_grammar.specs.table.LineNames.MonthDayLine.{after_month_day_month, month_day_day_digits, month_day_range, after_month_day}
+use Rattle.ixdtf_grammar.specs.language.Times.{Clock.{Time, Offset, MinuteOffset}, TimeShape.{hours, basic_minutes, colon_minutes, seconds, fractions}}
+use Rattle.ixdtf_grammar.specs.language.{ZoneNames.ZoneName, Brackets.{skipped, Key, Value}, Readers.{Reader, has_brackets}, Fractions.SomeDigits}
+use Rattle.ixdtf_grammar.specs.{language.Durations.{Half, Number, SignedDesignator, designator, Half as halves}, table.Faults.{Fault, Fault.AbruptEnd}}
+use Rattle.ixdtf_grammar.specs.table.Faults.Fault.{InvalidEnd, InvalidMonthRange, InvalidDayRange, DateYear, DateExtendedYear, DateMonth, DateDay}
+use Rattle.ixdtf_grammar.specs.table.Faults.Fault.{DateSeparator, TimeHour, TimeMinuteSecond, TimeSecond, TimeSeparator, FractionPart, UtcTimeSeparator}
+use Rattle.ixdtf_grammar.specs.table.Faults.Fault.{InvalidMinutePrecisionOffset, OffsetNeedsSign, TzLeadingChar, IanaChar, IanaCharPostSeparator}
+use Rattle.ixdtf_grammar.specs.table.Faults.Fault.{AnnotationClose, AnnotationKeyLeadingChar, AnnotationKeyChar, AnnotationKeyValueSeparator}
+use Rattle.ixdtf_grammar.specs.table.Faults.Fault.{AnnotationValueChar, DurationDisgnator, DurationValueExceededRange, DateDurationPartOrder}
+use Rattle.ixdtf_grammar.specs.table.Faults.Fault.{TimeDurationPartOrder, TimeDurationDesignator, AnnotationValueCharPostHyphen, MonthDayHyphen}
+use Rattle.ixdtf_grammar.specs.table.{Faults.Fault.{InvalidMonthDay, AmbiguousTimeMonthDay, AmbiguousTimeYearMonth}, DurationFronts.InContext}
+use Rattle.ixdtf_grammar.specs.table.DurationFronts.{AfterDateGroups, AfterTimeDesignator, AfterTimeGroups, ValuePast, OutOfOrder, UnitPast, LastGroup}
+use Rattle.ixdtf_grammar.specs.table.{DurationFronts.group_mark, LineNames.{DateLine, YearMonthLine, MonthDayLine, TimeLine, CoreLine, ClockLine, OffsetLine}}
+use Rattle.ixdtf_grammar.specs.table.LineNames.{ZoneLine, BracketLine, PairLine, DurationLine, LineName, DateLine.{year_start, year_digits}}
+use Rattle.ixdtf_grammar.specs.table.LineNames.DateLine.{extended_year_digits, minus_zero_year, after_year, month_digits, month_range, after_hyphened_month}
+use Rattle.ixdtf_grammar.specs.table.LineNames.DateLine.{after_basic_month, day_digits, day_range, after_date}
+use Rattle.ixdtf_grammar.specs.table.LineNames.{YearMonthLine.{after_year_in_year_month, after_year_month}, MonthDayLine.{month_day_start, month_day_hyphen}}
+use Rattle.ixdtf_grammar.specs.table.LineNames.MonthDayLine.{month_day_month_digits, month_day_month_range, after_month_day_month, month_day_day_digits}
+use Rattle.ixdtf_grammar.specs.table.LineNames.MonthDayLine.{month_day_range, after_month_day}
 use Rattle.ixdtf_grammar.specs.table.LineNames.TimeLine.{time_start, time_reads_as_month_day, time_reads_as_year_month}
-use Rattle.ixdtf_grammar.specs.table.LineNames.CoreLine.{dates, year_months, month_days, times}
-use Rattle.ixdtf_grammar.specs.table.LineNames.ClockLine.{hour_start, hour_digit, hour_range, after_hour, minute_digits, minute_range, after_basic_minute}
-use Rattle.ixdtf_grammar.specs.table.LineNames.ClockLine.{after_colon_minute, second_digits, second_range, after_second, fraction_start, after_fraction}
-use Rattle.ixdtf_grammar.specs.table.LineNames.OffsetLine.{offset_start, after_zulu}
+use Rattle.ixdtf_grammar.specs.table.LineNames.{CoreLine.{dates, year_months, month_days, times}, ClockLine.{hour_start, hour_digit, hour_range, after_hour}}
+use Rattle.ixdtf_grammar.specs.table.LineNames.ClockLine.{minute_digits, minute_range, after_basic_minute, after_colon_minute, second_digits, second_range}
+use Rattle.ixdtf_grammar.specs.table.LineNames.{ClockLine.{after_second, fraction_start, after_fraction}, OffsetLine.{offset_start, after_zulu}}
 use Rattle.ixdtf_grammar.specs.table.LineNames.ZoneLine.{identifier_start, zone_name_start, in_zone_name, after_zone_slash}
 use Rattle.ixdtf_grammar.specs.table.LineNames.BracketLine.{first_bracket_start, first_critical_start, first_bracket_scan, after_bracket}
 use Rattle.ixdtf_grammar.specs.table.LineNames.PairLine.{key_start, critical_key_start, in_key, value_start, in_value, after_value_hyphen}

@@ -1,10 +1,6 @@
 -- The outcomes of a text: what is derived, or the row that fits.
 use Rattle.std.specs.Prelude.{◌≡◌, ℕ, ◌+◌, List, ◌++◌, length}
-use Rattle.ixdtf_grammar.specs.language.Letters.{Text}
-use Rattle.ixdtf_grammar.specs.language.Brackets.{Pair}
-use Rattle.ixdtf_grammar.specs.language.Readers.{Reader}
-use Rattle.ixdtf_grammar.specs.language.Languages.{Found, Derives}
-use Rattle.ixdtf_grammar.specs.table.Faults.{Fault}
+use Rattle.ixdtf_grammar.specs.{language.{Letters.Text, Brackets.Pair, Readers.Reader, Languages.{Found, Derives}}, table.Faults.Fault}
 use Rattle.ixdtf_grammar.specs.table.Rows.{Row, Fits, left_at}
 
 -- a row with the error fits, with these whole pairs before it

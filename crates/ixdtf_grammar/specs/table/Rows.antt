@@ -1,17 +1,8 @@
 -- The rows of the fault table, and when a row fits a text.
 use Rattle.std.specs.Prelude.{◌≡◌, ℕ, Bool, IsFalse, List, [], ◌∷◌, ◌++◌}
-use Rattle.ixdtf_grammar.specs.language.Letters.{Text}
-use Rattle.ixdtf_grammar.specs.language.Letters.Letter.{Plain, Bad}
-use Rattle.ixdtf_grammar.specs.language.Shapes.{Shape}
-use Rattle.ixdtf_grammar.specs.table.Faults.{Fault}
-use Rattle.ixdtf_grammar.specs.table.Faults.Fault.{NonAsciiCodePoint}
-use Rattle.ixdtf_grammar.specs.language.Readers.{Reader, has_brackets}
-use Rattle.ixdtf_grammar.specs.table.LineNames.{LineName}
-use Rattle.ixdtf_grammar.specs.language.Brackets.{Pair}
-use Rattle.ixdtf_grammar.specs.table.Lines.{Line, line_of}
-use Rattle.ixdtf_grammar.specs.table.Lines.Line.{line, scanned, whole}
-use Rattle.ixdtf_grammar.specs.table.Lines.Ending.{error}
-use Rattle.ixdtf_grammar.specs.table.Before.{Before}
+use Rattle.ixdtf_grammar.specs.language.{Letters.{Text, Letter.{Plain, Bad}}, Shapes.Shape, Readers.{Reader, has_brackets}, Brackets.Pair}
+use Rattle.ixdtf_grammar.specs.table.{Faults.{Fault, Fault.NonAsciiCodePoint}, LineNames.LineName, Lines.{Line, line_of, Line.{line, scanned, whole}}}
+use Rattle.ixdtf_grammar.specs.table.{Lines.Ending.error, Before.Before}
 
 -- where a row stands: at the end of the text, at another code unit, at Bad, or anywhere, with what the text has from there on
 pub data Place : Type 0 where

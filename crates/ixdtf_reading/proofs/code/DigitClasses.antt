@@ -1,6 +1,5 @@
 -- Which classes exclude each other.
-use Rattle.std.proofs.Common.{◌≡◌, ℕ, IsTrue, false, arith}
-use Rattle.std.proofs.lemmas.Bool.Decides.{nat_tests}
+use Rattle.std.proofs.{Common.{◌≡◌, ℕ, IsTrue, false, arith}, lemmas.Bool.Decides.nat_tests}
 use Rattle.ixdtf_grammar.specs.language.Letters.{digit, sign, hyphen}
 
 -- a digit is no sign

@@ -1,8 +1,6 @@
 -- What a look found is the first code unit of the text, or there is none.
 use Rattle.std.proofs.Common.{◌≡◌, ℕ, [], ◌∷◌, drop, Some, None, Ok, refl, ap}
-use Rattle.ixdtf_grammar.specs.language.Letters.{Text}
-use Rattle.ixdtf_grammar.specs.language.Letters.Letter.{Plain, Bad}
-use Rattle.ixdtf_grammar.specs.table.Faults.Fault.{NonAsciiCodePoint}
+use Rattle.ixdtf_grammar.specs.language.Letters.{Text, Letter.{Plain, Bad}}
 use Rattle.ixdtf_reading.specs.reading.Looks.{look_at, seen}
 
 -- a look found this code unit first

@@ -1,32 +1,19 @@
 -- A date and a time at fixed places: what is found there is what the grammar has, and is read so.
 use Rattle.std.proofs.Common.{subst, ◌≡◌, ℕ, zero, suc, ◌+◌, ◌-◌, ◌*◌, ◌<◌, ◌≤◌, Bool, true, false, IsTrue, List, [], ◌∷◌, ◌++◌, map, drop, length, Option}
-use Rattle.std.proofs.Common.{Some, None, Result, Ok, Err, refl, sym, ap, ◌∙◌, nat_le, ◌&&◌, if◌then◌else◌, ℤ, pos, arith}
-use Rattle.std.proofs.lemmas.Bool.{and_parts, and_from, le-leb}
-use Rattle.std.proofs.lemmas.Bool.Decides.{nat_tests}
-use Rattle.std.proofs.lemmas.List.{length-drop}
-use Rattle.ixdtf_grammar.specs.declared.records.DateRecord.{DateRecord}
-use Rattle.ixdtf_grammar.specs.declared.records.TimeRecord.{TimeRecord}
-use Rattle.ixdtf_grammar.specs.language.Letters.{Letter, Text, Class, digit, hyphen, colon, opening, date_time_separator}
-use Rattle.ixdtf_grammar.specs.language.Letters.Letter.{Plain, Bad}
-use Rattle.ixdtf_grammar.specs.language.Digits.{decimal, TwoDigits}
-use Rattle.ixdtf_grammar.specs.language.Shapes.{digits}
-use Rattle.ixdtf_grammar.specs.language.Dates.{FourDigitYear, IsDayOfMonth, month_length}
-use Rattle.ixdtf_grammar.specs.language.FixedPlaces.{FixedDateTime}
-use Rattle.ixdtf_grammar.specs.table.Faults.{Fault}
-use Rattle.ixdtf_reading.specs.declared.stop.Stop.{Stop}
+use Rattle.std.proofs.Common.{Some, None, Result, Ok, Err, refl, sym, ap, ◌∙◌, ◌&&◌, if◌then◌else◌, ℤ, pos, arith, append_assoc, inl, inr}
+use Rattle.std.proofs.lemmas.{Bool.{and_parts, and_from, le-leb, Decides.nat_tests}, List.length-drop}
+use Rattle.ixdtf_grammar.specs.declared.records.{DateRecord.DateRecord, TimeRecord.TimeRecord}
+use Rattle.ixdtf_grammar.specs.language.Letters.{Letter, Text, Class, digit, hyphen, colon, opening, date_time_separator, Letter.{Plain, Bad}}
+use Rattle.ixdtf_grammar.specs.language.{Digits.{decimal, TwoDigits}, Shapes.digits, Dates.{FourDigitYear, IsDayOfMonth, month_length}}
+use Rattle.ixdtf_grammar.specs.{language.FixedPlaces.{FixedDateTime, FixedDate, FixedTime}, table.{Faults.Fault, LineNames.{of_date, DateLine.after_year}}}
 use Rattle.ixdtf_grammar.specs.Views.{Unread, ascii_at, looked}
-use Rattle.ixdtf_reading.specs.reading.Clauses.{Reads, YieldsAt}
-use Rattle.ixdtf_reading.specs.reading.Dates.{date_of, year_at, four_digit_year_at, month_in_range, month_by, month_at, day_in_range, day_at, days_at, date_at}
-use Rattle.ixdtf_reading.specs.reading.Times.{time_of}
-use Rattle.ixdtf_grammar.specs.table.Faults.Fault.{InvalidMonthRange}
-use Rattle.ixdtf_grammar.specs.table.LineNames.{of_date}
-use Rattle.ixdtf_grammar.specs.table.LineNames.DateLine.{after_year}
-use Rattle.ixdtf_reading.specs.reading.Looks.{Read, Placed, ◌>>=◌, error_of, look_at, next_by, mark_by, digits_by}
-use Rattle.ixdtf_reading.proofs.parts.Looks.{in_turn, onto}
-use Rattle.ixdtf_reading.proofs.code.DigitClasses.{digit_no_sign, digit_no_hyphen}
-use Rattle.ixdtf_reading.specs.reading.FixedPlaces.{ranged, ◌>>?◌, first_in, letter_place, first_byte, byte_place, byte_of_look, tens_value, ones_value, number_place}
-use Rattle.ixdtf_reading.specs.reading.FixedPlaces.{year_place, days_place, basic_days_place, date_place, basic_date_place, time_place, date_in_range}
-use Rattle.ixdtf_reading.specs.reading.FixedPlaces.{time_in_range, date_time_place}
+use Rattle.ixdtf_grammar.proofs.parts.Texts.{colon_seconds_text}
+use Rattle.ixdtf_reading.specs.{declared.stop.Stop.Stop, reading.{Clauses.{Reads, YieldsAt}, Dates.{date_of, day_in_range, day_at, days_at, date_at}}}
+use Rattle.ixdtf_reading.specs.reading.{Times.time_of, Looks.{Read, Placed, error_of}, FixedPlaces.{ranged, ◌>>?◌, first_in, letter_place, first_byte}}
+use Rattle.ixdtf_reading.specs.reading.FixedPlaces.{byte_place, byte_of_look, number_place, year_place, days_place, basic_days_place, date_place, time_place}
+use Rattle.ixdtf_reading.specs.reading.FixedPlaces.{date_in_range, time_in_range, date_time_place}
+use Rattle.ixdtf_reading.proofs.parts.{Looks.onto, Marks.hyphens_of, Years.year_takes}
+use Rattle.ixdtf_reading.proofs.to_reading.Dates.{month_is, month_is_none, month_or_none, month_takes, month_out, over_day}
 
 -- the code unit that a look found, where it is of the class
 abbrev pub class_at_place : Class → Result (Option ℕ) Fault → Option ℕ
@@ -55,63 +42,6 @@ byte_looked letter zero (u ∷ more) = go (letter u)
     go (Plain n) = refl
     go Bad = refl
 byte_looked letter (suc place) (u ∷ more) = byte_looked letter place more
-
--- ---- two digits by two tables
-
--- a number below 100
-abbrev pub below_100 : ℕ → Option ℕ
-below_100 n = if nat_le n 99 then Some n else None
-
-not_below : (n : ℕ) → 100 ≤ n → nat_le n 99 ≡ false
-not_below n h = grind (arith, nat_tests)
-
-is_below : (n : ℕ) → n ≤ 99 → nat_le n 99 ≡ true
-is_below n h = grind (arith, nat_tests)
-
-not_both : (n : ℕ) → 100 ≤ n → None ≡ below_100 n
-not_both n h = rw (not_below n h) refl
-
-both : (n m : ℕ) → n ≡ m → m ≤ 99 → Some n ≡ below_100 m
-both n m same h = rw (is_below m h, same) refl
-
-digit_bounds : (c : ℕ) → digit c ≡ true → (48 ≤ c) × (c ≤ 57)
-digit_bounds c is = (grind (arith, nat_tests), grind (arith, nat_tests))
-
-abbrev of_two : Text → Text → Option ℕ
-of_two tens ones = first_in digit tens >>? λ a. first_in digit ones >>? λ b. Some (decimal (Plain a ∷ Plain b ∷ []))
-
-abbrev ByTables : Text → Text → Type 0
-ByTables tens ones = of_two tens ones ≡ below_100 (tens_value (first_byte tens) + ones_value (first_byte ones))
-
-abbrev ByOnes : ℕ → Text → Type 0
-ByOnes a ones = (first_in digit ones >>? λ b. Some (decimal (Plain a ∷ Plain b ∷ []))) ≡ below_100 (10 * (a - 48) + ones_value (first_byte ones))
-
-by_ones_letter : (a b : ℕ) (rest : Text) → (t : Bool) → digit a ≡ true → digit b ≡ t → ByOnes a (Plain b ∷ rest)
-by_ones_letter a b rest false ea eb = rw eb (not_both (10 * (a - 48) + 100) (omega arith))
-by_ones_letter a b rest true ea eb =
-    let (la, ga) = digit_bounds a ea in
-    let (lb, gb) = digit_bounds b eb in
-    rw eb (both (decimal (Plain a ∷ Plain b ∷ [])) (10 * (a - 48) + (b - 48)) (omega arith) (omega arith))
-
-by_ones : (a : ℕ) (ones : Text) → digit a ≡ true → ByOnes a ones
-by_ones a [] ea = not_both (10 * (a - 48) + 100) (omega arith)
-by_ones a (Bad ∷ rest) ea = not_both (10 * (a - 48) + 100) (omega arith)
-by_ones a (Plain b ∷ rest) ea = by_ones_letter a b rest (digit b) ea refl
-
-by_tens_letter : (a : ℕ) (rest ones : Text) → (t : Bool) → digit a ≡ t → ByTables (Plain a ∷ rest) ones
-by_tens_letter a rest ones false ea = rw ea (not_both (100 + ones_value (first_byte ones)) (omega arith))
-by_tens_letter a rest ones true ea = rw ea (by_ones a ones ea)
-
-by_tens : (tens ones : Text) → ByTables tens ones
-by_tens [] ones = not_both (100 + ones_value (first_byte ones)) (omega arith)
-by_tens (Bad ∷ rest) ones = not_both (100 + ones_value (first_byte ones)) (omega arith)
-by_tens (Plain a ∷ rest) ones = by_tens_letter a rest ones (digit a) refl
-
--- the number of two digits is the sum of what the two tables have, where it is below 100
-pub number_by_tables : (place : ℕ) (text : Text)
-    → number_place place text ≡ below_100 (tens_value (byte_place place text) + ones_value (byte_place (place + 1) text))
-unfolding number_place
-number_by_tables place text = by_tens (drop place text) (drop (place + 1) text)
 
 -- ---- what stands where something was found
 
@@ -189,16 +119,6 @@ century_and_year a b c d = 100 * decimal (Plain a ∷ Plain b ∷ []) + decimal 
 pub year_is : (a b c d : ℕ) → century_and_year a b c d
 year_is a b c d = omega arith
 
--- the code units of a date whose month and day are any numbers, and the text after them
-record DateLetters (text : Text) (date : DateRecord) : Type 0 where
-  years : Text
-  months : Text
-  days : Text
-  is : text ≡ (years ++ (Plain 45 ∷ (months ++ (Plain 45 ∷ days)))) ++ drop 10 text
-  year : FourDigitYear years date.year
-  month : TwoDigits months date.month
-  day : TwoDigits days date.day
-
 abbrev pub two : {place : ℕ} {text : Text} {n : ℕ} → Number place text n → Text
 two number = Plain number.a ∷ Plain number.b ∷ []
 
@@ -208,77 +128,69 @@ two_digits number same = ((number.a, Plain number.b ∷ [], refl, number.is_a, (
 pub over_two : {place : ℕ} {text rest : Text} {n : ℕ} (number : Number place text n) → drop (suc (suc place)) text ≡ rest → drop place text ≡ two number ++ rest
 over_two number is = number.is ∙ ap (λ t. two number ++ t) is
 
-date_of_numbers : (text : Text) (date : DateRecord) (century year month day : ℕ)
-    → (c : Number 0 text century) → (y : Number 2 text year) → drop 4 text ≡ Plain 45 ∷ drop 5 text
-    → (m : Number 5 text month) → drop 7 text ≡ Plain 45 ∷ drop 8 text → (d : Number 8 text day)
-    → date_of (pos (100 * century + year)) month day ≡ date → DateLetters text date
-date_of_numbers text date century year month day c y first m second d is = record {
-  years = Plain c.a ∷ Plain c.b ∷ Plain y.a ∷ Plain y.b ∷ [];
-  months = two m;
-  days = two d;
-  is = over_two c (over_two y (first ∙ onto 45 (over_two m (second ∙ onto 45 (over_two d refl)))));
-  year = (
+-- ---- dates
+
+-- the year at a place, and the text after it
+year_of_numbers : (text : Text) (year century rest : ℕ) → Number 0 text century → Number 2 text rest → 100 * century + rest ≡ year
+    → (ys : Text) × (text ≡ ys ++ drop 4 text) × FourDigitYear ys (pos year)
+year_of_numbers text year century rest c y is = (
+  Plain c.a ∷ Plain c.b ∷ two y,
+  over_two c (over_two y refl),
+  (
     (c.a, _, refl, c.is_a, (c.b, _, refl, c.is_b, (y.a, _, refl, y.is_a, (y.b, [], refl, y.is_b, refl)))),
-    sym (ap (λ x. x.year) is) ∙ ap (λ n. pos n) (rw (c.value, y.value) (year_is c.a c.b y.a y.b)),
-  );
-  month = two_digits m (ap (λ x. x.month) is);
-  day = two_digits d (ap (λ x. x.day) is);
-}
+    ap (λ n. pos n) (sym is ∙ rw (c.value, y.value) (year_is c.a c.b y.a y.b)),
+  ),
+)
 
--- the record of a year that was found
-same_year : {year found : ℕ} {date : DateRecord} (month day : ℕ) → Some year ≡ Some found → Some (date_of (pos found) month day) ≡ Some date
-    → date_of (pos year) month day ≡ date
-same_year month day is of = cc
+pub year_at_place : (text : Text) (year : ℕ) → year_place text ≡ Some year → (ys : Text) × (text ≡ ys ++ drop 4 text) × FourDigitYear ys (pos year)
+unfolding year_place
+year_at_place text year e =
+    then_some (number_place 0 text) _ year e λ century f0 e0.
+    then_some (number_place 2 text) _ year e0 λ rest f1 e1.
+    year_of_numbers text year century rest (number_at_place 0 text century f0) (number_at_place 2 text rest f1) cc
 
-date_at_place : (text : Text) (date : DateRecord) → date_place text ≡ Some date → DateLetters text date
-unfolding date_place year_place days_place
-date_at_place text date e =
-    then_some (year_place text) _ date e λ years fy e0.
-    then_some (number_place 0 text) _ years fy λ century f0 y0.
-    then_some (number_place 2 text) _ years y0 λ year f1 y1.
-    then_some (letter_place hyphen 4 text) _ date e0 λ first f2 e2.
-    then_some (number_place 5 text) _ date e2 λ month f3 e3.
-    then_some (letter_place hyphen 7 text) _ date e3 λ second f4 e4.
-    then_some (number_place 8 text) _ date e4 λ day f5 e5.
-    date_of_numbers text date century year month day (number_at_place 0 text century f0) (number_at_place 2 text year f1)
-    (mark_at_place hyphen 45 4 text first hyphen_is f2) (number_at_place 5 text month f3) (mark_at_place hyphen 45 7 text second hyphen_is f4)
-    (number_at_place 8 text day f5) (same_year month day y1 e5)
+-- the month and the day of a date at their places, with a hyphen before each or with none, whatever they are
+record Days (b : Bool) (text after_month rest : Text) (year : ℕ) (date : DateRecord) : Type 0 where
+  months : Text
+  days : Text
+  is_month : text ≡ (hyphens_of b ++ months) ++ after_month
+  is_day : after_month ≡ (hyphens_of b ++ days) ++ rest
+  month : TwoDigits months date.month
+  day : TwoDigits days date.day
+  value : date_of (pos year) date.month date.day ≡ date
 
--- the code units of a time whose numbers are any, after a date and a separator, and the text after them
-record TimeLetters (text : Text) (time : TimeRecord) : Type 0 where
-  hours : Text
-  minutes : Text
-  seconds : Text
-  is : drop 11 text ≡ (hours ++ (Plain 58 ∷ (minutes ++ (Plain 58 ∷ seconds)))) ++ drop 19 text
-  hour : TwoDigits hours time.hour
-  minute : TwoDigits minutes time.minute
-  second : TwoDigits seconds time.second
-  no_fraction : time.fraction ≡ None
+days_of_numbers : (b : Bool) (year month day first second : ℕ) (text source : Text) (date : DateRecord) (m : Number first text month) (d : Number second text day)
+    → source ≡ hyphens_of b ++ drop first text → drop (suc (suc first)) text ≡ hyphens_of b ++ drop second text
+    → Some (date_of (pos year) month day) ≡ Some date → Days b source (drop (suc (suc first)) text) (drop (suc (suc second)) text) year date
+days_of_numbers b year month day first second text source date m d at_month at_day e =
+    let is : date_of (pos year) month day ≡ date = cc in
+    record {
+      months = two m;
+      days = two d;
+      is_month = at_month ∙ ap (λ t. hyphens_of b ++ t) (over_two m refl) ∙ sym (append_assoc (hyphens_of b) (two m) _);
+      is_day = at_day ∙ ap (λ t. hyphens_of b ++ t) (over_two d refl) ∙ sym (append_assoc (hyphens_of b) (two d) _);
+      month = two_digits m (ap (λ x. x.month) is);
+      day = two_digits d (ap (λ x. x.day) is);
+      value = λ i. date_of ((ap (λ x. x.year) is) i) date.month date.day;
+    }
 
-time_of_numbers : (text : Text) (time : TimeRecord) (hour minute second : ℕ)
-    → (h : Number 11 text hour) → drop 13 text ≡ Plain 58 ∷ drop 14 text → (m : Number 14 text minute) → drop 16 text ≡ Plain 58 ∷ drop 17 text
-    → (s : Number 17 text second) → time_of hour minute second None ≡ time → TimeLetters text time
-time_of_numbers text time hour minute second h first m last s is = record {
-  hours = two h;
-  minutes = two m;
-  seconds = two s;
-  is = over_two h (first ∙ onto 58 (over_two m (last ∙ onto 58 (over_two s refl))));
-  hour = two_digits h (ap (λ x. x.hour) is);
-  minute = two_digits m (ap (λ x. x.minute) is);
-  second = two_digits s (ap (λ x. x.second) is);
-  no_fraction = sym (ap (λ x. x.fraction) is);
-}
+days_at_place : (text : Text) (year : ℕ) (date : DateRecord) → drop 4 text ≡ Plain 45 ∷ drop 5 text → days_place year text ≡ Some date
+    → Days true (drop 4 text) (drop 7 text) (drop 10 text) year date
+unfolding days_place
+days_at_place text year date hyphens e =
+    then_some (number_place 5 text) _ date e λ month f0 e0.
+    then_some (letter_place hyphen 7 text) _ date e0 λ mark f1 e1.
+    then_some (number_place 8 text) _ date e1 λ day f2 e2.
+    days_of_numbers true year month day 5 8 text (drop 4 text) date (number_at_place 5 text month f0) (number_at_place 8 text day f2) hyphens
+    (mark_at_place hyphen 45 7 text mark hyphen_is f1) e2
 
-time_at_place : (text : Text) (time : TimeRecord) → time_place text ≡ Some time → TimeLetters text time
-unfolding time_place
-time_at_place text time e =
-    then_some (number_place 11 text) _ time e λ hour f0 e0.
-    then_some (letter_place colon 13 text) _ time e0 λ first f1 e1.
-    then_some (number_place 14 text) _ time e1 λ minute f2 e2.
-    then_some (letter_place colon 16 text) _ time e2 λ last f3 e3.
-    then_some (number_place 17 text) _ time e3 λ second f4 e4.
-    time_of_numbers text time hour minute second (number_at_place 11 text hour f0) (mark_at_place colon 58 13 text first colon_is f1)
-    (number_at_place 14 text minute f2) (mark_at_place colon 58 16 text last colon_is f3) (number_at_place 17 text second f4) cc
+basic_days_at_place : (text : Text) (year : ℕ) (date : DateRecord) → basic_days_place year text ≡ Some date
+    → Days false (drop 4 text) (drop 6 text) (drop 8 text) year date
+unfolding basic_days_place
+basic_days_at_place text year date e =
+    then_some (number_place 4 text) _ date e λ month f0 e0.
+    then_some (number_place 6 text) _ date e0 λ day f1 e1.
+    days_of_numbers false year month day 4 6 text (drop 4 text) date (number_at_place 4 text month f0) (number_at_place 6 text day f1) refl refl e1
 
 date_ranges : (date : DateRecord) → IsTrue (date_in_range date)
     → (1 ≤ date.month) × (date.month ≤ 12) × (1 ≤ date.day) × (date.day ≤ month_length date.year date.month)
@@ -289,40 +201,77 @@ time_ranges : (time : TimeRecord) → IsTrue (time_in_range time) → (time.hour
 time_ranges time h =
     (grind (arith, nat_tests), grind (arith, nat_tests), grind (arith, nat_tests))
 
-of_letters : (text : Text) (date : DateRecord) (c : ℕ) (time : TimeRecord) → DateLetters text date
-    → (drop 10 text ≡ Plain c ∷ drop 11 text) × IsTrue (date_time_separator c) → TimeLetters text time
-    → IsTrue (date_in_range date) → IsTrue (time_in_range time) → FixedDateTime text date time (drop 19 text)
-of_letters text date c time d separator t in_date in_time =
-    let dates = date_ranges date in_date in
-    let times = time_ranges time in_time in
-    record {
-      dates = d.years ++ (Plain 45 ∷ (d.months ++ (Plain 45 ∷ d.days)));
-      separator = c;
-      times = t.hours ++ (Plain 58 ∷ (t.minutes ++ (Plain 58 ∷ t.seconds)));
-      is = d.is ∙ ap (λ more. (d.years ++ (Plain 45 ∷ (d.months ++ (Plain 45 ∷ d.days)))) ++ more) (separator.0 ∙ ap (λ more. Plain c ∷ more) t.is);
-      is_date = record {
-        years = d.years;
+fixed_date : (text : Text) (date : DateRecord) (year : ℕ) → year_place text ≡ Some year → Days true (drop 4 text) (drop 7 text) (drop 10 text) year date
+    → IsTrue (date_in_range date) → (dates : Text) × (text ≡ dates ++ drop 10 text) × FixedDate dates date
+fixed_date text date year f d in_range =
+    let (ys, is, y) = year_at_place text year f in
+    let r = date_ranges date in_range in (
+      ys ++ (Plain 45 ∷ (d.months ++ (Plain 45 ∷ d.days))),
+      is ∙ ap (λ t. ys ++ t) (d.is_month ∙ ap (λ t. Plain 45 ∷ (d.months ++ t)) d.is_day) ∙ simp append_assoc,
+      record {
+        years = ys;
         months = d.months;
         days = d.days;
         is = refl;
-        year = d.year;
-        month = (d.month, dates.0, dates.1);
+        year = (y.0, sym (ap (λ x. x.year) d.value) ∙ y.1);
+        month = (d.month, r.0, r.1);
         day = d.day;
-        in_month = (dates.2, dates.3);
-      };
-      separates = separator.1;
-      is_time = record {
-        hs = t.hours;
-        ms = t.minutes;
-        ss = t.seconds;
-        is = refl;
-        may = refl;
-        hour = (t.hour.0, t.hour.1, times.0);
-        minute = (t.minute.0, t.minute.1, times.1);
-        second = (t.second.0, t.second.1, times.2);
-        no_fraction = t.no_fraction;
-      };
-    }
+        in_month = (r.2, r.3);
+      },
+    )
+
+date_at_place : (text : Text) (date : DateRecord) → date_place text ≡ Some date → IsTrue (date_in_range date)
+    → (dates : Text) × (text ≡ dates ++ drop 10 text) × FixedDate dates date
+unfolding date_place
+date_at_place text date e in_range =
+    then_some (year_place text) _ date e λ year f0 e0.
+    then_some (letter_place hyphen 4 text) _ date e0 λ mark f1 e1.
+    fixed_date text date year f0 (days_at_place text year date (mark_at_place hyphen 45 4 text mark hyphen_is f1) e1) in_range
+
+-- ---- times
+
+fixed_time : (text : Text) (time : TimeRecord) (hour minute second : ℕ)
+    → (h : Number 11 text hour) → drop 13 text ≡ Plain 58 ∷ drop 14 text → (m : Number 14 text minute) → drop 16 text ≡ Plain 58 ∷ drop 17 text
+    → (s : Number 17 text second) → Some (time_of hour minute second None) ≡ Some time → IsTrue (time_in_range time)
+    → (times : Text) × (drop 11 text ≡ times ++ drop 19 text) × FixedTime times time
+fixed_time text time hour minute second h first m last s e in_range =
+    let is : time_of hour minute second None ≡ time = cc in
+    let r = time_ranges time in_range in
+    let hours = two_digits h (ap (λ x. x.hour) is) in
+    let minutes = two_digits m (ap (λ x. x.minute) is) in
+    let seconds = two_digits s (ap (λ x. x.second) is) in (
+      two h ++ (Plain 58 ∷ (two m ++ (Plain 58 ∷ two s))),
+      over_two h (first ∙ onto 58 (over_two m (last ∙ onto 58 (over_two s refl)))),
+      colon_seconds_text (two h) (two m) (two s) refl refl (hours.0, hours.1, r.0) (minutes.0, minutes.1, r.1) (seconds.0, seconds.1, r.2)
+          (sym (ap (λ x. x.fraction) is)),
+    )
+
+time_at_place : (text : Text) (time : TimeRecord) → time_place text ≡ Some time → IsTrue (time_in_range time)
+    → (times : Text) × (drop 11 text ≡ times ++ drop 19 text) × FixedTime times time
+unfolding time_place
+time_at_place text time e in_range =
+    then_some (number_place 11 text) _ time e λ hour f0 e0.
+    then_some (letter_place colon 13 text) _ time e0 λ first f1 e1.
+    then_some (number_place 14 text) _ time e1 λ minute f2 e2.
+    then_some (letter_place colon 16 text) _ time e2 λ last f3 e3.
+    then_some (number_place 17 text) _ time e3 λ second f4 e4.
+    fixed_time text time hour minute second (number_at_place 11 text hour f0) (mark_at_place colon 58 13 text first colon_is f1)
+    (number_at_place 14 text minute f2) (mark_at_place colon 58 16 text last colon_is f3) (number_at_place 17 text second f4) e4 in_range
+
+-- ---- a date and a time
+
+of_parts : (text : Text) (date : DateRecord) (c : ℕ) (time : TimeRecord) → (dates : Text) × (text ≡ dates ++ drop 10 text) × FixedDate dates date
+    → (drop 10 text ≡ Plain c ∷ drop 11 text) × IsTrue (date_time_separator c) → (times : Text) × (drop 11 text ≡ times ++ drop 19 text) × FixedTime times time
+    → FixedDateTime text date time (drop 19 text)
+of_parts text date c time d separator t = record {
+  dates = d.0;
+  separator = c;
+  times = t.0;
+  is = d.1 ∙ ap (λ more. d.0 ++ more) (separator.0 ∙ onto c t.1);
+  is_date = d.2;
+  separates = separator.1;
+  is_time = t.2;
+}
 
 -- what is found is a date and a time of the grammar, in the first nineteen code units
 pub date_time_at_place : (text : Text) (found : DateRecord × TimeRecord) → date_time_place text ≡ Some found → FixedDateTime text found.0 found.1 (drop 19 text)
@@ -334,7 +283,7 @@ date_time_at_place text found e =
     let held = then_held (date_in_range date && time_in_range time) (date, time) found e2 in
     let ranges = and_parts _ _ held.0 in
     rw (← held.1)
-    (of_letters text date c time (date_at_place text date f0) (letter_at_place date_time_separator 10 text c f1) (time_at_place text time f2) ranges.0 ranges.1)
+    (of_parts text date c time (date_at_place text date f0 ranges.0) (letter_at_place date_time_separator 10 text c f1) (time_at_place text time f2 ranges.1))
 
 -- ---- nothing is missed
 
@@ -411,109 +360,6 @@ date_time_stands text date time rest f =
 
 -- ---- what is found is read
 
--- a test between a reading and what goes on from it
-on_test : {A B : Type 0} (t : Bool) (x : A × Text) (f : Placed) (k : A × Text → Read Placed B) → ((if t then Ok x else Err f) >>= k) ≡ (if t then k x else Err f)
-on_test true x f k = refl
-on_test false x f k = refl
-
-day_read : (y : _) (month p q : ℕ) (more : Text) → IsTrue (digit p) → IsTrue (digit q)
-    → day_at error_of y (month, true) (Plain 45 ∷ Plain p ∷ Plain q ∷ more) ≡ day_in_range error_of (date_of y month (decimal (Plain p ∷ Plain q ∷ []))) more
-unfolding day_at mark_by digits_by next_by look_at
-day_read y month p q more ep eq = rw (ep, eq) refl
-
-month_read : (y : _) (m n p q : ℕ) (more : Text) → IsTrue (digit m) → IsTrue (digit n) → IsTrue (digit p) → IsTrue (digit q)
-    → (month_at error_of (of_date after_year) (Plain 45 ∷ Plain m ∷ Plain n ∷ Plain 45 ∷ Plain p ∷ Plain q ∷ more)
-    >>= λ month. day_at error_of y month.0 month.1)
-    ≡ ranged (date_of y (decimal (Plain m ∷ Plain n ∷ [])) (decimal (Plain p ∷ Plain q ∷ []))) (Plain 45 ∷ Plain p ∷ Plain q ∷ more) more
-unfolding month_by mark_by month_in_range digits_by next_by look_at
-month_read y m n p q more em en ep eq =
-    let month = decimal (Plain m ∷ Plain n ∷ []) in
-    let test = nat_le 1 month && nat_le month 12 in
-    let step = on_test test (month, Plain 45 ∷ Plain p ∷ Plain q ∷ more) (InvalidMonthRange, Plain 45 ∷ Plain p ∷ Plain q ∷ more) (λ x. day_at error_of y (x.0, true) x.1) in
-    rw (em, en) (in_turn (if test then Ok (month, Plain 45 ∷ Plain p ∷ Plain q ∷ more) else Err (InvalidMonthRange, Plain 45 ∷ Plain p ∷ Plain q ∷ more)) (λ x. Ok ((x.0, true), x.1))
-    (λ x. day_at error_of y x.0 x.1) ∙ step ∙ rw (day_read y month p q more ep eq) refl)
-
-fixed_read : (a b c d m n p q : ℕ) (more : Text) → IsTrue (digit a) → IsTrue (digit b) → IsTrue (digit c) → IsTrue (digit d) → IsTrue (digit m)
-    → IsTrue (digit n) → IsTrue (digit p) → IsTrue (digit q)
-    → date_at error_of (Plain a ∷ Plain b ∷ Plain c ∷ Plain d ∷ Plain 45 ∷ Plain m ∷ Plain n ∷ Plain 45 ∷ Plain p ∷ Plain q ∷ more)
-    ≡ ranged (date_of (pos (decimal (Plain a ∷ Plain b ∷ Plain c ∷ Plain d ∷ []))) (decimal (Plain m ∷ Plain n ∷ [])) (decimal (Plain p ∷ Plain q ∷ [])))
-    (Plain 45 ∷ Plain p ∷ Plain q ∷ more) more
-unfolding date_at year_at four_digit_year_at digits_by next_by look_at
-fixed_read a b c d m n p q more ea eb ec ed em en ep eq =
-    rw (ea, digit_no_sign a ea, eb, ec, ed) (month_read (pos (decimal (Plain a ∷ Plain b ∷ Plain c ∷ Plain d ∷ []))) m n p q more em en ep eq)
-
-letters_read : (years months days : Text) (date : DateRecord) (more : Text) → FourDigitYear years date.year → TwoDigits months date.month
-    → TwoDigits days date.day
-    → date_at error_of ((years ++ (Plain 45 ∷ (months ++ (Plain 45 ∷ days)))) ++ more)
-    ≡ ranged date (drop 7 ((years ++ (Plain 45 ∷ (months ++ (Plain 45 ∷ days)))) ++ more)) more
-letters_read years months days date more year month day =
-    let y = year.0 in
-    let m = month.0 in
-    let d = day.0 in
-    let same = same_date date _ _ _ (year_of _ _ year) (number_of _ _ month) (number_of _ _ day) in
-    rw (four_are _ y, two_are _ m, two_are _ d) (fixed_read _ _ _ _ _ _ _ _ more y.3 y.4.3 y.4.4.3 y.4.4.4.3 m.3 m.4.3 d.3 d.4.3
-    ∙ ap (λ r. ranged r (Plain 45 ∷ Plain d.0 ∷ Plain d.4.0 ∷ more) more) same)
-
--- a date that is found is the one that is read, where its numbers are in range
-pub date_is_read : (text : Text) (date : DateRecord) → date_place text ≡ Some date → date_at error_of text ≡ ranged date (drop 7 text) (drop 10 text)
-date_is_read text date e =
-    let d = date_at_place text date e in
-    ap (date_at error_of) d.is ∙ letters_read d.years d.months d.days date (drop 10 text) d.year d.month d.day
-    ∙ ap (λ t. ranged date (drop 7 t) (drop 10 text)) (sym d.is)
-
--- ---- without hyphens
-
-basic_day_read : (y : _) (month p q : ℕ) (more : Text) → IsTrue (digit p) → IsTrue (digit q)
-    → day_at error_of y (month, false) (Plain p ∷ Plain q ∷ more) ≡ day_in_range error_of (date_of y month (decimal (Plain p ∷ Plain q ∷ []))) more
-unfolding day_at mark_by digits_by next_by look_at
-basic_day_read y month p q more ep eq = rw (ep, digit_no_hyphen p ep, ep, eq) refl
-
-basic_month_read : (y : _) (m n p q : ℕ) (more : Text) → IsTrue (digit m) → IsTrue (digit n) → IsTrue (digit p) → IsTrue (digit q)
-    → (month_at error_of (of_date after_year) (Plain m ∷ Plain n ∷ Plain p ∷ Plain q ∷ more)
-    >>= λ month. day_at error_of y month.0 month.1)
-    ≡ ranged (date_of y (decimal (Plain m ∷ Plain n ∷ [])) (decimal (Plain p ∷ Plain q ∷ []))) (Plain p ∷ Plain q ∷ more) more
-unfolding month_by mark_by month_in_range digits_by next_by look_at
-basic_month_read y m n p q more em en ep eq =
-    let month = decimal (Plain m ∷ Plain n ∷ []) in
-    let test = nat_le 1 month && nat_le month 12 in
-    let step = on_test test (month, Plain p ∷ Plain q ∷ more) (InvalidMonthRange, Plain p ∷ Plain q ∷ more) (λ x. day_at error_of y (x.0, false) x.1) in
-    rw (em, digit_no_hyphen m em, digit_no_hyphen m em, em, en)
-    (in_turn (if test then Ok (month, Plain p ∷ Plain q ∷ more) else Err (InvalidMonthRange, Plain p ∷ Plain q ∷ more)) (λ x. Ok ((x.0, false), x.1))
-    (λ x. day_at error_of y x.0 x.1) ∙ step ∙ rw (basic_day_read y month p q more ep eq) refl)
-
-basic_read : (a b c d m n p q : ℕ) (more : Text) → IsTrue (digit a) → IsTrue (digit b) → IsTrue (digit c) → IsTrue (digit d) → IsTrue (digit m)
-    → IsTrue (digit n) → IsTrue (digit p) → IsTrue (digit q)
-    → date_at error_of (Plain a ∷ Plain b ∷ Plain c ∷ Plain d ∷ Plain m ∷ Plain n ∷ Plain p ∷ Plain q ∷ more)
-    ≡ ranged (date_of (pos (decimal (Plain a ∷ Plain b ∷ Plain c ∷ Plain d ∷ []))) (decimal (Plain m ∷ Plain n ∷ [])) (decimal (Plain p ∷ Plain q ∷ [])))
-    (Plain p ∷ Plain q ∷ more) more
-unfolding date_at year_at four_digit_year_at digits_by next_by look_at
-basic_read a b c d m n p q more ea eb ec ed em en ep eq =
-    rw (ea, digit_no_sign a ea, eb, ec, ed) (basic_month_read (pos (decimal (Plain a ∷ Plain b ∷ Plain c ∷ Plain d ∷ []))) m n p q more em en ep eq)
-
-basic_of_numbers : (text : Text) (date : DateRecord) (century year month day : ℕ)
-    → (c : Number 0 text century) → (y : Number 2 text year) → (m : Number 4 text month) → (d : Number 6 text day)
-    → date_of (pos (100 * century + year)) month day ≡ date → date_at error_of text ≡ ranged date (drop 6 text) (drop 8 text)
-basic_of_numbers text date century year month day c y m d is =
-    let whole : text ≡ Plain c.a ∷ Plain c.b ∷ Plain y.a ∷ Plain y.b ∷ Plain m.a ∷ Plain m.b ∷ Plain d.a ∷ Plain d.b ∷ drop 8 text =
-    over_two c (over_two y (over_two m (over_two d refl))) in
-    let years = ap (λ n. pos n) (sym (year_is c.a c.b y.a y.b) ∙ rw (c.value, y.value) refl) in
-    let same = same_date date _ _ _ (years ∙ ap (λ x. x.year) is) (sym m.value ∙ ap (λ x. x.month) is) (sym d.value ∙ ap (λ x. x.day) is) in
-    ap (date_at error_of) whole ∙ basic_read _ _ _ _ _ _ _ _ (drop 8 text) c.is_a c.is_b y.is_a y.is_b m.is_a m.is_b d.is_a d.is_b
-    ∙ ap (λ r. ranged r (Plain d.a ∷ Plain d.b ∷ drop 8 text) (drop 8 text)) same ∙ ap (λ t. ranged date (drop 6 t) (drop 8 text)) (sym whole)
-
--- a date without hyphens that is found is the one that is read, where its numbers are in range
-pub basic_date_is_read : (text : Text) (date : DateRecord) → basic_date_place text ≡ Some date
-    → date_at error_of text ≡ ranged date (drop 6 text) (drop 8 text)
-unfolding basic_date_place year_place basic_days_place
-basic_date_is_read text date e =
-    then_some (year_place text) _ date e λ years fy e1.
-    then_some (number_place 0 text) _ years fy λ century f0 y0.
-    then_some (number_place 2 text) _ years y0 λ year f1 y1.
-    then_some (number_place 4 text) _ date e1 λ month f2 e2.
-    then_some (number_place 6 text) _ date e2 λ day f3 e3.
-    basic_of_numbers text date century year month day (number_at_place 0 text century f0) (number_at_place 2 text year f1)
-    (number_at_place 4 text month f2) (number_at_place 6 text day f3) (same_year month day y1 e3)
-
 never : (b : Bool) → b ≡ false → IsTrue b → ⊥
 never true no_one is = absurd cc
 never false no_one is = absurd cc
@@ -528,27 +374,37 @@ byte_in_class class place text not_zero is = go (drop place text) is
     go (Bad ∷ rest) is = absurd (never (class 0) not_zero is)
     go (Plain c ∷ rest) is = rw is refl
 
-date_of_parts : (text : Text) (year : ℕ) (date : DateRecord) (mark : ℕ) → year_place text ≡ Some year → letter_place hyphen 4 text ≡ Some mark
-    → days_place year text ≡ Some date → date_place text ≡ Some date
-unfolding date_place
-date_of_parts text year date mark years first days =
-    ap (λ found. found >>? λ year. letter_place hyphen 4 text >>? λ _. days_place year text) years
-    ∙ (ap (λ found. found >>? λ _. days_place year text) first ∙ days)
+-- a year that is found is read, and the month and the day after it
+pub year_is_read : (text : Text) (year : ℕ) → year_place text ≡ Some year → date_at error_of text ≡ days_at error_of (pos year) (drop 4 text)
+unfolding date_at
+year_is_read text year e =
+    let (ys, is, y) = year_at_place text year e in
+    ap (date_at error_of) is ∙ rw (year_takes error_of ys (pos year) (drop 4 text) (inl y)) refl
 
--- what is found of a year, a hyphen, a month and a day, and of the same without hyphens
+-- and so are they, where the month and the day are found
+days_are_read : (b : Bool) (text after_month rest : Text) (year : ℕ) (date : DateRecord) → Days b text after_month rest year date
+    → days_at error_of (pos year) text ≡ ranged date after_month rest
+days_are_read b text after_month rest year date d = ap (days_at error_of (pos year)) d.is_month ∙ elim (month_or_none date.month) [
+  | inl h ↦ rw (
+    month_takes error_of (of_date after_year) (λ c. refl) b d.months date.month after_month (d.month, h.0, h.1),
+    month_is date.month h.0 h.1,
+  ) (ap (day_at error_of (pos year) (date.month, b)) d.is_day ∙ (over_day error_of (pos year) date.month b d.days date.day d.day).over rest
+      ∙ ap (λ x. day_in_range error_of x rest) d.value)
+  | inr h ↦ rw (
+    month_out error_of (of_date after_year) (λ c. refl) b d.months after_month (d.month.0, rw d.month.1 at h),
+    month_is_none date.month h,
+  ) refl
+]
+
 pub hyphened_is_read : (text : Text) (year : ℕ) (date : DateRecord) → year_place text ≡ Some year → IsTrue (hyphen (byte_place 4 text))
     → days_place year text ≡ Some date → date_at error_of text ≡ ranged date (drop 7 text) (drop 10 text)
 hyphened_is_read text year date years mark days =
-    date_is_read text date (date_of_parts text year date (byte_place 4 text) years (byte_in_class hyphen 4 text refl mark) days)
-
-basic_of_parts : (text : Text) (year : ℕ) (date : DateRecord) → year_place text ≡ Some year → basic_days_place year text ≡ Some date
-    → basic_date_place text ≡ Some date
-unfolding basic_date_place
-basic_of_parts text year date years days = ap (λ found. found >>? λ year. basic_days_place year text) years ∙ days
+    let hyphens = mark_at_place hyphen 45 4 text (byte_place 4 text) hyphen_is (byte_in_class hyphen 4 text refl mark) in
+    year_is_read text year years ∙ days_are_read true _ _ _ year date (days_at_place text year date hyphens days)
 
 pub basic_is_read : (text : Text) (year : ℕ) (date : DateRecord) → year_place text ≡ Some year → basic_days_place year text ≡ Some date
     → date_at error_of text ≡ ranged date (drop 6 text) (drop 8 text)
-basic_is_read text year date years days = basic_date_is_read text date (basic_of_parts text year date years days)
+basic_is_read text year date years days = year_is_read text year years ∙ days_are_read false _ _ _ year date (basic_days_at_place text year date days)
 
 -- what is found has nineteen code units
 long_enough : (text : Text) (found : DateRecord × TimeRecord) → date_time_place text ≡ Some found → 19 ≤ length text
@@ -586,23 +442,3 @@ pub reads_on : {X Y : Type 0} (letter : ℕ → Letter) (view : X → Y) (old he
     → reading (map letter old.rest) ≡ further (map letter here.rest) → Reads letter view here result new further → Reads letter view old result new reading
 reads_on letter view old here new (Ok x) reading further same is = same ∙ is
 reads_on letter view old here new (Err stop) reading further same is = same ∙ is
-
-year_read : (a b c d : ℕ) (more : Text) → IsTrue (digit a) → IsTrue (digit b) → IsTrue (digit c) → IsTrue (digit d)
-    → date_at error_of (Plain a ∷ Plain b ∷ Plain c ∷ Plain d ∷ more) ≡ days_at error_of (pos (decimal (Plain a ∷ Plain b ∷ Plain c ∷ Plain d ∷ []))) more
-unfolding date_at year_at four_digit_year_at digits_by next_by look_at
-year_read a b c d more ea eb ec ed = rw (ea, digit_no_sign a ea, eb, ec, ed) refl
-
-year_of_numbers : (text : Text) (year century rest : ℕ) → (c : Number 0 text century) → (y : Number 2 text rest) → 100 * century + rest ≡ year
-    → date_at error_of text ≡ days_at error_of (pos year) (drop 4 text)
-year_of_numbers text year century rest c y is =
-    let value : decimal (Plain c.a ∷ Plain c.b ∷ Plain y.a ∷ Plain y.b ∷ []) ≡ year = sym (rw (c.value, y.value) (year_is c.a c.b y.a y.b)) ∙ is in
-    ap (date_at error_of) (over_two c (over_two y refl)) ∙ year_read c.a c.b y.a y.b (drop 4 text) c.is_a c.is_b y.is_a y.is_b
-    ∙ ap (λ n. days_at error_of (pos n) (drop 4 text)) value
-
--- a year that is found is read, and the month and the day after it
-pub year_is_read : (text : Text) (year : ℕ) → year_place text ≡ Some year → date_at error_of text ≡ days_at error_of (pos year) (drop 4 text)
-unfolding year_place
-year_is_read text year e =
-    then_some (number_place 0 text) _ year e λ century f0 e0.
-    then_some (number_place 2 text) _ year e0 λ rest f1 e1.
-    year_of_numbers text year century rest (number_at_place 0 text century f0) (number_at_place 2 text rest f1) cc

@@ -1,16 +1,10 @@
 -- The digits of a fraction, taken one by one.
 use Rattle.std.proofs.Common.{◌≡◌, ℕ, ◌+◌, true, false, List, [], ◌∷◌, ◌++◌, length, map, drop, Option, Some, None, Ok, Err, refl, sym, ap, ◌∙◌, arith}
 use Rattle.std.proofs.Common.{append_assoc, append-nil}
-use Rattle.ixdtf_grammar.specs.language.Letters.{Letter, Text}
-use Rattle.ixdtf_grammar.specs.language.Letters.Letter.{Plain, Bad}
-use Rattle.ixdtf_grammar.specs.language.Letters.{digit}
-use Rattle.ixdtf_grammar.specs.table.Faults.{Fault}
+use Rattle.ixdtf_grammar.specs.language.{Letters.{Letter, Text, digit, Letter.{Plain, Bad}}, Fractions.{FractionParts, fraction_of}}
 use Rattle.ixdtf_grammar.specs.table.Faults.Fault.{NonAsciiCodePoint}
-use Rattle.ixdtf_grammar.specs.language.Fractions.{FractionParts, fraction_of}
-use Rattle.ixdtf_reading.specs.reading.Looks.{Placed, before, Read, ◌>>=◌, look_at, seen, digit_run}
-use Rattle.ixdtf_reading.specs.reading.Clauses.{more_digits_at}
-use Rattle.ixdtf_reading.proofs.code.FirstLetter.{first_is, nothing_is}
-use Rattle.ixdtf_reading.proofs.code.GrowingDigits.{Grown, fraction_grows}
+use Rattle.ixdtf_reading.specs.reading.{Looks.{Placed, before, Read, ◌>>=◌, look_at, seen, digit_run}, Clauses.more_digits_at}
+use Rattle.ixdtf_reading.proofs.code.{FirstLetter.{first_is, nothing_is}, GrowingDigits.{Grown, fraction_grows}}
 
 -- digits that were read, with more in front of them
 abbrev with_front : Text → Read Placed Text → Read Placed Text

@@ -1,13 +1,7 @@
 -- The number of digits that grow at their end.
 use Rattle.std.proofs.Common.{◌≡◌, ℕ, suc, ◌+◌, ◌-◌, ◌*◌, ◌^◌, ◌≤◌, ◌<◌, Bool, true, false, [], ◌∷◌, ◌++◌, length, take, min, refl, ap, ◌∙◌, arith, take_all}
-use Rattle.std.proofs.Common.{nat_le}
-use Rattle.std.proofs.lemmas.Bool.{leb-true}
-use Rattle.std.proofs.lemmas.Bool.Decides.{nat_tests}
-use Rattle.std.proofs.lemmas.List.{length-append, take-append-le}
-use Rattle.std.proofs.Math.Nat.{pow-succ'}
-use Rattle.ixdtf_grammar.specs.language.Letters.{Letter, Text}
-use Rattle.ixdtf_grammar.specs.language.Letters.Letter.{Plain}
-use Rattle.ixdtf_grammar.specs.language.Digits.{decimal, digit_value}
+use Rattle.std.proofs.{Common.nat_le, lemmas.{Bool.{leb-true, Decides.nat_tests}, List.{length-append, take-append-le}}, Math.Nat.pow-succ'}
+use Rattle.ixdtf_grammar.specs.language.{Letters.{Letter, Text, Letter.Plain}, Digits.{decimal, digit_value}}
 use Rattle.ixdtf_grammar.specs.language.Fractions.{FractionParts, fraction_of, value_of}
 
 longer : (ds : Text) (c : Letter) → 10 ^ length (ds ++ (c ∷ [])) ≡ 10 * 10 ^ length ds

@@ -1,28 +1,9 @@
 -- Code units that a loop takes one by one.
-use Rattle.std.proofs.Common.{◌≡◌, ℕ, ◌+◌, ◌-◌, Bool, true, false, if◌then◌else◌, List, [], ◌∷◌, ◌++◌, length, map, drop, take, Option, Some, None, Ok, Err, refl, sym, ap, subst, ◌∙◌, arith}
-use Rattle.std.proofs.Common.{append_assoc, append-nil}
-use Rattle.std.proofs.lemmas.List.{take-map, length-map, length-append, take_all, take-append-le}
-use Rattle.ixdtf_grammar.specs.language.Letters.{Letter, Text}
-use Rattle.ixdtf_grammar.specs.language.Letters.Letter.{Plain, Bad}
-use Rattle.ixdtf_grammar.specs.table.Faults.Fault.{NonAsciiCodePoint}
-use Rattle.ixdtf_reading.specs.reading.Looks.{Placed, Read, ◌>>=◌, look_at, seen}
-use Rattle.ixdtf_reading.specs.reading.Zones.{with_letter}
-use Rattle.ixdtf_reading.specs.reading.Runs.{Taken, one_more, nothing_taken, on_letter, letters_by}
-use Rattle.ixdtf_reading.proofs.code.FirstLetter.{nothing_is}
-
--- code units that were taken, with more in front of them
-abbrev pub with_letters : {S : Type 0} → List ℕ → Read Placed (Taken S) → Read Placed (Taken S)
-with_letters front (Ok x) = Ok (record { letters = front ++ x.0.letters; state = x.0.state; next = x.0.next }, x.1)
-with_letters front (Err e) = Err e
-
-with_none : {S : Type 0} (read : Read Placed (Taken S)) → with_letters [] read ≡ read
-with_none (Ok x) = refl
-with_none (Err e) = refl
-
-with_one_more : {S : Type 0} (front : List ℕ) (c : ℕ) (read : Read Placed (Taken S))
-    → with_letters front (one_more c read) ≡ with_letters (front ++ (c ∷ [])) read
-with_one_more front c (Ok x) = ap (λ t. Ok (record { letters = t; state = x.0.state; next = x.0.next }, x.1)) (sym (append_assoc front (c ∷ []) x.0.letters))
-with_one_more front c (Err e) = refl
+use Rattle.std.proofs.Common.{◌≡◌, ℕ, ◌+◌, ◌-◌, Bool, true, false, if◌then◌else◌, List, [], ◌∷◌, ◌++◌, length, map, drop, take, Option, Some, None, Ok, Err, refl}
+use Rattle.std.proofs.{Common.{sym, ap, subst, ◌∙◌, arith, append_assoc, Result}, lemmas.List.{take-map, length-map, length-append, take_all, take-append-le}}
+use Rattle.ixdtf_grammar.specs.{language.Letters.{Letter, Text, Letter.{Plain, Bad}}, table.Faults.Fault.NonAsciiCodePoint}
+use Rattle.ixdtf_reading.specs.reading.{Looks.{Placed, Read, look_at, seen}, Zones.with_letter, Runs.{Taken, one_more, nothing_taken, on_letter, letters_by}}
+use Rattle.ixdtf_reading.proofs.{code.FirstLetter.{nothing_is, first_is as letter_first}, parts.Steps.{steps, steps_both, steps_err, with_letters}}
 
 -- a test holds where this has a value, and fails where it has none
 pub test_held : {A : Type 0} (b : Bool) (x y : A) → (if b then Some x else None) ≡ Some y → b ≡ true
@@ -47,25 +28,100 @@ first_is letter faithful (u ∷ more) c e = go (letter u) refl e
         (more, ap (λ m. m ∷ more) (sym (faithful u c (is ∙ ap (λ m. Plain m) same))), ap (λ l. l ∷ map letter more) (is ∙ ap (λ m. Plain m) same))
     go Bad is e = absurd cc
 
-module _ {S : Type 0} (after : S → ℕ → Option S) where
-  abbrev run : S → Text → Read Placed (Taken S)
-  run state text = letters_by after state text
+-- ---- one walk
 
-  run_more : (state next : S) (c : ℕ) (rest : Text) → after state c ≡ Some next → run state (Plain c ∷ rest) ≡ one_more c (run next rest)
+-- So far a reading took these code units, and the others remain.
+pub record IsFar {S B : Type 0} (step : ℕ → Result B Placed → Result B Placed) (reading : S → Text → Result B Placed) (letter : ℕ → Letter) (start : S)
+    (whole rest : List ℕ) (state : S) : Type 0 where
+  pub taken : List ℕ
+  pub units : whole ≡ taken ++ rest
+  pub read : reading start (map letter whole) ≡ steps step taken (reading state (map letter rest))
+
+module _ {S B : Type 0} {step : ℕ → Result B Placed → Result B Placed} {reading : S → Text → Result B Placed} {letter : ℕ → Letter} {start : S}
+    {whole rest : List ℕ} {state : S} (far : IsFar step reading letter start whole rest state) where
+  -- more code units go on
+  pub more_far : (left letters : List ℕ) (next : S) → rest ≡ letters ++ left
+      → reading state (map letter rest) ≡ steps step letters (reading next (map letter left)) → IsFar step reading letter start whole left next
+  more_far left letters next split goes_on = record {
+    taken = far.taken ++ letters;
+    units = far.units ∙ ap (λ t. far.taken ++ t) split ∙ sym (append_assoc far.taken letters left);
+    read = far.read ∙ ap (steps step far.taken) goes_on ∙ steps_both step far.taken letters (reading next (map letter left));
+  }
+
+  -- one does
+  pub one_far : ((unit n : ℕ) → letter unit ≡ Plain n → n ≡ unit) → (left : List ℕ) (next : S) (c : ℕ) → seen (map letter rest) ≡ Ok (Some c)
+      → ((more : Text) → reading state (Plain c ∷ more) ≡ step c (reading next more)) → left ≡ drop 1 rest → IsFar step reading letter start whole left next
+  one_far faithful left next c e goes_on moved =
+      let here = first_is letter faithful rest c e in
+      let same : here.0 ≡ left = sym (moved ∙ ap (λ t. drop 1 t) here.1) in
+      more_far left (c ∷ []) next (here.1 ∙ ap (λ t. c ∷ t) same)
+      (ap (reading state) here.2 ∙ goes_on (map letter here.0) ∙ ap (λ t. step c (reading next (map letter t))) same)
+
+  pub far_fails : ((c : ℕ) (e : Placed) → step c (Err e) ≡ Err e) → (fault : Placed) → reading state (map letter rest) ≡ Err fault
+      → reading start (map letter whole) ≡ Err fault
+  far_fails failed fault e = far.read ∙ ap (steps step far.taken) e ∙ steps_err step failed far.taken fault
+
+-- a reading that takes each code unit that goes on
+module _ {S B : Type 0} (after : S → ℕ → Option S) (step : ℕ → Result B Placed → Result B Placed) (reading : S → Text → Result B Placed)
+    (over : (state next : S) (c : ℕ) (rest : Text) → after state c ≡ Some next → reading state (Plain c ∷ rest) ≡ step c (reading next rest))
+    (at_bad : (state : S) (rest : Text) → reading state (Bad ∷ rest) ≡ Err (NonAsciiCodePoint, Bad ∷ rest))
+    (failed : (c : ℕ) (e : Placed) → step c (Err e) ≡ Err e) where
+  -- it reads on behind the code units that were taken
+  abbrev Walked : S → Text → Read Placed (Taken S) → Type 0
+  Walked state text (Ok x) = reading state text ≡ steps step x.0.letters (reading x.0.state x.1)
+  Walked state text (Err e) = reading state text ≡ Err e
+
+  walked_more : (state next : S) (c : ℕ) (rest : Text) (read : Read Placed (Taken S)) → after state c ≡ Some next → Walked next rest read
+      → Walked state (Plain c ∷ rest) (one_more c read)
+  walked_more state next c rest (Ok x) is h = over state next c rest is ∙ ap (step c) h
+  walked_more state next c rest (Err e) is h = over state next c rest is ∙ ap (step c) h ∙ failed c e
+
+  walked_on : (state : S) (c : ℕ) (rest : Text) (next : Option S) → after state c ≡ next → ((n : S) → Walked n rest (letters_by after n rest))
+      → Walked state (Plain c ∷ rest) (on_letter next (λ n. one_more c (letters_by after n rest)) (Ok (nothing_taken state (Some c), Plain c ∷ rest)))
+  walked_on state c rest None is same = refl
+  walked_on state c rest (Some next) is same = walked_more state next c rest _ is (same next)
+
+  walked : (state : S) (text : Text) → Walked state text (letters_by after state text)
+  unfolding letters_by
+  walked state [] = refl
+  walked state (Bad ∷ rest) = at_bad state rest
+  walked state (Plain c ∷ rest) = walked_on state c rest (after state c) refl (λ n. walked n rest)
+
+  pub walk_failed : (state : S) (text : Text) (fault : Placed) → letters_by after state text ≡ Err fault → reading state text ≡ Err fault
+  walk_failed state text fault e = let w : Walked state text (Err fault) = subst (Walked state text) e (walked state text) in w
+
+  pub walk_passed : (state : S) (text rest : Text) (taken : Taken S) → letters_by after state text ≡ Ok (taken, rest)
+      → reading state text ≡ steps step taken.letters (reading taken.state rest)
+  walk_passed state text rest taken e = let w : Walked state text (Ok (taken, rest)) = subst (Walked state text) e (walked state text) in w
+
+-- a reading of code units
+module _ {S : Type 0} (after : S → ℕ → Option S) (reading : S → Text → Read Placed (List ℕ))
+    (over : (state next : S) (c : ℕ) (rest : Text) → after state c ≡ Some next → reading state (Plain c ∷ rest) ≡ with_letter c (reading next rest))
+    (at_bad : (state : S) (rest : Text) → reading state (Bad ∷ rest) ≡ Err (NonAsciiCodePoint, Bad ∷ rest)) where
+  pub run_failed : (state : S) (text : Text) (fault : Placed) → letters_by after state text ≡ Err fault → reading state text ≡ Err fault
+  run_failed = walk_failed after with_letter reading over at_bad (λ c e. refl)
+
+  pub run_passed : (state : S) (text rest : Text) (taken : Taken S) → letters_by after state text ≡ Ok (taken, rest)
+      → reading state text ≡ with_letters taken.letters (reading taken.state rest)
+  run_passed = walk_passed after with_letter reading over at_bad (λ c e. refl)
+
+-- ---- the run itself
+
+steps_taken : {S : Type 0} (letters : List ℕ) (state : S) (next : Option ℕ) (rest : Text)
+    → steps one_more letters (Ok (nothing_taken state next, rest)) ≡ Ok (record { letters = letters; state = state; next = next }, rest)
+steps_taken [] state next rest = refl
+steps_taken (c ∷ letters) state next rest = ap (one_more c) (steps_taken letters state next rest)
+
+module _ {S : Type 0} (after : S → ℕ → Option S) where
+  run_more : (state next : S) (c : ℕ) (rest : Text) → after state c ≡ Some next → letters_by after state (Plain c ∷ rest) ≡ one_more c (letters_by after next rest)
   unfolding letters_by
   run_more state next c rest is = rw is refl
 
-  run_stays : (state : S) (c : ℕ) (rest : Text) → after state c ≡ None
-      → run state (Plain c ∷ rest) ≡ Ok (record { letters = []; state = state; next = Some c }, Plain c ∷ rest)
+  run_bad : (state : S) (rest : Text) → letters_by after state (Bad ∷ rest) ≡ Err (NonAsciiCodePoint, Bad ∷ rest)
   unfolding letters_by
-  run_stays state c rest is = rw is refl
+  run_bad state rest = refl
 
-  run_ends : (state : S) (text : Text) → seen text ≡ Ok None
-      → run state text ≡ Ok (record { letters = []; state = state; next = None }, text)
-  unfolding letters_by
-  run_ends state text e = rw (nothing_is text e) refl
-
-  run_fails : (state : S) (text : Text) (fault : Placed) → seen text ≡ Err fault → run state text ≡ Err fault
+  run_fails : (state : S) (text : Text) (fault : Placed) → seen text ≡ Err fault → letters_by after state text ≡ Err fault
   unfolding look_at letters_by
   run_fails state (Bad ∷ more) fault e = let same : (NonAsciiCodePoint, Bad ∷ more) ≡ fault = cc in rw same refl
   run_fails state text fault e = absurd cc
@@ -103,51 +159,32 @@ module _ {S : Type 0} (after : S → ℕ → Option S) where
   pub next_stays : (state : S) (text rest : Text) (taken : Taken S) → letters_by after state text ≡ Ok (taken, rest) → Stays taken.state taken.next
   next_stays state text rest taken e = let h : Shown (Ok (taken, rest)) = subst (λ read. Shown read) e (shown state text) in h.1
 
-  -- So far these code units were taken, and the others remain.
-  pub record IsSoFar (letter : ℕ → Letter) (start : S) (whole rest : List ℕ) (state : S) : Type 0 where
-    pub taken : List ℕ
-    pub units : whole ≡ taken ++ rest
-    pub read : run start (map letter whole) ≡ with_letters taken (run state (map letter rest))
+  run_ceases : (state : S) (text : Text) (next : Option ℕ) → seen text ≡ Ok next → Stays state next
+      → letters_by after state text ≡ Ok (nothing_taken state next, text)
+  unfolding letters_by
+  run_ceases state text None e is = rw (nothing_is text e) refl
+  run_ceases state text (Some c) e is = rw (letter_first text c e, is) refl
+
+  abbrev pub IsSoFar : (ℕ → Letter) → S → List ℕ → List ℕ → S → Type 0
+  IsSoFar letter start whole rest state = IsFar one_more (letters_by after) letter start whole rest state
 
   pub begins : (letter : ℕ → Letter) (start : S) (whole : List ℕ) → IsSoFar letter start whole whole start
-  begins letter start whole = record { taken = []; units = refl; read = sym (with_none _) }
+  begins letter start whole = record { taken = []; units = refl; read = refl }
 
   module _ (letter : ℕ → Letter) (faithful : (unit n : ℕ) → letter unit ≡ Plain n → n ≡ unit) (start : S) (whole rest : List ℕ) (state : S)
       (far : IsSoFar letter start whole rest state) where
     -- the code unit goes on
     pub goes_on : (left : List ℕ) (next : S) (c : ℕ) → seen (map letter rest) ≡ Ok (Some c) → after state c ≡ Some next
         → left ≡ drop 1 rest → IsSoFar letter start whole left next
-    goes_on left next c e is moved =
-        let here = first_is letter faithful rest c e in
-        let same : left ≡ here.0 = moved ∙ ap (λ t. drop 1 t) here.1 in
-        record {
-          taken = far.taken ++ (c ∷ []);
-          units = far.units ∙ rw (here.1, same) (sym (append_assoc far.taken (c ∷ []) here.0));
-          read = far.read ∙ ap (λ t. with_letters far.taken (run state t)) here.2 ∙ ap (with_letters far.taken) (run_more state next c (map letter here.0) is)
-              ∙ with_one_more far.taken c (run next (map letter here.0)) ∙ ap (λ t. with_letters (far.taken ++ (c ∷ [])) (run next (map letter t))) (sym same);
-        }
-
-    -- the code unit does not go on
-    pub stays : (c : ℕ) → seen (map letter rest) ≡ Ok (Some c) → after state c ≡ None
-        → run start (map letter whole) ≡ Ok (record { letters = far.taken; state = state; next = Some c }, map letter rest)
-    stays c e is =
-        let here = first_is letter faithful rest c e in
-        far.read ∙ ap (λ t. with_letters far.taken (run state t)) here.2 ∙ ap (with_letters far.taken) (run_stays state c (map letter here.0) is)
-        ∙ rw (append-nil far.taken, here.2) refl
-
-    -- there is no code unit
-    pub ends : seen (map letter rest) ≡ Ok None
-        → run start (map letter whole) ≡ Ok (record { letters = far.taken; state = state; next = None }, map letter rest)
-    ends e = far.read ∙ ap (with_letters far.taken) (run_ends state (map letter rest) e) ∙ rw (append-nil far.taken) refl
+    goes_on left next c e is moved = one_far far faithful left next c e (λ more. run_more state next c more is) moved
 
     -- it goes no further
     pub ceases : (next : Option ℕ) → seen (map letter rest) ≡ Ok next → Stays state next
-        → run start (map letter whole) ≡ Ok (record { letters = far.taken; state = state; next = next }, map letter rest)
-    ceases None e is = ends e
-    ceases (Some c) e is = stays c e is
+        → letters_by after start (map letter whole) ≡ Ok (record { letters = far.taken; state = state; next = next }, map letter rest)
+    ceases next e is = far.read ∙ ap (steps one_more far.taken) (run_ceases state (map letter rest) next e is) ∙ steps_taken far.taken state next (map letter rest)
 
-    pub fails : (fault : Placed) → seen (map letter rest) ≡ Err fault → run start (map letter whole) ≡ Err fault
-    fails fault e = far.read ∙ ap (with_letters far.taken) (run_fails state (map letter rest) fault e)
+    pub fails : (fault : Placed) → seen (map letter rest) ≡ Err fault → letters_by after start (map letter whole) ≡ Err fault
+    fails fault e = far_fails far (λ c e. refl) fault (run_fails state (map letter rest) fault e)
 
 -- the code units that were taken are the first of those before, so many as do not follow
 pub front_before : {U : Type 0} (number : U → ℕ) (start : List U) (behind : ℕ) (taken rest whole : List ℕ) → map number start ≡ whole → whole ≡ taken ++ rest
@@ -167,108 +204,25 @@ pub behind_last : {U : Type 0} (number : U → ℕ) (after : List U) (rest left 
     → length (drop 1 rest) + 1 ≡ length rest → length after + 1 ≡ length rest
 behind_last number after rest left all split stays = omega (arith, stays, length-map after number, ap length all, ap length split)
 
--- ---- what is read behind code units
-
--- code units in front of what was read
-abbrev pub in_front : List ℕ → Read Placed (List ℕ) → Read Placed (List ℕ)
-in_front letters (Ok x) = Ok (letters ++ x.0, x.1)
-in_front letters (Err e) = Err e
-
-pub in_front_none : (read : Read Placed (List ℕ)) → read ≡ in_front [] read
-in_front_none (Ok x) = refl
-in_front_none (Err e) = refl
-
-pub in_front_both : (a b : List ℕ) (read : Read Placed (List ℕ)) → in_front a (in_front b read) ≡ in_front (a ++ b) read
-in_front_both a b (Ok x) = ap (λ t. Ok (t, x.1)) (sym (append_assoc a b x.0))
-in_front_both a b (Err e) = refl
-
-pub in_front_more : (a : List ℕ) (c : ℕ) (read : Read Placed (List ℕ)) → in_front a (with_letter c read) ≡ in_front (a ++ (c ∷ [])) read
-in_front_more a c (Ok x) = ap (λ t. Ok (t, x.1)) (sym (append_assoc a (c ∷ []) x.0))
-in_front_more a c (Err e) = refl
-
--- a reading that takes each code unit that goes on
-module _ {S : Type 0} (after : S → ℕ → Option S) (reading : S → Text → Read Placed (List ℕ))
-    (over : (state next : S) (c : ℕ) (rest : Text) → after state c ≡ Some next → reading state (Plain c ∷ rest) ≡ with_letter c (reading next rest))
-    (at_bad : (state : S) (rest : Text) → reading state (Bad ∷ rest) ≡ Err (NonAsciiCodePoint, Bad ∷ rest)) where
-  -- the code units, and what is read behind them
-  abbrev behind : Read Placed (Taken S) → Read Placed (List ℕ)
-  behind read = read >>= λ x. in_front x.0.letters (reading x.0.state x.1)
-
-  one_in_front : (c : ℕ) (letters : List ℕ) (read : Read Placed (List ℕ)) → with_letter c (in_front letters read) ≡ in_front (c ∷ letters) read
-  one_in_front c letters (Ok x) = refl
-  one_in_front c letters (Err e) = refl
-
-  behind_more : (c : ℕ) (read : Read Placed (Taken S)) → with_letter c (behind read) ≡ behind (one_more c read)
-  behind_more c (Ok x) = one_in_front c x.0.letters _
-  behind_more c (Err e) = refl
-
-  reads_on : (state : S) (c : ℕ) (rest : Text) → ((next : S) → reading next rest ≡ behind (letters_by after next rest)) → (next : Option S)
-      → after state c ≡ next
-      → reading state (Plain c ∷ rest) ≡ behind (on_letter next (λ n. one_more c (letters_by after n rest)) (Ok (nothing_taken state (Some c), Plain c ∷ rest)))
-  reads_on state c rest same None e = in_front_none _
-  reads_on state c rest same (Some next) e =
-      over state next c rest e ∙ ap (λ read. with_letter c read) (same next) ∙ behind_more c (letters_by after next rest)
-
-  reads_over : (state : S) (text : Text) → reading state text ≡ behind (letters_by after state text)
-  unfolding letters_by
-  reads_over state [] = in_front_none _
-  reads_over state (Bad ∷ rest) = at_bad state rest
-  reads_over state (Plain c ∷ rest) = reads_on state c rest (λ next. reads_over next rest) (after state c) refl
-
-  pub run_failed : (state : S) (text : Text) (fault : Placed) → letters_by after state text ≡ Err fault → reading state text ≡ Err fault
-  run_failed state text fault e = reads_over state text ∙ ap behind e
-
-  pub run_passed : (state : S) (text rest : Text) (taken : Taken S) → letters_by after state text ≡ Ok (taken, rest)
-      → reading state text ≡ in_front taken.letters (reading taken.state rest)
-  run_passed state text rest taken e = reads_over state text ∙ ap behind e
-
 -- ---- code units of one kind within another
-
-with_both : {S : Type 0} (a b : List ℕ) (read : Read Placed (Taken S)) → with_letters a (with_letters b read) ≡ with_letters (a ++ b) read
-with_both a b (Ok x) = ap (λ t. Ok (record { letters = t; state = x.0.state; next = x.0.next }, x.1)) (sym (append_assoc a b x.0.letters))
-with_both a b (Err e) = refl
 
 -- code units that leave reading of the other kind where it is
 module _ {S U : Type 0} (after : S → ℕ → Option S) (wider : U → ℕ → Option U) (here : U)
     (within : (state next : S) (c : ℕ) → after state c ≡ Some next → wider here c ≡ Some here) where
-  -- those code units, and what is read behind them
-  abbrev beyond : Read Placed (Taken S) → Read Placed (Taken U)
-  beyond (Ok x) = with_letters x.0.letters (letters_by wider here x.1)
-  beyond (Err e) = Err e
+  abbrev wide : S → Text → Read Placed (Taken U)
+  wide state text = letters_by wider here text
 
-  one_before : (c : ℕ) (letters : List ℕ) (read : Read Placed (Taken U)) → one_more c (with_letters letters read) ≡ with_letters (c ∷ letters) read
-  one_before c letters (Ok x) = refl
-  one_before c letters (Err e) = refl
-
-  beyond_more : (c : ℕ) (read : Read Placed (Taken S)) → one_more c (beyond read) ≡ beyond (one_more c read)
-  beyond_more c (Ok x) = one_before c x.0.letters _
-  beyond_more c (Err e) = refl
-
-  beyond_on : (state : S) (c : ℕ) (rest : Text) → ((next : S) → letters_by wider here rest ≡ beyond (letters_by after next rest)) → (next : Option S)
-      → after state c ≡ next
-      → letters_by wider here (Plain c ∷ rest)
-      ≡ beyond (on_letter next (λ n. one_more c (letters_by after n rest)) (Ok (nothing_taken state (Some c), Plain c ∷ rest)))
-  beyond_on state c rest same None e = sym (with_none _)
-  beyond_on state c rest same (Some next) e =
-      run_more wider here here c rest (within state next c e) ∙ ap (one_more c) (same next) ∙ beyond_more c (letters_by after next rest)
-
-  passes_over : (state : S) (text : Text) → letters_by wider here text ≡ beyond (letters_by after state text)
-  unfolding letters_by
-  passes_over state [] = refl
-  passes_over state (Bad ∷ rest) = refl
-  passes_over state (Plain c ∷ rest) = beyond_on state c rest (λ next. passes_over next rest) (after state c) refl
+  wide_over : (state next : S) (c : ℕ) (rest : Text) → after state c ≡ Some next → wide state (Plain c ∷ rest) ≡ one_more c (wide next rest)
+  wide_over state next c rest is = run_more wider here here c rest (within state next c is)
 
   module _ (letter : ℕ → Letter) (start : U) (whole rest : List ℕ) (far : IsSoFar wider letter start whole rest here) where
     -- these code units were passed over
     pub goes_over : (left letters : List ℕ) (state : S) (taken : Taken S) → rest ≡ letters ++ left
         → letters_by after state (map letter rest) ≡ Ok (taken, map letter left) → taken.letters ≡ letters → IsSoFar wider letter start whole left here
-    goes_over left letters state taken split passed same = record {
-      taken = far.taken ++ letters;
-      units = far.units ∙ ap (λ t. far.taken ++ t) split ∙ sym (append_assoc far.taken letters left);
-      read = far.read ∙ ap (with_letters far.taken) (passes_over state (map letter rest) ∙ ap beyond passed
-          ∙ ap (λ t. with_letters t (letters_by wider here (map letter left))) same)
-          ∙ with_both far.taken letters (letters_by wider here (map letter left));
-    }
+    goes_over left letters state taken split passed same = more_far far left letters here split
+        (walk_passed after one_more wide wide_over (λ state rest. run_bad wider here rest) (λ c e. refl) state (map letter rest) (map letter left) taken passed
+        ∙ ap (λ t. steps one_more t (letters_by wider here (map letter left))) same)
 
     pub fails_over : (state : S) (fault : Placed) → letters_by after state (map letter rest) ≡ Err fault → letters_by wider start (map letter whole) ≡ Err fault
-    fails_over state fault e = far.read ∙ ap (with_letters far.taken) (passes_over state (map letter rest) ∙ ap beyond e)
+    fails_over state fault e = far_fails far (λ c e. refl) fault
+        (walk_failed after one_more wide wide_over (λ state rest. run_bad wider here rest) (λ c e. refl) state (map letter rest) fault e)

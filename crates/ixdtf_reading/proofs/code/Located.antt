@@ -1,26 +1,11 @@
 -- The clauses of a reader that reads no pairs and returns the places of its errors, from what its reading returns.
-use Rattle.std.proofs.Common.{◌≡◌, ℕ, ◌-◌, ◌≤◌, List, [], length, map, Result, Ok, Err, IfErr, OnOk, IsFalse, sym, ap, ◌∙◌, arith}
-use Rattle.std.proofs.lemmas.List.{length-map, length-append}
-use Rattle.ixdtf_grammar.specs.declared.located.LocatedError.{LocatedError}
-use Rattle.ixdtf_grammar.specs.declared.profile.Profile.{Profile}
-use Rattle.ixdtf_reading.specs.declared.stop.Stop.{Stop}
-use Rattle.ixdtf_grammar.specs.Laws.{IsTextReader, InNoOther}
-use Rattle.ixdtf_grammar.specs.Views.{Unread, returned_by}
-use Rattle.ixdtf_grammar.specs.language.Languages.{Found, Derives}
-use Rattle.ixdtf_grammar.specs.language.Letters.{Letter, Text}
-use Rattle.ixdtf_grammar.specs.language.Readers.{Reader}
-use Rattle.ixdtf_grammar.specs.table.Faults.{Fault, fault_of_located, stands_behind, never_comes}
-use Rattle.ixdtf_grammar.specs.table.Lines.{Line}
-use Rattle.ixdtf_grammar.specs.table.Lines.Line.{line, scanned, whole}
-use Rattle.ixdtf_grammar.specs.table.Outcomes.{HasFaultAt, NoRowFits, OnlyFault, OnlyPlace}
-use Rattle.ixdtf_grammar.specs.table.Rows.{Row, Place, Stops, Fits, left_at}
-use Rattle.ixdtf_grammar.specs.table.Rows.Place.{end, other, bad, anywhere}
-use Rattle.ixdtf_reading.specs.reading.Looks.{Read, Placed, error_of}
-use Rattle.ixdtf_reading.specs.reading.Clauses.{Reads, Settles, fault_of_stop}
+use Rattle.std.proofs.{Common.{◌≡◌, ℕ, ◌-◌, ◌≤◌, List, [], length, map, Result, Ok, Err, IfErr, sym, ap, ◌∙◌, arith}, lemmas.List.{length-map, length-append}}
+use Rattle.ixdtf_grammar.specs.{declared.located.LocatedError.LocatedError, Views.Unread, language.{Languages.Found, Letters.{Letter, Text}, Readers.Reader}}
+use Rattle.ixdtf_grammar.specs.table.{Faults.{Fault, fault_of_located, stands_behind}, Lines.{Line, Line.{line, scanned, whole}}}
+use Rattle.ixdtf_grammar.specs.table.{Outcomes.{HasFaultAt, OnlyPlace}, Rows.{Row, Place, Stops, Fits, left_at, Place.{end, other, bad, anywhere}}}
+use Rattle.ixdtf_reading.specs.{declared.stop.Stop.Stop, reading.{Looks.{Read, Placed, error_of}, Clauses.{Reads, Settles, fault_of_stop}}}
 use Rattle.ixdtf_reading.specs.reading.Wholes.{finding, read_at}
-use Rattle.ixdtf_reading.proofs.code.ReadersWithoutPairs.{ReadsNoPairs, error_after, Exact, exact}
-use Rattle.ixdtf_reading.proofs.parts.Looks.{OnRead}
-use Rattle.ixdtf_reading.proofs.theorems.OneOutcome.{place_once}
+use Rattle.ixdtf_reading.proofs.{code.ReadersWithoutPairs.{ReadsNoPairs, error_after, Exact, exact}, parts.Looks.OnRead, theorems.OneOutcome.place_once}
 
 -- where a row stops, its place has what the text has there
 pub left_is : (l : Line) (place : Place) (e : Fault) (rest : Text) → Stops l place e rest → left_at place ≡ rest

@@ -1,12 +1,8 @@
 -- One more reply at the end of a list of replies.
 use Rattle.std.proofs.Common.{◌≡◌, ◌⊎◌, List, [], ◌∷◌, ◌++◌, Option, Some, None, refl, ◌∙◌, ap, inl, inr, append_assoc}
-use Rattle.std.specs.Prelude.{find, filter_map}
-use Rattle.std.specs.Option.{option_or}
-use Rattle.std.proofs.lemmas.List.Elements.{filter_map-append}
-use Rattle.std.proofs.lemmas.List.Folds.{find-append}
-use Rattle.ixdtf_grammar.specs.table.Faults.{Fault}
-use Rattle.ixdtf_grammar.specs.table.Faults.Fault.{UnrecognizedCritical, CriticalDuplicateCalendar}
-use Rattle.ixdtf_grammar.specs.language.Brackets.{Pair}
+use Rattle.std.proofs.lemmas.List.{Elements.filter_map-append, Folds.find-append}
+use Rattle.std.specs.{Prelude.{find, filter_map}, Option.option_or}
+use Rattle.ixdtf_grammar.specs.{table.Faults.{Fault, Fault.{UnrecognizedCritical, CriticalDuplicateCalendar}}, language.Brackets.Pair}
 use Rattle.ixdtf_grammar.specs.Handlers.{Reply, is_calendar, first_calendar, RefusedBeside, IsRefused, NoneRefused, LastRefused}
 
 -- no element stands in the empty list

@@ -1,22 +1,15 @@
 -- The code units of a key and of a value, taken one by one.
-use Rattle.std.proofs.Common.{◌≡◌, ℕ, Bool, true, false, List, [], ◌∷◌, ◌++◌, map, drop, Option, Some, None, Ok, Err, refl, sym, ap, subst, ◌∙◌, if◌then◌else◌}
-use Rattle.std.proofs.Common.{append_assoc, append-nil, arith}
-use Rattle.std.proofs.lemmas.Bool.Decides.{nat_tests}
-use Rattle.ixdtf_reading.specs.declared.annotations.KeyLetters.{KeyLetters}
-use Rattle.ixdtf_reading.specs.declared.annotations.ComponentLetters.{ComponentLetters}
-use Rattle.ixdtf_reading.specs.reading.Pairs.{ValueState, AtStart, Inside, AfterHyphen, GoesOn, Ends, Stops}
-use Rattle.ixdtf_grammar.specs.language.Letters.Letter.{Plain, Bad}
-use Rattle.ixdtf_grammar.specs.language.Letters.{Letter, Text, equals, hyphen, closing, key_char, value_char}
-use Rattle.ixdtf_grammar.specs.table.Faults.{Fault}
-use Rattle.ixdtf_grammar.specs.table.Faults.Fault.{AnnotationKeyValueSeparator, AnnotationKeyChar}
-use Rattle.ixdtf_grammar.specs.table.Faults.Fault.{NonAsciiCodePoint, AnnotationValueChar, AnnotationClose}
-use Rattle.ixdtf_reading.specs.reading.Looks.{Placed, Read, look_at, seen, next_by, error_of}
-use Rattle.ixdtf_reading.specs.reading.Zones.{with_letter}
+use Rattle.std.proofs.Common.{◌≡◌, ℕ, Bool, true, false, List, [], ◌∷◌, ◌++◌, map, drop, Option, Some, None, Ok, Err, refl, sym, ap, subst, ◌∙◌}
+use Rattle.std.proofs.{Common.{if◌then◌else◌, arith}, lemmas.Bool.Decides.nat_tests}
+use Rattle.ixdtf_reading.specs.{declared.annotations.{KeyLetters.KeyLetters, ComponentLetters.ComponentLetters}, reading.Pairs.{ValueState, AtStart, Inside}}
+use Rattle.ixdtf_reading.specs.reading.Pairs.{AfterHyphen, GoesOn, Ends, Stops, key_run, component_look, value_run, value_mark, value_step, value_end}
+use Rattle.ixdtf_reading.specs.reading.{Pairs.value_other, Looks.{Placed, Read, look_at, seen, next_by, error_of}, Zones.with_letter}
 use Rattle.ixdtf_reading.specs.reading.Runs.{Taken, letters_by, key_after, component_after}
-use Rattle.ixdtf_reading.specs.reading.Pairs.{key_run, component_look, value_run, value_mark, value_step, value_end, value_other}
-use Rattle.ixdtf_reading.proofs.code.FirstLetter.{first_is as letter_first, nothing_is}
-use Rattle.ixdtf_reading.proofs.code.LetterLoops.{test_held, test_failed, first_is, Stays, next_shown, next_stays}
-use Rattle.ixdtf_reading.proofs.code.LetterLoops.{in_front, in_front_none, in_front_both, in_front_more, run_failed, run_passed}
+use Rattle.ixdtf_reading.proofs.code.{FirstLetter.{first_is as letter_first, nothing_is}, LetterLoops.{test_held, test_failed, first_is, Stays, next_shown}}
+use Rattle.ixdtf_reading.proofs.code.LetterLoops.{next_stays, run_failed, run_passed, IsFar, one_far, more_far, far_fails}
+use Rattle.ixdtf_reading.proofs.parts.Steps.{with_letters, letters_err, letters_ok}
+use Rattle.ixdtf_grammar.specs.{language.Letters.{Letter, Text, equals, hyphen, closing, key_char, value_char, Letter.{Plain, Bad}}, table.Faults.Fault}
+use Rattle.ixdtf_grammar.specs.table.Faults.Fault.{AnnotationKeyValueSeparator, AnnotationKeyChar, NonAsciiCodePoint, AnnotationValueChar, AnnotationClose}
 
 -- ---- keys
 
@@ -34,12 +27,13 @@ module _ (letters : KeyLetters) (text : Text) where
   key_failed fault e = run_failed key_after (λ letters text. key_run error_of text) key_over key_bad letters text fault e
 
   module _ (rest : Text) (taken : Taken KeyLetters) (passed : letters_by key_after letters text ≡ Ok (taken, rest)) where
-    key_passed : key_run error_of text ≡ in_front taken.letters (key_run error_of rest)
+    key_passed : key_run error_of text ≡ with_letters taken.letters (key_run error_of rest)
     key_passed = run_passed key_after (λ letters text. key_run error_of text) key_over key_bad letters text rest taken passed
 
     pub key_ended : taken.next ≡ None → key_run error_of text ≡ Err (AnnotationKeyValueSeparator, rest)
     unfolding key_run
-    key_ended is = key_passed ∙ rw (nothing_is rest (next_shown key_after letters text rest taken passed ∙ ap Ok is)) refl
+    key_ended is =
+        key_passed ∙ rw (nothing_is rest (next_shown key_after letters text rest taken passed ∙ ap Ok is)) (letters_err taken.letters (AnnotationKeyValueSeparator, []))
 
     module _ (c : ℕ) (is : taken.next ≡ Some c) where
       key_next : rest ≡ Plain c ∷ drop 1 rest
@@ -51,11 +45,11 @@ module _ (letters : KeyLetters) (text : Text) where
 
       pub key_closed : equals c ≡ true → key_run error_of text ≡ Ok (taken.letters, drop 1 rest)
       unfolding key_run
-      key_closed test = key_passed ∙ rw (key_next, key_stays, test) (ap (λ t. Ok (t, drop 1 rest)) (append-nil taken.letters))
+      key_closed test = key_passed ∙ rw (key_next, key_stays, test) (letters_ok taken.letters (drop 1 rest))
 
       pub key_refused : equals c ≡ false → key_run error_of text ≡ Err (AnnotationKeyChar, rest)
       unfolding key_run
-      key_refused test = key_passed ∙ rw (key_next, key_stays, test) refl
+      key_refused test = key_passed ∙ rw (key_next, key_stays, test) (letters_err taken.letters (AnnotationKeyChar, Plain c ∷ drop 1 rest))
 
 -- ---- values
 
@@ -119,45 +113,27 @@ component_bad : (letters : ComponentLetters) (rest : Text) → value_run error_o
 unfolding value_run
 component_bad letters rest = refl
 
-module _ (letter : ℕ → Letter) (whole : List ℕ) where
-  -- So far these code units of a value were taken, and the others remain.
-  pub record ValueSoFar (rest : List ℕ) (state : ValueState) : Type 0 where
-    pub taken : List ℕ
-    pub units : whole ≡ taken ++ rest
-    pub read : value_run error_of AtStart (map letter whole) ≡ in_front taken (value_run error_of state (map letter rest))
+-- So far these code units of a value were taken, and the others remain.
+abbrev pub ValueSoFar : (ℕ → Letter) → List ℕ → List ℕ → ValueState → Type 0
+ValueSoFar letter whole rest state = IsFar with_letter (value_run error_of) letter AtStart whole rest state
 
-  pub value_begins : ValueSoFar whole AtStart
-  value_begins = record { taken = []; units = refl; read = in_front_none _ }
+pub value_begins : (letter : ℕ → Letter) (whole : List ℕ) → ValueSoFar letter whole whole AtStart
+value_begins letter whole = record { taken = []; units = refl; read = refl }
 
 module _ (letter : ℕ → Letter) (faithful : (unit n : ℕ) → letter unit ≡ Plain n → n ≡ unit) (whole : List ℕ) where
   abbrev Far : List ℕ → ValueState → Type 0
   Far rest state = ValueSoFar letter whole rest state
 
   module _ (rest : List ℕ) (state : ValueState) (far : ValueSoFar letter whole rest state) where
-    -- one more code unit
-    value_more : (left : List ℕ) (next : ValueState) (c : ℕ) → seen (map letter rest) ≡ Ok (Some c) → value_step state c ≡ GoesOn next → left ≡ drop 1 rest
-        → Far left next
-    value_more left next c e step moved =
-        let here = first_is letter faithful rest c e in
-        let same : left ≡ here.0 = moved ∙ ap (λ t. drop 1 t) here.1 in
-        record {
-          taken = far.taken ++ (c ∷ []);
-          units = far.units ∙ rw (here.1, same) (sym (append_assoc far.taken (c ∷ []) here.0));
-          read = far.read ∙ ap (λ t. in_front far.taken (value_run error_of state t)) here.2
-              ∙ ap (λ read. in_front far.taken read) (value_on state next c (map letter here.0) step)
-              ∙ in_front_more far.taken c (value_run error_of next (map letter here.0))
-              ∙ ap (λ t. in_front (far.taken ++ (c ∷ [])) (value_run error_of next (map letter t))) (sym same);
-        }
-
     pub value_fails : (fault : Placed) → value_run error_of state (map letter rest) ≡ Err fault → value_run error_of AtStart (map letter whole) ≡ Err fault
-    value_fails fault e = far.read ∙ ap (λ read. in_front far.taken read) e
+    value_fails fault e = far_fails far (λ c e. refl) fault e
 
     -- a component begins
     pub value_starts : (fault : Fault) (left : List ℕ) (c : ℕ) → next_by (component_look fault) (map letter rest) ≡ Ok (c, map letter left) → left ≡ drop 1 rest
         → Far left Inside
     value_starts fault left c e moved =
         let (found, is) = started fault (map letter rest) (map letter left) c e in
-        value_more left Inside c found (at_letter state c is) moved
+        one_far far faithful left Inside c found (λ more. value_on state Inside c more (at_letter state c is)) moved
 
   module _ (rest : List ℕ) (far : ValueSoFar letter whole rest Inside) (letters : ComponentLetters) where
     -- a component is refused
@@ -171,14 +147,9 @@ module _ (letter : ℕ → Letter) (faithful : (unit n : ℕ) → letter unit �
         (split : rest ≡ taken.letters ++ left) where
       -- behind a component
       component_passed : Far left Inside
-      component_passed = record {
-        taken = far.taken ++ taken.letters;
-        units = far.units ∙ ap (λ t. far.taken ++ t) split ∙ sym (append_assoc far.taken taken.letters left);
-        read = far.read
-            ∙ ap (λ read. in_front far.taken read)
-            (run_passed component_after (λ letters text. value_run error_of Inside text) component_over component_bad letters (map letter rest) (map letter left) taken passed)
-            ∙ in_front_both far.taken taken.letters (value_run error_of Inside (map letter left));
-      }
+      component_passed = more_far far left taken.letters Inside split
+          (run_passed component_after (λ letters text. value_run error_of Inside text) component_over component_bad letters (map letter rest) (map letter left) taken
+          passed)
 
       next_is : (next : Option ℕ) → taken.next ≡ next → seen (map letter left) ≡ Ok next
       next_is next is = next_shown component_after letters (map letter rest) (map letter left) taken passed ∙ ap Ok is
@@ -204,14 +175,15 @@ module _ (letter : ℕ → Letter) (faithful : (unit n : ℕ) → letter unit �
           let all = component_passed.taken in (
             all,
             component_passed.units,
-            component_passed.read ∙ rw here.2 (ap (λ read. in_front all read) (value_ends Inside c (map letter here.0) step)
-                ∙ ap (λ t. Ok (t, map letter here.0)) (append-nil all)),
+            component_passed.read ∙ rw here.2 (ap (λ read. with_letters all read) (value_ends Inside c (map letter here.0) step)
+                ∙ letters_ok all (map letter here.0)),
           )
 
       -- a hyphen stands behind it
       pub component_joined : (c : ℕ) (after : List ℕ) → taken.next ≡ Some c → hyphen c ≡ true → after ≡ drop 1 left → Far after AfterHyphen
       component_joined c after is test moved =
-          value_more left Inside component_passed after AfterHyphen c (next_is (Some c) is) (rw (no_letter c is, test) refl) moved
+          one_far component_passed faithful after AfterHyphen c (next_is (Some c) is)
+          (λ more. value_on Inside AfterHyphen c more (rw (no_letter c is, test) refl)) moved
 
       -- another code unit stands behind it
       pub component_refused : (c : ℕ) → taken.next ≡ Some c → closing c ≡ false → hyphen c ≡ false

@@ -1,50 +1,23 @@
 -- The clauses of a reader that reads no pairs, from what its reading returns.
 use Rattle.std.proofs.Common.{refl, ◌≡◌, ℕ, List, [], map, Result, Ok, Err, sym, ap, ◌∙◌, IfErr, OnOk, IsFalse}
-use Rattle.ixdtf_grammar.specs.declared.profile.Profile.{Profile}
-use Rattle.ixdtf_grammar.specs.language.Letters.{Letter, Text}
-use Rattle.ixdtf_grammar.specs.table.Faults.{Fault, never_comes}
-use Rattle.ixdtf_reading.specs.declared.stop.Stop.{Stop}
-use Rattle.ixdtf_grammar.specs.Views.{Unread, returned_by}
-use Rattle.ixdtf_reading.specs.reading.Clauses.{Reads, Settles, fault_of_stop}
-use Rattle.ixdtf_grammar.specs.language.Brackets.{Pair}
-use Rattle.ixdtf_grammar.specs.language.Readers.{Reader}
+use Rattle.ixdtf_grammar.specs.{declared.profile.Profile.Profile, language.{Letters.{Letter, Text}, Brackets.Pair, Readers.Reader}}
 use Rattle.ixdtf_grammar.specs.language.Readers.Reader.{bracketed, parse_offset, parse_identifier, parse_iana_identifier, parse_duration}
-use Rattle.ixdtf_grammar.specs.table.Rows.{Row, Fits}
-use Rattle.ixdtf_grammar.specs.language.Languages.{Found, Derives}
-use Rattle.ixdtf_grammar.specs.table.Outcomes.{HasFault, NoRowFits, OnlyFault}
-use Rattle.ixdtf_grammar.specs.Laws.{IsTextReader, InNoOther}
-use Rattle.ixdtf_reading.specs.reading.Looks.{Read, Placed, error_of}
-use Rattle.ixdtf_reading.specs.reading.Wholes.{finding, read_at}
-use Rattle.ixdtf_reading.proofs.to_grammar.Wholes.{OnWhole, whole_read}
-use Rattle.ixdtf_reading.proofs.to_reading.Wholes.{takes}
+use Rattle.ixdtf_grammar.specs.{language.Languages.{Found, Derives}, table.{Faults.{Fault, never_comes}, Rows.{Row, Fits}}}
+use Rattle.ixdtf_grammar.specs.{table.Outcomes.{HasFault, NoRowFits, OnlyFault}, Views.{Unread, returned_by}, Laws.{IsTextReader, InNoOther}}
 use Rattle.ixdtf_grammar.proofs.theorems.NoRow.{fault_comes}
-use Rattle.ixdtf_reading.proofs.theorems.OnlyOutcome.{Accepted, accepted, only_fault}
+use Rattle.ixdtf_reading.specs.{declared.stop.Stop.Stop, reading.{Clauses.{Reads, Settles, fault_of_stop}, Looks.{Read, Placed, error_of}}}
+use Rattle.ixdtf_reading.specs.reading.Wholes.{finding, read_at}
+use Rattle.ixdtf_reading.proofs.{to_grammar.Wholes.{OnWhole, whole_read}, to_reading.Wholes.takes, theorems.OnlyOutcome.{Accepted, accepted, only_fault}}
 use Rattle.ixdtf_reading.proofs.code.Units.{no_units}
 
-abbrev done : {A : Type 0} → A → Result A Fault
+abbrev done : {E A : Type 0} → A → Result A E
 done x = Ok x
 
-abbrev failed : {A : Type 0} → Fault → Result A Fault
-failed fault = Err fault
-
-done_is : {A : Type 0} (x y : A) → done x ≡ done y → x ≡ y
+done_is : {E A : Type 0} (x y : A) → done {E = E} x ≡ done y → x ≡ y
 done_is x y e = cc
 
-failed_is : {A : Type 0} (x : A) (fault : Fault) → failed fault ≡ done x → ⊥
+failed_is : {E A : Type 0} (x : A) (fault : E) → Err fault ≡ done x → ⊥
 failed_is x fault e = cc
-
--- the same of a fault with its place, and of what was read
-abbrev read_done : {A : Type 0} → A → Result A Placed
-read_done x = Ok x
-
-abbrev refused : {A : Type 0} → Placed → Result A Placed
-refused fault = Err fault
-
-read_done_is : {A : Type 0} (x y : A) → read_done x ≡ read_done y → x ≡ y
-read_done_is x y e = cc
-
-refused_is : {A : Type 0} (x : A) (fault : Placed) → refused fault ≡ read_done x → ⊥
-refused_is x fault e = cc
 
 -- the fault is a row's error, whatever pairs stand before it
 abbrev pub error_after : List Pair → Row → Placed
@@ -61,10 +34,7 @@ ReadsNoPairs (parse_duration profile) = Unit {0}
 -- no pairs stand before its rows
 no_pairs : (reader : Reader) (row : Row) (pairs : List Pair) (text : Text) → ReadsNoPairs reader → Fits reader row pairs text → Fits reader row [] text
 no_pairs (bracketed kind) row pairs text none f = absurd none
-no_pairs parse_offset row pairs text none f = rw f.3.1 at f
-no_pairs parse_identifier row pairs text none f = rw f.3.1 at f
-no_pairs parse_iana_identifier row pairs text none f = rw f.3.1 at f
-no_pairs (parse_duration profile) row pairs text none f = rw f.3.1 at f
+no_pairs reader row pairs text none f = rw f.3.1 at f
 
 -- What a reader returned at a text: a kind of what readers find, told apart from each other of the kind.
 module _ {A : Type 0} (reader : Reader) (found : A → Found) (same : (x y : A) → found x ≡ found y → x ≡ y) (text : Text) (reading : Read Placed A)
@@ -81,11 +51,11 @@ module _ {A : Type 0} (reader : Reader) (found : A → Found) (same : (x y : A) 
 
   -- `Ok` exactly where it is derived
   ok_where_derived : (x : A) (rest : Text) → reading ≡ Ok (x, rest) → (y : A)
-      → (done x ≡ done y → Derives reader text (found y) []) × (Derives reader text (found y) [] → done x ≡ done y)
+      → (done {E = Fault} x ≡ done y → Derives reader text (found y) []) × (Derives reader text (found y) [] → done {E = Fault} x ≡ done y)
   ok_where_derived x rest is y = (
-    λ e. rw (← (done_is x y e)) (returned_here (Ok (x, rest)) is).1,
+    λ e. rw (← (done_is {E = Fault} x y e)) (returned_here (Ok (x, rest)) is).1,
     λ d.
-        let read = read_done_is ((found x, []), rest) ((found y, []), []) (sym (reads ∙ ap (finding found) is) ∙ takes error_after reader text (found y) [] d) in
+        let read = done_is {E = Placed} ((found x, []), rest) ((found y, []), []) (sym (reads ∙ ap (finding found) is) ∙ takes error_after reader text (found y) [] d) in
         ap done (same x y (ap (λ p. p.0.0) read)),
   )
 
@@ -95,10 +65,10 @@ module _ {A : Type 0} (reader : Reader) (found : A → Found) (same : (x y : A) 
 
   -- nothing is derived where reading returned a fault
   err_where_refused : (fault : Fault) (left : Text) → reading ≡ Err (fault, left) → (y : A)
-      → (failed fault ≡ done y → Derives reader text (found y) []) × (Derives reader text (found y) [] → failed fault ≡ done y)
+      → (Err fault ≡ done y → Derives reader text (found y) []) × (Derives reader text (found y) [] → Err fault ≡ done y)
   err_where_refused fault left is y = (
     λ e. absurd (failed_is y fault e),
-    λ d. absurd (refused_is ((found y, []), []) (fault, left) (sym (reads ∙ ap (finding found) is) ∙ takes error_after reader text (found y) [] d)),
+    λ d. absurd (failed_is ((found y, []), []) (fault, left) (sym (reads ∙ ap (finding found) is) ∙ takes error_after reader text (found y) [] d)),
   )
 
   -- a fault is the error of a row that fits

@@ -1,9 +1,7 @@
 -- Tables, held against what they are tables of at each place by computing.
-use Rattle.std.proofs.Common.{◌≡◌, ℕ, zero, suc, ◌+◌, ◌<◌, ◌≤◌, Bool, true, false, ◌&&◌, nat_eq, List, [], ◌∷◌, slice_index_or, bit_and, IsTrue, refl, arith, inl, inr}
-use Rattle.std.specs.Prelude.{not, IsFalse}
-use Rattle.std.specs.Bool.{beq}
-use Rattle.std.proofs.lemmas.Bool.Decides.{nat_tests}
-use Rattle.std.proofs.lemmas.Bool.{cases_eq}
+use Rattle.std.proofs.Common.{◌≡◌, ℕ, zero, suc, ◌+◌, ◌<◌, ◌≤◌, Bool, true, false, ◌&&◌, nat_eq, List, [], ◌∷◌, slice_index_or, bit_and, IsTrue, refl, arith}
+use Rattle.std.proofs.{Common.{inl, inr}, lemmas.Bool.{cases_eq, Decides.nat_tests}}
+use Rattle.std.specs.{Prelude.{not, IsFalse}, Bool.beq}
 use Rattle.ixdtf_grammar.specs.language.Letters.{digit, zone_char, key_char, value_char}
 use Rattle.ixdtf_reading.specs.reading.FixedPlaces.{tens_value, ones_value}
 

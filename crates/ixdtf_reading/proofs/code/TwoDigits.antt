@@ -1,16 +1,10 @@
 -- Two digits, by looks at the first two places.
 use Rattle.std.proofs.Common.{◌≡◌, ℕ, ◌≤◌, ◌<◌, Bool, true, false, IsTrue, List, [], ◌∷◌, length, map, drop, Option, Some, None, Result, Ok, Err, refl, arith}
-use Rattle.ixdtf_reading.specs.declared.stop.Stop.{Stop}
-use Rattle.ixdtf_grammar.specs.language.Letters.{Letter, Text}
-use Rattle.ixdtf_grammar.specs.language.Letters.Letter.{Plain, Bad}
-use Rattle.ixdtf_grammar.specs.language.Letters.{digit}
-use Rattle.ixdtf_grammar.specs.table.Faults.{Fault}
-use Rattle.ixdtf_grammar.specs.table.Lines.{abrupt_digit}
-use Rattle.ixdtf_grammar.specs.Views.{ascii_at, looked}
-use Rattle.ixdtf_reading.specs.reading.Looks.{Placed, Read, ◌>>=◌, look_at, next_by, digits_by, digit_look}
-use Rattle.ixdtf_reading.specs.reading.Clauses.{digit_seen, Yields}
-use Rattle.ixdtf_reading.specs.reading.FixedPlaces.{byte_of_look}
+use Rattle.ixdtf_reading.specs.{declared.stop.Stop.Stop, reading.Looks.{Placed, Read, ◌>>=◌, look_at, next_by, digits_by, digit_look}}
+use Rattle.ixdtf_reading.specs.reading.{Clauses.{digit_seen, Yields}, FixedPlaces.byte_of_look}
 use Rattle.ixdtf_reading.proofs.code.Units.{placed}
+use Rattle.ixdtf_grammar.specs.{language.Letters.{Letter, Text, digit, Letter.{Plain, Bad}}, table.{Faults.Fault, Lines.abrupt_digit}}
+use Rattle.ixdtf_grammar.specs.Views.{ascii_at, looked}
 
 -- a look that found a digit
 pub seen_digit : (other : Fault) (found : Result (Option ℕ) Stop) (seen : Result (Option ℕ) Fault) → Yields (λ x. x) found seen

@@ -1,10 +1,6 @@
 -- A text, and the code units of its source.
-use Rattle.std.proofs.Common.{◌≡◌, ℕ, ◌+◌, List, [], ◌∷◌, map, length, drop, Option, Some, Result, Ok, Err, refl, arith}
-use Rattle.std.proofs.lemmas.Option.{slice_get-map}
-use Rattle.ixdtf_grammar.specs.language.Letters.{Letter, Text}
-use Rattle.ixdtf_grammar.specs.language.Letters.Letter.{Plain, Bad}
-use Rattle.ixdtf_grammar.specs.table.Faults.{Fault}
-use Rattle.ixdtf_grammar.specs.Views.{ascii_at, looked}
+use Rattle.std.proofs.{Common.{◌≡◌, ℕ, ◌+◌, List, [], ◌∷◌, map, length, drop, Some, Result, Ok, Err, refl, arith}, lemmas.Option.slice_get-map}
+use Rattle.ixdtf_grammar.specs.{language.Letters.{Letter, Text, Letter.{Plain, Bad}}, table.Faults.Fault, Views.{ascii_at, looked}}
 use Rattle.ixdtf_reading.specs.reading.Looks.{look_at, seen, Placed}
 
 -- what a text is, given the code units of its source

@@ -2,25 +2,12 @@
 -- where it fits.
 use Rattle.std.proofs.Common.{◌≡◌, ℕ, zero, suc, ◌≤◌, IsTrue, [], ◌∷◌, ◌++◌, Ok, Err, refl, ◌∙◌, arith, append_assoc, append-nil, nat_le, if◌then◌else◌}
 use Rattle.std.proofs.lemmas.Bool.{leb-true, le-leb}
-use Rattle.ixdtf_grammar.specs.declared.profile.Profile.{Profile}
-use Rattle.ixdtf_grammar.specs.language.Letters.{Text, digit}
-use Rattle.ixdtf_grammar.specs.language.Letters.Letter.{Plain, Bad}
-use Rattle.ixdtf_grammar.specs.language.Shapes.{digits}
-use Rattle.ixdtf_grammar.specs.language.Digits.{decimal}
-use Rattle.ixdtf_grammar.specs.language.Fractions.{SomeDigits}
-use Rattle.ixdtf_grammar.specs.table.Faults.{Fault}
-use Rattle.ixdtf_grammar.specs.table.LineNames.{LineName}
-use Rattle.ixdtf_grammar.specs.table.LineNames.LineName.{of_duration}
-use Rattle.ixdtf_grammar.specs.table.Lines.{Line, duration_line}
-use Rattle.ixdtf_grammar.specs.table.Lines.Line.{line, scanned, whole}
-use Rattle.ixdtf_grammar.specs.table.DurationFronts.Context.{in_dates, in_times}
-use Rattle.ixdtf_grammar.specs.table.Rows.{Row, Place, Stops}
+use Rattle.ixdtf_grammar.specs.{declared.profile.Profile.Profile, language.{Letters.{Text, digit, Letter.{Plain, Bad}}, Shapes.digits, Digits.decimal}}
+use Rattle.ixdtf_grammar.specs.{language.Fractions.SomeDigits, table.{Faults.Fault, LineNames.{LineName, LineName.of_duration}, Lines.{Line, duration_line}}}
+use Rattle.ixdtf_grammar.specs.table.{Lines.Line.{line, scanned, whole}, DurationFronts.Context.{in_dates, in_times}, Rows.{Row, Place, Stops}}
 use Rattle.ixdtf_grammar.specs.table.Rows.Place.{end, other, bad, anywhere}
-use Rattle.ixdtf_reading.specs.reading.Looks.{Read, ◌>>=◌, row_of, look_of}
-use Rattle.ixdtf_reading.specs.reading.Durations.{State, line_of_state, step, at_end, run}
-use Rattle.ixdtf_reading.specs.reading.Durations.State.{between}
-use Rattle.ixdtf_reading.proofs.parts.Looks.{ReadsOver, Halts, Goes}
-use Rattle.ixdtf_reading.proofs.code.GrowingDigits.{decimal_snoc}
+use Rattle.ixdtf_reading.specs.reading.{Looks.{Read, ◌>>=◌, row_of, look_of}, Durations.{State, line_of_state, step, at_end, run, State.between}}
+use Rattle.ixdtf_reading.proofs.{parts.Looks.{ReadsOver, Halts, Goes}, code.GrowingDigits.decimal_snoc}
 
 -- ---- digits
 

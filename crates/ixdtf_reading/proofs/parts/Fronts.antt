@@ -1,26 +1,14 @@
 -- The test of a time's front: reading a month-day, or a year-month, from the start of a text succeeds exactly where one
 -- stands in front, and where a core stands before the end or a bracket, it is one in front of the core.
-use Rattle.std.proofs.Common.{◌≡◌, Bool, false, IsTrue, IsFalse, ◌++◌, Ok, Err, refl, ap, ◌∙◌}
-use Rattle.std.proofs.Common.{append_assoc}
-use Rattle.std.proofs.lemmas.Bool.{both_ways, false_from_ne_true}
-use Rattle.ixdtf_grammar.specs.declared.profile.Profile.{Profile}
-use Rattle.ixdtf_grammar.specs.declared.records.DateRecord.{DateRecord}
-use Rattle.ixdtf_grammar.specs.language.Letters.{Text}
-use Rattle.ixdtf_grammar.specs.language.Shapes.{Shape, some}
-use Rattle.ixdtf_grammar.specs.language.Months.{IsYearMonth, IsMonthDay}
-use Rattle.ixdtf_grammar.specs.language.Cores.{HasFront, HasNoDateFront}
-use Rattle.ixdtf_grammar.specs.table.Faults.{Fault}
-use Rattle.ixdtf_grammar.specs.table.Faults.Fault.{AmbiguousTimeMonthDay, AmbiguousTimeYearMonth}
-use Rattle.ixdtf_grammar.specs.table.LineNames.{of_time}
-use Rattle.ixdtf_grammar.specs.table.LineNames.TimeLine.{time_reads_as_month_day, time_reads_as_year_month}
-use Rattle.ixdtf_grammar.specs.table.Rows.{Row}
-use Rattle.ixdtf_grammar.specs.table.Rows.Place.{anywhere}
-use Rattle.ixdtf_reading.specs.reading.Looks.{Read, Placed, row_of, error_of}
-use Rattle.ixdtf_reading.specs.reading.Months.{year_month_at, month_day_at, left_by, is_read, month_day_begins, year_month_begins}
-use Rattle.ixdtf_reading.specs.reading.Cores.{unfronted}
+use Rattle.std.proofs.{Common.{◌≡◌, Bool, false, IsTrue, IsFalse, ◌++◌, Ok, Err, refl, ap, ◌∙◌, append_assoc}, lemmas.Bool.{both_ways, false_from_ne_true}}
+use Rattle.ixdtf_grammar.specs.{declared.{profile.Profile.Profile, records.DateRecord.DateRecord}, language.{Letters.Text, Shapes.{Shape, some}}}
+use Rattle.ixdtf_grammar.specs.language.{Months.{IsYearMonth, IsMonthDay}, Cores.{HasFront, HasNoDateFront}}
+use Rattle.ixdtf_grammar.specs.table.{Faults.Fault.{AmbiguousTimeMonthDay, AmbiguousTimeYearMonth}, LineNames.of_time}
+use Rattle.ixdtf_grammar.specs.table.{LineNames.TimeLine.{time_reads_as_month_day, time_reads_as_year_month}, Rows.{Row, Place.anywhere}}
 use Rattle.ixdtf_grammar.proofs.parts.CoreLetters.{AllInside, CoreEnds, in_core, in_month_day, in_year_month}
-use Rattle.ixdtf_reading.proofs.parts.Looks.{OnRead, read_if}
-use Rattle.ixdtf_reading.proofs.to_reading.Months.{year_month_takes, month_day_takes}
+use Rattle.ixdtf_reading.specs.reading.Looks.{Read, Placed, row_of, error_of}
+use Rattle.ixdtf_reading.specs.reading.{Months.{year_month_at, month_day_at, left_by, is_read, month_day_begins, year_month_begins}, Cores.unfronted}
+use Rattle.ixdtf_reading.proofs.{parts.Looks.{OnRead, read_if}, to_reading.Months.{year_month_takes, month_day_takes}}
 use Rattle.ixdtf_reading.proofs.to_grammar.Months.{FrontIs, year_month_read, month_day_read}
 
 -- ---- what is read from the start
@@ -107,9 +95,6 @@ module _ (profile : Profile) (text : Text) where
 
   abbrev pub MonthDayBegins : Type 0
   MonthDayBegins = HasFront (some (IsMonthDay profile)) text
-
-  abbrev pub YearMonthBegins : Type 0
-  YearMonthBegins = HasFront (some IsYearMonth) text
 
   module _ {E A : Type 0} (fault : Row → E) (read : Read E A) where
     -- each row of a time's front is returned

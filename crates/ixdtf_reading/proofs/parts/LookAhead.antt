@@ -1,23 +1,12 @@
 -- Looking ahead in a bracket: what holds of a text decides what `sight_at` returns, and back.
 use Rattle.std.proofs.Common.{◌≡◌, ℕ, Bool, true, false, IsTrue, IsFalse, List, [], ◌∷◌, ◌++◌, Result, Ok, Err, refl, ap, ◌∙◌, inl, inr, arith, append_assoc}
-use Rattle.std.proofs.Common.{if◌then◌else◌}
-use Rattle.std.proofs.lemmas.Bool.Decides.{nat_tests}
-use Rattle.ixdtf_grammar.specs.language.Letters.{Text}
-use Rattle.ixdtf_grammar.specs.language.Letters.Letter.{Plain, Bad}
-use Rattle.ixdtf_grammar.specs.language.Letters.{equals, closing, slash, zone_char, key_lead, key_char}
-use Rattle.ixdtf_grammar.specs.language.Shapes.{one, ◌then◌, Joined, many}
-use Rattle.ixdtf_grammar.specs.table.Faults.{Fault}
-use Rattle.ixdtf_grammar.specs.table.Faults.Fault.{NonAsciiCodePoint}
-use Rattle.ixdtf_grammar.specs.language.ZoneNames.{NameItem, ZoneName}
-use Rattle.ixdtf_grammar.specs.language.Brackets.{skipped, FirstIs, ReadsAsName}
-use Rattle.ixdtf_grammar.specs.language.Brackets.{Key, ReadsAsPair}
-use Rattle.ixdtf_grammar.specs.table.LineNames.LineName.{of_bracket}
-use Rattle.ixdtf_grammar.specs.table.LineNames.BracketLine.{first_bracket_scan}
-use Rattle.ixdtf_grammar.specs.table.Lines.{bracket_line, abrupt_bracket, LetterOfKey}
-use Rattle.ixdtf_grammar.specs.table.Rows.{Row, Place, Stops}
-use Rattle.ixdtf_grammar.specs.table.Rows.Place.{end, other, bad, anywhere}
-use Rattle.ixdtf_reading.specs.reading.Looks.{row_of}
-use Rattle.ixdtf_reading.specs.reading.Brackets.{sight_at}
+use Rattle.std.proofs.{Common.if◌then◌else◌, lemmas.Bool.Decides.nat_tests}
+use Rattle.ixdtf_grammar.specs.language.Letters.{Text, equals, closing, slash, zone_char, key_lead, key_char, Letter.{Plain, Bad}}
+use Rattle.ixdtf_grammar.specs.language.{Shapes.{one, ◌then◌, Joined, many}, ZoneNames.{NameItem, ZoneName}}
+use Rattle.ixdtf_grammar.specs.{language.Brackets.{skipped, FirstIs, ReadsAsName, Key, ReadsAsPair}, table.Faults.{Fault, Fault.NonAsciiCodePoint}}
+use Rattle.ixdtf_grammar.specs.table.{LineNames.{LineName.of_bracket, BracketLine.first_bracket_scan}, Lines.{bracket_line, abrupt_bracket, LetterOfKey}}
+use Rattle.ixdtf_grammar.specs.table.Rows.{Row, Place, Stops, Place.{end, other, bad, anywhere}}
+use Rattle.ixdtf_reading.specs.reading.{Looks.row_of, Brackets.sight_at}
 
 -- ---- code units that are passed
 

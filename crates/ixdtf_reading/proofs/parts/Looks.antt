@@ -1,20 +1,12 @@
 -- One look at a line: a code unit that goes on is read further, a row that fits is returned; and back.
 use Rattle.std.proofs.Common.{◌≡◌, ℕ, zero, suc, ◌<◌, ◌⊎◌, Bool, true, false, IsTrue, IsFalse, [], ◌∷◌, ◌++◌, Ok, Err, Option, Some, None, refl, sym, ap, ◌∙◌}
 use Rattle.std.proofs.Common.{inl, inr, arith, append_assoc, if◌then◌else◌}
-use Rattle.ixdtf_grammar.specs.language.Letters.{Text, Class, digit}
-use Rattle.ixdtf_grammar.specs.language.Letters.Letter.{Plain, Bad}
-use Rattle.ixdtf_grammar.specs.language.Shapes.{Shape, one, digits}
-use Rattle.ixdtf_grammar.specs.table.Faults.{Fault}
-use Rattle.ixdtf_grammar.specs.table.Faults.Fault.{NonAsciiCodePoint}
-use Rattle.ixdtf_grammar.specs.language.Readers.{Reader, has_brackets}
-use Rattle.ixdtf_grammar.specs.table.LineNames.{LineName}
-use Rattle.ixdtf_grammar.specs.table.Lines.{Line, line_of}
-use Rattle.ixdtf_grammar.specs.table.Lines.Line.{line, scanned, whole}
-use Rattle.ixdtf_grammar.specs.table.Lines.Ending.{ok, error}
-use Rattle.ixdtf_grammar.specs.table.Before.{Before}
-use Rattle.ixdtf_grammar.specs.table.Rows.{Row, Place, Stops, front_of, FitsHere, Fits}
+use Rattle.ixdtf_grammar.specs.language.{Letters.{Text, Class, digit, Letter.{Plain, Bad}}, Shapes.{Shape, one, digits}, Readers.{Reader, has_brackets}}
+use Rattle.ixdtf_grammar.specs.table.{Faults.{Fault, Fault.NonAsciiCodePoint}, LineNames.LineName, Lines.{Line, line_of, Line.{line, scanned, whole}}}
+use Rattle.ixdtf_grammar.specs.table.{Lines.Ending.{ok, error}, Before.Before, Rows.{Row, Place, Stops, front_of, FitsHere, Fits}}
 use Rattle.ixdtf_grammar.specs.table.Rows.Place.{end, other, bad, anywhere}
-use Rattle.ixdtf_reading.specs.reading.Looks.{Read, Look, ◌>>=◌, row_of, look_of, look_at, next_by, letter_at, digits_by, digits_at, peek_by, on_next, digit_run}
+use Rattle.ixdtf_reading.specs.reading.Looks.{Read, Look, ◌>>=◌, row_of, look_of, look_at, next_by, letter_at, digits_by, digits_at, peek_by, on_next}
+use Rattle.ixdtf_reading.specs.reading.Looks.{digit_run}
 
 -- the fault is that of a row of which something is known
 abbrev pub IsRowFault : {E : Type 0} → (Row → E) → E → (Row → Type 0) → Type 0
@@ -31,11 +23,6 @@ pub onto : (c : ℕ) {t u : Text} → t ≡ u → Plain c ∷ t ≡ Plain c ∷ 
 onto c e = ap (λ t. Plain c ∷ t) e
 
 -- ---- from reading to reading
-
--- a reading after a reading after a reading
-pub in_turn : {E A B C : Type 0} (r : Read E A) (f : A × Text → Read E B) (g : B × Text → Read E C) → ((r >>= f) >>= g) ≡ (r >>= λ x. f x >>= g)
-in_turn (Ok x) f g = refl
-in_turn (Err e) f g = refl
 
 -- from a reading to the reading after it
 pub then_read : {E A B : Type 0} (fault : Row → E) (r : Read E A) (f : A × Text → Read E B) (found : A → Text → Type 0) (stopped : Row → Type 0)

@@ -1,22 +1,12 @@
 -- A hyphen that may stand before digits: where one stands it is taken, and where a digit stands it stays; and back.
 use Rattle.std.proofs.Common.{◌≡◌, ℕ, zero, suc, ◌<◌, ◌⊎◌, Bool, true, false, IsTrue, IsFalse, [], ◌∷◌, ◌++◌, Ok, Err, refl, sym, ◌∙◌, inl, inr, arith}
-use Rattle.std.proofs.Common.{if◌then◌else◌}
-use Rattle.std.proofs.lemmas.Bool.{both_ways, eqb-true}
-use Rattle.std.proofs.lemmas.Bool.Decides.{nat_tests}
-use Rattle.ixdtf_grammar.specs.language.Letters.{Text, ◌or◌, digit, hyphen}
-use Rattle.ixdtf_grammar.specs.language.Letters.Letter.{Plain}
-use Rattle.ixdtf_grammar.specs.language.Shapes.{one, digits}
-use Rattle.ixdtf_grammar.specs.language.Months.{OptionalHyphen}
-use Rattle.ixdtf_grammar.specs.table.Faults.{Fault}
-use Rattle.ixdtf_grammar.specs.table.LineNames.{LineName}
-use Rattle.ixdtf_grammar.specs.table.Lines.{Line, line_of}
-use Rattle.ixdtf_grammar.specs.table.Lines.Line.{line, scanned, whole}
-use Rattle.ixdtf_grammar.specs.table.Lines.Ending.{ok, error}
-use Rattle.ixdtf_grammar.specs.table.Rows.{Row, Place, Stops}
+use Rattle.std.proofs.{Common.if◌then◌else◌, lemmas.Bool.{both_ways, eqb-true, Decides.nat_tests}}
+use Rattle.ixdtf_grammar.specs.{language.{Letters.{Text, ◌or◌, digit, hyphen, Letter.Plain}, Shapes.{one, digits}, Months.OptionalHyphen}, table.Faults.Fault}
+use Rattle.ixdtf_grammar.specs.table.{LineNames.LineName, Lines.{Line, line_of, Line.{line, scanned, whole}, Ending.{ok, error}}, Rows.{Row, Place, Stops}}
 use Rattle.ixdtf_grammar.specs.table.Rows.Place.{end, other, bad, anywhere}
 use Rattle.ixdtf_reading.specs.reading.Looks.{row_of, mark_by, mark_at, letter_at, digits_at}
-use Rattle.ixdtf_reading.proofs.parts.Looks.{OnRead, Looks, Goes, LooksForDigit, StopsHere, DigitsStop, then_read, read_weaker, goes, stops, read_letter, digits_stop}
-use Rattle.ixdtf_reading.proofs.parts.Looks.{one_as_digits}
+use Rattle.ixdtf_reading.proofs.parts.Looks.{OnRead, Looks, Goes, LooksForDigit, StopsHere, DigitsStop, then_read, read_weaker, goes, stops, read_letter}
+use Rattle.ixdtf_reading.proofs.parts.Looks.{digits_stop, one_as_digits}
 
 -- a hyphen, or nothing
 abbrev pub hyphens_of : Bool → Text

@@ -1,23 +1,12 @@
 -- A year is read exactly: for a year its number and the rest are returned, and a row of a year's lines is returned; and back.
 use Rattle.std.proofs.Common.{◌≡◌, ◌≢◌, ℕ, Bool, true, false, IsTrue, IsFalse, [], ◌∷◌, ◌++◌, Ok, refl, ◌∙◌, inl, inr, arith, ℤ, nat_eq, ◌&&◌}
-use Rattle.std.proofs.lemmas.Bool.{and_parts, and_from, both_ways, eqb-true, eq-eqb, ne_eqb}
-use Rattle.std.proofs.lemmas.Bool.Decides.{nat_tests}
-use Rattle.ixdtf_grammar.specs.language.Letters.{Text}
-use Rattle.ixdtf_grammar.specs.language.Letters.Letter.{Plain}
-use Rattle.ixdtf_grammar.specs.language.Letters.{digit, sign, hyphen}
-use Rattle.ixdtf_grammar.specs.language.Digits.{decimal}
-use Rattle.ixdtf_grammar.specs.table.Faults.Fault.{DateExtendedYear}
-use Rattle.ixdtf_grammar.specs.language.Dates.{Year}
-use Rattle.ixdtf_grammar.specs.language.Readers.CoreKind.{year_month}
-use Rattle.ixdtf_grammar.specs.table.LineNames.{DateLine, LineName}
-use Rattle.ixdtf_grammar.specs.table.LineNames.{of_date}
-use Rattle.ixdtf_grammar.specs.table.LineNames.DateLine.{year_start, year_digits, extended_year_digits, minus_zero_year}
-use Rattle.ixdtf_grammar.specs.table.Before.{BeforeDate}
-use Rattle.ixdtf_grammar.specs.table.Rows.{Row}
-use Rattle.ixdtf_reading.specs.reading.Looks.{letter_at, digits_at}
-use Rattle.ixdtf_reading.specs.reading.Dates.{year_at, four_digit_year_at, extended_year_at}
-use Rattle.ixdtf_reading.proofs.parts.Looks.{OnRead, RowsRead, whole_row, FitsIn, fits_in, fits_whole_in, then_read, read_if, goes, stops, read_letter, digits_go}
-use Rattle.ixdtf_reading.proofs.parts.Looks.{digits_stop, digits_read, onto}
+use Rattle.std.proofs.lemmas.Bool.{and_parts, and_from, both_ways, eqb-true, eq-eqb, ne_eqb, Decides.nat_tests}
+use Rattle.ixdtf_grammar.specs.language.{Letters.{Text, digit, sign, hyphen, Letter.Plain}, Digits.decimal, Dates.Year, Readers.CoreKind.year_month}
+use Rattle.ixdtf_grammar.specs.table.{Faults.Fault.DateExtendedYear, LineNames.{DateLine, LineName, of_date}}
+use Rattle.ixdtf_grammar.specs.table.{LineNames.DateLine.{year_start, year_digits, extended_year_digits, minus_zero_year}, Before.BeforeDate, Rows.Row}
+use Rattle.ixdtf_reading.specs.reading.{Looks.{letter_at, digits_at}, Dates.{year_at, four_digit_year_at, extended_year_at}}
+use Rattle.ixdtf_reading.proofs.parts.Looks.{OnRead, RowsRead, whole_row, FitsIn, fits_in, fits_whole_in, then_read, read_if, goes, stops, read_letter}
+use Rattle.ixdtf_reading.proofs.parts.Looks.{digits_go, digits_stop, digits_read, onto}
 
 -- a digit is no sign
 digit_no_sign : (c : ℕ) → IsTrue (digit c) → IsFalse (sign c)

@@ -1,42 +1,24 @@
 -- The readers of an offset, of a zone and of a zone's name: what holds of a text decides what they value, and back.
 use Rattle.std.proofs.Common.{◌≡◌, ℕ, true, IsTrue, IsFalse, ◌⊎◌, List, [], ◌∷◌, ◌++◌, Option, Some, None, Ok, Err, refl, sym, ap, ◌∙◌, inl, inr, arith}
-use Rattle.std.proofs.Common.{append_assoc, append-nil, false}
-use Rattle.std.proofs.lemmas.Bool.{or_from, or_cases, or_left, or_right, both_ways, true≢false}
-use Rattle.std.proofs.lemmas.Bool.Decides.{nat_tests}
-use Rattle.ixdtf_grammar.specs.language.Times.{Clock as clocks}
-use Rattle.ixdtf_grammar.specs.declared.records.TimeRecord.{TimeRecord}
-use Rattle.ixdtf_grammar.specs.declared.records.MinutePrecisionOffset.{MinutePrecisionOffset}
-use Rattle.ixdtf_grammar.specs.declared.records.UtcOffsetRecord.{UtcOffsetRecord}
-use Rattle.ixdtf_grammar.specs.language.Letters.{Text}
-use Rattle.ixdtf_grammar.specs.language.Letters.Letter.{Plain}
-use Rattle.ixdtf_grammar.specs.language.Letters.{◌or◌, none, sign, slash, zone_lead, zone_char}
-use Rattle.ixdtf_grammar.specs.table.Faults.{Fault}
-use Rattle.ixdtf_grammar.specs.language.Offsets.{IsSigned, IsOffset, IsMinuteOffset, offset_of, minutes_of}
-use Rattle.ixdtf_grammar.specs.language.Times.{Clock, TimeShape, writes_seconds}
-use Rattle.ixdtf_grammar.specs.language.ZoneNames.{Zone, ZoneName, IsZone, IsZoneName}
-use Rattle.ixdtf_grammar.specs.language.ZoneNames.Zone.{Offset}
-use Rattle.ixdtf_grammar.specs.language.Brackets.{Pair}
-use Rattle.ixdtf_grammar.specs.language.Readers.{Reader, has_brackets}
-use Rattle.ixdtf_grammar.specs.table.LineNames.{LineName}
-use Rattle.ixdtf_grammar.specs.language.Readers.Reader.{parse_offset, parse_identifier, parse_iana_identifier}
-use Rattle.ixdtf_grammar.specs.table.LineNames.LineName.{of_clock, of_offset, of_zone}
-use Rattle.ixdtf_grammar.specs.table.LineNames.OffsetLine.{offset_start}
+use Rattle.std.proofs.{Common.{append_assoc, append-nil, false}, lemmas.Bool.{or_from, or_cases, or_left, or_right, both_ways, true≢false, Decides.nat_tests}}
+use Rattle.ixdtf_grammar.specs.language.Times.{Clock as clocks, Clock, TimeShape, writes_seconds}
+use Rattle.ixdtf_grammar.specs.language.Letters.{Text, ◌or◌, none, sign, slash, zone_lead, zone_char, Letter.Plain}
+use Rattle.ixdtf_grammar.specs.language.{Offsets.{IsSigned, IsOffset, IsMinuteOffset, offset_of, minutes_of}, ZoneNames.{Zone, ZoneName, IsZone, IsZoneName}}
+use Rattle.ixdtf_grammar.specs.language.{ZoneNames.Zone.Offset, Brackets.Pair, Readers.{Reader, has_brackets}}
+use Rattle.ixdtf_grammar.specs.{language.Readers.Reader.{parse_offset, parse_identifier, parse_iana_identifier}, declared.records.TimeRecord.TimeRecord}
+use Rattle.ixdtf_grammar.specs.{declared.records.{MinutePrecisionOffset.MinutePrecisionOffset, UtcOffsetRecord.UtcOffsetRecord}, table.Faults.Fault}
+use Rattle.ixdtf_grammar.specs.table.LineNames.{LineName, LineName.{of_clock, of_offset, of_zone}, OffsetLine.offset_start}
 use Rattle.ixdtf_grammar.specs.table.LineNames.ZoneLine.{identifier_start, zone_name_start, in_zone_name, after_zone_slash}
-use Rattle.ixdtf_grammar.specs.table.Lines.{table, line_of, follow_of}
-use Rattle.ixdtf_grammar.specs.table.Before.{Before}
-use Rattle.ixdtf_grammar.specs.table.Rows.{Row, Place, Stops, Fits, front_of}
+use Rattle.ixdtf_grammar.specs.table.{Lines.{table, line_of, follow_of}, Before.Before, Rows.{Row, Place, Stops, Fits, front_of}}
 use Rattle.ixdtf_grammar.specs.table.Rows.Place.{end, other, bad, anywhere}
-use Rattle.ixdtf_reading.specs.reading.Looks.{Read, ◌>>=◌, row_of, letter_at, peek_by}
-use Rattle.ixdtf_reading.specs.reading.Times.{OpenTime, line_after, clock_at}
-use Rattle.ixdtf_reading.specs.reading.Zones.{follow_look, name_run, name_look, name_alone_at, iana_identifier_at, signed_alone_at, offset_alone_at, offset_at}
+use Rattle.ixdtf_grammar.proofs.parts.Texts.{signed_text}
+use Rattle.ixdtf_reading.specs.reading.{Looks.{Read, ◌>>=◌, row_of, letter_at, peek_by}, Times.{OpenTime, line_after, clock_at}, Zones.follow_look}
+use Rattle.ixdtf_reading.specs.reading.Zones.{name_run, name_look, name_alone_at, iana_identifier_at, signed_alone_at, offset_alone_at, offset_at}
 use Rattle.ixdtf_reading.specs.reading.Zones.{minute_offset_alone_at, as_zone, identifier_at}
-use Rattle.ixdtf_reading.proofs.parts.Looks.{lift, OnRead, then_read, read_weaker, read_if, FitsIn, goes, stops, read_letter, Peeked, peek_end, peek_other, peek_read}
-use Rattle.ixdtf_reading.proofs.parts.Looks.{NotNext}
-use Rattle.ixdtf_reading.proofs.to_reading.ZoneNames.{StopsName, name_takes, name_row, slash_row}
-use Rattle.ixdtf_reading.proofs.to_grammar.ZoneNames.{NameFront, name_read, name_stops_here, name_lines}
-use Rattle.ixdtf_reading.proofs.to_reading.Times.{closed_at_end, Closed, StopsAfter}
-use Rattle.ixdtf_reading.proofs.to_reading.ClockRows.{over_clock, clock_rows, peek_stops_after}
-use Rattle.ixdtf_reading.proofs.to_grammar.Times.{TimeFront, clock_read, clock_peek_read}
+use Rattle.ixdtf_reading.proofs.parts.Looks.{lift, OnRead, then_read, read_weaker, read_if, FitsIn, goes, stops, read_letter, Peeked, peek_end, peek_other}
+use Rattle.ixdtf_reading.proofs.{parts.Looks.{peek_read, NotNext}, to_reading.ZoneNames.{StopsName, name_takes, name_row, slash_row}}
+use Rattle.ixdtf_reading.proofs.to_reading.{Times.{closed_at_end, Closed, StopsAfter}, ClockRows.{over_clock, clock_rows, peek_stops_after}}
+use Rattle.ixdtf_reading.proofs.to_grammar.{ZoneNames.{NameFront, name_read, name_stops_here, name_lines}, Times.{TimeFront, clock_read, clock_peek_read}}
 
 -- what a name begins with is no sign
 pub lead_no_sign : (c : ℕ) → IsTrue (zone_lead c) → IsFalse (sign c)
@@ -110,19 +92,7 @@ module _ {E : Type 0} (fault : Row → E) where
       where
         at_next : (x : OpenTime) (left : Text) → TimeFront clock body x left → (next : Option ℕ) (last : Text) → Peeked none left next last
             → (last ≡ []) × IsSigned clock record_of (Plain c ∷ body) (record_of c x.0 x.1)
-        at_next x left g None last k = (
-          k.1,
-          record {
-            c = c;
-            body = body;
-            shape = x.0;
-            time = x.1;
-            is = refl;
-            sign = signed;
-            clock = rw (g.1, k.0, append-nil) g.2;
-            value = refl;
-          },
-        )
+        at_next x left g None last k = (k.1, signed_text c body x.0 x.1 refl signed (rw (g.1, k.0, append-nil) g.2))
         at_next x left g (Some d) last k = absurd (true≢false (sym k.1))
 
   -- ---- offsets
@@ -257,16 +227,7 @@ module _ {E : Type 0} (fault : Row → E) where
   -- the offset of a zone, as the zone
   zone_of_offset : (text : Text) (zone : Zone) (offset : MinutePrecisionOffset) → IsMinuteOffset text offset → zone ≡ Offset offset
       → IsSigned clocks.MinuteOffset zone_record text zone
-  zone_of_offset text zone offset h is = record {
-    c = h.c;
-    body = h.body;
-    shape = h.shape;
-    time = h.time;
-    is = h.is;
-    sign = h.sign;
-    clock = h.clock;
-    value = is ∙ ap (λ o. Offset o) h.value;
-  }
+  zone_of_offset text zone offset h is = rw (is, h.value) (signed_text h.c h.body h.shape h.time h.is h.sign h.clock)
 
   pub identifier_takes : (text : Text) (zone : Zone) → IsZone text zone → identifier_at fault text ≡ Ok (zone, [])
   identifier_takes text zone (inl h) = rw h.2
@@ -291,20 +252,7 @@ module _ {E : Type 0} (fault : Row → E) where
 
   -- an offset that was read is a zone
   offset_is_zone : (text : Text) (zone : Zone) → IsSigned clocks.MinuteOffset zone_record text zone → IsZone text zone
-  offset_is_zone text zone h = inr (
-    minutes_of h.c h.time,
-    record {
-      c = h.c;
-      body = h.body;
-      shape = h.shape;
-      time = h.time;
-      is = h.is;
-      sign = h.sign;
-      clock = h.clock;
-      value = refl;
-    },
-    h.value,
-  )
+  offset_is_zone text zone h = inr (minutes_of h.c h.time, signed_text h.c h.body h.shape h.time h.is h.sign h.clock, h.value)
 
   -- a name that was read is a zone
   zone_of_name : (text : Text) (stopped : Row → Type 0) (r : Read E (List ℕ)) → OnRead fault r (λ name rest. (rest ≡ []) × IsZoneName text name) stopped

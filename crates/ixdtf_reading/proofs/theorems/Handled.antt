@@ -1,28 +1,16 @@
 -- From what the code replied for a chain of calls to what a handler's clauses say.
 use Rattle.std.proofs.Common.{◌≡◌, ◌≢◌, ◌↔◌, ℕ, IsFalse, List, [], ◌∷◌, ◌++◌, Option, Some, None, Result, Ok, Err, IfOk, refl, sym, ◌∙◌, ap, subst, inl, inr}
-use Rattle.std.proofs.Common.{map, option_map}
-use Rattle.std.proofs.lemmas.List.{map-append, append-nil}
-use Rattle.ixdtf_grammar.specs.declared.records.Annotation.{Annotation}
-use Rattle.ixdtf_grammar.specs.declared.records.IxdtfParseRecord.{IxdtfParseRecord}
-use Rattle.ixdtf_grammar.specs.Views.{returned_by, parsed_of}
-use Rattle.ixdtf_grammar.specs.language.Letters.{Text}
-use Rattle.ixdtf_grammar.specs.table.Faults.{Fault, never_comes}
-use Rattle.ixdtf_grammar.specs.table.Faults.Fault.{UnrecognizedCritical, CriticalDuplicateCalendar}
-use Rattle.ixdtf_grammar.specs.language.Brackets.{Pair}
-use Rattle.ixdtf_grammar.specs.language.Readers.{Reader}
-use Rattle.ixdtf_grammar.specs.language.Languages.{Parsed, Derives}
-use Rattle.ixdtf_grammar.specs.language.Languages.Found.{parsed}
-use Rattle.ixdtf_grammar.specs.table.Outcomes.Outcome.{derived}
-use Rattle.ixdtf_grammar.specs.Handlers.{Reply, first_calendar, RefusedBeside, NoneRefused, calendar_value, with_calendar, GivesRecord, GivesFault, pair_of, Calls}
-use Rattle.ixdtf_grammar.specs.Handlers.{handed, replies_of, Step, IsChain, own_replies, Handled, HandledTo, UnhandledRecord, UnhandledFault}
-use Rattle.ixdtf_reading.specs.reading.Chains.{TextGives, TextRead}
-use Rattle.ixdtf_reading.specs.reading.Looks.{Placed}
-use Rattle.ixdtf_reading.specs.reading.Clauses.{UnhandledForm}
+use Rattle.std.proofs.{Common.{map, option_map}, lemmas.List.{map-append, append-nil}}
+use Rattle.ixdtf_grammar.specs.{declared.records.{Annotation.Annotation, IxdtfParseRecord.IxdtfParseRecord}, Views.{returned_by, parsed_of}}
+use Rattle.ixdtf_grammar.specs.language.{Letters.Text, Brackets.Pair, Readers.Reader, Languages.{Parsed, Derives, Found.parsed}}
+use Rattle.ixdtf_grammar.specs.table.{Faults.{Fault, never_comes, Fault.{UnrecognizedCritical, CriticalDuplicateCalendar}}, Outcomes.Outcome.derived}
+use Rattle.ixdtf_grammar.specs.Handlers.{Reply, first_calendar, RefusedBeside, NoneRefused, calendar_value, with_calendar, GivesRecord, GivesFault, pair_of}
+use Rattle.ixdtf_grammar.specs.Handlers.{Calls, handed, replies_of, Step, IsChain, own_replies, Handled, HandledTo, UnhandledRecord, UnhandledFault}
 use Rattle.ixdtf_grammar.specs.Laws.{GivesResult}
-use Rattle.ixdtf_reading.proofs.theorems.OneOutcome.{same_outcome, no_row_fits, derived_begins}
-use Rattle.ixdtf_reading.proofs.code.OneMoreReply.{refused_last, refused_split}
 use Rattle.ixdtf_grammar.proofs.theorems.NoRow.{fault_comes, row_is_no_refusal}
-use Rattle.ixdtf_reading.proofs.theorems.OnlyOutcome.{Accepted, accepted, gives_only}
+use Rattle.ixdtf_reading.specs.reading.{Chains.{TextGives, TextRead}, Looks.Placed, Clauses.UnhandledForm}
+use Rattle.ixdtf_reading.proofs.theorems.{OneOutcome.{same_outcome, no_row_fits, derived_begins}, OnlyOutcome.{Accepted, accepted, gives_only}}
+use Rattle.ixdtf_reading.proofs.code.OneMoreReply.{refused_last, refused_split}
 
 -- a text is derived in one way
 pub derived_once : (reader : Reader) (text : Text) (x y : Parsed) (xs ys : List Pair) → Derives reader text (parsed x) xs → Derives reader text (parsed y) ys

@@ -1,19 +1,10 @@
 -- From what the code replied for a chain of calls to where a fault stands, by a handler's clauses.
-use Rattle.std.proofs.Common.{◌≡◌, ℕ, ◌+◌, ◌≤◌, length, arith, List, Ok, Err, sym, ◌∙◌, ap, inl, inr}
-use Rattle.std.proofs.lemmas.List.{length-append, length-map}
-use Rattle.ixdtf_grammar.specs.language.Letters.{Text}
-use Rattle.ixdtf_grammar.specs.language.Brackets.{Pair}
-use Rattle.ixdtf_grammar.specs.language.Languages.{Parsed}
-use Rattle.ixdtf_grammar.specs.language.Readers.{Reader}
-use Rattle.ixdtf_grammar.specs.table.Faults.{Fault}
-use Rattle.ixdtf_grammar.specs.Handlers.{Reply, Calls, handed, replies_of, Step}
-use Rattle.ixdtf_grammar.specs.Places.{GivesFaultAt, HandledAt, HandledToAt, UnhandledFaultAt}
-use Rattle.ixdtf_reading.specs.declared.stop.StopAt.{StopAt}
-use Rattle.ixdtf_reading.specs.reading.Chains.{TextGives, TextRead}
-use Rattle.ixdtf_reading.specs.reading.Clauses.{fault_of_stop}
+use Rattle.std.proofs.{Common.{◌≡◌, ℕ, ◌+◌, ◌≤◌, length, arith, List, Ok, Err, sym, ◌∙◌, ap, inl, inr}, lemmas.List.{length-append, length-map}}
+use Rattle.ixdtf_grammar.specs.{language.{Letters.Text, Brackets.Pair, Languages.Parsed, Readers.Reader}, table.Faults.Fault}
+use Rattle.ixdtf_grammar.specs.{Handlers.{Reply, Calls, handed, replies_of, Step}, Places.{GivesFaultAt, HandledAt, HandledToAt, UnhandledFaultAt}}
+use Rattle.ixdtf_reading.specs.{declared.stop.StopAt.StopAt, reading.{Chains.{TextGives, TextRead}, Clauses.fault_of_stop}}
 use Rattle.ixdtf_reading.proofs.code.Located.{left_fits as row_left_fits}
-use Rattle.ixdtf_reading.proofs.theorems.Handled.{OwnReplies, replies_own, no_record_and_fault, handled, handled_to}
-use Rattle.ixdtf_reading.proofs.theorems.OnePlace.{one_place, without_place}
+use Rattle.ixdtf_reading.proofs.theorems.{Handled.{OwnReplies, replies_own, no_record_and_fault, handled, handled_to}, OnePlace.{one_place, without_place}}
 use Rattle.ixdtf_reading.proofs.theorems.OnlyOutcome.{gives_only}
 
 -- as many replies as pairs

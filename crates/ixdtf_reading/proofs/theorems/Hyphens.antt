@@ -1,28 +1,12 @@
 -- A date's hyphens say nothing where both stand, and are refused where one does.
-use Rattle.std.proofs.Common.{◌≡◌, ℕ, IsTrue, IsFalse, ◌∷◌, ◌++◌, [], refl, sym, ◌∙◌, ap, inl, inr, append_assoc, arith}
-use Rattle.std.proofs.lemmas.Bool.Decides.{nat_tests}
-use Rattle.ixdtf_grammar.specs.declared.records.DateRecord.{DateRecord}
-use Rattle.ixdtf_grammar.specs.Laws.{HyphensSayNothing, OneHyphenIsRefused, IsDateParts}
-use Rattle.ixdtf_grammar.specs.Widths.{UnhandledOutcome, HasUnhandledOutcome}
-use Rattle.ixdtf_grammar.specs.Widths.UnhandledOutcome.{faulted}
-use Rattle.ixdtf_grammar.specs.language.Dates.{DateText}
-use Rattle.ixdtf_grammar.specs.language.Digits.{decimal}
-use Rattle.ixdtf_grammar.specs.language.Letters.{Text, digit, hyphen}
-use Rattle.ixdtf_grammar.specs.language.Letters.Letter.{Plain}
-use Rattle.ixdtf_grammar.specs.language.Readers.{parse}
-use Rattle.ixdtf_grammar.specs.language.Readers.CoreKind.{date_time}
-use Rattle.ixdtf_grammar.specs.table.Faults.Fault.{DateSeparator}
-use Rattle.ixdtf_grammar.specs.table.LineNames.{of_date}
-use Rattle.ixdtf_grammar.specs.table.LineNames.DateLine.{after_hyphened_month, after_basic_month}
-use Rattle.ixdtf_grammar.specs.table.Outcomes.{HasFault}
-use Rattle.ixdtf_grammar.specs.table.Rows.Place.{other}
-use Rattle.ixdtf_reading.specs.reading.Cores.{date_time_core_at}
-use Rattle.ixdtf_reading.specs.reading.Dates.{date_of}
-use Rattle.ixdtf_reading.specs.reading.Looks.{row_of}
-use Rattle.ixdtf_reading.specs.reading.Wholes.{row_behind, bracketed_text_at, outcome}
-use Rattle.ixdtf_reading.proofs.code.OneMoreReply.{NoneRefused-nothing}
-use Rattle.ixdtf_reading.proofs.theorems.OneOutcome.{outcome_holds}
-use Rattle.ixdtf_reading.proofs.theorems.OneUnhandledOutcome.{same_plain}
+use Rattle.std.proofs.{Common.{◌≡◌, ℕ, IsTrue, IsFalse, ◌∷◌, ◌++◌, [], refl, sym, ◌∙◌, ap, inl, inr, append_assoc, arith}, lemmas.Bool.Decides.nat_tests}
+use Rattle.ixdtf_grammar.specs.{declared.records.DateRecord.DateRecord, Laws.{HyphensSayNothing, OneHyphenIsRefused, IsDateParts}}
+use Rattle.ixdtf_grammar.specs.{Widths.{UnhandledOutcome, HasUnhandledOutcome, UnhandledOutcome.faulted}, language.{Dates.DateText, Digits.decimal}}
+use Rattle.ixdtf_grammar.specs.{language.{Letters.{Text, digit, hyphen, Letter.Plain}, Readers.{parse, CoreKind.date_time}}, table.Faults.Fault.DateSeparator}
+use Rattle.ixdtf_grammar.specs.table.{LineNames.{of_date, DateLine, DateLine.{after_hyphened_month, after_basic_month}}, Rows.{front_of, Stops, Place.other}}
+use Rattle.ixdtf_grammar.specs.table.{Before.BeforeDate, Lines.date_line}
+use Rattle.ixdtf_reading.specs.reading.{Cores.date_time_core_at, Dates.date_of, Looks.row_of, Wholes.{row_behind, bracketed_text_at, outcome}}
+use Rattle.ixdtf_reading.proofs.{code.OneMoreReply.NoneRefused-nothing, theorems.{OneOutcome.outcome_holds, OneUnhandledOutcome.same_plain}}
 use Rattle.ixdtf_reading.proofs.to_reading.Dates.{over_date}
 
 -- the date of these parts
@@ -61,44 +45,17 @@ hyphens_say_nothing years months days rest h x =
 digit_no_hyphen : (c : ℕ) → IsTrue (digit c) → IsFalse (hyphen c)
 digit_no_hyphen c h = grind (arith, h, nat_tests)
 
--- a fault before any pair is what comes
-refused_at_once : (text : Text) → HasFault parse text [] DateSeparator → HasUnhandledOutcome parse text (faulted DateSeparator)
-refused_at_once text h = ([], inr (h, NoneRefused-nothing))
+-- the row of a line of dates, before any pair, is what comes
+refused_at : (l : DateLine) (front rest text : Text) → BeforeDate date_time l [] → text ≡ front ++ rest → front_of (date_line l) front
+    → Stops (date_line l) (other rest) DateSeparator rest → HasUnhandledOutcome parse text (faulted DateSeparator)
+refused_at l front rest text first is f at =
+    ([], inr ((row_of (of_date l) (other rest) DateSeparator, ([], text, refl, (first, refl), (front, rest, is, f, at)), refl), NoneRefused-nothing))
 
 pub one_hyphen_is_refused : OneHyphenIsRefused
 one_hyphen_is_refused years months days rest ((y, year), (m, month), (c, more, is, digit, others)) = (
-  refused_at_once _ (
-    row_of (of_date after_hyphened_month) (other (days ++ rest)) DateSeparator,
-    (
-      [],
-      _,
-      refl,
-      (refl, refl),
-      (
-        years ++ (Plain 45 ∷ months),
-        days ++ rest,
-        simp append_assoc,
-        (years, Plain 45 ∷ months, refl, (y, year), (Plain 45 ∷ [], months, refl, (45, refl, refl), (m, month))),
-        (c, more ++ rest, ap (λ t. t ++ rest) is, digit_no_hyphen c digit, refl, refl),
-      ),
-    ),
-    refl,
-  ),
-  refused_at_once _ (
-    row_of (of_date after_basic_month) (other (Plain 45 ∷ (days ++ rest))) DateSeparator,
-    (
-      [],
-      _,
-      refl,
-      (refl, refl),
-      (
-        years ++ months,
-        Plain 45 ∷ (days ++ rest),
-        simp append_assoc,
-        (years, months, refl, (y, year), (m, month)),
-        (45, days ++ rest, refl, refl, refl, refl),
-      ),
-    ),
-    refl,
-  ),
+  refused_at after_hyphened_month (years ++ (Plain 45 ∷ months)) (days ++ rest) _ refl (simp append_assoc)
+      (years, Plain 45 ∷ months, refl, (y, year), (Plain 45 ∷ [], months, refl, (45, refl, refl), (m, month)))
+      (c, more ++ rest, ap (λ t. t ++ rest) is, digit_no_hyphen c digit, refl, refl),
+  refused_at after_basic_month (years ++ months) (Plain 45 ∷ (days ++ rest)) _ refl (simp append_assoc) (years, months, refl, (y, year), (m, month))
+      (45, days ++ rest, refl, refl, refl, refl),
 )

@@ -1,23 +1,11 @@
 -- An offset and a zone that are derived from one text are one.
-use Rattle.std.proofs.Common.{◌≡◌, ℕ, IsTrue, List, [], ◌∷◌, inl, inr, refl, sym, ◌∙◌, true≢false}
-use Rattle.std.proofs.lemmas.Bool.{both_ways}
-use Rattle.ixdtf_grammar.specs.declared.records.TimeRecord.{TimeRecord}
-use Rattle.ixdtf_grammar.specs.declared.records.UtcOffsetRecord.{UtcOffsetRecord}
-use Rattle.ixdtf_grammar.specs.declared.records.UtcOffsetRecord.TheVariants.{MinutePrecision}
-use Rattle.ixdtf_grammar.specs.Laws.{OffsetsAgree}
-use Rattle.ixdtf_grammar.specs.language.Languages.Derives.{as_shifted, as_identified}
-use Rattle.ixdtf_grammar.specs.language.Languages.Found.{shifted}
-use Rattle.ixdtf_grammar.specs.language.Letters.{Text, sign}
-use Rattle.ixdtf_grammar.specs.language.Letters.Letter.{Plain}
-use Rattle.ixdtf_grammar.specs.language.Offsets.{IsOffset, minutes_of}
-use Rattle.ixdtf_grammar.specs.language.Readers.Reader.{parse_offset}
-use Rattle.ixdtf_grammar.specs.language.Times.{TimeShape, ClockOf, SecondText}
-use Rattle.ixdtf_grammar.specs.language.Times.{Clock as clocks}
-use Rattle.ixdtf_grammar.specs.language.Times.TimeShape.{hours, basic_minutes, colon_minutes, seconds, fractions}
-use Rattle.ixdtf_grammar.specs.language.ZoneNames.{IsZoneName}
+use Rattle.std.proofs.{Common.{◌≡◌, ℕ, IsTrue, List, [], ◌∷◌, inl, inr, refl, sym, ◌∙◌, true≢false}, lemmas.Bool.both_ways}
+use Rattle.ixdtf_grammar.specs.{declared.records.{TimeRecord.TimeRecord, UtcOffsetRecord.{UtcOffsetRecord, TheVariants.MinutePrecision}}, Laws.OffsetsAgree}
+use Rattle.ixdtf_grammar.specs.language.{Languages.{Derives.{as_shifted, as_identified}, Found.shifted}, Letters.{Text, sign, Letter.Plain}}
+use Rattle.ixdtf_grammar.specs.language.{Offsets.{IsOffset, minutes_of}, Readers.Reader.parse_offset, Times.{TimeShape, ClockOf, SecondText, Clock as clocks}}
+use Rattle.ixdtf_grammar.specs.language.{Times.TimeShape.{hours, basic_minutes, colon_minutes, seconds, fractions}, ZoneNames.IsZoneName}
 use Rattle.ixdtf_grammar.specs.table.Outcomes.Outcome.{derived}
-use Rattle.ixdtf_reading.proofs.parts.ZonesAlone.{lead_no_sign, first_letter}
-use Rattle.ixdtf_reading.proofs.theorems.OneOutcome.{same_outcome}
+use Rattle.ixdtf_reading.proofs.{parts.ZonesAlone.{lead_no_sign, first_letter}, theorems.OneOutcome.same_outcome}
 
 -- a name does not begin as an offset
 no_name : (text : Text) (offset : UtcOffsetRecord) (name : List ℕ) → IsOffset text offset → ¬ (IsZoneName text name)

@@ -1,32 +1,17 @@
 -- A handler that replies to the pairs of a text is called with one list of them, and there is one result.
-use Rattle.std.proofs.Common.{◌≡◌, ◌≢◌, ◌⊎◌, ℕ, Bool, true, false, List, [], ◌∷◌, ◌++◌, Option, Some, None, Result, Ok, Err, IsTrue}
-use Rattle.std.proofs.Common.{refl, sym, ap, subst, ◌∙◌, inl, inr, append_assoc, true≢false, length, arith, length-append}
-use Rattle.std.proofs.lemmas.List.{append-nil}
-use Rattle.std.proofs.lemmas.Slice.Eq.{bytes_eq-Decides}
-use Rattle.ixdtf_grammar.specs.Handlers.{Reply, calendar_key, first_calendar, calendar_value, with_calendar, RefusedBeside, NoneRefused, LastRefused, HasFront}
-use Rattle.ixdtf_grammar.specs.Laws.{GivesResult, OneResult, replies_to, OneChain}
-use Rattle.ixdtf_grammar.specs.language.Brackets.{Pair, ZoneNote, ArePairs, IsTail}
-use Rattle.ixdtf_grammar.specs.language.Cores.{Core, IsCore}
-use Rattle.ixdtf_grammar.specs.language.Languages.Derives.{as_parsed}
-use Rattle.ixdtf_grammar.specs.language.Languages.{Parsed, parsed_with, Derives}
-use Rattle.ixdtf_grammar.specs.language.Languages.Found.{parsed}
-use Rattle.ixdtf_grammar.specs.language.Letters.{Text}
-use Rattle.ixdtf_grammar.specs.language.Readers.{CoreKind}
-use Rattle.ixdtf_grammar.specs.language.Readers.Reader.{bracketed}
-use Rattle.ixdtf_grammar.specs.language.Times.Clock.{Time}
-use Rattle.ixdtf_grammar.specs.table.Faults.{Fault}
-use Rattle.ixdtf_grammar.specs.table.Faults.Fault.{UnrecognizedCritical, CriticalDuplicateCalendar}
-use Rattle.ixdtf_grammar.specs.table.LineNames.{LineName}
-use Rattle.ixdtf_grammar.specs.table.LineNames.BracketLine.{after_bracket}
-use Rattle.ixdtf_grammar.specs.table.LineNames.LineName.{of_clock, of_zone, of_bracket, of_pair, of_duration}
-use Rattle.ixdtf_grammar.specs.table.LineNames.ZoneLine.{identifier_start, zone_name_start}
-use Rattle.ixdtf_grammar.specs.table.LineNames.PairLine.{key_start, critical_key_start}
-use Rattle.ixdtf_grammar.specs.table.Before.{Bracketed, BeforeKey, BeforeBracketed}
-use Rattle.ixdtf_grammar.specs.table.Outcomes.{ExactlyOne, Outcome, Holds}
-use Rattle.ixdtf_grammar.specs.table.Outcomes.Outcome.{derived, refused}
-use Rattle.ixdtf_grammar.specs.table.Rows.{Row, Fits}
-use Rattle.ixdtf_reading.proofs.code.OneMoreReply.{nothing_split, split_more, NoneRefused-nothing, NoneRefused-more, refused_last, refused_split, neither_refused}
-use Rattle.ixdtf_reading.proofs.theorems.Handled.{derived_once, record_once, no_record_and_fault}
+use Rattle.std.proofs.Common.{◌≡◌, ◌≢◌, ◌⊎◌, ℕ, Bool, true, false, List, [], ◌∷◌, ◌++◌, Option, Some, None, Result, Ok, Err, IsTrue, refl, sym, ap, subst}
+use Rattle.std.proofs.{Common.{◌∙◌, inl, inr, append_assoc, true≢false, length, arith, length-append}, lemmas.{List.append-nil, Slice.Eq.bytes_eq-Decides}}
+use Rattle.ixdtf_grammar.specs.Handlers.{Reply, calendar_key, first_calendar, calendar_value, with_calendar, RefusedBeside, NoneRefused, LastRefused}
+use Rattle.ixdtf_grammar.specs.{Handlers.HasFront, Laws.{GivesResult, OneResult, replies_to, OneChain}, language.Brackets.{Pair, ZoneNote, ArePairs, IsTail}}
+use Rattle.ixdtf_grammar.specs.language.{Cores.{Core, IsCore}, Languages.{Parsed, parsed_with, Derives, Derives.as_parsed, Found.parsed}, Letters.Text}
+use Rattle.ixdtf_grammar.specs.{language.{Readers.{CoreKind, Reader.bracketed}, Times.Clock.Time}, table.Faults.Fault}
+use Rattle.ixdtf_grammar.specs.table.{Faults.Fault.{UnrecognizedCritical, CriticalDuplicateCalendar}, LineNames.{LineName, BracketLine.after_bracket}}
+use Rattle.ixdtf_grammar.specs.table.LineNames.{LineName.{of_clock, of_zone, of_bracket, of_pair, of_duration}, ZoneLine.{identifier_start, zone_name_start}}
+use Rattle.ixdtf_grammar.specs.table.{LineNames.PairLine.{key_start, critical_key_start}, Before.{Bracketed, BeforeKey, BeforeBracketed}}
+use Rattle.ixdtf_grammar.specs.table.{Outcomes.{ExactlyOne, Outcome, Holds, Outcome.{derived, refused}}, Rows.{Row, Fits}}
+use Rattle.ixdtf_grammar.proofs.parts.Texts.{bracketed_text}
+use Rattle.ixdtf_reading.proofs.code.OneMoreReply.{nothing_split, split_more, NoneRefused-nothing, NoneRefused-more, refused_last, refused_split}
+use Rattle.ixdtf_reading.proofs.{code.OneMoreReply.neither_refused, theorems.Handled.{derived_once, record_once, no_record_and_fault}}
 use Rattle.ixdtf_reading.proofs.theorems.OneOutcome.{one_outcome, no_row_fits, fault_once, derived_begins, fault_begins}
 
 -- ---- a refused reply, or none
@@ -282,16 +267,7 @@ whole_front kind cores brackets more core zone xs ys is_core (first, rest, is, o
       b ++ more,
       regrouped cores brackets first rest a b more is split,
       parsed_with core zone,
-      as_parsed (record {
-        cores = cores;
-        brackets = first ++ a;
-        core = core;
-        zone = zone;
-        is = refl;
-        is_core = is_core;
-        is_tail = (first, a, refl, one, are);
-        has = refl;
-      }),
+      as_parsed (bracketed_text cores (first ++ a) core zone xs refl is_core (first, a, refl, one, are)),
     )
 
 -- what stands before a row, begins with the brackets of the pairs, or there are none

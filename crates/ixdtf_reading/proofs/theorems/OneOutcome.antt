@@ -1,24 +1,13 @@
 -- Each text has exactly one outcome, and the pairs of a front begin those of the text.
-use Rattle.std.proofs.Common.{◌≡◌, ℕ, ◌+◌, length, arith, ◌⊎◌, List, [], ◌++◌, Option, Ok, Err, refl, sym, ap, ◌∙◌, subst, inl, inr, append_assoc}
-use Rattle.ixdtf_grammar.specs.language.Letters.{Text}
-use Rattle.ixdtf_grammar.specs.table.Faults.{Fault}
-use Rattle.ixdtf_grammar.specs.language.Brackets.{ZoneNote}
-use Rattle.ixdtf_grammar.specs.language.Brackets.{Pair}
-use Rattle.ixdtf_grammar.specs.language.Cores.{Core}
-use Rattle.ixdtf_grammar.specs.language.Readers.{Reader}
-use Rattle.ixdtf_grammar.specs.language.Languages.Derives.{as_parsed, as_shifted, as_identified, as_named, as_lasting}
-use Rattle.ixdtf_grammar.specs.language.Languages.{Parsed, parsed_with, Found, Derives}
+use Rattle.std.proofs.Common.{◌≡◌, ℕ, length, arith, ◌⊎◌, List, [], ◌++◌, Option, Ok, Err, refl, sym, ap, ◌∙◌, subst, inl, inr, append_assoc}
+use Rattle.ixdtf_grammar.specs.language.{Letters.Text, Brackets.{ZoneNote, Pair}, Cores.Core, Readers.Reader, Languages.{Parsed, parsed_with, Found, Derives}}
+use Rattle.ixdtf_grammar.specs.{language.Languages.{Derives.{as_parsed, as_shifted, as_identified, as_named, as_lasting}, Found.parsed}, table.Faults.Fault}
 use Rattle.ixdtf_grammar.specs.table.Outcomes.{HasFault, HasFaultAt, OnlyPlace, NoRowFits, Outcome, Holds, OneOutcome, pairs_of, Begins, FrontsBegin}
-use Rattle.ixdtf_grammar.specs.language.Languages.Found.{parsed}
-use Rattle.ixdtf_grammar.specs.table.Outcomes.Outcome.{derived, refused}
-use Rattle.ixdtf_grammar.specs.Laws.{InLanguage}
-use Rattle.ixdtf_grammar.specs.table.Rows.{Row, left_at}
-use Rattle.ixdtf_reading.specs.reading.Looks.{Read, ◌>>=◌}
-use Rattle.ixdtf_reading.specs.reading.Pairs.{pairs_at}
+use Rattle.ixdtf_grammar.specs.{table.{Outcomes.Outcome.{derived, refused}, Rows.left_at}, Laws.InLanguage}
+use Rattle.ixdtf_reading.specs.reading.{Looks.{Read, ◌>>=◌}, Pairs.pairs_at}
 use Rattle.ixdtf_reading.specs.reading.Wholes.{bracketed_text_at, with_pairs, read_at, RowBehind, row_behind, outcome_of, outcome}
-use Rattle.ixdtf_reading.proofs.to_grammar.MorePairs.{OnPairs, pairs_read}
+use Rattle.ixdtf_reading.proofs.to_grammar.{MorePairs.{OnPairs, pairs_read}, Wholes.{OnWhole, whole_read}}
 use Rattle.ixdtf_reading.proofs.to_reading.Wholes.{NoBrackets, Brackets, brackets_of, over_brackets, takes, row_read}
-use Rattle.ixdtf_reading.proofs.to_grammar.Wholes.{OnWhole, whole_read}
 
 -- what holds of a text is what reading returns
 decides : (reader : Reader) (text : Text) (x : Outcome) → Holds reader text x → x ≡ outcome reader text

@@ -1,26 +1,13 @@
 -- The place of a fault that a text and the replies to its pairs give is one.
 use Rattle.std.proofs.Common.{◌≡◌, ◌≢◌, ◌⊎◌, ℕ, List, [], ◌∷◌, ◌++◌, Result, Ok, Err, length, refl, sym, ap, ◌∙◌, subst, inl, inr, arith, append_assoc}
 use Rattle.std.proofs.lemmas.List.{length-append, length-map, append-nil}
-use Rattle.ixdtf_grammar.specs.Handlers.{Reply, LastRefused, GivesFault, own_replies}
-use Rattle.ixdtf_grammar.specs.Laws.{OnePlace}
-use Rattle.ixdtf_grammar.specs.Places.{GivesFaultAt, UnhandledFaultAt, UnhandledOnlyPlace}
-use Rattle.ixdtf_grammar.specs.language.Letters.{Text}
-use Rattle.ixdtf_grammar.specs.language.Brackets.{Pair, ArePairs}
-use Rattle.ixdtf_grammar.specs.language.Cores.{Core}
-use Rattle.ixdtf_grammar.specs.language.Readers.{Reader, CoreKind}
-use Rattle.ixdtf_grammar.specs.language.Readers.Reader.{bracketed}
-use Rattle.ixdtf_grammar.specs.table.Faults.{Fault}
-use Rattle.ixdtf_grammar.specs.language.Languages.Derives.{as_parsed}
-use Rattle.ixdtf_grammar.specs.language.Languages.{Parsed, parsed_with, Derives, Found}
-use Rattle.ixdtf_grammar.specs.language.Languages.Found.{parsed}
-use Rattle.ixdtf_reading.specs.reading.Looks.{Read, ◌>>=◌}
-use Rattle.ixdtf_reading.specs.reading.Pairs.{pairs_at}
-use Rattle.ixdtf_reading.specs.reading.Wholes.{bracketed_text_at, with_pairs, read_at, RowBehind, row_behind}
-use Rattle.ixdtf_reading.proofs.code.OneMoreReply.{refused_last}
-use Rattle.ixdtf_reading.proofs.theorems.OneChain.{last_once, alike}
-use Rattle.ixdtf_reading.proofs.theorems.OneOutcome.{one_outcome, place_once}
-use Rattle.ixdtf_reading.proofs.theorems.OneUnhandledOutcome.{own}
-use Rattle.ixdtf_reading.proofs.to_grammar.MorePairs.{OnPairs, pairs_read}
+use Rattle.ixdtf_grammar.specs.{Handlers.{Reply, LastRefused, GivesFault, own_replies}, Laws.OnePlace}
+use Rattle.ixdtf_grammar.specs.{Places.{GivesFaultAt, UnhandledFaultAt, UnhandledOnlyPlace}, language.{Letters.Text, Brackets.{Pair, ArePairs}, Cores.Core}}
+use Rattle.ixdtf_grammar.specs.language.{Readers.{Reader, CoreKind, Reader.bracketed}, Languages.{Parsed, parsed_with, Derives, Found, Derives.as_parsed}}
+use Rattle.ixdtf_grammar.specs.{language.Languages.Found.parsed, table.Faults.Fault}
+use Rattle.ixdtf_reading.specs.reading.{Looks.{Read, ◌>>=◌}, Pairs.pairs_at, Wholes.{bracketed_text_at, with_pairs, read_at, RowBehind, row_behind}}
+use Rattle.ixdtf_reading.proofs.{code.OneMoreReply.refused_last, theorems.{OneChain.{last_once, alike}, OneOutcome.{one_outcome, place_once}}}
+use Rattle.ixdtf_reading.proofs.{theorems.OneUnhandledOutcome.own, to_grammar.MorePairs.{OnPairs, pairs_read}}
 use Rattle.ixdtf_reading.proofs.to_reading.Wholes.{NoBrackets, Brackets, brackets_of, over_brackets, takes}
 
 -- nothing more is read behind a front with all of the pairs

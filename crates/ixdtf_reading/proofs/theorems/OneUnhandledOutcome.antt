@@ -1,23 +1,11 @@
 -- Each text has exactly one outcome in each reader without a handler.
-use Rattle.std.proofs.Common.{◌≡◌, List, [], Some, Result, Ok, Err, refl, sym, ◌∙◌, ap}
-use Rattle.std.proofs.lemmas.List.{map-append}
-use Rattle.ixdtf_grammar.specs.Handlers.{own_replies}
-use Rattle.ixdtf_grammar.specs.Widths.{UnhandledOutcome, HasWithPairs, HasAlone, HasUnhandledOutcome, OneUnhandledOutcome}
-use Rattle.ixdtf_grammar.specs.Widths.UnhandledOutcome.{read_as, faulted}
-use Rattle.ixdtf_grammar.specs.language.Brackets.{Pair}
-use Rattle.ixdtf_grammar.specs.language.Languages.Derives.{as_parsed, as_shifted, as_identified, as_named, as_lasting}
-use Rattle.ixdtf_grammar.specs.language.Languages.{Parsed, Found, Derives}
-use Rattle.ixdtf_grammar.specs.language.Languages.Found.{parsed}
-use Rattle.ixdtf_grammar.specs.language.Letters.{Text}
-use Rattle.ixdtf_grammar.specs.language.Readers.{Reader, CoreKind}
-use Rattle.ixdtf_grammar.specs.language.Readers.Reader.{bracketed}
-use Rattle.ixdtf_grammar.specs.table.Before.{Before}
-use Rattle.ixdtf_grammar.specs.table.Faults.{Fault}
-use Rattle.ixdtf_grammar.specs.table.LineNames.{LineName}
-use Rattle.ixdtf_grammar.specs.table.Outcomes.{Outcome, Holds}
-use Rattle.ixdtf_grammar.specs.table.Outcomes.Outcome.{derived, refused}
-use Rattle.ixdtf_reading.proofs.code.ReadersWithoutPairs.{ReadsNoPairs}
-use Rattle.ixdtf_reading.proofs.theorems.OneChain.{Replying, GivesChain, alike, only_chain}
+use Rattle.std.proofs.{Common.{◌≡◌, List, [], Some, Result, Ok, Err, refl, sym, ◌∙◌, ap}, lemmas.List.map-append}
+use Rattle.ixdtf_grammar.specs.{Handlers.own_replies, Widths.{UnhandledOutcome, HasWithPairs, HasAlone, HasUnhandledOutcome, OneUnhandledOutcome}}
+use Rattle.ixdtf_grammar.specs.{Widths.UnhandledOutcome.{read_as, faulted}, language.{Brackets.Pair, Languages.{Parsed, Found, Derives}}}
+use Rattle.ixdtf_grammar.specs.language.{Languages.{Derives.{as_parsed, as_shifted, as_identified, as_named, as_lasting}, Found.parsed}, Letters.Text}
+use Rattle.ixdtf_grammar.specs.{language.Readers.{Reader, CoreKind, Reader.bracketed}, table.{Before.Before, Faults.Fault, LineNames.LineName}}
+use Rattle.ixdtf_grammar.specs.table.Outcomes.{Outcome, Holds, Outcome.{derived, refused}}
+use Rattle.ixdtf_reading.proofs.{code.ReadersWithoutPairs.ReadsNoPairs, theorems.OneChain.{Replying, GivesChain, alike, only_chain}}
 use Rattle.ixdtf_reading.proofs.theorems.OneOutcome.{one_outcome, same_outcome, fault_once}
 
 -- ---- readers with brackets

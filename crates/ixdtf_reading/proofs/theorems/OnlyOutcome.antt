@@ -1,19 +1,10 @@
 -- What the one outcome of a text says of what a reader returned: beside a value no row fits, and a row that fits is the only one.
-use Rattle.std.proofs.Common.{◌≡◌, List, ap, inl, inr}
-use Rattle.std.proofs.lemmas.Bool.{both_ways}
-use Rattle.ixdtf_grammar.specs.declared.profile.Profile.{Profile}
-use Rattle.ixdtf_grammar.specs.language.Letters.{Text}
-use Rattle.ixdtf_grammar.specs.language.Brackets.{Pair}
-use Rattle.ixdtf_grammar.specs.language.Readers.{Reader}
-use Rattle.ixdtf_grammar.specs.table.Faults.{Fault, is_refusal}
-use Rattle.ixdtf_grammar.specs.table.Outcomes.{HasFault, NoRowFits, OnlyFault}
-use Rattle.ixdtf_grammar.specs.table.Outcomes.Outcome.{refused}
-use Rattle.ixdtf_grammar.specs.Handlers.{Reply, GivesFault, GivesOnlyFault}
+use Rattle.std.proofs.{Common.{◌≡◌, List, ap, inl, inr}, lemmas.Bool.both_ways}
+use Rattle.ixdtf_grammar.specs.{declared.profile.Profile.Profile, language.{Letters.Text, Brackets.Pair, Readers.Reader}, table.Faults.{Fault, is_refusal}}
+use Rattle.ixdtf_grammar.specs.{table.Outcomes.{HasFault, NoRowFits, OnlyFault, Outcome.refused}, Handlers.{Reply, GivesFault, GivesOnlyFault}}
 use Rattle.ixdtf_grammar.specs.Laws.{IsTextReader, InLanguage, InNoOther}
-use Rattle.ixdtf_reading.proofs.code.OneMoreReply.{refused_split}
-use Rattle.ixdtf_reading.proofs.theorems.OneOutcome.{same_outcome, no_row_fits}
-use Rattle.ixdtf_grammar.proofs.theorems.NoRow.{fault_refuses_none}
-use Rattle.ixdtf_grammar.proofs.theorems.Disjoint.{in_no_other}
+use Rattle.ixdtf_grammar.proofs.theorems.{NoRow.fault_refuses_none, Disjoint.in_no_other}
+use Rattle.ixdtf_reading.proofs.{code.OneMoreReply.refused_split, theorems.OneOutcome.{same_outcome, no_row_fits}}
 
 -- what holds besides where something is derived from the text
 pub record Accepted (reader : Reader) (text : Text) : Type 0 where

@@ -1,31 +1,17 @@
 -- `parse` derives a record from every date-time of RFC 3339 section 5.6.
-use Rattle.ixdtf_grammar.specs.language.Readers.{parse}
+use Rattle.ixdtf_grammar.specs.language.{Readers.parse, Times.{Clock as clocks, IsTime, SecondText, ColonMinuteText}}
+use Rattle.ixdtf_grammar.specs.language.{Times.TimeShape.{colon_minutes, seconds, fractions}, Letters.{Text, time_letter, date_time_separator}}
+use Rattle.ixdtf_grammar.specs.language.{Shapes.{nothing, ◌either◌}, Digits.decimal, Fractions.{FractionParts, fraction_of}, Dates.IsDate}
+use Rattle.ixdtf_grammar.specs.language.{Offsets.{offset_of, IsOffsetOrZ}, Cores.{core_of, IsDateTimeCore}, Languages.{Parsed, parsed_with, Derives}}
+use Rattle.ixdtf_grammar.specs.language.Languages.{Derives.as_parsed, Found.parsed}
+use Rattle.ixdtf_grammar.specs.{language.Rfc3339.{FullDate, WholeTime, SecondFraction, TimeOffset, IsRfcDateTime}, declared.records.DateRecord.DateRecord}
+use Rattle.ixdtf_grammar.specs.declared.records.{TimeRecord.TimeRecord, UtcOffsetRecordOrZ.{UtcOffsetRecordOrZ, TheVariants.{Offset, Z}}}
+use Rattle.ixdtf_grammar.specs.{Handlers.UnhandledRecord, Laws.EveryDateTimeIsRead}
+use Rattle.ixdtf_grammar.proofs.parts.Texts.{signed_text, colon_minutes_text, colon_seconds_text, date_and_time, bracketed_text}
 use Rattle.std.proofs.Common.{ℕ, IsTrue, [], ◌++◌, Some, None, pos, refl, sym, ◌∙◌, false, inl, inr, arith, append_assoc, append-nil}
 use Rattle.std.proofs.lemmas.Bool.Decides.{nat_tests}
-use Rattle.ixdtf_grammar.specs.language.Times.{Clock as clocks}
-use Rattle.ixdtf_grammar.specs.declared.records.DateRecord.{DateRecord}
-use Rattle.ixdtf_grammar.specs.declared.records.TimeRecord.{TimeRecord}
-use Rattle.ixdtf_grammar.specs.declared.records.UtcOffsetRecordOrZ.{UtcOffsetRecordOrZ}
-use Rattle.ixdtf_grammar.specs.declared.records.UtcOffsetRecordOrZ.TheVariants.{Offset, Z}
-use Rattle.ixdtf_grammar.specs.language.Letters.{Text}
-use Rattle.ixdtf_grammar.specs.language.Letters.{time_letter, date_time_separator}
-use Rattle.ixdtf_grammar.specs.language.Shapes.{nothing, ◌either◌}
-use Rattle.ixdtf_grammar.specs.language.Digits.{decimal}
-use Rattle.ixdtf_grammar.specs.language.Fractions.{FractionParts, fraction_of}
-use Rattle.ixdtf_grammar.specs.language.Dates.{IsDate}
-use Rattle.ixdtf_grammar.specs.language.Times.{IsTime, SecondText}
-use Rattle.ixdtf_grammar.specs.language.Times.TimeShape.{colon_minutes, seconds, fractions}
-use Rattle.ixdtf_grammar.specs.language.Offsets.{offset_of, IsOffsetOrZ}
-use Rattle.ixdtf_grammar.specs.language.Cores.{core_of}
-use Rattle.ixdtf_grammar.specs.language.Languages.Derives.{as_parsed}
-use Rattle.ixdtf_grammar.specs.language.Languages.{Parsed, parsed_with, Derives}
-use Rattle.ixdtf_grammar.specs.language.Languages.Found.{parsed}
-use Rattle.ixdtf_reading.specs.reading.Dates.{date_of}
-use Rattle.ixdtf_reading.specs.reading.Times.{time_of}
-use Rattle.ixdtf_grammar.specs.Handlers.{UnhandledRecord}
-use Rattle.ixdtf_grammar.specs.Laws.{EveryDateTimeIsRead}
+use Rattle.ixdtf_reading.specs.reading.{Dates.date_of, Times.time_of}
 use Rattle.ixdtf_reading.proofs.code.OneMoreReply.{NoneRefused-nothing}
-use Rattle.ixdtf_grammar.specs.language.Rfc3339.{FullDate, WholeTime, SecondFraction, TimeOffset, IsRfcDateTime}
 
 full_date : (text : Text) → FullDate text → (date : DateRecord) × IsDate text date
 full_date text d = (
@@ -41,17 +27,8 @@ separates c h = grind (arith, nat_tests, h)
 
 -- the time of its hour, minute and second
 whole_time : (text : Text) (t : WholeTime text) → SecondText clocks.Time text (time_of t.3.0 t.4.4.3.0 t.4.4.4.4.0 None)
-whole_time text t = inr (record {
-  hs = t.0;
-  ms = t.4.4.0;
-  ss = t.4.4.4.1;
-  is = t.2 ∙ rw (t.4.2, t.4.3, t.4.4.2, t.4.4.4.2, t.4.4.4.3) refl;
-  may = refl;
-  hour = t.3.1;
-  minute = t.4.4.3.1;
-  second = t.4.4.4.4.1;
-  no_fraction = refl;
-})
+whole_time text t =
+    inr (colon_seconds_text t.0 t.4.4.0 t.4.4.4.1 (t.2 ∙ rw (t.4.2, t.4.3, t.4.4.2, t.4.4.4.2, t.4.4.4.3) refl) refl t.3.1 t.4.4.3.1 t.4.4.4.4.1 refl)
 
 is_time : (whole part : Text) → WholeTime whole → (nothing either SecondFraction) part → (time : TimeRecord) × IsTime (whole ++ part) time
 is_time whole part t (inl none) = (time_of t.3.0 t.4.4.3.0 t.4.4.4.4.0 None, (seconds, rw (none, append-nil whole) (whole_time whole t)))
@@ -77,30 +54,11 @@ is_offset text (inl z) = (Z, inr (z, refl))
 is_offset text (inr o) =
     let sign = o.3 in
     let body = o.4 in
-    let time : TimeRecord = time_of body.3.0 body.4.4.0 0 None in (
-      Offset _,
-      inl (
-        offset_of sign.0 false time,
-        record {
-          c = sign.0;
-          body = o.1;
-          shape = colon_minutes;
-          time = time;
-          is = o.2 ∙ rw sign.1 refl;
-          sign = sign.2;
-          clock = record {
-            hs = body.0;
-            ms = body.4.1;
-            is = body.2 ∙ rw (body.4.2, body.4.3) refl;
-            hour = body.3.1;
-            minute = body.4.4.1;
-            no_second = refl;
-            no_fraction = refl;
-          };
-          value = refl;
-        },
-        refl,
-      ),
+    let time : TimeRecord = time_of body.3.0 body.4.4.0 0 None in
+    let minutes : ColonMinuteText o.1 time =
+    colon_minutes_text body.0 body.4.1 (body.2 ∙ rw (body.4.2, body.4.3) refl) body.3.1 body.4.4.1 refl refl in (
+      Offset (offset_of sign.0 false time),
+      inl (offset_of sign.0 false time, signed_text sign.0 o.1 colon_minutes time (o.2 ∙ rw sign.1 refl) sign.2 minutes, refl),
     )
 
 -- every one is derived, with no pairs
@@ -111,33 +69,10 @@ rfc_3339_derives text d =
     let after = d.4.4 in
     let time = is_time after.0 after.4.0 after.3 after.4.3 in
     let offset = is_offset after.4.1 after.4.4 in
-    let core = core_of _ _ _ in (
-      parsed_with core None,
-      as_parsed (record {
-        cores = text;
-        brackets = [];
-        core = core;
-        zone = None;
-        is = sym (append-nil text);
-        is_core = inr (record {
-          dates = d.0;
-          separator = d.4.0;
-          times = after.0 ++ after.4.0;
-          offsets = after.4.1;
-          date = date.0;
-          time = time.0;
-          offset = Some offset.0;
-          is = d.2 ∙ rw (d.4.2, after.2, after.4.2) (simp append_assoc);
-          is_date = date.1;
-          separates = (separator.0, separator.1, separates separator.0 separator.2);
-          is_time = time.1;
-          is_offset = offset.1;
-          has = refl;
-        });
-        is_tail = ([], [], refl, refl, refl);
-        has = refl;
-      }),
-    )
+    let core = core_of (Some date.0) (Some time.0) (Some offset.0) in
+    let is_core : IsDateTimeCore text core = inr (date_and_time d.0 d.4.0 (after.0 ++ after.4.0) after.4.1 date.0 time.0 (Some offset.0)
+    (d.2 ∙ rw (d.4.2, after.2, after.4.2) (simp append_assoc)) date.1 (separator.0, separator.1, separates separator.0 separator.2) time.1 offset.1) in
+    (parsed_with core None, as_parsed (bracketed_text text [] core None [] (sym (append-nil text)) is_core ([], [], refl, refl, refl)))
 
 -- without pairs nothing is refused, and there is no calendar
 unhandled : (text : Text) (found : Parsed) → Derives parse text (parsed found) [] → UnhandledRecord parse text found

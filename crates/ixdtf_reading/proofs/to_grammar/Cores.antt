@@ -1,55 +1,28 @@
 -- What reading a core returns is a core, with the end or a bracket after it, or a row that fits.
 use Rattle.std.proofs.Common.{◌≡◌, ℕ, Bool, true, false, IsTrue, IsFalse, [], ◌∷◌, ◌++◌, Ok, Option, Some, None, is_some, refl, sym, ap, ◌∙◌, subst, inl, inr}
-use Rattle.std.proofs.{Common.{append_assoc, append-nil}, lemmas.{Bool.{or_from, eqb-true}}}
-use Rattle.ixdtf_grammar.specs.declared.profile.Profile.{Profile}
-use Rattle.ixdtf_grammar.specs.declared.records.DateRecord.{DateRecord}
-use Rattle.ixdtf_grammar.specs.declared.records.TimeRecord.{TimeRecord}
-use Rattle.ixdtf_grammar.specs.declared.records.UtcOffsetRecord.{UtcOffsetRecord}
-use Rattle.ixdtf_grammar.specs.declared.records.UtcOffsetRecordOrZ.TheVariants.{Offset, Z}
-use Rattle.ixdtf_grammar.specs.declared.records.UtcOffsetRecordOrZ.{UtcOffsetRecordOrZ}
-use Rattle.ixdtf_grammar.specs.language.Letters.Letter.{Plain, Bad}
-use Rattle.ixdtf_grammar.specs.language.Letters.{Text, Class, digit, sign, zulu, opening, time_letter, date_time_separator}
-use Rattle.ixdtf_grammar.specs.language.Shapes.{Shape, one, some, ◌then◌}
-use Rattle.ixdtf_grammar.specs.language.Dates.{IsDate}
-use Rattle.ixdtf_grammar.specs.language.Months.{IsYearMonth, IsMonthDay}
-use Rattle.ixdtf_grammar.specs.language.Times.TimeShape.{seconds, fractions}
-use Rattle.ixdtf_grammar.specs.language.Times.{Clock, TimeShape, IsTime, writes_seconds}
-use Rattle.ixdtf_grammar.specs.language.Offsets.{IsOffset, offset_of}
+use Rattle.std.proofs.{Common.{append_assoc, append-nil}, lemmas.Bool.{or_from, eqb-true}}
+use Rattle.ixdtf_grammar.specs.declared.{profile.Profile.Profile, records.{DateRecord.DateRecord, TimeRecord.TimeRecord, UtcOffsetRecord.UtcOffsetRecord}}
+use Rattle.ixdtf_grammar.specs.declared.records.UtcOffsetRecordOrZ.{UtcOffsetRecordOrZ, TheVariants.{Offset, Z}}
+use Rattle.ixdtf_grammar.specs.language.Letters.{Text, Class, digit, sign, zulu, opening, time_letter, date_time_separator, Letter.{Plain, Bad}}
+use Rattle.ixdtf_grammar.specs.language.{Shapes.{Shape, one, some, ◌then◌}, Dates.IsDate, Months.{IsYearMonth, IsMonthDay}}
+use Rattle.ixdtf_grammar.specs.language.{Times.{Clock, TimeShape, IsTime, writes_seconds, TimeShape.{seconds, fractions}}, Offsets.{IsOffset, offset_of}}
 use Rattle.ixdtf_grammar.specs.language.Cores.{Core, core_of, OptionalOffset, DateAlone, IsDateTimeCore, TimeMark, MarkedTime, HasNoDateFront, IsCore}
-use Rattle.ixdtf_grammar.specs.language.Readers.CoreKind.{date_time, year_month, month_day, time_alone}
-use Rattle.ixdtf_grammar.specs.language.Readers.Reader.{bracketed}
-use Rattle.ixdtf_grammar.specs.language.Readers.{CoreKind}
+use Rattle.ixdtf_grammar.specs.{language.Readers.{CoreKind, CoreKind.{date_time, year_month, month_day, time_alone}, Reader.bracketed}, table.Faults.Fault}
 use Rattle.ixdtf_grammar.specs.table.Faults.Fault.{NonAsciiCodePoint, InvalidEnd, TimeHour}
-use Rattle.ixdtf_grammar.specs.table.Faults.{Fault}
-use Rattle.ixdtf_grammar.specs.table.LineNames.{DateLine, ClockLine, LineName, of_date}
-use Rattle.ixdtf_grammar.specs.table.LineNames.LineName.{of_clock, of_offset}
-use Rattle.ixdtf_grammar.specs.table.LineNames.DateLine.{year_start, after_date}
-use Rattle.ixdtf_grammar.specs.table.LineNames.{of_year_month, of_month_day, of_time}
-use Rattle.ixdtf_grammar.specs.table.LineNames.YearMonthLine.{after_year_month}
-use Rattle.ixdtf_grammar.specs.table.LineNames.MonthDayLine.{after_month_day}
-use Rattle.ixdtf_grammar.specs.table.LineNames.TimeLine.{time_start}
-use Rattle.ixdtf_grammar.specs.table.LineNames.ClockLine.{hour_start}
-use Rattle.ixdtf_grammar.specs.table.LineNames.OffsetLine.{after_zulu}
-use Rattle.ixdtf_grammar.specs.table.Lines.Line.{line}
-use Rattle.ixdtf_grammar.specs.table.Lines.Ending.{ok}
-use Rattle.ixdtf_grammar.specs.table.Lines.{line_of, abrupt_digit, always}
-use Rattle.ixdtf_grammar.specs.table.Before.{BeforeDate, BeforeTime, BeforeOffset, DateAndSeparator, AtCoreEnd, ReadsAsTime}
-use Rattle.ixdtf_grammar.specs.table.Rows.Place.{end, other, bad}
-use Rattle.ixdtf_grammar.specs.table.Rows.{Row, Place, Stops, Fits}
-use Rattle.ixdtf_reading.specs.reading.Looks.{Read, row_of, look_at, next_by}
-use Rattle.ixdtf_reading.specs.reading.Months.{year_month_at, month_day_at}
-use Rattle.ixdtf_reading.specs.reading.Times.{OpenTime, line_after, bad_after}
-use Rattle.ixdtf_reading.specs.reading.Times.{hour_from, clock_at}
-use Rattle.ixdtf_reading.specs.reading.Cores.{ClosedCore, core_look, core_end_at, with_offset, offset_core_at, after_time_at}
-use Rattle.ixdtf_reading.specs.reading.Cores.{time_core_at, after_date_at, date_time_core_at, date_alone_at, hour_look, lone_time_at, marked_time_at, marked_core_at}
-use Rattle.ixdtf_reading.specs.reading.Cores.{unfronted, time_alone_core_at, core_at}
+use Rattle.ixdtf_grammar.specs.table.LineNames.{DateLine, ClockLine, LineName, of_date, of_year_month, of_month_day, of_time, LineName.{of_clock, of_offset}}
+use Rattle.ixdtf_grammar.specs.table.LineNames.{DateLine.{year_start, after_date}, YearMonthLine.after_year_month, MonthDayLine.after_month_day}
+use Rattle.ixdtf_grammar.specs.table.{LineNames.{TimeLine.time_start, ClockLine.hour_start, OffsetLine.after_zulu}, Lines.{line_of, abrupt_digit, always}}
+use Rattle.ixdtf_grammar.specs.table.{Lines.{Line.line, Ending.ok}, Before.{BeforeDate, BeforeTime, BeforeOffset, DateAndSeparator, AtCoreEnd, ReadsAsTime}}
+use Rattle.ixdtf_grammar.specs.table.Rows.{Row, Place, Stops, Fits, Place.{end, other, bad}}
+use Rattle.ixdtf_grammar.proofs.parts.Texts.{date_and_time}
+use Rattle.ixdtf_reading.specs.reading.{Looks.{Read, row_of, look_at, next_by}, Months.{year_month_at, month_day_at}}
+use Rattle.ixdtf_reading.specs.reading.{Times.{OpenTime, line_after, bad_after, hour_from, clock_at}, Cores.{ClosedCore, core_look, core_end_at, with_offset}}
+use Rattle.ixdtf_reading.specs.reading.Cores.{offset_core_at, after_time_at, time_core_at, after_date_at, date_time_core_at, date_alone_at, hour_look}
+use Rattle.ixdtf_reading.specs.reading.Cores.{lone_time_at, marked_time_at, marked_core_at, unfronted, time_alone_core_at, core_at}
 use Rattle.ixdtf_reading.proofs.parts.Fronts.{no_front_of, unfronted_read}
-use Rattle.ixdtf_reading.proofs.parts.Looks.{IsRowFault, OnRead, then_read, read_weaker, read_if, lift, NotNext, next_read, Peeked}
-use Rattle.ixdtf_reading.proofs.parts.Looks.{peek_read, further}
-use Rattle.ixdtf_reading.proofs.to_reading.Times.{Closed, IsLater}
-use Rattle.ixdtf_reading.proofs.to_grammar.Dates.{DateFront, date_read}
-use Rattle.ixdtf_reading.proofs.to_grammar.Months.{FrontIs, year_month_read, month_day_read}
-use Rattle.ixdtf_reading.proofs.to_grammar.Times.{later, TimeFront, hour_read, clock_read, clock_stops}
+use Rattle.ixdtf_reading.proofs.parts.Looks.{IsRowFault, OnRead, then_read, read_weaker, read_if, lift, NotNext, next_read, Peeked, peek_read, further}
+use Rattle.ixdtf_reading.proofs.{to_reading.Times.{Closed, IsLater}, to_grammar.Dates.{DateFront, date_read}}
+use Rattle.ixdtf_reading.proofs.to_grammar.{Months.{FrontIs, year_month_read, month_day_read}, Times.{later, TimeFront, hour_read, clock_read, clock_stops}}
 
 -- Bad does not stand where a time is closed
 closed_not_bad : (clock : Clock) (shape : TimeShape) (rest more : Text) → Closed clock shape rest → rest ≡ Bad ∷ more → ⊥
@@ -209,21 +182,8 @@ module _ {E : Type 0} (fault : Row → E) (text : Text) where
       let before : DateAndSeparator (ds ++ separator) = (ds, separator, refl, (date, is_date), separates) in
       then_read fault _ _ _ _ _ _ (clock_read fault true Clock.Time body)
       (after_time_read fault date_time text IsDateTimeCore (Some date) (ds ++ separator) body is (λ l later_line. before)
-      (λ ts offsets t offset is_time o. inr (record {
-        dates = ds;
-        separator = separator;
-        times = ts;
-        offsets = offsets;
-        date = date;
-        time = t;
-        offset = offset;
-        is = append_assoc ds separator (ts ++ offsets);
-        is_date = is_date;
-        separates = separates;
-        is_time = is_time;
-        is_offset = o;
-        has = refl;
-      }))
+      (λ ts offsets t offset is_time o.
+      inr (date_and_time ds separator ts offsets date t offset (append_assoc ds separator (ts ++ offsets)) is_date separates is_time o))
       (λ ts t is_time. (ds ++ separator, ts, refl, before, (t, is_time))))
       (λ row f. lift (of_clock Clock.Time) (bracketed date_time) row text (ds ++ separator) body is (λ l. (before, refl)) f)
 

@@ -1,25 +1,16 @@
 -- What reading a date returns is a date, or is a row that fits.
 use Rattle.std.proofs.Common.{◌≡◌, ℕ, ◌<◌, ◌≤◌, ◌⊎◌, Bool, true, false, [], ◌∷◌, ◌++◌, refl, ◌∙◌, inl, inr, arith, append_assoc, ℤ, nat_le, ◌&&◌}
-use Rattle.std.proofs.lemmas.{Bool.{and_parts, and_from, both_ways, leb-true, le-leb}, Bool.Decides.nat_tests}
-use Rattle.ixdtf_grammar.specs.declared.records.DateRecord.{DateRecord}
-use Rattle.ixdtf_grammar.specs.language.Letters.Letter.{Plain}
-use Rattle.ixdtf_grammar.specs.language.Letters.{Text, hyphen}
-use Rattle.ixdtf_grammar.specs.language.Shapes.{◌either◌, fewer_digits_than}
-use Rattle.ixdtf_grammar.specs.language.Digits.{decimal, TwoDigits}
-use Rattle.ixdtf_grammar.specs.language.Dates.{Year, Month, DateText, IsDate, month_length}
-use Rattle.ixdtf_grammar.specs.table.Faults.Fault.{InvalidDayRange}
-use Rattle.ixdtf_grammar.specs.table.LineNames.DateLine.{after_year, month_digits, month_range}
-use Rattle.ixdtf_grammar.specs.table.LineNames.{LineName, of_date}
+use Rattle.std.proofs.lemmas.Bool.{and_parts, and_from, both_ways, leb-true, le-leb, Decides.nat_tests}
+use Rattle.ixdtf_grammar.specs.{declared.records.DateRecord.DateRecord, language.{Letters.{Text, hyphen, Letter.Plain}, Shapes.{◌either◌, fewer_digits_than}}}
+use Rattle.ixdtf_grammar.specs.language.{Digits.{decimal, TwoDigits}, Dates.{Year, Month, DateText, IsDate, month_length}}
+use Rattle.ixdtf_grammar.specs.table.{Faults.Fault.InvalidDayRange, LineNames.{LineName, of_date, DateLine.{after_year, month_digits, month_range}}}
 use Rattle.ixdtf_grammar.specs.table.LineNames.DateLine.{after_hyphened_month, after_basic_month, day_digits, day_range}
-use Rattle.ixdtf_grammar.specs.table.Lines.{line_of, HyphenOrDigit, NoMonth, BasicDay, HyphenedDay}
-use Rattle.ixdtf_grammar.specs.table.Rows.{Row}
+use Rattle.ixdtf_grammar.specs.table.{Lines.{line_of, HyphenOrDigit, NoMonth, BasicDay, HyphenedDay}, Rows.Row}
 use Rattle.ixdtf_reading.specs.reading.Looks.{Read, ◌>>=◌, digits_at, mark_at}
-use Rattle.ixdtf_reading.specs.reading.Dates.{date_of, month_in_range, month_by, month_at, line_after_month, day_in_range}
-use Rattle.ixdtf_reading.specs.reading.Dates.{day_at, year_at, date_at}
-use Rattle.ixdtf_reading.proofs.parts.Looks.{OnRead, FitsIn, StopsHere, fits_in, fits_whole_in, then_read, read_weaker, read_if, digits_read, one_as_digits, further}
-use Rattle.ixdtf_reading.proofs.parts.Marks.{hyphens_of, Starts, Begun, LooksForHyphen, Stood, optional, mark_read, hyphen_read, stops_after}
-use Rattle.ixdtf_reading.proofs.parts.Years.{in_year_or_month, year_read}
-use Rattle.ixdtf_reading.proofs.to_reading.Dates.{no_month}
+use Rattle.ixdtf_reading.specs.reading.Dates.{date_of, month_in_range, month_by, month_at, line_after_month, day_in_range, day_at, year_at, date_at}
+use Rattle.ixdtf_reading.proofs.parts.Looks.{OnRead, FitsIn, StopsHere, fits_in, fits_whole_in, then_read, read_weaker, read_if, digits_read, one_as_digits}
+use Rattle.ixdtf_reading.proofs.parts.{Looks.further, Marks.{hyphens_of, Starts, Begun, LooksForHyphen, Stood, optional, mark_read, hyphen_read, stops_after}}
+use Rattle.ixdtf_reading.proofs.{parts.Years.{in_year_or_month, year_read}, to_reading.Dates.no_month}
 
 -- what reading a date gave
 abbrev pub DateFront : Text → DateRecord → Text → Type 0

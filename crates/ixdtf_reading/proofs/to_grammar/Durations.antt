@@ -1,37 +1,19 @@
 -- What reading a duration returns is a duration, or the fault of a row that fits.
 use Rattle.std.proofs.Common.{◌≡◌, ℕ, ◌≤◌, ◌<◌, ◌||◌, Bool, true, false, IsTrue, IsFalse, List, [], ◌∷◌, ◌++◌, Result, Ok, Err, refl, inl, inr, arith}
-use Rattle.std.proofs.{Common.{append_assoc, append-nil, nat_le, if◌then◌else◌}, lemmas.{Bool.{or_from, both_ways, leb-true}, Bool.Decides.nat_tests}}
-use Rattle.ixdtf_grammar.specs.declared.profile.Profile.{Profile}
-use Rattle.ixdtf_grammar.specs.declared.records.DurationParseRecord.{DurationParseRecord}
-use Rattle.ixdtf_grammar.specs.language.Letters.Letter.{Plain, Bad}
-use Rattle.ixdtf_grammar.specs.language.Letters.{Text, digit, sign, decimal_mark, hour_letter, minute_letter}
-use Rattle.ixdtf_grammar.specs.language.Digits.{decimal}
-use Rattle.ixdtf_grammar.specs.language.Fractions.{SomeDigits, IsFraction, fraction_of}
-use Rattle.ixdtf_grammar.specs.language.Offsets.{sign_of}
-use Rattle.ixdtf_grammar.specs.language.Durations.{Half, Group, IntegerGroup, FractionGroup}
-use Rattle.ixdtf_grammar.specs.language.Durations.Half.{date}
-use Rattle.ixdtf_grammar.specs.language.Durations.{AtLeastOne, unit_of, designator, in_order, greatest, greatest_value, IsDuration, DurationUnit as units}
-use Rattle.ixdtf_grammar.specs.language.Durations.Half.{time}
-use Rattle.ixdtf_grammar.specs.language.Readers.Reader.{parse_duration}
-use Rattle.ixdtf_grammar.specs.table.Faults.Fault.{NonAsciiCodePoint}
-use Rattle.ixdtf_grammar.specs.table.Faults.{Fault}
-use Rattle.ixdtf_grammar.specs.table.LineNames.LineName.{of_duration}
-use Rattle.ixdtf_grammar.specs.table.LineNames.{LineName}
-use Rattle.ixdtf_grammar.specs.table.DurationFronts.Context.{in_dates, in_times}
-use Rattle.ixdtf_grammar.specs.table.DurationFronts.{Context, half_of, groups_of, IsContext, AnyGroup, group_mark}
-use Rattle.ixdtf_grammar.specs.table.Lines.Line.{line}
-use Rattle.ixdtf_grammar.specs.table.Lines.Ending.{ok, error}
-use Rattle.ixdtf_grammar.specs.table.Lines.{Line, duration_line, line_of}
-use Rattle.ixdtf_grammar.specs.table.Before.{InDuration}
-use Rattle.ixdtf_grammar.specs.table.Rows.Place.{end, other, bad}
-use Rattle.ixdtf_grammar.specs.table.Rows.{Row, Stops, Fits, front_of}
-use Rattle.ixdtf_reading.specs.reading.Looks.{Read, ◌>>=◌, row_of, look_of}
-use Rattle.ixdtf_reading.specs.reading.Durations.{State, line_of_state, add, integer_group, fraction_group, unit_past, grow}
-use Rattle.ixdtf_reading.specs.reading.Durations.State.{started}
-use Rattle.ixdtf_reading.specs.reading.Durations.{add_in_range, in_its_order, to_times, to_fraction, step, finished, at_end, run, duration_at}
-use Rattle.ixdtf_reading.specs.reading.Durations.State.{signed, between, in_number, at_mark, in_fraction, ended}
-use Rattle.ixdtf_reading.proofs.parts.Looks.{IsRowFault, OnRead, read_if, Goes}
-use Rattle.ixdtf_reading.proofs.parts.DurationRuns.{Asks, state_asks, one_digit, digits_longer}
+use Rattle.std.proofs.{Common.{append_assoc, append-nil, nat_le, if◌then◌else◌}, lemmas.Bool.{or_from, both_ways, leb-true, Decides.nat_tests}}
+use Rattle.ixdtf_grammar.specs.declared.{profile.Profile.Profile, records.{DurationParseRecord.DurationParseRecord, Sign.Sign}}
+use Rattle.ixdtf_grammar.specs.language.{Letters.{Text, digit, sign, decimal_mark, hour_letter, minute_letter, Letter.{Plain, Bad}}, Digits.decimal}
+use Rattle.ixdtf_grammar.specs.language.{Fractions.{SomeDigits, IsFraction, fraction_of}, Offsets.sign_of, Durations.{Half, Group, IntegerGroup}}
+use Rattle.ixdtf_grammar.specs.language.Durations.{FractionGroup, AtLeastOne, unit_of, designator, in_order, greatest, greatest_value, IsDuration}
+use Rattle.ixdtf_grammar.specs.language.Durations.{DurationUnit as units, SignedDesignator, Groups, TimePart, duration_of, Half.{date, time}}
+use Rattle.ixdtf_grammar.specs.{language.Readers.Reader.parse_duration, table.{Faults.{Fault, Fault.NonAsciiCodePoint}, LineNames.LineName}}
+use Rattle.ixdtf_grammar.specs.table.{LineNames.LineName.of_duration, DurationFronts.{Context, half_of, groups_of, IsContext, AnyGroup, group_mark}}
+use Rattle.ixdtf_grammar.specs.table.{DurationFronts.Context.{in_dates, in_times}, Lines.{Line, duration_line, line_of, Line.line, Ending.{ok, error}}}
+use Rattle.ixdtf_grammar.specs.table.{Before.InDuration, Rows.{Row, Stops, Fits, front_of, Place.{end, other, bad}}}
+use Rattle.ixdtf_reading.specs.reading.{Looks.{Read, ◌>>=◌, row_of, look_of}, Durations.{State, line_of_state, add, integer_group, fraction_group, unit_past}}
+use Rattle.ixdtf_reading.specs.reading.Durations.{grow, add_in_range, in_its_order, to_times, to_fraction, step, finished, at_end, run, duration_at}
+use Rattle.ixdtf_reading.specs.reading.Durations.State.{started, signed, between, in_number, at_mark, in_fraction, ended}
+use Rattle.ixdtf_reading.proofs.parts.{Looks.{IsRowFault, OnRead, read_if, Goes}, DurationRuns.{Asks, state_asks, one_digit, digits_longer}}
 
 -- ---- what a state says of the text that was read
 
@@ -239,57 +221,35 @@ least_time : (dates : List Group) (g : Group) (times : List Group) → AtLeastOn
 least_time [] g times = tt
 least_time (d ∷ dates) g times = tt
 
+-- a duration of its groups
+of_groups : {profile : Profile} {text : Text} (start date_text time_text : Text) (s : Sign) (dates times : List Group) → text ≡ start ++ (date_text ++ time_text)
+    → SignedDesignator start s → Groups profile date date_text dates → TimePart profile time_text times → AtLeastOne dates times
+    → IsDuration profile text (duration_of s dates times)
+of_groups start date_text time_text s dates times is is_start are_dates are_times least = record {
+  start = start;
+  date_text = date_text;
+  time_text = time_text;
+  sign = s;
+  dates = dates;
+  times = times;
+  is = is;
+  is_start = is_start;
+  are_dates = are_dates;
+  are_times = are_times;
+  least = least;
+  value = refl;
+}
+
 is_duration : (profile : Profile) (s : State) (front : Text) → Here profile s front → MayEnd (duration_line profile (line_of_state s))
     → IsDuration profile front (finished s)
 is_duration profile (between (in_dates s (g ∷ earlier))) front h ends =
-    record {
-      start = h.0;
-      date_text = h.1;
-      time_text = [];
-      sign = s;
-      dates = g ∷ earlier;
-      times = [];
-      is = rw (append-nil, h.2);
-      is_start = h.3;
-      are_dates = h.4;
-      are_times = inl (refl, refl);
-      least = tt;
-      value = refl;
-    }
+    of_groups h.0 h.1 [] s (g ∷ earlier) [] (rw (append-nil, h.2)) h.3 h.4 (inl (refl, refl)) tt
 is_duration profile (between (in_times s dates (g ∷ earlier))) front h ends =
-    record {
-      start = h.0;
-      date_text = h.1;
-      time_text = Plain h.3 ∷ h.2;
-      sign = s;
-      dates = dates;
-      times = g ∷ earlier;
-      is = h.4;
-      is_start = h.5;
-      are_dates = h.6;
-      are_times = inr (h.3, h.2, refl, h.7, inl h.8);
-      least = least_time dates g earlier;
-      value = refl;
-    }
+    of_groups h.0 h.1 (Plain h.3 ∷ h.2) s dates (g ∷ earlier) h.4 h.5 h.6 (inr (h.3, h.2, refl, h.7, inl h.8)) (least_time dates g earlier)
 is_duration profile (ended s dates times g) front h ends =
     let b = h.3 in
-    record {
-      start =
-          b.0;
-      date_text = b.1;
-      time_text = Plain b.3 ∷ (b.2 ++ h.1);
-      sign = s;
-      dates = dates;
-      times = g ∷ times;
-      is = rw (h.2, b.4)
-          (simp append_assoc);
-      is_start = b.5;
-      are_dates = b.6;
-      are_times = inr
-          (b.3, b.2 ++ h.1, refl, b.7, inr (b.2, h.1, refl, b.8, h.4, h.5));
-      least = least_time dates g times;
-      value = refl;
-    }
+    of_groups b.0 b.1 (Plain b.3 ∷ (b.2 ++ h.1)) s dates (g ∷ times) (rw (h.2, b.4) (simp append_assoc)) b.5 b.6
+    (inr (b.3, b.2 ++ h.1, refl, b.7, inr (b.2, h.1, refl, b.8, h.4, h.5))) (least_time dates g times)
 is_duration profile s front h ends = absurd ends
 
 -- ---- what reading returns

@@ -1,38 +1,23 @@
 -- What reading a first bracket returns is a zone bracket or a pair, or a row that fits.
 use Rattle.std.proofs.Common.{◌≡◌, ℕ, Bool, true, false, IsTrue, IsFalse, List, Result, Ok, Err, [], ◌∷◌, ◌++◌, drop, refl, sym, ap, ◌∙◌, subst, inl, inr}
-use Rattle.std.proofs.{Common.{arith, append_assoc, if◌then◌else◌}, lemmas.{Bool.eqb-true, Bool.Decides.nat_tests}}
+use Rattle.std.proofs.{Common.{arith, append_assoc, if◌then◌else◌}, lemmas.Bool.{eqb-true, Decides.nat_tests}}
 use Rattle.ixdtf_grammar.specs.language.Times.Clock.{MinuteOffset}
-use Rattle.ixdtf_grammar.specs.language.Letters.{Text, Class, ◌or◌, sign, opening, closing, exclamation, slash, zone_lead, zone_char}
-use Rattle.ixdtf_grammar.specs.language.Letters.Letter.{Plain, Bad}
-use Rattle.ixdtf_grammar.specs.language.Letters.{key_lead}
-use Rattle.ixdtf_grammar.specs.language.Shapes.{nothing, one, ◌then◌, some}
-use Rattle.ixdtf_grammar.specs.language.Offsets.{minutes_of}
-use Rattle.ixdtf_grammar.specs.language.ZoneNames.{Zone, IsZone, IsZoneName}
-use Rattle.ixdtf_grammar.specs.language.Brackets.{Opens, IsZoneBracket, ReadsAsName, Pair, IsPair, ReadsAsPair}
-use Rattle.ixdtf_grammar.specs.table.Faults.Fault.{TzLeadingChar, AnnotationClose, IanaChar}
-use Rattle.ixdtf_grammar.specs.table.Faults.{Fault}
-use Rattle.ixdtf_grammar.specs.table.LineNames.{ZoneLine, BracketLine, PairLine, LineName}
+use Rattle.ixdtf_grammar.specs.language.Letters.{Text, Class, ◌or◌, sign, opening, closing, exclamation, slash, zone_lead, zone_char, key_lead}
+use Rattle.ixdtf_grammar.specs.language.{Letters.Letter.{Plain, Bad}, Shapes.{nothing, one, ◌then◌, some}, Offsets.minutes_of}
+use Rattle.ixdtf_grammar.specs.language.{ZoneNames.{Zone, IsZone, IsZoneName}, Brackets.{Opens, IsZoneBracket, ReadsAsName, Pair, IsPair, ReadsAsPair}}
+use Rattle.ixdtf_grammar.specs.table.{Faults.{Fault, Fault.{TzLeadingChar, AnnotationClose, IanaChar}}, LineNames.{ZoneLine, BracketLine, PairLine, LineName}}
 use Rattle.ixdtf_grammar.specs.table.LineNames.LineName.{of_clock, of_zone, of_bracket, of_pair}
-use Rattle.ixdtf_grammar.specs.table.LineNames.ZoneLine.{identifier_start, zone_name_start, in_zone_name}
-use Rattle.ixdtf_grammar.specs.table.LineNames.ZoneLine.{after_zone_slash}
+use Rattle.ixdtf_grammar.specs.table.LineNames.ZoneLine.{identifier_start, zone_name_start, in_zone_name, after_zone_slash}
 use Rattle.ixdtf_grammar.specs.table.LineNames.BracketLine.{first_bracket_start, first_critical_start, first_bracket_scan}
 use Rattle.ixdtf_grammar.specs.table.LineNames.PairLine.{key_start, critical_key_start, in_key, value_start, in_value, after_value_hyphen}
-use Rattle.ixdtf_grammar.specs.table.Lines.Line.{line}
-use Rattle.ixdtf_grammar.specs.table.Lines.Ending.{error}
-use Rattle.ixdtf_grammar.specs.table.Lines.{Ending, line_of, always, abrupt_zone, zone_letters, zone_line}
-use Rattle.ixdtf_grammar.specs.table.Rows.Place.{end, other, bad, anywhere}
-use Rattle.ixdtf_grammar.specs.table.Rows.{Row, Place, Stops, FitsHere, front_of}
-use Rattle.ixdtf_reading.specs.reading.Looks.{Read, ◌>>=◌, row_of, letter_at, look_at, next_by}
-use Rattle.ixdtf_reading.specs.reading.Times.{clock_at}
-use Rattle.ixdtf_reading.specs.reading.Pairs.{pair_at}
-use Rattle.ixdtf_reading.specs.reading.Zones.{follow_look, name_look, name_run, as_zone}
-use Rattle.ixdtf_reading.specs.reading.Brackets.{Bracket, zoned, paired, sight_at, name_in_bracket_at}
+use Rattle.ixdtf_grammar.specs.table.Lines.{Ending, line_of, always, abrupt_zone, zone_letters, zone_line, Line.line, Ending.error}
+use Rattle.ixdtf_grammar.specs.table.Rows.{Row, Place, Stops, FitsHere, front_of, Place.{end, other, bad, anywhere}}
+use Rattle.ixdtf_reading.specs.reading.{Looks.{Read, ◌>>=◌, row_of, letter_at, look_at, next_by}, Times.clock_at, Pairs.pair_at}
+use Rattle.ixdtf_reading.specs.reading.{Zones.{follow_look, name_look, name_run, as_zone}, Brackets.{Bracket, zoned, paired, sight_at, name_in_bracket_at}}
 use Rattle.ixdtf_reading.specs.reading.Brackets.{name_or_pair_at, offset_in_bracket_at, noted, as_pair, inside_at, critical_bracket_at, bracket_at}
 use Rattle.ixdtf_reading.proofs.parts.Looks.{OnRead, FitsIn, then_read, read_if, read_letter}
-use Rattle.ixdtf_reading.proofs.parts.LookAhead.{OnSight, over_letter, sight_read, key_lead_skipped}
-use Rattle.ixdtf_reading.proofs.to_grammar.Times.{clock_read, clock_next_read}
-use Rattle.ixdtf_reading.proofs.to_grammar.ZoneNames.{NameFront, name_read, name_stops_here}
-use Rattle.ixdtf_reading.proofs.to_grammar.Pair.{PairFront, FitsInPair, pair_read, opened_pair}
+use Rattle.ixdtf_reading.proofs.{parts.LookAhead.{OnSight, over_letter, sight_read, key_lead_skipped}, to_grammar.Times.{clock_read, clock_next_read}}
+use Rattle.ixdtf_reading.proofs.to_grammar.{ZoneNames.{NameFront, name_read, name_stops_here}, Pair.{PairFront, FitsInPair, pair_read, opened_pair}}
 use Rattle.ixdtf_reading.proofs.to_reading.Pair.{InPair}
 
 -- what stands between a core and the front of a line of a first bracket, and what the text has from the front on

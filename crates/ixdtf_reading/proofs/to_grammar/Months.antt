@@ -1,33 +1,20 @@
 -- What reading a year-month or a month-day returns is one, or is a row that fits.
 use Rattle.std.proofs.Common.{◌≡◌, ℕ, ◌<◌, ◌≤◌, ◌⊎◌, Bool, true, false, [], ◌∷◌, ◌++◌, Ok, refl, ◌∙◌, inl, inr, arith, append_assoc, pos, nat_le, ◌&&◌}
-use Rattle.std.proofs.{Common.if◌then◌else◌, lemmas.{Bool.{and_parts, and_from, both_ways, leb-true, le-leb}, Bool.Decides.nat_tests}}
-use Rattle.ixdtf_grammar.specs.declared.profile.Profile.{Profile}
-use Rattle.ixdtf_grammar.specs.declared.records.DateRecord.{DateRecord}
-use Rattle.ixdtf_grammar.specs.language.Letters.Letter.{Plain}
-use Rattle.ixdtf_grammar.specs.language.Letters.{Text, digit, hyphen}
-use Rattle.ixdtf_grammar.specs.language.Shapes.{one, ◌then◌, ◌either◌, digits}
-use Rattle.ixdtf_grammar.specs.language.Digits.{decimal, TwoDigits}
-use Rattle.ixdtf_grammar.specs.language.Dates.{Month}
+use Rattle.std.proofs.{Common.if◌then◌else◌, lemmas.Bool.{and_parts, and_from, both_ways, leb-true, le-leb, Decides.nat_tests}}
+use Rattle.ixdtf_grammar.specs.{declared.{profile.Profile.Profile, records.DateRecord.DateRecord}, language.Letters.{Text, digit, hyphen, Letter.Plain}}
+use Rattle.ixdtf_grammar.specs.language.{Shapes.{one, ◌then◌, ◌either◌, digits}, Digits.{decimal, TwoDigits}, Dates.Month}
 use Rattle.ixdtf_grammar.specs.language.Months.{Marks, OptionalHyphen, IsYearMonth, MonthDayText, IsMonthDay, greatest_day, least_day}
-use Rattle.ixdtf_grammar.specs.language.Readers.CoreKind.{year_month, month_day}
-use Rattle.ixdtf_grammar.specs.language.Readers.Reader.{bracketed}
-use Rattle.ixdtf_grammar.specs.table.Faults.Fault.{InvalidMonthDay}
-use Rattle.ixdtf_grammar.specs.table.LineNames.YearMonthLine.{after_year_in_year_month}
-use Rattle.ixdtf_grammar.specs.table.LineNames.{LineName, MonthDayLine, of_year_month, of_month_day}
+use Rattle.ixdtf_grammar.specs.{language.Readers.{CoreKind.{year_month, month_day}, Reader.bracketed}, table.Faults.Fault.InvalidMonthDay}
+use Rattle.ixdtf_grammar.specs.table.LineNames.{LineName, MonthDayLine, of_year_month, of_month_day, YearMonthLine.after_year_in_year_month}
 use Rattle.ixdtf_grammar.specs.table.LineNames.MonthDayLine.{month_day_start, month_day_hyphen, month_day_month_digits, month_day_month_range}
-use Rattle.ixdtf_grammar.specs.table.LineNames.MonthDayLine.{after_month_day_month, month_day_day_digits, month_day_range}
-use Rattle.ixdtf_grammar.specs.table.Lines.{MonthDayMonthDigits}
-use Rattle.ixdtf_grammar.specs.table.Before.{InMonthDay}
-use Rattle.ixdtf_grammar.specs.table.Rows.{Row, Fits}
-use Rattle.ixdtf_reading.specs.reading.Looks.{Read, digits_at, mark_at}
-use Rattle.ixdtf_reading.specs.reading.Dates.{date_of}
-use Rattle.ixdtf_reading.specs.reading.Months.{year_month_at, marks_at, lone_month_in_range, lone_day_in_range}
-use Rattle.ixdtf_reading.specs.reading.Months.{lone_day_at, month_day_at}
+use Rattle.ixdtf_grammar.specs.table.{LineNames.MonthDayLine.{after_month_day_month, month_day_day_digits, month_day_range}, Lines.MonthDayMonthDigits}
+use Rattle.ixdtf_grammar.specs.table.{Before.InMonthDay, Rows.{Row, Fits}}
+use Rattle.ixdtf_grammar.proofs.parts.Texts.{year_month_text}
+use Rattle.ixdtf_reading.specs.reading.{Looks.{Read, digits_at, mark_at}, Dates.date_of}
+use Rattle.ixdtf_reading.specs.reading.Months.{year_month_at, marks_at, lone_month_in_range, lone_day_in_range, lone_day_at, month_day_at}
 use Rattle.ixdtf_reading.proofs.parts.Looks.{OnRead, FitsIn, fits_in, fits_whole_in, lift, then_read, read_weaker, read_if, digits_read, further}
-use Rattle.ixdtf_reading.proofs.parts.Marks.{hyphens_of, Starts, Begun, Stood, optional, mark_read, hyphen_read, stops_after}
-use Rattle.ixdtf_reading.proofs.parts.Years.{in_year_or_month}
-use Rattle.ixdtf_reading.proofs.to_reading.Months.{no_lone_month, marks_of}
-use Rattle.ixdtf_reading.proofs.to_grammar.Dates.{from_year_read}
+use Rattle.ixdtf_reading.proofs.parts.{Marks.{hyphens_of, Starts, Begun, Stood, optional, mark_read, hyphen_read, stops_after}, Years.in_year_or_month}
+use Rattle.ixdtf_reading.proofs.{to_reading.Months.{no_lone_month, marks_of}, to_grammar.Dates.from_year_read}
 
 -- a front of the text is of the kind, and the rest stands after it
 abbrev pub FrontIs : (Text → DateRecord → Type 0) → Text → DateRecord → Text → Type 0
@@ -40,11 +27,7 @@ pub year_month_read : {E : Type 0} (fault : Row → E) (text : Text)
 unfolding year_month_at
 year_month_read fault text = from_year_read fault (of_year_month after_year_in_year_month) (λ c. refl) true text
     (λ y month. Ok (date_of y month.0.0 1, month.1)) _ _
-    (λ ys y b ms m rest is year month. (
-      ys ++ (hyphens_of b ++ ms),
-      is,
-      record { years = ys; hyphens = hyphens_of b; months = ms; is = refl; year = year; hyphen = optional b; month = month; first_day = refl },
-    ))
+    (λ ys y b ms m rest is year month. (ys ++ (hyphens_of b ++ ms), is, year_month_text ys (hyphens_of b) ms refl year (optional b) month refl))
     (λ row h. lift in_year_or_month (bracketed year_month) row text [] text refl (λ l. (l.1, refl)) h)
     (λ ys y rest row is year h. lift of_year_month (bracketed year_month) row text [] text refl (λ l. (refl, refl))
     (fits_in of_year_month true after_year_in_year_month row text ys rest h.0 is (y, year) h.1))

@@ -1,21 +1,11 @@
 -- What reading the pairs after whole brackets returns is pairs of the whole text, or a row behind whole pairs.
 use Rattle.std.proofs.Common.{◌≡◌, ℕ, zero, suc, ◌<◌, List, [], ◌∷◌, ◌++◌, length, Ok, Err, Option, Some, None, refl, sym, ap, ◌∙◌, subst, arith}
 use Rattle.std.proofs.{Common.{append_assoc, append-nil}, lemmas.Bool.eqb-true}
-use Rattle.ixdtf_grammar.specs.language.Letters.{Text, opening}
-use Rattle.ixdtf_grammar.specs.language.Shapes.{nothing}
-use Rattle.ixdtf_grammar.specs.language.Brackets.{Pair, IsPair, ArePairs}
-use Rattle.ixdtf_grammar.specs.table.Faults.Fault.{InvalidEnd}
-use Rattle.ixdtf_grammar.specs.table.Faults.{Fault}
-use Rattle.ixdtf_grammar.specs.table.LineNames.LineName.{of_bracket}
-use Rattle.ixdtf_grammar.specs.table.LineNames.BracketLine.{after_bracket}
-use Rattle.ixdtf_grammar.specs.table.Lines.{always}
-use Rattle.ixdtf_grammar.specs.table.Rows.{Row}
-use Rattle.ixdtf_reading.specs.reading.Looks.{Read, Placed, ◌>>=◌, error_of, look_at_line, peek_by}
-use Rattle.ixdtf_reading.specs.reading.Pairs.{later_pair_at, next_pair_at, pairs_at}
+use Rattle.ixdtf_grammar.specs.{language.{Letters.{Text, opening}, Shapes.nothing, Brackets.{Pair, IsPair, ArePairs}}, table.Faults.Fault.InvalidEnd}
+use Rattle.ixdtf_grammar.specs.table.{LineNames.{LineName.of_bracket, BracketLine.after_bracket}, Lines.always, Rows.Row}
+use Rattle.ixdtf_reading.specs.reading.{Looks.{Read, Placed, ◌>>=◌, error_of, look_at_line, peek_by}, Pairs.{later_pair_at, next_pair_at, pairs_at}}
 use Rattle.ixdtf_reading.specs.reading.Chains.{FitsAfterBrackets, PairsUpTo}
-use Rattle.ixdtf_reading.proofs.parts.Looks.{OnRead, Peeked, peek_line_read, then_read}
-use Rattle.ixdtf_reading.proofs.to_reading.Pair.{later_pair_takes}
-use Rattle.ixdtf_reading.proofs.to_reading.MorePairs.{shorter}
+use Rattle.ixdtf_reading.proofs.{parts.Looks.{OnRead, Peeked, peek_line_read, then_read}, to_reading.{Pair.later_pair_takes, MorePairs.shorter}}
 use Rattle.ixdtf_reading.proofs.to_grammar.Pair.{later_pair_read}
 
 -- what reading the next pair gave

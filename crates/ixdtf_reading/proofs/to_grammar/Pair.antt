@@ -1,27 +1,16 @@
 -- What reading a pair returns is a pair, or a row that fits.
 use Rattle.std.proofs.Common.{◌≡◌, ℕ, Bool, true, false, IsTrue, IsFalse, List, [], ◌∷◌, ◌++◌, map, Ok, Err, refl, sym, ap, ◌∙◌, subst, inl, inr, arith}
-use Rattle.std.proofs.{Common.append_assoc, lemmas.{Bool.eqb-true, Bool.Decides.nat_tests}}
-use Rattle.ixdtf_grammar.specs.language.Letters.Letter.{Plain, Bad}
+use Rattle.std.proofs.{Common.append_assoc, lemmas.Bool.{eqb-true, Decides.nat_tests}}
 use Rattle.ixdtf_grammar.specs.language.Letters.{Text, ◌or◌, hyphen, equals, opening, closing, exclamation, key_lead, key_char, value_char}
-use Rattle.ixdtf_grammar.specs.language.Shapes.{Shape, nothing, one, ◌then◌, ◌either◌, some, many}
+use Rattle.ixdtf_grammar.specs.language.{Letters.Letter.{Plain, Bad}, Shapes.{Shape, nothing, one, ◌then◌, ◌either◌, some, many}}
 use Rattle.ixdtf_grammar.specs.language.Brackets.{Opens, Pair, Key, ValueRun, Value, IsPair}
-use Rattle.ixdtf_grammar.specs.table.Faults.Fault.{NonAsciiCodePoint, AnnotationKeyValueSeparator, AnnotationKeyChar}
-use Rattle.ixdtf_grammar.specs.table.LineNames.PairLine.{key_start}
-use Rattle.ixdtf_grammar.specs.table.LineNames.{PairLine}
-use Rattle.ixdtf_grammar.specs.table.LineNames.PairLine.{critical_key_start, in_key, value_start, in_value, after_value_hyphen}
-use Rattle.ixdtf_grammar.specs.table.LineNames.LineName.{of_pair}
-use Rattle.ixdtf_grammar.specs.table.Lines.{line_of, pair_line}
-use Rattle.ixdtf_grammar.specs.table.Rows.Place.{end, other, bad}
-use Rattle.ixdtf_grammar.specs.table.Rows.{Row, Stops, FitsHere, front_of}
-use Rattle.ixdtf_reading.specs.reading.Looks.{Read, row_of, letter_at}
-use Rattle.ixdtf_reading.specs.reading.Zones.{with_letter}
-use Rattle.ixdtf_reading.specs.reading.Pairs.{value_line, value_end, value_other, value_step, key_run, value_run}
-use Rattle.ixdtf_reading.specs.reading.Pairs.{pair_at, critical_pair_at, later_pair_at}
-use Rattle.ixdtf_reading.specs.reading.Chains.{AfterBrackets, FitsAfterBrackets}
-use Rattle.ixdtf_reading.specs.reading.Pairs.{ValueState, AtStart, Inside, AfterHyphen, ValueStep, GoesOn, Ends}
-use Rattle.ixdtf_reading.proofs.parts.Looks.{OnRead, then_read, read_if, read_letter, onto}
-use Rattle.ixdtf_reading.proofs.to_reading.Pair.{InPair, PairText, stepped, by_step}
-use Rattle.ixdtf_reading.specs.reading.Pairs.{ValueStep as steps}
+use Rattle.ixdtf_grammar.specs.table.{Faults.Fault.{NonAsciiCodePoint, AnnotationKeyValueSeparator, AnnotationKeyChar}, LineNames.PairLine}
+use Rattle.ixdtf_grammar.specs.table.LineNames.{PairLine.{key_start, critical_key_start, in_key, value_start, in_value, after_value_hyphen}, LineName.of_pair}
+use Rattle.ixdtf_grammar.specs.table.{Lines.{line_of, pair_line}, Rows.{Row, Stops, FitsHere, front_of, Place.{end, other, bad}}}
+use Rattle.ixdtf_reading.specs.reading.{Looks.{Read, row_of, letter_at}, Zones.with_letter, Pairs.{value_line, value_end, value_other, value_step, key_run}}
+use Rattle.ixdtf_reading.specs.reading.Pairs.{value_run, pair_at, critical_pair_at, later_pair_at, ValueState, AtStart, Inside, AfterHyphen, ValueStep}
+use Rattle.ixdtf_reading.specs.reading.{Pairs.{GoesOn, Ends, ValueStep as steps}, Chains.{AfterBrackets, FitsAfterBrackets}}
+use Rattle.ixdtf_reading.proofs.{parts.Looks.{OnRead, then_read, read_if, read_letter, onto}, to_reading.Pair.{InPair, PairText, stepped, by_step}}
 
 -- what reading a pair gave, from its key on
 abbrev pub PairFront : Bool → Text → Pair → Text → Type 0

@@ -1,34 +1,25 @@
 -- What reading a time returns is a time as far as it goes, or a row that fits.
-use Rattle.std.proofs.Common.{◌≡◌, ℕ, ◌<◌, ◌≤◌, ◌⊎◌, IsTrue, IsFalse, [], ◌∷◌, ◌++◌, Ok, Err, Some, None, refl, ◌∙◌, subst, inl, inr, arith}
-use Rattle.std.proofs.{Common.{append_assoc, nat_le, Bool, true, false, if◌then◌else◌}, lemmas.{Bool.{eqb-true, leb-true, leb-false, and_parts, or_from}}}
-use Rattle.std.proofs.lemmas.Bool.Decides.{nat_tests}
+use Rattle.std.proofs.Common.{◌≡◌, ℕ, ◌<◌, ◌≤◌, ◌⊎◌, IsTrue, IsFalse, [], ◌∷◌, ◌++◌, Ok, Err, Some, None, refl, ◌∙◌, subst, inl, inr, arith, append_assoc}
+use Rattle.std.proofs.{Common.{nat_le, Bool, true, false, if◌then◌else◌}, lemmas.Bool.{eqb-true, leb-true, leb-false, and_parts, or_from, Decides.nat_tests}}
 use Rattle.ixdtf_grammar.specs.declared.records.TimeRecord.{TimeRecord}
-use Rattle.ixdtf_grammar.specs.language.Times.Clock.{Time}
 use Rattle.ixdtf_grammar.specs.language.Times.{Clock, TimeShape, ClockOf, BasicMinuteText, ColonMinuteText, SecondText, greatest_second, has_seconds}
-use Rattle.ixdtf_grammar.specs.language.Times.TimeShape.{hours, basic_minutes, colon_minutes, seconds, fractions}
-use Rattle.ixdtf_grammar.specs.language.Letters.{Text, ◌or◌, digit, colon, decimal_mark}
-use Rattle.ixdtf_grammar.specs.language.Letters.Letter.{Plain, Bad}
-use Rattle.ixdtf_grammar.specs.language.Shapes.{Shape, some, one, fewer_digits_than, ◌then◌, ◌either◌}
-use Rattle.ixdtf_grammar.specs.language.Digits.{decimal, UpTo}
-use Rattle.ixdtf_grammar.specs.language.Fractions.{FractionParts, SomeDigits, fraction_of}
-use Rattle.ixdtf_grammar.specs.table.Faults.Fault.{NonAsciiCodePoint, TimeHour, TimeMinuteSecond}
-use Rattle.ixdtf_grammar.specs.table.Faults.{Fault}
-use Rattle.ixdtf_grammar.specs.table.LineNames.LineName.{of_clock}
-use Rattle.ixdtf_grammar.specs.table.LineNames.{ClockLine, LineName}
+use Rattle.ixdtf_grammar.specs.language.Times.{Clock.Time, TimeShape.{hours, basic_minutes, colon_minutes, seconds, fractions}}
+use Rattle.ixdtf_grammar.specs.language.Letters.{Text, ◌or◌, digit, colon, decimal_mark, Letter.{Plain, Bad}}
+use Rattle.ixdtf_grammar.specs.language.{Shapes.{Shape, some, one, fewer_digits_than, ◌then◌, ◌either◌}, Digits.{decimal, UpTo}}
+use Rattle.ixdtf_grammar.specs.{language.Fractions.{FractionParts, SomeDigits, fraction_of}, table.Faults.Fault}
+use Rattle.ixdtf_grammar.specs.table.{Faults.Fault.{NonAsciiCodePoint, TimeHour, TimeMinuteSecond}, LineNames.{ClockLine, LineName, LineName.of_clock}}
 use Rattle.ixdtf_grammar.specs.table.LineNames.ClockLine.{hour_start, hour_digit, hour_range, after_hour, minute_digits, minute_range, after_basic_minute}
 use Rattle.ixdtf_grammar.specs.table.LineNames.ClockLine.{after_colon_minute, second_digits, second_range, after_second, fraction_start, after_fraction}
-use Rattle.ixdtf_grammar.specs.table.Lines.Ending.{ok, error}
-use Rattle.ixdtf_grammar.specs.table.Lines.{line_of, follow_of, seconds_after, second_fault, mixed, ColonOrDigit, Past}
-use Rattle.ixdtf_grammar.specs.table.Rows.Place.{end, other, bad, anywhere}
-use Rattle.ixdtf_grammar.specs.table.Rows.{Row, Place, Stops, front_of}
+use Rattle.ixdtf_grammar.specs.table.Lines.{line_of, follow_of, seconds_after, second_fault, mixed, ColonOrDigit, Past, Ending.{ok, error}}
+use Rattle.ixdtf_grammar.specs.table.Rows.{Row, Place, Stops, front_of, Place.{end, other, bad, anywhere}}
+use Rattle.ixdtf_grammar.proofs.parts.Texts.{colon_seconds_text}
 use Rattle.ixdtf_reading.specs.reading.Looks.{Read, ◌>>=◌, row_of, letter_at, look_at, next_by, digits_at, peek_by, in_range, number_by, digit_run}
-use Rattle.ixdtf_reading.specs.reading.Times.{OpenTime}
-use Rattle.ixdtf_reading.specs.reading.Times.{time_of, line_after, bad_after, mixed_after, hour_past, minute_past, second_past, minutes_shape, second_start}
-use Rattle.ixdtf_reading.specs.reading.Times.{number_at, fraction_at, after_second_at, second_at, after_minute_at, minute_at, after_hour_at, hour_from, clock_at}
-use Rattle.ixdtf_reading.specs.reading.Zones.{follow_look}
-use Rattle.ixdtf_reading.proofs.parts.Looks.{IsRowFault, OnRead, OnRun, FitsIn, fits_in, then_read, read_weaker, read_if, no_digit, none_or_one, LooksForDigit}
-use Rattle.ixdtf_reading.proofs.parts.Looks.{DigitsStop, goes, stops, digit_goes, digit_looks, read_letter, digits_read, Peeked, peek_read, next_read, run_read}
-use Rattle.ixdtf_reading.proofs.parts.Looks.{further, onto, NotNext}
+use Rattle.ixdtf_reading.specs.reading.Times.{OpenTime, time_of, line_after, bad_after, mixed_after, hour_past, minute_past, second_past, minutes_shape}
+use Rattle.ixdtf_reading.specs.reading.Times.{second_start, number_at, fraction_at, after_second_at, second_at, after_minute_at, minute_at, after_hour_at}
+use Rattle.ixdtf_reading.specs.reading.{Times.{hour_from, clock_at}, Zones.follow_look}
+use Rattle.ixdtf_reading.proofs.parts.Looks.{IsRowFault, OnRead, OnRun, FitsIn, fits_in, then_read, read_weaker, read_if, no_digit, none_or_one}
+use Rattle.ixdtf_reading.proofs.parts.Looks.{LooksForDigit, DigitsStop, goes, stops, digit_goes, digit_looks, read_letter, digits_read, Peeked, peek_read}
+use Rattle.ixdtf_reading.proofs.parts.Looks.{next_read, run_read, further, onto, NotNext}
 use Rattle.ixdtf_reading.proofs.to_reading.Times.{Closed, IsLater, StopsAfter, closed_minutes, with_fraction}
 
 -- what reading a time gave
@@ -88,17 +79,7 @@ second_text : (clock : Clock) (colons : Bool) (h m s : ℕ) (front ds : Text) �
     → ClockOf clock (minutes_shape colons) front (time_of h m 0 None) → UpTo (greatest_second clock) ds s
     → SecondText clock (front ++ (marks colons ++ ds)) (time_of h m s None)
 second_text clock true h m s front ds may x u =
-    inr (record {
-      hs = x.hs;
-      ms = x.ms;
-      ss = ds;
-      is = rw x.is (simp append_assoc);
-      may = may;
-      hour = x.hour;
-      minute = x.minute;
-      second = u;
-      no_fraction = refl;
-    })
+    inr (colon_seconds_text x.hs x.ms ds (rw x.is (simp append_assoc)) may x.hour x.minute u refl)
 second_text clock false h m s front ds may x u =
     inl (record {
       hs = x.hs;

@@ -1,40 +1,23 @@
 -- What reading a whole text returns is derived, or is a row that fits.
 use Rattle.std.proofs.Common.{◌≡◌, ◌≢◌, suc, List, [], ◌∷◌, ◌++◌, length, Ok, Err, None, refl, ap, ◌∙◌, sym, inl, inr, arith, append_assoc, append-nil, false}
 use Rattle.std.proofs.Common.{true}
-use Rattle.ixdtf_grammar.specs.language.Times.{Clock}
-use Rattle.ixdtf_grammar.specs.language.Letters.Letter.{Plain}
-use Rattle.ixdtf_grammar.specs.language.Letters.{Text}
-use Rattle.ixdtf_grammar.specs.language.Shapes.{some}
-use Rattle.ixdtf_grammar.specs.language.Brackets.{Pair, ArePairs, IsTail}
-use Rattle.ixdtf_grammar.specs.language.Cores.{Core, IsCore}
-use Rattle.ixdtf_grammar.specs.language.Readers.Reader.{bracketed, parse_offset, parse_identifier, parse_iana_identifier, parse_duration}
-use Rattle.ixdtf_grammar.specs.language.Readers.{Reader, CoreKind}
-use Rattle.ixdtf_grammar.specs.language.Languages.Derives.{as_parsed, as_shifted, as_identified, as_named, as_lasting}
-use Rattle.ixdtf_grammar.specs.language.Languages.Found.{shifted, identified, named, lasting}
+use Rattle.ixdtf_grammar.specs.language.{Times.Clock, Letters.{Text, Letter.Plain}, Shapes.some, Brackets.{Pair, ArePairs, IsTail}, Cores.{Core, IsCore}}
+use Rattle.ixdtf_grammar.specs.language.Readers.{Reader, CoreKind, Reader.{bracketed, parse_offset, parse_identifier, parse_iana_identifier, parse_duration}}
 use Rattle.ixdtf_grammar.specs.language.Languages.{Parsed, parsed_with, IsBracketed, Found, Derives}
-use Rattle.ixdtf_grammar.specs.table.LineNames.LineName.{of_clock, of_zone, of_bracket, of_pair}
-use Rattle.ixdtf_grammar.specs.table.LineNames.ZoneLine.{in_zone_name, after_zone_slash}
-use Rattle.ixdtf_grammar.specs.table.LineNames.{LineName}
+use Rattle.ixdtf_grammar.specs.language.Languages.Derives.{as_parsed, as_shifted, as_identified, as_named, as_lasting}
+use Rattle.ixdtf_grammar.specs.{language.Languages.Found.{shifted, identified, named, lasting}, table.LineNames.LineName}
+use Rattle.ixdtf_grammar.specs.table.LineNames.{LineName.{of_clock, of_zone, of_bracket, of_pair}, ZoneLine.{in_zone_name, after_zone_slash}}
 use Rattle.ixdtf_grammar.specs.table.LineNames.BracketLine.{first_bracket_start, first_critical_start, first_bracket_scan, after_bracket}
-use Rattle.ixdtf_grammar.specs.table.LineNames.PairLine.{key_start}
-use Rattle.ixdtf_grammar.specs.table.LineNames.PairLine.{critical_key_start}
-use Rattle.ixdtf_grammar.specs.table.Before.{Before, Bracketed}
-use Rattle.ixdtf_grammar.specs.table.Rows.{Row, Fits}
-use Rattle.ixdtf_reading.specs.reading.Looks.{Read, ◌>>=◌, error_of}
-use Rattle.ixdtf_reading.specs.reading.Pairs.{pairs_at}
-use Rattle.ixdtf_reading.specs.reading.Durations.{duration_at}
+use Rattle.ixdtf_grammar.specs.table.{LineNames.PairLine.{key_start, critical_key_start}, Before.{Before, Bracketed}, Rows.{Row, Fits}}
+use Rattle.ixdtf_grammar.proofs.parts.Texts.{bracketed_text}
+use Rattle.ixdtf_reading.specs.reading.{Looks.{Read, ◌>>=◌, error_of}, Pairs.pairs_at, Durations.duration_at}
 use Rattle.ixdtf_reading.specs.reading.Zones.{offset_at, identifier_at, iana_identifier_at}
-use Rattle.ixdtf_reading.specs.reading.Brackets.{Bracket, zoned, paired, zone_in, pairs_in, bracket_at}
-use Rattle.ixdtf_reading.specs.reading.Cores.{ClosedCore, core_at}
+use Rattle.ixdtf_reading.specs.reading.{Brackets.{Bracket, zoned, paired, zone_in, pairs_in, bracket_at}, Cores.{ClosedCore, core_at}}
 use Rattle.ixdtf_reading.specs.reading.Wholes.{bracketed_at, annotated_at, tail_at, bracketed_text_at, with_pairs, finding, read_at}
 use Rattle.ixdtf_reading.specs.reading.Chains.{AfterBrackets, FitsAfterBrackets}
-use Rattle.ixdtf_reading.proofs.parts.Looks.{OnRead}
-use Rattle.ixdtf_reading.proofs.parts.ZonesAlone.{offset_read, identifier_read, iana_identifier_read}
-use Rattle.ixdtf_reading.proofs.to_grammar.Cores.{CoreFront, ReadsCore, core_read}
-use Rattle.ixdtf_reading.proofs.to_grammar.FirstBracket.{InBracket, FitsAfterCore, IsBracket, bracket_read}
-use Rattle.ixdtf_reading.proofs.to_grammar.MorePairs.{OnPairs, pairs_read}
-use Rattle.ixdtf_reading.proofs.to_grammar.Durations.{duration_read}
-use Rattle.ixdtf_reading.proofs.to_reading.FirstBracket.{bracket_takes}
+use Rattle.ixdtf_reading.proofs.parts.{Looks.OnRead, ZonesAlone.{offset_read, identifier_read, iana_identifier_read}}
+use Rattle.ixdtf_reading.proofs.to_grammar.{Cores.{CoreFront, ReadsCore, core_read}, FirstBracket.{InBracket, FitsAfterCore, IsBracket, bracket_read}}
+use Rattle.ixdtf_reading.proofs.{to_grammar.{MorePairs.{OnPairs, pairs_read}, Durations.duration_read}, to_reading.FirstBracket.bracket_takes}
 
 -- what stands before a line of a first bracket, where a core stands before it
 in_first : (kind : CoreKind) (name : LineName) (cores prior rest : Text) → some (IsCore kind) cores → InBracket name prior rest
@@ -102,19 +85,8 @@ module _ {E : Type 0} (fault : List Pair → Row → E) (kind : CoreKind) where
     where
       go : (r : Read E (List Pair)) → OnPairs fault (pairs_in bracket) rest r
           → OnBracketed text (r >>= λ pairs. Ok ((parsed_with core (zone_in bracket), pairs.0), pairs.1))
-      go (Ok x) h = (
-        h.0,
-        record {
-          cores = cores;
-          brackets = first ++ rest;
-          core = core;
-          zone = zone_in bracket;
-          is = is;
-          is_core = is_core;
-          is_tail = rw h.2 (tail_of bracket first rest h.1 b h.3);
-          has = refl;
-        },
-      )
+      go (Ok x) h =
+          (h.0, bracketed_text cores (first ++ rest) core (zone_in bracket) x.0 is is_core (rw h.2 (tail_of bracket first rest h.1 b h.3)))
       go (Err e) h = (
         pairs_in bracket ++ h.0,
         h.3,
@@ -135,19 +107,8 @@ module _ {E : Type 0} (fault : List Pair → Row → E) (kind : CoreKind) where
       go (Err e) h = ([], h.0, h.1, after_core kind h.0 text cores (Plain 91 ∷ inner) is (core, is_core) h.2)
 
   tail_read : (text : Text) (x : ClosedCore) (rest : Text) → CoreFront kind text x rest → OnBracketed text (tail_at fault x rest)
-  tail_read text (core, false) rest h = (
-    h.1.1,
-    record {
-      cores = h.0;
-      brackets = [];
-      core = core;
-      zone = None;
-      is = h.1.0 ∙ sym (append-nil h.0);
-      is_core = h.2;
-      is_tail = ([], [], refl, refl, refl);
-      has = refl;
-    },
-  )
+  tail_read text (core, false) rest h =
+      (h.1.1, bracketed_text h.0 [] core None [] (h.1.0 ∙ sym (append-nil h.0)) h.2 ([], [], refl, refl, refl))
   tail_read text (core, true) rest h = annotated_read text h.0 rest core h.1 h.2
 
   text_read : (text : Text) → OnBracketed text (bracketed_text_at fault kind text)

@@ -1,27 +1,16 @@
 -- A reading that has gone over what stands before a time or an offset, and goes on after it, returns each row of their lines.
 use Rattle.std.proofs.Common.{◌≡◌, ℕ, IsTrue, [], ◌∷◌, ◌++◌, Err, refl, ◌∙◌, inl, inr, arith, Bool}
-use Rattle.ixdtf_grammar.specs.declared.records.TimeRecord.{TimeRecord}
-use Rattle.ixdtf_grammar.specs.language.Shapes.{some}
-use Rattle.ixdtf_grammar.specs.language.Times.TimeShape.{hours, basic_minutes, colon_minutes, seconds, fractions}
-use Rattle.ixdtf_grammar.specs.language.Times.{Clock, TimeShape, ClockOf}
-use Rattle.ixdtf_grammar.specs.language.Letters.Letter.{Plain}
-use Rattle.ixdtf_grammar.specs.language.Letters.{Text, digit}
-use Rattle.ixdtf_grammar.specs.table.Faults.{Fault}
-use Rattle.ixdtf_grammar.specs.table.LineNames.LineName.{of_clock}
-use Rattle.ixdtf_grammar.specs.table.LineNames.ClockLine.{hour_start, hour_digit, hour_range, after_hour}
-use Rattle.ixdtf_grammar.specs.table.LineNames.{ClockLine, LineName}
-use Rattle.ixdtf_grammar.specs.table.LineNames.ClockLine.{minute_digits, minute_range, after_basic_minute, after_colon_minute, second_digits, second_range}
-use Rattle.ixdtf_grammar.specs.table.LineNames.ClockLine.{after_second, fraction_start, after_fraction}
-use Rattle.ixdtf_grammar.specs.table.Lines.Ending.{ok}
-use Rattle.ixdtf_grammar.specs.table.Lines.{line_of, follow_of}
-use Rattle.ixdtf_grammar.specs.table.Rows.Place.{end, other}
-use Rattle.ixdtf_grammar.specs.table.Rows.{Row, Place, Stops}
-use Rattle.ixdtf_reading.specs.reading.Looks.{Read, ◌>>=◌, row_of, look_at, peek_by, next_by}
-use Rattle.ixdtf_reading.specs.reading.Times.{OpenTime, line_after, hour_from, clock_at}
+use Rattle.ixdtf_grammar.specs.{declared.records.TimeRecord.TimeRecord, language.{Shapes.some, Times.{Clock, TimeShape, ClockOf}}}
+use Rattle.ixdtf_grammar.specs.language.{Times.TimeShape.{hours, basic_minutes, colon_minutes, seconds, fractions}, Letters.{Text, digit, Letter.Plain}}
+use Rattle.ixdtf_grammar.specs.table.{Faults.Fault, LineNames.{ClockLine, LineName, LineName.of_clock, ClockLine.{hour_start, hour_digit, hour_range}}}
+use Rattle.ixdtf_grammar.specs.table.LineNames.ClockLine.{after_hour, minute_digits, minute_range, after_basic_minute, after_colon_minute, second_digits}
+use Rattle.ixdtf_grammar.specs.table.{LineNames.ClockLine.{second_range, after_second, fraction_start, after_fraction}, Lines.{line_of, follow_of, Ending.ok}}
+use Rattle.ixdtf_grammar.specs.table.Rows.{Row, Place, Stops, Place.{end, other}}
+use Rattle.ixdtf_reading.specs.reading.{Looks.{Read, ◌>>=◌, row_of, look_at, peek_by, next_by}, Times.{OpenTime, line_after, hour_from, clock_at}}
 use Rattle.ixdtf_reading.specs.reading.Zones.{follow_look}
-use Rattle.ixdtf_reading.proofs.parts.Looks.{ReadsOver, RowsRead, goes, stops, peek_other}
-use Rattle.ixdtf_reading.proofs.to_reading.Times.{Closed, IsLater, StopsAfter, OpenRow, time_takes, open_row, hour_digit_row, hour_range_row, minute_digits_row}
-use Rattle.ixdtf_reading.proofs.to_reading.Times.{minute_range_row, second_digits_row, second_range_row, fraction_start_row}
+use Rattle.ixdtf_reading.proofs.{parts.Looks.{ReadsOver, RowsRead, goes, stops, peek_other}, to_reading.Times.{Closed, IsLater, StopsAfter, OpenRow}}
+use Rattle.ixdtf_reading.proofs.to_reading.Times.{time_takes, open_row, hour_digit_row, hour_range_row, minute_digits_row, minute_range_row}
+use Rattle.ixdtf_reading.proofs.to_reading.Times.{second_digits_row, second_range_row, fraction_start_row}
 
 -- each row of the line is returned, behind what stands before it
 abbrev pub RowsBehind : {E A : Type 0} → (Row → E) → Bool → (Text → Read E A) → Text → LineName → Type 0

@@ -1,57 +1,32 @@
 -- A core is read, with the end or the bracket after it, and each row of a core's lines is returned.
 use Rattle.std.proofs.Common.{◌≡◌, ℕ, true, false, IsTrue, IsFalse, [], ◌∷◌, ◌++◌, Ok, Err, Option, Some, None, refl, sym, ap, ◌∙◌, subst, inl, inr, ◌||◌}
-use Rattle.std.proofs.{Common.{arith, append_assoc}, lemmas.{Bool.or_parts, Bool.Decides.nat_tests}}
-use Rattle.ixdtf_grammar.specs.declared.profile.Profile.{Profile}
-use Rattle.ixdtf_grammar.specs.declared.records.DateRecord.{DateRecord}
-use Rattle.ixdtf_grammar.specs.declared.records.TimeRecord.{TimeRecord}
-use Rattle.ixdtf_grammar.specs.declared.records.UtcOffsetRecordOrZ.TheVariants.{Z}
-use Rattle.ixdtf_grammar.specs.declared.records.UtcOffsetRecordOrZ.{UtcOffsetRecordOrZ}
-use Rattle.ixdtf_grammar.specs.language.Letters.Letter.{Plain}
-use Rattle.ixdtf_grammar.specs.language.Letters.{Text, digit, colon, decimal_mark, sign, zulu, opening, date_time_separator, time_letter}
-use Rattle.ixdtf_grammar.specs.language.Shapes.{Shape, one, some, ◌then◌}
-use Rattle.ixdtf_grammar.specs.language.Dates.{IsDate}
-use Rattle.ixdtf_grammar.specs.language.Months.{IsYearMonth, IsMonthDay}
-use Rattle.ixdtf_grammar.specs.language.Times.TimeShape.{hours, seconds, fractions}
-use Rattle.ixdtf_grammar.specs.language.Times.{Clock, TimeShape, ClockOf, IsTime, writes_seconds}
-use Rattle.ixdtf_grammar.specs.language.Offsets.{offset_of}
+use Rattle.std.proofs.{Common.{arith, append_assoc}, lemmas.Bool.{or_parts, Decides.nat_tests}}
+use Rattle.ixdtf_grammar.specs.declared.{profile.Profile.Profile, records.{DateRecord.DateRecord, TimeRecord.TimeRecord}}
+use Rattle.ixdtf_grammar.specs.declared.records.UtcOffsetRecordOrZ.{UtcOffsetRecordOrZ, TheVariants.Z}
+use Rattle.ixdtf_grammar.specs.language.Letters.{Text, digit, colon, decimal_mark, sign, zulu, opening, date_time_separator, time_letter, Letter.Plain}
+use Rattle.ixdtf_grammar.specs.language.{Shapes.{Shape, one, some, ◌then◌}, Dates.IsDate, Months.{IsYearMonth, IsMonthDay}}
+use Rattle.ixdtf_grammar.specs.language.{Times.{Clock, TimeShape, ClockOf, IsTime, writes_seconds, TimeShape.{hours, seconds, fractions}}, Offsets.offset_of}
 use Rattle.ixdtf_grammar.specs.language.Cores.{Core, core_of, OptionalOffset, DateAlone, IsDateTimeCore, TimeMark, MarkedTime, HasNoDateFront, IsCore}
-use Rattle.ixdtf_grammar.specs.language.Readers.CoreKind.{date_time, year_month, month_day, time_alone}
-use Rattle.ixdtf_grammar.specs.language.Readers.{CoreKind}
-use Rattle.ixdtf_grammar.specs.table.Faults.Fault.{InvalidEnd}
-use Rattle.ixdtf_grammar.specs.table.Faults.{Fault}
-use Rattle.ixdtf_grammar.specs.table.LineNames.{DateLine, TimeLine, CoreLine, ClockLine, LineName, of_date, of_year_month}
-use Rattle.ixdtf_grammar.specs.table.LineNames.CoreLine.{dates, year_months, month_days, times}
-use Rattle.ixdtf_grammar.specs.table.LineNames.LineName.{of_core, of_clock, of_offset}
-use Rattle.ixdtf_grammar.specs.table.LineNames.{of_month_day, of_time}
+use Rattle.ixdtf_grammar.specs.{language.Readers.{CoreKind, CoreKind.{date_time, year_month, month_day, time_alone}}, table.Faults.{Fault, Fault.InvalidEnd}}
+use Rattle.ixdtf_grammar.specs.table.LineNames.{DateLine, TimeLine, CoreLine, ClockLine, LineName, of_date, of_year_month, of_month_day, of_time}
+use Rattle.ixdtf_grammar.specs.table.LineNames.{CoreLine.{dates, year_months, month_days, times}, LineName.{of_core, of_clock, of_offset}}
 use Rattle.ixdtf_grammar.specs.table.LineNames.DateLine.{after_year, after_hyphened_month, after_basic_month, day_digits, day_range, after_date}
-use Rattle.ixdtf_grammar.specs.table.LineNames.YearMonthLine.{after_year_in_year_month, after_year_month}
-use Rattle.ixdtf_grammar.specs.table.LineNames.MonthDayLine.{month_day_range, after_month_day}
-use Rattle.ixdtf_grammar.specs.table.LineNames.TimeLine.{time_start}
-use Rattle.ixdtf_grammar.specs.table.LineNames.TimeLine.{time_reads_as_month_day, time_reads_as_year_month}
-use Rattle.ixdtf_grammar.specs.table.LineNames.ClockLine.{hour_start}
-use Rattle.ixdtf_grammar.specs.table.LineNames.OffsetLine.{after_zulu}
-use Rattle.ixdtf_grammar.specs.table.Lines.Line.{line}
-use Rattle.ixdtf_grammar.specs.table.Lines.Ending.{ok}
-use Rattle.ixdtf_grammar.specs.table.Lines.{line_of, always}
-use Rattle.ixdtf_grammar.specs.table.Before.{DateAndSeparator, BeforeDate, ReadsAsTime, InTimeAlone, BeforeCore}
-use Rattle.ixdtf_grammar.specs.table.Before.{BeforeTime, BeforeOffset}
-use Rattle.ixdtf_grammar.specs.table.Rows.Place.{end, other, bad, anywhere}
-use Rattle.ixdtf_grammar.specs.table.Rows.{Row, Place, Stops, front_of}
-use Rattle.ixdtf_reading.specs.reading.Looks.{Read, ◌>>=◌, row_of, look_at, next_by}
-use Rattle.ixdtf_reading.specs.reading.Months.{year_month_at, month_day_at}
-use Rattle.ixdtf_reading.specs.reading.Times.{OpenTime, line_after, hour_from, clock_at}
-use Rattle.ixdtf_reading.specs.reading.Cores.{ClosedCore, core_look, core_end_at, with_offset, offset_core_at}
-use Rattle.ixdtf_reading.specs.reading.Cores.{after_time_at, time_core_at, after_date_at, date_time_core_at, date_alone_at, lone_time_at, marked_time_at}
-use Rattle.ixdtf_reading.specs.reading.Cores.{marked_core_at, unfronted, time_alone_core_at, core_at}
-use Rattle.ixdtf_reading.proofs.parts.Looks.{ReadsOver, RowsRead, peek_end, peek_goes, peek_other, peek_stops}
+use Rattle.ixdtf_grammar.specs.table.LineNames.{YearMonthLine.{after_year_in_year_month, after_year_month}, MonthDayLine.{month_day_range, after_month_day}}
+use Rattle.ixdtf_grammar.specs.table.LineNames.{TimeLine.{time_start, time_reads_as_month_day, time_reads_as_year_month}, ClockLine.hour_start}
+use Rattle.ixdtf_grammar.specs.table.{LineNames.OffsetLine.after_zulu, Lines.{line_of, always, Line.line, Ending.ok}}
+use Rattle.ixdtf_grammar.specs.table.Before.{DateAndSeparator, BeforeDate, ReadsAsTime, InTimeAlone, BeforeCore, BeforeTime, BeforeOffset}
+use Rattle.ixdtf_grammar.specs.table.Rows.{Row, Place, Stops, front_of, Place.{end, other, bad, anywhere}}
 use Rattle.ixdtf_grammar.proofs.parts.CoreLetters.{CoreEnds, core_ends}
+use Rattle.ixdtf_reading.specs.reading.{Looks.{Read, ◌>>=◌, row_of, look_at, next_by}, Months.{year_month_at, month_day_at}}
+use Rattle.ixdtf_reading.specs.reading.{Times.{OpenTime, line_after, hour_from, clock_at}, Cores.{ClosedCore, core_look, core_end_at, with_offset}}
+use Rattle.ixdtf_reading.specs.reading.Cores.{offset_core_at, after_time_at, time_core_at, after_date_at, date_time_core_at, date_alone_at, lone_time_at}
+use Rattle.ixdtf_reading.specs.reading.Cores.{marked_time_at, marked_core_at, unfronted, time_alone_core_at, core_at}
+use Rattle.ixdtf_reading.proofs.parts.Looks.{ReadsOver, RowsRead, peek_end, peek_goes, peek_other, peek_stops}
 use Rattle.ixdtf_reading.proofs.parts.Fronts.{no_front_after, month_day_stops, year_month_stops, unfronted_goes}
 use Rattle.ixdtf_reading.proofs.to_reading.Dates.{IsInside, date_takes, date_row_read}
-use Rattle.ixdtf_reading.proofs.to_reading.Months.{year_month_takes, month_day_takes, year_month_date_row}
-use Rattle.ixdtf_reading.proofs.to_reading.Months.{year_month_row, month_day_row}
-use Rattle.ixdtf_reading.proofs.to_reading.Times.{closed_at_end, Closed, IsLater}
-use Rattle.ixdtf_reading.proofs.to_reading.ClockRows.{RowsBehind, Refuses, TimeLead}
-use Rattle.ixdtf_reading.proofs.to_reading.ClockRows.{hour_start_row, clock_lead, over_time, start_rows, later_rows, over_clock, clock_rows}
+use Rattle.ixdtf_reading.proofs.to_reading.Months.{year_month_takes, month_day_takes, year_month_date_row, year_month_row, month_day_row}
+use Rattle.ixdtf_reading.proofs.to_reading.{Times.{closed_at_end, Closed, IsLater}, ClockRows.{RowsBehind, Refuses, TimeLead, hour_start_row, clock_lead}}
+use Rattle.ixdtf_reading.proofs.to_reading.ClockRows.{over_time, start_rows, later_rows, over_clock, clock_rows}
 
 -- a code unit that does not go on in any time
 abbrev OutsideTimes : ℕ → Type 0

@@ -1,29 +1,16 @@
 -- For a date its record and the rest are returned, and each row of a date's lines is returned.
-use Rattle.std.proofs.Common.{◌≡◌, ℕ, ◌<◌, ◌⊎◌, Bool, true, false, [], ◌++◌, Ok, Err, refl, sym, ap, ◌∙◌, inl, inr, arith, append_assoc, ℤ, nat_le, ◌&&◌}
-use Rattle.std.proofs.lemmas.{Bool.{and_parts, and_from, leb-true, le-leb, false_from_ne_true}, Bool.Decides.nat_tests}
-use Rattle.ixdtf_grammar.specs.declared.records.DateRecord.{DateRecord}
-use Rattle.ixdtf_grammar.specs.language.Letters.{Text, hyphen}
-use Rattle.ixdtf_grammar.specs.language.Digits.{decimal, TwoDigits}
-use Rattle.ixdtf_grammar.specs.language.Months.{OptionalHyphen}
-use Rattle.ixdtf_grammar.specs.language.Dates.{Year, Month, DateText, IsDayOfMonth}
-use Rattle.ixdtf_grammar.specs.language.Dates.{IsDate, month_length}
-use Rattle.ixdtf_grammar.specs.language.Readers.CoreKind.{year_month}
-use Rattle.ixdtf_grammar.specs.table.Faults.Fault.{InvalidMonthRange, InvalidDayRange}
-use Rattle.ixdtf_grammar.specs.table.Faults.{Fault}
-use Rattle.ixdtf_grammar.specs.table.LineNames.DateLine.{year_start}
-use Rattle.ixdtf_grammar.specs.table.LineNames.{DateLine, LineName, of_date}
+use Rattle.std.proofs.Common.{◌≡◌, ℕ, ◌<◌, ◌⊎◌, Bool, true, false, [], ◌++◌, Ok, Err, refl, sym, ap, ◌∙◌, inl, inr, arith, append_assoc, ℤ, nat_le, ◌&&◌, ◌≤◌}
+use Rattle.std.proofs.lemmas.Bool.{and_parts, and_from, leb-true, le-leb, false_from_ne_true, Decides.nat_tests}
+use Rattle.ixdtf_grammar.specs.{declared.records.DateRecord.DateRecord, language.{Letters.{Text, hyphen}, Digits.{decimal, TwoDigits}, Months.OptionalHyphen}}
+use Rattle.ixdtf_grammar.specs.{language.{Dates.{Year, Month, DateText, IsDayOfMonth, IsDate, month_length}, Readers.CoreKind.year_month}, table.Faults.Fault}
+use Rattle.ixdtf_grammar.specs.table.{Faults.Fault.{InvalidMonthRange, InvalidDayRange}, LineNames.{DateLine, LineName, of_date, DateLine.year_start}}
 use Rattle.ixdtf_grammar.specs.table.LineNames.DateLine.{year_digits, extended_year_digits, minus_zero_year, after_year, month_digits, month_range}
 use Rattle.ixdtf_grammar.specs.table.LineNames.DateLine.{after_hyphened_month, after_basic_month, day_digits, day_range, after_date}
-use Rattle.ixdtf_grammar.specs.table.Lines.{line_of, date_line, HyphenOrDigit, NoMonth}
-use Rattle.ixdtf_grammar.specs.table.Before.{BeforeDate}
-use Rattle.ixdtf_grammar.specs.table.Rows.Place.{anywhere}
-use Rattle.ixdtf_grammar.specs.table.Rows.{Row, Place, Stops}
+use Rattle.ixdtf_grammar.specs.table.{Lines.{line_of, date_line, HyphenOrDigit, NoMonth}, Before.BeforeDate, Rows.{Row, Place, Stops, Place.anywhere}}
 use Rattle.ixdtf_reading.specs.reading.Looks.{Read, ◌>>=◌, row_of, mark_at}
-use Rattle.ixdtf_reading.specs.reading.Dates.{date_of, year_at, month_in_range, month_by, month_at, line_after_month}
-use Rattle.ixdtf_reading.specs.reading.Dates.{day_in_range, day_at, date_at}
-use Rattle.ixdtf_reading.proofs.parts.Looks.{ReadsOver, ◌before◌, Halts, ◌till◌, RowsRead, whole_row, digits_go, none_or_one}
-use Rattle.ixdtf_reading.proofs.parts.Marks.{hyphens_of, Starts, Begun}
-use Rattle.ixdtf_reading.proofs.parts.Marks.{LooksForHyphen, hyphen_is, begun_starts, digits_start, hyphen_looks, hyphen_over, mark_over, mark_stops}
+use Rattle.ixdtf_reading.specs.reading.Dates.{date_of, year_at, month_in_range, month_by, month_at, line_after_month, day_in_range, day_at, date_at}
+use Rattle.ixdtf_reading.proofs.parts.{Looks.{ReadsOver, ◌before◌, Halts, ◌till◌, RowsRead, whole_row, digits_go, none_or_one}, Marks.{hyphens_of, Starts}}
+use Rattle.ixdtf_reading.proofs.parts.Marks.{Begun, LooksForHyphen, hyphen_is, begun_starts, digits_start, hyphen_looks, hyphen_over, mark_over, mark_stops}
 use Rattle.ixdtf_reading.proofs.parts.Marks.{digits_stop_after}
 use Rattle.ixdtf_reading.proofs.parts.Years.{year_takes, year_start_row, year_digits_row, extended_year_digits_row, minus_zero_year_row}
 
@@ -46,27 +33,30 @@ pub hyphens_are : (hs : Text) → OptionalHyphen hs → (b : Bool) × (hs ≡ hy
 hyphens_are hs (inl h) = (false, h)
 hyphens_are hs (inr h) = (true, hyphen_is hs h)
 
--- whether the number of two digits is that of a month
-pub month_is : {ds : Text} {m : ℕ} → Month ds m → (nat_le 1 (decimal ds) && nat_le (decimal ds) 12) ≡ true
-month_is {ds} {m} h = rw (sym h.0.1) (and_from _ _ (le-leb 1 m h.1) (le-leb m 12 h.2))
+-- whether a number is that of a month
+pub month_is : (m : ℕ) → 1 ≤ m → m ≤ 12 → (nat_le 1 m && nat_le m 12) ≡ true
+month_is m low high = and_from _ _ (le-leb 1 m low) (le-leb m 12 high)
 
-pub month_is_none : (ds : Text) → (decimal ds ≡ 0) ⊎ (12 < decimal ds) → (nat_le 1 (decimal ds) && nat_le (decimal ds) 12) ≡ false
-month_is_none ds h = grind (arith, nat_tests)
+pub month_is_none : (m : ℕ) → (m ≡ 0) ⊎ (12 < m) → (nat_le 1 m && nat_le m 12) ≡ false
+month_is_none m h = grind (arith, nat_tests)
+
+pub month_or_none : (m : ℕ) → ((1 ≤ m) × (m ≤ 12)) ⊎ ((m ≡ 0) ⊎ (12 < m))
+month_or_none m = grind arith
 
 module _ {E : Type 0} (fault : Row → E) where
   -- ---- a year and a month
 
   -- the year stops at this line
   module _ (name : LineName) (asks : LooksForHyphen (line_of true name)) where
-    month_takes : (b : Bool) (ms : Text) (m : ℕ) (rest : Text) → Month ms m → month_at fault name ((hyphens_of b ++ ms) ++ rest) ≡ Ok ((m, b), rest)
+    pub month_takes : (b : Bool) (ms : Text) (m : ℕ) (rest : Text) → Month ms m → month_at fault name ((hyphens_of b ++ ms) ++ rest) ≡ Ok ((m, b), rest)
     unfolding month_by month_in_range
     month_takes b ms m rest h =
         rw (
           append_assoc,
           hyphen_over fault name b (ms ++ rest) asks (digits_start b 1 ms rest h.0.0),
           digits_go fault (of_date month_digits) (λ c. refl) 2 ms rest h.0.0,
-          month_is h,
-          h.0.1,
+          sym h.0.1,
+          month_is m h.1 h.2,
         ) refl
 
     month_stops : (b : Bool) (ds rest : Text) (place : Place) (e : Fault) → Begun b ds → Stops (date_line month_digits) place e rest
@@ -79,14 +69,14 @@ module _ {E : Type 0} (fault : Row → E) where
           digits_stop_after fault (of_date month_digits) b ds rest place e (λ c. refl) h at,
         ) refl
 
-    month_out : (b : Bool) (ds rest : Text) → NoMonth ds → month_at fault name ((hyphens_of b ++ ds) ++ rest) ≡ Err (fault (no_month rest))
+    pub month_out : (b : Bool) (ds rest : Text) → NoMonth ds → month_at fault name ((hyphens_of b ++ ds) ++ rest) ≡ Err (fault (no_month rest))
     unfolding month_by month_in_range
     month_out b ds rest h =
         rw (
           append_assoc,
           hyphen_over fault name b (ds ++ rest) asks (digits_start b 1 ds rest h.0),
           digits_go fault (of_date month_digits) (λ c. refl) 2 ds rest h.0,
-          month_is_none ds h.1,
+          month_is_none (decimal ds) h.1,
         ) refl
 
     -- a year and a month, and what is read with them from there
@@ -155,7 +145,7 @@ module _ {E : Type 0} (fault : Row → E) where
   over_separator true text starts = mark_over fault (of_date after_hyphened_month) true text tt refl starts
   over_separator false text starts = mark_over fault (of_date after_basic_month) false text tt (λ c h. h) starts
 
-  over_day : (y : ℤ) (m : ℕ) (b : Bool) (ds : Text) (d : ℕ) → TwoDigits ds d
+  pub over_day : (y : ℤ) (m : ℕ) (b : Bool) (ds : Text) (d : ℕ) → TwoDigits ds d
       → ReadsOver (day_at fault y (m, b)) (hyphens_of b ++ ds) (day_in_range fault (date_of y m d))
   unfolding day_at
   over_day y m b ds d h = record {

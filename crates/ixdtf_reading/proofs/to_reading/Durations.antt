@@ -1,42 +1,22 @@
 -- A duration is read, and each row of a duration's lines is returned.
 use Rattle.std.proofs.Common.{◌≡◌, false, ℕ, ◌≤◌, ◌<◌, IsTrue, IsFalse, List, [], ◌∷◌, ◌++◌, Result, Ok, Err, Some, refl, sym, ap, ◌∙◌, subst, inl, inr}
-use Rattle.std.proofs.{Common.{arith, append_assoc, append-nil, nat_le}, lemmas.{Bool.{or_left, or_right, le-leb, lt-leb}, Bool.Decides.nat_tests}}
-use Rattle.ixdtf_grammar.specs.declared.profile.Profile.{Profile}
-use Rattle.ixdtf_grammar.specs.declared.records.Sign.{Sign}
-use Rattle.ixdtf_grammar.specs.declared.records.DurationParseRecord.{DurationParseRecord}
-use Rattle.ixdtf_grammar.specs.language.Letters.Letter.{Plain, Bad}
-use Rattle.ixdtf_grammar.specs.language.Letters.{Text, digit, sign, decimal_mark, duration_designator, time_letter}
-use Rattle.ixdtf_grammar.specs.language.Shapes.{one, ◌then◌, some}
-use Rattle.ixdtf_grammar.specs.language.Digits.{decimal}
-use Rattle.ixdtf_grammar.specs.language.Fractions.{SomeDigits}
-use Rattle.ixdtf_grammar.specs.language.Offsets.{sign_of}
-use Rattle.ixdtf_grammar.specs.language.Brackets.{Pair}
-use Rattle.ixdtf_grammar.specs.language.Durations.{Half, Group, Number, IntegerGroup}
-use Rattle.ixdtf_grammar.specs.language.Durations.{FractionGroup, Groups, TimeGroups, TimePart, AtLeastOne, SignedDesignator, designator, in_order, greatest}
-use Rattle.ixdtf_grammar.specs.language.Durations.Half.{date, time}
-use Rattle.ixdtf_grammar.specs.language.Durations.{greatest_value, duration_of, IsDuration}
-use Rattle.ixdtf_grammar.specs.language.Readers.Reader.{parse_duration}
-use Rattle.ixdtf_grammar.specs.table.Faults.{Fault}
-use Rattle.ixdtf_grammar.specs.table.LineNames.DurationLine.{duration_start, after_duration_sign, after_duration_designator}
-use Rattle.ixdtf_grammar.specs.table.LineNames.{LineName, DurationLine}
-use Rattle.ixdtf_grammar.specs.table.LineNames.DurationLine.{after_date_groups, after_time_designator, group_digits, group_value_range, unit_order, date_unit_range}
-use Rattle.ixdtf_grammar.specs.table.LineNames.DurationLine.{group_fraction_start, group_fraction_digits, after_time_groups, after_fraction_group}
-use Rattle.ixdtf_grammar.specs.table.LineNames.LineName.{of_duration}
-use Rattle.ixdtf_grammar.specs.table.DurationFronts.Context.{in_dates}
-use Rattle.ixdtf_grammar.specs.table.DurationFronts.{Context, half_of, groups_of, IsContext, OutOfOrder, UnitPast}
-use Rattle.ixdtf_grammar.specs.table.DurationFronts.Context.{in_times}
-use Rattle.ixdtf_grammar.specs.table.Lines.{duration_line, table}
-use Rattle.ixdtf_grammar.specs.table.Before.{Before}
-use Rattle.ixdtf_grammar.specs.table.Rows.Place.{anywhere}
-use Rattle.ixdtf_grammar.specs.table.Rows.{Row, Place, Stops, front_of}
-use Rattle.ixdtf_reading.specs.reading.Looks.{row_of}
-use Rattle.ixdtf_reading.specs.reading.Durations.{State, line_of_state, add, integer_group, fraction_group, value_past, unit_past, out_of_order}
-use Rattle.ixdtf_reading.specs.reading.Durations.State.{started, signed, between, in_number, at_mark}
-use Rattle.ixdtf_reading.specs.reading.Durations.{in_its_order, add_group, end_group, step, run, duration_at}
-use Rattle.ixdtf_reading.specs.reading.Durations.State.{in_fraction, ended}
-use Rattle.ixdtf_reading.proofs.parts.Looks.{RowsRead, ◌before◌, ◌till◌, Goes}
-use Rattle.ixdtf_reading.proofs.parts.DurationRuns.{AllDigits, all_digits, some_all, digits_snoc, below_front, Asks, Over}
-use Rattle.ixdtf_reading.proofs.parts.DurationRuns.{Stays, stays, one_letter, letter_stops, run_stops}
+use Rattle.std.proofs.{Common.{arith, append_assoc, append-nil, nat_le}, lemmas.Bool.{or_left, or_right, le-leb, lt-leb, Decides.nat_tests}}
+use Rattle.ixdtf_grammar.specs.declared.{profile.Profile.Profile, records.{Sign.Sign, DurationParseRecord.DurationParseRecord}}
+use Rattle.ixdtf_grammar.specs.language.Letters.{Text, digit, sign, decimal_mark, duration_designator, time_letter, Letter.{Plain, Bad}}
+use Rattle.ixdtf_grammar.specs.language.{Shapes.{one, ◌then◌, some}, Digits.decimal, Fractions.SomeDigits, Offsets.sign_of, Brackets.Pair, Durations.Half}
+use Rattle.ixdtf_grammar.specs.language.Durations.{Group, Number, IntegerGroup, FractionGroup, Groups, TimeGroups, TimePart, AtLeastOne, SignedDesignator}
+use Rattle.ixdtf_grammar.specs.language.Durations.{designator, in_order, greatest, greatest_value, duration_of, IsDuration, Half.{date, time}}
+use Rattle.ixdtf_grammar.specs.{language.Readers.Reader.parse_duration, table.{Faults.Fault, LineNames.{LineName, DurationLine, DurationLine.duration_start}}}
+use Rattle.ixdtf_grammar.specs.table.LineNames.DurationLine.{after_duration_sign, after_duration_designator, after_date_groups, after_time_designator}
+use Rattle.ixdtf_grammar.specs.table.LineNames.DurationLine.{group_digits, group_value_range, unit_order, date_unit_range, group_fraction_start}
+use Rattle.ixdtf_grammar.specs.table.LineNames.{DurationLine.{group_fraction_digits, after_time_groups, after_fraction_group}, LineName.of_duration}
+use Rattle.ixdtf_grammar.specs.table.DurationFronts.{Context, half_of, groups_of, IsContext, OutOfOrder, UnitPast, Context.{in_dates, in_times}}
+use Rattle.ixdtf_grammar.specs.table.{Lines.{duration_line, table}, Before.Before, Rows.{Row, Place, Stops, front_of, Place.anywhere}}
+use Rattle.ixdtf_reading.specs.reading.{Looks.row_of, Durations.{State, line_of_state, add, integer_group, fraction_group, value_past, unit_past}}
+use Rattle.ixdtf_reading.specs.reading.Durations.{out_of_order, in_its_order, add_group, end_group, step, run, duration_at}
+use Rattle.ixdtf_reading.specs.reading.Durations.State.{started, signed, between, in_number, at_mark, in_fraction, ended}
+use Rattle.ixdtf_reading.proofs.parts.{Looks.{RowsRead, ◌before◌, ◌till◌, Goes}, DurationRuns.{AllDigits, all_digits, some_all, digits_snoc, below_front}}
+use Rattle.ixdtf_reading.proofs.parts.DurationRuns.{Asks, Over, Stays, stays, one_letter, letter_stops, run_stops}
 
 -- ---- code units
 

@@ -1,39 +1,20 @@
 -- A first bracket is read, and each row of a first bracket's lines is returned.
-use Rattle.std.proofs.{lemmas.{Bool.{or_left, or_right, eqb-true}, Bool.Decides.nat_tests}, Common.{◌≡◌, ℕ, Bool, true, false, IsTrue, IsFalse, ◌⊎◌, List, []}}
-use Rattle.std.proofs.Common.{◌∷◌, ◌++◌, Ok, Err, refl, ap, ◌∙◌, inl, inr, arith, append_assoc}
-use Rattle.ixdtf_grammar.specs.declared.records.TimeRecord.{TimeRecord}
-use Rattle.ixdtf_grammar.specs.language.Times.TimeShape.{seconds, fractions}
-use Rattle.ixdtf_grammar.specs.language.Times.{Clock, TimeShape}
-use Rattle.ixdtf_grammar.specs.language.Letters.{Text, ◌or◌, sign, closing, exclamation, zone_lead}
-use Rattle.ixdtf_grammar.specs.language.Letters.Letter.{Plain}
-use Rattle.ixdtf_grammar.specs.language.Letters.{key_lead}
-use Rattle.ixdtf_grammar.specs.language.Shapes.{one, ◌then◌, some}
-use Rattle.ixdtf_grammar.specs.language.Offsets.{minutes_of}
-use Rattle.ixdtf_grammar.specs.language.ZoneNames.Zone.{Offset}
-use Rattle.ixdtf_grammar.specs.language.ZoneNames.{Zone, IsZone}
-use Rattle.ixdtf_grammar.specs.language.Brackets.{Opens, zone_only_lead, ReadsAsName, ReadsAsPair}
-use Rattle.ixdtf_grammar.specs.table.Faults.{Fault}
-use Rattle.ixdtf_grammar.specs.table.LineNames.LineName.{of_clock, of_zone, of_bracket, of_pair}
-use Rattle.ixdtf_grammar.specs.table.LineNames.ZoneLine.{in_zone_name}
-use Rattle.ixdtf_grammar.specs.table.LineNames.{ClockLine, LineName}
-use Rattle.ixdtf_grammar.specs.table.LineNames.ZoneLine.{after_zone_slash}
+use Rattle.std.proofs.lemmas.Bool.{or_left, or_right, eqb-true, Decides.nat_tests}
+use Rattle.std.proofs.Common.{◌≡◌, ℕ, Bool, true, false, IsTrue, IsFalse, ◌⊎◌, List, [], ◌∷◌, ◌++◌, Ok, Err, refl, ap, ◌∙◌, inl, inr, arith, append_assoc}
+use Rattle.ixdtf_grammar.specs.{declared.records.TimeRecord.TimeRecord, language.Times.{Clock, TimeShape, TimeShape.{seconds, fractions}}}
+use Rattle.ixdtf_grammar.specs.language.{Letters.{Text, ◌or◌, sign, closing, exclamation, zone_lead, key_lead, Letter.Plain}, Shapes.{one, ◌then◌, some}}
+use Rattle.ixdtf_grammar.specs.language.{Offsets.minutes_of, ZoneNames.{Zone, IsZone, Zone.Offset}}
+use Rattle.ixdtf_grammar.specs.{language.Brackets.{Opens, zone_only_lead, ReadsAsName, ReadsAsPair}, table.{Faults.Fault, LineNames.{ClockLine, LineName}}}
+use Rattle.ixdtf_grammar.specs.table.LineNames.{LineName.{of_clock, of_zone, of_bracket, of_pair}, ZoneLine.{in_zone_name, after_zone_slash}}
 use Rattle.ixdtf_grammar.specs.table.LineNames.BracketLine.{first_bracket_start, first_critical_start, first_bracket_scan}
-use Rattle.ixdtf_grammar.specs.table.LineNames.PairLine.{key_start, critical_key_start}
-use Rattle.ixdtf_grammar.specs.table.Lines.{line_of, zone_letters}
+use Rattle.ixdtf_grammar.specs.table.{LineNames.PairLine.{key_start, critical_key_start}, Lines.{line_of, zone_letters}, Rows.{Row, Place, Stops, front_of}}
 use Rattle.ixdtf_grammar.specs.table.Rows.Place.{end, other}
-use Rattle.ixdtf_grammar.specs.table.Rows.{Row, Place, Stops, front_of}
-use Rattle.ixdtf_reading.specs.reading.Looks.{Read, ◌>>=◌, row_of, look_at, next_by}
-use Rattle.ixdtf_reading.specs.reading.Times.{OpenTime, clock_at}
-use Rattle.ixdtf_reading.specs.reading.Pairs.{pair_at}
-use Rattle.ixdtf_reading.specs.reading.Zones.{follow_look, name_look, name_run, as_zone}
-use Rattle.ixdtf_reading.specs.reading.Brackets.{Bracket, zoned, paired, sight_at, name_in_bracket_at}
+use Rattle.ixdtf_reading.specs.reading.{Looks.{Read, ◌>>=◌, row_of, look_at, next_by}, Times.{OpenTime, clock_at}, Pairs.pair_at}
+use Rattle.ixdtf_reading.specs.reading.{Zones.{follow_look, name_look, name_run, as_zone}, Brackets.{Bracket, zoned, paired, sight_at, name_in_bracket_at}}
 use Rattle.ixdtf_reading.specs.reading.Brackets.{name_or_pair_at, offset_in_bracket_at, noted, as_pair, inside_at, critical_bracket_at, bracket_at}
-use Rattle.ixdtf_reading.proofs.parts.Looks.{RowsRead, goes, stops}
-use Rattle.ixdtf_reading.proofs.parts.LookAhead.{over_scanned, sight_stops, sight_pair, sight_name, name_reads, key_reads}
-use Rattle.ixdtf_reading.proofs.to_reading.Times.{Closed}
-use Rattle.ixdtf_reading.proofs.to_reading.ClockRows.{over_clock, clock_rows, next_stops_after}
-use Rattle.ixdtf_reading.proofs.to_reading.ZoneNames.{StopsName, name_takes, name_row, slash_row}
-use Rattle.ixdtf_reading.proofs.to_reading.Pair.{pair_text, pair_takes, pair_rows}
+use Rattle.ixdtf_reading.proofs.parts.{Looks.{RowsRead, goes, stops}, LookAhead.{over_scanned, sight_stops, sight_pair, sight_name, name_reads, key_reads}}
+use Rattle.ixdtf_reading.proofs.to_reading.{Times.Closed, ClockRows.{over_clock, clock_rows, next_stops_after}}
+use Rattle.ixdtf_reading.proofs.to_reading.{ZoneNames.{StopsName, name_takes, name_row, slash_row}, Pair.{pair_text, pair_takes, pair_rows}}
 use Rattle.ixdtf_reading.proofs.to_grammar.FirstBracket.{InBracket, IsBracket}
 
 -- ---- code units

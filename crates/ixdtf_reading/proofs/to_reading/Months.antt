@@ -1,34 +1,18 @@
 -- A year-month and a month-day give their record and the rest, and each row of their lines is returned.
 use Rattle.std.proofs.Common.{◌≡◌, ℕ, Bool, true, false, [], ◌∷◌, ◌++◌, Ok, Err, refl, sym, ap, ◌∙◌, subst, inl, inr, append_assoc, ℤ, pos, nat_le}
-use Rattle.std.proofs.lemmas.{Bool.{and_parts, and_from, leb-true, le-leb, false_from_ne_true}}
-use Rattle.ixdtf_grammar.specs.declared.profile.Profile.{Profile}
-use Rattle.ixdtf_grammar.specs.declared.records.DateRecord.{DateRecord}
-use Rattle.ixdtf_grammar.specs.language.Letters.Letter.{Plain}
-use Rattle.ixdtf_grammar.specs.language.Letters.{Text, digit, hyphen}
-use Rattle.ixdtf_grammar.specs.language.Shapes.{one, ◌then◌, ◌either◌}
-use Rattle.ixdtf_grammar.specs.language.Digits.{TwoDigits}
-use Rattle.ixdtf_grammar.specs.language.Dates.{Month}
+use Rattle.std.proofs.lemmas.Bool.{and_parts, and_from, leb-true, le-leb, false_from_ne_true}
+use Rattle.ixdtf_grammar.specs.{declared.{profile.Profile.Profile, records.DateRecord.DateRecord}, language.Letters.{Text, digit, hyphen, Letter.Plain}}
+use Rattle.ixdtf_grammar.specs.language.{Shapes.{one, ◌then◌, ◌either◌}, Digits.{TwoDigits, decimal}, Dates.Month}
 use Rattle.ixdtf_grammar.specs.language.Months.{Marks, OptionalHyphen, IsYearMonth, MonthDayText, IsDayOfSomeYear, IsMonthDay, greatest_day, least_day}
-use Rattle.ixdtf_grammar.specs.language.Readers.CoreKind.{year_month}
-use Rattle.ixdtf_grammar.specs.table.Faults.Fault.{InvalidMonthRange, InvalidMonthDay}
-use Rattle.ixdtf_grammar.specs.table.Faults.{Fault}
-use Rattle.ixdtf_grammar.specs.table.LineNames.{DateLine, MonthDayLine, of_date, of_year_month}
-use Rattle.ixdtf_grammar.specs.table.LineNames.YearMonthLine.{after_year_in_year_month}
-use Rattle.ixdtf_grammar.specs.table.LineNames.MonthDayLine.{month_day_start, month_day_hyphen}
-use Rattle.ixdtf_grammar.specs.table.LineNames.{of_month_day}
-use Rattle.ixdtf_grammar.specs.table.LineNames.MonthDayLine.{month_day_month_digits, month_day_month_range, after_month_day_month, month_day_day_digits}
-use Rattle.ixdtf_grammar.specs.table.LineNames.MonthDayLine.{month_day_range, after_month_day}
-use Rattle.ixdtf_grammar.specs.table.Lines.{month_day_line, MonthDayMonthDigits, NoMonth}
-use Rattle.ixdtf_grammar.specs.table.Before.{BeforeDate}
-use Rattle.ixdtf_grammar.specs.table.Rows.Place.{anywhere}
-use Rattle.ixdtf_grammar.specs.table.Rows.{Row, Place, Stops}
-use Rattle.ixdtf_reading.specs.reading.Looks.{Read, row_of}
-use Rattle.ixdtf_reading.specs.reading.Dates.{date_of}
-use Rattle.ixdtf_reading.specs.reading.Months.{year_month_at, marks_at, lone_month_in_range, lone_day_in_range, lone_day_at}
-use Rattle.ixdtf_reading.specs.reading.Months.{month_day_at}
-use Rattle.ixdtf_reading.proofs.parts.Looks.{ReadsOver, ◌before◌, Halts, ◌till◌, RowsRead, whole_row, digits_go}
-use Rattle.ixdtf_reading.proofs.parts.Marks.{hyphens_of, Starts, Begun, hyphen_is}
-use Rattle.ixdtf_reading.proofs.parts.Marks.{begun_starts, digits_start, hyphen_over, mark_over, mark_stops, digits_stop_after}
+use Rattle.ixdtf_grammar.specs.{language.Readers.CoreKind.year_month, table.Faults.{Fault, Fault.{InvalidMonthRange, InvalidMonthDay}}}
+use Rattle.ixdtf_grammar.specs.table.LineNames.{DateLine, MonthDayLine, of_date, of_year_month, of_month_day, YearMonthLine.after_year_in_year_month}
+use Rattle.ixdtf_grammar.specs.table.LineNames.MonthDayLine.{month_day_start, month_day_hyphen, month_day_month_digits, month_day_month_range}
+use Rattle.ixdtf_grammar.specs.table.LineNames.MonthDayLine.{after_month_day_month, month_day_day_digits, month_day_range, after_month_day}
+use Rattle.ixdtf_grammar.specs.table.{Lines.{month_day_line, MonthDayMonthDigits, NoMonth}, Before.BeforeDate, Rows.{Row, Place, Stops, Place.anywhere}}
+use Rattle.ixdtf_reading.specs.reading.{Looks.{Read, row_of}, Dates.date_of}
+use Rattle.ixdtf_reading.specs.reading.Months.{year_month_at, marks_at, lone_month_in_range, lone_day_in_range, lone_day_at, month_day_at}
+use Rattle.ixdtf_reading.proofs.parts.{Looks.{ReadsOver, ◌before◌, Halts, ◌till◌, RowsRead, whole_row, digits_go}, Marks.{hyphens_of, Starts, Begun}}
+use Rattle.ixdtf_reading.proofs.parts.Marks.{hyphen_is, begun_starts, digits_start, hyphen_over, mark_over, mark_stops, digits_stop_after}
 use Rattle.ixdtf_reading.proofs.to_reading.Dates.{hyphens_are, month_is, month_is_none, over_year, over_month, year_stops, year_and_month_row}
 
 -- ---- year-months
@@ -127,8 +111,8 @@ module _ {E : Type 0} (fault : Row → E) (profile : Profile) where
           append_assoc,
           over_marks b (ms ++ rest) (digits_start b 1 ms rest h.0.0),
           digits_go fault (of_month_day month_day_month_digits) (λ c. refl) 2 ms rest h.0.0,
-          month_is h,
-          h.0.1,
+          sym h.0.1,
+          month_is m h.1 h.2,
         ) refl;
   }
 
@@ -149,10 +133,10 @@ module _ {E : Type 0} (fault : Row → E) (profile : Profile) where
         append_assoc,
         over_marks b (ds ++ rest) (digits_start b 1 ds rest h.0),
         digits_go fault (of_month_day month_day_month_digits) (λ c. refl) 2 ds rest h.0,
-        month_is_none ds h.1,
+        month_is_none (decimal ds) h.1,
       ) refl
 
-  over_lone_day : (m : ℕ) (b : Bool) (ds : Text) (d : ℕ) → TwoDigits ds d
+  pub over_lone_day : (m : ℕ) (b : Bool) (ds : Text) (d : ℕ) → TwoDigits ds d
       → ReadsOver (lone_day_at fault profile m) (hyphens_of b ++ ds) (lone_day_in_range fault profile m d)
   unfolding lone_day_at
   over_lone_day m b ds d h = record {

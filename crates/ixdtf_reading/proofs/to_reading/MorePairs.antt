@@ -1,22 +1,11 @@
 -- The pairs after whole brackets are read, and each row of their lines is returned with the pairs before it.
 use Rattle.std.proofs.Common.{◌≡◌, ℕ, zero, suc, ◌<◌, ◌+◌, List, [], ◌∷◌, ◌++◌, length, Ok, Err, refl, ap, ◌∙◌, subst, arith, append_assoc, append-nil, true}
 use Rattle.std.proofs.lemmas.List.{length-append}
-use Rattle.ixdtf_grammar.specs.language.Letters.Letter.{Plain}
-use Rattle.ixdtf_grammar.specs.language.Letters.{Text, opening}
-use Rattle.ixdtf_grammar.specs.language.Shapes.{nothing}
-use Rattle.ixdtf_grammar.specs.language.Brackets.{Pair, ArePairs}
-use Rattle.ixdtf_grammar.specs.table.Faults.Fault.{InvalidEnd}
-use Rattle.ixdtf_grammar.specs.table.Faults.{Fault}
-use Rattle.ixdtf_grammar.specs.table.LineNames.LineName.{of_bracket, of_pair}
-use Rattle.ixdtf_grammar.specs.table.LineNames.BracketLine.{after_bracket}
-use Rattle.ixdtf_grammar.specs.table.LineNames.{LineName}
-use Rattle.ixdtf_grammar.specs.table.Lines.{line_of, always}
-use Rattle.ixdtf_grammar.specs.table.Rows.{Row, Place, Stops, front_of}
-use Rattle.ixdtf_reading.specs.reading.Looks.{row_of, look_at_line}
-use Rattle.ixdtf_reading.specs.reading.Pairs.{later_pair_at, next_pair_at, pairs_at}
-use Rattle.ixdtf_reading.specs.reading.Chains.{AfterBrackets}
-use Rattle.ixdtf_reading.proofs.parts.Looks.{peek_end, peek_goes, peek_stops}
-use Rattle.ixdtf_reading.proofs.to_reading.Pair.{later_pair_takes, later_pair_rows}
+use Rattle.ixdtf_grammar.specs.{language.{Letters.{Text, opening, Letter.Plain}, Shapes.nothing, Brackets.{Pair, ArePairs}}, table.Faults.Fault}
+use Rattle.ixdtf_grammar.specs.table.{Faults.Fault.InvalidEnd, LineNames.{LineName, LineName.{of_bracket, of_pair}, BracketLine.after_bracket}}
+use Rattle.ixdtf_grammar.specs.table.{Lines.{line_of, always}, Rows.{Row, Place, Stops, front_of}}
+use Rattle.ixdtf_reading.specs.reading.{Looks.{row_of, look_at_line}, Pairs.{later_pair_at, next_pair_at, pairs_at}, Chains.AfterBrackets}
+use Rattle.ixdtf_reading.proofs.{parts.Looks.{peek_end, peek_goes, peek_stops}, to_reading.Pair.{later_pair_takes, later_pair_rows}}
 
 -- what follows something is shorter
 pub shorter : (whole front inner rest : Text) (c : ℕ) (n : ℕ) → front ≡ Plain c ∷ inner → whole ≡ front ++ rest → length whole < suc n → length rest < n

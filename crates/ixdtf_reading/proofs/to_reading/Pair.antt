@@ -1,28 +1,15 @@
 -- A pair is read, and each row of a pair's lines is returned.
 use Rattle.std.proofs.Common.{◌≡◌, ℕ, Bool, true, false, IsTrue, IsFalse, List, [], ◌∷◌, ◌++◌, map, Ok, Err, refl, sym, ap, ◌∙◌, arith, append_assoc}
-use Rattle.std.proofs.lemmas.{Bool.{or_parts, or_left, or_right, eqb-true}, Bool.Decides.nat_tests, List.map-append}
-use Rattle.ixdtf_grammar.specs.language.Letters.Letter.{Plain}
-use Rattle.ixdtf_grammar.specs.language.Letters.{Text, ◌or◌, hyphen, equals, opening, closing, exclamation, key_lead, key_char, value_char}
-use Rattle.ixdtf_grammar.specs.language.Shapes.{Shape, one, ◌then◌, Joined}
-use Rattle.ixdtf_grammar.specs.language.Brackets.{Pair, Key, ValueRun, Value, IsPair, Opens}
-use Rattle.ixdtf_grammar.specs.table.Faults.{Fault}
-use Rattle.ixdtf_grammar.specs.table.LineNames.LineName.{of_pair}
-use Rattle.ixdtf_grammar.specs.table.LineNames.PairLine.{key_start, critical_key_start, in_key, value_start, in_value}
-use Rattle.ixdtf_grammar.specs.table.LineNames.{PairLine}
-use Rattle.ixdtf_grammar.specs.table.LineNames.PairLine.{after_value_hyphen}
-use Rattle.ixdtf_grammar.specs.table.Lines.{line_of, pair_line}
-use Rattle.ixdtf_grammar.specs.table.Rows.Place.{end, other, bad}
-use Rattle.ixdtf_grammar.specs.table.Rows.{Row, Place, Stops, front_of}
-use Rattle.ixdtf_grammar.specs.table.Rows.Place.{anywhere}
-use Rattle.ixdtf_reading.specs.reading.Looks.{Read, row_of}
-use Rattle.ixdtf_reading.specs.reading.Zones.{with_letter}
-use Rattle.ixdtf_reading.specs.reading.Pairs.{value_line, value_other, value_step, key_run, value_run, pair_at}
-use Rattle.ixdtf_reading.specs.reading.Pairs.{critical_pair_at, later_pair_at}
-use Rattle.ixdtf_reading.specs.reading.Chains.{AfterBrackets}
-use Rattle.ixdtf_reading.specs.reading.Pairs.{ValueState, AtStart, Inside, AfterHyphen, ValueStep, GoesOn, Ends}
-use Rattle.ixdtf_reading.proofs.parts.Looks.{goes, stops}
-use Rattle.ixdtf_reading.proofs.to_reading.ZoneNames.{with_letters, letters_err, letters_ok, plain_faithful}
-use Rattle.ixdtf_reading.specs.reading.Pairs.{ValueStep as steps}
+use Rattle.std.proofs.lemmas.{Bool.{or_parts, or_left, or_right, eqb-true, Decides.nat_tests}, List.map-append}
+use Rattle.ixdtf_grammar.specs.language.Letters.{Text, ◌or◌, hyphen, equals, opening, closing, exclamation, key_lead, key_char, value_char, Letter.Plain}
+use Rattle.ixdtf_grammar.specs.{language.{Shapes.{Shape, one, ◌then◌, Joined}, Brackets.{Pair, Key, ValueRun, Value, IsPair, Opens}}, table.Faults.Fault}
+use Rattle.ixdtf_grammar.specs.table.LineNames.{PairLine, LineName.of_pair}
+use Rattle.ixdtf_grammar.specs.table.LineNames.PairLine.{key_start, critical_key_start, in_key, value_start, in_value, after_value_hyphen}
+use Rattle.ixdtf_grammar.specs.table.{Lines.{line_of, pair_line}, Rows.{Row, Place, Stops, front_of, Place.{end, other, bad, anywhere}}}
+use Rattle.ixdtf_reading.specs.reading.{Looks.{Read, row_of}, Zones.with_letter, Pairs.{value_line, value_other, value_step, key_run, value_run, pair_at}}
+use Rattle.ixdtf_reading.specs.reading.Pairs.{critical_pair_at, later_pair_at, ValueState, AtStart, Inside, AfterHyphen, ValueStep, GoesOn, Ends}
+use Rattle.ixdtf_reading.specs.reading.{Pairs.{ValueStep as steps}, Chains.AfterBrackets}
+use Rattle.ixdtf_reading.proofs.{parts.{Looks.{goes, stops}, Steps.{with_letters, letters_err, letters_ok, steps_both}}, to_reading.ZoneNames.plain_faithful}
 
 -- the lines from the key on
 abbrev pub InPair : PairLine → Type 0
@@ -63,11 +50,6 @@ no_value c h = (grind (arith, nat_tests), grind (arith, nat_tests), grind (arith
 
 -- ---- code units that are read over
 
--- the code units of two runs in a row
-letters_more : {E : Type 0} (front more : List ℕ) (r : Read E (List ℕ)) → with_letters front (with_letters more r) ≡ with_letters (front ++ more) r
-letters_more [] more r = refl
-letters_more (c ∷ front) more r = rw (letters_more front more r)
-
 module _ {E : Type 0} where
   -- the text is code units that lead from a run to a run
   record IsOver (run next : Text → Read E (List ℕ)) (text : Text) : Type 0 where
@@ -83,7 +65,7 @@ module _ {E : Type 0} where
   over_both {last} {second} next a b = record {
     letters = a.letters ++ b.letters;
     is = rw (a.is, b.is) (sym (map-append Plain a.letters b.letters));
-    over = λ rest. rw append_assoc (a.over (second ++ rest) ∙ rw (b.over rest) (letters_more a.letters b.letters (last rest)));
+    over = λ rest. rw append_assoc (a.over (second ++ rest) ∙ rw (b.over rest) (steps_both with_letter a.letters b.letters (last rest)));
   }
 
   over_many : {run : Text → Read E (List ℕ)} {shape : Shape} → ((text : Text) → shape text → IsOver run run text) → (parts : List Text) (text : Text)

@@ -1,39 +1,21 @@
 -- What is derived is returned, and each row that fits: what holds of a text decides what reading returns.
 use Rattle.std.proofs.Common.{◌≡◌, ℕ, suc, ◌<◌, ◌⊎◌, List, [], ◌∷◌, ◌++◌, length, Ok, Err, Option, Some, None, refl, sym, ap, ◌∙◌, inl, inr, arith}
 use Rattle.std.proofs.Common.{append_assoc, append-nil, true}
-use Rattle.ixdtf_grammar.specs.language.Times.{Clock}
-use Rattle.ixdtf_grammar.specs.language.Letters.Letter.{Plain}
-use Rattle.ixdtf_grammar.specs.language.Letters.{Text}
-use Rattle.ixdtf_grammar.specs.language.Shapes.{some}
-use Rattle.ixdtf_grammar.specs.language.Brackets.{ZoneNote, Opens, Pair, ArePairs, IsTail, ReadsAsPair}
-use Rattle.ixdtf_grammar.specs.language.Cores.{Core, IsCore}
-use Rattle.ixdtf_grammar.specs.language.Readers.Reader.{bracketed, parse_offset, parse_identifier, parse_iana_identifier}
-use Rattle.ixdtf_grammar.specs.language.Readers.{Reader, CoreKind}
-use Rattle.ixdtf_grammar.specs.language.Readers.Reader.{parse_duration}
+use Rattle.ixdtf_grammar.specs.language.{Times.Clock, Letters.{Text, Letter.Plain}, Shapes.some}
+use Rattle.ixdtf_grammar.specs.language.{Brackets.{ZoneNote, Opens, Pair, ArePairs, IsTail, ReadsAsPair}, Cores.{Core, IsCore}, Readers.{Reader, CoreKind}}
+use Rattle.ixdtf_grammar.specs.language.Readers.Reader.{bracketed, parse_offset, parse_identifier, parse_iana_identifier, parse_duration}
 use Rattle.ixdtf_grammar.specs.language.Languages.{Parsed, parsed_with, IsBracketed, Found, Derives}
-use Rattle.ixdtf_grammar.specs.language.Languages.Derives.{as_parsed, as_shifted, as_identified, as_named, as_lasting}
-use Rattle.ixdtf_grammar.specs.table.Faults.{Fault}
-use Rattle.ixdtf_grammar.specs.table.LineNames.LineName.{of_core, of_clock, of_offset, of_zone, of_bracket, of_pair}
-use Rattle.ixdtf_grammar.specs.table.LineNames.{LineName}
-use Rattle.ixdtf_grammar.specs.table.LineNames.OffsetLine.{offset_start, after_zulu}
-use Rattle.ixdtf_grammar.specs.table.LineNames.ZoneLine.{in_zone_name, after_zone_slash}
-use Rattle.ixdtf_grammar.specs.table.LineNames.BracketLine.{first_bracket_start}
-use Rattle.ixdtf_grammar.specs.table.LineNames.BracketLine.{first_critical_start, first_bracket_scan, after_bracket}
-use Rattle.ixdtf_grammar.specs.table.LineNames.PairLine.{key_start, critical_key_start}
-use Rattle.ixdtf_grammar.specs.table.Lines.{line_of}
-use Rattle.ixdtf_grammar.specs.table.Before.{BeforeBracketed, Bracketed, BeforeKey}
+use Rattle.ixdtf_grammar.specs.{language.Languages.Derives.{as_parsed, as_shifted, as_identified, as_named, as_lasting}, table.Faults.Fault}
+use Rattle.ixdtf_grammar.specs.table.LineNames.{LineName, LineName.{of_core, of_clock, of_offset, of_zone, of_bracket, of_pair}}
+use Rattle.ixdtf_grammar.specs.table.LineNames.{OffsetLine.{offset_start, after_zulu}, ZoneLine.{in_zone_name, after_zone_slash}}
+use Rattle.ixdtf_grammar.specs.table.LineNames.BracketLine.{first_bracket_start, first_critical_start, first_bracket_scan, after_bracket}
+use Rattle.ixdtf_grammar.specs.table.{LineNames.PairLine.{key_start, critical_key_start}, Lines.line_of, Before.{BeforeBracketed, Bracketed, BeforeKey}}
 use Rattle.ixdtf_grammar.specs.table.Rows.{Row, Place, Stops, Fits, front_of}
-use Rattle.ixdtf_reading.specs.reading.Looks.{Read, ◌>>=◌, row_of}
-use Rattle.ixdtf_reading.specs.reading.Pairs.{pairs_at}
-use Rattle.ixdtf_reading.specs.reading.Brackets.{Bracket, zoned, paired, zone_in, pairs_in, bracket_at}
-use Rattle.ixdtf_reading.specs.reading.Cores.{core_at}
-use Rattle.ixdtf_reading.specs.reading.Wholes.{bracketed_at, annotated_at, bracketed_text_at, read_at}
-use Rattle.ixdtf_reading.specs.reading.Chains.{AfterBrackets}
+use Rattle.ixdtf_reading.specs.reading.{Looks.{Read, ◌>>=◌, row_of}, Pairs.pairs_at, Brackets.{Bracket, zoned, paired, zone_in, pairs_in, bracket_at}}
+use Rattle.ixdtf_reading.specs.reading.{Cores.core_at, Wholes.{bracketed_at, annotated_at, bracketed_text_at, read_at}, Chains.AfterBrackets}
 use Rattle.ixdtf_reading.proofs.to_reading.Cores.{core_takes, core_line_rows, core_time_rows, core_offset_rows, core_zulu_row}
-use Rattle.ixdtf_reading.proofs.to_reading.FirstBracket.{bracket_takes, bracket_rows}
-use Rattle.ixdtf_reading.proofs.to_reading.MorePairs.{over_pairs, pairs_end, pairs_row}
-use Rattle.ixdtf_reading.proofs.to_reading.Durations.{duration_takes, duration_rows}
-use Rattle.ixdtf_reading.proofs.to_grammar.FirstBracket.{InBracket, IsBracket}
+use Rattle.ixdtf_reading.proofs.to_reading.{FirstBracket.{bracket_takes, bracket_rows}, MorePairs.{over_pairs, pairs_end, pairs_row}}
+use Rattle.ixdtf_reading.proofs.{to_reading.Durations.{duration_takes, duration_rows}, to_grammar.FirstBracket.{InBracket, IsBracket}}
 use Rattle.ixdtf_reading.proofs.parts.ZonesAlone.{offset_takes, offset_rows as offset_reader_rows, identifier_takes, identifier_rows, iana_identifier_takes}
 use Rattle.ixdtf_reading.proofs.parts.ZonesAlone.{iana_identifier_rows}
 

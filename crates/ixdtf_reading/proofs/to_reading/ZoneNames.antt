@@ -1,21 +1,12 @@
 -- A zone name is read as far as it goes, and each row of a name's lines is returned.
 use Rattle.std.proofs.Common.{◌≡◌, ℕ, true, false, IsTrue, IsFalse, ◌⊎◌, List, [], ◌∷◌, ◌++◌, map, Ok, Err, refl, sym, ap, ◌∙◌, inl, inr, arith, append_assoc}
-use Rattle.std.proofs.{Common.Bool, lemmas.{Bool.{or_parts, and_right, eqb-true}}}
-use Rattle.ixdtf_grammar.specs.language.Letters.Letter.{Plain, Bad}
-use Rattle.ixdtf_grammar.specs.language.Letters.{Text, zone_lead, zone_char, slash}
-use Rattle.ixdtf_grammar.specs.language.Shapes.{Joined}
-use Rattle.ixdtf_grammar.specs.language.ZoneNames.{NameItem, ZoneName}
-use Rattle.ixdtf_grammar.specs.table.Faults.Fault.{NonAsciiCodePoint}
-use Rattle.ixdtf_grammar.specs.table.Faults.{Fault}
-use Rattle.ixdtf_grammar.specs.table.LineNames.LineName.{of_zone}
-use Rattle.ixdtf_grammar.specs.table.LineNames.ZoneLine.{in_zone_name, after_zone_slash}
-use Rattle.ixdtf_grammar.specs.table.Lines.Ending.{error}
-use Rattle.ixdtf_grammar.specs.table.Lines.{line_of, zone_letters, zone_end, zone_other}
+use Rattle.std.proofs.{Common.Bool, lemmas.Bool.{or_parts, and_right, eqb-true}}
+use Rattle.ixdtf_grammar.specs.language.{Letters.{Text, zone_lead, zone_char, slash, Letter.{Plain, Bad}}, Shapes.Joined, ZoneNames.{NameItem, ZoneName}}
+use Rattle.ixdtf_grammar.specs.table.{Faults.{Fault, Fault.NonAsciiCodePoint}, LineNames.{LineName.of_zone, ZoneLine.{in_zone_name, after_zone_slash}}}
+use Rattle.ixdtf_grammar.specs.table.{Lines.{line_of, zone_letters, zone_end, zone_other, Ending.error}, Rows.{Row, Place, Stops}}
 use Rattle.ixdtf_grammar.specs.table.Rows.Place.{end, other, bad, anywhere}
-use Rattle.ixdtf_grammar.specs.table.Rows.{Row, Place, Stops}
-use Rattle.ixdtf_reading.specs.reading.Looks.{Read, row_of}
-use Rattle.ixdtf_reading.specs.reading.Zones.{with_letter, name_run}
-use Rattle.ixdtf_reading.proofs.parts.Looks.{RowsRead, NotNext}
+use Rattle.ixdtf_reading.specs.reading.{Looks.row_of, Zones.name_run}
+use Rattle.ixdtf_reading.proofs.parts.{Looks.{RowsRead, NotNext}, Steps.{with_letters, letters_err, letters_ok}}
 
 -- a name does not go on, and Bad does not stand next
 abbrev pub NameEnds : Text → Type 0
@@ -46,19 +37,6 @@ plain_faithful [] [] h = refl
 plain_faithful [] (y ∷ ys) h = absurd cc
 plain_faithful (x ∷ xs) [] h = absurd cc
 plain_faithful (x ∷ xs) (y ∷ ys) h = let e : xs ≡ ys = plain_faithful xs ys cc in cc
-
--- code units in front of the others
-abbrev pub with_letters : {E : Type 0} → List ℕ → Read E (List ℕ) → Read E (List ℕ)
-with_letters [] r = r
-with_letters (c ∷ cs) r = with_letter c (with_letters cs r)
-
-pub letters_err : {E : Type 0} (cs : List ℕ) (e : E) → with_letters cs (Err e) ≡ Err e
-letters_err [] e = refl
-letters_err (c ∷ cs) e = rw (letters_err cs e)
-
-pub letters_ok : {E : Type 0} (cs : List ℕ) (rest : Text) → with_letters {E = E} cs (Ok ([], rest)) ≡ Ok (cs, rest)
-letters_ok [] rest = refl
-letters_ok {E} (c ∷ cs) rest = rw (letters_ok {E = E} cs rest)
 
 module _ {E : Type 0} (fault : Row → E) where
   -- the text is code units that are read over

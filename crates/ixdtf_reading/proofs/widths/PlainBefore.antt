@@ -2,41 +2,28 @@
 -- So a row that fits a text with `Bad` in it is a row of `Bad`, or fits each text with the same code units before the first
 -- `Bad`.
 use Rattle.std.proofs.Common.{◌≡◌, ◌⊎◌, List, ◌++◌, inl, inr, sym, ap, ◌∙◌, subst, append_assoc}
-use Rattle.ixdtf_grammar.specs.declared.profile.Profile.{Profile}
-use Rattle.ixdtf_grammar.specs.language.Letters.{Text}
-use Rattle.ixdtf_grammar.specs.language.Shapes.{some}
-use Rattle.ixdtf_grammar.specs.language.Times.Clock.{Time, Offset, MinuteOffset}
-use Rattle.ixdtf_grammar.specs.language.Months.{IsMonthDay}
-use Rattle.ixdtf_grammar.specs.language.Brackets.{Pair, ReadsAsName, ReadsAsPair}
-use Rattle.ixdtf_grammar.specs.language.Cores.{HasFront, IsCore}
-use Rattle.ixdtf_grammar.specs.language.Readers.{Reader, CoreKind, has_brackets}
-use Rattle.ixdtf_grammar.specs.language.Readers.CoreKind.{date_time, year_month, month_day, time_alone}
+use Rattle.ixdtf_grammar.specs.{declared.profile.Profile.Profile, language.{Letters.Text, Shapes.some, Times.Clock.{Time, Offset, MinuteOffset}}}
+use Rattle.ixdtf_grammar.specs.language.{Months.IsMonthDay, Brackets.{Pair, ReadsAsName, ReadsAsPair}, Cores.{HasFront, IsCore}}
+use Rattle.ixdtf_grammar.specs.language.Readers.{Reader, CoreKind, has_brackets, CoreKind.{date_time, year_month, month_day, time_alone}}
 use Rattle.ixdtf_grammar.specs.language.Readers.Reader.{bracketed, parse_offset, parse_identifier, parse_iana_identifier, parse_duration}
-use Rattle.ixdtf_grammar.specs.table.Before.{DateAndSeparator, BeforeDate, BeforeYearMonth, BeforeMonthDay, AtCoreEnd, ReadsAsTime, InTimeAlone, BeforeTimeAlone}
-use Rattle.ixdtf_grammar.specs.table.Before.{BeforeCore}
-use Rattle.ixdtf_grammar.specs.table.Before.{InMonthDay, BeforeTime, BeforeOffset, BeforeOffsetLine, Opened, Bracketed, BeforeKey, BeforeBracketed}
-use Rattle.ixdtf_grammar.specs.table.Before.{InMonthDay, InOffset, InIdentifier, InIanaIdentifier, InDuration, Before}
+use Rattle.ixdtf_grammar.specs.table.Before.{DateAndSeparator, BeforeDate, BeforeYearMonth, BeforeMonthDay, AtCoreEnd, ReadsAsTime, InTimeAlone}
+use Rattle.ixdtf_grammar.specs.table.Before.{BeforeTimeAlone, BeforeCore, InMonthDay, BeforeTime, BeforeOffset, BeforeOffsetLine, Opened, Bracketed}
+use Rattle.ixdtf_grammar.specs.table.Before.{BeforeKey, BeforeBracketed, InOffset, InIdentifier, InIanaIdentifier, InDuration, Before}
 use Rattle.ixdtf_grammar.specs.table.LineNames.{DateLine, MonthDayLine, TimeLine, CoreLine, ClockLine, OffsetLine, LineName}
 use Rattle.ixdtf_grammar.specs.table.LineNames.DateLine.{year_start, year_digits, extended_year_digits, minus_zero_year, month_digits, month_range}
 use Rattle.ixdtf_grammar.specs.table.LineNames.MonthDayLine.{month_day_range, after_month_day}
 use Rattle.ixdtf_grammar.specs.table.LineNames.TimeLine.{time_start, time_reads_as_month_day, time_reads_as_year_month}
-use Rattle.ixdtf_grammar.specs.table.LineNames.CoreLine.{dates, year_months, month_days, times}
-use Rattle.ixdtf_grammar.specs.table.LineNames.ClockLine.{hour_start}
-use Rattle.ixdtf_grammar.specs.table.LineNames.OffsetLine.{offset_start, after_zulu}
+use Rattle.ixdtf_grammar.specs.table.LineNames.{CoreLine.{dates, year_months, month_days, times}, ClockLine.hour_start, OffsetLine.{offset_start, after_zulu}}
 use Rattle.ixdtf_grammar.specs.table.LineNames.ZoneLine.{identifier_start, zone_name_start}
 use Rattle.ixdtf_grammar.specs.table.LineNames.BracketLine.{first_bracket_start, first_critical_start, first_bracket_scan, after_bracket}
 use Rattle.ixdtf_grammar.specs.table.LineNames.PairLine.{key_start, critical_key_start}
-use Rattle.ixdtf_grammar.specs.table.LineNames.LineName.{of_core, of_clock, of_offset, of_zone, of_bracket, of_pair, of_duration}
-use Rattle.ixdtf_grammar.specs.table.Rows.{Row, Fits, left_at}
-use Rattle.ixdtf_grammar.proofs.parts.CoreLetters.{core_ends}
-use Rattle.ixdtf_reading.proofs.code.Located.{left_is}
-use Rattle.ixdtf_reading.proofs.parts.Fronts.{month_day_front_stays}
-use Rattle.ixdtf_grammar.proofs.widths.PlainTexts.{IsPlain, plain_append, PlainShape, plain_nowhere, plain_nothing, plain_one, plain_with, ◌and_then◌, plain_some}
-use Rattle.ixdtf_grammar.proofs.widths.PlainTexts.{date_plain, time_plain, plain_mark, marked_plain, core_plain, opens_plain, tail_plain}
-use Rattle.ixdtf_grammar.proofs.widths.FirstBad.{Sees, sees_after, Moves, moves_anything, moves_nothing, moves_then, moves_either, moves_first}
-use Rattle.ixdtf_grammar.proofs.widths.FirstBad.{Stands, alone, ahead, ahead_where, besides, stands_either, never, moved_to, stops_move}
-use Rattle.ixdtf_grammar.proofs.theorems.NoRow.{BeginsBad}
-use Rattle.ixdtf_grammar.proofs.widths.PlainLines.{plain_line}
+use Rattle.ixdtf_grammar.specs.table.{LineNames.LineName.{of_core, of_clock, of_offset, of_zone, of_bracket, of_pair, of_duration}, Rows.{Row, Fits, left_at}}
+use Rattle.ixdtf_grammar.proofs.{parts.CoreLetters.core_ends, widths.PlainTexts.{IsPlain, plain_append, PlainShape, plain_nowhere, plain_nothing, plain_one}}
+use Rattle.ixdtf_grammar.proofs.widths.PlainTexts.{plain_with, ◌and_then◌, plain_some, date_plain, time_plain, plain_mark, marked_plain, core_plain}
+use Rattle.ixdtf_grammar.proofs.widths.{PlainTexts.{opens_plain, tail_plain}, FirstBad.{Sees, sees_after, Moves, moves_anything, moves_nothing, moves_then}}
+use Rattle.ixdtf_grammar.proofs.widths.FirstBad.{moves_either, moves_first, Stands, alone, ahead, ahead_where, besides, stands_either, never, moved_to}
+use Rattle.ixdtf_grammar.proofs.{widths.{FirstBad.stops_move, PlainLines.plain_line}, theorems.NoRow.BeginsBad}
+use Rattle.ixdtf_reading.proofs.{code.Located.left_is, parts.Fronts.month_day_front_stays}
 
 -- ---- lines of cores
 

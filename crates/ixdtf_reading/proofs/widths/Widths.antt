@@ -1,35 +1,20 @@
 -- Two widths: numbers from 1 to 126 are the same code units in each, and the first other number is `Bad` as a 16-bit code unit.
-use Rattle.std.proofs.Common.{◌≡◌, ◌⊎◌, ℕ, suc, ◌-◌, length, arith, Bool, true, false, cond, IsTrue, IsFalse, List, [], ◌∷◌, ◌++◌, not, All, Any, if◌then◌else◌, refl, sym, ◌∙◌, ap, subst, inl, inr}
+use Rattle.std.proofs.Common.{◌≡◌, ◌⊎◌, ℕ, suc, ◌-◌, length, arith, Bool, true, false, cond, IsTrue, IsFalse, List, [], ◌∷◌, ◌++◌, not, All, Any}
+use Rattle.std.proofs.{Common.{if◌then◌else◌, refl, sym, ◌∙◌, ap, subst, inl, inr}, lemmas.List.length-append}
+use Rattle.std.proofs.lemmas.List.{Elements.{All-nil, All-cons, All-head, All-tail}, Folds.list_any-from_Any}
 use Rattle.std.specs.List.{list_any}
-use Rattle.std.proofs.lemmas.List.Elements.{All-nil, All-cons, All-head, All-tail}
-use Rattle.std.proofs.lemmas.List.{length-append}
-use Rattle.std.proofs.lemmas.List.Folds.{list_any-from_Any}
-use Rattle.ixdtf_grammar.specs.Handlers.{UnhandledFault, own_replies}
-use Rattle.ixdtf_grammar.specs.Places.{UnhandledFaultAt, HasUnhandledFaultAt}
-use Rattle.ixdtf_grammar.specs.Widths.{UnhandledOutcome, HasWithPairs, HasAlone, HasUnhandledOutcome, is_shared, wide_text, byte_text, mask, SameWhereShared}
+use Rattle.ixdtf_grammar.specs.{Handlers.{UnhandledFault, own_replies}, Places.{UnhandledFaultAt, HasUnhandledFaultAt}, Widths.UnhandledOutcome}
+use Rattle.ixdtf_grammar.specs.Widths.{HasWithPairs, HasAlone, HasUnhandledOutcome, is_shared, wide_text, byte_text, mask, SameWhereShared}
 use Rattle.ixdtf_grammar.specs.Widths.{FaultWhereNotShared, SamePlaceWhereShared, PlaceWhereNotShared, IsFirstNotShared, NonAsciiIsFirst, NonAsciiIsWide}
-use Rattle.ixdtf_grammar.proofs.theorems.NoRow.{fault_of_bad}
-use Rattle.ixdtf_reading.proofs.code.OneMoreReply.{refused_split}
-use Rattle.ixdtf_grammar.specs.Widths.UnhandledOutcome.{read_as, faulted}
-use Rattle.ixdtf_grammar.specs.language.Brackets.{Pair}
-use Rattle.ixdtf_grammar.specs.language.Languages.Derives.{as_parsed, as_shifted, as_identified, as_named, as_lasting}
-use Rattle.ixdtf_grammar.specs.language.Languages.{Found, Derives}
-use Rattle.ixdtf_grammar.specs.language.Languages.Found.{parsed}
-use Rattle.ixdtf_grammar.specs.language.Letters.{Text, wide_letter}
-use Rattle.ixdtf_grammar.specs.language.Letters.Letter.{Plain, Bad}
-use Rattle.ixdtf_grammar.specs.language.Readers.{Reader, CoreKind}
-use Rattle.ixdtf_grammar.specs.language.Readers.Reader.{bracketed}
-use Rattle.ixdtf_grammar.specs.table.Faults.{Fault}
-use Rattle.ixdtf_grammar.specs.table.Faults.Fault.{NonAsciiCodePoint}
-use Rattle.ixdtf_grammar.specs.table.Outcomes.{HasFault, HasFaultAt}
-use Rattle.ixdtf_grammar.specs.table.Rows.{left_at}
-use Rattle.ixdtf_reading.proofs.code.Located.{left_fits}
-use Rattle.ixdtf_reading.proofs.theorems.OnePlace.{without_place}
-use Rattle.ixdtf_reading.proofs.theorems.OneUnhandledOutcome.{unhandled_outcome}
-use Rattle.ixdtf_grammar.proofs.widths.FirstBad.{Sees, plain_sees_nothing, sees_after, left_moved}
-use Rattle.ixdtf_reading.proofs.widths.PlainBefore.{row_moved, fits_move}
+use Rattle.ixdtf_grammar.specs.{Widths.UnhandledOutcome.{read_as, faulted}, language.{Brackets.Pair, Languages.{Found, Derives}}}
+use Rattle.ixdtf_grammar.specs.language.Languages.{Derives.{as_parsed, as_shifted, as_identified, as_named, as_lasting}, Found.parsed}
+use Rattle.ixdtf_grammar.specs.{language.{Letters.{Text, wide_letter, Letter.{Plain, Bad}}, Readers.{Reader, CoreKind, Reader.bracketed}}, table.Faults.Fault}
+use Rattle.ixdtf_grammar.specs.table.{Faults.Fault.NonAsciiCodePoint, Outcomes.{HasFault, HasFaultAt}, Rows.left_at}
+use Rattle.ixdtf_grammar.proofs.{theorems.NoRow.fault_of_bad, widths.FirstBad.{Sees, plain_sees_nothing, sees_after, left_moved}}
 use Rattle.ixdtf_grammar.proofs.widths.PlainDurations.{duration_plain}
 use Rattle.ixdtf_grammar.proofs.widths.PlainTexts.{IsPlain, plain_append, signed_plain, zone_plain, plain_name, core_plain, tail_plain}
+use Rattle.ixdtf_reading.proofs.{code.{OneMoreReply.refused_split, Located.left_fits}, theorems.OnePlace.without_place}
+use Rattle.ixdtf_reading.proofs.{theorems.OneUnhandledOutcome.unhandled_outcome, widths.PlainBefore.{row_moved, fits_move}}
 
 -- ---- numbers
 

@@ -1,24 +1,11 @@
 -- Reading a first bracket.
 use Rattle.std.specs.Prelude.{ℕ, Bool, true, false, List, [], ◌∷◌, drop, Result, Ok, Err, if◌then◌else◌, Option, Some, None}
-use Rattle.ixdtf_grammar.specs.language.Times.{Clock as clocks}
-use Rattle.ixdtf_grammar.specs.language.Letters.{Text}
-use Rattle.ixdtf_grammar.specs.language.Letters.Letter.{Plain, Bad}
-use Rattle.ixdtf_grammar.specs.language.Letters.{Class, sign, equals, closing, exclamation, key_lead}
-use Rattle.ixdtf_grammar.specs.table.Faults.{Fault}
-use Rattle.ixdtf_grammar.specs.table.Faults.Fault.{NonAsciiCodePoint, AnnotationKeyChar, IanaChar, IanaCharPostSeparator}
-use Rattle.ixdtf_grammar.specs.language.Offsets.{minutes_of}
-use Rattle.ixdtf_grammar.specs.language.ZoneNames.{Zone}
-use Rattle.ixdtf_grammar.specs.language.ZoneNames.Zone.{Offset}
-use Rattle.ixdtf_grammar.specs.language.Brackets.{ZoneNote}
-use Rattle.ixdtf_grammar.specs.language.Brackets.{Pair}
-use Rattle.ixdtf_grammar.specs.table.LineNames.LineName.{of_bracket}
-use Rattle.ixdtf_grammar.specs.table.LineNames.BracketLine.{first_bracket_start, first_critical_start, first_bracket_scan}
-use Rattle.ixdtf_grammar.specs.table.Lines.{abrupt_bracket}
-use Rattle.ixdtf_grammar.specs.table.Rows.{Row}
+use Rattle.ixdtf_grammar.specs.language.{Times.{Clock as clocks}, Letters.{Text, Class, sign, equals, closing, exclamation, key_lead, Letter.{Plain, Bad}}}
+use Rattle.ixdtf_grammar.specs.{language.{Offsets.minutes_of, ZoneNames.{Zone, Zone.Offset}, Brackets.{ZoneNote, Pair}}, table.Faults.Fault}
+use Rattle.ixdtf_grammar.specs.table.{Faults.Fault.{NonAsciiCodePoint, AnnotationKeyChar, IanaChar, IanaCharPostSeparator}, LineNames.LineName.of_bracket}
+use Rattle.ixdtf_grammar.specs.table.{LineNames.BracketLine.{first_bracket_start, first_critical_start, first_bracket_scan}, Lines.abrupt_bracket, Rows.Row}
 use Rattle.ixdtf_grammar.specs.table.Rows.Place.{end, bad}
-use Rattle.ixdtf_reading.specs.reading.Looks.{Read, Placed, ◌>>=◌, row_of, letter_at, next_by}
-use Rattle.ixdtf_reading.specs.reading.Times.{clock_at}
-use Rattle.ixdtf_reading.specs.reading.Pairs.{pair_at}
+use Rattle.ixdtf_reading.specs.reading.{Looks.{Read, Placed, ◌>>=◌, row_of, letter_at, next_by}, Times.clock_at, Pairs.pair_at}
 use Rattle.ixdtf_reading.specs.reading.Zones.{follow_look, name_run, name_look, as_zone, zone_readings}
 
 -- whether an `=` comes before any `]`

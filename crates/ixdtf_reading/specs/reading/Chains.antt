@@ -1,24 +1,14 @@
 -- What the code returns for the pairs after whole brackets, and for a whole text, for the calls of the handler that it made.
 -- No public clause cites this.
 use Rattle.std.specs.Prelude.{◌≡◌, ◌⊎◌, true, ℕ, ◌+◌, length, Bool, List, ◌++◌, Option, Result, Ok, Err, [], Some, None, ◌∷◌}
-use Rattle.ixdtf_grammar.specs.language.Letters.{Text}
-use Rattle.ixdtf_grammar.specs.language.Shapes.{some}
-use Rattle.ixdtf_grammar.specs.language.Brackets.{Pair, ArePairs, Opens}
-use Rattle.ixdtf_grammar.specs.language.Cores.{Core}
-use Rattle.ixdtf_grammar.specs.language.Languages.{Parsed, Derives}
-use Rattle.ixdtf_grammar.specs.language.Languages.Found.{parsed}
-use Rattle.ixdtf_grammar.specs.language.Readers.{Reader, CoreKind}
-use Rattle.ixdtf_grammar.specs.language.Readers.Reader.{bracketed}
-use Rattle.ixdtf_grammar.specs.table.LineNames.{LineName, PairLine}
+use Rattle.ixdtf_grammar.specs.language.{Letters.Text, Shapes.some, Brackets.{Pair, ArePairs, Opens}, Cores.Core, Languages.{Parsed, Derives, Found.parsed}}
+use Rattle.ixdtf_grammar.specs.{language.Readers.{Reader, CoreKind, Reader.bracketed}, table.LineNames.{LineName, PairLine}}
 use Rattle.ixdtf_grammar.specs.table.LineNames.LineName.{of_core, of_clock, of_offset, of_zone, of_bracket, of_pair, of_duration}
 use Rattle.ixdtf_grammar.specs.table.LineNames.BracketLine.{first_bracket_start, first_critical_start, first_bracket_scan, after_bracket}
 use Rattle.ixdtf_grammar.specs.table.LineNames.PairLine.{key_start, critical_key_start, in_key, value_start, in_value, after_value_hyphen}
 use Rattle.ixdtf_grammar.specs.table.Rows.{Row, Fits, FitsHere}
 use Rattle.ixdtf_grammar.specs.Handlers.{Reply, first_calendar, GivesRecord, NoneRefused, LastRefused, Calls, handed, replies_of, Step, IsChain}
-use Rattle.ixdtf_reading.specs.declared.stop.StopAt.{StopAt}
-use Rattle.ixdtf_reading.specs.reading.Clauses.{fault_of_stop}
-use Rattle.ixdtf_reading.specs.reading.Looks.{Placed, error_of}
-use Rattle.ixdtf_reading.specs.reading.Cores.{core_at}
+use Rattle.ixdtf_reading.specs.{declared.stop.StopAt.StopAt, reading.{Clauses.fault_of_stop, Looks.{Placed, error_of}, Cores.core_at}}
 
 -- what stands between whole brackets and the front of a line of pairs
 abbrev pub BeforePair : PairLine → Text → Type 0

@@ -1,28 +1,16 @@
 -- Forms of the clauses of private functions, and what the code's own types stand for. No public clause cites one.
-use Rattle.std.specs.Prelude.{◌≡◌, ◌↔◌, ℕ, Bool, IsTrue, IsFalse, OnOk, IfErr, ◌+◌, ◌≤◌, map, length, Option, Some, None, Result, Ok, Err, ◌++◌, if◌then◌else◌}
-use Rattle.ixdtf_grammar.specs.declared.profile.Profile.{Profile}
-use Rattle.ixdtf_grammar.specs.declared.records.DateRecord.{DateRecord}
-use Rattle.ixdtf_grammar.specs.declared.records.IxdtfParseRecord.{IxdtfParseRecord}
-use Rattle.ixdtf_reading.specs.declared.stop.Stop.{Stop}
-use Rattle.ixdtf_reading.specs.declared.stop.StopAt.{StopAt}
 use Rattle.ixdtf_reading.specs.declared.stop.Stop.TheVariants as stops
-use Rattle.ixdtf_grammar.specs.language.Letters.{Letter, Text, ◌or◌, none, digit, hyphen, closing}
-use Rattle.ixdtf_grammar.specs.language.Fractions.{FractionParts, fraction_of}
-use Rattle.ixdtf_grammar.specs.language.Times.{Clock as clocks}
-use Rattle.ixdtf_grammar.specs.language.Cores.{Core, core_of}
-use Rattle.ixdtf_grammar.specs.language.Readers.{Reader}
-use Rattle.ixdtf_grammar.specs.language.Languages.{Parsed}
-use Rattle.ixdtf_grammar.specs.table.Faults.{Fault}
-use Rattle.ixdtf_grammar.specs.table.Faults.{Fault as faults}
-use Rattle.ixdtf_grammar.specs.table.Outcomes.{NoRowFits}
-use Rattle.ixdtf_grammar.specs.table.Lines.{abrupt_digit, abrupt_date, abrupt_month_day, abrupt_bracket, abrupt_offset, abrupt_zone}
-use Rattle.ixdtf_grammar.specs.table.Lines.{abrupt_duration_start, abrupt_duration_designator, abrupt_duration, abrupt_date_designator, abrupt_time_designator}
-use Rattle.ixdtf_grammar.specs.Views.{Unread}
-use Rattle.ixdtf_grammar.specs.Handlers.{UnhandledRecord, UnhandledFault, UnhandledOnlyFault}
-use Rattle.ixdtf_grammar.specs.Laws.{IsTextReader, InNoOther}
-use Rattle.ixdtf_reading.specs.reading.Looks.{Read, Look, Placed, before, look_for, ◌>>=◌, error_of, digit_run}
-use Rattle.ixdtf_reading.specs.reading.Times.{clock_at}
-use Rattle.ixdtf_reading.specs.reading.Cores.{ClosedCore, after_time_at}
+use Rattle.std.specs.Prelude.{◌≡◌, ◌↔◌, ℕ, Bool, IsTrue, IsFalse, OnOk, IfErr, ◌+◌, ◌≤◌, map, length, Option, Some, None, Result, Ok, Err, ◌++◌}
+use Rattle.std.specs.Prelude.{if◌then◌else◌}
+use Rattle.ixdtf_grammar.specs.declared.{profile.Profile.Profile, records.{DateRecord.DateRecord, IxdtfParseRecord.IxdtfParseRecord}}
+use Rattle.ixdtf_grammar.specs.language.{Letters.{Letter, Text, ◌or◌, none, digit, hyphen, closing}, Fractions.{FractionParts, fraction_of}}
+use Rattle.ixdtf_grammar.specs.language.{Times.{Clock as clocks}, Cores.{Core, core_of}, Readers.Reader, Languages.Parsed}
+use Rattle.ixdtf_grammar.specs.table.{Faults.{Fault, Fault as faults}, Outcomes.NoRowFits, Lines.{abrupt_digit, abrupt_date, abrupt_month_day}}
+use Rattle.ixdtf_grammar.specs.table.Lines.{abrupt_bracket, abrupt_offset, abrupt_zone, abrupt_duration_start, abrupt_duration_designator, abrupt_duration}
+use Rattle.ixdtf_grammar.specs.{table.Lines.{abrupt_date_designator, abrupt_time_designator}, Views.Unread}
+use Rattle.ixdtf_grammar.specs.{Handlers.{UnhandledRecord, UnhandledFault, UnhandledOnlyFault}, Laws.{IsTextReader, InNoOther}}
+use Rattle.ixdtf_reading.specs.{declared.stop.{Stop.Stop, StopAt.StopAt}, reading.Looks.{Read, Look, Placed, before, look_for, ◌>>=◌, error_of, digit_run}}
+use Rattle.ixdtf_reading.specs.reading.{Times.clock_at, Cores.{ClosedCore, after_time_at}}
 
 -- the fault of the error that a stop is
 abbrev pub fault_of_stop : Stop → Fault

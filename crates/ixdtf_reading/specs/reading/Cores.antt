@@ -1,31 +1,16 @@
 -- Reading a core, and whether a bracket follows it.
 use Rattle.std.specs.Prelude.{ℕ, Bool, Option, Some, None, is_some, Ok, Err, if◌then◌else◌}
-use Rattle.ixdtf_grammar.specs.declared.profile.Profile.{Profile}
-use Rattle.ixdtf_grammar.specs.declared.records.DateRecord.{DateRecord}
-use Rattle.ixdtf_grammar.specs.declared.records.TimeRecord.{TimeRecord}
-use Rattle.ixdtf_grammar.specs.declared.records.UtcOffsetRecord.{UtcOffsetRecord}
+use Rattle.ixdtf_grammar.specs.declared.{profile.Profile.Profile, records.{DateRecord.DateRecord, TimeRecord.TimeRecord, UtcOffsetRecord.UtcOffsetRecord}}
 use Rattle.ixdtf_grammar.specs.declared.records.UtcOffsetRecordOrZ.TheVariants.{Offset, Z}
 use Rattle.ixdtf_grammar.specs.language.Letters.{Text, digit, sign, zulu, opening, date_time_separator, time_letter}
-use Rattle.ixdtf_grammar.specs.language.Times.{Clock as clocks}
-use Rattle.ixdtf_grammar.specs.language.Times.{writes_seconds}
-use Rattle.ixdtf_grammar.specs.language.Offsets.{offset_of}
-use Rattle.ixdtf_grammar.specs.language.Cores.{Core, core_of}
-use Rattle.ixdtf_grammar.specs.language.Readers.{CoreKind}
+use Rattle.ixdtf_grammar.specs.language.{Times.{Clock as clocks, writes_seconds}, Offsets.offset_of, Cores.{Core, core_of}, Readers.CoreKind}
 use Rattle.ixdtf_grammar.specs.language.Readers.CoreKind.{date_time, year_month, month_day, time_alone}
 use Rattle.ixdtf_grammar.specs.table.Faults.Fault.{NonAsciiCodePoint, InvalidEnd, TimeHour, AmbiguousTimeMonthDay, AmbiguousTimeYearMonth}
-use Rattle.ixdtf_grammar.specs.table.LineNames.{LineName}
-use Rattle.ixdtf_grammar.specs.table.LineNames.{of_date, of_year_month, of_month_day, of_time}
-use Rattle.ixdtf_grammar.specs.table.LineNames.YearMonthLine.{after_year_month}
-use Rattle.ixdtf_grammar.specs.table.LineNames.MonthDayLine.{after_month_day}
-use Rattle.ixdtf_grammar.specs.table.LineNames.TimeLine.{time_start, time_reads_as_month_day, time_reads_as_year_month}
-use Rattle.ixdtf_grammar.specs.table.Lines.{abrupt_digit}
-use Rattle.ixdtf_grammar.specs.table.LineNames.LineName.{of_offset}
-use Rattle.ixdtf_grammar.specs.table.LineNames.DateLine.{after_date}
-use Rattle.ixdtf_grammar.specs.table.LineNames.OffsetLine.{after_zulu}
-use Rattle.ixdtf_grammar.specs.table.Rows.{Row}
+use Rattle.ixdtf_grammar.specs.table.LineNames.{LineName, of_date, of_year_month, of_month_day, of_time, YearMonthLine.after_year_month}
+use Rattle.ixdtf_grammar.specs.table.LineNames.{MonthDayLine.after_month_day, TimeLine.{time_start, time_reads_as_month_day, time_reads_as_year_month}}
+use Rattle.ixdtf_grammar.specs.table.{LineNames.{LineName.of_offset, DateLine.after_date, OffsetLine.after_zulu}, Lines.abrupt_digit, Rows.Row}
 use Rattle.ixdtf_grammar.specs.table.Rows.Place.{end, other, bad, anywhere}
-use Rattle.ixdtf_reading.specs.reading.Looks.{Read, Look, ◌>>=◌, row_of, error_of, next_by, peek_by, on_next}
-use Rattle.ixdtf_reading.specs.reading.Dates.{date_at}
+use Rattle.ixdtf_reading.specs.reading.{Looks.{Read, Look, ◌>>=◌, row_of, error_of, next_by, peek_by, on_next}, Dates.date_at}
 use Rattle.ixdtf_reading.specs.reading.Months.{year_month_at, month_day_at, month_day_begins, year_month_begins, left_by}
 use Rattle.ixdtf_reading.specs.reading.Times.{OpenTime, line_after, bad_after, after_second_at, hour_from, clock_at}
 

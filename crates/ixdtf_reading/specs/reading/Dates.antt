@@ -1,17 +1,10 @@
 -- Reading a date.
 use Rattle.std.specs.Prelude.{ℕ, Bool, true, false, ◌∷◌, Ok, Err, ℤ, pos, nat_eq, nat_le, ◌&&◌, if◌then◌else◌}
-use Rattle.ixdtf_grammar.specs.declared.records.DateRecord.{DateRecord}
-use Rattle.ixdtf_grammar.specs.language.Letters.{Text}
-use Rattle.ixdtf_grammar.specs.language.Letters.Letter.{Plain}
-use Rattle.ixdtf_grammar.specs.language.Letters.{sign, hyphen}
-use Rattle.ixdtf_grammar.specs.language.Digits.{decimal}
-use Rattle.ixdtf_grammar.specs.table.Faults.Fault.{DateExtendedYear, InvalidMonthRange, InvalidDayRange}
-use Rattle.ixdtf_grammar.specs.language.Dates.{signed, month_length}
-use Rattle.ixdtf_grammar.specs.table.LineNames.{LineName, of_date}
-use Rattle.ixdtf_grammar.specs.table.LineNames.DateLine.{year_start, year_digits, extended_year_digits, minus_zero_year, after_year, month_digits}
-use Rattle.ixdtf_grammar.specs.table.LineNames.DateLine.{month_range, after_hyphened_month, after_basic_month, day_digits, day_range}
-use Rattle.ixdtf_grammar.specs.table.Rows.{Row}
-use Rattle.ixdtf_grammar.specs.table.Rows.Place.{anywhere}
+use Rattle.ixdtf_grammar.specs.{declared.records.DateRecord.DateRecord, language.{Letters.{Text, sign, hyphen, Letter.Plain}, Digits.decimal}}
+use Rattle.ixdtf_grammar.specs.{language.Dates.{signed, month_length}, table.Faults.Fault.{DateExtendedYear, InvalidMonthRange, InvalidDayRange}}
+use Rattle.ixdtf_grammar.specs.table.LineNames.{LineName, of_date, DateLine.{year_start, year_digits, extended_year_digits, minus_zero_year, after_year}}
+use Rattle.ixdtf_grammar.specs.table.LineNames.DateLine.{month_digits, month_range, after_hyphened_month, after_basic_month, day_digits, day_range}
+use Rattle.ixdtf_grammar.specs.table.Rows.{Row, Place.anywhere}
 use Rattle.ixdtf_reading.specs.reading.Looks.{Read, Look, ◌>>=◌, row_of, look_at_line, letter_at, digits_at, mark_by, mark_at, look_readings}
 
 -- after a sign

@@ -1,26 +1,13 @@
 -- Reading a duration, code unit by code unit.
 use Rattle.std.specs.Prelude.{ℕ, List, [], ◌∷◌, ◌++◌, Option, Result, Ok, Err, Some, None, nat_le, if◌then◌else◌}
-use Rattle.ixdtf_grammar.specs.declared.profile.Profile.{Profile}
-use Rattle.ixdtf_grammar.specs.declared.records.Sign.{Sign}
-use Rattle.ixdtf_grammar.specs.declared.records.Sign.TheVariants.{Positive}
-use Rattle.ixdtf_grammar.specs.declared.records.DurationParseRecord.{DurationParseRecord}
-use Rattle.ixdtf_grammar.specs.language.Letters.{Text, digit, sign}
-use Rattle.ixdtf_grammar.specs.language.Letters.Letter.{Plain, Bad}
-use Rattle.ixdtf_grammar.specs.language.Digits.{decimal}
-use Rattle.ixdtf_grammar.specs.language.Fractions.{fraction_of}
-use Rattle.ixdtf_grammar.specs.language.Offsets.{sign_of}
-use Rattle.ixdtf_grammar.specs.language.Durations.{Half, Group, unit_of, designator, in_order, greatest, greatest_value, duration_of}
-use Rattle.ixdtf_grammar.specs.language.Durations.Half.{time}
-use Rattle.ixdtf_grammar.specs.table.Faults.Fault.{DurationValueExceededRange}
-use Rattle.ixdtf_grammar.specs.table.LineNames.{DurationLine}
-use Rattle.ixdtf_grammar.specs.table.LineNames.DurationLine.{duration_start, after_duration_sign, after_duration_designator, after_date_groups}
-use Rattle.ixdtf_grammar.specs.table.LineNames.DurationLine.{after_time_designator, group_digits, group_value_range, unit_order, date_unit_range}
-use Rattle.ixdtf_grammar.specs.table.LineNames.DurationLine.{group_fraction_start, group_fraction_digits, after_time_groups, after_fraction_group}
-use Rattle.ixdtf_grammar.specs.table.LineNames.LineName.{of_duration}
-use Rattle.ixdtf_grammar.specs.table.DurationFronts.{Context, half_of, groups_of}
-use Rattle.ixdtf_grammar.specs.table.DurationFronts.Context.{in_dates, in_times}
-use Rattle.ixdtf_grammar.specs.table.Lines.{order_fault}
-use Rattle.ixdtf_grammar.specs.table.Rows.{Row}
+use Rattle.ixdtf_grammar.specs.declared.{profile.Profile.Profile, records.{Sign.{Sign, TheVariants.Positive}, DurationParseRecord.DurationParseRecord}}
+use Rattle.ixdtf_grammar.specs.language.{Letters.{Text, digit, sign, Letter.{Plain, Bad}}, Digits.decimal, Fractions.fraction_of, Offsets.sign_of}
+use Rattle.ixdtf_grammar.specs.language.Durations.{Half, Group, unit_of, designator, in_order, greatest, greatest_value, duration_of, Half.time}
+use Rattle.ixdtf_grammar.specs.table.{Faults.Fault.DurationValueExceededRange, LineNames.{DurationLine, DurationLine.{duration_start, after_duration_sign}}}
+use Rattle.ixdtf_grammar.specs.table.LineNames.DurationLine.{after_duration_designator, after_date_groups, after_time_designator, group_digits}
+use Rattle.ixdtf_grammar.specs.table.LineNames.DurationLine.{group_value_range, unit_order, date_unit_range, group_fraction_start, group_fraction_digits}
+use Rattle.ixdtf_grammar.specs.table.LineNames.{DurationLine.{after_time_groups, after_fraction_group}, LineName.of_duration}
+use Rattle.ixdtf_grammar.specs.table.{DurationFronts.{Context, half_of, groups_of, Context.{in_dates, in_times}}, Lines.order_fault, Rows.Row}
 use Rattle.ixdtf_grammar.specs.table.Rows.Place.{anywhere}
 use Rattle.ixdtf_reading.specs.reading.Looks.{Read, Look, ◌>>=◌, row_of, look_at_line}
 

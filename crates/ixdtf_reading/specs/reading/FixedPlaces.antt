@@ -1,21 +1,11 @@
 -- Reading at fixed places: each place is looked at in turn, and nothing is read where one does not fit.
 use Rattle.std.specs.Prelude.{ℕ, Bool, pos, [], ◌∷◌, ◌+◌, ◌*◌, drop, Option, Some, None, Result, Ok, Err, nat_le, ◌&&◌, if◌then◌else◌}
-use Rattle.ixdtf_grammar.specs.declared.profile.Profile.{Profile}
-use Rattle.ixdtf_grammar.specs.declared.records.DateRecord.{DateRecord}
-use Rattle.ixdtf_grammar.specs.declared.records.MinutePrecisionOffset.{MinutePrecisionOffset}
-use Rattle.ixdtf_grammar.specs.declared.records.TimeRecord.{TimeRecord}
-use Rattle.ixdtf_grammar.specs.language.Letters.{Text, Class, digit, hyphen, colon, date_time_separator}
-use Rattle.ixdtf_grammar.specs.language.Letters.Letter.{Plain, Bad}
-use Rattle.ixdtf_grammar.specs.language.Digits.{digit_value, decimal}
-use Rattle.ixdtf_grammar.specs.language.Dates.{month_length}
-use Rattle.ixdtf_grammar.specs.language.Offsets.{minutes_of}
-use Rattle.ixdtf_grammar.specs.table.Faults.Fault.{InvalidMonthRange}
-use Rattle.ixdtf_grammar.specs.table.LineNames.{of_month_day}
-use Rattle.ixdtf_grammar.specs.table.LineNames.MonthDayLine.{month_day_month_digits}
-use Rattle.ixdtf_reading.specs.reading.Looks.{Read, Placed, ◌>>=◌, error_of, digits_at}
-use Rattle.ixdtf_reading.specs.reading.Dates.{date_of, day_in_range}
-use Rattle.ixdtf_reading.specs.reading.Months.{lone_month_in_range, lone_day_in_range, lone_day_at}
-use Rattle.ixdtf_reading.specs.reading.Times.{time_of}
+use Rattle.ixdtf_grammar.specs.declared.{profile.Profile.Profile, records.{DateRecord.DateRecord, MinutePrecisionOffset.MinutePrecisionOffset}}
+use Rattle.ixdtf_grammar.specs.{declared.records.TimeRecord.TimeRecord, language.Letters.{Text, Class, digit, hyphen, colon, date_time_separator}}
+use Rattle.ixdtf_grammar.specs.language.{Letters.Letter.{Plain, Bad}, Digits.{digit_value, decimal}, Dates.month_length, Offsets.minutes_of}
+use Rattle.ixdtf_grammar.specs.table.{Faults.Fault.InvalidMonthRange, LineNames.{of_month_day, MonthDayLine.month_day_month_digits}}
+use Rattle.ixdtf_reading.specs.reading.{Looks.{Read, Placed, ◌>>=◌, error_of, digits_at}, Dates.{date_of, day_in_range}}
+use Rattle.ixdtf_reading.specs.reading.{Months.{lone_month_in_range, lone_day_in_range, lone_day_at}, Times.time_of}
 
 -- from what was found to what is found with it
 infixl 10 ◌>>?◌

@@ -1,19 +1,11 @@
 -- Reading a year-month, and a month-day.
 use Rattle.std.specs.Prelude.{[], ℕ, Bool, true, false, ◌&&◌, Ok, Err, nat_le, if◌then◌else◌, pos}
-use Rattle.ixdtf_grammar.specs.declared.profile.Profile.{Profile}
-use Rattle.ixdtf_grammar.specs.declared.records.DateRecord.{DateRecord}
-use Rattle.ixdtf_grammar.specs.language.Letters.{Text, hyphen}
-use Rattle.ixdtf_grammar.specs.language.Digits.{decimal}
-use Rattle.ixdtf_grammar.specs.language.Months.{greatest_day, least_day}
-use Rattle.ixdtf_grammar.specs.table.Faults.Fault.{InvalidMonthRange, InvalidMonthDay}
-use Rattle.ixdtf_grammar.specs.table.LineNames.{of_year_month, of_month_day}
-use Rattle.ixdtf_grammar.specs.table.LineNames.YearMonthLine.{after_year_in_year_month}
-use Rattle.ixdtf_grammar.specs.table.LineNames.MonthDayLine.{month_day_start, month_day_hyphen, month_day_month_digits, month_day_month_range}
-use Rattle.ixdtf_grammar.specs.table.LineNames.MonthDayLine.{after_month_day_month, month_day_day_digits, month_day_range}
-use Rattle.ixdtf_grammar.specs.table.Rows.{Row}
-use Rattle.ixdtf_grammar.specs.table.Rows.Place.{anywhere}
-use Rattle.ixdtf_reading.specs.reading.Looks.{Read, ◌>>=◌, row_of, error_of, digits_at, mark_at, look_readings}
-use Rattle.ixdtf_reading.specs.reading.Dates.{year_at, month_at, date_of}
+use Rattle.ixdtf_grammar.specs.{declared.{profile.Profile.Profile, records.DateRecord.DateRecord}, language.{Letters.{Text, hyphen}, Digits.decimal}}
+use Rattle.ixdtf_grammar.specs.{language.Months.{greatest_day, least_day}, table.Faults.Fault.{InvalidMonthRange, InvalidMonthDay}}
+use Rattle.ixdtf_grammar.specs.table.LineNames.{of_year_month, of_month_day, YearMonthLine.after_year_in_year_month, MonthDayLine.month_day_start}
+use Rattle.ixdtf_grammar.specs.table.LineNames.MonthDayLine.{month_day_hyphen, month_day_month_digits, month_day_month_range, after_month_day_month}
+use Rattle.ixdtf_grammar.specs.table.{LineNames.MonthDayLine.{month_day_day_digits, month_day_range}, Rows.{Row, Place.anywhere}}
+use Rattle.ixdtf_reading.specs.reading.{Looks.{Read, ◌>>=◌, row_of, error_of, digits_at, mark_at, look_readings}, Dates.{year_at, month_at, date_of}}
 
 unfoldable pub year_month_at : {E : Type 0} → (Row → E) → Text → Read E DateRecord
 year_month_at fault text = do

@@ -1,17 +1,10 @@
 -- Reading pairs.
 use Rattle.std.specs.Prelude.{ℕ, zero, suc, Bool, true, false, List, [], ◌∷◌, ◌++◌, Option, Some, None, Ok, Err, if◌then◌else◌}
-use Rattle.ixdtf_grammar.specs.language.Letters.{Text}
-use Rattle.ixdtf_grammar.specs.language.Letters.Letter.{Plain, Bad}
-use Rattle.ixdtf_grammar.specs.language.Letters.{hyphen, equals, closing, exclamation, key_char, value_char}
-use Rattle.ixdtf_grammar.specs.table.Faults.{Fault}
-use Rattle.ixdtf_grammar.specs.table.Faults.Fault.{NonAsciiCodePoint, AnnotationKeyValueSeparator, AnnotationKeyChar}
-use Rattle.ixdtf_grammar.specs.table.Faults.Fault.{AnnotationValueChar, AnnotationClose, AnnotationValueCharPostHyphen}
-use Rattle.ixdtf_grammar.specs.language.Brackets.{Pair}
-use Rattle.ixdtf_grammar.specs.table.LineNames.{PairLine}
-use Rattle.ixdtf_grammar.specs.table.LineNames.LineName.{of_bracket, of_pair}
+use Rattle.ixdtf_grammar.specs.language.{Letters.{Text, hyphen, equals, closing, exclamation, key_char, value_char, Letter.{Plain, Bad}}, Brackets.Pair}
+use Rattle.ixdtf_grammar.specs.table.Faults.{Fault, Fault.{NonAsciiCodePoint, AnnotationKeyValueSeparator, AnnotationKeyChar, AnnotationValueChar}}
+use Rattle.ixdtf_grammar.specs.table.{Faults.Fault.{AnnotationClose, AnnotationValueCharPostHyphen}, LineNames.{PairLine, LineName.{of_bracket, of_pair}}}
 use Rattle.ixdtf_grammar.specs.table.LineNames.BracketLine.{after_bracket}
-use Rattle.ixdtf_grammar.specs.table.LineNames.PairLine.{key_start, critical_key_start, in_key, value_start, in_value, after_value_hyphen}
-use Rattle.ixdtf_grammar.specs.table.Rows.{Row}
+use Rattle.ixdtf_grammar.specs.table.{LineNames.PairLine.{key_start, critical_key_start, in_key, value_start, in_value, after_value_hyphen}, Rows.Row}
 use Rattle.ixdtf_grammar.specs.table.Rows.Place.{end, other, bad}
 use Rattle.ixdtf_reading.specs.reading.Looks.{Read, Look, Placed, look_for, ◌>>=◌, row_of, look_at_line, letter_at, peek_by, look_readings}
 use Rattle.ixdtf_reading.specs.reading.Zones.{with_letter}

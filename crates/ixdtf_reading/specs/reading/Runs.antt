@@ -1,15 +1,9 @@
 -- Code units that are taken one by one, with a state.
 use Rattle.std.specs.Prelude.{◌≡◌, ℕ, List, [], ◌∷◌, ◌++◌, map, Option, Some, None, Result, Ok, Err, if◌then◌else◌}
-use Rattle.ixdtf_reading.specs.declared.annotations.KeyLetters.{KeyLetters}
-use Rattle.ixdtf_reading.specs.declared.annotations.ComponentLetters.{ComponentLetters}
-use Rattle.ixdtf_reading.specs.declared.letters.Passed.{Passed}
-use Rattle.ixdtf_reading.specs.declared.stop.Stop.{Stop}
-use Rattle.ixdtf_grammar.specs.language.Letters.{Letter, Text, key_char, value_char}
-use Rattle.ixdtf_grammar.specs.language.Letters.Letter.{Plain, Bad}
-use Rattle.ixdtf_grammar.specs.table.Faults.Fault.{NonAsciiCodePoint}
+use Rattle.ixdtf_reading.specs.declared.{annotations.{KeyLetters.KeyLetters, ComponentLetters.ComponentLetters}, letters.Passed.Passed, stop.Stop.Stop}
+use Rattle.ixdtf_reading.specs.reading.{Clauses.fault_of_stop, Looks.{Read, Placed}}
+use Rattle.ixdtf_grammar.specs.{language.Letters.{Letter, Text, key_char, value_char, Letter.{Plain, Bad}}, table.Faults.Fault.NonAsciiCodePoint}
 use Rattle.ixdtf_grammar.specs.Views.{Unread}
-use Rattle.ixdtf_reading.specs.reading.Clauses.{fault_of_stop}
-use Rattle.ixdtf_reading.specs.reading.Looks.{Read, Placed}
 
 -- the code units that were taken, the state after them, and the code unit that does not go on
 pub record Taken (S : Type 0) : Type 0 where

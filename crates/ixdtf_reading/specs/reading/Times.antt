@@ -1,20 +1,12 @@
 -- Reading a time, or an offset after its sign, as far as it goes.
 use Rattle.std.specs.Prelude.{ℕ, Bool, true, false, ◌∷◌, Option, Some, None, Ok, Err, if◌then◌else◌}
-use Rattle.ixdtf_grammar.specs.declared.records.TimeRecord.{TimeRecord}
-use Rattle.ixdtf_grammar.specs.language.Letters.{Text}
-use Rattle.ixdtf_grammar.specs.language.Letters.Letter.{Plain}
-use Rattle.ixdtf_grammar.specs.language.Letters.{Class, ◌or◌, digit, colon, decimal_mark}
-use Rattle.ixdtf_grammar.specs.table.Faults.Fault.{NonAsciiCodePoint, TimeHour, TimeMinuteSecond}
-use Rattle.ixdtf_grammar.specs.language.Fractions.{FractionParts, fraction_of}
-use Rattle.ixdtf_grammar.specs.language.Times.{Clock, TimeShape, greatest_second}
+use Rattle.ixdtf_grammar.specs.{declared.records.TimeRecord.TimeRecord, language.Letters.{Text, Class, ◌or◌, digit, colon, decimal_mark, Letter.Plain}}
+use Rattle.ixdtf_grammar.specs.language.{Fractions.{FractionParts, fraction_of}, Times.{Clock, TimeShape, greatest_second}}
 use Rattle.ixdtf_grammar.specs.language.Times.TimeShape.{hours, basic_minutes, colon_minutes, seconds, fractions}
-use Rattle.ixdtf_grammar.specs.table.LineNames.{LineName}
-use Rattle.ixdtf_grammar.specs.table.LineNames.LineName.{of_clock}
+use Rattle.ixdtf_grammar.specs.table.{Faults.Fault.{NonAsciiCodePoint, TimeHour, TimeMinuteSecond}, LineNames.{LineName, LineName.of_clock}}
 use Rattle.ixdtf_grammar.specs.table.LineNames.ClockLine.{hour_start, hour_digit, hour_range, after_hour, minute_digits, minute_range, after_basic_minute}
 use Rattle.ixdtf_grammar.specs.table.LineNames.ClockLine.{after_colon_minute, second_digits, second_range, after_second, fraction_start, after_fraction}
-use Rattle.ixdtf_grammar.specs.table.Lines.{seconds_after, mixed, second_fault}
-use Rattle.ixdtf_grammar.specs.table.Rows.{Row}
-use Rattle.ixdtf_grammar.specs.table.Rows.Place.{other, bad, anywhere}
+use Rattle.ixdtf_grammar.specs.table.{Lines.{seconds_after, mixed, second_fault}, Rows.{Row, Place.{other, bad, anywhere}}}
 use Rattle.ixdtf_reading.specs.reading.Looks.{Read, ◌>>=◌, row_of, look_at_line, letter_at, digits_at, number_by, in_range, on_next, digit_run, look_readings}
 
 -- a time that may yet go on as its shape does

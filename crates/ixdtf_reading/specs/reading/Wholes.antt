@@ -1,21 +1,11 @@
 -- Reading a whole text.
 use Rattle.std.specs.Prelude.{None, Ok, Err, List, [], suc, length, if◌then◌else◌}
-use Rattle.ixdtf_grammar.specs.language.Letters.{Text}
-use Rattle.ixdtf_grammar.specs.language.Cores.{Core}
-use Rattle.ixdtf_grammar.specs.language.Brackets.{Pair}
-use Rattle.ixdtf_grammar.specs.language.Readers.{Reader, CoreKind}
+use Rattle.ixdtf_grammar.specs.language.{Letters.Text, Cores.Core, Brackets.Pair, Readers.{Reader, CoreKind}}
 use Rattle.ixdtf_grammar.specs.language.Readers.Reader.{bracketed, parse_offset, parse_identifier, parse_iana_identifier, parse_duration}
-use Rattle.ixdtf_grammar.specs.table.Rows.{Row}
-use Rattle.ixdtf_grammar.specs.language.Languages.{Parsed, parsed_with, Found}
-use Rattle.ixdtf_grammar.specs.table.Outcomes.{Outcome}
-use Rattle.ixdtf_grammar.specs.language.Languages.Found.{parsed, shifted, identified, named, lasting}
-use Rattle.ixdtf_grammar.specs.table.Outcomes.Outcome.{derived, refused}
-use Rattle.ixdtf_reading.specs.reading.Looks.{Read, ◌>>=◌}
-use Rattle.ixdtf_reading.specs.reading.Durations.{duration_at}
-use Rattle.ixdtf_reading.specs.reading.Zones.{offset_at, identifier_at, iana_identifier_at}
-use Rattle.ixdtf_reading.specs.reading.Pairs.{pairs_at}
-use Rattle.ixdtf_reading.specs.reading.Cores.{ClosedCore, core_at}
-use Rattle.ixdtf_reading.specs.reading.Brackets.{Bracket, zone_in, pairs_in, bracket_at}
+use Rattle.ixdtf_grammar.specs.{language.Languages.{Parsed, parsed_with, Found, Found.{parsed, shifted, identified, named, lasting}}, table.Rows.Row}
+use Rattle.ixdtf_grammar.specs.table.Outcomes.{Outcome, Outcome.{derived, refused}}
+use Rattle.ixdtf_reading.specs.reading.{Looks.{Read, ◌>>=◌}, Durations.duration_at, Zones.{offset_at, identifier_at, iana_identifier_at}, Pairs.pairs_at}
+use Rattle.ixdtf_reading.specs.reading.{Cores.{ClosedCore, core_at}, Brackets.{Bracket, zone_in, pairs_in, bracket_at}}
 
 -- after a core and a first bracket
 unfoldable pub bracketed_at : {E : Type 0} → (List Pair → Row → E) → Core → Bracket → Text → Read E (Parsed × List Pair)

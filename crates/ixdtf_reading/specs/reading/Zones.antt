@@ -1,23 +1,11 @@
 -- Reading zone names and offsets.
 use Rattle.std.specs.Prelude.{ℕ, Bool, true, false, List, [], ◌∷◌, Option, Some, None, Ok, Err, ◌&&◌, if◌then◌else◌}
-use Rattle.ixdtf_grammar.specs.language.Times.{Clock as clocks}
-use Rattle.ixdtf_grammar.specs.declared.records.UtcOffsetRecord.{UtcOffsetRecord}
-use Rattle.ixdtf_grammar.specs.language.Letters.{Text}
-use Rattle.ixdtf_grammar.specs.language.Letters.Letter.{Plain, Bad}
-use Rattle.ixdtf_grammar.specs.language.Letters.{Class, none, sign, slash, zone_char}
-use Rattle.ixdtf_grammar.specs.table.Faults.Fault.{NonAsciiCodePoint, IanaCharPostSeparator}
-use Rattle.ixdtf_grammar.specs.language.Offsets.{offset_of, minutes_of}
-use Rattle.ixdtf_grammar.specs.declared.records.TimeRecord.{TimeRecord}
-use Rattle.ixdtf_grammar.specs.language.Times.{Clock, TimeShape, writes_seconds}
-use Rattle.ixdtf_grammar.specs.language.ZoneNames.{Zone}
-use Rattle.ixdtf_grammar.specs.language.ZoneNames.Zone.{Name, Offset}
-use Rattle.ixdtf_grammar.specs.table.LineNames.{LineName}
-use Rattle.ixdtf_grammar.specs.table.LineNames.LineName.{of_offset, of_zone}
-use Rattle.ixdtf_grammar.specs.table.LineNames.OffsetLine.{offset_start}
-use Rattle.ixdtf_grammar.specs.table.LineNames.ZoneLine.{identifier_start, zone_name_start, in_zone_name, after_zone_slash}
-use Rattle.ixdtf_grammar.specs.table.Lines.{follow_of, zone_end, zone_other}
-use Rattle.ixdtf_grammar.specs.table.Rows.{Row}
-use Rattle.ixdtf_grammar.specs.table.Rows.Place.{end, other, bad}
+use Rattle.ixdtf_grammar.specs.language.{Times.{Clock as clocks, Clock, TimeShape, writes_seconds}, Letters.{Text, Class, none, sign, slash, zone_char}}
+use Rattle.ixdtf_grammar.specs.language.{Letters.Letter.{Plain, Bad}, Offsets.{offset_of, minutes_of}, ZoneNames.{Zone, Zone.{Name, Offset}}}
+use Rattle.ixdtf_grammar.specs.declared.records.{UtcOffsetRecord.UtcOffsetRecord, TimeRecord.TimeRecord}
+use Rattle.ixdtf_grammar.specs.table.{Faults.Fault.{NonAsciiCodePoint, IanaCharPostSeparator}, LineNames.{LineName, LineName.{of_offset, of_zone}}}
+use Rattle.ixdtf_grammar.specs.table.LineNames.{OffsetLine.offset_start, ZoneLine.{identifier_start, zone_name_start, in_zone_name, after_zone_slash}}
+use Rattle.ixdtf_grammar.specs.table.{Lines.{follow_of, zone_end, zone_other}, Rows.{Row, Place.{end, other, bad}}}
 use Rattle.ixdtf_reading.specs.reading.Looks.{Read, Look, ◌>>=◌, row_of, end_of, letter_at, peek_by, look_readings}
 use Rattle.ixdtf_reading.specs.reading.Times.{OpenTime, line_after, bad_after, clock_at}
 

@@ -1,172 +1,104 @@
 -- A year-month, and a month-day, at fixed places: what is found there is read so.
-use Rattle.std.proofs.Common.{subst, ◌≡◌, ℕ, suc, ◌+◌, ◌*◌, Bool, true, false, IsTrue, [], ◌∷◌, map, drop, Option}
-use Rattle.std.proofs.Common.{Some, None, Result, Ok, Err, refl, sym, ap, ◌∙◌, nat_le, ◌&&◌, pos, arith}
+use Rattle.std.proofs.Common.{subst, ◌≡◌, ℕ, suc, ◌+◌, Bool, true, false, IsTrue, [], ◌∷◌, drop, Option, Some, None, Result, Ok, Err, refl, sym, ap, ◌∙◌, pos}
+use Rattle.std.proofs.{Common.{arith, ◌++◌, append_assoc, inl, inr}, lemmas.Bool.and_parts}
 use Rattle.std.specs.Prelude.{IfSome}
-use Rattle.std.proofs.lemmas.Bool.{and_parts}
-use Rattle.ixdtf_grammar.specs.declared.profile.Profile.{Profile}
-use Rattle.ixdtf_grammar.specs.declared.records.DateRecord.{DateRecord}
-use Rattle.ixdtf_reading.specs.declared.stop.Stop.{Stop}
-use Rattle.ixdtf_grammar.specs.Views.{Unread}
-use Rattle.ixdtf_grammar.specs.table.Faults.{Fault}
-use Rattle.ixdtf_reading.specs.reading.Clauses.{YieldsAt}
-use Rattle.ixdtf_grammar.specs.language.Letters.{Letter, Text, digit, hyphen}
-use Rattle.ixdtf_grammar.specs.language.Letters.Letter.{Plain, Bad}
-use Rattle.ixdtf_grammar.specs.language.Digits.{decimal}
-use Rattle.ixdtf_reading.specs.reading.Dates.{date_of, year_at, four_digit_year_at, month_in_range, month_by}
-use Rattle.ixdtf_reading.specs.reading.Looks.{Placed, Read, error_of, look_at, next_by, mark_by, digits_by}
-use Rattle.ixdtf_reading.specs.reading.Months.{year_month_at, marks_at, month_day_at, lone_month_in_range, lone_day_at}
-use Rattle.ixdtf_reading.specs.reading.FixedPlaces.{first_byte, byte_place, number_place, year_place, month_of_year_place}
-use Rattle.ixdtf_reading.specs.reading.FixedPlaces.{day_of_month_place, ranged_month, ranged_day, marks_place, unmarked_at}
-use Rattle.ixdtf_reading.proofs.parts.Looks.{onto}
-use Rattle.ixdtf_reading.proofs.code.DigitClasses.{digit_no_sign, digit_no_hyphen}
-use Rattle.ixdtf_reading.proofs.code.FixedPlaces.{then_some, Number, number_at_place, hyphen_is, mark_at_place, over_two, year_is, byte_in_class}
-
--- whether it is a month
-abbrev is_month : ℕ → Bool
-is_month month = nat_le 1 month && nat_le month 12
+use Rattle.ixdtf_grammar.specs.{declared.{profile.Profile.Profile, records.DateRecord.DateRecord}, language.Letters.{Text, digit, hyphen}}
+use Rattle.ixdtf_grammar.specs.{language.Letters.Letter.{Plain, Bad}, table.LineNames.{of_year_month, of_month_day, YearMonthLine.after_year_in_year_month}}
+use Rattle.ixdtf_grammar.specs.table.LineNames.MonthDayLine.{month_day_month_digits}
+use Rattle.ixdtf_reading.specs.{declared.stop.Stop.Stop, reading.{Clauses.YieldsAt, Dates.{date_of, month_at}}}
+use Rattle.ixdtf_reading.specs.reading.Looks.{Placed, error_of, look_at, next_by, mark_by, digits_by, ◌>>=◌}
+use Rattle.ixdtf_reading.specs.reading.{Months.{year_month_at, marks_at, month_day_at, lone_month_in_range, lone_day_at}, FixedPlaces.first_byte}
+use Rattle.ixdtf_reading.specs.reading.FixedPlaces.{byte_place, number_place, year_place, month_of_year_place, day_of_month_place, ranged_month, ranged_day}
+use Rattle.ixdtf_reading.specs.reading.FixedPlaces.{marks_place, unmarked_at}
+use Rattle.ixdtf_reading.proofs.{parts.{Looks.{onto, digits_go}, Marks.hyphens_of, Years.year_takes}, code.DigitClasses.digit_no_hyphen}
+use Rattle.ixdtf_reading.proofs.code.FixedPlaces.{then_some, Number, number_at_place, hyphen_is, mark_at_place, over_two, byte_in_class, two_digits, two}
+use Rattle.ixdtf_reading.proofs.{code.FixedPlaces.year_at_place, to_reading.Dates.{month_is, month_is_none, month_or_none, month_takes, month_out}}
+use Rattle.ixdtf_reading.proofs.to_reading.Months.{over_lone_day}
 
 -- ---- year-months
 
-abbrev six : (a b c d m n : ℕ) → DateRecord
-six a b c d m n = date_of (pos (decimal (Plain a ∷ Plain b ∷ Plain c ∷ Plain d ∷ []))) (decimal (Plain m ∷ Plain n ∷ [])) 1
+-- a year that is found is read, and the month behind it
+year_is_taken : (text : Text) (year : ℕ) → year_place text ≡ Some year → year_month_at error_of text
+    ≡ (month_at error_of (of_year_month after_year_in_year_month) (drop 4 text) >>= λ month. Ok (date_of (pos year) month.0.0 1, month.1))
+unfolding year_month_at
+year_is_taken text year e =
+    let (ys, is, y) = year_at_place text year e in
+    ap (year_month_at error_of) is ∙ rw (year_takes error_of ys (pos year) (drop 4 text) (inl y)) refl
 
-hyphened_letters_read : (a b c d m n : ℕ) (more : Text) → IsTrue (digit a) → IsTrue (digit b) → IsTrue (digit c) → IsTrue (digit d) → IsTrue (digit m)
-    → IsTrue (digit n) → (t : Bool) → is_month (decimal (Plain m ∷ Plain n ∷ [])) ≡ t
-    → year_month_at error_of (Plain a ∷ Plain b ∷ Plain c ∷ Plain d ∷ Plain 45 ∷ Plain m ∷ Plain n ∷ more) ≡ ranged_month (six a b c d m n) more
-unfolding year_month_at year_at four_digit_year_at month_by mark_by month_in_range digits_by next_by look_at
-hyphened_letters_read a b c d m n more ea eb ec ed em en true is = rw (ea, digit_no_sign a ea, eb, ec, ed, em, en, is) refl
-hyphened_letters_read a b c d m n more ea eb ec ed em en false is = rw (ea, digit_no_sign a ea, eb, ec, ed, em, en, is) refl
-
-basic_letters_read : (a b c d m n : ℕ) (more : Text) → IsTrue (digit a) → IsTrue (digit b) → IsTrue (digit c) → IsTrue (digit d) → IsTrue (digit m)
-    → IsTrue (digit n) → (t : Bool) → is_month (decimal (Plain m ∷ Plain n ∷ [])) ≡ t
-    → year_month_at error_of (Plain a ∷ Plain b ∷ Plain c ∷ Plain d ∷ Plain m ∷ Plain n ∷ more) ≡ ranged_month (six a b c d m n) more
-unfolding year_month_at year_at four_digit_year_at month_by mark_by month_in_range digits_by next_by look_at
-basic_letters_read a b c d m n more ea eb ec ed em en true is =
-    rw (ea, digit_no_sign a ea, eb, ec, ed, em, digit_no_hyphen m em, digit_no_hyphen m em, em, en, is) refl
-basic_letters_read a b c d m n more ea eb ec ed em en false is =
-    rw (ea, digit_no_sign a ea, eb, ec, ed, em, digit_no_hyphen m em, digit_no_hyphen m em, em, en, is) refl
-
--- a year: its digits
-year_numbers : {Goal : Type 0} (text : Text) (year : ℕ) → year_place text ≡ Some year
-    → ((century rest : ℕ) → Number 0 text century → Number 2 text rest → 100 * century + rest ≡ year → Goal) → Goal
-unfolding year_place
-year_numbers text year e next =
-    then_some (number_place 0 text) _ year e λ century f0 e0.
-    then_some (number_place 2 text) _ year e0 λ rest f1 e1.
-    next century rest (number_at_place 0 text century f0) (number_at_place 2 text rest f1) cc
-
-same_some : {year month : ℕ} {date : DateRecord} → Some (date_of (pos year) month 1) ≡ Some date → date_of (pos year) month 1 ≡ date
-same_some e = cc
-
-month_of_year : {Goal : Type 0} (year place : ℕ) (text : Text) (date : DateRecord) → month_of_year_place year place text ≡ Some date
-    → ((month : ℕ) → Number place text month → date_of (pos year) month 1 ≡ date → Goal) → Goal
+-- and so is the month, where it is found
+month_is_read : (b : Bool) (text : Text) (year place : ℕ) (date : DateRecord) → year_place text ≡ Some year → drop 4 text ≡ hyphens_of b ++ drop place text
+    → month_of_year_place year place text ≡ Some date → year_month_at error_of text ≡ ranged_month date (drop (suc (suc place)) text)
 unfolding month_of_year_place
-month_of_year year place text date e next =
-    then_some (number_place place text) _ date e λ month f0 e0.
-    next month (number_at_place place text month f0) (same_some e0)
+month_is_read b text year place date years at_month e =
+    then_some (number_place place text) _ date e λ month f0 e0. by_number month (number_at_place place text month f0) e0
+  where
+    by_number : (month : ℕ) → Number place text month → Some (date_of (pos year) month 1) ≡ Some date
+        → year_month_at error_of text ≡ ranged_month date (drop (suc (suc place)) text)
+    by_number month m e =
+        let is : date_of (pos year) month 1 ≡ date = cc in
+        let after = drop (suc (suc place)) text in
+        let split : drop 4 text ≡ (hyphens_of b ++ two m) ++ after = at_month ∙ ap (λ t. hyphens_of b ++ t) (over_two m refl) ∙ sym (append_assoc (hyphens_of b) (two m) after) in
+        year_is_taken text year years ∙ rw (split, ← is) (elim (month_or_none month) [
+          | inl h ↦ rw (
+            month_takes error_of (of_year_month after_year_in_year_month) (λ c. refl) b (two m) month after (two_digits m refl, h.0, h.1),
+            month_is month h.0 h.1,
+          ) refl
+          | inr h ↦ rw (
+            month_out error_of (of_year_month after_year_in_year_month) (λ c. refl) b (two m) after ((two_digits m refl).0, rw m.value at h),
+            month_is_none month h,
+          ) refl
+        ])
 
--- the record of the numbers that were found
-year_month_of : (a b c d century rest month value year : ℕ) (date : DateRecord) → century ≡ decimal (Plain a ∷ Plain b ∷ [])
-    → rest ≡ decimal (Plain c ∷ Plain d ∷ []) → month ≡ value → 100 * century + rest ≡ year → date_of (pos year) month 1 ≡ date
-    → date_of (pos (decimal (Plain a ∷ Plain b ∷ Plain c ∷ Plain d ∷ []))) value 1 ≡ date
-year_month_of a b c d century rest month value year date ec er em ey is =
-    let years : decimal (Plain a ∷ Plain b ∷ Plain c ∷ Plain d ∷ []) ≡ year = sym (rw (ec, er) (year_is a b c d)) ∙ ey in
-    ap (λ y. date_of (pos y) value 1) years ∙ ap (λ m. date_of (pos year) m 1) (sym em) ∙ is
-
--- a year, a hyphen and a month that are found are read
 pub hyphened_month_is_read : (text : Text) (year : ℕ) (date : DateRecord) → year_place text ≡ Some year → IsTrue (hyphen (byte_place 4 text))
     → month_of_year_place year 5 text ≡ Some date → year_month_at error_of text ≡ ranged_month date (drop 7 text)
 hyphened_month_is_read text year date years mark months =
-    year_numbers text year years λ century rest c y is_year.
-    month_of_year year 5 text date months λ month m is_date.
-    let hyphens = mark_at_place hyphen 45 4 text (byte_place 4 text) hyphen_is (byte_in_class hyphen 4 text refl mark) in
-    let whole : text ≡ Plain c.a ∷ Plain c.b ∷ Plain y.a ∷ Plain y.b ∷ Plain 45 ∷ Plain m.a ∷ Plain m.b ∷ drop 7 text =
-    over_two c (over_two y (hyphens ∙ onto 45 (over_two m refl))) in
-    ap (year_month_at error_of) whole
-    ∙ hyphened_letters_read c.a c.b y.a y.b m.a m.b (drop 7 text) c.is_a c.is_b y.is_a y.is_b m.is_a m.is_b
-    (is_month (decimal (Plain m.a ∷ Plain m.b ∷ []))) refl
-    ∙ ap (λ d. ranged_month d (drop 7 text)) (year_month_of c.a c.b y.a y.b century rest month _ year date c.value y.value m.value is_year is_date)
+    month_is_read true text year 5 date years (mark_at_place hyphen 45 4 text (byte_place 4 text) hyphen_is (byte_in_class hyphen 4 text refl mark)) months
 
--- and so are a year and a month without a hyphen
 pub basic_month_is_read : (text : Text) (year : ℕ) (date : DateRecord) → year_place text ≡ Some year → month_of_year_place year 4 text ≡ Some date
     → year_month_at error_of text ≡ ranged_month date (drop 6 text)
-basic_month_is_read text year date years months =
-    year_numbers text year years λ century rest c y is_year.
-    month_of_year year 4 text date months λ month m is_date.
-    let whole : text ≡ Plain c.a ∷ Plain c.b ∷ Plain y.a ∷ Plain y.b ∷ Plain m.a ∷ Plain m.b ∷ drop 6 text = over_two c (over_two y (over_two m refl)) in
-    ap (year_month_at error_of) whole
-    ∙ basic_letters_read c.a c.b y.a y.b m.a m.b (drop 6 text) c.is_a c.is_b y.is_a y.is_b m.is_a m.is_b (is_month (decimal (Plain m.a ∷ Plain m.b ∷ []))) refl
-    ∙ ap (λ d. ranged_month d (drop 6 text)) (year_month_of c.a c.b y.a y.b century rest month _ year date c.value y.value m.value is_year is_date)
+basic_month_is_read text year date years months = month_is_read false text year 4 date years refl months
 
 -- ---- month-days
 
-abbrev four : (m n p q : ℕ) → DateRecord
-four m n p q = date_of (pos 0) (decimal (Plain m ∷ Plain n ∷ [])) (decimal (Plain p ∷ Plain q ∷ []))
+-- a month and a day that are found are read, with a hyphen before the day or with none
+days_are_read : (b : Bool) (profile : Profile) (text : Text) (start behind place last month day : ℕ) (date : DateRecord) → Number start text month
+    → Number place text day → Some (date_of (pos 0) month day) ≡ Some date → suc (suc start) ≡ behind → suc (suc place) ≡ last
+    → drop behind text ≡ hyphens_of b ++ drop place text
+    → unmarked_at profile (drop start text) ≡ ranged_day profile date (drop behind text) (drop last text)
+unfolding lone_month_in_range
+days_are_read b profile text start behind place last month day date m d e is_behind is_last at_day =
+    let is : date_of (pos 0) month day ≡ date = cc in
+    let split : drop behind text ≡ (hyphens_of b ++ two d) ++ drop last text =
+    at_day ∙ ap (λ t. hyphens_of b ++ t) (over_two d (ap (λ p. drop p text) is_last)) ∙ sym (append_assoc (hyphens_of b) (two d) (drop last text)) in
+    ap (unmarked_at profile) (over_two m (ap (λ p. drop p text) is_behind))
+    ∙ rw (digits_go error_of (of_month_day month_day_month_digits) (λ c. refl) 2 (two m) (drop behind text) (two_digits m refl).0, ← m.value, ← is)
+    (elim (month_or_none month) [
+      | inl h ↦ rw (month_is month h.0 h.1) (
+          ap (lone_day_at error_of profile month) split
+          ∙ (over_lone_day error_of profile month b (two d) day (two_digits d refl)).over (drop last text)
+          )
+      | inr h ↦ rw (month_is_none month h) refl
+    ])
 
-hyphened_day_read : (profile : Profile) (m n p q : ℕ) (more : Text) → IsTrue (digit m) → IsTrue (digit n) → IsTrue (digit p) → IsTrue (digit q)
-    → (t : Bool) → is_month (decimal (Plain m ∷ Plain n ∷ [])) ≡ t
-    → unmarked_at profile (Plain m ∷ Plain n ∷ Plain 45 ∷ Plain p ∷ Plain q ∷ more)
-    ≡ ranged_day profile (four m n p q) (Plain 45 ∷ Plain p ∷ Plain q ∷ more) more
-unfolding lone_month_in_range lone_day_at mark_by digits_by next_by look_at
-hyphened_day_read profile m n p q more em en ep eq true is = rw (em, en, is, ep, eq) refl
-hyphened_day_read profile m n p q more em en ep eq false is = rw (em, en, is) refl
-
-basic_day_read : (profile : Profile) (m n p q : ℕ) (more : Text) → IsTrue (digit m) → IsTrue (digit n) → IsTrue (digit p) → IsTrue (digit q)
-    → (t : Bool) → is_month (decimal (Plain m ∷ Plain n ∷ [])) ≡ t
-    → unmarked_at profile (Plain m ∷ Plain n ∷ Plain p ∷ Plain q ∷ more) ≡ ranged_day profile (four m n p q) (Plain p ∷ Plain q ∷ more) more
-unfolding lone_month_in_range lone_day_at mark_by digits_by next_by look_at
-basic_day_read profile m n p q more em en ep eq true is = rw (em, en, is, ep, digit_no_hyphen p ep, digit_no_hyphen p ep, ep, eq) refl
-basic_day_read profile m n p q more em en ep eq false is = rw (em, en, is) refl
-
-same_day : (month day m d : ℕ) (date : DateRecord) → date_of (pos 0) month day ≡ date → month ≡ m → day ≡ d → date_of (pos 0) m d ≡ date
-same_day month day m d date is em ed = ap (λ n. date_of (pos 0) n d) (sym em) ∙ ap (λ n. date_of (pos 0) month n) (sym ed) ∙ is
-
-day_of_month : {Goal : Type 0} (month place : ℕ) (text : Text) (date : DateRecord) → day_of_month_place month place text ≡ Some date
-    → ((day : ℕ) → Number place text day → date_of (pos 0) month day ≡ date → Goal) → Goal
-unfolding day_of_month_place
-day_of_month month place text date e next =
-    then_some (number_place place text) _ date e λ day f0 e0. next day (number_at_place place text day f0) (same_lone e0)
-  where
-    same_lone : {day : ℕ} → Some (date_of (pos 0) month day) ≡ Some date → date_of (pos 0) month day ≡ date
-    same_lone e = cc
-
--- a month, a hyphen and a day that are found are read
 pub hyphened_day_is_read : (profile : Profile) (text : Text) (start month : ℕ) (date : DateRecord) → number_place start text ≡ Some month
     → IsTrue (hyphen (byte_place (start + 2) text)) → day_of_month_place month (start + 3) text ≡ Some date
     → unmarked_at profile (drop start text) ≡ ranged_day profile date (drop (start + 2) text) (drop (start + 5) text)
+unfolding day_of_month_place
 hyphened_day_is_read profile text start month date months mark days =
-    let m = number_at_place start text month months in
-    day_of_month month (start + 3) text date days λ day d is_date.
     let hyphens = mark_at_place hyphen 45 (start + 2) text (byte_place (start + 2) text) hyphen_is (byte_in_class hyphen (start + 2) text refl mark) in
-    let second : suc (suc start) ≡ start + 2 = omega arith in
     let third : suc (start + 2) ≡ start + 3 = omega arith in
-    let fifth : suc (suc (start + 3)) ≡ start + 5 = omega arith in
-    let behind : drop (start + 2) text ≡ Plain 45 ∷ Plain d.a ∷ Plain d.b ∷ drop (start + 5) text =
-    hyphens ∙ onto 45 (ap (λ p. drop p text) third ∙ over_two d (ap (λ p. drop p text) fifth)) in
-    let whole : drop start text ≡ Plain m.a ∷ Plain m.b ∷ Plain 45 ∷ Plain d.a ∷ Plain d.b ∷ drop (start + 5) text =
-    over_two m (ap (λ p. drop p text) second ∙ behind) in
-    ap (unmarked_at profile) whole
-    ∙ hyphened_day_read profile m.a m.b d.a d.b (drop (start + 5) text) m.is_a m.is_b d.is_a d.is_b (is_month (decimal (Plain m.a ∷ Plain m.b ∷ []))) refl
-    ∙ ap (λ x. ranged_day profile x (Plain 45 ∷ Plain d.a ∷ Plain d.b ∷ drop (start + 5) text) (drop (start + 5) text))
-    (same_day month day _ _ date is_date m.value d.value)
-    ∙ ap (λ t. ranged_day profile date t (drop (start + 5) text)) (sym behind)
+    then_some (number_place (start + 3) text) _ date days λ day f e.
+    days_are_read true profile text start (start + 2) (start + 3) (start + 5) month day date (number_at_place start text month months)
+    (number_at_place (start + 3) text day f) e (omega arith) (omega arith) (hyphens ∙ onto 45 (ap (λ p. drop p text) third))
 
--- and so are a month and a day without a hyphen
 pub basic_day_is_read : (profile : Profile) (text : Text) (start month : ℕ) (date : DateRecord) → number_place start text ≡ Some month
     → day_of_month_place month (start + 2) text ≡ Some date
     → unmarked_at profile (drop start text) ≡ ranged_day profile date (drop (start + 2) text) (drop (start + 4) text)
+unfolding day_of_month_place
 basic_day_is_read profile text start month date months days =
-    let m = number_at_place start text month months in
-    day_of_month month (start + 2) text date days λ day d is_date.
-    let second : suc (suc start) ≡ start + 2 = omega arith in
-    let fourth : suc (suc (start + 2)) ≡ start + 4 = omega arith in
-    let behind : drop (start + 2) text ≡ Plain d.a ∷ Plain d.b ∷ drop (start + 4) text = over_two d (ap (λ p. drop p text) fourth) in
-    let whole : drop start text ≡ Plain m.a ∷ Plain m.b ∷ Plain d.a ∷ Plain d.b ∷ drop (start + 4) text =
-    over_two m (ap (λ p. drop p text) second ∙ behind) in
-    ap (unmarked_at profile) whole
-    ∙ basic_day_read profile m.a m.b d.a d.b (drop (start + 4) text) m.is_a m.is_b d.is_a d.is_b (is_month (decimal (Plain m.a ∷ Plain m.b ∷ []))) refl
-    ∙ ap (λ x. ranged_day profile x (Plain d.a ∷ Plain d.b ∷ drop (start + 4) text) (drop (start + 4) text)) (same_day month day _ _ date is_date m.value d.value)
-    ∙ ap (λ t. ranged_day profile date t (drop (start + 4) text)) (sym behind)
+    then_some (number_place (start + 2) text) _ date days λ day f e.
+    days_are_read false profile text start (start + 2) (start + 2) (start + 4) month day date (number_at_place start text month months)
+    (number_at_place (start + 2) text day f) e (omega arith) (omega arith) refl
 
 -- two hyphens in front are taken
 pub marked_is_read : (profile : Profile) (text : Text) → IsTrue (marks_place text) → month_day_at error_of profile text ≡ unmarked_at profile (drop 2 text)

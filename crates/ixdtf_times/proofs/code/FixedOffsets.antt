@@ -1,26 +1,16 @@
 -- An offset that stands at its places behind its sign, where the core ends with it, is read so.
 use Rattle.std.proofs.Common.{◌≡◌, ℕ, ◌≤◌, IsTrue, ◌∷◌, [], ◌++◌, drop, Option, Some, None, Ok, true, false, nat_le, ◌&&◌, refl, ap, ◌∙◌, arith}
 use Rattle.std.proofs.lemmas.Bool.Decides.{nat_tests}
-use Rattle.ixdtf_grammar.specs.declared.records.DateRecord.{DateRecord}
-use Rattle.ixdtf_grammar.specs.declared.records.TimeRecord.{TimeRecord}
-use Rattle.ixdtf_grammar.specs.declared.records.MinutePrecisionOffset.{MinutePrecisionOffset}
-use Rattle.ixdtf_grammar.specs.declared.records.UtcOffsetRecord.TheVariants.{MinutePrecision}
-use Rattle.ixdtf_grammar.specs.language.Letters.{Text, colon}
-use Rattle.ixdtf_grammar.specs.language.Letters.Letter.{Plain}
-use Rattle.ixdtf_grammar.specs.language.Offsets.{minutes_of}
-use Rattle.ixdtf_grammar.specs.language.ZoneNames.{Zone}
-use Rattle.ixdtf_grammar.specs.language.Times.Clock.{Offset, MinuteOffset}
+use Rattle.ixdtf_grammar.specs.declared.records.{DateRecord.DateRecord, TimeRecord.TimeRecord, MinutePrecisionOffset.MinutePrecisionOffset}
+use Rattle.ixdtf_grammar.specs.{declared.records.UtcOffsetRecord.TheVariants.MinutePrecision, language.Letters.{Text, colon, Letter.Plain}}
+use Rattle.ixdtf_grammar.specs.language.{Offsets.minutes_of, ZoneNames.Zone, Times.{ColonMinuteText, Clock, Clock.{Offset, MinuteOffset}}}
 use Rattle.ixdtf_grammar.specs.language.Times.TimeShape.{colon_minutes}
-use Rattle.ixdtf_grammar.specs.language.Times.{ColonMinuteText, Clock}
-use Rattle.ixdtf_reading.specs.reading.Looks.{error_of, look_at, peek_by}
-use Rattle.ixdtf_reading.specs.reading.FixedPlaces.{letter_place, number_place, offset_place}
-use Rattle.ixdtf_reading.specs.reading.Times.{time_of, line_after, clock_at}
-use Rattle.ixdtf_reading.specs.reading.Zones.{signed_alone_at, offset_alone_at, minute_offset_alone_at}
+use Rattle.ixdtf_reading.specs.reading.{Looks.{error_of, look_at, peek_by}, FixedPlaces.{letter_place, number_place, offset_place}}
+use Rattle.ixdtf_reading.specs.reading.{Times.{time_of, line_after, clock_at}, Zones.{signed_alone_at, offset_alone_at, minute_offset_alone_at}}
 use Rattle.ixdtf_reading.specs.reading.Cores.{with_offset, offset_core_at, core_end_at}
 use Rattle.ixdtf_reading.proofs.parts.Looks.{onto}
 use Rattle.ixdtf_reading.proofs.code.FixedPlaces.{then_some, then_held, Number, number_at_place, mark_at_place, colon_is, two, two_digits, over_two}
-use Rattle.ixdtf_reading.proofs.to_reading.Times.{Closed, time_takes}
-use Rattle.ixdtf_reading.proofs.to_reading.ClockRows.{clock_starts}
+use Rattle.ixdtf_reading.proofs.to_reading.{Times.{Closed, time_takes}, ClockRows.clock_starts}
 
 -- the code units of an hour, a colon and a minute, the text after them, and the offset that they are
 record OffsetLetters (c : ℕ) (text : Text) (offset : MinutePrecisionOffset) : Type 0 where

@@ -1,20 +1,10 @@
 -- A time that stands alone, by what the first look at it finds.
-use Rattle.std.proofs.Common.{◌≡◌, ℕ, true, false, drop, map, Option, Some, None, Result, Ok, Err, refl, ◌∙◌, arith}
-use Rattle.std.proofs.lemmas.Bool.Decides.{nat_tests}
-use Rattle.ixdtf_grammar.specs.declared.profile.Profile.{Profile}
-use Rattle.ixdtf_grammar.specs.declared.records.DateRecord.{DateRecord}
-use Rattle.ixdtf_reading.specs.declared.stop.Stop.{Stop}
-use Rattle.ixdtf_grammar.specs.Views.{Unread}
+use Rattle.std.proofs.{Common.{◌≡◌, ℕ, true, false, drop, map, Option, Some, None, Result, Ok, Err, refl, ◌∙◌, arith}, lemmas.Bool.Decides.nat_tests}
+use Rattle.ixdtf_grammar.specs.{declared.{profile.Profile.Profile, records.DateRecord.DateRecord}, Views.Unread}
 use Rattle.ixdtf_grammar.specs.language.Letters.{Letter, Text, ◌or◌, digit, sign, hyphen, time_letter}
-use Rattle.ixdtf_grammar.specs.table.Faults.{Fault}
-use Rattle.ixdtf_grammar.specs.table.Faults.Fault.{NonAsciiCodePoint}
-use Rattle.ixdtf_reading.specs.reading.Looks.{Read, Placed, ◌>>=◌, error_of, look_at, seen, next_by, mark_by}
-use Rattle.ixdtf_reading.specs.reading.Brackets.{next_is}
-use Rattle.ixdtf_reading.specs.reading.Dates.{year_at}
-use Rattle.ixdtf_reading.specs.reading.Months.{year_month_at, marks_at, month_day_at, year_month_begins, month_day_begins}
-use Rattle.ixdtf_reading.specs.reading.Times.{clock_at}
-use Rattle.ixdtf_reading.specs.reading.Cores.{unfronted, lone_time_at, marked_time_at, marked_core_at, time_alone_core_at}
-use Rattle.ixdtf_reading.specs.reading.Clauses.{Reads, timed_core_at}
+use Rattle.ixdtf_reading.specs.{declared.stop.Stop.Stop, reading.{Looks.{Read, Placed, ◌>>=◌, error_of, seen, next_by, mark_by}, Brackets.next_is}}
+use Rattle.ixdtf_reading.specs.reading.{Dates.year_at, Months.{year_month_at, marks_at, month_day_at, year_month_begins, month_day_begins}, Times.clock_at}
+use Rattle.ixdtf_reading.specs.reading.{Cores.{unfronted, lone_time_at, marked_time_at, marked_core_at, time_alone_core_at}, Clauses.{Reads, timed_core_at}}
 
 ok_again : {A E : Type 0} → (r : Result A E) → (r >>= λ x. Ok x) ≡ r
 ok_again (Ok x) = refl

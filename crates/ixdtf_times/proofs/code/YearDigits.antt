@@ -1,9 +1,7 @@
 -- The digits of years, by twos and threes.
 use Rattle.std.proofs.Common.{◌≡◌, ℕ, ◌+◌, ◌*◌, ◌-◌, pos, Ok, arith}
-use Rattle.ixdtf_grammar.specs.language.Letters.{Text}
-use Rattle.ixdtf_grammar.specs.table.Faults.Fault.{DateYear}
-use Rattle.ixdtf_reading.specs.reading.Looks.{Look, Placed, ◌>>=◌, error_of, number_of, digits_by, digit_look}
-use Rattle.ixdtf_reading.specs.reading.Dates.{four_digit_year_at}
+use Rattle.ixdtf_grammar.specs.{language.Letters.Text, table.Faults.Fault.DateYear}
+use Rattle.ixdtf_reading.specs.reading.{Looks.{Look, Placed, ◌>>=◌, error_of, number_of, digits_by, digit_look}, Dates.four_digit_year_at}
 
 -- six digits are two, and two, and two more
 pub six_digits : (l : Look Placed) (text : Text)

@@ -1,9 +1,8 @@
+use Rattle.ixdtf_brackets.proofs.brackets.refuse_bracket.Goals as goal
 use Rattle.std.proofs.Common.{◌≡◌, map, Ok, false, refl, sym, ap, ◌∙◌}
 use Rattle.ixdtf_grammar.specs.language.Letters.{equals}
-use Rattle.ixdtf_reading.specs.reading.Brackets.{refusal, name_fault, sight_at}
-use Rattle.ixdtf_reading.specs.reading.Looks.{error_of}
+use Rattle.ixdtf_reading.specs.reading.{Brackets.{refusal, name_fault, sight_at}, Looks.error_of}
 use Rattle.ixdtf_brackets.proofs.code.FirstPass.{bracket_failed, bracket_sighted}
-use Rattle.ixdtf_brackets.proofs.brackets.refuse_bracket.Goals as goal
 
 -- the look failed
 pub returns-in-Err-clause-stop : goal.returns-in-Err-clause-stop

@@ -1,8 +1,7 @@
-use Rattle.std.proofs.Common.{◌≡◌, true, false, rules}
-use Rattle.std.proofs.lemmas.Result.{err_from_is_err_and}
+use Rattle.ixdtf_brackets.proofs.timezone.parse_tz_name.Goals as goal
+use Rattle.std.proofs.{Common.{◌≡◌, true, false, rules}, lemmas.Result.err_from_is_err_and}
 use Rattle.ixdtf_reading.proofs.code.LetterLoops.{front_is, next_shown}
 use Rattle.ixdtf_brackets.proofs.code.NameLoop.{name_failed, name_ended, name_refused}
-use Rattle.ixdtf_brackets.proofs.timezone.parse_tz_name.Goals as goal
 
 pub returns-in_err-name-clause-name : goal.returns-in_err-name-clause-name
 returns-in_err-name-clause-name g c =

@@ -1,10 +1,8 @@
-use Rattle.std.proofs.Common.{ℕ, List, Ok, length, drop, sym, ap, ◌∙◌, arith}
-use Rattle.std.proofs.lemmas.Result.{err_from_is_err_and}
-use Rattle.ixdtf_reading.proofs.code.LetterLoops.{begins}
-use Rattle.ixdtf_grammar.specs.language.Letters.{slash, zone_char}
-use Rattle.ixdtf_reading.proofs.code.Units.{stepped}
-use Rattle.ixdtf_brackets.proofs.code.NameLoop.{is_some, some_next, part_fails, part_ceases, part_slashes, slash_fails, slash_ceases, slash_goes_on}
 use Rattle.ixdtf_brackets.proofs.timezone.pass_parts.Goals as goal
+use Rattle.std.proofs.{Common.{ℕ, List, Ok, length, drop, sym, ap, ◌∙◌, arith}, lemmas.Result.err_from_is_err_and}
+use Rattle.ixdtf_reading.proofs.code.{LetterLoops.begins, Units.stepped}
+use Rattle.ixdtf_grammar.specs.language.Letters.{slash, zone_char}
+use Rattle.ixdtf_brackets.proofs.code.NameLoop.{is_some, some_next, part_fails, part_ceases, part_slashes, slash_fails, slash_ceases, slash_goes_on}
 
 pub loop-part-init : goal.loop-part-init
 loop-part-init g c = record { far = begins _ _ _ _; looks = omega arith; counted = omega arith; shorter = omega arith }

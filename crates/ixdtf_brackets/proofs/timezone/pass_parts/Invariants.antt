@@ -1,8 +1,8 @@
+use Rattle.ixdtf_brackets.proofs.timezone.pass_parts.Given as goal
 use Rattle.std.proofs.Common.{◌+◌, ◌≤◌, length}
 use Rattle.ixdtf_brackets.specs.BracketTypes.{name_after}
-use Rattle.ixdtf_reading.proofs.code.LetterLoops.{IsSoFar}
 use Rattle.ixdtf_brackets.proofs.code.NameLoop.{name_start}
-use Rattle.ixdtf_brackets.proofs.timezone.pass_parts.Given as goal
+use Rattle.ixdtf_reading.proofs.code.LetterLoops.{IsSoFar}
 
 abbrev pub invariant-loop-part : goal.invariant-loop-part
 invariant-loop-part g l = record {

@@ -1,6 +1,6 @@
+use Rattle.ixdtf_durations.proofs.duration.date_rank.Goals as goal
 use Rattle.std.proofs.Common.{arith}
 use Rattle.ixdtf_durations.proofs.code.DurationRanks.{ranks_from, date_rank_is, date_rank_small}
-use Rattle.ixdtf_durations.proofs.duration.date_rank.Goals as goal
 
 pub returns-clause-rank : goal.returns-clause-rank
 unfolding ranks_from

@@ -1,10 +1,8 @@
-use Rattle.std.proofs.Common.{◌≡◌, ℕ, [], List, map, drop, Some, None, Ok, true, false, rules, refl, ap, ◌∙◌}
-use Rattle.std.proofs.lemmas.Result.{err_from_is_err_and}
-use Rattle.ixdtf_grammar.specs.language.Letters.{digit, time_letter}
-use Rattle.ixdtf_grammar.specs.table.DurationFronts.Context.{in_dates}
+use Rattle.ixdtf_durations.proofs.duration.parse_after_designator.Goals as goal
+use Rattle.std.proofs.{Common.{◌≡◌, ℕ, [], List, map, drop, Some, None, Ok, true, false, rules, refl, ap, ◌∙◌}, lemmas.Result.err_from_is_err_and}
+use Rattle.ixdtf_grammar.specs.{language.Letters.{digit, time_letter}, table.DurationFronts.Context.in_dates}
 use Rattle.ixdtf_reading.specs.reading.Looks.{seen}
 use Rattle.ixdtf_durations.proofs.code.DurationSteps.{fails, reads_on_earlier, to_digit, to_mark, opened_at_end, dates_at_other}
-use Rattle.ixdtf_durations.proofs.duration.parse_after_designator.Goals as goal
 
 -- the look failed
 pub returns-in_err-look-clause-duration : goal.returns-in_err-look-clause-duration

@@ -1,12 +1,10 @@
-use Rattle.std.proofs.Common.{◌≡◌, ℕ, [], List, map, drop, Some, None, Ok, true, false, refl, ap, ◌∙◌, arith, rules}
-use Rattle.std.proofs.lemmas.Result.{err_from_is_err_and}
+use Rattle.ixdtf_durations.proofs.duration.parse_dates.Goals as goal
+use Rattle.std.proofs.{Common.{◌≡◌, ℕ, [], List, map, drop, Some, None, Ok, true, false, refl, ap, ◌∙◌, arith, rules}, lemmas.Result.err_from_is_err_and}
 use Rattle.ixdtf_grammar.specs.language.Letters.{digit, time_letter}
 use Rattle.ixdtf_reading.specs.reading.Looks.{seen}
 use Rattle.ixdtf_reading.proofs.code.FractionLoop.{one_taken}
-use Rattle.ixdtf_durations.proofs.code.DurationLetters.{ends_date}
-use Rattle.ixdtf_durations.proofs.code.DurationGroups.{no_dates}
-use Rattle.ixdtf_durations.proofs.code.DurationLoops.{date_added_on, date_refused_on, dates_small, dates_go_on, dates_stop, dates_break, dates_timed, dates_alone}
-use Rattle.ixdtf_durations.proofs.duration.parse_dates.Goals as goal
+use Rattle.ixdtf_durations.proofs.code.{DurationLetters.ends_date, DurationGroups.no_dates, DurationLoops.{date_added_on, date_refused_on, dates_small}}
+use Rattle.ixdtf_durations.proofs.code.DurationLoops.{dates_go_on, dates_stop, dates_break, dates_timed, dates_alone}
 
 -- no group yet
 pub loop-number-init : goal.loop-number-init

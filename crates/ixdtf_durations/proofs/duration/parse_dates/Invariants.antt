@@ -1,7 +1,7 @@
+use Rattle.ixdtf_durations.proofs.duration.parse_dates.Given as goal
 use Rattle.std.proofs.Common.{◌+◌, ◌≤◌, IsTrue, length, map}
 use Rattle.ixdtf_grammar.specs.language.Letters.{digit}
 use Rattle.ixdtf_durations.proofs.code.DurationLoops.{DatesSoFar}
-use Rattle.ixdtf_durations.proofs.duration.parse_dates.Given as goal
 
 abbrev pub invariant-loop-number : goal.invariant-loop-number
 invariant-loop-number g l = record {

@@ -1,6 +1,6 @@
+use Rattle.ixdtf_durations.proofs.duration.parse_designator.Goals as goal
 use Rattle.std.proofs.lemmas.Result.{err_from_is_err_and}
 use Rattle.ixdtf_durations.proofs.code.DurationSteps.{fails}
-use Rattle.ixdtf_durations.proofs.duration.parse_designator.Goals as goal
 
 -- the look failed
 pub returns-in_err-look-clause-sign : goal.returns-in_err-look-clause-sign

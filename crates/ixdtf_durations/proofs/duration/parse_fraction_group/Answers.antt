@@ -1,9 +1,7 @@
-use Rattle.std.proofs.Common.{◌≡◌, map, None, Ok}
-use Rattle.std.proofs.lemmas.Result.{err_from_is_err_and}
-use Rattle.ixdtf_reading.specs.reading.Looks.{seen}
-use Rattle.ixdtf_durations.proofs.code.DurationFractions.{fraction_fails, fraction_over, no_letter, breaks, ends_group}
-use Rattle.ixdtf_durations.proofs.code.DurationSteps.{letter_stays}
 use Rattle.ixdtf_durations.proofs.duration.parse_fraction_group.Goals as goal
+use Rattle.std.proofs.{Common.{◌≡◌, map, None, Ok}, lemmas.Result.err_from_is_err_and}
+use Rattle.ixdtf_reading.specs.reading.Looks.{seen}
+use Rattle.ixdtf_durations.proofs.code.{DurationFractions.{fraction_fails, fraction_over, no_letter, breaks, ends_group}, DurationSteps.letter_stays}
 
 -- there is no fraction
 pub returns-in_err-fraction-clause-group : goal.returns-in_err-fraction-clause-group

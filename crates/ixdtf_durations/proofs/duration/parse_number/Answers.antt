@@ -1,13 +1,9 @@
-use Rattle.std.proofs.Common.{◌≡◌, map, None, Ok, true, false, refl, ◌∙◌, arith, rules}
-use Rattle.std.proofs.lemmas.Result.{err_from_is_err_and}
-use Rattle.std.proofs.lemmas.Bool.Decides.{nat_tests}
-use Rattle.ixdtf_grammar.specs.language.Letters.{digit}
-use Rattle.ixdtf_grammar.specs.language.Durations.{greatest_value}
+use Rattle.ixdtf_durations.proofs.duration.parse_number.Goals as goal
+use Rattle.std.proofs.{Common.{◌≡◌, map, None, Ok, true, false, refl, ◌∙◌, arith, rules}, lemmas.{Result.err_from_is_err_and, Bool.Decides.nat_tests}}
+use Rattle.ixdtf_grammar.specs.language.{Letters.digit, Durations.greatest_value}
 use Rattle.ixdtf_reading.specs.reading.Looks.{seen}
 use Rattle.ixdtf_reading.proofs.code.FractionLoop.{one_taken}
-use Rattle.ixdtf_durations.proofs.code.DurationNumbers.{begins, goes_on, passes, ends, breaks}
-use Rattle.ixdtf_durations.proofs.code.DurationSteps.{letter_stays}
-use Rattle.ixdtf_durations.proofs.duration.parse_number.Goals as goal
+use Rattle.ixdtf_durations.proofs.code.{DurationNumbers.{begins, goes_on, passes, ends, breaks}, DurationSteps.letter_stays}
 
 pub loop-byte-init : goal.loop-byte-init
 unfolding greatest_value

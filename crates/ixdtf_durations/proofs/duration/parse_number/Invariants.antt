@@ -1,7 +1,7 @@
+use Rattle.ixdtf_durations.proofs.duration.parse_number.Given as goal
 use Rattle.std.proofs.Common.{◌+◌, ◌≤◌, IsTrue, length, map, nat_le}
 use Rattle.ixdtf_grammar.specs.language.Durations.{greatest_value}
 use Rattle.ixdtf_durations.proofs.code.DurationNumbers.{IsSoFar}
-use Rattle.ixdtf_durations.proofs.duration.parse_number.Given as goal
 
 abbrev pub invariant-loop-byte : goal.invariant-loop-byte
 invariant-loop-byte g l = record {

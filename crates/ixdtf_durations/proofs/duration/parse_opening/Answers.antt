@@ -1,9 +1,8 @@
-use Rattle.std.proofs.Common.{◌≡◌, ℕ, List, map, drop, Some, Ok, true, refl, rules, ap, ◌∙◌}
-use Rattle.std.proofs.lemmas.Result.{err_from_is_err_and}
+use Rattle.ixdtf_durations.proofs.duration.parse_opening.Goals as goal
+use Rattle.std.proofs.{Common.{◌≡◌, ℕ, List, map, drop, Some, Ok, true, refl, rules, ap, ◌∙◌}, lemmas.Result.err_from_is_err_and}
 use Rattle.ixdtf_grammar.specs.language.Letters.{sign}
 use Rattle.ixdtf_reading.specs.reading.Looks.{seen}
 use Rattle.ixdtf_durations.proofs.code.DurationSteps.{fails, reads_on_earlier, start_at_sign}
-use Rattle.ixdtf_durations.proofs.duration.parse_opening.Goals as goal
 
 -- the look failed
 pub returns-in_err-look-clause-sign : goal.returns-in_err-look-clause-sign

@@ -1,8 +1,7 @@
+use Rattle.ixdtf_durations.proofs.duration.parse_time_group.Goals as goal
 use Rattle.std.proofs.Common.{◌≡◌, false, true, rules}
 use Rattle.ixdtf_grammar.specs.language.Letters.{decimal_mark}
-use Rattle.ixdtf_durations.proofs.code.DurationLetters.{ends_time, at_decimal_mark, has_fraction}
-use Rattle.ixdtf_durations.proofs.code.DurationSteps.{letters_left, reads_on_earlier}
-use Rattle.ixdtf_durations.proofs.duration.parse_time_group.Goals as goal
+use Rattle.ixdtf_durations.proofs.code.{DurationLetters.{ends_time, at_decimal_mark, has_fraction}, DurationSteps.{letters_left, reads_on_earlier}}
 
 pub returns-clause-group : goal.returns-clause-group
 returns-clause-group g c profile s dates times =

@@ -1,11 +1,10 @@
-use Rattle.std.proofs.Common.{◌≡◌, [], refl, map, None, Some, Ok, true, sym, arith, rules}
-use Rattle.std.proofs.lemmas.Result.{err_from_is_err_and}
+use Rattle.ixdtf_durations.proofs.duration.parse_time_groups.Goals as goal
+use Rattle.std.proofs.{Common.{◌≡◌, [], refl, map, None, Some, Ok, true, sym, arith, rules}, lemmas.Result.err_from_is_err_and}
 use Rattle.ixdtf_grammar.specs.language.Letters.{digit}
 use Rattle.ixdtf_reading.specs.reading.Looks.{seen}
 use Rattle.ixdtf_reading.proofs.code.FractionLoop.{one_taken}
-use Rattle.ixdtf_durations.proofs.code.DurationGroups.{no_times}
-use Rattle.ixdtf_durations.proofs.code.DurationLoops.{begins_is, begins_none, time_added_on, time_refused_on, times_go_on, times_stop, times_break, times_end_with}
-use Rattle.ixdtf_durations.proofs.duration.parse_time_groups.Goals as goal
+use Rattle.ixdtf_durations.proofs.code.{DurationGroups.no_times, DurationLoops.{begins_is, begins_none, time_added_on, time_refused_on, times_go_on}}
+use Rattle.ixdtf_durations.proofs.code.DurationLoops.{times_stop, times_break, times_end_with}
 
 -- no group yet
 pub loop-group-init : goal.loop-group-init

@@ -1,7 +1,7 @@
+use Rattle.ixdtf_durations.proofs.duration.parse_time_groups.Given as goal
 use Rattle.std.proofs.Common.{◌+◌, ◌≤◌, IsTrue, length, map}
 use Rattle.ixdtf_grammar.specs.language.Letters.{digit}
 use Rattle.ixdtf_durations.proofs.code.DurationLoops.{TimesSoFar}
-use Rattle.ixdtf_durations.proofs.duration.parse_time_groups.Given as goal
 
 abbrev pub invariant-loop-group : goal.invariant-loop-group
 invariant-loop-group g l = record {

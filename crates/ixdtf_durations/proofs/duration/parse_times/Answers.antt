@@ -1,10 +1,8 @@
-use Rattle.std.proofs.Common.{◌≡◌, ℕ, [], List, map, drop, Some, None, Ok, true, false, rules, ap, ◌∙◌}
-use Rattle.std.proofs.lemmas.Result.{err_from_is_err_and}
-use Rattle.ixdtf_grammar.specs.language.Letters.{digit}
-use Rattle.ixdtf_grammar.specs.table.DurationFronts.Context.{in_times}
+use Rattle.ixdtf_durations.proofs.duration.parse_times.Goals as goal
+use Rattle.std.proofs.{Common.{◌≡◌, ℕ, [], List, map, drop, Some, None, Ok, true, false, rules, ap, ◌∙◌}, lemmas.Result.err_from_is_err_and}
+use Rattle.ixdtf_grammar.specs.{language.Letters.digit, table.DurationFronts.Context.in_times}
 use Rattle.ixdtf_reading.specs.reading.Looks.{seen}
 use Rattle.ixdtf_durations.proofs.code.DurationSteps.{fails, to_digit, times_at_end, times_at_other}
-use Rattle.ixdtf_durations.proofs.duration.parse_times.Goals as goal
 use Rattle.ixdtf_durations.proofs.duration.parse_times.Goals.{in_default-via-in-Some+else-is_ascii_digit, in_default-via-in_default}
 
 -- the look failed

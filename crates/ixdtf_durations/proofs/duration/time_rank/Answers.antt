@@ -1,6 +1,6 @@
+use Rattle.ixdtf_durations.proofs.duration.time_rank.Goals as goal
 use Rattle.std.proofs.Common.{arith}
 use Rattle.ixdtf_durations.proofs.code.DurationRanks.{ranks_from, time_rank_is, time_rank_small}
-use Rattle.ixdtf_durations.proofs.duration.time_rank.Goals as goal
 
 pub returns-clause-rank : goal.returns-clause-rank
 unfolding ranks_from

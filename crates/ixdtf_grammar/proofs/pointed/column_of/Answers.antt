@@ -1,12 +1,9 @@
-use Rattle.std.proofs.Common.{◌≡◌, ℕ, ◌+◌, ◌-◌, ◌<◌, ◌≤◌, List, length, get_or, drop, cond, nat_lt, sym, ap, ◌∙◌, arith}
-use Rattle.std.proofs.lemmas.Iterator.{YieldsList-from_chars}
-use Rattle.std.proofs.lemmas.List.{at_drop_more, at_drop_all, length_push}
-use Rattle.std.proofs.lemmas.Iterator.Consumers.{YieldsList-turn, YieldsList-end}
-use Rattle.std.proofs.lemmas.Bool.Decides.{nat_tests}
-use Rattle.std.specs.Char.{len_utf8}
-use Rattle.std.specs.Str.{chars}
-use Rattle.ixdtf_grammar.specs.LocatedTexts.{column_of}
 use Rattle.ixdtf_grammar.proofs.pointed.column_of.Goals as goal
+use Rattle.std.proofs.Common.{◌≡◌, ℕ, ◌+◌, ◌-◌, ◌<◌, ◌≤◌, List, length, get_or, drop, cond, nat_lt, sym, ap, ◌∙◌, arith}
+use Rattle.std.proofs.lemmas.{Iterator.{YieldsList-from_chars, Consumers.{YieldsList-turn, YieldsList-end}}, List.{at_drop_more, at_drop_all, length_push}}
+use Rattle.std.proofs.lemmas.Bool.Decides.{nat_tests}
+use Rattle.std.specs.{Char.len_utf8, Str.chars}
+use Rattle.ixdtf_grammar.specs.LocatedTexts.{column_of}
 
 -- at a character of the text the column is counted by that character
 at_character : (cs : List ℕ) (n c left : ℕ) → (n < length cs) × (c ≡ get_or cs n c) → column_of (drop n cs) left ≡ cond (nat_lt left (len_utf8 c)) 0 (column_of (drop (n + 1) cs) (left - len_utf8 c) + 1)

@@ -1,7 +1,7 @@
+use Rattle.ixdtf_grammar.proofs.pointed.column_of.Given as goal
 use Rattle.std.proofs.Common.{◌≡◌, ◌+◌, ◌≤◌, length, drop}
 use Rattle.std.specs.Str.{chars}
 use Rattle.ixdtf_grammar.specs.LocatedTexts.{column_of}
-use Rattle.ixdtf_grammar.proofs.pointed.column_of.Given as goal
 
 -- the column is the number of characters that were passed, and what is left of the place is their bytes less
 abbrev pub invariant-loop-character : goal.invariant-loop-character

@@ -1,14 +1,9 @@
-use Rattle.std.proofs.Common.{◌≡◌, refl, true, ℕ, List, [], ◌∷◌, ◌++◌, map, take, drop, sym, ap, ◌∙◌, append-nil}
-use Rattle.std.proofs.Output.{has_written_styled_append, has_written_styled_of_eq}
-use Rattle.std.proofs.lemmas.Iterator.{YieldsList-from_chars, YieldsList-from_take}
-use Rattle.std.proofs.lemmas.Iterator.Adapters.{YieldsList-from_skip}
-use Rattle.std.proofs.lemmas.Iterator.Consumers.{YieldsList-end}
-use Rattle.std.proofs.lemmas.List.{map-append, map-id}
-use Rattle.std.proofs.lemmas.Str.{encodes-append}
-use Rattle.std.specs.Char.{encode_utf8}
-use Rattle.std.specs.Str.{chars, encode_utf8_all}
-use Rattle.ixdtf_grammar.specs.LocatedTexts.{shown}
 use Rattle.ixdtf_grammar.proofs.pointed.write_characters.Goals as goal
+use Rattle.std.proofs.Common.{◌≡◌, refl, true, ℕ, List, [], ◌∷◌, ◌++◌, map, take, drop, sym, ap, ◌∙◌, append-nil}
+use Rattle.std.proofs.{Output.{has_written_styled_append, has_written_styled_of_eq}, lemmas.Iterator.{YieldsList-from_chars, YieldsList-from_take}}
+use Rattle.std.proofs.lemmas.{Iterator.{Adapters.YieldsList-from_skip, Consumers.YieldsList-end}, List.{map-append, map-id}, Str.encodes-append}
+use Rattle.std.specs.{Char.encode_utf8, Str.{chars, encode_utf8_all}}
+use Rattle.ixdtf_grammar.specs.LocatedTexts.{shown}
 
 -- one more character is written behind the others
 one_more : (cs : List ℕ) (c : ℕ) → encode_utf8_all (map shown cs) ++ encode_utf8 (shown c) ≡ encode_utf8_all (map shown (cs ++ c ∷ []))

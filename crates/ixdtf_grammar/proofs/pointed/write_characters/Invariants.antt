@@ -1,8 +1,7 @@
-use Rattle.std.proofs.Common.{map}
-use Rattle.std.specs.Str.{encode_utf8_all}
-use Rattle.std.specs.Fmt.{IsFlush, HasWrittenStyled}
-use Rattle.ixdtf_grammar.specs.LocatedTexts.{shown}
 use Rattle.ixdtf_grammar.proofs.pointed.write_characters.Given as goal
+use Rattle.std.proofs.Common.{map}
+use Rattle.std.specs.{Str.encode_utf8_all, Fmt.{IsFlush, HasWrittenStyled}}
+use Rattle.ixdtf_grammar.specs.LocatedTexts.{shown}
 
 -- what was passed is written, as it is shown
 abbrev pub invariant-loop-character : goal.invariant-loop-character

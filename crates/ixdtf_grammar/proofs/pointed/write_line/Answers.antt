@@ -1,11 +1,9 @@
+use Rattle.ixdtf_grammar.proofs.pointed.write_line.Goals as goal
 use Rattle.std.proofs.Common.{◌≡◌, refl, ℕ, ◌+◌, ◌-◌, List, ◌++◌, Bool, true, false, length, map, take, drop, nat_lt, sym, ap, ◌∙◌, arith}
-use Rattle.std.proofs.Output.{has_written_styled_append, has_written_styled_of_eq}
-use Rattle.std.proofs.lemmas.Iterator.{YieldsList-from_chars}
-use Rattle.std.proofs.lemmas.Iterator.Consumers.{count_from_yields_List}
-use Rattle.std.proofs.lemmas.Str.{encodes-append, encodes-chars, length-le-encodes}
+use Rattle.std.proofs.{Output.{has_written_styled_append, has_written_styled_of_eq}, lemmas.Iterator.YieldsList-from_chars}
+use Rattle.std.proofs.lemmas.{Iterator.Consumers.count_from_yields_List, Str.{encodes-append, encodes-chars, length-le-encodes}}
 use Rattle.std.specs.Str.{chars, encode_utf8_all}
 use Rattle.ixdtf_grammar.specs.LocatedTexts.{shown, cut_mark, line_of}
-use Rattle.ixdtf_grammar.proofs.pointed.write_line.Goals as goal
 
 -- the characters of a text are no more than its bytes, of which there are fewer than 2 ^ 63
 pub overflow_add-end : goal.overflow_add-end

@@ -1,7 +1,5 @@
-use Rattle.std.proofs.Common.{refl, true}
-use Rattle.std.proofs.Output.{has_written_styled_append, has_written_styled_of_eq}
-use Rattle.std.proofs.lemmas.List.{replicate-append-replicate}
 use Rattle.ixdtf_grammar.proofs.pointed.write_spaces.Goals as goal
+use Rattle.std.proofs.{Common.{refl, true}, Output.{has_written_styled_append, has_written_styled_of_eq}, lemmas.List.replicate-append-replicate}
 
 pub loop-preserved : goal.loop-preserved
 loop-preserved g c = λ flush.

@@ -1,6 +1,6 @@
+use Rattle.ixdtf_grammar.proofs.pointed.write_spaces.Given as goal
 use Rattle.std.proofs.Common.{replicate}
 use Rattle.std.specs.Fmt.{IsFlush, HasWrittenStyled}
-use Rattle.ixdtf_grammar.proofs.pointed.write_spaces.Given as goal
 
 -- so many spaces are written as there were turns
 abbrev pub invariant-loop : goal.invariant-loop

@@ -1,9 +1,7 @@
-use Rattle.std.proofs.Common.{◌≡◌, true, false, IsSome, refl, sym, subst, rules}
-use Rattle.std.proofs.lemmas.Result.{err_from_is_err_and}
-use Rattle.ixdtf_grammar.specs.language.Letters.{equals}
-use Rattle.ixdtf_reading.proofs.code.LetterLoops.{front_before, behind_last}
-use Rattle.ixdtf_reading.proofs.code.PairLoops.{key_failed, key_ended, key_closed, key_refused}
 use Rattle.ixdtf_reading.proofs.annotations.parse_annotation_key.Goals as goal
+use Rattle.std.proofs.{Common.{◌≡◌, true, false, IsSome, refl, sym, subst, rules}, lemmas.Result.err_from_is_err_and}
+use Rattle.ixdtf_grammar.specs.language.Letters.{equals}
+use Rattle.ixdtf_reading.proofs.code.{LetterLoops.{front_before, behind_last}, PairLoops.{key_failed, key_ended, key_closed, key_refused}}
 
 pub returns-in_err-passed-clause-key : goal.returns-in_err-passed-clause-key
 returns-in_err-passed-clause-key g c =

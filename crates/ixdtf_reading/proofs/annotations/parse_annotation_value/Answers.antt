@@ -1,11 +1,9 @@
-use Rattle.std.proofs.Common.{◌≡◌, ℕ, false, true, List, length, IsSome, refl, sym, ap, subst, arith, rules}
-use Rattle.std.proofs.lemmas.Result.{err_from_is_err_and}
+use Rattle.ixdtf_reading.proofs.annotations.parse_annotation_value.Goals as goal
+use Rattle.std.proofs.{Common.{◌≡◌, ℕ, false, true, List, length, IsSome, refl, sym, ap, subst, arith, rules}, lemmas.Result.err_from_is_err_and}
 use Rattle.ixdtf_grammar.specs.language.Letters.{closing, hyphen}
 use Rattle.ixdtf_reading.specs.reading.Pairs.{AtStart, AfterHyphen}
-use Rattle.ixdtf_reading.proofs.code.LetterLoops.{front_before, behind_last}
-use Rattle.ixdtf_reading.proofs.code.PairLoops.{value_unstarted, value_begins, value_fails, value_starts}
-use Rattle.ixdtf_reading.proofs.code.PairLoops.{component_fails, component_last, component_closed, component_joined, component_refused}
-use Rattle.ixdtf_reading.proofs.annotations.parse_annotation_value.Goals as goal
+use Rattle.ixdtf_reading.proofs.code.{LetterLoops.{front_before, behind_last}, PairLoops.{value_unstarted, value_begins, value_fails, value_starts, component_fails}}
+use Rattle.ixdtf_reading.proofs.code.PairLoops.{component_last, component_closed, component_joined, component_refused}
 
 -- no component begins
 pub returns-in_err-start_component-clause-value : goal.returns-in_err-start_component-clause-value

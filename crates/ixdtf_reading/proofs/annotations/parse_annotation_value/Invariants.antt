@@ -1,7 +1,7 @@
+use Rattle.ixdtf_reading.proofs.annotations.parse_annotation_value.Given as goal
 use Rattle.std.proofs.Common.{◌≡◌, ◌+◌, ◌<◌, ◌≤◌, length, map}
 use Rattle.ixdtf_reading.specs.reading.Pairs.{Inside}
 use Rattle.ixdtf_reading.proofs.code.PairLoops.{ValueSoFar}
-use Rattle.ixdtf_reading.proofs.annotations.parse_annotation_value.Given as goal
 
 abbrev pub invariant-loop-component : goal.invariant-loop-component
 invariant-loop-component g l = record {

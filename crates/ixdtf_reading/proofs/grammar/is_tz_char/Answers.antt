@@ -1,6 +1,6 @@
+use Rattle.ixdtf_reading.proofs.grammar.is_tz_char.Goals as goal
 use Rattle.std.proofs.Common.{arith}
 use Rattle.ixdtf_reading.proofs.code.Tables.{bits, bits_from, in_name}
-use Rattle.ixdtf_reading.proofs.grammar.is_tz_char.Goals as goal
 
 pub returns : goal.returns
 unfolding bits bits_from

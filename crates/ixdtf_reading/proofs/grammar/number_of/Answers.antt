@@ -1,6 +1,6 @@
+use Rattle.ixdtf_reading.proofs.grammar.number_of.Goals as goal
 use Rattle.std.proofs.Common.{arith}
 use Rattle.ixdtf_reading.proofs.code.Tables.{tens_is_digit, ones_is_digit, ones_is_none}
-use Rattle.ixdtf_reading.proofs.grammar.number_of.Goals as goal
 
 pub returns-clause-digits : goal.returns-clause-digits
 returns-clause-digits g small = (

@@ -1,6 +1,6 @@
+use Rattle.ixdtf_reading.proofs.grammar.ones_of.Goals as goal
 use Rattle.std.proofs.Common.{arith}
 use Rattle.ixdtf_reading.proofs.code.Tables.{ones_from, in_ones, ones_small}
-use Rattle.ixdtf_reading.proofs.grammar.ones_of.Goals as goal
 
 pub returns-clause-value : goal.returns-clause-value
 unfolding ones_from

@@ -1,6 +1,6 @@
+use Rattle.ixdtf_reading.proofs.grammar.tens_of.Goals as goal
 use Rattle.std.proofs.Common.{arith}
 use Rattle.ixdtf_reading.proofs.code.Tables.{tens_from, in_tens, tens_small}
-use Rattle.ixdtf_reading.proofs.grammar.tens_of.Goals as goal
 
 pub returns-clause-value : goal.returns-clause-value
 unfolding tens_from

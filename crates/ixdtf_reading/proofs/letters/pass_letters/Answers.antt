@@ -1,9 +1,7 @@
-use Rattle.std.proofs.Common.{◌≡◌, ℕ, map, Option, Some, None, Ok, IsSome, refl, arith, rules}
-use Rattle.std.proofs.lemmas.Result.{err_from_is_err_and}
-use Rattle.ixdtf_reading.specs.reading.Looks.{seen}
-use Rattle.ixdtf_reading.proofs.code.FractionLoop.{one_taken}
-use Rattle.ixdtf_reading.proofs.code.LetterLoops.{begins, goes_on, stays, ends, fails}
 use Rattle.ixdtf_reading.proofs.letters.pass_letters.Goals as goal
+use Rattle.std.proofs.{Common.{◌≡◌, ℕ, map, Option, Some, None, Ok, IsSome, refl, arith, rules}, lemmas.Result.err_from_is_err_and}
+use Rattle.ixdtf_reading.specs.reading.Looks.{seen}
+use Rattle.ixdtf_reading.proofs.code.{FractionLoop.one_taken, LetterLoops.{begins, goes_on, ceases, fails}}
 use Rattle.ixdtf_reading.proofs.letters.pass_letters.Goals.{in-Err, in-Ok-None, in-Ok-Some+in-None}
 
 pub loop-stop-init : goal.loop-stop-init
@@ -55,12 +53,12 @@ returns-clause-letters g c =
         | in-Ok-None w ↦
             let over : seen (map g.T.EncodingType.letter c.loop-stop.here.rest) ≡ Ok None = search rules in
             let none : c.in_ok-next.next ≡ None = search rules in
-            rw none (ends _ g.T.EncodingType.letter g.met.T.EncodingType.faithful _ _ _ _ far over)
+            rw none (ceases _ g.T.EncodingType.letter g.met.T.EncodingType.faithful _ _ _ _ far None over tt)
         | in-Ok-Some+in-None w ↦
             let found : seen (map g.T.EncodingType.letter c.loop-stop.here.rest) ≡ Ok (Some w.in-Ok-Some.byte) = search rules in
             let none : g.S.Letters.after c.loop-stop.state w.in-Ok-Some.byte ≡ None = search rules in
             let next : c.in_ok-next.next ≡ Some w.in-Ok-Some.byte = search rules in
-            rw next (stays _ g.T.EncodingType.letter g.met.T.EncodingType.faithful _ _ _ _ far _ found none)
+            rw next (ceases _ g.T.EncodingType.letter g.met.T.EncodingType.faithful _ _ _ _ far (Some w.in-Ok-Some.byte) found none)
       ],
     )
 

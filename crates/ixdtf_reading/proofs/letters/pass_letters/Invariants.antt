@@ -1,6 +1,6 @@
+use Rattle.ixdtf_reading.proofs.letters.pass_letters.Given as goal
 use Rattle.std.proofs.Common.{◌+◌, ◌≤◌, length}
 use Rattle.ixdtf_reading.proofs.code.LetterLoops.{IsSoFar}
-use Rattle.ixdtf_reading.proofs.letters.pass_letters.Given as goal
 
 abbrev pub invariant-loop-stop : goal.invariant-loop-stop
 invariant-loop-stop g l = record {

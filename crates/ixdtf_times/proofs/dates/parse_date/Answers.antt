@@ -1,9 +1,7 @@
+use Rattle.ixdtf_times.proofs.dates.parse_date.Goals as goal
 use Rattle.std.proofs.Common.{subst}
 use Rattle.std.specs.Prelude.{IfSome}
-use Rattle.ixdtf_reading.specs.reading.Clauses.{Reads}
-use Rattle.ixdtf_reading.specs.reading.Looks.{error_of}
-use Rattle.ixdtf_reading.specs.reading.Dates.{date_at}
-use Rattle.ixdtf_times.proofs.dates.parse_date.Goals as goal
+use Rattle.ixdtf_reading.specs.reading.{Clauses.Reads, Looks.error_of, Dates.date_at}
 
 pub returns-in-Some-clause-date : goal.returns-in-Some-clause-date
 returns-in-Some-clause-date g c =

@@ -1,8 +1,7 @@
-use Rattle.std.proofs.Common.{rules, ◌≡◌, map, drop, length, Ok, Some, arith}
-use Rattle.ixdtf_grammar.specs.table.Faults.Fault.{NonAsciiCodePoint}
-use Rattle.ixdtf_reading.specs.reading.Looks.{look_at, seen}
-use Rattle.ixdtf_reading.proofs.code.Units.{stepped}
 use Rattle.ixdtf_times.proofs.dates.parse_date_year.Goals as goal
+use Rattle.std.proofs.Common.{rules, ◌≡◌, map, drop, length, Ok, Some, arith}
+use Rattle.ixdtf_reading.specs.reading.Looks.{seen}
+use Rattle.ixdtf_reading.proofs.code.Units.{stepped}
 
 -- the sign is looked at and taken, so its look is paid for
 pub returns-in-Some-2-clause-looks : goal.returns-in-Some-2-clause-looks

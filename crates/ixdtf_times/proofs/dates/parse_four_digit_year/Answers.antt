@@ -1,8 +1,6 @@
-use Rattle.std.proofs.Common.{◌∙◌, refl, arith}
-use Rattle.std.proofs.lemmas.Result.{err_from_is_err_and}
-use Rattle.std.proofs.lemmas.Grind.{common_steps}
-use Rattle.ixdtf_times.proofs.code.YearDigits.{four_digits}
 use Rattle.ixdtf_times.proofs.dates.parse_four_digit_year.Goals as goal
+use Rattle.std.proofs.{Common.{◌∙◌, refl, arith}, lemmas.{Result.err_from_is_err_and, Grind.common_steps}}
+use Rattle.ixdtf_times.proofs.code.YearDigits.{four_digits}
 
 pub returns-in_err-ones-clause-year : goal.returns-in_err-ones-clause-year
 returns-in_err-ones-clause-year g c =

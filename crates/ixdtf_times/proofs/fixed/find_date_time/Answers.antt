@@ -1,7 +1,6 @@
-use Rattle.std.proofs.Common.{map, sym, arith}
-use Rattle.std.proofs.lemmas.List.{length-map}
-use Rattle.ixdtf_reading.proofs.code.FixedPlaces.{too_short}
 use Rattle.ixdtf_times.proofs.fixed.find_date_time.Goals as goal
+use Rattle.std.proofs.{Common.{map, sym, arith}, lemmas.List.length-map}
+use Rattle.ixdtf_reading.proofs.code.FixedPlaces.{too_short}
 
 pub returns-then-remaining-lt19-clause-there : goal.returns-then-remaining-lt19-clause-there
 returns-then-remaining-lt19-clause-there g c =

@@ -1,11 +1,9 @@
-use Rattle.std.proofs.Common.{◌≡◌, List, ℕ, map, drop, Some, None, sym, ap, ◌∙◌, subst}
-use Rattle.std.proofs.lemmas.List.{drop-map}
-use Rattle.ixdtf_grammar.specs.language.Letters.{Text}
-use Rattle.ixdtf_grammar.specs.language.FixedPlaces.{FixedDateTime}
+use Rattle.ixdtf_times.proofs.fixed.fixed_date_time.Goals as goal
+use Rattle.std.proofs.{Common.{◌≡◌, List, ℕ, map, drop, Some, None, sym, ap, ◌∙◌, subst}, lemmas.List.drop-map}
+use Rattle.ixdtf_grammar.specs.language.{Letters.Text, FixedPlaces.FixedDateTime}
 use Rattle.ixdtf_times.specs.TimeTypes.{time_to_second}
 use Rattle.ixdtf_reading.specs.reading.FixedPlaces.{date_time_place}
 use Rattle.ixdtf_reading.proofs.code.FixedPlaces.{date_time_at_place, date_time_stands}
-use Rattle.ixdtf_times.proofs.fixed.fixed_date_time.Goals as goal
 
 nothing_is : {A : Type 0} {x : A} → None ≡ Some x → ⊥
 nothing_is e = absurd cc

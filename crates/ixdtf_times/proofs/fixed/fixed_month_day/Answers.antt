@@ -1,9 +1,8 @@
-use Rattle.std.proofs.Common.{◌≡◌, List, ℕ, ◌+◌, map, drop, Some, IsTrue, sym, ap, ◌∙◌, subst}
-use Rattle.std.proofs.lemmas.List.{drop-map}
+use Rattle.ixdtf_times.proofs.fixed.fixed_month_day.Goals as goal
+use Rattle.std.proofs.{Common.{◌≡◌, List, ℕ, ◌+◌, map, drop, Some, IsTrue, sym, ap, ◌∙◌, subst}, lemmas.List.drop-map}
 use Rattle.ixdtf_grammar.specs.language.Letters.{hyphen}
 use Rattle.ixdtf_reading.specs.reading.FixedPlaces.{byte_place, day_of_month_place, ranged_day}
 use Rattle.ixdtf_times.proofs.code.FixedMonths.{hyphened_day_is_read, basic_day_is_read, yields_as}
-use Rattle.ixdtf_times.proofs.fixed.fixed_month_day.Goals as goal
 
 pub returns-then-is_hyphen-clause-read : goal.returns-then-is_hyphen-clause-read
 returns-then-is_hyphen-clause-read g c =

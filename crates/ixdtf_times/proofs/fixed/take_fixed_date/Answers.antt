@@ -1,12 +1,9 @@
-use Rattle.std.proofs.Common.{◌≡◌, pos, List, ℕ, map, drop, Some, IsTrue, sym, ap, ◌∙◌, subst}
-use Rattle.std.proofs.lemmas.List.{drop-map}
+use Rattle.ixdtf_times.proofs.fixed.take_fixed_date.Goals as goal
+use Rattle.std.proofs.{Common.{◌≡◌, pos, List, ℕ, map, drop, Some, IsTrue, sym, ap, ◌∙◌, subst}, lemmas.List.drop-map}
 use Rattle.ixdtf_grammar.specs.language.Letters.{hyphen}
-use Rattle.ixdtf_reading.specs.reading.Dates.{date_at, days_at}
-use Rattle.ixdtf_reading.specs.reading.Looks.{error_of}
-use Rattle.ixdtf_reading.specs.reading.FixedPlaces.{ranged, byte_place, days_place, basic_days_place}
+use Rattle.ixdtf_reading.specs.reading.{Dates.{date_at, days_at}, Looks.error_of, FixedPlaces.{ranged, byte_place, days_place, basic_days_place}}
 use Rattle.ixdtf_reading.proofs.code.FixedPlaces.{hyphened_is_read, basic_is_read, reads_tested, reads_on, year_is_read}
 use Rattle.ixdtf_times.proofs.fixed.take_fixed_date.Goals.{then-is_hyphen+in_default, else-is_hyphen+in_default-fixed_basic_days}
-use Rattle.ixdtf_times.proofs.fixed.take_fixed_date.Goals as goal
 
 pub returns-in-Some-clause-read : goal.returns-in-Some-clause-read
 returns-in-Some-clause-read g c =

@@ -1,12 +1,10 @@
+use Rattle.ixdtf_times.proofs.fixed.take_fixed_month_day.Goals as goal
 use Rattle.std.proofs.Common.{List, ℕ, map, drop, sym, ap, ◌∙◌, subst}
 use Rattle.std.specs.Prelude.{IsTrue}
 use Rattle.ixdtf_grammar.specs.language.Letters.{digit}
-use Rattle.ixdtf_reading.specs.reading.Looks.{error_of}
-use Rattle.ixdtf_reading.specs.reading.Months.{month_day_at}
-use Rattle.ixdtf_reading.specs.reading.FixedPlaces.{byte_place, unmarked_at}
+use Rattle.ixdtf_reading.specs.reading.{Looks.error_of, Months.month_day_at, FixedPlaces.{byte_place, unmarked_at}}
 use Rattle.ixdtf_reading.proofs.code.FixedPlaces.{reads_tested}
 use Rattle.ixdtf_times.proofs.code.FixedMonths.{marked_is_read, unmarked_is_read, on_found, on_both}
-use Rattle.ixdtf_times.proofs.fixed.take_fixed_month_day.Goals as goal
 
 pub returns-then-has_marks-clause-read : goal.returns-then-has_marks-clause-read
 returns-then-has_marks-clause-read g c =

@@ -1,10 +1,8 @@
+use Rattle.ixdtf_times.proofs.months.parse_year_month_date.Goals as goal
 use Rattle.std.proofs.Common.{◌≡◌, map, subst}
 use Rattle.std.specs.Prelude.{IfSome}
-use Rattle.ixdtf_reading.specs.reading.Looks.{error_of}
-use Rattle.ixdtf_reading.specs.reading.Months.{year_month_at}
-use Rattle.ixdtf_reading.specs.reading.FixedPlaces.{ranged_month}
+use Rattle.ixdtf_reading.specs.reading.{Looks.error_of, Months.year_month_at, FixedPlaces.ranged_month}
 use Rattle.ixdtf_reading.proofs.code.FixedPlaces.{reads_tested}
-use Rattle.ixdtf_times.proofs.months.parse_year_month_date.Goals as goal
 
 pub returns-in-Some-clause-date : goal.returns-in-Some-clause-date
 returns-in-Some-clause-date g c =

@@ -1,13 +1,10 @@
-use Rattle.std.proofs.Common.{◌≡◌, List, ℕ, IsTrue, [], map, drop, length, Ok, true, false, sym, ap, ◌∙◌, subst, arith}
-use Rattle.std.proofs.lemmas.Bool.Decides.{nat_tests}
-use Rattle.std.proofs.lemmas.List.{drop-map, drop_all}
-use Rattle.ixdtf_reading.specs.reading.FixedPlaces.{byte_place}
-use Rattle.ixdtf_grammar.specs.language.Letters.{opening}
-use Rattle.ixdtf_reading.specs.reading.Cores.{with_offset}
-use Rattle.ixdtf_grammar.specs.declared.records.UtcOffsetRecord.TheVariants.{MinutePrecision}
-use Rattle.ixdtf_times.proofs.code.FixedOffsets.{ends, goes_into_a_bracket}
-use Rattle.ixdtf_reading.proofs.code.FixedPlaces.{opening_at_place}
 use Rattle.ixdtf_times.proofs.offsets.take_fixed_offset.Goals as goal
+use Rattle.std.proofs.{Common.{◌≡◌, List, ℕ, IsTrue, [], map, drop, length, Ok, true, false, sym, ap, ◌∙◌, subst, arith}, lemmas.Bool.Decides.nat_tests}
+use Rattle.std.proofs.lemmas.List.{drop-map, drop_all}
+use Rattle.ixdtf_reading.specs.reading.{FixedPlaces.byte_place, Cores.with_offset}
+use Rattle.ixdtf_reading.proofs.code.FixedPlaces.{opening_at_place}
+use Rattle.ixdtf_grammar.specs.{language.Letters.opening, declared.records.UtcOffsetRecord.TheVariants.MinutePrecision}
+use Rattle.ixdtf_times.proofs.code.FixedOffsets.{ends, goes_into_a_bracket}
 
 pub returns-then-remaining-eq5-clause-read : goal.returns-then-remaining-eq5-clause-read
 returns-then-remaining-eq5-clause-read g c date time =

@@ -1,10 +1,7 @@
-use Rattle.std.proofs.Common.{◌≡◌, List, ℕ, [], map, drop, length, Ok, sym, ap, ◌∙◌, arith}
-use Rattle.std.proofs.lemmas.Bool.Decides.{nat_tests}
-use Rattle.std.proofs.lemmas.List.{drop-map, drop_all}
-use Rattle.ixdtf_grammar.specs.declared.records.UtcOffsetRecord.TheVariants.{MinutePrecision}
-use Rattle.ixdtf_grammar.specs.language.ZoneNames.{Zone}
-use Rattle.ixdtf_times.proofs.code.FixedOffsets.{ends_the_text, ends_a_zone}
 use Rattle.ixdtf_times.proofs.offsets.take_last_offset.Goals as goal
+use Rattle.std.proofs.{Common.{◌≡◌, List, ℕ, [], map, drop, length, Ok, sym, ap, ◌∙◌, arith}, lemmas.{Bool.Decides.nat_tests, List.{drop-map, drop_all}}}
+use Rattle.ixdtf_grammar.specs.{declared.records.UtcOffsetRecord.TheVariants.MinutePrecision, language.ZoneNames.Zone}
+use Rattle.ixdtf_times.proofs.code.FixedOffsets.{ends_the_text, ends_a_zone}
 
 pub returns-clause-offset : goal.returns-clause-offset
 returns-clause-offset g c =

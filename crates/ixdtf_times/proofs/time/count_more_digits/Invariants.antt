@@ -1,8 +1,7 @@
-use Rattle.std.proofs.Common.{◌≡◌, ◌+◌, ◌≤◌, length, map}
-use Rattle.ixdtf_grammar.specs.language.Letters.{Text}
-use Rattle.ixdtf_grammar.specs.language.Fractions.{fraction_of}
-use Rattle.ixdtf_reading.proofs.code.FractionLoop.{IsSoFar}
 use Rattle.ixdtf_times.proofs.time.count_more_digits.Given as goal
+use Rattle.std.proofs.Common.{◌≡◌, ◌+◌, ◌≤◌, length, map}
+use Rattle.ixdtf_grammar.specs.language.{Letters.Text, Fractions.fraction_of}
+use Rattle.ixdtf_reading.proofs.code.FractionLoop.{IsSoFar}
 
 abbrev pub invariant-loop-byte : goal.invariant-loop-byte
 invariant-loop-byte g l = record {

@@ -1,9 +1,8 @@
-use Rattle.std.proofs.Common.{true, false, rules}
-use Rattle.ixdtf_reading.specs.reading.Looks.{error_of, next_by, digits_by, in_range}
-use Rattle.ixdtf_times.specs.TimeTypes.{clock_of, open_time_of}
-use Rattle.ixdtf_reading.specs.reading.Times.{minute_at, after_hour_at, hour_from, clock_at}
-use Rattle.ixdtf_times.proofs.code.LoneTimes.{reads_as}
 use Rattle.ixdtf_times.proofs.time.parse_clock.Goals as goal
+use Rattle.std.proofs.Common.{true, false, rules}
+use Rattle.ixdtf_reading.specs.reading.{Looks.{error_of, digits_by, in_range}, Times.{minute_at, after_hour_at, hour_from, clock_at}}
+use Rattle.ixdtf_times.specs.TimeTypes.{clock_of, open_time_of}
+use Rattle.ixdtf_times.proofs.code.LoneTimes.{reads_as}
 
 -- a minute is read behind its colon
 pub returns-in-Some-clause-time : goal.returns-in-Some-clause-time

@@ -1,11 +1,8 @@
-use Rattle.std.proofs.Common.{[], ◌∷◌, rules}
-use Rattle.ixdtf_grammar.specs.language.Letters.Letter.{Plain}
-use Rattle.ixdtf_grammar.specs.language.Times.{Clock as clocks}
-use Rattle.ixdtf_reading.specs.reading.Looks.{error_of, next_by}
-use Rattle.ixdtf_reading.specs.reading.Clauses.{more_digits_at}
-use Rattle.ixdtf_reading.specs.reading.Times.{fraction_at}
-use Rattle.ixdtf_times.proofs.code.LoneTimes.{reads_as}
 use Rattle.ixdtf_times.proofs.time.parse_digits.Goals as goal
+use Rattle.std.proofs.Common.{[], ◌∷◌, rules}
+use Rattle.ixdtf_grammar.specs.language.{Letters.Letter.Plain, Times.{Clock as clocks}}
+use Rattle.ixdtf_reading.specs.reading.{Looks.{error_of, next_by}, Clauses.more_digits_at, Times.fraction_at}
+use Rattle.ixdtf_times.proofs.code.LoneTimes.{reads_as}
 
 -- the other digits are read behind the first one
 pub returns-in-Ok-Some-clause-fraction : goal.returns-in-Ok-Some-clause-fraction

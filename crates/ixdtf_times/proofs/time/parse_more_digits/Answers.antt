@@ -1,15 +1,9 @@
-use Rattle.std.proofs.Common.{◌≡◌, [], ◌∷◌, ◌∙◌, sym, map, Some, None, Ok, false, arith, rules}
-use Rattle.std.proofs.lemmas.Bool.{leb-true}
-use Rattle.ixdtf_grammar.specs.language.Letters.{digit}
-use Rattle.ixdtf_grammar.specs.language.Letters.Letter.{Plain}
-use Rattle.ixdtf_grammar.specs.table.Faults.Fault.{NonAsciiCodePoint}
-use Rattle.ixdtf_reading.specs.reading.Looks.{look_at, seen}
-use Rattle.ixdtf_reading.proofs.code.FractionLoop.{goes_on, hands_on, ends_at_other, ends_at_end, fails, one_taken}
-use Rattle.ixdtf_reading.specs.reading.Clauses.{more_digits_at}
-use Rattle.ixdtf_times.proofs.code.LoneTimes.{reads_as}
-use Rattle.ixdtf_reading.proofs.code.GrowingDigits.{grown_by_digit}
 use Rattle.ixdtf_times.proofs.time.parse_more_digits.Goals as goal
-use Rattle.ixdtf_times.proofs.time.parse_more_digits.Goals.{in_default-via-in-Some+else-is_ascii_digit, in_default-via-in_default}
+use Rattle.std.proofs.{Common.{◌≡◌, [], ◌∷◌, ◌∙◌, sym, map, Some, None, Ok, false, arith, rules}, lemmas.Bool.leb-true}
+use Rattle.ixdtf_grammar.specs.language.Letters.{digit, Letter.Plain}
+use Rattle.ixdtf_reading.specs.reading.{Looks.seen, Clauses.more_digits_at}
+use Rattle.ixdtf_reading.proofs.code.{FractionLoop.{goes_on, hands_on, ends_at_other, ends_at_end, fails, one_taken}, GrowingDigits.grown_by_digit}
+use Rattle.ixdtf_times.proofs.{code.LoneTimes.reads_as, time.parse_more_digits.Goals.{in_default-via-in-Some+else-is_ascii_digit, in_default-via-in_default}}
 
 pub loop-cursor-smaller : goal.loop-cursor-smaller
 loop-cursor-smaller g c =

@@ -1,7 +1,7 @@
+use Rattle.ixdtf_times.proofs.time.parse_more_digits.Given as goal
 use Rattle.std.proofs.Common.{◌+◌, ◌≤◌, ◌∷◌, [], length, map}
 use Rattle.ixdtf_grammar.specs.language.Letters.Letter.{Plain}
 use Rattle.ixdtf_reading.proofs.code.FractionLoop.{IsSoFar}
-use Rattle.ixdtf_times.proofs.time.parse_more_digits.Given as goal
 
 abbrev pub invariant-loop-cursor : goal.invariant-loop-cursor
 invariant-loop-cursor g l = record {

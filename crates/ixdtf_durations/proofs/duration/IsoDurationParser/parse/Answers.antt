@@ -1,8 +1,7 @@
-use Rattle.std.proofs.Common.{refl, rules}
-use Rattle.ixdtf_grammar.specs.language.Readers.Reader.{parse_duration}
-use Rattle.ixdtf_grammar.specs.language.Languages.Found.{lasting}
-use Rattle.ixdtf_reading.proofs.code.ReadersWithoutPairs.{exact}
 use Rattle.ixdtf_durations.proofs.duration.IsoDurationParser.parse.Goals as goal
+use Rattle.std.proofs.Common.{refl, rules}
+use Rattle.ixdtf_grammar.specs.language.{Readers.Reader.parse_duration, Languages.Found.lasting}
+use Rattle.ixdtf_reading.proofs.code.ReadersWithoutPairs.{exact}
 
 pub returns : goal.returns
 returns g c =

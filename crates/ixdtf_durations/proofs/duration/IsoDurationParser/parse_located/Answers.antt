@@ -1,11 +1,8 @@
-use Rattle.std.proofs.Common.{refl, rules, ◌∙◌, sym, ap}
-use Rattle.ixdtf_grammar.specs.Views.{Unread}
-use Rattle.ixdtf_grammar.specs.language.Readers.Reader.{parse_duration}
-use Rattle.ixdtf_grammar.specs.language.Languages.Found.{lasting}
-use Rattle.ixdtf_reading.specs.reading.Looks.{error_of}
-use Rattle.ixdtf_reading.proofs.to_grammar.Durations.{duration_read}
-use Rattle.ixdtf_reading.proofs.code.Located.{located}
 use Rattle.ixdtf_durations.proofs.duration.IsoDurationParser.parse_located.Goals as goal
+use Rattle.std.proofs.Common.{refl, rules, ◌∙◌, sym, ap}
+use Rattle.ixdtf_grammar.specs.{Views.Unread, language.{Readers.Reader.parse_duration, Languages.Found.lasting}}
+use Rattle.ixdtf_reading.specs.reading.Looks.{error_of}
+use Rattle.ixdtf_reading.proofs.{to_grammar.Durations.duration_read, code.Located.located}
 
 pub returns : goal.returns
 returns g c =

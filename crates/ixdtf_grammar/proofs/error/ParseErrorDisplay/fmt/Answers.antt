@@ -1,6 +1,6 @@
+use Rattle.ixdtf_grammar.proofs.error.ParseErrorDisplay.fmt.Goals as goal
 use Rattle.std.proofs.Output.{has_written_styled_append}
 use Rattle.std.specs.Result.{IsOk}
-use Rattle.ixdtf_grammar.proofs.error.ParseErrorDisplay.fmt.Goals as goal
 
 -- The beginning is written and then the location, whatever the options.
 pub returns-in_ok-write_str-clause-styled : goal.returns-in_ok-write_str-clause-styled

@@ -1,8 +1,7 @@
-use Rattle.std.proofs.Common.{◌≡◌, refl, ℕ, List, ◌++◌, replicate, codes, ap, ◌∙◌}
-use Rattle.std.proofs.Output.{has_written_styled_append, has_written_styled_of_eq}
+use Rattle.ixdtf_grammar.proofs.pointed.PointedTextDisplay.fmt.Goals as goal
+use Rattle.std.proofs.{Common.{◌≡◌, refl, ℕ, List, ◌++◌, replicate, codes, ap, ◌∙◌}, Output.{has_written_styled_append, has_written_styled_of_eq}}
 use Rattle.std.specs.Str.{chars, encode_utf8_all}
 use Rattle.ixdtf_grammar.specs.LocatedTexts.{column_of, line_of, indent_of, pointed_text}
-use Rattle.ixdtf_grammar.proofs.pointed.PointedTextDisplay.fmt.Goals as goal
 
 both_lines : (text : List ℕ) (at column indent : ℕ) → column ≡ column_of (chars text) at → indent ≡ indent_of column
     → encode_utf8_all (line_of (chars text) column) ++ (codes "\n" ++ (replicate indent 32 ++ codes "^")) ≡ pointed_text text at

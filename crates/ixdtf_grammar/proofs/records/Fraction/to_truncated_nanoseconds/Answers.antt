@@ -1,9 +1,8 @@
 -- Both branches give the number of the first nine digits.
+use Rattle.ixdtf_grammar.proofs.records.Fraction.to_truncated_nanoseconds.Goals as goal
 use Rattle.std.proofs.Common.{◌≡◌, ℕ, ◌^◌, ◌-◌, max, ap, ◌∙◌, arith}
 use Rattle.ixdtf_grammar.specs.language.Fractions.{nanoseconds_of}
-use Rattle.ixdtf_grammar.proofs.PaddedDigits.{ten_pos}
-use Rattle.ixdtf_grammar.proofs.code.Nanoseconds.{nanoseconds-few, nanoseconds-many}
-use Rattle.ixdtf_grammar.proofs.records.Fraction.to_truncated_nanoseconds.Goals as goal
+use Rattle.ixdtf_grammar.proofs.{PaddedDigits.ten_pos, code.Nanoseconds.{nanoseconds-few, nanoseconds-many}}
 
 pub overflow_cast-result : goal.overflow_cast-result
 overflow_cast-result c =

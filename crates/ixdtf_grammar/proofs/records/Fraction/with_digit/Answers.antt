@@ -1,7 +1,7 @@
 -- One more digit makes less than 10 ^ 18 of a value of fewer than 18 digits.
+use Rattle.ixdtf_grammar.proofs.records.Fraction.with_digit.Goals as goal
 use Rattle.std.proofs.Common.{◌+◌, ap, arith}
 use Rattle.ixdtf_grammar.proofs.code.Nanoseconds.{one_more, eighteen}
-use Rattle.ixdtf_grammar.proofs.records.Fraction.with_digit.Goals as goal
 
 pub overflow_mul-value : goal.overflow_mul-value
 overflow_mul-value c =

@@ -1,6 +1,6 @@
+use Rattle.ixdtf_reading.proofs.cursor.Cursor.next_digit.Goals as goal
 use Rattle.std.proofs.Common.{arith}
 use Rattle.ixdtf_reading.proofs.code.FractionLoop.{one_taken}
-use Rattle.ixdtf_reading.proofs.cursor.Cursor.next_digit.Goals as goal
 
 -- the digit that is taken pays for the look
 pub returns-in-Some-clause-looks : goal.returns-in-Some-clause-looks

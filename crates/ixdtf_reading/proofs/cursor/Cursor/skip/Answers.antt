@@ -1,7 +1,6 @@
-use Rattle.std.proofs.Common.{map, drop, sym, ap, ◌∙◌}
-use Rattle.std.proofs.lemmas.List.{drop-map, take_rest}
-use Rattle.ixdtf_grammar.specs.Views.{Unread}
 use Rattle.ixdtf_reading.proofs.cursor.Cursor.skip.Goals as goal
+use Rattle.std.proofs.{Common.{map, drop, sym, ap, ◌∙◌}, lemmas.List.{drop-map, take_rest}}
+use Rattle.ixdtf_grammar.specs.Views.{Unread}
 
 pub returns-clause-rest : goal.returns-clause-rest
 returns-clause-rest g c =

@@ -1,10 +1,8 @@
-use Rattle.std.proofs.Common.{rules, subst, ◌∙◌, List, ℕ, length, refl, ap, arith}
-use Rattle.std.proofs.lemmas.List.{length-map}
-use Rattle.std.proofs.lemmas.Result.{err_from_is_err_and}
+use Rattle.ixdtf_reading.proofs.cursor.Cursor.two_digits.Goals as goal
+use Rattle.std.proofs.{Common.{rules, subst, ◌∙◌, List, ℕ, length, refl, ap, arith}, lemmas.{List.length-map, Result.err_from_is_err_and}}
 use Rattle.ixdtf_grammar.specs.Views.{Unread, ascii_at}
 use Rattle.ixdtf_reading.specs.reading.Clauses.{fault_of_stop, Yields}
 use Rattle.ixdtf_reading.proofs.code.TwoDigits.{seen_digit, too_short, long_enough}
-use Rattle.ixdtf_reading.proofs.cursor.Cursor.two_digits.Goals as goal
 
 pub returns-in_err-digit_at-clause-digits : goal.returns-in_err-digit_at-clause-digits
 returns-in_err-digit_at-clause-digits g c =

@@ -1,12 +1,11 @@
 -- A count of no looks is a value of no bytes, whose ghost field is set to 0.
-use Rattle.ixdtf_reading.proofs.code.WalkNames.{[], ◌∷◌, refl, proved, ftrue, Val, vstruct, vcons, vnil, ‵, raw, ◌$◌, ◌∵◌, !, qed, done, keep, suffices, group, use0}
-use Rattle.ixdtf_reading.proofs.code.WalkNames.{enter, no_more, and_then, returns, agg, alloc_all, pass_all, free_all, look_at, get, sets, nothing, makes_shadow}
-use Rattle.ixdtf_reading.proofs.code.WalkNames.{on_entry, Stays, walk_of, says, ends_at}
-use base.Fml.{Fml}
 use Rattle.ixdtf_reading.specs.contracts.looks.Looks.none as f
-use Rattle.ixdtf_reading.proofs.looks.Looks.none.Statement.{statement}
 use Rattle.ixdtf_reading.proofs.looks.Looks.none.Code as code
+use Rattle.ixdtf_reading.proofs.code.WalkNames.{[], ◌∷◌, refl, proved, ftrue, Val, vstruct, vcons, vnil, ‵, raw, ◌$◌, ◌∵◌, !, qed, done, keep, suffices}
+use Rattle.ixdtf_reading.proofs.code.WalkNames.{group, use0, enter, no_more, and_then, returns, agg, alloc_all, pass_all, free_all, look_at, get, sets}
+use Rattle.ixdtf_reading.proofs.{code.WalkNames.{nothing, makes_shadow, on_entry, Stays, walk_of, says, ends_at}, looks.Looks.none.Statement.statement}
 use Rattle.ixdtf_reading.specs.contracts.looks.Looks.{the_row as R}
+use base.Fml.{Fml}
 
 abbrev stayed : Stays f.ended.signature.params f.ended.kept
 stayed = tt

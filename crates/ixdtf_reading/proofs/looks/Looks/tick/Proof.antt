@@ -1,10 +1,10 @@
 -- A tick does nothing at run time, and sets the ghost field to one more.
-use Rattle.ixdtf_reading.proofs.code.WalkNames.{◌+◌, [], ◌∷◌, refl, proved, ftrue, flft, named, vunit, tables, ‵, ◌⊛◌, ◌$◌, ◌∵◌, !, qed, done, move, keep, split, join}
-use Rattle.ixdtf_reading.proofs.code.WalkNames.{fsplit3, feq_i, suffices, frame, group, enter, of_opd, unit_lit, returns, alloc_all, pass_all, free_all, look_at, sets}
-use Rattle.ixdtf_reading.proofs.code.WalkNames.{MutRef, mut_vals, mut_Tells, plain, nothing, opens, closes, Stays, walk_of, says, stay_ref, Goes-ref, ends_at}
 use Rattle.ixdtf_reading.specs.contracts.looks.Looks.tick as f
-use Rattle.ixdtf_reading.proofs.looks.Looks.tick.Statement.{statement}
 use Rattle.ixdtf_reading.proofs.looks.Looks.tick.Code as code
+use Rattle.ixdtf_reading.proofs.code.WalkNames.{◌+◌, [], ◌∷◌, refl, proved, ftrue, flft, named, vunit, tables, ‵, ◌⊛◌, ◌$◌, ◌∵◌, !, qed, done, move, keep}
+use Rattle.ixdtf_reading.proofs.code.WalkNames.{split, join, fsplit3, feq_i, suffices, frame, group, enter, of_opd, unit_lit, returns, alloc_all, pass_all}
+use Rattle.ixdtf_reading.proofs.code.WalkNames.{free_all, look_at, sets, MutRef, mut_vals, mut_Tells, plain, nothing, opens, closes, Stays, walk_of, says}
+use Rattle.ixdtf_reading.proofs.{code.WalkNames.{stay_ref, Goes-ref, ends_at}, looks.Looks.tick.Statement.statement}
 use Rattle.ixdtf_reading.specs.contracts.looks.Looks.{the_row as R}
 
 abbrev stayed : Stays f.ended.signature.params f.ended.kept
