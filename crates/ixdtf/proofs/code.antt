@@ -9,4 +9,3 @@ pub mod Placed
 pub mod Promised
 pub mod RaisedErrors
 pub mod Tail
-pub mod LocatedForms

@@ -7,3 +7,4 @@ pub use Rattle.ixdtf_grammar.specs.Places
 pub use Rattle.ixdtf_grammar.specs.Promises
 pub use Rattle.ixdtf_grammar.specs.LocatedTexts
 pub use Rattle.ixdtf_grammar.specs.Widths
+pub mod Readings

@@ -234,8 +234,7 @@ fn parse_unanswered_as<'a, T: EncodingType, E: Raised, F>(
 where
     F: FnMut(Annotation<'a, T>) -> Option<Annotation<'a, T>>,
     requires callable { F.IsAlwaysCallable handler }
-    requires unanswered { (state : F) (annotation : _) (reply : _) (next : F) →
-        F.step state annotation reply next → reply ≡ None }
+    requires unanswered { (state : F) (annotation : _) (reply : _) (next : F) → F.step state annotation reply next → reply ≡ None }
     ensures calendar { IfOk result (λ found. found.calendar ≡ None) }
     ensures unrecognized { IfErr result (λ e. E.fault e ≢ UnrecognizedCritical) }
     ensures duplicate { IfErr result (λ e. E.fault e ≢ CriticalDuplicateCalendar) }

@@ -6,18 +6,14 @@
 //! error fits the input, or a reply is refused with it. The repository has both, as `docs/GRAMMAR.md` and
 //! `docs/FAULTS.md`.
 
-ghost use Rattle.std.specs.Prelude.{◌≡◌, map, OnOk, IfErr};
+ghost use Rattle.std.specs.Prelude.{◌≡◌, map};
 ghost use Rattle.ixdtf_grammar.specs.table.Faults.{fault_of, fault_of_located, stands_behind};
-ghost use Rattle.ixdtf_grammar.specs.table.Outcomes.{NoRowFits};
 ghost use Rattle.ixdtf_grammar.specs.language.Readers.{parse as reader_parse, parse_year_month as reader_parse_year_month};
 ghost use Rattle.ixdtf_grammar.specs.language.Readers.{parse_month_day as reader_parse_month_day, parse_time as reader_parse_time};
 ghost use Rattle.ixdtf_grammar.specs.language.Readers.Reader.{bracketed};
-ghost use Rattle.ixdtf_grammar.specs.Laws.{InNoOther};
-ghost use Rattle.ixdtf_grammar.specs.Views.{UnreadUnder, under, unread_of, LeavesBehind, IsEmptyRecord, returned_by, parsed_of};
-ghost use Rattle.ixdtf_grammar.specs.Places.{HandledToAt, UnhandledFaultAt, UnhandledOnlyPlace};
+ghost use Rattle.ixdtf_grammar.specs.Views.{UnreadUnder, under, IsEmptyRecord, parsed_of};
 ghost use Rattle.ixdtf_grammar.specs.Promises.{ReadsText, ReadsTextAt, HandlesText, HandlesTextAt};
-ghost use Rattle.ixdtf_reading.specs.reading.Chains.{TextReadTo};
-ghost use Rattle.ixdtf_reading.specs.reading.Clauses.{UnhandledForm, fault_of_stop_at};
+ghost use Rattle.ixdtf.specs.Readings.{ReadsInto, ReadsUnhandled, HandlesTextTo};
 
 mod cores;
 mod replies;
@@ -648,7 +644,7 @@ impl<'a, T: EncodingType> IxdtfParser<'a, T> {
         requires callable { F.IsAlwaysCallable handler }
         ensures handles { HandlesTextAt T.letter T.number F.step handler fault_of_located stands_behind (parsed_of T.number) reader_parse self.old result self.new }
     {
-        self.read_located_as::<LocatedError, DateTimes, F>(handler)
+        self.read_as::<LocatedError, DateTimes, F>(handler)
     }
 
     /// Reads as [`parse_year_month`](Self::parse_year_month) does, and returns an error with its place: the number of code
@@ -712,7 +708,7 @@ impl<'a, T: EncodingType> IxdtfParser<'a, T> {
         requires callable { F.IsAlwaysCallable handler }
         ensures handles { HandlesTextAt T.letter T.number F.step handler fault_of_located stands_behind (parsed_of T.number) reader_parse_year_month self.old result self.new }
     {
-        self.read_located_as::<LocatedError, YearMonths, F>(handler)
+        self.read_as::<LocatedError, YearMonths, F>(handler)
     }
 
     /// Reads as [`parse_month_day`](Self::parse_month_day) does, and returns an error with its place: the number of code
@@ -776,7 +772,7 @@ impl<'a, T: EncodingType> IxdtfParser<'a, T> {
         requires callable { F.IsAlwaysCallable handler }
         ensures handles { HandlesTextAt T.letter T.number F.step handler fault_of_located stands_behind (parsed_of T.number) (reader_parse_month_day self.old.profile) self.old result self.new }
     {
-        self.read_located_as::<LocatedError, MonthDays, F>(handler)
+        self.read_as::<LocatedError, MonthDays, F>(handler)
     }
 
     /// Reads as [`parse_time`](Self::parse_time) does, and returns an error with its place: the number of code units before
@@ -840,7 +836,7 @@ impl<'a, T: EncodingType> IxdtfParser<'a, T> {
         requires callable { F.IsAlwaysCallable handler }
         ensures handles { HandlesTextAt T.letter T.number F.step handler fault_of_located stands_behind (parsed_of T.number) (reader_parse_time self.old.profile) self.old result self.new }
     {
-        self.read_located_as::<LocatedError, LoneTimes, F>(handler)
+        self.read_as::<LocatedError, LoneTimes, F>(handler)
     }
 
     /// Reads a text with a core of the kind, as [`parse_with_annotation_handler`](Self::parse_with_annotation_handler)
@@ -855,30 +851,12 @@ impl<'a, T: EncodingType> IxdtfParser<'a, T> {
         // The handler may be called at any time, in any state that it reached, on any annotation.
         requires callable { F.IsAlwaysCallable handler }
         ensures handles { HandlesText T.letter T.number F.step handler E.fault (parsed_of T.number) (bracketed (C.kind self.old.profile)) self.old result self.new }
+        ensures places { HandlesTextAt T.letter T.number F.step handler E.fault E.stands (parsed_of T.number) (bracketed (C.kind self.old.profile)) self.old result self.new }
     {
         let mut found = IxdtfParseRecord::default();
         match self.read_into::<C, F>(&mut handler, &mut found) {
             Ok(()) => Ok(found),
             Err(why) => return Err(E::of_stop(why.stop, why.at)),
-        }
-    }
-
-    /// Reads as [`read_as`](Self::read_as) does, with an error that tells its place where it has one.
-    #[inline(always)]
-    pub(crate) fn read_located_as<E: Raised, C: Cores, F>(
-        &mut self,
-        mut handler: F,
-    ) -> Result<IxdtfParseRecord<'a, T>, E>
-    where
-        F: FnMut(Annotation<'a, T>) -> Option<Annotation<'a, T>>,
-        // The handler may be called at any time, in any state that it reached, on any annotation.
-        requires callable { F.IsAlwaysCallable handler }
-        ensures handles { HandlesTextAt T.letter T.number F.step handler E.fault E.stands (parsed_of T.number) (bracketed (C.kind self.old.profile)) self.old result self.new }
-    {
-        let mut found = IxdtfParseRecord::default();
-        match self.read_into::<C, F>(&mut handler, &mut found) {
-            Ok(()) => Ok(found),
-            Err(located) => return Err(E::of_stop(located.stop, located.at)),
         }
     }
 
@@ -901,22 +879,7 @@ impl<'a, T: EncodingType> IxdtfParser<'a, T> {
         F: FnMut(Annotation<'a, T>) -> Option<Annotation<'a, T>>,
         // The handler may be called at any time, in any state that it reached, on any annotation.
         requires callable { F.IsAlwaysCallable handler.old }
-        // For the one chain of its calls, which ends in the state that the handler is left in: `Ok` exactly with the record,
-        // and `Err` only with the one error at this place, that the text and the replies give.
-        ensures handled { HandledToAt T.number F.step handler.old handler.new
-            (bracketed (C.kind self.old.profile)) (map T.letter self.old.rest)
-            E.fault E.stands (parsed_of T.number) result }
-
-        // `Ok` only where no row of the fault table fits, and where no other reader of dates, times and durations accepts the
-        // text.
-        ensures no_row { OnOk result (NoRowFits (bracketed (C.kind self.old.profile))
-            (map T.letter self.old.rest)) }
-        ensures alone { OnOk result (InNoOther self.old.profile
-            (bracketed (C.kind self.old.profile)) (map T.letter self.old.rest)) }
-
-        // After `Ok` the remaining input is empty. After an error it is unchanged.
-        ensures leaves { LeavesBehind E.fault (unread_of self.old) result (unread_of self.new) }
-        ensures profile { self.new.profile ≡ self.old.profile }
+        ensures handles { HandlesTextTo T.letter T.number F.step handler.old handler.new E.fault E.stands (parsed_of T.number) (bracketed (C.kind self.old.profile)) self.old result self.new }
     {
         let mut found = IxdtfParseRecord::default();
         match self.read_into::<C, F>(handler, &mut found) {
@@ -932,18 +895,7 @@ impl<'a, T: EncodingType> IxdtfParser<'a, T> {
         found: &mut IxdtfParseRecord<'a, T>,
     ) -> Result<(), StopAt>
         requires { IsEmptyRecord found.old }
-        ensures unhandled { UnhandledForm (bracketed (C.kind self.old.profile))
-            (map T.letter self.old.rest)
-            (returned_by fault_of_stop_at (λ _. parsed_of T.number found.new) result) }
-        ensures err { IfErr result
-            (λ why. UnhandledFaultAt (bracketed (C.kind self.old.profile))
-            (map T.letter self.old.rest) (fault_of_stop_at why) why.at) }
-        ensures place { IfErr result
-            (λ why. UnhandledOnlyPlace (bracketed (C.kind self.old.profile))
-            (map T.letter self.old.rest) (fault_of_stop_at why) why.at) }
-        ensures leaves { LeavesBehind fault_of_stop_at
-            (unread_of self.old) result (unread_of self.new) }
-        ensures profile { self.new.profile ≡ self.old.profile }
+        ensures reads { ReadsUnhandled T.letter (parsed_of T.number found.new) (bracketed (C.kind self.old.profile)) self.old result self.new }
     {
         self.read_into::<C, _>(&mut |annotation| Some(annotation), found)
     }
@@ -962,12 +914,7 @@ impl<'a, T: EncodingType> IxdtfParser<'a, T> {
         F: FnMut(Annotation<'a, T>) -> Option<Annotation<'a, T>>,
         requires callable { F.IsAlwaysCallable handler.old }
         requires empty { IsEmptyRecord found.old }
-        ensures replied { TextReadTo T.number F.step handler.old handler.new
-            (λ _. parsed_of T.number found.new)
-            (bracketed (C.kind self.old.profile)) (map T.letter self.old.rest) result }
-        ensures leaves { LeavesBehind fault_of_stop_at
-            (unread_of self.old) result (unread_of self.new) }
-        ensures profile { self.new.profile ≡ self.old.profile }
+        ensures reads { ReadsInto T.letter T.number F.step handler.old handler.new (parsed_of T.number found.new) (bracketed (C.kind self.old.profile)) self.old result self.new }
     {
         let mut here = self.cursor.take();
         match parse_text::<T, C, F>(&mut here, self.profile, handler, found) {

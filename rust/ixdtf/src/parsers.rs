@@ -603,7 +603,7 @@ impl<'a, T: EncodingType> IxdtfParser<'a, T> {
     where
         F: FnMut(Annotation<'a, T>) -> Option<Annotation<'a, T>>,
     {
-        self.read_located_as::<LocatedError, DateTimes, F>(handler)
+        self.read_as::<LocatedError, DateTimes, F>(handler)
     }
 
     /// Reads as [`parse_year_month`](Self::parse_year_month) does, and returns an error with its place: the number of code
@@ -662,7 +662,7 @@ impl<'a, T: EncodingType> IxdtfParser<'a, T> {
     where
         F: FnMut(Annotation<'a, T>) -> Option<Annotation<'a, T>>,
     {
-        self.read_located_as::<LocatedError, YearMonths, F>(handler)
+        self.read_as::<LocatedError, YearMonths, F>(handler)
     }
 
     /// Reads as [`parse_month_day`](Self::parse_month_day) does, and returns an error with its place: the number of code
@@ -721,7 +721,7 @@ impl<'a, T: EncodingType> IxdtfParser<'a, T> {
     where
         F: FnMut(Annotation<'a, T>) -> Option<Annotation<'a, T>>,
     {
-        self.read_located_as::<LocatedError, MonthDays, F>(handler)
+        self.read_as::<LocatedError, MonthDays, F>(handler)
     }
 
     /// Reads as [`parse_time`](Self::parse_time) does, and returns an error with its place: the number of code units before
@@ -780,7 +780,7 @@ impl<'a, T: EncodingType> IxdtfParser<'a, T> {
     where
         F: FnMut(Annotation<'a, T>) -> Option<Annotation<'a, T>>,
     {
-        self.read_located_as::<LocatedError, LoneTimes, F>(handler)
+        self.read_as::<LocatedError, LoneTimes, F>(handler)
     }
 
     /// Reads a text with a core of the kind, as [`parse_with_annotation_handler`](Self::parse_with_annotation_handler)
@@ -797,22 +797,6 @@ impl<'a, T: EncodingType> IxdtfParser<'a, T> {
         match self.read_into::<C, F>(&mut handler, &mut found) {
             Ok(()) => Ok(found),
             Err(why) => return Err(E::of_stop(why.stop, why.at)),
-        }
-    }
-
-    /// Reads as [`read_as`](Self::read_as) does, with an error that tells its place where it has one.
-    #[inline(always)]
-    pub(crate) fn read_located_as<E: Raised, C: Cores, F>(
-        &mut self,
-        mut handler: F,
-    ) -> Result<IxdtfParseRecord<'a, T>, E>
-    where
-        F: FnMut(Annotation<'a, T>) -> Option<Annotation<'a, T>>,
-    {
-        let mut found = IxdtfParseRecord::default();
-        match self.read_into::<C, F>(&mut handler, &mut found) {
-            Ok(()) => Ok(found),
-            Err(located) => return Err(E::of_stop(located.stop, located.at)),
         }
     }
 

@@ -204,16 +204,8 @@ module _ (kind : CoreKind) (text cores bracket rest : Text) (core : Core) (b : B
   -- a core, a first bracket and more pairs
   whole_of : (front : Text) (more : List Pair) → ArePairs front more
       → IsBracketed kind (cores ++ (bracket ++ front)) (parsed_with core (zone_in b)) (pairs_in b ++ more)
-  whole_of front more pairs = record {
-    cores = cores;
-    brackets = bracket ++ front;
-    core = core;
-    zone = zone_in b;
-    is = refl;
-    is_core = is_core;
-    is_tail = tail_of b bracket front more is_bracket pairs;
-    has = refl;
-  }
+  whole_of front more pairs = let tail = tail_of b bracket front more is_bracket pairs in
+      record { cores = cores; brackets = bracket ++ front; core = core; zone = zone_in b; is = refl; is_core = is_core; is_tail = tail; has = refl }
 
   split_of : (front left : Text) → rest ≡ front ++ left → text ≡ (cores ++ (bracket ++ front)) ++ left
   split_of front left e = is ∙ rw e (simp append_assoc)

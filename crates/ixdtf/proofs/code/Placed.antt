@@ -1,23 +1,16 @@
 -- What was read of a whole text, by the record that it was written into.
-use Rattle.std.proofs.Common.{◌≡◌, ℕ, true, false, List, Option, None, Result, Ok, Err, IfErr}
+use Rattle.std.proofs.Common.{◌≡◌, ℕ, true, false, List, Option, None, Ok, Err}
 use Rattle.ixdtf_grammar.specs.declared.records.IxdtfParseRecord.{IxdtfParseRecord}
 use Rattle.ixdtf_grammar.specs.language.Letters.{Text}
 use Rattle.ixdtf_grammar.specs.language.Cores.{Core}
 use Rattle.ixdtf_grammar.specs.language.Brackets.{Pair}
 use Rattle.ixdtf_grammar.specs.language.Languages.{Parsed, parsed_with}
 use Rattle.ixdtf_grammar.specs.Handlers.{Step, with_calendar, calendar_value}
-use Rattle.ixdtf_grammar.specs.Places.{UnhandledFaultAt, UnhandledOnlyPlace}
-use Rattle.ixdtf_grammar.specs.Views.{parsed_of, returned_by}
-use Rattle.ixdtf_grammar.specs.language.Readers.{Reader, CoreKind}
-use Rattle.ixdtf_grammar.specs.language.Readers.Reader.{bracketed}
-use Rattle.ixdtf_reading.specs.declared.stop.StopAt.{StopAt}
-use Rattle.ixdtf_reading.proofs.theorems.Handled.{OwnReplies, handled, unhandled_form}
-use Rattle.ixdtf_reading.proofs.theorems.HandledAt.{unhandled_at}
-use Rattle.ixdtf_reading.proofs.theorems.OnePlace.{one_unhandled_place}
+use Rattle.ixdtf_grammar.specs.Views.{parsed_of}
 use Rattle.ixdtf_reading.specs.reading.Looks.{Placed, error_of}
 use Rattle.ixdtf_reading.specs.reading.Brackets.{Bracket, zone_in, pairs_in, bracket_at}
-use Rattle.ixdtf_reading.specs.reading.Chains.{PairsRead, TextReadAfter, TextReadTo}
-use Rattle.ixdtf_reading.specs.reading.Clauses.{UnhandledForm, core_in, fault_of_stop_at}
+use Rattle.ixdtf_reading.specs.reading.Chains.{PairsRead, TextReadAfter}
+use Rattle.ixdtf_reading.specs.reading.Clauses.{core_in}
 use Rattle.ixdtf.proofs.code.Tail.{core_alone, first_read}
 
 -- a record without brackets
@@ -39,22 +32,3 @@ module _ {T U F : Type 0} (number : U → ℕ) (step : Step T U F) (handler : F)
       → bracket_at error_of inner ≡ Ok (bracket, rest) → first ≡ pairs_in bracket → PairsRead number step handler last first rest (Err fault)
       → TextReadAfter number step handler last core true inner (Err fault)
   placed_fault is same pairs = first_read number step handler _ _ _ _ _ (Err _) is (rw (← same) pairs)
-
--- what a reader without a handler returned, whose handler returns each annotation
-module _ {T U F X : Type 0} (number : U → ℕ) (step : Step T U F) (handler last : F) (view : X → Parsed) (reader : Reader) (text : Text) where
-  pub unhandled_read : (result : Result X StopAt) → TextReadTo number step handler last view reader text result → OwnReplies step
-      → UnhandledForm reader text (returned_by fault_of_stop_at view result)
-  unhandled_read (Ok x) read own = unhandled_form (handled number step handler reader text _ last read) own
-  unhandled_read (Err why) read own = unhandled_form (handled number step handler reader text _ last read.2) own
-
-  pub unhandled_err : (result : Result X StopAt) → TextReadTo number step handler last view reader text result → OwnReplies step
-      → IfErr result (λ why. UnhandledFaultAt reader text (fault_of_stop_at why) why.at)
-  unhandled_err (Ok x) read own = tt
-  unhandled_err (Err why) read own = unhandled_at number step handler last reader text own why read
-
--- it has that fault at that place alone
-pub unhandled_place : {X : Type 0} (kind : CoreKind) (text : Text) (result : Result X StopAt)
-    → IfErr result (λ why. UnhandledFaultAt (bracketed kind) text (fault_of_stop_at why) why.at)
-    → IfErr result (λ why. UnhandledOnlyPlace (bracketed kind) text (fault_of_stop_at why) why.at)
-unhandled_place kind text (Ok x) stands = tt
-unhandled_place kind text (Err why) stands = one_unhandled_place kind text (fault_of_stop_at why) why.at stands

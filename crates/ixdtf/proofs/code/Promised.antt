@@ -1,62 +1,89 @@
 -- What a reader of whole texts promises, from what reading into a record does.
-use Rattle.std.proofs.Common.{◌≡◌, ℕ, map, Result, Ok, Err}
+use Rattle.std.proofs.Common.{◌≡◌, ℕ, map, Result, Ok, Err, refl}
 use Rattle.ixdtf_grammar.specs.declared.located.LocatedError.{LocatedError}
-use Rattle.ixdtf_grammar.specs.language.Letters.{Letter}
-use Rattle.ixdtf_grammar.specs.language.Languages.{Parsed}
-use Rattle.ixdtf_grammar.specs.language.Readers.{Reader}
+use Rattle.ixdtf_grammar.specs.language.Letters.{Letter, Text}
+use Rattle.ixdtf_grammar.specs.language.Languages.{Parsed, Found}
+use Rattle.ixdtf_grammar.specs.language.Readers.{Reader, CoreKind}
+use Rattle.ixdtf_grammar.specs.language.Readers.Reader.{bracketed}
 use Rattle.ixdtf_grammar.specs.table.Faults.{Fault, fault_of_located}
+use Rattle.ixdtf_grammar.specs.Handlers.{Step}
 use Rattle.ixdtf_grammar.specs.Laws.{IsTextReader}
-use Rattle.ixdtf_grammar.specs.Places.{UnhandledFaultAt, UnhandledOnlyPlace}
-use Rattle.ixdtf_grammar.specs.Views.{Unread, UnreadUnder, unread_of, LeavesBehind}
+use Rattle.ixdtf_grammar.specs.Promises.{ReadsText, ReadsTextAt, HandlesText, HandlesTextAt, ReadsPartAt}
+use Rattle.ixdtf_grammar.specs.Views.{Unread, UnreadUnder, LeavesBehind}
 use Rattle.ixdtf_reading.specs.declared.stop.StopAt.{StopAt}
-use Rattle.ixdtf_reading.specs.reading.Clauses.{UnhandledForm, fault_of_stop_at}
-use Rattle.ixdtf_grammar.specs.Promises.{ReadsText, ReadsTextAt}
+use Rattle.ixdtf_reading.specs.reading.Clauses.{fault_of_stop_at}
+use Rattle.ixdtf_reading.specs.reading.Looks.{Read, Placed}
+use Rattle.ixdtf_reading.proofs.code.Located.{Located}
+use Rattle.ixdtf_reading.proofs.theorems.Handled.{OwnReplies, handled, handled_accepted, unhandled_form}
+use Rattle.ixdtf_reading.proofs.theorems.HandledAt.{handled_at_ok, handled_at_err, handled_to_at_ok, handled_to_at_err, unhandled_at}
+use Rattle.ixdtf_reading.proofs.theorems.OnePlace.{one_unhandled_place}
+use Rattle.ixdtf.specs.Readings.{ReadsInto, ReadsUnhandled, HandlesTextTo}
 
 -- a reading into a record that ended well, and one that was refused
-abbrev pub ended : Result Unit StopAt
+abbrev ended : Result Unit StopAt
 ended = Ok tt
 
-abbrev pub stopped : StopAt → Result Unit StopAt
+abbrev stopped : StopAt → Result Unit StopAt
 stopped why = Err why
 
 -- what it leaves, with another value and another error that has the same fault
 module _ {X E : Type 0} (fault : E → Fault) {old new : Unread} where
-  pub leaves_ok : (found : X) → LeavesBehind fault_of_stop_at old ended new → LeavesBehind fault old (Ok found) new
+  leaves_ok : (found : X) → LeavesBehind fault_of_stop_at old ended new → LeavesBehind fault old (Ok found) new
   leaves_ok found leaves = record { empty = leaves.empty; unchanged = tt; comes = tt; looks = leaves.looks; counted = leaves.counted }
 
-  pub leaves_err : (e : E) (why : StopAt) → fault e ≡ fault_of_stop_at why → LeavesBehind fault_of_stop_at old (stopped why) new
+  leaves_err : (e : E) (why : StopAt) → fault e ≡ fault_of_stop_at why → LeavesBehind fault_of_stop_at old (stopped why) new
       → LeavesBehind {X = X} fault old (Err e) new
   leaves_err e why same leaves = record { empty = tt; unchanged = leaves.unchanged; comes = rw same leaves.comes; looks = leaves.looks; counted = leaves.counted }
 
-module _ {X : Type 0} (letter : ℕ → Letter) (view : X → Parsed) (reader : Reader) (old new : UnreadUnder) (is : IsTextReader old.profile reader) where
-  module _ {E : Type 0} (fault : E → Fault) where
-    pub reads_ok : (found : X) → UnhandledForm reader (map letter old.rest) (Ok (view found)) → LeavesBehind fault_of_stop_at (unread_of old) ended (unread_of new)
-        → new.profile ≡ old.profile → ReadsText letter fault view reader old (Ok found) new
-    reads_ok found form leaves profile = record {
-      ok = form.ok;
-      err = tt;
-      no_row = form.no_row;
-      alone = form.alone old.profile is;
-      only = tt;
-      leaves = leaves_ok fault found leaves;
-      profile = profile;
+-- ---- without a handler
+
+-- where the handler returns each annotation
+pub unhandled : {T U F : Type 0} (letter : ℕ → Letter) (number : U → ℕ) (step : Step T U F) (handler last : F) (found : Parsed) (kind : CoreKind)
+    (old new : UnreadUnder) (result : Result Unit StopAt) → OwnReplies step → ReadsInto letter number step handler last found (bracketed kind) old result new
+    → ReadsUnhandled letter found (bracketed kind) old result new
+unhandled letter number step handler last found kind old new (Ok x) own read = record {
+  form = unhandled_form (handled number step handler (bracketed kind) (map letter old.rest) _ last read.replied) own;
+  err = tt;
+  place = tt;
+  leaves = read.leaves;
+  profile = read.profile;
+}
+unhandled letter number step handler last found kind old new (Err why) own read = let text = map letter old.rest in let stands =
+    unhandled_at number step handler last (bracketed kind) text own why read.replied in record {
+      form = unhandled_form (handled number step handler (bracketed kind) text _ last read.replied.2) own;
+      err = stands;
+      place = one_unhandled_place kind text (fault_of_stop_at why) why.at stands;
+      leaves = read.leaves;
+      profile = read.profile;
     }
 
-    pub reads_err : (e : E) (why : StopAt) → fault e ≡ fault_of_stop_at why → UnhandledForm reader (map letter old.rest) (Err (fault_of_stop_at why))
-        → LeavesBehind fault_of_stop_at (unread_of old) (stopped why) (unread_of new) → new.profile ≡ old.profile → ReadsText letter fault view reader old (Err e) new
-    reads_err e why same form leaves profile = let gives = rw (← same) at form in record {
+module _ {X : Type 0} (letter : ℕ → Letter) (view : X → Parsed) (reader : Reader) (old new : UnreadUnder) (is : IsTextReader old.profile reader) where
+  module _ {E : Type 0} (fault : E → Fault) where
+    pub reads_ok : (found : X) → ReadsUnhandled letter (view found) reader old ended new → ReadsText letter fault view reader old (Ok found) new
+    reads_ok found read = record {
+      ok = read.form.ok;
+      err = tt;
+      no_row = read.form.no_row;
+      alone = read.form.alone old.profile is;
+      only = tt;
+      leaves = leaves_ok fault found read.leaves;
+      profile = read.profile;
+    }
+
+    pub reads_err : (found : Parsed) (e : E) (why : StopAt) → fault e ≡ fault_of_stop_at why → ReadsUnhandled letter found reader old (stopped why) new
+        → ReadsText letter fault view reader old (Err e) new
+    reads_err found e why same read = let gives = rw (← same) at read.form in record {
       ok = gives.ok;
       err = gives.err;
       no_row = tt;
       alone = tt;
       only = gives.only;
-      leaves = leaves_err fault e why same leaves;
-      profile = profile;
+      leaves = leaves_err fault e why same read.leaves;
+      profile = read.profile;
     }
 
-  pub reads_ok_at : (found : X) → UnhandledForm reader (map letter old.rest) (Ok (view found)) → LeavesBehind fault_of_stop_at (unread_of old) ended (unread_of new)
-      → new.profile ≡ old.profile → ReadsTextAt letter view reader old (Ok found) new
-  reads_ok_at found form leaves profile = let plain = reads_ok fault_of_located found form leaves profile in record {
+  pub reads_ok_at : (found : X) → ReadsUnhandled letter (view found) reader old ended new → ReadsTextAt letter view reader old (Ok found) new
+  reads_ok_at found read = let plain = reads_ok fault_of_located found read in record {
     ok = plain.ok;
     err = tt;
     place = tt;
@@ -64,20 +91,86 @@ module _ {X : Type 0} (letter : ℕ → Letter) (view : X → Parsed) (reader : 
     alone = plain.alone;
     only = tt;
     leaves = plain.leaves;
-    profile = profile;
+    profile = plain.profile;
   }
 
-  pub reads_err_at : (e : LocatedError) (why : StopAt) → fault_of_located e ≡ fault_of_stop_at why → e.at ≡ why.at
-      → UnhandledForm reader (map letter old.rest) (Err (fault_of_stop_at why))
-      → UnhandledFaultAt reader (map letter old.rest) (fault_of_stop_at why) why.at → UnhandledOnlyPlace reader (map letter old.rest) (fault_of_stop_at why) why.at
-      → LeavesBehind fault_of_stop_at (unread_of old) (stopped why) (unread_of new) → new.profile ≡ old.profile → ReadsTextAt letter view reader old (Err e) new
-  reads_err_at e why same stands form stood only leaves profile = let plain = reads_err fault_of_located e why same form leaves profile in record {
+  pub reads_err_at : (found : Parsed) (e : LocatedError) (why : StopAt) → fault_of_located e ≡ fault_of_stop_at why → e.at ≡ why.at
+      → ReadsUnhandled letter found reader old (stopped why) new → ReadsTextAt letter view reader old (Err e) new
+  reads_err_at found e why same stands read = let plain = reads_err fault_of_located found e why same read in record {
     ok = plain.ok;
-    err = rw (same, stands) stood;
-    place = rw (same, stands) only;
+    err = rw (same, stands) read.err;
+    place = rw (same, stands) read.place;
     no_row = tt;
     alone = tt;
     only = plain.only;
     leaves = plain.leaves;
-    profile = profile;
+    profile = plain.profile;
   }
+
+-- ---- with a handler
+
+module _ {T U F X E : Type 0} (letter : ℕ → Letter) (number : U → ℕ) (step : Step T U F) (handler last : F) (view : X → Parsed) (reader : Reader)
+    (old new : UnreadUnder) (fault : E → Fault) where
+  pub handles_ok : IsTextReader old.profile reader → (found : X) → ReadsInto letter number step handler last (view found) reader old ended new
+      → HandlesText letter number step handler fault view reader old (Ok found) new
+  handles_ok is found read =
+      let gives = handled number step handler reader (map letter old.rest) (Ok (view found)) last read.replied in
+      let whole = handled_accepted number step handler reader (map letter old.rest) _ gives (view found) refl in
+      record { handled = gives; no_row = whole.no_row; alone = whole.alone old.profile is; leaves = leaves_ok fault found read.leaves; profile = read.profile }
+
+  pub handles_err : (found : Parsed) (e : E) (why : StopAt) → fault e ≡ fault_of_stop_at why
+      → ReadsInto letter number step handler last found reader old (stopped why) new → HandlesText letter number step handler fault view reader old (Err e) new
+  handles_err found e why same read = record {
+    handled = rw same (handled number step handler reader (map letter old.rest) _ last read.replied.2);
+    no_row = tt;
+    alone = tt;
+    leaves = leaves_err fault e why same read.leaves;
+    profile = read.profile;
+  }
+
+  -- with the place of an error, and then with the state that the handler is left in
+  module _ (stands : ℕ → E → Type 0) where
+    pub handles_ok_at : IsTextReader old.profile reader → (found : X) → ReadsInto letter number step handler last (view found) reader old ended new
+        → HandlesTextAt letter number step handler fault stands view reader old (Ok found) new
+    handles_ok_at is found read = let plain = handles_ok is found read in record {
+      handled = handled_at_ok number step handler last reader (map letter old.rest) fault stands view found read.replied;
+      no_row = plain.no_row;
+      alone = plain.alone;
+      leaves = plain.leaves;
+      profile = plain.profile;
+    }
+
+    pub handles_err_at : (found : Parsed) (e : E) (why : StopAt) → fault e ≡ fault_of_stop_at why → stands why.at e
+        → ReadsInto letter number step handler last found reader old (stopped why) new
+        → HandlesTextAt letter number step handler fault stands view reader old (Err e) new
+    handles_err_at found e why same there read = let plain = handles_err found e why same read in record {
+      handled = handled_at_err number step handler last reader (map letter old.rest) fault stands view why e same there read.replied;
+      no_row = tt;
+      alone = tt;
+      leaves = plain.leaves;
+      profile = plain.profile;
+    }
+
+    pub handles_ok_to : IsTextReader old.profile reader → (found : X) → ReadsInto letter number step handler last (view found) reader old ended new
+        → HandlesTextTo letter number step handler last fault stands view reader old (Ok found) new
+    handles_ok_to is found read =
+        let plain = handles_ok is found read in
+        let to = handled_to_at_ok number step handler last reader (map letter old.rest) fault stands view found read.replied in
+        record { handled = to; no_row = plain.no_row; alone = plain.alone; leaves = plain.leaves; profile = plain.profile }
+
+    pub handles_err_to : (found : Parsed) (e : E) (why : StopAt) → fault e ≡ fault_of_stop_at why → stands why.at e
+        → ReadsInto letter number step handler last found reader old (stopped why) new
+        → HandlesTextTo letter number step handler last fault stands view reader old (Err e) new
+    handles_err_to found e why same there read =
+        let plain = handles_err found e why same read in
+        let to = handled_to_at_err number step handler last reader (map letter old.rest) fault stands view why e same there read.replied in
+        record { handled = to; no_row = tt; alone = tt; leaves = plain.leaves; profile = plain.profile }
+
+-- ---- of a part alone
+
+-- what a reader of a part alone promises, from what its reading gives and what it leaves
+pub part_at : {U A : Type 0} {letter : ℕ → Letter} {view : U → A} {reader : Reader} {found : A → Found} {same : _} {none : _} {reading : Text → Read Placed A}
+    {old new left : Unread} {reads : _} {met : A → Text → Type 0} {gives : _} {result : Result U LocatedError}
+    → Located letter view reader found same none reading old new reads met gives result → LeavesBehind fault_of_located old result left
+    → ReadsPartAt letter view found reader old result left
+part_at gives leaves = let plain = gives.plain in record { ok = plain.ok; err = gives.err; place = gives.place; no_row = plain.no_row; only = plain.only; leaves = leaves }

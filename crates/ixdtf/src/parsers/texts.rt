@@ -29,8 +29,8 @@ pub fn parse_text<'a, T: EncodingType, C: Cores, F>(
 ) -> Result<(), Stop>
 where
     F: FnMut(Annotation<'a, T>) -> Option<Annotation<'a, T>>,
-    requires callable { F.IsAlwaysCallable handler.old }
     requires empty { IsEmptyRecord found.old }
+    requires callable { F.IsAlwaysCallable handler.old }
     ensures replied { TextRead T.number F.step handler.old handler.new (bracketed (C.kind profile))
         (map T.letter cursor.old.rest)
         (yielded_at (λ _. parsed_of T.number found.new) result (map T.letter cursor.new.rest)) }
@@ -44,15 +44,15 @@ where
     if !read? {
         return Ok(());
     }
-    parse_brackets(cursor, handler, found)
+    parse_brackets(cursor, found, handler)
 }
 
 /// Reads the brackets after a core and the first `[`, to the end of the input: a first one, and the pairs after it.
 #[inline(never)]
 fn parse_brackets<'a, T: EncodingType, F>(
     cursor: &mut Cursor<'a, T>,
-    handler: &mut F,
     found: &mut IxdtfParseRecord<'a, T>,
+    handler: &mut F,
 ) -> Result<(), Stop>
 where
     F: FnMut(Annotation<'a, T>) -> Option<Annotation<'a, T>>,

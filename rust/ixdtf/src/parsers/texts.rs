@@ -28,15 +28,15 @@ where
     if !read? {
         return Ok(());
     }
-    parse_brackets(cursor, handler, found)
+    parse_brackets(cursor, found, handler)
 }
 
 /// Reads the brackets after a core and the first `[`, to the end of the input: a first one, and the pairs after it.
 #[inline(never)]
 fn parse_brackets<'a, T: EncodingType, F>(
     cursor: &mut Cursor<'a, T>,
-    handler: &mut F,
     found: &mut IxdtfParseRecord<'a, T>,
+    handler: &mut F,
 ) -> Result<(), Stop>
 where
     F: FnMut(Annotation<'a, T>) -> Option<Annotation<'a, T>>,

@@ -74,9 +74,6 @@ returns-clause-record g c =
     on_both (on_part (λ r. r.date) date) (on_both (on_part (λ r. r.time) time) (on_both (on_part (λ r. r.offset) offset) (
     on_both (on_part (λ r. r.tz) zone) (on_part (λ r. r.calendar) calendar))))))
 
-pub returns-clause-sign : goal.returns-clause-sign
-returns-clause-sign g c = by_exact (λ a b. search rules)
-
 pub returns-clause-date_duration : goal.returns-clause-date_duration
 returns-clause-date_duration g c = by_exact (λ a b. search rules)
 
@@ -97,6 +94,9 @@ returns-clause-time_duration g c =
       third_first = λ p q. refl;
       third_second = λ p q. refl;
     }) hours minutes seconds)
+
+pub returns-clause-sign : goal.returns-clause-sign
+returns-clause-sign g c = by_exact (λ a b. search rules)
 
 pub returns-clause-duration : goal.returns-clause-duration
 returns-clause-duration g c =

@@ -6,10 +6,10 @@ use Rattle.ixdtf_c.proofs.readers.read_as.Goals as goal
 
 pub returns-in-Err : goal.returns-in-Err
 returns-in-Err g c = record {
-  reads = rw (← (map-map g.T.EncodingType.letter g.T.EncodingType.number c.args.text.now), ← c.new.ensures.rest, ← c.with_profile-parser.ensures.rest, ← c.with_profile-parser.ensures.profile) (reads _ _ _ _ _ _ _ (λ state annotation reply next stepped. search rules) _ _ _ _ c.in-Err.ensures.handled c.in-Err.ensures.no_row c.in-Err.ensures.alone);
+  reads = rw (← (map-map g.T.EncodingType.letter g.T.EncodingType.number c.args.text.now), ← c.new.ensures.rest, ← c.with_profile-parser.ensures.rest, ← c.with_profile-parser.ensures.profile) (reads _ _ _ _ _ _ _ (λ state annotation reply next stepped. search rules) _ _ _ _ c.in-Err.ensures.handles.handled c.in-Err.ensures.handles.no_row c.in-Err.ensures.handles.alone);
 }
 
 pub returns : goal.returns
 returns g c = record {
-  reads = rw (← (map-map g.T.EncodingType.letter g.T.EncodingType.number c.args.text.now), ← c.new.ensures.rest, ← c.with_profile-parser.ensures.rest, ← c.with_profile-parser.ensures.profile) (reads _ _ _ _ _ _ _ (λ state annotation reply next stepped. search rules) _ _ _ _ c.in-Ok.ensures.handled c.in-Ok.ensures.no_row c.in-Ok.ensures.alone);
+  reads = rw (← (map-map g.T.EncodingType.letter g.T.EncodingType.number c.args.text.now), ← c.new.ensures.rest, ← c.with_profile-parser.ensures.rest, ← c.with_profile-parser.ensures.profile) (reads _ _ _ _ _ _ _ (λ state annotation reply next stepped. search rules) _ _ _ _ c.in-Ok.ensures.handles.handled c.in-Ok.ensures.handles.no_row c.in-Ok.ensures.handles.alone);
 }

@@ -3,9 +3,7 @@ use Rattle.ixdtf.proofs.code.Promised.{reads_ok_at, reads_err_at}
 use Rattle.ixdtf.proofs.parsers.IxdtfParser.parse_month_day_located.Goals as goal
 
 pub returns : goal.returns
-returns g c = record { reads = reads_ok_at _ _ _ _ _ refl _ c.in-Ok.ensures.unhandled c.in-Ok.ensures.leaves c.in-Ok.ensures.profile }
+returns g c = record { reads = reads_ok_at _ _ _ _ _ refl _ c.in-Ok.ensures.reads }
 
 pub returns-in-Err : goal.returns-in-Err
-returns-in-Err g c = record {
-  reads = reads_err_at _ _ _ _ _ refl _ _ c.error.ensures refl c.in-Err.ensures.unhandled c.in-Err.ensures.err c.in-Err.ensures.place c.in-Err.ensures.leaves c.in-Err.ensures.profile;
-}
+returns-in-Err g c = record { reads = reads_err_at _ _ _ _ _ refl _ _ _ c.error.ensures refl c.in-Err.ensures.reads }

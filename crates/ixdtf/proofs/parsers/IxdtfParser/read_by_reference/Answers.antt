@@ -1,17 +1,10 @@
-use Rattle.std.proofs.Common.{refl}
-use Rattle.ixdtf_reading.proofs.theorems.Handled.{handled, handled_accepted}
-use Rattle.ixdtf_reading.proofs.theorems.HandledAt.{handled_to_at_ok, handled_to_at_err}
+use Rattle.ixdtf.proofs.code.Promised.{handles_ok_to, handles_err_to}
 use Rattle.ixdtf.proofs.parsers.IxdtfParser.read_by_reference.Goals as goal
 
-pub returns-clause-handled : goal.returns-clause-handled
-returns-clause-handled g c = handled_to_at_ok _ _ _ _ _ _ _ _ _ _ c.in-Ok.ensures.replied
+pub returns : goal.returns
+returns g c = record { handles = handles_ok_to _ _ _ _ _ _ _ _ _ _ _ (g.met.C.Cores.is_under _) _ c.in-Ok.ensures.reads }
 
-pub returns-in-Err-clause-handled : goal.returns-in-Err-clause-handled
-returns-in-Err-clause-handled g c = handled_to_at_err _ _ _ _ _ _ _ _ _ c.in-Err.refused _ c.of_stop.ensures.fault c.of_stop.ensures.place c.in-Err.ensures.replied
-
-pub returns-clause-no_row : goal.returns-clause-no_row
-returns-clause-no_row g c = (handled_accepted g.T.EncodingType.number _ _ _ _ _ (handled _ _ _ _ _ _ _ c.in-Ok.ensures.replied) _ refl).no_row
-
-pub returns-clause-alone : goal.returns-clause-alone
-returns-clause-alone g c =
-    (handled_accepted g.T.EncodingType.number _ _ _ _ _ (handled _ _ _ _ _ _ _ c.in-Ok.ensures.replied) _ refl).alone _ (g.met.C.Cores.is_under _)
+pub returns-in-Err : goal.returns-in-Err
+returns-in-Err g c = record {
+  handles = handles_err_to _ _ _ _ _ _ _ _ _ _ _ _ _ _ c.of_stop.ensures.fault c.of_stop.ensures.place c.in-Err.ensures.reads;
+}

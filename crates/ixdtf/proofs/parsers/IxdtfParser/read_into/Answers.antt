@@ -5,21 +5,30 @@ use Rattle.ixdtf_reading.proofs.theorems.Handled.{handled, handled_comes}
 use Rattle.ixdtf_reading.proofs.theorems.HandledAt.{left_fits}
 use Rattle.ixdtf.proofs.parsers.IxdtfParser.read_into.Goals as goal
 
-pub returns-in-Ok-clause-replied : goal.returns-in-Ok-clause-replied
-returns-in-Ok-clause-replied g c = rw (← c.self.view_is, ← c.take-here.ensures.same) c.in-Ok.ensures.replied
+pub returns-in-Ok : goal.returns-in-Ok
+returns-in-Ok g c = record {
+  reads = record {
+    replied = rw (← c.self.view_is, ← c.take-here.ensures.same) c.in-Ok.ensures.replied;
+    leaves = search rules;
+    profile = search rules;
+  };
+}
 
-pub returns-in-Err-clause-replied : goal.returns-in-Err-clause-replied
-returns-in-Err-clause-replied g c =
+pub returns-in-Err : goal.returns-in-Err
+returns-in-Err g c =
     let letter = g.T.EncodingType.letter in
     let left = c.parse_text.new.cursor.rest in
     let taken = c.take-here.ensures.rest ∙ ap (λ (u : Unread). u.rest) (sym c.take-here.ensures.same) in
     let short = left_fits _ _ _ _ _ _ c.in-Err.ensures.replied.gives in
-    rw (← c.self.view_is, ← c.take-here.ensures.same) (
-      map letter left,
-      omega (arith, short, ap (λ (t : List ℕ). length t) taken, length-map left letter, length-map c.take-here.result.rest letter, c.saturating_sub-at.ensures, c.remaining.ensures, c.remaining-in-Err.ensures),
-      c.in-Err.ensures.replied,
-    )
-
-pub returns-in-Err-clause-leaves : goal.returns-in-Err-clause-leaves
-returns-in-Err-clause-leaves g c =
-    let comes = handled_comes _ _ _ _ _ _ (handled _ _ _ _ _ _ _ c.in-Err.ensures.replied) _ refl in search rules
+    let comes = handled_comes _ _ _ _ _ _ (handled _ _ _ _ _ _ _ c.in-Err.ensures.replied) _ refl in
+    record {
+      reads = record {
+        replied = rw (← c.self.view_is, ← c.take-here.ensures.same) (
+          map letter left,
+          omega (arith, short, ap (λ (t : List ℕ). length t) taken, length-map left letter, length-map c.take-here.result.rest letter, c.saturating_sub-at.ensures, c.remaining.ensures, c.remaining-in-Err.ensures),
+          c.in-Err.ensures.replied,
+        );
+        leaves = search rules;
+        profile = search rules;
+      };
+    }

@@ -1,11 +1,9 @@
-use Rattle.std.proofs.Common.{◌≡◌, [], ◌∷◌, map, Some, None, Ok, option_map, IsSome, refl, sym, subst, arith, rules, of_calls}
+use Rattle.std.proofs.Common.{◌≡◌, [], ◌∷◌, map, Some, None, option_map, IsSome, refl, sym, subst, arith, rules, of_calls}
 use Rattle.std.proofs.lemmas.Result.{err_from_is_err_and}
-use Rattle.ixdtf_reading.specs.reading.Looks.{error_of}
-use Rattle.ixdtf_reading.specs.reading.Pairs.{next_pair_at}
 use Rattle.ixdtf_grammar.specs.Handlers.{pair_of}
 use Rattle.ixdtf_reading.specs.reading.Chains.{first_pairs}
 use Rattle.ixdtf_reading.proofs.code.Units.{no_units}
-use Rattle.ixdtf_reading.proofs.to_grammar.MorePairs.{NextPair, next_is, next_fault}
+use Rattle.ixdtf_reading.proofs.to_grammar.MorePairs.{next_is, next_fault}
 use Rattle.ixdtf.proofs.code.Chains.{so_far_start, so_far_first, so_far_more, read_first_refused, read_refused, read_whole, read_fault}
 use Rattle.ixdtf.proofs.parsers.replies.parse_annotations.Goals as goal
 use Rattle.ixdtf.proofs.parsers.replies.parse_annotations.Goals.{in-Some+in_ok-keep_first_calendar, in_default}
@@ -51,19 +49,15 @@ returns-in_err-annotation-clause-pairs g c =
 pub returns-in_err-keep_first_calendar-2-clause-pairs : goal.returns-in_err-keep_first_calendar-2-clause-pairs
 returns-in_err-keep_first_calendar-2-clause-pairs g c =
     let p = err_from_is_err_and c.from_residual-in_err-keep_first_calendar-2.result c.from_residual-in_err-keep_first_calendar-2.ensures.1 in
-    let read : next_pair_at error_of (map g.T.EncodingType.letter c.loop-annotation.cursor.rest)
-    ≡ Ok (Some (pair_of g.T.EncodingType.number c.in-Some-2.annotation), map g.T.EncodingType.letter c.next_annotation.new.cursor.rest) = search rules in
-    let next : NextPair (map g.T.EncodingType.letter c.loop-annotation.cursor.rest) (Some (pair_of g.T.EncodingType.number c.in-Some-2.annotation))
-    (map g.T.EncodingType.letter c.next_annotation.new.cursor.rest) = next_is _ _ _ read in
+    let next = next_is (map g.T.EncodingType.letter c.loop-annotation.cursor.rest) (map g.T.EncodingType.letter c.next_annotation.new.cursor.rest)
+    (Some (pair_of g.T.EncodingType.number c.in-Some-2.annotation)) (search rules) in
     rw (p.1, p.2) (read_refused _ _ _ _ _ _ c.loop-annotation.invariant.so_far next.2 next.1 c.ask-reply-in-Some-2.ensures.step _
     c.in_err-keep_first_calendar-2.ensures.err)
 
 pub loop-annotation-preserved : goal.loop-annotation-preserved
 loop-annotation-preserved g c =
-    let read : next_pair_at error_of (map g.T.EncodingType.letter c.loop-annotation.cursor.rest)
-    ≡ Ok (Some (pair_of g.T.EncodingType.number c.in-Some-2.annotation), map g.T.EncodingType.letter c.next_annotation.new.cursor.rest) = search rules in
-    let next : NextPair (map g.T.EncodingType.letter c.loop-annotation.cursor.rest) (Some (pair_of g.T.EncodingType.number c.in-Some-2.annotation))
-    (map g.T.EncodingType.letter c.next_annotation.new.cursor.rest) = next_is _ _ _ read in
+    let next = next_is (map g.T.EncodingType.letter c.loop-annotation.cursor.rest) (map g.T.EncodingType.letter c.next_annotation.new.cursor.rest)
+    (Some (pair_of g.T.EncodingType.number c.in-Some-2.annotation)) (search rules) in
     let some : IsSome c.in_ok-annotation.field-0 = subst (λ o. IsSome o) (sym c.in-Some-2.is) refl in
     record {
       callable = search of_calls;
@@ -76,16 +70,10 @@ loop-annotation-preserved g c =
 -- the text ends
 pub returns-clause-pairs : goal.returns-clause-pairs
 returns-clause-pairs g c =
-    let read : next_pair_at error_of (map g.T.EncodingType.letter c.loop-annotation.cursor.rest)
-    ≡ Ok (None, map g.T.EncodingType.letter c.next_annotation.new.cursor.rest) = search rules in
-    let next : NextPair (map g.T.EncodingType.letter c.loop-annotation.cursor.rest) None (map g.T.EncodingType.letter c.next_annotation.new.cursor.rest) =
-    next_is _ _ _ read in
+    let next = next_is (map g.T.EncodingType.letter c.loop-annotation.cursor.rest) (map g.T.EncodingType.letter c.next_annotation.new.cursor.rest) None (search rules) in
     read_whole _ _ _ _ _ c.loop-annotation.invariant.so_far next.0
 
 pub returns-clause-empty : goal.returns-clause-empty
 returns-clause-empty g c =
-    let read : next_pair_at error_of (map g.T.EncodingType.letter c.loop-annotation.cursor.rest)
-    ≡ Ok (None, map g.T.EncodingType.letter c.next_annotation.new.cursor.rest) = search rules in
-    let next : NextPair (map g.T.EncodingType.letter c.loop-annotation.cursor.rest) None (map g.T.EncodingType.letter c.next_annotation.new.cursor.rest) =
-    next_is _ _ _ read in
+    let next = next_is (map g.T.EncodingType.letter c.loop-annotation.cursor.rest) (map g.T.EncodingType.letter c.next_annotation.new.cursor.rest) None (search rules) in
     no_units g.T.EncodingType.letter _ next.1
