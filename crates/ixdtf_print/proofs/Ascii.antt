@@ -64,37 +64,23 @@ joined_ascii x (part ∷ parts) text h = rw h.1 (ascii_append part h.0 (x.ascii 
 ascii_many : {shape : Shape} → AsciiShape shape → AsciiShape (many shape)
 ascii_many x = record { ascii = λ text h. joined_ascii x h.0 text h.1 }
 
-lead_within : (c : ℕ) → IsTrue (zone_lead c) → c < 128
-lead_within c h = grind (arith, nat_tests, h)
-
-char_within : (c : ℕ) → IsTrue (zone_char c) → c < 128
-char_within c h = grind (arith, nat_tests, h)
-
-slash_within : (c : ℕ) → IsTrue (slash c) → c < 128
-slash_within c h = grind (arith, nat_tests, h)
-
-hyphen_within : (c : ℕ) → IsTrue (hyphen c) → c < 128
-hyphen_within c h = grind (arith, nat_tests, h)
-
-value_within : (c : ℕ) → IsTrue (value_char c) → c < 128
-value_within c h = grind (arith, nat_tests, h)
-
 ascii_name : AsciiShape ZoneName
-ascii_name = ascii_then (ascii_one lead_within) (ascii_many (ascii_either (ascii_one char_within) (ascii_then (ascii_one slash_within) (ascii_one char_within))))
+ascii_name =
+    let char : AsciiShape (one zone_char) = ascii_one (λ c h. grind (arith, nat_tests, h)) in
+    let part : AsciiShape (one slash then one zone_char) = ascii_then (ascii_one (λ c h. grind (arith, nat_tests, h))) char in
+    ascii_then (ascii_one (λ c h. grind (arith, nat_tests, h))) (ascii_many (ascii_either char part))
 
 ascii_value : AsciiShape Value
 ascii_value =
-    let run = ascii_then (ascii_one value_within) (ascii_many (ascii_one value_within)) in
-    ascii_then run (ascii_many (ascii_then (ascii_one hyphen_within) run))
+    let char : AsciiShape (one value_char) = ascii_one (λ c h. grind (arith, nat_tests, h)) in
+    let run : AsciiShape (one value_char then many (one value_char)) = ascii_then char (ascii_many char) in
+    ascii_then run (ascii_many (ascii_then (ascii_one (λ c h. grind (arith, nat_tests, h))) run))
 
--- ---- digits
-
-digit_within : (n : ℕ) → 48 + n % 10 < 128
-digit_within n = omega arith
+-- ---- the parts of a canonical text
 
 padded_ascii : (count number : ℕ) → IsAsciiText (padded_digits count number)
 padded_ascii zero number = tt
-padded_ascii (suc count) number = (digit_within (number / 10 ^ count), padded_ascii count number)
+padded_ascii (suc count) number = (omega arith, padded_ascii count number)
 
 zeros_ascii : (count : ℕ) → IsAsciiText (replicate count (Plain 48))
 zeros_ascii zero = tt
@@ -103,8 +89,6 @@ zeros_ascii (suc count) = (omega arith, zeros_ascii count)
 two_ascii : (number : ℕ) → IsAsciiText (two_digits number)
 unfolding two_digits
 two_ascii number = padded_ascii 2 number
-
--- ---- dates and times
 
 year_ascii : (year : ℤ) → IsAsciiText (year_text year)
 unfolding year_text
@@ -118,38 +102,24 @@ year_ascii (negsuc n) = (omega arith, padded_ascii 6 (suc n))
 date_ascii : (date : Option DateRecord) → IsAsciiText (optional_date_text date)
 unfolding date_text
 date_ascii None = tt
-date_ascii (Some date) =
-    let days : Text = Plain 45 ∷ two_digits date.day in
-    let month : IsAsciiText (two_digits date.month ++ days) = ascii_append (two_digits date.month) days (two_ascii date.month) (omega arith, two_ascii date.day) in
-    ascii_append (year_text date.year) (Plain 45 ∷ (two_digits date.month ++ days)) (year_ascii date.year) (omega arith, month)
+date_ascii (Some date) = search (arith, ascii_append, two_ascii, year_ascii)
 
 minutes_ascii : (hour minute : ℕ) → IsAsciiText (minutes_text hour minute)
 unfolding minutes_text
-minutes_ascii hour minute = ascii_append (two_digits hour) (Plain 58 ∷ two_digits minute) (two_ascii hour) (omega arith, two_ascii minute)
+minutes_ascii hour minute = search (arith, ascii_append, two_ascii)
 
 fraction_ascii : (fraction : Option FractionParts) → IsAsciiText (fraction_text fraction)
 unfolding fraction_digits
 fraction_ascii None = tt
-fraction_ascii (Some fraction) =
-    let digits = padded_digits (places_of fraction) fraction.value in
-    let zeros : Text = replicate (fraction.count - 18) (Plain 48) in
-    (omega arith, ascii_append digits zeros (padded_ascii (places_of fraction) fraction.value) (zeros_ascii (fraction.count - 18)))
-
-seconds_ascii : (hour minute second : ℕ) → IsAsciiText (seconds_text hour minute second)
-unfolding seconds_text
-seconds_ascii hour minute second =
-    let last : Text = Plain 58 ∷ two_digits second in
-    let from_minute : IsAsciiText (two_digits minute ++ last) = ascii_append (two_digits minute) last (two_ascii minute) (omega arith, two_ascii second) in
-    ascii_append (two_digits hour) (Plain 58 ∷ (two_digits minute ++ last)) (two_ascii hour) (omega arith, from_minute)
+fraction_ascii (Some fraction) = search (arith, ascii_append, padded_ascii, zeros_ascii)
 
 clock_ascii : (hour minute second : ℕ) (fraction : Option FractionParts) → IsAsciiText (clock_text hour minute second fraction)
-unfolding clock_text
-clock_ascii hour minute second fraction =
-    ascii_append (seconds_text hour minute second) (fraction_text fraction) (seconds_ascii hour minute second) (fraction_ascii fraction)
+unfolding clock_text seconds_text
+clock_ascii hour minute second fraction = search (arith, ascii_append, two_ascii, fraction_ascii)
 
 time_ascii : (time : Option TimeRecord) → IsAsciiText (time_text time)
 time_ascii None = tt
-time_ascii (Some time) = (omega arith, clock_ascii time.hour time.minute time.second time.fraction)
+time_ascii (Some time) = search (arith, clock_ascii)
 
 sign_within : (sign : Sign) → sign_of sign < 128
 sign_within Positive = omega arith
@@ -162,55 +132,30 @@ offset_ascii : (offset : Option UtcOffsetRecordOrZ) → IsAsciiText (offset_text
 offset_ascii None = tt
 offset_ascii (Some stands.Z) = (omega arith, tt)
 offset_ascii (Some (stands.Offset (offsets.MinutePrecision offset))) = minute_offset_ascii offset
-offset_ascii (Some (stands.Offset (offsets.FullPrecisionOffset offset))) =
-    let minutes = offset.minute_precision_offset in
-    (sign_within minutes.sign, clock_ascii minutes.hour minutes.minute offset.second offset.fraction)
-
--- ---- brackets
-
-closing_ascii : IsAsciiText (Plain 93 ∷ [])
-closing_ascii = (omega arith, tt)
-
-opening_ascii : (critical : Bool) → IsAsciiText (opening_text critical)
-opening_ascii true = (omega arith, (omega arith, tt))
-opening_ascii false = (omega arith, tt)
+offset_ascii (Some (stands.Offset (offsets.FullPrecisionOffset offset))) = (sign_within _, clock_ascii _ _ _ _)
 
 zone_ascii : (zone : Zone) → IsZoneText zone → IsAsciiText (zone_text zone)
 zone_ascii (Name name) h = ascii_name.ascii (map Plain name) h
 zone_ascii (Offset offset) h = minute_offset_ascii offset
 
+opening_ascii : (critical : Bool) → IsAsciiText (opening_text critical)
+opening_ascii true = search arith
+opening_ascii false = search arith
+
 bracket_ascii : (note : Option ZoneNote) → HasZone note → IsAsciiText (bracket_text note)
 bracket_ascii None h = tt
-bracket_ascii (Some note) h =
-    let closed : IsAsciiText (zone_text note.zone ++ (Plain 93 ∷ [])) = ascii_append (zone_text note.zone) (Plain 93 ∷ []) (zone_ascii note.zone h) closing_ascii in
-    ascii_append (opening_text note.critical) (zone_text note.zone ++ (Plain 93 ∷ [])) (opening_ascii note.critical) closed
-
-calendar_key_ascii : IsAsciiText (map Plain (codes "[u-ca="))
-calendar_key_ascii = (omega arith, (omega arith, (omega arith, (omega arith, (omega arith, (omega arith, tt))))))
+bracket_ascii (Some note) h = let inside = zone_ascii note.zone h in search (arith, ascii_append, opening_ascii, inside)
 
 calendar_ascii : (calendar : Option (List ℕ)) → HasCalendar calendar → IsAsciiText (calendar_text calendar)
 calendar_ascii None h = tt
-calendar_ascii (Some value) h =
-    let closed : IsAsciiText (map Plain value ++ (Plain 93 ∷ [])) = ascii_append (map Plain value) (Plain 93 ∷ []) (ascii_value.ascii (map Plain value) h) closing_ascii in
-    ascii_append (map Plain (codes "[u-ca=")) (map Plain value ++ (Plain 93 ∷ [])) calendar_key_ascii closed
-
--- ---- the whole text
-
-core_ascii : (found : Parsed) → IsAsciiText (core_text found)
-unfolding core_text
-core_ascii found =
-    let times = time_text found.time in
-    let shifts = offset_text found.offset in
-    ascii_append (optional_date_text found.date) (times ++ shifts) (date_ascii found.date)
-    (ascii_append times shifts (time_ascii found.time) (offset_ascii found.offset))
+calendar_ascii (Some value) h = let inside = ascii_value.ascii (map Plain value) h in search (arith, ascii_append, inside)
 
 canonical_ascii : (found : Parsed) → IsSpelled found → IsAsciiText (canonical_text found)
-unfolding canonical_text
+unfolding canonical_text core_text
 canonical_ascii found h =
-    let zones = bracket_text found.zone in
-    let calendars = calendar_text found.calendar in
-    ascii_append (core_text found) (zones ++ calendars) (core_ascii found)
-    (ascii_append zones calendars (bracket_ascii found.zone h.zone) (calendar_ascii found.calendar h.calendar))
+    let zone = bracket_ascii found.zone h.zone in
+    let calendar = calendar_ascii found.calendar h.calendar in
+    search (ascii_append, date_ascii, time_ascii, offset_ascii, zone, calendar)
 
 shown_as_it_is : (text : Text) → IsAsciiText text → map Plain (bytes_of text) ≡ text
 shown_as_it_is [] h = refl

@@ -6,7 +6,7 @@ use Rattle.std.proofs.lemmas.Bool.{leb-true}
 use Rattle.std.proofs.lemmas.List.{take_all, length-append, length-replicate}
 use Rattle.std.proofs.Math.Nat.{pow-succ', mul-le-mul_left}
 use Rattle.ixdtf_grammar.specs.declared.records.DateRecord.{DateRecord}
-use Rattle.ixdtf.specs.language.Letters.{Text, digit, hyphen}
+use Rattle.ixdtf.specs.language.Letters.{Letter, Text, digit, hyphen}
 use Rattle.ixdtf.specs.language.Letters.Letter.{Plain}
 use Rattle.ixdtf.specs.language.Shapes.{digits}
 use Rattle.ixdtf.specs.language.Digits.{decimal, padded_digits}
@@ -80,18 +80,12 @@ of_shape : (text : Text) (date : DateRecord) → DateText text date → IsDayOfM
 of_shape text date (inl h) day =
     let year = of_year h.years date.year h.year in
     let long : length text ≡ length h.years + 4 =
-    rw h.is (omega (arith, length-append h.years (h.months ++ h.days), length-append h.months h.days, digits_long 2 _ h.month.0.0, digits_long 2 _ h.day.0)) in
+    rw h.is (omega (arith, length-append {A = Letter}, digits_long 2 _ h.month.0.0, digits_long 2 _ h.day.0)) in
     (record { year = year.0; month_from = h.month.1; month_to = h.month.2; day = day }, omega (arith, long, year.1, date_long date))
 of_shape text date (inr h) day =
     let year = of_year h.years date.year h.year in
     let long : length text ≡ length h.years + 6 =
-    rw h.is (omega (
-      arith,
-      length-append h.years (Plain 45 ∷ (h.months ++ (Plain 45 ∷ h.days))),
-      length-append h.months (Plain 45 ∷ h.days),
-      digits_long 2 _ h.month.0.0,
-      digits_long 2 _ h.day.0,
-    )) in
+    rw h.is (omega (arith, length-append {A = Letter}, digits_long 2 _ h.month.0.0, digits_long 2 _ h.day.0)) in
     (record { year = year.0; month_from = h.month.1; month_to = h.month.2; day = day }, omega (arith, long, year.1, date_long date))
 
 pub of_date : (text : Text) (date : DateRecord) → IsDate text date → IsDay date × (length (date_text date) ≤ length text + 2)
@@ -102,12 +96,7 @@ of_date text date h = of_shape text date h.0 h.1
 pub fraction_long : (fraction : FractionParts) → length (fraction_digits fraction) ≡ fraction.count
 unfolding fraction_digits
 fraction_long fraction =
-    omega (
-      arith,
-      length-append (padded_digits (places_of fraction) fraction.value) (replicate (fraction.count - 18) (Plain 48)),
-      length-padded (places_of fraction) fraction.value,
-      length-replicate (fraction.count - 18) (Plain 48),
-    )
+    omega (arith, length-append {A = Letter}, length-padded (places_of fraction) fraction.value, length-replicate (fraction.count - 18) (Plain 48))
 
 below_places : (n : ℕ) (ds : Text) → digits n ds → decimal (take 18 ds) < 10 ^ min (min n 255) 18
 below_places n ds d = by_count (nat_le n 18) refl

@@ -8,7 +8,7 @@ use Rattle.ixdtf_grammar.specs.declared.records.TimeRecord.{TimeRecord}
 use Rattle.ixdtf_grammar.specs.declared.records.UtcOffsetRecord.{UtcOffsetRecord}
 use Rattle.ixdtf_grammar.specs.declared.records.UtcOffsetRecordOrZ.{UtcOffsetRecordOrZ}
 use Rattle.ixdtf_grammar.specs.declared.records.UtcOffsetRecordOrZ.TheVariants as stands
-use Rattle.ixdtf.specs.language.Letters.{Text}
+use Rattle.ixdtf.specs.language.Letters.{Letter, Text}
 use Rattle.ixdtf.specs.language.Letters.Letter.{Plain}
 use Rattle.ixdtf.specs.language.Fractions.{FractionParts}
 use Rattle.ixdtf.specs.language.Times.{Clock, TimeShape, SecondText, ClockOf, IsTime, greatest_second, writes_seconds}
@@ -43,7 +43,7 @@ spare fractions = 2
 
 pub clock_long : (h m s : ℕ) (part : Option FractionParts) → length (clock_text h m s part) ≡ 8 + length (fraction_text part)
 unfolding clock_text
-clock_long h m s part = omega (arith, length-append (seconds_text h m s) (fraction_text part), seconds_long h m s)
+clock_long h m s part = omega (arith, length-append {A = Letter}, seconds_long h m s)
 
 abbrev clock_of : TimeRecord → Text
 clock_of time = clock_text time.hour time.minute time.second time.fraction
@@ -71,24 +71,12 @@ same_without clock text time (inr h) =
 of_seconds : (clock : Clock) (text : Text) (time : TimeRecord) → SecondText clock text (record time { fraction = None }) → HasDigits time.fraction
     → Clocked clock (2 + length (fraction_text time.fraction)) text time
 of_seconds clock text time (inl h) d =
-    let long : length text ≡ 6 = rw h.is (omega (
-      arith,
-      length-append h.hs (h.ms ++ h.ss),
-      length-append h.ms h.ss,
-      digits_long 2 _ h.hour.0,
-      digits_long 2 _ h.minute.0,
-      digits_long 2 _ h.second.0,
-    )) in
+    let long : length text ≡ 6 =
+    rw h.is (omega (arith, length-append {A = Letter}, digits_long 2 _ h.hour.0, digits_long 2 _ h.minute.0, digits_long 2 _ h.second.0)) in
     (record { hour = h.hour.2; minute = h.minute.2; second = h.second.2; fraction = d }, omega (arith, long, long_of time))
 of_seconds clock text time (inr h) d =
-    let long : length text ≡ 8 = rw h.is (omega (
-      arith,
-      length-append h.hs (Plain 58 ∷ (h.ms ++ (Plain 58 ∷ h.ss))),
-      length-append h.ms (Plain 58 ∷ h.ss),
-      digits_long 2 _ h.hour.0,
-      digits_long 2 _ h.minute.0,
-      digits_long 2 _ h.second.0,
-    )) in
+    let long : length text ≡ 8 =
+    rw h.is (omega (arith, length-append {A = Letter}, digits_long 2 _ h.hour.0, digits_long 2 _ h.minute.0, digits_long 2 _ h.second.0)) in
     (record { hour = h.hour.2; minute = h.minute.2; second = h.second.2; fraction = d }, omega (arith, long, long_of time))
 
 of_clock : (clock : Clock) (shape : TimeShape) (text : Text) (time : TimeRecord) → ClockOf clock shape text time → Clocked clock (spare shape) text time
@@ -99,11 +87,11 @@ of_clock clock hours text time h =
     )
 of_clock clock basic_minutes text time h =
     let none = no_digits time.fraction h.no_fraction in
-    let long : length text ≡ 4 = rw h.is (omega (arith, length-append h.hs h.ms, digits_long 2 _ h.hour.0, digits_long 2 _ h.minute.0)) in
+    let long : length text ≡ 4 = rw h.is (omega (arith, length-append {A = Letter}, digits_long 2 _ h.hour.0, digits_long 2 _ h.minute.0)) in
     (record { hour = h.hour.2; minute = h.minute.2; second = omega (arith, h.no_second); fraction = none.0 }, omega (arith, long_of time, none.1, long))
 of_clock clock colon_minutes text time h =
     let none = no_digits time.fraction h.no_fraction in
-    let long : length text ≡ 5 = rw h.is (omega (arith, length-append h.hs (Plain 58 ∷ h.ms), digits_long 2 _ h.hour.0, digits_long 2 _ h.minute.0)) in
+    let long : length text ≡ 5 = rw h.is (omega (arith, length-append {A = Letter}, digits_long 2 _ h.hour.0, digits_long 2 _ h.minute.0)) in
     (record { hour = h.hour.2; minute = h.minute.2; second = omega (arith, h.no_second); fraction = none.0 }, omega (arith, long_of time, none.1, long))
 of_clock clock seconds text time h =
     let none = no_digits time.fraction (no_fraction clock text time h) in
@@ -114,7 +102,7 @@ of_clock clock fractions text time h =
     let digits : HasDigits time.fraction = rw h.value part.0 in
     let whole = of_seconds clock h.whole time h.second digits in
     let same : length (fraction_text time.fraction) ≡ length (fraction_text (Some h.fraction)) = ap (λ f. length (fraction_text f)) h.value in
-    (whole.0, rw h.is (omega (arith, whole.1, part.1, same, length-append h.whole h.part)))
+    (whole.0, rw h.is (omega (arith, whole.1, part.1, same, length-append {A = Letter})))
 
 most_spare : (shape : TimeShape) → spare shape ≤ 6
 most_spare hours = omega arith
@@ -189,15 +177,7 @@ of_bracket text (Some note) h =
     let whole = of_zone h.inside note.zone h.zone in
     let opening = opening_long h.start note.critical h.opens in (
       whole.0,
-      rw h.is (omega (
-        arith,
-        whole.1,
-        opening,
-        length-append h.start (h.inside ++ (Plain 93 ∷ [])),
-        length-append h.inside (Plain 93 ∷ []),
-        length-append (opening_text note.critical) (zone_text note.zone ++ (Plain 93 ∷ [])),
-        length-append (zone_text note.zone) (Plain 93 ∷ []),
-      )),
+      rw h.is (omega (arith, whole.1, opening, length-append {A = Letter})),
     )
 
 -- ---- calendars
@@ -211,13 +191,7 @@ of_pair : (text : Text) (pair : Pair) → IsPair text pair → pair.key ≡ cale
 of_pair text pair h is =
     let keys : length h.keys ≡ 4 = rw (h.key, is) refl in (
       rw h.value at h.is_value,
-      rw (h.is, h.value) (omega (
-        arith,
-        keys,
-        opening_least h.start pair.critical h.opens,
-        length-append h.start (h.keys ++ (Plain 61 ∷ (map Plain pair.value ++ (Plain 93 ∷ [])))),
-        length-append h.keys (Plain 61 ∷ (map Plain pair.value ++ (Plain 93 ∷ []))),
-      )),
+      rw (h.is, h.value) (omega (arith, keys, opening_least h.start pair.critical h.opens, length-append {A = Letter})),
     )
 
 pub of_pairs : (text : Text) (pairs : List Pair) → ArePairs text pairs

@@ -8,6 +8,7 @@ use Rattle.ixdtf_grammar.specs.declared.records.DateRecord.{DateRecord}
 use Rattle.ixdtf_grammar.specs.declared.records.FullPrecisionOffset.{FullPrecisionOffset}
 use Rattle.ixdtf_grammar.specs.declared.records.MinutePrecisionOffset.{MinutePrecisionOffset}
 use Rattle.ixdtf_grammar.specs.declared.records.TimeRecord.{TimeRecord}
+use Rattle.ixdtf.specs.language.Letters.{Letter}
 use Rattle.ixdtf.specs.language.Letters.Letter.{Plain}
 use Rattle.ixdtf.specs.language.Digits.{padded_digits}
 use Rattle.ixdtf.specs.language.Fractions.{FractionParts}
@@ -56,17 +57,9 @@ signed_date_long date h = omega (arith, date_long date, year_seven date.year h)
 pub core_long : (found : Parsed) → length (core_text found)
     ≡ length (optional_date_text found.date) + length (time_text found.time) + length (offset_text found.offset)
 unfolding core_text
-core_long found = omega (
-  arith,
-  length-append (optional_date_text found.date) (time_text found.time ++ offset_text found.offset),
-  length-append (time_text found.time) (offset_text found.offset),
-)
+core_long found = omega (arith, length-append {A = Letter})
 
 pub canonical_long : (found : Parsed) → length (canonical_text found)
     ≡ length (core_text found) + length (bracket_text found.zone) + length (calendar_text found.calendar)
 unfolding canonical_text
-canonical_long found = omega (
-  arith,
-  length-append (core_text found) (bracket_text found.zone ++ calendar_text found.calendar),
-  length-append (bracket_text found.zone) (calendar_text found.calendar),
-)
+canonical_long found = omega (arith, length-append {A = Letter})

@@ -1,7 +1,7 @@
 -- The records that have a text are those whose fields have texts, and the canonical text is one of these texts.
-use Rattle.std.proofs.Common.{ℕ, ◌+◌, ◌≤◌, ◌≡◌, ◌↔◌, List, ◌++◌, length, Option, Some, None, refl, sym, ap, inl, inr, arith, append-nil, subst}
+use Rattle.std.proofs.Common.{ℕ, ◌+◌, ◌≤◌, ◌≡◌, ◌↔◌, Bool, IsTrue, List, ◌++◌, length, Option, Some, None, refl, sym, ap, inl, inr, arith, append-nil, subst}
 use Rattle.std.proofs.lemmas.List.{length-append}
-use Rattle.ixdtf.specs.language.Letters.{Text}
+use Rattle.ixdtf.specs.language.Letters.{Letter, Text}
 use Rattle.ixdtf.specs.language.Cores.{Core, OptionalOffset, IsDateTimeCore}
 use Rattle.ixdtf.specs.language.Brackets.{ZoneNote}
 use Rattle.ixdtf.specs.language.Languages.{Parsed}
@@ -10,9 +10,8 @@ use Rattle.ixdtf.specs.Handlers.{UnhandledRecord, own_replies, calendar_value, f
 use Rattle.ixdtf_grammar.specs.declared.records.DateRecord.{DateRecord}
 use Rattle.ixdtf_grammar.specs.declared.records.TimeRecord.{TimeRecord}
 use Rattle.ixdtf_grammar.specs.declared.records.UtcOffsetRecordOrZ.{UtcOffsetRecordOrZ}
-use Rattle.ixdtf_print.specs.Printable.{IsReadBack}
 use Rattle.ixdtf_print.specs.Canonical.{date_text, time_text, offset_text, bracket_text, calendar_text, optional_date_text, core_text, canonical_text}
-use Rattle.ixdtf_print.specs.Printable.{IsPrintable}
+use Rattle.ixdtf_print.specs.Printable.{IsPrintable, IsReadBack}
 use Rattle.ixdtf_print.specs.Spelled.{HasDay, HasTime, HasZone, HasCalendar, IsSpelled}
 use Rattle.ixdtf_print.proofs.Parse.{HasParts, to_parts, of_parts, one_record}
 use Rattle.ixdtf_print.proofs.ReadBack.{canonical_reads_back}
@@ -48,9 +47,7 @@ of_core text core (inr h) =
         offset.1,
         length-append (date_text h.date) (time_text (Some h.time) ++ offset_text h.offset),
         length-append (time_text (Some h.time)) (offset_text h.offset),
-        length-append h.dates (h.separator ++ (h.times ++ h.offsets)),
-        length-append h.separator (h.times ++ h.offsets),
-        length-append h.times h.offsets,
+        length-append {A = Letter},
         ap length h.separates.1,
       ),
     )
@@ -67,16 +64,7 @@ of_fields : (text cores brackets zones pairs_text : Text) (core : Core) (note : 
 unfolding canonical_text core_text
 of_fields text cores brackets zones pairs_text core note calendar is split c z k = (
   record { date = c.0; time = c.1; zone = z.0; calendar = k.0 },
-  rw (is, split) (omega (
-    arith,
-    c.2,
-    z.1,
-    k.1,
-    length-append (text_of core) (bracket_text note ++ calendar_text calendar),
-    length-append (bracket_text note) (calendar_text calendar),
-    length-append cores (zones ++ pairs_text),
-    length-append zones pairs_text,
-  )),
+  rw (is, split) (omega (arith, c.2, z.1, k.1, length-append {A = Letter})),
 )
 
 pub of_record : (text : Text) (found : Parsed) → HasParts text found → IsSpelled found × (length (canonical_text found) ≤ length text + 14)
@@ -90,6 +78,10 @@ printable_iff found = (
   λ p. (of_record p.0 found (to_parts p.0 found p.1)).0,
   λ s. (canonical_text found, of_parts (canonical_text found) found (canonical_reads_back found s)),
 )
+
+-- a test of the fields
+pub tests_printable : {test : Bool} {found : Parsed} → IsTrue test ↔ IsSpelled found → IsTrue test ↔ IsPrintable found
+tests_printable {found = found} both = (λ yes. (printable_iff found).1 (both.0 yes), λ p. both.1 ((printable_iff found).0 p))
 
 -- the canonical text of a printable record gives the record
 canonical_is_read : (found : Parsed) → IsPrintable found → UnhandledRecord parse (canonical_text found) found

@@ -22,7 +22,7 @@ use Rattle.ixdtf.specs.language.Fractions.{FractionParts, IsFraction, places_of}
 use Rattle.ixdtf.specs.language.Times.{Clock, TimeShape, SecondText, ClockOf, IsTime, has_seconds, greatest_second, writes_seconds}
 use Rattle.ixdtf.specs.language.Times.{Clock as clocks}
 use Rattle.ixdtf.specs.language.Times.TimeShape.{colon_minutes, seconds, fractions}
-use Rattle.ixdtf.specs.language.Offsets.{IsOffsetOrZ, IsMinuteOffset, full_of, offset_of, sign_of as sign_at}
+use Rattle.ixdtf.specs.language.Offsets.{IsSigned, IsOffsetOrZ, IsMinuteOffset, full_of, offset_of, sign_of as sign_at, minutes_of as minutes_at}
 use Rattle.ixdtf.specs.language.ZoneNames.{Zone, IsZone}
 use Rattle.ixdtf.specs.language.ZoneNames.Zone.{Name, Offset}
 use Rattle.ixdtf.specs.language.Brackets.{ZoneNote, Opens, OptionalBracket, Pair, Key, Value, IsPair, ArePairs}
@@ -205,17 +205,22 @@ same_sign : (s : Sign) → s ≡ sign_at (sign_of s)
 same_sign Positive = refl
 same_sign Negative = refl
 
+-- a sign, and what is written after it
+signed : {O : Type 0} {clock : Clock} {record_of : ℕ → TimeShape → TimeRecord → O} {body : Text} {offset : O} (s : Sign) (shape : TimeShape) (time : TimeRecord)
+    → ClockOf clock shape body time → offset ≡ record_of (sign_of s) shape time → IsSigned clock record_of (Plain (sign_of s) ∷ body) offset
+signed s shape time clock value = record { c = sign_of s; body = _; shape = shape; time = time; is = refl; sign = is_sign s; clock = clock; value = value }
+
+same_minutes : (offset : MinutePrecisionOffset) (second : ℕ) (part : Option FractionParts)
+    → offset ≡ minutes_at (sign_of offset.sign) (time_of offset.hour offset.minute second part)
+same_minutes offset second part = λ i. record { sign = same_sign offset.sign i; hour = offset.hour; minute = offset.minute }
+
+minute_signed : {O : Type 0} (clock : Clock) (record_of : ℕ → TimeShape → TimeRecord → O) (offset : MinutePrecisionOffset) (value : O) → IsMinuteClock offset
+    → value ≡ record_of (sign_of offset.sign) colon_minutes (time_of offset.hour offset.minute 0 None)
+    → IsSigned clock record_of (minute_offset_text offset) value
+minute_signed clock record_of offset value at is = signed offset.sign colon_minutes (time_of offset.hour offset.minute 0 None) (minute_clock clock offset at) is
+
 pub is_minute_offset : (offset : MinutePrecisionOffset) → IsMinuteClock offset → IsMinuteOffset (minute_offset_text offset) offset
-is_minute_offset offset at = record {
-  c = sign_of offset.sign;
-  body = minutes_text offset.hour offset.minute;
-  shape = colon_minutes;
-  time = time_of offset.hour offset.minute 0 None;
-  is = refl;
-  sign = is_sign offset.sign;
-  clock = minute_clock clocks.MinuteOffset offset at;
-  value = λ i. record { sign = same_sign offset.sign i; hour = offset.hour; minute = offset.minute };
-}
+is_minute_offset offset at = minute_signed clocks.MinuteOffset _ offset offset at (same_minutes offset 0 None)
 
 in_full : (c : ℕ) (b : Bool) (time : TimeRecord) → IsTrue b → full_of c time ≡ offset_of c b time
 in_full c true time h = refl
@@ -223,43 +228,14 @@ in_full c false time h = absurd cc
 
 pub is_offset : (offset : UtcOffsetRecordOrZ) → IsShift offset → IsOffsetOrZ (offset_text (Some offset)) offset
 is_offset stands.Z at = inr ((90, refl, refl), refl)
-is_offset (stands.Offset (offsets.MinutePrecision offset)) at = inl (
-  _,
-  record {
-    c = sign_of offset.sign;
-    body = minutes_text offset.hour offset.minute;
-    shape = colon_minutes;
-    time = time_of offset.hour offset.minute 0 None;
-    is = refl;
-    sign = is_sign offset.sign;
-    clock = minute_clock clocks.Offset offset at;
-    value = λ i. offsets.MinutePrecision (record { sign = same_sign offset.sign i; hour = offset.hour; minute = offset.minute });
-  },
-  refl,
-)
+is_offset (stands.Offset (offsets.MinutePrecision offset)) at =
+    inl (_, minute_signed clocks.Offset _ offset _ at (ap offsets.MinutePrecision (same_minutes offset 0 None)), refl)
 is_offset (stands.Offset (offsets.FullPrecisionOffset offset)) at =
     let minutes = offset.minute_precision_offset in
     let c = clock_of clocks.Offset refl (omega arith) minutes.hour minutes.minute offset.second offset.fraction at offset.fraction at.fraction in
-    inl (
-      _,
-      record {
-        c = sign_of minutes.sign;
-        body = clock_text minutes.hour minutes.minute offset.second offset.fraction;
-        shape = c.0;
-        time = time_of minutes.hour minutes.minute offset.second offset.fraction;
-        is = refl;
-        sign = is_sign minutes.sign;
-        clock = c.2;
-        value =
-            (λ i. offsets.FullPrecisionOffset (record {
-              minute_precision_offset = record { sign = same_sign minutes.sign i; hour = minutes.hour; minute = minutes.minute };
-              second = offset.second;
-              fraction = offset.fraction;
-            }))
-            ∙ in_full (sign_of minutes.sign) (writes_seconds c.0) (time_of minutes.hour minutes.minute offset.second offset.fraction) c.1;
-      },
-      refl,
-    )
+    let time = time_of minutes.hour minutes.minute offset.second offset.fraction in
+    let same = ap (λ m. offsets.FullPrecisionOffset (record offset { minute_precision_offset = m })) (same_minutes minutes offset.second offset.fraction) in
+    inl (_, signed minutes.sign c.0 time c.2 (same ∙ in_full (sign_of minutes.sign) (writes_seconds c.0) time c.1), refl)
 
 -- ---- brackets
 

@@ -7,7 +7,7 @@ use Rattle.ixdtf.specs.language.Readers.{parse}
 use Rattle.ixdtf_print.specs.Canonical.{canonical_text}
 use Rattle.ixdtf_print.specs.Printable.{IsPrintable, IsReadBack}
 
--- the canonical text of a record that `parse` reads from a text, with each pair its own reply, has at most 14 letters more
+-- the canonical text of a record that `parse` reads from a text, with each pair its own reply, has at most 14 code units more
 abbrev pub CanonicalFits : Type 0
 CanonicalFits = (text : Text) (found : Parsed) → UnhandledRecord parse text found → length (canonical_text found) ≤ length text + 14
 

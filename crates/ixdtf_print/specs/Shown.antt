@@ -6,7 +6,7 @@ use Rattle.ixdtf.specs.language.Letters.Letter.{Plain, Bad}
 use Rattle.ixdtf.specs.language.Languages.{Parsed}
 use Rattle.ixdtf_print.specs.Canonical.{canonical_text}
 
--- the number of a letter; no letter of a canonical text is Bad
+-- the number of a code unit; none of a canonical text is Bad
 abbrev pub number_of : Letter → ℕ
 number_of (Plain n) = n
 number_of Bad = 0

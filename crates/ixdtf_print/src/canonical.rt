@@ -9,7 +9,7 @@ ghost use Rattle.ixdtf_print.specs.Canonical.{zone_text, bracket_text, calendar_
 ghost use Rattle.ixdtf_print.specs.Printable.{IsPrintable, IsReadBack, record_of};
 ghost use Rattle.ixdtf_print.specs.Shown.{bytes_of, shown_text};
 
-use crate::check::is_spelled;
+use crate::check::is_printable;
 use crate::fields::{opening_of, put_core, put_minute_offset};
 use crate::length::core_length;
 use ixdtf::encoding::Utf8;
@@ -46,7 +46,7 @@ impl<'a> Canonical<'a> {
         ensures read_back { OnSome result (IsReadBack (record_of parsed.now)) }
         ensures none { (result ≡ None) ↔ ¬ (IsPrintable (record_of parsed.now)) }
     {
-        if !is_spelled(parsed) {
+        if !is_printable(parsed) {
             return None;
         }
         Some(Canonical { parsed })

@@ -1,7 +1,7 @@
 //! Whether a record has a text.
 ghost use Rattle.std.specs.Prelude.{◌≡◌, ◌↔◌, IsTrue, map, option_map};
 ghost use Rattle.ixdtf.specs.Views.{note_of, zone_of};
-ghost use Rattle.ixdtf_print.specs.Printable.{record_of};
+ghost use Rattle.ixdtf_print.specs.Printable.{IsPrintable, record_of};
 ghost use Rattle.ixdtf.specs.language.Letters.{Plain};
 ghost use Rattle.ixdtf.specs.language.Brackets.{Value};
 ghost use Rattle.ixdtf.specs.language.Dates.{is_leap, month_length};
@@ -167,8 +167,16 @@ fn has_calendar(calendar: Option<&[u8]>) -> bool
     }
 }
 
+/// Whether `parse` reads the record from some text.
+#[inline(always)]
+pub fn is_printable(parsed: &IxdtfParseRecord<'_, Utf8>) -> bool
+    ensures { IsTrue result ↔ IsPrintable (record_of parsed.now) }
+{
+    is_spelled(parsed)
+}
+
 /// Whether each field has a text, and the date is there.
-pub fn is_spelled(parsed: &IxdtfParseRecord<'_, Utf8>) -> bool
+fn is_spelled(parsed: &IxdtfParseRecord<'_, Utf8>) -> bool
     ensures { IsTrue result ↔ IsSpelled (record_of parsed.now) }
 {
     has_day(parsed.date)

@@ -5,7 +5,7 @@ ghost use Rattle.ixdtf_print.specs.Printable.{IsPrintable, record_of};
 ghost use Rattle.ixdtf_print.specs.Canonical.{fraction_text, time_text, offset_text, zone_text, bracket_text, calendar_text};
 ghost use Rattle.ixdtf_print.specs.Canonical.{optional_date_text, core_text, canonical_text};
 
-use crate::check::is_spelled;
+use crate::check::is_printable;
 use ixdtf::encoding::Utf8;
 use ixdtf::records::{
     DateRecord, Fraction, IxdtfParseRecord, TimeRecord, TimeZoneAnnotation, TimeZoneRecord,
@@ -140,7 +140,7 @@ pub fn printed_length(parsed: &IxdtfParseRecord<'_, Utf8>) -> Option<usize>
     ensures none { (result ≡ None) ↔ ¬ (IsPrintable (record_of parsed.now) ×
         (length (canonical_text (record_of parsed.now)) < 2 ^ 64)) }
 {
-    if !is_spelled(parsed) {
+    if !is_printable(parsed) {
         return None;
     }
     usize::try_from(length_of(parsed)).ok()

@@ -19,7 +19,7 @@ mod length;
 mod put;
 
 pub use canonical::Canonical;
-use check::is_spelled;
+use check::is_printable;
 pub use error::PrintError;
 use fields::put_record;
 use ixdtf::encoding::Utf8;
@@ -78,7 +78,7 @@ pub fn print(parsed: &IxdtfParseRecord<'_, Utf8>, out: &mut [u8]) -> Result<usiz
         (length out.old < length (canonical_text (record_of parsed.now)))) }
     ensures unchanged { OnErr result (out.new ≡ out.old) }
 {
-    if !is_spelled(parsed) {
+    if !is_printable(parsed) {
         return Err(PrintError::NotPrintable);
     }
     if (out.len() as u128) < length_of(parsed) {

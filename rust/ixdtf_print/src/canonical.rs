@@ -2,7 +2,7 @@
 
 //! A record that is displayed as its canonical text.
 
-use crate::check::is_spelled;
+use crate::check::is_printable;
 use crate::fields::{opening_of, put_core, put_minute_offset};
 use crate::length::core_length;
 use ixdtf::encoding::Utf8;
@@ -31,7 +31,7 @@ pub struct Canonical<'a> {
 impl<'a> Canonical<'a> {
     /// The record to display, or `None` where no text stands for it, as for one of `parse_time`, which has no date.
     pub fn of(parsed: &'a IxdtfParseRecord<'a, Utf8>) -> Option<Canonical<'a>> {
-        if !is_spelled(parsed) {
+        if !is_printable(parsed) {
             return None;
         }
         Some(Canonical { parsed })

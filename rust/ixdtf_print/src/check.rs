@@ -133,8 +133,14 @@ fn has_calendar(calendar: Option<&[u8]>) -> bool {
     }
 }
 
+/// Whether `parse` reads the record from some text.
+#[inline(always)]
+pub fn is_printable(parsed: &IxdtfParseRecord<'_, Utf8>) -> bool {
+    is_spelled(parsed)
+}
+
 /// Whether each field has a text, and the date is there.
-pub fn is_spelled(parsed: &IxdtfParseRecord<'_, Utf8>) -> bool {
+fn is_spelled(parsed: &IxdtfParseRecord<'_, Utf8>) -> bool {
     has_day(parsed.date)
         && has_time(parsed.time, parsed.offset)
         && has_zone(&parsed.tz)

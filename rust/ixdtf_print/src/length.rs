@@ -2,7 +2,7 @@
 
 //! How long the text of a record is.
 
-use crate::check::is_spelled;
+use crate::check::is_printable;
 use ixdtf::encoding::Utf8;
 use ixdtf::records::{
     DateRecord, Fraction, IxdtfParseRecord, TimeRecord, TimeZoneAnnotation, TimeZoneRecord,
@@ -106,7 +106,7 @@ pub fn length_of(parsed: &IxdtfParseRecord<'_, Utf8>) -> u128 {
 /// assert_eq!(print(&record, &mut out), Ok(length));
 /// ```
 pub fn printed_length(parsed: &IxdtfParseRecord<'_, Utf8>) -> Option<usize> {
-    if !is_spelled(parsed) {
+    if !is_printable(parsed) {
         return None;
     }
     usize::try_from(length_of(parsed)).ok()

@@ -13,7 +13,7 @@ mod length;
 mod put;
 
 pub use canonical::Canonical;
-use check::is_spelled;
+use check::is_printable;
 pub use error::PrintError;
 use fields::put_record;
 use ixdtf::encoding::Utf8;
@@ -57,7 +57,7 @@ pub use length::printed_length;
 /// [`PrintError::NotPrintable`] where no text stands for the record, and else [`PrintError::TooShort`] where the slice is
 /// shorter than the canonical text. The slice is as it was.
 pub fn print(parsed: &IxdtfParseRecord<'_, Utf8>, out: &mut [u8]) -> Result<usize, PrintError> {
-    if !is_spelled(parsed) {
+    if !is_printable(parsed) {
         return Err(PrintError::NotPrintable);
     }
     if (out.len() as u128) < length_of(parsed) {
