@@ -49,12 +49,15 @@ pub fn parse_annotation_key<'a, T: EncodingType>(
 {
     let start = cursor.rest();
     let passed = pass_letters(cursor, KeyLetters)?;
+    // It always is there: with this test a compiler sees it too, and keeps no panic.
+    let Some(key) = start.get(..start.len() - cursor.rest().len()) else {
+        return Err(Stop::AnnotationKeyChar);
+    };
     match passed.next {
         None => Err(Stop::AnnotationKeyValueSeparator),
         Some(byte) if is_annotation_key_value_separator(byte) => {
             cursor.step();
-            let behind = cursor.rest().len() + 1;
-            Ok(&start[..start.len().saturating_sub(behind)])
+            Ok(key)
         }
         Some(_) => Err(Stop::AnnotationKeyChar),
     }

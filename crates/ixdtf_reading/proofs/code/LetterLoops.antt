@@ -1,5 +1,6 @@
 -- Code units that a loop takes one by one.
 use Rattle.std.proofs.Common.{◌≡◌, ℕ, ◌+◌, ◌-◌, Bool, true, false, if◌then◌else◌, List, [], ◌∷◌, ◌++◌, length, map, drop, take, Option, Some, None, Ok, Err, refl}
+use Rattle.std.specs.List.{slice_range}
 use Rattle.std.proofs.{Common.{sym, ap, subst, ◌∙◌, arith, append_assoc, Result}, lemmas.List.{take-map, length-map, length-append, take_all, take-append-le}}
 use Rattle.ixdtf_grammar.specs.{language.Letters.{Letter, Text, Letter.{Plain, Bad}}, table.Faults.Fault.NonAsciiCodePoint}
 use Rattle.ixdtf_reading.specs.reading.{Looks.{Placed, Read, look_at, seen}, Zones.with_letter, Runs.{Taken, one_more, nothing_taken, on_letter, letters_by}}
@@ -198,6 +199,10 @@ pub front_is : {U : Type 0} (number : U → ℕ) (start after : List U) (taken r
     → map number after ≡ rest → map number (take (length start - length after) start) ≡ taken
 front_is number start after taken rest whole all split left =
     front_before number start (length after) taken rest whole all split (sym (length-map after number) ∙ ap length left)
+
+-- a range from the front
+pub range_is : {U : Type 0} (units : List U) (n : ℕ) → slice_range units 0 n ≡ take n units
+range_is units n = ap (λ m. take m units) (omega arith)
 
 -- what follows the first of so many code units, and that one
 pub behind_last : {U : Type 0} (number : U → ℕ) (after : List U) (rest left : List ℕ) → map number after ≡ left → left ≡ drop 1 rest
