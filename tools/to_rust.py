@@ -133,7 +133,7 @@ ADDED = {
     ('records', 'Sign'): '#[repr(i8)]',
 }
 OPEN = {name for (_, name), attribute in ADDED.items() if attribute == '#[non_exhaustive]'}
-INLINED = {'parsers', 'parsers/zones', 'parsers/duration'}
+INLINED = {'parsers', 'parsers/handled', 'parsers/unhandled', 'parsers/zones', 'parsers/duration'}
 MARKED = INLINED | {'error', 'located', 'records'}
 RESULTS = {'Result', 'ParserResult'}
 # the types with an equality that is a derived one, and the functions that it calls
