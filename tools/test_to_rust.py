@@ -104,8 +104,8 @@ def phrase(text):
 
 REMOVED = [phrase(t) for t in ['#![tactic(auto)]', '#[rattlefmt::skip]', 'use std::marker::Model;', '#[derive(Drop)]', 'pub mod laws;', 'mod laws;',
                                '#[cfg(test)] mod tests;', '#[cfg(test)]', 'pub mod turns;', 'pub use laws::{canonical_fits, canonical_is_read_back};', 'use ixdtf_print::canonical_fits;', 'canonical_fits();', 'use crate::looks::Looks;', 'looks: Looks,', 'looks: Looks::none(),', 'self.looks.tick();',
-                               'looks: std::mem::replace(&mut self.looks, Looks::none()),', 'self.count(here);', 'self.cursor.count(here);',
-                               'cursor.count(again);', '#[inline(always)] pub fn count(&mut self, here: Self) { self.looks = here.looks; }',
+                               'looks: std::mem::replace(&mut self.looks, Looks::none()),', 'self.keep_looks(here);', 'self.cursor.keep_looks(here);',
+                               'cursor.keep_looks(again);', '#[inline(always)] pub fn keep_looks(&mut self, here: Self) { self.looks = here.looks; }',
                                'impl PartialEq for LocatedError { fn eq(&self, other: &LocatedError) -> bool { self.at == other.at && self.error == other.error } }',
                                'impl PartialEq for ParseError { fn eq(&self, other: &ParseError) -> bool'
                                ' { self.place() == other.place() && self.location() == other.location() } }',
@@ -309,7 +309,7 @@ class Refuses(Copied):
         self.assertEqual((answer.returncode, answer.stderr), (0, ''))
 
     def test_attributes_and_macros(self):
-        for old, new in [('#[inline(always)]\n    pub fn step', '#[no_mangle]\n    pub fn step'), ('ghost use', 'ghost user')]:
+        for old, new in [('#[inline(always)]\n    pub fn advance', '#[no_mangle]\n    pub fn advance'), ('ghost use', 'ghost user')]:
             path = os.path.join(self.top, 'crates/ixdtf_reading/src/cursor.rt')
             with open(path, encoding='utf-8') as file:
                 text = file.read()

@@ -9,7 +9,7 @@ The tokens of the sources are kept in their order. What is removed:
   attributes     `#[tactic(..)]`, `#[rattlefmt::skip]`, and `Drop` in a `#[derive(..)]`
   modules        those that a crate of CRATES omits, with those below them, which have no code that another module calls, with the `use` of one
   phrases        those of UNSEEN, of which contracts alone speak, with the comments that stand right before them: the count of
-                 looks at units (with the module `looks` and `Cursor::count`), and calls of laws
+                 looks at units (with the module `looks` and `Cursor::keep_looks`), and calls of laws
 
 The library stands in layers, crates of their own (LAYERS), which are one crate here: a module of a layer stands where LAYERS has it,
 a path through a layer goes through `crate`, the root of a layer gives way to what the root of the library re-exports of it, and
@@ -66,7 +66,7 @@ LAYERS = {
     'ixdtf_grammar': 'encoding error located packed pointed records parsers/profile'.split(),
     'ixdtf_reading': 'cursor grammar stop parsers/annotations parsers/letters'.split(),
     'ixdtf_times': 'parsers/dates parsers/fixed parsers/months parsers/offsets parsers/time'.split(),
-    'ixdtf_brackets': 'parsers/brackets parsers/timezone'.split(),
+    'ixdtf_brackets': 'parsers/brackets parsers/zone'.split(),
     'ixdtf_durations': 'parsers/duration'.split(),
 }
 PLACES = {(layer, place.rpartition('/')[2]): place for layer, places in LAYERS.items() for place in places}
@@ -133,16 +133,16 @@ ADDED = {
     ('records', 'Sign'): '#[repr(i8)]',
 }
 OPEN = {name for (_, name), attribute in ADDED.items() if attribute == '#[non_exhaustive]'}
-INLINED = {'parsers', 'parsers/handled', 'parsers/unhandled', 'parsers/zones', 'parsers/duration'}
+INLINED = {'parsers', 'parsers/handled', 'parsers/unhandled', 'parsers/time_zone_parser', 'parsers/duration'}
 MARKED = INLINED | {'error', 'located', 'records'}
 RESULTS = {'Result', 'ParserResult'}
 # the types with an equality that is a derived one, and the functions that it calls
 DERIVED = {('error', 'ParseError'): {'place', 'location'}, ('located', 'LocatedError'): set()}
 UNSEEN = [phrase.split() for phrase in ['use crate :: looks :: Looks ;', 'looks : Looks ,', 'looks : Looks :: none ( ) ,', 'self . looks . tick ( ) ;',
                                         'looks : std :: mem :: replace ( & mut self . looks , Looks :: none ( ) ) ,',
-                                        'self . count ( here ) ;', 'self . cursor . count ( here ) ;', 'cursor . count ( again ) ;',
+                                        'self . keep_looks ( here ) ;', 'self . cursor . keep_looks ( here ) ;', 'cursor . keep_looks ( again ) ;',
                                         'use ixdtf_print :: canonical_fits ;', 'canonical_fits ( ) ;']]
-COUNT = '# [ inline ( always ) ] pub fn count ('.split()
+COUNT = '# [ inline ( always ) ] pub fn keep_looks ('.split()
 WRITER, FORMATTER = '< W : fmt :: Write >'.split(), 'fmt :: Formatter < W >'.split()
 USES = {'std::marker::Model': '', 'std::marker::{Model,PhantomData}': 'use std::marker::PhantomData;'}
 TEST_USES = {'std::process::Abort': 'Abort', 'std::test::Fail': 'Fail', 'std::alloc::{AllocError,Global}': '{AllocError, Global, String}', 'std::alloc::Global': 'Global'}

@@ -1,18 +1,10 @@
 -- What the functions promise by which the readers of whole texts read, each as one clause. No clause of a public reader cites
 -- this.
 use Rattle.std.specs.Prelude.{◌≡◌, ℕ, map, Result, OnOk, IfErr}
-use Rattle.ixdtf_grammar.specs.language.Letters.{Letter}
-use Rattle.ixdtf_grammar.specs.language.Readers.{Reader}
-use Rattle.ixdtf_grammar.specs.language.Languages.{Parsed}
-use Rattle.ixdtf_grammar.specs.table.Faults.{Fault}
-use Rattle.ixdtf_grammar.specs.table.Outcomes.{NoRowFits}
-use Rattle.ixdtf_grammar.specs.Handlers.{Step}
-use Rattle.ixdtf_grammar.specs.Laws.{InNoOther}
-use Rattle.ixdtf_grammar.specs.Places.{HandledToAt, UnhandledFaultAt, UnhandledOnlyPlace}
+use Rattle.ixdtf_grammar.specs.{language.{Letters.Letter, Readers.Reader, Languages.Parsed}, table.{Faults.Fault, Outcomes.NoRowFits}, Handlers.Step}
+use Rattle.ixdtf_grammar.specs.{Laws.InNoOther, Places.{HandledToAt, UnhandledFaultAt, UnhandledOnlyPlace}}
 use Rattle.ixdtf_grammar.specs.Views.{UnreadUnder, unread_of, LeavesBehind, returned_by}
-use Rattle.ixdtf_reading.specs.declared.stop.StopAt.{StopAt}
-use Rattle.ixdtf_reading.specs.reading.Chains.{TextReadTo}
-use Rattle.ixdtf_reading.specs.reading.Clauses.{UnhandledForm, fault_of_stop_at}
+use Rattle.ixdtf_reading.specs.{declared.stop.StopAt.StopAt, reading.{Chains.TextReadTo, Clauses.{UnhandledForm, fault_of_stop_at}}}
 
 -- into a record, which is `found` after `Ok`, with a handler that is left in the state `last`
 pub record ReadsInto {T U F : Type 0} (letter : ℕ → Letter) (number : U → ℕ) (step : Step T U F) (handler last : F)
@@ -38,7 +30,7 @@ pub record HandlesTextTo {T U F X E : Type 0} (letter : ℕ → Letter) (number 
   pub handled : HandledToAt number step handler last reader (map letter old.rest) fault stands view result
   -- `Ok` only where no row of the fault table fits, and where no other text reader has the text
   pub no_row : OnOk result (NoRowFits reader (map letter old.rest))
-  pub alone : OnOk result (InNoOther old.profile reader (map letter old.rest))
+  pub no_other_reader : OnOk result (InNoOther old.profile reader (map letter old.rest))
   -- nothing to be read after `Ok`, and all of it after an error
   pub leaves : LeavesBehind fault (unread_of old) result (unread_of new)
   pub profile : new.profile ≡ old.profile

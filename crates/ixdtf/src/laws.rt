@@ -27,7 +27,7 @@ use ixdtf_grammar::records::{
     IxdtfParseRecord, MinutePrecisionOffset, Sign, TimeDurationRecord, TimeRecord,
     TimeZoneAnnotation, TimeZoneRecord, UtcOffsetRecord, UtcOffsetRecordOrZ,
 };
-use ixdtf_reading::stop::Raised;
+use ixdtf_reading::stop::FromStop;
 
 /// Every date-time of RFC 3339, section 5.6, is read: [`IxdtfParser::parse`] returns `Ok` for it. That section's `T`
 /// and `Z` may be lowercase.
@@ -93,7 +93,7 @@ pub fn one_outcome()
 /// [`IsoDurationParser::parse`](crate::parsers::IsoDurationParser::parse).
 ///
 /// The law speaks of what is derived from a text, and so of the readers with a handler too, whatever it replies. The
-/// contract of each of these readers says this of a call that returned `Ok`, as `alone`.
+/// contract of each of these readers says this of a call that returned `Ok`, as `no_other_reader`.
 pub fn languages_disjoint()
     ensures { LanguagesDisjoint }
 {}
@@ -227,7 +227,7 @@ where
 
 /// Reads as [`parse_unanswered`] does, with an error made of a stop.
 #[inline(always)]
-fn parse_unanswered_as<'a, T: EncodingType, E: Raised, F>(
+fn parse_unanswered_as<'a, T: EncodingType, E: FromStop, F>(
     parser: &mut IxdtfParser<'a, T>,
     handler: F,
 ) -> Result<IxdtfParseRecord<'a, T>, E>

@@ -15,24 +15,24 @@ mod cores;
 mod handled;
 mod replies;
 mod texts;
+mod time_zone_parser;
 mod unhandled;
-mod zones;
 
-// Only for crates of this repository; not part of the public interface: what `read_by_reference` is generic in.
+// Only for crates of this repository; not part of the public interface: what `read_lending_handler` is generic in.
 #[doc(hidden)]
-pub use self::cores::{Cores, DateTimes, LoneTimes, MonthDays, YearMonths};
+pub use self::cores::{CoreReader, DateTimes, MonthDays, Times, YearMonths};
 // The library for C keeps the calendar of replies by the same rule.
 #[doc(hidden)]
 pub use self::replies::keep_first_calendar;
 use self::texts::parse_text;
-pub use self::zones::TimeZoneParser;
+pub use self::time_zone_parser::TimeZoneParser;
 pub use ixdtf_durations::duration::IsoDurationParser;
 use ixdtf_grammar::encoding::{EncodingType, Utf8, Utf16};
 pub use ixdtf_grammar::profile::Profile;
 use ixdtf_grammar::records::{Annotation, IxdtfParseRecord};
 use ixdtf_reading::cursor::Cursor;
 #[doc(hidden)]
-pub use ixdtf_reading::stop::Raised;
+pub use ixdtf_reading::stop::FromStop;
 use ixdtf_reading::stop::StopAt;
 use std::marker::Model;
 
@@ -169,7 +169,7 @@ impl<'a, T: EncodingType> IxdtfParser<'a, T> {
     /// Each public reader of records calls this one, and returns in each arm. Where a reader returns the result of another
     /// one, or its arms meet before it returns, the whole record is copied once more.
     #[inline(always)]
-    fn read_into<C: Cores, F>(
+    fn read_into<C: CoreReader, F>(
         &mut self,
         handler: &mut F,
         found: &mut IxdtfParseRecord<'a, T>,
@@ -180,7 +180,7 @@ impl<'a, T: EncodingType> IxdtfParser<'a, T> {
         requires empty { IsEmptyRecord found.old }
         ensures reads { ReadsInto T.letter T.number F.step handler.old handler.new (parsed_of T.number found.new) (bracketed (C.kind self.old.profile)) self.old result self.new }
     {
-        let mut here = self.cursor.take();
+        let mut here = self.cursor.fork();
         match parse_text::<T, C, F>(&mut here, self.profile, handler, found) {
             Ok(()) => {
                 self.cursor = here;
@@ -188,7 +188,7 @@ impl<'a, T: EncodingType> IxdtfParser<'a, T> {
             }
             Err(stop) => {
                 let at = self.cursor.remaining().saturating_sub(here.remaining());
-                self.cursor.count(here);
+                self.cursor.keep_looks(here);
                 Err(StopAt { stop, at })
             }
         }

@@ -1,17 +1,11 @@
 -- The answer to a line with a space, and what a reader returns for its text.
-use Rattle.std.proofs.Common.{◌≡◌, ℕ, ◌+◌, ◌-◌, ◌≤◌, Bool, List, length, take, drop, Option, Some, MatchOption, position, inl, inr, refl, sym, subst}
-use Rattle.std.proofs.Common.{ap, arith, codes, ◌++◌}
-use Rattle.std.proofs.lemmas.Bool.{le-ltb}
-use Rattle.std.proofs.lemmas.List.{take_all, length-drop}
+use Rattle.std.proofs.Common.{◌≡◌, ℕ, ◌+◌, ◌-◌, ◌≤◌, Bool, List, length, take, drop, Option, Some, MatchOption, position, inl, inr, refl, sym, subst, ap}
+use Rattle.std.proofs.{Common.{arith, codes, ◌++◌}, lemmas.{Bool.le-ltb, List.{take_all, length-drop}}}
 use Rattle.std.specs.Bool.{MatchBool}
 use Rattle.ixdtf_grammar.specs.declared.profile.Profile.{Profile}
-use Rattle.ixdtf.specs.table.Faults.{Fault}
-use Rattle.ixdtf.specs.language.Languages.{Found}
-use Rattle.ixdtf.specs.language.Readers.{Reader}
+use Rattle.ixdtf.specs.{table.Faults.Fault, language.{Languages.Found, Readers.Reader}}
 use Rattle.ixdtf_answers.specs.Answer.{line_limit, too_long, unknown_reader, is_space, letters, shown_of, error_answer_of, Gives, Refuses, IsAnswer}
-use Rattle.ixdtf_answers.specs.Answer.{IsReaderAnswer, IsOutcome}
-use Rattle.ixdtf_answers.specs.Word.{name_of, reader_of}
-use Rattle.ixdtf_answers.specs.declared.word.Word.{Word}
+use Rattle.ixdtf_answers.specs.{Answer.{IsReaderAnswer, IsOutcome}, Word.{name_of, reader_of}, declared.word.Word.Word}
 
 -- the answer, with the two tests as variables
 abbrev IsAnswerBy : List ℕ → List ℕ → Bool → Option ℕ → Type 0

@@ -1,25 +1,15 @@
 -- Each line has an answer.
 use Rattle.std.proofs.Common.{◌≡◌, ◌≢◌, ◌⊎◌, ℕ, ◌+◌, Bool, true, false, List, [], ◌∷◌, ◌++◌, length, take, drop, Option, Some, None, MatchOption, position}
-use Rattle.std.proofs.Common.{refl, sym, ap, subst, true≢false, ◌∙◌, inl, inr, append_assoc, nat_lt}
+use Rattle.std.proofs.{Common.{refl, sym, ap, subst, true≢false, ◌∙◌, inl, inr, append_assoc, nat_lt}, lemmas.Slice.Eq.bytes_eq-Decides}
 use Rattle.std.specs.Bool.{MatchBool}
-use Rattle.std.proofs.lemmas.Slice.Eq.{bytes_eq-Decides}
-use Rattle.ixdtf.specs.language.Languages.{Found}
-use Rattle.ixdtf.specs.language.Languages.Found.{parsed}
-use Rattle.ixdtf.specs.language.Letters.{Text}
-use Rattle.ixdtf.specs.language.Readers.{Reader}
-use Rattle.ixdtf.specs.language.Readers.Reader.{bracketed}
-use Rattle.ixdtf.specs.table.Faults.{Fault}
-use Rattle.ixdtf.specs.Widths.{UnhandledOutcome, HasUnhandledOutcome}
-use Rattle.ixdtf.specs.Widths.UnhandledOutcome.{read_as, faulted}
+use Rattle.ixdtf.specs.{language.{Languages.{Found, Found.parsed}, Letters.Text, Readers.{Reader, Reader.bracketed}}, table.Faults.Fault}
+use Rattle.ixdtf.specs.Widths.{UnhandledOutcome, HasUnhandledOutcome, UnhandledOutcome.{read_as, faulted}}
 use Rattle.ixdtf_reading.proofs.theorems.OneUnhandledOutcome.{one_unhandled_outcome}
 use Rattle.ixdtf_answers.specs.Answer.{line_limit, too_long, unknown_reader, is_space, letters, ok_answer_of, error_answer_of, Gives, Refuses, IsOutcome}
-use Rattle.ixdtf_answers.specs.Answer.{IsReaderAnswer, IsAnswer}
-use Rattle.ixdtf_buffers.specs.Lines.{newline}
-use Rattle.ixdtf_answers.specs.Run.{AreAnswers}
-use Rattle.ixdtf_answers.specs.Word.{name_of, reader_of, IsNoWord}
-use Rattle.ixdtf_answers.specs.declared.word.Word.{Word}
+use Rattle.ixdtf_answers.specs.{Answer.{IsReaderAnswer, IsAnswer}, Run.AreAnswers, Word.{name_of, reader_of, IsNoWord}, declared.word.Word.Word}
 use Rattle.ixdtf_answers.specs.declared.word.Word.TheVariants.{Parse, YearMonth, MonthDay, Time, Offset, Zone, Iana, Duration, StrictMonthDay, StrictTime}
 use Rattle.ixdtf_answers.specs.declared.word.Word.TheVariants.{StrictDuration, Canonical}
+use Rattle.ixdtf_buffers.specs.Lines.{newline}
 
 -- ---- each text has an outcome
 

@@ -1,16 +1,8 @@
 -- A record that was read from a line is printed into the array of an answer.
-use Rattle.std.proofs.Common.{◌≡◌, ◌<◌, ◌≤◌, ◌+◌, ◌↔◌, ◌∙◌, ℕ, List, [], ◌∷◌, length, map, Result, Err, refl, sym, ap, arith}
-use Rattle.std.proofs.lemmas.List.{length-map}
-use Rattle.ixdtf.specs.Handlers.{UnhandledRecord}
-use Rattle.ixdtf.specs.language.Languages.{Parsed}
-use Rattle.ixdtf.specs.language.Letters.{Text, Letter, byte_letter}
-use Rattle.ixdtf.specs.language.Readers.{parse}
-use Rattle.ixdtf_answers.specs.Fields.{byte_of}
-use Rattle.ixdtf_answers.specs.Printed.{FitsArray}
-use Rattle.ixdtf_print.specs.Canonical.{canonical_text}
-use Rattle.ixdtf_print.specs.Printable.{IsPrintable}
-use Rattle.ixdtf_print.specs.Laws.{CanonicalFits}
-use Rattle.ixdtf_print.specs.declared.error.PrintError.{PrintError}
+use Rattle.std.proofs.{Common.{◌≡◌, ◌<◌, ◌≤◌, ◌+◌, ◌↔◌, ◌∙◌, ℕ, List, [], ◌∷◌, length, map, Result, Err, refl, sym, ap, arith}, lemmas.List.length-map}
+use Rattle.ixdtf.specs.{Handlers.UnhandledRecord, language.{Languages.Parsed, Letters.{Text, Letter, byte_letter}, Readers.parse}}
+use Rattle.ixdtf_answers.specs.{Fields.byte_of, Printed.FitsArray}
+use Rattle.ixdtf_print.specs.{Canonical.canonical_text, Printable.IsPrintable, Laws.CanonicalFits, declared.error.PrintError.PrintError}
 use Rattle.ixdtf_print.specs.declared.error.PrintError.TheVariants.{NotPrintable, TooShort}
 
 pub read_fits : (text : List ℕ) (found : Parsed) → CanonicalFits → UnhandledRecord parse (map byte_letter text) found → length text ≤ 4096 → FitsArray found

@@ -1,20 +1,13 @@
 -- The steps of a run.
-use Rattle.std.proofs.Common.{◌≡◌, ◌≢◌, ℕ, ◌+◌, List, [], ◌∷◌, ◌++◌, take, drop, Option, Some, None, position, Result, Ok, Err, OnOk, MatchResult}
-use Rattle.std.proofs.Common.{refl, sym, ap, subst, ◌∙◌, append_assoc}
-use Rattle.std.proofs.lemmas.List.{append-nil, take-append-drop}
+use Rattle.std.proofs.Common.{◌≡◌, ◌≢◌, ℕ, ◌+◌, List, [], ◌∷◌, ◌++◌, take, drop, Option, Some, None, position, Result, Ok, Err, OnOk, MatchResult, refl, sym}
+use Rattle.std.proofs.{Common.{ap, subst, ◌∙◌, append_assoc}, lemmas.List.{append-nil, take-append-drop}}
 use Rattle.std.specs.Io.KnownBytes.{Appends}
-use Rattle.ixdtf_buffers.specs.declared.line.Line.{Line}
-use Rattle.ixdtf_buffers.specs.declared.output.Output.{Output}
-use Rattle.ixdtf_buffers.specs.declared.error.RunError.{RunError}
-use Rattle.ixdtf_answers.specs.Answer.{IsAnswer, line_limit}
-use Rattle.ixdtf_buffers.specs.Line.{Holds}
-use Rattle.ixdtf_buffers.specs.Lines.{newline, is_byte, ended_lines_of, unended_of, last_line_of, lines_of}
-use Rattle.ixdtf_buffers.specs.Output.{AppendsFront, Sent, written, Puts}
-use Rattle.ixdtf_answers.specs.Progress.{TakesAnswers, Stands, Rests, Fails}
-use Rattle.ixdtf_answers.specs.Run.{AreAnswers, WritesAnswers, WritesFront}
-use Rattle.ixdtf_answers.proofs.EachLine.{all_answers, AreAnswers-append}
+use Rattle.ixdtf_buffers.specs.{declared.{line.Line.Line, output.Output.Output, error.RunError.RunError}, Line.Holds}
+use Rattle.ixdtf_buffers.specs.{Lines.{newline, is_byte, ended_lines_of, unended_of, last_line_of, lines_of}, Output.{AppendsFront, Sent, written, Puts}}
 use Rattle.ixdtf_buffers.proofs.LinesLemmas.{split_of-line, split_of-rest, ended_lines_of-append}
 use Rattle.ixdtf_buffers.proofs.OutputLemmas.{Sent-trans, Sent-front, Sent-all, Sent-written}
+use Rattle.ixdtf_answers.specs.{Answer.{IsAnswer, line_limit}, Progress.{TakesAnswers, Stands, Rests, Fails}, Run.{AreAnswers, WritesAnswers, WritesFront}}
+use Rattle.ixdtf_answers.proofs.EachLine.{all_answers, AreAnswers-append}
 
 -- one more line, and its answer
 AreAnswers-more : (lines : List (List ℕ)) (written line answer : List ℕ) → AreAnswers lines written → IsAnswer line answer

@@ -1,18 +1,10 @@
 -- The start and the ends of a run.
-use Rattle.std.proofs.Common.{◌≡◌, ℕ, List, [], take, Option, Result, Ok, Err, MatchResult, IsErrAnd, refl, subst}
-use Rattle.std.proofs.lemmas.List.{append-nil}
+use Rattle.std.proofs.{Common.{◌≡◌, ℕ, List, [], take, Option, Result, Ok, Err, MatchResult, IsErrAnd, refl, subst}, lemmas.List.append-nil}
 use Rattle.std.proofs.KnownBytes.{Appends-nil, Consumes-trans, Consumes-whole}
 use Rattle.std.specs.Io.KnownBytes.{Consumes, IsAtEnd}
-use Rattle.ixdtf_buffers.specs.declared.error.RunError.{RunError}
-use Rattle.ixdtf_buffers.specs.declared.error.RunError.TheVariants.{Read}
-use Rattle.ixdtf_buffers.specs.declared.line.Line.{Line}
-use Rattle.ixdtf_buffers.specs.Line.{Holds}
-use Rattle.ixdtf_answers.specs.Answer.{line_limit}
-use Rattle.ixdtf_buffers.specs.Lines.{split_of, ended_lines_of, lines_of, last_line_of, unended_of}
-use Rattle.ixdtf_buffers.specs.declared.output.Output.{Output}
-use Rattle.ixdtf_buffers.specs.Output.{written}
-use Rattle.ixdtf_answers.specs.Progress.{Rests, Fails, Runs}
-use Rattle.ixdtf_answers.specs.Run.{WritesAnswers}
+use Rattle.ixdtf_buffers.specs.{declared.{error.RunError.{RunError, TheVariants.Read}, line.Line.Line, output.Output.Output}, Line.Holds}
+use Rattle.ixdtf_buffers.specs.{Lines.{split_of, ended_lines_of, lines_of, last_line_of, unended_of}, Output.written}
+use Rattle.ixdtf_answers.specs.{Answer.line_limit, Progress.{Rests, Fails, Runs}, Run.WritesAnswers}
 use Rattle.ixdtf_answers.proofs.Progress.{WritesFront-append}
 
 -- nothing was read

@@ -1,19 +1,10 @@
 -- The answer to one line, without its newline.
-use Rattle.std.specs.Prelude.{◌≡◌, ℕ, ◌+◌, Bool, ◌==◌, ◌⊎◌, List, [], ◌++◌, map, length, take, drop, nat_lt, MatchOption, position, codes}
-use Rattle.std.specs.Bool.{MatchBool}
-use Rattle.ixdtf.specs.table.ErrorTexts.{message_of}
-use Rattle.ixdtf.specs.table.Faults.{Fault}
-use Rattle.ixdtf.specs.Handlers.{UnhandledRecord, UnhandledFault}
-use Rattle.ixdtf.specs.language.Languages.{Found, Derives}
-use Rattle.ixdtf.specs.table.Outcomes.{HasFault}
-use Rattle.ixdtf.specs.language.Languages.Found.{parsed, shifted, identified, named, lasting}
-use Rattle.ixdtf.specs.language.Letters.{Text, byte_letter}
-use Rattle.ixdtf.specs.language.Readers.{Reader}
+use Rattle.std.specs.{Prelude.{◌≡◌, ℕ, ◌+◌, Bool, ◌==◌, ◌⊎◌, List, [], ◌++◌, map, length, take, drop, nat_lt, MatchOption, position, codes}, Bool.MatchBool}
+use Rattle.ixdtf.specs.{table.{ErrorTexts.message_of, Faults.Fault, Outcomes.HasFault}, Handlers.{UnhandledRecord, UnhandledFault}}
+use Rattle.ixdtf.specs.language.{Languages.{Found, Derives, Found.{parsed, shifted, identified, named, lasting}}, Letters.{Text, byte_letter}, Readers.Reader}
 use Rattle.ixdtf.specs.language.Readers.Reader.{bracketed, parse_offset, parse_identifier, parse_iana_identifier, parse_duration}
-use Rattle.ixdtf_answers.specs.Fields.{fields_of, canonical_field_of}
-use Rattle.ixdtf_answers.specs.Word.{name_of, reader_of, IsNoWord}
-use Rattle.ixdtf_answers.specs.declared.word.Word.{Word}
-use Rattle.ixdtf_answers.specs.declared.word.Word.TheVariants.{Parse, YearMonth, MonthDay, Time, Offset, Zone, Iana, Duration, StrictMonthDay, StrictTime}
+use Rattle.ixdtf_answers.specs.{Fields.{fields_of, canonical_field_of}, Word.{name_of, reader_of, IsNoWord}, declared.word.Word.{Word, TheVariants.Parse}}
+use Rattle.ixdtf_answers.specs.declared.word.Word.TheVariants.{YearMonth, MonthDay, Time, Offset, Zone, Iana, Duration, StrictMonthDay, StrictTime}
 use Rattle.ixdtf_answers.specs.declared.word.Word.TheVariants.{StrictDuration, Canonical}
 
 -- the longest line that is read

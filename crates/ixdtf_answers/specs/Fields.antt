@@ -1,30 +1,15 @@
 -- The fields of what a reader derives, each after a space.
-use Rattle.std.specs.Prelude.{ℕ, Bool, true, false, List, [], ◌∷◌, ◌++◌, map, Option, Some, None, codes}
-use Rattle.std.specs.Fmt.{decimal, signed_decimal}
-use Rattle.ixdtf_grammar.specs.declared.records.DateDurationRecord.{DateDurationRecord}
-use Rattle.ixdtf_grammar.specs.declared.records.DateRecord.{DateRecord}
-use Rattle.ixdtf_grammar.specs.declared.records.DurationParseRecord.{DurationParseRecord}
-use Rattle.ixdtf_grammar.specs.declared.records.FullPrecisionOffset.{FullPrecisionOffset}
-use Rattle.ixdtf_grammar.specs.declared.records.MinutePrecisionOffset.{MinutePrecisionOffset}
-use Rattle.ixdtf_grammar.specs.declared.records.Sign.{Sign}
-use Rattle.ixdtf_grammar.specs.declared.records.Sign.TheVariants.{Negative, Positive}
-use Rattle.ixdtf_grammar.specs.declared.records.TimeDurationRecord.{TimeDurationRecord}
-use Rattle.ixdtf_grammar.specs.declared.records.TimeDurationRecord.TheVariants.{Hours, Minutes, Seconds}
-use Rattle.ixdtf_grammar.specs.declared.records.TimeRecord.{TimeRecord}
-use Rattle.ixdtf_grammar.specs.declared.records.UtcOffsetRecord.{UtcOffsetRecord}
 use Rattle.ixdtf_grammar.specs.declared.records.UtcOffsetRecord.TheVariants as offsets
-use Rattle.ixdtf_grammar.specs.declared.records.UtcOffsetRecordOrZ.{UtcOffsetRecordOrZ}
 use Rattle.ixdtf_grammar.specs.declared.records.UtcOffsetRecordOrZ.TheVariants as shifts
-use Rattle.ixdtf.specs.language.Digits.{padded_digits}
-use Rattle.ixdtf.specs.language.Fractions.{FractionParts, nanoseconds_of}
-use Rattle.ixdtf.specs.language.Brackets.{ZoneNote}
-use Rattle.ixdtf.specs.language.Letters.{Letter}
-use Rattle.ixdtf.specs.language.Letters.Letter.{Plain, Bad}
-use Rattle.ixdtf.specs.language.Languages.{Parsed, Found}
-use Rattle.ixdtf.specs.language.Languages.Found.{parsed, shifted, identified, named, lasting}
+use Rattle.std.specs.{Prelude.{ℕ, Bool, true, false, List, [], ◌∷◌, ◌++◌, map, Option, Some, None, codes}, Fmt.{decimal, signed_decimal}}
+use Rattle.ixdtf_grammar.specs.declared.records.{DateDurationRecord.DateDurationRecord, DateRecord.DateRecord, DurationParseRecord.DurationParseRecord}
+use Rattle.ixdtf_grammar.specs.declared.records.{FullPrecisionOffset.FullPrecisionOffset, MinutePrecisionOffset.MinutePrecisionOffset, Sign.Sign}
+use Rattle.ixdtf_grammar.specs.declared.records.{Sign.TheVariants.{Negative, Positive}, TimeDurationRecord.TimeDurationRecord}
+use Rattle.ixdtf_grammar.specs.declared.records.{TimeDurationRecord.TheVariants.{Hours, Minutes, Seconds}, TimeRecord.TimeRecord}
+use Rattle.ixdtf_grammar.specs.declared.records.{UtcOffsetRecord.UtcOffsetRecord, UtcOffsetRecordOrZ.UtcOffsetRecordOrZ}
+use Rattle.ixdtf.specs.language.{Digits.padded_digits, Fractions.{FractionParts, nanoseconds_of}, Brackets.ZoneNote, Letters.{Letter, Letter.{Plain, Bad}}}
+use Rattle.ixdtf.specs.language.{Languages.{Parsed, Found, Found.{parsed, shifted, identified, named, lasting}}, ZoneNames.{Zone, Zone.{Name, Offset}}}
 use Rattle.ixdtf_print.specs.Canonical.{canonical_text}
-use Rattle.ixdtf.specs.language.ZoneNames.{Zone}
-use Rattle.ixdtf.specs.language.ZoneNames.Zone.{Name, Offset}
 
 -- `,`
 abbrev pub comma : ℕ

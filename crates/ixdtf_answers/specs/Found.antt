@@ -1,11 +1,8 @@
 -- What the readers find, as the grammar says it.
 use Rattle.std.specs.Prelude.{ℕ, List, map}
-use Rattle.ixdtf.specs.Views.{parsed_of, zone_of}
+use Rattle.ixdtf.specs.{Views.{parsed_of, zone_of}, language.Languages.{Found, Found.{parsed, shifted, identified, named, lasting}}}
 use Rattle.ixdtf_print.specs.Printable.{record_of}
-use Rattle.ixdtf.specs.language.Languages.{Found}
-use Rattle.ixdtf.specs.language.Languages.Found.{parsed, shifted, identified, named, lasting}
-use Rattle.ixdtf_answers.specs.declared.found.Found.{Found as FoundInCode}
-use Rattle.ixdtf_answers.specs.declared.found.Found.TheVariants.{Record, Offset, Zone, Name, Duration, Canonical}
+use Rattle.ixdtf_answers.specs.declared.found.Found.{Found as FoundInCode, TheVariants.{Record, Offset, Zone, Name, Duration, Canonical}}
 use Rattle.ixdtf_answers.specs.Fields.{fields_of, canonical_field_of}
 
 abbrev pub found_of : FoundInCode → Found

@@ -1,8 +1,7 @@
 -- Records that are printed into the array of an answer.
 use Rattle.std.specs.Prelude.{◌≤◌, length}
 use Rattle.ixdtf.specs.language.Languages.{Parsed}
-use Rattle.ixdtf_print.specs.Canonical.{canonical_text}
-use Rattle.ixdtf_print.specs.Printable.{IsPrintable}
+use Rattle.ixdtf_print.specs.{Canonical.canonical_text, Printable.IsPrintable}
 
 -- the record cannot be unprintable, and its canonical text fits into 4,352 bytes
 abbrev pub FitsArray : Parsed → Type 0

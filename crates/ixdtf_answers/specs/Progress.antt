@@ -1,15 +1,8 @@
 -- How far a run has come. No clause of `run` cites this module.
-use Rattle.std.specs.Prelude.{◌≡◌, ℕ, List, [], Option, Result, Err, OnOk, IfSome}
-use Rattle.std.specs.Io.KnownBytes.{Consumes}
-use Rattle.ixdtf_buffers.specs.declared.error.RunError.{RunError}
-use Rattle.ixdtf_buffers.specs.declared.error.RunError.TheVariants.{Read, Write}
-use Rattle.ixdtf_buffers.specs.declared.line.Line.{Line}
-use Rattle.ixdtf_buffers.specs.declared.output.Output.{Output}
-use Rattle.ixdtf_buffers.specs.Line.{Holds}
-use Rattle.ixdtf_answers.specs.Answer.{line_limit}
-use Rattle.ixdtf_buffers.specs.Lines.{lines_of, ended_lines_of, unended_of}
-use Rattle.ixdtf_buffers.specs.Output.{Sent, written}
-use Rattle.ixdtf_answers.specs.Run.{AreAnswers, WritesAnswers, WritesFront}
+use Rattle.std.specs.{Prelude.{◌≡◌, ℕ, List, [], Option, Result, Err, OnOk, IfSome}, Io.KnownBytes.Consumes}
+use Rattle.ixdtf_buffers.specs.{declared.{error.RunError.{RunError, TheVariants.{Read, Write}}, line.Line.Line, output.Output.Output}, Line.Holds}
+use Rattle.ixdtf_buffers.specs.{Lines.{lines_of, ended_lines_of, unended_of}, Output.{Sent, written}}
+use Rattle.ixdtf_answers.specs.{Answer.line_limit, Run.{AreAnswers, WritesAnswers, WritesFront}}
 
 -- the answers to the lines were taken, and written but for those that wait
 pub record TakesAnswers (start now : Option (List ℕ)) (waiting : List ℕ) (lines : List (List ℕ)) : Type 0 where

@@ -1,6 +1,5 @@
 -- What a run writes for the bytes that it reads.
-use Rattle.std.specs.Prelude.{◌≡◌, ℕ, List, [], ◌∷◌, ◌++◌, Option}
-use Rattle.std.specs.Io.KnownBytes.{Appends}
+use Rattle.std.specs.{Prelude.{◌≡◌, ℕ, List, [], ◌∷◌, ◌++◌, Option}, Io.KnownBytes.Appends}
 use Rattle.ixdtf_answers.specs.Answer.{IsAnswer}
 use Rattle.ixdtf_buffers.specs.Lines.{newline}
 

@@ -1,12 +1,10 @@
 -- The words, and the readers that they name.
 use Rattle.std.specs.Prelude.{◌≡◌, ◌≢◌, ℕ, List, Option, Some, None, codes}
 use Rattle.ixdtf_grammar.specs.declared.profile.Profile.TheVariants.{Crate, Strict}
-use Rattle.ixdtf.specs.language.Readers.{Reader}
-use Rattle.ixdtf.specs.language.Readers.{parse, parse_year_month, parse_month_day, parse_time}
+use Rattle.ixdtf.specs.language.Readers.{Reader, parse, parse_year_month, parse_month_day, parse_time}
 use Rattle.ixdtf.specs.language.Readers.Reader.{parse_offset, parse_identifier, parse_iana_identifier, parse_duration}
-use Rattle.ixdtf_answers.specs.declared.word.Word.{Word}
-use Rattle.ixdtf_answers.specs.declared.word.Word.TheVariants.{Parse, YearMonth, MonthDay, Time, Offset, Zone, Iana, Duration, StrictMonthDay, StrictTime}
-use Rattle.ixdtf_answers.specs.declared.word.Word.TheVariants.{StrictDuration, Canonical}
+use Rattle.ixdtf_answers.specs.declared.word.Word.{Word, TheVariants.{Parse, YearMonth, MonthDay, Time, Offset, Zone, Iana, Duration, StrictMonthDay}}
+use Rattle.ixdtf_answers.specs.declared.word.Word.TheVariants.{StrictTime, StrictDuration, Canonical}
 
 abbrev pub name_of : Word → List ℕ
 name_of Parse = codes "parse"

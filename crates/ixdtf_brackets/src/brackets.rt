@@ -10,7 +10,7 @@ ghost use Rattle.ixdtf_brackets.specs.BracketTypes.{bracket_of};
 ghost use Rattle.ixdtf_reading.specs.reading.Looks.{error_of};
 ghost use Rattle.ixdtf_reading.specs.reading.Brackets.{refusal, name_fault, next_is, sight_at, name_or_pair_at, inside_at, critical_bracket_at, bracket_at};
 
-use crate::timezone::{NameState, parse_name_in_bracket, parse_offset_in_bracket, pass_name};
+use crate::zone::{NameState, parse_name_in_bracket, parse_offset_in_bracket, pass_name};
 use ixdtf_grammar::encoding::EncodingType;
 use ixdtf_grammar::records::{Annotation, TimeZoneAnnotation, TimeZoneRecord};
 use ixdtf_reading::annotations::{KeyLetters, parse_annotation_value};
@@ -41,7 +41,7 @@ pub fn parse_first_bracket<'a, T: EncodingType>(
     match cursor.look()? {
         None => Err(Stop::AbruptBracket),
         Some(byte) if is_critical_flag(byte) => {
-            cursor.step();
+            cursor.advance();
             parse_critical_bracket(cursor)
         }
         Some(byte) if is_ascii_sign(byte) || is_tz_leading_char(byte) => {
@@ -84,7 +84,7 @@ fn parse_inside<'a, T: EncodingType>(
         return parse_name_or_pair(cursor, critical);
     }
     let tz = if is_ascii_sign(lead) {
-        cursor.step();
+        cursor.advance();
         parse_offset_in_bracket(cursor, lead)?
     } else {
         TimeZoneRecord::Name(parse_name_in_bracket(cursor)?)
@@ -124,7 +124,7 @@ fn parse_name_or_pair<'a, T: EncodingType>(
     let behind_key = cursor.rest();
     let key = &start[..start.len().saturating_sub(behind_key.len())];
     if ends_key(passed.next) {
-        cursor.step();
+        cursor.advance();
         let value = parse_annotation_value(cursor)?;
         return Ok(Bracket::Pair(Annotation {
             critical,
@@ -135,7 +135,7 @@ fn parse_name_or_pair<'a, T: EncodingType>(
     let more = pass_name(cursor)?;
     if more.state.may_end && ends_bracket(more.next) {
         let count = start.len().saturating_sub(cursor.rest().len());
-        cursor.step();
+        cursor.advance();
         return Ok(Bracket::Zone(TimeZoneAnnotation {
             critical,
             tz: TimeZoneRecord::Name(&start[..count]),
@@ -144,7 +144,7 @@ fn parse_name_or_pair<'a, T: EncodingType>(
     if more.next.is_none() {
         return Err(Stop::AbruptBracket);
     }
-    let refused = refuse_bracket(cursor.take(), behind_key, more.state);
+    let refused = refuse_bracket(cursor.fork(), behind_key, more.state);
     *cursor = refused.there;
     Err(refused.stop)
 }
@@ -195,11 +195,11 @@ fn refuse_bracket<'a, T: EncodingType>(
             },
             Some(byte) if is_annotation_key_value_separator(byte) => Refused {
                 stop: Stop::AnnotationKeyChar,
-                there: ahead.at(behind_key),
+                there: ahead.fork_at(behind_key),
             },
             Some(_) => Refused {
                 stop: name.stop(),
-                there: ahead.at(behind_name),
+                there: ahead.fork_at(behind_name),
             },
         },
     }

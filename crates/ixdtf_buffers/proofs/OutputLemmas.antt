@@ -1,16 +1,9 @@
 -- What calls, one after the other, do to what is written and to what waits.
-use Rattle.std.proofs.Common.{◌≡◌, ℕ, suc, ◌+◌, ◌-◌, ◌<◌, List, [], ◌∷◌, ◌++◌, length, take, drop, get_or, Option, Some, None, Result, Ok, Err, OnOk, IfSome, IsErrAnd, Bor, sym, ap}
-use Rattle.std.proofs.Common.{subst, ◌∙◌, arith, append_assoc}
-use Rattle.std.proofs.Math.Seq.{drop-cons}
-use Rattle.std.proofs.lemmas.Fmt.{contents_after_writes}
-use Rattle.std.proofs.lemmas.Grind.{flat_map-append}
-use Rattle.std.proofs.KnownBytes.{Appends-trans}
-use Rattle.std.proofs.lemmas.List.{append-nil, take_all, take_more, length-drop, take-append-drop}
-use Rattle.std.specs.Fmt.{WritesText}
-use Rattle.std.specs.Io.KnownBytes.{Appends}
-use Rattle.ixdtf_buffers.specs.declared.error.RunError.{RunError}
-use Rattle.ixdtf_buffers.specs.declared.output.Output.{Output}
-use Rattle.ixdtf_buffers.specs.Output.{AppendsFront, Writes, Sent, written, Puts, joined}
+use Rattle.std.proofs.Common.{◌≡◌, ℕ, suc, ◌+◌, ◌-◌, ◌<◌, List, [], ◌∷◌, ◌++◌, length, take, drop, get_or, Option, Some, None, Result, Ok, Err, OnOk, IfSome}
+use Rattle.std.proofs.{Common.{IsErrAnd, Bor, sym, ap, subst, ◌∙◌, arith, append_assoc}, Math.Seq.drop-cons, lemmas.Fmt.contents_after_writes}
+use Rattle.std.proofs.{lemmas.{Grind.flat_map-append, List.{append-nil, take_all, take_more, length-drop, take-append-drop}}, KnownBytes.Appends-trans}
+use Rattle.std.specs.{Fmt.WritesText, Io.KnownBytes.Appends}
+use Rattle.ixdtf_buffers.specs.{declared.{error.RunError.RunError, output.Output.Output}, Output.{AppendsFront, Writes, Sent, written, Puts, joined}}
 
 -- a write took n bytes of the rest
 pub wrote_more : (a b c : Option (List ℕ)) (bytes rest : List ℕ) (n : ℕ)

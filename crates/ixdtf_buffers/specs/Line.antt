@@ -1,6 +1,5 @@
 -- The line that is being read.
-use Rattle.std.specs.Prelude.{◌≡◌, ℕ, ◌<◌, List, length, take}
-use Rattle.std.specs.Bool.{MatchBool}
+use Rattle.std.specs.{Prelude.{◌≡◌, ℕ, ◌<◌, List, length, take}, Bool.MatchBool}
 use Rattle.ixdtf_buffers.specs.declared.line.Line.{Line}
 
 -- the line holds the text, or knows that it is too long

@@ -1,11 +1,7 @@
 -- What a writer holds after a call, and what waits to be written to it.
-use Rattle.std.specs.Prelude.{◌≡◌, ℕ, List, ◌++◌, Option, Result, OnOk, IfErr}
-use Rattle.std.specs.Io.KnownBytes.{Appends}
-use Rattle.std.specs.List.{flat_map}
+use Rattle.std.specs.{Prelude.{◌≡◌, ℕ, List, ◌++◌, Option, Result, OnOk, IfErr}, Io.KnownBytes.Appends, List.flat_map}
+use Rattle.ixdtf_buffers.specs.declared.{error.RunError.{RunError, TheVariants.Write}, output.Output.Output}
 use denote.Bor.{Bor}
-use Rattle.ixdtf_buffers.specs.declared.error.RunError.{RunError}
-use Rattle.ixdtf_buffers.specs.declared.error.RunError.TheVariants.{Write}
-use Rattle.ixdtf_buffers.specs.declared.output.Output.{Output}
 
 -- a prefix of the bytes was appended
 pub record AppendsFront (old new : Option (List ℕ)) (bytes : List ℕ) : Type 0 where

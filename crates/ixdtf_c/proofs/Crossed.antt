@@ -1,19 +1,9 @@
 -- From what a reader ensures to what an exported function ensures.
 use Rattle.std.proofs.Common.{◌≡◌, ◌↔◌, ℕ, [], Result, Ok, Err, IfErr, OnOk}
-use Rattle.ixdtf_grammar.specs.declared.located.LocatedError.{LocatedError}
-use Rattle.ixdtf_grammar.specs.declared.profile.Profile.{Profile}
-use Rattle.ixdtf_grammar.specs.declared.records.DurationParseRecord.{DurationParseRecord}
-use Rattle.ixdtf.specs.table.Faults.{fault_of_located}
-use Rattle.ixdtf.specs.table.Outcomes.{HasFaultAt, OnlyFault, OnlyPlace, NoRowFits}
-use Rattle.ixdtf.specs.Views.{returned_by}
-use Rattle.ixdtf.specs.Laws.{InNoOther}
-use Rattle.ixdtf.specs.language.Languages.{Parsed, Found, Derives}
-use Rattle.ixdtf.specs.language.Languages.Found.{lasting}
-use Rattle.ixdtf.specs.language.Letters.{Text}
-use Rattle.ixdtf.specs.language.Readers.{Reader}
-use Rattle.ixdtf.specs.language.Readers.Reader.{parse_duration}
-use Rattle.ixdtf_c.specs.Crossing.{Contents, DurationContents, Gives, GivesDuration}
-use Rattle.ixdtf_c.specs.Located.{FaultAt, fault_at, returned_at}
+use Rattle.ixdtf_grammar.specs.declared.{located.LocatedError.LocatedError, profile.Profile.Profile, records.DurationParseRecord.DurationParseRecord}
+use Rattle.ixdtf.specs.{table.{Faults.fault_of_located, Outcomes.{HasFaultAt, OnlyFault, OnlyPlace, NoRowFits}}, Views.returned_by, Laws.InNoOther}
+use Rattle.ixdtf.specs.language.{Languages.{Parsed, Found, Derives, Found.lasting}, Letters.Text, Readers.{Reader, Reader.parse_duration}}
+use Rattle.ixdtf_c.specs.{Crossing.{Contents, DurationContents, Gives, GivesDuration}, Located.{FaultAt, fault_at, returned_at}}
 use Rattle.ixdtf_c.specs.Outcomes.{ReadsPart, GivesPart, GivesLasting}
 
 -- an equation of values beside errors of another type
@@ -86,10 +76,10 @@ pub crossed_lasting : {X : Type 0} {profile given : Profile} {text units : Text}
     → OnOk r (InNoOther given (parse_duration given) units)
     → GivesDuration (returned_at view r) number old new
     → units ≡ text → given ≡ profile → GivesLasting profile text number old new
-crossed_lasting {given = given} {units = units} view r number old new ok err no_row only place alone gives same_text same_profile =
+crossed_lasting {given = given} {units = units} view r number old new ok err no_row only place no_other_reader gives same_text same_profile =
     rw (← same_text, ← same_profile) (
       returned_at view r,
       reads_part (parse_duration given) lasting units view r ok err no_row only place,
-      crossed_ok (InNoOther given (parse_duration given) units) view r alone,
+      crossed_ok (InNoOther given (parse_duration given) units) view r no_other_reader,
       gives,
     )

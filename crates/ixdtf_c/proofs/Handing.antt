@@ -1,29 +1,15 @@
 -- A handler that is asked about annotations in turn, and whose replies are handed over.
-use Rattle.std.proofs.Common.{◌≡◌, ◌≢◌, ◌≤◌, ℕ, List, [], ◌∷◌, ◌++◌, length, map, take, drop, get_or, ◌<◌, ◌+◌, Option, None}
-use Rattle.std.proofs.Common.{Result, Ok, Err, refl, sym, ◌∙◌, ap, inl, arith, option_map, Bool, true, false}
-use Rattle.std.proofs.SliceLists.{chained_more}
+use Rattle.std.proofs.Common.{◌≡◌, ◌≢◌, ◌≤◌, ℕ, List, [], ◌∷◌, ◌++◌, length, map, take, drop, get_or, ◌<◌, ◌+◌, Option, None, Result, Ok, Err, refl, sym, ◌∙◌}
+use Rattle.std.proofs.{Common.{ap, inl, arith, option_map, Bool, true, false}, SliceLists.chained_more}
 use Rattle.std.proofs.lemmas.List.{map-append, append-nil, length-append, take_more, take-append-drop, length-map}
 use Rattle.std.specs.Option.{option_or}
-use Rattle.ixdtf_grammar.specs.declared.profile.Profile.{Profile}
-use Rattle.ixdtf_grammar.specs.declared.records.Annotation.{Annotation}
-use Rattle.ixdtf.specs.language.Brackets.{Pair}
-use Rattle.ixdtf.specs.language.Letters.{Text}
-use Rattle.ixdtf.specs.language.Readers.{CoreKind}
-use Rattle.ixdtf.specs.language.Readers.Reader.{bracketed}
-use Rattle.ixdtf.specs.language.Languages.{Parsed}
-use Rattle.ixdtf.specs.table.Faults.{Fault}
+use Rattle.ixdtf_grammar.specs.declared.{profile.Profile.Profile, records.Annotation.Annotation}
+use Rattle.ixdtf.specs.{language.{Brackets.Pair, Letters.Text, Readers.{CoreKind, Reader.bracketed}, Languages.Parsed}, table.Faults.Fault}
 use Rattle.ixdtf.specs.Handlers.{Reply, calendar_value, first_calendar, NoneRefused, LastRefused, Calls, IsChain, Step, handed, replies_of, pair_of, Handled}
-use Rattle.ixdtf_reading.proofs.code.OneMoreReply.{first_calendar-more, NoneRefused-nothing, NoneRefused-more}
-use Rattle.ixdtf_reading.proofs.theorems.Handled.{handled_of}
-use Rattle.ixdtf_c.specs.Crossing.{Contents, Gives, units_for, is_there}
-use Rattle.ixdtf_c.specs.Listing.{Lists}
-use Rattle.ixdtf_c.specs.Located.{FaultAt, unplaced}
-use Rattle.ixdtf_c.specs.Replying.{with_kept}
-use Rattle.ixdtf_c.specs.Standing.{where_there}
-use Rattle.ixdtf_c.specs.Turns.{HandsOver, InTurn}
-use Rattle.ixdtf_c.specs.Numbers.{number_for}
-use Rattle.ixdtf_c.proofs.Numbers.{number_some, nowhere}
-use Rattle.ixdtf_c.proofs.Replying.{overwritten-front, gives_all, front_of}
+use Rattle.ixdtf_reading.proofs.{code.OneMoreReply.{first_calendar-more, NoneRefused-nothing, NoneRefused-more}, theorems.Handled.handled_of}
+use Rattle.ixdtf_c.specs.{Crossing.{Contents, Gives, units_for, is_there}, Listing.Lists, Located.{FaultAt, unplaced}, Replying.with_kept}
+use Rattle.ixdtf_c.specs.{Standing.where_there, Turns.{HandsOver, InTurn}, Numbers.number_for}
+use Rattle.ixdtf_c.proofs.{Numbers.{number_some, nowhere}, Replying.{overwritten-front, gives_all, front_of}}
 
 -- ---- annotations in turn
 

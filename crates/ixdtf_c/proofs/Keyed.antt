@@ -1,11 +1,8 @@
 -- What is kept of replies has the key of calendars.
 use Rattle.std.proofs.Common.{◌≡◌, ℕ, Bool, true, false, cond, [], ◌∷◌, map, Option, Some, None, option_map, refl, sym, ◌∙◌, ap}
-use Rattle.std.specs.Prelude.{IsTrue, IfSome}
-use Rattle.std.specs.Option.{option_or}
-use Rattle.std.specs.Cmp.Lexicographic.{same_text}
+use Rattle.std.specs.{Prelude.{IsTrue, IfSome}, Option.option_or, Cmp.Lexicographic.same_text}
 use Rattle.ixdtf_grammar.specs.declared.records.Annotation.{Annotation}
-use Rattle.ixdtf.specs.language.Brackets.{Pair}
-use Rattle.ixdtf.specs.Handlers.{calendar_key, first_calendar, is_calendar, pair_of}
+use Rattle.ixdtf.specs.{language.Brackets.Pair, Handlers.{calendar_key, first_calendar, is_calendar, pair_of}}
 use Rattle.ixdtf_c.specs.Fielded.{keyed}
 
 is_keyed : (pair : Pair) → pair.key ≡ calendar_key → keyed pair ≡ pair

@@ -1,28 +1,14 @@
 -- From a chain of calls that list annotations to what a listing says of a text.
-use Rattle.std.proofs.Common.{◌≡◌, ◌↔◌, ℕ, ◌+◌, ◌≤◌, min, List, [], ◌∷◌, ◌++◌, length, slice_set, map, Option}
-use Rattle.std.proofs.Common.{None, option_map, Result, Ok, Err, OnOk, refl, sym, ◌∙◌, ap, subst, inl, inr, arith}
-use Rattle.std.proofs.lemmas.List.{append-nil, append_assoc, length-append}
-use Rattle.ixdtf_grammar.specs.declared.located.LocatedError.{LocatedError}
-use Rattle.ixdtf_grammar.specs.declared.profile.Profile.{Profile}
-use Rattle.ixdtf_grammar.specs.declared.records.Annotation.{Annotation}
-use Rattle.ixdtf.specs.language.Brackets.{Pair}
-use Rattle.ixdtf.specs.language.Letters.{Text}
-use Rattle.ixdtf.specs.language.Readers.{Reader, CoreKind}
-use Rattle.ixdtf.specs.language.Readers.Reader.{bracketed}
-use Rattle.ixdtf.specs.language.Languages.{Parsed, Derives}
-use Rattle.ixdtf.specs.language.Languages.Derives.{as_parsed}
-use Rattle.ixdtf.specs.language.Languages.Found.{parsed}
-use Rattle.ixdtf.specs.table.Faults.{Fault, fault_of_located, stands_behind}
-use Rattle.ixdtf.specs.table.Outcomes.{HasFaultAt, NoRowFits}
-use Rattle.ixdtf.specs.Laws.{InNoOther}
-use Rattle.ixdtf.specs.Places.{GivesFaultAt, HandledToAt}
-use Rattle.ixdtf.specs.Handlers.{Reply, first_calendar, calendar_value, with_calendar, RefusedBeside, NoneRefused, LastRefused, GivesRecord, GivesFault}
-use Rattle.ixdtf.specs.Handlers.{pair_of, Calls, handed, replies_of, Step, IsChain}
-use Rattle.ixdtf_reading.proofs.theorems.OneOutcome.{place_once}
-use Rattle.ixdtf_reading.proofs.theorems.OnlyOutcome.{only_fault}
+use Rattle.std.proofs.Common.{◌≡◌, ◌↔◌, ℕ, ◌+◌, ◌≤◌, min, List, [], ◌∷◌, ◌++◌, length, slice_set, map, Option, None, option_map, Result, Ok, Err, OnOk, refl}
+use Rattle.std.proofs.{Common.{sym, ◌∙◌, ap, subst, inl, inr, arith}, lemmas.List.{append-nil, append_assoc, length-append}}
+use Rattle.ixdtf_grammar.specs.declared.{located.LocatedError.LocatedError, profile.Profile.Profile, records.Annotation.Annotation}
 use Rattle.ixdtf_grammar.proofs.theorems.FewPairs.{derived_few, gives_few}
-use Rattle.ixdtf_c.specs.Listing.{PassesOver, overwritten, Lists}
-use Rattle.ixdtf_c.specs.Located.{FaultAt, HasOutcome, returned_at}
+use Rattle.ixdtf.specs.language.{Brackets.Pair, Letters.Text, Readers.{Reader, CoreKind, Reader.bracketed}, Languages.{Parsed, Derives, Derives.as_parsed}}
+use Rattle.ixdtf.specs.{language.Languages.Found.parsed, table.{Faults.{Fault, fault_of_located, stands_behind}, Outcomes.{HasFaultAt, NoRowFits}}}
+use Rattle.ixdtf.specs.{Laws.InNoOther, Places.{GivesFaultAt, HandledToAt}, Handlers.{Reply, first_calendar, calendar_value, with_calendar, RefusedBeside}}
+use Rattle.ixdtf.specs.Handlers.{NoneRefused, LastRefused, GivesRecord, GivesFault, pair_of, Calls, handed, replies_of, Step, IsChain}
+use Rattle.ixdtf_reading.proofs.theorems.{OneOutcome.place_once, OnlyOutcome.only_fault}
+use Rattle.ixdtf_c.specs.{Listing.{PassesOver, overwritten, Lists}, Located.{FaultAt, HasOutcome, returned_at}}
 use Rattle.ixdtf_c.proofs.Crossed.{same_ok}
 
 -- ---- what is written
@@ -98,7 +84,7 @@ module _ (kind : CoreKind) (text : Text) where
       → ((e : FaultAt) → outcome ≡ Err e → GivesFaultAt (bracketed kind) text pairs (nones calls) e.fault e.at)
       → OnOk outcome (NoRowFits (bracketed kind) text) → OnOk outcome (InNoOther profile (bracketed kind) text)
       → PassesOver profile (bracketed kind) text pairs outcome
-  passes_over profile calls pairs outcome ok err no_row alone = let fault_of_text : (e : FaultAt) → outcome ≡ Err e
+  passes_over profile calls pairs outcome ok err no_row no_other_reader = let fault_of_text : (e : FaultAt) → outcome ≡ Err e
       → HasFaultAt (bracketed kind) text pairs e.fault e.at = λ e is. elim (err e is) [
         | inl p ↦ absurd (nones_not_last calls e.fault p.1)
         | inr p ↦ p.0
@@ -109,7 +95,7 @@ module _ (kind : CoreKind) (text : Text) where
         );
         err = fault_of_text;
         no_row = no_row;
-        alone = alone;
+        no_other_reader = no_other_reader;
         only = λ e is. let (row, fits, has, there) = fault_of_text e is in only_fault (bracketed kind) text pairs e.fault (row, fits, has);
         place = λ e is. place_once (bracketed kind) text pairs e.fault e.at (fault_of_text e is);
       }
@@ -202,7 +188,7 @@ module _ {T U A F : Type 0} (number : U → ℕ) (view : A → Pair) (step : Ste
       → count state ≡ 0 → length text ≤ limit
       → (outcome : Result Parsed FaultAt) × HasOutcome named stands seen result outcome
       × Lists view profile (bracketed kind) text (slots state) (slots last) (count last) outcome
-  lists profile kind text state last {X} {E} named stands seen result h no_row alone zero fits = of_outcome result h no_row alone
+  lists profile kind text state last {X} {E} named stands seen result h no_row no_other_reader zero fits = of_outcome result h no_row no_other_reader
     where
       none : {r : Result X E} (h : HandledToAt number step state last (bracketed kind) text named stands seen r)
           → replies_of number h.plain.calls ≡ nones h.plain.calls
@@ -214,7 +200,7 @@ module _ {T U A F : Type 0} (number : U → ℕ) (view : A → Pair) (step : Ste
           → ((e : FaultAt) → outcome ≡ Err e → GivesFaultAt (bracketed kind) text (handed number h.plain.calls) (nones h.plain.calls) e.fault e.at)
           → OnOk outcome (NoRowFits (bracketed kind) text) → OnOk outcome (InNoOther profile (bracketed kind) text)
           → Lists view profile (bracketed kind) text (slots state) (slots last) (count last) outcome
-      listing h outcome ok err no_row alone =
+      listing h outcome ok err no_row no_other_reader =
           let calls = h.plain.calls in
           let pairs = handed number calls in
           let shorter : length pairs ≤ length text = few kind text calls pairs outcome ok err in
@@ -224,22 +210,22 @@ module _ {T U A F : Type 0} (number : U → ℕ) (view : A → Pair) (step : Ste
             annotations = items item calls;
             counted = all.0;
             written = all.1;
-            read = rw (items_seen calls state last h.plain.chain) (passes_over kind text profile calls pairs outcome ok err no_row alone);
+            read = rw (items_seen calls state last h.plain.chain) (passes_over kind text profile calls pairs outcome ok err no_row no_other_reader);
           }
 
       of_outcome : (r : Result X E) (h : HandledToAt number step state last (bracketed kind) text named stands seen r)
           → OnOk r (NoRowFits (bracketed kind) text) → OnOk r (InNoOther profile (bracketed kind) text)
           → (outcome : Result Parsed FaultAt) × HasOutcome named stands seen r outcome
           × Lists view profile (bracketed kind) text (slots state) (slots last) (count last) outcome
-      of_outcome (Ok x) h no_row alone = (
+      of_outcome (Ok x) h no_row no_other_reader = (
         Ok (seen x),
         refl,
         listing h (Ok (seen x)) (λ found. (
           (λ is. rw (← none h) ((h.plain.ok found).0 (same_ok (seen x) found is))),
           λ given. same_ok (seen x) found ((h.plain.ok found).1 (rw (none h) given)),
-        )) (λ e is. absurd cc) no_row alone,
+        )) (λ e is. absurd cc) no_row no_other_reader,
       )
-      of_outcome (Err e) h no_row alone =
+      of_outcome (Err e) h no_row no_other_reader =
           let (at, there, gives) = h.err e refl in
           let fault_at : FaultAt = record { fault = named e; at = at } in (
             Err fault_at,

@@ -1,19 +1,14 @@
 -- The numbers of errors.
 use Rattle.std.proofs.Common.{◌≡◌, ◌≢◌, ℕ, ◌+◌, ◌-◌, ◌≤◌, ◌<◌, suc, zero, List, [], ◌∷◌, get_or, Option, Some, None, refl, ◌∙◌, arith, lit≤}
 use Rattle.std.proofs.Math.ListN.{get_or-map}
-use Rattle.ixdtf.specs.table.Faults.{Fault}
-use Rattle.ixdtf.specs.table.Faults.Fault.{ImplAssert, NonAsciiCodePoint, ParseFloat, AbruptEnd, InvalidEnd, InvalidMonthRange, InvalidDayRange, DateYear}
-use Rattle.ixdtf.specs.table.Faults.Fault.{DateExtendedYear, DateMonth, DateDay, DateUnexpectedEnd, TimeRequired, TimeHour, TimeMinuteSecond, TimeSecond}
-use Rattle.ixdtf.specs.table.Faults.Fault.{FractionPart, DateSeparator, TimeSeparator, DecimalSeparator}
-use Rattle.ixdtf.specs.table.Faults.Fault.{InvalidAnnotation, AnnotationOpen, AnnotationClose, AnnotationChar}
-use Rattle.ixdtf.specs.table.Faults.Fault.{AnnotationKeyValueSeparator, AnnotationKeyLeadingChar, AnnotationKeyChar}
-use Rattle.ixdtf.specs.table.Faults.Fault.{AnnotationValueCharPostHyphen, AnnotationValueChar, InvalidMinutePrecisionOffset}
-use Rattle.ixdtf.specs.table.Faults.Fault.{CriticalDuplicateCalendar, UnrecognizedCritical}
-use Rattle.ixdtf.specs.table.Faults.Fault.{TzLeadingChar, IanaCharPostSeparator, IanaChar, UtcTimeSeparator}
-use Rattle.ixdtf.specs.table.Faults.Fault.{OffsetNeedsSign, MonthDayHyphen, DurationDisgnator, DurationValueExceededRange}
-use Rattle.ixdtf.specs.table.Faults.Fault.{DateDurationPartOrder, TimeDurationPartOrder}
-use Rattle.ixdtf.specs.table.Faults.Fault.{TimeDurationDesignator, AmbiguousTimeMonthDay, AmbiguousTimeYearMonth, InvalidMonthDay}
-use Rattle.ixdtf.specs.language.Brackets.{Pair}
+use Rattle.ixdtf.specs.table.Faults.{Fault, Fault.{ImplAssert, NonAsciiCodePoint, ParseFloat, AbruptEnd, InvalidEnd, InvalidMonthRange, InvalidDayRange}}
+use Rattle.ixdtf.specs.table.Faults.Fault.{DateYear, DateExtendedYear, DateMonth, DateDay, DateUnexpectedEnd, TimeRequired, TimeHour, TimeMinuteSecond}
+use Rattle.ixdtf.specs.table.Faults.Fault.{TimeSecond, FractionPart, DateSeparator, TimeSeparator, DecimalSeparator, InvalidAnnotation, AnnotationOpen}
+use Rattle.ixdtf.specs.table.Faults.Fault.{AnnotationClose, AnnotationChar, AnnotationKeyValueSeparator, AnnotationKeyLeadingChar, AnnotationKeyChar}
+use Rattle.ixdtf.specs.table.Faults.Fault.{AnnotationValueCharPostHyphen, AnnotationValueChar, InvalidMinutePrecisionOffset, CriticalDuplicateCalendar}
+use Rattle.ixdtf.specs.table.Faults.Fault.{UnrecognizedCritical, TzLeadingChar, IanaCharPostSeparator, IanaChar, UtcTimeSeparator, OffsetNeedsSign}
+use Rattle.ixdtf.specs.table.Faults.Fault.{MonthDayHyphen, DurationDisgnator, DurationValueExceededRange, DateDurationPartOrder, TimeDurationPartOrder}
+use Rattle.ixdtf.specs.{table.Faults.Fault.{TimeDurationDesignator, AmbiguousTimeMonthDay, AmbiguousTimeYearMonth, InvalidMonthDay}, language.Brackets.Pair}
 use Rattle.ixdtf.specs.Handlers.{Reply, RefusedBeside}
 use Rattle.ixdtf_c.specs.Numbers.{number_for, location_of}
 

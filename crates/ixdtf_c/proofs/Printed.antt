@@ -1,34 +1,18 @@
 -- Records that have a text, and records that were read.
-use Rattle.std.proofs.Common.{refl, sym, ◌∙◌, ◌≡◌, ◌≢◌, ◌≤◌, ◌+◌, ℕ, Bool, not, inl, inr, ap, if◌then◌else◌, List, length, Option, Some, None, IfSome, IsSomeAnd, Ok, Err, arith}
-use Rattle.std.proofs.lemmas.Bool.Decides.{eqb_tells}
-use Rattle.ixdtf_grammar.specs.declared.profile.Profile.{Profile}
-use Rattle.ixdtf_grammar.specs.declared.records.DateRecord.{DateRecord}
-use Rattle.ixdtf_grammar.specs.declared.records.MinutePrecisionOffset.{MinutePrecisionOffset}
-use Rattle.ixdtf_grammar.specs.declared.records.Sign.{Sign}
-use Rattle.ixdtf_grammar.specs.declared.records.Sign.TheVariants.{Positive, Negative}
-use Rattle.ixdtf_grammar.specs.declared.records.TimeRecord.{TimeRecord}
 use Rattle.ixdtf_grammar.specs.declared.records.UtcOffsetRecord.TheVariants as offsets
-use Rattle.ixdtf_grammar.specs.declared.records.UtcOffsetRecordOrZ.{UtcOffsetRecordOrZ}
 use Rattle.ixdtf_grammar.specs.declared.records.UtcOffsetRecordOrZ.TheVariants as shifts
-use Rattle.ixdtf.specs.language.Brackets.{ZoneNote}
-use Rattle.ixdtf.specs.language.Fractions.{FractionParts}
-use Rattle.ixdtf.specs.language.Languages.{Parsed}
-use Rattle.ixdtf.specs.language.Letters.{Text}
-use Rattle.ixdtf.specs.language.OffsetRecords.{sign_for}
-use Rattle.ixdtf.specs.language.Readers.{parse}
-use Rattle.ixdtf.specs.language.ZoneNames.{Zone as SomeZone}
-use Rattle.ixdtf.specs.language.ZoneNames.Zone.{Name, Offset as ByOffset}
-use Rattle.ixdtf.specs.Handlers.{UnhandledRecord}
-use Rattle.ixdtf_c.specs.Crossing.{Contents, digits_for, value_for, is_negative, date_for, time_for, offset_for, area_for, zone_for}
-use Rattle.ixdtf_c.specs.Crossing.{units_for, is_there, record_for}
-use Rattle.ixdtf_c.specs.Outcomes.{GivesRecord}
+use Rattle.std.proofs.Common.{refl, sym, ◌∙◌, ◌≡◌, ◌≢◌, ◌≤◌, ◌+◌, ℕ, Bool, not, inl, inr, ap, if◌then◌else◌, List, length, Option, Some, None, IfSome}
+use Rattle.std.proofs.{Common.{IsSomeAnd, Ok, Err, arith}, lemmas.Bool.Decides.eqb_tells}
+use Rattle.ixdtf_grammar.specs.declared.{profile.Profile.Profile, records.{DateRecord.DateRecord, MinutePrecisionOffset.MinutePrecisionOffset, Sign.Sign}}
+use Rattle.ixdtf_grammar.specs.declared.records.{Sign.TheVariants.{Positive, Negative}, TimeRecord.TimeRecord, UtcOffsetRecordOrZ.UtcOffsetRecordOrZ}
+use Rattle.ixdtf.specs.language.{Brackets.ZoneNote, Fractions.FractionParts, Languages.Parsed, Letters.Text, OffsetRecords.sign_for, Readers.parse}
+use Rattle.ixdtf.specs.{language.ZoneNames.{Zone as SomeZone, Zone.{Name, Offset as ByOffset}}, Handlers.UnhandledRecord}
+use Rattle.ixdtf_c.specs.Crossing.{Contents, digits_for, value_for, is_negative, date_for, time_for, offset_for, area_for, zone_for, units_for, is_there}
+use Rattle.ixdtf_c.specs.{Crossing.record_for, Outcomes.GivesRecord}
 use Rattle.ixdtf_c.specs.Standing.{where_there, fraction_by, date_by, time_by, minutes_by, offset_by, zone_by, parsed_by, record_by}
-use Rattle.ixdtf_print.specs.Canonical.{canonical_text}
-use Rattle.ixdtf_print.specs.Printable.{IsPrintable}
-use Rattle.ixdtf_print.specs.Spelled.{HasTime, HasDigits, IsDayTime, IsShift}
-use Rattle.ixdtf_print.proofs.Parse.{to_parts}
-use Rattle.ixdtf_print.proofs.Printable.{printable_iff, of_record}
 use Rattle.ixdtf_c.proofs.Numbers.{number_some}
+use Rattle.ixdtf_print.specs.{Canonical.canonical_text, Printable.IsPrintable, Spelled.{HasTime, HasDigits, IsDayTime, IsShift}}
+use Rattle.ixdtf_print.proofs.{Parse.to_parts, Printable.{printable_iff, of_record}}
 
 time_of_both : (time : Option TimeRecord) (offset : Option UtcOffsetRecordOrZ) → HasTime time offset → IfSome time IsDayTime
 time_of_both None offset has = tt

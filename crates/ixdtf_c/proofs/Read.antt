@@ -1,24 +1,11 @@
 -- From a chain of calls of a handler that hands each annotation back to what a reader without a handler says of a text.
-use Rattle.std.proofs.Common.{◌≡◌, ℕ, List, map, ap, ◌∙◌, Result, Ok, Err, OnOk, refl}
-use Rattle.std.proofs.lemmas.Simd.{map-map}
-use Rattle.ixdtf_grammar.specs.declared.located.LocatedError.{LocatedError}
-use Rattle.ixdtf_grammar.specs.declared.profile.Profile.{Profile}
-use Rattle.ixdtf.specs.language.Letters.{Letter, Text}
-use Rattle.ixdtf.specs.language.Readers.{CoreKind}
-use Rattle.ixdtf.specs.language.Readers.Reader.{bracketed}
-use Rattle.ixdtf.specs.language.Languages.{Parsed}
-use Rattle.ixdtf.specs.table.Faults.{Fault, fault_of_located}
-use Rattle.ixdtf.specs.table.Outcomes.{NoRowFits}
-use Rattle.ixdtf.specs.Laws.{InNoOther}
-use Rattle.ixdtf.specs.Places.{HandledToAt, UnhandledFaultAt}
-use Rattle.ixdtf.specs.Handlers.{Step, Handled, HandledTo, handed}
-use Rattle.ixdtf_reading.proofs.theorems.Handled.{OwnReplies, replies_own, unhandled_form}
-use Rattle.ixdtf_reading.proofs.theorems.OnePlace.{one_unhandled_place}
-use Rattle.ixdtf_grammar.specs.declared.records.DurationParseRecord.{DurationParseRecord}
-use Rattle.ixdtf_c.specs.Crossing.{Contents, DurationContents, Gives, GivesDuration, record_for, duration_for}
-use Rattle.ixdtf_c.specs.Located.{FaultAt, HasOutcome, returned_at}
-use Rattle.ixdtf_c.specs.Numbers.{number_for, location_of}
-use Rattle.ixdtf_c.specs.Outcomes.{ReadsRecord}
+use Rattle.std.proofs.{Common.{◌≡◌, ℕ, List, map, ap, ◌∙◌, Result, Ok, Err, OnOk, refl}, lemmas.Simd.map-map}
+use Rattle.ixdtf_grammar.specs.declared.{located.LocatedError.LocatedError, profile.Profile.Profile, records.DurationParseRecord.DurationParseRecord}
+use Rattle.ixdtf.specs.{language.{Letters.{Letter, Text}, Readers.{CoreKind, Reader.bracketed}, Languages.Parsed}, table.Faults.{Fault, fault_of_located}}
+use Rattle.ixdtf.specs.{table.Outcomes.NoRowFits, Laws.InNoOther, Places.{HandledToAt, UnhandledFaultAt}, Handlers.{Step, Handled, HandledTo, handed}}
+use Rattle.ixdtf_reading.proofs.theorems.{Handled.{OwnReplies, replies_own, unhandled_form}, OnePlace.one_unhandled_place}
+use Rattle.ixdtf_c.specs.{Crossing.{Contents, DurationContents, Gives, GivesDuration, record_for, duration_for}, Located.{FaultAt, HasOutcome, returned_at}}
+use Rattle.ixdtf_c.specs.{Numbers.{number_for, location_of}, Outcomes.ReadsRecord}
 use Rattle.ixdtf_c.proofs.Crossed.{same_ok}
 
 module _ {T U F : Type 0} (number : U → ℕ) (step : Step T U F) (handler last : F) (profile : Profile) (kind : CoreKind) (text : Text) (own : OwnReplies step) where
@@ -30,7 +17,7 @@ module _ {T U F : Type 0} (number : U → ℕ) (step : Step T U F) (handler last
       → HandledToAt number step handler last (bracketed kind) text named stands view result
       → OnOk result (NoRowFits (bracketed kind) text) → OnOk result (InNoOther profile (bracketed kind) text)
       → (outcome : Result Parsed FaultAt) × HasOutcome named stands view result outcome × ReadsRecord profile (bracketed kind) text outcome
-  reads named stands view (Ok x) h no_row alone =
+  reads named stands view (Ok x) h no_row no_other_reader =
       let form = unhandled_form (as_handled h.plain) own in (
         Ok (view x),
         refl,
@@ -41,12 +28,12 @@ module _ {T U F : Type 0} (number : U → ℕ) (step : Step T U F) (handler last
           );
           err = λ e is. absurd cc;
           no_row = no_row;
-          alone = alone;
+          no_other_reader = no_other_reader;
           only = λ e is. absurd cc;
           place = λ e is. absurd cc;
         },
       )
-  reads named stands view (Err e) h no_row alone =
+  reads named stands view (Err e) h no_row no_other_reader =
       let form = unhandled_form (as_handled h.plain) own in
       let (at, there, gives) = h.err e refl in
       let fault_at : FaultAt = record { fault = named e; at = at } in
@@ -63,7 +50,7 @@ module _ {T U F : Type 0} (number : U → ℕ) (step : Step T U F) (handler last
           );
           err = λ other is. let it : fault_at ≡ other = cc in rw (← it) given;
           no_row = tt;
-          alone = tt;
+          no_other_reader = tt;
           only = λ other is. let it : fault_at ≡ other = cc in rw (← it) form.only;
           place = λ other is. let it : fault_at ≡ other = cc in rw (← it) (one_unhandled_place kind text (named e) at given);
         },

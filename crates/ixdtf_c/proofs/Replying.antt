@@ -1,21 +1,13 @@
 -- What comes of replying in turn to the annotations that a reader listed is what the reader with a handler gives.
-use Rattle.std.proofs.Common.{◌≡◌, ◌≢◌, ◌⊎◌, ℕ, zero, suc, ◌≤◌, List, [], ◌∷◌, ◌++◌, length, map, take}
-use Rattle.std.proofs.Common.{drop, Option, Some, None, Result, Ok, Err, refl, sym, ◌∙◌, ap, inl, inr, arith}
+use Rattle.std.proofs.Common.{◌≡◌, ◌≢◌, ◌⊎◌, ℕ, zero, suc, ◌≤◌, List, [], ◌∷◌, ◌++◌, length, map, take, drop, Option, Some, None, Result, Ok, Err, refl, sym}
+use Rattle.std.proofs.{Common.{◌∙◌, ap, inl, inr, arith}, lemmas.List.{append-nil, append_assoc, length-append, length-map, length-take-le, take-append-drop}}
 use Rattle.std.specs.Option.{option_or}
-use Rattle.std.proofs.lemmas.List.{append-nil, append_assoc, length-append, length-map, length-take-le, take-append-drop}
 use Rattle.ixdtf_grammar.specs.declared.profile.Profile.{Profile}
-use Rattle.ixdtf.specs.language.Brackets.{Pair}
-use Rattle.ixdtf.specs.language.Letters.{Text}
-use Rattle.ixdtf.specs.language.Readers.{CoreKind}
-use Rattle.ixdtf.specs.language.Readers.Reader.{bracketed}
-use Rattle.ixdtf.specs.language.Languages.{Parsed}
-use Rattle.ixdtf.specs.table.Faults.{Fault}
-use Rattle.ixdtf.specs.Handlers.{Reply, first_calendar, NoneRefused, LastRefused, HasFront, Step, Handled, handed, replies_of}
-use Rattle.ixdtf.specs.Laws.{GivesResult}
+use Rattle.ixdtf.specs.{language.{Brackets.Pair, Letters.Text, Readers.{CoreKind, Reader.bracketed}, Languages.Parsed}, table.Faults.Fault}
+use Rattle.ixdtf.specs.{Handlers.{Reply, first_calendar, NoneRefused, LastRefused, HasFront, Step, Handled, handed, replies_of}, Laws.GivesResult}
 use Rattle.ixdtf_reading.proofs.code.OneMoreReply.{first_calendar-more, NoneRefused-nothing, NoneRefused-more}
 use Rattle.ixdtf_reading.proofs.theorems.OneChain.{Replying, GivesChain, only_chain, derived_front, row_front}
-use Rattle.ixdtf_c.specs.Listing.{PassesOver, overwritten}
-use Rattle.ixdtf_c.specs.Located.{FaultAt, unplaced}
+use Rattle.ixdtf_c.specs.{Listing.{PassesOver, overwritten}, Located.{FaultAt, unplaced}}
 use Rattle.ixdtf_c.specs.Replying.{with_kept, Replied, IsFront, ReplyingGives, ReplyingIsHandling}
 
 -- ---- what is listed

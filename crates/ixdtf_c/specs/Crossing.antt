@@ -1,27 +1,14 @@
 -- The records that calls write: each field of what was read, and zero of what was not there.
-use Rattle.std.specs.Prelude.{◌≡◌, ℕ, Bool, true, false, List, [], Option, Some, None, Result, Ok, Err, pos}
-use Rattle.ixdtf_grammar.specs.declared.records.DateRecord.{DateRecord}
-use Rattle.ixdtf_grammar.specs.declared.records.TimeRecord.{TimeRecord}
-use Rattle.ixdtf_grammar.specs.declared.records.Sign.{Sign}
-use Rattle.ixdtf_grammar.specs.declared.records.Sign.TheVariants.{Positive, Negative}
-use Rattle.ixdtf_grammar.specs.declared.records.DateDurationRecord.{DateDurationRecord}
-use Rattle.ixdtf_grammar.specs.declared.records.DurationParseRecord.{DurationParseRecord}
-use Rattle.ixdtf_grammar.specs.declared.records.TimeDurationRecord.{TimeDurationRecord}
 use Rattle.ixdtf_grammar.specs.declared.records.TimeDurationRecord.TheVariants as times
-use Rattle.ixdtf_grammar.specs.declared.records.UtcOffsetRecord.{UtcOffsetRecord}
 use Rattle.ixdtf_grammar.specs.declared.records.UtcOffsetRecord.TheVariants as offsets
-use Rattle.ixdtf_grammar.specs.declared.records.UtcOffsetRecordOrZ.{UtcOffsetRecordOrZ}
 use Rattle.ixdtf_grammar.specs.declared.records.UtcOffsetRecordOrZ.TheVariants as shifts
-use Rattle.ixdtf.specs.language.Brackets.{ZoneNote}
-use Rattle.ixdtf.specs.language.Fractions.{FractionParts}
-use Rattle.ixdtf.specs.language.Languages.{Parsed}
-use Rattle.ixdtf.specs.language.ZoneNames.{Zone as SomeZone}
-use Rattle.ixdtf.specs.language.ZoneNames.Zone.{Name, Offset as ByOffset}
-use Rattle.ixdtf_c.specs.declared.forms.Date.{Date}
-use Rattle.ixdtf_c.specs.declared.forms.Time.{Time}
-use Rattle.ixdtf_c.specs.declared.forms.Offset.{Offset}
-use Rattle.ixdtf_c.specs.Located.{FaultAt}
-use Rattle.ixdtf_c.specs.Numbers.{location_of, number_of}
+use Rattle.std.specs.Prelude.{◌≡◌, ℕ, Bool, true, false, List, [], Option, Some, None, Result, Ok, Err, pos}
+use Rattle.ixdtf_grammar.specs.declared.records.{DateRecord.DateRecord, TimeRecord.TimeRecord, Sign.{Sign, TheVariants.{Positive, Negative}}}
+use Rattle.ixdtf_grammar.specs.declared.records.{DateDurationRecord.DateDurationRecord, DurationParseRecord.DurationParseRecord}
+use Rattle.ixdtf_grammar.specs.declared.records.{TimeDurationRecord.TimeDurationRecord, UtcOffsetRecord.UtcOffsetRecord}
+use Rattle.ixdtf_grammar.specs.declared.records.UtcOffsetRecordOrZ.{UtcOffsetRecordOrZ}
+use Rattle.ixdtf.specs.language.{Brackets.ZoneNote, Fractions.FractionParts, Languages.Parsed, ZoneNames.{Zone as SomeZone, Zone.{Name, Offset as ByOffset}}}
+use Rattle.ixdtf_c.specs.{declared.forms.{Date.Date, Time.Time, Offset.Offset}, Located.FaultAt, Numbers.{location_of, outcome_number}}
 
 -- ---- the contents of a record: its fields, with the units of its slices
 
@@ -232,7 +219,7 @@ duration_after old (Err e) = record old { location = location_of e.fault; place 
 
 -- the number is that of the outcome, and the record is that of the outcome
 abbrev pub Gives : {A : Type 0} → (A → Parsed) → Result A FaultAt → ℕ → Contents → Contents → Type 0
-Gives whole outcome number old new = (number ≡ number_of outcome) × (new ≡ record_after whole old outcome)
+Gives whole outcome number old new = (number ≡ outcome_number outcome) × (new ≡ record_after whole old outcome)
 
 abbrev pub GivesDuration : Result DurationParseRecord FaultAt → ℕ → DurationContents → DurationContents → Type 0
-GivesDuration outcome number old new = (number ≡ number_of outcome) × (new ≡ duration_after old outcome)
+GivesDuration outcome number old new = (number ≡ outcome_number outcome) × (new ≡ duration_after old outcome)

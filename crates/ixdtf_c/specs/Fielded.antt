@@ -1,6 +1,5 @@
 -- What is kept of an annotation.
-use Rattle.ixdtf.specs.language.Brackets.{Pair}
-use Rattle.ixdtf.specs.Handlers.{calendar_key}
+use Rattle.ixdtf.specs.{language.Brackets.Pair, Handlers.calendar_key}
 
 -- a pair with the key of calendars in the place of its own
 abbrev pub keyed : Pair → Pair

@@ -1,7 +1,6 @@
 -- Durations.
 use Rattle.std.specs.Prelude.{◌≡◌}
-use Rattle.ixdtf_c.specs.declared.durations.Duration.{Duration}
-use Rattle.ixdtf_c.specs.Crossing.{DurationContents}
+use Rattle.ixdtf_c.specs.{declared.durations.Duration.Duration, Crossing.DurationContents}
 
 abbrev pub contents : Duration → DurationContents
 contents d = record {

@@ -1,15 +1,9 @@
 -- What a reader that lists annotations says of a text.
 use Rattle.std.specs.Prelude.{◌≡◌, ◌↔◌, ℕ, List, [], ◌∷◌, length, map, Result, Ok, Err, OnOk}
 use Rattle.ixdtf_grammar.specs.declared.profile.Profile.{Profile}
-use Rattle.ixdtf.specs.language.Brackets.{Pair}
-use Rattle.ixdtf.specs.language.Letters.{Text}
-use Rattle.ixdtf.specs.language.Languages.{Parsed, Derives}
-use Rattle.ixdtf.specs.language.Languages.Found.{parsed}
-use Rattle.ixdtf.specs.language.Readers.{Reader}
-use Rattle.ixdtf.specs.table.Outcomes.{HasFaultAt, OnlyFault, OnlyPlace, NoRowFits}
-use Rattle.ixdtf.specs.Laws.{InNoOther}
-use Rattle.ixdtf_c.specs.Crossing.{Contents, Gives}
-use Rattle.ixdtf_c.specs.Located.{FaultAt}
+use Rattle.ixdtf.specs.language.{Brackets.Pair, Letters.Text, Languages.{Parsed, Derives, Found.parsed}, Readers.Reader}
+use Rattle.ixdtf.specs.{table.Outcomes.{HasFaultAt, OnlyFault, OnlyPlace, NoRowFits}, Laws.InNoOther}
+use Rattle.ixdtf_c.specs.{Crossing.{Contents, Gives}, Located.FaultAt}
 
 -- Of a text with these annotations before its end or its fault, all of which are passed over: `Ok` exactly with the record that
 -- the language derives with them, and only where no row of the fault table fits and no other reader has the text; and `Err` only
@@ -18,7 +12,7 @@ pub record PassesOver (profile : Profile) (reader : Reader) (text : Text) (pairs
   pub ok : (found : Parsed) → (outcome ≡ Ok found) ↔ Derives reader text (parsed found) pairs
   pub err : (e : FaultAt) → outcome ≡ Err e → HasFaultAt reader text pairs e.fault e.at
   pub no_row : OnOk outcome (NoRowFits reader text)
-  pub alone : OnOk outcome (InNoOther profile reader text)
+  pub no_other_reader : OnOk outcome (InNoOther profile reader text)
   pub only : (e : FaultAt) → outcome ≡ Err e → OnlyFault reader text pairs e.fault
   pub place : (e : FaultAt) → outcome ≡ Err e → OnlyPlace reader text e.fault e.at
 

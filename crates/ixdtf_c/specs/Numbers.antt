@@ -1,16 +1,12 @@
 -- The numbers that calls return.
 use Rattle.std.specs.Prelude.{ℕ, List, [], Result, Ok, Err}
-use Rattle.ixdtf.specs.table.Faults.{Fault}
-use Rattle.ixdtf.specs.table.Faults.Fault.{ImplAssert, NonAsciiCodePoint, ParseFloat, AbruptEnd, InvalidEnd, InvalidMonthRange, InvalidDayRange, DateYear}
-use Rattle.ixdtf.specs.table.Faults.Fault.{DateExtendedYear, DateMonth, DateDay, DateUnexpectedEnd, TimeRequired, TimeHour, TimeMinuteSecond, TimeSecond}
-use Rattle.ixdtf.specs.table.Faults.Fault.{FractionPart, DateSeparator, TimeSeparator, DecimalSeparator}
-use Rattle.ixdtf.specs.table.Faults.Fault.{InvalidAnnotation, AnnotationOpen, AnnotationClose, AnnotationChar}
-use Rattle.ixdtf.specs.table.Faults.Fault.{AnnotationKeyValueSeparator, AnnotationKeyLeadingChar, AnnotationKeyChar}
-use Rattle.ixdtf.specs.table.Faults.Fault.{AnnotationValueCharPostHyphen, AnnotationValueChar, InvalidMinutePrecisionOffset}
-use Rattle.ixdtf.specs.table.Faults.Fault.{CriticalDuplicateCalendar, UnrecognizedCritical}
-use Rattle.ixdtf.specs.table.Faults.Fault.{TzLeadingChar, IanaCharPostSeparator, IanaChar, UtcTimeSeparator}
-use Rattle.ixdtf.specs.table.Faults.Fault.{OffsetNeedsSign, MonthDayHyphen, DurationDisgnator, DurationValueExceededRange}
-use Rattle.ixdtf.specs.table.Faults.Fault.{DateDurationPartOrder, TimeDurationPartOrder}
+use Rattle.ixdtf.specs.table.Faults.{Fault, Fault.{ImplAssert, NonAsciiCodePoint, ParseFloat, AbruptEnd, InvalidEnd, InvalidMonthRange, InvalidDayRange}}
+use Rattle.ixdtf.specs.table.Faults.Fault.{DateYear, DateExtendedYear, DateMonth, DateDay, DateUnexpectedEnd, TimeRequired, TimeHour, TimeMinuteSecond}
+use Rattle.ixdtf.specs.table.Faults.Fault.{TimeSecond, FractionPart, DateSeparator, TimeSeparator, DecimalSeparator, InvalidAnnotation, AnnotationOpen}
+use Rattle.ixdtf.specs.table.Faults.Fault.{AnnotationClose, AnnotationChar, AnnotationKeyValueSeparator, AnnotationKeyLeadingChar, AnnotationKeyChar}
+use Rattle.ixdtf.specs.table.Faults.Fault.{AnnotationValueCharPostHyphen, AnnotationValueChar, InvalidMinutePrecisionOffset, CriticalDuplicateCalendar}
+use Rattle.ixdtf.specs.table.Faults.Fault.{UnrecognizedCritical, TzLeadingChar, IanaCharPostSeparator, IanaChar, UtcTimeSeparator, OffsetNeedsSign}
+use Rattle.ixdtf.specs.table.Faults.Fault.{MonthDayHyphen, DurationDisgnator, DurationValueExceededRange, DateDurationPartOrder, TimeDurationPartOrder}
 use Rattle.ixdtf.specs.table.Faults.Fault.{TimeDurationDesignator, AmbiguousTimeMonthDay, AmbiguousTimeYearMonth, InvalidMonthDay}
 use Rattle.ixdtf_c.specs.Located.{FaultAt}
 
@@ -69,6 +65,6 @@ location_of (AbruptEnd location) = location
 location_of fault = []
 
 -- 0 where a text was read, and else the number of its error
-abbrev pub number_of : {A : Type 0} → Result A FaultAt → ℕ
-number_of (Ok found) = 0
-number_of (Err e) = number_for e.fault
+abbrev pub outcome_number : {A : Type 0} → Result A FaultAt → ℕ
+outcome_number (Ok found) = 0
+outcome_number (Err e) = number_for e.fault

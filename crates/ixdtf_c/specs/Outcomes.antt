@@ -1,19 +1,11 @@
 -- What a call that reads says of a text: the clauses of the library's readers, with an outcome in the place of their result; and
 -- that what it returns and writes is this outcome.
 use Rattle.std.specs.Prelude.{◌≡◌, ◌↔◌, ℕ, [], Result, Ok, Err, OnOk}
-use Rattle.ixdtf_grammar.specs.declared.profile.Profile.{Profile}
-use Rattle.ixdtf_grammar.specs.declared.records.DurationParseRecord.{DurationParseRecord}
-use Rattle.ixdtf.specs.language.Letters.{Text}
-use Rattle.ixdtf.specs.language.Languages.{Parsed, Found, Derives}
-use Rattle.ixdtf.specs.language.Readers.{Reader}
-use Rattle.ixdtf.specs.table.Outcomes.{HasFaultAt, OnlyFault, OnlyPlace, NoRowFits}
-use Rattle.ixdtf.specs.Handlers.{UnhandledRecord, UnhandledOnlyFault}
-use Rattle.ixdtf.specs.Laws.{InNoOther}
+use Rattle.ixdtf_grammar.specs.declared.{profile.Profile.Profile, records.DurationParseRecord.DurationParseRecord}
+use Rattle.ixdtf.specs.language.{Letters.Text, Languages.{Parsed, Found, Derives, Found.lasting}, Readers.{Reader, Reader.parse_duration}}
+use Rattle.ixdtf.specs.{table.Outcomes.{HasFaultAt, OnlyFault, OnlyPlace, NoRowFits}, Handlers.{UnhandledRecord, UnhandledOnlyFault}, Laws.InNoOther}
 use Rattle.ixdtf.specs.Places.{UnhandledFaultAt, UnhandledOnlyPlace}
-use Rattle.ixdtf.specs.language.Languages.Found.{lasting}
-use Rattle.ixdtf.specs.language.Readers.Reader.{parse_duration}
-use Rattle.ixdtf_c.specs.Crossing.{Contents, DurationContents, Gives, GivesDuration}
-use Rattle.ixdtf_c.specs.Located.{FaultAt}
+use Rattle.ixdtf_c.specs.{Crossing.{Contents, DurationContents, Gives, GivesDuration}, Located.FaultAt}
 
 -- Of a text with brackets, where each pair replies for itself: `Ok` exactly with the record that the text gives, and only where
 -- no row of the fault table fits and no other reader has the text; and `Err` only with the one fault that it gives, behind so
@@ -22,7 +14,7 @@ pub record ReadsRecord (profile : Profile) (reader : Reader) (text : Text) (outc
   pub ok : (found : Parsed) → (outcome ≡ Ok found) ↔ UnhandledRecord reader text found
   pub err : (e : FaultAt) → outcome ≡ Err e → UnhandledFaultAt reader text e.fault e.at
   pub no_row : OnOk outcome (NoRowFits reader text)
-  pub alone : OnOk outcome (InNoOther profile reader text)
+  pub no_other_reader : OnOk outcome (InNoOther profile reader text)
   pub only : (e : FaultAt) → outcome ≡ Err e → UnhandledOnlyFault reader text e.fault
   pub place : (e : FaultAt) → outcome ≡ Err e → UnhandledOnlyPlace reader text e.fault e.at
 

@@ -1,18 +1,9 @@
 -- Replying in turn to the annotations that a reader listed, up to the first reply that is refused.
-use Rattle.std.specs.Prelude.{◌≡◌, ◌≢◌, ◌≤◌, ◌↔◌, ℕ, List, [], ◌∷◌, ◌++◌, map, length, take, Option, Some, None, Result, Ok, Err}
-use Rattle.std.specs.Option.{option_or}
+use Rattle.std.specs.{Prelude.{◌≡◌, ◌≢◌, ◌≤◌, ◌↔◌, ℕ, List, [], ◌∷◌, ◌++◌, map, length, take, Option, Some, None, Result, Ok, Err}, Option.option_or}
 use Rattle.ixdtf_grammar.specs.declared.profile.Profile.{Profile}
-use Rattle.ixdtf.specs.language.Brackets.{Pair}
-use Rattle.ixdtf.specs.language.Letters.{Text}
-use Rattle.ixdtf.specs.language.Languages.{Parsed}
-use Rattle.ixdtf.specs.language.Readers.{CoreKind}
-use Rattle.ixdtf.specs.language.Readers.Reader.{bracketed}
-use Rattle.ixdtf.specs.table.Faults.{Fault}
-use Rattle.ixdtf.specs.Handlers.{Reply, RefusedBeside, first_calendar, calendar_value, with_calendar, Step, Handled, handed, replies_of}
-use Rattle.ixdtf.specs.Laws.{GivesResult}
-use Rattle.ixdtf_c.specs.Located.{FaultAt, unplaced}
-use Rattle.ixdtf_c.specs.Numbers.{number_for}
-use Rattle.ixdtf_c.specs.Listing.{Lists}
+use Rattle.ixdtf.specs.{language.{Brackets.Pair, Letters.Text, Languages.Parsed, Readers.{CoreKind, Reader.bracketed}}, table.Faults.Fault}
+use Rattle.ixdtf.specs.{Handlers.{Reply, RefusedBeside, first_calendar, calendar_value, with_calendar, Step, Handled, handed, replies_of}, Laws.GivesResult}
+use Rattle.ixdtf_c.specs.{Located.{FaultAt, unplaced}, Numbers.number_for, Listing.Lists}
 
 -- A reply is taken beside the calendar that is kept before it, with the number 0 exactly where it is not refused, and then the
 -- first calendar is kept; or else with the number of the fault that it is refused with.

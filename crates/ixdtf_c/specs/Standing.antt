@@ -1,20 +1,12 @@
 -- What the numbers of a record stand for that is printed, where they stand for something: the fields of a part that is not there are not looked at.
-use Rattle.std.specs.Prelude.{ℕ, Bool, true, false, not, nat_eq, if◌then◌else◌, Option, Some, None}
-use Rattle.ixdtf_grammar.specs.declared.records.DateRecord.{DateRecord}
-use Rattle.ixdtf_grammar.specs.declared.records.TimeRecord.{TimeRecord}
-use Rattle.ixdtf_grammar.specs.declared.records.MinutePrecisionOffset.{MinutePrecisionOffset}
 use Rattle.ixdtf_grammar.specs.declared.records.UtcOffsetRecord.TheVariants as offsets
-use Rattle.ixdtf_grammar.specs.declared.records.UtcOffsetRecordOrZ.{UtcOffsetRecordOrZ}
 use Rattle.ixdtf_grammar.specs.declared.records.UtcOffsetRecordOrZ.TheVariants as shifts
-use Rattle.ixdtf.specs.language.Brackets.{ZoneNote}
-use Rattle.ixdtf.specs.language.Fractions.{FractionParts}
-use Rattle.ixdtf.specs.language.Languages.{Parsed}
-use Rattle.ixdtf.specs.language.OffsetRecords.{sign_for}
+use Rattle.std.specs.Prelude.{ℕ, Bool, true, false, not, nat_eq, if◌then◌else◌, Option, Some, None}
+use Rattle.ixdtf_grammar.specs.declared.records.{DateRecord.DateRecord, TimeRecord.TimeRecord, MinutePrecisionOffset.MinutePrecisionOffset}
+use Rattle.ixdtf_grammar.specs.declared.records.UtcOffsetRecordOrZ.{UtcOffsetRecordOrZ}
+use Rattle.ixdtf.specs.language.{Brackets.ZoneNote, Fractions.FractionParts, Languages.Parsed, OffsetRecords.sign_for}
 use Rattle.ixdtf.specs.language.ZoneNames.Zone.{Name, Offset as ByOffset}
-use Rattle.ixdtf_c.specs.declared.forms.Date.{Date}
-use Rattle.ixdtf_c.specs.declared.forms.Time.{Time}
-use Rattle.ixdtf_c.specs.declared.forms.Offset.{Offset}
-use Rattle.ixdtf_c.specs.Crossing.{Contents, ZoneContents}
+use Rattle.ixdtf_c.specs.{declared.forms.{Date.Date, Time.Time, Offset.Offset}, Crossing.{Contents, ZoneContents}}
 
 -- a value, where it is there
 abbrev pub where_there : {A : Type 0} → Bool → A → Option A

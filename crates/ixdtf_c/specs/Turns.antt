@@ -1,11 +1,8 @@
 -- What a caller does who has a handler, and makes the calls of the library for C.
-use Rattle.std.specs.Prelude.{◌≡◌, ◌≢◌, ℕ, List, [], ◌∷◌, Option}
-use Rattle.std.specs.Option.{option_or}
-use Rattle.ixdtf.specs.language.Brackets.{Pair}
-use Rattle.ixdtf.specs.table.Faults.{Fault}
+use Rattle.std.specs.{Prelude.{◌≡◌, ◌≢◌, ℕ, List, [], ◌∷◌, Option}, Option.option_or}
+use Rattle.ixdtf.specs.{language.Brackets.Pair, table.Faults.Fault}
 use Rattle.ixdtf.specs.Handlers.{Reply, RefusedBeside, first_calendar, NoneRefused, LastRefused, Calls, IsChain, Step, handed, replies_of}
-use Rattle.ixdtf_c.specs.Numbers.{number_for}
-use Rattle.ixdtf_c.specs.Replying.{IsFront}
+use Rattle.ixdtf_c.specs.{Numbers.number_for, Replying.IsFront}
 
 -- A reply, or none, is handed over, beside the calendar that is kept before it: with 0 it is not refused, and the first calendar
 -- is kept, and with another number it is refused with the fault of that number.

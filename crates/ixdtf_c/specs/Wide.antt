@@ -1,13 +1,8 @@
 -- Records of 16-bit sources.
 use Rattle.std.specs.Prelude.{◌≡◌, ℕ, map, Option}
 use Rattle.ixdtf_grammar.specs.declared.records.Annotation.{Annotation as Read}
-use Rattle.ixdtf.specs.language.Brackets.{Pair}
-use Rattle.ixdtf.specs.Handlers.{calendar_key}
-use Rattle.ixdtf_c.specs.declared.wide.Zone.{Zone}
-use Rattle.ixdtf_c.specs.declared.wide.Record.{Record}
-use Rattle.ixdtf_c.specs.declared.wide.Annotation.{Annotation}
-use Rattle.ixdtf_c.specs.declared.wide.Calendar.{Calendar}
-use Rattle.ixdtf_c.specs.Crossing.{Contents, ZoneContents}
+use Rattle.ixdtf.specs.{language.Brackets.Pair, Handlers.calendar_key}
+use Rattle.ixdtf_c.specs.{declared.wide.{Zone.Zone, Record.Record, Annotation.Annotation, Calendar.Calendar}, Crossing.{Contents, ZoneContents}}
 use Rattle.ixdtf_c.specs.Standing.{where_there}
 
 abbrev pub zone_contents : Zone → ZoneContents

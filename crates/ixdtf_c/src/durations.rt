@@ -5,7 +5,7 @@ ghost use Rattle.ixdtf_c.specs.Crossing.{duration_for, with_date, with_time, no_
 ghost use Rattle.ixdtf_c.specs.Lasting.{contents, SameButError};
 ghost use Rattle.ixdtf_c.specs.Outcomes.{GivesLasting};
 
-use crate::errors::number_of;
+use crate::errors::number_and_location;
 use crate::forms::{Digits, is_negative};
 use crate::slices::{Slice, to_c};
 use ixdtf::encoding::EncodingType;
@@ -170,7 +170,7 @@ pub fn duration_into<T: EncodingType>(
             0
         }
         Err(located) => {
-            let (number, location) = number_of(located.error);
+            let (number, location) = number_and_location(located.error);
             out.location = to_c(location);
             out.place = located.at;
             number

@@ -17,7 +17,7 @@ use crate::durations::{Duration, duration_into};
 use crate::narrow::Record;
 use crate::readers::{name_into, offset_into, read_into, zone_into};
 use ixdtf::encoding::Utf8;
-use ixdtf::parsers::{DateTimes, LoneTimes, MonthDays, Profile, YearMonths};
+use ixdtf::parsers::{DateTimes, MonthDays, Profile, Times, YearMonths};
 
 /// Reads a date, or a date and a time, and the brackets after it.
 #[unsafe(no_mangle)]
@@ -68,7 +68,7 @@ pub extern "C" fn ixdtf_parse_time<'a>(text: &'a [u8], out: &mut Record<'a>) -> 
     // After a refusal the record is as it was, its slices too, but for the location and the place.
     ensures unchanged { result ≢ 0 → SameButError out.old out.new }
 {
-    read_into::<Utf8, LoneTimes, _>(text, Profile::Crate, out)
+    read_into::<Utf8, Times, _>(text, Profile::Crate, out)
 }
 
 /// Reads a month and a day, and the brackets after it, under the strict profile.
@@ -92,7 +92,7 @@ pub extern "C" fn ixdtf_parse_time_strict<'a>(text: &'a [u8], out: &mut Record<'
     // After a refusal the record is as it was, its slices too, but for the location and the place.
     ensures unchanged { result ≢ 0 → SameButError out.old out.new }
 {
-    read_into::<Utf8, LoneTimes, _>(text, Profile::Strict, out)
+    read_into::<Utf8, Times, _>(text, Profile::Strict, out)
 }
 
 /// Reads an offset.

@@ -10,18 +10,20 @@ ghost use Rattle.ixdtf_c.specs.Located.{FaultAt, HasOutcome};
 ghost use Rattle.ixdtf_c.specs.Outcomes.{ReadsRecord, GivesRecord, GivesPart};
 ghost use Rattle.ixdtf_c.specs.Replying.{TakesReply};
 
-use crate::errors::number_of;
+use crate::errors::number_and_location;
 use crate::widths::{AnnotationOf, CalendarOf, RecordOf};
 use ixdtf::LocatedError;
 use ixdtf::encoding::EncodingType;
-use ixdtf::parsers::{Cores, IxdtfParser, Profile, Raised, TimeZoneParser, keep_first_calendar};
+use ixdtf::parsers::{
+    CoreReader, FromStop, IxdtfParser, Profile, TimeZoneParser, keep_first_calendar,
+};
 use ixdtf::records::{IxdtfParseRecord, TimeZoneAnnotation, TimeZoneRecord, UtcOffsetRecordOrZ};
 
 /// Reads as the reader of the kind does without a handler.
 ///
 /// It is generic in its error, since a function that names a lifetime in a bound may not name `'static`, as `LocatedError` does.
 #[inline(always)]
-fn read_as<'a, E: Raised, T: EncodingType, C: Cores>(
+fn read_as<'a, E: FromStop, T: EncodingType, C: CoreReader>(
     text: &'a [T::CodeUnit],
     profile: Profile,
 ) -> Result<IxdtfParseRecord<'a, T>, E>
@@ -34,7 +36,7 @@ where
 {
     let mut parser = IxdtfParser::<T>::new(text).with_profile(profile);
     let mut handler = |annotation| Some(annotation);
-    match parser.read_by_reference::<E, C, _>(&mut handler) {
+    match parser.read_lending_handler::<E, C, _>(&mut handler) {
         Ok(found) => Ok(found),
         Err(error) => return Err(error),
     }
@@ -62,7 +64,7 @@ fn with_parts<'a, T: EncodingType>(
 
 /// Reads as the reader of the kind does without a handler, and writes what was read.
 #[inline(always)]
-pub fn read_into<'a, T: EncodingType, C: Cores, R: RecordOf<'a, T>>(
+pub fn read_into<'a, T: EncodingType, C: CoreReader, R: RecordOf<'a, T>>(
     text: &'a [T::CodeUnit],
     profile: Profile,
     out: &mut R,
@@ -168,6 +170,6 @@ where
             calendar.write(kept);
             0
         }
-        Err(stop) => number_of(stop.error()).0,
+        Err(stop) => number_and_location(stop.error()).0,
     }
 }

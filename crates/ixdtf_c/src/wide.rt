@@ -9,7 +9,7 @@ ghost use Rattle.ixdtf_c.specs.Fielded.{keyed};
 ghost use Rattle.ixdtf_c.specs.Numbers.{number_for, location_of};
 ghost use Rattle.ixdtf_c.specs.Wide.{contents as record_contents, zone_contents, SameButError, annotation_by, calendar_by};
 
-use crate::errors::number_of;
+use crate::errors::number_and_location;
 use crate::forms::{Date, Offset, Time, is_negative};
 use crate::slices::{Slice, from_c, to_c};
 use crate::widths::{AnnotationOf, CalendarOf, RecordOf};
@@ -183,7 +183,7 @@ impl<'a> RecordOf<'a, Utf16> for Record<'a> {
         } }
         ensures unchanged { SameButError self.old self.new }
     {
-        let (number, location) = number_of(located.error);
+        let (number, location) = number_and_location(located.error);
         self.location = to_c(location);
         self.place = located.at;
         number

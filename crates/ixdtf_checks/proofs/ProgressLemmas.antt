@@ -1,23 +1,15 @@
 -- A check goes on.
-use Rattle.std.proofs.Common.{◌≡◌, ◌≢◌, ℕ, ◌+◌, ◌≤◌, Bool, true, false, if◌then◌else◌, ◌==◌, List, [], ◌∷◌, ◌++◌, length, take, drop, Option, Some, None, position, Result, Ok, Err, OnOk, MatchResult, IsErrAnd}
-use Rattle.std.proofs.Common.{refl, sym, ap, subst, ◌∙◌, arith, append_assoc, length-append}
-use Rattle.std.proofs.lemmas.List.{append-nil, take-append-drop}
-use Rattle.std.proofs.KnownBytes.{Appends-nil, Consumes-trans, Consumes-whole}
+use Rattle.std.proofs.Common.{◌≡◌, ◌≢◌, ℕ, ◌+◌, ◌≤◌, Bool, true, false, if◌then◌else◌, ◌==◌, List, [], ◌∷◌, ◌++◌, length, take, drop, Option, Some, None}
+use Rattle.std.proofs.Common.{position, Result, Ok, Err, OnOk, MatchResult, IsErrAnd, refl, sym, ap, subst, ◌∙◌, arith, append_assoc, length-append}
+use Rattle.std.proofs.{lemmas.List.{append-nil, take-append-drop}, KnownBytes.{Appends-nil, Consumes-trans, Consumes-whole}}
 use Rattle.std.specs.Io.KnownBytes.{Consumes, IsAtEnd}
-use Rattle.ixdtf_buffers.specs.declared.error.RunError.{RunError}
-use Rattle.ixdtf_buffers.specs.declared.error.RunError.TheVariants.{Read}
-use Rattle.ixdtf_buffers.specs.declared.line.Line.{Line}
-use Rattle.ixdtf_buffers.specs.declared.output.Output.{Output}
-use Rattle.ixdtf_buffers.specs.Line.{Holds}
+use Rattle.ixdtf_buffers.specs.{declared.{error.RunError.{RunError, TheVariants.Read}, line.Line.Line, output.Output.Output}, Line.Holds}
 use Rattle.ixdtf_buffers.specs.Lines.{newline, is_byte, Split, before_split, split_of, ended_lines_of, unended_of, last_line_of, lines_of}
 use Rattle.ixdtf_buffers.specs.Output.{AppendsFront, Sent, written, Puts}
 use Rattle.ixdtf_buffers.proofs.LinesLemmas.{split_of-line, split_of-rest, ended_lines_of-append}
 use Rattle.ixdtf_buffers.proofs.OutputLemmas.{Sent-trans, Sent-front, Sent-all, Sent-written}
-use Rattle.ixdtf_checks.specs.declared.request.Request.{Request}
-use Rattle.ixdtf_checks.specs.declared.tally.Tally.{Tally}
-use Rattle.ixdtf_checks.specs.Checks.{Counts, Reports, ReportsFront}
-use Rattle.ixdtf_checks.specs.Progress.{Takes, Stands, Fails, Runs}
-use Rattle.ixdtf_checks.specs.Reports.{report_of, reports_of, refusal_count}
+use Rattle.ixdtf_checks.specs.{declared.{request.Request.Request, tally.Tally.Tally}, Checks.{Counts, Reports, ReportsFront}}
+use Rattle.ixdtf_checks.specs.{Progress.{Takes, Stands, Fails, Runs}, Reports.{report_of, reports_of, refusal_count}}
 use Rattle.ixdtf_checks.specs.Verdicts.{Verdict, IsVerdict, line_limit}
 use Rattle.ixdtf_checks.proofs.ReportLemmas.{AreVerdicts-more, AreVerdicts-length, reports_of-more, refusals_of-more, refusals_of-most}
 

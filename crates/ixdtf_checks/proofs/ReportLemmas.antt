@@ -1,10 +1,7 @@
 -- One more line behind others.
-use Rattle.std.proofs.Common.{◌≡◌, ℕ, ◌+◌, ◌≤◌, List, [], ◌∷◌, ◌++◌, length, refl, sym, ap, ◌∙◌, arith, append_assoc}
-use Rattle.std.proofs.lemmas.List.{append-nil}
-use Rattle.ixdtf_checks.specs.declared.request.Request.{Request}
-use Rattle.ixdtf_checks.specs.Reports.{AreVerdicts, report_of, reports_of, refusal_count, refusals_of}
-use Rattle.ixdtf_checks.specs.Verdicts.{Verdict, IsVerdict}
-use Rattle.ixdtf_checks.specs.Verdicts.Verdict.{accepted, printed, refused}
+use Rattle.std.proofs.{Common.{◌≡◌, ℕ, ◌+◌, ◌≤◌, List, [], ◌∷◌, ◌++◌, length, refl, sym, ap, ◌∙◌, arith, append_assoc}, lemmas.List.append-nil}
+use Rattle.ixdtf_checks.specs.{declared.request.Request.Request, Reports.{AreVerdicts, report_of, reports_of, refusal_count, refusals_of}}
+use Rattle.ixdtf_checks.specs.Verdicts.{Verdict, IsVerdict, Verdict.{accepted, printed, refused}}
 
 pub AreVerdicts-more : (request : Request) (lines : List (List ℕ)) (verdicts : List Verdict) (line : List ℕ) (verdict : Verdict)
     → AreVerdicts request lines verdicts → IsVerdict request line verdict → AreVerdicts request (lines ++ line ∷ []) (verdicts ++ verdict ∷ [])

@@ -1,11 +1,7 @@
 -- What a check writes and counts.
-use Rattle.std.specs.Prelude.{◌≡◌, ℕ, List, ◌++◌, length, Option}
-use Rattle.std.specs.Io.KnownBytes.{Appends}
+use Rattle.std.specs.{Prelude.{◌≡◌, ℕ, List, ◌++◌, length, Option}, Io.KnownBytes.Appends}
 use Rattle.ixdtf_buffers.specs.Output.{AppendsFront}
-use Rattle.ixdtf_checks.specs.declared.request.Request.{Request}
-use Rattle.ixdtf_checks.specs.declared.tally.Tally.{Tally}
-use Rattle.ixdtf_checks.specs.Reports.{AreVerdicts, reports_of, refusals_of}
-use Rattle.ixdtf_checks.specs.Verdicts.{Verdict}
+use Rattle.ixdtf_checks.specs.{declared.{request.Request.Request, tally.Tally.Tally}, Reports.{AreVerdicts, reports_of, refusals_of}, Verdicts.Verdict}
 
 -- so many lines, and so many of them refused
 pub record Counts (tally : Tally) (verdicts : List Verdict) : Type 0 where

@@ -1,11 +1,8 @@
 -- The names of the kinds, and the readers of what is asked for.
 use Rattle.std.specs.Prelude.{◌≡◌, ◌≢◌, ℕ, List, Option, Some, None, codes}
-use Rattle.ixdtf_grammar.specs.declared.profile.Profile.{Profile}
-use Rattle.ixdtf_grammar.specs.language.Readers.{Reader}
-use Rattle.ixdtf_grammar.specs.language.Readers.{parse, parse_year_month, parse_month_day, parse_time}
+use Rattle.ixdtf_grammar.specs.{declared.profile.Profile.Profile, language.Readers.{Reader, parse, parse_year_month, parse_month_day, parse_time}}
 use Rattle.ixdtf_grammar.specs.language.Readers.Reader.{parse_offset, parse_identifier, parse_iana_identifier, parse_duration}
-use Rattle.ixdtf_checks.specs.declared.kind.Kind.{Kind}
-use Rattle.ixdtf_checks.specs.declared.kind.Kind.TheVariants.{DateTime, YearMonth, MonthDay, Time, Offset, Zone, ZoneName, Duration}
+use Rattle.ixdtf_checks.specs.declared.kind.Kind.{Kind, TheVariants.{DateTime, YearMonth, MonthDay, Time, Offset, Zone, ZoneName, Duration}}
 
 abbrev pub name_of : Kind → List ℕ
 name_of DateTime = codes "date-time"

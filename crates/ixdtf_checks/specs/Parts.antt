@@ -2,8 +2,7 @@
 use Rattle.std.specs.Prelude.{ℕ, zero, suc, ◌+◌, ◌-◌, ◌==◌, if◌then◌else◌, List, length, take, drop, Option, Some, None, position, option_map, slice_index_or}
 use Rattle.std.specs.Option.{option_and_then, unwrap_or}
 use Rattle.ixdtf_buffers.specs.Lines.{is_byte}
-use Rattle.ixdtf_checks.specs.declared.request.Field.{Field}
-use Rattle.ixdtf_checks.specs.declared.part.Part.{Part}
+use Rattle.ixdtf_checks.specs.declared.{request.Field.Field, part.Part.Part}
 
 -- the line without the carriage return at its end
 abbrev pub without_return : List ℕ → List ℕ

@@ -1,18 +1,9 @@
 -- How far a check has come. No clause of `check` cites this module.
-use Rattle.std.specs.Prelude.{◌≡◌, ℕ, ◌+◌, ◌≤◌, List, Option, Result, Err, OnOk, IfSome, length}
-use Rattle.std.specs.Io.KnownBytes.{Consumes}
-use Rattle.ixdtf_buffers.specs.declared.error.RunError.{RunError}
-use Rattle.ixdtf_buffers.specs.declared.error.RunError.TheVariants.{Read, Write}
-use Rattle.ixdtf_buffers.specs.declared.line.Line.{Line}
-use Rattle.ixdtf_buffers.specs.declared.output.Output.{Output}
-use Rattle.ixdtf_buffers.specs.Line.{Holds}
-use Rattle.ixdtf_buffers.specs.Lines.{lines_of, ended_lines_of, unended_of}
-use Rattle.ixdtf_buffers.specs.Output.{Sent, written}
-use Rattle.ixdtf_checks.specs.declared.request.Request.{Request}
-use Rattle.ixdtf_checks.specs.declared.tally.Tally.{Tally}
-use Rattle.ixdtf_checks.specs.Checks.{Counts, Reports, ReportsFront}
-use Rattle.ixdtf_checks.specs.Reports.{AreVerdicts, reports_of}
-use Rattle.ixdtf_checks.specs.Verdicts.{Verdict, line_limit}
+use Rattle.std.specs.{Prelude.{◌≡◌, ℕ, ◌+◌, ◌≤◌, List, Option, Result, Err, OnOk, IfSome, length}, Io.KnownBytes.Consumes}
+use Rattle.ixdtf_buffers.specs.{declared.{error.RunError.{RunError, TheVariants.{Read, Write}}, line.Line.Line, output.Output.Output}, Line.Holds}
+use Rattle.ixdtf_buffers.specs.{Lines.{lines_of, ended_lines_of, unended_of}, Output.{Sent, written}}
+use Rattle.ixdtf_checks.specs.{declared.{request.Request.Request, tally.Tally.Tally}, Checks.{Counts, Reports, ReportsFront}}
+use Rattle.ixdtf_checks.specs.{Reports.{AreVerdicts, reports_of}, Verdicts.{Verdict, line_limit}}
 
 -- at most so many more lines were counted
 abbrev pub GrowsBy : Tally → Tally → ℕ → Type 0

@@ -1,8 +1,6 @@
 -- A verdict that refuses a text. No clause of `check` cites this module.
 use Rattle.ixdtf_grammar.specs.language.Readers.{Reader}
-use Rattle.ixdtf_checks.specs.Parts.{Text}
-use Rattle.ixdtf_checks.specs.Verdicts.{Verdict, IsRefused}
-use Rattle.ixdtf_checks.specs.Verdicts.Verdict.{accepted, printed, refused}
+use Rattle.ixdtf_checks.specs.{Parts.Text, Verdicts.{Verdict, IsRefused, Verdict.{accepted, printed, refused}}}
 
 abbrev pub IsRefusal : Reader → Text → Verdict → Type 0
 IsRefusal reader text accepted = ⊥

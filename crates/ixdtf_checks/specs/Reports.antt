@@ -1,10 +1,7 @@
 -- The reports of the lines of a file.
-use Rattle.std.specs.Prelude.{ℕ, ◌+◌, if◌then◌else◌, List, [], ◌∷◌, ◌++◌, codes}
-use Rattle.std.specs.Fmt.{decimal}
+use Rattle.std.specs.{Prelude.{ℕ, ◌+◌, if◌then◌else◌, List, [], ◌∷◌, ◌++◌, codes}, Fmt.decimal}
 use Rattle.ixdtf_buffers.specs.Lines.{newline}
-use Rattle.ixdtf_checks.specs.declared.request.Request.{Request}
-use Rattle.ixdtf_checks.specs.Verdicts.{Verdict, IsVerdict}
-use Rattle.ixdtf_checks.specs.Verdicts.Verdict.{accepted, printed, refused}
+use Rattle.ixdtf_checks.specs.{declared.request.Request.Request, Verdicts.{Verdict, IsVerdict, Verdict.{accepted, printed, refused}}}
 
 -- a place: the file, the number of the line and the column
 abbrev pub place_of : List ℕ → ℕ → ℕ → List ℕ

@@ -1,16 +1,9 @@
 -- A verdict of the code as the definitions speak of it. No clause of `check` cites this module.
-use Rattle.std.specs.Prelude.{ℕ, List, [], ◌∷◌, ◌++◌, codes, Option, Some, None}
-use Rattle.std.specs.Borrow.{Bor}
-use Rattle.ixdtf_grammar.specs.LocatedTexts.{pointed_text}
-use Rattle.ixdtf_grammar.specs.table.ErrorTexts.{message_of}
-use Rattle.ixdtf_grammar.specs.table.Faults.{fault_of_located}
+use Rattle.std.specs.{Prelude.{ℕ, List, [], ◌∷◌, ◌++◌, codes, Option, Some, None}, Borrow.Bor}
+use Rattle.ixdtf_grammar.specs.{LocatedTexts.pointed_text, table.{ErrorTexts.message_of, Faults.fault_of_located}}
 use Rattle.ixdtf_buffers.specs.Lines.{newline}
-use Rattle.ixdtf_checks.specs.declared.verdict.Verdict.{Verdict as VerdictInCode}
-use Rattle.ixdtf_checks.specs.declared.verdict.Verdict.TheVariants.{Accepted, Printed, Refused}
-use Rattle.ixdtf_checks.specs.declared.verdict.Reason.{Reason}
-use Rattle.ixdtf_checks.specs.declared.verdict.Reason.TheVariants.{TooLong, NoField, Unread}
-use Rattle.ixdtf_checks.specs.Verdicts.{Verdict}
-use Rattle.ixdtf_checks.specs.Verdicts.Verdict.{accepted, printed, refused}
+use Rattle.ixdtf_checks.specs.declared.verdict.{Verdict.{Verdict as VerdictInCode, TheVariants.{Accepted, Printed, Refused}}, Reason.Reason}
+use Rattle.ixdtf_checks.specs.{declared.verdict.Reason.TheVariants.{TooLong, NoField, Unread}, Verdicts.{Verdict, Verdict.{accepted, printed, refused}}}
 
 abbrev pub message_in : Reason → List ℕ
 message_in TooLong = codes "line too long"

@@ -1,23 +1,11 @@
 -- The verdict on a line.
-use Rattle.std.specs.Prelude.{◌≡◌, ◌⊎◌, ℕ, ◌+◌, List, [], ◌∷◌, ◌++◌, map, length, nat_lt, codes, IsUtf8, MatchOption}
-use Rattle.std.specs.Bool.{MatchBool}
-use Rattle.ixdtf_grammar.specs.declared.profile.Profile.{Profile}
-use Rattle.ixdtf_grammar.specs.Handlers.{UnhandledRecord}
-use Rattle.ixdtf_grammar.specs.LocatedTexts.{pointed_text}
-use Rattle.ixdtf_grammar.specs.Places.{HasUnhandledFaultAt}
-use Rattle.ixdtf_grammar.specs.Widths.{HasUnhandledOutcome, byte_text}
-use Rattle.ixdtf_grammar.specs.Widths.UnhandledOutcome.{read_as}
-use Rattle.ixdtf_grammar.specs.language.Languages.{Parsed, Found}
-use Rattle.ixdtf_grammar.specs.language.Letters.{byte_letter}
-use Rattle.ixdtf_grammar.specs.language.Readers.{Reader, parse}
-use Rattle.ixdtf_grammar.specs.table.ErrorTexts.{message_of}
-use Rattle.ixdtf_grammar.specs.table.Faults.{Fault}
+use Rattle.std.specs.{Prelude.{◌≡◌, ◌⊎◌, ℕ, ◌+◌, List, [], ◌∷◌, ◌++◌, map, length, nat_lt, codes, IsUtf8, MatchOption}, Bool.MatchBool}
+use Rattle.ixdtf_grammar.specs.{declared.profile.Profile.Profile, Handlers.UnhandledRecord, LocatedTexts.pointed_text, Places.HasUnhandledFaultAt}
+use Rattle.ixdtf_grammar.specs.{Widths.{HasUnhandledOutcome, byte_text, UnhandledOutcome.read_as}, language.{Languages.{Parsed, Found}, Letters.byte_letter}}
+use Rattle.ixdtf_grammar.specs.{language.Readers.{Reader, parse}, table.{ErrorTexts.message_of, Faults.Fault}}
 use Rattle.ixdtf_print.specs.Canonical.{canonical_text}
 use Rattle.ixdtf_buffers.specs.Lines.{newline}
-use Rattle.ixdtf_checks.specs.declared.request.Request.{Request}
-use Rattle.ixdtf_checks.specs.declared.request.Task.{Task}
-use Rattle.ixdtf_checks.specs.declared.request.Task.TheVariants.{Check, Print}
-use Rattle.ixdtf_checks.specs.Kinds.{reader_of}
+use Rattle.ixdtf_checks.specs.{declared.request.{Request.Request, Task.{Task, TheVariants.{Check, Print}}}, Kinds.reader_of}
 use Rattle.ixdtf_checks.specs.Parts.{Text, part_of, without_return}
 
 -- its text is read; or it is read, and this is its canonical text; or the line is refused at this column, counted by bytes from 1,

@@ -16,7 +16,7 @@ pub record ReadsText {X E : Type 0} (letter : ℕ → Letter) (fault : E → Fau
   pub err : IfErr result (λ e. UnhandledFault reader (map letter old.rest) (fault e))
   -- `Ok` only where no row of the fault table fits, and where no other text reader has the text
   pub no_row : OnOk result (NoRowFits reader (map letter old.rest))
-  pub alone : OnOk result (InNoOther old.profile reader (map letter old.rest))
+  pub no_other_reader : OnOk result (InNoOther old.profile reader (map letter old.rest))
   -- `Err` only with the one fault that it gives: that of the last pair, which is refused, or of the only row that fits
   pub only : IfErr result (λ e. UnhandledOnlyFault reader (map letter old.rest) (fault e))
   -- nothing to be read after `Ok`, and all of it after an error
@@ -32,7 +32,7 @@ pub record ReadsTextAt {X : Type 0} (letter : ℕ → Letter) (view : X → Pars
   -- no other error comes, nor one at another place
   pub place : IfErr result (λ e. UnhandledOnlyPlace reader (map letter old.rest) (fault_of_located e) e.at)
   pub no_row : OnOk result (NoRowFits reader (map letter old.rest))
-  pub alone : OnOk result (InNoOther old.profile reader (map letter old.rest))
+  pub no_other_reader : OnOk result (InNoOther old.profile reader (map letter old.rest))
   pub only : IfErr result (λ e. UnhandledOnlyFault reader (map letter old.rest) (fault_of_located e))
   pub leaves : LeavesBehind fault_of_located (unread_of old) result (unread_of new)
   pub profile : new.profile ≡ old.profile
@@ -43,7 +43,7 @@ pub record HandlesText {T U F X E : Type 0} (letter : ℕ → Letter) (number : 
   -- `Ok` exactly with the record, and `Err` only with the one error, that the text and the replies give
   pub handled : Handled number step handler reader (map letter old.rest) (returned_by fault view result)
   pub no_row : OnOk result (NoRowFits reader (map letter old.rest))
-  pub alone : OnOk result (InNoOther old.profile reader (map letter old.rest))
+  pub no_other_reader : OnOk result (InNoOther old.profile reader (map letter old.rest))
   pub leaves : LeavesBehind fault (unread_of old) result (unread_of new)
   pub profile : new.profile ≡ old.profile
 
@@ -53,7 +53,7 @@ pub record HandlesTextAt {T U F X E : Type 0} (letter : ℕ → Letter) (number 
     (result : Result X E) (new : UnreadUnder) : Type 0 where
   pub handled : HandledAt number step handler reader (map letter old.rest) fault stands view result
   pub no_row : OnOk result (NoRowFits reader (map letter old.rest))
-  pub alone : OnOk result (InNoOther old.profile reader (map letter old.rest))
+  pub no_other_reader : OnOk result (InNoOther old.profile reader (map letter old.rest))
   pub leaves : LeavesBehind fault (unread_of old) result (unread_of new)
   pub profile : new.profile ≡ old.profile
 

@@ -1,30 +1,17 @@
 -- The canonical text of a record that has a text is ASCII, so it is displayed as it is.
-use Rattle.std.proofs.Common.{ℕ, zero, suc, ◌+◌, ◌-◌, ◌/◌, ◌%◌, ◌^◌, ◌<◌, ◌≡◌, ℤ, pos, negsuc, Bool, true, false, cond, IsTrue, List, [], ◌∷◌, ◌++◌, map}
-use Rattle.std.proofs.Common.{replicate, codes, Option, Some, None, refl, ◌∙◌, ap, arith, nat_le, inl, inr}
-use Rattle.std.proofs.lemmas.Bool.Decides.{nat_tests}
-use Rattle.std.proofs.lemmas.Str.{encode_ascii}
-use Rattle.ixdtf_grammar.specs.declared.records.DateRecord.{DateRecord}
-use Rattle.ixdtf_grammar.specs.declared.records.MinutePrecisionOffset.{MinutePrecisionOffset}
-use Rattle.ixdtf_grammar.specs.declared.records.Sign.{Sign}
-use Rattle.ixdtf_grammar.specs.declared.records.Sign.TheVariants.{Positive, Negative}
-use Rattle.ixdtf_grammar.specs.declared.records.TimeRecord.{TimeRecord}
 use Rattle.ixdtf_grammar.specs.declared.records.UtcOffsetRecord.TheVariants as offsets
-use Rattle.ixdtf_grammar.specs.declared.records.UtcOffsetRecordOrZ.{UtcOffsetRecordOrZ}
 use Rattle.ixdtf_grammar.specs.declared.records.UtcOffsetRecordOrZ.TheVariants as stands
-use Rattle.ixdtf.specs.language.Letters.{Text, Class, zone_lead, zone_char, slash, hyphen, value_char}
-use Rattle.ixdtf.specs.language.Letters.Letter.{Plain, Bad}
-use Rattle.ixdtf.specs.language.Shapes.{Shape, one, ◌then◌, ◌either◌, Joined, many}
-use Rattle.ixdtf.specs.language.Digits.{padded_digits}
-use Rattle.ixdtf.specs.language.Fractions.{FractionParts, places_of}
-use Rattle.ixdtf.specs.language.ZoneNames.{Zone, ZoneName}
-use Rattle.ixdtf.specs.language.ZoneNames.Zone.{Name, Offset}
-use Rattle.ixdtf.specs.language.Brackets.{ZoneNote, Value}
-use Rattle.ixdtf.specs.language.Languages.{Parsed}
-use Rattle.ixdtf_print.specs.Canonical.{two_digits, year_text, date_text, minutes_text, seconds_text, fraction_digits, fraction_text, clock_text, time_text, sign_of}
-use Rattle.ixdtf_print.specs.Canonical.{minute_offset_text, offset_text, zone_text, opening_text, bracket_text, calendar_text}
-use Rattle.ixdtf_print.specs.Canonical.{optional_date_text, core_text, canonical_text}
-use Rattle.ixdtf_print.specs.Shown.{bytes_of, shown_text}
-use Rattle.ixdtf_print.specs.Spelled.{IsZoneText, HasZone, HasCalendar, IsSpelled}
+use Rattle.std.proofs.Common.{ℕ, zero, suc, ◌+◌, ◌-◌, ◌/◌, ◌%◌, ◌^◌, ◌<◌, ◌≡◌, ℤ, pos, negsuc, Bool, true, false, cond, IsTrue, List, [], ◌∷◌, ◌++◌, map}
+use Rattle.std.proofs.{Common.{replicate, codes, Option, Some, None, refl, ◌∙◌, ap, arith, nat_le, inl, inr}, lemmas.Bool.Decides.nat_tests}
+use Rattle.std.proofs.lemmas.Str.{encode_ascii}
+use Rattle.ixdtf_grammar.specs.declared.records.{DateRecord.DateRecord, MinutePrecisionOffset.MinutePrecisionOffset, Sign.Sign}
+use Rattle.ixdtf_grammar.specs.declared.records.{Sign.TheVariants.{Positive, Negative}, TimeRecord.TimeRecord, UtcOffsetRecordOrZ.UtcOffsetRecordOrZ}
+use Rattle.ixdtf.specs.language.Letters.{Text, Class, zone_lead, zone_char, slash, hyphen, value_char, Letter.{Plain, Bad}}
+use Rattle.ixdtf.specs.language.{Shapes.{Shape, one, ◌then◌, ◌either◌, Joined, many}, Digits.padded_digits, Fractions.{FractionParts, places_of}}
+use Rattle.ixdtf.specs.language.{ZoneNames.{Zone, ZoneName, Zone.{Name, Offset}}, Brackets.{ZoneNote, Value}, Languages.Parsed}
+use Rattle.ixdtf_print.specs.Canonical.{two_digits, year_text, date_text, minutes_text, seconds_text, fraction_digits, fraction_text, clock_text, time_text}
+use Rattle.ixdtf_print.specs.Canonical.{sign_of, minute_offset_text, offset_text, zone_text, opening_text, bracket_text, calendar_text, optional_date_text}
+use Rattle.ixdtf_print.specs.{Canonical.{core_text, canonical_text}, Shown.{bytes_of, shown_text}, Spelled.{IsZoneText, HasZone, HasCalendar, IsSpelled}}
 
 -- each letter is an ASCII character
 abbrev IsAsciiText : Text → Type 0

@@ -1,20 +1,12 @@
 -- What is derived from a text has fields that have texts, and its canonical text is not much longer than the text.
 use Rattle.std.proofs.Common.{ℕ, zero, suc, ◌+◌, ◌-◌, ◌<◌, ◌≤◌, ◌≡◌, ◌^◌, min, IsTrue, Bool, true, false, cond, ℤ, pos, negsuc, neg_ℤ, nat_abs, ◌∷◌, ◌++◌}
-use Rattle.std.proofs.Common.{length, take, replicate, Some, refl, ◌∙◌, ap, inl, inr, arith, nat_le}
-use Rattle.std.proofs.lemmas.Bool.Decides.{nat_tests}
-use Rattle.std.proofs.lemmas.Bool.{leb-true}
-use Rattle.std.proofs.lemmas.List.{take_all, length-append, length-replicate}
-use Rattle.std.proofs.Math.Nat.{pow-succ', mul-le-mul_left}
+use Rattle.std.proofs.{Common.{length, take, replicate, Some, refl, ◌∙◌, ap, inl, inr, arith, nat_le}, lemmas.Bool.{leb-true, Decides.nat_tests}}
+use Rattle.std.proofs.{lemmas.List.{take_all, length-append, length-replicate}, Math.Nat.{pow-succ', mul-le-mul_left}}
 use Rattle.ixdtf_grammar.specs.declared.records.DateRecord.{DateRecord}
-use Rattle.ixdtf.specs.language.Letters.{Letter, Text, digit, hyphen}
-use Rattle.ixdtf.specs.language.Letters.Letter.{Plain}
-use Rattle.ixdtf.specs.language.Shapes.{digits}
-use Rattle.ixdtf.specs.language.Digits.{decimal, padded_digits}
-use Rattle.ixdtf.specs.language.Dates.{Year, IsDate, DateText, IsDayOfMonth}
-use Rattle.ixdtf.specs.language.Fractions.{FractionParts, IsFraction, places_of}
 use Rattle.ixdtf_grammar.proofs.PaddedDigits.{length-padded}
-use Rattle.ixdtf_print.specs.Canonical.{two_digits, year_text, date_text, fraction_digits, fraction_text}
-use Rattle.ixdtf_print.specs.Spelled.{IsDay, AreDigits}
+use Rattle.ixdtf.specs.language.{Letters.{Letter, Text, digit, hyphen, Letter.Plain}, Shapes.digits, Digits.{decimal, padded_digits}}
+use Rattle.ixdtf.specs.language.{Dates.{Year, IsDate, DateText, IsDayOfMonth}, Fractions.{FractionParts, IsFraction, places_of}}
+use Rattle.ixdtf_print.specs.{Canonical.{two_digits, year_text, date_text, fraction_digits, fraction_text}, Spelled.{IsDay, AreDigits}}
 
 -- ---- digits
 

@@ -1,21 +1,14 @@
 -- What is derived as a time, an offset, a zone or a calendar has a text, which is not much longer.
-use Rattle.std.proofs.Common.{ℕ, ◌+◌, ◌≤◌, ◌≡◌, IsTrue, Bool, true, false, cond, List, [], ◌∷◌, ◌++◌, map, length, Option, Some, None, refl, sym, ap, inl, inr}
-use Rattle.std.proofs.Common.{arith}
-use Rattle.std.proofs.lemmas.List.{length-append}
-use Rattle.std.specs.Cmp.Lexicographic.{same_text}
-use Rattle.ixdtf_grammar.specs.declared.records.MinutePrecisionOffset.{MinutePrecisionOffset}
-use Rattle.ixdtf_grammar.specs.declared.records.TimeRecord.{TimeRecord}
-use Rattle.ixdtf_grammar.specs.declared.records.UtcOffsetRecord.{UtcOffsetRecord}
-use Rattle.ixdtf_grammar.specs.declared.records.UtcOffsetRecordOrZ.{UtcOffsetRecordOrZ}
 use Rattle.ixdtf_grammar.specs.declared.records.UtcOffsetRecordOrZ.TheVariants as stands
-use Rattle.ixdtf.specs.language.Letters.{Letter, Text}
-use Rattle.ixdtf.specs.language.Letters.Letter.{Plain}
-use Rattle.ixdtf.specs.language.Fractions.{FractionParts}
-use Rattle.ixdtf.specs.language.Times.{Clock, TimeShape, SecondText, ClockOf, IsTime, greatest_second, writes_seconds}
-use Rattle.ixdtf.specs.language.Times.{Clock as clocks}
+use Rattle.std.proofs.Common.{ℕ, ◌+◌, ◌≤◌, ◌≡◌, IsTrue, Bool, true, false, cond, List, [], ◌∷◌, ◌++◌, map, length, Option, Some, None, refl, sym, ap, inl}
+use Rattle.std.proofs.{Common.{inr, arith}, lemmas.List.length-append}
+use Rattle.std.specs.Cmp.Lexicographic.{same_text}
+use Rattle.ixdtf_grammar.specs.declared.records.{MinutePrecisionOffset.MinutePrecisionOffset, TimeRecord.TimeRecord, UtcOffsetRecord.UtcOffsetRecord}
+use Rattle.ixdtf_grammar.specs.declared.records.UtcOffsetRecordOrZ.{UtcOffsetRecordOrZ}
+use Rattle.ixdtf.specs.language.{Letters.{Letter, Text, Letter.Plain}, Fractions.FractionParts}
+use Rattle.ixdtf.specs.language.Times.{Clock, TimeShape, SecondText, ClockOf, IsTime, greatest_second, writes_seconds, Clock as clocks}
 use Rattle.ixdtf.specs.language.Times.TimeShape.{hours, basic_minutes, colon_minutes, seconds, fractions}
-use Rattle.ixdtf.specs.language.Offsets.{IsOffsetOrZ, IsMinuteOffset, offset_of, minutes_of}
-use Rattle.ixdtf.specs.language.ZoneNames.{Zone, IsZone}
+use Rattle.ixdtf.specs.language.{Offsets.{IsOffsetOrZ, IsMinuteOffset, offset_of, minutes_of}, ZoneNames.{Zone, IsZone}}
 use Rattle.ixdtf.specs.language.Brackets.{ZoneNote, Opens, OptionalBracket, Pair, Value, IsPair, ArePairs}
 use Rattle.ixdtf.specs.Handlers.{own_replies, calendar_key, calendar_value, first_calendar, is_calendar}
 use Rattle.ixdtf_print.specs.Canonical.{two_digits, minutes_text, seconds_text, fraction_text, clock_text, minute_offset_text, offset_text, zone_text}

@@ -1,11 +1,7 @@
 -- Digits of a number, the last one first.
 use Rattle.std.proofs.Common.{ℕ, zero, suc, ◌+◌, ◌-◌, ◌/◌, ◌%◌, ◌^◌, ◌<◌, ◌≤◌, ◌≡◌, List, [], ◌∷◌, ◌++◌, length, set, refl, sym, ◌∙◌, ap, arith, append_assoc}
-use Rattle.std.proofs.Common.{append-nil, subst}
-use Rattle.std.proofs.Math.Nat.{pow-succ', div-one, div-div-eq-div-mul}
-use Rattle.std.proofs.lemmas.List.{length-append}
-use Rattle.ixdtf.specs.language.Letters.{Text}
-use Rattle.ixdtf.specs.language.Letters.Letter.{Plain}
-use Rattle.ixdtf.specs.language.Digits.{padded_digits}
+use Rattle.std.proofs.{Common.{append-nil, subst}, Math.Nat.{pow-succ', div-one, div-div-eq-div-mul}, lemmas.List.length-append}
+use Rattle.ixdtf.specs.language.{Letters.{Text, Letter.Plain}, Digits.padded_digits}
 use Rattle.ixdtf_grammar.proofs.PaddedDigits.{length-padded}
 use Rattle.ixdtf_print.specs.Puts.{HasRoom, Puts}
 use Rattle.ixdtf_print.proofs.Puts.{text_long, puts_length, puts_nothing, puts_before}

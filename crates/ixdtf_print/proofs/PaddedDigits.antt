@@ -1,14 +1,8 @@
 -- Digits of a number.
 use Rattle.std.proofs.Common.{ℕ, zero, suc, ◌+◌, ◌%◌, ◌/◌, ◌^◌, ◌<◌, ◌≤◌, ◌≡◌, IsTrue, [], ◌∷◌, ◌++◌, replicate, min, ◌-◌, Option, Some, append_assoc, refl}
-use Rattle.std.proofs.Common.{sym, arith}
-use Rattle.std.proofs.lemmas.Bool.Decides.{nat_tests}
-use Rattle.std.proofs.Math.Nat.{div-one, zero-div}
-use Rattle.ixdtf.specs.language.Letters.{Text, digit}
-use Rattle.ixdtf.specs.language.Letters.Letter.{Plain}
-use Rattle.ixdtf.specs.language.Shapes.{digits}
-use Rattle.ixdtf.specs.language.Digits.{padded_digits, TwoDigits, UpTo}
+use Rattle.std.proofs.{Common.{sym, arith}, lemmas.Bool.Decides.nat_tests, Math.Nat.{div-one, zero-div}}
+use Rattle.ixdtf.specs.language.{Letters.{Text, digit, Letter.Plain}, Shapes.digits, Digits.{padded_digits, TwoDigits, UpTo}, Fractions.FractionParts}
 use Rattle.ixdtf_grammar.proofs.PaddedDigits.{decimal-whole}
-use Rattle.ixdtf.specs.language.Fractions.{FractionParts}
 use Rattle.ixdtf_print.specs.Canonical.{two_digits, minutes_text, seconds_text, clock_text, fraction_digits, fraction_text}
 
 is_digit : (n : ℕ) → IsTrue (digit (48 + n % 10))

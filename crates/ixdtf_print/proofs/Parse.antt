@@ -1,15 +1,8 @@
 -- What `parse` reads without a handler, by the parts of the text, and back. The other proofs speak of these parts, and not of readers.
 use Rattle.std.proofs.Common.{◌≡◌, ◌++◌, List, Option, refl, ◌∙◌, ap}
-use Rattle.ixdtf.specs.language.Letters.{Text}
-use Rattle.ixdtf.specs.language.Brackets.{ZoneNote, Pair, OptionalBracket, ArePairs}
-use Rattle.ixdtf.specs.language.Cores.{Core, IsDateTimeCore}
-use Rattle.ixdtf.specs.language.Languages.{Parsed, parsed_with, IsBracketed, Derives}
-use Rattle.ixdtf.specs.language.Languages.Derives.{as_parsed}
-use Rattle.ixdtf.specs.language.Languages.Found.{parsed}
-use Rattle.ixdtf.specs.language.Readers.{parse}
-use Rattle.ixdtf.specs.language.Readers.CoreKind.{date_time}
-use Rattle.ixdtf.specs.Handlers.{UnhandledRecord, NoneRefused, own_replies, calendar_value, first_calendar, with_calendar}
-use Rattle.ixdtf.specs.Widths.UnhandledOutcome.{read_as}
+use Rattle.ixdtf.specs.language.{Letters.Text, Brackets.{ZoneNote, Pair, OptionalBracket, ArePairs}, Cores.{Core, IsDateTimeCore}}
+use Rattle.ixdtf.specs.language.{Languages.{Parsed, parsed_with, IsBracketed, Derives, Derives.as_parsed, Found.parsed}, Readers.{parse, CoreKind.date_time}}
+use Rattle.ixdtf.specs.{Handlers.{UnhandledRecord, NoneRefused, own_replies, calendar_value, first_calendar, with_calendar}, Widths.UnhandledOutcome.read_as}
 use Rattle.ixdtf_reading.proofs.theorems.OneUnhandledOutcome.{one_unhandled_outcome}
 
 -- a record of these parts

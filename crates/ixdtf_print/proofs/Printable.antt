@@ -1,21 +1,12 @@
 -- The records that have a text are those whose fields have texts, and the canonical text is one of these texts.
 use Rattle.std.proofs.Common.{ℕ, ◌+◌, ◌≤◌, ◌≡◌, ◌↔◌, Bool, IsTrue, List, ◌++◌, length, Option, Some, None, refl, sym, ap, inl, inr, arith, append-nil, subst}
 use Rattle.std.proofs.lemmas.List.{length-append}
-use Rattle.ixdtf.specs.language.Letters.{Letter, Text}
-use Rattle.ixdtf.specs.language.Cores.{Core, OptionalOffset, IsDateTimeCore}
-use Rattle.ixdtf.specs.language.Brackets.{ZoneNote}
-use Rattle.ixdtf.specs.language.Languages.{Parsed}
-use Rattle.ixdtf.specs.language.Readers.{parse}
+use Rattle.ixdtf.specs.language.{Letters.{Letter, Text}, Cores.{Core, OptionalOffset, IsDateTimeCore}, Brackets.ZoneNote, Languages.Parsed, Readers.parse}
 use Rattle.ixdtf.specs.Handlers.{UnhandledRecord, own_replies, calendar_value, first_calendar}
-use Rattle.ixdtf_grammar.specs.declared.records.DateRecord.{DateRecord}
-use Rattle.ixdtf_grammar.specs.declared.records.TimeRecord.{TimeRecord}
-use Rattle.ixdtf_grammar.specs.declared.records.UtcOffsetRecordOrZ.{UtcOffsetRecordOrZ}
+use Rattle.ixdtf_grammar.specs.declared.records.{DateRecord.DateRecord, TimeRecord.TimeRecord, UtcOffsetRecordOrZ.UtcOffsetRecordOrZ}
 use Rattle.ixdtf_print.specs.Canonical.{date_text, time_text, offset_text, bracket_text, calendar_text, optional_date_text, core_text, canonical_text}
-use Rattle.ixdtf_print.specs.Printable.{IsPrintable, IsReadBack}
-use Rattle.ixdtf_print.specs.Spelled.{HasDay, HasTime, HasZone, HasCalendar, IsSpelled}
-use Rattle.ixdtf_print.proofs.Parse.{HasParts, to_parts, of_parts, one_record}
-use Rattle.ixdtf_print.proofs.ReadBack.{canonical_reads_back}
-use Rattle.ixdtf_print.proofs.Derived.{of_date}
+use Rattle.ixdtf_print.specs.{Printable.{IsPrintable, IsReadBack}, Spelled.{HasDay, HasTime, HasZone, HasCalendar, IsSpelled}}
+use Rattle.ixdtf_print.proofs.{Parse.{HasParts, to_parts, of_parts, one_record}, ReadBack.canonical_reads_back, Derived.of_date}
 use Rattle.ixdtf_print.proofs.DerivedTimes.{of_time, of_offset, of_bracket, of_pairs}
 
 abbrev text_of : Core → Text
@@ -92,5 +83,5 @@ is_read_back found is =
     let same = canonical_is_read found is in
     record {
       same = same;
-      alone = λ other h e. one_record (canonical_text found) other found (subst (λ t. UnhandledRecord parse t other) e (canonical_is_read other h)) same;
+      no_other_record = λ other h e. one_record (canonical_text found) other found (subst (λ t. UnhandledRecord parse t other) e (canonical_is_read other h)) same;
     }

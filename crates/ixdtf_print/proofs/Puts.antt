@@ -1,11 +1,8 @@
 -- One text put after another.
-use Rattle.std.proofs.Common.{ℕ, suc, ◌+◌, ◌<◌, ◌≤◌, ◌≡◌, List, [], ◌∷◌, ◌++◌, map, length, take}
-use Rattle.std.proofs.Common.{drop, set, get_or, refl, sym, ◌∙◌, ap, arith, add-one, append_assoc}
-use Rattle.std.proofs.Math.Seq.{take-append_seam, take-suc}
-use Rattle.std.proofs.lemmas.List.{length-append, length-map, map-append, length-take-le, drop_at, set_split, take-append-drop, take-append-le, take-take}
-use Rattle.std.proofs.lemmas.List.{length-drop, drop-drop}
-use Rattle.ixdtf.specs.language.Letters.{Letter, Text}
-use Rattle.ixdtf.specs.language.Letters.Letter.{Plain}
+use Rattle.std.proofs.Common.{ℕ, suc, ◌+◌, ◌<◌, ◌≤◌, ◌≡◌, List, [], ◌∷◌, ◌++◌, map, length, take, drop, set, get_or, refl, sym, ◌∙◌, ap, arith, add-one}
+use Rattle.std.proofs.{Common.append_assoc, Math.Seq.{take-append_seam, take-suc}, lemmas.List.{length-append, length-map, map-append, length-take-le}}
+use Rattle.std.proofs.lemmas.List.{drop_at, set_split, take-append-drop, take-append-le, take-take, length-drop, drop-drop}
+use Rattle.ixdtf.specs.language.Letters.{Letter, Text, Letter.Plain}
 use Rattle.ixdtf_print.specs.Puts.{HasRoom, Puts}
 
 long_bytes : (bytes : List ℕ) (text : Text) → map Plain bytes ≡ text → length bytes ≡ length text

@@ -1,24 +1,16 @@
 -- What is displayed of the parts of a canonical text.
-use Rattle.std.proofs.Common.{ℕ, ◌+◌, ◌<◌, ◌≡◌, List, [], ◌∷◌, ◌++◌, map, length, take, get_or, Some, codes, refl, sym, ◌∙◌, ap, arith, add-one}
-use Rattle.std.proofs.Common.{append-nil, take_all}
-use Rattle.std.proofs.Math.Seq.{take-suc}
-use Rattle.std.proofs.lemmas.List.{map-append}
-use Rattle.std.proofs.lemmas.Str.{encodes-append}
-use Rattle.std.specs.Char.{encode_utf8}
-use Rattle.std.specs.Str.{encode_utf8_all}
-use Rattle.ixdtf.specs.language.Letters.{Text}
-use Rattle.ixdtf.specs.language.Letters.Letter.{Plain}
-use Rattle.ixdtf.specs.language.Brackets.{ZoneNote}
-use Rattle.ixdtf.specs.language.Languages.{Parsed}
-use Rattle.ixdtf_print.specs.Canonical.{opening_text, zone_text, bracket_text, calendar_text, core_text, canonical_text}
-use Rattle.ixdtf_print.specs.Puts.{Puts}
-use Rattle.ixdtf_print.specs.Shown.{number_of, bytes_of, shown_text}
+use Rattle.std.proofs.Common.{ℕ, ◌+◌, ◌<◌, ◌≡◌, List, [], ◌∷◌, ◌++◌, map, length, take, get_or, Some, codes, refl, sym, ◌∙◌, ap, arith, add-one, append-nil}
+use Rattle.std.proofs.{Common.take_all, Math.Seq.take-suc, lemmas.{List.map-append, Str.encodes-append}}
+use Rattle.std.specs.{Char.encode_utf8, Str.encode_utf8_all}
+use Rattle.ixdtf.specs.language.{Letters.{Text, Letter.Plain}, Brackets.ZoneNote, Languages.Parsed}
+use Rattle.ixdtf_print.specs.{Canonical.{opening_text, zone_text, bracket_text, calendar_text, core_text, canonical_text}, Puts.Puts}
+use Rattle.ixdtf_print.specs.Shown.{code_point, bytes_of, shown_text}
 use Rattle.ixdtf_print.proofs.Puts.{front_of_new, text_long, puts_length}
 
 bytes-append : (a b : Text) → bytes_of (a ++ b) ≡ bytes_of a ++ bytes_of b
-bytes-append a b = ap encode_utf8_all (map-append number_of a b) ∙ encodes-append (map number_of a) (map number_of b)
+bytes-append a b = ap encode_utf8_all (map-append code_point a b) ∙ encodes-append (map code_point a) (map code_point b)
 
-numbers : (bytes : List ℕ) → map number_of (map Plain bytes) ≡ bytes
+numbers : (bytes : List ℕ) → map code_point (map Plain bytes) ≡ bytes
 numbers [] = refl
 numbers (byte ∷ bytes) = ap (λ l. byte ∷ l) (numbers bytes)
 

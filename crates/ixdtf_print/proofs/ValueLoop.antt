@@ -1,13 +1,8 @@
 -- One byte more of a value.
-use Rattle.std.proofs.Common.{ℕ, ◌+◌, ◌<◌, ◌≤◌, ◌≡◌, ◌≢◌, ◌↔◌, ◌⊎◌, inl, inr, IsTrue, IsFalse, Bool, true, false, cond, ◌&&◌, List, [], ◌∷◌, map, drop, get_or}
-use Rattle.std.proofs.Common.{length, refl, sym, ◌∙◌, ap, arith, add-one, subst}
+use Rattle.std.proofs.Common.{ℕ, ◌+◌, ◌<◌, ◌≤◌, ◌≡◌, ◌≢◌, ◌↔◌, ◌⊎◌, inl, inr, IsTrue, IsFalse, Bool, true, false, cond, ◌&&◌, List, [], ◌∷◌, map, drop}
+use Rattle.std.proofs.{Common.{get_or, length, refl, sym, ◌∙◌, ap, arith, add-one, subst}, Math.Seq.drop-cons, lemmas.{List.drop_all, Bool.Decides.nat_tests}}
 use Rattle.std.specs.Char.{is_ascii_alphanumeric}
-use Rattle.std.proofs.Math.Seq.{drop-cons}
-use Rattle.std.proofs.lemmas.List.{drop_all}
-use Rattle.std.proofs.lemmas.Bool.Decides.{nat_tests}
-use Rattle.ixdtf.specs.language.Letters.{Text, hyphen, value_char}
-use Rattle.ixdtf.specs.language.Letters.Letter.{Plain}
-use Rattle.ixdtf.specs.language.Brackets.{Value}
+use Rattle.ixdtf.specs.language.{Letters.{Text, hyphen, value_char, Letter.Plain}, Brackets.Value}
 use Rattle.ixdtf_print.proofs.Values.{goes_as_value, value_test}
 
 -- what goes on from a place

@@ -1,9 +1,7 @@
 -- A test of the values of annotations, and that it tells them.
 use Rattle.std.proofs.Common.{ℕ, ◌≡◌, ◌↔◌, IsTrue, Bool, true, false, cond, ◌&&◌, if◌then◌else◌, List, [], ◌∷◌, ◌++◌, refl, ◌∙◌, arith}
 use Rattle.std.proofs.lemmas.Bool.Decides.{nat_tests}
-use Rattle.ixdtf.specs.language.Letters.{Text, hyphen, value_char}
-use Rattle.ixdtf.specs.language.Letters.Letter.{Plain, Bad}
-use Rattle.ixdtf.specs.language.Shapes.{Shape, one, ◌then◌, many, Joined}
+use Rattle.ixdtf.specs.language.{Letters.{Text, hyphen, value_char, Letter.{Plain, Bad}}, Shapes.{Shape, one, ◌then◌, many, Joined}}
 use Rattle.ixdtf.specs.language.Brackets.{Value, ValueRun}
 
 -- the letters go on as a value, up to its end; a letter of a run may have stood before them

@@ -1,10 +1,8 @@
 -- Years by their signs.
 use Rattle.std.proofs.Common.{ℕ, ◌<◌, ◌≤◌, ◌≡◌, ℤ, pos, negsuc, nat_abs, Bool, true, false, cond, [], ◌∷◌, ◌++◌, refl, arith, nat_le}
+use Rattle.std.proofs.lemmas.{Bool.Decides.nat_tests, Int.ints}
 use Rattle.std.specs.Prelude.{◌≤ℤ◌, ◌<ℤ◌}
-use Rattle.std.proofs.lemmas.Bool.Decides.{nat_tests}
-use Rattle.std.proofs.lemmas.Int.{ints}
-use Rattle.ixdtf.specs.language.Letters.Letter.{Plain}
-use Rattle.ixdtf.specs.language.Digits.{padded_digits}
+use Rattle.ixdtf.specs.language.{Letters.Letter.Plain, Digits.padded_digits}
 use Rattle.ixdtf_print.specs.Canonical.{year_text}
 
 pub negative_year : (year : ℤ) (distance : ℕ) → distance ≡ nat_abs year → year <ℤ pos 0 → year_text year ≡ (Plain 45 ∷ []) ++ padded_digits 6 distance

@@ -1,23 +1,12 @@
 -- The canonical text of a record: of the texts that stand for it, the one that is printed.
+use Rattle.ixdtf_grammar.specs.declared.records.UtcOffsetRecord.TheVariants as offsets
+use Rattle.ixdtf_grammar.specs.declared.records.UtcOffsetRecordOrZ.TheVariants as stands
 use Rattle.std.specs.Prelude.{ℕ, suc, ◌-◌, Bool, true, false, List, [], ◌∷◌, ◌++◌, map, replicate, codes, Option, Some, None, ℤ, pos, negsuc, nat_le}
 use Rattle.std.specs.Prelude.{if◌then◌else◌}
-use Rattle.ixdtf_grammar.specs.declared.records.DateRecord.{DateRecord}
-use Rattle.ixdtf_grammar.specs.declared.records.FullPrecisionOffset.{FullPrecisionOffset}
-use Rattle.ixdtf_grammar.specs.declared.records.MinutePrecisionOffset.{MinutePrecisionOffset}
-use Rattle.ixdtf_grammar.specs.declared.records.Sign.{Sign}
-use Rattle.ixdtf_grammar.specs.declared.records.Sign.TheVariants.{Positive, Negative}
-use Rattle.ixdtf_grammar.specs.declared.records.TimeRecord.{TimeRecord}
-use Rattle.ixdtf_grammar.specs.declared.records.UtcOffsetRecord.TheVariants as offsets
-use Rattle.ixdtf_grammar.specs.declared.records.UtcOffsetRecordOrZ.{UtcOffsetRecordOrZ}
-use Rattle.ixdtf_grammar.specs.declared.records.UtcOffsetRecordOrZ.TheVariants as stands
-use Rattle.ixdtf.specs.language.Letters.{Text}
-use Rattle.ixdtf.specs.language.Letters.Letter.{Plain}
-use Rattle.ixdtf.specs.language.Digits.{padded_digits}
-use Rattle.ixdtf.specs.language.Fractions.{FractionParts, places_of}
-use Rattle.ixdtf.specs.language.ZoneNames.{Zone}
-use Rattle.ixdtf.specs.language.ZoneNames.Zone.{Name, Offset}
-use Rattle.ixdtf.specs.language.Brackets.{ZoneNote}
-use Rattle.ixdtf.specs.language.Languages.{Parsed}
+use Rattle.ixdtf_grammar.specs.declared.records.{DateRecord.DateRecord, FullPrecisionOffset.FullPrecisionOffset, MinutePrecisionOffset.MinutePrecisionOffset}
+use Rattle.ixdtf_grammar.specs.declared.records.{Sign.{Sign, TheVariants.{Positive, Negative}}, TimeRecord.TimeRecord, UtcOffsetRecordOrZ.UtcOffsetRecordOrZ}
+use Rattle.ixdtf.specs.language.{Letters.{Text, Letter.Plain}, Digits.padded_digits, Fractions.{FractionParts, places_of}, ZoneNames.Zone}
+use Rattle.ixdtf.specs.language.{ZoneNames.Zone.{Name, Offset}, Brackets.ZoneNote, Languages.Parsed}
 
 -- a number in two digits
 unfoldable pub two_digits : ℕ → Text

@@ -1,11 +1,7 @@
 -- What holds of canonical texts.
 use Rattle.std.specs.Prelude.{◌≤◌, ◌+◌, length}
-use Rattle.ixdtf.specs.Handlers.{UnhandledRecord}
-use Rattle.ixdtf.specs.language.Letters.{Text}
-use Rattle.ixdtf.specs.language.Languages.{Parsed}
-use Rattle.ixdtf.specs.language.Readers.{parse}
-use Rattle.ixdtf_print.specs.Canonical.{canonical_text}
-use Rattle.ixdtf_print.specs.Printable.{IsPrintable, IsReadBack}
+use Rattle.ixdtf.specs.{Handlers.UnhandledRecord, language.{Letters.Text, Languages.Parsed, Readers.parse}}
+use Rattle.ixdtf_print.specs.{Canonical.canonical_text, Printable.{IsPrintable, IsReadBack}}
 
 -- the canonical text of a record that `parse` reads from a text, with each pair its own reply, has at most 14 code units more
 abbrev pub CanonicalFits : Type 0

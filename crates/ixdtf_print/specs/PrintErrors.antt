@@ -1,7 +1,6 @@
 -- What is written of an error of the printer.
 use Rattle.std.specs.Prelude.{ℕ, List, codes}
-use Rattle.ixdtf_print.specs.declared.error.PrintError.{PrintError}
-use Rattle.ixdtf_print.specs.declared.error.PrintError.TheVariants.{NotPrintable, TooShort}
+use Rattle.ixdtf_print.specs.declared.error.PrintError.{PrintError, TheVariants.{NotPrintable, TooShort}}
 
 -- the text of an error
 abbrev pub print_message : PrintError → List ℕ

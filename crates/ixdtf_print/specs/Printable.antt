@@ -1,11 +1,7 @@
 -- Which records are printed, and that what is printed of them is read back.
 use Rattle.std.specs.Prelude.{◌≡◌, ℕ}
 use Rattle.ixdtf_grammar.specs.declared.records.IxdtfParseRecord.{IxdtfParseRecord}
-use Rattle.ixdtf.specs.Handlers.{UnhandledRecord}
-use Rattle.ixdtf.specs.Views.{parsed_of}
-use Rattle.ixdtf.specs.language.Letters.{Text}
-use Rattle.ixdtf.specs.language.Languages.{Parsed}
-use Rattle.ixdtf.specs.language.Readers.{parse}
+use Rattle.ixdtf.specs.{Handlers.UnhandledRecord, Views.parsed_of, language.{Letters.Text, Languages.Parsed, Readers.parse}}
 use Rattle.ixdtf_print.specs.Canonical.{canonical_text}
 
 -- what `parse` reads: a record of bytes, with its names by the numbers of these
@@ -19,4 +15,4 @@ IsPrintable found = (text : Text) × UnhandledRecord parse text found
 -- `parse` reads the record from its canonical text, and no other printable record has this canonical text
 pub record IsReadBack (found : Parsed) : Type 0 where
   pub same : UnhandledRecord parse (canonical_text found) found
-  pub alone : (other : Parsed) → IsPrintable other → canonical_text other ≡ canonical_text found → other ≡ found
+  pub no_other_record : (other : Parsed) → IsPrintable other → canonical_text other ≡ canonical_text found → other ≡ found

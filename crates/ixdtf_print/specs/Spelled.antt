@@ -1,18 +1,11 @@
 -- Which records have a text, by their fields. Private clauses say it so; `IsPrintable` of `Printable.antt` is what is meant.
-use Rattle.std.specs.Prelude.{ℕ, ◌≤◌, ◌<◌, ◌^◌, min, List, map, Option, Some, None, nat_abs}
-use Rattle.ixdtf_grammar.specs.declared.records.DateRecord.{DateRecord}
-use Rattle.ixdtf_grammar.specs.declared.records.MinutePrecisionOffset.{MinutePrecisionOffset}
-use Rattle.ixdtf_grammar.specs.declared.records.TimeRecord.{TimeRecord}
 use Rattle.ixdtf_grammar.specs.declared.records.UtcOffsetRecord.TheVariants as offsets
-use Rattle.ixdtf_grammar.specs.declared.records.UtcOffsetRecordOrZ.{UtcOffsetRecordOrZ}
 use Rattle.ixdtf_grammar.specs.declared.records.UtcOffsetRecordOrZ.TheVariants as stands
-use Rattle.ixdtf.specs.language.Letters.Letter.{Plain}
-use Rattle.ixdtf.specs.language.Dates.{IsDayOfMonth}
-use Rattle.ixdtf.specs.language.Fractions.{FractionParts}
-use Rattle.ixdtf.specs.language.ZoneNames.{Zone, ZoneName}
-use Rattle.ixdtf.specs.language.ZoneNames.Zone.{Name, Offset}
-use Rattle.ixdtf.specs.language.Brackets.{ZoneNote, Value}
-use Rattle.ixdtf.specs.language.Languages.{Parsed}
+use Rattle.std.specs.Prelude.{ℕ, ◌≤◌, ◌<◌, ◌^◌, min, List, map, Option, Some, None, nat_abs}
+use Rattle.ixdtf_grammar.specs.declared.records.{DateRecord.DateRecord, MinutePrecisionOffset.MinutePrecisionOffset, TimeRecord.TimeRecord}
+use Rattle.ixdtf_grammar.specs.declared.records.UtcOffsetRecordOrZ.{UtcOffsetRecordOrZ}
+use Rattle.ixdtf.specs.language.{Letters.Letter.Plain, Dates.IsDayOfMonth, Fractions.FractionParts, ZoneNames.{Zone, ZoneName, Zone.{Name, Offset}}}
+use Rattle.ixdtf.specs.language.{Brackets.{ZoneNote, Value}, Languages.Parsed}
 
 -- a day of the Gregorian calendar, in a year of at most six digits
 pub record IsDay (date : DateRecord) : Type 0 where

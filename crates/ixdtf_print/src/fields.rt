@@ -46,9 +46,9 @@ fn put_date(out: &mut [u8], at: usize, date: DateRecord) -> usize
     requires { HasRoom out.old at (date_text date) }
     ensures { Puts out.old out.new at result (date_text date) }
 {
-    let month = put_year(out, at, date);
-    let day = put_marked(out, month, b'-', date.month);
-    put_marked(out, day, b'-', date.day)
+    let after_year = put_year(out, at, date);
+    let after_month = put_marked(out, after_year, b'-', date.month);
+    put_marked(out, after_month, b'-', date.day)
 }
 
 /// Puts the date at the place, where there is one, and returns the place behind it.
@@ -215,9 +215,9 @@ pub fn put_core(out: &mut [u8], at: usize, parsed: &IxdtfParseRecord<'_, Utf8>) 
     requires { HasRoom out.old at (core_text (record_of parsed.now)) }
     ensures { Puts out.old out.new at result (core_text (record_of parsed.now)) }
 {
-    let time = put_optional_date(out, at, parsed.date);
-    let offset = put_time(out, time, parsed.time);
-    put_offset(out, offset, parsed.offset)
+    let after_date = put_optional_date(out, at, parsed.date);
+    let after_time = put_time(out, after_date, parsed.time);
+    put_offset(out, after_time, parsed.offset)
 }
 
 /// Puts the record at the front, and returns the place behind it.
@@ -227,7 +227,7 @@ pub fn put_record(out: &mut [u8], parsed: &IxdtfParseRecord<'_, Utf8>) -> usize
     ensures { Puts out.old out.new 0 result
         (canonical_text (record_of parsed.now)) }
 {
-    let bracket = put_core(out, 0, parsed);
-    let calendar = put_bracket(out, bracket, &parsed.tz);
-    put_calendar(out, calendar, parsed.calendar)
+    let after_core = put_core(out, 0, parsed);
+    let after_bracket = put_bracket(out, after_core, &parsed.tz);
+    put_calendar(out, after_bracket, parsed.calendar)
 }

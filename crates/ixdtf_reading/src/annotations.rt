@@ -56,7 +56,7 @@ pub fn parse_annotation_key<'a, T: EncodingType>(
     match passed.next {
         None => Err(Stop::AnnotationKeyValueSeparator),
         Some(byte) if is_annotation_key_value_separator(byte) => {
-            cursor.step();
+            cursor.advance();
             Ok(key)
         }
         Some(_) => Err(Stop::AnnotationKeyChar),
@@ -88,7 +88,7 @@ fn start_component<'a, T: EncodingType>(cursor: &mut Cursor<'a, T>, other: Stop)
 {
     match cursor.look()? {
         Some(byte) if is_annotation_value_component(byte) => {
-            cursor.step();
+            cursor.advance();
             Ok(byte)
         }
         _ => Err(other),
@@ -112,11 +112,11 @@ pub fn parse_annotation_value<'a, T: EncodingType>(
         match component.next {
             None => return Err(Stop::AnnotationClose),
             Some(byte) if is_annotation_close(byte) => {
-                cursor.step();
+                cursor.advance();
                 let behind = cursor.rest().len() + 1;
                 return Ok(&start[..start.len().saturating_sub(behind)]);
             }
-            Some(byte) if is_hyphen(byte) => cursor.step(),
+            Some(byte) if is_hyphen(byte) => cursor.advance(),
             Some(_) => return Err(Stop::AnnotationValueChar),
         }
         start_component(cursor, Stop::AnnotationValueCharPostHyphen)?;
@@ -157,7 +157,7 @@ fn parse_later_pair<'a, T: EncodingType>(
 {
     match cursor.look()? {
         Some(byte) if is_critical_flag(byte) => {
-            cursor.step();
+            cursor.advance();
             parse_critical_pair(cursor)
         }
         Some(byte) if is_a_key_leading_char(byte) => parse_pair(cursor, false),
@@ -198,7 +198,7 @@ pub fn next_annotation<'a, T: EncodingType>(
     match cursor.look()? {
         None => Ok(None),
         Some(byte) if is_annotation_open(byte) => {
-            cursor.step();
+            cursor.advance();
             let annotation = parse_later_pair(cursor)?;
             Ok(Some(annotation))
         }

@@ -14,9 +14,9 @@ ghost use Rattle.ixdtf_reading.specs.reading.Clauses.{Reads, Settles, Spends, Sp
 ghost use Rattle.ixdtf_reading.specs.reading.FixedPlaces.{letter_place, byte_place, byte_of_look};
 ghost use Rattle.ixdtf_reading.specs.reading.Looks.{seen, next_by, peek_by, digit_look, digits_by};
 
-use crate::grammar::number_of;
+use crate::grammar::two_digit_number;
 use crate::looks::Looks;
-use crate::stop::{Raised, Stop};
+use crate::stop::{FromStop, Stop};
 use ixdtf_grammar::encoding::EncodingType;
 use std::marker::Model;
 
@@ -66,7 +66,7 @@ impl<'a, T: EncodingType> Cursor<'a, T> {
     /// A second cursor at the same place, which takes over the count of accesses. This one keeps its remaining input. So a
     /// reader and its loops work on a local value, and store it at their end.
     #[inline(always)]
-    pub fn take(&mut self) -> Self
+    pub fn fork(&mut self) -> Self
         ensures same { result ≡ self.old }
         ensures rest { self.new.rest ≡ self.old.rest }
     {
@@ -80,7 +80,7 @@ impl<'a, T: EncodingType> Cursor<'a, T> {
     /// A second cursor at remaining input that was kept, which takes over the count of accesses. This one keeps its
     /// remaining input.
     #[inline(always)]
-    pub fn at(&mut self, rest: &'a [T::CodeUnit]) -> Self
+    pub fn fork_at(&mut self, rest: &'a [T::CodeUnit]) -> Self
         ensures there { result.rest ≡ map T.number rest.now }
         ensures looks { result.looks ≡ self.old.looks }
         ensures rest { self.new.rest ≡ self.old.rest }
@@ -94,7 +94,7 @@ impl<'a, T: EncodingType> Cursor<'a, T> {
 
     /// Stays where it is, and takes over the count of a cursor that went on from here.
     #[inline(always)]
-    pub fn count(&mut self, here: Self)
+    pub fn keep_looks(&mut self, here: Self)
         ensures rest { self.new.rest ≡ self.old.rest }
         ensures looks { self.new.looks ≡ here.entry.looks }
     {
@@ -104,7 +104,7 @@ impl<'a, T: EncodingType> Cursor<'a, T> {
     /// Ends a reader that worked on a second cursor. After `Ok` this cursor goes on from there. After a stop this cursor
     /// keeps its remaining input, and the stop becomes the error, at the place where the reader stopped.
     #[inline(always)]
-    pub fn settle<R, E: Raised>(&mut self, here: Self, read: Result<R, Stop>) -> Result<R, E>
+    pub fn settle<R, E: FromStop>(&mut self, here: Self, read: Result<R, Stop>) -> Result<R, E>
         ensures settled { Settles E.fault read result }
         ensures place { IfErr result
             (E.stands (length self.old.rest - length here.entry.rest)) }
@@ -119,7 +119,7 @@ impl<'a, T: EncodingType> Cursor<'a, T> {
             }
             Err(stop) => {
                 let at = self.remaining().saturating_sub(here.remaining());
-                self.count(here);
+                self.keep_looks(here);
                 Err(E::of_stop(stop, at))
             }
         }
@@ -155,7 +155,7 @@ impl<'a, T: EncodingType> Cursor<'a, T> {
     /// Skips the first code unit, where there is one.
     #[inline(always)]
     #[tactic(auto, using(crate::proofs::code::Units::texts))]
-    pub fn step(&mut self)
+    pub fn advance(&mut self)
         ensures rest { self.new.rest ≡ drop 1 self.old.rest }
         ensures shorter { length self.new.rest ≤ length self.old.rest }
         ensures letters { map T.letter self.new.rest ≡ drop 1 (map T.letter self.old.rest) }
@@ -179,7 +179,7 @@ impl<'a, T: EncodingType> Cursor<'a, T> {
         match self.look()? {
             None => Err(Stop::AbruptDigit),
             Some(byte) if byte.is_ascii_digit() => {
-                self.step();
+                self.advance();
                 Ok(byte)
             }
             Some(_) => Err(other),
@@ -215,27 +215,27 @@ impl<'a, T: EncodingType> Cursor<'a, T> {
     {
         if self.rest.len() < 2 {
             self.digit_at(0, other)?;
-            self.step();
+            self.advance();
             return Err(Stop::AbruptDigit);
         }
         let first = self.look_at(0);
         let second = self.look_at(1);
         let tens = byte_of(first);
         let ones = byte_of(second);
-        if number_of(tens, ones) <= 99 {
-            self.skip(2);
+        if two_digit_number(tens, ones) <= 99 {
+            self.advance_by(2);
             return Ok((tens, ones));
         }
         if !tens.is_ascii_digit() {
             return Err(no_digit(first, other));
         }
-        self.step();
+        self.advance();
         Err(no_digit(second, other))
     }
 
     /// Skips `count` code units.
     #[inline(always)]
-    pub fn skip(&mut self, count: usize)
+    pub fn advance_by(&mut self, count: usize)
         requires { count ≤ length self.old.rest }
         ensures rest { self.new.rest ≡ drop count self.old.rest }
         ensures shorter { length self.new.rest + count ≡ length self.old.rest }

@@ -228,12 +228,12 @@ pub fn digits_value(tens: u8, ones: u8) -> u8
     ensures value { result ≡ decimal (Plain tens ∷ Plain ones ∷ []) }
     ensures small { result < 100 }
 {
-    number_of(tens, ones)
+    two_digit_number(tens, ones)
 }
 
 /// The value of two digits, or at least 100 where one of the bytes is not a digit.
 #[inline(always)]
-pub fn number_of(tens: u8, ones: u8) -> u8
+pub fn two_digit_number(tens: u8, ones: u8) -> u8
     ensures value { result ≡ tens_value tens + ones_value ones }
     ensures digits { result ≤ 99 → IsTrue (digit tens) × IsTrue (digit ones) }
     ensures other { 99 < result → IsTrue (digit tens) → IsFalse (digit ones) }

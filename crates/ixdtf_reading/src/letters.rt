@@ -37,7 +37,7 @@ pub fn pass_letters<'a, T: EncodingType, S: Letters>(
         length (drop 1 cursor.new.rest) + 1 ≡ length cursor.new.rest) }
     ensures shorter { length cursor.new.rest ≤ length cursor.old.rest }
 {
-    let mut here = cursor.take();
+    let mut here = cursor.fork();
     let mut state = first;
     let found = loop {
         match here.look() {
@@ -46,7 +46,7 @@ pub fn pass_letters<'a, T: EncodingType, S: Letters>(
             Ok(Some(byte)) => match state.go_on(byte) {
                 None => break Ok(Some(byte)),
                 Some(next) => {
-                    here.step();
+                    here.advance();
                     state = next;
                 }
             },

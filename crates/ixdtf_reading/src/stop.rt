@@ -135,7 +135,7 @@ pub struct StopAt {
 ///
 /// What calls a handler is generic in its error by this bound, and is used at `ParseError` and at `LocatedError`. So its own
 /// signature does not name `'static`, as `ParseError` does.
-pub trait Raised {
+pub trait FromStop {
     /// The fault that an error names.
     ghost fault: { Self → Fault };
 
@@ -148,7 +148,7 @@ pub trait Raised {
         ensures place { stands at result };
 }
 
-impl Raised for LocatedError {
+impl FromStop for LocatedError {
     ghost use Rattle.ixdtf_grammar.specs.table.Faults.{fault_of_located, stands_behind};
 
     ghost fault = { fault_of_located };
@@ -166,7 +166,7 @@ impl Raised for LocatedError {
     }
 }
 
-impl Raised for ParseError {
+impl FromStop for ParseError {
     ghost use Rattle.ixdtf_grammar.specs.table.Faults.{fault_of, stands_anywhere};
 
     ghost fault = { fault_of };

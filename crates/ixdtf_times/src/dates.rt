@@ -8,7 +8,7 @@ ghost use Rattle.ixdtf_grammar.specs.language.Dates.{is_leap, month_length};
 ghost use Rattle.ixdtf_grammar.specs.table.Faults.Fault.{DateExtendedYear, DateMonth, InvalidMonthRange, InvalidDayRange};
 ghost use Rattle.ixdtf_reading.specs.reading.Clauses.{Reads, Spends, SpendsInAll, SpendsOr, Checks, Yields, fault_of_stop, hyphen_look};
 ghost use Rattle.ixdtf_reading.specs.reading.FixedPlaces.{ranged};
-ghost use Rattle.ixdtf_reading.specs.reading.Looks.{error_of, number_of, digits_by, digit_look, mark_by, mark_at};
+ghost use Rattle.ixdtf_reading.specs.reading.Looks.{error_of, as_number, digits_by, digit_look, mark_by, mark_at};
 ghost use Rattle.ixdtf_reading.specs.reading.Dates.{date_of, year_at, four_digit_year_at, extended_year_at, date_at, days_at, month_by, day_at, line_after_month};
 
 use crate::fixed::take_fixed_date;
@@ -70,11 +70,11 @@ pub fn parse_date_year<'a, T: EncodingType>(cursor: &mut Cursor<'a, T>) -> Resul
     match cursor.look()? {
         None => Err(Stop::AbruptDigit),
         Some(byte) if byte.is_ascii_digit() => {
-            cursor.step();
+            cursor.advance();
             parse_four_digit_year(cursor, byte)
         }
         Some(byte) if is_ascii_sign(byte) => {
-            cursor.step();
+            cursor.advance();
             parse_extended_year(cursor, byte)
         }
         Some(_) => Err(Stop::DateYear),
@@ -121,7 +121,7 @@ fn parse_extended_year<'a, T: EncodingType>(
 #[tactic(auto, using(crate::proofs::code::YearDigits::six_digits))]
 fn parse_six_digits<'a, T: EncodingType>(cursor: &mut Cursor<'a, T>) -> Result<u32, Stop>
     ensures number { Reads T.letter (λ number. number) cursor.old result cursor.new
-        (λ text. number_of (digits_by (digit_look DateExtendedYear) 6 text)) }
+        (λ text. as_number (digits_by (digit_look DateExtendedYear) 6 text)) }
     ensures small { IfOk result (λ number. number < 1000000) }
     ensures looks { SpendsInAll 2 6 cursor.old cursor.new }
 {
@@ -135,7 +135,7 @@ fn parse_six_digits<'a, T: EncodingType>(cursor: &mut Cursor<'a, T>) -> Result<u
 #[inline(always)]
 fn parse_year_pair<'a, T: EncodingType>(cursor: &mut Cursor<'a, T>) -> Result<u8, Stop>
     ensures number { Reads T.letter (λ number. number) cursor.old result cursor.new
-        (λ text. number_of (digits_by (digit_look DateExtendedYear) 2 text)) }
+        (λ text. as_number (digits_by (digit_look DateExtendedYear) 2 text)) }
     ensures small { IfOk result (λ number. number < 100) }
     ensures looks { SpendsOr 2 0 cursor.old result cursor.new }
     ensures few { cursor.new.looks ≤ cursor.old.looks + 2 }
@@ -152,7 +152,7 @@ fn parse_three_digits<'a, T: EncodingType>(
     other: Stop,
 ) -> Result<u32, Stop>
     ensures number { Reads T.letter (λ number. number) cursor.old result cursor.new
-        (λ text. number_of (digits_by (digit_look (fault_of_stop other)) 3 text)) }
+        (λ text. as_number (digits_by (digit_look (fault_of_stop other)) 3 text)) }
     ensures small { IfOk result (λ number. number < 1000) }
     ensures looks { Spends 1 cursor.old cursor.new }
     ensures few { cursor.new.looks ≤ cursor.old.looks + 3 }
@@ -181,7 +181,7 @@ pub fn take_hyphen<'a, T: EncodingType>(
     match cursor.look()? {
         None => Err(at_end),
         Some(byte) if is_hyphen(byte) => {
-            cursor.step();
+            cursor.advance();
             Ok(true)
         }
         Some(byte) if byte.is_ascii_digit() => Ok(false),
@@ -238,7 +238,7 @@ fn take_separator<'a, T: EncodingType>(
     if hyphened {
         return match next {
             Some(byte) if is_hyphen(byte) => {
-                cursor.step();
+                cursor.advance();
                 Ok(())
             }
             _ => Err(Stop::DateSeparator),

@@ -26,7 +26,7 @@ use ixdtf_grammar::encoding::EncodingType;
 use ixdtf_grammar::profile::Profile;
 use ixdtf_grammar::records::DateRecord;
 use ixdtf_reading::cursor::Cursor;
-use ixdtf_reading::grammar::{is_date_time_separator, is_hyphen, number_of};
+use ixdtf_reading::grammar::{is_date_time_separator, is_hyphen, two_digit_number};
 use ixdtf_reading::stop::Stop;
 
 /// A time to its second.
@@ -55,7 +55,7 @@ pub fn fixed_date_time<'a, T: EncodingType>(
     ensures looks { Spends (length cursor.old.rest) cursor.old cursor.new }
 {
     let found = find_date_time(cursor)?;
-    cursor.skip(19);
+    cursor.advance_by(19);
     Some(found)
 }
 
@@ -125,7 +125,7 @@ pub fn take_fixed_date<'a, T: EncodingType>(
     } else if let Some(date) = fixed_basic_days(cursor, year) {
         return Some(take_date(cursor, date, 6, 8));
     }
-    cursor.skip(4);
+    cursor.advance_by(4);
     Some(parse_days(cursor, year))
 }
 
@@ -148,10 +148,10 @@ fn take_date<'a, T: EncodingType>(
     ensures looks { cursor.new.looks ≡ cursor.old.looks }
 {
     if let Err(stop) = check_month(date.month) {
-        cursor.skip(month_end);
+        cursor.advance_by(month_end);
         return Err(stop);
     }
-    cursor.skip(day_end);
+    cursor.advance_by(day_end);
     check_date(date.year, date.month, date.day)
 }
 
@@ -245,7 +245,7 @@ pub fn fixed_number<'a, T: EncodingType>(cursor: &mut Cursor<'a, T>, place: usiz
 {
     let tens = cursor.byte_at(place);
     let ones = cursor.byte_at(place + 1);
-    let number = number_of(tens, ones);
+    let number = two_digit_number(tens, ones);
     if number > 99 {
         return None;
     }
@@ -305,11 +305,11 @@ pub fn take_fixed_year_month<'a, T: EncodingType>(cursor: &mut Cursor<'a, T>) ->
             return None;
         }
         let date = fixed_month_of(cursor, year, 5)?;
-        cursor.skip(7);
+        cursor.advance_by(7);
         return Some(date);
     }
     let date = fixed_month_of(cursor, year, 4)?;
-    cursor.skip(6);
+    cursor.advance_by(6);
     Some(date)
 }
 
@@ -420,10 +420,10 @@ fn take_month_day<'a, T: EncodingType>(
     ensures looks { cursor.new.looks ≡ cursor.old.looks }
 {
     if let Err(stop) = check_month(date.month) {
-        cursor.skip(month_end);
+        cursor.advance_by(month_end);
         return Err(stop);
     }
-    cursor.skip(day_end);
+    cursor.advance_by(day_end);
     check_month_day(profile, date.month, date.day)
 }
 

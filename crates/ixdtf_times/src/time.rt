@@ -142,7 +142,7 @@ pub fn parse_clock<'a, T: EncodingType>(
     let hour = check_most(digits_value(tens, ones), 23, Stop::TimeHour)?;
     match cursor.look()? {
         Some(byte) if is_time_separator(byte) => {
-            cursor.step();
+            cursor.advance();
             parse_minute(cursor, clock, true, hour, time)
         }
         Some(byte) if byte.is_ascii_digit() => parse_basic_minute(cursor, clock, hour, time),
@@ -165,7 +165,7 @@ fn parse_basic_minute<'a, T: EncodingType>(
         (minute_at error_of (clock_of clock) false hour) }
     ensures looks { Spends 4 cursor.old cursor.new }
 {
-    let mut here = cursor.take();
+    let mut here = cursor.fork();
     let mut there = *time;
     let read = parse_basic_rest(&mut here, clock, hour, &mut there);
     *cursor = here;
@@ -206,7 +206,7 @@ fn parse_minute<'a, T: EncodingType>(
     match cursor.look()? {
         Some(byte) if clock.starts_second(colons, byte) => {
             if colons {
-                cursor.step();
+                cursor.advance();
             }
             parse_second(cursor, clock, hour, minute, time)
         }
@@ -268,7 +268,7 @@ pub fn parse_after_second<'a, T: EncodingType>(
 {
     match cursor.look()? {
         Some(byte) if is_decimal_separator(byte) => {
-            cursor.step();
+            cursor.advance();
             let fraction = parse_fraction(cursor)?;
             write_time(time, hour, minute, second, Some(fraction));
             Ok(TimeShape::Fractions)
@@ -287,7 +287,7 @@ pub fn parse_fraction<'a, T: EncodingType>(cursor: &mut Cursor<'a, T>) -> Result
         (fraction_at error_of clocks.Time) }
     ensures looks { Spends 2 cursor.old cursor.new }
 {
-    let mut here = cursor.take();
+    let mut here = cursor.fork();
     let read = parse_digits(&mut here);
     *cursor = here;
     read
@@ -300,10 +300,10 @@ fn parse_digits<'a, T: EncodingType>(cursor: &mut Cursor<'a, T>) -> Result<Fract
         (fraction_at error_of clocks.Time) }
     ensures looks { Spends 2 cursor.old cursor.new }
 {
-    let mut here = cursor.take();
+    let mut here = cursor.fork();
     let read = match here.look() {
         Ok(Some(byte)) if byte.is_ascii_digit() => {
-            here.step();
+            here.advance();
             parse_more_digits(&mut here, byte)
         }
         Ok(_) => Err(Stop::FractionPart),
@@ -328,7 +328,7 @@ fn parse_more_digits<'a, T: EncodingType>(
     while fraction.is_short() {
         match cursor.look()? {
             Some(byte) if byte.is_ascii_digit() => {
-                cursor.step();
+                cursor.advance();
                 fraction = fraction.with_digit(byte);
             }
             _ => return Ok(fraction),
@@ -354,7 +354,7 @@ fn count_more_digits<'a, T: EncodingType>(
         if !byte.is_ascii_digit() {
             break;
         }
-        cursor.step();
+        cursor.advance();
         fraction = fraction.with_more();
     }
     Ok(fraction)

@@ -5,8 +5,8 @@
 //! A cursor has no index. It keeps the remaining code units as one slice, so it cannot point past the end. A reader
 //! that returns an error restores the slice that it began with.
 
-use crate::grammar::number_of;
-use crate::stop::{Raised, Stop};
+use crate::grammar::two_digit_number;
+use crate::stop::{FromStop, Stop};
 use crate::encoding::EncodingType;
 
 /// The remaining code units.
@@ -38,7 +38,7 @@ impl<'a, T: EncodingType> Cursor<'a, T> {
     /// A second cursor at the same place, which takes over the count of accesses. This one keeps its remaining input. So a
     /// reader and its loops work on a local value, and store it at their end.
     #[inline(always)]
-    pub fn take(&mut self) -> Self {
+    pub fn fork(&mut self) -> Self {
         Cursor {
             rest: self.rest,
         }
@@ -47,7 +47,7 @@ impl<'a, T: EncodingType> Cursor<'a, T> {
     /// A second cursor at remaining input that was kept, which takes over the count of accesses. This one keeps its
     /// remaining input.
     #[inline(always)]
-    pub fn at(&mut self, rest: &'a [T::CodeUnit]) -> Self {
+    pub fn fork_at(&mut self, rest: &'a [T::CodeUnit]) -> Self {
         Cursor {
             rest,
         }
@@ -56,7 +56,7 @@ impl<'a, T: EncodingType> Cursor<'a, T> {
     /// Ends a reader that worked on a second cursor. After `Ok` this cursor goes on from there. After a stop this cursor
     /// keeps its remaining input, and the stop becomes the error, at the place where the reader stopped.
     #[inline(always)]
-    pub fn settle<R, E: Raised>(&mut self, here: Self, read: Result<R, Stop>) -> Result<R, E> {
+    pub fn settle<R, E: FromStop>(&mut self, here: Self, read: Result<R, Stop>) -> Result<R, E> {
         match read {
             Ok(found) => {
                 *self = here;
@@ -87,7 +87,7 @@ impl<'a, T: EncodingType> Cursor<'a, T> {
 
     /// Skips the first code unit, where there is one.
     #[inline(always)]
-    pub fn step(&mut self) {
+    pub fn advance(&mut self) {
         if let [_, rest @ ..] = self.rest {
             self.rest = rest;
         }
@@ -100,7 +100,7 @@ impl<'a, T: EncodingType> Cursor<'a, T> {
         match self.look()? {
             None => Err(Stop::AbruptDigit),
             Some(byte) if byte.is_ascii_digit() => {
-                self.step();
+                self.advance();
                 Ok(byte)
             }
             Some(_) => Err(other),
@@ -123,27 +123,27 @@ impl<'a, T: EncodingType> Cursor<'a, T> {
     pub fn two_digits(&mut self, other: Stop) -> Result<(u8, u8), Stop> {
         if self.rest.len() < 2 {
             self.digit_at(0, other)?;
-            self.step();
+            self.advance();
             return Err(Stop::AbruptDigit);
         }
         let first = self.look_at(0);
         let second = self.look_at(1);
         let tens = byte_of(first);
         let ones = byte_of(second);
-        if number_of(tens, ones) <= 99 {
-            self.skip(2);
+        if two_digit_number(tens, ones) <= 99 {
+            self.advance_by(2);
             return Ok((tens, ones));
         }
         if !tens.is_ascii_digit() {
             return Err(no_digit(first, other));
         }
-        self.step();
+        self.advance();
         Err(no_digit(second, other))
     }
 
     /// Skips `count` code units.
     #[inline(always)]
-    pub fn skip(&mut self, count: usize) {
+    pub fn advance_by(&mut self, count: usize) {
         self.rest = &self.rest[count..];
     }
 

@@ -180,12 +180,12 @@ pub fn is_annotation_value_component(byte: u8) -> bool {
 /// The value of two digits.
 #[inline(always)]
 pub fn digits_value(tens: u8, ones: u8) -> u8 {
-    number_of(tens, ones)
+    two_digit_number(tens, ones)
 }
 
 /// The value of two digits, or at least 100 where one of the bytes is not a digit.
 #[inline(always)]
-pub fn number_of(tens: u8, ones: u8) -> u8 {
+pub fn two_digit_number(tens: u8, ones: u8) -> u8 {
     tens_of(tens) + ones_of(ones)
 }
 

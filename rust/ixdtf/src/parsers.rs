@@ -22,25 +22,25 @@ mod profile;
 mod replies;
 mod texts;
 mod time;
-mod timezone;
+mod time_zone_parser;
 mod unhandled;
-mod zones;
+mod zone;
 
-// Only for crates of this repository; not part of the public interface: what `read_by_reference` is generic in.
+// Only for crates of this repository; not part of the public interface: what `read_lending_handler` is generic in.
 #[doc(hidden)]
-pub use self::cores::{Cores, DateTimes, LoneTimes, MonthDays, YearMonths};
+pub use self::cores::{CoreReader, DateTimes, MonthDays, Times, YearMonths};
 // The library for C keeps the calendar of replies by the same rule.
 #[doc(hidden)]
 pub use self::replies::keep_first_calendar;
 use self::texts::parse_text;
-pub use self::zones::TimeZoneParser;
+pub use self::time_zone_parser::TimeZoneParser;
 pub use self::duration::IsoDurationParser;
 use crate::encoding::{EncodingType, Utf8, Utf16};
 pub use self::profile::Profile;
 use crate::records::{Annotation, IxdtfParseRecord};
 use crate::cursor::Cursor;
 #[doc(hidden)]
-pub use crate::stop::Raised;
+pub use crate::stop::FromStop;
 use crate::stop::StopAt;
 
 /// A reader of dates and times, with an offset, a time zone and annotations.
@@ -157,7 +157,7 @@ impl<'a, T: EncodingType> IxdtfParser<'a, T> {
     /// Each public reader of records calls this one, and returns in each arm. Where a reader returns the result of another
     /// one, or its arms meet before it returns, the whole record is copied once more.
     #[inline(always)]
-    fn read_into<C: Cores, F>(
+    fn read_into<C: CoreReader, F>(
         &mut self,
         handler: &mut F,
         found: &mut IxdtfParseRecord<'a, T>,
@@ -165,7 +165,7 @@ impl<'a, T: EncodingType> IxdtfParser<'a, T> {
     where
         F: FnMut(Annotation<'a, T>) -> Option<Annotation<'a, T>>,
     {
-        let mut here = self.cursor.take();
+        let mut here = self.cursor.fork();
         match parse_text::<T, C, F>(&mut here, self.profile, handler, found) {
             Ok(()) => {
                 self.cursor = here;

@@ -130,12 +130,12 @@ pub struct StopAt {
 ///
 /// What calls a handler is generic in its error by this bound, and is used at `ParseError` and at `LocatedError`. So its own
 /// signature does not name `'static`, as `ParseError` does.
-pub trait Raised {
+pub trait FromStop {
     /// The error of a stop, whose place is behind `at` code units.
     fn of_stop(stop: Stop, at: usize) -> Self;
 }
 
-impl Raised for LocatedError {
+impl FromStop for LocatedError {
     /// The error of the stop. It is not inlined, so that a loop over a name stays small.
     #[cold]
     #[inline(never)]
@@ -147,7 +147,7 @@ impl Raised for LocatedError {
     }
 }
 
-impl Raised for ParseError {
+impl FromStop for ParseError {
     /// The error of the stop, whatever stands before it.
     #[inline(always)]
     fn of_stop(stop: Stop, _at: usize) -> ParseError {

@@ -2,7 +2,7 @@
 
 //! Durations, as C sees them.
 
-use crate::errors::number_of;
+use crate::errors::number_and_location;
 use crate::forms::{Digits, is_negative};
 use crate::slices::{Slice, to_c};
 use ixdtf::encoding::EncodingType;
@@ -150,7 +150,7 @@ pub fn duration_into<T: EncodingType>(
             0
         }
         Err(located) => {
-            let (number, location) = number_of(located.error);
+            let (number, location) = number_and_location(located.error);
             out.location = to_c(location);
             out.place = located.at;
             number

@@ -7,7 +7,7 @@ use ixdtf::ParseError;
 
 /// The number of an error, from 1, in the order in which `ParseError` declares them, and where the text ended, of `AbruptEnd`.
 #[inline(always)]
-pub fn number_of(error: ParseError) -> (u32, &'static [u8]) {
+pub fn number_and_location(error: ParseError) -> (u32, &'static [u8]) {
     match error {
         ParseError::ImplAssert => (1, &[]),
         ParseError::NonAsciiCodePoint => (2, &[]),
@@ -118,7 +118,7 @@ static ERRORS: [ParseError; 46] = [
 ];
 
 /// The error of a number from 1 to 46, where `AbruptEnd` has no location.
-fn error_of(number: u32) -> ParseError {
+fn error_by_number(number: u32) -> ParseError {
     ERRORS[number as usize - 1]
 }
 
@@ -128,6 +128,6 @@ pub extern "C" fn ixdtf_error_text(number: u32, out: &mut Text<'_>) {
     if number < 1 || number > 46 {
         out.bytes = to_c(&[]);
     } else {
-        out.bytes = to_c(error_of(number).to_static_string().as_bytes());
+        out.bytes = to_c(error_by_number(number).to_static_string().as_bytes());
     }
 }

@@ -6,7 +6,7 @@ use crate::durations::{Duration, duration_into};
 use crate::narrow::Record;
 use crate::readers::{name_into, offset_into, read_into, zone_into};
 use ixdtf::encoding::Utf8;
-use ixdtf::parsers::{DateTimes, LoneTimes, MonthDays, Profile, YearMonths};
+use ixdtf::parsers::{DateTimes, MonthDays, Profile, Times, YearMonths};
 
 /// Reads a date, or a date and a time, and the brackets after it.
 #[unsafe(no_mangle)]
@@ -37,7 +37,7 @@ pub unsafe extern "C" fn ixdtf_parse_month_day<'a>(text: *const u8, text_length:
 pub unsafe extern "C" fn ixdtf_parse_time<'a>(text: *const u8, text_length: usize, out: &mut Record<'a>) -> u32 {
     // SAFETY: so the header has it.
     let text = unsafe { crate::slices::slice(text, text_length) };
-    read_into::<Utf8, LoneTimes, _>(text, Profile::Crate, out)
+    read_into::<Utf8, Times, _>(text, Profile::Crate, out)
 }
 
 /// Reads a month and a day, and the brackets after it, under the strict profile.
@@ -53,7 +53,7 @@ pub unsafe extern "C" fn ixdtf_parse_month_day_strict<'a>(text: *const u8, text_
 pub unsafe extern "C" fn ixdtf_parse_time_strict<'a>(text: *const u8, text_length: usize, out: &mut Record<'a>) -> u32 {
     // SAFETY: so the header has it.
     let text = unsafe { crate::slices::slice(text, text_length) };
-    read_into::<Utf8, LoneTimes, _>(text, Profile::Strict, out)
+    read_into::<Utf8, Times, _>(text, Profile::Strict, out)
 }
 
 /// Reads an offset.

@@ -2,7 +2,7 @@
 
 //! Records of 16-bit sources, as C sees them.
 
-use crate::errors::number_of;
+use crate::errors::number_and_location;
 use crate::forms::{Date, Offset, Time, is_negative};
 use crate::slices::{Slice, from_c, to_c};
 use crate::widths::{AnnotationOf, CalendarOf, RecordOf};
@@ -152,7 +152,7 @@ impl<'a> RecordOf<'a, Utf16> for Record<'a> {
 
     #[inline(always)]
     fn refuse(&mut self, located: LocatedError) -> u32 {
-        let (number, location) = number_of(located.error);
+        let (number, location) = number_and_location(located.error);
         self.location = to_c(location);
         self.place = located.at;
         number

@@ -9,7 +9,7 @@ use crate::widths::RecordOf;
 use ixdtf::LocatedError;
 use ixdtf::encoding::Utf16;
 use ixdtf::parsers::{
-    Cores, DateTimes, IxdtfParser, LoneTimes, MonthDays, Profile, Raised, YearMonths,
+    CoreReader, DateTimes, FromStop, IxdtfParser, MonthDays, Profile, Times, YearMonths,
 };
 use ixdtf::records::{self, IxdtfParseRecord};
 
@@ -38,7 +38,7 @@ impl<'l, 'a> List<'l, 'a> {
 ///
 /// It is generic in its error, since a function that names a lifetime in a bound may not name `'static`, as `LocatedError` does.
 #[inline(always)]
-fn list_as<'a, E: Raised, C: Cores>(
+fn list_as<'a, E: FromStop, C: CoreReader>(
     text: &'a [u16],
     profile: Profile,
     list: &mut List<'_, 'a>,
@@ -48,7 +48,7 @@ fn list_as<'a, E: Raised, C: Cores>(
         list.add(annotation);
         None
     };
-    match parser.read_by_reference::<E, C, _>(&mut handler) {
+    match parser.read_lending_handler::<E, C, _>(&mut handler) {
         Ok(found) => Ok(found),
         Err(error) => return Err(error),
     }
@@ -56,7 +56,7 @@ fn list_as<'a, E: Raised, C: Cores>(
 
 /// Reads and lists as [`list_as`] does, and writes what was read.
 #[inline(always)]
-fn list_into<'a, C: Cores>(
+fn list_into<'a, C: CoreReader>(
     text: &'a [u16],
     profile: Profile,
     annotations: &mut [Annotation<'a>],
@@ -143,7 +143,7 @@ pub unsafe extern "C" fn ixdtf16_parse_time_with_annotations<'a>(
     let text = unsafe { crate::slices::slice(text, text_length) };
     // SAFETY: so the header has it.
     let annotations = unsafe { crate::slices::slice_mut(annotations, annotations_length) };
-    list_into::<LoneTimes>(text, Profile::Crate, annotations, count, out)
+    list_into::<Times>(text, Profile::Crate, annotations, count, out)
 }
 
 /// Reads a month and a day, and the brackets after it, under the strict profile. The annotations are passed over and listed.
@@ -177,7 +177,7 @@ pub unsafe extern "C" fn ixdtf16_parse_time_with_annotations_strict<'a>(
     let text = unsafe { crate::slices::slice(text, text_length) };
     // SAFETY: so the header has it.
     let annotations = unsafe { crate::slices::slice_mut(annotations, annotations_length) };
-    list_into::<LoneTimes>(text, Profile::Strict, annotations, count, out)
+    list_into::<Times>(text, Profile::Strict, annotations, count, out)
 }
 
 /// Takes a reply to an annotation: keeps it where it is the first calendar, and returns 0, or the number of the error that it

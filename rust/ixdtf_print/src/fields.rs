@@ -31,9 +31,9 @@ fn put_year(out: &mut [u8], at: usize, date: DateRecord) -> usize {
 
 /// Puts the date at the place, and returns the place behind it.
 fn put_date(out: &mut [u8], at: usize, date: DateRecord) -> usize {
-    let month = put_year(out, at, date);
-    let day = put_marked(out, month, b'-', date.month);
-    put_marked(out, day, b'-', date.day)
+    let after_year = put_year(out, at, date);
+    let after_month = put_marked(out, after_year, b'-', date.month);
+    put_marked(out, after_month, b'-', date.day)
 }
 
 /// Puts the date at the place, where there is one, and returns the place behind it.
@@ -163,14 +163,14 @@ fn put_calendar(out: &mut [u8], at: usize, calendar: Option<&[u8]>) -> usize {
 
 /// Puts the date, the time and the offset at the place, and returns the place behind them.
 pub fn put_core(out: &mut [u8], at: usize, parsed: &IxdtfParseRecord<'_, Utf8>) -> usize {
-    let time = put_optional_date(out, at, parsed.date);
-    let offset = put_time(out, time, parsed.time);
-    put_offset(out, offset, parsed.offset)
+    let after_date = put_optional_date(out, at, parsed.date);
+    let after_time = put_time(out, after_date, parsed.time);
+    put_offset(out, after_time, parsed.offset)
 }
 
 /// Puts the record at the front, and returns the place behind it.
 pub fn put_record(out: &mut [u8], parsed: &IxdtfParseRecord<'_, Utf8>) -> usize {
-    let bracket = put_core(out, 0, parsed);
-    let calendar = put_bracket(out, bracket, &parsed.tz);
-    put_calendar(out, calendar, parsed.calendar)
+    let after_core = put_core(out, 0, parsed);
+    let after_bracket = put_bracket(out, after_core, &parsed.tz);
+    put_calendar(out, after_bracket, parsed.calendar)
 }

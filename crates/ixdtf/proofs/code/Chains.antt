@@ -1,25 +1,14 @@
 -- What the loop over the pairs keeps, and what follows at its ends.
 use Rattle.std.proofs.Common.{◌≡◌, ℕ, List, [], ◌∷◌, ◌++◌, Option, None, Result, Ok, Err, refl, sym, ◌∙◌, ap, inl, inr, append_assoc, option_map}
-use Rattle.std.proofs.lemmas.List.{map-append, append-nil}
-use Rattle.std.proofs.SliceLists.{chained_more}
+use Rattle.std.proofs.{lemmas.List.{map-append, append-nil}, SliceLists.chained_more}
 use Rattle.std.specs.Option.{option_or}
-use Rattle.ixdtf_grammar.specs.declared.records.Annotation.{Annotation}
-use Rattle.ixdtf_grammar.specs.language.Letters.{Text}
-use Rattle.ixdtf_grammar.specs.table.Faults.{Fault}
-use Rattle.ixdtf_grammar.specs.language.Brackets.{Pair, IsPair, ArePairs}
-use Rattle.ixdtf_grammar.specs.language.Cores.{Core, IsCore}
-use Rattle.ixdtf_grammar.specs.language.Readers.{Reader, CoreKind}
-use Rattle.ixdtf_grammar.specs.language.Readers.Reader.{bracketed}
-use Rattle.ixdtf_grammar.specs.table.Rows.{Row, Fits}
-use Rattle.ixdtf_grammar.specs.language.Languages.Derives.{as_parsed}
-use Rattle.ixdtf_grammar.specs.language.Languages.{Parsed, parsed_with, IsBracketed}
-use Rattle.ixdtf_reading.specs.reading.Looks.{Placed, error_of}
-use Rattle.ixdtf_reading.specs.reading.Brackets.{Bracket, zone_in, pairs_in}
-use Rattle.ixdtf_grammar.specs.Handlers.{first_calendar, RefusedBeside, NoneRefused, LastRefused, calendar_value, with_calendar, pair_of, Calls, handed}
-use Rattle.ixdtf_grammar.specs.Handlers.{replies_of, Step, IsChain}
+use Rattle.ixdtf_grammar.specs.{declared.records.Annotation.Annotation, language.{Letters.Text, Brackets.{Pair, IsPair, ArePairs}, Cores.{Core, IsCore}}}
+use Rattle.ixdtf_grammar.specs.language.{Readers.{Reader, CoreKind, Reader.bracketed}, Languages.{Parsed, parsed_with, IsBracketed, Derives.as_parsed}}
+use Rattle.ixdtf_grammar.specs.{table.{Faults.Fault, Rows.{Row, Fits}}, Handlers.{first_calendar, RefusedBeside, NoneRefused, LastRefused, calendar_value}}
+use Rattle.ixdtf_grammar.specs.Handlers.{with_calendar, pair_of, Calls, handed, replies_of, Step, IsChain}
+use Rattle.ixdtf_reading.specs.reading.{Looks.{Placed, error_of}, Brackets.{Bracket, zone_in, pairs_in}}
 use Rattle.ixdtf_reading.specs.reading.Chains.{FitsAfterBrackets, PairsUpTo, PairsRead, TextGives, TextRead}
-use Rattle.ixdtf_reading.proofs.code.OneMoreReply.{first_calendar-more, NoneRefused-more, NoneRefused-nothing}
-use Rattle.ixdtf_reading.proofs.to_grammar.FirstBracket.{IsBracket}
+use Rattle.ixdtf_reading.proofs.{code.OneMoreReply.{first_calendar-more, NoneRefused-more, NoneRefused-nothing}, to_grammar.FirstBracket.IsBracket}
 use Rattle.ixdtf_reading.proofs.to_grammar.Wholes.{after_brackets, tail_of, bracket_stands}
 
 -- ---- texts of pairs

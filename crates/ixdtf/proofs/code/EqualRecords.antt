@@ -1,21 +1,13 @@
 -- When records are equal: where contracts see them as the same.
-use Rattle.std.proofs.Common.{◌≡◌, ◌↔◌, ℕ, Bool, true, false, ◌&&◌, IsTrue, map, Option, Some, None, option_map, refl, sym, ap, ◌∙◌}
-use Rattle.std.specs.Bool.{one_answer}
-use Rattle.std.specs.Cmp.{first_so, second_so}
-use Rattle.std.specs.Cmp.Derive.{both_true}
-use Rattle.std.specs.Option.{option_eq}
-use Rattle.ixdtf_grammar.specs.declared.records.UtcOffsetRecord.{UtcOffsetRecord}
 use Rattle.ixdtf_grammar.specs.declared.records.UtcOffsetRecord.TheVariants as offsets
-use Rattle.ixdtf_grammar.specs.declared.records.UtcOffsetRecordOrZ.{UtcOffsetRecordOrZ}
 use Rattle.ixdtf_grammar.specs.declared.records.UtcOffsetRecordOrZ.TheVariants as offsets_or_z
-use Rattle.ixdtf_grammar.specs.declared.records.TimeZoneRecord.{TimeZoneRecord}
 use Rattle.ixdtf_grammar.specs.declared.records.TimeZoneRecord.TheVariants as zones
-use Rattle.ixdtf_grammar.specs.declared.records.TimeDurationRecord.{TimeDurationRecord}
 use Rattle.ixdtf_grammar.specs.declared.records.TimeDurationRecord.TheVariants as time_durations
-use Rattle.ixdtf_grammar.specs.language.Fractions.{FractionParts}
-use Rattle.ixdtf_grammar.specs.Laws.{IsEqualityBy}
-use Rattle.ixdtf_grammar.specs.Views.{zone_of}
-use Rattle.ixdtf_grammar.specs.language.ZoneNames.Zone.{Name, Offset}
+use Rattle.std.proofs.Common.{◌≡◌, ◌↔◌, ℕ, Bool, true, false, ◌&&◌, IsTrue, map, Option, Some, None, option_map, refl, sym, ap, ◌∙◌}
+use Rattle.std.specs.{Bool.one_answer, Cmp.{first_so, second_so, Derive.both_true}, Option.option_eq}
+use Rattle.ixdtf_grammar.specs.declared.records.{UtcOffsetRecord.UtcOffsetRecord, UtcOffsetRecordOrZ.UtcOffsetRecordOrZ, TimeZoneRecord.TimeZoneRecord}
+use Rattle.ixdtf_grammar.specs.{declared.records.TimeDurationRecord.TimeDurationRecord, language.{Fractions.FractionParts, ZoneNames.Zone.{Name, Offset}}}
+use Rattle.ixdtf_grammar.specs.{Laws.IsEqualityBy, Views.zone_of}
 
 -- a test holds exactly where what is seen is the same
 abbrev pub Exact : {K V : Type 0} → (K → V) → (K → K → Bool) → Type 0

@@ -1,18 +1,10 @@
 -- A core that begins with a date and a time at fixed places is read from their second on.
 use Rattle.std.proofs.Common.{◌≡◌, ℕ, IsTrue, ◌∷◌, ◌++◌, refl, ap, ◌∙◌, inl, inr}
-use Rattle.ixdtf_grammar.specs.declared.records.DateRecord.{DateRecord}
-use Rattle.ixdtf_grammar.specs.declared.records.TimeRecord.{TimeRecord}
-use Rattle.ixdtf_grammar.specs.language.Letters.{Text, date_time_separator}
-use Rattle.ixdtf_grammar.specs.language.Letters.Letter.{Plain}
-use Rattle.ixdtf_grammar.specs.language.Dates.{IsDate}
-use Rattle.ixdtf_grammar.specs.language.Times.Clock.{Time}
-use Rattle.ixdtf_grammar.specs.language.FixedPlaces.{FixedDate, FixedDateTime}
-use Rattle.ixdtf_reading.specs.reading.Looks.{error_of, look_at}
-use Rattle.ixdtf_reading.specs.reading.Times.{after_second_at, clock_at}
+use Rattle.ixdtf_grammar.specs.{declared.records.{DateRecord.DateRecord, TimeRecord.TimeRecord}, language.Letters.{Text, date_time_separator, Letter.Plain}}
+use Rattle.ixdtf_grammar.specs.language.{Dates.IsDate, Times.Clock.Time, FixedPlaces.{FixedDate, FixedDateTime}}
+use Rattle.ixdtf_reading.specs.reading.{Looks.{error_of, look_at}, Times.{after_second_at, clock_at}}
 use Rattle.ixdtf_reading.specs.reading.Cores.{time_core_at, whole_time_core_at, after_date_at, date_time_core_at}
-use Rattle.ixdtf_reading.proofs.to_reading.Dates.{date_takes}
-use Rattle.ixdtf_reading.proofs.to_reading.Times.{over_seconds}
-use Rattle.ixdtf_reading.proofs.to_reading.ClockRows.{clock_starts}
+use Rattle.ixdtf_reading.proofs.to_reading.{Dates.date_takes, Times.over_seconds, ClockRows.clock_starts}
 
 fixed_is_date : (text : Text) (date : DateRecord) → FixedDate text date → IsDate text date
 fixed_is_date text date d =

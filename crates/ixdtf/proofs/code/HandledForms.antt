@@ -1,33 +1,6 @@
 -- A form with a handler only passes its arguments on to `read_as`, at its error and its kind of cores. Assumes `Logic`.
-use mir.Syntax.{Dict, Callee, a_type, dcons, dnil, named}
-use mir.Raw.{raw as bare}
-use seplogic.Ra.Ura.{Ura}
-use base.Logic.{SProp, ent, sep, ex_i, ex_e, mono_r, via, id⊢, fst∗, snd∗}
-use base.Fml.{Lft}
-use prog.Model.{Model}
-use prog.Wp.{Tables, Closed}
-use prog.Wired.{Wired}
-use types.Logic.{Logic, sem}
-pub use contract.BorrowLft.{◌⊑◌, ⊑_refl, ⊑_static}
-use contract.Lifetimes.{Lfts}
-use contract.Monad.{Fun, fact, fact_use}
-use contract.Running.{Running, tables}
-unfoldable pub use contract.Running.{tables_of}
-use denote.Exit.{yes, no}
-use denote.RattleType.{RattleType, Denots}
-use denote.Ref.{NamedLft}
-use denote.Param.{param, arg, layout, bounded}
-use denote.Param.Laws.{Laws, arg_laws}
 use denote.Param.Glue
 use denote.Param.Members as Members
-use denote.Signature.{Signature, types_at}
-use denote.Triple.Impl.{implements, insides_in, with_fact}
-use denote.Triple.Carry.{insides}
-use denote.Triple.End.{Fins, Outs, outs, lasts_of}
-use denote.Triple.Entry.{Res}
-use denote.Triple.Spec.{Spec, SpecAt, exits, triple_of}
-use denote.Triple.Statement.{Triple}
-use denote.Triple.Table.{run_framed}
 use Rattle.std.specs.declared.cmp.PartialEq as eq
 use Rattle.std.specs.contracts.cmp.PartialEq.TheBound as eq_bound
 use Rattle.std.specs.declared.fmt.Debug as debug
@@ -42,12 +15,12 @@ use Rattle.ixdtf_grammar.specs.contracts.error.ParseError
 use Rattle.ixdtf_grammar.proofs.error.ParseError.TheLaws as error_laws
 use Rattle.ixdtf_grammar.specs.contracts.located.LocatedError
 use Rattle.ixdtf_grammar.proofs.located.LocatedError.TheLaws as located_laws
-use Rattle.ixdtf.specs.declared.parsers.cores.Cores as cores
-use Rattle.ixdtf.specs.contracts.parsers.cores.Cores.TheBound as cores_bound
-use Rattle.ixdtf_reading.specs.declared.stop.Raised as raised
-use Rattle.ixdtf_reading.specs.contracts.stop.Raised.TheBound as raised_bound
-use Rattle.ixdtf_reading.specs.contracts.stop.ParseErrorRaised.TheImpl as plainly
-use Rattle.ixdtf_reading.specs.contracts.stop.LocatedErrorRaised.TheImpl as with_place
+use Rattle.ixdtf.specs.declared.parsers.cores.CoreReader as cores
+use Rattle.ixdtf.specs.contracts.parsers.cores.CoreReader.TheBound as cores_bound
+use Rattle.ixdtf_reading.specs.declared.stop.FromStop as raised
+use Rattle.ixdtf_reading.specs.contracts.stop.FromStop.TheBound as raised_bound
+use Rattle.ixdtf_reading.specs.contracts.stop.ParseErrorFromStop.TheImpl as plainly
+use Rattle.ixdtf_reading.specs.contracts.stop.LocatedErrorFromStop.TheImpl as with_place
 use Rattle.ixdtf.specs.contracts.parsers.IxdtfParser
 use Rattle.ixdtf.specs.contracts.parsers.IxdtfParser.parse_with_annotation_handler as R
 use Rattle.ixdtf.specs.contracts.parsers.IxdtfParser.read_as as G
@@ -56,11 +29,62 @@ use Rattle.ixdtf.specs.contracts.parsers.IxdtfParser.read_as.F-FnOnce as GO
 use Rattle.ixdtf.proofs.parsers.IxdtfParser.read_as.Met as G_met
 use Rattle.ixdtf.specs.contracts.parsers.IxdtfParser.read_as.Key as G_key
 use Rattle.ixdtf.proofs.parsers.IxdtfParser.read_as.Symbol as G_symbol
-use Rattle.ixdtf.proofs.code.HandsOn.{Handing, handing_on, handing, hands_on}
-use Rattle.ixdtf.proofs.code.RaisedErrors.{written, taken, taken_laws, Under, Got, lands}
-pub use mathlib.Core.Path.{◌≡◌, refl, sym, subst}
+use mir.Syntax.{Dict}
+use mir.Syntax.{Callee}
+use mir.Syntax.{a_type}
+use mir.Syntax.{dcons}
+use mir.Syntax.{dnil}
+use mir.Syntax.{named}
+use mir.Raw.{raw as bare}
+use seplogic.Ra.Ura.{Ura}
+use base.Logic.{SProp}
+use base.Logic.{ent}
+use base.Logic.{sep}
+use base.Logic.{ex_i}
+use base.Logic.{ex_e}
+use base.Logic.{mono_r}
+use base.Logic.{via}
+use base.Logic.{id⊢}
+use base.Logic.{fst∗}
+use base.Logic.{snd∗}
+use base.Fml.{Lft}
+use prog.Model.{Model}
+use prog.Wp.{Tables}
+use prog.Wp.{Closed}
+use prog.Wired.{Wired}
+use types.Logic.{Logic}
+use types.Logic.{sem}
+use contract.Lifetimes.{Lfts}
+use contract.Monad.{Fun}
+use contract.Monad.{fact}
+use contract.Monad.{fact_use}
+use contract.Running.{Running}
+use contract.Running.{tables}
+use denote.Exit.{yes}
+use denote.Exit.{no}
+use denote.RattleType.{RattleType}
+use denote.RattleType.{Denots}
+use denote.Ref.{NamedLft}
+use denote.Param.{param}
+use denote.Param.{arg}
+use denote.Param.{layout}
+use denote.Param.{bounded}
+use denote.Param.Laws.{Laws, arg_laws}
+use denote.Signature.{Signature}
+use denote.Signature.{types_at}
+use denote.Triple.Impl.{implements, insides_in, with_fact}
+use denote.Triple.Carry.{insides}
+use denote.Triple.End.{Fins, Outs, outs, lasts_of}
+use denote.Triple.Entry.{Res}
+use denote.Triple.Spec.{Spec, SpecAt, exits, triple_of}
+use denote.Triple.Statement.{Triple}
+use denote.Triple.Table.{run_framed}
+use Rattle.ixdtf.proofs.code.{HandsOn.{Handing, handing_on, handing, hands_on}, RaisedErrors.{written, taken, taken_laws, Under, Got, lands}}
 use mathlib.Core.Bool.{Bool, true, false}
 use mathlib.Core.List.{[], ◌∷◌}
+pub use contract.BorrowLft.{◌⊑◌, ⊑_refl, ⊑_static}
+unfoldable pub use contract.Running.{tables_of}
+pub use mathlib.Core.Path.{◌≡◌, refl, sym, subst}
 
 -- a kind of cores, as such a function passes it
 pub record Kind : Type 2 where

@@ -1,15 +1,8 @@
 -- What was read of a whole text, by the record that it was written into.
 use Rattle.std.proofs.Common.{◌≡◌, ℕ, true, false, List, Option, None, Ok, Err}
-use Rattle.ixdtf_grammar.specs.declared.records.IxdtfParseRecord.{IxdtfParseRecord}
-use Rattle.ixdtf_grammar.specs.language.Letters.{Text}
-use Rattle.ixdtf_grammar.specs.language.Cores.{Core}
-use Rattle.ixdtf_grammar.specs.language.Brackets.{Pair}
-use Rattle.ixdtf_grammar.specs.language.Languages.{Parsed, parsed_with}
-use Rattle.ixdtf_grammar.specs.Handlers.{Step, with_calendar, calendar_value}
-use Rattle.ixdtf_grammar.specs.Views.{parsed_of}
-use Rattle.ixdtf_reading.specs.reading.Looks.{Placed, error_of}
-use Rattle.ixdtf_reading.specs.reading.Brackets.{Bracket, zone_in, pairs_in, bracket_at}
-use Rattle.ixdtf_reading.specs.reading.Chains.{PairsRead, TextReadAfter}
+use Rattle.ixdtf_grammar.specs.{declared.records.IxdtfParseRecord.IxdtfParseRecord, language.{Letters.Text, Cores.Core, Brackets.Pair}}
+use Rattle.ixdtf_grammar.specs.{language.Languages.{Parsed, parsed_with}, Handlers.{Step, with_calendar, calendar_value}, Views.parsed_of}
+use Rattle.ixdtf_reading.specs.reading.{Looks.{Placed, error_of}, Brackets.{Bracket, zone_in, pairs_in, bracket_at}, Chains.{PairsRead, TextReadAfter}}
 use Rattle.ixdtf_reading.specs.reading.Clauses.{core_in}
 use Rattle.ixdtf.proofs.code.Tail.{core_alone, first_read}
 

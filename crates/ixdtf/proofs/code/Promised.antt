@@ -1,20 +1,11 @@
 -- What a reader of whole texts promises, from what reading into a record does.
 use Rattle.std.proofs.Common.{◌≡◌, ℕ, map, Result, Ok, Err, refl}
-use Rattle.ixdtf_grammar.specs.declared.located.LocatedError.{LocatedError}
-use Rattle.ixdtf_grammar.specs.language.Letters.{Letter, Text}
-use Rattle.ixdtf_grammar.specs.language.Languages.{Parsed, Found}
-use Rattle.ixdtf_grammar.specs.language.Readers.{Reader, CoreKind}
-use Rattle.ixdtf_grammar.specs.language.Readers.Reader.{bracketed}
-use Rattle.ixdtf_grammar.specs.table.Faults.{Fault, fault_of_located}
-use Rattle.ixdtf_grammar.specs.Handlers.{Step}
-use Rattle.ixdtf_grammar.specs.Laws.{IsTextReader}
-use Rattle.ixdtf_grammar.specs.Promises.{ReadsText, ReadsTextAt, HandlesText, HandlesTextAt, ReadsPartAt}
+use Rattle.ixdtf_grammar.specs.{declared.located.LocatedError.LocatedError, language.{Letters.{Letter, Text}, Languages.{Parsed, Found}}}
+use Rattle.ixdtf_grammar.specs.{language.Readers.{Reader, CoreKind, Reader.bracketed}, table.Faults.{Fault, fault_of_located}, Handlers.Step}
+use Rattle.ixdtf_grammar.specs.{Laws.IsTextReader, Promises.{ReadsText, ReadsTextAt, HandlesText, HandlesTextAt, ReadsPartAt}}
 use Rattle.ixdtf_grammar.specs.Views.{Unread, UnreadUnder, LeavesBehind}
-use Rattle.ixdtf_reading.specs.declared.stop.StopAt.{StopAt}
-use Rattle.ixdtf_reading.specs.reading.Clauses.{fault_of_stop_at}
-use Rattle.ixdtf_reading.specs.reading.Looks.{Read, Placed}
-use Rattle.ixdtf_reading.proofs.code.Located.{Located}
-use Rattle.ixdtf_reading.proofs.theorems.Handled.{OwnReplies, handled, handled_accepted, unhandled_form}
+use Rattle.ixdtf_reading.specs.{declared.stop.StopAt.StopAt, reading.{Clauses.fault_of_stop_at, Looks.{Read, Placed}}}
+use Rattle.ixdtf_reading.proofs.{code.Located.Located, theorems.Handled.{OwnReplies, handled, handled_accepted, unhandled_form}}
 use Rattle.ixdtf_reading.proofs.theorems.HandledAt.{handled_at_ok, handled_at_err, handled_to_at_ok, handled_to_at_err, unhandled_at}
 use Rattle.ixdtf_reading.proofs.theorems.OnePlace.{one_unhandled_place}
 use Rattle.ixdtf.specs.Readings.{ReadsInto, ReadsUnhandled, HandlesTextTo}
@@ -64,7 +55,7 @@ module _ {X : Type 0} (letter : ℕ → Letter) (view : X → Parsed) (reader : 
       ok = read.form.ok;
       err = tt;
       no_row = read.form.no_row;
-      alone = read.form.alone old.profile is;
+      no_other_reader = read.form.no_other_reader old.profile is;
       only = tt;
       leaves = leaves_ok fault found read.leaves;
       profile = read.profile;
@@ -76,7 +67,7 @@ module _ {X : Type 0} (letter : ℕ → Letter) (view : X → Parsed) (reader : 
       ok = gives.ok;
       err = gives.err;
       no_row = tt;
-      alone = tt;
+      no_other_reader = tt;
       only = gives.only;
       leaves = leaves_err fault e why same read.leaves;
       profile = read.profile;
@@ -88,7 +79,7 @@ module _ {X : Type 0} (letter : ℕ → Letter) (view : X → Parsed) (reader : 
     err = tt;
     place = tt;
     no_row = plain.no_row;
-    alone = plain.alone;
+    no_other_reader = plain.no_other_reader;
     only = tt;
     leaves = plain.leaves;
     profile = plain.profile;
@@ -101,7 +92,7 @@ module _ {X : Type 0} (letter : ℕ → Letter) (view : X → Parsed) (reader : 
     err = rw (same, stands) read.err;
     place = rw (same, stands) read.place;
     no_row = tt;
-    alone = tt;
+    no_other_reader = tt;
     only = plain.only;
     leaves = plain.leaves;
     profile = plain.profile;
@@ -116,14 +107,14 @@ module _ {T U F X E : Type 0} (letter : ℕ → Letter) (number : U → ℕ) (st
   handles_ok is found read =
       let gives = handled number step handler reader (map letter old.rest) (Ok (view found)) last read.replied in
       let whole = handled_accepted number step handler reader (map letter old.rest) _ gives (view found) refl in
-      record { handled = gives; no_row = whole.no_row; alone = whole.alone old.profile is; leaves = leaves_ok fault found read.leaves; profile = read.profile }
+      record { handled = gives; no_row = whole.no_row; no_other_reader = whole.no_other_reader old.profile is; leaves = leaves_ok fault found read.leaves; profile = read.profile }
 
   pub handles_err : (found : Parsed) (e : E) (why : StopAt) → fault e ≡ fault_of_stop_at why
       → ReadsInto letter number step handler last found reader old (stopped why) new → HandlesText letter number step handler fault view reader old (Err e) new
   handles_err found e why same read = record {
     handled = rw same (handled number step handler reader (map letter old.rest) _ last read.replied.2);
     no_row = tt;
-    alone = tt;
+    no_other_reader = tt;
     leaves = leaves_err fault e why same read.leaves;
     profile = read.profile;
   }
@@ -135,7 +126,7 @@ module _ {T U F X E : Type 0} (letter : ℕ → Letter) (number : U → ℕ) (st
     handles_ok_at is found read = let plain = handles_ok is found read in record {
       handled = handled_at_ok number step handler last reader (map letter old.rest) fault stands view found read.replied;
       no_row = plain.no_row;
-      alone = plain.alone;
+      no_other_reader = plain.no_other_reader;
       leaves = plain.leaves;
       profile = plain.profile;
     }
@@ -146,7 +137,7 @@ module _ {T U F X E : Type 0} (letter : ℕ → Letter) (number : U → ℕ) (st
     handles_err_at found e why same there read = let plain = handles_err found e why same read in record {
       handled = handled_at_err number step handler last reader (map letter old.rest) fault stands view why e same there read.replied;
       no_row = tt;
-      alone = tt;
+      no_other_reader = tt;
       leaves = plain.leaves;
       profile = plain.profile;
     }
@@ -156,7 +147,7 @@ module _ {T U F X E : Type 0} (letter : ℕ → Letter) (number : U → ℕ) (st
     handles_ok_to is found read =
         let plain = handles_ok is found read in
         let to = handled_to_at_ok number step handler last reader (map letter old.rest) fault stands view found read.replied in
-        record { handled = to; no_row = plain.no_row; alone = plain.alone; leaves = plain.leaves; profile = plain.profile }
+        record { handled = to; no_row = plain.no_row; no_other_reader = plain.no_other_reader; leaves = plain.leaves; profile = plain.profile }
 
     pub handles_err_to : (found : Parsed) (e : E) (why : StopAt) → fault e ≡ fault_of_stop_at why → stands why.at e
         → ReadsInto letter number step handler last found reader old (stopped why) new
@@ -164,7 +155,7 @@ module _ {T U F X E : Type 0} (letter : ℕ → Letter) (number : U → ℕ) (st
     handles_err_to found e why same there read =
         let plain = handles_err found e why same read in
         let to = handled_to_at_err number step handler last reader (map letter old.rest) fault stands view why e same there read.replied in
-        record { handled = to; no_row = tt; alone = tt; leaves = plain.leaves; profile = plain.profile }
+        record { handled = to; no_row = tt; no_other_reader = tt; leaves = plain.leaves; profile = plain.profile }
 
 -- ---- of a part alone
 

@@ -1,20 +1,23 @@
 -- The error of a function that is generic in its error, by its row.
-use lib.Dec.{T}
-use Prim.Native.Nat.{ℕ, suc}
-use mir.Syntax.{Ty}
-use mir.Raw.{raw as bare}
-use mir.Val.{Val, has_ty, WT}
-use denote.Exit.{no}
-use denote.Laws.{Is}
-use denote.Param.{layout, arg}
-use denote.Param.Laws.{Laws, param_laws, arg_laws}
-use denote.Enum.Loose.{loose_lawful}
-use types.Logic.{Logic}
-use seplogic.Ra.Ura.{Ura}
 use Rattle.std.specs.contracts.result.Result
 use Rattle.std.proofs.result.Result.TheLaws as result_laws
 use Rattle.ixdtf_grammar.specs.contracts.records.IxdtfParseRecord
 use Rattle.ixdtf_grammar.proofs.records.IxdtfParseRecord.TheLaws as record_laws
+use lib.Dec.{T}
+use Prim.Native.Nat.{ℕ, suc}
+use mir.Syntax.{Ty}
+use mir.Raw.{raw as bare}
+use mir.Val.{Val}
+use mir.Val.{has_ty}
+use mir.Val.{WT}
+use denote.Exit.{no}
+use denote.Laws.{Is}
+use denote.Param.{layout}
+use denote.Param.{arg}
+use denote.Param.Laws.{Laws, param_laws, arg_laws}
+use denote.Enum.Loose.{loose_lawful}
+use types.Logic.{Logic}
+use seplogic.Ra.Ura.{Ura}
 -- the names that such a proof cites besides
 pub use mathlib.Core.Path.{◌≡◌, refl, subst}
 pub use mathlib.Core.List.{[], ◌∷◌}

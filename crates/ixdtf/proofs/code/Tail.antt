@@ -1,23 +1,12 @@
 -- What the code read of a core, and of the first bracket after it, as what the text is.
 use Rattle.std.proofs.Common.{◌≡◌, ℕ, ◌≤◌, suc, Bool, true, false, List, [], ◌∷◌, ◌++◌, length, map, Option, None, Result, Ok, Err, refl, sym, ap, ◌∙◌, subst}
-use Rattle.std.proofs.Common.{arith}
-use Rattle.std.proofs.lemmas.List.{length-map, length-append}
-use Rattle.ixdtf_grammar.specs.language.Letters.{Letter, Text}
-use Rattle.ixdtf_grammar.specs.language.Letters.Letter.{Plain}
-use Rattle.ixdtf_grammar.specs.language.Cores.{Core}
-use Rattle.ixdtf_grammar.specs.language.Brackets.{Pair}
-use Rattle.ixdtf_grammar.specs.language.Languages.{parsed_with}
-use Rattle.ixdtf_grammar.specs.language.Readers.{CoreKind}
-use Rattle.ixdtf_grammar.specs.language.Readers.Reader.{bracketed}
-use Rattle.ixdtf_grammar.specs.Handlers.{Step, with_calendar}
-use Rattle.ixdtf_reading.specs.reading.Looks.{Read, Placed, error_of}
-use Rattle.ixdtf_reading.specs.reading.Cores.{ClosedCore, core_at}
-use Rattle.ixdtf_reading.specs.reading.Brackets.{Bracket, pairs_in, bracket_at}
+use Rattle.std.proofs.{Common.arith, lemmas.List.{length-map, length-append}}
+use Rattle.ixdtf_grammar.specs.language.{Letters.{Letter, Text, Letter.Plain}, Cores.Core, Brackets.Pair, Languages.parsed_with, Readers.CoreKind}
+use Rattle.ixdtf_grammar.specs.{language.Readers.Reader.bracketed, Handlers.{Step, with_calendar}}
+use Rattle.ixdtf_reading.specs.reading.{Looks.{Read, Placed, error_of}, Cores.{ClosedCore, core_at}, Brackets.{Bracket, pairs_in, bracket_at}}
 use Rattle.ixdtf_reading.specs.reading.Chains.{PairsRead, TextRead, TextReadAfter}
-use Rattle.ixdtf_reading.proofs.parts.Looks.{OnRead}
-use Rattle.ixdtf_reading.proofs.to_grammar.Cores.{Splits, CoreFront, ReadsCore, core_read}
-use Rattle.ixdtf_reading.proofs.to_grammar.FirstBracket.{IsBracket, FitsAfterCore, bracket_read}
-use Rattle.ixdtf_reading.proofs.to_grammar.Wholes.{after_core}
+use Rattle.ixdtf_reading.proofs.{parts.Looks.OnRead, to_grammar.Cores.{Splits, CoreFront, ReadsCore, core_read}}
+use Rattle.ixdtf_reading.proofs.to_grammar.{FirstBracket.{IsBracket, FitsAfterCore, bracket_read}, Wholes.after_core}
 use Rattle.ixdtf.proofs.code.Chains.{text_result, text_fault, text_derived, text_read}
 
 -- ---- a core

@@ -8,7 +8,7 @@ ghost use Rattle.ixdtf_grammar.specs.Views.{parsed_of};
 ghost use Rattle.ixdtf_grammar.specs.Promises.{HandlesText, HandlesTextAt};
 ghost use Rattle.ixdtf.specs.Readings.{HandlesTextTo};
 
-use crate::parsers::{Cores, DateTimes, IxdtfParser, LoneTimes, MonthDays, Raised, YearMonths};
+use crate::parsers::{Cores, DateTimes, FromStop, IxdtfParser, MonthDays, Times, YearMonths};
 use crate::{LocatedError, ParseError, ParserResult};
 use ixdtf_grammar::encoding::EncodingType;
 use ixdtf_grammar::records::{Annotation, IxdtfParseRecord};
@@ -175,7 +175,7 @@ impl<'a, T: EncodingType> IxdtfParser<'a, T> {
         requires callable { F.IsAlwaysCallable handler }
         ensures handles { HandlesText T.letter T.number F.step handler fault_of (parsed_of T.number) (reader_parse_time self.old.profile) self.old result self.new }
     {
-        self.read_as::<ParseError, LoneTimes, F>(handler)
+        self.read_as::<ParseError, Times, F>(handler)
     }
 
     /// Reads as [`parse_with_annotation_handler`](Self::parse_with_annotation_handler) does, and returns an error with its
@@ -287,13 +287,13 @@ impl<'a, T: EncodingType> IxdtfParser<'a, T> {
         requires callable { F.IsAlwaysCallable handler }
         ensures handles { HandlesTextAt T.letter T.number F.step handler fault_of_located stands_behind (parsed_of T.number) (reader_parse_time self.old.profile) self.old result self.new }
     {
-        self.read_as::<LocatedError, LoneTimes, F>(handler)
+        self.read_as::<LocatedError, Times, F>(handler)
     }
 
     /// Reads a text with a core of the kind, as [`parse_with_annotation_handler`](Self::parse_with_annotation_handler)
     /// does, with an error made of a stop.
     #[inline(always)]
-    pub(crate) fn read_as<E: Raised, C: Cores, F>(
+    pub(crate) fn read_as<E: FromStop, C: CoreReader, F>(
         &mut self,
         mut handler: F,
     ) -> Result<IxdtfParseRecord<'a, T>, E>
@@ -322,7 +322,7 @@ impl<'a, T: EncodingType> IxdtfParser<'a, T> {
     /// Those of the reader of the kind, with a handler.
     #[doc(hidden)]
     #[inline(always)]
-    pub fn read_by_reference<E: Raised, C: Cores, F>(
+    pub fn read_lending_handler<E: FromStop, C: CoreReader, F>(
         &mut self,
         handler: &mut F,
     ) -> Result<IxdtfParseRecord<'a, T>, E>

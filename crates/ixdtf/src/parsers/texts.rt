@@ -10,7 +10,7 @@ ghost use Rattle.ixdtf_reading.specs.reading.Chains.{TextRead, TextReadAfter, fi
 ghost use Rattle.ixdtf_reading.specs.reading.Clauses.{Spends, HasNoBrackets, yielded_at, core_in};
 ghost use Rattle.ixdtf_brackets.specs.BracketTypes.{bracket_of};
 
-use crate::parsers::cores::Cores;
+use crate::parsers::cores::CoreReader;
 use crate::parsers::replies::parse_annotations;
 use ixdtf_brackets::brackets::{Bracket, parse_first_bracket};
 use ixdtf_grammar::encoding::EncodingType;
@@ -21,7 +21,7 @@ use ixdtf_reading::stop::Stop;
 
 /// Reads a core of the kind under the profile, and the brackets after it to the end of the input, into an empty record.
 /// The handler is called with each annotation of a key and a value.
-pub fn parse_text<'a, T: EncodingType, C: Cores, F>(
+pub fn parse_text<'a, T: EncodingType, C: CoreReader, F>(
     cursor: &mut Cursor<'a, T>,
     profile: Profile,
     handler: &mut F,
@@ -38,7 +38,7 @@ where
     ensures looks { cursor.new.looks ≤ cursor.old.looks + most_looks cursor.old.rest }
     ensures counted { cursor.old.looks ≤ cursor.new.looks }
 {
-    let mut here = cursor.take();
+    let mut here = cursor.fork();
     let read = C::parse_core(&mut here, profile, found);
     *cursor = here;
     if !read? {
@@ -64,11 +64,11 @@ where
     ensures empty { OnOk result (cursor.new.rest ≡ []) }
     ensures looks { Spends (2 * length cursor.old.rest + 24) cursor.old cursor.new }
 {
-    let mut here = cursor.take();
+    let mut here = cursor.fork();
     let bracket = parse_first_bracket(&mut here);
     *cursor = here;
     let first = place_bracket(bracket?, found);
-    let mut here = cursor.take();
+    let mut here = cursor.fork();
     let calendar = parse_annotations::<T, F>(&mut here, first, handler);
     *cursor = here;
     place_calendar(calendar?, found);

@@ -8,7 +8,7 @@ ghost use Rattle.ixdtf_grammar.specs.Views.{IsEmptyRecord, parsed_of};
 ghost use Rattle.ixdtf_grammar.specs.Promises.{ReadsText, ReadsTextAt};
 ghost use Rattle.ixdtf.specs.Readings.{ReadsUnhandled};
 
-use crate::parsers::{Cores, DateTimes, IxdtfParser, LoneTimes, MonthDays, YearMonths};
+use crate::parsers::{Cores, DateTimes, IxdtfParser, MonthDays, Times, YearMonths};
 use crate::{LocatedError, ParserResult};
 use ixdtf_grammar::encoding::EncodingType;
 use ixdtf_grammar::records::IxdtfParseRecord;
@@ -259,7 +259,7 @@ impl<'a, T: EncodingType> IxdtfParser<'a, T> {
         ensures reads { ReadsText T.letter fault_of (parsed_of T.number) (reader_parse_time self.old.profile) self.old result self.new }
     {
         let mut found = IxdtfParseRecord::default();
-        match self.read_unhandled::<LoneTimes>(&mut found) {
+        match self.read_unhandled::<Times>(&mut found) {
             Ok(()) => Ok(found),
             Err(why) => return Err(why.stop.error()),
         }
@@ -402,7 +402,7 @@ impl<'a, T: EncodingType> IxdtfParser<'a, T> {
         ensures reads { ReadsTextAt T.letter (parsed_of T.number) (reader_parse_time self.old.profile) self.old result self.new }
     {
         let mut parsed = IxdtfParseRecord::default();
-        match self.read_unhandled::<LoneTimes>(&mut parsed) {
+        match self.read_unhandled::<Times>(&mut parsed) {
             Ok(()) => Ok(parsed),
             Err(why) => return Err(LocatedError {
                 error: why.stop.error(),
@@ -413,7 +413,7 @@ impl<'a, T: EncodingType> IxdtfParser<'a, T> {
 
     /// Reads as [`read_into`](Self::read_into) does, with a handler that returns each annotation.
     #[inline(always)]
-    fn read_unhandled<C: Cores>(
+    fn read_unhandled<C: CoreReader>(
         &mut self,
         found: &mut IxdtfParseRecord<'a, T>,
     ) -> Result<(), StopAt>

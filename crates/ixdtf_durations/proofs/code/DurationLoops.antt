@@ -88,7 +88,7 @@ module _ (profile : Profile) (first : ℕ) (whole : Text) where
         groups = far.last ∷ far.earlier;
         has = record_is;
         timed = λ yes s. rw (← is_whole, moved) (far.leads s ∙ dates_at_mark profile rest c looked s _ mark);
-        alone = λ never. absurd cc;
+        untimed = λ never. absurd cc;
       }
 
       pub dates_alone : seen rest ≡ Ok None → map letter new ≡ rest
@@ -97,7 +97,7 @@ module _ (profile : Profile) (first : ℕ) (whole : Text) where
         groups = far.last ∷ far.earlier;
         has = record_is;
         timed = λ never. absurd cc;
-        alone = λ yes s. rw (← is_whole, stayed) (far.leads s ∙ dates_end profile rest none s far.last far.earlier ∙ rw record_is refl);
+        untimed = λ yes s. rw (← is_whole, stayed) (far.leads s ∙ dates_end profile rest none s far.last far.earlier ∙ rw record_is refl);
       }
 
 -- ---- times

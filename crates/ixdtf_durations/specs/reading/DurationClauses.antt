@@ -144,5 +144,5 @@ pub record AreDates (profile : Profile) (letter : ℕ → Letter) (first : ℕ) 
   pub has : date_duration groups ≡ Some dates.record
   pub timed : IsTrue dates.timed → (s : Sign) →
       run_from profile (in_number (in_dates s []) (Plain first ∷ [])) (map letter old) ≡ run_from profile (between (in_times s groups [])) (map letter new)
-  pub alone : IsFalse dates.timed → (s : Sign) →
+  pub untimed : IsFalse dates.timed → (s : Sign) →
       run_from profile (in_number (in_dates s []) (Plain first ∷ [])) (map letter old) ≡ Ok (dated s (Some dates.record) None, map letter new)

@@ -6,7 +6,7 @@ use Rattle.ixdtf_grammar.specs.language.{Letters.{Text, opening, zulu, decimal_m
 use Rattle.ixdtf_grammar.specs.language.{Dates.DateText, Times.{Clock, Clock as clocks, TimeShape, SecondText, ClockOf}}
 use Rattle.ixdtf_grammar.specs.language.{Times.TimeShape.{hours, basic_minutes, colon_minutes, seconds, fractions}, Brackets.{ZoneNote, Opens, Pair, IsTail}}
 use Rattle.ixdtf_grammar.specs.language.{Cores.{Core, OptionalOffset, IsDateTimeCore, TimeMark, MarkedTime, IsCore}, Readers.CoreKind}
-use Rattle.ixdtf_grammar.specs.language.Readers.CoreKind.{date_time, year_month, month_day, time_alone}
+use Rattle.ixdtf_grammar.specs.language.Readers.CoreKind.{date_time, year_month, month_day, time_of_day}
 use Rattle.ixdtf_grammar.proofs.parts.CoreLetters.{outside, AllInside, CoreEnds, inside_append, of_sign, in_one, in_digits, in_year, in_year_month}
 use Rattle.ixdtf_grammar.proofs.parts.CoreLetters.{in_month_day}
 
@@ -90,4 +90,4 @@ pub core_inside : (kind : CoreKind) (text : Text) (core : Core) → IsCore kind 
 core_inside date_time text core h = in_date_time text core h
 core_inside year_month text core h = in_year_month text h.0 h.1
 core_inside (month_day profile) text core h = in_month_day text h.0 h.1.0
-core_inside (time_alone profile) text core h = in_marked_time text core h.0
+core_inside (time_of_day profile) text core h = in_marked_time text core h.0

@@ -3,7 +3,7 @@ use Rattle.std.proofs.Common.{◌≡◌, List, [], ◌∷◌, ◌++◌, refl, sy
 use Rattle.ixdtf_grammar.specs.{declared.{profile.Profile.Profile, records.DateRecord.DateRecord}, language.Letters.{Text, Letter.Plain}}
 use Rattle.ixdtf_grammar.specs.language.{Shapes.{Shape, some}, Dates.DateText, Months.{IsYearMonth, IsMonthDay}, Brackets.Pair}
 use Rattle.ixdtf_grammar.specs.language.{Cores.{Core, IsDateTimeCore, HasFront, IsCore}, Durations.IsDuration, Readers.{Reader, CoreKind}}
-use Rattle.ixdtf_grammar.specs.language.Readers.CoreKind.{date_time, year_month, month_day, time_alone}
+use Rattle.ixdtf_grammar.specs.language.Readers.CoreKind.{date_time, year_month, month_day, time_of_day}
 use Rattle.ixdtf_grammar.specs.language.Readers.Reader.{bracketed, parse_offset, parse_identifier, parse_iana_identifier, parse_duration}
 use Rattle.ixdtf_grammar.specs.language.Languages.{Parsed, IsBracketed, Derives.{as_parsed, as_lasting}}
 use Rattle.ixdtf_grammar.specs.Laws.{IsKindUnder, IsTextReader, InLanguage, LanguagesDisjoint, InNoOther}
@@ -73,39 +73,39 @@ year_months_and_month_days profile = cores_apart year_month (month_day profile) 
     longer t 6 9 4 5 6 7 (omega arith) (omega arith) (at_least t 6 7 9 10 6 9 (omega arith) (omega arith) (year_month_size t h.0 h.1))
     (month_day_size t k.0 k.1.0)
 
-date_times_and_times : (profile : Profile) → Apart date_time (time_alone profile)
-date_times_and_times profile = cores_apart date_time (time_alone profile) λ t core other h k. k.1.1 (date_time_front t core h)
+date_times_and_times : (profile : Profile) → Apart date_time (time_of_day profile)
+date_times_and_times profile = cores_apart date_time (time_of_day profile) λ t core other h k. k.1.1 (date_time_front t core h)
 
-year_months_and_times : (profile : Profile) → Apart year_month (time_alone profile)
-year_months_and_times profile = cores_apart year_month (time_alone profile) λ t core other h k. k.1.1 (itself (some IsYearMonth) t (h.0, h.1))
+year_months_and_times : (profile : Profile) → Apart year_month (time_of_day profile)
+year_months_and_times profile = cores_apart year_month (time_of_day profile) λ t core other h k. k.1.1 (itself (some IsYearMonth) t (h.0, h.1))
 
-month_days_and_times : (profile : Profile) → Apart (month_day profile) (time_alone profile)
-month_days_and_times profile = cores_apart (month_day profile) (time_alone profile) λ t core other h k. k.1.0 (itself (some (IsMonthDay profile)) t (h.0, h.1))
+month_days_and_times : (profile : Profile) → Apart (month_day profile) (time_of_day profile)
+month_days_and_times profile = cores_apart (month_day profile) (time_of_day profile) λ t core other h k. k.1.0 (itself (some (IsMonthDay profile)) t (h.0, h.1))
 
 -- a month-day and a time of one profile
 month_day_or_time : (profile first second : Profile) → first ≡ profile → second ≡ profile → (text : Text) → Whole (month_day first) text
-    → Whole (time_alone second) text → ⊥
+    → Whole (time_of_day second) text → ⊥
 month_day_or_time profile first second is too text h k =
-    month_days_and_times profile text (subst (λ p. Whole (month_day p) text) is h) (subst (λ p. Whole (time_alone p) text) too k)
+    month_days_and_times profile text (subst (λ p. Whole (month_day p) text) is h) (subst (λ p. Whole (time_of_day p) text) too k)
 
 same_kind : (profile : Profile) (first second : CoreKind) → IsKindUnder profile first → IsKindUnder profile second → (text : Text) → Whole first text
     → Whole second text → first ≡ second
 same_kind profile date_time date_time is too text h k = refl
 same_kind profile date_time year_month is too text h k = absurd (date_times_and_year_months text h k)
 same_kind profile date_time (month_day second) is too text h k = absurd (date_times_and_month_days second text h k)
-same_kind profile date_time (time_alone second) is too text h k = absurd (date_times_and_times second text h k)
+same_kind profile date_time (time_of_day second) is too text h k = absurd (date_times_and_times second text h k)
 same_kind profile year_month date_time is too text h k = absurd (date_times_and_year_months text k h)
 same_kind profile year_month year_month is too text h k = refl
 same_kind profile year_month (month_day second) is too text h k = absurd (year_months_and_month_days second text h k)
-same_kind profile year_month (time_alone second) is too text h k = absurd (year_months_and_times second text h k)
+same_kind profile year_month (time_of_day second) is too text h k = absurd (year_months_and_times second text h k)
 same_kind profile (month_day first) date_time is too text h k = absurd (date_times_and_month_days first text k h)
 same_kind profile (month_day first) year_month is too text h k = absurd (year_months_and_month_days first text k h)
 same_kind profile (month_day first) (month_day second) is too text h k = ap month_day (is ∙ sym too)
-same_kind profile (month_day first) (time_alone second) is too text h k = absurd (month_day_or_time profile first second is too text h k)
-same_kind profile (time_alone first) date_time is too text h k = absurd (date_times_and_times first text k h)
-same_kind profile (time_alone first) year_month is too text h k = absurd (year_months_and_times first text k h)
-same_kind profile (time_alone first) (month_day second) is too text h k = absurd (month_day_or_time profile second first too is text k h)
-same_kind profile (time_alone first) (time_alone second) is too text h k = ap time_alone (is ∙ sym too)
+same_kind profile (month_day first) (time_of_day second) is too text h k = absurd (month_day_or_time profile first second is too text h k)
+same_kind profile (time_of_day first) date_time is too text h k = absurd (date_times_and_times first text k h)
+same_kind profile (time_of_day first) year_month is too text h k = absurd (year_months_and_times first text k h)
+same_kind profile (time_of_day first) (month_day second) is too text h k = absurd (month_day_or_time profile second first too is text k h)
+same_kind profile (time_of_day first) (time_of_day second) is too text h k = ap time_of_day (is ∙ sym too)
 
 -- ---- durations
 

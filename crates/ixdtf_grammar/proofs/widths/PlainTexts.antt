@@ -10,7 +10,7 @@ use Rattle.ixdtf_grammar.specs.language.Times.TimeShape.{hours, basic_minutes, c
 use Rattle.ixdtf_grammar.specs.language.{Fractions.{SomeDigits, FractionParts, IsFraction}, Offsets.{IsSigned, IsOffsetOrZ}}
 use Rattle.ixdtf_grammar.specs.language.{ZoneNames.{ZoneName, Zone, IsZone}, Brackets.{ZoneNote, Opens, OptionalBracket, Pair, Key, Value, ArePairs, IsTail}}
 use Rattle.ixdtf_grammar.specs.language.{Cores.{Core, TimeMark, OptionalOffset, IsDateTimeCore, MarkedTime, IsCore}, Readers.CoreKind}
-use Rattle.ixdtf_grammar.specs.language.Readers.CoreKind.{date_time, year_month, month_day, time_alone}
+use Rattle.ixdtf_grammar.specs.language.Readers.CoreKind.{date_time, year_month, month_day, time_of_day}
 
 -- no code unit is Bad
 abbrev pub IsPlain : Text → Type 0
@@ -173,7 +173,7 @@ pub core_plain : (kind : CoreKind) (text : Text) (core : Core) → IsCore kind t
 core_plain date_time text core h = date_time_plain text core h
 core_plain year_month text core h = year_month_plain text h.0 h.1
 core_plain (month_day profile) text core h = month_day_plain profile text h.0 h.1
-core_plain (time_alone profile) text core h = marked_plain text core h.0
+core_plain (time_of_day profile) text core h = marked_plain text core h.0
 
 -- ---- zones and brackets
 

@@ -3,7 +3,7 @@ use Rattle.std.specs.Prelude.{◌≡◌, ◌⊎◌, [], ◌++◌, Option, Some, 
 use Rattle.ixdtf_grammar.specs.declared.{profile.Profile.Profile, records.{DateRecord.DateRecord, TimeRecord.TimeRecord}}
 use Rattle.ixdtf_grammar.specs.{declared.records.UtcOffsetRecordOrZ.UtcOffsetRecordOrZ, language.Letters.{Text, date_time_separator, time_letter}}
 use Rattle.ixdtf_grammar.specs.language.{Shapes.{Shape, nothing, one, ◌then◌, ◌either◌, some, anything}, Dates.IsDate, Months.{IsYearMonth, IsMonthDay}}
-use Rattle.ixdtf_grammar.specs.language.{Times.IsTime, Offsets.IsOffsetOrZ, Readers.{CoreKind, CoreKind.{date_time, year_month, month_day, time_alone}}}
+use Rattle.ixdtf_grammar.specs.language.{Times.IsTime, Offsets.IsOffsetOrZ, Readers.{CoreKind, CoreKind.{date_time, year_month, month_day, time_of_day}}}
 
 -- what stands before the brackets
 pub record Core : Type 0 where
@@ -61,12 +61,12 @@ pub record MarkedTime (text : Text) (core : Core) : Type 0 where
   pub has : core ≡ core_of None (Some time) offset
 
 -- a front of the text has the shape
-abbrev pub HasFront : Shape → Shape
-HasFront shape = shape then anything
+abbrev pub BeginsWith : Shape → Shape
+BeginsWith shape = shape then anything
 
 -- no front of the text is a month-day, and none a year-month
 abbrev pub HasNoDateFront : Profile → Shape
-HasNoDateFront profile text = ¬ (HasFront (some (IsMonthDay profile)) text) × ¬ (HasFront (some IsYearMonth) text)
+HasNoDateFront profile text = ¬ (BeginsWith (some (IsMonthDay profile)) text) × ¬ (BeginsWith (some IsYearMonth) text)
 
 -- a time that does not begin as a month-day or a year-month
 abbrev pub IsTimeCore : Profile → Text → Core → Type 0
@@ -78,4 +78,4 @@ abbrev pub IsCore : CoreKind → Text → Core → Type 0
 IsCore date_time text core = IsDateTimeCore text core
 IsCore year_month text core = DateAlone IsYearMonth text core
 IsCore (month_day profile) text core = DateAlone (IsMonthDay profile) text core
-IsCore (time_alone profile) text core = IsTimeCore profile text core
+IsCore (time_of_day profile) text core = IsTimeCore profile text core

@@ -6,7 +6,7 @@ use Rattle.ixdtf_grammar.specs.declared.profile.Profile.{Profile}
 -- a day; a time
 pub data CoreKind : Type 0 where
   date_time year_month : CoreKind
-  month_day time_alone : Profile → CoreKind
+  month_day time_of_day : Profile → CoreKind
 
 -- the readers: of a core and the brackets after it, of an offset, of a time zone, of the name of one, and of a duration under
 -- a profile
@@ -25,7 +25,7 @@ abbrev pub parse_month_day : Profile → Reader
 parse_month_day profile = bracketed (month_day profile)
 
 abbrev pub parse_time : Profile → Reader
-parse_time profile = bracketed (time_alone profile)
+parse_time profile = bracketed (time_of_day profile)
 
 -- whether brackets may follow what the reader reads; what may follow a part of it depends on this
 abbrev pub has_brackets : Reader → Bool

@@ -4,7 +4,7 @@ use Rattle.ixdtf_grammar.specs.{declared.profile.Profile.Profile, language.Lette
 use Rattle.ixdtf_grammar.specs.language.{Shapes.{Shape, nothing, one, ◌then◌, ◌either◌, some, anything}, Dates.IsDate, Months.IsMonthDay, Times.IsTime}
 use Rattle.ixdtf_grammar.specs.language.{Times.Clock.{Time, Offset, MinuteOffset}, Brackets.{ZoneNote, Opens, ReadsAsName, ReadsAsPair, Pair, IsTail}}
 use Rattle.ixdtf_grammar.specs.language.{Cores.{TimeMark, MarkedTime, HasFront, IsCore}, Readers.{Reader, CoreKind}}
-use Rattle.ixdtf_grammar.specs.language.Readers.CoreKind.{date_time, year_month, month_day, time_alone}
+use Rattle.ixdtf_grammar.specs.language.Readers.CoreKind.{date_time, year_month, month_day, time_of_day}
 use Rattle.ixdtf_grammar.specs.language.Readers.Reader.{bracketed, parse_offset, parse_identifier, parse_iana_identifier, parse_duration}
 use Rattle.ixdtf_grammar.specs.table.LineNames.{DateLine, MonthDayLine, TimeLine, CoreLine, ClockLine, OffsetLine, LineName, DateLine.year_start}
 use Rattle.ixdtf_grammar.specs.table.LineNames.DateLine.{year_digits, extended_year_digits, minus_zero_year, after_year, month_digits, month_range}
@@ -55,13 +55,13 @@ BeforeDate year_month day_digits before = ⊥
 BeforeDate year_month day_range before = ⊥
 BeforeDate year_month after_date before = ⊥
 BeforeDate (month_day profile) line before = ⊥
-BeforeDate (time_alone profile) line before = ⊥
+BeforeDate (time_of_day profile) line before = ⊥
 
 abbrev pub BeforeYearMonth : CoreKind → Shape
 BeforeYearMonth year_month before = nothing before
 BeforeYearMonth date_time before = ⊥
 BeforeYearMonth (month_day profile) before = ⊥
-BeforeYearMonth (time_alone profile) before = ⊥
+BeforeYearMonth (time_of_day profile) before = ⊥
 
 -- what stands before a line of month-days: nothing; and a line of a profile is one of this profile
 abbrev pub InMonthDay : Profile → MonthDayLine → Shape
@@ -78,7 +78,7 @@ abbrev pub BeforeMonthDay : CoreKind → MonthDayLine → Shape
 BeforeMonthDay (month_day profile) line before = InMonthDay profile line before
 BeforeMonthDay date_time line before = ⊥
 BeforeMonthDay year_month line before = ⊥
-BeforeMonthDay (time_alone profile) line before = ⊥
+BeforeMonthDay (time_of_day profile) line before = ⊥
 
 -- the end, or a bracket: what a core may stand before
 abbrev pub AtCoreEnd : Shape
@@ -97,7 +97,7 @@ InTimeAlone profile time_reads_as_year_month before rest = nothing before × Rea
 
 -- what stands before the other lines of a time that stands alone, and what the text has from their front on
 abbrev pub BeforeTimeAlone : CoreKind → TimeLine → Text → Text → Type 0
-BeforeTimeAlone (time_alone profile) line before rest = InTimeAlone profile line before rest
+BeforeTimeAlone (time_of_day profile) line before rest = InTimeAlone profile line before rest
 BeforeTimeAlone date_time line before rest = ⊥
 BeforeTimeAlone year_month line before rest = ⊥
 BeforeTimeAlone (month_day profile) line before rest = ⊥
@@ -114,26 +114,26 @@ abbrev pub BeforeTime : CoreKind → ClockLine → Shape
 BeforeTime date_time line before = DateAndSeparator before
 BeforeTime year_month line before = ⊥
 BeforeTime (month_day profile) line before = ⊥
-BeforeTime (time_alone profile) hour_start before = one time_letter before
-BeforeTime (time_alone profile) hour_digit before = TimeMark before
-BeforeTime (time_alone profile) hour_range before = TimeMark before
-BeforeTime (time_alone profile) after_hour before = TimeMark before
-BeforeTime (time_alone profile) minute_digits before = TimeMark before
-BeforeTime (time_alone profile) minute_range before = TimeMark before
-BeforeTime (time_alone profile) after_basic_minute before = TimeMark before
-BeforeTime (time_alone profile) after_colon_minute before = TimeMark before
-BeforeTime (time_alone profile) second_digits before = TimeMark before
-BeforeTime (time_alone profile) second_range before = TimeMark before
-BeforeTime (time_alone profile) after_second before = TimeMark before
-BeforeTime (time_alone profile) fraction_start before = TimeMark before
-BeforeTime (time_alone profile) after_fraction before = TimeMark before
+BeforeTime (time_of_day profile) hour_start before = one time_letter before
+BeforeTime (time_of_day profile) hour_digit before = TimeMark before
+BeforeTime (time_of_day profile) hour_range before = TimeMark before
+BeforeTime (time_of_day profile) after_hour before = TimeMark before
+BeforeTime (time_of_day profile) minute_digits before = TimeMark before
+BeforeTime (time_of_day profile) minute_range before = TimeMark before
+BeforeTime (time_of_day profile) after_basic_minute before = TimeMark before
+BeforeTime (time_of_day profile) after_colon_minute before = TimeMark before
+BeforeTime (time_of_day profile) second_digits before = TimeMark before
+BeforeTime (time_of_day profile) second_range before = TimeMark before
+BeforeTime (time_of_day profile) after_second before = TimeMark before
+BeforeTime (time_of_day profile) fraction_start before = TimeMark before
+BeforeTime (time_of_day profile) after_fraction before = TimeMark before
 
 -- what stands before the sign of an offset, and before `Z`
 abbrev pub BeforeOffset : CoreKind → Shape
 BeforeOffset date_time before = DateTime before
 BeforeOffset year_month before = ⊥
 BeforeOffset (month_day profile) before = ⊥
-BeforeOffset (time_alone profile) before = (TimeMark then some IsTime) before
+BeforeOffset (time_of_day profile) before = (TimeMark then some IsTime) before
 
 abbrev pub BeforeOffsetLine : CoreKind → OffsetLine → Shape
 BeforeOffsetLine kind offset_start before = ⊥

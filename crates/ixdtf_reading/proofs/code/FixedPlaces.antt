@@ -300,8 +300,8 @@ two_are text h = rw (h.2, h.4.2, h.4.4) refl
 four_are : (text : Text) (h : digits 4 text) → text ≡ four_letters text h
 four_are text h = rw (h.2, h.4.2, h.4.4.2, h.4.4.4.2, h.4.4.4.4) refl
 
-number_of : (text : Text) (n : ℕ) (h : TwoDigits text n) → decimal (two_letters text h.0) ≡ n
-number_of text n h = ap decimal (sym (two_are text h.0)) ∙ sym h.1
+two_digits_value : (text : Text) (n : ℕ) (h : TwoDigits text n) → decimal (two_letters text h.0) ≡ n
+two_digits_value text n h = ap decimal (sym (two_are text h.0)) ∙ sym h.1
 
 year_of : (text : Text) (year : ℤ) (h : FourDigitYear text year) → pos (decimal (four_letters text h.0)) ≡ year
 year_of text year h = ap (λ t. pos (decimal t)) (sym (four_are text h.0)) ∙ sym h.1
@@ -349,8 +349,8 @@ date_time_stands text date time rest f =
     let x = t.second.0 in
     let whole : text ≡ text_there y m d f.separator h n x rest =
     f.is ∙ rw (f.is_date.is, t.is, four_are _ y, two_are _ m, two_are _ d, two_are _ h, two_are _ n, two_are _ x) refl in
-    let is_date = same_date date _ _ _ (year_of _ _ f.is_date.year) (number_of _ _ f.is_date.month.0) (number_of _ _ f.is_date.day) in
-    let is_time = same_time time _ _ _ (number_of _ _ (h, t.hour.1)) (number_of _ _ (n, t.minute.1)) (number_of _ _ (x, t.second.1)) (sym t.no_fraction) in
+    let is_date = same_date date _ _ _ (year_of _ _ f.is_date.year) (two_digits_value _ _ f.is_date.month.0) (two_digits_value _ _ f.is_date.day) in
+    let is_time = same_time time _ _ _ (two_digits_value _ _ (h, t.hour.1)) (two_digits_value _ _ (n, t.minute.1)) (two_digits_value _ _ (x, t.second.1)) (sym t.no_fraction) in
     let in_date = subst (λ r. IsTrue (date_in_range r)) (sym is_date) (is_in_range date (f.is_date.month.1, f.is_date.month.2) f.is_date.in_month) in
     let in_time = subst (λ r. IsTrue (time_in_range r)) (sym is_time) (
     and_from _ _ (and_from _ _ (le-leb _ 23 t.hour.2) (le-leb _ 59 t.minute.2)) (le-leb _ 60 t.second.2)) in

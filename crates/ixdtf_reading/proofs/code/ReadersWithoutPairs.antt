@@ -87,7 +87,7 @@ module _ {U A : Type 0} (letter : ℕ → Letter) (view : U → A) (reader : Rea
     pub err : IfErr result (λ e. HasFault reader (map letter old.rest) [] (named e))
     pub comes : IfErr result (λ e. IsFalse (never_comes (named e)))
     pub no_row : OnOk result (NoRowFits reader (map letter old.rest))
-    pub alone : (profile : Profile) → IsTextReader profile reader → OnOk result (InNoOther profile reader (map letter old.rest))
+    pub no_other_reader : (profile : Profile) → IsTextReader profile reader → OnOk result (InNoOther profile reader (map letter old.rest))
     pub only : IfErr result (λ e. OnlyFault reader (map letter old.rest) [] (named e))
     pub empty : (left : List ℕ) → OnOk result (left ≡ new.rest) → OnOk result (left ≡ [])
 
@@ -98,7 +98,7 @@ module _ {U A : Type 0} (letter : ℕ → Letter) (view : U → A) (reader : Rea
     err = tt;
     comes = tt;
     no_row = read.no_row;
-    alone = read.alone;
+    no_other_reader = read.no_other_reader;
     only = tt;
     empty = λ left is. is ∙ no_units letter new.rest (nothing_left reader found same (map letter old.rest) _ reads (view x) (map letter new.rest) h);
   }
@@ -110,7 +110,7 @@ module _ {U A : Type 0} (letter : ℕ → Letter) (view : U → A) (reader : Rea
         err = fits;
         comes = fault_comes reader _ [] (named e) fits;
         no_row = tt;
-        alone = λ profile is. tt;
+        no_other_reader = λ profile is. tt;
         only = only_fault reader _ [] (named e) fits;
         empty = λ left is. tt;
       }

@@ -54,13 +54,13 @@ pub ◌before◌ : {E A : Type 0} {start middle stage : Text → Read E A} {firs
 (to before from) = record { over = λ rest. rw append_assoc (to.over _ ∙ from.over rest) }
 
 -- reading returns so, over a front and at a rest
-pub record Yields {E A : Type 0} (start : Text → Read E A) (front rest : Text) (given : Read E A) : Type 0 where
-  pub yields : start (front ++ rest) ≡ given
+pub record ReadsTo {E A : Type 0} (start : Text → Read E A) (front rest : Text) (given : Read E A) : Type 0 where
+  pub reads_to : start (front ++ rest) ≡ given
 
 infixr 30 ◌upto◌
 pub ◌upto◌ : {E A : Type 0} {start middle : Text → Read E A} {first second rest : Text} {given : Read E A} → ReadsOver start first middle
-    → Yields middle second rest given → Yields start (first ++ second) rest given
-◌upto◌ {second} {rest} to from = record { yields = rw append_assoc (to.over _ ∙ from.yields) }
+    → ReadsTo middle second rest given → ReadsTo start (first ++ second) rest given
+◌upto◌ {second} {rest} to from = record { reads_to = rw append_assoc (to.over _ ∙ from.reads_to) }
 
 -- reading halts at a fault, over a front and at a rest
 pub record Halts {E A : Type 0} (start : Text → Read E A) (front rest : Text) (e : E) : Type 0 where

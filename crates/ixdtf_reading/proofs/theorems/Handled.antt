@@ -212,7 +212,7 @@ unhandled_form {number = number} {step = step} {handler = handler} {reader = rea
       ok = unhandled_ok number step handler reader text _ own h;
       err = tt;
       no_row = whole.no_row;
-      alone = whole.alone;
+      no_other_reader = whole.no_other_reader;
       only = tt;
     }
 unhandled_form {number = number} {step = step} {handler = handler} {reader = reader} {text = text} {result = Err fault} h own = let gives =
@@ -220,7 +220,7 @@ unhandled_form {number = number} {step = step} {handler = handler} {reader = rea
       ok = unhandled_ok number step handler reader text _ own h;
       err = gives;
       no_row = tt;
-      alone = tt;
+      no_other_reader = tt;
       only = (gives.0, gives_only reader text gives.0 _ fault gives.1);
     }
 

@@ -9,12 +9,12 @@ use Rattle.ixdtf_reading.proofs.{code.OneMoreReply.refused_split, theorems.OneOu
 -- what holds besides where something is derived from the text
 pub record Accepted (reader : Reader) (text : Text) : Type 0 where
   pub no_row : NoRowFits reader text
-  pub alone : (profile : Profile) → IsTextReader profile reader → InNoOther profile reader text
+  pub no_other_reader : (profile : Profile) → IsTextReader profile reader → InNoOther profile reader text
 
 pub accepted : (reader : Reader) (text : Text) → InLanguage reader text → Accepted reader text
 accepted reader text h = record {
   no_row = no_row_fits reader text h;
-  alone = λ profile is. in_no_other profile reader text is h;
+  no_other_reader = λ profile is. in_no_other profile reader text is h;
 }
 
 -- a row that fits is the only one, and nothing is derived

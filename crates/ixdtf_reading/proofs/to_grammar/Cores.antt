@@ -7,7 +7,7 @@ use Rattle.ixdtf_grammar.specs.language.Letters.{Text, Class, digit, sign, zulu,
 use Rattle.ixdtf_grammar.specs.language.{Shapes.{Shape, one, some, ◌then◌}, Dates.IsDate, Months.{IsYearMonth, IsMonthDay}}
 use Rattle.ixdtf_grammar.specs.language.{Times.{Clock, TimeShape, IsTime, writes_seconds, TimeShape.{seconds, fractions}}, Offsets.{IsOffset, offset_of}}
 use Rattle.ixdtf_grammar.specs.language.Cores.{Core, core_of, OptionalOffset, DateAlone, IsDateTimeCore, TimeMark, MarkedTime, HasNoDateFront, IsCore}
-use Rattle.ixdtf_grammar.specs.{language.Readers.{CoreKind, CoreKind.{date_time, year_month, month_day, time_alone}, Reader.bracketed}, table.Faults.Fault}
+use Rattle.ixdtf_grammar.specs.{language.Readers.{CoreKind, CoreKind.{date_time, year_month, month_day, time_of_day}, Reader.bracketed}, table.Faults.Fault}
 use Rattle.ixdtf_grammar.specs.table.Faults.Fault.{NonAsciiCodePoint, InvalidEnd, TimeHour}
 use Rattle.ixdtf_grammar.specs.table.LineNames.{DateLine, ClockLine, LineName, of_date, of_year_month, of_month_day, of_time, LineName.{of_clock, of_offset}}
 use Rattle.ixdtf_grammar.specs.table.LineNames.{DateLine.{year_start, after_date}, YearMonthLine.after_year_month, MonthDayLine.after_month_day}
@@ -61,8 +61,8 @@ module _ {E : Type 0} (fault : Row → E) (kind : CoreKind) (text : Text) where
   ReadsCore read = ReadsAs (IsCore kind) read
 
 module _ {E : Type 0} (fault : Row → E) (kind : CoreKind) (text : Text) (is_core : Text → Core → Type 0) where
-  abbrev Reads : Read E ClosedCore → Type 0
-  Reads read = ReadsAs fault kind text is_core read
+  abbrev CoreOrRow : Read E ClosedCore → Type 0
+  CoreOrRow read = ReadsAs fault kind text is_core read
 
   -- ---- the end of a core
 
@@ -73,7 +73,7 @@ module _ {E : Type 0} (fault : Row → E) (kind : CoreKind) (text : Text) (is_co
     at_next (Some c) more h = (front, is ∙ ap (λ t. front ++ t) (h.0 ∙ ap (λ n. Plain n ∷ more) (eqb-true c 91 h.1)), core_here)
 
     end_read : ((c : ℕ) (more : Text) → rest ≡ Plain c ∷ more → IsFalse (opening c) → FitsCore kind text (row_of name (other rest) InvalidEnd))
-        → ((more : Text) → rest ≡ Bad ∷ more → FitsCore kind text (row_of name (bad rest) NonAsciiCodePoint)) → Reads (core_end_at fault name core rest)
+        → ((more : Text) → rest ≡ Bad ∷ more → FitsCore kind text (row_of name (bad rest) NonAsciiCodePoint)) → CoreOrRow (core_end_at fault name core rest)
     unfolding core_end_at
     end_read at_other at_bad = then_read fault _ _ _ _ _ _
         (peek_read (core_look fault name) fault rest (FitsCore kind text)
@@ -85,7 +85,7 @@ module _ {E : Type 0} (fault : Row → E) (kind : CoreKind) (text : Text) (is_co
     -- the same, where nothing but a bracket may follow at the line
     closing_read : (shown : Shape)
         → ((place : Place) (e : Fault) → Stops (line shown opening ok (always InvalidEnd)) place e rest → FitsCore kind text (row_of name place e))
-        → Reads (core_end_at fault name core rest)
+        → CoreOrRow (core_end_at fault name core rest)
     closing_read shown fits =
         end_read (λ c more next out. fits (other rest) InvalidEnd (c, more, next, out, refl, refl)) (λ more next. fits (bad rest) NonAsciiCodePoint (more, next, refl, refl))
 
@@ -114,7 +114,7 @@ module _ {E : Type 0} (fault : Row → E) (kind : CoreKind) (text : Text) (is_co
 
     -- an offset was read after its sign
     after_offset_read : (s : ℕ) (more : Text) → rest ≡ Plain s ∷ more → IsTrue (sign s) → (o : OpenTime) (left : Text) → TimeFront Clock.Offset more o left
-        → Reads (core_end_at fault (line_after Clock.Offset o.0) (with_offset date x.1 (offset_of s (writes_seconds o.0) o.1)) left)
+        → CoreOrRow (core_end_at fault (line_after Clock.Offset o.0) (with_offset date x.1 (offset_of s (writes_seconds o.0) o.1)) left)
     after_offset_read s more next signs o left g =
         let offset : UtcOffsetRecord = offset_of s (writes_seconds o.0) o.1 in
         let is_offset : IsOffset (Plain s ∷ g.0) offset =
@@ -127,7 +127,7 @@ module _ {E : Type 0} (fault : Row → E) (kind : CoreKind) (text : Text) (is_co
         (λ after ends. absurd (closed_not_bad Clock.Offset o.0 left after g.3 ends))
 
     -- an offset after its sign
-    offset_read : (s : ℕ) (more : Text) → rest ≡ Plain s ∷ more → IsTrue (sign s) → Reads (offset_core_at fault date x.1 s more)
+    offset_read : (s : ℕ) (more : Text) → rest ≡ Plain s ∷ more → IsTrue (sign s) → CoreOrRow (offset_core_at fault date x.1 s more)
     unfolding offset_core_at
     offset_read s more next signs = then_read fault _ _ _ _ _ _ (clock_read fault true Clock.Offset more)
         (after_offset_read s more next signs)
@@ -136,7 +136,7 @@ module _ {E : Type 0} (fault : Row → E) (kind : CoreKind) (text : Text) (is_co
 
     -- `Z` or `z`
     zulu_read : (z : ℕ) (more : Text) → rest ≡ Plain z ∷ more → IsTrue (zulu z)
-        → Reads (core_end_at fault (of_offset after_zulu) (core_of date (Some x.1) (Some Z)) more)
+        → CoreOrRow (core_end_at fault (of_offset after_zulu) (core_of date (Some x.1) (Some Z)) more)
     zulu_read z more next is_zulu = closing_read (of_offset after_zulu) (core_of date (Some x.1) (Some Z)) (prior ++ (h.0 ++ (Plain z ∷ []))) more
         (is_text (Plain z ∷ []) more next)
         (has_core (Plain z ∷ []) (Some Z) (inr ((z, refl, is_zulu), refl)))
@@ -144,7 +144,7 @@ module _ {E : Type 0} (fault : Row → E) (kind : CoreKind) (text : Text) (is_co
         (λ place e at. (prior ++ h.0, Plain z ∷ more, time_text ∙ rw next, (timed, refl), (Plain z ∷ [], more, refl, (z, refl, is_zulu), at)))
 
     -- nothing of an offset
-    no_offset_read : NotNext sign rest → NotNext zulu rest → Reads (core_end_at fault (line_after Clock.Time x.0) (core_of date (Some x.1) None) rest)
+    no_offset_read : NotNext sign rest → NotNext zulu rest → CoreOrRow (core_end_at fault (line_after Clock.Time x.0) (core_of date (Some x.1) None) rest)
     no_offset_read no_sign no_zulu = end_read (line_after Clock.Time x.0) (core_of date (Some x.1) None) (prior ++ (h.0 ++ [])) rest
         (is_text [] rest refl)
         (has_core [] None refl)
@@ -153,7 +153,7 @@ module _ {E : Type 0} (fault : Row → E) (kind : CoreKind) (text : Text) (is_co
         (clock_stops fault true Clock.Time body x (other rest) InvalidEnd rest h (c, after, ends, stops, refl, refl)))
         (λ after ends. absurd (not_bad sign rest after no_sign ends))
 
-    after_time_read : Reads (after_time_at fault date x rest)
+    after_time_read : CoreOrRow (after_time_at fault date x rest)
     unfolding after_time_at
     after_time_read =
         let at_bad : (more : Text) → rest ≡ Bad ∷ more → ⊥ = λ more next. closed_not_bad Clock.Time x.0 rest more h.3 next in
@@ -236,12 +236,12 @@ module _ {E : Type 0} (fault : Row → E) (kind : CoreKind) (text : Text) (part 
 -- ---- times that stand alone
 
 -- what stands before a line after the first digit of the hour
-marked_line : (profile : Profile) (l : ClockLine) (prior : Text) → IsLater l → TimeMark prior → BeforeTime (time_alone profile) l prior
+marked_line : (profile : Profile) (l : ClockLine) (prior : Text) → IsLater l → TimeMark prior → BeforeTime (time_of_day profile) l prior
 marked_line profile hour_start prior is_later mark = absurd is_later
 marked_line profile l prior is_later mark = mark
 
 -- and before any line of a time, where `T` or `t` stands
-lettered_line : (profile : Profile) (l : ClockLine) (prior : Text) → one time_letter prior → BeforeTime (time_alone profile) l prior
+lettered_line : (profile : Profile) (l : ClockLine) (prior : Text) → one time_letter prior → BeforeTime (time_of_day profile) l prior
 lettered_line profile hour_start prior letter = letter
 lettered_line profile l prior letter = inr letter
 
@@ -257,39 +257,39 @@ MarkedFront text x rest = (marks body : Text) × (text ≡ marks ++ body) × Tim
 
 module _ {E : Type 0} (fault : Row → E) (profile : Profile) (text : Text) where
   start_stops : (place : Place) (e : Fault) → Stops (line_of true (of_time time_start)) place e text
-      → IsRowFault fault (fault (row_of (of_time time_start) place e)) (FitsCore (time_alone profile) text)
+      → IsRowFault fault (fault (row_of (of_time time_start) place e)) (FitsCore (time_of_day profile) text)
   start_stops place e at = (row_of (of_time time_start) place e, refl, ([], text, refl, (refl, refl), ([], text, refl, refl, at)))
 
   hour_digit_read : (body : Text) → text ≡ body → NotNext time_letter body
-      → OnRead fault (next_by (hour_look fault) body) (λ c rest. (text ≡ Plain c ∷ rest) × IsTrue (digit c)) (FitsCore (time_alone profile) text)
+      → OnRead fault (next_by (hour_look fault) body) (λ c rest. (text ≡ Plain c ∷ rest) × IsTrue (digit c)) (FitsCore (time_of_day profile) text)
   unfolding next_by look_at
   hour_digit_read [] is closed = start_stops (end []) abrupt_digit (is, refl, sym is)
   hour_digit_read (Bad ∷ rest) is closed = absurd closed
   hour_digit_read (Plain c ∷ rest) is closed =
       read_if fault (digit c) _ _ _ _ (λ d. (is, d)) (λ out. start_stops (other (Plain c ∷ rest)) TimeHour (c, rest, is, or_from _ _ out closed, refl, sym is))
 
-  lone_time_read : NotNext time_letter text → OnRead fault (lone_time_at fault text) (MarkedFront text) (FitsCore (time_alone profile) text)
+  lone_time_read : NotNext time_letter text → OnRead fault (lone_time_at fault text) (MarkedFront text) (FitsCore (time_of_day profile) text)
   unfolding lone_time_at
   lone_time_read closed = then_read fault (next_by (hour_look fault) text) _ _ _ _ _ (hour_digit_read text refl closed)
       (λ c rest h. read_weaker fault (hour_from fault Clock.Time c rest) _ _ _ _ (hour_read fault true Clock.Time text c rest h.1 h.0)
       (λ x left g. ([], text, refl, inl refl, g))
-      (λ row f. lift (later Clock.Time) (bracketed (time_alone profile)) row text [] text refl (λ l. (marked_line profile l.0 [] l.1 (inl refl), refl)) f))
+      (λ row f. lift (later Clock.Time) (bracketed (time_of_day profile)) row text [] text refl (λ l. (marked_line profile l.0 [] l.1 (inl refl), refl)) f))
       (λ row f. f)
 
-  marked_time_read : OnRead fault (marked_time_at fault text) (MarkedFront text) (FitsCore (time_alone profile) text)
+  marked_time_read : OnRead fault (marked_time_at fault text) (MarkedFront text) (FitsCore (time_of_day profile) text)
   unfolding marked_time_at
   marked_time_read = next_read (λ left. fault (row_of (of_time time_start) (bad left) NonAsciiCodePoint)) time_letter _ _ fault text (MarkedFront text) _
       (λ more next. start_stops (bad text) NonAsciiCodePoint (more, next, refl, refl))
       (λ c rest next letter. read_weaker fault (clock_at fault Clock.Time rest) _ _ _ _ (clock_read fault true Clock.Time rest)
       (λ x left g. (Plain c ∷ [], rest, next, inr (c, refl, letter), g))
-      (λ row f. lift (of_clock Clock.Time) (bracketed (time_alone profile)) row text (Plain c ∷ []) rest next
+      (λ row f. lift (of_clock Clock.Time) (bracketed (time_of_day profile)) row text (Plain c ∷ []) rest next
       (λ l. (lettered_line profile l (Plain c ∷ []) (c, refl, letter), refl)) f))
       lone_time_read
 
-  marked_core_read : ReadsAs fault (time_alone profile) text MarkedTime (marked_core_at fault text)
+  marked_core_read : ReadsAs fault (time_of_day profile) text MarkedTime (marked_core_at fault text)
   unfolding marked_core_at
   marked_core_read = then_read fault (marked_time_at fault text) _ _ _ _ _ marked_time_read
-      (λ x rest h. after_time_read fault (time_alone profile) text MarkedTime None h.0 h.1 h.2 (λ l is_later. marked_line profile l h.0 is_later h.3)
+      (λ x rest h. after_time_read fault (time_of_day profile) text MarkedTime None h.0 h.1 h.2 (λ l is_later. marked_line profile l h.0 is_later h.3)
       (λ ts offsets t offset is_time o. record {
         marks = h.0;
         times = ts;
@@ -308,16 +308,16 @@ module _ {E : Type 0} (fault : Row → E) (profile : Profile) (text : Text) wher
 
   -- the test of the front, after the time
   tested_read : (x : ClosedCore) (rest : Text) → FrontOf MarkedTime text x rest
-      → ReadsCore fault (time_alone profile) text (unfronted fault profile text (Ok (x, rest)))
+      → ReadsCore fault (time_of_day profile) text (unfronted fault profile text (Ok (x, rest)))
   tested_read x rest h =
       let ends = split_ends text h.0 x.1 rest h.1 in
       let time : ReadsAsTime text = (h.0, ends.0, ends.1, (x.0, h.2), ends.2) in
-      unfronted_read profile text fault (Ok (x, rest)) (CoreFront (time_alone profile) text) (FitsCore (time_alone profile) text)
+      unfronted_read profile text fault (Ok (x, rest)) (CoreFront (time_of_day profile) text) (FitsCore (time_of_day profile) text)
       (λ left begins. ([], text, refl, ((refl, time, refl), refl), (begins.0, left, begins.1, begins.2, (refl, refl))))
       (λ left begins none. ([], text, refl, ((refl, time, none), refl), (begins.0, left, begins.1, begins.2, (refl, refl))))
       (λ none. (h.0, h.1, (h.2, no_front_of profile h.0 ends.0 (subst (HasNoDateFront profile) ends.1 none))))
 
-  time_alone_read : ReadsCore fault (time_alone profile) text (time_alone_core_at fault profile text)
+  time_alone_read : ReadsCore fault (time_of_day profile) text (time_alone_core_at fault profile text)
   unfolding time_alone_core_at
   time_alone_read = then_read fault (marked_core_at fault text) _ _ _ _ _ marked_core_read tested_read (λ row f. f)
 
@@ -329,4 +329,4 @@ core_read fault text year_month = alone_read fault year_month text IsYearMonth (
 core_read fault text (month_day profile) = alone_read fault (month_day profile) text (IsMonthDay profile) (of_month_day (after_month_day profile))
     (λ place e front rest is date at. ([], text, refl, ((refl, refl), refl), (front, rest, is, date, at))) (month_day_at fault profile text)
     (month_day_read fault profile text)
-core_read fault text (time_alone profile) = time_alone_read fault profile text
+core_read fault text (time_of_day profile) = time_alone_read fault profile text

@@ -151,10 +151,10 @@ module _ {E : Type 0} (fault : Row → E) where
 
   module _ (brackets : Bool) where
     -- what is known of reading a date, or a part of it
-    abbrev Reads : Text → Read E DateRecord → Type 0
-    Reads text r = OnRead fault r (DateFront text) (λ row. FitsIn of_date brackets row text)
+    abbrev DateOrRow : Text → Read E DateRecord → Type 0
+    DateOrRow text r = OnRead fault r (DateFront text) (λ row. FitsIn of_date brackets row text)
 
-    day_read : (text front rest : Text) (date : DateRecord) → text ≡ front ++ rest → DateText front date → Reads text (day_in_range fault date rest)
+    day_read : (text front rest : Text) (date : DateRecord) → text ≡ front ++ rest → DateText front date → DateOrRow text (day_in_range fault date rest)
     unfolding day_in_range
     day_read text front rest date is shape = read_if fault (nat_le 1 date.day && nat_le date.day (month_length date.year date.month)) _ _ _ _
         (λ test. let both = and_parts (nat_le 1 date.day) (nat_le date.day (month_length date.year date.month)) test in
@@ -175,7 +175,7 @@ module _ {E : Type 0} (fault : Row → E) where
           → text ≡ dated b ys ms ds ++ left
       with_day b rest more ds left is next last = is ∙ rw (next, last) (simp append_assoc)
 
-      after_month_read : (b : Bool) (rest : Text) → text ≡ (ys ++ (hyphens_of b ++ ms)) ++ rest → Reads text (day_at fault y (m, b) rest)
+      after_month_read : (b : Bool) (rest : Text) → text ≡ (ys ++ (hyphens_of b ++ ms)) ++ rest → DateOrRow text (day_at fault y (m, b) rest)
       unfolding day_at
       after_month_read b rest is = then_read fault (mark_at fault (line_after_month b) hyphen rest) _ _ _ _ _ (separator_read b rest)
           (λ s more h. then_read fault (digits_at fault (of_date day_digits) 2 more) _ _ _ _ _ (digits_read fault (of_date day_digits) (λ c. refl) 2 more)
@@ -186,7 +186,7 @@ module _ {E : Type 0} (fault : Row → E) where
           (begins_day b ys ms t.0 y m year month t.3) t.4.1))
           (λ r h. month_stops b rest r is h)
 
-    pub date_read : (text : Text) → Reads text (date_at fault text)
+    pub date_read : (text : Text) → DateOrRow text (date_at fault text)
     unfolding date_at
     date_read text = from_year_read (of_date after_year) (λ c. refl) brackets text (λ y month. day_at fault y month.0 month.1) _ _
         (λ ys y b ms m rest is year month. after_month_read text ys y ms m year month b rest is)

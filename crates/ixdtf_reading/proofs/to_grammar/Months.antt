@@ -59,8 +59,8 @@ module _ {E : Type 0} (fault : Row → E) (profile : Profile) where
   line_under l = of_month_day l.0
 
   -- what is known of reading a month-day, or a part of it
-  abbrev Reads : Text → Read E DateRecord → Type 0
-  Reads text r = OnRead fault r (FrontIs (IsMonthDay profile) text) (λ row. FitsIn line_under true row text)
+  abbrev MonthDayOrRow : Text → Read E DateRecord → Type 0
+  MonthDayOrRow text r = OnRead fault r (FrontIs (IsMonthDay profile) text) (λ row. FitsIn line_under true row text)
 
   -- the row is that of two digits that are no month
   abbrev NoMonthRow : Text → Text → Row → Type 0
@@ -96,7 +96,7 @@ module _ {E : Type 0} (fault : Row → E) (profile : Profile) where
         by_first false rest is starts = (is, starts)
 
     day_read : (front rest : Text) (month day : ℕ) → text ≡ front ++ rest → MonthDayText front (date_of (pos 0) month day)
-        → Reads text (lone_day_in_range fault profile month day rest)
+        → MonthDayOrRow text (lone_day_in_range fault profile month day rest)
     unfolding lone_day_in_range
     day_read front rest month day is shape = read_if fault (nat_le (least_day profile) day && nat_le day (greatest_day month)) _ _ _ _
         (λ test. let both = and_parts (nat_le (least_day profile) day) (nat_le day (greatest_day month)) test in
@@ -128,7 +128,7 @@ module _ {E : Type 0} (fault : Row → E) (profile : Profile) where
         no_year = refl;
       }
 
-      after_month_read : (rest : Text) → text ≡ (marks_of b ++ ms) ++ rest → Reads text (lone_day_at fault profile m rest)
+      after_month_read : (rest : Text) → text ≡ (marks_of b ++ ms) ++ rest → MonthDayOrRow text (lone_day_at fault profile m rest)
       unfolding lone_day_at
       after_month_read rest is = then_read fault (mark_at fault (of_month_day after_month_day_month) hyphen rest) _ _ _ _ _
           (hyphen_read fault (of_month_day after_month_day_month) rest (λ c. refl))
@@ -149,7 +149,7 @@ module _ {E : Type 0} (fault : Row → E) (profile : Profile) where
       (marks_of b ++ ds, rest, is, (marks_of b, ds, refl, some_marks b, (two, h.1)), (refl, refl)),
     )
 
-    front_read : Reads text (month_day_at fault profile text)
+    front_read : MonthDayOrRow text (month_day_at fault profile text)
     unfolding month_day_at
     front_read = then_read fault (marks_at fault text) _ _ _ _ _ marks_read
         (λ b rest h. then_read fault (digits_at fault (of_month_day month_day_month_digits) 2 rest) _ _ _ _ _

@@ -194,8 +194,8 @@ module _ {E : Type 0} (fault : Row → E) where
           fits after_fraction tt (other rest) e front rest is (t, x) (c, more, next, or_from _ _ closed out, same, refl)
 
     -- what is known of reading a time, or a part of it
-    abbrev Reads : Read E OpenTime → Type 0
-    Reads r = OnRead fault r (TimeFront clock text) Fitting
+    abbrev TimeOrRow : Read E OpenTime → Type 0
+    TimeOrRow r = OnRead fault r (TimeFront clock text) Fitting
 
     -- ---- from stage to stage
 
@@ -221,14 +221,14 @@ module _ {E : Type 0} (fault : Row → E) where
           (λ r g. fits_in (later clock) brackets (fraction_start, tt) r text (front ++ (Plain c ∷ [])) rest g.0
           (further text front _ (Plain c ∷ []) rest is refl) (front, _, refl, (time_of h m s None, x), (c, refl, mark)) g.1)
 
-      with_fraction_read : (rest : Text) → text ≡ front ++ (Plain c ∷ rest) → Reads (with_fraction h m s (fraction_at fault clock rest))
+      with_fraction_read : (rest : Text) → text ≡ front ++ (Plain c ∷ rest) → TimeOrRow (with_fraction h m s (fraction_at fault clock rest))
       with_fraction_read rest is = then_read fault (fraction_at fault clock rest) _ _ _ _ _ (fraction_read rest is)
           (λ fraction more f. let whole = is_fraction_text clock h m s c front f.0 fraction x mark f.2 f.3 in
           (front ++ (Plain c ∷ f.0), further text front _ (Plain c ∷ f.0) more is (onto c f.1), whole, f.4))
           (λ r f. f)
 
     after_second_read : (h m s : ℕ) (front rest : Text) → text ≡ front ++ rest → SecondText clock front (time_of h m s None)
-        → Reads (after_second_at fault clock h m s rest)
+        → TimeOrRow (after_second_at fault clock h m s rest)
     unfolding after_second_at
     after_second_read h m s front rest is x = next_read (bad_after fault clock seconds) decimal_mark _ _ fault rest (TimeFront clock text) Fitting
         (λ more next. open_bad front rest is seconds (time_of h m s None) more x next)
@@ -255,7 +255,7 @@ module _ {E : Type 0} (fault : Row → E) where
           (digits_front g.2 (begun (later clock at_digits) asks colons rest r at g)) (subst (λ l. Stops l r.place r.error g.3) same g.6.1))
 
     second_read : (colons : Bool) (h m : ℕ) (front rest : Text) → IsTrue (has_seconds clock) → text ≡ front ++ (marks colons ++ rest) → Starts colons rest
-        → ClockOf clock (minutes_shape colons) front (time_of h m 0 None) → Reads (second_at fault clock h m rest)
+        → ClockOf clock (minutes_shape colons) front (time_of h m 0 None) → TimeOrRow (second_at fault clock h m rest)
     unfolding second_at
     second_read colons h m front rest may is at x =
         then_read fault (number_at fault (of_clock clock second_digits) (greatest_second clock) (second_past clock) rest) _ _ _ _ _
@@ -267,14 +267,14 @@ module _ {E : Type 0} (fault : Row → E) where
 
     second_from : (colons : Bool) (h m c : ℕ) (front rest more : Text) → text ≡ front ++ rest → rest ≡ Plain c ∷ more
         → IsTrue (seconds_after clock (second_start colons) c) → ClockOf clock (minutes_shape colons) front (time_of h m 0 None)
-        → Reads (second_at fault clock h m (if colons then more else rest))
+        → TimeOrRow (second_at fault clock h m (if colons then more else rest))
     second_from true h m c front rest more is next mark x =
         let parts = and_parts _ _ mark in second_read true h m front more parts.0 (is ∙ rw (next, eqb-true c 58 parts.1)) tt x
     second_from false h m c front rest more is next mark x =
         let parts = and_parts _ _ mark in second_read false h m front rest parts.0 is (c, more, next, parts.1) x
 
     after_minute_read : (colons : Bool) (h m : ℕ) (front rest : Text) → text ≡ front ++ rest
-        → ClockOf clock (minutes_shape colons) front (time_of h m 0 None) → Reads (after_minute_at fault clock colons h m rest)
+        → ClockOf clock (minutes_shape colons) front (time_of h m 0 None) → TimeOrRow (after_minute_at fault clock colons h m rest)
     unfolding after_minute_at
     after_minute_read colons h m front rest is x =
         let shape = minutes_shape colons in
@@ -288,7 +288,7 @@ module _ {E : Type 0} (fault : Row → E) where
         (λ closed. (front, is, x, closed_minutes clock colons rest no_second closed)))
 
     minute_read : (colons : Bool) (h : ℕ) (front rest : Text) → text ≡ front ++ (marks colons ++ rest) → Starts colons rest → UpTo 23 front h
-        → Reads (minute_at fault clock colons h rest)
+        → TimeOrRow (minute_at fault clock colons h rest)
     unfolding minute_at
     minute_read colons h front rest is at x =
         then_read fault (number_at fault (of_clock clock minute_digits) 59 (minute_past clock) rest) _ _ _ _ _
@@ -297,7 +297,7 @@ module _ {E : Type 0} (fault : Row → E) where
         (λ m left g. after_minute_read colons h m (front ++ (marks colons ++ g.0)) left g.1 (minute_text clock colons h m front g.0 x g.2))
         (λ r g. g)
 
-    after_hour_read : (h : ℕ) (front rest : Text) → text ≡ front ++ rest → UpTo 23 front h → Reads (after_hour_at fault clock h rest)
+    after_hour_read : (h : ℕ) (front rest : Text) → text ≡ front ++ rest → UpTo 23 front h → TimeOrRow (after_hour_at fault clock h rest)
     unfolding after_hour_at
     after_hour_read h front rest is x =
         let hour : ClockOf clock hours front (time_of h 0 0 None) = record { hour = x; no_minute = refl; no_second = refl; no_fraction = refl } in
@@ -309,7 +309,7 @@ module _ {E : Type 0} (fault : Row → E) where
         (λ c more next d. minute_read false h front rest is (c, more, next, d) x)
         (λ closed. (front, is, hour, (no_colon, closed))))
 
-    pub hour_read : (c : ℕ) (rest : Text) → IsTrue (digit c) → text ≡ Plain c ∷ rest → Reads (hour_from fault clock c rest)
+    pub hour_read : (c : ℕ) (rest : Text) → IsTrue (digit c) → text ≡ Plain c ∷ rest → TimeOrRow (hour_from fault clock c rest)
     unfolding hour_from
     hour_read c rest d is =
         then_read fault (digits_at fault (of_clock clock hour_digit) 1 rest) _ _ _ _ _ (digits_read fault (of_clock clock hour_digit) (λ c. refl) 1 rest)

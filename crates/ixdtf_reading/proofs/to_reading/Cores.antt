@@ -7,7 +7,7 @@ use Rattle.ixdtf_grammar.specs.language.Letters.{Text, digit, colon, decimal_mar
 use Rattle.ixdtf_grammar.specs.language.{Shapes.{Shape, one, some, ◌then◌}, Dates.IsDate, Months.{IsYearMonth, IsMonthDay}}
 use Rattle.ixdtf_grammar.specs.language.{Times.{Clock, TimeShape, ClockOf, IsTime, writes_seconds, TimeShape.{hours, seconds, fractions}}, Offsets.offset_of}
 use Rattle.ixdtf_grammar.specs.language.Cores.{Core, core_of, OptionalOffset, DateAlone, IsDateTimeCore, TimeMark, MarkedTime, HasNoDateFront, IsCore}
-use Rattle.ixdtf_grammar.specs.{language.Readers.{CoreKind, CoreKind.{date_time, year_month, month_day, time_alone}}, table.Faults.{Fault, Fault.InvalidEnd}}
+use Rattle.ixdtf_grammar.specs.{language.Readers.{CoreKind, CoreKind.{date_time, year_month, month_day, time_of_day}}, table.Faults.{Fault, Fault.InvalidEnd}}
 use Rattle.ixdtf_grammar.specs.table.LineNames.{DateLine, TimeLine, CoreLine, ClockLine, LineName, of_date, of_year_month, of_month_day, of_time}
 use Rattle.ixdtf_grammar.specs.table.LineNames.{CoreLine.{dates, year_months, month_days, times}, LineName.{of_core, of_clock, of_offset}}
 use Rattle.ixdtf_grammar.specs.table.LineNames.DateLine.{after_year, after_hyphened_month, after_basic_month, day_digits, day_range, after_date}
@@ -336,7 +336,7 @@ module _ {E : Type 0} (fault : Row → E) where
       alone_takes IsYearMonth (of_year_month after_year_month) (year_month_at fault) (year_month_takes fault) front core rest d
   core_takes (month_day profile) front core rest d ends =
       alone_takes (IsMonthDay profile) (of_month_day (after_month_day profile)) (month_day_at fault profile) (month_day_takes fault profile) front core rest d
-  core_takes (time_alone profile) front core rest d ends =
+  core_takes (time_of_day profile) front core rest d ends =
       let closes = marked_takes front core rest d.0 ends in
       let none = no_front_after profile front rest ends d.1 in
       ((λ is. unfronted_takes profile (front ++ rest) _ none (closes.0 is)), λ more is. unfronted_takes profile (front ++ rest) _ none (closes.1 more is))
@@ -371,7 +371,7 @@ module _ {E : Type 0} (fault : Row → E) where
       rw b.0 (in_alone (of_month_day (after_month_day profile)) _ _ (month_day_row fault profile (month_day_range named) b.1 place e front rest f at))
   core_line_rows (month_day profile) (month_days l) place e prior front rest b f at =
       rw b (in_alone (of_month_day (after_month_day profile)) _ _ (month_day_row fault profile l tt place e front rest f at))
-  core_line_rows (time_alone profile) (times l) place e prior front rest b f at = time_line_rows profile l place e prior front rest b f at
+  core_line_rows (time_of_day profile) (times l) place e prior front rest b f at = time_line_rows profile l place e prior front rest b f at
   core_line_rows kind l place e prior front rest b f at = absurd b
 
   pub core_time_rows : (kind : CoreKind) (l : ClockLine) (prior : Text) → BeforeTime kind l prior
@@ -379,19 +379,19 @@ module _ {E : Type 0} (fault : Row → E) where
   core_time_rows date_time hour_start prior b =
       first_rows _ _ _ date_time_lead prior b (of_clock Clock.Time hour_start) (hour_start_row fault Clock.Time true)
   core_time_rows date_time l prior b = time_rows _ _ _ date_time_lead l tt prior b
-  core_time_rows (time_alone profile) hour_start prior b =
+  core_time_rows (time_of_day profile) hour_start prior b =
       in_marked profile (of_clock Clock.Time hour_start) prior
       (first_rows _ _ _ mark_lead prior (inr b) (of_clock Clock.Time hour_start) (hour_start_row fault Clock.Time true))
-  core_time_rows (time_alone profile) l prior b = in_marked profile (of_clock Clock.Time l) prior (time_rows _ _ _ mark_lead l tt prior b)
+  core_time_rows (time_of_day profile) l prior b = in_marked profile (of_clock Clock.Time l) prior (time_rows _ _ _ mark_lead l tt prior b)
   core_time_rows kind l prior b = absurd b
 
   pub core_offset_rows : (kind : CoreKind) (l : ClockLine) (prior : Text) → (BeforeOffset kind then one sign) prior
       → RowsBehind fault true (core_at fault kind) prior (of_clock Clock.Offset l)
   core_offset_rows date_time l prior b = time_offset_rows _ _ _ date_time_lead l prior b
-  core_offset_rows (time_alone profile) l prior b = in_marked profile (of_clock Clock.Offset l) prior (time_offset_rows _ _ _ mark_lead l prior b)
+  core_offset_rows (time_of_day profile) l prior b = in_marked profile (of_clock Clock.Offset l) prior (time_offset_rows _ _ _ mark_lead l prior b)
   core_offset_rows kind l prior b = absurd b.3
 
   pub core_zulu_row : (kind : CoreKind) (prior : Text) → BeforeOffset kind prior → RowsBehind fault true (core_at fault kind) prior (of_offset after_zulu)
   core_zulu_row date_time prior b = time_zulu_row _ _ _ date_time_lead prior b
-  core_zulu_row (time_alone profile) prior b = in_marked profile (of_offset after_zulu) prior (time_zulu_row _ _ _ mark_lead prior b)
+  core_zulu_row (time_of_day profile) prior b = in_marked profile (of_offset after_zulu) prior (time_zulu_row _ _ _ mark_lead prior b)
   core_zulu_row kind prior b = absurd b

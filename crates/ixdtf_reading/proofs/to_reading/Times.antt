@@ -12,7 +12,7 @@ use Rattle.ixdtf_grammar.specs.table.Rows.{Row, Place, Stops, front_of, Place.{e
 use Rattle.ixdtf_reading.specs.reading.{Looks.{Read, ◌>>=◌, row_of, look_at, in_range, number_by}, Times.{OpenTime, time_of, line_after, bad_after}}
 use Rattle.ixdtf_reading.specs.reading.Times.{mixed_after, hour_past, minute_past, second_past, minutes_shape, second_start, number_at, fraction_at}
 use Rattle.ixdtf_reading.specs.reading.Times.{after_second_at, second_at, after_minute_at, minute_at, after_hour_at, hour_from}
-use Rattle.ixdtf_reading.proofs.parts.Looks.{ReadsOver, ◌before◌, Yields, ◌upto◌, Halts, ◌till◌, RowsRead, whole_row, LooksForDigit, goes, stops, digits_go}
+use Rattle.ixdtf_reading.proofs.parts.Looks.{ReadsOver, ◌before◌, ReadsTo, ◌upto◌, Halts, ◌till◌, RowsRead, whole_row, LooksForDigit, goes, stops, digits_go}
 use Rattle.ixdtf_reading.proofs.parts.Looks.{digits_stop, one_as_digits, NotNext, run_takes, run_bad}
 
 digit_no_colon : (c : ℕ) → IsTrue (digit c) → IsFalse (colon c)
@@ -161,11 +161,11 @@ module _ {E : Type 0} (fault : Row → E) (clock : Clock)
   over_mark h m s t o = record { over = λ rest. rw (o.1, o.2) refl }
 
   fraction_gives : {h m s : ℕ} (d : ℕ) (more rest : Text) (n : ℕ) → IsTrue (digit d) → digits n more → NotNext digit rest
-      → Yields (fraction_stage h m s) (Plain d ∷ more) rest (Ok ((fractions, time_of h m s (Some (fraction_of (Plain d ∷ more)))), rest))
+      → ReadsTo (fraction_stage h m s) (Plain d ∷ more) rest (Ok ((fractions, time_of h m s (Some (fraction_of (Plain d ∷ more)))), rest))
   unfolding fraction_at fraction_stage
   fraction_gives d more rest n is ds closed =
       let start_goes = goes fault (of_clock clock fraction_start) d (more ++ rest) tt is in
-      record { yields = rw (start_goes, run_takes (bad_after fault clock fractions) n more rest ds closed) refl }
+      record { reads_to = rw (start_goes, run_takes (bad_after fault clock fractions) n more rest ds closed) refl }
 
   -- ---- staying at the end of a time
 
@@ -211,7 +211,7 @@ module _ {E : Type 0} (fault : Row → E) (clock : Clock)
       let part = x.is_fraction in
       let ds = part.some.1 in
       rw (x.is, part.is, ds.2) ((over_seconds x.whole _ x.second upto over_mark _ _ _ (Plain part.mark ∷ []) (part.mark, refl, part.marks)
-      upto fraction_gives ds.0 ds.1 rest part.some.0 ds.3 ds.4 closed).yields
+      upto fraction_gives ds.0 ds.1 rest part.some.0 ds.3 ds.4 closed).reads_to
       ∙ ap (λ u. Ok ((fractions, u), rest)) (same_time t _ _ _ _ refl refl refl
       (some_same part.ds (Plain ds.0 ∷ ds.1) x.fraction t.fraction part.value ds.2 x.value)))
 

@@ -4,7 +4,7 @@
 use Rattle.std.proofs.Common.{◌≡◌, ◌⊎◌, List, ◌++◌, inl, inr, sym, ap, ◌∙◌, subst, append_assoc}
 use Rattle.ixdtf_grammar.specs.{declared.profile.Profile.Profile, language.{Letters.Text, Shapes.some, Times.Clock.{Time, Offset, MinuteOffset}}}
 use Rattle.ixdtf_grammar.specs.language.{Months.IsMonthDay, Brackets.{Pair, ReadsAsName, ReadsAsPair}, Cores.{HasFront, IsCore}}
-use Rattle.ixdtf_grammar.specs.language.Readers.{Reader, CoreKind, has_brackets, CoreKind.{date_time, year_month, month_day, time_alone}}
+use Rattle.ixdtf_grammar.specs.language.Readers.{Reader, CoreKind, has_brackets, CoreKind.{date_time, year_month, month_day, time_of_day}}
 use Rattle.ixdtf_grammar.specs.language.Readers.Reader.{bracketed, parse_offset, parse_identifier, parse_iana_identifier, parse_duration}
 use Rattle.ixdtf_grammar.specs.table.Before.{DateAndSeparator, BeforeDate, BeforeYearMonth, BeforeMonthDay, AtCoreEnd, ReadsAsTime, InTimeAlone}
 use Rattle.ixdtf_grammar.specs.table.Before.{BeforeTimeAlone, BeforeCore, InMonthDay, BeforeTime, BeforeOffset, BeforeOffsetLine, Opened, Bracketed}
@@ -78,7 +78,7 @@ in_time_alone profile time_reads_as_year_month = record {
 }
 
 before_time_alone : (kind : CoreKind) (line : TimeLine) → Stands (λ before rest. BeforeTimeAlone kind line before rest)
-before_time_alone (time_alone profile) line = in_time_alone profile line
+before_time_alone (time_of_day profile) line = in_time_alone profile line
 before_time_alone kind line = never
 
 before_core : (kind : CoreKind) (line : CoreLine) → Stands (λ before rest. BeforeCore kind line before rest)
@@ -94,13 +94,13 @@ plain_start = plain_some date_plain and_then plain_one
 
 before_time : (kind : CoreKind) (line : ClockLine) → PlainShape (BeforeTime kind line)
 before_time date_time line = plain_start
-before_time (time_alone profile) hour_start = plain_one
-before_time (time_alone profile) line = plain_mark
+before_time (time_of_day profile) hour_start = plain_one
+before_time (time_of_day profile) line = plain_mark
 before_time kind line = plain_nowhere
 
 before_offset : (kind : CoreKind) → PlainShape (BeforeOffset kind)
 before_offset date_time = plain_start and_then plain_some time_plain
-before_offset (time_alone profile) = plain_mark and_then plain_some time_plain
+before_offset (time_of_day profile) = plain_mark and_then plain_some time_plain
 before_offset kind = plain_nowhere
 
 before_offset_line : (kind : CoreKind) (line : OffsetLine) → PlainShape (BeforeOffsetLine kind line)

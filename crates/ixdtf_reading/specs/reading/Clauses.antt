@@ -123,7 +123,7 @@ pub record UnhandledForm (reader : Reader) (text : Text) (result : Result Parsed
   pub ok : (found : Parsed) → (result ≡ Ok found) ↔ UnhandledRecord reader text found
   pub err : IfErr result (λ fault. UnhandledFault reader text fault)
   pub no_row : OnOk result (NoRowFits reader text)
-  pub alone : OnOk result ((profile : Profile) → IsTextReader profile reader → InNoOther profile reader text)
+  pub no_other_reader : OnOk result ((profile : Profile) → IsTextReader profile reader → InNoOther profile reader text)
   pub only : IfErr result (λ fault. UnhandledOnlyFault reader text fault)
 
 -- a test held of a number that was handed back, or else the stop came

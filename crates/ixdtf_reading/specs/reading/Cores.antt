@@ -4,7 +4,7 @@ use Rattle.ixdtf_grammar.specs.declared.{profile.Profile.Profile, records.{DateR
 use Rattle.ixdtf_grammar.specs.declared.records.UtcOffsetRecordOrZ.TheVariants.{Offset, Z}
 use Rattle.ixdtf_grammar.specs.language.Letters.{Text, digit, sign, zulu, opening, date_time_separator, time_letter}
 use Rattle.ixdtf_grammar.specs.language.{Times.{Clock as clocks, writes_seconds}, Offsets.offset_of, Cores.{Core, core_of}, Readers.CoreKind}
-use Rattle.ixdtf_grammar.specs.language.Readers.CoreKind.{date_time, year_month, month_day, time_alone}
+use Rattle.ixdtf_grammar.specs.language.Readers.CoreKind.{date_time, year_month, month_day, time_of_day}
 use Rattle.ixdtf_grammar.specs.table.Faults.Fault.{NonAsciiCodePoint, InvalidEnd, TimeHour, AmbiguousTimeMonthDay, AmbiguousTimeYearMonth}
 use Rattle.ixdtf_grammar.specs.table.LineNames.{LineName, of_date, of_year_month, of_month_day, of_time, YearMonthLine.after_year_month}
 use Rattle.ixdtf_grammar.specs.table.LineNames.{MonthDayLine.after_month_day, TimeLine.{time_start, time_reads_as_month_day, time_reads_as_year_month}}
@@ -127,7 +127,7 @@ abbrev pub core_at : {E : Type 0} → (Row → E) → CoreKind → Text → Read
 core_at fault date_time text = date_time_core_at fault text
 core_at fault year_month text = date_alone_at fault (of_year_month after_year_month) (year_month_at fault text)
 core_at fault (month_day profile) text = date_alone_at fault (of_month_day (after_month_day profile)) (month_day_at fault profile text)
-core_at fault (time_alone profile) text = time_alone_core_at fault profile text
+core_at fault (time_of_day profile) text = time_alone_core_at fault profile text
 
 -- opening this opens the readings of a date and of what stands behind it, up to the end of its time
 unfoldable pub date_time_readings : ℕ

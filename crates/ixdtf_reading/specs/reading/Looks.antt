@@ -122,9 +122,9 @@ abbrev pub digits_at : {E : Type 0} → (Row → E) → LineName → ℕ → Tex
 digits_at fault name n text = digits_by (look_at_line fault name) n text
 
 -- the number of the digits that were read
-abbrev pub number_of : {E : Type 0} → Read E Text → Read E ℕ
-number_of (Ok x) = Ok (decimal x.0, x.1)
-number_of (Err e) = Err e
+abbrev pub as_number : {E : Type 0} → Read E Text → Read E ℕ
+as_number (Ok x) = Ok (decimal x.0, x.1)
+as_number (Err e) = Err e
 
 -- where the text may end: nothing, or the next code unit, taken
 abbrev pub peeked : {E : Type 0} → Look E → Option ℕ → Text → Read E (Option ℕ)

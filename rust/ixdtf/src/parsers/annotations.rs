@@ -32,12 +32,15 @@ pub fn parse_annotation_key<'a, T: EncodingType>(
 ) -> Result<&'a [T::CodeUnit], Stop> {
     let start = cursor.rest();
     let passed = pass_letters(cursor, KeyLetters)?;
+    // It always is there: with this test a compiler sees it too, and keeps no panic.
+    let Some(key) = start.get(..start.len() - cursor.rest().len()) else {
+        return Err(Stop::AnnotationKeyChar);
+    };
     match passed.next {
         None => Err(Stop::AnnotationKeyValueSeparator),
         Some(byte) if is_annotation_key_value_separator(byte) => {
-            cursor.step();
-            let behind = cursor.rest().len() + 1;
-            Ok(&start[..start.len().saturating_sub(behind)])
+            cursor.advance();
+            Ok(key)
         }
         Some(_) => Err(Stop::AnnotationKeyChar),
     }
@@ -60,7 +63,7 @@ impl Letters for ComponentLetters {
 fn start_component<'a, T: EncodingType>(cursor: &mut Cursor<'a, T>, other: Stop) -> Result<u8, Stop> {
     match cursor.look()? {
         Some(byte) if is_annotation_value_component(byte) => {
-            cursor.step();
+            cursor.advance();
             Ok(byte)
         }
         _ => Err(other),
@@ -79,11 +82,11 @@ pub fn parse_annotation_value<'a, T: EncodingType>(
         match component.next {
             None => return Err(Stop::AnnotationClose),
             Some(byte) if is_annotation_close(byte) => {
-                cursor.step();
+                cursor.advance();
                 let behind = cursor.rest().len() + 1;
                 return Ok(&start[..start.len().saturating_sub(behind)]);
             }
-            Some(byte) if is_hyphen(byte) => cursor.step(),
+            Some(byte) if is_hyphen(byte) => cursor.advance(),
             Some(_) => return Err(Stop::AnnotationValueChar),
         }
         start_component(cursor, Stop::AnnotationValueCharPostHyphen)?;
@@ -114,7 +117,7 @@ fn parse_later_pair<'a, T: EncodingType>(
 ) -> Result<Annotation<'a, T>, Stop> {
     match cursor.look()? {
         Some(byte) if is_critical_flag(byte) => {
-            cursor.step();
+            cursor.advance();
             parse_critical_pair(cursor)
         }
         Some(byte) if is_a_key_leading_char(byte) => parse_pair(cursor, false),
@@ -141,7 +144,7 @@ pub fn next_annotation<'a, T: EncodingType>(
     match cursor.look()? {
         None => Ok(None),
         Some(byte) if is_annotation_open(byte) => {
-            cursor.step();
+            cursor.advance();
             let annotation = parse_later_pair(cursor)?;
             Ok(Some(annotation))
         }

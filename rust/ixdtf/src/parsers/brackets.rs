@@ -2,7 +2,7 @@
 
 //! Reading the first bracket, which may name a zone.
 
-use crate::parsers::timezone::{NameState, parse_name_in_bracket, parse_offset_in_bracket, pass_name};
+use crate::parsers::zone::{NameState, parse_name_in_bracket, parse_offset_in_bracket, pass_name};
 use crate::encoding::EncodingType;
 use crate::records::{Annotation, TimeZoneAnnotation, TimeZoneRecord};
 use crate::parsers::annotations::{KeyLetters, parse_annotation_value};
@@ -28,7 +28,7 @@ pub fn parse_first_bracket<'a, T: EncodingType>(
     match cursor.look()? {
         None => Err(Stop::AbruptBracket),
         Some(byte) if is_critical_flag(byte) => {
-            cursor.step();
+            cursor.advance();
             parse_critical_bracket(cursor)
         }
         Some(byte) if is_ascii_sign(byte) || is_tz_leading_char(byte) => {
@@ -63,7 +63,7 @@ fn parse_inside<'a, T: EncodingType>(
         return parse_name_or_pair(cursor, critical);
     }
     let tz = if is_ascii_sign(lead) {
-        cursor.step();
+        cursor.advance();
         parse_offset_in_bracket(cursor, lead)?
     } else {
         TimeZoneRecord::Name(parse_name_in_bracket(cursor)?)
@@ -95,7 +95,7 @@ fn parse_name_or_pair<'a, T: EncodingType>(
     let behind_key = cursor.rest();
     let key = &start[..start.len().saturating_sub(behind_key.len())];
     if ends_key(passed.next) {
-        cursor.step();
+        cursor.advance();
         let value = parse_annotation_value(cursor)?;
         return Ok(Bracket::Pair(Annotation {
             critical,
@@ -106,7 +106,7 @@ fn parse_name_or_pair<'a, T: EncodingType>(
     let more = pass_name(cursor)?;
     if more.state.may_end && ends_bracket(more.next) {
         let count = start.len().saturating_sub(cursor.rest().len());
-        cursor.step();
+        cursor.advance();
         return Ok(Bracket::Zone(TimeZoneAnnotation {
             critical,
             tz: TimeZoneRecord::Name(&start[..count]),
@@ -115,7 +115,7 @@ fn parse_name_or_pair<'a, T: EncodingType>(
     if more.next.is_none() {
         return Err(Stop::AbruptBracket);
     }
-    let refused = refuse_bracket(cursor.take(), behind_key, more.state);
+    let refused = refuse_bracket(cursor.fork(), behind_key, more.state);
     *cursor = refused.there;
     Err(refused.stop)
 }
@@ -157,11 +157,11 @@ fn refuse_bracket<'a, T: EncodingType>(
             },
             Some(byte) if is_annotation_key_value_separator(byte) => Refused {
                 stop: Stop::AnnotationKeyChar,
-                there: ahead.at(behind_key),
+                there: ahead.fork_at(behind_key),
             },
             Some(_) => Refused {
                 stop: name.stop(),
-                there: ahead.at(behind_name),
+                there: ahead.fork_at(behind_name),
             },
         },
     }

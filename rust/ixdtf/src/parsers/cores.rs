@@ -19,8 +19,8 @@ use crate::parsers::months::{
 use crate::parsers::offsets::{offset_from, take_fixed_offset};
 use crate::parsers::time::{Clock, TimeShape, parse_after_second, parse_clock};
 
-/// Cores of one kind. What reads whole texts is generic in it, so that no code tests the kind when it runs.
-pub trait Cores {
+/// Reads cores of one kind. What reads whole texts is generic in it, so that no code tests the kind when it runs.
+pub trait CoreReader {
     /// Reads a core into an empty record, and returns whether a bracket follows, whose `[` is taken.
     fn parse_core<'a, T: EncodingType>(
         cursor: &mut Cursor<'a, T>,
@@ -32,7 +32,7 @@ pub trait Cores {
 /// A date, and a time and an offset where there are any.
 pub struct DateTimes;
 
-impl Cores for DateTimes {
+impl CoreReader for DateTimes {
     #[inline(always)]
     fn parse_core<'a, T: EncodingType>(
         cursor: &mut Cursor<'a, T>,
@@ -50,7 +50,7 @@ impl Cores for DateTimes {
 /// A year and a month, of which the record has the first day.
 pub struct YearMonths;
 
-impl Cores for YearMonths {
+impl CoreReader for YearMonths {
     #[inline(always)]
     fn parse_core<'a, T: EncodingType>(
         cursor: &mut Cursor<'a, T>,
@@ -66,7 +66,7 @@ impl Cores for YearMonths {
 /// A month and a day, of which the record has the year 0.
 pub struct MonthDays;
 
-impl Cores for MonthDays {
+impl CoreReader for MonthDays {
     #[inline(always)]
     fn parse_core<'a, T: EncodingType>(
         cursor: &mut Cursor<'a, T>,
@@ -80,9 +80,9 @@ impl Cores for MonthDays {
 }
 
 /// A time, and an offset where there is one.
-pub struct LoneTimes;
+pub struct Times;
 
-impl Cores for LoneTimes {
+impl CoreReader for Times {
     #[inline(always)]
     fn parse_core<'a, T: EncodingType>(
         cursor: &mut Cursor<'a, T>,
@@ -92,7 +92,7 @@ impl Cores for LoneTimes {
         let start = cursor.rest();
         match cursor.look()? {
             Some(byte) if is_time_designator(byte) => {
-                cursor.step();
+                cursor.advance();
                 parse_timed(cursor, found)
             }
             _ => {
@@ -128,7 +128,7 @@ fn parse_date_time<'a, T: EncodingType>(
             });
             match cursor.look()? {
                 Some(byte) if is_date_time_separator(byte) => {
-                    cursor.step();
+                    cursor.advance();
                     let shape = parse_clock(cursor, Clock::Time, time)?;
                     Ok(Some(shape))
                 }
@@ -159,13 +159,13 @@ fn check_front<'a, T: EncodingType>(
     start: &'a [T::CodeUnit],
     profile: Profile,
 ) -> Result<(), Stop> {
-    let mut front = cursor.at(start);
+    let mut front = cursor.fork_at(start);
     let month_day = parse_month_day_parts(&mut front, profile).is_ok();
     let behind_month_day = front.rest();
-    let mut again = front.at(start);
+    let mut again = front.fork_at(start);
     let year_month = parse_year_month_parts(&mut again).is_ok();
     if month_day {
-        *cursor = again.at(behind_month_day);
+        *cursor = again.fork_at(behind_month_day);
         return Err(Stop::AmbiguousTimeMonthDay);
     }
     if year_month {
@@ -185,11 +185,11 @@ fn parse_after_time<'a, T: EncodingType>(
     found.time = Some(time);
     match cursor.look()? {
         Some(byte) if is_ascii_sign(byte) => {
-            cursor.step();
+            cursor.advance();
             parse_signed(cursor, byte, found)
         }
         Some(byte) if is_utc_designator(byte) => {
-            cursor.step();
+            cursor.advance();
             found.offset = Some(UtcOffsetRecordOrZ::Z);
             close_core(cursor)
         }
@@ -208,15 +208,15 @@ fn parse_signed<'a, T: EncodingType>(
     if let Some(more) = take_fixed_offset(cursor, sign, &mut found.offset) {
         return Ok(more);
     }
-    let mut here = cursor.take();
-    let read = parse_any_offset(&mut here, sign, found);
+    let mut here = cursor.fork();
+    let read = parse_offset_part_by_part(&mut here, sign, found);
     *cursor = here;
     read
 }
 
 /// Reads an offset of any form after its sign. It is not inlined, since most texts have their offset at fixed places.
 #[inline(never)]
-fn parse_any_offset<'a, T: EncodingType>(
+fn parse_offset_part_by_part<'a, T: EncodingType>(
     cursor: &mut Cursor<'a, T>,
     sign: u8,
     found: &mut IxdtfParseRecord<'a, T>,
@@ -235,7 +235,7 @@ fn close_core<'a, T: EncodingType>(cursor: &mut Cursor<'a, T>) -> Result<bool, S
     match cursor.look()? {
         None => Ok(false),
         Some(byte) if is_annotation_open(byte) => {
-            cursor.step();
+            cursor.advance();
             Ok(true)
         }
         Some(_) => Err(Stop::InvalidEnd),

@@ -44,11 +44,11 @@ pub fn parse_date_year<'a, T: EncodingType>(cursor: &mut Cursor<'a, T>) -> Resul
     match cursor.look()? {
         None => Err(Stop::AbruptDigit),
         Some(byte) if byte.is_ascii_digit() => {
-            cursor.step();
+            cursor.advance();
             parse_four_digit_year(cursor, byte)
         }
         Some(byte) if is_ascii_sign(byte) => {
-            cursor.step();
+            cursor.advance();
             parse_extended_year(cursor, byte)
         }
         Some(_) => Err(Stop::DateYear),
@@ -122,7 +122,7 @@ pub fn take_hyphen<'a, T: EncodingType>(
     match cursor.look()? {
         None => Err(at_end),
         Some(byte) if is_hyphen(byte) => {
-            cursor.step();
+            cursor.advance();
             Ok(true)
         }
         Some(byte) if byte.is_ascii_digit() => Ok(false),
@@ -166,7 +166,7 @@ fn take_separator<'a, T: EncodingType>(
     if hyphened {
         return match next {
             Some(byte) if is_hyphen(byte) => {
-                cursor.step();
+                cursor.advance();
                 Ok(())
             }
             _ => Err(Stop::DateSeparator),

@@ -155,7 +155,7 @@ impl<'a, T: EncodingType> IsoDurationParser<'a, T> {
     /// - `InvalidEnd` at any other character after `P` or after a group;
     /// - `NonAsciiCodePoint` at a 16-bit code unit that is not from 1 to 126.
     pub fn parse(&mut self) -> ParserResult<DurationParseRecord> {
-        let mut here = self.cursor.take();
+        let mut here = self.cursor.fork();
         let read = parse_duration_text(&mut here, self.profile);
         self.cursor.settle(here, read)
     }
@@ -185,7 +185,7 @@ impl<'a, T: EncodingType> IsoDurationParser<'a, T> {
     ///
     /// Those of [`parse`](Self::parse), each with its place.
     pub fn parse_located(&mut self) -> Result<DurationParseRecord, LocatedError> {
-        let mut here = self.cursor.take();
+        let mut here = self.cursor.fork();
         let outcome = parse_duration_text(&mut here, self.profile);
         self.cursor.settle(here, outcome)
     }
@@ -226,7 +226,7 @@ fn parse_number<'a, T: EncodingType>(
             return Ok(Number { value, next: byte });
         }
         let grown = add_digit(value, byte);
-        cursor.step();
+        cursor.advance();
         value = grown?;
     }
     Err(end)
@@ -277,10 +277,10 @@ fn take_date_unit<'a, T: EncodingType>(
         if rank == 0 {
             return Err(Stop::AbruptDateDesignator);
         }
-        cursor.skip(1);
+        cursor.advance_by(1);
         return Err(Stop::DateDurationPartOrder);
     }
-    cursor.skip(1);
+    cursor.advance_by(1);
     if number.value > MOST_OF_LONG_UNITS && rank < 4 {
         return Err(Stop::DurationValueExceededRange);
     }
@@ -338,11 +338,11 @@ fn parse_dates<'a, T: EncodingType>(
                 });
             }
             Some(byte) if byte.is_ascii_digit() => {
-                cursor.step();
+                cursor.advance();
                 digit = byte;
             }
             Some(byte) if is_time_designator(byte) => {
-                cursor.step();
+                cursor.advance();
                 return Ok(Dates {
                     record: date_record(values),
                     timed: true,
@@ -401,10 +401,10 @@ fn take_time_unit<'a, T: EncodingType>(
         if rank == 0 {
             return Err(Stop::AbruptTimeDesignator);
         }
-        cursor.skip(1);
+        cursor.advance_by(1);
         return Err(Stop::TimeDurationPartOrder);
     }
-    cursor.skip(1);
+    cursor.advance_by(1);
     Ok(rank)
 }
 
@@ -462,7 +462,7 @@ fn parse_time_group<'a, T: EncodingType>(
 ) -> Result<TimeGroup, Stop> {
     let number = parse_number(cursor, first, Stop::AbruptTimeDesignator)?;
     if is_decimal_separator(number.next) {
-        cursor.skip(1);
+        cursor.advance_by(1);
         return parse_fraction_group(cursor, number.value);
     }
     Ok(TimeGroup {
@@ -490,7 +490,7 @@ fn parse_time_groups<'a, T: EncodingType>(
         match cursor.look()? {
             None => return Ok(time_record(values, rank, group.fraction)),
             Some(byte) if begins_time_group(byte, group.fraction) => {
-                cursor.step();
+                cursor.advance();
                 digit = byte;
             }
             Some(_) => return Err(Stop::InvalidEnd),
@@ -508,7 +508,7 @@ fn parse_times<'a, T: EncodingType>(
 ) -> Result<DurationParseRecord, Stop> {
     match cursor.look()? {
         Some(byte) if byte.is_ascii_digit() => {
-            cursor.step();
+            cursor.advance();
             match parse_time_groups(cursor, byte, profile) {
                 Ok(time) => Ok(DurationParseRecord {
                     sign,
@@ -533,7 +533,7 @@ fn parse_designator<'a, T: EncodingType>(
     match cursor.look()? {
         None => Err(Stop::AbruptDurationDesignator),
         Some(byte) if is_duration_designator(byte) => {
-            cursor.step();
+            cursor.advance();
             Ok(sign)
         }
         Some(_) => Err(Stop::DurationDisgnator),
@@ -546,11 +546,11 @@ fn parse_opening<'a, T: EncodingType>(cursor: &mut Cursor<'a, T>) -> Result<Sign
     match cursor.look()? {
         None => Err(Stop::AbruptDurationStart),
         Some(byte) if is_ascii_sign(byte) => {
-            cursor.step();
+            cursor.advance();
             parse_designator(cursor, sign_from(byte))
         }
         Some(byte) if is_duration_designator(byte) => {
-            cursor.step();
+            cursor.advance();
             Ok(Sign::Positive)
         }
         Some(_) => Err(Stop::DurationDisgnator),
@@ -586,11 +586,11 @@ fn parse_after_designator<'a, T: EncodingType>(
     match cursor.look()? {
         None => Err(Stop::AbruptDuration),
         Some(byte) if is_time_designator(byte) => {
-            cursor.step();
+            cursor.advance();
             parse_times(cursor, sign, None, profile)
         }
         Some(byte) if byte.is_ascii_digit() => {
-            cursor.step();
+            cursor.advance();
             parse_dated(cursor, sign, byte, profile)
         }
         Some(_) => Err(Stop::InvalidEnd),

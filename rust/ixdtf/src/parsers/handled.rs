@@ -2,7 +2,7 @@
 
 //! The forms of [`IxdtfParser`] with a handler.
 
-use crate::parsers::{Cores, DateTimes, IxdtfParser, LoneTimes, MonthDays, Raised, YearMonths};
+use crate::parsers::{Cores, DateTimes, FromStop, IxdtfParser, MonthDays, Times, YearMonths};
 use crate::{LocatedError, ParseError, ParserResult};
 use crate::encoding::EncodingType;
 use crate::records::{Annotation, IxdtfParseRecord};
@@ -157,7 +157,7 @@ impl<'a, T: EncodingType> IxdtfParser<'a, T> {
     where
         F: FnMut(Annotation<'a, T>) -> Option<Annotation<'a, T>>,
     {
-        self.read_as::<ParseError, LoneTimes, F>(handler)
+        self.read_as::<ParseError, Times, F>(handler)
     }
 
     /// Reads as [`parse_with_annotation_handler`](Self::parse_with_annotation_handler) does, and returns an error with its
@@ -257,13 +257,13 @@ impl<'a, T: EncodingType> IxdtfParser<'a, T> {
     where
         F: FnMut(Annotation<'a, T>) -> Option<Annotation<'a, T>>,
     {
-        self.read_as::<LocatedError, LoneTimes, F>(handler)
+        self.read_as::<LocatedError, Times, F>(handler)
     }
 
     /// Reads a text with a core of the kind, as [`parse_with_annotation_handler`](Self::parse_with_annotation_handler)
     /// does, with an error made of a stop.
     #[inline(always)]
-    pub(crate) fn read_as<E: Raised, C: Cores, F>(
+    pub(crate) fn read_as<E: FromStop, C: CoreReader, F>(
         &mut self,
         mut handler: F,
     ) -> Result<IxdtfParseRecord<'a, T>, E>
@@ -288,7 +288,7 @@ impl<'a, T: EncodingType> IxdtfParser<'a, T> {
     /// Those of the reader of the kind, with a handler.
     #[doc(hidden)]
     #[inline(always)]
-    pub fn read_by_reference<E: Raised, C: Cores, F>(
+    pub fn read_lending_handler<E: FromStop, C: CoreReader, F>(
         &mut self,
         handler: &mut F,
     ) -> Result<IxdtfParseRecord<'a, T>, E>

@@ -24,7 +24,7 @@ pub fn pass_letters<'a, T: EncodingType, S: Letters>(
     cursor: &mut Cursor<'a, T>,
     first: S,
 ) -> Result<Passed<S>, Stop> {
-    let mut here = cursor.take();
+    let mut here = cursor.fork();
     let mut state = first;
     let found = loop {
         match here.look() {
@@ -33,7 +33,7 @@ pub fn pass_letters<'a, T: EncodingType, S: Letters>(
             Ok(Some(byte)) => match state.go_on(byte) {
                 None => break Ok(Some(byte)),
                 Some(next) => {
-                    here.step();
+                    here.advance();
                     state = next;
                 }
             },

@@ -83,7 +83,7 @@ fn take_marks<'a, T: EncodingType>(cursor: &mut Cursor<'a, T>) -> Result<bool, S
     match cursor.look()? {
         None => Err(Stop::AbruptMonthDay),
         Some(byte) if is_hyphen(byte) => {
-            cursor.step();
+            cursor.advance();
             Ok(true)
         }
         Some(_) => Err(Stop::MonthDayHyphen),

@@ -67,7 +67,7 @@ pub fn take_fixed_offset<'a, T: EncodingType>(
     }
     let offset = fixed_offset(cursor, sign)?;
     if cursor.remaining() == 5 {
-        cursor.skip(5);
+        cursor.advance_by(5);
         *found = Some(UtcOffsetRecordOrZ::Offset(UtcOffsetRecord::MinutePrecision(offset)));
         return Some(false);
     }
@@ -75,7 +75,7 @@ pub fn take_fixed_offset<'a, T: EncodingType>(
     if !is_annotation_open(next) {
         return None;
     }
-    cursor.skip(6);
+    cursor.advance_by(6);
     *found = Some(UtcOffsetRecordOrZ::Offset(UtcOffsetRecord::MinutePrecision(offset)));
     Some(true)
 }
@@ -91,7 +91,7 @@ pub fn take_last_offset<'a, T: EncodingType>(
         return None;
     }
     let offset = fixed_offset(cursor, sign)?;
-    cursor.skip(5);
+    cursor.advance_by(5);
     Some(offset)
 }
 
@@ -119,7 +119,7 @@ pub fn parse_offset_text<'a, T: EncodingType>(
     match cursor.look()? {
         None => Err(Stop::AbruptOffset),
         Some(byte) if is_ascii_sign(byte) => {
-            cursor.step();
+            cursor.advance();
             if let Some(offset) = take_last_offset(cursor, byte) {
                 return Ok(UtcOffsetRecord::MinutePrecision(offset));
             }

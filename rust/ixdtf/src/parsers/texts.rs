@@ -2,7 +2,7 @@
 
 //! Reading whole texts: a core, a first bracket and the brackets after it.
 
-use crate::parsers::cores::Cores;
+use crate::parsers::cores::CoreReader;
 use crate::parsers::replies::parse_annotations;
 use crate::parsers::brackets::{Bracket, parse_first_bracket};
 use crate::encoding::EncodingType;
@@ -13,7 +13,7 @@ use crate::stop::Stop;
 
 /// Reads a core of the kind under the profile, and the brackets after it to the end of the input, into an empty record.
 /// The handler is called with each annotation of a key and a value.
-pub fn parse_text<'a, T: EncodingType, C: Cores, F>(
+pub fn parse_text<'a, T: EncodingType, C: CoreReader, F>(
     cursor: &mut Cursor<'a, T>,
     profile: Profile,
     handler: &mut F,
@@ -22,7 +22,7 @@ pub fn parse_text<'a, T: EncodingType, C: Cores, F>(
 where
     F: FnMut(Annotation<'a, T>) -> Option<Annotation<'a, T>>,
 {
-    let mut here = cursor.take();
+    let mut here = cursor.fork();
     let read = C::parse_core(&mut here, profile, found);
     *cursor = here;
     if !read? {
@@ -41,11 +41,11 @@ fn parse_brackets<'a, T: EncodingType, F>(
 where
     F: FnMut(Annotation<'a, T>) -> Option<Annotation<'a, T>>,
 {
-    let mut here = cursor.take();
+    let mut here = cursor.fork();
     let bracket = parse_first_bracket(&mut here);
     *cursor = here;
     let first = place_bracket(bracket?, found);
-    let mut here = cursor.take();
+    let mut here = cursor.fork();
     let calendar = parse_annotations::<T, F>(&mut here, first, handler);
     *cursor = here;
     place_calendar(calendar?, found);

@@ -111,7 +111,7 @@ pub fn parse_clock<'a, T: EncodingType>(
     let hour = check_most(digits_value(tens, ones), 23, Stop::TimeHour)?;
     match cursor.look()? {
         Some(byte) if is_time_separator(byte) => {
-            cursor.step();
+            cursor.advance();
             parse_minute(cursor, clock, true, hour, time)
         }
         Some(byte) if byte.is_ascii_digit() => parse_basic_minute(cursor, clock, hour, time),
@@ -130,7 +130,7 @@ fn parse_basic_minute<'a, T: EncodingType>(
     hour: u8,
     time: &mut TimeRecord,
 ) -> Result<TimeShape, Stop> {
-    let mut here = cursor.take();
+    let mut here = cursor.fork();
     let mut there = *time;
     let read = parse_basic_rest(&mut here, clock, hour, &mut there);
     *cursor = here;
@@ -163,7 +163,7 @@ fn parse_minute<'a, T: EncodingType>(
     match cursor.look()? {
         Some(byte) if clock.starts_second(colons, byte) => {
             if colons {
-                cursor.step();
+                cursor.advance();
             }
             parse_second(cursor, clock, hour, minute, time)
         }
@@ -212,7 +212,7 @@ pub fn parse_after_second<'a, T: EncodingType>(
 ) -> Result<TimeShape, Stop> {
     match cursor.look()? {
         Some(byte) if is_decimal_separator(byte) => {
-            cursor.step();
+            cursor.advance();
             let fraction = parse_fraction(cursor)?;
             write_time(time, hour, minute, second, Some(fraction));
             Ok(TimeShape::Fractions)
@@ -227,7 +227,7 @@ pub fn parse_after_second<'a, T: EncodingType>(
 /// Reads the digits of a fraction after its decimal mark: `FractionPart` where there is none.
 #[inline(always)]
 pub fn parse_fraction<'a, T: EncodingType>(cursor: &mut Cursor<'a, T>) -> Result<Fraction, Stop> {
-    let mut here = cursor.take();
+    let mut here = cursor.fork();
     let read = parse_digits(&mut here);
     *cursor = here;
     read
@@ -236,10 +236,10 @@ pub fn parse_fraction<'a, T: EncodingType>(cursor: &mut Cursor<'a, T>) -> Result
 /// Reads the digits of a fraction. It is not inlined: few texts have one.
 #[inline(never)]
 fn parse_digits<'a, T: EncodingType>(cursor: &mut Cursor<'a, T>) -> Result<Fraction, Stop> {
-    let mut here = cursor.take();
+    let mut here = cursor.fork();
     let read = match here.look() {
         Ok(Some(byte)) if byte.is_ascii_digit() => {
-            here.step();
+            here.advance();
             parse_more_digits(&mut here, byte)
         }
         Ok(_) => Err(Stop::FractionPart),
@@ -259,7 +259,7 @@ fn parse_more_digits<'a, T: EncodingType>(
     while fraction.is_short() {
         match cursor.look()? {
             Some(byte) if byte.is_ascii_digit() => {
-                cursor.step();
+                cursor.advance();
                 fraction = fraction.with_digit(byte);
             }
             _ => return Ok(fraction),
@@ -279,7 +279,7 @@ fn count_more_digits<'a, T: EncodingType>(
         if !byte.is_ascii_digit() {
             break;
         }
-        cursor.step();
+        cursor.advance();
         fraction = fraction.with_more();
     }
     Ok(fraction)

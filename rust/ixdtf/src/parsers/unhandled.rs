@@ -2,7 +2,7 @@
 
 //! The forms of [`IxdtfParser`] without a handler.
 
-use crate::parsers::{Cores, DateTimes, IxdtfParser, LoneTimes, MonthDays, YearMonths};
+use crate::parsers::{Cores, DateTimes, IxdtfParser, MonthDays, Times, YearMonths};
 use crate::{LocatedError, ParserResult};
 use crate::encoding::EncodingType;
 use crate::records::IxdtfParseRecord;
@@ -245,7 +245,7 @@ impl<'a, T: EncodingType> IxdtfParser<'a, T> {
     #[inline(always)]
     pub fn parse_time(&mut self) -> ParserResult<IxdtfParseRecord<'a, T>> {
         let mut found = IxdtfParseRecord::default();
-        match self.read_unhandled::<LoneTimes>(&mut found) {
+        match self.read_unhandled::<Times>(&mut found) {
             Ok(()) => Ok(found),
             Err(why) => return Err(why.stop.error()),
         }
@@ -380,7 +380,7 @@ impl<'a, T: EncodingType> IxdtfParser<'a, T> {
     #[inline(always)]
     pub fn parse_time_located(&mut self) -> Result<IxdtfParseRecord<'a, T>, LocatedError> {
         let mut parsed = IxdtfParseRecord::default();
-        match self.read_unhandled::<LoneTimes>(&mut parsed) {
+        match self.read_unhandled::<Times>(&mut parsed) {
             Ok(()) => Ok(parsed),
             Err(why) => return Err(LocatedError {
                 error: why.stop.error(),
@@ -391,7 +391,7 @@ impl<'a, T: EncodingType> IxdtfParser<'a, T> {
 
     /// Reads as [`read_into`](Self::read_into) does, with a handler that returns each annotation.
     #[inline(always)]
-    fn read_unhandled<C: Cores>(
+    fn read_unhandled<C: CoreReader>(
         &mut self,
         found: &mut IxdtfParseRecord<'a, T>,
     ) -> Result<(), StopAt> {

@@ -1,13 +1,10 @@
 -- The function only passes its arguments on to `parse_unanswered_as`, at the public error. Assumes `Logic`.
-use Rattle.ixdtf.proofs.code.RaisedErrors.{refl, subst, named, sep, via, id⊢, fst∗, snd∗, Lft, Tables, ⊑_refl, ⊑_static, Lfts, fact, fact_use, tables}
-use Rattle.ixdtf.proofs.code.RaisedErrors.{tables_of, Denots, param, NamedLft, types_at, implements, insides_in, with_fact, SpecAt, run_framed, hands_on}
-use Rattle.ixdtf.proofs.code.RaisedErrors.{taken, taken_laws, Under, Got, lands}
 use denote.Param.Members as Members
 use Rattle.ixdtf_grammar.specs.contracts.error.ParseError
 use Rattle.ixdtf_grammar.proofs.error.ParseError.TheLaws as error_laws
 use Rattle.ixdtf.specs.contracts.parsers.IxdtfParser
-use Rattle.ixdtf_reading.specs.contracts.stop.ParseErrorRaised.TheImpl as raises
-use Rattle.ixdtf_reading.proofs.stop.ParseErrorRaised.TheImpl.Met as raises_met
+use Rattle.ixdtf_reading.specs.contracts.stop.ParseErrorFromStop.TheImpl as raises
+use Rattle.ixdtf_reading.proofs.stop.ParseErrorFromStop.TheImpl.Met as raises_met
 use Rattle.ixdtf.specs.contracts.laws.parse_unanswered as R
 use Rattle.ixdtf.specs.contracts.laws.parse_unanswered_as as G
 use Rattle.ixdtf.specs.contracts.laws.parse_unanswered_as.F-FnMut as GM
@@ -15,6 +12,9 @@ use Rattle.ixdtf.specs.contracts.laws.parse_unanswered_as.F-FnOnce as GO
 use Rattle.ixdtf.proofs.laws.parse_unanswered_as.Met as G_met
 use Rattle.ixdtf.proofs.laws.parse_unanswered.Statement as stated
 use Rattle.ixdtf.proofs.laws.parse_unanswered.Code as code
+use Rattle.ixdtf.proofs.code.RaisedErrors.{refl, subst, named, sep, via, id⊢, fst∗, snd∗, Lft, Tables, ⊑_refl, ⊑_static, Lfts, fact, fact_use, tables}
+use Rattle.ixdtf.proofs.code.RaisedErrors.{tables_of, Denots, param, NamedLft, types_at, implements, insides_in, with_fact, SpecAt, run_framed, hands_on}
+use Rattle.ixdtf.proofs.code.RaisedErrors.{taken, taken_laws, Under, Got, lands}
 
 pub parse_unanswered_spec : {M : Type 1} → stated.statement M
 unfolding tables_of
@@ -52,7 +52,7 @@ parse_unanswered_spec {M} 𝓤 𝓛 𝓜 𝓡 wired T' F U LT LF LU g₀ d₀ g�
     (λ τs a x r. id⊢ 𝓤 _)
     (G_met.met 𝓤 𝓛 𝓜 𝓡 (code.calls-ixdtf::laws::parse_unanswered_as 𝓡.env wired) T' E F U LT (taken_laws ParseError.the_row error_laws.the_row_laws refl) LF LU g₀ d₀ gₛ dₛ g₁ d₁ g₂ d₂ g₃ d₃ raises.ghosts
     raises.dict g d d' d'' d₄ Q b₀ bₛ b₁ b₂ b₃
-    (raises_met.passed 𝓡.env (code.calls-ixdtf_reading::stop::ParseErrorRaised::of_stop 𝓡.env wired) M 𝓤 𝓛 𝓜 𝓡)
+    (raises_met.passed 𝓡.env (code.calls-ixdtf_reading::stop::ParseErrorFromStop::of_stop 𝓡.env wired) M 𝓤 𝓛 𝓜 𝓡)
     (λ κs p. subst (λ (β : Lft). GM.Met 𝓛 𝓜 𝓡 𝓡.env β T' E F U g d × GM.Lawful T' E F U g) p.2 (b p.0 p.1))
     (λ κs p. subst (λ (β : Lft). GO.Met 𝓛 𝓜 𝓡 𝓡.env β T' E F U (Members.once g) d') p.2 (b' p.0 p.1))
     b'' b₄))

@@ -1,6 +1,6 @@
-use Rattle.ixdtf_reading.proofs.theorems.OneUnhandledOutcome.{one_unhandled_outcome}
-use Rattle.ixdtf_reading.proofs.widths.Widths.{same_where_shared, fault_where_not_shared, same_place_where_shared, place_where_not_shared, non_ascii_is_first, non_ascii_is_wide}
 use Rattle.ixdtf.proofs.laws.widths_agree.Goals as goal
+use Rattle.ixdtf_reading.proofs.{theorems.OneUnhandledOutcome.one_unhandled_outcome, widths.Widths.{same_where_shared, fault_where_not_shared}}
+use Rattle.ixdtf_reading.proofs.widths.Widths.{same_place_where_shared, place_where_not_shared, non_ascii_is_first, non_ascii_is_wide}
 
 pub returns : goal.returns
 returns c =

@@ -1,10 +1,9 @@
 -- A text that is read, and one that is refused.
-use Rattle.ixdtf.specs.table.Faults.{fault_of}
-use Rattle.ixdtf_answers.specs.Answer.{error_answer_of}
-use Rattle.std.proofs.Common.{codes, ◌++◌}
-use Rattle.ixdtf_answers.specs.Found.{found_of, shown_in}
-use Rattle.ixdtf_answers.proofs.AnswerLemmas.{IsAnswer-word, IsReaderAnswer-word, IsOutcome-error, IsOutcome-ok}
 use Rattle.ixdtf_answers.proofs.answer.answer_to_short.Goals as goal
+use Rattle.ixdtf.specs.table.Faults.{fault_of}
+use Rattle.ixdtf_answers.specs.{Answer.error_answer_of, Found.{found_of, shown_in}}
+use Rattle.ixdtf_answers.proofs.AnswerLemmas.{IsAnswer-word, IsReaderAnswer-word, IsOutcome-error, IsOutcome-ok}
+use Rattle.std.proofs.Common.{codes, ◌++◌}
 
 pub returns-in-Err : goal.returns-in-Err
 returns-in-Err c =

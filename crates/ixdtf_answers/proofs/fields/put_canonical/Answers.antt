@@ -1,8 +1,8 @@
 -- The canonical text fits into the array.
+use Rattle.ixdtf_answers.proofs.fields.put_canonical.Goals as goal
 use Rattle.std.proofs.Common.{arith, append-nil}
 use Rattle.ixdtf.specs.Views.{parsed_of}
 use Rattle.ixdtf_answers.proofs.PrintedLemmas.{no_refusal, spelled_bytes}
-use Rattle.ixdtf_answers.proofs.fields.put_canonical.Goals as goal
 
 pub unreachable-requires : goal.unreachable-requires
 unreachable-requires g c =

@@ -1,6 +1,6 @@
 -- The exits of putting an offset with seconds.
-use Rattle.ixdtf_buffers.proofs.OutputLemmas.{Puts-after, Puts-exit}
 use Rattle.ixdtf_answers.proofs.fields.put_full_offset.Goals as goal
+use Rattle.ixdtf_buffers.proofs.OutputLemmas.{Puts-after, Puts-exit}
 
 pub returns-in_err-put_minute_offset : goal.returns-in_err-put_minute_offset
 returns-in_err-put_minute_offset g c = Puts-exit _ c.from_residual.ensures.1 c.in_err-put_minute_offset.ensures

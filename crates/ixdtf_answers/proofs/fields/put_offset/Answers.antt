@@ -1,6 +1,6 @@
 -- The exits of putting an offset.
-use Rattle.ixdtf_buffers.proofs.OutputLemmas.{Puts-after, Puts-exit}
 use Rattle.ixdtf_answers.proofs.fields.put_offset.Goals as goal
+use Rattle.ixdtf_buffers.proofs.OutputLemmas.{Puts-after, Puts-exit}
 
 pub returns-in_err-put : goal.returns-in_err-put
 returns-in_err-put g c = Puts-exit _ c.from_residual.ensures.1 c.in_err-put.ensures

@@ -1,6 +1,6 @@
 -- The exits of putting the fields of a record.
-use Rattle.ixdtf_buffers.proofs.OutputLemmas.{Puts-after, Puts-exit}
 use Rattle.ixdtf_answers.proofs.fields.put_record.Goals as goal
+use Rattle.ixdtf_buffers.proofs.OutputLemmas.{Puts-after, Puts-exit}
 
 pub returns-in_err-put_date_field : goal.returns-in_err-put_date_field
 returns-in_err-put_date_field g c = Puts-exit _ c.from_residual.ensures.1 c.in_err-put_date_field.ensures

@@ -1,7 +1,7 @@
 -- The exits of putting a zone and its flag.
+use Rattle.ixdtf_answers.proofs.fields.put_zone.Goals as goal
 use Rattle.std.proofs.lemmas.List.{map-id}
 use Rattle.ixdtf_buffers.proofs.OutputLemmas.{Puts-after, Puts-exit}
-use Rattle.ixdtf_answers.proofs.fields.put_zone.Goals as goal
 
 pub returns-in_err-put_zone_label : goal.returns-in_err-put_zone_label
 returns-in_err-put_zone_label g c = Puts-exit _ c.from_residual.ensures.1 c.in_err-put_zone_label.ensures

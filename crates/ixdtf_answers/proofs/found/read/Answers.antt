@@ -1,12 +1,10 @@
 -- What each reader returned, and what it refused.
+use Rattle.ixdtf_answers.proofs.found.read.Goals as goal
 use Rattle.std.proofs.Common.{refl, map}
-use Rattle.ixdtf.specs.Views.{parsed_of, zone_of}
-use Rattle.ixdtf.specs.table.Faults.{fault_of}
-use Rattle.ixdtf.specs.language.Languages.Found.{parsed, shifted, identified, named, lasting}
+use Rattle.ixdtf.specs.{Views.{parsed_of, zone_of}, table.Faults.fault_of, language.Languages.Found.{parsed, shifted, identified, named, lasting}}
 use Rattle.ixdtf.specs.language.Readers.{parse, parse_year_month, parse_month_day, parse_time}
 use Rattle.ixdtf.specs.language.Readers.Reader.{parse_offset, parse_identifier, parse_iana_identifier, parse_duration}
 use Rattle.ixdtf_answers.proofs.AnswerLemmas.{Gives-text, Refuses-text, Gives-under, Refuses-under}
-use Rattle.ixdtf_answers.proofs.found.read.Goals as goal
 
 pub returns-in-Ok-clause-ok : goal.returns-in-Ok-clause-ok
 returns-in-Ok-clause-ok c =

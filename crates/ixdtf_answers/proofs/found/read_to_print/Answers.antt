@@ -1,8 +1,8 @@
 -- A record that is read from a line fits.
+use Rattle.ixdtf_answers.proofs.found.read_to_print.Goals as goal
 use Rattle.std.proofs.Common.{refl}
 use Rattle.ixdtf.specs.Views.{parsed_of}
 use Rattle.ixdtf_answers.proofs.PrintedLemmas.{read_fits}
-use Rattle.ixdtf_answers.proofs.found.read_to_print.Goals as goal
 
 pub invariant_of-result : goal.invariant_of-result
 invariant_of-result c =

@@ -1,9 +1,9 @@
 -- Read after read.
+use Rattle.ixdtf_answers.proofs.runner.answer_all.Given as goal
 use Rattle.std.proofs.Common.{◌≡◌, ℕ, List}
 use Rattle.std.specs.Io.KnownBytes.{Consumes}
 use Rattle.ixdtf_buffers.specs.Output.{written}
 use Rattle.ixdtf_answers.specs.Progress.{Rests}
-use Rattle.ixdtf_answers.proofs.runner.answer_all.Given as goal
 
 -- what was read is known, the answers to its ended lines are written, and no byte waits; the writer is the same
 abbrev pub invariant-reads : goal.invariant-reads

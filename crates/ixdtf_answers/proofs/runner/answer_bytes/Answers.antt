@@ -1,13 +1,10 @@
 -- Line after line, and the bytes behind the last newline.
-use Rattle.std.proofs.Common.{[], ◌≡◌, ◌+◌, ◌-◌, ◌++◌, length, take, drop, arith, refl, sym, ap, subst, ◌∙◌, append_assoc}
-use Rattle.std.proofs.lemmas.List.{append-nil, take_all, length-drop, take-append-drop}
-use Rattle.std.proofs.lemmas.Result.{err_from_is_err_and}
-use Rattle.ixdtf_buffers.specs.Lines.{ended_lines_of, unended_of}
-use Rattle.ixdtf_buffers.specs.Output.{written}
-use Rattle.ixdtf_answers.specs.Progress.{Stands}
-use Rattle.ixdtf_answers.specs.Run.{WritesFront}
-use Rattle.ixdtf_answers.proofs.Progress.{Stands-line, Stands-rest, Stands-rests, Rests-handed, WritesFront-line}
 use Rattle.ixdtf_answers.proofs.runner.answer_bytes.Goals as goal
+use Rattle.std.proofs.Common.{[], ◌≡◌, ◌+◌, ◌-◌, ◌++◌, length, take, drop, arith, refl, sym, ap, subst, ◌∙◌, append_assoc}
+use Rattle.std.proofs.lemmas.{List.{append-nil, take_all, length-drop, take-append-drop}, Result.err_from_is_err_and}
+use Rattle.ixdtf_buffers.specs.{Lines.{ended_lines_of, unended_of}, Output.written}
+use Rattle.ixdtf_answers.specs.{Progress.Stands, Run.WritesFront}
+use Rattle.ixdtf_answers.proofs.Progress.{Stands-line, Stands-rest, Stands-rests, Rests-handed, WritesFront-line}
 
 pub lines-init : goal.lines-init
 lines-init g c = ([], refl, refl, λ start read rests. subst (Stands _ start _ _) (sym (append-nil read)) (Stands-rests rests))

@@ -1,7 +1,7 @@
 -- Line after line.
+use Rattle.ixdtf_answers.proofs.runner.answer_bytes.Given as goal
 use Rattle.std.proofs.Common.{◌≡◌, ℕ, List, ◌++◌, length, Option}
 use Rattle.ixdtf_answers.specs.Progress.{Stands, Rests}
-use Rattle.ixdtf_answers.proofs.runner.answer_bytes.Given as goal
 
 -- the lines that end in a prefix of the bytes were answered, and the writer is the same
 abbrev pub invariant-lines : goal.invariant-lines

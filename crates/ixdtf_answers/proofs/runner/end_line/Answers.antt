@@ -1,9 +1,8 @@
 -- A line ends.
-use Rattle.std.proofs.Common.{◌++◌}
-use Rattle.std.proofs.lemmas.Result.{err_from_is_err_and}
+use Rattle.ixdtf_answers.proofs.runner.end_line.Goals as goal
+use Rattle.std.proofs.{Common.◌++◌, lemmas.Result.err_from_is_err_and}
 use Rattle.ixdtf_answers.specs.AnswerText.{answer_text_of}
 use Rattle.ixdtf_answers.proofs.Progress.{TakesAnswers-more, WritesFront-more}
-use Rattle.ixdtf_answers.proofs.runner.end_line.Goals as goal
 
 pub returns-in_err-put_answer-clause-answers : goal.returns-in_err-put_answer-clause-answers
 returns-in_err-put_answer-clause-answers g c = λ start lines text holds takes.

@@ -1,10 +1,9 @@
 -- No byte, and some, after the last newline.
-use Rattle.std.proofs.Common.{◌≢◌, [], sym, ◌∙◌, true≢false}
-use Rattle.std.proofs.lemmas.Result.{err_from_is_err_and}
-use Rattle.ixdtf_answers.specs.AnswerText.{answer_text_of}
-use Rattle.ixdtf_buffers.specs.Lines.{unended_of}
-use Rattle.ixdtf_answers.proofs.Progress.{Takes-ended, Takes-last, WritesFront-last, handed_on}
 use Rattle.ixdtf_answers.proofs.runner.finish.Goals as goal
+use Rattle.std.proofs.{Common.{◌≢◌, [], sym, ◌∙◌, true≢false}, lemmas.Result.err_from_is_err_and}
+use Rattle.ixdtf_answers.specs.AnswerText.{answer_text_of}
+use Rattle.ixdtf_answers.proofs.Progress.{Takes-ended, Takes-last, WritesFront-last, handed_on}
+use Rattle.ixdtf_buffers.specs.Lines.{unended_of}
 
 pub returns-then-is_empty-clause-answers : goal.returns-then-is_empty-clause-answers
 returns-then-is_empty-clause-answers g c = λ start read rests.

@@ -16,14 +16,14 @@ pub returns-in_err-value-clause-bracket : goal.returns-in_err-value-clause-brack
 returns-in_err-value-clause-bracket g c =
     let p = err_from_is_err_and c.from_residual-in_err-value.result c.from_residual-in_err-value.ensures.1 in
     rw (p.1, p.2) (value_failed _ _ _ _ _ c.in_ok-passed.ensures.letters.2 (sym c.ends_key.ensures ∙ c.if-ends_key.true) _
-    (rw c.step.ensures.letters at c.in_err-value.ensures.value))
+    (rw c.advance.ensures.letters at c.in_err-value.ensures.value))
 
 pub returns-then-ends_key-clause-bracket : goal.returns-then-ends_key-clause-bracket
 returns-then-ends_key-clause-bracket g c =
     let keys = c.in_ok-passed.ensures.letters in
     let front = front_is g.T.EncodingType.number c.rest-start.result.now c.rest-behind_key.result.now keys.0 c.pass_letters.new.cursor.rest _ c.rest-start.ensures
     keys.1 c.rest-behind_key.ensures in
-    rw (c.saturating_sub.ensures, front) (pair_read _ _ _ _ _ keys.2 (sym c.ends_key.ensures ∙ c.if-ends_key.true) _ _ (rw c.step.ensures.letters at c.in_ok-value.ensures.value))
+    rw (c.saturating_sub.ensures, front) (pair_read _ _ _ _ _ keys.2 (sym c.ends_key.ensures ∙ c.if-ends_key.true) _ _ (rw c.advance.ensures.letters at c.in_ok-value.ensures.value))
 
 pub returns-in_err-more-clause-bracket : goal.returns-in_err-more-clause-bracket
 returns-in_err-more-clause-bracket g c =
@@ -41,7 +41,7 @@ returns-then-ends_bracket-clause-bracket g c =
     split c.rest.ensures in
     let is : (c.in_ok-more.more.state.may_end && next_is closing c.in_ok-more.more.next) ≡ true =
     rw c.if-more.true (sym c.ends_bracket.ensures ∙ c.if-ends_bracket.true) in
-    rw (c.saturating_sub-count.ensures, front, c.step-then-ends_bracket.ensures.letters) (name_read _ _ _ _ _ keys.2 _ _ passed.2 is)
+    rw (c.saturating_sub-count.ensures, front, c.advance-then-ends_bracket.ensures.letters) (name_read _ _ _ _ _ keys.2 _ _ passed.2 is)
 
 -- the text ends in the bracket
 pub returns-then-is_none-clause-bracket : goal.returns-then-is_none-clause-bracket
@@ -60,13 +60,13 @@ returns-clause-bracket g c =
     name_refuses _ _ _ _ _ c.in_ok-passed.ensures.letters.2 _ _ passed.2 (sym c.ends_key.ensures ∙ c.if-ends_key.false) is
     ∙ ap Err (ap (λ (units : List ℕ). refusal (sight_at error_of (map letter c.pass_name.new.cursor.rest))
     (name_fault c.in_ok-more.more.state.may_end) (map letter units) (map letter c.pass_name.new.cursor.rest)) (sym c.rest-behind_key.ensures)
-    ∙ sym (rw c.take.ensures.same at c.refuse_bracket-refused.ensures.stop))
+    ∙ sym (rw c.fork.ensures.same at c.refuse_bracket-refused.ensures.stop))
 
 pub returns-clause-looks : goal.returns-clause-looks
 returns-clause-looks g c =
     let key : length c.rest-behind_key.result.now ≡ length c.pass_letters.new.cursor.rest =
     sym (length-map c.rest-behind_key.result.now g.T.EncodingType.number) ∙ ap (λ (t : List ℕ). length t) c.rest-behind_key.ensures in
-    let looks = rw c.take.ensures.same at c.refuse_bracket-refused.ensures.looks in (
+    let looks = rw c.fork.ensures.same at c.refuse_bracket-refused.ensures.looks in (
       omega (arith, key, c.in_ok-passed.ensures.looks, c.in_ok-passed.ensures.shorter, c.in_ok-more.ensures.looks, c.in_ok-more.ensures.shorter, looks),
       omega (arith, key, c.in_ok-passed.ensures.looks, c.in_ok-passed.ensures.shorter, c.in_ok-more.ensures.looks, c.in_ok-more.ensures.shorter, looks),
     )

@@ -16,6 +16,6 @@ returns-in-Some-2-clause-stop g c =
     let key = map letter (map g.T.EncodingType.number c.args.behind_key.now) in
     let other : equals c.in-Some.byte ≡ false = sym c.is_annotation_key_value_separator.ensures ∙ c.if-is_annotation_key_value_separator.false in
     let seen_so : sight_at error_of text ≡ Ok (equals c.in-Some.byte) = bracket_sighted _ _ _ _ c.in-Some.byte c.in-Ok.ensures.letters.2 c.in-Some.is in
-    let left : map letter c.at-in-Some-2.result.rest ≡ text = ap (map letter) (c.at-in-Some-2.ensures.there ∙ c.rest-behind_name.ensures) in
+    let left : map letter c.fork_at-in-Some-2.result.rest ≡ text = ap (map letter) (c.fork_at-in-Some-2.ensures.there ∙ c.rest-behind_name.ensures) in
     (λ i. (c.stop.ensures i, left i))
     ∙ sym (ap (λ seen. refusal seen (name_fault c.args.name.may_end) key text) (seen_so ∙ ap Ok other))

@@ -1,9 +1,8 @@
 -- Each digit goes before the digits that stand already.
-use Rattle.std.proofs.Common.{◌≡◌, ◌+◌, ◌-◌, ◌<◌, ◌^◌, arith, append_assoc}
-use Rattle.std.proofs.lemmas.List.{append-nil, drop_all, drop-set}
+use Rattle.ixdtf_buffers.proofs.decimal.put_decimal.Goals as goal
+use Rattle.std.proofs.{Common.{◌≡◌, ◌+◌, ◌-◌, ◌<◌, ◌^◌, arith, append_assoc}, lemmas.List.{append-nil, drop_all, drop-set}}
 use Rattle.std.proofs.lemmas.Fmt.{decimal_digit, decimal_step}
 use Rattle.ixdtf_buffers.proofs.DecimalLemmas.{length-decimal_step, length-decimal_big, length-decimal_u64}
-use Rattle.ixdtf_buffers.proofs.decimal.put_decimal.Goals as goal
 
 pub loop-left-init : goal.loop-left-init
 loop-left-init c = record {

@@ -1,7 +1,7 @@
 -- Digits from the last to the first.
+use Rattle.ixdtf_buffers.proofs.decimal.put_decimal.Given as goal
 use Rattle.std.proofs.Common.{◌≡◌, ◌+◌, ◌<◌, ◌≤◌, ◌++◌, length, drop}
 use Rattle.std.specs.Fmt.{decimal}
-use Rattle.ixdtf_buffers.proofs.decimal.put_decimal.Given as goal
 
 -- the digits of what is left go before the digits that stand already
 abbrev pub invariant-loop-left : goal.invariant-loop-left

@@ -1,7 +1,7 @@
 -- Write after write.
+use Rattle.ixdtf_buffers.proofs.output.write_whole.Given as goal
 use Rattle.std.proofs.Common.{◌≡◌, ℕ, List, ◌++◌, length}
 use Rattle.std.specs.Io.KnownBytes.{Appends}
-use Rattle.ixdtf_buffers.proofs.output.write_whole.Given as goal
 
 -- the prefix that was written, and the rest, are the bytes
 abbrev pub invariant-writes : goal.invariant-writes

@@ -1,7 +1,6 @@
-use Rattle.ixdtf_c.specs.Narrow.{annotation_by as narrow_by}
-use Rattle.ixdtf_c.specs.Wide.{annotation_by as wide_by}
-use Rattle.ixdtf_c.proofs.Replying.{replying_gives, replying_is_handling}
 use Rattle.ixdtf_c.proofs.laws.replying_is_handling.Goals as goal
+use Rattle.ixdtf_c.specs.{Narrow.{annotation_by as narrow_by}, Wide.{annotation_by as wide_by}}
+use Rattle.ixdtf_c.proofs.Replying.{replying_gives, replying_is_handling}
 
 pub returns-clause-gives : goal.returns-clause-gives
 returns-clause-gives g c = replying_gives narrow_by

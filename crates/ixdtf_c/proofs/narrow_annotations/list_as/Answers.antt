@@ -1,11 +1,9 @@
 -- The handler replies none and lists each annotation, and keeps its loan of the list.
-use Rattle.std.proofs.Common.{rules, map, ◌≤◌, ◌-◌, ◌^◌, length}
-use Rattle.std.proofs.lemmas.List.{length-map}
-use Rattle.std.proofs.lemmas.Simd.{map-map}
+use Rattle.ixdtf_c.proofs.narrow_annotations.list_as.Goals as goal
+use Rattle.std.proofs.{Common.{rules, map, ◌≤◌, ◌-◌, ◌^◌, length}, lemmas.{List.length-map, Simd.map-map}}
 use Rattle.ixdtf.specs.language.Letters.{byte_letter}
 use Rattle.ixdtf_c.specs.Narrow.{annotation_by, annotation_for}
 use Rattle.ixdtf_c.proofs.Listed.{lists, lists_left, kept}
-use Rattle.ixdtf_c.proofs.narrow_annotations.list_as.Goals as goal
 
 pub returns-in-Err-clause-lists : goal.returns-in-Err-clause-lists
 returns-in-Err-clause-lists g c =
@@ -16,7 +14,7 @@ returns-in-Err-clause-lists g c =
     let loan = kept _ (λ state. state.0.ghost_name) (λ state annotation reply next stepped. search rules) h.plain.calls _ _ h.plain.chain in
     let (outcome, has, listing) = lists _ annotation_by _ (λ state. state.0.now.count) (λ state. state.0.now.slots.now) annotation_for (2 ^ 64 - 1)
     (λ state annotation reply next stepped. (search rules, search rules, search rules, search rules))
-    _ _ _ _ _ _ _ _ _ h c.in-Err.ensures.handles.no_row c.in-Err.ensures.handles.alone c.requires short in
+    _ _ _ _ _ _ _ _ _ h c.in-Err.ensures.handles.no_row c.in-Err.ensures.handles.no_other_reader c.requires short in
     rw (← (map-map byte_letter (λ unit. unit) c.args.text.now), ← c.new.ensures.rest, ← c.with_profile-parser.ensures.rest, ← c.with_profile-parser.ensures.profile)
     (outcome, has, lists_left (search (rules, loan)) (search (rules, loan)) listing)
 
@@ -36,7 +34,7 @@ returns-clause-lists g c =
     let loan = kept _ (λ state. state.0.ghost_name) (λ state annotation reply next stepped. search rules) h.plain.calls _ _ h.plain.chain in
     let (outcome, has, listing) = lists _ annotation_by _ (λ state. state.0.now.count) (λ state. state.0.now.slots.now) annotation_for (2 ^ 64 - 1)
     (λ state annotation reply next stepped. (search rules, search rules, search rules, search rules))
-    _ _ _ _ _ _ _ _ _ h c.in-Ok.ensures.handles.no_row c.in-Ok.ensures.handles.alone c.requires short in
+    _ _ _ _ _ _ _ _ _ h c.in-Ok.ensures.handles.no_row c.in-Ok.ensures.handles.no_other_reader c.requires short in
     rw (← (map-map byte_letter (λ unit. unit) c.args.text.now), ← c.new.ensures.rest, ← c.with_profile-parser.ensures.rest, ← c.with_profile-parser.ensures.profile)
     (outcome, has, lists_left (search (rules, loan)) (search (rules, loan)) listing)
 

@@ -1,9 +1,8 @@
 -- The list keeps its loan of the slots.
+use Rattle.ixdtf_c.proofs.narrow_annotations.list_into.Goals as goal
 use Rattle.std.proofs.Common.{rules, refl}
 use Rattle.ixdtf_c.specs.Narrow.{contents}
-use Rattle.ixdtf_c.proofs.Listed.{lists_left, outcome_is}
-use Rattle.ixdtf_c.proofs.Read.{gives_ok, gives_err}
-use Rattle.ixdtf_c.proofs.narrow_annotations.list_into.Goals as goal
+use Rattle.ixdtf_c.proofs.{Listed.{lists_left, outcome_is}, Read.{gives_ok, gives_err}}
 
 pub returns-in-Ok-clause-lists : goal.returns-in-Ok-clause-lists
 returns-in-Ok-clause-lists g c =

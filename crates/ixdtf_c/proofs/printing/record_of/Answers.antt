@@ -1,6 +1,6 @@
+use Rattle.ixdtf_c.proofs.printing.record_of.Goals as goal
 use Rattle.ixdtf_c.specs.Narrow.{contents}
 use Rattle.ixdtf_c.proofs.Printed.{printed_time, printed_offset, printed_zone}
-use Rattle.ixdtf_c.proofs.printing.record_of.Goals as goal
 
 pub returns-in_default-clause-none : goal.returns-in_default-clause-none
 returns-in_default-clause-none c = λ is. c.in_default.ensures.none (printed_time (contents c.args.given.now) is)

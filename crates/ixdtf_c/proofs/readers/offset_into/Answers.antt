@@ -1,10 +1,8 @@
-use Rattle.std.proofs.Common.{◌∙◌, ap}
-use Rattle.ixdtf.specs.language.Languages.Found.{shifted}
-use Rattle.ixdtf.specs.language.Readers.Reader.{parse_offset}
-use Rattle.ixdtf_c.specs.Crossing.{offset_alone, record_for}
-use Rattle.ixdtf_c.proofs.Crossed.{crossed_part}
-use Rattle.ixdtf_c.proofs.Read.{gives_ok, gives_err, letters_are}
 use Rattle.ixdtf_c.proofs.readers.offset_into.Goals as goal
+use Rattle.std.proofs.Common.{◌∙◌, ap}
+use Rattle.ixdtf.specs.language.{Languages.Found.shifted, Readers.Reader.parse_offset}
+use Rattle.ixdtf_c.specs.Crossing.{offset_alone, record_for}
+use Rattle.ixdtf_c.proofs.{Crossed.crossed_part, Read.{gives_ok, gives_err, letters_are}}
 
 pub returns-in-Ok-clause-read : goal.returns-in-Ok-clause-read
 returns-in-Ok-clause-read g c =

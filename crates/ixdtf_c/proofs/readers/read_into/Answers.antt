@@ -1,6 +1,5 @@
-use Rattle.ixdtf_c.proofs.Listed.{outcome_is}
-use Rattle.ixdtf_c.proofs.Read.{gives_ok, gives_err}
 use Rattle.ixdtf_c.proofs.readers.read_into.Goals as goal
+use Rattle.ixdtf_c.proofs.{Listed.outcome_is, Read.{gives_ok, gives_err}}
 
 pub returns-in-Ok-clause-read : goal.returns-in-Ok-clause-read
 returns-in-Ok-clause-read g c =

@@ -1,9 +1,7 @@
-use Rattle.std.proofs.Common.{Err, subst, sym}
-use Rattle.ixdtf_c.specs.Crossing.{Gives}
-use Rattle.ixdtf_c.specs.Narrow.{calendar_by, contents}
-use Rattle.ixdtf_c.specs.Replying.{with_kept}
-use Rattle.ixdtf_c.proofs.Handing.{handled_all, handled_refused, kept_given, kept_refused, refused_given, there_kept}
 use Rattle.ixdtf_c.proofs.turns.parse_in_turn.Goals as goal
+use Rattle.std.proofs.Common.{Err, subst, sym}
+use Rattle.ixdtf_c.specs.{Crossing.Gives, Narrow.{calendar_by, contents}, Replying.with_kept}
+use Rattle.ixdtf_c.proofs.Handing.{handled_all, handled_refused, kept_given, kept_refused, refused_given, there_kept}
 use Rattle.ixdtf_c.proofs.turns.parse_in_turn.Goals.{then-read-eq0, else-read-eq0}
 
 pub returns-then-refused-ne0 : goal.returns-then-refused-ne0

@@ -1,8 +1,8 @@
 -- The handler is asked about one more annotation.
+use Rattle.ixdtf_c.proofs.turns.reply_in_turn.Goals as goal
 use Rattle.std.proofs.Common.{map, drop, ◌+◌}
 use Rattle.ixdtf_c.specs.Narrow.{annotation_by}
 use Rattle.ixdtf_c.proofs.Handing.{taken_more, taken_split, so_far_none, so_far_more, refused_in_turn}
-use Rattle.ixdtf_c.proofs.turns.reply_in_turn.Goals as goal
 
 pub loop-annotation-init : goal.loop-annotation-init
 loop-annotation-init g c = record { callable = c.requires.callable; so_far = so_far_none _ _ _ _ c.requires.none }

@@ -1,7 +1,7 @@
+use Rattle.ixdtf_c.proofs.turns.reply_in_turn.Given as goal
 use Rattle.std.proofs.Common.{map, take}
 use Rattle.ixdtf_c.specs.Narrow.{annotation_by, calendar_by}
 use Rattle.ixdtf_c.proofs.Handing.{SoFar}
-use Rattle.ixdtf_c.proofs.turns.reply_in_turn.Given as goal
 
 abbrev pub invariant-loop-annotation : goal.invariant-loop-annotation
 invariant-loop-annotation g l = record {

@@ -1,8 +1,7 @@
 -- The start, each read, and the ends.
-use Rattle.std.proofs.Common.{[], ◌++◌, take, arith, refl, ◌∙◌, length-append, length-take-le}
-use Rattle.std.proofs.KnownBytes.{Consumes-nil, Consumes-trans}
-use Rattle.ixdtf_checks.proofs.ProgressLemmas.{Stands-nil, Stands-few, Stands-counted, Consumes-last, Runs-end, Runs-failed}
 use Rattle.ixdtf_checks.proofs.checker.check_all.Goals as goal
+use Rattle.std.proofs.{Common.{[], ◌++◌, take, arith, refl, ◌∙◌, length-append, length-take-le}, KnownBytes.{Consumes-nil, Consumes-trans}}
+use Rattle.ixdtf_checks.proofs.ProgressLemmas.{Stands-nil, Stands-few, Stands-counted, Consumes-last, Runs-end, Runs-failed}
 
 pub reads-init : goal.reads-init
 reads-init g c =

@@ -1,13 +1,10 @@
 -- Line after line, and the bytes behind the last newline.
-use Rattle.std.proofs.Common.{[], ◌≡◌, ◌+◌, ◌-◌, ◌++◌, length, take, drop, arith, refl, sym, ap, subst, ◌∙◌, append_assoc, length-append, length-take-le}
-use Rattle.std.proofs.lemmas.List.{append-nil, take_all, length-drop, take-append-drop}
-use Rattle.std.proofs.lemmas.Result.{err_from_is_err_and}
-use Rattle.ixdtf_buffers.specs.Lines.{ended_lines_of, unended_of}
-use Rattle.ixdtf_buffers.specs.Output.{written}
-use Rattle.ixdtf_checks.specs.Checks.{ReportsFront}
-use Rattle.ixdtf_checks.specs.Progress.{Stands}
-use Rattle.ixdtf_checks.proofs.ProgressLemmas.{Stands-line, Stands-rest, Stands-handed, Front-line}
 use Rattle.ixdtf_checks.proofs.checker.check_bytes.Goals as goal
+use Rattle.std.proofs.Common.{[], ◌≡◌, ◌+◌, ◌-◌, ◌++◌, length, take, drop, arith, refl, sym, ap, subst, ◌∙◌, append_assoc, length-append, length-take-le}
+use Rattle.std.proofs.lemmas.{List.{append-nil, take_all, length-drop, take-append-drop}, Result.err_from_is_err_and}
+use Rattle.ixdtf_buffers.specs.{Lines.{ended_lines_of, unended_of}, Output.written}
+use Rattle.ixdtf_checks.specs.{Checks.ReportsFront, Progress.Stands}
+use Rattle.ixdtf_checks.proofs.ProgressLemmas.{Stands-line, Stands-rest, Stands-handed, Front-line}
 
 pub lines-init : goal.lines-init
 lines-init g c =

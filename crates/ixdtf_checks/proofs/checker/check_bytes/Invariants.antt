@@ -1,7 +1,7 @@
 -- Line after line.
+use Rattle.ixdtf_checks.proofs.checker.check_bytes.Given as goal
 use Rattle.std.proofs.Common.{◌≡◌, ℕ, List, ◌++◌, length, Option}
 use Rattle.ixdtf_checks.specs.Progress.{Stands, GrowsBy}
-use Rattle.ixdtf_checks.proofs.checker.check_bytes.Given as goal
 
 -- the lines that end in a prefix of the bytes were reported, and at most so many were counted; the writer is the same
 abbrev pub invariant-lines : goal.invariant-lines

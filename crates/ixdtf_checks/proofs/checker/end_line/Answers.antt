@@ -1,7 +1,6 @@
 -- A line ends.
-use Rattle.std.proofs.Common.{◌++◌}
-use Rattle.std.proofs.lemmas.Result.{err_from_is_err_and}
 use Rattle.ixdtf_checks.proofs.checker.end_line.Goals as goal
+use Rattle.std.proofs.{Common.◌++◌, lemmas.Result.err_from_is_err_and}
 
 pub returns-in_err-report_line-clause-reports : goal.returns-in_err-report_line-clause-reports
 returns-in_err-report_line-clause-reports g c = λ start lines text holds takes.

@@ -1,9 +1,8 @@
 -- No byte, and some, after the last newline.
-use Rattle.std.proofs.Common.{◌≢◌, [], sym, ◌∙◌, true≢false}
-use Rattle.std.proofs.lemmas.Result.{err_from_is_err_and}
+use Rattle.ixdtf_checks.proofs.checker.finish.Goals as goal
+use Rattle.std.proofs.{Common.{◌≢◌, [], sym, ◌∙◌, true≢false}, lemmas.Result.err_from_is_err_and}
 use Rattle.ixdtf_buffers.specs.Lines.{ended_lines_of, unended_of}
 use Rattle.ixdtf_checks.proofs.ProgressLemmas.{finished, Takes-last, Takes-ended, Fails-last}
-use Rattle.ixdtf_checks.proofs.checker.finish.Goals as goal
 
 pub returns-then-is_empty-clause-reports : goal.returns-then-is_empty-clause-reports
 returns-then-is_empty-clause-reports g c = λ start read stands.

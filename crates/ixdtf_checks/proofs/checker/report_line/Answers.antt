@@ -1,8 +1,8 @@
 -- A line is reported and counted.
+use Rattle.ixdtf_checks.proofs.checker.report_line.Goals as goal
 use Rattle.std.proofs.Common.{◌+◌, refl, sym, ap, ◌∙◌}
 use Rattle.ixdtf_checks.specs.Seen.{seen}
 use Rattle.ixdtf_checks.proofs.ProgressLemmas.{reported}
-use Rattle.ixdtf_checks.proofs.checker.report_line.Goals as goal
 
 pub returns-clause-reports : goal.returns-clause-reports
 returns-clause-reports g c = λ start lines text holds takes.

@@ -1,8 +1,8 @@
 -- A text that is refused.
+use Rattle.ixdtf_checks.proofs.judge.verdict_on_text.Goals as goal
 use Rattle.ixdtf_grammar.specs.language.Readers.{parse}
 use Rattle.ixdtf_checks.specs.Kinds.{reader_of}
 use Rattle.ixdtf_checks.proofs.VerdictLemmas.{at_within, check_refused, print_refused}
-use Rattle.ixdtf_checks.proofs.judge.verdict_on_text.Goals as goal
 
 pub refusal_of-requires-clause-within : goal.refusal_of-requires-clause-within
 refusal_of-requires-clause-within c =

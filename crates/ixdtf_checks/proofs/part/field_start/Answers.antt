@@ -1,9 +1,8 @@
 -- One field more.
-use Rattle.std.proofs.Common.{◌≡◌, ◌+◌, ◌-◌, length, take, drop, option_map, refl, ap, ◌∙◌, arith}
-use Rattle.std.proofs.lemmas.List.{take_all, length-drop, drop-drop}
+use Rattle.ixdtf_checks.proofs.part.field_start.Goals as goal
+use Rattle.std.proofs.{Common.{◌≡◌, ◌+◌, ◌-◌, length, take, drop, option_map, refl, ap, ◌∙◌, arith}, lemmas.List.{take_all, length-drop, drop-drop}}
 use Rattle.ixdtf_checks.specs.Parts.{field_start}
 use Rattle.ixdtf_checks.proofs.PartsLemmas.{field_start-some, option_map-more}
-use Rattle.ixdtf_checks.proofs.part.field_start.Goals as goal
 
 pub loop-left-preserved : goal.loop-left-preserved
 loop-left-preserved c =

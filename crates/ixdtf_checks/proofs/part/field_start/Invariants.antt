@@ -1,7 +1,7 @@
 -- Field after field.
+use Rattle.ixdtf_checks.proofs.part.field_start.Given as goal
 use Rattle.std.proofs.Common.{◌≡◌, ◌+◌, ◌≤◌, length, drop, option_map}
 use Rattle.ixdtf_checks.specs.Parts.{field_start}
-use Rattle.ixdtf_checks.proofs.part.field_start.Given as goal
 
 -- the field begins as far behind here as it does in the rest of the line, with the fields that are left before it
 abbrev pub invariant-loop-left : goal.invariant-loop-left

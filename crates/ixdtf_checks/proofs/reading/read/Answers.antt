@@ -1,12 +1,11 @@
 -- What each reader returned, and what it refused.
+use Rattle.ixdtf_checks.proofs.reading.read.Goals as goal
 use Rattle.std.proofs.Common.{refl, map}
-use Rattle.ixdtf_grammar.specs.Views.{parsed_of, zone_of}
-use Rattle.ixdtf_grammar.specs.table.Faults.{fault_of_located}
+use Rattle.ixdtf_grammar.specs.{Views.{parsed_of, zone_of}, table.Faults.fault_of_located}
 use Rattle.ixdtf_grammar.specs.language.Languages.Found.{parsed, shifted, identified, named, lasting}
 use Rattle.ixdtf_grammar.specs.language.Readers.{parse, parse_year_month, parse_month_day, parse_time}
 use Rattle.ixdtf_grammar.specs.language.Readers.Reader.{parse_offset, parse_identifier, parse_iana_identifier, parse_duration}
 use Rattle.ixdtf_checks.proofs.VerdictLemmas.{read_text, refused_text, read_under, refused_under}
-use Rattle.ixdtf_checks.proofs.reading.read.Goals as goal
 
 pub returns-in-Ok-clause-ok : goal.returns-in-Ok-clause-ok
 returns-in-Ok-clause-ok c =

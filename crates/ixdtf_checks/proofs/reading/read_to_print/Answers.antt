@@ -1,8 +1,8 @@
 -- A record that is read from a line fits.
+use Rattle.ixdtf_checks.proofs.reading.read_to_print.Goals as goal
 use Rattle.std.proofs.Common.{refl}
 use Rattle.ixdtf_grammar.specs.Views.{parsed_of}
 use Rattle.ixdtf_checks.proofs.VerdictLemmas.{read_fits}
-use Rattle.ixdtf_checks.proofs.reading.read_to_print.Goals as goal
 
 pub print-requires : goal.print-requires
 print-requires c =

@@ -1,6 +1,6 @@
 -- A text is shown, or that fails.
-use Rattle.ixdtf_buffers.proofs.OutputLemmas.{Puts-after, Puts-exit}
 use Rattle.ixdtf_checks.proofs.report.put_pointed.Goals as goal
+use Rattle.ixdtf_buffers.proofs.OutputLemmas.{Puts-after, Puts-exit}
 
 pub returns-in_err-put_display : goal.returns-in_err-put_display
 returns-in_err-put_display g c =

@@ -1,6 +1,6 @@
 -- The exits of putting a refusal.
-use Rattle.ixdtf_buffers.proofs.OutputLemmas.{Puts-after, Puts-exit}
 use Rattle.ixdtf_checks.proofs.report.put_refusal.Goals as goal
+use Rattle.ixdtf_buffers.proofs.OutputLemmas.{Puts-after, Puts-exit}
 
 pub returns-in_err-put_place : goal.returns-in_err-put_place
 returns-in_err-put_place g c = Puts-exit _ c.from_residual.ensures.1 c.in_err-put_place.ensures

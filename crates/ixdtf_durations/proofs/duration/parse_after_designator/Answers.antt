@@ -22,9 +22,9 @@ returns-in-Some-clause-duration g c =
     let found : seen (map g.T.EncodingType.letter c.args.cursor.now.rest) ≡ Ok (Some c.in-Some.byte) =
     cc (c.in_ok-look.ensures.letter, c.in-Some.is) in
     let is : time_letter c.in-Some.byte ≡ true = search rules in
-    let left : map g.T.EncodingType.letter c.step.new.self.rest ≡ drop 1 (map g.T.EncodingType.letter c.args.cursor.now.rest) =
-    c.step.ensures.letters ∙ ap (λ (t : List ℕ). drop 1 (map g.T.EncodingType.letter t)) c.in_ok-look.ensures.rest in
-    reads_on_earlier _ _ _ _ c.args.cursor.now c.step.new.self _ _ _ (to_mark _ _ _ _ found is left c.args.sign []) (c.parse_times.ensures.duration [] refl)
+    let left : map g.T.EncodingType.letter c.advance.new.self.rest ≡ drop 1 (map g.T.EncodingType.letter c.args.cursor.now.rest) =
+    c.advance.ensures.letters ∙ ap (λ (t : List ℕ). drop 1 (map g.T.EncodingType.letter t)) c.in_ok-look.ensures.rest in
+    reads_on_earlier _ _ _ _ c.args.cursor.now c.advance.new.self _ _ _ (to_mark _ _ _ _ found is left c.args.sign []) (c.parse_times.ensures.duration [] refl)
 
 -- a group begins
 pub returns-in-Some-2-clause-duration : goal.returns-in-Some-2-clause-duration
@@ -32,9 +32,9 @@ returns-in-Some-2-clause-duration g c =
     let found : seen (map g.T.EncodingType.letter c.args.cursor.now.rest) ≡ Ok (Some c.in-Some.byte) =
     cc (c.in_ok-look.ensures.letter, c.in-Some.is) in
     let is : digit c.in-Some.byte ≡ true = search rules in
-    let left : map g.T.EncodingType.letter c.step-in-Some-2.new.self.rest ≡ drop 1 (map g.T.EncodingType.letter c.args.cursor.now.rest) =
-    c.step-in-Some-2.ensures.letters ∙ ap (λ (t : List ℕ). drop 1 (map g.T.EncodingType.letter t)) c.in_ok-look.ensures.rest in
-    reads_on_earlier _ _ _ _ c.args.cursor.now c.step-in-Some-2.new.self _ _ _ (to_digit _ _ _ _ found is left (in_dates c.args.sign []))
+    let left : map g.T.EncodingType.letter c.advance-in-Some-2.new.self.rest ≡ drop 1 (map g.T.EncodingType.letter c.args.cursor.now.rest) =
+    c.advance-in-Some-2.ensures.letters ∙ ap (λ (t : List ℕ). drop 1 (map g.T.EncodingType.letter t)) c.in_ok-look.ensures.rest in
+    reads_on_earlier _ _ _ _ c.args.cursor.now c.advance-in-Some-2.new.self _ _ _ (to_digit _ _ _ _ found is left (in_dates c.args.sign []))
     c.parse_dated.ensures.duration
 
 -- another code unit stands there

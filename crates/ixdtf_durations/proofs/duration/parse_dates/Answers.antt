@@ -47,7 +47,7 @@ returns-in-None-clause-dates g c =
 -- one more group
 pub loop-number-smaller : goal.loop-number-smaller
 loop-number-smaller g c =
-    let off = one_taken {letter = g.T.EncodingType.letter} c.in_ok-look.ensures.letter c.in-Some.is c.in_ok-look.ensures.rest c.step.ensures.rest in
+    let off = one_taken {letter = g.T.EncodingType.letter} c.in_ok-look.ensures.letter c.in-Some.is c.in_ok-look.ensures.rest c.advance.ensures.rest in
     omega (arith, c.in_ok-number.ensures.looks, c.in_ok-rank.ensures.taken, c.in_ok-rank.ensures.looks, c.loop-number.invariant.looks)
 
 pub loop-number-preserved : goal.loop-number-preserved
@@ -56,13 +56,13 @@ loop-number-preserved g c =
     (map g.T.EncodingType.letter c.take_date_unit.new.cursor.rest)
     (ends_date _ _ _ c.in_ok-number.number _ c.in_ok-number.ensures.number c.args.profile) c.in_ok-rank.ensures.left
     _ _ c.in_ok-rank.ensures.rank c.least_step.ensures) in
-    let off = one_taken {letter = g.T.EncodingType.letter} c.in_ok-look.ensures.letter c.in-Some.is c.in_ok-look.ensures.rest c.step.ensures.rest in
+    let off = one_taken {letter = g.T.EncodingType.letter} c.in_ok-look.ensures.letter c.in-Some.is c.in_ok-look.ensures.rest c.advance.ensures.rest in
     record {
       far = dates_go_on _ _ _ read _ _ off.found (search rules) off.left;
       first = search rules;
       is_digit = search rules;
-      looks = omega (arith, c.in_ok-number.ensures.looks, c.in_ok-rank.ensures.taken, c.in_ok-rank.ensures.looks, c.loop-number.invariant.looks, c.in_ok-look.ensures.looks, c.step.ensures.looks);
-      counted = omega (arith, c.in_ok-number.ensures.looks, c.in_ok-rank.ensures.looks, c.loop-number.invariant.counted, c.in_ok-look.ensures.looks, c.step.ensures.looks);
+      looks = omega (arith, c.in_ok-number.ensures.looks, c.in_ok-rank.ensures.taken, c.in_ok-rank.ensures.looks, c.loop-number.invariant.looks, c.in_ok-look.ensures.looks, c.advance.ensures.looks);
+      counted = omega (arith, c.in_ok-number.ensures.looks, c.in_ok-rank.ensures.looks, c.loop-number.invariant.counted, c.in_ok-look.ensures.looks, c.advance.ensures.looks);
     }
 
 -- a `T` follows
@@ -83,8 +83,8 @@ returns-in-Some-2-clause-dates g c =
     let found : seen (map g.T.EncodingType.letter c.take_date_unit.new.cursor.rest) ≡ Ok (Some c.in-Some-2.byte) =
     cc (c.in_ok-look.ensures.letter, c.in-Some-2.is) in
     let is : time_letter c.in-Some-2.byte ≡ true = search rules in
-    let left : map g.T.EncodingType.letter c.step-in-Some-2.new.self.rest ≡ drop 1 (map g.T.EncodingType.letter c.take_date_unit.new.cursor.rest) =
-    c.step-in-Some-2.ensures.letters ∙ ap (λ (t : List ℕ). drop 1 (map g.T.EncodingType.letter t)) c.in_ok-look.ensures.rest in
+    let left : map g.T.EncodingType.letter c.advance-in-Some-2.new.self.rest ≡ drop 1 (map g.T.EncodingType.letter c.take_date_unit.new.cursor.rest) =
+    c.advance-in-Some-2.ensures.letters ∙ ap (λ (t : List ℕ). drop 1 (map g.T.EncodingType.letter t)) c.in_ok-look.ensures.rest in
     dates_timed _ _ _ read g.T.EncodingType.letter _ refl _ _ c.date_record-in-Some-2.ensures _ found is left
 
 -- another code unit follows

@@ -40,24 +40,24 @@ returns-then-not-is_ascii_digit-clause-small g c = c.loop-byte.invariant.small
 pub returns-in_err-value-clause-number : goal.returns-in_err-value-clause-number
 returns-in_err-value-clause-number g c =
     let p = err_from_is_err_and c.from_residual-in_err-value.result c.from_residual-in_err-value.ensures.1 in
-    let off = one_taken {letter = g.T.EncodingType.letter} c.in_ok-byte.ensures.letter c.in-Some.is c.in_ok-byte.ensures.rest c.step.ensures.rest in
+    let off = one_taken {letter = g.T.EncodingType.letter} c.in_ok-byte.ensures.letter c.in-Some.is c.in_ok-byte.ensures.rest c.advance.ensures.rest in
     let is : digit c.in-Some.byte ≡ true = search rules in
     rw (p.1, p.2, c.in_err-value.ensures.0)
     (λ profile context at. passes _ _ _ _ c.loop-byte.invariant.far _ off.found is _ off.left c.in_err-value.ensures.1 profile context)
 
 pub loop-byte-smaller : goal.loop-byte-smaller
 loop-byte-smaller g c =
-    let off = one_taken {letter = g.T.EncodingType.letter} c.in_ok-byte.ensures.letter c.in-Some.is c.in_ok-byte.ensures.rest c.step.ensures.rest in
+    let off = one_taken {letter = g.T.EncodingType.letter} c.in_ok-byte.ensures.letter c.in-Some.is c.in_ok-byte.ensures.rest c.advance.ensures.rest in
     omega arith
 
 pub loop-byte-preserved : goal.loop-byte-preserved
 loop-byte-preserved g c =
-    let off = one_taken {letter = g.T.EncodingType.letter} c.in_ok-byte.ensures.letter c.in-Some.is c.in_ok-byte.ensures.rest c.step.ensures.rest in
+    let off = one_taken {letter = g.T.EncodingType.letter} c.in_ok-byte.ensures.letter c.in-Some.is c.in_ok-byte.ensures.rest c.advance.ensures.rest in
     record {
       far = goes_on _ _ _ _ c.loop-byte.invariant.far _ off.found (search rules) _ _ off.left c.in_ok-value.ensures.0 c.in_ok-value.ensures.1;
       small = rw c.in_ok-value.ensures.0 c.in_ok-value.ensures.1;
       looks = omega (arith, c.loop-byte.invariant.looks);
-      counted = omega (arith, c.loop-byte.invariant.counted, c.in_ok-byte.ensures.looks, c.step.ensures.looks);
+      counted = omega (arith, c.loop-byte.invariant.counted, c.in_ok-byte.ensures.looks, c.advance.ensures.looks);
     }
 
 -- the text ends

@@ -16,7 +16,7 @@ returns-in-Some-clause-sign g c profile =
     let found : seen (map g.T.EncodingType.letter c.args.cursor.now.rest) ≡ Ok (Some c.in-Some.byte) =
     cc (c.in_ok-look.ensures.letter, c.in-Some.is) in
     let is : sign c.in-Some.byte ≡ true = search rules in
-    let left : map g.T.EncodingType.letter c.step.new.self.rest ≡ drop 1 (map g.T.EncodingType.letter c.args.cursor.now.rest) =
-    c.step.ensures.letters ∙ ap (λ (t : List ℕ). drop 1 (map g.T.EncodingType.letter t)) c.in_ok-look.ensures.rest in
-    reads_on_earlier _ _ _ _ c.args.cursor.now c.step.new.self _ _ _ (start_at_sign _ _ _ found is ∙ rw (left, c.sign_from.ensures) refl)
+    let left : map g.T.EncodingType.letter c.advance.new.self.rest ≡ drop 1 (map g.T.EncodingType.letter c.args.cursor.now.rest) =
+    c.advance.ensures.letters ∙ ap (λ (t : List ℕ). drop 1 (map g.T.EncodingType.letter t)) c.in_ok-look.ensures.rest in
+    reads_on_earlier _ _ _ _ c.args.cursor.now c.advance.new.self _ _ _ (start_at_sign _ _ _ found is ∙ rw (left, c.sign_from.ensures) refl)
     (c.parse_designator.ensures.sign profile)

@@ -13,8 +13,8 @@ pub returns-then-is_decimal_separator-clause-group : goal.returns-then-is_decima
 returns-then-is_decimal_separator-clause-group g c profile s dates times =
     let number = c.in_ok-number.ensures.number in
     let is : decimal_mark c.in_ok-number.number.next ≡ true = search rules in
-    reads_on_earlier _ _ _ _ c.args.cursor.now c.skip.new.self _ _ _
-    (at_decimal_mark _ _ _ _ _ number profile s dates times _ (letters_left g.T.EncodingType.letter _ _ c.skip.ensures.rest) is)
+    reads_on_earlier _ _ _ _ c.args.cursor.now c.advance_by.new.self _ _ _
+    (at_decimal_mark _ _ _ _ _ number profile s dates times _ (letters_left g.T.EncodingType.letter _ _ c.advance_by.ensures.rest) is)
     (c.parse_fraction_group.ensures.group profile s dates times number.ds number.value)
 
 pub returns-then-is_decimal_separator-clause-paid : goal.returns-then-is_decimal_separator-clause-paid

@@ -47,7 +47,7 @@ pub loop-group-smaller : goal.loop-group-smaller
 loop-group-smaller g c =
     let begins = begins_is c.in_ok-group.group.fraction c.in-Some.byte (sym c.if-begins_time_group.ensures) in
     let paid = c.in_ok-group.ensures.paid begins.0 in
-    let off = one_taken {letter = g.T.EncodingType.letter} c.in_ok-look.ensures.letter c.in-Some.is c.in_ok-look.ensures.rest c.step.ensures.rest in
+    let off = one_taken {letter = g.T.EncodingType.letter} c.in_ok-look.ensures.letter c.in-Some.is c.in_ok-look.ensures.rest c.advance.ensures.rest in
     omega (arith, paid, c.in_ok-rank.ensures.taken, c.in_ok-rank.ensures.looks)
 
 pub loop-group-preserved : goal.loop-group-preserved
@@ -57,13 +57,13 @@ loop-group-preserved g c =
     (c.in_ok-group.ensures.group _) c.in_ok-rank.ensures.left _ _ c.in_ok-rank.ensures.rank c.least_step.ensures) in
     let begins = begins_is c.in_ok-group.group.fraction c.in-Some.byte (sym c.if-begins_time_group.ensures) in
     let paid = c.in_ok-group.ensures.paid begins.0 in
-    let off = one_taken {letter = g.T.EncodingType.letter} c.in_ok-look.ensures.letter c.in-Some.is c.in_ok-look.ensures.rest c.step.ensures.rest in
+    let off = one_taken {letter = g.T.EncodingType.letter} c.in_ok-look.ensures.letter c.in-Some.is c.in_ok-look.ensures.rest c.advance.ensures.rest in
     record {
       far = times_go_on _ _ _ read _ _ off.found begins.1 begins.0 off.left;
       first = search rules;
       is_digit = begins.1;
-      looks = omega (arith, paid, c.in_ok-rank.ensures.taken, c.in_ok-rank.ensures.looks, c.loop-group.invariant.looks, c.in_ok-look.ensures.looks, c.step.ensures.looks);
-      counted = omega (arith, paid, c.in_ok-rank.ensures.looks, c.loop-group.invariant.counted, c.in_ok-look.ensures.looks, c.step.ensures.looks);
+      looks = omega (arith, paid, c.in_ok-rank.ensures.taken, c.in_ok-rank.ensures.looks, c.loop-group.invariant.looks, c.in_ok-look.ensures.looks, c.advance.ensures.looks);
+      counted = omega (arith, paid, c.in_ok-rank.ensures.looks, c.loop-group.invariant.counted, c.in_ok-look.ensures.looks, c.advance.ensures.looks);
     }
 
 -- another code unit follows, or any after a fraction

@@ -17,8 +17,8 @@ returns-in-Ok-clause-duration g c dates is =
     let found : seen (map g.T.EncodingType.letter c.args.cursor.now.rest) ≡ Ok (Some c.in-Some.byte) =
     cc (c.in_ok-byte.ensures.letter, c.in-Some.is) in
     let begins : digit c.in-Some.byte ≡ true = search rules in
-    let left : map g.T.EncodingType.letter c.step.new.self.rest ≡ drop 1 (map g.T.EncodingType.letter c.args.cursor.now.rest) =
-    c.step.ensures.letters ∙ ap (λ (t : List ℕ). drop 1 (map g.T.EncodingType.letter t)) c.in_ok-byte.ensures.rest in
+    let left : map g.T.EncodingType.letter c.advance.new.self.rest ≡ drop 1 (map g.T.EncodingType.letter c.args.cursor.now.rest) =
+    c.advance.ensures.letters ∙ ap (λ (t : List ℕ). drop 1 (map g.T.EncodingType.letter t)) c.in_ok-byte.ensures.rest in
     to_digit _ _ _ _ found begins left (in_times c.args.sign dates []) ∙ rw is at (c.in-Ok.ensures.times c.args.sign dates)
 
 -- groups were refused
@@ -27,8 +27,8 @@ returns-in-Err-clause-duration g c dates is =
     let found : seen (map g.T.EncodingType.letter c.args.cursor.now.rest) ≡ Ok (Some c.in-Some.byte) =
     cc (c.in_ok-byte.ensures.letter, c.in-Some.is) in
     let begins : digit c.in-Some.byte ≡ true = search rules in
-    let left : map g.T.EncodingType.letter c.step.new.self.rest ≡ drop 1 (map g.T.EncodingType.letter c.args.cursor.now.rest) =
-    c.step.ensures.letters ∙ ap (λ (t : List ℕ). drop 1 (map g.T.EncodingType.letter t)) c.in_ok-byte.ensures.rest in
+    let left : map g.T.EncodingType.letter c.advance.new.self.rest ≡ drop 1 (map g.T.EncodingType.letter c.args.cursor.now.rest) =
+    c.advance.ensures.letters ∙ ap (λ (t : List ℕ). drop 1 (map g.T.EncodingType.letter t)) c.in_ok-byte.ensures.rest in
     to_digit _ _ _ _ found begins left (in_times c.args.sign dates []) ∙ c.in-Err.ensures.times c.args.sign dates
 
 -- no group begins

@@ -1,7 +1,6 @@
-use Rattle.std.proofs.Common.{take}
-use Rattle.std.specs.Fmt.{IsFlush, HasWrittenStyled}
-use Rattle.std.specs.Str.{encode_utf8_all}
 use Rattle.ixdtf_print.proofs.canonical.write_bytes.Given as goal
+use Rattle.std.proofs.Common.{take}
+use Rattle.std.specs.{Fmt.{IsFlush, HasWrittenStyled}, Str.encode_utf8_all}
 
 -- those so far are written
 abbrev pub invariant-loop-byte : goal.invariant-loop-byte

@@ -1,15 +1,9 @@
+use Rattle.ixdtf_print.proofs.check.is_name.Goals as goal
 use Rattle.std.proofs.Common.{◌↔◌, ◌≡◌, List, ℕ, map, [], Result, Ok, Err, IsTrue, refl}
 use Rattle.std.specs.Result.{is_ok}
 use Rattle.ixdtf_grammar.specs.declared.error.ParseError.{ParseError}
-use Rattle.ixdtf.specs.Views.{returned}
-use Rattle.ixdtf.specs.language.Languages.{Derives}
-use Rattle.ixdtf.specs.language.Languages.Derives.{as_named}
-use Rattle.ixdtf.specs.language.Languages.Found.{named}
-use Rattle.ixdtf.specs.language.Letters.{Text}
-use Rattle.ixdtf.specs.language.Letters.Letter.{Plain}
-use Rattle.ixdtf.specs.language.Readers.Reader.{parse_iana_identifier}
-use Rattle.ixdtf.specs.language.ZoneNames.{ZoneName, IsZoneName}
-use Rattle.ixdtf_print.proofs.check.is_name.Goals as goal
+use Rattle.ixdtf.specs.{Views.returned, language.{Languages.{Derives, Derives.as_named, Found.named}, Letters.{Text, Letter.Plain}}}
+use Rattle.ixdtf.specs.language.{Readers.Reader.parse_iana_identifier, ZoneNames.{ZoneName, IsZoneName}}
 
 name_of : (text : Text) (name : List ℕ) → Derives parse_iana_identifier text (named name) [] → IsZoneName text name
 name_of text name (as_named h) = h

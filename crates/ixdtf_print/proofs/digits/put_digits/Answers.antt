@@ -1,7 +1,7 @@
+use Rattle.ixdtf_print.proofs.digits.put_digits.Goals as goal
 use Rattle.std.proofs.Common.{arith}
 use Rattle.ixdtf_grammar.proofs.PaddedDigits.{length-padded}
 use Rattle.ixdtf_print.proofs.DigitLoop.{inside_room, next_digit}
-use Rattle.ixdtf_print.proofs.digits.put_digits.Goals as goal
 
 pub overflow_add-end : goal.overflow_add-end
 overflow_add-end c = omega (arith, c.requires.room, length-padded c.args.count c.args.number)

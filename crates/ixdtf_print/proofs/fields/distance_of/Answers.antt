@@ -1,8 +1,7 @@
-use Rattle.std.proofs.Common.{nat_abs, ap, ◌∙◌, rules}
+use Rattle.ixdtf_print.proofs.fields.distance_of.Goals as goal
+use Rattle.std.proofs.{Common.{nat_abs, ap, ◌∙◌, rules}, lemmas.Int.to_z-of_z}
 use Rattle.std.specs.Int.{w32}
 use mir.Val.{SFits}
-use Rattle.std.proofs.lemmas.Int.{to_z-of_z}
-use Rattle.ixdtf_print.proofs.fields.distance_of.Goals as goal
 
 pub returns : goal.returns
 returns c =

@@ -1,9 +1,7 @@
-use Rattle.std.proofs.Common.{pos, arith}
-use Rattle.std.specs.Prelude.{◌≤ℤ◌, ◌<ℤ◌}
-use Rattle.std.proofs.lemmas.Int.{ints}
-use Rattle.ixdtf_print.proofs.Years.{negative_year, four_digit_year, far_year}
-use Rattle.ixdtf_print.proofs.Puts.{puts_then, room_first, room_then}
 use Rattle.ixdtf_print.proofs.fields.put_year.Goals as goal
+use Rattle.std.proofs.{Common.{pos, arith}, lemmas.Int.ints}
+use Rattle.std.specs.Prelude.{◌≤ℤ◌, ◌<ℤ◌}
+use Rattle.ixdtf_print.proofs.{Years.{negative_year, four_digit_year, far_year}, Puts.{puts_then, room_first, room_then}}
 
 -- ---- before year 0
 

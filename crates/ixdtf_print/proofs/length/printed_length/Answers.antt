@@ -1,7 +1,6 @@
-use Rattle.std.proofs.Common.{◌↔◌, ◌≡◌, ◌<◌, ◌^◌, ℕ, Result, Ok, Err, Option, Some, None, refl}
-use Rattle.std.specs.Prelude.{OkIff, IfSome, OnSome}
-use Rattle.std.specs.Result.{result_ok}
 use Rattle.ixdtf_print.proofs.length.printed_length.Goals as goal
+use Rattle.std.proofs.Common.{◌↔◌, ◌≡◌, ◌<◌, ◌^◌, ℕ, Result, Ok, Err, Option, Some, None, refl}
+use Rattle.std.specs.{Prelude.{OkIff, IfSome, OnSome}, Result.result_ok}
 
 -- a number that fits, or none
 number : {E : Type 0} (converted : Result ℕ E) (n : ℕ) → OkIff converted (n < 2 ^ 64) n → IfSome (result_ok converted) (λ m. m ≡ n)

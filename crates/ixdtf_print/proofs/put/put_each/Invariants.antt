@@ -1,7 +1,7 @@
+use Rattle.ixdtf_print.proofs.put.put_each.Given as goal
 use Rattle.std.proofs.Common.{map, take}
 use Rattle.ixdtf.specs.language.Letters.Letter.{Plain}
 use Rattle.ixdtf_print.specs.Puts.{Puts}
-use Rattle.ixdtf_print.proofs.put.put_each.Given as goal
 
 -- those so far were put
 abbrev pub invariant-loop-byte : goal.invariant-loop-byte

@@ -17,7 +17,7 @@ returns-in-Some-next-clause-key g c =
     let passed = c.in_ok-passed.ensures.letters in
     let front = front_is g.T.EncodingType.number c.rest-start.result.now c.rest.result.now passed.0 c.pass_letters.new.cursor.rest _ c.rest-start.ensures
     passed.1 c.rest.ensures in
-    rw (c.in-Some.ensures.lookup.0.2, range_is c.rest-start.result.now _, front, c.step.ensures.letters) (key_closed _ _ _ _ passed.2 _ c.in-Some-next.is closes)
+    rw (c.in-Some.ensures.lookup.0.2, range_is c.rest-start.result.now _, front, c.advance.ensures.letters) (key_closed _ _ _ _ passed.2 _ c.in-Some-next.is closes)
 
 pub returns-in-Some-2-clause-key : goal.returns-in-Some-2-clause-key
 returns-in-Some-2-clause-key g c =

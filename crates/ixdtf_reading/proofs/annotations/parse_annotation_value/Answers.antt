@@ -38,8 +38,8 @@ returns-in-Some-clause-value g c =
     let closed = component_closed g.T.EncodingType.letter g.met.T.EncodingType.faithful _ _ c.loop-component.invariant.far _ _ _ passed.2 passed.1 _ c.in-Some.is closes in
     let stays = c.in_ok-component.ensures.stays (subst (λ next. IsSome next) (sym c.in-Some.is) refl) in
     let front = front_before g.T.EncodingType.number c.rest-start.result.now _ closed.0 c.pass_letters.new.cursor.rest _ c.loop-component.invariant.start
-    closed.1 (behind_last g.T.EncodingType.number c.rest.result.now _ _ c.rest.ensures c.step.ensures.rest stays) in
-    rw (c.saturating_sub.ensures, front, c.step.ensures.letters) closed.2
+    closed.1 (behind_last g.T.EncodingType.number c.rest.result.now _ _ c.rest.ensures c.advance.ensures.rest stays) in
+    rw (c.saturating_sub.ensures, front, c.advance.ensures.letters) closed.2
 
 pub returns-in-Some-3-clause-value : goal.returns-in-Some-3-clause-value
 returns-in-Some-3-clause-value g c =
@@ -55,7 +55,7 @@ returns-in_err-start_component-2-clause-value g c =
     let passed = c.in_ok-component.ensures.letters in
     let dash : hyphen c.in-Some-2.byte ≡ true = search rules in
     let far = component_joined g.T.EncodingType.letter g.met.T.EncodingType.faithful _ _ c.loop-component.invariant.far _ _ _ passed.2 passed.1 _ _ c.in-Some-2.is dash
-    c.step-in-Some-2.ensures.rest in
+    c.advance-in-Some-2.ensures.rest in
     rw (p.1, p.2) (value_fails g.T.EncodingType.letter g.met.T.EncodingType.faithful _ _ AfterHyphen far _
     (value_unstarted AfterHyphen _ refl refl (λ c. refl) _ _ c.in_err-start_component-2.ensures.letter))
 
@@ -64,11 +64,11 @@ loop-component-preserved g c =
     let passed = c.in_ok-component.ensures.letters in
     let dash : hyphen c.in-Some-2.byte ≡ true = search rules in
     let far = component_joined g.T.EncodingType.letter g.met.T.EncodingType.faithful _ _ c.loop-component.invariant.far _ _ _ passed.2 passed.1 _ _ c.in-Some-2.is dash
-    c.step-in-Some-2.ensures.rest in
+    c.advance-in-Some-2.ensures.rest in
     let counts = c.loop-component.invariant in
     let paid = c.in_ok-component.ensures.stays (subst (λ next. IsSome next) (sym c.in-Some-2.is) refl) in
-    let off = ap (λ (t : List ℕ). length t) c.step-in-Some-2.ensures.rest in
-    let kept = c.step-in-Some-2.ensures.looks in
+    let off = ap (λ (t : List ℕ). length t) c.advance-in-Some-2.ensures.rest in
+    let kept = c.advance-in-Some-2.ensures.looks in
     let walked = c.in_ok-component.ensures in
     let begun = c.in_ok-start_component-2.ensures in
     record {

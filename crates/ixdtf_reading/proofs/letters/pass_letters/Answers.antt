@@ -5,7 +5,7 @@ use Rattle.ixdtf_reading.proofs.code.{FractionLoop.one_taken, LetterLoops.{begin
 use Rattle.ixdtf_reading.proofs.letters.pass_letters.Goals.{in-Err, in-Ok-None, in-Ok-Some+in-None}
 
 pub loop-stop-init : goal.loop-stop-init
-loop-stop-init g c = rw c.take-here.ensures.same record {
+loop-stop-init g c = rw c.fork-here.ensures.same record {
   far = begins _ _ _ _;
   looks = omega arith;
   counted = omega arith;
@@ -14,12 +14,12 @@ loop-stop-init g c = rw c.take-here.ensures.same record {
 
 pub loop-stop-smaller : goal.loop-stop-smaller
 loop-stop-smaller g c =
-    let off = one_taken {letter = g.T.EncodingType.letter} c.in-Ok-Some.ensures.letter c.in-Ok-Some.field-0-is c.look.ensures.rest c.step.ensures.rest in
+    let off = one_taken {letter = g.T.EncodingType.letter} c.in-Ok-Some.ensures.letter c.in-Ok-Some.field-0-is c.look.ensures.rest c.advance.ensures.rest in
     omega arith
 
 pub loop-stop-preserved : goal.loop-stop-preserved
 loop-stop-preserved g c =
-    let off = one_taken {letter = g.T.EncodingType.letter} c.in-Ok-Some.ensures.letter c.in-Ok-Some.field-0-is c.look.ensures.rest c.step.ensures.rest in
+    let off = one_taken {letter = g.T.EncodingType.letter} c.in-Ok-Some.ensures.letter c.in-Ok-Some.field-0-is c.look.ensures.rest c.advance.ensures.rest in
     let next : g.S.Letters.after c.loop-stop.state c.in-Ok-Some.byte ≡ Some c.in-Some.next = search rules in
     let invariant = c.loop-stop.invariant in
     record {

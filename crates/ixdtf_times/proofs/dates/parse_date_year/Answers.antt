@@ -9,5 +9,5 @@ returns-in-Some-2-clause-looks g c =
     let old = c.args.cursor.now.rest in
     let seen : seen (map g.T.EncodingType.letter old) ≡ Ok (Some c.in-Some.byte) = search rules in
     let paid = stepped g.T.EncodingType.letter old c.in-Some.byte seen in
-    let left : length c.step-in-Some-2.new.self.rest ≡ length (drop 1 old) = search rules in
-    omega (arith, paid, left, c.parse_extended_year.ensures.looks, c.step-in-Some-2.ensures.looks, c.look.ensures.looks)
+    let left : length c.advance-in-Some-2.new.self.rest ≡ length (drop 1 old) = search rules in
+    omega (arith, paid, left, c.parse_extended_year.ensures.looks, c.advance-in-Some-2.ensures.looks, c.look.ensures.looks)

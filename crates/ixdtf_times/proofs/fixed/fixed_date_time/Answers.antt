@@ -21,6 +21,6 @@ returns-clause-at_place g c =
     let date = c.in_ok-found.found.0 in
     let time = time_to_second c.in_ok-found.found.1 in
     let found : date_time_place (map letter units) ≡ Some (date, time) = sym c.in_ok-found.ensures.there in
-    let left : drop 19 units ≡ c.skip.new.self.rest = sym (c.skip.ensures.rest ∙ ap (λ (t : List ℕ). drop 19 t) c.find_date_time.ensures.rest) in
+    let left : drop 19 units ≡ c.advance_by.new.self.rest = sym (c.advance_by.ensures.rest ∙ ap (λ (t : List ℕ). drop 19 t) c.find_date_time.ensures.rest) in
     subst (λ (t : Text). FixedDateTime (map letter units) date time t) (drop-map letter 19 units ∙ ap (map letter) left)
     (date_time_at_place (map letter units) (date, time) found)

@@ -50,7 +50,7 @@ returns-clause-read g c =
       | then-is_hyphen+in_default w ↦ rw w.cursor-is (w.fixed_days.ensures.rest ∙ looked)
       | else-is_hyphen+in_default-fixed_basic_days w ↦ rw w.cursor-is (w.fixed_basic_days.ensures.rest ∙ looked)
     ] in
-    let after : drop 4 units ≡ c.skip.new.self.rest = sym (c.skip.ensures.rest ∙ ap (λ (t : List ℕ). drop 4 t) left) in
-    reads_on letter (λ d. d) c.args.cursor.now c.skip.new.self c.parse_days.new.cursor c.parse_days.result (date_at error_of) (days_at error_of (pos year))
+    let after : drop 4 units ≡ c.advance_by.new.self.rest = sym (c.advance_by.ensures.rest ∙ ap (λ (t : List ℕ). drop 4 t) left) in
+    reads_on letter (λ d. d) c.args.cursor.now c.advance_by.new.self c.parse_days.new.cursor c.parse_days.result (date_at error_of) (days_at error_of (pos year))
     (year_is_read (map letter units) year (sym c.in_ok-year.ensures.there) ∙ ap (days_at error_of (pos year)) (drop-map letter 4 units ∙ ap (map letter) after))
     c.parse_days.ensures.date

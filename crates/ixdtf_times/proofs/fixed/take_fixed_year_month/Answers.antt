@@ -16,7 +16,7 @@ returns-then-is_hyphen-clause-read g c =
     let mark : IsTrue (hyphen (byte_place 4 (map letter units))) = subst (λ b. IsTrue (hyphen b)) byte (sym c.is_hyphen.ensures ∙ c.if-is_hyphen.true) in
     let month : month_of_year_place year 5 (map letter units) ≡ Some date =
     ap (λ (t : List ℕ). month_of_year_place year 5 (map letter t)) (sym looked) ∙ sym c.in_ok-date.ensures.there in
-    let left : c.skip.new.self.rest ≡ drop 7 units = c.skip.ensures.rest ∙ ap (λ (t : List ℕ). drop 7 t) (c.fixed_month_of.ensures.rest ∙ looked) in
+    let left : c.advance_by.new.self.rest ≡ drop 7 units = c.advance_by.ensures.rest ∙ ap (λ (t : List ℕ). drop 7 t) (c.fixed_month_of.ensures.rest ∙ looked) in
     hyphened_month_is_read (map letter units) year date (sym c.in_ok-year.ensures.there) mark month
     ∙ ap (ranged_month date) (drop-map letter 7 units ∙ ap (map letter) (sym left))
 
@@ -29,6 +29,6 @@ returns-clause-read g c =
     let looked : c.byte_at.new.self.rest ≡ units = c.byte_at.ensures.rest ∙ c.fixed_year.ensures.rest in
     let month : month_of_year_place year 4 (map letter units) ≡ Some date =
     ap (λ (t : List ℕ). month_of_year_place year 4 (map letter t)) (sym looked) ∙ sym c.in_ok-date-2.ensures.there in
-    let left : c.skip-2.new.self.rest ≡ drop 6 units = c.skip-2.ensures.rest ∙ ap (λ (t : List ℕ). drop 6 t) (c.fixed_month_of-2.ensures.rest ∙ looked) in
+    let left : c.advance_by-2.new.self.rest ≡ drop 6 units = c.advance_by-2.ensures.rest ∙ ap (λ (t : List ℕ). drop 6 t) (c.fixed_month_of-2.ensures.rest ∙ looked) in
     basic_month_is_read (map letter units) year date (sym c.in_ok-year.ensures.there) month
     ∙ ap (ranged_month date) (drop-map letter 6 units ∙ ap (map letter) (sym left))

@@ -12,7 +12,7 @@ returns-then-remaining-eq5-clause-read g c date time =
     let units = c.args.cursor.now.rest in
     let size : length units ≡ 5 = ap (λ (t : List ℕ). length t) (sym c.fixed_offset.ensures.rest) ∙ grind (arith, nat_tests) in
     let gone : drop 5 units ≡ [] = drop_all 5 units (omega arith) in
-    let left : c.skip.new.self.rest ≡ [] = c.skip.ensures.rest ∙ ap (λ (t : List ℕ). drop 5 t) c.fixed_offset.ensures.rest ∙ gone in
+    let left : c.advance_by.new.self.rest ≡ [] = c.advance_by.ensures.rest ∙ ap (λ (t : List ℕ). drop 5 t) c.fixed_offset.ensures.rest ∙ gone in
     ends c.args.sign (map letter units) c.in_ok-offset.offset (sym c.in_ok-offset.ensures.there) date time (drop-map letter 5 units ∙ ap (map letter) gone)
     ∙ ap (λ (t : List ℕ). Ok ((with_offset date time (MinutePrecision c.in_ok-offset.offset), false), map letter t)) (sym left)
 
@@ -24,7 +24,7 @@ returns-clause-read g c date time =
     let next : c.byte_at-next.result ≡ byte_place 5 (map letter units) =
     c.byte_at-next.ensures.there ∙ ap (λ (t : List ℕ). byte_place 5 (map letter t)) c.fixed_offset.ensures.rest in
     let mark : IsTrue (opening (byte_place 5 (map letter units))) = subst (λ b. IsTrue (opening b)) next (sym c.if-not-is_annotation_open.ensures) in
-    let left : c.skip-2.new.self.rest ≡ drop 6 units = c.skip-2.ensures.rest ∙ ap (λ (t : List ℕ). drop 6 t) looked in
+    let left : c.advance_by-2.new.self.rest ≡ drop 6 units = c.advance_by-2.ensures.rest ∙ ap (λ (t : List ℕ). drop 6 t) looked in
     goes_into_a_bracket c.args.sign (map letter units) c.in_ok-offset.offset (sym c.in_ok-offset.ensures.there) date time _
     (opening_at_place 5 (map letter units) mark)
     ∙ ap (λ t. Ok ((with_offset date time (MinutePrecision c.in_ok-offset.offset), true), t)) (drop-map letter 6 units ∙ ap (map letter) (sym left))

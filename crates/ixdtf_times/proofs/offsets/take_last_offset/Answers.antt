@@ -9,7 +9,7 @@ returns-clause-offset g c =
     let units = c.args.cursor.now.rest in
     let size : length units ≡ 5 = ap (λ (t : List ℕ). length t) (sym c.fixed_offset.ensures.rest) ∙ grind (arith, nat_tests) in
     let gone : drop 5 units ≡ [] = drop_all 5 units (omega arith) in
-    let left : c.skip.new.self.rest ≡ [] = c.skip.ensures.rest ∙ ap (λ (t : List ℕ). drop 5 t) c.fixed_offset.ensures.rest ∙ gone in
+    let left : c.advance_by.new.self.rest ≡ [] = c.advance_by.ensures.rest ∙ ap (λ (t : List ℕ). drop 5 t) c.fixed_offset.ensures.rest ∙ gone in
     ends_the_text c.args.sign (map letter units) c.in_ok-offset.offset (sym c.in_ok-offset.ensures.there) (drop-map letter 5 units ∙ ap (map letter) gone)
     ∙ ap (λ (t : List ℕ). Ok (MinutePrecision c.in_ok-offset.offset, map letter t)) (sym left)
 
@@ -19,6 +19,6 @@ returns-clause-zone g c =
     let units = c.args.cursor.now.rest in
     let size : length units ≡ 5 = ap (λ (t : List ℕ). length t) (sym c.fixed_offset.ensures.rest) ∙ grind (arith, nat_tests) in
     let gone : drop 5 units ≡ [] = drop_all 5 units (omega arith) in
-    let left : c.skip.new.self.rest ≡ [] = c.skip.ensures.rest ∙ ap (λ (t : List ℕ). drop 5 t) c.fixed_offset.ensures.rest ∙ gone in
+    let left : c.advance_by.new.self.rest ≡ [] = c.advance_by.ensures.rest ∙ ap (λ (t : List ℕ). drop 5 t) c.fixed_offset.ensures.rest ∙ gone in
     ends_a_zone c.args.sign (map letter units) c.in_ok-offset.offset (sym c.in_ok-offset.ensures.there) (drop-map letter 5 units ∙ ap (map letter) gone)
     ∙ ap (λ (t : List ℕ). Ok (Zone.Offset c.in_ok-offset.offset, map letter t)) (sym left)

@@ -15,18 +15,18 @@ loop-byte-init g c = record {
 
 pub loop-byte-smaller : goal.loop-byte-smaller
 loop-byte-smaller g c =
-    let off = one_taken {letter = g.T.EncodingType.letter} c.in_ok-byte.ensures.letter c.in-Some.is c.in_ok-byte.ensures.rest c.step.ensures.rest in
+    let off = one_taken {letter = g.T.EncodingType.letter} c.in_ok-byte.ensures.letter c.in-Some.is c.in_ok-byte.ensures.rest c.advance.ensures.rest in
     omega arith
 
 pub loop-byte-preserved : goal.loop-byte-preserved
 loop-byte-preserved g c =
-    let off = one_taken {letter = g.T.EncodingType.letter} c.in_ok-byte.ensures.letter c.in-Some.is c.in_ok-byte.ensures.rest c.step.ensures.rest in
+    let off = one_taken {letter = g.T.EncodingType.letter} c.in_ok-byte.ensures.letter c.in-Some.is c.in_ok-byte.ensures.rest c.advance.ensures.rest in
     record {
       far = λ front is. goes_on _ _ _ _ _ _ _ (c.loop-byte.invariant.far front is) off.found (search rules) off.left
           (grown_by_count _ _ _ c.loop-byte.invariant.long c.with_more-fraction.ensures);
       long = omega (arith, c.loop-byte.invariant.long, ap (λ f. f.count) c.with_more-fraction.ensures);
       looks = omega (arith, c.loop-byte.invariant.looks);
-      counted = omega (arith, c.loop-byte.invariant.counted, c.in_ok-byte.ensures.looks, c.step.ensures.looks);
+      counted = omega (arith, c.loop-byte.invariant.counted, c.in_ok-byte.ensures.looks, c.advance.ensures.looks);
     }
 
 pub returns-in_err-byte-clause-fraction : goal.returns-in_err-byte-clause-fraction

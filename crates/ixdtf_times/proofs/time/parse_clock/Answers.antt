@@ -8,7 +8,7 @@ use Rattle.ixdtf_times.proofs.code.LoneTimes.{reads_as}
 pub returns-in-Some-clause-time : goal.returns-in-Some-clause-time
 unfolding clock_at hour_from after_hour_at digits_by in_range
 returns-in-Some-clause-time g c =
-    reads_as g.T.EncodingType.letter (open_time_of c.parse_minute.new.time) c.step.new.self c.args.cursor.now c.parse_minute.new.cursor
+    reads_as g.T.EncodingType.letter (open_time_of c.parse_minute.new.time) c.advance.new.self c.args.cursor.now c.parse_minute.new.cursor
     c.parse_minute.result (minute_at error_of (clock_of c.args.clock) true c.in_ok-hour.hour) (clock_at error_of (clock_of c.args.clock))
     (search rules) c.parse_minute.ensures.time
 

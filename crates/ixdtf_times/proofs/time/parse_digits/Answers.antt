@@ -8,5 +8,5 @@ use Rattle.ixdtf_times.proofs.code.LoneTimes.{reads_as}
 pub returns-in-Ok-Some-clause-fraction : goal.returns-in-Ok-Some-clause-fraction
 unfolding fraction_at next_by
 returns-in-Ok-Some-clause-fraction g c =
-    reads_as g.T.EncodingType.letter (λ fraction. fraction) c.step.new.self c.args.cursor.now c.parse_more_digits-read.new.cursor c.parse_more_digits-read.result
+    reads_as g.T.EncodingType.letter (λ fraction. fraction) c.advance.new.self c.args.cursor.now c.parse_more_digits-read.new.cursor c.parse_more_digits-read.result
     (more_digits_at (Plain c.in-Ok-Some.byte ∷ [])) (fraction_at error_of clocks.Time) (search rules) c.parse_more_digits-read.ensures.fraction

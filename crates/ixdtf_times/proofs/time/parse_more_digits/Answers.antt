@@ -3,21 +3,21 @@ use Rattle.std.proofs.{Common.{◌≡◌, [], ◌∷◌, ◌∙◌, sym, map, So
 use Rattle.ixdtf_grammar.specs.language.Letters.{digit, Letter.Plain}
 use Rattle.ixdtf_reading.specs.reading.{Looks.seen, Clauses.more_digits_at}
 use Rattle.ixdtf_reading.proofs.code.{FractionLoop.{goes_on, hands_on, ends_at_other, ends_at_end, fails, one_taken}, GrowingDigits.grown_by_digit}
-use Rattle.ixdtf_times.proofs.{code.LoneTimes.reads_as, time.parse_more_digits.Goals.{in_default-via-in-Some+else-is_ascii_digit, in_default-via-in_default}}
+use Rattle.ixdtf_times.proofs.{code.Times.reads_as, time.parse_more_digits.Goals.{in_default-via-in-Some+else-is_ascii_digit, in_default-via-in_default}}
 
 pub loop-cursor-smaller : goal.loop-cursor-smaller
 loop-cursor-smaller g c =
-    let off = one_taken {letter = g.T.EncodingType.letter} c.in_ok-byte.ensures.letter c.in-Some.is c.in_ok-byte.ensures.rest c.step.ensures.rest in
+    let off = one_taken {letter = g.T.EncodingType.letter} c.in_ok-byte.ensures.letter c.in-Some.is c.in_ok-byte.ensures.rest c.advance.ensures.rest in
     omega arith
 
 pub loop-cursor-preserved : goal.loop-cursor-preserved
 loop-cursor-preserved g c =
-    let off = one_taken {letter = g.T.EncodingType.letter} c.in_ok-byte.ensures.letter c.in-Some.is c.in_ok-byte.ensures.rest c.step.ensures.rest in
+    let off = one_taken {letter = g.T.EncodingType.letter} c.in_ok-byte.ensures.letter c.in-Some.is c.in_ok-byte.ensures.rest c.advance.ensures.rest in
     record {
       far = goes_on _ _ _ _ _ _ _ c.loop-cursor.invariant.far off.found (search rules) off.left
           (grown_by_digit _ _ _ (omega (arith, leb-true _ 17 (sym c.is_short.ensures ∙ c.loop-cursor-test.true))) c.with_digit-fraction.ensures);
       looks = omega (arith, c.loop-cursor.invariant.looks);
-      counted = omega (arith, c.loop-cursor.invariant.counted, c.in_ok-byte.ensures.looks, c.step.ensures.looks);
+      counted = omega (arith, c.loop-cursor.invariant.counted, c.in_ok-byte.ensures.looks, c.advance.ensures.looks);
     }
 
 pub returns-in_err-byte-clause-fraction : goal.returns-in_err-byte-clause-fraction

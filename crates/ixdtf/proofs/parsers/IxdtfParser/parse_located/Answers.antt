@@ -1,6 +1,6 @@
+use Rattle.ixdtf.proofs.parsers.IxdtfParser.parse_located.Goals as goal
 use Rattle.std.proofs.Common.{refl}
 use Rattle.ixdtf.proofs.code.Promised.{reads_ok_at, reads_err_at}
-use Rattle.ixdtf.proofs.parsers.IxdtfParser.parse_located.Goals as goal
 
 pub returns : goal.returns
 returns g c = record { reads = reads_ok_at _ _ _ _ _ tt _ c.in-Ok.ensures.reads }

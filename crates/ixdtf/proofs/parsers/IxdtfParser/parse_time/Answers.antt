@@ -1,6 +1,6 @@
+use Rattle.ixdtf.proofs.parsers.IxdtfParser.parse_time.Goals as goal
 use Rattle.std.proofs.Common.{refl}
 use Rattle.ixdtf.proofs.code.Promised.{reads_ok, reads_err}
-use Rattle.ixdtf.proofs.parsers.IxdtfParser.parse_time.Goals as goal
 
 pub returns : goal.returns
 returns g c = record { reads = reads_ok _ _ _ _ _ refl _ _ c.in-Ok.ensures.reads }

@@ -1,5 +1,5 @@
-use Rattle.ixdtf.proofs.code.Promised.{reads_ok, reads_err}
 use Rattle.ixdtf.proofs.parsers.IxdtfParser.parse_year_month.Goals as goal
+use Rattle.ixdtf.proofs.code.Promised.{reads_ok, reads_err}
 
 pub returns : goal.returns
 returns g c = record { reads = reads_ok _ _ _ _ _ tt _ _ c.in-Ok.ensures.reads }

@@ -1,14 +1,12 @@
-use Rattle.std.proofs.Common.{map, length, refl, sym, ap, ◌∙◌, List, ℕ, arith, rules}
-use Rattle.std.proofs.lemmas.List.{length-map}
-use Rattle.ixdtf_grammar.specs.Views.{Unread}
-use Rattle.ixdtf_reading.proofs.theorems.Handled.{handled, handled_comes}
-use Rattle.ixdtf_reading.proofs.theorems.HandledAt.{left_fits}
 use Rattle.ixdtf.proofs.parsers.IxdtfParser.read_into.Goals as goal
+use Rattle.std.proofs.{Common.{map, length, refl, sym, ap, ◌∙◌, List, ℕ, arith, rules}, lemmas.List.length-map}
+use Rattle.ixdtf_grammar.specs.Views.{Unread}
+use Rattle.ixdtf_reading.proofs.theorems.{Handled.{handled, handled_comes}, HandledAt.left_fits}
 
 pub returns-in-Ok : goal.returns-in-Ok
 returns-in-Ok g c = record {
   reads = record {
-    replied = rw (← c.self.view_is, ← c.take-here.ensures.same) c.in-Ok.ensures.replied;
+    replied = rw (← c.self.view_is, ← c.fork-here.ensures.same) c.in-Ok.ensures.replied;
     leaves = search rules;
     profile = search rules;
   };
@@ -18,14 +16,14 @@ pub returns-in-Err : goal.returns-in-Err
 returns-in-Err g c =
     let letter = g.T.EncodingType.letter in
     let left = c.parse_text.new.cursor.rest in
-    let taken = c.take-here.ensures.rest ∙ ap (λ (u : Unread). u.rest) (sym c.take-here.ensures.same) in
+    let taken = c.fork-here.ensures.rest ∙ ap (λ (u : Unread). u.rest) (sym c.fork-here.ensures.same) in
     let short = left_fits _ _ _ _ _ _ c.in-Err.ensures.replied.gives in
     let comes = handled_comes _ _ _ _ _ _ (handled _ _ _ _ _ _ _ c.in-Err.ensures.replied) _ refl in
     record {
       reads = record {
-        replied = rw (← c.self.view_is, ← c.take-here.ensures.same) (
+        replied = rw (← c.self.view_is, ← c.fork-here.ensures.same) (
           map letter left,
-          omega (arith, short, ap (λ (t : List ℕ). length t) taken, length-map left letter, length-map c.take-here.result.rest letter, c.saturating_sub-at.ensures, c.remaining.ensures, c.remaining-in-Err.ensures),
+          omega (arith, short, ap (λ (t : List ℕ). length t) taken, length-map left letter, length-map c.fork-here.result.rest letter, c.saturating_sub-at.ensures, c.remaining.ensures, c.remaining-in-Err.ensures),
           c.in-Err.ensures.replied,
         );
         leaves = search rules;

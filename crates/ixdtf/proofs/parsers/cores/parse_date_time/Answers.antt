@@ -1,8 +1,7 @@
-use Rattle.std.proofs.Common.{◌∙◌, refl}
-use Rattle.std.proofs.lemmas.Result.{err_from_is_err_and}
+use Rattle.ixdtf.proofs.parsers.cores.parse_date_time.Goals as goal
+use Rattle.std.proofs.{Common.{◌∙◌, refl}, lemmas.Result.err_from_is_err_and}
 use Rattle.ixdtf_reading.specs.reading.Cores.{whole_time_core_at}
 use Rattle.ixdtf.proofs.code.FixedCores.{fixed_core}
-use Rattle.ixdtf.proofs.parsers.cores.parse_date_time.Goals as goal
 
 pub returns-in_err-shape-in-Some-clause-date_time : goal.returns-in_err-shape-in-Some-clause-date_time
 unfolding whole_time_core_at

@@ -1,11 +1,10 @@
+use Rattle.ixdtf.proofs.parsers.replies.parse_annotations.Goals as goal
 use Rattle.std.proofs.Common.{◌≡◌, [], ◌∷◌, map, Some, None, option_map, IsSome, refl, sym, subst, arith, rules, of_calls}
 use Rattle.std.proofs.lemmas.Result.{err_from_is_err_and}
 use Rattle.ixdtf_grammar.specs.Handlers.{pair_of}
 use Rattle.ixdtf_reading.specs.reading.Chains.{first_pairs}
-use Rattle.ixdtf_reading.proofs.code.Units.{no_units}
-use Rattle.ixdtf_reading.proofs.to_grammar.MorePairs.{next_is, next_fault}
+use Rattle.ixdtf_reading.proofs.{code.Units.no_units, to_grammar.MorePairs.{next_is, next_fault}}
 use Rattle.ixdtf.proofs.code.Chains.{so_far_start, so_far_first, so_far_more, read_first_refused, read_refused, read_whole, read_fault}
-use Rattle.ixdtf.proofs.parsers.replies.parse_annotations.Goals as goal
 use Rattle.ixdtf.proofs.parsers.replies.parse_annotations.Goals.{in-Some+in_ok-keep_first_calendar, in_default}
 
 -- the reply to the first pair is refused

@@ -1,8 +1,8 @@
+use Rattle.ixdtf.proofs.parsers.replies.parse_annotations.Given as goal
 use Rattle.std.proofs.Common.{◌+◌, ◌*◌, ◌≤◌, length, map, option_map}
 use Rattle.ixdtf_grammar.specs.Handlers.{pair_of}
 use Rattle.ixdtf_reading.specs.reading.Chains.{first_pairs}
 use Rattle.ixdtf.proofs.code.Chains.{SoFar}
-use Rattle.ixdtf.proofs.parsers.replies.parse_annotations.Given as goal
 
 abbrev pub invariant-loop-annotation : goal.invariant-loop-annotation
 invariant-loop-annotation g l = record {

@@ -1,37 +1,35 @@
-use Rattle.std.proofs.Common.{◌∙◌, arith}
-use Rattle.std.proofs.lemmas.Result.{err_from_is_err_and}
-use Rattle.ixdtf_reading.proofs.code.Units.{no_units}
-use Rattle.ixdtf.proofs.code.Tail.{core_shortens, core_ends_text, core_refused}
-use Rattle.ixdtf.proofs.code.Placed.{no_brackets, placed_alone}
 use Rattle.ixdtf.proofs.parsers.texts.parse_text.Goals as goal
+use Rattle.std.proofs.{Common.{◌∙◌, arith}, lemmas.Result.err_from_is_err_and}
+use Rattle.ixdtf_reading.proofs.code.Units.{no_units}
+use Rattle.ixdtf.proofs.code.{Tail.{core_shortens, core_ends_text, core_refused}, Placed.{no_brackets, placed_alone}}
 
 pub returns-in_err-read-clause-replied : goal.returns-in_err-read-clause-replied
 returns-in_err-read-clause-replied g c =
     let p = err_from_is_err_and c.from_residual.result c.from_residual.ensures.1 in
-    rw (p.1, p.2) (core_refused _ _ _ (g.C.Cores.kind c.args.profile) _ _ (rw c.take-here.ensures.same at c.in_err-read.ensures.core))
+    rw (p.1, p.2) (core_refused _ _ _ (g.C.CoreReader.kind c.args.profile) _ _ (rw c.fork-here.ensures.same at c.in_err-read.ensures.core))
 
 -- a core, and the end
 pub returns-then-not-branch-clause-replied : goal.returns-then-not-branch-clause-replied
 returns-then-not-branch-clause-replied g c =
-    let read = rw (c.take-here.ensures.same, c.if-not-branch.true) at c.in_ok-read.ensures.core in
+    let read = rw (c.fork-here.ensures.same, c.if-not-branch.true) at c.in_ok-read.ensures.core in
     let kept = c.in_ok-read.ensures.kept in
     let none = no_brackets g.T.EncodingType.number c.parse_core-read.new.found (kept.0 ∙ c.requires.empty.tz) (kept.1 ∙ c.requires.empty.calendar) in
-    placed_alone _ _ _ _ _ _ none (g.C.Cores.kind c.args.profile) _ read
+    placed_alone _ _ _ _ _ _ none (g.C.CoreReader.kind c.args.profile) _ read
 
 pub returns-then-not-branch-clause-empty : goal.returns-then-not-branch-clause-empty
 returns-then-not-branch-clause-empty g c =
-    let read = rw (c.take-here.ensures.same, c.if-not-branch.true) at c.in_ok-read.ensures.core in
-    no_units g.T.EncodingType.letter _ (core_ends_text (g.C.Cores.kind c.args.profile) _ _ _ read)
+    let read = rw (c.fork-here.ensures.same, c.if-not-branch.true) at c.in_ok-read.ensures.core in
+    no_units g.T.EncodingType.letter _ (core_ends_text (g.C.CoreReader.kind c.args.profile) _ _ _ read)
 
 -- a core, and brackets
 pub returns-clause-replied : goal.returns-clause-replied
 returns-clause-replied g c =
-    let read = rw (c.take-here.ensures.same, c.if-not-branch.false) at c.in_ok-read.ensures.core in
-    c.parse_brackets.ensures.replied (g.C.Cores.kind c.args.profile) _ read
+    let read = rw (c.fork-here.ensures.same, c.if-not-branch.false) at c.in_ok-read.ensures.core in
+    c.parse_brackets.ensures.replied (g.C.CoreReader.kind c.args.profile) _ read
 
 -- the first bracket is looked through once more than it is read
 pub returns-clause-looks : goal.returns-clause-looks
 returns-clause-looks g c =
-    let read = rw (c.take-here.ensures.same, c.if-not-branch.false) at c.in_ok-read.ensures.core in
-    let looks = rw c.take-here.ensures.same at c.in_ok-read.ensures.looks in
-    omega (arith, core_shortens (g.C.Cores.kind c.args.profile) g.T.EncodingType.letter _ _ _ read, looks, c.parse_brackets.ensures.looks)
+    let read = rw (c.fork-here.ensures.same, c.if-not-branch.false) at c.in_ok-read.ensures.core in
+    let looks = rw c.fork-here.ensures.same at c.in_ok-read.ensures.looks in
+    omega (arith, core_shortens (g.C.CoreReader.kind c.args.profile) g.T.EncodingType.letter _ _ _ read, looks, c.parse_brackets.ensures.looks)

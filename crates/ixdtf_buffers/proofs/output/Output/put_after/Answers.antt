@@ -1,7 +1,7 @@
 -- Bytes that are too many for the array.
+use Rattle.ixdtf_buffers.proofs.output.Output.put_after.Goals as goal
 use Rattle.std.proofs.Common.{refl}
 use Rattle.ixdtf_buffers.proofs.OutputLemmas.{Puts-after, Puts-exit, Puts-through}
-use Rattle.ixdtf_buffers.proofs.output.Output.put_after.Goals as goal
 
 pub returns-then-bytes-gt-WAITING_LIMIT : goal.returns-then-bytes-gt-WAITING_LIMIT
 returns-then-bytes-gt-WAITING_LIMIT g c =

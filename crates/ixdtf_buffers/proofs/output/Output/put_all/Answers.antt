@@ -1,6 +1,6 @@
 -- Pieces in turn.
-use Rattle.ixdtf_buffers.proofs.OutputLemmas.{Puts-next, Puts-piece}
 use Rattle.ixdtf_buffers.proofs.output.Output.put_all.Goals as goal
+use Rattle.ixdtf_buffers.proofs.OutputLemmas.{Puts-next, Puts-piece}
 
 pub returns-in_err-put : goal.returns-in_err-put
 returns-in_err-put g c =

@@ -1,7 +1,7 @@
 -- Pieces in turn.
+use Rattle.ixdtf_buffers.proofs.output.Output.put_all.Given as goal
 use Rattle.std.proofs.Common.{Ok, take}
 use Rattle.ixdtf_buffers.specs.Output.{Puts, joined}
-use Rattle.ixdtf_buffers.proofs.output.Output.put_all.Given as goal
 
 -- the pieces so far were put
 abbrev pub invariant-loop-piece : goal.invariant-loop-piece

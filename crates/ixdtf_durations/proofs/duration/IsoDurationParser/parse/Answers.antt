@@ -5,7 +5,7 @@ use Rattle.ixdtf_reading.proofs.code.ReadersWithoutPairs.{exact}
 
 pub returns : goal.returns
 returns g c =
-    let gives = exact _ _ (parse_duration c.self.inside.profile) lasting (λ x y e. cc) tt _ c.take-here.result c.parse_duration_text-read.new.cursor refl _ _ _
+    let gives = exact _ _ (parse_duration c.self.inside.profile) lasting (λ x y e. cc) tt _ c.fork-here.result c.parse_duration_text-read.new.cursor refl _ _ _
     c.parse_duration_text-read.ensures.duration c.settle.ensures.settled in
-    let alone = gives.alone c.self.inside.profile refl in
-    rw (← c.self.view_is, ← c.take-here.ensures.same) (record { reads = record { ok = search rules; err = gives.err; no_row = gives.no_row; only = gives.only; leaves = search rules }; alone = alone; profile = search rules })
+    let no_other_reader = gives.no_other_reader c.self.inside.profile refl in
+    rw (← c.self.view_is, ← c.fork-here.ensures.same) (record { reads = record { ok = search rules; err = gives.err; no_row = gives.no_row; only = gives.only; leaves = search rules }; no_other_reader = no_other_reader; profile = search rules })

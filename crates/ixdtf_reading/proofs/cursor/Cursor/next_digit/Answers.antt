@@ -5,5 +5,5 @@ use Rattle.ixdtf_reading.proofs.code.FractionLoop.{one_taken}
 -- the digit that is taken pays for the look
 pub returns-in-Some-clause-looks : goal.returns-in-Some-clause-looks
 returns-in-Some-clause-looks g c =
-    let off = one_taken {letter = g.T.EncodingType.letter} c.in_ok-look.ensures.letter c.in-Some.is c.in_ok-look.ensures.rest c.step.ensures.rest in
+    let off = one_taken {letter = g.T.EncodingType.letter} c.in_ok-look.ensures.letter c.in-Some.is c.in_ok-look.ensures.rest c.advance.ensures.rest in
     omega arith

@@ -15,20 +15,20 @@ pub returns-then-self-lt2-clause-digits : goal.returns-then-self-lt2-clause-digi
 returns-then-self-lt2-clause-digits g c =
     let read = too_short g.T.EncodingType.letter (fault_of_stop c.args.other) c.args.self.now.rest
     (omega (arith, ap (λ (u : Unread). length u.rest) c.self.view_is, length-map c.self.inside.rest.now g.T.EncodingType.number)) in
-    read ∙ rw (c.in_ok-digit_at.ensures.digit, c.step.ensures.letters, c.in_ok-digit_at.ensures.rest) refl
+    read ∙ rw (c.in_ok-digit_at.ensures.digit, c.advance.ensures.letters, c.in_ok-digit_at.ensures.rest) refl
 
-pub returns-then-number_of-le99-clause-digits : goal.returns-then-number_of-le99-clause-digits
-returns-then-number_of-le99-clause-digits g c =
+pub returns-then-two_digit_number-le99-clause-digits : goal.returns-then-two_digit_number-le99-clause-digits
+returns-then-two_digit_number-le99-clause-digits g c =
     let letter = g.T.EncodingType.letter in
     let units = c.args.self.now.rest in
-    let digits = c.number_of.ensures.digits c.if-number_of-le99.true in
+    let digits = c.two_digit_number.ensures.digits c.if-two_digit_number-le99.true in
     let read = long_enough letter (fault_of_stop c.args.other) units
     (omega (arith, ap (λ (u : Unread). length u.rest) c.self.view_is, length-map c.self.inside.rest.now g.T.EncodingType.number)) in
     let second = subst (λ (t : List ℕ). Yields (λ x. x) c.look_at-second.result (ascii_at letter 1 t)) c.look_at-first.ensures.rest c.look_at-second.ensures.letter in
     let tens = seen_digit (fault_of_stop c.args.other) c.look_at-first.result (ascii_at letter 0 units) c.look_at-first.ensures.letter
     (rw (← c.byte_of-tens.ensures) digits.0) in
     let ones = seen_digit (fault_of_stop c.args.other) c.look_at-second.result (ascii_at letter 1 units) second (rw (← c.byte_of-ones.ensures) digits.1) in
-    read ∙ rw (tens, ones, c.byte_of-tens.ensures, c.byte_of-ones.ensures, c.skip.ensures.rest, c.look_at-second.ensures.rest, c.look_at-first.ensures.rest) refl
+    read ∙ rw (tens, ones, c.byte_of-tens.ensures, c.byte_of-ones.ensures, c.advance_by.ensures.rest, c.look_at-second.ensures.rest, c.look_at-first.ensures.rest) refl
 
 pub returns-then-not-is_ascii_digit-clause-digits : goal.returns-then-not-is_ascii_digit-clause-digits
 returns-then-not-is_ascii_digit-clause-digits g c =
@@ -49,4 +49,4 @@ returns-clause-digits g c =
     let tens = seen_digit (fault_of_stop c.args.other) c.look_at-first.result (ascii_at letter 0 units) c.look_at-first.ensures.letter
     (rw (← c.byte_of-tens.ensures) (search rules)) in
     let stop = c.no_digit-2.ensures (ascii_at letter 1 units) second in
-    read ∙ rw (tens, stop, c.step-2.ensures.letters, c.look_at-second.ensures.rest, c.look_at-first.ensures.rest) refl
+    read ∙ rw (tens, stop, c.advance-2.ensures.letters, c.look_at-second.ensures.rest, c.look_at-first.ensures.rest) refl

@@ -1,0 +1,12 @@
+use Rattle.ixdtf.proofs.parsers.time_zone_parser.TimeZoneParser.parse_offset_located.Goals as goal
+use Rattle.std.proofs.Common.{refl, rules, ◌∙◌, sym, ap}
+use Rattle.ixdtf_grammar.specs.{Views.Unread, language.{Readers.Reader.parse_offset, Languages.Found.shifted}}
+use Rattle.ixdtf_reading.specs.reading.Looks.{error_of}
+use Rattle.ixdtf_reading.proofs.{code.Located.located, parts.ZonesAlone.offset_read}
+use Rattle.ixdtf.proofs.code.Promised.{part_at}
+
+pub returns : goal.returns
+returns g c =
+    let gives = located _ _ parse_offset shifted (λ x y e. cc) tt _ c.fork-here.result c.parse_offset_text-outcome.new.cursor refl _ (offset_read error_of _) _
+    (c.fork-here.ensures.rest ∙ ap (λ (u : Unread). u.rest) (sym c.fork-here.ensures.same)) _ _ c.parse_offset_text-outcome.ensures.offset c.settle.ensures.settled c.settle.ensures.place in
+    rw (← c.self.view_is, ← c.fork-here.ensures.same) (record { reads = part_at gives (search rules) })

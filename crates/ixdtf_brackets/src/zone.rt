@@ -1,0 +1,258 @@
+//! Reading zone names, and texts that are a time zone.
+
+#![tactic(auto, unfolding(ixdtf_reading::specs::reading::Brackets::bracket_readings))]
+
+ghost use Rattle.std.specs.Prelude.{◌≡◌, ◌+◌, ◌≤◌, map, length, true, Ok, IfOk};
+ghost use Rattle.ixdtf_grammar.specs.language.Letters.{slash, zone_char};
+ghost use Rattle.ixdtf_grammar.specs.Views.{zone_of};
+ghost use Rattle.ixdtf_reading.specs.reading.Clauses.{Reads, Spends, fault_of_stop, closing_look};
+ghost use Rattle.ixdtf_reading.specs.reading.Looks.{error_of, next_by, seen};
+ghost use Rattle.ixdtf_reading.specs.reading.Runs.{Passes, letters_by};
+ghost use Rattle.ixdtf_reading.specs.reading.Zones.{name_run, name_alone_at, iana_identifier_at, identifier_at};
+ghost use Rattle.ixdtf_brackets.specs.BracketTypes.{part_after, name_after};
+ghost use Rattle.ixdtf_reading.specs.reading.Brackets.{name_fault, next_is, name_in_bracket_at, offset_in_bracket_at};
+
+use ixdtf_grammar::encoding::EncodingType;
+use ixdtf_grammar::records::{TimeRecord, TimeZoneRecord};
+use ixdtf_reading::cursor::Cursor;
+use ixdtf_reading::grammar::{
+    is_annotation_close, is_ascii_sign, is_tz_char, is_tz_leading_char, is_tz_name_separator,
+};
+use ixdtf_reading::letters::{Letters, Passed, pass_letters};
+use ixdtf_reading::stop::Stop;
+use ixdtf_times::offsets::{minute_offset, take_last_offset};
+use ixdtf_times::time::{Clock, parse_clock};
+
+// ==== Names ====
+
+/// The code units of a part of a name.
+#[derive(Clone, Copy)]
+pub struct PartLetters;
+
+impl Letters for PartLetters {
+    ghost after = { part_after };
+
+    #[inline(always)]
+    fn go_on(self, byte: u8) -> Option<Self> {
+        is_tz_char(byte).then_some(self)
+    }
+}
+
+/// The state of a name: whether it may end there. After a `/` it may not.
+#[derive(Clone, Copy)]
+pub struct NameState {
+    pub may_end: bool,
+}
+
+impl NameState {
+    /// The error of a name that may not end where it does.
+    #[inline(always)]
+    pub fn stop(self) -> Stop
+        ensures { fault_of_stop result ≡ name_fault self.may_end }
+    {
+        if self.may_end {
+            Stop::IanaChar
+        } else {
+            Stop::IanaCharPostSeparator
+        }
+    }
+}
+
+/// Whether the code unit is the `/` after a part of a name.
+#[inline(always)]
+fn ends_part(next: Option<u8>) -> bool
+    ensures { result ≡ next_is slash next }
+{
+    matches!(next, Some(byte) if is_tz_name_separator(byte))
+}
+
+/// Whether the code unit is one of a part of a name.
+#[inline(always)]
+fn starts_part(next: Option<u8>) -> bool
+    ensures { result ≡ next_is zone_char next }
+{
+    matches!(next, Some(byte) if is_tz_char(byte))
+}
+
+/// Passes over the code units of a name, part by part between its slashes.
+#[inline(always)]
+pub fn pass_name<'a, T: EncodingType>(cursor: &mut Cursor<'a, T>) -> Result<Passed<NameState>, Stop>
+    ensures letters { Passes T.letter cursor.old result cursor.new
+        (letters_by name_after (record { may_end = true })) }
+    ensures looks { Spends 1 cursor.old cursor.new }
+    ensures shorter { length cursor.new.rest ≤ length cursor.old.rest }
+{
+    let mut here = cursor.fork();
+    let passed = pass_parts(&mut here);
+    *cursor = here;
+    passed
+}
+
+/// Passes over the parts of a name, as `pass_name` does, with this cursor itself.
+#[inline(always)]
+fn pass_parts<'a, T: EncodingType>(cursor: &mut Cursor<'a, T>) -> Result<Passed<NameState>, Stop>
+    ensures letters { Passes T.letter cursor.old result cursor.new
+        (letters_by name_after (record { may_end = true })) }
+    ensures looks { Spends 1 cursor.old cursor.new }
+    ensures shorter { length cursor.new.rest ≤ length cursor.old.rest }
+{
+    loop {
+        let part = pass_letters(cursor, PartLetters)?;
+        if !ends_part(part.next) {
+            return Ok(Passed {
+                state: NameState { may_end: true },
+                next: part.next,
+            });
+        }
+        cursor.advance();
+        let next = cursor.look()?;
+        if !starts_part(next) {
+            return Ok(Passed {
+                state: NameState { may_end: false },
+                next,
+            });
+        }
+        cursor.advance();
+    }
+}
+
+/// A name, and the code unit after it.
+#[derive(Drop)]
+pub struct ReadName<'a, T: EncodingType> {
+    pub units: &'a [T::CodeUnit],
+    pub next: Option<u8>,
+}
+
+/// Reads a name, and returns its code units and the one after it. Its first code unit has been seen.
+#[inline(always)]
+pub fn parse_tz_name<'a, T: EncodingType>(
+    cursor: &mut Cursor<'a, T>,
+) -> Result<ReadName<'a, T>, Stop>
+    ensures name { Reads T.letter (λ name. map T.number name.units.now) cursor.old result cursor.new
+        (name_run error_of true) }
+    ensures next { IfOk result (λ name. seen (map T.letter cursor.new.rest) ≡ Ok name.next) }
+    ensures looks { Spends 1 cursor.old cursor.new }
+{
+    let start = cursor.rest();
+    let name = pass_name(cursor)?;
+    if !name.state.may_end {
+        return Err(Stop::IanaCharPostSeparator);
+    }
+    let count = start.len().saturating_sub(cursor.rest().len());
+    Ok(ReadName {
+        units: &start[..count],
+        next: name.next,
+    })
+}
+
+/// Reads a name, and expects the end of the input.
+fn parse_name_alone<'a, T: EncodingType>(
+    cursor: &mut Cursor<'a, T>,
+) -> Result<&'a [T::CodeUnit], Stop>
+    ensures name { Reads T.letter (λ units. map T.number units.now) cursor.old result cursor.new
+        (name_alone_at error_of) }
+    ensures looks { Spends 2 cursor.old cursor.new }
+{
+    let name = parse_tz_name(cursor)?;
+    match name.next {
+        None => Ok(name.units),
+        Some(byte) if is_annotation_close(byte) => Err(Stop::InvalidEnd),
+        Some(_) => Err(Stop::IanaChar),
+    }
+}
+
+/// Reads a name, and expects the end of the input. Its first code unit has been seen.
+pub fn parse_iana_identifier_text<'a, T: EncodingType>(
+    cursor: &mut Cursor<'a, T>,
+) -> Result<&'a [T::CodeUnit], Stop>
+    ensures name { Reads T.letter (λ units. map T.number units.now) cursor.old result cursor.new
+        (iana_identifier_at error_of) }
+    ensures looks { Spends 3 cursor.old cursor.new }
+{
+    match cursor.look()? {
+        Some(byte) if is_tz_leading_char(byte) => parse_name_alone(cursor),
+        _ => Err(Stop::TzLeadingChar),
+    }
+}
+
+/// Reads a name, or an offset without seconds, and expects the end of the input.
+pub fn parse_identifier_text<'a, T: EncodingType>(
+    cursor: &mut Cursor<'a, T>,
+) -> Result<TimeZoneRecord<'a, T>, Stop>
+    ensures zone { Reads T.letter (zone_of T.number) cursor.old result cursor.new
+        (identifier_at error_of) }
+    ensures looks { Spends 15 cursor.old cursor.new }
+{
+    match cursor.look()? {
+        None => Err(Stop::AbruptZone),
+        Some(byte) if is_ascii_sign(byte) => {
+            cursor.advance();
+            if let Some(offset) = take_last_offset(cursor, byte) {
+                return Ok(TimeZoneRecord::Offset(offset));
+            }
+            let mut time = TimeRecord::default();
+            parse_clock(cursor, Clock::MinuteOffset, &mut time)?;
+            cursor.close()?;
+            Ok(TimeZoneRecord::Offset(minute_offset(byte, time)))
+        }
+        Some(byte) if is_tz_leading_char(byte) => {
+            let name = parse_name_alone(cursor)?;
+            Ok(TimeZoneRecord::Name(name))
+        }
+        Some(_) => Err(Stop::TzLeadingChar),
+    }
+}
+
+// ==== Brackets ====
+
+/// Expects `]`: the end of the input is `AnnotationClose`, and another code unit is this stop.
+#[inline(always)]
+fn close_bracket<'a, T: EncodingType>(cursor: &mut Cursor<'a, T>, other: Stop) -> Result<u8, Stop>
+    ensures end { Reads T.letter (λ byte. byte) cursor.old result cursor.new
+        (next_by (closing_look (fault_of_stop other))) }
+    ensures looks { Spends 1 cursor.old cursor.new }
+{
+    match cursor.look()? {
+        None => Err(Stop::AnnotationClose),
+        Some(byte) if is_annotation_close(byte) => {
+            cursor.advance();
+            Ok(byte)
+        }
+        Some(_) => Err(other),
+    }
+}
+
+/// Reads an offset after its sign, and its bracket's `]`.
+pub fn parse_offset_in_bracket<'a, T: EncodingType>(
+    cursor: &mut Cursor<'a, T>,
+    sign: u8,
+) -> Result<TimeZoneRecord<'a, T>, Stop>
+    ensures offset { Reads T.letter (zone_of T.number) cursor.old result cursor.new
+        (offset_in_bracket_at error_of sign) }
+    ensures looks { Spends 14 cursor.old cursor.new }
+{
+    let mut time = TimeRecord::default();
+    parse_clock(cursor, Clock::MinuteOffset, &mut time)?;
+    close_bracket(cursor, Stop::AnnotationClose)?;
+    Ok(TimeZoneRecord::Offset(minute_offset(sign, time)))
+}
+
+/// Reads a name and its bracket's `]`.
+#[inline(always)]
+pub fn parse_name_in_bracket<'a, T: EncodingType>(
+    cursor: &mut Cursor<'a, T>,
+) -> Result<&'a [T::CodeUnit], Stop>
+    ensures name { Reads T.letter (λ units. map T.number units.now) cursor.old result cursor.new
+        (name_in_bracket_at error_of) }
+    ensures looks { Spends 2 cursor.old cursor.new }
+{
+    let name = parse_tz_name(cursor)?;
+    match name.next {
+        None => Err(Stop::AnnotationClose),
+        Some(byte) if is_annotation_close(byte) => {
+            cursor.advance();
+            Ok(name.units)
+        }
+        Some(_) => Err(Stop::IanaChar),
+    }
+}

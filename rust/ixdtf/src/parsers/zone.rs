@@ -1,0 +1,200 @@
+// Made by tools/to_rust.py of crates/ixdtf_brackets/src/zone.rt. Do not edit.
+
+//! Reading zone names, and texts that are a time zone.
+
+use crate::encoding::EncodingType;
+use crate::records::{TimeRecord, TimeZoneRecord};
+use crate::cursor::Cursor;
+use crate::grammar::{
+    is_annotation_close, is_ascii_sign, is_tz_char, is_tz_leading_char, is_tz_name_separator,
+};
+use crate::parsers::letters::{Letters, Passed, pass_letters};
+use crate::stop::Stop;
+use crate::parsers::offsets::{minute_offset, take_last_offset};
+use crate::parsers::time::{Clock, parse_clock};
+
+// ==== Names ====
+
+/// The code units of a part of a name.
+#[derive(Clone, Copy)]
+pub struct PartLetters;
+
+impl Letters for PartLetters {
+    #[inline(always)]
+    fn go_on(self, byte: u8) -> Option<Self> {
+        is_tz_char(byte).then_some(self)
+    }
+}
+
+/// The state of a name: whether it may end there. After a `/` it may not.
+#[derive(Clone, Copy)]
+pub struct NameState {
+    pub may_end: bool,
+}
+
+impl NameState {
+    /// The error of a name that may not end where it does.
+    #[inline(always)]
+    pub fn stop(self) -> Stop {
+        if self.may_end {
+            Stop::IanaChar
+        } else {
+            Stop::IanaCharPostSeparator
+        }
+    }
+}
+
+/// Whether the code unit is the `/` after a part of a name.
+#[inline(always)]
+fn ends_part(next: Option<u8>) -> bool {
+    matches!(next, Some(byte) if is_tz_name_separator(byte))
+}
+
+/// Whether the code unit is one of a part of a name.
+#[inline(always)]
+fn starts_part(next: Option<u8>) -> bool {
+    matches!(next, Some(byte) if is_tz_char(byte))
+}
+
+/// Passes over the code units of a name, part by part between its slashes.
+#[inline(always)]
+pub fn pass_name<'a, T: EncodingType>(cursor: &mut Cursor<'a, T>) -> Result<Passed<NameState>, Stop> {
+    let mut here = cursor.fork();
+    let passed = pass_parts(&mut here);
+    *cursor = here;
+    passed
+}
+
+/// Passes over the parts of a name, as `pass_name` does, with this cursor itself.
+#[inline(always)]
+fn pass_parts<'a, T: EncodingType>(cursor: &mut Cursor<'a, T>) -> Result<Passed<NameState>, Stop> {
+    loop {
+        let part = pass_letters(cursor, PartLetters)?;
+        if !ends_part(part.next) {
+            return Ok(Passed {
+                state: NameState { may_end: true },
+                next: part.next,
+            });
+        }
+        cursor.advance();
+        let next = cursor.look()?;
+        if !starts_part(next) {
+            return Ok(Passed {
+                state: NameState { may_end: false },
+                next,
+            });
+        }
+        cursor.advance();
+    }
+}
+
+/// A name, and the code unit after it.
+pub struct ReadName<'a, T: EncodingType> {
+    pub units: &'a [T::CodeUnit],
+    pub next: Option<u8>,
+}
+
+/// Reads a name, and returns its code units and the one after it. Its first code unit has been seen.
+#[inline(always)]
+pub fn parse_tz_name<'a, T: EncodingType>(
+    cursor: &mut Cursor<'a, T>,
+) -> Result<ReadName<'a, T>, Stop> {
+    let start = cursor.rest();
+    let name = pass_name(cursor)?;
+    if !name.state.may_end {
+        return Err(Stop::IanaCharPostSeparator);
+    }
+    let count = start.len().saturating_sub(cursor.rest().len());
+    Ok(ReadName {
+        units: &start[..count],
+        next: name.next,
+    })
+}
+
+/// Reads a name, and expects the end of the input.
+fn parse_name_alone<'a, T: EncodingType>(
+    cursor: &mut Cursor<'a, T>,
+) -> Result<&'a [T::CodeUnit], Stop> {
+    let name = parse_tz_name(cursor)?;
+    match name.next {
+        None => Ok(name.units),
+        Some(byte) if is_annotation_close(byte) => Err(Stop::InvalidEnd),
+        Some(_) => Err(Stop::IanaChar),
+    }
+}
+
+/// Reads a name, and expects the end of the input. Its first code unit has been seen.
+pub fn parse_iana_identifier_text<'a, T: EncodingType>(
+    cursor: &mut Cursor<'a, T>,
+) -> Result<&'a [T::CodeUnit], Stop> {
+    match cursor.look()? {
+        Some(byte) if is_tz_leading_char(byte) => parse_name_alone(cursor),
+        _ => Err(Stop::TzLeadingChar),
+    }
+}
+
+/// Reads a name, or an offset without seconds, and expects the end of the input.
+pub fn parse_identifier_text<'a, T: EncodingType>(
+    cursor: &mut Cursor<'a, T>,
+) -> Result<TimeZoneRecord<'a, T>, Stop> {
+    match cursor.look()? {
+        None => Err(Stop::AbruptZone),
+        Some(byte) if is_ascii_sign(byte) => {
+            cursor.advance();
+            if let Some(offset) = take_last_offset(cursor, byte) {
+                return Ok(TimeZoneRecord::Offset(offset));
+            }
+            let mut time = TimeRecord::default();
+            parse_clock(cursor, Clock::MinuteOffset, &mut time)?;
+            cursor.close()?;
+            Ok(TimeZoneRecord::Offset(minute_offset(byte, time)))
+        }
+        Some(byte) if is_tz_leading_char(byte) => {
+            let name = parse_name_alone(cursor)?;
+            Ok(TimeZoneRecord::Name(name))
+        }
+        Some(_) => Err(Stop::TzLeadingChar),
+    }
+}
+
+// ==== Brackets ====
+
+/// Expects `]`: the end of the input is `AnnotationClose`, and another code unit is this stop.
+#[inline(always)]
+fn close_bracket<'a, T: EncodingType>(cursor: &mut Cursor<'a, T>, other: Stop) -> Result<u8, Stop> {
+    match cursor.look()? {
+        None => Err(Stop::AnnotationClose),
+        Some(byte) if is_annotation_close(byte) => {
+            cursor.advance();
+            Ok(byte)
+        }
+        Some(_) => Err(other),
+    }
+}
+
+/// Reads an offset after its sign, and its bracket's `]`.
+pub fn parse_offset_in_bracket<'a, T: EncodingType>(
+    cursor: &mut Cursor<'a, T>,
+    sign: u8,
+) -> Result<TimeZoneRecord<'a, T>, Stop> {
+    let mut time = TimeRecord::default();
+    parse_clock(cursor, Clock::MinuteOffset, &mut time)?;
+    close_bracket(cursor, Stop::AnnotationClose)?;
+    Ok(TimeZoneRecord::Offset(minute_offset(sign, time)))
+}
+
+/// Reads a name and its bracket's `]`.
+#[inline(always)]
+pub fn parse_name_in_bracket<'a, T: EncodingType>(
+    cursor: &mut Cursor<'a, T>,
+) -> Result<&'a [T::CodeUnit], Stop> {
+    let name = parse_tz_name(cursor)?;
+    match name.next {
+        None => Err(Stop::AnnotationClose),
+        Some(byte) if is_annotation_close(byte) => {
+            cursor.advance();
+            Ok(name.units)
+        }
+        Some(_) => Err(Stop::IanaChar),
+    }
+}
