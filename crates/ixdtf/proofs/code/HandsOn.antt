@@ -48,7 +48,7 @@ use types.Kit.{some}
 use types.Kit.{later}
 use types.Kit.{◌$◌}
 use types.Kit.{◌∵◌}
-use types.Kit.{!}
+use types.Kit.{ ! }
 use types.Kit.{qed}
 use types.Kit.{done}
 use types.Kit.{move}
