@@ -8,7 +8,7 @@ ghost use Rattle.ixdtf_grammar.specs.Views.{parsed_of};
 ghost use Rattle.ixdtf_grammar.specs.Promises.{HandlesText, HandlesTextAt};
 ghost use Rattle.ixdtf.specs.Readings.{HandlesTextTo};
 
-use crate::parsers::{Cores, DateTimes, FromStop, IxdtfParser, MonthDays, Times, YearMonths};
+use crate::parsers::{CoreReader, DateTimes, FromStop, IxdtfParser, MonthDays, Times, YearMonths};
 use crate::{LocatedError, ParseError, ParserResult};
 use ixdtf_grammar::encoding::EncodingType;
 use ixdtf_grammar::records::{Annotation, IxdtfParseRecord};

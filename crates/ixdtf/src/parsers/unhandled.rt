@@ -8,7 +8,7 @@ ghost use Rattle.ixdtf_grammar.specs.Views.{IsEmptyRecord, parsed_of};
 ghost use Rattle.ixdtf_grammar.specs.Promises.{ReadsText, ReadsTextAt};
 ghost use Rattle.ixdtf.specs.Readings.{ReadsUnhandled};
 
-use crate::parsers::{Cores, DateTimes, IxdtfParser, MonthDays, Times, YearMonths};
+use crate::parsers::{CoreReader, DateTimes, IxdtfParser, MonthDays, Times, YearMonths};
 use crate::{LocatedError, ParserResult};
 use ixdtf_grammar::encoding::EncodingType;
 use ixdtf_grammar::records::IxdtfParseRecord;

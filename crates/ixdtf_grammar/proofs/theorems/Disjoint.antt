@@ -2,7 +2,7 @@
 use Rattle.std.proofs.Common.{◌≡◌, List, [], ◌∷◌, ◌++◌, refl, sym, ap, ◌∙◌, subst, inl, inr, arith, append_assoc, append-nil}
 use Rattle.ixdtf_grammar.specs.{declared.{profile.Profile.Profile, records.DateRecord.DateRecord}, language.Letters.{Text, Letter.Plain}}
 use Rattle.ixdtf_grammar.specs.language.{Shapes.{Shape, some}, Dates.DateText, Months.{IsYearMonth, IsMonthDay}, Brackets.Pair}
-use Rattle.ixdtf_grammar.specs.language.{Cores.{Core, IsDateTimeCore, HasFront, IsCore}, Durations.IsDuration, Readers.{Reader, CoreKind}}
+use Rattle.ixdtf_grammar.specs.language.{Cores.{Core, IsDateTimeCore, BeginsWith, IsCore}, Durations.IsDuration, Readers.{Reader, CoreKind}}
 use Rattle.ixdtf_grammar.specs.language.Readers.CoreKind.{date_time, year_month, month_day, time_of_day}
 use Rattle.ixdtf_grammar.specs.language.Readers.Reader.{bracketed, parse_offset, parse_identifier, parse_iana_identifier, parse_duration}
 use Rattle.ixdtf_grammar.specs.language.Languages.{Parsed, IsBracketed, Derives.{as_parsed, as_lasting}}
@@ -17,7 +17,7 @@ abbrev month_of : DateRecord → DateRecord
 month_of date = record { year = date.year; month = date.month; day = 1 }
 
 -- a date begins with a year-month
-date_front : (text more : Text) (date : DateRecord) → DateText text date → HasFront (some IsYearMonth) (text ++ more)
+date_front : (text more : Text) (date : DateRecord) → DateText text date → BeginsWith (some IsYearMonth) (text ++ more)
 date_front text more date (inl h) = (
   h.years ++ h.months,
   h.days ++ more,
@@ -33,12 +33,12 @@ date_front text more date (inr h) = (
   tt,
 )
 
-date_time_front : (text : Text) (core : Core) → IsDateTimeCore text core → HasFront (some IsYearMonth) text
+date_time_front : (text : Text) (core : Core) → IsDateTimeCore text core → BeginsWith (some IsYearMonth) text
 date_time_front text core (inl h) = rw (← (append-nil text)) (date_front text [] h.0 h.1.0)
 date_time_front text core (inr h) = rw h.is (date_front h.dates _ h.date h.is_date.0)
 
 -- a text is a front of itself
-itself : (shape : Shape) (text : Text) → shape text → HasFront shape text
+itself : (shape : Shape) (text : Text) → shape text → BeginsWith shape text
 itself shape text h = (text, [], sym (append-nil text), h, tt)
 
 -- ---- pairs of readers with brackets

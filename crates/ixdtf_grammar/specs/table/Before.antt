@@ -3,7 +3,7 @@ use Rattle.std.specs.Prelude.{◌≡◌, ◌≢◌, ◌⊎◌, List, [], ◌++�
 use Rattle.ixdtf_grammar.specs.{declared.profile.Profile.Profile, language.Letters.{Text, sign, date_time_separator, time_letter, opening}}
 use Rattle.ixdtf_grammar.specs.language.{Shapes.{Shape, nothing, one, ◌then◌, ◌either◌, some, anything}, Dates.IsDate, Months.IsMonthDay, Times.IsTime}
 use Rattle.ixdtf_grammar.specs.language.{Times.Clock.{Time, Offset, MinuteOffset}, Brackets.{ZoneNote, Opens, ReadsAsName, ReadsAsPair, Pair, IsTail}}
-use Rattle.ixdtf_grammar.specs.language.{Cores.{TimeMark, MarkedTime, HasFront, IsCore}, Readers.{Reader, CoreKind}}
+use Rattle.ixdtf_grammar.specs.language.{Cores.{TimeMark, MarkedTime, BeginsWith, IsCore}, Readers.{Reader, CoreKind}}
 use Rattle.ixdtf_grammar.specs.language.Readers.CoreKind.{date_time, year_month, month_day, time_of_day}
 use Rattle.ixdtf_grammar.specs.language.Readers.Reader.{bracketed, parse_offset, parse_identifier, parse_iana_identifier, parse_duration}
 use Rattle.ixdtf_grammar.specs.table.LineNames.{DateLine, MonthDayLine, TimeLine, CoreLine, ClockLine, OffsetLine, LineName, DateLine.year_start}
@@ -93,7 +93,7 @@ ReadsAsTime = some MarkedTime then AtCoreEnd
 abbrev pub InTimeAlone : Profile → TimeLine → Text → Text → Type 0
 InTimeAlone profile time_start before rest = nothing before
 InTimeAlone profile (time_reads_as_month_day other) before rest = nothing before × ReadsAsTime rest × (other ≡ profile)
-InTimeAlone profile time_reads_as_year_month before rest = nothing before × ReadsAsTime rest × ¬ (HasFront (some (IsMonthDay profile)) rest)
+InTimeAlone profile time_reads_as_year_month before rest = nothing before × ReadsAsTime rest × ¬ (BeginsWith (some (IsMonthDay profile)) rest)
 
 -- what stands before the other lines of a time that stands alone, and what the text has from their front on
 abbrev pub BeforeTimeAlone : CoreKind → TimeLine → Text → Text → Type 0

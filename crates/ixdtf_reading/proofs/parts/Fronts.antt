@@ -2,7 +2,7 @@
 -- stands in front, and where a core stands before the end or a bracket, it is one in front of the core.
 use Rattle.std.proofs.{Common.{◌≡◌, Bool, false, IsTrue, IsFalse, ◌++◌, Ok, Err, refl, ap, ◌∙◌, append_assoc}, lemmas.Bool.{both_ways, false_from_ne_true}}
 use Rattle.ixdtf_grammar.specs.{declared.{profile.Profile.Profile, records.DateRecord.DateRecord}, language.{Letters.Text, Shapes.{Shape, some}}}
-use Rattle.ixdtf_grammar.specs.language.{Months.{IsYearMonth, IsMonthDay}, Cores.{HasFront, HasNoDateFront}}
+use Rattle.ixdtf_grammar.specs.language.{Months.{IsYearMonth, IsMonthDay}, Cores.{BeginsWith, HasNoDateFront}}
 use Rattle.ixdtf_grammar.specs.table.{Faults.Fault.{AmbiguousTimeMonthDay, AmbiguousTimeYearMonth}, LineNames.of_time}
 use Rattle.ixdtf_grammar.specs.table.{LineNames.TimeLine.{time_reads_as_month_day, time_reads_as_year_month}, Rows.{Row, Place.anywhere}}
 use Rattle.ixdtf_grammar.proofs.parts.CoreLetters.{AllInside, CoreEnds, in_core, in_month_day, in_year_month}
@@ -27,22 +27,22 @@ none_there test holds h fails there = both_ways test fails (h.1 there)
 exact : (part : Text → DateRecord → Type 0) (text : Text) (read : Read Placed DateRecord) (stopped : Row → Type 0)
     → OnRead error_of read (FrontIs part text) stopped
     → ((front : Text) (date : DateRecord) (rest : Text) → text ≡ front ++ rest → part front date → read ≡ Ok (date, rest))
-    → Exact (is_read read) (HasFront (some part) text)
+    → Exact (is_read read) (BeginsWith (some part) text)
 exact part text (Ok x) stopped gives takes = (λ h. (gives.0, x.1, gives.1, (x.0, gives.2), tt), λ h. refl)
 exact part text (Err e) stopped gives takes = (λ h. absurd (both_ways false refl h), λ h. ap is_read (takes h.0 h.3.0 h.1 h.2 h.3.1))
 
-pub month_day_begins_exact : (profile : Profile) (text : Text) → Exact (month_day_begins profile text) (HasFront (some (IsMonthDay profile)) text)
+pub month_day_begins_exact : (profile : Profile) (text : Text) → Exact (month_day_begins profile text) (BeginsWith (some (IsMonthDay profile)) text)
 month_day_begins_exact profile text = exact _ text _ _ (month_day_read error_of profile text)
     (λ front date rest is h. ap (month_day_at error_of profile) is ∙ month_day_takes error_of profile front date rest h)
 
-pub year_month_begins_exact : (text : Text) → Exact (year_month_begins text) (HasFront (some IsYearMonth) text)
+pub year_month_begins_exact : (text : Text) → Exact (year_month_begins text) (BeginsWith (some IsYearMonth) text)
 year_month_begins_exact text = exact IsYearMonth text _ _ (year_month_read error_of text)
     (λ front date rest is h. ap (year_month_at error_of) is ∙ year_month_takes error_of front date rest h)
 
 -- ---- fronts of a core, and of the text with what stands after the core
 
-front_in_core : (shape : Shape) → ((text : Text) → shape text → AllInside text) → (cores rest : Text) → CoreEnds rest → HasFront shape (cores ++ rest)
-    → HasFront shape cores
+front_in_core : (shape : Shape) → ((text : Text) → shape text → AllInside text) → (cores rest : Text) → CoreEnds rest → BeginsWith shape (cores ++ rest)
+    → BeginsWith shape cores
 front_in_core shape inside cores rest ends h = let more = in_core h.0 h.1 cores rest (inside h.0 h.3) ends h.2 in (h.0, more.0, more.1, h.3, tt)
 
 -- what stands after a core makes no front of the text
@@ -52,12 +52,12 @@ no_front_after profile cores rest ends none = (
   λ h. none.1 (front_in_core _ (λ t front. in_year_month t front.0 front.1) cores rest ends h),
 )
 
-longer_front : (shape : Shape) (cores rest : Text) → HasFront shape cores → HasFront shape (cores ++ rest)
+longer_front : (shape : Shape) (cores rest : Text) → BeginsWith shape cores → BeginsWith shape (cores ++ rest)
 longer_front shape cores rest h = (h.0, h.1 ++ rest, ap (λ t. t ++ rest) h.2 ∙ append_assoc h.0 h.1 rest, h.3, tt)
 
 -- a month-day in front of a core and what stands after it is one whatever stands after
-pub month_day_front_stays : (profile : Profile) (cores rest other_rest : Text) → CoreEnds rest → HasFront (some (IsMonthDay profile)) (cores ++ rest)
-    → HasFront (some (IsMonthDay profile)) (cores ++ other_rest)
+pub month_day_front_stays : (profile : Profile) (cores rest other_rest : Text) → CoreEnds rest → BeginsWith (some (IsMonthDay profile)) (cores ++ rest)
+    → BeginsWith (some (IsMonthDay profile)) (cores ++ other_rest)
 month_day_front_stays profile cores rest other_rest ends h =
     longer_front _ cores other_rest (front_in_core _ (λ t front. in_month_day t front.0 front.1.0) cores rest ends h)
 
@@ -94,7 +94,7 @@ module _ (profile : Profile) (text : Text) where
       (λ front date rest is h. ap (year_month_at error_of) is ∙ year_month_takes error_of front date rest h)
 
   abbrev pub MonthDayBegins : Type 0
-  MonthDayBegins = HasFront (some (IsMonthDay profile)) text
+  MonthDayBegins = BeginsWith (some (IsMonthDay profile)) text
 
   module _ {E A : Type 0} (fault : Row → E) (read : Read E A) where
     -- each row of a time's front is returned

@@ -3,7 +3,7 @@
 -- `Bad`.
 use Rattle.std.proofs.Common.{◌≡◌, ◌⊎◌, List, ◌++◌, inl, inr, sym, ap, ◌∙◌, subst, append_assoc}
 use Rattle.ixdtf_grammar.specs.{declared.profile.Profile.Profile, language.{Letters.Text, Shapes.some, Times.Clock.{Time, Offset, MinuteOffset}}}
-use Rattle.ixdtf_grammar.specs.language.{Months.IsMonthDay, Brackets.{Pair, ReadsAsName, ReadsAsPair}, Cores.{HasFront, IsCore}}
+use Rattle.ixdtf_grammar.specs.language.{Months.IsMonthDay, Brackets.{Pair, ReadsAsName, ReadsAsPair}, Cores.{BeginsWith, IsCore}}
 use Rattle.ixdtf_grammar.specs.language.Readers.{Reader, CoreKind, has_brackets, CoreKind.{date_time, year_month, month_day, time_of_day}}
 use Rattle.ixdtf_grammar.specs.language.Readers.Reader.{bracketed, parse_offset, parse_identifier, parse_iana_identifier, parse_duration}
 use Rattle.ixdtf_grammar.specs.table.Before.{DateAndSeparator, BeforeDate, BeforeYearMonth, BeforeMonthDay, AtCoreEnd, ReadsAsTime, InTimeAlone}
@@ -58,8 +58,8 @@ moves_time : Moves ReadsAsTime
 moves_time = moves_then (plain_some marked_plain) moves_core_end
 
 -- a month-day in front of the other text stands within the time, and so is in front of this one
-month_day_front_back : (profile : Profile) (rest other_rest : Text) → Sees rest other_rest → ReadsAsTime rest → HasFront (some (IsMonthDay profile)) other_rest
-    → HasFront (some (IsMonthDay profile)) rest
+month_day_front_back : (profile : Profile) (rest other_rest : Text) → Sees rest other_rest → ReadsAsTime rest → BeginsWith (some (IsMonthDay profile)) other_rest
+    → BeginsWith (some (IsMonthDay profile)) rest
 month_day_front_back profile rest other_rest sees (marked, after, is, time, ends) front =
     let next = sees_after marked after other_rest ((plain_some marked_plain).plain marked time) (rw (← is) sees) in
     let ends_there = core_ends next.0 (moves_core_end.moved after next.0 next.2 ends) in

@@ -1,17 +1,17 @@
 -- The digits of years, by twos and threes.
 use Rattle.std.proofs.Common.{◌≡◌, ℕ, ◌+◌, ◌*◌, ◌-◌, pos, Ok, arith}
 use Rattle.ixdtf_grammar.specs.{language.Letters.Text, table.Faults.Fault.DateYear}
-use Rattle.ixdtf_reading.specs.reading.{Looks.{Look, Placed, ◌>>=◌, error_of, number_of, digits_by, digit_look}, Dates.four_digit_year_at}
+use Rattle.ixdtf_reading.specs.reading.{Looks.{Look, Placed, ◌>>=◌, error_of, as_number, digits_by, digit_look}, Dates.four_digit_year_at}
 
 -- six digits are two, and two, and two more
 pub six_digits : (l : Look Placed) (text : Text)
-    → number_of (digits_by l 6 text) ≡ (number_of (digits_by l 2 text) >>= λ high. number_of (digits_by l 2 high.1)
-    >>= λ middle. number_of (digits_by l 2 middle.1) >>= λ low. Ok (10000 * high.0 + 100 * middle.0 + low.0, low.1))
+    → as_number (digits_by l 6 text) ≡ (as_number (digits_by l 2 text) >>= λ high. as_number (digits_by l 2 high.1)
+    >>= λ middle. as_number (digits_by l 2 middle.1) >>= λ low. Ok (10000 * high.0 + 100 * middle.0 + low.0, low.1))
 unfolding digits_by
 six_digits l text = grind (arith)
 
 -- a year of four digits is the first, and three more
 pub four_digits : (c : ℕ) (text : Text)
-    → four_digit_year_at error_of c text ≡ (number_of (digits_by (digit_look DateYear) 3 text) >>= λ low. Ok (pos (1000 * (c - 48) + low.0), low.1))
+    → four_digit_year_at error_of c text ≡ (as_number (digits_by (digit_look DateYear) 3 text) >>= λ low. Ok (pos (1000 * (c - 48) + low.0), low.1))
 unfolding four_digit_year_at digits_by
 four_digits c text = grind (arith)

@@ -2,7 +2,7 @@
 
 //! The forms of [`IxdtfParser`] with a handler.
 
-use crate::parsers::{Cores, DateTimes, FromStop, IxdtfParser, MonthDays, Times, YearMonths};
+use crate::parsers::{CoreReader, DateTimes, FromStop, IxdtfParser, MonthDays, Times, YearMonths};
 use crate::{LocatedError, ParseError, ParserResult};
 use crate::encoding::EncodingType;
 use crate::records::{Annotation, IxdtfParseRecord};

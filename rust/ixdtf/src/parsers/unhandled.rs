@@ -2,7 +2,7 @@
 
 //! The forms of [`IxdtfParser`] without a handler.
 
-use crate::parsers::{Cores, DateTimes, IxdtfParser, MonthDays, Times, YearMonths};
+use crate::parsers::{CoreReader, DateTimes, IxdtfParser, MonthDays, Times, YearMonths};
 use crate::{LocatedError, ParserResult};
 use crate::encoding::EncodingType;
 use crate::records::IxdtfParseRecord;
