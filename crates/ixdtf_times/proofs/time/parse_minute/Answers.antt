@@ -2,7 +2,7 @@ use Rattle.ixdtf_times.proofs.time.parse_minute.Goals as goal
 use Rattle.std.proofs.Common.{rules}
 use Rattle.ixdtf_reading.specs.reading.{Looks.error_of, Times.{minute_at, after_minute_at, second_at}}
 use Rattle.ixdtf_times.specs.TimeTypes.{clock_of, open_time_of}
-use Rattle.ixdtf_times.proofs.{code.Times.reads_as, time.parse_minute.Goals.{then-colons, else-colons}}
+use Rattle.ixdtf_times.proofs.{code.LoneTimes.reads_as, time.parse_minute.Goals.{then-colons, else-colons}}
 
 -- a second is read behind its colon, or from its first digit on
 pub returns-after-colons-clause-time : goal.returns-after-colons-clause-time
