@@ -1,6 +1,6 @@
 -- What the code's own types of brackets stand for.
 use Rattle.ixdtf_brackets.specs.declared.brackets.Bracket.TheVariants as brackets
-use Rattle.ixdtf_brackets.specs.declared.{brackets.{Bracket.{Bracket as CodeBracket}, BracketLetters.BracketLetters}, timezone.NameState.NameState}
+use Rattle.ixdtf_brackets.specs.declared.{brackets.{Bracket.{Bracket as CodeBracket}, BracketLetters.BracketLetters}, zone.NameState.NameState}
 use Rattle.ixdtf_brackets.specs.declared.zone.PartLetters.{PartLetters}
 use Rattle.ixdtf_grammar.specs.{Views.note_of, Handlers.pair_of, language.{Letters.zone_char, Brackets.skipped}}
 use Rattle.ixdtf_reading.specs.reading.{Brackets.{Bracket, zoned, paired}, Zones.name_step}

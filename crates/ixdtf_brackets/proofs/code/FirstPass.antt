@@ -9,7 +9,7 @@ use Rattle.ixdtf_reading.proofs.code.FirstLetter.{first_is, nothing_is}
 use Rattle.ixdtf_reading.proofs.code.LetterLoops.{test_held, Stays, next_shown, next_stays, run_passed, walk_failed, walk_passed}
 use Rattle.ixdtf_reading.proofs.{code.PairLoops.{key_closed, key_refused}, parts.LookAhead.{over_letter, zone_char_skipped, slash_skipped, key_char_skipped}}
 use Rattle.ixdtf_reading.proofs.parts.Steps.{steps, with_letters, letters_before, letters_err}
-use Rattle.ixdtf_brackets.specs.{declared.{brackets.BracketLetters.BracketLetters, timezone.NameState.NameState}, BracketTypes.{name_after, bracket_after}}
+use Rattle.ixdtf_brackets.specs.{declared.{brackets.BracketLetters.BracketLetters, zone.NameState.NameState}, BracketTypes.{name_after, bracket_after}}
 use Rattle.ixdtf_brackets.proofs.code.NameLoop.{name_start, name_ended, name_refused, some_next}
 use Rattle.ixdtf_grammar.specs.language.{Letters.{Text, equals, closing, slash, key_char, zone_char, Letter.{Plain, Bad}}, ZoneNames.Zone.Name}
 use Rattle.ixdtf_grammar.specs.{language.Brackets.skipped, table.Faults.Fault.{NonAsciiCodePoint, AnnotationKeyChar, IanaCharPostSeparator}}

@@ -1,7 +1,7 @@
 -- The code units of a zone name, taken one by one.
 use Rattle.std.proofs.Common.{◌≡◌, ℕ, ◌&&◌, Bool, true, false, List, ◌∷◌, ◌++◌, map, drop, Option, Some, None, option_map, IsSome, Ok, Err, refl, ap, subst}
 use Rattle.std.proofs.Common.{◌∙◌, if◌then◌else◌}
-use Rattle.ixdtf_brackets.specs.{declared.timezone.{NameState.NameState, PartLetters.PartLetters}, BracketTypes.{part_after, name_after}}
+use Rattle.ixdtf_brackets.specs.{declared.zone.{NameState.NameState, PartLetters.PartLetters}, BracketTypes.{part_after, name_after}}
 use Rattle.ixdtf_grammar.specs.language.Letters.{Letter, Text, Class, zone_char, slash, Letter.{Plain, Bad}}
 use Rattle.ixdtf_grammar.specs.table.Faults.Fault.{NonAsciiCodePoint, IanaCharPostSeparator}
 use Rattle.ixdtf_reading.specs.reading.{Looks.{Placed, Read, seen, error_of}, Zones.{with_letter, name_stops, name_run}, Runs.{Taken, letters_by}}
