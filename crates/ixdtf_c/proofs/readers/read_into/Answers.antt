@@ -1,17 +1,13 @@
+use Rattle.ixdtf_c.proofs.Crossed.{gives_ok, gives_err}
 use Rattle.ixdtf_c.proofs.Listed.{outcome_is}
-use Rattle.ixdtf_c.proofs.Read.{gives_ok, gives_err}
 use Rattle.ixdtf_c.proofs.readers.read_into.Goals as goal
 
 pub returns-in-Ok-clause-read : goal.returns-in-Ok-clause-read
 returns-in-Ok-clause-read g c =
     let (outcome, has, reads) = c.read_as.ensures.reads in
-    (outcome, reads, rw (outcome_is _ c.read_as.result has) (gives_ok (λ found. found) _ c.read_as.result c.in-Ok.found (g.R.RecordOf.contents c.args.out.now) _ c.in-Ok.is c.write.ensures))
+    (outcome, reads, rw (outcome_is _ c.read_as.result has) (gives_ok (λ found. found) _ c.read_as.result (g.R.RecordOf.contents c.args.out.now) _ _ c.in-Ok.is c.write.ensures))
 
 pub returns-in-Err-clause-read : goal.returns-in-Err-clause-read
 returns-in-Err-clause-read g c =
-    let (outcome, has, reads) = c.read_as.ensures.reads in (
-      outcome,
-      reads,
-      rw (outcome_is _ c.read_as.result has)
-          (gives_err (λ found. found) _ c.read_as.result c.in-Err.located _ (g.R.RecordOf.contents c.args.out.now) _ c.in-Err.is c.refuse.ensures.number c.refuse.ensures.error),
-    )
+    let (outcome, has, reads) = c.read_as.ensures.reads in
+    (outcome, reads, rw (outcome_is _ c.read_as.result has) (gives_err (λ found. found) _ c.read_as.result (g.R.RecordOf.contents c.args.out.now) _ _ _ c.in-Err.is c.refuse.ensures.number c.refuse.ensures.error))
