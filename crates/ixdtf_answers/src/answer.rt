@@ -76,6 +76,7 @@ pub fn put_answer<W: Write>(output: &mut Output<'_, W>, answer: &Answer<'_>) -> 
 }
 
 /// Puts the answer to a text that is read, and a newline.
+#[tactic(auto, using(ixdtf_buffers::proofs::OutputLemmas::puts_in_turn))]
 fn put_found<W: Write>(output: &mut Output<'_, W>, found: &Found<'_>) -> Result<(), RunError>
     ensures { Puts W.contents output.old output.new result
         (codes "ok" ++ shown_in found.now ++ newline ∷ []) }

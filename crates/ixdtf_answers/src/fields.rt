@@ -61,6 +61,7 @@ fn put_canonical<W: Write>(
 }
 
 /// Puts each field that the record has.
+#[tactic(auto, using(ixdtf_buffers::proofs::OutputLemmas::puts_in_turn))]
 fn put_record<W: Write>(
     output: &mut Output<'_, W>,
     parts: &IxdtfParseRecord<'_, Utf8>,
@@ -100,6 +101,7 @@ fn put_date_field<W: Write>(
 }
 
 /// Puts the time and its fraction, where there is a time.
+#[tactic(auto, using(ixdtf_buffers::proofs::OutputLemmas::puts_in_turn))]
 fn put_time_field<W: Write>(
     output: &mut Output<'_, W>,
     time: Option<TimeRecord>,
@@ -188,6 +190,7 @@ fn put_minute_offset<W: Write>(
 }
 
 /// Puts the sign, hours, minutes and seconds, with the fraction.
+#[tactic(auto, using(ixdtf_buffers::proofs::OutputLemmas::puts_in_turn))]
 fn put_full_offset<W: Write>(
     output: &mut Output<'_, W>,
     offset: FullPrecisionOffset,
@@ -265,6 +268,7 @@ fn put_calendar_field<W: Write>(
 }
 
 /// Puts the sign of a duration, and its date and its time, where it has them.
+#[tactic(auto, using(ixdtf_buffers::proofs::OutputLemmas::puts_in_turn))]
 fn put_duration<W: Write>(
     output: &mut Output<'_, W>,
     duration: DurationParseRecord,

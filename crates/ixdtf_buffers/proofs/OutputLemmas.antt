@@ -101,6 +101,9 @@ Puts-exit {contents = contents} {x = x} {y = y} {r = Err e} {xs = xs} ys same fa
       (same ∙ failed.err.0, subst (AppendsFront (written contents x) (written contents y)) (append_assoc x.waiting xs ys) (AppendsFront-more ys failed.err.1));
 }
 
+-- puts one after the other, as far as they go
+pub ruleset puts_in_turn = (Puts-after, Puts-exit)
+
 joined-at : (pieces : List (Bor (List ℕ))) (i : ℕ) (d : Bor (List ℕ)) → i < length pieces
     → joined pieces ≡ (joined (take i pieces) ++ (get_or pieces i d).now) ++ joined (drop (suc i) pieces)
 joined-at pieces i d inside =

@@ -38,6 +38,7 @@ pub fn put_report<W: Write>(
 }
 
 /// Puts the report of a line that is refused.
+#[tactic(auto, using(ixdtf_buffers::proofs::OutputLemmas::puts_in_turn))]
 fn put_refusal<W: Write>(
     output: &mut Output<'_, W>,
     name: &str,
