@@ -33,15 +33,10 @@ fn check_refused(rt: &impl Abort, given: &Record<'_>) {
 }
 
 /// Texts, and the canonical ones of what they give.
+#[rattlefmt::skip]
 const CANONICAL: [(&[u8], &[u8]); 3] = [
-    (
-        b"20240302 084800,250-053010,5[!etc/utc][u-ca=hebrew][a=b]",
-        b"2024-03-02T08:48:00.250-05:30:10.5[!etc/utc][u-ca=hebrew]",
-    ),
-    (
-        b"-000001-12-31t235960+00[-0530]",
-        b"-000001-12-31T23:59:60+00:00[-05:30]",
-    ),
+    (b"20240302 084800,250-053010,5[!etc/utc][u-ca=hebrew][a=b]", b"2024-03-02T08:48:00.250-05:30:10.5[!etc/utc][u-ca=hebrew]"),
+    (b"-000001-12-31t235960+00[-0530]", b"-000001-12-31T23:59:60+00:00[-05:30]"),
     (b"2024-03-02T08Z", b"2024-03-02T08:00:00Z"),
 ];
 
@@ -84,41 +79,14 @@ const OFFSET: Offset = Offset {
 };
 
 /// Dates, times and offsets of which no record is printed.
+#[rattlefmt::skip]
 const NOT_PRINTED: [(Date, Time, Offset); 6] = [
     (Date { year: 2023, ..DATE }, TIME, OFFSET),
-    (
-        DATE,
-        Time {
-            fraction: 100,
-            ..TIME
-        },
-        OFFSET,
-    ),
-    (
-        DATE,
-        TIME,
-        Offset {
-            fraction: 10,
-            ..OFFSET
-        },
-    ),
+    (DATE, Time { fraction: 100, ..TIME }, OFFSET),
+    (DATE, TIME, Offset { fraction: 10, ..OFFSET }),
     (DATE, TIME, Offset { form: 4, ..OFFSET }),
-    (
-        DATE,
-        Time {
-            is_there: false,
-            ..TIME
-        },
-        OFFSET,
-    ),
-    (
-        Date {
-            is_there: false,
-            ..DATE
-        },
-        TIME,
-        OFFSET,
-    ),
+    (DATE, Time { is_there: false, ..TIME }, OFFSET),
+    (Date { is_there: false, ..DATE }, TIME, OFFSET),
 ];
 
 #[test]

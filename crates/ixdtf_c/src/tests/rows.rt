@@ -2,6 +2,7 @@
 
 use crate::durations::Duration;
 use crate::forms::{Date, Offset, Time};
+use std::process::Abort;
 
 /// The calls that read a record.
 #[derive(Clone, Copy)]
@@ -36,6 +37,25 @@ pub(super) struct Row {
     pub others: (usize, usize, usize),
 }
 
+impl Row {
+    /// The call has returned the number and given these parts.
+    pub(super) fn check(
+        &self,
+        rt: &impl Abort,
+        number: u32,
+        (date, time, offset): (Date, Time, Offset),
+        zone: (u8, u8, usize),
+        others: (usize, usize, usize),
+    ) {
+        assert_eq!(rt; number, self.number);
+        assert_eq!(rt; (date.year, date.month, date.day), self.date);
+        assert_eq!(rt; (time.hour, time.minute, time.fraction), self.time);
+        assert_eq!(rt; (offset.form, offset.hour, offset.second), self.offset);
+        assert_eq!(rt; zone, self.zone);
+        assert_eq!(rt; others, self.others);
+    }
+}
+
 /// The date of a record in which all fields are set.
 pub(super) const DATE: Date = Date {
     year: 1,
@@ -65,167 +85,46 @@ pub(super) const OFFSET: Offset = Offset {
     second: 1,
 };
 
+/// A text that is read, and of which nothing is there.
+const CLEARED: Row = Row {
+    call: Call::Parse,
+    text: b"",
+    number: 0,
+    date: (0, 0, 0),
+    time: (0, 0, 0),
+    offset: (0, 0, 0),
+    zone: (0, 0, 0),
+    others: (0, 0, 0),
+};
+
+/// A text that is refused, and the record as it was.
+const KEPT: Row = Row {
+    date: (1, 1, 1),
+    time: (1, 1, 1),
+    offset: (3, 1, 1),
+    zone: (2, 1, 1),
+    ..CLEARED
+};
+
+#[rattlefmt::skip]
 pub(super) const ROWS: [Row; 16] = [
-    Row {
-        call: Call::Parse,
-        text: b"2024-03-02T08:48:00.25-05:00[America/New_York][u-ca=hebrew]",
-        number: 0,
-        date: (2024, 3, 2),
-        time: (8, 48, 25),
-        offset: (2, 5, 0),
-        zone: (1, 0, 16),
-        others: (6, 0, 0),
-    },
-    Row {
-        call: Call::Parse,
-        text: b"2024-03-02",
-        number: 0,
-        date: (2024, 3, 2),
-        time: (0, 0, 0),
-        offset: (0, 0, 0),
-        zone: (0, 0, 0),
-        others: (0, 0, 0),
-    },
-    Row {
-        call: Call::Parse,
-        text: b"2021-02-2",
-        number: 4,
-        date: (1, 1, 1),
-        time: (1, 1, 1),
-        offset: (3, 1, 1),
-        zone: (2, 1, 1),
-        others: (1, 5, 9),
-    },
-    Row {
-        call: Call::YearMonth,
-        text: b"2020-11",
-        number: 0,
-        date: (2020, 11, 1),
-        time: (0, 0, 0),
-        offset: (0, 0, 0),
-        zone: (0, 0, 0),
-        others: (0, 0, 0),
-    },
-    Row {
-        call: Call::YearMonth,
-        text: b"2020-11-08",
-        number: 5,
-        date: (1, 1, 1),
-        time: (1, 1, 1),
-        offset: (3, 1, 1),
-        zone: (2, 1, 1),
-        others: (1, 0, 7),
-    },
-    Row {
-        call: Call::MonthDay,
-        text: b"12-00",
-        number: 0,
-        date: (0, 12, 0),
-        time: (0, 0, 0),
-        offset: (0, 0, 0),
-        zone: (0, 0, 0),
-        others: (0, 0, 0),
-    },
-    Row {
-        call: Call::MonthDayStrict,
-        text: b"12-00",
-        number: 46,
-        date: (1, 1, 1),
-        time: (1, 1, 1),
-        offset: (3, 1, 1),
-        zone: (2, 1, 1),
-        others: (1, 0, 5),
-    },
-    Row {
-        call: Call::MonthDayStrict,
-        text: b"11-07",
-        number: 0,
-        date: (0, 11, 7),
-        time: (0, 0, 0),
-        offset: (0, 0, 0),
-        zone: (0, 0, 0),
-        others: (0, 0, 0),
-    },
-    Row {
-        call: Call::Time,
-        text: b"1200",
-        number: 44,
-        date: (1, 1, 1),
-        time: (1, 1, 1),
-        offset: (3, 1, 1),
-        zone: (2, 1, 1),
-        others: (1, 0, 4),
-    },
-    Row {
-        call: Call::TimeStrict,
-        text: b"1200",
-        number: 0,
-        date: (0, 0, 0),
-        time: (12, 0, 0),
-        offset: (0, 0, 0),
-        zone: (0, 0, 0),
-        others: (0, 0, 0),
-    },
-    Row {
-        call: Call::Time,
-        text: b"T1330Z[+05:30]",
-        number: 0,
-        date: (0, 0, 0),
-        time: (13, 30, 0),
-        offset: (1, 0, 0),
-        zone: (2, 5, 0),
-        others: (0, 0, 0),
-    },
-    Row {
-        call: Call::Offset,
-        text: b"-05:30:10.5",
-        number: 0,
-        date: (0, 0, 0),
-        time: (0, 0, 0),
-        offset: (3, 5, 10),
-        zone: (0, 0, 0),
-        others: (0, 0, 0),
-    },
-    Row {
-        call: Call::Offset,
-        text: b"05:30",
-        number: 37,
-        date: (1, 1, 1),
-        time: (1, 1, 1),
-        offset: (3, 1, 1),
-        zone: (2, 1, 1),
-        others: (1, 0, 0),
-    },
-    Row {
-        call: Call::Identifier,
-        text: b"+05:30",
-        number: 0,
-        date: (0, 0, 0),
-        time: (0, 0, 0),
-        offset: (0, 0, 0),
-        zone: (2, 5, 0),
-        others: (0, 0, 0),
-    },
-    Row {
-        call: Call::Identifier,
-        text: b"Etc/UTC",
-        number: 0,
-        date: (0, 0, 0),
-        time: (0, 0, 0),
-        offset: (0, 0, 0),
-        zone: (1, 0, 7),
-        others: (0, 0, 0),
-    },
-    Row {
-        call: Call::IanaIdentifier,
-        text: b"Europe/Berlin",
-        number: 0,
-        date: (0, 0, 0),
-        time: (0, 0, 0),
-        offset: (0, 0, 0),
-        zone: (1, 0, 13),
-        others: (0, 0, 0),
-    },
+    Row { call: Call::Parse, text: b"2024-03-02T08:48:00.25-05:00[America/New_York][u-ca=hebrew]",
+        date: (2024, 3, 2), time: (8, 48, 25), offset: (2, 5, 0), zone: (1, 0, 16), others: (6, 0, 0), ..CLEARED },
+    Row { call: Call::Parse, text: b"2024-03-02", date: (2024, 3, 2), ..CLEARED },
+    Row { call: Call::Parse, text: b"2021-02-2", number: 4, others: (1, 5, 9), ..KEPT },
+    Row { call: Call::YearMonth, text: b"2020-11", date: (2020, 11, 1), ..CLEARED },
+    Row { call: Call::YearMonth, text: b"2020-11-08", number: 5, others: (1, 0, 7), ..KEPT },
+    Row { call: Call::MonthDay, text: b"12-00", date: (0, 12, 0), ..CLEARED },
+    Row { call: Call::MonthDayStrict, text: b"12-00", number: 46, others: (1, 0, 5), ..KEPT },
+    Row { call: Call::MonthDayStrict, text: b"11-07", date: (0, 11, 7), ..CLEARED },
+    Row { call: Call::Time, text: b"1200", number: 44, others: (1, 0, 4), ..KEPT },
+    Row { call: Call::TimeStrict, text: b"1200", time: (12, 0, 0), ..CLEARED },
+    Row { call: Call::Time, text: b"T1330Z[+05:30]", time: (13, 30, 0), offset: (1, 0, 0), zone: (2, 5, 0), ..CLEARED },
+    Row { call: Call::Offset, text: b"-05:30:10.5", offset: (3, 5, 10), ..CLEARED },
+    Row { call: Call::Offset, text: b"05:30", number: 37, others: (1, 0, 0), ..KEPT },
+    Row { call: Call::Identifier, text: b"+05:30", zone: (2, 5, 0), ..CLEARED },
+    Row { call: Call::Identifier, text: b"Etc/UTC", zone: (1, 0, 7), ..CLEARED },
+    Row { call: Call::IanaIdentifier, text: b"Europe/Berlin", zone: (1, 0, 13), ..CLEARED },
 ];
 
 /// The calls that list annotations.
@@ -252,56 +151,30 @@ pub(super) struct ListRow {
     pub second: (bool, usize, usize),
 }
 
+impl ListRow {
+    /// The call has given these.
+    pub(super) fn check(
+        &self,
+        rt: &impl Abort,
+        outcome: (u32, usize),
+        count: usize,
+        second: (bool, usize, usize),
+    ) {
+        assert_eq!(rt; outcome, self.outcome);
+        assert_eq!(rt; count, self.count);
+        assert_eq!(rt; second, self.second);
+    }
+}
+
+#[rattlefmt::skip]
 pub(super) const LIST_ROWS: [ListRow; 7] = [
-    ListRow {
-        call: ListCall::Parse,
-        text: b"2024-03-02[a=b][!c=de][u-ca=x]",
-        outcome: (0, 0),
-        count: 3,
-        second: (true, 1, 2),
-    },
-    ListRow {
-        call: ListCall::YearMonth,
-        text: b"2024-03[a=b]",
-        outcome: (0, 0),
-        count: 1,
-        second: (false, 0, 0),
-    },
-    ListRow {
-        call: ListCall::YearMonth,
-        text: b"2024-03[a=b]junk",
-        outcome: (5, 12),
-        count: 1,
-        second: (false, 0, 0),
-    },
-    ListRow {
-        call: ListCall::MonthDay,
-        text: b"11-00[a=b]",
-        outcome: (0, 0),
-        count: 1,
-        second: (false, 0, 0),
-    },
-    ListRow {
-        call: ListCall::MonthDayStrict,
-        text: b"11-07[a=b][cd=efg]",
-        outcome: (0, 0),
-        count: 2,
-        second: (false, 2, 3),
-    },
-    ListRow {
-        call: ListCall::Time,
-        text: b"T12[a=b][c=d]",
-        outcome: (0, 0),
-        count: 2,
-        second: (false, 1, 1),
-    },
-    ListRow {
-        call: ListCall::TimeStrict,
-        text: b"1200",
-        outcome: (0, 0),
-        count: 0,
-        second: (false, 0, 0),
-    },
+    ListRow { call: ListCall::Parse, text: b"2024-03-02[a=b][!c=de][u-ca=x]", outcome: (0, 0), count: 3, second: (true, 1, 2) },
+    ListRow { call: ListCall::YearMonth, text: b"2024-03[a=b]", outcome: (0, 0), count: 1, second: (false, 0, 0) },
+    ListRow { call: ListCall::YearMonth, text: b"2024-03[a=b]junk", outcome: (5, 12), count: 1, second: (false, 0, 0) },
+    ListRow { call: ListCall::MonthDay, text: b"11-00[a=b]", outcome: (0, 0), count: 1, second: (false, 0, 0) },
+    ListRow { call: ListCall::MonthDayStrict, text: b"11-07[a=b][cd=efg]", outcome: (0, 0), count: 2, second: (false, 2, 3) },
+    ListRow { call: ListCall::Time, text: b"T12[a=b][c=d]", outcome: (0, 0), count: 2, second: (false, 1, 1) },
+    ListRow { call: ListCall::TimeStrict, text: b"1200", outcome: (0, 0), count: 0, second: (false, 0, 0) },
 ];
 
 /// A text, and what a reader of durations gives of it.
@@ -317,28 +190,23 @@ pub(super) struct DurationRow {
     pub time: (u8, u64, u64, u64),
 }
 
+impl DurationRow {
+    /// The call has returned the number and given the duration.
+    pub(super) fn check(&self, rt: &impl Abort, number: u32, out: &Duration<'_>) {
+        assert_eq!(rt; (number, out.place), self.outcome);
+        assert_eq!(rt; (out.is_negative, out.years, out.weeks, out.days), self.date);
+        assert_eq!(rt;
+            (out.time_form, out.hours, out.minutes, out.fraction),
+            self.time
+        );
+    }
+}
+
+#[rattlefmt::skip]
 pub(super) const DURATION_ROWS: [DurationRow; 3] = [
-    DurationRow {
-        is_strict: false,
-        text: b"-P1Y2Y3W4DT5H6.5M",
-        outcome: (0, 0),
-        date: (true, 2, 3, 4),
-        time: (2, 5, 6, 5),
-    },
-    DurationRow {
-        is_strict: true,
-        text: b"P1Y2Y",
-        outcome: (41, 5),
-        date: (true, 9, 9, 9),
-        time: (9, 9, 9, 9),
-    },
-    DurationRow {
-        is_strict: true,
-        text: b"PT1.5H",
-        outcome: (0, 0),
-        date: (false, 0, 0, 0),
-        time: (1, 1, 0, 5),
-    },
+    DurationRow { is_strict: false, text: b"-P1Y2Y3W4DT5H6.5M", outcome: (0, 0), date: (true, 2, 3, 4), time: (2, 5, 6, 5) },
+    DurationRow { is_strict: true, text: b"P1Y2Y", outcome: (41, 5), date: (true, 9, 9, 9), time: (9, 9, 9, 9) },
+    DurationRow { is_strict: true, text: b"PT1.5H", outcome: (0, 0), date: (false, 0, 0, 0), time: (1, 1, 0, 5) },
 ];
 
 /// A duration in which all fields are set.
@@ -371,40 +239,11 @@ pub(super) struct ReplyRow {
     pub kept: (bool, usize),
 }
 
+#[rattlefmt::skip]
 pub(super) const REPLY_ROWS: [ReplyRow; 5] = [
-    ReplyRow {
-        key: b"x",
-        value: b"y",
-        is_critical: false,
-        number: 0,
-        kept: (false, 0),
-    },
-    ReplyRow {
-        key: b"u-ca",
-        value: b"hebrew",
-        is_critical: false,
-        number: 0,
-        kept: (true, 6),
-    },
-    ReplyRow {
-        key: b"u-ca",
-        value: b"hebrew",
-        is_critical: true,
-        number: 0,
-        kept: (true, 6),
-    },
-    ReplyRow {
-        key: b"u-ca",
-        value: b"iso8601",
-        is_critical: true,
-        number: 31,
-        kept: (true, 6),
-    },
-    ReplyRow {
-        key: b"x",
-        value: b"y",
-        is_critical: true,
-        number: 32,
-        kept: (true, 6),
-    },
+    ReplyRow { key: b"x", value: b"y", is_critical: false, number: 0, kept: (false, 0) },
+    ReplyRow { key: b"u-ca", value: b"hebrew", is_critical: false, number: 0, kept: (true, 6) },
+    ReplyRow { key: b"u-ca", value: b"hebrew", is_critical: true, number: 0, kept: (true, 6) },
+    ReplyRow { key: b"u-ca", value: b"iso8601", is_critical: true, number: 31, kept: (true, 6) },
+    ReplyRow { key: b"x", value: b"y", is_critical: true, number: 32, kept: (true, 6) },
 ];

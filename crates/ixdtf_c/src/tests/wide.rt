@@ -81,18 +81,14 @@ fn reads_texts(rt: HostRuntime) {
         let units = units_of(row.text);
         let text = &units[..row.text.len().min(64)];
         let mut record = RECORD;
-        assert_eq!(rt; call(row.call, text, &mut record), row.number);
-        let date = record.date;
-        assert_eq!(rt; (date.year, date.month, date.day), row.date);
-        let time = record.time;
-        assert_eq!(rt; (time.hour, time.minute, time.fraction), row.time);
-        let offset = record.offset;
-        assert_eq!(rt; (offset.form, offset.hour, offset.second), row.offset);
+        let number = call(row.call, text, &mut record);
         let zone = record.zone;
-        assert_eq!(rt; (zone.form, zone.hour, zone.name.len()), row.zone);
-        assert_eq!(rt;
+        row.check(
+            &rt,
+            number,
+            (record.date, record.time, record.offset),
+            (zone.form, zone.hour, zone.name.len()),
             (record.calendar.len(), record.location.len(), record.place),
-            row.others
         );
     }
 }
@@ -106,12 +102,12 @@ fn lists_annotations(rt: HostRuntime) {
         let mut slots = [ANNOTATION, ANNOTATION];
         let mut count = 9;
         let number = list(row.call, text, &mut slots, &mut count, &mut record);
-        assert_eq!(rt; (number, record.place), row.outcome);
-        assert_eq!(rt; count, row.count);
         let second = slots[1];
-        assert_eq!(rt;
+        row.check(
+            &rt,
+            (number, record.place),
+            count,
             (second.is_critical, second.key.len(), second.value.len()),
-            row.second
         );
     }
 }
@@ -127,12 +123,7 @@ fn reads_durations(rt: HostRuntime) {
         } else {
             ixdtf16_parse_duration(text, &mut out)
         };
-        assert_eq!(rt; (number, out.place), row.outcome);
-        assert_eq!(rt; (out.is_negative, out.years, out.weeks, out.days), row.date);
-        assert_eq!(rt;
-            (out.time_form, out.hours, out.minutes, out.fraction),
-            row.time
-        );
+        row.check(&rt, number, &out);
     }
 }
 

@@ -95,11 +95,9 @@ const UNKNOWN: Moment<'static> = Moment {
     zone: None,
 };
 
+#[rattlefmt::skip]
 const MOMENTS: &[(&str, Option<Moment<'static>>)] = &[
-    (
-        "2024-03-02T08:48:00.25-05:00[America/New_York]",
-        Some(IN_NEW_YORK),
-    ),
+    ("2024-03-02T08:48:00.25-05:00[America/New_York]", Some(IN_NEW_YORK)),
     ("2024-03-02T08:48:00+00:00", Some(AT_UTC)),
     ("2024-03-02T08:48:00Z", Some(UNKNOWN)),
     ("2024-03-02T08:48:00Z[+05:30]", Some(UNKNOWN)),
@@ -341,14 +339,12 @@ fn advice_on(text: &str) -> &'static str {
     }
 }
 
+#[rattlefmt::skip]
 const ADVICE: &[(&str, &str)] = &[
     ("2024-13-01", "there is no such month"),
     ("2023-02-29", "the month has no such day"),
     ("2024-03-0", "digit"),
-    (
-        "2024-03-02x",
-        "Unexpected character found after parsing was completed.",
-    ),
+    ("2024-03-02x", "Unexpected character found after parsing was completed."),
 ];
 
 #[test]
@@ -389,15 +385,10 @@ fn fault_of_name(text: &str) -> Option<(usize, ParseError)> {
     }
 }
 
+#[rattlefmt::skip]
 const MARKS: &[(&str, &str)] = &[
-    (
-        "2024-03-02T8:48",
-        "Invalid character while parsing hour value. at 12\n2024-03-02T8:48\n            ^",
-    ),
-    (
-        "2024-03-02T08:48:00-05:000",
-        "Invalid time zone character after '/'. at 25\n2024-03-02T08:48:00-05:000\n                         ^",
-    ),
+    ("2024-03-02T8:48", "Invalid character while parsing hour value. at 12\n2024-03-02T8:48\n            ^"),
+    ("2024-03-02T08:48:00-05:000", "Invalid time zone character after '/'. at 25\n2024-03-02T08:48:00-05:000\n                         ^"),
 ];
 
 #[test]

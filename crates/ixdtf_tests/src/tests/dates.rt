@@ -1,16 +1,11 @@
+//! Dates without a time.
+
 use super::{Reader, check, check_kept, check_parsed, dated};
 use ixdtf::ParseError;
 use ixdtf::encoding::Utf8;
 use ixdtf::parsers::IxdtfParser;
-use std::process::Abort;
 
-/// `IxdtfParser::parse` finds this year, month and day in the text, and nothing besides.
-pub(super) fn check_dates(rt: &impl Abort, rows: &[(&'static str, i32, u8, u8)]) {
-    for (text, year, month, day) in rows {
-        check_parsed(rt, text, &Ok(dated(*year, *month, *day, None)));
-    }
-}
-
+/// Texts that are a date, with its year, month and day.
 const DATES: &[(&str, i32, u8, u8)] = &[
     ("20201108", 2020, 11, 8),
     ("2020-11-08", 2020, 11, 8),
@@ -19,14 +14,7 @@ const DATES: &[(&str, i32, u8, u8)] = &[
     ("-000400-02-29", -400, 2, 29),
     ("+999999-12-31", 999_999, 12, 31),
     ("-999999-01-01", -999_999, 1, 1),
-];
-
-#[test]
-fn reads_dates(rt: HostRuntime) {
-    check_dates(&rt, DATES);
-}
-
-const ONE_DATE_IN_FOUR_FORMS: &[(&str, i32, u8, u8)] = &[
+    // one date in four forms
     ("2024-03-02", 2024, 3, 2),
     ("+002024-03-02", 2024, 3, 2),
     ("20240302", 2024, 3, 2),
@@ -34,8 +22,10 @@ const ONE_DATE_IN_FOUR_FORMS: &[(&str, i32, u8, u8)] = &[
 ];
 
 #[test]
-fn reads_one_date_in_four_forms(rt: HostRuntime) {
-    check_dates(&rt, ONE_DATE_IN_FOUR_FORMS);
+fn reads_dates(rt: HostRuntime) {
+    for (text, year, month, day) in DATES {
+        check_parsed(&rt, text, &Ok(dated(*year, *month, *day, None)));
+    }
 }
 
 #[test]

@@ -5,32 +5,13 @@ use super::times::{Fractional, Whole, check_fractional, check_whole, time_of};
 use super::{Reader, Record, check_fraction, check_parsed, dated, timed};
 use ixdtf::records::UtcOffsetRecordOrZ;
 
+#[rattlefmt::skip]
 const AT_FIXED_PLACES: &[Whole] = &[
-    Whole {
-        text: "2020-02-29T23:59:60",
-        date: (2020, 2, 29),
-        time: (23, 59, 60),
-    },
-    Whole {
-        text: "2020-01-01T00:00:60",
-        date: (2020, 1, 1),
-        time: (0, 0, 60),
-    },
-    Whole {
-        text: "2020-01-01 23:59:60",
-        date: (2020, 1, 1),
-        time: (23, 59, 60),
-    },
-    Whole {
-        text: "2020-01-01t00:00:60",
-        date: (2020, 1, 1),
-        time: (0, 0, 60),
-    },
-    Whole {
-        text: "+002020-01-01T00:00:00",
-        date: (2020, 1, 1),
-        time: (0, 0, 0),
-    },
+    Whole { text: "2020-02-29T23:59:60", date: (2020, 2, 29), time: (23, 59, 60) },
+    Whole { text: "2020-01-01T00:00:60", date: (2020, 1, 1), time: (0, 0, 60) },
+    Whole { text: "2020-01-01 23:59:60", date: (2020, 1, 1), time: (23, 59, 60) },
+    Whole { text: "2020-01-01t00:00:60", date: (2020, 1, 1), time: (0, 0, 60) },
+    Whole { text: "+002020-01-01T00:00:00", date: (2020, 1, 1), time: (0, 0, 0) },
 ];
 
 #[test]
@@ -38,19 +19,10 @@ fn reads_at_fixed_places(rt: HostRuntime) {
     check_whole(&rt, AT_FIXED_PLACES);
 }
 
+#[rattlefmt::skip]
 const FRACTIONS_BESIDE_FIXED_PLACES: &[Fractional] = &[
-    Fractional {
-        text: "20200101T00:00:00.25",
-        time: (0, 0, 0),
-        nanoseconds: 250_000_000,
-        is_cut: false,
-    },
-    Fractional {
-        text: "2020-01-01T000000.25",
-        time: (0, 0, 0),
-        nanoseconds: 250_000_000,
-        is_cut: false,
-    },
+    Fractional { text: "20200101T00:00:00.25", time: (0, 0, 0), nanoseconds: 250_000_000, is_cut: false },
+    Fractional { text: "2020-01-01T000000.25", time: (0, 0, 0), nanoseconds: 250_000_000, is_cut: false },
 ];
 
 #[test]

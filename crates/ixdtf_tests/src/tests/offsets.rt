@@ -1,3 +1,5 @@
+//! Offsets alone, and after a time.
+
 use super::{
     AT_OFFSET, Found, Reader, check, check_found, check_fraction, check_once_read, check_parsed,
     dated, fraction_of, long, minutes, morning, short, timed,
@@ -18,52 +20,28 @@ struct Short {
     minute: u8,
 }
 
-fn check_short(rt: &impl Abort, rows: &[Short]) {
-    for row in rows {
-        check_offset(rt, row.text, short(row.sign, row.hour, row.minute));
+impl Short {
+    fn offset(&self) -> UtcOffsetRecord {
+        short(self.sign, self.hour, self.minute)
     }
 }
 
+#[rattlefmt::skip]
 const OFFSETS: &[Short] = &[
-    Short {
-        text: "+05",
-        sign: Sign::Positive,
-        hour: 5,
-        minute: 0,
-    },
-    Short {
-        text: "-0530",
-        sign: Sign::Negative,
-        hour: 5,
-        minute: 30,
-    },
-    Short {
-        text: "-05:30",
-        sign: Sign::Negative,
-        hour: 5,
-        minute: 30,
-    },
-    Short {
-        text: "-00:00",
-        sign: Sign::Negative,
-        hour: 0,
-        minute: 0,
-    },
+    Short { text: "+05", sign: Sign::Positive, hour: 5, minute: 0 },
+    Short { text: "-0530", sign: Sign::Negative, hour: 5, minute: 30 },
+    Short { text: "-05:30", sign: Sign::Negative, hour: 5, minute: 30 },
+    Short { text: "-00:00", sign: Sign::Negative, hour: 0, minute: 0 },
 ];
 
 #[test]
 fn reads_offsets(rt: HostRuntime) {
-    check_short(&rt, OFFSETS);
-}
-
-// East of Greenwich by hours, minutes and seconds.
-fn check_east(rt: &impl Abort, rows: &[(&'static str, u8, u8, u8)]) {
-    for (text, hour, minute, second) in rows {
-        let offset = long(minutes(Sign::Positive, *hour, *minute), *second, None);
-        check_offset(rt, text, offset);
+    for row in OFFSETS {
+        check_offset(&rt, row.text, row.offset());
     }
 }
 
+// East of Greenwich by hours, minutes and seconds.
 const OFFSETS_WITH_SECONDS: &[(&str, u8, u8, u8)] = &[
     ("+235959", 23, 59, 59),
     ("+01:00:00", 1, 0, 0),
@@ -71,18 +49,13 @@ const OFFSETS_WITH_SECONDS: &[(&str, u8, u8, u8)] = &[
 
 #[test]
 fn reads_offsets_with_seconds(rt: HostRuntime) {
-    check_east(&rt, OFFSETS_WITH_SECONDS);
-}
-
-// Half a minute, five hours to the west, with a fraction of these nanoseconds.
-fn check_fractional(rt: &impl Abort, rows: &[(&'static str, u32)]) {
-    for (text, nanoseconds) in rows {
-        let fraction = fraction_of(text);
-        check_fraction(rt, text, &fraction, *nanoseconds, false);
-        check_offset(rt, text, long(minutes(Sign::Negative, 5, 0), 30, fraction));
+    for (text, hour, minute, second) in OFFSETS_WITH_SECONDS {
+        let offset = long(minutes(Sign::Positive, *hour, *minute), *second, None);
+        check_offset(&rt, text, offset);
     }
 }
 
+// Half a minute, five hours to the west, with a fraction of these nanoseconds.
 const OFFSETS_WITH_FRACTIONS: &[(&str, u32)] = &[
     ("-050030,25", 250_000_000),
     ("-05:00:30.5", 500_000_000),
@@ -91,7 +64,11 @@ const OFFSETS_WITH_FRACTIONS: &[(&str, u32)] = &[
 
 #[test]
 fn reads_offsets_with_fractions(rt: HostRuntime) {
-    check_fractional(&rt, OFFSETS_WITH_FRACTIONS);
+    for (text, nanoseconds) in OFFSETS_WITH_FRACTIONS {
+        let fraction = fraction_of(text);
+        check_fraction(&rt, text, &fraction, *nanoseconds, false);
+        check_offset(&rt, text, long(minutes(Sign::Negative, 5, 0), 30, fraction));
+    }
 }
 
 fn check_morning(rt: &impl Abort, text: &'static str, offset: UtcOffsetRecord) {
@@ -99,42 +76,19 @@ fn check_morning(rt: &impl Abort, text: &'static str, offset: UtcOffsetRecord) {
     check_parsed(rt, text, &Ok(morning(offset, None, None)));
 }
 
-fn check_mornings(rt: &impl Abort, rows: &[Short]) {
-    for row in rows {
-        check_morning(rt, row.text, short(row.sign, row.hour, row.minute));
-    }
-}
-
+#[rattlefmt::skip]
 const OFFSETS_AFTER_TIMES: &[Short] = &[
-    Short {
-        text: "2024-03-02T08:48:00-05:00",
-        sign: Sign::Negative,
-        hour: 5,
-        minute: 0,
-    },
-    Short {
-        text: "2024-03-02T08:48-05",
-        sign: Sign::Negative,
-        hour: 5,
-        minute: 0,
-    },
-    Short {
-        text: "20240302t084800-0530",
-        sign: Sign::Negative,
-        hour: 5,
-        minute: 30,
-    },
-    Short {
-        text: "2024-03-02 08:48:00-00:00",
-        sign: Sign::Negative,
-        hour: 0,
-        minute: 0,
-    },
+    Short { text: "2024-03-02T08:48:00-05:00", sign: Sign::Negative, hour: 5, minute: 0 },
+    Short { text: "2024-03-02T08:48-05", sign: Sign::Negative, hour: 5, minute: 0 },
+    Short { text: "20240302t084800-0530", sign: Sign::Negative, hour: 5, minute: 30 },
+    Short { text: "2024-03-02 08:48:00-00:00", sign: Sign::Negative, hour: 0, minute: 0 },
 ];
 
 #[test]
 fn reads_offsets_after_times(rt: HostRuntime) {
-    check_mornings(&rt, OFFSETS_AFTER_TIMES);
+    for row in OFFSETS_AFTER_TIMES {
+        check_morning(&rt, row.text, row.offset());
+    }
     let hour = long(minutes(Sign::Positive, 1, 0), 0, None);
     check_morning(&rt, "2024-03-02 08:48:00+01:00:00", hour);
 }

@@ -150,26 +150,18 @@ fn check_printed(rt: &impl Abort, text: &[u8], canonical: &[u8]) {
     }
 }
 
+#[rattlefmt::skip]
 const CANONICAL_TEXTS: &[(&str, &str)] = &[
-    (
-        "+002020-11-08T12[cet][!u-ca=iso8601][x=y]",
-        "2020-11-08T12:00:00[cet][u-ca=iso8601]",
-    ),
+    ("+002020-11-08T12[cet][!u-ca=iso8601][x=y]", "2020-11-08T12:00:00[cet][u-ca=iso8601]"),
     ("-000001-01-01t00z", "-000001-01-01T00:00:00Z"),
-    (
-        "2020-01-01T00+01:00:00.50[!-05]",
-        "2020-01-01T00:00:00+01:00:00.50[!-05:00]",
-    ),
+    ("2020-01-01T00+01:00:00.50[!-05]", "2020-01-01T00:00:00+01:00:00.50[!-05:00]"),
     ("+0100000101", "+010000-01-01"),
     ("99991231", "9999-12-31"),
     ("+000000-02-29", "0000-02-29"),
     ("-9999991231 235960,0", "-999999-12-31T23:59:60.0"),
     ("20200101T00+00[+00]", "2020-01-01T00:00:00+00:00[+00:00]"),
     ("2020-01-01T0102-0304", "2020-01-01T01:02:00-03:04"),
-    (
-        "2020-01-01[!_/+1][u-ca=a-B-0]",
-        "2020-01-01[!_/+1][u-ca=a-B-0]",
-    ),
+    ("2020-01-01[!_/+1][u-ca=a-B-0]", "2020-01-01[!_/+1][u-ca=a-B-0]"),
 ];
 
 #[test]
@@ -234,12 +226,10 @@ fn displays_canonical_texts(rt: HostRuntime) -> Result<(), Fail> {
     Ok(())
 }
 
+#[rattlefmt::skip]
 const ERROR_TEXTS: &[(PrintError, &str)] = &[
     (PrintError::NotPrintable, "No text stands for the record."),
-    (
-        PrintError::TooShort,
-        "There is less room than the text takes.",
-    ),
+    (PrintError::TooShort, "There is less room than the text takes."),
 ];
 
 #[test]

@@ -115,12 +115,9 @@ fn reads_minutes_of_zero_strictly(rt: HostRuntime) {
     check_refused_in_both(&rt, Reader::Time, TIMES);
 }
 
+#[rattlefmt::skip]
 const DURATIONS: &[Refused] = &[
-    (
-        "P1Y4294967296Y",
-        DurationValueExceededRange,
-        DateDurationPartOrder,
-    ),
+    ("P1Y4294967296Y", DurationValueExceededRange, DateDurationPartOrder),
     ("PT0.5H1H", InvalidEnd, InvalidEnd),
 ];
 
@@ -146,11 +143,9 @@ fn check_same(rt: &impl Abort, reader: Reader, texts: &[&'static str]) {
     }
 }
 
+#[rattlefmt::skip]
 const DATES: &[&str] = &[
-    "2024-03-02T08:48:00.25",
-    "2024-03-02[UTC][u-ca=hebrew][a=b]",
-    "2021-02-29",
-    "2020-01-00",
+    "2024-03-02T08:48:00.25", "2024-03-02[UTC][u-ca=hebrew][a=b]", "2021-02-29", "2020-01-00",
     "2020-01-01[!a=b]",
 ];
 
@@ -162,23 +157,10 @@ fn reads_dates_alike(rt: HostRuntime) {
     check_same(&rt, Reader::YearMonth, YEAR_MONTHS);
 }
 
+#[rattlefmt::skip]
 const OTHER_MONTH_DAYS: &[&str] = &[
-    "11-07",
-    "1107",
-    "--11-07",
-    "11-01",
-    "02-29",
-    "--0430",
-    "1231",
-    "--1107[+04:00]",
-    "02-30",
-    "04-31",
-    "00-07",
-    "1300",
-    "-11-07",
-    "110",
-    "11-0x",
-    "",
+    "11-07", "1107", "--11-07", "11-01", "02-29", "--0430", "1231", "--1107[+04:00]", "02-30", "04-31",
+    "00-07", "1300", "-11-07", "110", "11-0x", "",
 ];
 
 #[test]
@@ -186,28 +168,11 @@ fn reads_other_month_days_alike(rt: HostRuntime) {
     check_same(&rt, Reader::MonthDay, OTHER_MONTH_DAYS);
 }
 
+#[rattlefmt::skip]
 const OTHER_TIMES: &[&str] = &[
-    "12",
-    "T1200",
-    "t121430",
-    "0230",
-    "0631",
-    "1232",
-    "13-14",
-    "2021-13",
-    "202113-13",
-    "0000-00",
-    "T1214Z",
-    "15:23:30.1234567890",
-    "12:01:04-05:00[America/New_York][u-ca=iso8601]",
-    "1208-10",
-    "121430",
-    "1214Z",
-    "2021-12",
-    "202112[UTC]",
-    "20240801",
-    "T19:12-089",
-    "",
+    "12", "T1200", "t121430", "0230", "0631", "1232", "13-14", "2021-13", "202113-13", "0000-00",
+    "T1214Z", "15:23:30.1234567890", "12:01:04-05:00[America/New_York][u-ca=iso8601]", "1208-10",
+    "121430", "1214Z", "2021-12", "202112[UTC]", "20240801", "T19:12-089", "",
 ];
 
 #[test]
@@ -215,28 +180,11 @@ fn reads_other_times_alike(rt: HostRuntime) {
     check_same(&rt, Reader::Time, OTHER_TIMES);
 }
 
+#[rattlefmt::skip]
 const OTHER_DURATIONS: &[&str] = &[
-    "P1Y",
-    "+P1M",
-    "-p1w",
-    "P1y2m3W4d",
-    "P0D",
-    "P4294967295W",
-    "P18446744073709551615D",
-    "Pt1h2m3s",
-    "PT1H3S",
-    "PT1H1.123456789123M",
-    "-P1Y3wT0,5H",
-    "P1D1Y",
-    "P1D4294967296Y",
-    "P4294967296Y",
-    "P99999999999999999999X",
-    "PT1S1M",
-    "PT0.5H1M",
-    "PT1.H",
-    "P1YT",
-    "P",
-    "",
+    "P1Y", "+P1M", "-p1w", "P1y2m3W4d", "P0D", "P4294967295W", "P18446744073709551615D", "Pt1h2m3s",
+    "PT1H3S", "PT1H1.123456789123M", "-P1Y3wT0,5H", "P1D1Y", "P1D4294967296Y", "P4294967296Y",
+    "P99999999999999999999X", "PT1S1M", "PT0.5H1M", "PT1.H", "P1YT", "P", "",
 ];
 
 #[test]

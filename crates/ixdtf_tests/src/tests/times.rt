@@ -22,37 +22,14 @@ pub(super) fn check_whole(rt: &impl Abort, rows: &[Whole]) {
     }
 }
 
+#[rattlefmt::skip]
 const TIMES: &[Whole] = &[
-    Whole {
-        text: "2020-01-01T05",
-        date: (2020, 1, 1),
-        time: (5, 0, 0),
-    },
-    Whole {
-        text: "2020-01-01T12",
-        date: (2020, 1, 1),
-        time: (12, 0, 0),
-    },
-    Whole {
-        text: "2020-01-01t0506",
-        date: (2020, 1, 1),
-        time: (5, 6, 0),
-    },
-    Whole {
-        text: "20200101 05:06",
-        date: (2020, 1, 1),
-        time: (5, 6, 0),
-    },
-    Whole {
-        text: "2020-01-01T050607",
-        date: (2020, 1, 1),
-        time: (5, 6, 7),
-    },
-    Whole {
-        text: "2020-01-01T23:59:60",
-        date: (2020, 1, 1),
-        time: (23, 59, 60),
-    },
+    Whole { text: "2020-01-01T05", date: (2020, 1, 1), time: (5, 0, 0) },
+    Whole { text: "2020-01-01T12", date: (2020, 1, 1), time: (12, 0, 0) },
+    Whole { text: "2020-01-01t0506", date: (2020, 1, 1), time: (5, 6, 0) },
+    Whole { text: "20200101 05:06", date: (2020, 1, 1), time: (5, 6, 0) },
+    Whole { text: "2020-01-01T050607", date: (2020, 1, 1), time: (5, 6, 7) },
+    Whole { text: "2020-01-01T23:59:60", date: (2020, 1, 1), time: (23, 59, 60) },
 ];
 
 #[test]
@@ -98,25 +75,11 @@ pub(super) fn check_fractional(
     }
 }
 
+#[rattlefmt::skip]
 const FRACTIONS_AFTER_DATES: &[Fractional] = &[
-    Fractional {
-        text: "2025-01-15T15:23:30.1",
-        time: (15, 23, 30),
-        nanoseconds: 100_000_000,
-        is_cut: false,
-    },
-    Fractional {
-        text: "2025-01-15T15:23:30.12345678",
-        time: (15, 23, 30),
-        nanoseconds: 123_456_780,
-        is_cut: false,
-    },
-    Fractional {
-        text: "2025-01-15T15:23:30.123456789",
-        time: (15, 23, 30),
-        nanoseconds: 123_456_789,
-        is_cut: false,
-    },
+    Fractional { text: "2025-01-15T15:23:30.1", time: (15, 23, 30), nanoseconds: 100_000_000, is_cut: false },
+    Fractional { text: "2025-01-15T15:23:30.12345678", time: (15, 23, 30), nanoseconds: 123_456_780, is_cut: false },
+    Fractional { text: "2025-01-15T15:23:30.123456789", time: (15, 23, 30), nanoseconds: 123_456_789, is_cut: false },
 ];
 
 const FRACTION_OF_ZEROS: &[Fractional] = &[Fractional {
@@ -153,61 +116,17 @@ fn reads_fractions_after_dates(rt: HostRuntime) {
     check_fractional(&rt, Reader::Parse, Some((2020, 1, 1)), LONG_FRACTION);
 }
 
+#[rattlefmt::skip]
 const FRACTIONS_OF_TIMES_ALONE: &[Fractional] = &[
-    Fractional {
-        text: "15:23:30.1234567",
-        time: (15, 23, 30),
-        nanoseconds: 123_456_700,
-        is_cut: false,
-    },
-    Fractional {
-        text: "15:23:30.12345678",
-        time: (15, 23, 30),
-        nanoseconds: 123_456_780,
-        is_cut: false,
-    },
-    Fractional {
-        text: "15:23:30.123456789",
-        time: (15, 23, 30),
-        nanoseconds: 123_456_789,
-        is_cut: false,
-    },
-    Fractional {
-        text: "15:23:30.1234567890",
-        time: (15, 23, 30),
-        nanoseconds: 123_456_789,
-        is_cut: true,
-    },
-    Fractional {
-        text: "15:23:30.123456789876",
-        time: (15, 23, 30),
-        nanoseconds: 123_456_789,
-        is_cut: true,
-    },
-    Fractional {
-        text: "15:23:30.1234567898765",
-        time: (15, 23, 30),
-        nanoseconds: 123_456_789,
-        is_cut: true,
-    },
-    Fractional {
-        text: "15:23:30.123456789876543",
-        time: (15, 23, 30),
-        nanoseconds: 123_456_789,
-        is_cut: true,
-    },
-    Fractional {
-        text: "15:23:30.1234567898765432",
-        time: (15, 23, 30),
-        nanoseconds: 123_456_789,
-        is_cut: true,
-    },
-    Fractional {
-        text: "15:23:30.1234567898765432101234567890987654321",
-        time: (15, 23, 30),
-        nanoseconds: 123_456_789,
-        is_cut: true,
-    },
+    Fractional { text: "15:23:30.1234567", time: (15, 23, 30), nanoseconds: 123_456_700, is_cut: false },
+    Fractional { text: "15:23:30.12345678", time: (15, 23, 30), nanoseconds: 123_456_780, is_cut: false },
+    Fractional { text: "15:23:30.123456789", time: (15, 23, 30), nanoseconds: 123_456_789, is_cut: false },
+    Fractional { text: "15:23:30.1234567890", time: (15, 23, 30), nanoseconds: 123_456_789, is_cut: true },
+    Fractional { text: "15:23:30.123456789876", time: (15, 23, 30), nanoseconds: 123_456_789, is_cut: true },
+    Fractional { text: "15:23:30.1234567898765", time: (15, 23, 30), nanoseconds: 123_456_789, is_cut: true },
+    Fractional { text: "15:23:30.123456789876543", time: (15, 23, 30), nanoseconds: 123_456_789, is_cut: true },
+    Fractional { text: "15:23:30.1234567898765432", time: (15, 23, 30), nanoseconds: 123_456_789, is_cut: true },
+    Fractional { text: "15:23:30.1234567898765432101234567890987654321", time: (15, 23, 30), nanoseconds: 123_456_789, is_cut: true },
 ];
 
 #[test]
@@ -236,22 +155,11 @@ pub(super) fn check_digits(rt: &impl Abort, row: &Digits, fraction: Option<Fract
 }
 
 // The last has 300 digits.
+#[rattlefmt::skip]
 const DIGITS_OF_TIMES_ALONE: &[Digits] = &[
-    Digits {
-        text: "15:23:30.12345678",
-        count: 8,
-        value: 12_345_678,
-    },
-    Digits {
-        text: "15:23:30.1234567898765432101234567890987654321",
-        count: 37,
-        value: 123_456_789_876_543_210,
-    },
-    Digits {
-        text: "15:23:30.123456789876543210123456789098765432112345678987654321012345678909876543211234567898765432101234567890987654321123456789876543210123456789098765432112345678987654321012345678909876543211234567898765432101234567890987654321123456789876543210123456789098765432112345678987654321012345678909876543211234",
-        count: 255,
-        value: 123_456_789_876_543_210,
-    },
+    Digits { text: "15:23:30.12345678", count: 8, value: 12_345_678 },
+    Digits { text: "15:23:30.1234567898765432101234567890987654321", count: 37, value: 123_456_789_876_543_210 },
+    Digits { text: "15:23:30.123456789876543210123456789098765432112345678987654321012345678909876543211234567898765432101234567890987654321123456789876543210123456789098765432112345678987654321012345678909876543211234567898765432101234567890987654321123456789876543210123456789098765432112345678987654321012345678909876543211234", count: 255, value: 123_456_789_876_543_210 },
 ];
 
 #[test]
