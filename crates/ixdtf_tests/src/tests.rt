@@ -6,7 +6,6 @@ mod dates;
 mod durations;
 mod encodings;
 mod errors;
-mod fixed_places;
 mod handlers;
 mod languages;
 mod large;
@@ -354,17 +353,6 @@ fn check_refusals(
     }
 }
 
-/// The readers refuse the text in turn, and then the last reader returns this, with the same parsers.
-fn check_last(
-    rt: &impl Abort,
-    text: &'static str,
-    refusals: &[(Reader, ParseError)],
-    last: Reader,
-    wanted: &ParserResult<Found<'static, Utf8>>,
-) {
-    check_once_read(rt, text, refusals, last, wanted, &[]);
-}
-
 /// The readers refuse the text in turn, then this reader returns this, and others refuse the remaining input, with the
 /// same parsers.
 fn check_once_read(
@@ -418,5 +406,15 @@ fn check_refused(rt: &impl Abort, reader: Reader, rows: &[(ParseError, &[(&'stat
             let is_alike = !text.is_ascii() || refuses_wide_at(reader, text, *error, *at);
             assert!(rt; is_alike, "{reader:?} at {text} in 16-bit units");
         }
+    }
+}
+
+/// Each reader refuses the texts of the table beside it.
+fn check_refused_by_each(
+    rt: &impl Abort,
+    tables: &[(Reader, &[(ParseError, &[(&'static str, usize)])])],
+) {
+    for (reader, rows) in tables {
+        check_refused(rt, *reader, rows);
     }
 }

@@ -11,10 +11,10 @@ mod dates;
 mod durations;
 mod encodings;
 mod errors;
-mod fixed_places;
 mod handlers;
 mod languages;
 mod large;
+mod listener;
 mod located;
 mod lone_times;
 mod months;
@@ -49,41 +49,23 @@ const AT_DIGIT: ParseError = AbruptEnd { location: "digit" };
 
 const AT_DATE: ParseError = AbruptEnd { location: "Date" };
 
-const AT_MONTH_DAY: ParseError = AbruptEnd {
-    location: "MonthDay",
-};
+const AT_MONTH_DAY: ParseError = AbruptEnd { location: "MonthDay" };
 
-const AT_OFFSET: ParseError = AbruptEnd {
-    location: "time-numoffset",
-};
+const AT_OFFSET: ParseError = AbruptEnd { location: "time-numoffset" };
 
-const AT_ZONE: ParseError = AbruptEnd {
-    location: "TimeZoneAnnotation",
-};
+const AT_ZONE: ParseError = AbruptEnd { location: "TimeZoneAnnotation" };
 
-const AT_BRACKET: ParseError = AbruptEnd {
-    location: "AmbiguousAnnotation",
-};
+const AT_BRACKET: ParseError = AbruptEnd { location: "AmbiguousAnnotation" };
 
-const AT_START: ParseError = AbruptEnd {
-    location: "DurationStart",
-};
+const AT_START: ParseError = AbruptEnd { location: "DurationStart" };
 
-const AT_DESIGNATOR: ParseError = AbruptEnd {
-    location: "DurationDesignator",
-};
+const AT_DESIGNATOR: ParseError = AbruptEnd { location: "DurationDesignator" };
 
-const AT_DURATION: ParseError = AbruptEnd {
-    location: "Duration",
-};
+const AT_DURATION: ParseError = AbruptEnd { location: "Duration" };
 
-const AT_DATE_DESIGNATOR: ParseError = AbruptEnd {
-    location: "DateDurationDesignator",
-};
+const AT_DATE_DESIGNATOR: ParseError = AbruptEnd { location: "DateDurationDesignator" };
 
-const AT_TIME_DESIGNATOR: ParseError = AbruptEnd {
-    location: "TimeDurationDesignator",
-};
+const AT_TIME_DESIGNATOR: ParseError = AbruptEnd { location: "TimeDurationDesignator" };
 
 type Record = IxdtfParseRecord<'static, Utf8>;
 
@@ -301,85 +283,34 @@ impl<'a, T: EncodingType> Parsers<'a, T> {
     }
 
     fn read(&mut self, reader: Reader) -> ParserResult<Found<'a, T>> {
-        let parts = match reader {
-            Reader::Parse => self.dates.parse(),
-            Reader::YearMonth => self.dates.parse_year_month(),
-            Reader::MonthDay => self.dates.parse_month_day(),
-            Reader::Time => self.dates.parse_time(),
-            Reader::Offset => {
-                return match self.zones.parse_offset() {
-                    Ok(offset) => Ok(Found::Offset(offset)),
-                    Err(error) => Err(error),
-                };
-            }
-            Reader::Identifier => {
-                return match self.zones.parse_identifier() {
-                    Ok(zone) => Ok(Found::Zone(zone)),
-                    Err(error) => Err(error),
-                };
-            }
-            Reader::IanaIdentifier => {
-                return match self.zones.parse_iana_identifier() {
-                    Ok(name) => Ok(Found::Name(name)),
-                    Err(error) => Err(error),
-                };
-            }
-            Reader::Duration => {
-                return match self.durations.parse() {
-                    Ok(duration) => Ok(Found::Duration(duration)),
-                    Err(error) => Err(error),
-                };
-            }
-        };
-        match parts {
-            Ok(parts) => Ok(Found::Parts(parts)),
-            Err(error) => Err(error),
+        match reader {
+            Reader::Parse => Ok(Found::Parts(self.dates.parse()?)),
+            Reader::YearMonth => Ok(Found::Parts(self.dates.parse_year_month()?)),
+            Reader::MonthDay => Ok(Found::Parts(self.dates.parse_month_day()?)),
+            Reader::Time => Ok(Found::Parts(self.dates.parse_time()?)),
+            Reader::Offset => Ok(Found::Offset(self.zones.parse_offset()?)),
+            Reader::Identifier => Ok(Found::Zone(self.zones.parse_identifier()?)),
+            Reader::IanaIdentifier => Ok(Found::Name(self.zones.parse_iana_identifier()?)),
+            Reader::Duration => Ok(Found::Duration(self.durations.parse()?)),
         }
     }
 
     // The error of a reader, where it refuses.
     fn refusal(&mut self, reader: Reader) -> Option<ParseError> {
-        match self.read(reader) {
-            Ok(_found) => None,
-            Err(error) => Some(error),
-        }
+        self.read(reader).err()
     }
 
     // The error of a reader's located form with its place, where it refuses.
     fn located_refusal(&mut self, reader: Reader) -> Option<LocatedError> {
-        let parts = match reader {
-            Reader::Parse => self.dates.parse_located(),
-            Reader::YearMonth => self.dates.parse_year_month_located(),
-            Reader::MonthDay => self.dates.parse_month_day_located(),
-            Reader::Time => self.dates.parse_time_located(),
-            Reader::Offset => {
-                return match self.zones.parse_offset_located() {
-                    Ok(_found) => None,
-                    Err(error) => Some(error),
-                };
-            }
-            Reader::Identifier => {
-                return match self.zones.parse_identifier_located() {
-                    Ok(_found) => None,
-                    Err(error) => Some(error),
-                };
-            }
-            Reader::IanaIdentifier => {
-                return match self.zones.parse_iana_identifier_located() {
-                    Ok(_found) => None,
-                    Err(error) => Some(error),
-                };
-            }
-            Reader::Duration => {
-                return match self.durations.parse_located() {
-                    Ok(_found) => None,
-                    Err(error) => Some(error),
-                };
-            }
-        };
-        match parts {
-            Ok(_found) => None,
-            Err(error) => Some(error),
+        match reader {
+            Reader::Parse => self.dates.parse_located().err(),
+            Reader::YearMonth => self.dates.parse_year_month_located().err(),
+            Reader::MonthDay => self.dates.parse_month_day_located().err(),
+            Reader::Time => self.dates.parse_time_located().err(),
+            Reader::Offset => self.zones.parse_offset_located().err(),
+            Reader::Identifier => self.zones.parse_identifier_located().err(),
+            Reader::IanaIdentifier => self.zones.parse_iana_identifier_located().err(),
+            Reader::Duration => self.durations.parse_located().err(),
         }
     }
 
@@ -411,17 +342,6 @@ fn check_refusals(
         let is_refused = parsers.refusal(*reader) == Some(*error);
         check_reader(rt, *reader, text, is_refused);
     }
-}
-
-/// The readers refuse the text in turn, and then the last reader returns this, with the same parsers.
-fn check_last(
-    rt: &impl Abort,
-    text: &'static str,
-    refusals: &[(Reader, ParseError)],
-    last: Reader,
-    wanted: &ParserResult<Found<'static, Utf8>>,
-) {
-    check_once_read(rt, text, refusals, last, wanted, &[]);
 }
 
 /// The readers refuse the text in turn, then this reader returns this, and others refuse the remaining input, with the
@@ -477,5 +397,15 @@ fn check_refused(rt: &impl Abort, reader: Reader, rows: &[(ParseError, &[(&'stat
             let is_alike = !text.is_ascii() || refuses_wide_at(reader, text, *error, *at);
             assert!(rt; is_alike, "{reader:?} at {text} in 16-bit units");
         }
+    }
+}
+
+/// Each reader refuses the texts of the table beside it.
+fn check_refused_by_each(
+    rt: &impl Abort,
+    tables: &[(Reader, &[(ParseError, &[(&'static str, usize)])])],
+) {
+    for (reader, rows) in tables {
+        check_refused(rt, *reader, rows);
     }
 }

@@ -129,14 +129,8 @@ pub(super) const ROWS: [Row; 16] = [
 
 /// The calls that list annotations.
 #[derive(Clone, Copy)]
-pub(super) enum ListCall {
-    Parse,
-    YearMonth,
-    MonthDay,
-    MonthDayStrict,
-    Time,
-    TimeStrict,
-}
+#[rattlefmt::skip]
+pub(super) enum ListCall { Parse, YearMonth, MonthDay, MonthDayStrict, Time, TimeStrict }
 
 /// A text, and what a call that lists gives of it, with room for two annotations.
 #[derive(Clone, Copy)]
@@ -194,7 +188,10 @@ impl DurationRow {
     /// The call has returned the number and given the duration.
     pub(super) fn check(&self, rt: &impl Abort, number: u32, out: &Duration<'_>) {
         assert_eq!(rt; (number, out.place), self.outcome);
-        assert_eq!(rt; (out.is_negative, out.years, out.weeks, out.days), self.date);
+        assert_eq!(rt;
+            (out.is_negative, out.years, out.weeks, out.days),
+            self.date
+        );
         assert_eq!(rt;
             (out.time_form, out.hours, out.minutes, out.fraction),
             self.time

@@ -40,6 +40,11 @@ fn units_of(bytes: &[u8]) -> [u16; 64] {
     units
 }
 
+/// So many of the units.
+fn front_of(units: &[u16; 64], count: usize) -> &[u16] {
+    &units[..count.min(64)]
+}
+
 /// Makes the call.
 fn call<'a>(call: Call, text: &'a [u16], out: &mut Record<'a>) -> u32 {
     match call {
@@ -79,7 +84,7 @@ fn list<'a>(
 fn reads_texts(rt: HostRuntime) {
     for row in ROWS {
         let units = units_of(row.text);
-        let text = &units[..row.text.len().min(64)];
+        let text = front_of(&units, row.text.len());
         let mut record = RECORD;
         let number = call(row.call, text, &mut record);
         let zone = record.zone;
@@ -97,7 +102,7 @@ fn reads_texts(rt: HostRuntime) {
 fn lists_annotations(rt: HostRuntime) {
     for row in LIST_ROWS {
         let units = units_of(row.text);
-        let text = &units[..row.text.len().min(64)];
+        let text = front_of(&units, row.text.len());
         let mut record = RECORD;
         let mut slots = [ANNOTATION, ANNOTATION];
         let mut count = 9;
@@ -116,7 +121,7 @@ fn lists_annotations(rt: HostRuntime) {
 fn reads_durations(rt: HostRuntime) {
     for row in DURATION_ROWS {
         let units = units_of(row.text);
-        let text = &units[..row.text.len().min(64)];
+        let text = front_of(&units, row.text.len());
         let mut out = DURATION;
         let number = if row.is_strict {
             ixdtf16_parse_duration_strict(text, &mut out)

@@ -1,3 +1,5 @@
+//! Durations.
+
 use super::times::{Digits, check_digits};
 use super::{Found, Reader, check, check_found, check_fraction, check_kept};
 use ixdtf::ParseError;
@@ -79,14 +81,6 @@ struct Dates {
     date: (u32, u32, u32, u64),
 }
 
-fn check_dates(rt: &impl Abort, rows: &[Dates]) {
-    for row in rows {
-        let (years, months, weeks, days) = row.date;
-        let wanted = lasts(row.sign, dated(years, months, weeks, days), None);
-        check_found(rt, Reader::Duration, row.text, &Ok(Found::Duration(wanted)));
-    }
-}
-
 #[rattlefmt::skip]
 const DATES_OF_DURATIONS: &[Dates] = &[
     Dates { text: "P1Y", sign: Sign::Positive, date: (1, 0, 0, 0) },
@@ -104,7 +98,16 @@ const DATES_OF_DURATIONS: &[Dates] = &[
 
 #[test]
 fn reads_dates_of_durations(rt: HostRuntime) {
-    check_dates(&rt, DATES_OF_DURATIONS);
+    for row in DATES_OF_DURATIONS {
+        let (years, months, weeks, days) = row.date;
+        let wanted = lasts(row.sign, dated(years, months, weeks, days), None);
+        check_found(
+            &rt,
+            Reader::Duration,
+            row.text,
+            &Ok(Found::Duration(wanted)),
+        );
+    }
 }
 
 /// A duration of hours, minutes and seconds, up to its last unit.
@@ -112,13 +115,6 @@ struct Times {
     text: &'static str,
     last: Unit,
     time: (u64, u64, u64),
-}
-
-fn check_times(rt: &impl Abort, rows: &[Times]) {
-    for row in rows {
-        let wanted = lasts(Sign::Positive, None, up_to(row.last, row.time, None));
-        check_found(rt, Reader::Duration, row.text, &Ok(Found::Duration(wanted)));
-    }
 }
 
 #[rattlefmt::skip]
@@ -137,7 +133,15 @@ const TIMES_OF_DURATIONS: &[Times] = &[
 
 #[test]
 fn reads_times_of_durations(rt: HostRuntime) {
-    check_times(&rt, TIMES_OF_DURATIONS);
+    for row in TIMES_OF_DURATIONS {
+        let wanted = lasts(Sign::Positive, None, up_to(row.last, row.time, None));
+        check_found(
+            &rt,
+            Reader::Duration,
+            row.text,
+            &Ok(Found::Duration(wanted)),
+        );
+    }
 }
 
 /// A duration whose last number has a fraction.
@@ -176,12 +180,6 @@ fn check_fractional(rt: &impl Abort, row: &Fractional) {
     check_found(rt, Reader::Duration, row.text, &Ok(Found::Duration(wanted)));
 }
 
-fn check_fractions(rt: &impl Abort, rows: &[Fractional]) {
-    for row in rows {
-        check_fractional(rt, row);
-    }
-}
-
 #[rattlefmt::skip]
 const FRACTIONS_OF_DURATIONS: &[Fractional] = &[
     Fractional { text: "PT0,5H", sign: Sign::Positive, date: None, last: Unit::Hours, time: (0, 0, 0), nanoseconds: 500_000_000, is_cut: false },
@@ -190,15 +188,7 @@ const FRACTIONS_OF_DURATIONS: &[Fractional] = &[
     Fractional { text: "PT1H0.5H", sign: Sign::Positive, date: None, last: Unit::Hours, time: (0, 0, 0), nanoseconds: 500_000_000, is_cut: false },
     Fractional { text: "PT1H1.123456789123M", sign: Sign::Positive, date: None, last: Unit::Minutes, time: (1, 1, 0), nanoseconds: 123_456_789, is_cut: true },
     Fractional { text: "PT1S2.1234567898765432101234567890987654321S", sign: Sign::Positive, date: None, last: Unit::Seconds, time: (0, 0, 2), nanoseconds: 123_456_789, is_cut: true },
-];
-
-#[test]
-fn reads_fractions_of_durations(rt: HostRuntime) {
-    check_fractions(&rt, FRACTIONS_OF_DURATIONS);
-}
-
-#[rattlefmt::skip]
-const DATES_AND_FRACTIONS_OF_DURATIONS: &[Fractional] = &[
+    // with a date
     Fractional { text: "-P1Y3wT0,5H", sign: Sign::Negative, date: Some((1, 0, 3, 0)), last: Unit::Hours, time: (0, 0, 0), nanoseconds: 500_000_000, is_cut: false },
     Fractional { text: "-P1Y1M1W1DT1H1M1.123456789S", sign: Sign::Negative, date: Some((1, 1, 1, 1)), last: Unit::Seconds, time: (1, 1, 1), nanoseconds: 123_456_789, is_cut: false },
     Fractional { text: "P1Y1DT1.999999999H", sign: Sign::Positive, date: Some((1, 0, 0, 1)), last: Unit::Hours, time: (1, 0, 0), nanoseconds: 999_999_999, is_cut: false },
@@ -206,8 +196,10 @@ const DATES_AND_FRACTIONS_OF_DURATIONS: &[Fractional] = &[
 ];
 
 #[test]
-fn reads_dates_and_fractions_of_durations(rt: HostRuntime) {
-    check_fractions(&rt, DATES_AND_FRACTIONS_OF_DURATIONS);
+fn reads_fractions_of_durations(rt: HostRuntime) {
+    for row in FRACTIONS_OF_DURATIONS {
+        check_fractional(&rt, row);
+    }
 }
 
 #[rattlefmt::skip]

@@ -334,25 +334,14 @@ fn reads_dates_by_their_hyphens(rt: HostRuntime) {
     check(&rt, "2024-0302", is_refused);
 }
 
-const YEAR_ZERO: DateRecord = DateRecord {
-    year: 0,
-    month: 0,
-    day: 0,
-};
+#[rattlefmt::skip]
+const YEAR_ZERO: DateRecord = DateRecord { year: 0, month: 0, day: 0 };
 
-const MIDNIGHT: TimeRecord = TimeRecord {
-    hour: 0,
-    minute: 0,
-    second: 0,
-    fraction: None,
-};
+#[rattlefmt::skip]
+const MIDNIGHT: TimeRecord = TimeRecord { hour: 0, minute: 0, second: 0, fraction: None };
 
-const NO_DAYS: DateDurationRecord = DateDurationRecord {
-    years: 0,
-    months: 0,
-    weeks: 0,
-    days: 0,
-};
+#[rattlefmt::skip]
+const NO_DAYS: DateDurationRecord = DateDurationRecord { years: 0, months: 0, weeks: 0, days: 0 };
 
 #[test]
 fn defaults_are_zero_in_each_field(rt: HostRuntime) {

@@ -1,10 +1,9 @@
 //! Offsets alone, and after a time.
 
 use super::{
-    AT_OFFSET, Found, Reader, check, check_found, check_fraction, check_once_read, check_parsed,
-    dated, fraction_of, long, minutes, morning, short, timed,
+    Found, Reader, check, check_found, check_fraction, check_parsed, dated, fraction_of, long,
+    minutes, morning, short, timed,
 };
-use ixdtf::ParseError;
 use ixdtf::records::{Sign, UtcOffsetRecord, UtcOffsetRecordOrZ};
 use std::process::Abort;
 
@@ -106,24 +105,4 @@ fn reads_utc(rt: HostRuntime) {
 fn reads_the_offset_that_z_resolves_to(rt: HostRuntime) {
     let zulu = UtcOffsetRecordOrZ::Z.resolve_rfc_9557();
     check_morning(&rt, "2024-03-02T08:48:00-00:00", zulu);
-}
-
-const BEFORE_AN_OFFSET: &[(Reader, ParseError)] = &[(
-    Reader::Identifier,
-    ParseError::InvalidMinutePrecisionOffset,
-)];
-
-const BEHIND_AN_OFFSET: &[(Reader, ParseError)] = &[(Reader::Offset, AT_OFFSET)];
-
-#[test]
-fn reads_an_offset_once(rt: HostRuntime) {
-    let offset = Found::Offset(long(minutes(Sign::Positive, 1, 0), 30, None));
-    check_once_read(
-        &rt,
-        "+01:00:30",
-        BEFORE_AN_OFFSET,
-        Reader::Offset,
-        &Ok(offset),
-        BEHIND_AN_OFFSET,
-    );
 }

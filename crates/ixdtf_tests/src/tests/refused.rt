@@ -2,7 +2,7 @@
 
 use super::{
     AT_BRACKET, AT_DATE, AT_DATE_DESIGNATOR, AT_DESIGNATOR, AT_DIGIT, AT_DURATION, AT_MONTH_DAY,
-    AT_OFFSET, AT_START, AT_TIME_DESIGNATOR, AT_ZONE, Reader, check_refused,
+    AT_OFFSET, AT_START, AT_TIME_DESIGNATOR, AT_ZONE, Reader, check_refused_by_each,
 };
 use ixdtf::ParseError::{
     self, AmbiguousTimeMonthDay, AmbiguousTimeYearMonth, AnnotationClose, AnnotationKeyChar,
@@ -277,7 +277,5 @@ const TABLES: &[(Reader, &[(ParseError, &[(&str, usize)])])] = &[
 
 #[test]
 fn refuses_each_text(rt: HostRuntime) {
-    for (reader, rows) in TABLES {
-        check_refused(&rt, *reader, rows);
-    }
+    check_refused_by_each(&rt, TABLES);
 }

@@ -96,10 +96,7 @@ const UNKNOWN: Moment<'static> = Moment {
 };
 
 const MOMENTS: &[(&str, Option<Moment<'static>>)] = &[
-    (
-        "2024-03-02T08:48:00.25-05:00[America/New_York]",
-        Some(IN_NEW_YORK),
-    ),
+    ("2024-03-02T08:48:00.25-05:00[America/New_York]", Some(IN_NEW_YORK)),
     ("2024-03-02T08:48:00+00:00", Some(AT_UTC)),
     ("2024-03-02T08:48:00Z", Some(UNKNOWN)),
     ("2024-03-02T08:48:00Z[+05:30]", Some(UNKNOWN)),
@@ -352,10 +349,7 @@ const ADVICE: &[(&str, &str)] = &[
     ("2024-13-01", "there is no such month"),
     ("2023-02-29", "the month has no such day"),
     ("2024-03-0", "digit"),
-    (
-        "2024-03-02x",
-        "Unexpected character found after parsing was completed.",
-    ),
+    ("2024-03-02x", "Unexpected character found after parsing was completed."),
 ];
 
 #[test]
@@ -398,14 +392,8 @@ fn fault_of_name(text: &str) -> Option<(usize, ParseError)> {
 }
 
 const MARKS: &[(&str, &str)] = &[
-    (
-        "2024-03-02T8:48",
-        "Invalid character while parsing hour value. at 12\n2024-03-02T8:48\n            ^",
-    ),
-    (
-        "2024-03-02T08:48:00-05:000",
-        "Invalid time zone character after '/'. at 25\n2024-03-02T08:48:00-05:000\n                         ^",
-    ),
+    ("2024-03-02T8:48", "Invalid character while parsing hour value. at 12\n2024-03-02T8:48\n            ^"),
+    ("2024-03-02T08:48:00-05:000", "Invalid time zone character after '/'. at 25\n2024-03-02T08:48:00-05:000\n                         ^"),
 ];
 
 #[test]

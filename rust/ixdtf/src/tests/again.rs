@@ -5,10 +5,9 @@
 #[allow(unused_imports)]
 use crate::runtime::{HostRuntime, TryClone};
 
-use super::replies::{Form, check_read_once};
+use super::listener::{Form, check_read_once};
 use super::{AT_DIGIT, AT_MONTH_DAY, AT_OFFSET, AT_START, AT_ZONE, Parsers, Reader, check_reader};
 use ixdtf::ParseError;
-use crate::runtime::Abort;
 
 // Whether the text is read, and then refused as the empty text is.
 fn is_read_once(reader: Reader, text: &'static str, at_end: ParseError) -> bool {
@@ -18,26 +17,11 @@ fn is_read_once(reader: Reader, text: &'static str, at_end: ParseError) -> bool 
     is_read && is_at_its_end && Parsers::from_str("").refusal(reader) == Some(at_end)
 }
 
-fn check_once(rt: &impl Abort, rows: &[(Reader, &'static str, ParseError)]) {
-    for (reader, text, at_end) in rows {
-        check_reader(rt, *reader, text, is_read_once(*reader, text, *at_end));
-    }
-}
-
 const TEXTS: &[(Reader, &str, ParseError)] = &[
     (Reader::Parse, "2020-04-08T12Z[cet][u-ca=iso8601]", AT_DIGIT),
     (Reader::YearMonth, "2020-04[cet]", AT_DIGIT),
     (Reader::MonthDay, "04-08[cet]", AT_MONTH_DAY),
     (Reader::Time, "12:30Z[cet]", AT_DIGIT),
-];
-
-#[test]
-fn reads_a_text_once() {
-    let rt = HostRuntime;
-    check_once(&rt, TEXTS);
-}
-
-const ZONES_AND_A_DURATION: &[(Reader, &str, ParseError)] = &[
     (Reader::Offset, "+01:00:30", AT_OFFSET),
     (Reader::Identifier, "UTC", AT_ZONE),
     (Reader::IanaIdentifier, "UTC", ParseError::TzLeadingChar),
@@ -45,9 +29,11 @@ const ZONES_AND_A_DURATION: &[(Reader, &str, ParseError)] = &[
 ];
 
 #[test]
-fn reads_a_zone_or_a_duration_once() {
+fn reads_a_text_once() {
     let rt = HostRuntime;
-    check_once(&rt, ZONES_AND_A_DURATION);
+    for (reader, text, at_end) in TEXTS {
+        check_reader(&rt, *reader, text, is_read_once(*reader, text, *at_end));
+    }
 }
 
 const WITH_HANDLERS: &[(Form, &str, ParseError)] = &[

@@ -1,9 +1,10 @@
 // Made by tools/to_rust.py of crates/ixdtf_tests/src/tests/brackets.rt. Do not edit.
 
+//! Brackets: zones, calendars and other pairs.
 
 #[allow(unused_imports)]
 use crate::runtime::{HostRuntime, TryClone};
-use super::dates::check_dates;
+
 use super::{
     AT_BRACKET, Reader, check, check_kept, check_parsed, long, minutes, morning, parts, shifted,
     short, timed,
@@ -13,89 +14,49 @@ use ixdtf::parsers::IxdtfParser;
 use ixdtf::records::{Sign, UtcOffsetRecordOrZ};
 use crate::runtime::Abort;
 
-/// A text with a date of 2020 and a name in its first bracket.
-struct Named {
+/// A text of a date and brackets, with its zone, by its `!` and its name, and its calendar.
+struct Bracketed {
     text: &'static str,
-    month: u8,
-    day: u8,
-    critical: bool,
-    name: &'static str,
+    date: (i32, u8, u8),
+    zone: Option<(bool, &'static str)>,
+    calendar: Option<&'static str>,
 }
 
-fn check_named(rt: &impl Abort, rows: &[Named]) {
-    for row in rows {
-        let date = Some((2020, row.month, row.day));
-        let zone = Some((row.critical, row.name));
-        check_parsed(rt, row.text, &Ok(parts(date, None, None, zone, None)));
-    }
-}
-
-const NAMES_IN_BRACKETS: &[Named] = &[
-    Named {
-        text: "2020-04-08[America/Chicago]",
-        month: 4,
-        day: 8,
-        critical: false,
-        name: "America/Chicago",
-    },
-    Named {
-        text: "2020-04-08[!America/Chicago]",
-        month: 4,
-        day: 8,
-        critical: true,
-        name: "America/Chicago",
-    },
-    Named {
-        text: "20200408[asia/kolkata]",
-        month: 4,
-        day: 8,
-        critical: false,
-        name: "asia/kolkata",
-    },
-    Named {
-        text: "+002020-04-08[!cet]",
-        month: 4,
-        day: 8,
-        critical: true,
-        name: "cet",
-    },
-    Named {
-        text: "2020-04-08[cet]",
-        month: 4,
-        day: 8,
-        critical: false,
-        name: "cet",
-    },
-    Named {
-        text: "2020-04-08[_]",
-        month: 4,
-        day: 8,
-        critical: false,
-        name: "_",
-    },
-    Named {
-        text: "2020-04-08[.x]",
-        month: 4,
-        day: 8,
-        critical: false,
-        name: ".x",
-    },
-    Named {
-        text: "2020-01-01[asia/kolkata]",
-        month: 1,
-        day: 1,
-        critical: false,
-        name: "asia/kolkata",
-    },
+const DATES_WITH_BRACKETS: &[Bracketed] = &[
+    // names
+    Bracketed { text: "2020-04-08[America/Chicago]", date: (2020, 4, 8), zone: Some((false, "America/Chicago")), calendar: None },
+    Bracketed { text: "2020-04-08[!America/Chicago]", date: (2020, 4, 8), zone: Some((true, "America/Chicago")), calendar: None },
+    Bracketed { text: "20200408[asia/kolkata]", date: (2020, 4, 8), zone: Some((false, "asia/kolkata")), calendar: None },
+    Bracketed { text: "+002020-04-08[!cet]", date: (2020, 4, 8), zone: Some((true, "cet")), calendar: None },
+    Bracketed { text: "2020-04-08[cet]", date: (2020, 4, 8), zone: Some((false, "cet")), calendar: None },
+    Bracketed { text: "2020-04-08[_]", date: (2020, 4, 8), zone: Some((false, "_")), calendar: None },
+    Bracketed { text: "2020-04-08[.x]", date: (2020, 4, 8), zone: Some((false, ".x")), calendar: None },
+    Bracketed { text: "2020-01-01[asia/kolkata]", date: (2020, 1, 1), zone: Some((false, "asia/kolkata")), calendar: None },
+    // calendars
+    Bracketed { text: "2020-11-08[u-ca=iso8601]", date: (2020, 11, 8), zone: None, calendar: Some("iso8601") },
+    Bracketed { text: "2020-11-08[!u-ca=iso8601]", date: (2020, 11, 8), zone: None, calendar: Some("iso8601") },
+    Bracketed { text: "2020-11-08[u-ca=a-bc-d]", date: (2020, 11, 8), zone: None, calendar: Some("a-bc-d") },
+    Bracketed { text: "+0020201108[!u-ca=iso8601][f-1a2b=a0sa-2l4s]", date: (2020, 11, 8), zone: None, calendar: Some("iso8601") },
+    Bracketed { text: "2020-11-08[u-ca=a][u-ca=b][!u-ca=a]", date: (2020, 11, 8), zone: None, calendar: Some("a") },
+    Bracketed { text: "2020-11-08[_=x][u-ca=b][u-ca=c]", date: (2020, 11, 8), zone: None, calendar: Some("b") },
+    Bracketed { text: "2020-01-01[u-ca=a-bc-d]", date: (2020, 1, 1), zone: None, calendar: Some("a-bc-d") },
+    Bracketed { text: "2020-01-01[u-ca=a][u-ca=b][!u-ca=a]", date: (2020, 1, 1), zone: None, calendar: Some("a") },
+    // pairs of other keys
+    Bracketed { text: "2020-11-08[a=b]", date: (2020, 11, 8), zone: None, calendar: None },
+    Bracketed { text: "2020-11-08[a=b][a=c]", date: (2020, 11, 8), zone: None, calendar: None },
+    Bracketed { text: "2020-11-08[_-9=Z-1]", date: (2020, 11, 8), zone: None, calendar: None },
 ];
 
 #[test]
-fn reads_names_in_brackets() {
+fn reads_brackets() {
     let rt = HostRuntime;
-    check_named(&rt, NAMES_IN_BRACKETS);
+    for row in DATES_WITH_BRACKETS {
+        let wanted = Ok(parts(Some(row.date), None, None, row.zone, row.calendar));
+        check_parsed(&rt, row.text, &wanted);
+    }
 }
 
-/// A text with this date and an offset in its first bracket.
+/// A text of a date and an offset in its bracket.
 struct Shifted {
     text: &'static str,
     critical: bool,
@@ -104,72 +65,41 @@ struct Shifted {
     minute: u8,
 }
 
-fn check_shifted(rt: &impl Abort, rows: &[Shifted]) {
-    for row in rows {
-        let zone = minutes(row.sign, row.hour, row.minute);
-        let wanted = shifted((2020, 4, 8), None, None, row.critical, zone);
-        check_parsed(rt, row.text, &Ok(wanted));
-    }
-}
-
 const OFFSETS_IN_BRACKETS: &[Shifted] = &[
-    Shifted {
-        text: "2020-04-08[-05:00]",
-        critical: false,
-        sign: Sign::Negative,
-        hour: 5,
-        minute: 0,
-    },
-    Shifted {
-        text: "2020-04-08[!+0530]",
-        critical: true,
-        sign: Sign::Positive,
-        hour: 5,
-        minute: 30,
-    },
-    Shifted {
-        text: "2020-04-08[+08]",
-        critical: false,
-        sign: Sign::Positive,
-        hour: 8,
-        minute: 0,
-    },
+    Shifted { text: "2020-04-08[-05:00]", critical: false, sign: Sign::Negative, hour: 5, minute: 0 },
+    Shifted { text: "2020-04-08[!+0530]", critical: true, sign: Sign::Positive, hour: 5, minute: 30 },
+    Shifted { text: "2020-04-08[+08]", critical: false, sign: Sign::Positive, hour: 8, minute: 0 },
 ];
 
 #[test]
 fn reads_offsets_in_brackets() {
     let rt = HostRuntime;
-    check_shifted(&rt, OFFSETS_IN_BRACKETS);
+    for row in OFFSETS_IN_BRACKETS {
+        let zone = minutes(row.sign, row.hour, row.minute);
+        let wanted = Ok(shifted((2020, 4, 8), None, None, row.critical, zone));
+        check_parsed(&rt, row.text, &wanted);
+    }
 }
 
-// A morning in New York with its offset, or with that of another place.
-fn check_new_york(rt: &impl Abort, text: &'static str, hour: Option<(Sign, u8)>, critical: bool) {
-    let offset = match hour {
-        Some((sign, hour)) => UtcOffsetRecordOrZ::Offset(short(sign, hour, 0)),
-        None => UtcOffsetRecordOrZ::Z,
-    };
-    let zone = Some((critical, "America/New_York"));
-    check_parsed(rt, text, &Ok(morning(Some(offset), zone, None)));
-}
+/// Mornings with a zone in New York by its `!`, and with the hour of an offset, where it is not `Z`.
+const MORNINGS_IN_NEW_YORK: &[(&str, Option<(Sign, u8)>, bool)] = &[
+    ("2024-03-02T08:48:00-05:00[America/New_York]", Some((Sign::Negative, 5)), false),
+    ("2024-03-02T08:48:00Z[!America/New_York]", None, true),
+    // an offset of another place
+    ("2024-03-02T08:48:00+01:00[!America/New_York]", Some((Sign::Positive, 1)), true),
+];
 
 #[test]
 fn reads_a_time_an_offset_and_a_zone() {
     let rt = HostRuntime;
-    let west = Some((Sign::Negative, 5));
-    check_new_york(
-        &rt,
-        "2024-03-02T08:48:00-05:00[America/New_York]",
-        west,
-        false,
-    );
-    check_new_york(&rt, "2024-03-02T08:48:00Z[!America/New_York]", None, true);
-    let east = Some((Sign::Positive, 1));
-    check_new_york(
-        &rt,
-        "2024-03-02T08:48:00+01:00[!America/New_York]",
-        east,
-        true,
-    );
+    for (text, hour, critical) in MORNINGS_IN_NEW_YORK {
+        let offset = match *hour {
+            Some((sign, hour)) => UtcOffsetRecordOrZ::Offset(short(sign, hour, 0)),
+            None => UtcOffsetRecordOrZ::Z,
+        };
+        let zone = Some((*critical, "America/New_York"));
+        check_parsed(&rt, text, &Ok(morning(Some(offset), zone, None)));
+    }
 }
 
 #[test]
@@ -209,94 +139,6 @@ fn keeps_a_bracket_that_it_refused() {
     check_kept(&rt, Reader::Parse, "2020-01-01T00:00Z[cet", AT_BRACKET);
 }
 
-/// A text with a date of 2020 and a calendar.
-struct Dated {
-    text: &'static str,
-    month: u8,
-    day: u8,
-    calendar: &'static str,
-}
-
-fn check_calendars(rt: &impl Abort, rows: &[Dated]) {
-    for row in rows {
-        let date = Some((2020, row.month, row.day));
-        check_parsed(
-            rt,
-            row.text,
-            &Ok(parts(date, None, None, None, Some(row.calendar))),
-        );
-    }
-}
-
-const CALENDARS: &[Dated] = &[
-    Dated {
-        text: "2020-11-08[u-ca=iso8601]",
-        month: 11,
-        day: 8,
-        calendar: "iso8601",
-    },
-    Dated {
-        text: "2020-11-08[!u-ca=iso8601]",
-        month: 11,
-        day: 8,
-        calendar: "iso8601",
-    },
-    Dated {
-        text: "2020-11-08[u-ca=a-bc-d]",
-        month: 11,
-        day: 8,
-        calendar: "a-bc-d",
-    },
-    Dated {
-        text: "+0020201108[!u-ca=iso8601][f-1a2b=a0sa-2l4s]",
-        month: 11,
-        day: 8,
-        calendar: "iso8601",
-    },
-    Dated {
-        text: "2020-11-08[u-ca=a][u-ca=b][!u-ca=a]",
-        month: 11,
-        day: 8,
-        calendar: "a",
-    },
-    Dated {
-        text: "2020-11-08[_=x][u-ca=b][u-ca=c]",
-        month: 11,
-        day: 8,
-        calendar: "b",
-    },
-    Dated {
-        text: "2020-01-01[u-ca=a-bc-d]",
-        month: 1,
-        day: 1,
-        calendar: "a-bc-d",
-    },
-    Dated {
-        text: "2020-01-01[u-ca=a][u-ca=b][!u-ca=a]",
-        month: 1,
-        day: 1,
-        calendar: "a",
-    },
-];
-
-#[test]
-fn reads_calendars() {
-    let rt = HostRuntime;
-    check_calendars(&rt, CALENDARS);
-}
-
-const PAIRS_OF_OTHER_KEYS: &[(&str, i32, u8, u8)] = &[
-    ("2020-11-08[a=b]", 2020, 11, 8),
-    ("2020-11-08[a=b][a=c]", 2020, 11, 8),
-    ("2020-11-08[_-9=Z-1]", 2020, 11, 8),
-];
-
-#[test]
-fn reads_pairs_of_other_keys() {
-    let rt = HostRuntime;
-    check_dates(&rt, PAIRS_OF_OTHER_KEYS);
-}
-
 #[test]
 fn reads_a_zone_and_a_calendar() {
     let rt = HostRuntime;
@@ -316,13 +158,6 @@ fn reads_a_zone_and_a_calendar() {
     check(&rt, "the second", offset.second() == Some(0));
 }
 
-fn check_iso8601(rt: &impl Abort, texts: &[&'static str]) {
-    for text in texts {
-        let offset = UtcOffsetRecordOrZ::Offset(short(Sign::Negative, 5, 0));
-        check_parsed(rt, text, &Ok(morning(Some(offset), None, Some("iso8601"))));
-    }
-}
-
 const AN_OFFSET_AND_CALENDARS: &[&str] = &[
     "2024-03-02T08:48:00-05:00[u-ca=iso8601]",
     "2024-03-02T08:48:00-05:00[u-ca=iso8601][u-ca=japanese]",
@@ -332,5 +167,8 @@ const AN_OFFSET_AND_CALENDARS: &[&str] = &[
 #[test]
 fn reads_an_offset_and_calendars() {
     let rt = HostRuntime;
-    check_iso8601(&rt, AN_OFFSET_AND_CALENDARS);
+    for text in AN_OFFSET_AND_CALENDARS {
+        let offset = UtcOffsetRecordOrZ::Offset(short(Sign::Negative, 5, 0));
+        check_parsed(&rt, text, &Ok(morning(Some(offset), None, Some("iso8601"))));
+    }
 }

@@ -1,21 +1,16 @@
 // Made by tools/to_rust.py of crates/ixdtf_tests/src/tests/dates.rt. Do not edit.
 
+//! Dates without a time.
 
 #[allow(unused_imports)]
 use crate::runtime::{HostRuntime, TryClone};
+
 use super::{Reader, check, check_kept, check_parsed, dated};
 use ixdtf::ParseError;
 use ixdtf::encoding::Utf8;
 use ixdtf::parsers::IxdtfParser;
-use crate::runtime::Abort;
 
-/// `IxdtfParser::parse` finds this year, month and day in the text, and nothing besides.
-pub(super) fn check_dates(rt: &impl Abort, rows: &[(&'static str, i32, u8, u8)]) {
-    for (text, year, month, day) in rows {
-        check_parsed(rt, text, &Ok(dated(*year, *month, *day, None)));
-    }
-}
-
+/// Texts that are a date, with its year, month and day.
 const DATES: &[(&str, i32, u8, u8)] = &[
     ("20201108", 2020, 11, 8),
     ("2020-11-08", 2020, 11, 8),
@@ -24,15 +19,7 @@ const DATES: &[(&str, i32, u8, u8)] = &[
     ("-000400-02-29", -400, 2, 29),
     ("+999999-12-31", 999_999, 12, 31),
     ("-999999-01-01", -999_999, 1, 1),
-];
-
-#[test]
-fn reads_dates() {
-    let rt = HostRuntime;
-    check_dates(&rt, DATES);
-}
-
-const ONE_DATE_IN_FOUR_FORMS: &[(&str, i32, u8, u8)] = &[
+    // one date in four forms
     ("2024-03-02", 2024, 3, 2),
     ("+002024-03-02", 2024, 3, 2),
     ("20240302", 2024, 3, 2),
@@ -40,9 +27,11 @@ const ONE_DATE_IN_FOUR_FORMS: &[(&str, i32, u8, u8)] = &[
 ];
 
 #[test]
-fn reads_one_date_in_four_forms() {
+fn reads_dates() {
     let rt = HostRuntime;
-    check_dates(&rt, ONE_DATE_IN_FOUR_FORMS);
+    for (text, year, month, day) in DATES {
+        check_parsed(&rt, text, &Ok(dated(*year, *month, *day, None)));
+    }
 }
 
 #[test]

@@ -1,8 +1,10 @@
 // Made by tools/to_rust.py of crates/ixdtf_tests/src/tests/durations.rt. Do not edit.
 
+//! Durations.
 
 #[allow(unused_imports)]
 use crate::runtime::{HostRuntime, TryClone};
+
 use super::times::{Digits, check_digits};
 use super::{Found, Reader, check, check_found, check_fraction, check_kept};
 use ixdtf::ParseError;
@@ -84,76 +86,33 @@ struct Dates {
     date: (u32, u32, u32, u64),
 }
 
-fn check_dates(rt: &impl Abort, rows: &[Dates]) {
-    for row in rows {
-        let (years, months, weeks, days) = row.date;
-        let wanted = lasts(row.sign, dated(years, months, weeks, days), None);
-        check_found(rt, Reader::Duration, row.text, &Ok(Found::Duration(wanted)));
-    }
-}
-
 const DATES_OF_DURATIONS: &[Dates] = &[
-    Dates {
-        text: "P1Y",
-        sign: Sign::Positive,
-        date: (1, 0, 0, 0),
-    },
-    Dates {
-        text: "+P1M",
-        sign: Sign::Positive,
-        date: (0, 1, 0, 0),
-    },
-    Dates {
-        text: "-p1w",
-        sign: Sign::Negative,
-        date: (0, 0, 1, 0),
-    },
-    Dates {
-        text: "P1y2m3W4d",
-        sign: Sign::Positive,
-        date: (1, 2, 3, 4),
-    },
-    Dates {
-        text: "P0D",
-        sign: Sign::Positive,
-        date: (0, 0, 0, 0),
-    },
-    Dates {
-        text: "P1Y2Y",
-        sign: Sign::Positive,
-        date: (2, 0, 0, 0),
-    },
-    Dates {
-        text: "P1Y1D0D",
-        sign: Sign::Positive,
-        date: (1, 0, 0, 0),
-    },
-    Dates {
-        text: "P4294967295W",
-        sign: Sign::Positive,
-        date: (0, 0, 4_294_967_295, 0),
-    },
-    Dates {
-        text: "P4294967295Y4294967295M",
-        sign: Sign::Positive,
-        date: (4_294_967_295, 4_294_967_295, 0, 0),
-    },
-    Dates {
-        text: "P18446744073709551615D",
-        sign: Sign::Positive,
-        date: (0, 0, 0, 18_446_744_073_709_551_615),
-    },
-    Dates {
-        text: "P000000000000000000000000001D",
-        sign: Sign::Positive,
-        date: (0, 0, 0, 1),
-    },
+    Dates { text: "P1Y", sign: Sign::Positive, date: (1, 0, 0, 0) },
+    Dates { text: "+P1M", sign: Sign::Positive, date: (0, 1, 0, 0) },
+    Dates { text: "-p1w", sign: Sign::Negative, date: (0, 0, 1, 0) },
+    Dates { text: "P1y2m3W4d", sign: Sign::Positive, date: (1, 2, 3, 4) },
+    Dates { text: "P0D", sign: Sign::Positive, date: (0, 0, 0, 0) },
+    Dates { text: "P1Y2Y", sign: Sign::Positive, date: (2, 0, 0, 0) },
+    Dates { text: "P1Y1D0D", sign: Sign::Positive, date: (1, 0, 0, 0) },
+    Dates { text: "P4294967295W", sign: Sign::Positive, date: (0, 0, 4_294_967_295, 0) },
+    Dates { text: "P4294967295Y4294967295M", sign: Sign::Positive, date: (4_294_967_295, 4_294_967_295, 0, 0) },
+    Dates { text: "P18446744073709551615D", sign: Sign::Positive, date: (0, 0, 0, 18_446_744_073_709_551_615) },
+    Dates { text: "P000000000000000000000000001D", sign: Sign::Positive, date: (0, 0, 0, 1) },
 ];
 
 #[test]
 fn reads_dates_of_durations() {
     let rt = HostRuntime;
-    check_dates(&rt, DATES_OF_DURATIONS);
+    for row in DATES_OF_DURATIONS {
+        let (years, months, weeks, days) = row.date;
+        let wanted = lasts(row.sign, dated(years, months, weeks, days), None);
+        check_found(
+            &rt,
+            Reader::Duration,
+            row.text,
+            &Ok(Found::Duration(wanted)),
+        );
+    }
 }
 
 /// A duration of hours, minutes and seconds, up to its last unit.
@@ -163,74 +122,31 @@ struct Times {
     time: (u64, u64, u64),
 }
 
-fn check_times(rt: &impl Abort, rows: &[Times]) {
-    for row in rows {
-        let wanted = lasts(Sign::Positive, None, up_to(row.last, row.time, None));
-        check_found(rt, Reader::Duration, row.text, &Ok(Found::Duration(wanted)));
-    }
-}
-
 const TIMES_OF_DURATIONS: &[Times] = &[
-    Times {
-        text: "PT5H",
-        last: Unit::Hours,
-        time: (5, 0, 0),
-    },
-    Times {
-        text: "PT5M",
-        last: Unit::Minutes,
-        time: (0, 5, 0),
-    },
-    Times {
-        text: "PT5S",
-        last: Unit::Seconds,
-        time: (0, 0, 5),
-    },
-    Times {
-        text: "Pt1h2m3s",
-        last: Unit::Seconds,
-        time: (1, 2, 3),
-    },
-    Times {
-        text: "PT1H2M",
-        last: Unit::Minutes,
-        time: (1, 2, 0),
-    },
-    Times {
-        text: "PT1H3S",
-        last: Unit::Seconds,
-        time: (1, 0, 3),
-    },
-    Times {
-        text: "PT1H2H",
-        last: Unit::Hours,
-        time: (2, 0, 0),
-    },
-    Times {
-        text: "PT1M2M3M",
-        last: Unit::Minutes,
-        time: (0, 3, 0),
-    },
-    Times {
-        text: "PT90071992547409910S",
-        last: Unit::Seconds,
-        time: (0, 0, 90_071_992_547_409_910),
-    },
-    Times {
-        text: "PT18446744073709551615H18446744073709551615M18446744073709551615S",
-        last: Unit::Seconds,
-        time: (
-            18_446_744_073_709_551_615,
-            18_446_744_073_709_551_615,
-            18_446_744_073_709_551_615,
-        ),
-    },
+    Times { text: "PT5H", last: Unit::Hours, time: (5, 0, 0) },
+    Times { text: "PT5M", last: Unit::Minutes, time: (0, 5, 0) },
+    Times { text: "PT5S", last: Unit::Seconds, time: (0, 0, 5) },
+    Times { text: "Pt1h2m3s", last: Unit::Seconds, time: (1, 2, 3) },
+    Times { text: "PT1H2M", last: Unit::Minutes, time: (1, 2, 0) },
+    Times { text: "PT1H3S", last: Unit::Seconds, time: (1, 0, 3) },
+    Times { text: "PT1H2H", last: Unit::Hours, time: (2, 0, 0) },
+    Times { text: "PT1M2M3M", last: Unit::Minutes, time: (0, 3, 0) },
+    Times { text: "PT90071992547409910S", last: Unit::Seconds, time: (0, 0, 90_071_992_547_409_910) },
+    Times { text: "PT18446744073709551615H18446744073709551615M18446744073709551615S", last: Unit::Seconds, time: (18_446_744_073_709_551_615, 18_446_744_073_709_551_615, 18_446_744_073_709_551_615) },
 ];
 
 #[test]
 fn reads_times_of_durations() {
     let rt = HostRuntime;
-    check_times(&rt, TIMES_OF_DURATIONS);
+    for row in TIMES_OF_DURATIONS {
+        let wanted = lasts(Sign::Positive, None, up_to(row.last, row.time, None));
+        check_found(
+            &rt,
+            Reader::Duration,
+            row.text,
+            &Ok(Found::Duration(wanted)),
+        );
+    }
 }
 
 /// A duration whose last number has a fraction.
@@ -269,141 +185,33 @@ fn check_fractional(rt: &impl Abort, row: &Fractional) {
     check_found(rt, Reader::Duration, row.text, &Ok(Found::Duration(wanted)));
 }
 
-fn check_fractions(rt: &impl Abort, rows: &[Fractional]) {
-    for row in rows {
-        check_fractional(rt, row);
-    }
-}
-
 const FRACTIONS_OF_DURATIONS: &[Fractional] = &[
-    Fractional {
-        text: "PT0,5H",
-        sign: Sign::Positive,
-        date: None,
-        last: Unit::Hours,
-        time: (0, 0, 0),
-        nanoseconds: 500_000_000,
-        is_cut: false,
-    },
-    Fractional {
-        text: "PT1.50M",
-        sign: Sign::Positive,
-        date: None,
-        last: Unit::Minutes,
-        time: (0, 1, 0),
-        nanoseconds: 500_000_000,
-        is_cut: false,
-    },
-    Fractional {
-        text: "PT1.25s",
-        sign: Sign::Positive,
-        date: None,
-        last: Unit::Seconds,
-        time: (0, 0, 1),
-        nanoseconds: 250_000_000,
-        is_cut: false,
-    },
-    Fractional {
-        text: "PT1H0.5H",
-        sign: Sign::Positive,
-        date: None,
-        last: Unit::Hours,
-        time: (0, 0, 0),
-        nanoseconds: 500_000_000,
-        is_cut: false,
-    },
-    Fractional {
-        text: "PT1H1.123456789123M",
-        sign: Sign::Positive,
-        date: None,
-        last: Unit::Minutes,
-        time: (1, 1, 0),
-        nanoseconds: 123_456_789,
-        is_cut: true,
-    },
-    Fractional {
-        text: "PT1S2.1234567898765432101234567890987654321S",
-        sign: Sign::Positive,
-        date: None,
-        last: Unit::Seconds,
-        time: (0, 0, 2),
-        nanoseconds: 123_456_789,
-        is_cut: true,
-    },
+    Fractional { text: "PT0,5H", sign: Sign::Positive, date: None, last: Unit::Hours, time: (0, 0, 0), nanoseconds: 500_000_000, is_cut: false },
+    Fractional { text: "PT1.50M", sign: Sign::Positive, date: None, last: Unit::Minutes, time: (0, 1, 0), nanoseconds: 500_000_000, is_cut: false },
+    Fractional { text: "PT1.25s", sign: Sign::Positive, date: None, last: Unit::Seconds, time: (0, 0, 1), nanoseconds: 250_000_000, is_cut: false },
+    Fractional { text: "PT1H0.5H", sign: Sign::Positive, date: None, last: Unit::Hours, time: (0, 0, 0), nanoseconds: 500_000_000, is_cut: false },
+    Fractional { text: "PT1H1.123456789123M", sign: Sign::Positive, date: None, last: Unit::Minutes, time: (1, 1, 0), nanoseconds: 123_456_789, is_cut: true },
+    Fractional { text: "PT1S2.1234567898765432101234567890987654321S", sign: Sign::Positive, date: None, last: Unit::Seconds, time: (0, 0, 2), nanoseconds: 123_456_789, is_cut: true },
+    // with a date
+    Fractional { text: "-P1Y3wT0,5H", sign: Sign::Negative, date: Some((1, 0, 3, 0)), last: Unit::Hours, time: (0, 0, 0), nanoseconds: 500_000_000, is_cut: false },
+    Fractional { text: "-P1Y1M1W1DT1H1M1.123456789S", sign: Sign::Negative, date: Some((1, 1, 1, 1)), last: Unit::Seconds, time: (1, 1, 1), nanoseconds: 123_456_789, is_cut: false },
+    Fractional { text: "P1Y1DT1.999999999H", sign: Sign::Positive, date: Some((1, 0, 0, 1)), last: Unit::Hours, time: (1, 0, 0), nanoseconds: 999_999_999, is_cut: false },
+    Fractional { text: "P1Y1M1W1DT1H1M1.1S", sign: Sign::Positive, date: Some((1, 1, 1, 1)), last: Unit::Seconds, time: (1, 1, 1), nanoseconds: 100_000_000, is_cut: false },
 ];
 
 #[test]
 fn reads_fractions_of_durations() {
     let rt = HostRuntime;
-    check_fractions(&rt, FRACTIONS_OF_DURATIONS);
-}
-
-const DATES_AND_FRACTIONS_OF_DURATIONS: &[Fractional] = &[
-    Fractional {
-        text: "-P1Y3wT0,5H",
-        sign: Sign::Negative,
-        date: Some((1, 0, 3, 0)),
-        last: Unit::Hours,
-        time: (0, 0, 0),
-        nanoseconds: 500_000_000,
-        is_cut: false,
-    },
-    Fractional {
-        text: "-P1Y1M1W1DT1H1M1.123456789S",
-        sign: Sign::Negative,
-        date: Some((1, 1, 1, 1)),
-        last: Unit::Seconds,
-        time: (1, 1, 1),
-        nanoseconds: 123_456_789,
-        is_cut: false,
-    },
-    Fractional {
-        text: "P1Y1DT1.999999999H",
-        sign: Sign::Positive,
-        date: Some((1, 0, 0, 1)),
-        last: Unit::Hours,
-        time: (1, 0, 0),
-        nanoseconds: 999_999_999,
-        is_cut: false,
-    },
-    Fractional {
-        text: "P1Y1M1W1DT1H1M1.1S",
-        sign: Sign::Positive,
-        date: Some((1, 1, 1, 1)),
-        last: Unit::Seconds,
-        time: (1, 1, 1),
-        nanoseconds: 100_000_000,
-        is_cut: false,
-    },
-];
-
-#[test]
-fn reads_dates_and_fractions_of_durations() {
-    let rt = HostRuntime;
-    check_fractions(&rt, DATES_AND_FRACTIONS_OF_DURATIONS);
+    for row in FRACTIONS_OF_DURATIONS {
+        check_fractional(&rt, row);
+    }
 }
 
 const DIGITS_OF_DURATIONS: &[Digits] = &[
-    Digits {
-        text: "PT0,5H",
-        count: 1,
-        value: 5,
-    },
-    Digits {
-        text: "PT1.50M",
-        count: 2,
-        value: 50,
-    },
-    Digits {
-        text: "PT1H1.123456789123M",
-        count: 12,
-        value: 123_456_789_123,
-    },
-    Digits {
-        text: "PT1S2.1234567898765432101234567890987654321S",
-        count: 37,
-        value: 123_456_789_876_543_210,
-    },
+    Digits { text: "PT0,5H", count: 1, value: 5 },
+    Digits { text: "PT1.50M", count: 2, value: 50 },
+    Digits { text: "PT1H1.123456789123M", count: 12, value: 123_456_789_123 },
+    Digits { text: "PT1S2.1234567898765432101234567890987654321S", count: 37, value: 123_456_789_876_543_210 },
 ];
 
 #[test]

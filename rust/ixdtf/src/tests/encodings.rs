@@ -1,10 +1,13 @@
 // Made by tools/to_rust.py of crates/ixdtf_tests/src/tests/encodings.rt. Do not edit.
 
+//! What an encoding sees in code units.
 
 #[allow(unused_imports)]
 use crate::runtime::{HostRuntime, TryClone};
+
 use super::check;
-use ixdtf::encoding::{EncodingType, Utf8};
+use super::wide::Wide;
+use ixdtf::encoding::{EncodingType, Utf8, Utf16};
 use crate::runtime::Abort;
 
 const UNITS: [u8; 3] = [0, 65, 255];
@@ -38,23 +41,21 @@ fn slices_lie_within() {
     check_slice(&rt, 0, 4, None);
 }
 
-fn check_keys(rt: &impl Abort, keys: &[(&'static str, bool)]) {
-    for (key, is_calendar) in keys {
-        let found = Utf8::check_calendar_key(key.as_bytes());
-        check(rt, key, found == *is_calendar);
-    }
-}
-
 const KEYS: &[(&str, bool)] = &[
     ("u-ca", true),
     ("u-cA", false),
     ("u-c", false),
     ("u-ca-", false),
     ("", false),
+    ("\u{175}-ca", false),
 ];
 
 #[test]
 fn one_key_is_of_calendars() {
     let rt = HostRuntime;
-    check_keys(&rt, KEYS);
+    for (key, is_calendar) in KEYS {
+        let found = Utf8::check_calendar_key(key.as_bytes());
+        let wide = Utf16::check_calendar_key(Wide::new(key).units());
+        check(&rt, key, found == *is_calendar && wide == *is_calendar);
+    }
 }

@@ -91,17 +91,8 @@ fn check_pointed(
     Ok(())
 }
 
-// The texts have the lines, each with a mark under its place.
-fn check_marks(
-    rt: &impl Abort,
-    alloc: Global,
-    rows: &[(&'static str, usize, &'static str)],
-) -> Result<(), Fail> {
-    for (text, at, lines) in rows {
-        check_pointed(rt, alloc, text, *at, lines)?;
-    }
-    Ok(())
-}
+// The most characters that are written before the place 48 and from it on.
+const FULL: &str = "000000000011111111112222222222333333333344444444555555555566666666667777";
 
 const MARKS: &[(&str, usize, &str)] = &[
     ("2020-13-01", 7, "2020-13-01\n       ^"),
@@ -110,39 +101,32 @@ const MARKS: &[(&str, usize, &str)] = &[
     ("2020-", 1000, "2020-\n     ^"),
     ("", 0, "\n^"),
     ("", 1, "\n^"),
-];
-
-#[test]
-fn marks_the_place() -> Result<(), Fail> {
-    let rt = HostRuntime;
-    check_marks(&rt, rt.alloc(), MARKS)
-}
-
-// The last two places are inside a character.
-const COLUMNS: &[(&str, usize, &str)] = &[
+    // columns are counted by characters, and a place inside one counts as its own
     ("\u{e9}1\u{1f600}2", 2, "\u{e9}1\u{1f600}2\n ^"),
     ("\u{e9}1\u{1f600}2", 7, "\u{e9}1\u{1f600}2\n   ^"),
     ("\u{e9}1\u{1f600}2", 8, "\u{e9}1\u{1f600}2\n    ^"),
     ("\u{e9}1\u{1f600}2", 1, "\u{e9}1\u{1f600}2\n^"),
     ("\u{e9}1\u{1f600}2", 6, "\u{e9}1\u{1f600}2\n  ^"),
-];
-
-#[test]
-fn counts_columns_by_characters() -> Result<(), Fail> {
-    let rt = HostRuntime;
-    check_marks(&rt, rt.alloc(), COLUMNS)
-}
-
-const CONTROLS: &[(&str, usize, &str)] = &[
+    // controls are shown as dots
     ("2020\n-01", 4, "2020.-01\n    ^"),
     ("\t\0\r\u{7f}x", 4, "....x\n    ^"),
     ("\u{85}\u{a0}", 2, ".\u{a0}\n ^"),
+    // a long front is cut
+    ("2024-03-02T08:48:00-05:00[America/New_York][u-ca=hebrew][key=a_b]", 62,
+        "..48:00-05:00[America/New_York][u-ca=hebrew][key=a_b]\n                                                  ^"),
+    // what fits is not cut
+    (FULL, 48, "000000000011111111112222222222333333333344444444555555555566666666667777\n                                                ^"),
+    (FULL, 47, "00000000001111111111222222222233333333334444444455555555556666666666777..\n                                               ^"),
+    (FULL, 49, "..00000000011111111112222222222333333333344444444555555555566666666667777\n                                                  ^"),
 ];
 
 #[test]
-fn shows_controls_as_dots() -> Result<(), Fail> {
+fn marks_the_place() -> Result<(), Fail> {
     let rt = HostRuntime;
-    check_marks(&rt, rt.alloc(), CONTROLS)
+    for (text, at, lines) in MARKS {
+        check_pointed(&rt, rt.alloc(), text, *at, lines)?;
+    }
+    Ok(())
 }
 
 // Thirty times the ten digits.
@@ -155,15 +139,9 @@ fn long_text(alloc: Global) -> Result<String, AllocError> {
 }
 
 const OF_A_LONG_TEXT: &[(usize, &str)] = &[
-    (
-        150,
-        "..234567890123456789012345678901234567890123456789012345678901234567890123..\n                                                  ^",
-    ),
+    (150, "..234567890123456789012345678901234567890123456789012345678901234567890123..\n                                                  ^"),
     (0, "012345678901234567890123..\n^"),
-    (
-        300,
-        "..234567890123456789012345678901234567890123456789\n                                                  ^",
-    ),
+    (300, "..234567890123456789012345678901234567890123456789\n                                                  ^"),
 ];
 
 #[test]
@@ -174,43 +152,4 @@ fn cuts_long_texts() -> Result<(), Fail> {
         check_pointed(&rt, rt.alloc(), text.as_str(), *at, lines)?;
     }
     Ok(())
-}
-
-const OF_A_CUT_FRONT: &[(&str, usize, &str)] = &[(
-    "2024-03-02T08:48:00-05:00[America/New_York][u-ca=hebrew][key=a_b]",
-    62,
-    "..48:00-05:00[America/New_York][u-ca=hebrew][key=a_b]\n                                                  ^",
-)];
-
-#[test]
-fn cuts_the_front_of_a_text() -> Result<(), Fail> {
-    let rt = HostRuntime;
-    check_marks(&rt, rt.alloc(), OF_A_CUT_FRONT)
-}
-
-// The most characters that are written before the place 48 and from it on.
-const FULL: &str = "000000000011111111112222222222333333333344444444555555555566666666667777";
-
-const OF_A_FULL_TEXT: &[(&str, usize, &str)] = &[
-    (
-        FULL,
-        48,
-        "000000000011111111112222222222333333333344444444555555555566666666667777\n                                                ^",
-    ),
-    (
-        FULL,
-        47,
-        "00000000001111111111222222222233333333334444444455555555556666666666777..\n                                               ^",
-    ),
-    (
-        FULL,
-        49,
-        "..00000000011111111112222222222333333333344444444555555555566666666667777\n                                                  ^",
-    ),
-];
-
-#[test]
-fn cuts_no_text_that_fits() -> Result<(), Fail> {
-    let rt = HostRuntime;
-    check_marks(&rt, rt.alloc(), OF_A_FULL_TEXT)
 }

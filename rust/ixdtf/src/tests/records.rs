@@ -50,71 +50,19 @@ fn check_seconds(rt: &impl Abort, rows: &[Second]) {
 }
 
 const CUT_FRACTIONS: &[Second] = &[
-    Second {
-        text: "+00:00:00.0",
-        nanoseconds: 0,
-        is_cut: false,
-    },
-    Second {
-        text: "+00:00:00.25",
-        nanoseconds: 250_000_000,
-        is_cut: false,
-    },
-    Second {
-        text: "+00:00:00.12345678",
-        nanoseconds: 123_456_780,
-        is_cut: false,
-    },
-    Second {
-        text: "+00:00:00.123456789",
-        nanoseconds: 123_456_789,
-        is_cut: false,
-    },
-    Second {
-        text: "+00:00:00.000000001",
-        nanoseconds: 1,
-        is_cut: false,
-    },
-    Second {
-        text: "+00:00:00.1234567890",
-        nanoseconds: 123_456_789,
-        is_cut: true,
-    },
-    Second {
-        text: "+00:00:00.1234567898",
-        nanoseconds: 123_456_789,
-        is_cut: true,
-    },
-    Second {
-        text: "+00:00:00.0000000009",
-        nanoseconds: 0,
-        is_cut: true,
-    },
-    Second {
-        text: "+00:00:00.999999999999999999",
-        nanoseconds: 999_999_999,
-        is_cut: true,
-    },
-    Second {
-        text: "+00:00:00.1234567898765432109",
-        nanoseconds: 123_456_789,
-        is_cut: true,
-    },
-    Second {
-        text: "+00:00:00.1234567898765432101234567890987654321",
-        nanoseconds: 123_456_789,
-        is_cut: true,
-    },
-    Second {
-        text: LONGEST,
-        nanoseconds: 123_456_789,
-        is_cut: true,
-    },
-    Second {
-        text: LONGER,
-        nanoseconds: 123_456_789,
-        is_cut: true,
-    },
+    Second { text: "+00:00:00.0", nanoseconds: 0, is_cut: false },
+    Second { text: "+00:00:00.25", nanoseconds: 250_000_000, is_cut: false },
+    Second { text: "+00:00:00.12345678", nanoseconds: 123_456_780, is_cut: false },
+    Second { text: "+00:00:00.123456789", nanoseconds: 123_456_789, is_cut: false },
+    Second { text: "+00:00:00.000000001", nanoseconds: 1, is_cut: false },
+    Second { text: "+00:00:00.1234567890", nanoseconds: 123_456_789, is_cut: true },
+    Second { text: "+00:00:00.1234567898", nanoseconds: 123_456_789, is_cut: true },
+    Second { text: "+00:00:00.0000000009", nanoseconds: 0, is_cut: true },
+    Second { text: "+00:00:00.999999999999999999", nanoseconds: 999_999_999, is_cut: true },
+    Second { text: "+00:00:00.1234567898765432109", nanoseconds: 123_456_789, is_cut: true },
+    Second { text: "+00:00:00.1234567898765432101234567890987654321", nanoseconds: 123_456_789, is_cut: true },
+    Second { text: LONGEST, nanoseconds: 123_456_789, is_cut: true },
+    Second { text: LONGER, nanoseconds: 123_456_789, is_cut: true },
 ];
 
 #[test]
@@ -124,36 +72,12 @@ fn fractions_are_cut_at_nanoseconds() {
 }
 
 const DIGITS: &[Digits] = &[
-    Digits {
-        text: "+00:00:00.0",
-        count: 1,
-        value: 0,
-    },
-    Digits {
-        text: "+00:00:00.50",
-        count: 2,
-        value: 50,
-    },
-    Digits {
-        text: "+00:00:00.00000000000000000150",
-        count: 20,
-        value: 1,
-    },
-    Digits {
-        text: "+00:00:00.1234567898765432101234567890987654321",
-        count: 37,
-        value: 123_456_789_876_543_210,
-    },
-    Digits {
-        text: LONGEST,
-        count: 255,
-        value: 123_456_789_876_543_210,
-    },
-    Digits {
-        text: LONGER,
-        count: 255,
-        value: 123_456_789_876_543_210,
-    },
+    Digits { text: "+00:00:00.0", count: 1, value: 0 },
+    Digits { text: "+00:00:00.50", count: 2, value: 50 },
+    Digits { text: "+00:00:00.00000000000000000150", count: 20, value: 1 },
+    Digits { text: "+00:00:00.1234567898765432101234567890987654321", count: 37, value: 123_456_789_876_543_210 },
+    Digits { text: LONGEST, count: 255, value: 123_456_789_876_543_210 },
+    Digits { text: LONGER, count: 255, value: 123_456_789_876_543_210 },
 ];
 
 #[test]

@@ -6,221 +6,126 @@
 use crate::runtime::{HostRuntime, TryClone};
 
 use super::{
-    Found, Parsers, Reader, check, check_found, check_fraction, check_parsed, dated, parts, timed,
+    Found, Parsers, Reader, Record, check, check_found, check_fraction, check_parsed, dated, parts,
+    timed,
 };
-use ixdtf::records::{Fraction, TimeRecord};
+use ixdtf::records::{Fraction, TimeRecord, UtcOffsetRecordOrZ};
 use crate::runtime::Abort;
 
 /// A date with a time that has no fraction.
-pub(super) struct Whole {
-    pub(super) text: &'static str,
-    pub(super) date: (i32, u8, u8),
-    pub(super) time: (u8, u8, u8),
-}
-
-pub(super) fn check_whole(rt: &impl Abort, rows: &[Whole]) {
-    for row in rows {
-        let (year, month, day) = row.date;
-        let (hour, minute, second) = row.time;
-        let time = timed(hour, minute, second, None);
-        check_parsed(rt, row.text, &Ok(dated(year, month, day, time)));
-    }
+struct Whole {
+    text: &'static str,
+    date: (i32, u8, u8),
+    time: (u8, u8, u8),
 }
 
 const TIMES: &[Whole] = &[
-    Whole {
-        text: "2020-01-01T05",
-        date: (2020, 1, 1),
-        time: (5, 0, 0),
-    },
-    Whole {
-        text: "2020-01-01T12",
-        date: (2020, 1, 1),
-        time: (12, 0, 0),
-    },
-    Whole {
-        text: "2020-01-01t0506",
-        date: (2020, 1, 1),
-        time: (5, 6, 0),
-    },
-    Whole {
-        text: "20200101 05:06",
-        date: (2020, 1, 1),
-        time: (5, 6, 0),
-    },
-    Whole {
-        text: "2020-01-01T050607",
-        date: (2020, 1, 1),
-        time: (5, 6, 7),
-    },
-    Whole {
-        text: "2020-01-01T23:59:60",
-        date: (2020, 1, 1),
-        time: (23, 59, 60),
-    },
+    Whole { text: "2020-01-01T05", date: (2020, 1, 1), time: (5, 0, 0) },
+    Whole { text: "2020-01-01T12", date: (2020, 1, 1), time: (12, 0, 0) },
+    Whole { text: "2020-01-01t0506", date: (2020, 1, 1), time: (5, 6, 0) },
+    Whole { text: "20200101 05:06", date: (2020, 1, 1), time: (5, 6, 0) },
+    Whole { text: "2020-01-01T050607", date: (2020, 1, 1), time: (5, 6, 7) },
+    Whole { text: "2020-01-01T23:59:60", date: (2020, 1, 1), time: (23, 59, 60) },
+    // all at fixed places, `YYYY-MM-DD`, a separator and `HH:MM:SS`, or nearly so
+    Whole { text: "2020-02-29T23:59:60", date: (2020, 2, 29), time: (23, 59, 60) },
+    Whole { text: "2020-01-01T00:00:60", date: (2020, 1, 1), time: (0, 0, 60) },
+    Whole { text: "2020-01-01 23:59:60", date: (2020, 1, 1), time: (23, 59, 60) },
+    Whole { text: "2020-01-01t00:00:60", date: (2020, 1, 1), time: (0, 0, 60) },
+    Whole { text: "+002020-01-01T00:00:00", date: (2020, 1, 1), time: (0, 0, 0) },
 ];
 
 #[test]
 fn reads_times() {
     let rt = HostRuntime;
-    check_whole(&rt, TIMES);
+    for row in TIMES {
+        let (year, month, day) = row.date;
+        let (hour, minute, second) = row.time;
+        let time = timed(hour, minute, second, None);
+        check_parsed(&rt, row.text, &Ok(dated(year, month, day, time)));
+    }
 }
 
-/// A time with a fraction.
-pub(super) struct Fractional {
-    pub(super) text: &'static str,
-    pub(super) time: (u8, u8, u8),
+/// A time with a fraction, behind a date or alone.
+struct Fractional {
+    text: &'static str,
+    date: Option<(i32, u8, u8)>,
+    time: (u8, u8, u8),
     /// Those of the first nine digits.
-    pub(super) nanoseconds: u32,
+    nanoseconds: u32,
     /// Whether there are more digits.
-    pub(super) is_cut: bool,
+    is_cut: bool,
 }
 
 // The time that a reader finds in a text.
-pub(super) fn time_of(reader: Reader, text: &'static str) -> Option<TimeRecord> {
+fn time_of(reader: Reader, text: &'static str) -> Option<TimeRecord> {
     match Parsers::from_str(text).read(reader) {
         Ok(Found::Parts(record)) => record.time,
         _ => None,
     }
 }
 
-/// The reader finds this date and the time with its fraction in each text, and nothing besides.
-pub(super) fn check_fractional(
-    rt: &impl Abort,
-    reader: Reader,
-    date: Option<(i32, u8, u8)>,
-    rows: &[Fractional],
-) {
-    for row in rows {
-        let fraction = match time_of(reader, row.text) {
-            Some(time) => time.fraction,
-            None => None,
-        };
-        check_fraction(rt, row.text, &fraction, row.nanoseconds, row.is_cut);
-        let (hour, minute, second) = row.time;
-        let time = timed(hour, minute, second, fraction);
-        let wanted = Found::Parts(parts(date, time, None, None, None));
-        check_found(rt, reader, row.text, &Ok(wanted));
+/// The reader finds the date and the time with its fraction, and nothing besides.
+fn check_fractional(rt: &impl Abort, row: &Fractional) {
+    let reader = if row.date.is_some() {
+        Reader::Parse
+    } else {
+        Reader::Time
+    };
+    let fraction = match time_of(reader, row.text) {
+        Some(time) => time.fraction,
+        None => None,
+    };
+    check_fraction(rt, row.text, &fraction, row.nanoseconds, row.is_cut);
+    let (hour, minute, second) = row.time;
+    let time = timed(hour, minute, second, fraction);
+    let wanted = Found::Parts(parts(row.date, time, None, None, None));
+    check_found(rt, reader, row.text, &Ok(wanted));
+}
+
+const FRACTIONS: &[Fractional] = &[
+    Fractional { text: "2025-01-15T15:23:30.1", date: Some((2025, 1, 15)), time: (15, 23, 30), nanoseconds: 100_000_000, is_cut: false },
+    Fractional { text: "2025-01-15T15:23:30.12345678", date: Some((2025, 1, 15)), time: (15, 23, 30), nanoseconds: 123_456_780, is_cut: false },
+    Fractional { text: "2025-01-15T15:23:30.123456789", date: Some((2025, 1, 15)), time: (15, 23, 30), nanoseconds: 123_456_789, is_cut: false },
+    Fractional { text: "2022-06-05 043422.000", date: Some((2022, 6, 5)), time: (4, 34, 22), nanoseconds: 0, is_cut: false },
+    Fractional { text: "2024-03-02T08:48:00,25", date: Some((2024, 3, 2)), time: (8, 48, 0), nanoseconds: 250_000_000, is_cut: false },
+    Fractional { text: "2020-01-01T15:23:30.1234567898765432101234567890987654321", date: Some((2020, 1, 1)), time: (15, 23, 30), nanoseconds: 123_456_789, is_cut: true },
+    // beside fixed places
+    Fractional { text: "20200101T00:00:00.25", date: Some((2020, 1, 1)), time: (0, 0, 0), nanoseconds: 250_000_000, is_cut: false },
+    Fractional { text: "2020-01-01T000000.25", date: Some((2020, 1, 1)), time: (0, 0, 0), nanoseconds: 250_000_000, is_cut: false },
+    // alone
+    Fractional { text: "15:23:30.1234567", date: None, time: (15, 23, 30), nanoseconds: 123_456_700, is_cut: false },
+    Fractional { text: "15:23:30.12345678", date: None, time: (15, 23, 30), nanoseconds: 123_456_780, is_cut: false },
+    Fractional { text: "15:23:30.123456789", date: None, time: (15, 23, 30), nanoseconds: 123_456_789, is_cut: false },
+    Fractional { text: "15:23:30.1234567890", date: None, time: (15, 23, 30), nanoseconds: 123_456_789, is_cut: true },
+    Fractional { text: "15:23:30.123456789876", date: None, time: (15, 23, 30), nanoseconds: 123_456_789, is_cut: true },
+    Fractional { text: "15:23:30.1234567898765", date: None, time: (15, 23, 30), nanoseconds: 123_456_789, is_cut: true },
+    Fractional { text: "15:23:30.123456789876543", date: None, time: (15, 23, 30), nanoseconds: 123_456_789, is_cut: true },
+    Fractional { text: "15:23:30.1234567898765432", date: None, time: (15, 23, 30), nanoseconds: 123_456_789, is_cut: true },
+    Fractional { text: "15:23:30.1234567898765432101234567890987654321", date: None, time: (15, 23, 30), nanoseconds: 123_456_789, is_cut: true },
+];
+
+#[test]
+fn reads_fractions_of_times() {
+    let rt = HostRuntime;
+    for row in FRACTIONS {
+        check_fractional(&rt, row);
     }
 }
 
-const FRACTIONS_AFTER_DATES: &[Fractional] = &[
-    Fractional {
-        text: "2025-01-15T15:23:30.1",
-        time: (15, 23, 30),
-        nanoseconds: 100_000_000,
-        is_cut: false,
-    },
-    Fractional {
-        text: "2025-01-15T15:23:30.12345678",
-        time: (15, 23, 30),
-        nanoseconds: 123_456_780,
-        is_cut: false,
-    },
-    Fractional {
-        text: "2025-01-15T15:23:30.123456789",
-        time: (15, 23, 30),
-        nanoseconds: 123_456_789,
-        is_cut: false,
-    },
-];
-
-const FRACTION_OF_ZEROS: &[Fractional] = &[Fractional {
-    text: "2022-06-05 043422.000",
-    time: (4, 34, 22),
-    nanoseconds: 0,
-    is_cut: false,
-}];
-
-const FRACTION_OF_A_COMMA: &[Fractional] = &[Fractional {
-    text: "2024-03-02T08:48:00,25",
-    time: (8, 48, 0),
-    nanoseconds: 250_000_000,
-    is_cut: false,
-}];
-
-const LONG_FRACTION: &[Fractional] = &[Fractional {
-    text: "2020-01-01T15:23:30.1234567898765432101234567890987654321",
-    time: (15, 23, 30),
-    nanoseconds: 123_456_789,
-    is_cut: true,
-}];
-
 #[test]
-fn reads_fractions_after_dates() {
+fn reads_on_after_fixed_places() {
     let rt = HostRuntime;
-    check_fractional(
-        &rt,
-        Reader::Parse,
-        Some((2025, 1, 15)),
-        FRACTIONS_AFTER_DATES,
-    );
-    check_fractional(&rt, Reader::Parse, Some((2022, 6, 5)), FRACTION_OF_ZEROS);
-    check_fractional(&rt, Reader::Parse, Some((2024, 3, 2)), FRACTION_OF_A_COMMA);
-    check_fractional(&rt, Reader::Parse, Some((2020, 1, 1)), LONG_FRACTION);
-}
-
-const FRACTIONS_OF_TIMES_ALONE: &[Fractional] = &[
-    Fractional {
-        text: "15:23:30.1234567",
-        time: (15, 23, 30),
-        nanoseconds: 123_456_700,
-        is_cut: false,
-    },
-    Fractional {
-        text: "15:23:30.12345678",
-        time: (15, 23, 30),
-        nanoseconds: 123_456_780,
-        is_cut: false,
-    },
-    Fractional {
-        text: "15:23:30.123456789",
-        time: (15, 23, 30),
-        nanoseconds: 123_456_789,
-        is_cut: false,
-    },
-    Fractional {
-        text: "15:23:30.1234567890",
-        time: (15, 23, 30),
-        nanoseconds: 123_456_789,
-        is_cut: true,
-    },
-    Fractional {
-        text: "15:23:30.123456789876",
-        time: (15, 23, 30),
-        nanoseconds: 123_456_789,
-        is_cut: true,
-    },
-    Fractional {
-        text: "15:23:30.1234567898765",
-        time: (15, 23, 30),
-        nanoseconds: 123_456_789,
-        is_cut: true,
-    },
-    Fractional {
-        text: "15:23:30.123456789876543",
-        time: (15, 23, 30),
-        nanoseconds: 123_456_789,
-        is_cut: true,
-    },
-    Fractional {
-        text: "15:23:30.1234567898765432",
-        time: (15, 23, 30),
-        nanoseconds: 123_456_789,
-        is_cut: true,
-    },
-    Fractional {
-        text: "15:23:30.1234567898765432101234567890987654321",
-        time: (15, 23, 30),
-        nanoseconds: 123_456_789,
-        is_cut: true,
-    },
-];
-
-#[test]
-fn reads_fractions_of_times_alone() {
-    let rt = HostRuntime;
-    check_fractional(&rt, Reader::Time, None, FRACTIONS_OF_TIMES_ALONE);
+    let text = "2020-01-01t00:00:00,5Z";
+    let fraction = match time_of(Reader::Parse, text) {
+        Some(time) => time.fraction,
+        None => None,
+    };
+    check_fraction(&rt, text, &fraction, 500_000_000, false);
+    let record = Record {
+        offset: Some(UtcOffsetRecordOrZ::Z),
+        ..dated(2020, 1, 1, timed(0, 0, 0, fraction))
+    };
+    check_parsed(&rt, text, &Ok(record));
 }
 
 /// A text whose fraction is kept by these two numbers.
@@ -245,21 +150,9 @@ pub(super) fn check_digits(rt: &impl Abort, row: &Digits, fraction: Option<Fract
 
 // The last has 300 digits.
 const DIGITS_OF_TIMES_ALONE: &[Digits] = &[
-    Digits {
-        text: "15:23:30.12345678",
-        count: 8,
-        value: 12_345_678,
-    },
-    Digits {
-        text: "15:23:30.1234567898765432101234567890987654321",
-        count: 37,
-        value: 123_456_789_876_543_210,
-    },
-    Digits {
-        text: "15:23:30.123456789876543210123456789098765432112345678987654321012345678909876543211234567898765432101234567890987654321123456789876543210123456789098765432112345678987654321012345678909876543211234567898765432101234567890987654321123456789876543210123456789098765432112345678987654321012345678909876543211234",
-        count: 255,
-        value: 123_456_789_876_543_210,
-    },
+    Digits { text: "15:23:30.12345678", count: 8, value: 12_345_678 },
+    Digits { text: "15:23:30.1234567898765432101234567890987654321", count: 37, value: 123_456_789_876_543_210 },
+    Digits { text: "15:23:30.123456789876543210123456789098765432112345678987654321012345678909876543211234567898765432101234567890987654321123456789876543210123456789098765432112345678987654321012345678909876543211234567898765432101234567890987654321123456789876543210123456789098765432112345678987654321012345678909876543211234", count: 255, value: 123_456_789_876_543_210 },
 ];
 
 #[test]

@@ -130,27 +130,6 @@ fn wide_slices_lie_within() {
     check_slice(&rt, 0, 4, None);
 }
 
-fn check_wide_keys(rt: &impl Abort, keys: &[(&'static str, bool)]) {
-    for (key, is_calendar) in keys {
-        let wide = Wide::new(key);
-        let found = Utf16::check_calendar_key(wide.units());
-        check(rt, key, found == *is_calendar);
-    }
-}
-
-const WIDE_KEYS: &[(&str, bool)] = &[
-    ("u-ca", true),
-    ("u-cA", false),
-    ("u-c", false),
-    ("\u{175}-ca", false),
-];
-
-#[test]
-fn one_wide_key_is_of_calendars() {
-    let rt = HostRuntime;
-    check_wide_keys(&rt, WIDE_KEYS);
-}
-
 #[test]
 fn a_wide_parser_of_zones_is_as_large_as_its_slice() {
     let rt = HostRuntime;

@@ -1,23 +1,15 @@
 // Made by tools/to_rust.py of crates/ixdtf_tests/src/tests/zones.rt. Do not edit.
 
+//! Time zones alone, by name or by offset.
 
 #[allow(unused_imports)]
 use crate::runtime::{HostRuntime, TryClone};
+
 use super::{Found, Parsers, Reader, check, check_found, check_refusals, minutes, named};
 use ixdtf::ParseError::{self, IanaCharPostSeparator, OffsetNeedsSign};
 use ixdtf::encoding::Utf8;
 use ixdtf::parsers::TimeZoneParser;
 use ixdtf::records::{Sign, TimeZoneRecord};
-use crate::runtime::Abort;
-
-fn check_names(rt: &impl Abort, names: &[&'static str]) {
-    for name in names {
-        let zone = Found::Zone(named(name));
-        check_found(rt, Reader::Identifier, name, &Ok(zone));
-        let units = Found::Name(name.as_bytes());
-        check_found(rt, Reader::IanaIdentifier, name, &Ok(units));
-    }
-}
 
 const NAMES: &[&str] = &[
     "Europe/Berlin",
@@ -33,13 +25,11 @@ const NAMES: &[&str] = &[
 #[test]
 fn reads_names() {
     let rt = HostRuntime;
-    check_names(&rt, NAMES);
-}
-
-fn check_shifts(rt: &impl Abort, rows: &[(&'static str, Sign, u8, u8)]) {
-    for (text, sign, hour, minute) in rows {
-        let zone = TimeZoneRecord::Offset(minutes(*sign, *hour, *minute));
-        check_found(rt, Reader::Identifier, text, &Ok(Found::Zone(zone)));
+    for name in NAMES {
+        let zone = Found::Zone(named(name));
+        check_found(&rt, Reader::Identifier, name, &Ok(zone));
+        let units = Found::Name(name.as_bytes());
+        check_found(&rt, Reader::IanaIdentifier, name, &Ok(units));
     }
 }
 
@@ -52,27 +42,23 @@ const ZONES_THAT_ARE_OFFSETS: &[(&str, Sign, u8, u8)] = &[
 #[test]
 fn reads_zones_that_are_offsets() {
     let rt = HostRuntime;
-    check_shifts(&rt, ZONES_THAT_ARE_OFFSETS);
+    for (text, sign, hour, minute) in ZONES_THAT_ARE_OFFSETS {
+        let zone = TimeZoneRecord::Offset(minutes(*sign, *hour, *minute));
+        check_found(&rt, Reader::Identifier, text, &Ok(Found::Zone(zone)));
+    }
 }
 
+// The three readers in turn, twice.
 const REFUSED_TWICE: &[(Reader, ParseError)] = &[
-    (Reader::IanaIdentifier, IanaCharPostSeparator),
-    (Reader::Identifier, IanaCharPostSeparator),
-    (Reader::Offset, OffsetNeedsSign),
-    (Reader::IanaIdentifier, IanaCharPostSeparator),
-    (Reader::Identifier, IanaCharPostSeparator),
-    (Reader::Offset, OffsetNeedsSign),
+    (Reader::IanaIdentifier, IanaCharPostSeparator), (Reader::Identifier, IanaCharPostSeparator), (Reader::Offset, OffsetNeedsSign),
+    (Reader::IanaIdentifier, IanaCharPostSeparator), (Reader::Identifier, IanaCharPostSeparator), (Reader::Offset, OffsetNeedsSign),
 ];
 
 #[test]
 fn keeps_a_zone_that_it_refused() {
     let rt = HostRuntime;
-    check_refusals(
-        &rt,
-        "Europe/",
-        &mut Parsers::from_str("Europe/"),
-        REFUSED_TWICE,
-    );
+    let text = "Europe/";
+    check_refusals(&rt, text, &mut Parsers::from_str(text), REFUSED_TWICE);
 }
 
 // Whether the parser reads all of the bytes as a name.
