@@ -75,19 +75,13 @@ fn refuses_words_that_do_not_go_together(rt: HostRuntime) {
 }
 
 /// Words in turn, and what each is.
+#[rattlefmt::skip]
 const WORDS: &[(&str, Word)] = &[
-    ("dates", Word::File),
-    ("-", Word::File),
-    ("--help", Word::Help),
-    ("--kinds", Word::Unknown),
-    ("--field", Word::Option),
-    ("0", Word::Unknown),
-    ("--kind", Word::Option),
-    ("date", Word::Unknown),
-    ("--separator", Word::Option),
-    (",,", Word::Unknown),
-    ("--", Word::Option),
-    ("--help", Word::File),
+    ("dates", Word::File), ("-", Word::File), ("--help", Word::Help), ("--kinds", Word::Unknown),
+    ("--field", Word::Option), ("0", Word::Unknown),
+    ("--kind", Word::Option), ("date", Word::Unknown),
+    ("--separator", Word::Option), (",,", Word::Unknown),
+    ("--", Word::Option), ("--help", Word::File),
 ];
 
 #[test]

@@ -118,9 +118,19 @@ const REFUSED_DURATIONS: &[(&str, &str)] = &[
 ];
 
 #[rattlefmt::skip]
+const STRICTLY: &[(&str, &str)] = &[
+    ("strict-time 1200", "ok time=12,0,0"),
+    ("strict-month-day 11-00", "error MonthDay was not valid."),
+    ("strict-duration P1Y2Y", "error Invalid date duration part order."),
+    ("strict-duration PT1S2S", "error Invalid time duration part order."),
+    ("strict-month-day 11-07", "ok date=0,11,7"),
+    ("strict-duration P1Y2M", "ok sign=+ date=1,2,0,0"),
+];
+
+#[rattlefmt::skip]
 const TABLES: &[&[(&str, &str)]] = &[
     DATES_AND_TIMES, TIMES_AND_PARTS_OF_DATES, OFFSETS, ZONES, DATES_WITH_OFFSETS_AND_ZONES,
-    CALENDARS, CANONICAL_TEXTS, DURATIONS, REFUSED_DURATIONS,
+    CALENDARS, CANONICAL_TEXTS, DURATIONS, REFUSED_DURATIONS, STRICTLY,
 ];
 
 #[test]
@@ -129,16 +139,6 @@ fn answers_each_word(rt: HostRuntime) -> Result<(), Fail> {
         check_answers(&rt, rt.alloc(), rows)?;
     }
     Ok(())
-}
-
-#[test]
-fn answers_strictly(rt: HostRuntime) -> Result<(), Fail> {
-    check_run(
-        &rt,
-        rt.alloc(),
-        b"strict-time 1200\nstrict-month-day 11-00\nstrict-duration P1Y2Y\nstrict-duration PT1S2S\nstrict-month-day 11-07\nstrict-duration P1Y2M\n",
-        b"ok time=12,0,0\nerror MonthDay was not valid.\nerror Invalid date duration part order.\nerror Invalid time duration part order.\nok date=0,11,7\nok sign=+ date=1,2,0,0\n",
-    )
 }
 
 /// A line of 4,096 bytes, its text a first part, the byte again and again, and a last part, is answered by a canonical text
@@ -172,29 +172,19 @@ fn check_longest(
     check_run(rt, alloc, line.as_slice(), answered.as_slice())
 }
 
+/// The parts of the longest texts and of their answers.
+#[rattlefmt::skip]
+const LONGEST: &[((&[u8], u8, &[u8]), (&[u8], usize, &[u8]))] = &[
+    ((b"20200101[", b'a', b"]"), (b"2020-01-01[", 4096, b"]")),
+    ((b"20200101[u-ca=", b'a', b"]"), (b"2020-01-01[u-ca=", 4096, b"]")),
+    // a fraction has at most 255 digits: these 18, and 237 zeros
+    ((b"20200101t000000,123456789012345678", b'0', b"+00[+00]"), (b"2020-01-01T00:00:00.123456789012345678", 237, b"+00:00[+00:00]")),
+];
+
 #[test]
 fn answers_the_longest_canonical_texts(rt: HostRuntime) -> Result<(), Fail> {
-    check_longest(
-        &rt,
-        rt.alloc(),
-        (b"20200101[", b'a', b"]"),
-        (b"2020-01-01[", 4096, b"]"),
-    )?;
-    check_longest(
-        &rt,
-        rt.alloc(),
-        (b"20200101[u-ca=", b'a', b"]"),
-        (b"2020-01-01[u-ca=", 4096, b"]"),
-    )?;
-    // a fraction has at most 255 digits: these 18, and 237 zeros
-    check_longest(
-        &rt,
-        rt.alloc(),
-        (b"20200101t000000,123456789012345678", b'0', b"+00[+00]"),
-        (
-            b"2020-01-01T00:00:00.123456789012345678",
-            237,
-            b"+00:00[+00:00]",
-        ),
-    )
+    for (text, answer) in LONGEST {
+        check_longest(&rt, rt.alloc(), *text, *answer)?;
+    }
+    Ok(())
 }
