@@ -292,34 +292,85 @@ impl<'a, T: EncodingType> Parsers<'a, T> {
     }
 
     fn read(&mut self, reader: Reader) -> ParserResult<Found<'a, T>> {
-        match reader {
-            Reader::Parse => Ok(Found::Parts(self.dates.parse()?)),
-            Reader::YearMonth => Ok(Found::Parts(self.dates.parse_year_month()?)),
-            Reader::MonthDay => Ok(Found::Parts(self.dates.parse_month_day()?)),
-            Reader::Time => Ok(Found::Parts(self.dates.parse_time()?)),
-            Reader::Offset => Ok(Found::Offset(self.zones.parse_offset()?)),
-            Reader::Identifier => Ok(Found::Zone(self.zones.parse_identifier()?)),
-            Reader::IanaIdentifier => Ok(Found::Name(self.zones.parse_iana_identifier()?)),
-            Reader::Duration => Ok(Found::Duration(self.durations.parse()?)),
+        let parts = match reader {
+            Reader::Parse => self.dates.parse(),
+            Reader::YearMonth => self.dates.parse_year_month(),
+            Reader::MonthDay => self.dates.parse_month_day(),
+            Reader::Time => self.dates.parse_time(),
+            Reader::Offset => {
+                return match self.zones.parse_offset() {
+                    Ok(offset) => Ok(Found::Offset(offset)),
+                    Err(error) => Err(error),
+                };
+            }
+            Reader::Identifier => {
+                return match self.zones.parse_identifier() {
+                    Ok(zone) => Ok(Found::Zone(zone)),
+                    Err(error) => Err(error),
+                };
+            }
+            Reader::IanaIdentifier => {
+                return match self.zones.parse_iana_identifier() {
+                    Ok(name) => Ok(Found::Name(name)),
+                    Err(error) => Err(error),
+                };
+            }
+            Reader::Duration => {
+                return match self.durations.parse() {
+                    Ok(duration) => Ok(Found::Duration(duration)),
+                    Err(error) => Err(error),
+                };
+            }
+        };
+        match parts {
+            Ok(parts) => Ok(Found::Parts(parts)),
+            Err(error) => Err(error),
         }
     }
 
     // The error of a reader, where it refuses.
     fn refusal(&mut self, reader: Reader) -> Option<ParseError> {
-        self.read(reader).err()
+        match self.read(reader) {
+            Ok(_found) => None,
+            Err(error) => Some(error),
+        }
     }
 
     // The error of a reader's located form with its place, where it refuses.
     fn located_refusal(&mut self, reader: Reader) -> Option<LocatedError> {
-        match reader {
-            Reader::Parse => self.dates.parse_located().err(),
-            Reader::YearMonth => self.dates.parse_year_month_located().err(),
-            Reader::MonthDay => self.dates.parse_month_day_located().err(),
-            Reader::Time => self.dates.parse_time_located().err(),
-            Reader::Offset => self.zones.parse_offset_located().err(),
-            Reader::Identifier => self.zones.parse_identifier_located().err(),
-            Reader::IanaIdentifier => self.zones.parse_iana_identifier_located().err(),
-            Reader::Duration => self.durations.parse_located().err(),
+        let parts = match reader {
+            Reader::Parse => self.dates.parse_located(),
+            Reader::YearMonth => self.dates.parse_year_month_located(),
+            Reader::MonthDay => self.dates.parse_month_day_located(),
+            Reader::Time => self.dates.parse_time_located(),
+            Reader::Offset => {
+                return match self.zones.parse_offset_located() {
+                    Ok(_found) => None,
+                    Err(error) => Some(error),
+                };
+            }
+            Reader::Identifier => {
+                return match self.zones.parse_identifier_located() {
+                    Ok(_found) => None,
+                    Err(error) => Some(error),
+                };
+            }
+            Reader::IanaIdentifier => {
+                return match self.zones.parse_iana_identifier_located() {
+                    Ok(_found) => None,
+                    Err(error) => Some(error),
+                };
+            }
+            Reader::Duration => {
+                return match self.durations.parse_located() {
+                    Ok(_found) => None,
+                    Err(error) => Some(error),
+                };
+            }
+        };
+        match parts {
+            Ok(_found) => None,
+            Err(error) => Some(error),
         }
     }
 
