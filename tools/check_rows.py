@@ -213,7 +213,7 @@ def unescaped(literal: str) -> Union[str, bytes]:
 READERS = {'Parse': 'parse', 'YearMonth': 'parse_year_month', 'MonthDay': 'parse_month_day', 'Time': 'parse_time',
            'Offset': 'parse_offset', 'Identifier': 'parse_identifier', 'IanaIdentifier': 'parse_iana_identifier', 'Duration': 'duration'}
 CONSTANT = re.compile(r'^\s*(?:pub(?:\(\w+\))? )?(?:const|static) (\w+):[^=]*=\s', re.M)
-CALL = re.compile(r'(?<!fn )\bcheck_(refused|refused_by_each|wide_refused|no_letter|refused_in_both|refused_replies|wide_refusals)\(')
+CALL = re.compile(r'(?<!fn )\bcheck_(refused|wide_refused|no_letter|refused_in_both|refused_replies|wide_refusals)\(')
 
 
 class TestFile:
@@ -260,11 +260,6 @@ class TestFile:
                 yield self.row(reader, text, error, place)
                 if text.isascii():
                     yield self.row(reader, text, error, place, wide=True)
-
-    def refused_by_each(self, tables: list) -> Iterator[Row]:
-        """Tables of such texts, each with its reader."""
-        for reader, table in tables:
-            yield from self.refused(reader, self.resolved(table))
 
     def wide_refused(self, reader: Value, table: list) -> Iterator[Row]:
         """Texts whose characters are 16-bit code units."""

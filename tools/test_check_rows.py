@@ -87,7 +87,6 @@ const REPLIES: &[Asked] = &[Asked { form: Form::Time, text: "T12[!a=b]", kind: K
 fn check_refused(rt: &impl Abort, reader: Reader, rows: &[(ParseError, &[(&'static str, usize)])]) {}
 fn all() {
     check_refused(&rt, Reader::Parse, DATES);
-    check_refused_by_each(&rt, &[(Reader::YearMonth, &[(AT_DIGIT, &[("2020", 4)])])]);
     check_no_letter(&rt, Reader::Parse, BAD);
     check_refused_in_both(&rt, Reader::MonthDay, &[("11-001", InvalidEnd, InvalidMonthDay)]);
     check_refused_replies(&rt, &[(UnrecognizedCritical, REPLIES)]);
@@ -108,8 +107,6 @@ class Sources(unittest.TestCase):
             ('parse', False, False, '2020-', 'AbruptEnd digit', 5),
             ('parse', False, True, '2020-', 'AbruptEnd digit', 5),
             ('parse', False, False, '2020-01-01\xc3\xa9', 'InvalidEnd', 10),
-            ('parse_year_month', False, False, '2020', 'AbruptEnd digit', 4),
-            ('parse_year_month', False, True, '2020', 'AbruptEnd digit', 4),
             ('parse', False, True, '2020\u0130', 'NonAsciiCodePoint', 4),
             ('parse_month_day', False, False, '11-001', 'InvalidEnd', None),
             ('parse_month_day', True, False, '11-001', 'InvalidMonthDay', None),

@@ -450,13 +450,3 @@ fn check_refused(rt: &impl Abort, reader: Reader, rows: &[(ParseError, &[(&'stat
         }
     }
 }
-
-/// Each reader refuses the texts of the table beside it.
-fn check_refused_by_each(
-    rt: &impl Abort,
-    tables: &[(Reader, &[(ParseError, &[(&'static str, usize)])])],
-) {
-    for (reader, rows) in tables {
-        check_refused(rt, *reader, rows);
-    }
-}

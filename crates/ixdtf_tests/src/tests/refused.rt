@@ -2,7 +2,7 @@
 
 use super::{
     AT_BRACKET, AT_DATE, AT_DATE_DESIGNATOR, AT_DESIGNATOR, AT_DIGIT, AT_DURATION, AT_MONTH_DAY,
-    AT_OFFSET, AT_START, AT_TIME_DESIGNATOR, AT_ZONE, Reader, check_refused_by_each,
+    AT_OFFSET, AT_START, AT_TIME_DESIGNATOR, AT_ZONE, Reader, check_refused,
 };
 use ixdtf::ParseError::{
     self, AmbiguousTimeMonthDay, AmbiguousTimeYearMonth, AnnotationClose, AnnotationKeyChar,
@@ -29,6 +29,11 @@ const DATES: &[(ParseError, &[(&str, usize)])] = &[
     (InvalidEnd, &[("+10000001108", 11), ("2020-01-01é", 10)]),
 ];
 
+#[test]
+fn refuses_dates(rt: HostRuntime) {
+    check_refused(&rt, Reader::Parse, DATES);
+}
+
 #[rattlefmt::skip]
 const TIMES: &[(ParseError, &[(&str, usize)])] = &[
     (AT_DIGIT, &[
@@ -45,6 +50,11 @@ const TIMES: &[(ParseError, &[(&str, usize)])] = &[
     (TimeSeparator, &[("2020-01-01T01:001", 16), ("2022-06-05 0434:22.000", 15)]),
 ];
 
+#[test]
+fn refuses_times(rt: HostRuntime) {
+    check_refused(&rt, Reader::Parse, TIMES);
+}
+
 // One text for each of the nineteen places, with an `x` there.
 #[rattlefmt::skip]
 const AT_EACH_FIXED_PLACE: &[(ParseError, &[(&str, usize)])] = &[
@@ -60,6 +70,11 @@ const AT_EACH_FIXED_PLACE: &[(ParseError, &[(&str, usize)])] = &[
     (TimeMinuteSecond, &[("2020-02-29T23:x9:60", 14), ("2020-02-29T23:5x:60", 15)]),
     (TimeSecond, &[("2020-02-29T23:59:x0", 17), ("2020-02-29T23:59:6x", 18)]),
 ];
+
+#[test]
+fn refuses_at_each_fixed_place(rt: HostRuntime) {
+    check_refused(&rt, Reader::Parse, AT_EACH_FIXED_PLACE);
+}
 
 // Texts whose characters fit each place, and whose numbers are not a date or not a time; and texts that end or go wrong
 // after it.
@@ -78,6 +93,11 @@ const NUMBERS_AT_FIXED_PLACES: &[(ParseError, &[(&str, usize)])] = &[
     (AT_DIGIT, &[("2020-01-01T00:00:00+", 20), ("2020-01-01T00:00:0", 18)]),
 ];
 
+#[test]
+fn refuses_numbers_at_fixed_places(rt: HostRuntime) {
+    check_refused(&rt, Reader::Parse, NUMBERS_AT_FIXED_PLACES);
+}
+
 #[rattlefmt::skip]
 const OFFSETS_AFTER_TIMES: &[(ParseError, &[(&str, usize)])] = &[
     (InvalidEnd, &[
@@ -90,6 +110,11 @@ const OFFSETS_AFTER_TIMES: &[(ParseError, &[(&str, usize)])] = &[
     (TimeHour, &[("2024-08-24T14:00:00-5:00", 21)]),
     (AnnotationClose, &[("2024-08-24T14:00:00-05:00[-05:00.1]", 32)]),
 ];
+
+#[test]
+fn refuses_offsets_after_times(rt: HostRuntime) {
+    check_refused(&rt, Reader::Parse, OFFSETS_AFTER_TIMES);
+}
 
 #[rattlefmt::skip]
 const BRACKETS: &[(ParseError, &[(&str, usize)])] = &[
@@ -110,6 +135,11 @@ const BRACKETS: &[(ParseError, &[(&str, usize)])] = &[
     (InvalidEnd, &[("2020-01-01T00:00:00+00:00[UTC]junk", 30)]),
 ];
 
+#[test]
+fn refuses_brackets(rt: HostRuntime) {
+    check_refused(&rt, Reader::Parse, BRACKETS);
+}
+
 #[rattlefmt::skip]
 const PAIRS: &[(ParseError, &[(&str, usize)])] = &[
     (InvalidEnd, &[("2020-01-01[a=b]junk", 15)]),
@@ -129,6 +159,11 @@ const PAIRS: &[(ParseError, &[(&str, usize)])] = &[
     (AnnotationValueCharPostHyphen, &[("2020-01-01[u-ca=iso-]", 20), ("2020-01-01[u-ca=iso--8601]", 20)]),
 ];
 
+#[test]
+fn refuses_pairs(rt: HostRuntime) {
+    check_refused(&rt, Reader::Parse, PAIRS);
+}
+
 #[rattlefmt::skip]
 const CRITICAL_PAIRS: &[(ParseError, &[(&str, usize)])] = &[
     (UnrecognizedCritical, &[
@@ -139,6 +174,11 @@ const CRITICAL_PAIRS: &[(ParseError, &[(&str, usize)])] = &[
         ("2020-01-01[!u-ca=a][u-ca=a][u-ca=b][", 35), ("2020-01-01[u-ca=a][u-ca=b][!u-ca=b]", 35),
     ]),
 ];
+
+#[test]
+fn refuses_critical_pairs(rt: HostRuntime) {
+    check_refused(&rt, Reader::Parse, CRITICAL_PAIRS);
+}
 
 #[rattlefmt::skip]
 const YEAR_MONTHS: &[(ParseError, &[(&str, usize)])] = &[
@@ -151,6 +191,11 @@ const YEAR_MONTHS: &[(ParseError, &[(&str, usize)])] = &[
     (AnnotationClose, &[("2020-01[UTC", 11)]),
     (UnrecognizedCritical, &[("2020-01[!c=d]", 13)]),
 ];
+
+#[test]
+fn refuses_year_months(rt: HostRuntime) {
+    check_refused(&rt, Reader::YearMonth, YEAR_MONTHS);
+}
 
 #[rattlefmt::skip]
 const MONTH_DAYS: &[(ParseError, &[(&str, usize)])] = &[
@@ -165,6 +210,11 @@ const MONTH_DAYS: &[(ParseError, &[(&str, usize)])] = &[
     (AnnotationClose, &[("11-07[a=b", 9)]),
 ];
 
+#[test]
+fn refuses_month_days(rt: HostRuntime) {
+    check_refused(&rt, Reader::MonthDay, MONTH_DAYS);
+}
+
 #[rattlefmt::skip]
 const TIMES_ALONE: &[(ParseError, &[(&str, usize)])] = &[
     (AT_DIGIT, &[("", 0), ("T", 1), ("T19:12-089", 10)]),
@@ -173,6 +223,11 @@ const TIMES_ALONE: &[(ParseError, &[(&str, usize)])] = &[
     (TimeSeparator, &[("T19:120-08", 6)]),
     (AT_BRACKET, &[("T1214[", 6)]),
 ];
+
+#[test]
+fn refuses_times_alone(rt: HostRuntime) {
+    check_refused(&rt, Reader::Time, TIMES_ALONE);
+}
 
 #[rattlefmt::skip]
 const TIMES_THAT_READ_AS_DATES: &[(ParseError, &[(&str, usize)])] = &[
@@ -183,6 +238,11 @@ const TIMES_THAT_READ_AS_DATES: &[(ParseError, &[(&str, usize)])] = &[
     (InvalidEnd, &[("1200é", 4)]),
     (AmbiguousTimeYearMonth, &[("2021-12", 7), ("202112[UTC]", 6)]),
 ];
+
+#[test]
+fn refuses_times_that_read_as_dates(rt: HostRuntime) {
+    check_refused(&rt, Reader::Time, TIMES_THAT_READ_AS_DATES);
+}
 
 #[rattlefmt::skip]
 const OFFSETS: &[(ParseError, &[(&str, usize)])] = &[
@@ -195,6 +255,11 @@ const OFFSETS: &[(ParseError, &[(&str, usize)])] = &[
     (FractionPart, &[("+08:00:00.", 10)]),
     (InvalidEnd, &[("+08:00[", 6), ("+08:00:00[", 9), ("+05.5", 3)]),
 ];
+
+#[test]
+fn refuses_offsets(rt: HostRuntime) {
+    check_refused(&rt, Reader::Offset, OFFSETS);
+}
 
 #[rattlefmt::skip]
 const ZONES: &[(ParseError, &[(&str, usize)])] = &[
@@ -209,6 +274,11 @@ const ZONES: &[(ParseError, &[(&str, usize)])] = &[
     (InvalidMinutePrecisionOffset, &[("+00:00:00", 6), ("+000000", 5)]),
 ];
 
+#[test]
+fn refuses_zones(rt: HostRuntime) {
+    check_refused(&rt, Reader::Identifier, ZONES);
+}
+
 #[rattlefmt::skip]
 const NAMES: &[(ParseError, &[(&str, usize)])] = &[
     (TzLeadingChar, &[("", 0), ("+05:00", 0), ("1UTC", 0), ("é", 0)]),
@@ -216,6 +286,11 @@ const NAMES: &[(ParseError, &[(&str, usize)])] = &[
     (IanaCharPostSeparator, &[("America/", 8), ("America//Chicago", 8)]),
     (InvalidEnd, &[("UTC]", 3)]),
 ];
+
+#[test]
+fn refuses_names(rt: HostRuntime) {
+    check_refused(&rt, Reader::IanaIdentifier, NAMES);
+}
 
 #[rattlefmt::skip]
 const DURATIONS: &[(ParseError, &[(&str, usize)])] = &[
@@ -230,6 +305,11 @@ const DURATIONS: &[(ParseError, &[(&str, usize)])] = &[
     (TimeDurationDesignator, &[("+PT", 3), ("-PT", 3), ("P1YT", 4), ("P1YTX", 4)]),
 ];
 
+#[test]
+fn refuses_durations(rt: HostRuntime) {
+    check_refused(&rt, Reader::Duration, DURATIONS);
+}
+
 #[rattlefmt::skip]
 const NUMBERS_OF_DURATIONS: &[(ParseError, &[(&str, usize)])] = &[
     (AT_DATE_DESIGNATOR, &[("P1", 2), ("P1H", 2), ("P1T1H", 2), ("P1Y1M1W0,5D", 8), ("P4294967296X", 11)]),
@@ -242,6 +322,11 @@ const NUMBERS_OF_DURATIONS: &[(ParseError, &[(&str, usize)])] = &[
     ]),
 ];
 
+#[test]
+fn refuses_numbers_of_durations(rt: HostRuntime) {
+    check_refused(&rt, Reader::Duration, NUMBERS_OF_DURATIONS);
+}
+
 #[rattlefmt::skip]
 const ORDERS_OF_DURATIONS: &[(ParseError, &[(&str, usize)])] = &[
     (DateDurationPartOrder, &[
@@ -253,29 +338,7 @@ const ORDERS_OF_DURATIONS: &[(ParseError, &[(&str, usize)])] = &[
     ]),
 ];
 
-#[rattlefmt::skip]
-const TABLES: &[(Reader, &[(ParseError, &[(&str, usize)])])] = &[
-    (Reader::Parse, DATES),
-    (Reader::Parse, TIMES),
-    (Reader::Parse, AT_EACH_FIXED_PLACE),
-    (Reader::Parse, NUMBERS_AT_FIXED_PLACES),
-    (Reader::Parse, OFFSETS_AFTER_TIMES),
-    (Reader::Parse, BRACKETS),
-    (Reader::Parse, PAIRS),
-    (Reader::Parse, CRITICAL_PAIRS),
-    (Reader::YearMonth, YEAR_MONTHS),
-    (Reader::MonthDay, MONTH_DAYS),
-    (Reader::Time, TIMES_ALONE),
-    (Reader::Time, TIMES_THAT_READ_AS_DATES),
-    (Reader::Offset, OFFSETS),
-    (Reader::Identifier, ZONES),
-    (Reader::IanaIdentifier, NAMES),
-    (Reader::Duration, DURATIONS),
-    (Reader::Duration, NUMBERS_OF_DURATIONS),
-    (Reader::Duration, ORDERS_OF_DURATIONS),
-];
-
 #[test]
-fn refuses_each_text(rt: HostRuntime) {
-    check_refused_by_each(&rt, TABLES);
+fn refuses_orders_of_durations(rt: HostRuntime) {
+    check_refused(&rt, Reader::Duration, ORDERS_OF_DURATIONS);
 }

@@ -7,7 +7,7 @@ use crate::runtime::{HostRuntime, TryClone};
 
 use super::{
     AT_BRACKET, AT_DATE, AT_DATE_DESIGNATOR, AT_DESIGNATOR, AT_DIGIT, AT_DURATION, AT_MONTH_DAY,
-    AT_OFFSET, AT_START, AT_TIME_DESIGNATOR, AT_ZONE, Reader, check_refused_by_each,
+    AT_OFFSET, AT_START, AT_TIME_DESIGNATOR, AT_ZONE, Reader, check_refused,
 };
 use ixdtf::ParseError::{
     self, AmbiguousTimeMonthDay, AmbiguousTimeYearMonth, AnnotationClose, AnnotationKeyChar,
@@ -33,6 +33,12 @@ const DATES: &[(ParseError, &[(&str, usize)])] = &[
     (InvalidEnd, &[("+10000001108", 11), ("2020-01-01é", 10)]),
 ];
 
+#[test]
+fn refuses_dates() {
+    let rt = HostRuntime;
+    check_refused(&rt, Reader::Parse, DATES);
+}
+
 const TIMES: &[(ParseError, &[(&str, usize)])] = &[
     (AT_DIGIT, &[
         ("2020-01-01T", 11), ("2020-01-01T1", 12), ("2020-01-01T12:30:", 17), ("2020-01-01T001", 14),
@@ -48,6 +54,12 @@ const TIMES: &[(ParseError, &[(&str, usize)])] = &[
     (TimeSeparator, &[("2020-01-01T01:001", 16), ("2022-06-05 0434:22.000", 15)]),
 ];
 
+#[test]
+fn refuses_times() {
+    let rt = HostRuntime;
+    check_refused(&rt, Reader::Parse, TIMES);
+}
+
 // One text for each of the nineteen places, with an `x` there.
 const AT_EACH_FIXED_PLACE: &[(ParseError, &[(&str, usize)])] = &[
     (DateYear, &[
@@ -62,6 +74,12 @@ const AT_EACH_FIXED_PLACE: &[(ParseError, &[(&str, usize)])] = &[
     (TimeMinuteSecond, &[("2020-02-29T23:x9:60", 14), ("2020-02-29T23:5x:60", 15)]),
     (TimeSecond, &[("2020-02-29T23:59:x0", 17), ("2020-02-29T23:59:6x", 18)]),
 ];
+
+#[test]
+fn refuses_at_each_fixed_place() {
+    let rt = HostRuntime;
+    check_refused(&rt, Reader::Parse, AT_EACH_FIXED_PLACE);
+}
 
 // Texts whose characters fit each place, and whose numbers are not a date or not a time; and texts that end or go wrong
 // after it.
@@ -79,6 +97,12 @@ const NUMBERS_AT_FIXED_PLACES: &[(ParseError, &[(&str, usize)])] = &[
     (AT_DIGIT, &[("2020-01-01T00:00:00+", 20), ("2020-01-01T00:00:0", 18)]),
 ];
 
+#[test]
+fn refuses_numbers_at_fixed_places() {
+    let rt = HostRuntime;
+    check_refused(&rt, Reader::Parse, NUMBERS_AT_FIXED_PLACES);
+}
+
 const OFFSETS_AFTER_TIMES: &[(ParseError, &[(&str, usize)])] = &[
     (InvalidEnd, &[
         ("2020-01-01+05:00", 10), ("2020-01-01Z", 10), ("2020-01-01T00:00:00Zx", 20),
@@ -90,6 +114,12 @@ const OFFSETS_AFTER_TIMES: &[(ParseError, &[(&str, usize)])] = &[
     (TimeHour, &[("2024-08-24T14:00:00-5:00", 21)]),
     (AnnotationClose, &[("2024-08-24T14:00:00-05:00[-05:00.1]", 32)]),
 ];
+
+#[test]
+fn refuses_offsets_after_times() {
+    let rt = HostRuntime;
+    check_refused(&rt, Reader::Parse, OFFSETS_AFTER_TIMES);
+}
 
 const BRACKETS: &[(ParseError, &[(&str, usize)])] = &[
     (AT_BRACKET, &[
@@ -109,6 +139,12 @@ const BRACKETS: &[(ParseError, &[(&str, usize)])] = &[
     (InvalidEnd, &[("2020-01-01T00:00:00+00:00[UTC]junk", 30)]),
 ];
 
+#[test]
+fn refuses_brackets() {
+    let rt = HostRuntime;
+    check_refused(&rt, Reader::Parse, BRACKETS);
+}
+
 const PAIRS: &[(ParseError, &[(&str, usize)])] = &[
     (InvalidEnd, &[("2020-01-01[a=b]junk", 15)]),
     (AnnotationKeyChar, &[
@@ -127,6 +163,12 @@ const PAIRS: &[(ParseError, &[(&str, usize)])] = &[
     (AnnotationValueCharPostHyphen, &[("2020-01-01[u-ca=iso-]", 20), ("2020-01-01[u-ca=iso--8601]", 20)]),
 ];
 
+#[test]
+fn refuses_pairs() {
+    let rt = HostRuntime;
+    check_refused(&rt, Reader::Parse, PAIRS);
+}
+
 const CRITICAL_PAIRS: &[(ParseError, &[(&str, usize)])] = &[
     (UnrecognizedCritical, &[
         ("2020-01-01[!a=b]", 16), ("2020-01-01[!a=b]junk", 16), ("2020-01-01[cet][!u-cb=iso8601]", 30),
@@ -136,6 +178,12 @@ const CRITICAL_PAIRS: &[(ParseError, &[(&str, usize)])] = &[
         ("2020-01-01[!u-ca=a][u-ca=a][u-ca=b][", 35), ("2020-01-01[u-ca=a][u-ca=b][!u-ca=b]", 35),
     ]),
 ];
+
+#[test]
+fn refuses_critical_pairs() {
+    let rt = HostRuntime;
+    check_refused(&rt, Reader::Parse, CRITICAL_PAIRS);
+}
 
 const YEAR_MONTHS: &[(ParseError, &[(&str, usize)])] = &[
     (AT_DIGIT, &[("", 0), ("+", 1), ("2020", 4), ("2020-", 5), ("2020-1", 6), ("20201", 5)]),
@@ -147,6 +195,12 @@ const YEAR_MONTHS: &[(ParseError, &[(&str, usize)])] = &[
     (AnnotationClose, &[("2020-01[UTC", 11)]),
     (UnrecognizedCritical, &[("2020-01[!c=d]", 13)]),
 ];
+
+#[test]
+fn refuses_year_months() {
+    let rt = HostRuntime;
+    check_refused(&rt, Reader::YearMonth, YEAR_MONTHS);
+}
 
 const MONTH_DAYS: &[(ParseError, &[(&str, usize)])] = &[
     (AT_MONTH_DAY, &[("", 0), ("-", 1)]),
@@ -160,6 +214,12 @@ const MONTH_DAYS: &[(ParseError, &[(&str, usize)])] = &[
     (AnnotationClose, &[("11-07[a=b", 9)]),
 ];
 
+#[test]
+fn refuses_month_days() {
+    let rt = HostRuntime;
+    check_refused(&rt, Reader::MonthDay, MONTH_DAYS);
+}
+
 const TIMES_ALONE: &[(ParseError, &[(&str, usize)])] = &[
     (AT_DIGIT, &[("", 0), ("T", 1), ("T19:12-089", 10)]),
     (TimeHour, &[("x", 0), ("24-12-08", 2)]),
@@ -167,6 +227,12 @@ const TIMES_ALONE: &[(ParseError, &[(&str, usize)])] = &[
     (TimeSeparator, &[("T19:120-08", 6)]),
     (AT_BRACKET, &[("T1214[", 6)]),
 ];
+
+#[test]
+fn refuses_times_alone() {
+    let rt = HostRuntime;
+    check_refused(&rt, Reader::Time, TIMES_ALONE);
+}
 
 const TIMES_THAT_READ_AS_DATES: &[(ParseError, &[(&str, usize)])] = &[
     (AmbiguousTimeMonthDay, &[
@@ -176,6 +242,12 @@ const TIMES_THAT_READ_AS_DATES: &[(ParseError, &[(&str, usize)])] = &[
     (InvalidEnd, &[("1200é", 4)]),
     (AmbiguousTimeYearMonth, &[("2021-12", 7), ("202112[UTC]", 6)]),
 ];
+
+#[test]
+fn refuses_times_that_read_as_dates() {
+    let rt = HostRuntime;
+    check_refused(&rt, Reader::Time, TIMES_THAT_READ_AS_DATES);
+}
 
 const OFFSETS: &[(ParseError, &[(&str, usize)])] = &[
     (AT_OFFSET, &[("", 0)]),
@@ -187,6 +259,12 @@ const OFFSETS: &[(ParseError, &[(&str, usize)])] = &[
     (FractionPart, &[("+08:00:00.", 10)]),
     (InvalidEnd, &[("+08:00[", 6), ("+08:00:00[", 9), ("+05.5", 3)]),
 ];
+
+#[test]
+fn refuses_offsets() {
+    let rt = HostRuntime;
+    check_refused(&rt, Reader::Offset, OFFSETS);
+}
 
 const ZONES: &[(ParseError, &[(&str, usize)])] = &[
     (AT_ZONE, &[("", 0)]),
@@ -200,12 +278,24 @@ const ZONES: &[(ParseError, &[(&str, usize)])] = &[
     (InvalidMinutePrecisionOffset, &[("+00:00:00", 6), ("+000000", 5)]),
 ];
 
+#[test]
+fn refuses_zones() {
+    let rt = HostRuntime;
+    check_refused(&rt, Reader::Identifier, ZONES);
+}
+
 const NAMES: &[(ParseError, &[(&str, usize)])] = &[
     (TzLeadingChar, &[("", 0), ("+05:00", 0), ("1UTC", 0), ("é", 0)]),
     (IanaChar, &[("UTC!", 3), ("UTC=x", 3)]),
     (IanaCharPostSeparator, &[("America/", 8), ("America//Chicago", 8)]),
     (InvalidEnd, &[("UTC]", 3)]),
 ];
+
+#[test]
+fn refuses_names() {
+    let rt = HostRuntime;
+    check_refused(&rt, Reader::IanaIdentifier, NAMES);
+}
 
 const DURATIONS: &[(ParseError, &[(&str, usize)])] = &[
     (AT_START, &[("", 0)]),
@@ -219,6 +309,12 @@ const DURATIONS: &[(ParseError, &[(&str, usize)])] = &[
     (TimeDurationDesignator, &[("+PT", 3), ("-PT", 3), ("P1YT", 4), ("P1YTX", 4)]),
 ];
 
+#[test]
+fn refuses_durations() {
+    let rt = HostRuntime;
+    check_refused(&rt, Reader::Duration, DURATIONS);
+}
+
 const NUMBERS_OF_DURATIONS: &[(ParseError, &[(&str, usize)])] = &[
     (AT_DATE_DESIGNATOR, &[("P1", 2), ("P1H", 2), ("P1T1H", 2), ("P1Y1M1W0,5D", 8), ("P4294967296X", 11)]),
     (AT_TIME_DESIGNATOR, &[("PT1", 3), ("PT1Y", 3), ("PT1.5", 5), ("PT1.5X", 5), ("PT1.5.5S", 5)]),
@@ -230,6 +326,12 @@ const NUMBERS_OF_DURATIONS: &[(ParseError, &[(&str, usize)])] = &[
     ]),
 ];
 
+#[test]
+fn refuses_numbers_of_durations() {
+    let rt = HostRuntime;
+    check_refused(&rt, Reader::Duration, NUMBERS_OF_DURATIONS);
+}
+
 const ORDERS_OF_DURATIONS: &[(ParseError, &[(&str, usize)])] = &[
     (DateDurationPartOrder, &[
         ("P1D1Y", 5), ("P1W1M", 5), ("P1Y1M1Y", 7), ("P1D4294967296Y", 14), ("P1D1Y1", 5),
@@ -240,29 +342,8 @@ const ORDERS_OF_DURATIONS: &[(ParseError, &[(&str, usize)])] = &[
     ]),
 ];
 
-const TABLES: &[(Reader, &[(ParseError, &[(&str, usize)])])] = &[
-    (Reader::Parse, DATES),
-    (Reader::Parse, TIMES),
-    (Reader::Parse, AT_EACH_FIXED_PLACE),
-    (Reader::Parse, NUMBERS_AT_FIXED_PLACES),
-    (Reader::Parse, OFFSETS_AFTER_TIMES),
-    (Reader::Parse, BRACKETS),
-    (Reader::Parse, PAIRS),
-    (Reader::Parse, CRITICAL_PAIRS),
-    (Reader::YearMonth, YEAR_MONTHS),
-    (Reader::MonthDay, MONTH_DAYS),
-    (Reader::Time, TIMES_ALONE),
-    (Reader::Time, TIMES_THAT_READ_AS_DATES),
-    (Reader::Offset, OFFSETS),
-    (Reader::Identifier, ZONES),
-    (Reader::IanaIdentifier, NAMES),
-    (Reader::Duration, DURATIONS),
-    (Reader::Duration, NUMBERS_OF_DURATIONS),
-    (Reader::Duration, ORDERS_OF_DURATIONS),
-];
-
 #[test]
-fn refuses_each_text() {
+fn refuses_orders_of_durations() {
     let rt = HostRuntime;
-    check_refused_by_each(&rt, TABLES);
+    check_refused(&rt, Reader::Duration, ORDERS_OF_DURATIONS);
 }
