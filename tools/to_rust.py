@@ -32,6 +32,7 @@ What is put in the place of something else, and there is nothing more of it:
                  `x: *const T, x_length: usize`, of which the first line of the body makes the slice (src/slices.rs). There stands by hand
                  what a slice in a struct is: a pointer, which may be null where the length is 0, and the length
   11 str         `str::from_utf8` is `std::str::from_utf8`, which older compilers have
+  14 links       a link of a document to a name of FARTHER, which its module does not import, is a link to it in the module above
 
 Of a test, besides (TESTS):
 
@@ -135,6 +136,8 @@ ADDED = {
 OPEN = {name for (_, name), attribute in ADDED.items() if attribute == '#[non_exhaustive]'}
 INLINED = {'parsers', 'parsers/handled', 'parsers/unhandled', 'parsers/time_zone_parser', 'parsers/duration'}
 MARKED = INLINED | {'error', 'located', 'records'}
+# What documents of a module link to in the module above.
+FARTHER = {'parsers/unhandled': ('Profile', 'TimeZoneParser')}
 RESULTS = {'Result', 'ParserResult'}
 # the types with an equality that is a derived one, and the functions that it calls
 DERIVED = {('error', 'ParseError'): {'place', 'location'}, ('located', 'LocatedError'): set()}
@@ -827,6 +830,8 @@ def written(crate, module, text):
     tokens = scan(text)
     rewrite(tokens, module, crate)
     plain = lay_out(tokens)
+    for name in FARTHER.get(module, ()):
+        plain = re.sub(rf'\[`({name}::\w+)`\](?!\()', r'[`\1`](super::\1)', plain)
     if crate.source == 'crates/ixdtf/src' and module in ('lib', 'parsers'):
         return of_layers(module, plain, [source_of(layer, 'lib') for layer in LAYERS])
     return plain

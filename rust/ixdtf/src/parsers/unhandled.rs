@@ -15,8 +15,8 @@ impl<'a, T: EncodingType> IxdtfParser<'a, T> {
     ///
     /// A date is `2020-11-08` or `20201108`, where the year is four digits or a sign and six digits. `T`, `t` or a space
     /// and a time may follow: `12`, `12:30`, `1230`, `12:30:45` or `123045`. The last two may have a fraction, as `.25` or
-    /// `,25`. `Z`, `z` or an offset may follow a time, as in [`TimeZoneParser::parse_offset`]. Then `[`, an optional `!`, a
-    /// zone as in [`TimeZoneParser::parse_identifier`], and `]` may follow; and then any number of annotations, each of
+    /// `,25`. `Z`, `z` or an offset may follow a time, as in [`TimeZoneParser::parse_offset`](super::TimeZoneParser::parse_offset). Then `[`, an optional `!`, a
+    /// zone as in [`TimeZoneParser::parse_identifier`](super::TimeZoneParser::parse_identifier), and `]` may follow; and then any number of annotations, each of
     /// them `[`, an optional `!`, a key, `=`, a value and `]`. A key begins with a lowercase ASCII letter or `_`, and goes
     /// on with these, digits and `-`. A value is runs of ASCII letters and digits, with a single `-` between two runs.
     ///
@@ -148,7 +148,7 @@ impl<'a, T: EncodingType> IxdtfParser<'a, T> {
     /// brackets, what [`parse`](Self::parse) reads there.
     ///
     /// A month and a day are `11-07`, `1107`, `--11-07` or `--1107`. The day is from 0 to the greatest that the month has in
-    /// any year, which is 29 for February; under [`Profile::Strict`] it is at least 1. The record has `date`, whose year is 0,
+    /// any year, which is 29 for February; under [`Profile::Strict`](super::Profile::Strict) it is at least 1. The record has `date`, whose year is 0,
     /// and `tz` and `calendar` as that of [`parse`](Self::parse).
     ///
     /// ```rust
@@ -182,7 +182,7 @@ impl<'a, T: EncodingType> IxdtfParser<'a, T> {
     /// - `MonthDayHyphen` where another character than a second hyphen follows the first;
     /// - `DateMonth` and `DateDay` where another character stands in the place of a digit of the month and the day;
     /// - `InvalidMonthRange` where the month is not from 1 to 12;
-    /// - `InvalidMonthDay` where the month has the day in no year, and for day 0 under [`Profile::Strict`];
+    /// - `InvalidMonthDay` where the month has the day in no year, and for day 0 under [`Profile::Strict`](super::Profile::Strict);
     /// - `InvalidEnd` at any other character after the day;
     /// - `NonAsciiCodePoint` at a 16-bit code unit that is not from 1 to 126.
     #[inline(always)]
