@@ -8,7 +8,7 @@ ghost use Rattle.ixdtf_grammar.specs.table.Faults.{Fault};
 ghost use Rattle.ixdtf_reading.specs.reading.Clauses.{Reads, Spends, SpendsOr, fault_of_stop, yielded};
 ghost use Rattle.ixdtf_reading.specs.reading.Looks.{error_of, next_by};
 ghost use Rattle.ixdtf_reading.specs.reading.Runs.{key_after, component_after};
-ghost use Rattle.ixdtf_reading.specs.reading.Pairs.{AtStart, key_run, component_look, value_run, pair_at, critical_pair_at, later_pair_at, next_pair_at};
+ghost use Rattle.ixdtf_reading.specs.reading.Pairs.{AtStart, BeginsKey, key_run, component_look, value_run, pair_at, critical_pair_at, later_pair_at, next_pair_at};
 ghost use Rattle.ixdtf_grammar.specs.Handlers.{RefusedBeside, first_calendar, pair_of};
 ghost use Rattle.ixdtf_reading.specs.reading.Chains.{PairsRead, first_pairs};
 
@@ -42,12 +42,14 @@ impl Letters for KeyLetters {
 pub fn parse_annotation_key<'a, T: EncodingType>(
     cursor: &mut Cursor<'a, T>,
 ) -> Result<&'a [T::CodeUnit], Stop>
+    requires first { BeginsKey (map T.letter cursor.old.rest) }
     ensures key { Reads T.letter (λ units. map T.number units.now) cursor.old result cursor.new
         (key_run error_of) }
     ensures looks { SpendsOr 1 0 cursor.old result cursor.new }
     ensures shorter { OnOk result (length cursor.new.rest < length cursor.old.rest) }
 {
     let start = cursor.rest();
+    cursor.advance();
     let passed = pass_letters(cursor, KeyLetters)?;
     // It always is there: with this test a compiler sees it too, and keeps no panic.
     let Some(key) = start.get(..start.len() - cursor.rest().len()) else {
@@ -131,6 +133,7 @@ fn parse_pair<'a, T: EncodingType>(
     cursor: &mut Cursor<'a, T>,
     critical: bool,
 ) -> Result<Annotation<'a, T>, Stop>
+    requires first { BeginsKey (map T.letter cursor.old.rest) }
     ensures pair { Reads T.letter (pair_of T.number) cursor.old result cursor.new
         (pair_at error_of critical) }
     ensures looks { SpendsOr 2 0 cursor.old result cursor.new }

@@ -16,7 +16,7 @@ ghost use Rattle.ixdtf_reading.specs.reading.Looks.{seen, next_by, peek_by, digi
 
 use crate::grammar::two_digit_number;
 use crate::looks::Looks;
-use crate::stop::{FromStop, Stop};
+use crate::stop::{FromStop, Stop, error_of_stop};
 use ixdtf_grammar::encoding::EncodingType;
 use std::marker::Model;
 
@@ -120,7 +120,7 @@ impl<'a, T: EncodingType> Cursor<'a, T> {
             Err(stop) => {
                 let at = self.remaining().saturating_sub(here.remaining());
                 self.keep_looks(here);
-                Err(E::of_stop(stop, at))
+                Err(error_of_stop(stop, at))
             }
         }
     }

@@ -12,6 +12,7 @@ use crate::parsers::{CoreReader, DateTimes, FromStop, IxdtfParser, MonthDays, Ti
 use crate::{LocatedError, ParseError, ParserResult};
 use ixdtf_grammar::encoding::EncodingType;
 use ixdtf_grammar::records::{Annotation, IxdtfParseRecord};
+use ixdtf_reading::stop::error_of_stop;
 
 impl<'a, T: EncodingType> IxdtfParser<'a, T> {
     /// Reads as [`parse`](Self::parse) does, and calls the handler on each annotation of a key and a value.
@@ -307,7 +308,7 @@ impl<'a, T: EncodingType> IxdtfParser<'a, T> {
         let mut found = IxdtfParseRecord::default();
         match self.read_into::<C, F>(&mut handler, &mut found) {
             Ok(()) => Ok(found),
-            Err(why) => return Err(E::of_stop(why.stop, why.at)),
+            Err(why) => return Err(error_of_stop(why.stop, why.at)),
         }
     }
 
@@ -335,7 +336,7 @@ impl<'a, T: EncodingType> IxdtfParser<'a, T> {
         let mut found = IxdtfParseRecord::default();
         match self.read_into::<C, F>(handler, &mut found) {
             Ok(()) => Ok(found),
-            Err(refused) => return Err(E::of_stop(refused.stop, refused.at)),
+            Err(refused) => return Err(error_of_stop(refused.stop, refused.at)),
         }
     }
 }

@@ -203,8 +203,16 @@ impl<'a, T: EncodingType> TimeZoneParser<'a, T> {
         ensures reads { ReadsPart T.letter fault_of (λ units. map T.number units.now) named parse_iana_identifier self.old result self.new }
     {
         let mut here = self.cursor.fork();
-        let read = parse_iana_identifier_text(&mut here);
-        self.cursor.settle(here, read)
+        match parse_iana_identifier_text(&mut here) {
+            Ok(name) => {
+                self.cursor = here;
+                Ok(name)
+            }
+            Err(stop) => {
+                self.cursor.keep_looks(here);
+                Err(stop.error())
+            }
+        }
     }
 
     /// Reads as [`parse_offset`](Self::parse_offset) does, and returns an error with its place: the number of code units

@@ -1,14 +1,14 @@
 -- The code units of a key and of a value, taken one by one.
 use Rattle.std.proofs.Common.{◌≡◌, ℕ, Bool, true, false, List, [], ◌∷◌, ◌++◌, map, drop, Option, Some, None, Ok, Err, refl, sym, ap, subst, ◌∙◌}
 use Rattle.std.proofs.{Common.{if◌then◌else◌, arith}, lemmas.Bool.Decides.nat_tests}
-use Rattle.ixdtf_reading.specs.{declared.annotations.{KeyLetters.KeyLetters, ComponentLetters.ComponentLetters}, reading.Pairs.{ValueState, AtStart, Inside}}
+use Rattle.ixdtf_reading.specs.{declared.annotations.{KeyLetters.KeyLetters, ComponentLetters.ComponentLetters}, reading.Pairs.{ValueState, AtStart, Inside, BeginsKey}}
 use Rattle.ixdtf_reading.specs.reading.Pairs.{AfterHyphen, GoesOn, Ends, Stops, key_run, component_look, value_run, value_mark, value_step, value_end}
 use Rattle.ixdtf_reading.specs.reading.{Pairs.value_other, Looks.{Placed, Read, look_at, seen, next_by, error_of}, Zones.with_letter}
 use Rattle.ixdtf_reading.specs.reading.Runs.{Taken, letters_by, key_after, component_after}
 use Rattle.ixdtf_reading.proofs.code.{FirstLetter.{first_is as letter_first, nothing_is}, LetterLoops.{test_held, test_failed, first_is, Stays, next_shown}}
 use Rattle.ixdtf_reading.proofs.code.LetterLoops.{next_stays, run_failed, run_passed, IsFar, one_far, more_far, far_fails}
 use Rattle.ixdtf_reading.proofs.parts.Steps.{with_letters, letters_err, letters_ok}
-use Rattle.ixdtf_grammar.specs.{language.Letters.{Letter, Text, equals, hyphen, closing, key_char, value_char, Letter.{Plain, Bad}}, table.Faults.Fault}
+use Rattle.ixdtf_grammar.specs.{language.Letters.{Letter, Text, equals, hyphen, closing, key_lead, key_char, value_char, Letter.{Plain, Bad}}, table.Faults.Fault}
 use Rattle.ixdtf_grammar.specs.table.Faults.Fault.{AnnotationKeyValueSeparator, AnnotationKeyChar, NonAsciiCodePoint, AnnotationValueChar, AnnotationClose}
 
 -- ---- keys
@@ -50,6 +50,24 @@ module _ (letters : KeyLetters) (text : Text) where
       pub key_refused : equals c ≡ false → key_run error_of text ≡ Err (AnnotationKeyChar, rest)
       unfolding key_run
       key_refused test = key_passed ∙ rw (key_next, key_stays, test) (letters_err taken.letters (AnnotationKeyChar, Plain c ∷ drop 1 rest))
+
+-- a code unit was seen that a key begins with
+pub begins_key : (text : Text) (c : ℕ) → seen text ≡ Ok (Some c) → key_lead c ≡ true → BeginsKey text
+begins_key text c e leads = rw (letter_first text c e) leads
+
+-- a key goes on behind it
+pub key_behind : (letter : ℕ → Letter) → ((unit n : ℕ) → letter unit ≡ Plain n → n ≡ unit) → (units left : List ℕ) → BeginsKey (map letter units)
+    → left ≡ drop 1 units → (c : ℕ) × (units ≡ c ∷ left) × (key_run error_of (map letter units) ≡ with_letter c (key_run error_of (map letter left)))
+unfolding key_run
+key_behind letter faithful [] left begins moved = absurd begins
+key_behind letter faithful (u ∷ more) left begins moved = go (letter u) refl begins
+  where
+    go : (l : Letter) → letter u ≡ l → BeginsKey (l ∷ map letter more)
+        → (c : ℕ) × (u ∷ more ≡ c ∷ left) × (key_run error_of (letter u ∷ map letter more) ≡ with_letter c (key_run error_of (map letter left)))
+    go (Plain n) is leads =
+        let char : key_char n ≡ true = rw leads refl in
+        (u, ap (λ t. u ∷ t) (sym moved), rw (is, char, moved, faithful u n is) refl)
+    go Bad is none = absurd none
 
 -- ---- values
 

@@ -2,7 +2,7 @@
 use Rattle.std.proofs.Common.{◌≡◌, ℕ, zero, suc, ◌+◌, ◌<◌, ◌≤◌, Bool, true, false, ◌&&◌, nat_eq, List, [], ◌∷◌, slice_index_or, bit_and, IsTrue, refl, arith}
 use Rattle.std.proofs.{Common.{inl, inr}, lemmas.Bool.{cases_eq, Decides.nat_tests}}
 use Rattle.std.specs.{Prelude.{not, IsFalse}, Bool.beq}
-use Rattle.ixdtf_grammar.specs.language.Letters.{digit, zone_char, key_char, value_char}
+use Rattle.ixdtf_grammar.specs.language.Letters.{digit, zone_char, key_char, value_char, key_lead, zone_lead}
 use Rattle.ixdtf_reading.specs.reading.FixedPlaces.{tens_value, ones_value}
 
 -- the two tests agree below n
@@ -31,7 +31,7 @@ bit false n = 0
 
 -- a byte's classes, one bit for each
 unfoldable pub bits : ℕ → ℕ
-bits c = bit (key_char c) 1 + bit (zone_char c) 2 + bit (value_char c) 4
+bits c = bit (key_char c) 1 + bit (zone_char c) 2 + bit (value_char c) 4 + bit (key_lead c) 8 + bit (zone_lead c) 16
 
 -- what the table has from a place on, so many places
 unfoldable pub bits_from : ℕ → ℕ → List ℕ
@@ -40,18 +40,6 @@ bits_from (suc n) c = bits c ∷ bits_from n (c + 1)
 
 abbrev pub has_bit : ℕ → ℕ → Bool
 has_bit b bit = not (nat_eq (bit_and (slice_index_or (bits_from 256 0) b 0) bit) 0)
-
-pub in_key : (b : ℕ) → b < 256 → has_bit b 1 ≡ key_char b
-unfolding agree_below bits bits_from
-in_key b lt = agree_at (λ c. has_bit c 1) key_char 256 refl b lt
-
-pub in_name : (b : ℕ) → b < 256 → has_bit b 2 ≡ zone_char b
-unfolding agree_below bits bits_from
-in_name b lt = agree_at (λ c. has_bit c 2) zone_char 256 refl b lt
-
-pub in_value : (b : ℕ) → b < 256 → has_bit b 4 ≡ value_char b
-unfolding agree_below bits bits_from
-in_value b lt = agree_at (λ c. has_bit c 4) value_char 256 refl b lt
 
 -- ---- the tables of digits
 

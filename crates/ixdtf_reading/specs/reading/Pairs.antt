@@ -1,6 +1,6 @@
 -- Reading pairs.
-use Rattle.std.specs.Prelude.{ℕ, zero, suc, Bool, true, false, List, [], ◌∷◌, ◌++◌, Option, Some, None, Ok, Err, if◌then◌else◌}
-use Rattle.ixdtf_grammar.specs.language.{Letters.{Text, hyphen, equals, closing, exclamation, key_char, value_char, Letter.{Plain, Bad}}, Brackets.Pair}
+use Rattle.std.specs.Prelude.{ℕ, zero, suc, Bool, true, false, List, [], ◌∷◌, ◌++◌, Option, Some, None, Ok, Err, if◌then◌else◌, IsTrue}
+use Rattle.ixdtf_grammar.specs.language.{Letters.{Text, hyphen, equals, closing, exclamation, key_lead, key_char, value_char, Letter.{Plain, Bad}}, Brackets.Pair}
 use Rattle.ixdtf_grammar.specs.table.Faults.{Fault, Fault.{NonAsciiCodePoint, AnnotationKeyValueSeparator, AnnotationKeyChar, AnnotationValueChar}}
 use Rattle.ixdtf_grammar.specs.table.{Faults.Fault.{AnnotationClose, AnnotationValueCharPostHyphen}, LineNames.{PairLine, LineName.{of_bracket, of_pair}}}
 use Rattle.ixdtf_grammar.specs.table.LineNames.BracketLine.{after_bracket}
@@ -16,6 +16,12 @@ key_run fault (Bad ∷ rest) = Err (fault (row_of (of_pair in_key) (bad (Bad ∷
 key_run fault (Plain c ∷ rest) =
     if key_char c then with_letter c (key_run fault rest)
     else (if equals c then Ok ([], rest) else Err (fault (row_of (of_pair in_key) (other (Plain c ∷ rest)) AnnotationKeyChar)))
+
+-- the text begins with a code unit that a key begins with
+abbrev pub BeginsKey : Text → Type 0
+BeginsKey [] = ⊥
+BeginsKey (Bad ∷ rest) = ⊥
+BeginsKey (Plain c ∷ rest) = IsTrue (key_lead c)
 
 -- the state of a value: before its first code unit, after a code unit, or after a hyphen
 pub data ValueState : Type 0 where

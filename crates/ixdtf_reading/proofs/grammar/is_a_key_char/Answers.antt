@@ -1,7 +1,8 @@
 use Rattle.ixdtf_reading.proofs.grammar.is_a_key_char.Goals as goal
-use Rattle.std.proofs.Common.{arith}
-use Rattle.ixdtf_reading.proofs.code.Tables.{bits, bits_from, in_key}
+use Rattle.std.proofs.Common.{refl, arith}
+use Rattle.ixdtf_grammar.specs.language.Letters.{key_char}
+use Rattle.ixdtf_reading.proofs.code.Tables.{agree_below, agree_at, bits, bits_from, has_bit}
 
 pub returns : goal.returns
-unfolding bits bits_from
-returns c = in_key c.args.byte (omega arith)
+unfolding agree_below bits bits_from
+returns c = agree_at (λ b. has_bit b 1) key_char 256 refl c.args.byte (omega arith)

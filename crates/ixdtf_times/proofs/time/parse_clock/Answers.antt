@@ -16,6 +16,6 @@ returns-in-Some-clause-time g c =
 pub returns-in-Some-2-clause-time : goal.returns-in-Some-2-clause-time
 unfolding clock_at hour_from after_hour_at digits_by in_range
 returns-in-Some-2-clause-time g c =
-    reads_as g.T.EncodingType.letter (open_time_of c.parse_basic_minute.new.time) c.look.new.self c.args.cursor.now c.parse_basic_minute.new.cursor
-    c.parse_basic_minute.result (minute_at error_of (clock_of c.args.clock) false c.in_ok-hour.hour) (clock_at error_of (clock_of c.args.clock))
-    (search rules) c.parse_basic_minute.ensures.time
+    reads_as g.T.EncodingType.letter (open_time_of c.parse_minute-in-Some-2.new.time) c.look.new.self c.args.cursor.now c.parse_minute-in-Some-2.new.cursor
+    c.parse_minute-in-Some-2.result (minute_at error_of (clock_of c.args.clock) false c.in_ok-hour.hour) (clock_at error_of (clock_of c.args.clock))
+    (search rules) c.parse_minute-in-Some-2.ensures.time

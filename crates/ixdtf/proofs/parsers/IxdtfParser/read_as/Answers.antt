@@ -9,6 +9,6 @@ returns g c = let is = g.met.C.CoreReader.is_under _ in record {
 
 pub returns-in-Err : goal.returns-in-Err
 returns-in-Err g c = record {
-  handles = handles_err _ _ _ _ _ _ _ _ _ _ _ _ _ c.of_stop.ensures.fault c.in-Err.ensures.reads;
-  places = handles_err_at _ _ _ _ _ _ _ _ _ _ _ _ _ _ c.of_stop.ensures.fault c.of_stop.ensures.place c.in-Err.ensures.reads;
+  handles = handles_err _ _ _ _ _ _ _ _ _ _ _ _ _ c.error_of_stop.ensures.fault c.in-Err.ensures.reads;
+  places = handles_err_at _ _ _ _ _ _ _ _ _ _ _ _ _ _ c.error_of_stop.ensures.fault c.error_of_stop.ensures.place c.in-Err.ensures.reads;
 }

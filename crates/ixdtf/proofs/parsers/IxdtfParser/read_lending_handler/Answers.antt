@@ -6,5 +6,5 @@ returns g c = record { handles = handles_ok_to _ _ _ _ _ _ _ _ _ _ _ (g.met.C.Co
 
 pub returns-in-Err : goal.returns-in-Err
 returns-in-Err g c = record {
-  handles = handles_err_to _ _ _ _ _ _ _ _ _ _ _ _ _ _ c.of_stop.ensures.fault c.of_stop.ensures.place c.in-Err.ensures.reads;
+  handles = handles_err_to _ _ _ _ _ _ _ _ _ _ _ _ _ _ c.error_of_stop.ensures.fault c.error_of_stop.ensures.place c.in-Err.ensures.reads;
 }
