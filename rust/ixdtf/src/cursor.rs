@@ -6,7 +6,7 @@
 //! that returns an error restores the slice that it began with.
 
 use crate::grammar::two_digit_number;
-use crate::stop::{FromStop, Stop};
+use crate::stop::{FromStop, Stop, error_of_stop};
 use crate::encoding::EncodingType;
 
 /// The remaining code units.
@@ -64,7 +64,7 @@ impl<'a, T: EncodingType> Cursor<'a, T> {
             }
             Err(stop) => {
                 let at = self.remaining().saturating_sub(here.remaining());
-                Err(E::of_stop(stop, at))
+                Err(error_of_stop(stop, at))
             }
         }
     }

@@ -3,16 +3,16 @@
 //! The classes of characters.
 
 // The classes of each byte, one bit for each: 1 for the characters of a key, 2 for those of a zone name, 4 for those of
-// a value.
+// a value, 8 for what a key begins with, and 16 for what a zone name begins with.
 static CLASSES: [u8; 256] = [
     0, 0, 0, 0, 0, 0, 0, 0, 0, 0, 0, 0, 0, 0, 0, 0,
     0, 0, 0, 0, 0, 0, 0, 0, 0, 0, 0, 0, 0, 0, 0, 0,
-    0, 0, 0, 0, 0, 0, 0, 0, 0, 0, 0, 2, 0, 3, 2, 0,
+    0, 0, 0, 0, 0, 0, 0, 0, 0, 0, 0, 2, 0, 3, 18, 0,
     7, 7, 7, 7, 7, 7, 7, 7, 7, 7, 0, 0, 0, 0, 0, 0,
-    0, 6, 6, 6, 6, 6, 6, 6, 6, 6, 6, 6, 6, 6, 6, 6,
-    6, 6, 6, 6, 6, 6, 6, 6, 6, 6, 6, 0, 0, 0, 0, 3,
-    0, 7, 7, 7, 7, 7, 7, 7, 7, 7, 7, 7, 7, 7, 7, 7,
-    7, 7, 7, 7, 7, 7, 7, 7, 7, 7, 7, 0, 0, 0, 0, 0,
+    0, 22, 22, 22, 22, 22, 22, 22, 22, 22, 22, 22, 22, 22, 22, 22,
+    22, 22, 22, 22, 22, 22, 22, 22, 22, 22, 22, 0, 0, 0, 0, 27,
+    0, 31, 31, 31, 31, 31, 31, 31, 31, 31, 31, 31, 31, 31, 31, 31,
+    31, 31, 31, 31, 31, 31, 31, 31, 31, 31, 31, 0, 0, 0, 0, 0,
     0, 0, 0, 0, 0, 0, 0, 0, 0, 0, 0, 0, 0, 0, 0, 0,
     0, 0, 0, 0, 0, 0, 0, 0, 0, 0, 0, 0, 0, 0, 0, 0,
     0, 0, 0, 0, 0, 0, 0, 0, 0, 0, 0, 0, 0, 0, 0, 0,
@@ -150,7 +150,7 @@ pub fn is_tz_name_separator(byte: u8) -> bool {
 /// What a zone name begins with: an ASCII letter, `_` or `.`.
 #[inline(always)]
 pub fn is_tz_leading_char(byte: u8) -> bool {
-    byte.is_ascii_alphabetic() || byte == b'_' || byte == b'.'
+    CLASSES[byte as usize] & 16 != 0
 }
 
 /// What follows in a zone name: what begins one, a digit, `+` or `-`.
@@ -162,7 +162,7 @@ pub fn is_tz_char(byte: u8) -> bool {
 /// What a key begins with: a lowercase ASCII letter or `_`.
 #[inline(always)]
 pub fn is_a_key_leading_char(byte: u8) -> bool {
-    byte.is_ascii_lowercase() || byte == b'_'
+    CLASSES[byte as usize] & 8 != 0
 }
 
 /// What follows in a key: what begins one, a digit or `-`.

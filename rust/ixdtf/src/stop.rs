@@ -62,58 +62,79 @@ impl Stop {
     /// Its error. It is inlined, so that a reader of records makes no call for it.
     #[inline(always)]
     pub fn error(self) -> ParseError {
-        match self {
-            Stop::NonAsciiCodePoint => ParseError::NonAsciiCodePoint,
-            Stop::AbruptDigit => ParseError::AbruptEnd { location: "digit" },
-            Stop::AbruptDate => ParseError::AbruptEnd { location: "Date" },
-            Stop::AbruptBracket => ParseError::AbruptEnd { location: "AmbiguousAnnotation" },
-            Stop::AbruptOffset => ParseError::AbruptEnd { location: "time-numoffset" },
-            Stop::AbruptZone => ParseError::AbruptEnd { location: "TimeZoneAnnotation" },
-            Stop::InvalidEnd => ParseError::InvalidEnd,
-            Stop::InvalidMonthRange => ParseError::InvalidMonthRange,
-            Stop::InvalidDayRange => ParseError::InvalidDayRange,
-            Stop::DateYear => ParseError::DateYear,
-            Stop::DateExtendedYear => ParseError::DateExtendedYear,
-            Stop::DateMonth => ParseError::DateMonth,
-            Stop::DateDay => ParseError::DateDay,
-            Stop::TimeHour => ParseError::TimeHour,
-            Stop::TimeMinuteSecond => ParseError::TimeMinuteSecond,
-            Stop::TimeSecond => ParseError::TimeSecond,
-            Stop::FractionPart => ParseError::FractionPart,
-            Stop::DateSeparator => ParseError::DateSeparator,
-            Stop::TimeSeparator => ParseError::TimeSeparator,
-            Stop::AnnotationClose => ParseError::AnnotationClose,
-            Stop::AnnotationKeyValueSeparator => ParseError::AnnotationKeyValueSeparator,
-            Stop::AnnotationKeyLeadingChar => ParseError::AnnotationKeyLeadingChar,
-            Stop::AnnotationKeyChar => ParseError::AnnotationKeyChar,
-            Stop::AnnotationValueCharPostHyphen => ParseError::AnnotationValueCharPostHyphen,
-            Stop::AnnotationValueChar => ParseError::AnnotationValueChar,
-            Stop::InvalidMinutePrecisionOffset => ParseError::InvalidMinutePrecisionOffset,
-            Stop::CriticalDuplicateCalendar => ParseError::CriticalDuplicateCalendar,
-            Stop::UnrecognizedCritical => ParseError::UnrecognizedCritical,
-            Stop::TzLeadingChar => ParseError::TzLeadingChar,
-            Stop::IanaCharPostSeparator => ParseError::IanaCharPostSeparator,
-            Stop::IanaChar => ParseError::IanaChar,
-            Stop::UtcTimeSeparator => ParseError::UtcTimeSeparator,
-            Stop::OffsetNeedsSign => ParseError::OffsetNeedsSign,
-            Stop::AbruptMonthDay => ParseError::AbruptEnd { location: "MonthDay" },
-            Stop::MonthDayHyphen => ParseError::MonthDayHyphen,
-            Stop::InvalidMonthDay => ParseError::InvalidMonthDay,
-            Stop::AmbiguousTimeMonthDay => ParseError::AmbiguousTimeMonthDay,
-            Stop::AmbiguousTimeYearMonth => ParseError::AmbiguousTimeYearMonth,
-            Stop::AbruptDurationStart => ParseError::AbruptEnd { location: "DurationStart" },
-            Stop::AbruptDurationDesignator => ParseError::AbruptEnd { location: "DurationDesignator" },
-            Stop::AbruptDuration => ParseError::AbruptEnd { location: "Duration" },
-            Stop::AbruptDateDesignator => ParseError::AbruptEnd { location: "DateDurationDesignator" },
-            Stop::AbruptTimeDesignator => ParseError::AbruptEnd { location: "TimeDurationDesignator" },
-            Stop::DurationDisgnator => ParseError::DurationDisgnator,
-            Stop::DurationValueExceededRange => ParseError::DurationValueExceededRange,
-            Stop::DateDurationPartOrder => ParseError::DateDurationPartOrder,
-            Stop::TimeDurationPartOrder => ParseError::TimeDurationPartOrder,
-            Stop::TimeDurationDesignator => ParseError::TimeDurationDesignator,
-        }
+        ERRORS[self as usize]
     }
 }
+
+// The error of each stop, in the order of the stops.
+const ERRORS: &[ParseError; 48] = &[
+    ParseError::NonAsciiCodePoint,
+    ParseError::AbruptEnd { location: "digit" },
+    ParseError::AbruptEnd { location: "Date" },
+    ParseError::AbruptEnd {
+        location: "AmbiguousAnnotation",
+    },
+    ParseError::AbruptEnd {
+        location: "time-numoffset",
+    },
+    ParseError::AbruptEnd {
+        location: "TimeZoneAnnotation",
+    },
+    ParseError::InvalidEnd,
+    ParseError::InvalidMonthRange,
+    ParseError::InvalidDayRange,
+    ParseError::DateYear,
+    ParseError::DateExtendedYear,
+    ParseError::DateMonth,
+    ParseError::DateDay,
+    ParseError::TimeHour,
+    ParseError::TimeMinuteSecond,
+    ParseError::TimeSecond,
+    ParseError::FractionPart,
+    ParseError::DateSeparator,
+    ParseError::TimeSeparator,
+    ParseError::AnnotationClose,
+    ParseError::AnnotationKeyValueSeparator,
+    ParseError::AnnotationKeyLeadingChar,
+    ParseError::AnnotationKeyChar,
+    ParseError::AnnotationValueCharPostHyphen,
+    ParseError::AnnotationValueChar,
+    ParseError::InvalidMinutePrecisionOffset,
+    ParseError::CriticalDuplicateCalendar,
+    ParseError::UnrecognizedCritical,
+    ParseError::TzLeadingChar,
+    ParseError::IanaCharPostSeparator,
+    ParseError::IanaChar,
+    ParseError::UtcTimeSeparator,
+    ParseError::OffsetNeedsSign,
+    ParseError::AbruptEnd {
+        location: "MonthDay",
+    },
+    ParseError::MonthDayHyphen,
+    ParseError::InvalidMonthDay,
+    ParseError::AmbiguousTimeMonthDay,
+    ParseError::AmbiguousTimeYearMonth,
+    ParseError::AbruptEnd {
+        location: "DurationStart",
+    },
+    ParseError::AbruptEnd {
+        location: "DurationDesignator",
+    },
+    ParseError::AbruptEnd {
+        location: "Duration",
+    },
+    ParseError::AbruptEnd {
+        location: "DateDurationDesignator",
+    },
+    ParseError::AbruptEnd {
+        location: "TimeDurationDesignator",
+    },
+    ParseError::DurationDisgnator,
+    ParseError::DurationValueExceededRange,
+    ParseError::DateDurationPartOrder,
+    ParseError::TimeDurationPartOrder,
+    ParseError::TimeDurationDesignator,
+];
 
 const _: () = assert!(size_of::<Stop>() == 1);
 
@@ -136,9 +157,8 @@ pub trait FromStop {
 }
 
 impl FromStop for LocatedError {
-    /// The error of the stop. It is not inlined, so that a loop over a name stays small.
-    #[cold]
-    #[inline(never)]
+    /// The error of the stop, with its place.
+    #[inline(always)]
     fn of_stop(stop: Stop, at: usize) -> LocatedError {
         LocatedError {
             error: stop.error(),
@@ -151,13 +171,14 @@ impl FromStop for ParseError {
     /// The error of the stop, whatever stands before it.
     #[inline(always)]
     fn of_stop(stop: Stop, _at: usize) -> ParseError {
-        plain_error(stop)
+        stop.error()
     }
 }
 
-/// The error of the stop. It is not inlined, so that a loop over a name stays small.
+/// The error of a stop, whose place is behind `at` code units. It is not inlined, so that a loop over a name stays small. It
+/// is generic, so that a compiler sees its body where it is called, and leaves the call out where the error is not used.
 #[cold]
 #[inline(never)]
-fn plain_error(stop: Stop) -> ParseError {
-    stop.error()
+pub fn error_of_stop<E: FromStop>(stop: Stop, at: usize) -> E {
+    E::of_stop(stop, at)
 }

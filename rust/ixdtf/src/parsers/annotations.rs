@@ -31,6 +31,7 @@ pub fn parse_annotation_key<'a, T: EncodingType>(
     cursor: &mut Cursor<'a, T>,
 ) -> Result<&'a [T::CodeUnit], Stop> {
     let start = cursor.rest();
+    cursor.advance();
     let passed = pass_letters(cursor, KeyLetters)?;
     // It always is there: with this test a compiler sees it too, and keeps no panic.
     let Some(key) = start.get(..start.len() - cursor.rest().len()) else {

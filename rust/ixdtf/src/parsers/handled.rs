@@ -6,6 +6,7 @@ use crate::parsers::{CoreReader, DateTimes, FromStop, IxdtfParser, MonthDays, Ti
 use crate::{LocatedError, ParseError, ParserResult};
 use crate::encoding::EncodingType;
 use crate::records::{Annotation, IxdtfParseRecord};
+use crate::stop::error_of_stop;
 
 impl<'a, T: EncodingType> IxdtfParser<'a, T> {
     /// Reads as [`parse`](Self::parse) does, and calls the handler on each annotation of a key and a value.
@@ -273,7 +274,7 @@ impl<'a, T: EncodingType> IxdtfParser<'a, T> {
         let mut found = IxdtfParseRecord::default();
         match self.read_into::<C, F>(&mut handler, &mut found) {
             Ok(()) => Ok(found),
-            Err(why) => return Err(E::of_stop(why.stop, why.at)),
+            Err(why) => return Err(error_of_stop(why.stop, why.at)),
         }
     }
 
@@ -298,7 +299,7 @@ impl<'a, T: EncodingType> IxdtfParser<'a, T> {
         let mut found = IxdtfParseRecord::default();
         match self.read_into::<C, F>(handler, &mut found) {
             Ok(()) => Ok(found),
-            Err(refused) => return Err(E::of_stop(refused.stop, refused.at)),
+            Err(refused) => return Err(error_of_stop(refused.stop, refused.at)),
         }
     }
 }

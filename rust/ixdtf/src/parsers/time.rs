@@ -114,39 +114,12 @@ pub fn parse_clock<'a, T: EncodingType>(
             cursor.advance();
             parse_minute(cursor, clock, true, hour, time)
         }
-        Some(byte) if byte.is_ascii_digit() => parse_basic_minute(cursor, clock, hour, time),
+        Some(byte) if byte.is_ascii_digit() => parse_minute(cursor, clock, false, hour, time),
         _ => {
             write_time(time, hour, 0, 0, None);
             Ok(TimeShape::Hours)
         }
     }
-}
-
-/// Reads the minute right after an hour, and what of the time stands after it, by a cursor of its own.
-#[inline(always)]
-fn parse_basic_minute<'a, T: EncodingType>(
-    cursor: &mut Cursor<'a, T>,
-    clock: Clock,
-    hour: u8,
-    time: &mut TimeRecord,
-) -> Result<TimeShape, Stop> {
-    let mut here = cursor.fork();
-    let mut there = *time;
-    let read = parse_basic_rest(&mut here, clock, hour, &mut there);
-    *cursor = here;
-    *time = there;
-    read
-}
-
-/// Reads the minute right after an hour, and what of the time stands after it. It is not inlined: few texts have no colons.
-#[inline(never)]
-fn parse_basic_rest<'a, T: EncodingType>(
-    cursor: &mut Cursor<'a, T>,
-    clock: Clock,
-    hour: u8,
-    time: &mut TimeRecord,
-) -> Result<TimeShape, Stop> {
-    parse_minute(cursor, clock, false, hour, time)
 }
 
 /// Reads the minute, where its colon is taken off if colons are written, and what of the time stands after it. A colon and

@@ -179,8 +179,15 @@ impl<'a, T: EncodingType> TimeZoneParser<'a, T> {
     /// - `NonAsciiCodePoint` at a 16-bit code unit that is not from 1 to 126.
     pub fn parse_iana_identifier(&mut self) -> ParserResult<&'a [T::CodeUnit]> {
         let mut here = self.cursor.fork();
-        let read = parse_iana_identifier_text(&mut here);
-        self.cursor.settle(here, read)
+        match parse_iana_identifier_text(&mut here) {
+            Ok(name) => {
+                self.cursor = here;
+                Ok(name)
+            }
+            Err(stop) => {
+                Err(stop.error())
+            }
+        }
     }
 
     /// Reads as [`parse_offset`](Self::parse_offset) does, and returns an error with its place: the number of code units

@@ -23,7 +23,7 @@ returns-in-Some-next-clause-key g c =
     let front = front_is g.T.EncodingType.number c.rest-start.result.now c.rest.result.now (behind.0 ∷ passed.0) c.pass_letters.new.cursor.rest _
     c.rest-start.ensures (behind.1 ∙ ap (λ t. behind.0 ∷ t) passed.1) c.rest.ensures in
     rw (c.in-Some.ensures.lookup.0.2, range_is c.rest-start.result.now _, front, c.advance-in-Some-next.ensures.letters)
-      (behind.2 ∙ ap (with_letter behind.0) (key_closed _ _ _ _ passed.2 _ c.in-Some-next.is closes))
+    (behind.2 ∙ ap (with_letter behind.0) (key_closed _ _ _ _ passed.2 _ c.in-Some-next.is closes))
 
 pub returns-in-Some-2-clause-key : goal.returns-in-Some-2-clause-key
 returns-in-Some-2-clause-key g c =
