@@ -89,7 +89,7 @@ module _ {E : Type 0} (fault : Row → E) (profile : Profile) where
   pub letter_stops : (s : State) (c : ℕ) {rest : Text} {row : Row} → Goes (duration_line profile (line_of_state s)) c → step fault profile rest s c ≡ Err (fault row)
       → Stays s (Plain c ∷ []) rest row
   unfolding run
-  letter_stops s c h is = record { halts = by_look _ _ c _ _ h ∙ rw is refl }
+  letter_stops s c h is = record { reads_to = by_look _ _ c _ _ h ∙ rw is refl }
 
   -- ---- the row of a state's line
 

@@ -15,7 +15,7 @@ use Rattle.ixdtf_grammar.specs.table.{Lines.{duration_line, table}, Before.Befor
 use Rattle.ixdtf_reading.specs.reading.{Looks.row_of, Durations.{State, line_of_state, add, integer_group, fraction_group, value_past, unit_past}}
 use Rattle.ixdtf_reading.specs.reading.Durations.{out_of_order, in_its_order, add_group, end_group, step, run, duration_at}
 use Rattle.ixdtf_reading.specs.reading.Durations.State.{started, signed, between, in_number, at_mark, in_fraction, ended}
-use Rattle.ixdtf_reading.proofs.parts.{Looks.{RowsRead, ◌before◌, ◌till◌, Goes}, DurationRuns.{AllDigits, all_digits, some_all, digits_snoc, below_front}}
+use Rattle.ixdtf_reading.proofs.parts.{Looks.{RowsRead, ◌before◌, ◌upto◌, Goes}, DurationRuns.{AllDigits, all_digits, some_all, digits_snoc, below_front}}
 use Rattle.ixdtf_reading.proofs.parts.DurationRuns.{Asks, Over, Stays, stays, one_letter, letter_stops, run_stops}
 
 -- ---- code units
@@ -241,7 +241,7 @@ module _ {E : Type 0} (fault : Row → E) (profile : Profile) where
       letter_stops fault profile (between context) c (between_goes profile context c all.0) (rw (all.0, lt-leb _ greatest_value past))
   value_stops context (Plain d ∷ ds) c rest all below past =
       let parts = digits_snoc (Plain d ∷ ds) c all in
-      over_all context d ds parts.0 (le-leb _ greatest_value below) till letter_stops fault profile (in_number context (Plain d ∷ ds)) c
+      over_all context d ds parts.0 (le-leb _ greatest_value below) upto letter_stops fault profile (in_number context (Plain d ∷ ds)) c
       (or_left _ _ (or_left _ _ parts.1)) (rw (parts.1, lt-leb _ greatest_value past))
   value_stops context (Bad ∷ ds) c rest all below past = absurd all
 
@@ -250,7 +250,7 @@ module _ {E : Type 0} (fault : Row → E) (profile : Profile) where
   unfolding step
   integer_stops context text rest g row h refused =
       rw h.is (over_number context h.ds g.value h.number
-      till letter_stops fault profile (in_number context h.ds) h.c (or_left _ _ (or_right _ _ h.ends))
+      upto letter_stops fault profile (in_number context h.ds) h.c (or_left _ _ (or_right _ _ h.ends))
       (rw (designator_no_digit (half_of context) h.c h.ends, h.ends) (refused _ (same_group h))))
 
   fraction_stops : (s : Sign) (dates times : List Group) (text rest : Text) (g : Group) → FractionGroup text g → IsFalse (in_order profile times g.unit)
@@ -259,9 +259,9 @@ module _ {E : Type 0} (fault : Row → E) (profile : Profile) where
   fraction_stops s dates times text rest g h order =
       let f = h.is_fraction in
       rw (h.is, f.is) (over_number (in_times s dates times) h.ds g.value h.number
-      till over_mark s dates times h.ds f.mark f.marks
-      till over_fraction s dates times h.ds f.ds f.some
-      till letter_stops fault profile (in_fraction s dates times h.ds f.ds) h.c (or_right _ _ h.ends)
+      upto over_mark s dates times h.ds f.mark f.marks
+      upto over_fraction s dates times h.ds f.ds f.some
+      upto letter_stops fault profile (in_fraction s dates times h.ds f.ds) h.c (or_right _ _ h.ends)
       (rw (designator_no_digit time h.c h.ends) (misplaced rest (in_times s dates times) _ g _ (same_fraction_group h) order)))
 
   order_stops : (half : Half) (context : Context) (text rest : Text) → half_of context ≡ half → OutOfOrder profile half context text
@@ -281,10 +281,10 @@ module _ {E : Type 0} (fault : Row → E) (profile : Profile) where
   line_rows : (name : DurationLine) → RowsRead fault false (duration_at fault profile) (of_duration profile name)
   line_rows (group_value_range half) (anywhere left) e front rest f at =
       let past = f.6 in
-      rw (f.4, at.0, at.1, ← f.3, past.2) ((over_context f.1 f.0 f.5 till value_stops f.0 past.0 past.1 rest (rw past.2 at (some_all f.2 past.3)) past.4
-      (rw past.2 at past.5)).halts)
-  line_rows (unit_order half) (anywhere left) e front rest f at = rw (f.4, at.0, at.1) ((over_context f.1 f.0 f.5 till order_stops half f.0 f.2 rest f.3 f.6).halts)
-  line_rows date_unit_range (anywhere left) e front rest f at = rw (f.4, at.0, at.1) ((over_context f.1 f.0 f.5 till unit_stops f.0 f.2 rest f.3 f.6).halts)
+      rw (f.4, at.0, at.1, ← f.3, past.2) ((over_context f.1 f.0 f.5 upto value_stops f.0 past.0 past.1 rest (rw past.2 at (some_all f.2 past.3)) past.4
+      (rw past.2 at past.5)).reads_to)
+  line_rows (unit_order half) (anywhere left) e front rest f at = rw (f.4, at.0, at.1) ((over_context f.1 f.0 f.5 upto order_stops half f.0 f.2 rest f.3 f.6).reads_to)
+  line_rows date_unit_range (anywhere left) e front rest f at = rw (f.4, at.0, at.1) ((over_context f.1 f.0 f.5 upto unit_stops f.0 f.2 rest f.3 f.6).reads_to)
   line_rows (group_value_range half) place e front rest f at = absurd at
   line_rows (unit_order half) place e front rest f at = absurd at
   line_rows date_unit_range place e front rest f at = absurd at

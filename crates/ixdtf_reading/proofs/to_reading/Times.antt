@@ -12,7 +12,7 @@ use Rattle.ixdtf_grammar.specs.table.Rows.{Row, Place, Stops, front_of, Place.{e
 use Rattle.ixdtf_reading.specs.reading.{Looks.{Read, ◌>>=◌, row_of, look_at, in_range, number_by}, Times.{OpenTime, time_of, line_after, bad_after}}
 use Rattle.ixdtf_reading.specs.reading.Times.{mixed_after, hour_past, minute_past, second_past, minutes_shape, second_start, number_at, fraction_at}
 use Rattle.ixdtf_reading.specs.reading.Times.{after_second_at, second_at, after_minute_at, minute_at, after_hour_at, hour_from}
-use Rattle.ixdtf_reading.proofs.parts.Looks.{ReadsOver, ◌before◌, ReadsTo, ◌upto◌, Halts, ◌till◌, RowsRead, whole_row, LooksForDigit, goes, stops, digits_go}
+use Rattle.ixdtf_reading.proofs.parts.Looks.{ReadsOver, ◌before◌, ReadsTo, ◌upto◌, Halts, RowsRead, whole_row, LooksFor, goes, stops, digits_go}
 use Rattle.ixdtf_reading.proofs.parts.Looks.{digits_stop, one_as_digits, NotNext, run_takes, run_bad}
 
 digit_no_colon : (c : ℕ) → IsTrue (digit c) → IsFalse (colon c)
@@ -26,7 +26,7 @@ range_refused : {E : Type 0} (greatest : ℕ) (e : Text → E) (ds rest : Text) 
 unfolding in_range
 range_refused greatest e ds rest h = rw (lt-leb (decimal ds) greatest h)
 
-module _ {E : Type 0} (fault : Row → E) (name : LineName) (asks : LooksForDigit (line_of true name)) (greatest : ℕ) (past : Text → Row) where
+module _ {E : Type 0} (fault : Row → E) (name : LineName) (asks : LooksFor digit (line_of true name)) (greatest : ℕ) (past : Text → Row) where
   number_goes : (ds rest : Text) (n : ℕ) → UpTo greatest ds n → number_at fault name greatest past (ds ++ rest) ≡ Ok (n, rest)
   unfolding number_by
   number_goes ds rest n u = rw (digits_go fault name asks 2 ds rest u.0, range_fits greatest n (λ left. fault (past left)) ds rest u)
@@ -50,7 +50,7 @@ module _ {E A : Type 0}
   reads_over_as n ds d from = record { over = λ rest. same_over n ds rest d ∙ from.over rest }
 
   halts_as : {rest : Text} {e : E} (n : ℕ) (ds : Text) → digits (suc n) ds → Halts stage ds rest e → Halts start ds rest e
-  halts_as n ds d from = record { halts = same_over n ds _ d ∙ from.halts }
+  halts_as n ds d from = record { reads_to = same_over n ds _ d ∙ from.reads_to }
 
 -- the parts of a time that are absent are 0 or None
 same_time : (t : TimeRecord) (h m s : ℕ) (f : Option FractionParts) → h ≡ t.hour → m ≡ t.minute → s ≡ t.second → f ≡ t.fraction → time_of h m s f ≡ t
@@ -234,31 +234,31 @@ module _ {E : Type 0} (fault : Row → E) (clock : Clock)
         → Halts (minute_at fault clock colons h) ds rest (fault (row_of (of_clock clock minute_digits) place e))
     unfolding minute_at
     minute_stops colons h k ds rest place e less d at =
-        record { halts = rw (number_stops fault (of_clock clock minute_digits) (λ c. refl) 59 (minute_past clock) k ds rest place e less d at) refl }
+        record { reads_to = rw (number_stops fault (of_clock clock minute_digits) (λ c. refl) 59 (minute_past clock) k ds rest place e less d at) refl }
 
     pub minute_digits_row : RowsRead fault brackets start (of_clock clock minute_digits)
-    minute_digits_row place e front rest f at = rw f.2 ((at_place f.4).halts)
+    minute_digits_row place e front rest f at = rw f.2 ((at_place f.4).reads_to)
       where
         at_place : ColonOrDigit f.1 → Halts start (f.0 ++ f.1) rest (fault (row_of (of_clock clock minute_digits) place e))
-        at_place (inl h) = over_hour _ _ f.3.1 till rw (← append-nil f.1) (over_colon _ _ h till minute_stops true _ 0 [] rest place e (omega arith) refl at)
+        at_place (inl h) = over_hour _ _ f.3.1 upto rw (← append-nil f.1) (over_colon _ _ h upto minute_stops true _ 0 [] rest place e (omega arith) refl at)
         at_place (inr (inl h)) =
-            rw h.2 (over_hour _ _ f.3.1 till over_colon _ _ h.3 till minute_stops true _ 1 h.1 rest place e (omega arith) (one_as_digits _ h.4) at)
+            rw h.2 (over_hour _ _ f.3.1 upto over_colon _ _ h.3 upto minute_stops true _ 1 h.1 rest place e (omega arith) (one_as_digits _ h.4) at)
         at_place (inr (inr h)) =
             let d = one_as_digits _ h in
-            over_hour _ _ f.3.1 till halts_as _ _ (at_minute_digit _) 0 f.1 d (minute_stops false _ 1 f.1 rest place e (omega arith) d at)
+            over_hour _ _ f.3.1 upto halts_as _ _ (at_minute_digit _) 0 f.1 d (minute_stops false _ 1 f.1 rest place e (omega arith) d at)
 
     minute_too_great : (colons : Bool) (h : ℕ) (ds rest : Text) → Past 59 ds → Halts (minute_at fault clock colons h) ds rest (fault (minute_past clock rest))
     unfolding minute_at
     minute_too_great colons h ds rest p =
-        record { halts = rw (number_too_great fault (of_clock clock minute_digits) (λ c. refl) 59 (minute_past clock) ds rest p) refl }
+        record { reads_to = rw (number_too_great fault (of_clock clock minute_digits) (λ c. refl) 59 (minute_past clock) ds rest p) refl }
 
     pub minute_range_row : RowsRead fault brackets start (of_clock clock minute_range)
-    minute_range_row = whole_row fault brackets start (of_clock clock minute_range) tt λ e front rest f at. rw (f.2, f.4.2, at.0) ((at_place f f.4.3).halts)
+    minute_range_row = whole_row fault brackets start (of_clock clock minute_range) tt λ e front rest f at. rw (f.2, f.4.2, at.0) ((at_place f f.4.3).reads_to)
       where
         at_place : {front rest : Text} (f : front_of (line_of brackets (of_clock clock minute_range)) front) → ((f.4.0 ≡ []) ⊎ one colon f.4.0)
             → Halts start (f.0 ++ (f.4.0 ++ f.4.1)) rest (fault (minute_past clock rest))
-        at_place f (inl h) = rw h (over_hour _ _ f.3.1 till halts_as _ _ (at_minute_digit _) 1 _ f.4.4.0 (minute_too_great false _ _ _ f.4.4))
-        at_place f (inr h) = over_hour _ _ f.3.1 till over_colon _ _ h till minute_too_great true _ _ _ f.4.4
+        at_place f (inl h) = rw h (over_hour _ _ f.3.1 upto halts_as _ _ (at_minute_digit _) 1 _ f.4.4.0 (minute_too_great false _ _ _ f.4.4))
+        at_place f (inr h) = over_hour _ _ f.3.1 upto over_colon _ _ h upto minute_too_great true _ _ _ f.4.4
 
     second_stops : (h m k : ℕ) (ds rest : Text) (place : Place) (e : Fault) → k < 2 → digits k ds
         → Stops (line_of brackets (of_clock clock second_digits)) place e rest
@@ -266,30 +266,30 @@ module _ {E : Type 0} (fault : Row → E) (clock : Clock)
     unfolding second_at
     second_stops h m k ds rest place e less d at =
         let stops_at = number_stops fault (of_clock clock second_digits) (λ c. refl) (greatest_second clock) (second_past clock) k ds rest place e less d at in
-        record { halts = rw stops_at refl }
+        record { reads_to = rw stops_at refl }
 
     pub second_digits_row : RowsRead fault brackets start (of_clock clock second_digits)
     second_digits_row place e front rest (may, inl f) at =
         let d = one_as_digits _ f.4 in
         rw f.2 ((over_minutes false f.0 f.3.0 f.3.1
-        till halts_as _ _ (at_second_digit _ _ may) 0 f.1 d (second_stops _ _ 1 f.1 rest place e (omega arith) d at)).halts)
+        upto halts_as _ _ (at_second_digit _ _ may) 0 f.1 d (second_stops _ _ 1 f.1 rest place e (omega arith) d at)).reads_to)
     second_digits_row place e front rest (may, inr f) at =
-        rw (f.2, f.4.2) ((over_minutes true f.0 f.3.0 f.3.1 till over_second_colon _ _ _ may f.4.3
-        till second_stops _ _ f.4.4.0 _ rest place e f.4.4.1 f.4.4.2 at).halts)
+        rw (f.2, f.4.2) ((over_minutes true f.0 f.3.0 f.3.1 upto over_second_colon _ _ _ may f.4.3
+        upto second_stops _ _ f.4.4.0 _ rest place e f.4.4.1 f.4.4.2 at).reads_to)
 
     second_too_great : (h m : ℕ) (ds rest : Text) → Past (greatest_second clock) ds → Halts (second_at fault clock h m) ds rest (fault (second_past clock rest))
     unfolding second_at
     second_too_great h m ds rest p =
-        record { halts = rw (number_too_great fault (of_clock clock second_digits) (λ c. refl) (greatest_second clock) (second_past clock) ds rest p) refl }
+        record { reads_to = rw (number_too_great fault (of_clock clock second_digits) (λ c. refl) (greatest_second clock) (second_past clock) ds rest p) refl }
 
     pub second_range_row : RowsRead fault brackets start (of_clock clock second_range)
-    second_range_row = whole_row fault brackets start (of_clock clock second_range) tt λ e front rest f at. rw at.0 ((at_place front rest f).halts)
+    second_range_row = whole_row fault brackets start (of_clock clock second_range) tt λ e front rest f at. rw at.0 ((at_place front rest f).reads_to)
       where
         at_place : (front rest : Text) → front_of (line_of brackets (of_clock clock second_range)) front → Halts start front rest (fault (second_past clock rest))
         at_place front rest (may, inl f) =
-            rw f.2 (over_minutes false f.0 f.3.0 f.3.1 till halts_as _ _ (at_second_digit _ _ may) 1 _ f.4.0 (second_too_great _ _ _ _ f.4))
+            rw f.2 (over_minutes false f.0 f.3.0 f.3.1 upto halts_as _ _ (at_second_digit _ _ may) 1 _ f.4.0 (second_too_great _ _ _ _ f.4))
         at_place front rest (may, inr f) =
-            rw (f.2, f.4.2) (over_minutes true f.0 f.3.0 f.3.1 till over_second_colon _ _ _ may f.4.3 till second_too_great _ _ _ _ f.4.4)
+            rw (f.2, f.4.2) (over_minutes true f.0 f.3.0 f.3.1 upto over_second_colon _ _ _ may f.4.3 upto second_too_great _ _ _ _ f.4.4)
 
     pub fraction_start_row : RowsRead fault brackets start (of_clock clock fraction_start)
     unfolding fraction_at fraction_stage
@@ -304,7 +304,7 @@ module _ {E : Type 0} (fault : Row → E) (clock : Clock)
   unfolding fraction_at fraction_stage
   fraction_bad h m s d more rest n is ds =
       let start_goes = goes fault (of_clock clock fraction_start) d (more ++ (Bad ∷ rest)) tt is in
-      record { halts = rw (start_goes, run_bad (bad_after fault clock fractions) n more rest ds) refl }
+      record { reads_to = rw (start_goes, run_bad (bad_after fault clock fractions) n more rest ds) refl }
 
   -- at Bad
   time_bad : (shape : TimeShape) (text : Text) (t : TimeRecord) (rest : Text) → ClockOf clock shape text t
@@ -317,8 +317,8 @@ module _ {E : Type 0} (fault : Row → E) (clock : Clock)
   time_bad fractions text t rest x =
       let part = x.is_fraction in
       let ds = part.some.1 in
-      rw (x.is, part.is, ds.2) ((over_seconds x.whole _ x.second till over_mark _ _ _ (Plain part.mark ∷ []) (part.mark, refl, part.marks)
-      till fraction_bad _ _ _ ds.0 ds.1 rest part.some.0 ds.3 ds.4).halts)
+      rw (x.is, part.is, ds.2) ((over_seconds x.whole _ x.second upto over_mark _ _ _ (Plain part.mark ∷ []) (part.mark, refl, part.marks)
+      upto fraction_bad _ _ _ ds.0 ds.1 rest part.some.0 ds.3 ds.4).reads_to)
 
   -- at a colon or a digit that does not go on
   minute_mixed : (colons : Bool) (text : Text) (t : TimeRecord) (c : ℕ) (rest : Text) → ClockOf clock (minutes_shape colons) text t
