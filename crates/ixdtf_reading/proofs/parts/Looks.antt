@@ -198,7 +198,7 @@ module _ {E : Type 0} (fault : Row → E) (name : LineName) (front : Shape) (goe
   unfolding next_by look_at
   letter_goes c rest h = rw h refl
 
-  letter_stops : (place : Place) (d : Fault) (rest : Text) → Stops here place d rest
+  pub letter_stops : (place : Place) (d : Fault) (rest : Text) → Stops here place d rest
       → next_by (look_of fault name here) rest ≡ Err (fault (row_of name place d))
   unfolding next_by look_at
   letter_stops = row_here fault name (next_by (look_of fault name here)) here (refl, (λ rest. refl), λ c rest h. rw h refl)

@@ -2,7 +2,7 @@
 use Rattle.std.proofs.Common.{◌≡◌, ℕ, zero, suc, ◌<◌, ◌⊎◌, Bool, true, false, IsTrue, IsFalse, [], ◌∷◌, ◌++◌, Ok, Err, refl, sym, ◌∙◌, inl, inr, arith, append_assoc}
 use Rattle.std.proofs.{Common.if◌then◌else◌, lemmas.Bool.{both_ways, eqb-true, Decides.nat_tests}}
 use Rattle.ixdtf_grammar.specs.{language.{Letters.{Text, ◌or◌, digit, hyphen, Letter.Plain}, Shapes.{one, digits}, Months.OptionalHyphen}, table.Faults.Fault}
-use Rattle.ixdtf_grammar.specs.table.{LineNames.LineName, Lines.{Line, line_of, Line.{line, scanned, whole}, Ending.{ok, error}}, Rows.{Row, Place, Stops}}
+use Rattle.ixdtf_grammar.specs.table.{LineNames.LineName, Lines.{Line, line_of, Line.{line}, Ending.{error}}, Rows.{Row, Place, Stops}}
 use Rattle.ixdtf_grammar.specs.table.Rows.Place.{end, other, bad, anywhere}
 use Rattle.ixdtf_reading.specs.reading.Looks.{Read, ◌>>=◌, row_of, mark_by, mark_at, letter_at, digits_at}
 use Rattle.ixdtf_reading.proofs.parts.Looks.{OnRead, Looks, Goes, LooksFor, goes_with, went_with, looks_for, StopsHere, DigitsStop, then_read, read_weaker, goes, stops, read_letter}

@@ -6,18 +6,18 @@ use Rattle.ixdtf_grammar.specs.language.Letters.{Text, ◌or◌, none, sign, sla
 use Rattle.ixdtf_grammar.specs.language.{Offsets.{IsSigned, IsOffset, IsMinuteOffset, offset_of, minutes_of}, ZoneNames.{Zone, ZoneName, IsZone, IsZoneName}}
 use Rattle.ixdtf_grammar.specs.language.{ZoneNames.Zone.Offset, Brackets.Pair, Readers.{Reader, has_brackets}}
 use Rattle.ixdtf_grammar.specs.{language.Readers.Reader.{parse_offset, parse_identifier, parse_iana_identifier}, declared.records.TimeRecord.TimeRecord}
-use Rattle.ixdtf_grammar.specs.{declared.records.{MinutePrecisionOffset.MinutePrecisionOffset, UtcOffsetRecord.UtcOffsetRecord}, table.Faults.Fault}
+use Rattle.ixdtf_grammar.specs.{language.Shapes.nothing, declared.records.{MinutePrecisionOffset.MinutePrecisionOffset, UtcOffsetRecord.UtcOffsetRecord}, table.Faults.{Fault, Fault.InvalidEnd}}
 use Rattle.ixdtf_grammar.specs.table.LineNames.{LineName, LineName.{of_clock, of_offset, of_zone}, OffsetLine.offset_start}
 use Rattle.ixdtf_grammar.specs.table.LineNames.ZoneLine.{identifier_start, zone_name_start, in_zone_name, after_zone_slash}
-use Rattle.ixdtf_grammar.specs.table.{Lines.{table, line_of, follow_of}, Before.Before, Rows.{Row, Place, Stops, Fits, front_of}}
-use Rattle.ixdtf_grammar.specs.table.Rows.Place.{end, other, bad, anywhere}
+use Rattle.ixdtf_grammar.specs.table.{Lines.{table, line_of, always, zone_other}, Before.Before, Rows.{Row, Place, Stops, Fits, front_of}}
+use Rattle.ixdtf_grammar.specs.table.Rows.Place.{other}
 use Rattle.ixdtf_grammar.proofs.parts.Texts.{signed_text}
 use Rattle.ixdtf_reading.specs.reading.{Looks.{Read, ◌>>=◌, row_of, letter_at, peek_by}, Times.{OpenTime, line_after, clock_at}, Zones.follow_look}
-use Rattle.ixdtf_reading.specs.reading.Zones.{name_run, name_look, name_alone_at, iana_identifier_at, signed_alone_at, offset_alone_at, offset_at}
+use Rattle.ixdtf_reading.specs.reading.Zones.{name_run, name_alone_at, iana_identifier_at, signed_alone_at, offset_alone_at, offset_at}
 use Rattle.ixdtf_reading.specs.reading.Zones.{minute_offset_alone_at, as_zone, identifier_at}
-use Rattle.ixdtf_reading.proofs.parts.Looks.{lift, OnRead, then_read, read_weaker, read_if, FitsIn, goes, stops, read_letter, Peeked, peek_end, peek_other}
-use Rattle.ixdtf_reading.proofs.{parts.Looks.{peek_read, NotNext}, to_reading.ZoneNames.{StopsName, name_takes, name_row, slash_row}}
-use Rattle.ixdtf_reading.proofs.to_reading.{Times.{closed_at_end, Closed, StopsAfter}, ClockRows.{over_clock, clock_rows, peek_stops_after}}
+use Rattle.ixdtf_reading.proofs.parts.Looks.{lift, OnRead, then_read, read_weaker, read_if, FitsIn, goes, stops, read_letter, Peeked, peek_end, peek_stops}
+use Rattle.ixdtf_reading.proofs.{parts.Looks.{peek_read, NotNext}, to_reading.ZoneNames.{behind_name, name_takes, name_row, slash_row}}
+use Rattle.ixdtf_reading.proofs.to_reading.{Times.{closed_at_end, stops_behind}, ClockRows.{Refuses, over_clock, clock_rows}}
 use Rattle.ixdtf_reading.proofs.to_grammar.{ZoneNames.{NameFront, name_read, name_stops_here, name_lines}, Times.{TimeFront, clock_read, clock_peek_read}}
 
 -- what a name begins with is no sign
@@ -76,9 +76,9 @@ module _ {E : Type 0} (fault : Row → E) where
         ∙ rw (peek_end (follow_look fault false clock (h.shape, h.time))) refl)
 
     -- the row after a whole time
-    signed_refuses : (c : ℕ) (shape : TimeShape) (t : TimeRecord) (place : Place) (e : Fault) (rest : Text) → Closed clock shape rest
-        → StopsAfter (follow_of false clock) place e rest → signed_after c ((shape, t), rest) ≡ Err (fault (row_of (line_after clock shape) place e))
-    signed_refuses c shape t place e rest closed at = rw (peek_stops_after fault false clock (shape, t) place e rest refl at) refl
+    signed_refuses : (c : ℕ) → Refuses fault false clock (signed_after c)
+    signed_refuses c shape t place e rest at =
+        rw (peek_stops fault (line_after clock shape) nothing none (always InvalidEnd) place e rest (stops_behind _ place e rest at)) refl
 
     signed_alone_read : (c : ℕ) (body : Text) → IsTrue (sign c)
         → OnRead fault (signed_alone_at fault clock record_of c body) (λ found rest. (rest ≡ []) × IsSigned clock record_of (Plain c ∷ body) found)
@@ -128,10 +128,6 @@ module _ {E : Type 0} (fault : Row → E) where
 
   -- ---- names
 
-  -- a name, and what comes after it left out
-  abbrev name_after : List ℕ → Option ℕ × Text → Read E (List ℕ)
-  name_after name next = Ok (name, next.1)
-
   alone_takes : (text : Text) (name : List ℕ) → IsZoneName text name → name_alone_at fault text ≡ Ok (name, [])
   unfolding name_alone_at
   alone_takes text name h = rw (← append-nil text, name_takes fault text name [] h.0 h.1 (tt, tt), peek_end _) refl
@@ -142,18 +138,11 @@ module _ {E : Type 0} (fault : Row → E) where
   unfolding name_alone_at
   alone_row place e front rest f at = by_row (name_row fault false place e front rest f at)
     where
-      after : (place : Place) (name : List ℕ) → StopsName false place e rest
-          → (peek_by (name_look fault false none) rest >>= name_after name) ≡ Err (fault (row_of (of_zone in_zone_name) place e))
-      after (end left) name g = absurd (grind (arith, g.1))
-      after (other left) name g = rw (g.5, g.2, g.4, peek_other (name_look fault false none) g.0 g.1 refl) refl
-      after (bad left) name g = absurd g
-      after (anywhere left) name g = absurd g
-
       by_row : (name_run fault true (front ++ rest) ≡ Err (fault (row_of (of_zone in_zone_name) place e)))
-          ⊎ ((name : List ℕ) × (name_run fault true (front ++ rest) ≡ Ok (name, rest)) × StopsName false place e rest)
+          ⊎ ((name : List ℕ) × (name_run fault true (front ++ rest) ≡ Ok (name, rest)) × Stops (behind_name false) place e rest)
           → name_alone_at fault (front ++ rest) ≡ Err (fault (row_of (of_zone in_zone_name) place e))
       by_row (inl h) = rw h refl
-      by_row (inr h) = rw h.1 (after place h.0 h.2)
+      by_row (inr h) = rw (h.1, peek_stops fault (of_zone in_zone_name) nothing none (zone_other false) place e rest h.2) refl
 
   alone_slash_row : (place : Place) (e : Fault) (front rest : Text) → front_of (line_of false (of_zone after_zone_slash)) front
       → Stops (line_of false (of_zone after_zone_slash)) place e rest

@@ -94,12 +94,12 @@ module _ {E : Type 0} (fault : Row → E) where
 
     time_refuses : Refuses fault true Clock.Time after_time
     unfolding after_time_at look_at
-    time_refuses shape t (other left) e rest closed s =
+    time_refuses shape t (other left) e rest s =
         let parts = or_parts (sign s.0 || zulu s.0) (opening s.0) s.3 in
         let first = or_parts (sign s.0) (zulu s.0) parts.0 in
         rw (s.5, s.2, s.4, first.0, first.1) (end_other (line_after Clock.Time shape) (core_of date (Some t) None) s.0 s.1 parts.1)
-    time_refuses shape t (end left) e rest closed s = absurd (grind (arith, s.1))
-    time_refuses shape t place e rest closed s = absurd s
+    time_refuses shape t (end left) e rest s = absurd (grind (arith, s.1))
+    time_refuses shape t place e rest s = absurd s
 
     -- after an offset
     abbrev after_offset : TimeRecord → ℕ → OpenTime × Text → Read E ClosedCore
@@ -107,9 +107,9 @@ module _ {E : Type 0} (fault : Row → E) where
         core_end_at fault (line_after Clock.Offset offset.0.0) (with_offset date time (offset_of c (writes_seconds offset.0.0) offset.0.1)) offset.1
 
     offset_refuses : (time : TimeRecord) (c : ℕ) → Refuses fault true Clock.Offset (after_offset time c)
-    offset_refuses time c shape t (end left) e rest closed s = absurd (grind (arith, s.1))
-    offset_refuses time c shape t (other left) e rest closed s = rw (s.5, s.2, s.4) (end_other (line_after Clock.Offset shape) _ s.0 s.1 s.3)
-    offset_refuses time c shape t place e rest closed s = absurd s
+    offset_refuses time c shape t (end left) e rest s = absurd (grind (arith, s.1))
+    offset_refuses time c shape t (other left) e rest s = rw (s.5, s.2, s.4) (end_other (line_after Clock.Offset shape) _ s.0 s.1 s.3)
+    offset_refuses time c shape t place e rest s = absurd s
 
     module _ (whole_at : Text → Read E ClosedCore) (prior : Text) (lead : TimeLead fault Clock.Time whole_at after_time prior) where
       -- a time was read

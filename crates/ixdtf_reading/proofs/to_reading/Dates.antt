@@ -1,5 +1,5 @@
 -- For a date its record and the rest are returned, and each row of a date's lines is returned.
-use Rattle.std.proofs.Common.{◌≡◌, ℕ, ◌<◌, ◌⊎◌, Bool, true, false, [], ◌++◌, Ok, Err, refl, sym, ap, ◌∙◌, inl, inr, arith, append_assoc, ℤ, nat_le, ◌&&◌, ◌≤◌}
+use Rattle.std.proofs.Common.{◌≡◌, ℕ, ◌<◌, ◌⊎◌, Bool, true, false, [], ◌++◌, Ok, Err, refl, sym, ap, ◌∙◌, inl, inr, arith, ℤ, nat_le, ◌&&◌, ◌≤◌}
 use Rattle.std.proofs.lemmas.Bool.{and_parts, and_from, leb-true, le-leb, false_from_ne_true, Decides.nat_tests}
 use Rattle.ixdtf_grammar.specs.{declared.records.DateRecord.DateRecord, language.{Letters.{Text, ◌or◌, digit, hyphen}, Shapes.digits, Digits.{decimal, TwoDigits}, Months.OptionalHyphen}}
 use Rattle.ixdtf_grammar.specs.{language.{Dates.{Year, Month, DateText, IsDayOfMonth, IsDate, month_length}, Readers.CoreKind.year_month}, table.Faults.Fault}

@@ -1,5 +1,5 @@
 -- A year-month and a month-day give their record and the rest, and each row of their lines is returned.
-use Rattle.std.proofs.Common.{◌≡◌, ℕ, Bool, true, false, [], ◌∷◌, ◌++◌, Ok, Err, refl, sym, ap, ◌∙◌, subst, inl, inr, append_assoc, ℤ, pos, nat_le}
+use Rattle.std.proofs.Common.{◌≡◌, ℕ, Bool, true, false, [], ◌∷◌, ◌++◌, Ok, Err, refl, sym, ap, ◌∙◌, inl, inr, append_assoc, ℤ, pos, nat_le}
 use Rattle.std.proofs.lemmas.Bool.{and_parts, and_from, leb-true, le-leb, false_from_ne_true}
 use Rattle.ixdtf_grammar.specs.{declared.{profile.Profile.Profile, records.DateRecord.DateRecord}, language.Letters.{Text, digit, hyphen, Letter.Plain}}
 use Rattle.ixdtf_grammar.specs.language.{Shapes.{one, some, digits, ◌then◌, ◌either◌}, Digits.{TwoDigits, decimal}, Dates.Month}

@@ -23,7 +23,7 @@ module _ {E : Type 0} (fault : Row → E) where
       rw (b, f, peek_stops fault (of_bracket after_bracket) nothing opening (always InvalidEnd) place e rest at)
   next_row (of_pair l) place e prior front rest b f at =
       let row = later_pair_rows fault l place e prior front rest b f at in
-      rw (row.1, peek_goes (look_at_line fault (of_bracket after_bracket)) 91 row.0 refl, row.2)
+      rw (← append_assoc prior front rest, row.1, peek_goes (look_at_line fault (of_bracket after_bracket)) 91 (row.0 ++ rest) refl, row.2)
   next_row name place e prior front rest b f at = absurd b
 
 module _ {E : Type 0} (fault : List Pair → Row → E) where

@@ -3,11 +3,11 @@ use Rattle.std.proofs.Common.{◌≡◌, ℕ, suc, ◌<◌, ◌⊎◌, Bool, tru
 use Rattle.std.proofs.{Common.{inr, arith, append-nil, nat_le}, lemmas.Bool.{le-leb, lt-leb, or_parts, Decides.nat_tests}}
 use Rattle.ixdtf_grammar.specs.{declared.records.TimeRecord.TimeRecord, language.Times.{Clock, TimeShape, ClockOf, SecondText, greatest_second, has_seconds}}
 use Rattle.ixdtf_grammar.specs.language.Times.TimeShape.{hours, basic_minutes, colon_minutes, seconds, fractions}
-use Rattle.ixdtf_grammar.specs.language.{Letters.{Text, Class, ◌or◌, digit, colon, decimal_mark, Letter.{Plain, Bad}}, Shapes.{Shape, some, digits, one}}
+use Rattle.ixdtf_grammar.specs.language.{Letters.{Text, Class, ◌or◌, digit, colon, decimal_mark, Letter.{Plain, Bad}}, Shapes.{Shape, nothing, some, digits, one}}
 use Rattle.ixdtf_grammar.specs.{language.{Digits.{decimal, UpTo}, Fractions.{FractionParts, fraction_of}}, table.Faults.Fault}
 use Rattle.ixdtf_grammar.specs.table.LineNames.{ClockLine, LineName, LineName.of_clock, ClockLine.{hour_start, hour_digit, hour_range, minute_digits}}
 use Rattle.ixdtf_grammar.specs.table.LineNames.ClockLine.{minute_range, second_digits, second_range, fraction_start}
-use Rattle.ixdtf_grammar.specs.table.Lines.{Follow, line_of, follow_of, seconds_after, after_minute, Past, ColonOrDigit, Line.line, Ending.error}
+use Rattle.ixdtf_grammar.specs.table.Lines.{Follow, line_of, follow_of, always, seconds_after, after_minute, Past, ColonOrDigit, Line.line, Ending.error}
 use Rattle.ixdtf_grammar.specs.table.Rows.{Row, Place, Stops, front_of, Place.{end, other, bad, anywhere}}
 use Rattle.ixdtf_reading.specs.reading.{Looks.{Read, ◌>>=◌, row_of, look_at, in_range, number_by}, Times.{OpenTime, time_of, line_after, bad_after}}
 use Rattle.ixdtf_reading.specs.reading.Times.{mixed_after, hour_past, minute_past, second_past, minutes_shape, second_start, number_at, fraction_at}
@@ -84,6 +84,13 @@ StopsAfter follow (other left) e rest =
     (c : ℕ) × (more : Text) × (rest ≡ Plain c ∷ more) × IsFalse (follow.letters c) × (e ≡ follow.at_other) × (left ≡ rest)
 StopsAfter follow (bad left) e rest = ⊥
 StopsAfter follow (anywhere left) e rest = ⊥
+
+-- such a row is one of the line of what goes on behind a time alone
+pub stops_behind : (follow : Follow) (place : Place) (e : Fault) (rest : Text) → StopsAfter follow place e rest
+    → Stops (line nothing follow.letters follow.at_end (always follow.at_other)) place e rest
+stops_behind follow (end left) e rest at = at
+stops_behind follow (other left) e rest at = at
+stops_behind follow place e rest at = absurd at
 
 -- the text's end closes a time of each shape
 pub closed_at_end : (clock : Clock) (shape : TimeShape) → Closed clock shape []

@@ -117,7 +117,7 @@ module _ {E : Type 0} (fault : List Pair → Row → E) (kind : CoreKind) where
   unfolding annotated_at
   inner_row cores core d name place e prior front rest b f at =
       let row = bracket_rows (fault []) name place e prior front rest b f at in
-      after_opening cores core (prior ++ (front ++ rest)) row.0 row.1 d ∙ rw row.2
+      after_opening cores core (prior ++ (front ++ rest)) (row.0 ++ rest) (rw (← append_assoc prior front rest, row.1) refl) d ∙ rw row.2
 
   -- a row after `[` or `[!`, and what stands before the two
   opened_row : (name : LineName) (place : Place) (e : Fault) (pairs : List Pair) (cores prior front rest before_all : Text) → pairs ≡ []
