@@ -1,6 +1,6 @@
 -- One look at a line: a code unit that goes on is read further, a row that fits is returned; and back.
 use Rattle.std.proofs.Common.{◌≡◌, ℕ, zero, suc, ◌<◌, ◌⊎◌, Bool, true, false, IsTrue, IsFalse, [], ◌∷◌, ◌++◌, Ok, Err, Option, Some, None, refl, sym, ap, ◌∙◌}
-use Rattle.std.proofs.Common.{inl, inr, arith, append_assoc, if◌then◌else◌}
+use Rattle.std.proofs.Common.{inl, inr, arith, append_assoc, Result, if◌then◌else◌}
 use Rattle.ixdtf_grammar.specs.language.{Letters.{Text, Class, digit, Letter.{Plain, Bad}}, Shapes.{Shape, one, digits}, Readers.{Reader, has_brackets}}
 use Rattle.ixdtf_grammar.specs.table.{Faults.{Fault, Fault.NonAsciiCodePoint}, LineNames.LineName, Lines.{Line, line_of, Line.{line, scanned, whole}}}
 use Rattle.ixdtf_grammar.specs.table.{Lines.{Ending, Ending.{ok, error}}, Before.Before, Rows.{Row, Place, Stops, front_of, FitsHere, Fits}}
@@ -78,24 +78,6 @@ abbrev pub RowsRead : {E A : Type 0} → (Row → E) → Bool → (Text → Read
 RowsRead fault brackets read name = (place : Place) (e : Fault) (front rest : Text) → front_of (line_of brackets name) front
     → Stops (line_of brackets name) place e rest → read (front ++ rest) ≡ Err (fault (row_of name place e))
 
-abbrev pub IsWhole : Line → Type 0
-IsWhole (line front goes_on at_end at_other) = ⊥
-IsWhole (scanned front e) = ⊥
-IsWhole (whole front e) = Unit {0}
-
--- a whole line has one row
-pub whole_row : {E A : Type 0} (fault : Row → E) (brackets : Bool) (read : Text → Read E A) (name : LineName) → IsWhole (line_of brackets name)
-    → ((e : Fault) (front rest : Text) → front_of (line_of brackets name) front → Stops (line_of brackets name) (anywhere rest) e rest
-    → read (front ++ rest) ≡ Err (fault (row_of name (anywhere rest) e))) → RowsRead fault brackets read name
-whole_row fault brackets read name is h place e front rest f at =
-    rw (one_row (line_of brackets name) is place at)
-    (h e front rest f (rw (← (one_row (line_of brackets name) is place at)) at))
-  where
-    one_row : (l : Line) → IsWhole l → (p : Place) → Stops l p e rest → p ≡ anywhere rest
-    one_row (whole f d) is (anywhere left) at = ap anywhere at.1
-    one_row (whole f d) is p at = absurd at
-    one_row other_line is p at = absurd is
-
 -- the row is of a line of a part, and fits here
 abbrev pub FitsIn : {L : Type 0} → (L → LineName) → Bool → Row → Text → Type 0
 FitsIn {L} part brackets row text = (l : L) × (row.name ≡ part l) × FitsHere brackets row text
@@ -118,7 +100,7 @@ fits_whole_in fault part brackets l e text front rest split shape at = (row_of (
 
 -- ---- a reading that looks at the text as a line does
 
-module _ {E A : Type 0} (fault : Row → E) (name : LineName) (read : Text → Read E A) where
+module _ {E B : Type 0} (fault : Row → E) (name : LineName) (read : Text → Result B E) where
   abbrev AtEnd : Ending → Type 0
   AtEnd ok = Unit {0}
   AtEnd (error e) = read [] ≡ Err (fault (row_of name (end []) e))

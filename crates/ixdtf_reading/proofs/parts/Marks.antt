@@ -1,6 +1,6 @@
 -- A hyphen that may stand before digits: where one stands it is taken, and where a digit stands it stays; and back.
 use Rattle.std.proofs.Common.{◌≡◌, ℕ, zero, suc, ◌<◌, ◌⊎◌, Bool, true, false, IsTrue, IsFalse, [], ◌∷◌, ◌++◌, Ok, Err, refl, sym, ◌∙◌, inl, inr, arith, append_assoc}
-use Rattle.std.proofs.{Common.if◌then◌else◌, lemmas.Bool.{both_ways, eqb-true, Decides.nat_tests}}
+use Rattle.std.proofs.{Common.if◌then◌else◌, lemmas.Bool.{or_right, both_ways, eqb-true, Decides.nat_tests}}
 use Rattle.ixdtf_grammar.specs.{language.{Letters.{Text, ◌or◌, digit, hyphen, Letter.Plain}, Shapes.{one, digits}, Months.OptionalHyphen}, table.Faults.Fault}
 use Rattle.ixdtf_grammar.specs.table.{LineNames.LineName, Lines.{Line, line_of, Line.{line}, Ending.{error}}, Rows.{Row, Place, Stops}}
 use Rattle.ixdtf_grammar.specs.table.Rows.Place.{end, other, bad, anywhere}
@@ -31,12 +31,6 @@ GoesOver l false = (c : ℕ) → IsTrue (digit c) → Goes l c
 digit_no_hyphen : (c : ℕ) → IsTrue (digit c) → IsFalse (hyphen c)
 digit_no_hyphen c h = grind (arith, nat_tests)
 
-digit_goes_on : (c : ℕ) → IsTrue (digit c) → IsTrue ((hyphen or digit) c)
-digit_goes_on c h = grind (arith, nat_tests)
-
-other_is_digit : (c : ℕ) → IsTrue ((hyphen or digit) c) → IsFalse (hyphen c) → IsTrue (digit c)
-other_is_digit c h no_hyphen = grind (arith, nat_tests)
-
 -- ---- shapes
 
 pub optional : (b : Bool) → OptionalHyphen (hyphens_of b)
@@ -58,7 +52,7 @@ digits_start false n ds rest h = (h.0, h.1 ++ rest, rw h.2 refl, h.3)
 
 goes_over : (l : Line) (b : Bool) → LooksFor (hyphen or digit) l → GoesOver l b
 goes_over l true asks = goes_with (hyphen or digit) l 45 asks refl
-goes_over l false asks = λ c h. goes_with (hyphen or digit) l c asks (digit_goes_on c h)
+goes_over l false asks = λ c h. goes_with (hyphen or digit) l c asks (or_right _ _ h)
 
 -- ---- what a line that goes on with digits does not stop at
 
@@ -126,7 +120,8 @@ module _ {E : Type 0} (fault : Row → E) (name : LineName) where
     where
       by_mark : (b : Bool) (rest : Text) → Stood text b rest → (text ≡ hyphens_of b ++ rest) × Starts b rest
       by_mark true rest h = (h.0, tt)
-      by_mark false rest h = (h.0, (h.1, h.2, h.3, other_is_digit h.1 (went_with (hyphen or digit) (line_of true name) h.1 asks h.4) h.5))
+      by_mark false rest h =
+          let went = went_with (hyphen or digit) (line_of true name) h.1 asks h.4 in (h.0, (h.1, h.2, h.3, grind (arith, nat_tests, went, h.5)))
 
   -- fewer digits than two after it
   pub digits_stop_after : (b : Bool) (ds rest : Text) (place : Place) (e : Fault) → LooksFor digit (line_of true name) → Begun b ds

@@ -1,36 +1,28 @@
 -- The readers of an offset, of a zone and of a zone's name: what holds of a text decides what they value, and back.
-use Rattle.std.proofs.Common.{◌≡◌, ℕ, true, IsTrue, IsFalse, ◌⊎◌, List, [], ◌∷◌, ◌++◌, Option, Some, None, Ok, Err, refl, sym, ap, ◌∙◌, inl, inr, arith}
-use Rattle.std.proofs.{Common.{append_assoc, append-nil, false}, lemmas.Bool.{or_from, or_cases, or_left, or_right, both_ways, true≢false, Decides.nat_tests}}
+use Rattle.std.proofs.Common.{◌≡◌, ℕ, IsTrue, IsFalse, ◌⊎◌, List, [], ◌∷◌, ◌++◌, Option, Some, None, Ok, Err, refl, sym, ap, ◌∙◌, inl, inr, arith}
+use Rattle.std.proofs.{Common.{append_assoc, append-nil, false}, lemmas.Bool.{or_from, or_left, or_right, true≢false, Decides.nat_tests}}
 use Rattle.ixdtf_grammar.specs.language.Times.{Clock as clocks, Clock, TimeShape, writes_seconds}
-use Rattle.ixdtf_grammar.specs.language.Letters.{Text, ◌or◌, none, sign, slash, zone_lead, zone_char, Letter.Plain}
+use Rattle.ixdtf_grammar.specs.language.Letters.{Text, none, sign, slash, zone_lead, zone_char, Letter.Plain}
 use Rattle.ixdtf_grammar.specs.language.{Offsets.{IsSigned, IsOffset, IsMinuteOffset, offset_of, minutes_of}, ZoneNames.{Zone, ZoneName, IsZone, IsZoneName}}
 use Rattle.ixdtf_grammar.specs.language.{ZoneNames.Zone.Offset, Brackets.Pair, Readers.{Reader, has_brackets}}
 use Rattle.ixdtf_grammar.specs.{language.Readers.Reader.{parse_offset, parse_identifier, parse_iana_identifier}, declared.records.TimeRecord.TimeRecord}
 use Rattle.ixdtf_grammar.specs.{language.Shapes.nothing, declared.records.{MinutePrecisionOffset.MinutePrecisionOffset, UtcOffsetRecord.UtcOffsetRecord}, table.Faults.{Fault, Fault.InvalidEnd}}
 use Rattle.ixdtf_grammar.specs.table.LineNames.{LineName, LineName.{of_clock, of_offset, of_zone}, OffsetLine.offset_start}
 use Rattle.ixdtf_grammar.specs.table.LineNames.ZoneLine.{identifier_start, zone_name_start, in_zone_name, after_zone_slash}
-use Rattle.ixdtf_grammar.specs.table.{Lines.{table, line_of, always, zone_other}, Before.Before, Rows.{Row, Place, Stops, Fits, front_of}}
+use Rattle.ixdtf_grammar.specs.table.{Lines.{table, always, zone_other}, Before.Before, Rows.{Row, Place, Stops, Fits, front_of}}
 use Rattle.ixdtf_grammar.specs.table.Rows.Place.{other}
 use Rattle.ixdtf_grammar.proofs.parts.Texts.{signed_text}
 use Rattle.ixdtf_reading.specs.reading.{Looks.{Read, ◌>>=◌, row_of, letter_at, peek_by}, Times.{OpenTime, line_after, clock_at}, Zones.follow_look}
-use Rattle.ixdtf_reading.specs.reading.Zones.{name_run, name_alone_at, iana_identifier_at, signed_alone_at, offset_alone_at, offset_at}
+use Rattle.ixdtf_reading.specs.reading.Zones.{name_alone_at, iana_identifier_at, signed_alone_at, offset_alone_at, offset_at}
 use Rattle.ixdtf_reading.specs.reading.Zones.{minute_offset_alone_at, as_zone, identifier_at}
-use Rattle.ixdtf_reading.proofs.parts.Looks.{lift, OnRead, then_read, read_weaker, read_if, FitsIn, goes, stops, read_letter, Peeked, peek_end, peek_stops}
-use Rattle.ixdtf_reading.proofs.{parts.Looks.{peek_read, NotNext}, to_reading.ZoneNames.{behind_name, name_takes, name_row, slash_row}}
+use Rattle.ixdtf_reading.proofs.parts.Looks.{lift, RowsRead, OnRead, then_read, read_weaker, read_if, FitsIn, goes, stops, read_letter, Peeked, peek_end, peek_stops}
+use Rattle.ixdtf_reading.proofs.{parts.Looks.{peek_read, NotNext}, to_reading.ZoneNames.{InNameOrBehind, name_takes, name_row, slash_row}}
 use Rattle.ixdtf_reading.proofs.to_reading.{Times.{closed_at_end, stops_behind}, ClockRows.{Refuses, over_clock, clock_rows}}
 use Rattle.ixdtf_reading.proofs.to_grammar.{ZoneNames.{NameFront, name_read, name_stops_here, name_lines}, Times.{TimeFront, clock_read, clock_peek_read}}
 
 -- what a name begins with is no sign
 pub lead_no_sign : (c : ℕ) → IsTrue (zone_lead c) → IsFalse (sign c)
 lead_no_sign c h = grind (arith, h, nat_tests)
-
--- what begins a zone and is no sign begins a name
-no_sign_lead : (c : ℕ) → IsTrue ((zone_lead or sign) c) → IsFalse (sign c) → IsTrue (zone_lead c)
-no_sign_lead c h unsigned = at (or_cases _ (sign c) h)
-  where
-    at : (IsTrue (zone_lead c)) ⊎ (IsTrue (sign c)) → IsTrue (zone_lead c)
-    at (inl g) = g
-    at (inr g) = absurd (both_ways _ unsigned g)
 
 -- a name begins with a code unit that a name begins with
 pub first_letter : (text : Text) → ZoneName text → (c : ℕ) × (more : Text) × (text ≡ Plain c ∷ more) × IsTrue (zone_lead c)
@@ -133,20 +125,15 @@ module _ {E : Type 0} (fault : Row → E) where
   alone_takes text name h = rw (← append-nil text, name_takes fault text name [] h.0 h.1 (tt, tt), peek_end _) refl
 
   -- the row after a name, and the row after its slash
-  alone_row : (place : Place) (e : Fault) (front rest : Text) → ZoneName front → Stops (line_of false (of_zone in_zone_name)) place e rest
-      → name_alone_at fault (front ++ rest) ≡ Err (fault (row_of (of_zone in_zone_name) place e))
+  alone_row : RowsRead fault false (name_alone_at fault) (of_zone in_zone_name)
   unfolding name_alone_at
   alone_row place e front rest f at = by_row (name_row fault false place e front rest f at)
     where
-      by_row : (name_run fault true (front ++ rest) ≡ Err (fault (row_of (of_zone in_zone_name) place e)))
-          ⊎ ((name : List ℕ) × (name_run fault true (front ++ rest) ≡ Ok (name, rest)) × Stops (behind_name false) place e rest)
-          → name_alone_at fault (front ++ rest) ≡ Err (fault (row_of (of_zone in_zone_name) place e))
+      by_row : InNameOrBehind fault false place e front rest → name_alone_at fault (front ++ rest) ≡ Err (fault (row_of (of_zone in_zone_name) place e))
       by_row (inl h) = rw h refl
       by_row (inr h) = rw (h.1, peek_stops fault (of_zone in_zone_name) nothing none (zone_other false) place e rest h.2) refl
 
-  alone_slash_row : (place : Place) (e : Fault) (front rest : Text) → front_of (line_of false (of_zone after_zone_slash)) front
-      → Stops (line_of false (of_zone after_zone_slash)) place e rest
-      → name_alone_at fault (front ++ rest) ≡ Err (fault (row_of (of_zone after_zone_slash) place e))
+  alone_slash_row : RowsRead fault false (name_alone_at fault) (of_zone after_zone_slash)
   unfolding name_alone_at
   alone_slash_row place e front rest f at = rw (slash_row fault false place e front rest f at) refl
 
@@ -257,7 +244,7 @@ module _ {E : Type 0} (fault : Row → E) where
       (λ signed. rw h.0 (read_weaker fault (minute_offset_alone_at fault c more) _ _ _ _ (signed_alone_read clocks.MinuteOffset zone_record c more signed)
       (λ zone rest g. (g.0, offset_is_zone (Plain c ∷ more) zone g.1))
       (λ r g. lift (of_clock clocks.MinuteOffset) parse_identifier r (Plain c ∷ more) (Plain c ∷ []) more refl (λ l. ((c, refl, signed), refl)) g)))
-      (λ no_sign. let lead : IsTrue (zone_lead c) = no_sign_lead c h.1 no_sign in
+      (λ no_sign. let lead : IsTrue (zone_lead c) = grind (arith, nat_tests, h.1, no_sign) in
       zone_of_name text _ (name_alone_at fault text) (read_weaker fault (name_alone_at fault text) _ _ _ _ (alone_read c text more h.0 lead)
       (λ name rest g. g)
       (λ r g. lift_name parse_identifier r c text more h.0 lead (refl, refl) (refl, refl) g))))

@@ -2,14 +2,13 @@
 use Rattle.std.proofs.Common.{◌≡◌, ℕ, IsTrue, [], ◌∷◌, ◌++◌, Err, refl, ◌∙◌, inl, inr, Bool}
 use Rattle.ixdtf_grammar.specs.{declared.records.TimeRecord.TimeRecord, language.{Shapes.some, Times.{Clock, TimeShape, ClockOf}}}
 use Rattle.ixdtf_grammar.specs.language.{Times.TimeShape.{hours, basic_minutes, colon_minutes, seconds, fractions}, Letters.{Text, digit, Letter.Plain}}
-use Rattle.ixdtf_grammar.specs.table.{Faults.Fault, LineNames.{ClockLine, LineName, LineName.of_clock, ClockLine.{hour_start, hour_digit, hour_range}}}
-use Rattle.ixdtf_grammar.specs.table.LineNames.ClockLine.{after_hour, minute_digits, minute_range, after_basic_minute, after_colon_minute, second_digits}
-use Rattle.ixdtf_grammar.specs.table.{LineNames.ClockLine.{second_range, after_second, fraction_start, after_fraction}, Lines.{line_of, follow_of}}
+use Rattle.ixdtf_grammar.specs.table.{Faults.Fault, LineNames.{ClockLine, LineName, LineName.of_clock, ClockLine.{hour_start}}}
+use Rattle.ixdtf_grammar.specs.table.LineNames.ClockLine.{after_hour, after_basic_minute, after_colon_minute}
+use Rattle.ixdtf_grammar.specs.table.{LineNames.ClockLine.{after_second, after_fraction}, Lines.{line_of, follow_of}}
 use Rattle.ixdtf_grammar.specs.table.Rows.{Row, Place, Stops}
 use Rattle.ixdtf_reading.specs.reading.{Looks.{Read, ◌>>=◌, row_of}, Times.{OpenTime, line_after, hour_from, clock_at}}
 use Rattle.ixdtf_reading.proofs.{parts.Looks.{ReadsOver, RowsRead, goes, stops}, to_reading.Times.{Closed, IsLater, StopsAfter, OpenRow}}
-use Rattle.ixdtf_reading.proofs.to_reading.Times.{time_takes, open_row, hour_digit_row, hour_range_row, minute_digits_row, minute_range_row}
-use Rattle.ixdtf_reading.proofs.to_reading.Times.{second_digits_row, second_range_row, fraction_start_row}
+use Rattle.ixdtf_reading.proofs.to_reading.Times.{time_takes, open_row, inner_rows}
 
 -- each row of the line is returned, behind what stands before it
 abbrev pub RowsBehind : {E A : Type 0} → (Row → E) → Bool → (Text → Read E A) → Text → LineName → Type 0
@@ -75,18 +74,12 @@ module _ {E A : Type 0} (fault : Row → E) (clock : Clock) (whole_at : Text →
       -- every row of a time's lines but that of the first digit
       pub later_rows : (l : ClockLine) → IsLater l → RowsBehind fault brackets whole_at prior (of_clock clock l)
       later_rows hour_start is_later = absurd is_later
-      later_rows hour_digit is_later = start_rows _ (hour_digit_row fault clock lead.start lead.starts brackets)
-      later_rows hour_range is_later = start_rows _ (hour_range_row fault clock lead.start lead.starts brackets)
       later_rows after_hour is_later = open_rows hours
-      later_rows minute_digits is_later = start_rows _ (minute_digits_row fault clock lead.start lead.starts brackets)
-      later_rows minute_range is_later = start_rows _ (minute_range_row fault clock lead.start lead.starts brackets)
       later_rows after_basic_minute is_later = open_rows basic_minutes
       later_rows after_colon_minute is_later = open_rows colon_minutes
-      later_rows second_digits is_later = start_rows _ (second_digits_row fault clock lead.start lead.starts brackets)
-      later_rows second_range is_later = start_rows _ (second_range_row fault clock lead.start lead.starts brackets)
       later_rows after_second is_later = open_rows seconds
-      later_rows fraction_start is_later = start_rows _ (fraction_start_row fault clock lead.start lead.starts brackets)
       later_rows after_fraction is_later = open_rows fractions
+      later_rows l is_later = start_rows _ (inner_rows fault clock lead.start lead.starts brackets l tt)
 
 -- ---- a reading that goes on after a time which starts with its hour
 

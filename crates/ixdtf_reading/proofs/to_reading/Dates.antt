@@ -9,7 +9,7 @@ use Rattle.ixdtf_grammar.specs.table.LineNames.DateLine.{after_hyphened_month, a
 use Rattle.ixdtf_grammar.specs.table.{Lines.{line_of, date_line, HyphenOrDigit, NoMonth}, Before.BeforeDate, Rows.{Row, Place, Stops, Place.anywhere}}
 use Rattle.ixdtf_reading.specs.reading.Looks.{Read, ◌>>=◌, row_of, mark_at}
 use Rattle.ixdtf_reading.specs.reading.Dates.{date_of, year_at, month_in_range, month_by, month_at, line_after_month, day_in_range, day_at, date_at}
-use Rattle.ixdtf_reading.proofs.parts.{Looks.{ReadsOver, ◌before◌, ◌upto◌, Halts, halts_then, RowsRead, LooksFor, looks_for, whole_row, none_or_one}, Marks.{hyphens_of, Starts}}
+use Rattle.ixdtf_reading.proofs.parts.{Looks.{ReadsOver, ◌before◌, ◌upto◌, Halts, halts_then, RowsRead, LooksFor, looks_for, none_or_one}, Marks.{hyphens_of, Starts}}
 use Rattle.ixdtf_reading.proofs.parts.Marks.{Begun, hyphen_is, hyphen_over, mark_over, mark_stops, two_over, two_stop}
 use Rattle.ixdtf_reading.proofs.parts.Years.{year_takes, year_start_row, year_digits_row, extended_year_digits_row, minus_zero_year_row}
 
@@ -90,30 +90,23 @@ module _ {E : Type 0} (fault : Row → E) where
       year_stops ys y place e rest h at = (over_year ys y h).over rest ∙ rw (mark_stops fault name place e rest (looks_for (hyphen or digit) _ asks) at)
 
       module _ (brackets : Bool) where
-        year_rows : (l : LineName) → RowsRead fault brackets (year_at fault) l → RowsRead fault brackets from_year l
-        year_rows l h place e front rest f at = rw (h place e front rest f at)
-
-        month_digits_row : RowsRead fault brackets from_year (of_date month_digits)
-        month_digits_row place e front rest f at =
+        -- every row of a year and of a month after it
+        pub year_and_month_row : (l : DateLine) (prior : Text) → BeforeDate year_month l prior
+            → RowsRead fault brackets (λ body. from_year (prior ++ body)) (of_date l)
+        year_and_month_row year_start prior h place e front rest f at = rw (h, year_start_row fault brackets place e front rest f at) refl
+        year_and_month_row year_digits prior h place e front rest f at = rw (h, year_digits_row fault brackets place e front rest f at) refl
+        year_and_month_row extended_year_digits prior h place e front rest f at = rw (h, extended_year_digits_row fault brackets place e front rest f at) refl
+        year_and_month_row minus_zero_year prior h place e front rest f at = rw (h, minus_zero_year_row fault brackets place e front rest f at) refl
+        year_and_month_row month_digits prior h place e front rest f at =
             let t = begun_month f.1 f.4 in
-            rw (f.2, t.2) ((over_year f.0 f.3.0 f.3.1 upto halts_then (go f.3.0) (month_stops t.0 t.1 rest place e t.3 at)).reads_to)
-
-        month_range_row : RowsRead fault brackets from_year (of_date month_range)
-        month_range_row = whole_row fault brackets from_year (of_date month_range) tt λ e front rest f at.
+            rw (h, f.2, t.2) ((over_year f.0 f.3.0 f.3.1 upto halts_then (go f.3.0) (month_stops t.0 t.1 rest place e t.3 at)).reads_to)
+        year_and_month_row month_range prior h (anywhere left) e front rest f at =
             let t = hyphens_are f.4.0 f.4.3 in
             let out : Halts (month_at fault name) (hyphens_of t.0 ++ f.4.1) rest (fault (no_month rest)) =
             record { reads_to = month_out t.0 f.4.1 rest f.4.4 } in
-            rw (f.2, f.4.2, t.1, at.0) ((over_year f.0 f.3.0 f.3.1 upto halts_then (go f.3.0) out).reads_to)
-
-        -- every row of a year and of a month after it
-        pub year_and_month_row : (l : DateLine) → BeforeDate year_month l [] → RowsRead fault brackets from_year (of_date l)
-        year_and_month_row year_start h = year_rows (of_date year_start) (year_start_row fault brackets)
-        year_and_month_row year_digits h = year_rows (of_date year_digits) (year_digits_row fault brackets)
-        year_and_month_row extended_year_digits h = year_rows (of_date extended_year_digits) (extended_year_digits_row fault brackets)
-        year_and_month_row minus_zero_year h = year_rows (of_date minus_zero_year) (minus_zero_year_row fault brackets)
-        year_and_month_row month_digits h = month_digits_row
-        year_and_month_row month_range h = month_range_row
-        year_and_month_row l h = absurd h
+            rw (h, f.2, f.4.2, t.1, at.0, at.1) ((over_year f.0 f.3.0 f.3.1 upto halts_then (go f.3.0) out).reads_to)
+        year_and_month_row month_range prior h place e front rest f at = absurd at
+        year_and_month_row l prior h place e front rest f at = absurd h
 
   -- ---- the day after them
 
@@ -188,4 +181,4 @@ module _ {E : Type 0} (fault : Row → E) where
   date_row_read brackets day_range h place e front rest f at = absurd at
   date_row_read brackets after_date h place e front rest f at = absurd h
   date_row_read brackets l h place e front rest f at =
-      year_and_month_row (of_date after_year) (λ c. refl) day_from brackets l refl place e front rest f at
+      year_and_month_row (of_date after_year) (λ c. refl) day_from brackets l [] refl place e front rest f at

@@ -1,6 +1,6 @@
 -- A first bracket is read, and each row of a first bracket's lines is returned.
 use Rattle.std.proofs.lemmas.Bool.{or_left, or_right, Decides.nat_tests}
-use Rattle.std.proofs.Common.{◌≡◌, ℕ, Bool, true, IsTrue, IsFalse, ◌⊎◌, List, [], ◌∷◌, ◌++◌, Ok, Err, refl, ap, ◌∙◌, inl, inr, arith, append_assoc}
+use Rattle.std.proofs.Common.{◌≡◌, ℕ, Bool, true, IsTrue, IsFalse, [], ◌∷◌, ◌++◌, Ok, Err, refl, ap, ◌∙◌, inl, inr, arith, append_assoc}
 use Rattle.ixdtf_grammar.specs.{declared.records.TimeRecord.TimeRecord, language.Times.{Clock, TimeShape, TimeShape.{seconds, fractions}}}
 use Rattle.ixdtf_grammar.specs.language.{Letters.{Text, ◌or◌, sign, closing, exclamation, zone_lead, key_lead, Letter.Plain}, Shapes.nothing}
 use Rattle.ixdtf_grammar.specs.language.{Offsets.minutes_of, ZoneNames.{Zone, IsZone, Zone.Offset}}
@@ -9,11 +9,11 @@ use Rattle.ixdtf_grammar.specs.table.LineNames.{LineName.{of_clock, of_zone, of_
 use Rattle.ixdtf_grammar.specs.table.LineNames.BracketLine.{first_bracket_start, first_critical_start, first_bracket_scan}
 use Rattle.ixdtf_grammar.specs.table.{LineNames.PairLine.{key_start, critical_key_start}, Lines.{line_of, always, zone_other}, Rows.{Row, Place, Stops, front_of}}
 use Rattle.ixdtf_reading.specs.reading.{Looks.{Read, ◌>>=◌, row_of, look_at, next_by}, Times.{OpenTime, line_after, clock_at}, Pairs.pair_at}
-use Rattle.ixdtf_reading.specs.reading.{Zones.{follow_look, name_run, as_zone}, Brackets.{Bracket, zoned, paired, sight_at, name_in_bracket_at}}
+use Rattle.ixdtf_reading.specs.reading.{Zones.{follow_look, as_zone}, Brackets.{Bracket, zoned, paired, sight_at, name_in_bracket_at}}
 use Rattle.ixdtf_reading.specs.reading.Brackets.{name_or_pair_at, offset_in_bracket_at, noted, as_pair, inside_at, critical_bracket_at, bracket_at}
 use Rattle.ixdtf_reading.proofs.parts.{Looks.{RowsRead, letter_stops}, Openings.{Returned, opened, start_row, critical_row}, LookAhead.{over_scanned, sight_stops, sight_pair, sight_name, name_reads, key_reads}}
 use Rattle.ixdtf_reading.proofs.to_reading.{Times.{Closed, stops_behind}, ClockRows.{over_clock, clock_rows}}
-use Rattle.ixdtf_reading.proofs.to_reading.{ZoneNames.{behind_name, name_takes, name_row, slash_row}, Pair.{pair_text, pair_takes, pair_rows}}
+use Rattle.ixdtf_reading.proofs.to_reading.{ZoneNames.{InNameOrBehind, name_takes, name_row, slash_row}, Pair.{pair_text, pair_takes, pair_rows}}
 use Rattle.ixdtf_reading.proofs.to_grammar.FirstBracket.{InBracket, IsBracket}
 
 -- ---- code units
@@ -67,9 +67,7 @@ module _ {E : Type 0} (fault : Row → E) where
   unfolding name_in_bracket_at
   in_name_row place e front rest f at = by_row (name_row fault true place e front rest f at)
     where
-      by_row : ((name_run fault true (front ++ rest) ≡ Err (fault (row_of (of_zone in_zone_name) place e)))
-          ⊎ ((name : List ℕ) × (name_run fault true (front ++ rest) ≡ Ok (name, rest)) × Stops (behind_name true) place e rest))
-          → name_in_bracket_at fault (front ++ rest) ≡ Err (fault (row_of (of_zone in_zone_name) place e))
+      by_row : InNameOrBehind fault true place e front rest → name_in_bracket_at fault (front ++ rest) ≡ Err (fault (row_of (of_zone in_zone_name) place e))
       by_row (inl h) = rw h
       by_row (inr h) = rw (h.1, letter_stops fault (of_zone in_zone_name) nothing closing AnnotationClose (zone_other true) place e rest h.2)
 

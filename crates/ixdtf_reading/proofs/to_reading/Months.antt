@@ -35,7 +35,8 @@ module _ {E : Type 0} (fault : Row → E) where
   year_month_takes text date rest h = (over_year_month text date h).over rest ∙ λ i. Ok (date_of date.year date.month (sym h.first_day i), rest)
 
   -- every row of a year and of a month after it
-  pub year_month_date_row : (l : DateLine) → BeforeDate year_month l [] → RowsRead fault true (year_month_at fault) (of_date l)
+  pub year_month_date_row : (l : DateLine) (prior : Text) → BeforeDate year_month l prior
+      → RowsRead fault true (λ body. year_month_at fault (prior ++ body)) (of_date l)
   unfolding year_month_at
   year_month_date_row = year_and_month_row fault (of_year_month after_year_in_year_month) (λ c. refl) first_of true
 

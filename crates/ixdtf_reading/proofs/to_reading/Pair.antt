@@ -5,11 +5,11 @@ use Rattle.ixdtf_grammar.specs.language.Letters.{Text, ◌or◌, hyphen, equals,
 use Rattle.ixdtf_grammar.specs.{language.{Shapes.{one, ◌then◌}, Brackets.{Pair, Key, ValueRun, Value, IsPair, Opens}}, table.Faults.Fault}
 use Rattle.ixdtf_grammar.specs.table.LineNames.{PairLine, LineName.of_pair}
 use Rattle.ixdtf_grammar.specs.table.LineNames.PairLine.{key_start, critical_key_start, in_key, value_start, in_value, after_value_hyphen}
-use Rattle.ixdtf_grammar.specs.table.{Lines.{line_of, pair_line}, Rows.{Row, Place, Stops, front_of, Place.{end, other, bad, anywhere}}}
+use Rattle.ixdtf_grammar.specs.table.{Lines.{line_of, pair_line}, Rows.{Row, Place, Stops, front_of, Place.{end, other, bad}}}
 use Rattle.ixdtf_reading.specs.reading.{Looks.{Read, row_of}, Zones.with_letter, Pairs.{value_line, value_other, value_step, key_run, value_run, pair_at}}
 use Rattle.ixdtf_reading.specs.reading.Pairs.{critical_pair_at, later_pair_at, ValueState, AtStart, Inside, AfterHyphen, ValueStep, GoesOn, Ends}
 use Rattle.ixdtf_reading.specs.reading.{Pairs.{ValueStep as steps}, Chains.AfterBrackets}
-use Rattle.ixdtf_reading.proofs.parts.{Openings.{Returned, opened, start_row, critical_row}, Steps.{IsOver, over_one, over_both, over_many, over_ok, over_err}}
+use Rattle.ixdtf_reading.proofs.parts.{Looks.row_here, Openings.{Returned, opened, start_row, critical_row}, Steps.{IsOver, over_one, over_both, over_many, over_ok, over_err}}
 
 -- the lines from the key on
 abbrev pub InPair : PairLine → Type 0
@@ -35,15 +35,6 @@ pair_text h = record { keys = h.keys; values = h.values; is = refl; is_key = h.i
 key_lead_goes : (c : ℕ) → IsTrue (key_lead c) → IsTrue (key_char c)
 key_lead_goes c h = grind (arith, nat_tests)
 
-equals_no_key : (c : ℕ) → IsTrue (equals c) → IsFalse (key_char c)
-equals_no_key c h = rw (eqb-true c 61 h)
-
-hyphen_no_value : (c : ℕ) → IsTrue (hyphen c) → IsFalse (value_char c)
-hyphen_no_value c h = rw (eqb-true c 45 h)
-
-lead_no_exclamation : (c : ℕ) → IsTrue (key_lead c) → IsFalse (exclamation c)
-lead_no_exclamation c h = grind (arith, nat_tests)
-
 -- what stops in a value
 no_value : (c : ℕ) → IsFalse ((value_char or hyphen or closing) c) → IsFalse (value_char c) × IsFalse (hyphen c) × IsFalse (closing c)
 no_value c h = (grind (arith, nat_tests), grind (arith, nat_tests), grind (arith, nat_tests))
@@ -62,15 +53,14 @@ module _ {E : Type 0} (fault : Row → E) where
 
   key_ends : (c : ℕ) (rest : Text) → IsTrue (equals c) → key_run fault (Plain c ∷ rest) ≡ Ok ([], rest)
   unfolding key_run
-  key_ends c rest h = rw (equals_no_key c h, h)
+  key_ends c rest h = rw (eqb-true c 61 h) refl
 
   key_stops : (place : Place) (e : Fault) (rest : Text) → Stops (pair_line in_key) place e rest
       → key_run fault rest ≡ Err (fault (row_of (of_pair in_key) place e))
   unfolding key_run
-  key_stops (end left) e rest at = rw (at.2, at.0) (grind (arith, at.1))
-  key_stops (other left) e rest at = let out = or_parts (key_char at.0) (equals at.0) at.3 in rw (at.5, at.2, at.4) (rw (out.0, out.1))
-  key_stops (bad left) e rest at = rw (at.3, at.1, at.2)
-  key_stops (anywhere left) e rest at = absurd at
+  key_stops =
+      row_here fault (of_pair in_key) (key_run fault) (pair_line in_key) (refl, (λ rest. refl), λ c rest out.
+      let parts = or_parts (key_char c) (equals c) out in rw (parts.0, parts.1) refl)
 
   -- ---- values
 
@@ -93,7 +83,7 @@ module _ {E : Type 0} (fault : Row → E) where
   value_letter state c h = over_one c (λ rest. by_step state c rest (GoesOn Inside) (rw h))
 
   value_hyphen : (c : ℕ) → IsTrue (hyphen c) → IsOver (value_run fault Inside) (value_run fault AfterHyphen) (Plain c ∷ [])
-  value_hyphen c h = over_one c (λ rest. by_step Inside c rest (GoesOn AfterHyphen) (rw (hyphen_no_value c h, h)))
+  value_hyphen c h = over_one c (λ rest. by_step Inside c rest (GoesOn AfterHyphen) (rw (eqb-true c 45 h) refl))
 
   over_run : (state : ValueState) (text : Text) → ValueRun text → IsOver (value_run fault state) (value_run fault Inside) text
   over_run state text h =
@@ -165,7 +155,7 @@ module _ {E : Type 0} (fault : Row → E) where
   by_key critical c text = pair_at fault critical text
 
   may_start : (c : ℕ) → IsTrue (key_lead c) → IsTrue ((key_lead or exclamation) c) × IsTrue (key_lead c) × IsFalse (exclamation c)
-  may_start c h = (or_left _ _ h, h, lead_no_exclamation c h)
+  may_start c h = (or_left _ _ h, h, grind (arith, nat_tests))
 
   -- what begins as a key does, behind what opens its bracket
   at_key : (start : Text) (critical : Bool) (keys : Text) (body rest : Text) (given : Read E Pair) → Opens start critical → Key keys

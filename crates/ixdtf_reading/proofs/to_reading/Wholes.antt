@@ -11,7 +11,7 @@ use Rattle.ixdtf_grammar.specs.table.LineNames.{OffsetLine.{offset_start, after_
 use Rattle.ixdtf_grammar.specs.table.LineNames.BracketLine.{first_bracket_start, first_critical_start, first_bracket_scan, after_bracket}
 use Rattle.ixdtf_grammar.specs.table.{LineNames.PairLine.{key_start, critical_key_start}, Lines.line_of, Before.{BeforeBracketed, Bracketed, BeforeKey}}
 use Rattle.ixdtf_grammar.specs.table.Rows.{Row, Place, Stops, Fits, front_of}
-use Rattle.ixdtf_reading.specs.reading.{Looks.{Read, ◌>>=◌, row_of}, Pairs.pairs_at, Brackets.{Bracket, zoned, paired, zone_in, pairs_in, bracket_at}}
+use Rattle.ixdtf_reading.specs.reading.{Looks.{Read, ◌>>=◌, row_of}, Pairs.pairs_at, Brackets.{Bracket, zoned, paired, zone_in, pairs_in}}
 use Rattle.ixdtf_reading.specs.reading.{Cores.core_at, Wholes.{bracketed_at, annotated_at, bracketed_text_at, read_at}, Chains.AfterBrackets}
 use Rattle.ixdtf_reading.proofs.to_reading.Cores.{core_takes, core_line_rows, core_time_rows, core_offset_rows, core_zulu_row}
 use Rattle.ixdtf_reading.proofs.to_reading.{FirstBracket.{bracket_takes, bracket_rows}, MorePairs.{over_pairs, pairs_end, pairs_row}}
@@ -73,15 +73,11 @@ module _ {E : Type 0} (fault : List Pair → Row → E) (kind : CoreKind) where
   abbrev with_core : Core → Option ZoneNote → List Pair × Text → Read E (Parsed × List Pair)
   with_core core zone pairs = Ok ((parsed_with core zone, pairs.0), pairs.1)
 
-  after_first : (core : Core) (bracket : Bracket) (inner rest : Text) → bracket_at (fault []) inner ≡ Ok (bracket, rest)
-      → annotated_at fault core inner ≡ (pairs_at fault (suc (length rest)) (pairs_in bracket) rest >>= with_core core (zone_in bracket))
-  unfolding annotated_at bracketed_at
-  after_first core bracket inner rest read = rw read
-
   -- reading goes over whole brackets to the pairs after them, with fuel left for the rest
   pub over_brackets : (cores brackets rest : Text) (core : Core) (zone : Option ZoneNote) (pairs : List Pair) → IsCore kind cores core
       → Brackets brackets zone pairs → (m : ℕ) × (length rest < m)
       × (whole_at (cores ++ (brackets ++ rest)) ≡ (pairs_at fault m pairs rest >>= with_core core zone))
+  unfolding annotated_at bracketed_at
   over_brackets cores brackets rest core zone pairs d h =
       let read = bracket_takes (fault []) h.first (h.rest ++ rest) h.bracket h.is_bracket in
       let over = over_pairs fault h.more h.rest rest (pairs_in h.bracket) (suc (length (h.rest ++ rest))) h.are_pairs (omega arith) in
@@ -89,11 +85,7 @@ module _ {E : Type 0} (fault : List Pair → Row → E) (kind : CoreKind) where
       ∙ ap (λ t. t ++ (h.rest ++ rest)) read.1 in (
         over.0,
         over.1,
-        after_opening cores core (brackets ++ rest) (read.0 ++ (h.rest ++ rest)) whole d
-            ∙ after_first core h.bracket (read.0 ++ (h.rest ++ rest)) (h.rest ++ rest) read.2
-            ∙ ap (λ r. r >>= with_core core (zone_in h.bracket)) over.2
-            ∙ ap (λ z. pairs_at fault over.0 (pairs_in h.bracket ++ h.more) rest >>= with_core core z) (sym h.zone_is)
-            ∙ ap (λ ps. pairs_at fault over.0 ps rest >>= with_core core zone) (sym h.pairs_are),
+        after_opening cores core (brackets ++ rest) (read.0 ++ (h.rest ++ rest)) whole d ∙ rw (read.2, over.2, h.zone_is, h.pairs_are) refl,
       )
 
   -- ---- what is derived

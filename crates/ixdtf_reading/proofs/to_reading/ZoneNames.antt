@@ -16,10 +16,7 @@ NameEnds rest = NotNext zone_char rest × NotNext slash rest
 abbrev pub behind_name : Bool → Line
 behind_name brackets = line nothing (if brackets then closing else none) (zone_end brackets) (zone_other brackets)
 
--- a slash does not go on as a code unit of a name, and what a name begins with does
-slash_no_char : (c : ℕ) → IsTrue (slash c) → IsFalse (zone_char c)
-slash_no_char c h = rw (eqb-true c 47 h)
-
+-- what a name begins with goes on in it
 pub lead_char : (c : ℕ) → IsTrue (zone_lead c) → IsTrue (zone_char c)
 lead_char c h = rw h
 
@@ -36,7 +33,7 @@ module _ {E : Type 0} (fault : Row → E) where
 
   over_slash : (c : ℕ) → IsTrue (slash c) → IsOver (name_run fault true) (name_run fault false) (Plain c ∷ [])
   unfolding name_run
-  over_slash c h = over_one c (λ rest. rw (slash_no_char c h, h))
+  over_slash c h = over_one c (λ rest. rw (eqb-true c 47 h) refl)
 
   over_item : (part : Text) → NameItem part → IsOver (name_run fault true) (name_run fault true) part
   over_item part (inl h) = rw h.1 (over_char true h.0 h.2)
@@ -63,23 +60,21 @@ module _ {E : Type 0} (fault : Row → E) where
 
   module _ (brackets : Bool) where
     -- the row after a name is returned inside it, or what comes next is looked at after it
-    pub name_row : (place : Place) (e : Fault) (front rest : Text) → ZoneName front → Stops (line_of brackets (of_zone in_zone_name)) place e rest
-        → (name_run fault true (front ++ rest) ≡ Err (fault (row_of (of_zone in_zone_name) place e)))
+    abbrev pub InNameOrBehind : Place → Fault → Text → Text → Type 0
+    InNameOrBehind place e front rest =
+        (name_run fault true (front ++ rest) ≡ Err (fault (row_of (of_zone in_zone_name) place e)))
         ⊎ ((name : List ℕ) × (name_run fault true (front ++ rest) ≡ Ok (name, rest)) × Stops (behind_name brackets) place e rest)
-    name_row place e front rest h at = go place at
-      where
-        over : IsOver (name_run fault true) (name_run fault true) front
-        over = over_name front h
 
-        go : (place : Place) → Stops (line_of brackets (of_zone in_zone_name)) place e rest
-            → (name_run fault true (front ++ rest) ≡ Err (fault (row_of (of_zone in_zone_name) place e)))
-            ⊎ ((name : List ℕ) × (name_run fault true (front ++ rest) ≡ Ok (name, rest)) × Stops (behind_name brackets) place e rest)
-        go (end left) at = inr (over.letters, name_takes front over.letters rest h over.is (rw at.0 (tt, tt)), at)
-        go (other left) at =
-            let out = no_letter brackets at.0 at.3 in
-            inr (over.letters, name_takes front over.letters rest h over.is (rw at.2 out.0), (at.0, at.1, at.2, out.1, at.4, at.5))
-        go (bad left) at = inl (rw (at.3, at.1, at.2) (over_err (Bad ∷ at.0) _ over (bad_here at.0)))
-        go (anywhere left) at = absurd at
+    pub name_row : (place : Place) (e : Fault) (front rest : Text) → ZoneName front → Stops (line_of brackets (of_zone in_zone_name)) place e rest
+        → InNameOrBehind place e front rest
+    name_row (end left) e front rest h at =
+        let over = over_name front h in inr (over.letters, name_takes front over.letters rest h over.is (rw at.0 (tt, tt)), at)
+    name_row (other left) e front rest h at =
+        let over = over_name front h in
+        let out = no_letter brackets at.0 at.3 in
+        inr (over.letters, name_takes front over.letters rest h over.is (rw at.2 out.0), (at.0, at.1, at.2, out.1, at.4, at.5))
+    name_row (bad left) e front rest h at = inl (rw (at.3, at.1, at.2) (over_err (Bad ∷ at.0) _ (over_name front h) (bad_here at.0)))
+    name_row (anywhere left) e front rest h at = absurd at
 
     after_slash : (place : Place) (e : Fault) (rest : Text) → Stops (line_of brackets (of_zone after_zone_slash)) place e rest
         → name_run fault false rest ≡ Err (fault (row_of (of_zone after_zone_slash) place e))
