@@ -1,12 +1,12 @@
 -- A hyphen that may stand before digits: where one stands it is taken, and where a digit stands it stays; and back.
-use Rattle.std.proofs.Common.{◌≡◌, ℕ, zero, suc, ◌<◌, ◌⊎◌, Bool, true, false, IsTrue, IsFalse, [], ◌∷◌, ◌++◌, Ok, Err, refl, sym, ◌∙◌, inl, inr, arith, append_assoc}
-use Rattle.std.proofs.{Common.if◌then◌else◌, lemmas.Bool.{or_right, both_ways, eqb-true, Decides.nat_tests}}
+use Rattle.std.proofs.Common.{◌≡◌, ℕ, zero, suc, ◌<◌, ◌⊎◌, Bool, true, false, IsTrue, IsFalse, [], ◌∷◌, ◌++◌, Ok, Err, refl, sym, ◌∙◌, inl, inr, arith}
+use Rattle.std.proofs.{Common.{append_assoc, if◌then◌else◌}, lemmas.Bool.{or_right, both_ways, eqb-true, Decides.nat_tests}}
 use Rattle.ixdtf_grammar.specs.{language.{Letters.{Text, ◌or◌, digit, hyphen, Letter.Plain}, Shapes.{one, digits}, Months.OptionalHyphen}, table.Faults.Fault}
-use Rattle.ixdtf_grammar.specs.table.{LineNames.LineName, Lines.{Line, line_of, Line.{line}, Ending.{error}}, Rows.{Row, Place, Stops}}
-use Rattle.ixdtf_grammar.specs.table.Rows.Place.{end, other, bad, anywhere}
+use Rattle.ixdtf_grammar.specs.table.{LineNames.LineName, Lines.{Line, line_of, Line.line, Ending.error}, Rows.{Row, Place, Stops, Place.{end, other, bad}}}
+use Rattle.ixdtf_grammar.specs.table.Rows.Place.{anywhere}
 use Rattle.ixdtf_reading.specs.reading.Looks.{Read, ◌>>=◌, row_of, mark_by, mark_at, letter_at, digits_at}
-use Rattle.ixdtf_reading.proofs.parts.Looks.{OnRead, Looks, Goes, LooksFor, goes_with, went_with, looks_for, StopsHere, DigitsStop, then_read, read_weaker, goes, stops, read_letter}
-use Rattle.ixdtf_reading.proofs.parts.Looks.{ReadsOver, Halts, digits_go, digits_stop, one_as_digits}
+use Rattle.ixdtf_reading.proofs.parts.Looks.{OnRead, Looks, Goes, LooksFor, goes_with, went_with, looks_for, StopsHere, DigitsStop, then_read, read_weaker}
+use Rattle.ixdtf_reading.proofs.parts.Looks.{goes, stops, read_letter, ReadsOver, Halts, digits_go, digits_stop, one_as_digits}
 
 -- a hyphen, or nothing
 abbrev pub hyphens_of : Bool → Text

@@ -2,12 +2,11 @@
 use Rattle.std.proofs.Common.{◌≡◌, ◌≢◌, ℕ, Bool, true, false, IsTrue, IsFalse, [], ◌∷◌, ◌++◌, Ok, refl, ◌∙◌, inl, inr, arith, ℤ, nat_eq, ◌&&◌}
 use Rattle.std.proofs.lemmas.Bool.{and_parts, and_from, both_ways, eqb-true, eq-eqb, ne_eqb, Decides.nat_tests}
 use Rattle.ixdtf_grammar.specs.language.{Letters.{Text, digit, sign, hyphen, Letter.Plain}, Digits.decimal, Dates.Year, Readers.CoreKind.year_month}
-use Rattle.ixdtf_grammar.specs.table.{Faults.Fault.DateExtendedYear, LineNames.{DateLine, LineName, of_date}}
-use Rattle.ixdtf_grammar.specs.table.{LineNames.DateLine.{year_start, year_digits, extended_year_digits, minus_zero_year}, Before.BeforeDate, Rows.Row}
+use Rattle.ixdtf_grammar.specs.table.{Faults.Fault.DateExtendedYear, LineNames.{DateLine, LineName, of_date, DateLine.{year_start, year_digits}}}
+use Rattle.ixdtf_grammar.specs.table.{LineNames.DateLine.{extended_year_digits, minus_zero_year}, Before.BeforeDate, Rows.{Row, Place.anywhere}}
 use Rattle.ixdtf_reading.specs.reading.{Looks.{letter_at, digits_at}, Dates.{year_at, four_digit_year_at, extended_year_at}}
-use Rattle.ixdtf_reading.proofs.parts.Looks.{OnRead, RowsRead, FitsIn, fits_in, fits_whole_in, then_read, read_if, goes, stops, read_letter}
-use Rattle.ixdtf_reading.proofs.parts.Looks.{digits_go, digits_stop, digits_read, onto}
-use Rattle.ixdtf_grammar.specs.table.Rows.Place.{anywhere}
+use Rattle.ixdtf_reading.proofs.parts.Looks.{OnRead, RowsRead, FitsIn, fits_in, fits_whole_in, then_read, read_if, goes, stops, read_letter, digits_go}
+use Rattle.ixdtf_reading.proofs.parts.Looks.{digits_stop, digits_read, onto}
 
 -- a digit is no sign
 digit_no_sign : (c : ℕ) → IsTrue (digit c) → IsFalse (sign c)

@@ -1,24 +1,22 @@
 -- The readers of an offset, of a zone and of a zone's name: what holds of a text decides what they value, and back.
-use Rattle.std.proofs.Common.{◌≡◌, ℕ, IsTrue, IsFalse, ◌⊎◌, List, [], ◌∷◌, ◌++◌, Option, Some, None, Ok, Err, refl, sym, ap, ◌∙◌, inl, inr, arith}
-use Rattle.std.proofs.{Common.{append_assoc, append-nil, false}, lemmas.Bool.{or_from, or_left, or_right, true≢false, Decides.nat_tests}}
-use Rattle.ixdtf_grammar.specs.language.Times.{Clock as clocks, Clock, TimeShape, writes_seconds}
-use Rattle.ixdtf_grammar.specs.language.Letters.{Text, none, sign, slash, zone_lead, zone_char, Letter.Plain}
-use Rattle.ixdtf_grammar.specs.language.{Offsets.{IsSigned, IsOffset, IsMinuteOffset, offset_of, minutes_of}, ZoneNames.{Zone, ZoneName, IsZone, IsZoneName}}
-use Rattle.ixdtf_grammar.specs.language.{ZoneNames.Zone.Offset, Brackets.Pair, Readers.{Reader, has_brackets}}
-use Rattle.ixdtf_grammar.specs.{language.Readers.Reader.{parse_offset, parse_identifier, parse_iana_identifier}, declared.records.TimeRecord.TimeRecord}
-use Rattle.ixdtf_grammar.specs.{language.Shapes.nothing, declared.records.{MinutePrecisionOffset.MinutePrecisionOffset, UtcOffsetRecord.UtcOffsetRecord}, table.Faults.{Fault, Fault.InvalidEnd}}
-use Rattle.ixdtf_grammar.specs.table.LineNames.{LineName, LineName.{of_clock, of_offset, of_zone}, OffsetLine.offset_start}
-use Rattle.ixdtf_grammar.specs.table.LineNames.ZoneLine.{identifier_start, zone_name_start, in_zone_name, after_zone_slash}
-use Rattle.ixdtf_grammar.specs.table.{Lines.{table, always, zone_other}, Before.Before, Rows.{Row, Place, Stops, Fits, front_of}}
-use Rattle.ixdtf_grammar.specs.table.Rows.Place.{other}
+use Rattle.std.proofs.Common.{◌≡◌, ℕ, IsTrue, IsFalse, ◌⊎◌, List, [], ◌∷◌, ◌++◌, Option, Some, None, Ok, Err, refl, sym, ap, ◌∙◌, inl, inr, arith, append_assoc}
+use Rattle.std.proofs.{Common.{append-nil, false}, lemmas.Bool.{or_from, or_left, or_right, true≢false, Decides.nat_tests}}
+use Rattle.ixdtf_grammar.specs.language.{Times.{Clock as clocks, Clock, TimeShape, writes_seconds}, Letters.{Text, none, sign, slash, zone_lead, zone_char}}
+use Rattle.ixdtf_grammar.specs.language.{Letters.Letter.Plain, Offsets.{IsSigned, IsOffset, IsMinuteOffset, offset_of, minutes_of}, ZoneNames.{Zone, ZoneName}}
+use Rattle.ixdtf_grammar.specs.language.{ZoneNames.{IsZone, IsZoneName, Zone.Offset}, Brackets.Pair, Readers.{Reader, has_brackets, Reader.parse_offset}}
+use Rattle.ixdtf_grammar.specs.{language.{Readers.Reader.{parse_identifier, parse_iana_identifier}, Shapes.nothing}, declared.records.TimeRecord.TimeRecord}
+use Rattle.ixdtf_grammar.specs.{declared.records.{MinutePrecisionOffset.MinutePrecisionOffset, UtcOffsetRecord.UtcOffsetRecord}, table.Faults.Fault}
+use Rattle.ixdtf_grammar.specs.table.{Faults.Fault.InvalidEnd, LineNames.{LineName, LineName.{of_clock, of_offset, of_zone}, OffsetLine.offset_start}}
+use Rattle.ixdtf_grammar.specs.table.{LineNames.ZoneLine.{identifier_start, zone_name_start, in_zone_name, after_zone_slash}, Lines.{table, always, zone_other}}
+use Rattle.ixdtf_grammar.specs.table.{Before.Before, Rows.{Row, Place, Stops, Fits, front_of, Place.other}}
 use Rattle.ixdtf_grammar.proofs.parts.Texts.{signed_text}
 use Rattle.ixdtf_reading.specs.reading.{Looks.{Read, ◌>>=◌, row_of, letter_at, peek_by}, Times.{OpenTime, line_after, clock_at}, Zones.follow_look}
-use Rattle.ixdtf_reading.specs.reading.Zones.{name_alone_at, iana_identifier_at, signed_alone_at, offset_alone_at, offset_at}
-use Rattle.ixdtf_reading.specs.reading.Zones.{minute_offset_alone_at, as_zone, identifier_at}
-use Rattle.ixdtf_reading.proofs.parts.Looks.{lift, RowsRead, OnRead, then_read, read_weaker, read_if, FitsIn, goes, stops, read_letter, Peeked, peek_end, peek_stops}
-use Rattle.ixdtf_reading.proofs.{parts.Looks.{peek_read, NotNext}, to_reading.ZoneNames.{InNameOrBehind, name_takes, name_row, slash_row}}
-use Rattle.ixdtf_reading.proofs.to_reading.{Times.{closed_at_end, stops_behind}, ClockRows.{Refuses, over_clock, clock_rows}}
-use Rattle.ixdtf_reading.proofs.to_grammar.{ZoneNames.{NameFront, name_read, name_stops_here, name_lines}, Times.{TimeFront, clock_read, clock_peek_read}}
+use Rattle.ixdtf_reading.specs.reading.Zones.{name_alone_at, iana_identifier_at, signed_alone_at, offset_alone_at, offset_at, minute_offset_alone_at, as_zone}
+use Rattle.ixdtf_reading.specs.reading.Zones.{identifier_at}
+use Rattle.ixdtf_reading.proofs.parts.Looks.{lift, RowsRead, OnRead, then_read, read_weaker, read_if, FitsIn, goes, stops, read_letter, Peeked, peek_end}
+use Rattle.ixdtf_reading.proofs.{parts.Looks.{peek_stops, peek_read, NotNext}, to_reading.ZoneNames.{InNameOrBehind, name_takes, name_row, slash_row}}
+use Rattle.ixdtf_reading.proofs.{to_reading.{Times.{closed_at_end, stops_behind}, ClockRows.{Refuses, over_clock, clock_rows}}, to_grammar.ZoneNames.NameFront}
+use Rattle.ixdtf_reading.proofs.to_grammar.{ZoneNames.{name_read, name_stops_here, name_lines}, Times.{TimeFront, clock_read, clock_peek_read}}
 
 -- what a name begins with is no sign
 pub lead_no_sign : (c : ℕ) → IsTrue (zone_lead c) → IsFalse (sign c)

@@ -1,14 +1,13 @@
 -- A reading that has gone over what stands before a time or an offset, and goes on after it, returns each row of their lines.
 use Rattle.std.proofs.Common.{◌≡◌, ℕ, IsTrue, [], ◌∷◌, ◌++◌, Err, refl, ◌∙◌, inl, inr, Bool}
-use Rattle.ixdtf_grammar.specs.{declared.records.TimeRecord.TimeRecord, language.{Shapes.some, Times.{Clock, TimeShape, ClockOf}}}
-use Rattle.ixdtf_grammar.specs.language.{Times.TimeShape.{hours, basic_minutes, colon_minutes, seconds, fractions}, Letters.{Text, digit, Letter.Plain}}
-use Rattle.ixdtf_grammar.specs.table.{Faults.Fault, LineNames.{ClockLine, LineName, LineName.of_clock, ClockLine.{hour_start}}}
-use Rattle.ixdtf_grammar.specs.table.LineNames.ClockLine.{after_hour, after_basic_minute, after_colon_minute}
-use Rattle.ixdtf_grammar.specs.table.{LineNames.ClockLine.{after_second, after_fraction}, Lines.{line_of, follow_of}}
-use Rattle.ixdtf_grammar.specs.table.Rows.{Row, Place, Stops}
+use Rattle.ixdtf_grammar.specs.{declared.records.TimeRecord.TimeRecord, language.{Shapes.some, Times.{Clock, TimeShape, ClockOf, TimeShape.hours}}}
+use Rattle.ixdtf_grammar.specs.language.{Times.TimeShape.{basic_minutes, colon_minutes, seconds, fractions}, Letters.{Text, digit, Letter.Plain}}
+use Rattle.ixdtf_grammar.specs.table.{Faults.Fault, LineNames.{ClockLine, LineName, LineName.of_clock, ClockLine.{hour_start, after_hour, after_basic_minute}}}
+use Rattle.ixdtf_grammar.specs.table.{LineNames.ClockLine.{after_colon_minute, after_second, after_fraction}, Lines.{line_of, follow_of}, Rows.{Row, Place}}
+use Rattle.ixdtf_grammar.specs.table.Rows.{Stops}
 use Rattle.ixdtf_reading.specs.reading.{Looks.{Read, ◌>>=◌, row_of}, Times.{OpenTime, line_after, hour_from, clock_at}}
-use Rattle.ixdtf_reading.proofs.{parts.Looks.{ReadsOver, RowsRead, goes, stops}, to_reading.Times.{Closed, IsLater, StopsAfter, OpenRow}}
-use Rattle.ixdtf_reading.proofs.to_reading.Times.{time_takes, open_row, inner_rows}
+use Rattle.ixdtf_reading.proofs.{parts.Looks.{ReadsOver, RowsRead, goes, stops}, to_reading.Times.{Closed, IsLater, StopsAfter, OpenRow, time_takes, open_row}}
+use Rattle.ixdtf_reading.proofs.to_reading.Times.{inner_rows}
 
 -- each row of the line is returned, behind what stands before it
 abbrev pub RowsBehind : {E A : Type 0} → (Row → E) → Bool → (Text → Read E A) → Text → LineName → Type 0

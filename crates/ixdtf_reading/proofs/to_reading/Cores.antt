@@ -1,38 +1,29 @@
 -- A core is read, with the end or the bracket after it, and each row of a core's lines is returned.
 use Rattle.std.proofs.Common.{◌≡◌, ℕ, true, false, IsTrue, IsFalse, [], ◌∷◌, ◌++◌, Ok, Err, Option, Some, None, refl, sym, ap, ◌∙◌, subst, inl, inr, ◌||◌}
-use Rattle.std.proofs.{Common.{arith, append_assoc}, lemmas.Bool.{or_parts, Decides.nat_tests}}
-use Rattle.ixdtf_grammar.specs.declared.{profile.Profile.Profile, records.{DateRecord.DateRecord, TimeRecord.TimeRecord}}
-use Rattle.ixdtf_grammar.specs.declared.records.UtcOffsetRecordOrZ.{UtcOffsetRecordOrZ, TheVariants.Z}
-use Rattle.ixdtf_grammar.specs.language.Letters.{Text, digit, sign, zulu, opening, date_time_separator, time_letter, Letter.Plain}
-use Rattle.ixdtf_grammar.specs.language.{Shapes.{Shape, one, some, ◌then◌}, Dates.IsDate, Months.{IsYearMonth, IsMonthDay}}
-use Rattle.ixdtf_grammar.specs.language.{Times.{Clock, TimeShape, ClockOf, IsTime, writes_seconds, TimeShape.{hours, seconds, fractions}}, Offsets.offset_of}
-use Rattle.ixdtf_grammar.specs.language.Cores.{Core, core_of, OptionalOffset, DateAlone, IsDateTimeCore, TimeMark, MarkedTime, IsCore}
-use Rattle.ixdtf_grammar.specs.{language.Readers.{CoreKind, CoreKind.{date_time, year_month, month_day, time_of_day}}, table.Faults.{Fault, Fault.InvalidEnd}}
-use Rattle.ixdtf_grammar.specs.table.LineNames.{TimeLine, CoreLine, ClockLine, LineName, of_date, of_year_month, of_month_day, of_time}
-use Rattle.ixdtf_grammar.specs.table.LineNames.{CoreLine.{dates, year_months, month_days, times}, LineName.{of_core, of_clock, of_offset}}
-use Rattle.ixdtf_grammar.specs.table.LineNames.DateLine.{after_date}
-use Rattle.ixdtf_grammar.specs.table.LineNames.{YearMonthLine.{after_year_in_year_month, after_year_month}, MonthDayLine.{month_day_range, after_month_day}}
-use Rattle.ixdtf_grammar.specs.table.LineNames.{TimeLine.{time_start, time_reads_as_month_day, time_reads_as_year_month}, ClockLine.hour_start}
-use Rattle.ixdtf_grammar.specs.table.{LineNames.OffsetLine.after_zulu, Lines.{line_of, always, Line.line, Ending.ok}}
-use Rattle.ixdtf_grammar.specs.table.Before.{DateAndSeparator, ReadsAsTime, InTimeAlone, BeforeCore, BeforeTime, BeforeOffset}
-use Rattle.ixdtf_grammar.specs.table.Rows.{Row, Place, Stops, front_of, Place.{other, anywhere}}
+use Rattle.std.proofs.{Common.{arith, append_assoc}, lemmas.Bool.{or_parts, Decides.nat_tests, or_left, or_right}}
+use Rattle.ixdtf_grammar.specs.declared.{profile.Profile.Profile, records.{DateRecord.DateRecord, TimeRecord.TimeRecord, UtcOffsetRecordOrZ.UtcOffsetRecordOrZ}}
+use Rattle.ixdtf_grammar.specs.{declared.records.UtcOffsetRecordOrZ.TheVariants.Z, language.Letters.{Text, digit, sign, zulu, opening, date_time_separator}}
+use Rattle.ixdtf_grammar.specs.language.{Letters.{time_letter, Letter.Plain, ◌or◌}, Shapes.{Shape, one, some, ◌then◌, nothing}, Dates.IsDate}
+use Rattle.ixdtf_grammar.specs.language.{Months.{IsYearMonth, IsMonthDay}, Times.{Clock, TimeShape, ClockOf, IsTime, writes_seconds, TimeShape.hours}}
+use Rattle.ixdtf_grammar.specs.language.{Times.TimeShape.{seconds, fractions}, Offsets.offset_of, Cores.{Core, core_of, OptionalOffset, DateAlone}}
+use Rattle.ixdtf_grammar.specs.language.{Cores.{IsDateTimeCore, TimeMark, MarkedTime, IsCore}, Readers.{CoreKind, CoreKind.{date_time, year_month, month_day}}}
+use Rattle.ixdtf_grammar.specs.{language.Readers.CoreKind.time_of_day, table.{Faults.{Fault, Fault.InvalidEnd}, LineNames.{TimeLine, CoreLine, ClockLine}}}
+use Rattle.ixdtf_grammar.specs.table.LineNames.{LineName, of_date, of_year_month, of_month_day, of_time, CoreLine.{dates, year_months, month_days, times}}
+use Rattle.ixdtf_grammar.specs.table.LineNames.{LineName.{of_core, of_clock, of_offset}, DateLine.after_date, YearMonthLine.after_year_in_year_month}
+use Rattle.ixdtf_grammar.specs.table.LineNames.{YearMonthLine.after_year_month, MonthDayLine.{month_day_range, after_month_day}, TimeLine.time_start}
+use Rattle.ixdtf_grammar.specs.table.LineNames.{TimeLine.{time_reads_as_month_day, time_reads_as_year_month}, ClockLine.hour_start, OffsetLine.after_zulu}
+use Rattle.ixdtf_grammar.specs.table.{Lines.{line_of, always, Line.line, Ending.ok}, Before.{DateAndSeparator, ReadsAsTime, InTimeAlone, BeforeCore}}
+use Rattle.ixdtf_grammar.specs.table.{Before.{BeforeTime, BeforeOffset}, Rows.{Row, Place, Stops, front_of, Place.{other, anywhere}}}
 use Rattle.ixdtf_grammar.proofs.parts.CoreLetters.{CoreEnds, core_ends}
-use Rattle.ixdtf_reading.specs.reading.{Looks.{Read, ◌>>=◌, row_of, look_at, next_by}, Months.{year_month_at, month_day_at}}
-use Rattle.ixdtf_reading.specs.reading.{Times.{OpenTime, line_after, hour_from, clock_at}, Cores.{ClosedCore, core_look, core_end_at, with_offset}}
-use Rattle.ixdtf_reading.specs.reading.Cores.{offset_core_at, after_time_at, time_core_at, after_date_at, date_time_core_at, date_alone_at, lone_time_at}
-use Rattle.ixdtf_reading.specs.reading.Cores.{marked_time_at, marked_core_at, unfronted, time_alone_core_at, core_at}
-use Rattle.ixdtf_reading.proofs.parts.Looks.{ReadsOver, RowsRead, peek_end, peek_goes, peek_other, peek_stops}
-use Rattle.ixdtf_reading.proofs.parts.Fronts.{no_front_after, month_day_stops, year_month_stops, unfronted_goes}
-use Rattle.ixdtf_reading.proofs.to_reading.Dates.{date_takes, date_row_read}
-use Rattle.ixdtf_reading.proofs.to_reading.Months.{year_month_takes, month_day_takes, year_month_date_row, year_month_row, month_day_row}
-use Rattle.ixdtf_reading.proofs.to_reading.{Times.{closed_at_end, Closed, IsLater}, ClockRows.{RowsBehind, Refuses, TimeLead, hour_start_row, clock_lead}}
+use Rattle.ixdtf_reading.specs.reading.{Looks.{Read, ◌>>=◌, row_of, look_at, next_by}, Months.{year_month_at, month_day_at}, Times.{OpenTime, line_after}}
+use Rattle.ixdtf_reading.specs.reading.{Times.{hour_from, clock_at}, Cores.{ClosedCore, core_look, core_end_at, with_offset, offset_core_at, after_time_at}}
+use Rattle.ixdtf_reading.specs.reading.Cores.{time_core_at, after_date_at, date_time_core_at, date_alone_at, lone_time_at, marked_time_at, marked_core_at}
+use Rattle.ixdtf_reading.specs.reading.Cores.{unfronted, time_alone_core_at, core_at}
+use Rattle.ixdtf_reading.proofs.parts.{Looks.{ReadsOver, RowsRead, peek_end, peek_goes, peek_other, peek_stops, row_here}, Fronts.no_front_after}
+use Rattle.ixdtf_reading.proofs.{parts.Fronts.{month_day_stops, year_month_stops, unfronted_goes}, to_reading.Dates.{date_takes, date_row_read}}
+use Rattle.ixdtf_reading.proofs.to_reading.{Months.{year_month_takes, month_day_takes, year_month_date_row, year_month_row, month_day_row}, Times.closed_at_end}
+use Rattle.ixdtf_reading.proofs.to_reading.{Times.{Closed, IsLater, stops_behind}, ClockRows.{RowsBehind, Refuses, TimeLead, hour_start_row, clock_lead}}
 use Rattle.ixdtf_reading.proofs.to_reading.ClockRows.{over_time, start_rows, later_rows, over_clock, clock_rows}
-use Rattle.std.proofs.lemmas.Bool.{or_left, or_right}
-use Rattle.ixdtf_grammar.specs.language.Letters.{◌or◌}
-use Rattle.ixdtf_grammar.specs.language.Shapes.{nothing}
-use Rattle.ixdtf_grammar.specs.table.Lines.{line_of}
-use Rattle.ixdtf_reading.proofs.parts.Looks.{row_here}
-use Rattle.ixdtf_reading.proofs.to_reading.Times.{stops_behind}
 
 -- what may follow a time does not go on in it
 closed_before : (clock : Clock) (shape : TimeShape) (c : ℕ) (rest : Text) → IsTrue ((sign or zulu or opening) c) → Closed clock shape (Plain c ∷ rest)
@@ -80,10 +71,14 @@ module _ {E : Type 0} (fault : Row → E) where
     unfolding after_time_at look_at
     time_refuses shape t place e rest s =
         row_here fault (line_after Clock.Time shape) (λ rest. after_time ((shape, t), rest)) (line nothing (sign or zulu or opening) ok (always InvalidEnd))
-        (tt, (λ rest. refl), λ c rest out.
-        let parts = or_parts (sign c || zulu c) (opening c) out in
-        let first = or_parts (sign c) (zulu c) parts.0 in
-        rw (first.0, first.1) (end_other (line_after Clock.Time shape) (core_of date (Some t) None) c rest parts.1)) place e rest (stops_behind _ place e rest s)
+        (tt, (λ rest. refl), at_other) place e rest (stops_behind _ place e rest s)
+      where
+        at_other : (c : ℕ) (rest : Text) → IsFalse ((sign or zulu or opening) c)
+            → after_time ((shape, t), Plain c ∷ rest) ≡ Err (fault (row_of (line_after Clock.Time shape) (other (Plain c ∷ rest)) InvalidEnd))
+        at_other c rest out =
+            let parts = or_parts (sign c || zulu c) (opening c) out in
+            let no_offset = or_parts (sign c) (zulu c) parts.0 in
+            rw (no_offset.0, no_offset.1) (end_other (line_after Clock.Time shape) (core_of date (Some t) None) c rest parts.1)
 
     -- after an offset
     abbrev after_offset : TimeRecord → ℕ → OpenTime × Text → Read E ClosedCore
@@ -195,10 +190,12 @@ module _ {E : Type 0} (fault : Row → E) where
   after_date_row : RowsRead fault true (date_time_core_at fault) (of_date after_date)
   unfolding date_time_core_at after_date_at look_at
   after_date_row place e front rest f at =
-      rw (date_takes fault front f.0 rest f.1) (row_here fault (of_date after_date) (after_date_at fault f.0) (line_of true (of_date after_date))
-      (tt, (λ rest. refl), λ c rest out.
-      let parts = or_parts (date_time_separator c) (opening c) out in
-      rw parts.0 (end_other (of_date after_date) (core_of (Some f.0) None None) c rest parts.1)) place e rest at)
+      rw (date_takes fault front f.0 rest f.1) (row_here fault (of_date after_date) (after_date_at fault f.0) (line_of true (of_date after_date)) (
+        tt,
+        (λ rest. refl),
+        λ c rest out. let parts = or_parts (date_time_separator c) (opening c) out in
+            rw parts.0 (end_other (of_date after_date) (core_of (Some f.0) None None) c rest parts.1),
+      ) place e rest at)
 
   no_time : (ds : Text) (date : DateRecord) (rest : Text) → IsDate ds date → CoreEnds rest
       → date_time_core_at fault (ds ++ rest) ≡ core_end_at fault (of_date after_date) (core_of (Some date) None None) rest
@@ -252,8 +249,8 @@ module _ {E : Type 0} (fault : Row → E) where
   time_start_row : RowsRead fault true (marked_time_at fault) (of_time time_start)
   unfolding marked_time_at lone_time_at look_at next_by
   time_start_row place e front rest f at =
-      rw f (row_here fault (of_time time_start) (marked_time_at fault) (line_of true (of_time time_start)) (refl, (λ rest. refl), λ c rest out.
-      let parts = or_parts (digit c) (time_letter c) out in rw (parts.0, parts.1) refl) place e rest at)
+      rw f (row_here fault (of_time time_start) (marked_time_at fault) (line_of true (of_time time_start))
+      (refl, (λ rest. refl), λ c rest out. rw ((or_parts (digit c) (time_letter c) out).0, (or_parts (digit c) (time_letter c) out).1) refl) place e rest at)
 
   marked_takes : (front : Text) (core : Core) (rest : Text) → MarkedTime front core → CoreEnds rest → Closes core rest (marked_core_at fault (front ++ rest))
   marked_takes front core rest d ends =

@@ -1,17 +1,17 @@
 -- For a date its record and the rest are returned, and each row of a date's lines is returned.
 use Rattle.std.proofs.Common.{◌≡◌, ℕ, ◌<◌, ◌⊎◌, Bool, true, false, [], ◌++◌, Ok, Err, refl, sym, ap, ◌∙◌, inl, inr, arith, ℤ, nat_le, ◌&&◌, ◌≤◌}
 use Rattle.std.proofs.lemmas.Bool.{and_parts, and_from, leb-true, le-leb, false_from_ne_true, Decides.nat_tests}
-use Rattle.ixdtf_grammar.specs.{declared.records.DateRecord.DateRecord, language.{Letters.{Text, ◌or◌, digit, hyphen}, Shapes.digits, Digits.{decimal, TwoDigits}, Months.OptionalHyphen}}
-use Rattle.ixdtf_grammar.specs.{language.{Dates.{Year, Month, DateText, IsDayOfMonth, IsDate, month_length}, Readers.CoreKind.year_month}, table.Faults.Fault}
-use Rattle.ixdtf_grammar.specs.table.{Faults.Fault.{InvalidMonthRange, InvalidDayRange}, LineNames.{DateLine, LineName, of_date, DateLine.year_start}}
-use Rattle.ixdtf_grammar.specs.table.LineNames.DateLine.{year_digits, extended_year_digits, minus_zero_year, after_year, month_digits, month_range}
-use Rattle.ixdtf_grammar.specs.table.LineNames.DateLine.{after_hyphened_month, after_basic_month, day_digits, day_range, after_date}
+use Rattle.ixdtf_grammar.specs.{declared.records.DateRecord.DateRecord, language.{Letters.{Text, ◌or◌, digit, hyphen}, Shapes.digits, Digits.decimal}}
+use Rattle.ixdtf_grammar.specs.language.{Digits.TwoDigits, Months.OptionalHyphen, Dates.{Year, Month, DateText, IsDayOfMonth, IsDate, month_length}}
+use Rattle.ixdtf_grammar.specs.{language.Readers.CoreKind.year_month, table.{Faults.{Fault, Fault.{InvalidMonthRange, InvalidDayRange}}, LineNames.DateLine}}
+use Rattle.ixdtf_grammar.specs.table.LineNames.{LineName, of_date, DateLine.{year_start, year_digits, extended_year_digits, minus_zero_year, after_year}}
+use Rattle.ixdtf_grammar.specs.table.LineNames.DateLine.{month_digits, month_range, after_hyphened_month, after_basic_month, day_digits, day_range, after_date}
 use Rattle.ixdtf_grammar.specs.table.{Lines.{line_of, date_line, HyphenOrDigit, NoMonth}, Before.BeforeDate, Rows.{Row, Place, Stops, Place.anywhere}}
-use Rattle.ixdtf_reading.specs.reading.Looks.{Read, ◌>>=◌, row_of, mark_at}
-use Rattle.ixdtf_reading.specs.reading.Dates.{date_of, year_at, month_in_range, month_by, month_at, line_after_month, day_in_range, day_at, date_at}
-use Rattle.ixdtf_reading.proofs.parts.{Looks.{ReadsOver, ◌before◌, ◌upto◌, Halts, halts_then, RowsRead, LooksFor, looks_for, none_or_one}, Marks.{hyphens_of, Starts}}
-use Rattle.ixdtf_reading.proofs.parts.Marks.{Begun, hyphen_is, hyphen_over, mark_over, mark_stops, two_over, two_stop}
-use Rattle.ixdtf_reading.proofs.parts.Years.{year_takes, year_start_row, year_digits_row, extended_year_digits_row, minus_zero_year_row}
+use Rattle.ixdtf_reading.specs.reading.{Looks.{Read, ◌>>=◌, row_of, mark_at}, Dates.{date_of, year_at, month_in_range, month_by, month_at, line_after_month}}
+use Rattle.ixdtf_reading.specs.reading.Dates.{day_in_range, day_at, date_at}
+use Rattle.ixdtf_reading.proofs.parts.{Looks.{ReadsOver, ◌before◌, ◌upto◌, Halts, halts_then, RowsRead, LooksFor, looks_for, none_or_one}, Marks.hyphens_of}
+use Rattle.ixdtf_reading.proofs.parts.{Marks.{Starts, Begun, hyphen_is, hyphen_over, mark_over, mark_stops, two_over, two_stop}, Years.year_takes}
+use Rattle.ixdtf_reading.proofs.parts.Years.{year_start_row, year_digits_row, extended_year_digits_row, minus_zero_year_row}
 
 -- the lines that a date's own reading returns
 abbrev pub IsInside : DateLine → Type 0

@@ -61,7 +61,7 @@ module _ {E : Type 0} (fault : Row → E) (profile : Profile) where
 
   over_start : (text : Text) (s : Sign) → SignedDesignator text s → Over fault profile started text (between (in_dates s []))
   unfolding step
-  over_start text s (inl (o, is)) = 
+  over_start text s (inl (o, is)) =
       let no_sign : IsFalse (sign o.0) = grind (arith, o.2, nat_tests) in rw (o.1, is) (one_letter fault profile started o.0 (or_right _ _ o.2) (λ rest. rw no_sign))
   over_start text s (inr h) =
       let first : Over fault profile started (Plain h.0 ∷ []) (signed (sign_of h.0)) = one_letter fault profile started h.0 (or_left _ _ h.3) (λ rest. rw h.3) in

@@ -1,20 +1,20 @@
 -- A first bracket is read, and each row of a first bracket's lines is returned.
-use Rattle.std.proofs.lemmas.Bool.{or_left, or_right, Decides.nat_tests}
-use Rattle.std.proofs.Common.{◌≡◌, ℕ, Bool, true, IsTrue, IsFalse, [], ◌∷◌, ◌++◌, Ok, Err, refl, ap, ◌∙◌, inl, inr, arith, append_assoc}
-use Rattle.ixdtf_grammar.specs.{declared.records.TimeRecord.TimeRecord, language.Times.{Clock, TimeShape, TimeShape.{seconds, fractions}}}
-use Rattle.ixdtf_grammar.specs.language.{Letters.{Text, ◌or◌, sign, closing, exclamation, zone_lead, key_lead, Letter.Plain}, Shapes.nothing}
-use Rattle.ixdtf_grammar.specs.language.{Offsets.minutes_of, ZoneNames.{Zone, IsZone, Zone.Offset}}
-use Rattle.ixdtf_grammar.specs.{language.Brackets.{Opens, zone_only_lead, ReadsAsName, ReadsAsPair}, table.{Faults.{Fault, Fault.AnnotationClose}, LineNames.{ClockLine, LineName}}}
-use Rattle.ixdtf_grammar.specs.table.LineNames.{LineName.{of_clock, of_zone, of_bracket, of_pair}, ZoneLine.{in_zone_name, after_zone_slash}}
-use Rattle.ixdtf_grammar.specs.table.LineNames.BracketLine.{first_bracket_start, first_critical_start, first_bracket_scan}
-use Rattle.ixdtf_grammar.specs.table.{LineNames.PairLine.{key_start, critical_key_start}, Lines.{line_of, always, zone_other}, Rows.{Row, Place, Stops, front_of}}
-use Rattle.ixdtf_reading.specs.reading.{Looks.{Read, ◌>>=◌, row_of, look_at, next_by}, Times.{OpenTime, line_after, clock_at}, Pairs.pair_at}
-use Rattle.ixdtf_reading.specs.reading.{Zones.{follow_look, as_zone}, Brackets.{Bracket, zoned, paired, sight_at, name_in_bracket_at}}
-use Rattle.ixdtf_reading.specs.reading.Brackets.{name_or_pair_at, offset_in_bracket_at, noted, as_pair, inside_at, critical_bracket_at, bracket_at}
-use Rattle.ixdtf_reading.proofs.parts.{Looks.{RowsRead, letter_stops}, Openings.{Returned, opened, start_row, critical_row}, LookAhead.{over_scanned, sight_stops, sight_pair, sight_name, name_reads, key_reads}}
-use Rattle.ixdtf_reading.proofs.to_reading.{Times.{Closed, stops_behind}, ClockRows.{over_clock, clock_rows}}
-use Rattle.ixdtf_reading.proofs.to_reading.{ZoneNames.{InNameOrBehind, name_takes, name_row, slash_row}, Pair.{pair_text, pair_takes, pair_rows}}
-use Rattle.ixdtf_reading.proofs.to_grammar.FirstBracket.{InBracket, IsBracket}
+use Rattle.std.proofs.{lemmas.Bool.{or_left, or_right, Decides.nat_tests}, Common.{◌≡◌, ℕ, Bool, true, IsTrue, IsFalse, [], ◌∷◌, ◌++◌, Ok, Err, refl, ap, ◌∙◌}}
+use Rattle.std.proofs.Common.{inl, inr, arith, append_assoc}
+use Rattle.ixdtf_grammar.specs.{declared.records.TimeRecord.TimeRecord, language.{Times.{Clock, TimeShape, TimeShape.{seconds, fractions}}, Letters.Text}}
+use Rattle.ixdtf_grammar.specs.language.{Letters.{◌or◌, sign, closing, exclamation, zone_lead, key_lead, Letter.Plain}, Shapes.nothing, Offsets.minutes_of}
+use Rattle.ixdtf_grammar.specs.language.{ZoneNames.{Zone, IsZone, Zone.Offset}, Brackets.{Opens, zone_only_lead, ReadsAsName, ReadsAsPair}}
+use Rattle.ixdtf_grammar.specs.table.{Faults.{Fault, Fault.AnnotationClose}, LineNames.{ClockLine, LineName, LineName.{of_clock, of_zone, of_bracket, of_pair}}}
+use Rattle.ixdtf_grammar.specs.table.LineNames.{ZoneLine.{in_zone_name, after_zone_slash}, BracketLine.{first_bracket_start, first_critical_start}}
+use Rattle.ixdtf_grammar.specs.table.{LineNames.{BracketLine.first_bracket_scan, PairLine.{key_start, critical_key_start}}, Lines.{line_of, always, zone_other}}
+use Rattle.ixdtf_grammar.specs.table.Rows.{Row, Place, Stops, front_of}
+use Rattle.ixdtf_reading.specs.reading.{Looks.{Read, ◌>>=◌, row_of, look_at, next_by}, Times.{OpenTime, line_after, clock_at}, Pairs.pair_at, Zones.follow_look}
+use Rattle.ixdtf_reading.specs.reading.{Zones.as_zone, Brackets.{Bracket, zoned, paired, sight_at, name_in_bracket_at, name_or_pair_at, offset_in_bracket_at}}
+use Rattle.ixdtf_reading.specs.reading.Brackets.{noted, as_pair, inside_at, critical_bracket_at, bracket_at}
+use Rattle.ixdtf_reading.proofs.parts.{Looks.{RowsRead, letter_stops}, Openings.{Returned, opened, start_row, critical_row}, LookAhead.over_scanned}
+use Rattle.ixdtf_reading.proofs.{parts.LookAhead.{sight_stops, sight_pair, sight_name, name_reads, key_reads}, to_reading.Times.{Closed, stops_behind}}
+use Rattle.ixdtf_reading.proofs.to_reading.{ClockRows.{over_clock, clock_rows}, ZoneNames.{InNameOrBehind, name_takes, name_row, slash_row}, Pair.pair_text}
+use Rattle.ixdtf_reading.proofs.{to_reading.Pair.{pair_takes, pair_rows}, to_grammar.FirstBracket.{InBracket, IsBracket}}
 
 -- ---- code units
 
@@ -170,8 +170,8 @@ module _ {E : Type 0} (fault : Row → E) where
       rw b (critical_row fault (of_bracket first_bracket_start) (of_bracket first_critical_start) (zone_lead or sign) tt tt may_start refl (inside_at fault)
       place e front rest f at)
   bracket_rows (of_bracket first_bracket_scan) place e start front rest b f at =
-      is_opened start b.0 b.1 front rest _ (f.3.0, f.1 ++ rest, rw (f.2, f.3.1), key_starts f.3.0 f.3.2,
-      scan_stops b.0 f.3.0 (front ++ rest) _ f.3.2 (over_scanned fault front rest f ∙ sight_stops fault place e rest at))
+      let stopped = scan_stops b.0 f.3.0 (front ++ rest) _ f.3.2 (over_scanned fault front rest f ∙ sight_stops fault place e rest at) in
+      is_opened start b.0 b.1 front rest _ (f.3.0, f.1 ++ rest, rw (f.2, f.3.1), key_starts f.3.0 f.3.2, stopped)
   bracket_rows (of_pair key_start) place e start front rest b f at = absurd b
   bracket_rows (of_pair critical_key_start) place e start front rest b f at = absurd b
   bracket_rows (of_pair l) place e start front rest b f at =

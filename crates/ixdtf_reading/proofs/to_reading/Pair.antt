@@ -59,8 +59,8 @@ module _ {E : Type 0} (fault : Row → E) where
       → key_run fault rest ≡ Err (fault (row_of (of_pair in_key) place e))
   unfolding key_run
   key_stops =
-      row_here fault (of_pair in_key) (key_run fault) (pair_line in_key) (refl, (λ rest. refl), λ c rest out.
-      let parts = or_parts (key_char c) (equals c) out in rw (parts.0, parts.1) refl)
+      row_here fault (of_pair in_key) (key_run fault) (pair_line in_key)
+      (refl, (λ rest. refl), λ c rest out. rw ((or_parts (key_char c) (equals c) out).0, (or_parts (key_char c) (equals c) out).1) refl)
 
   -- ---- values
 

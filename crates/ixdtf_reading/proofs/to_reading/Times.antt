@@ -1,20 +1,19 @@
 -- A time is read as far as it goes, wherever it starts, and each row of a time's lines is returned.
-use Rattle.std.proofs.Common.{◌≡◌, ℕ, suc, ◌<◌, ◌⊎◌, Bool, true, false, IsTrue, IsFalse, [], ◌∷◌, ◌++◌, Ok, Err, Some, None, refl, sym, ◌∙◌, inl}
-use Rattle.std.proofs.{Common.{inr, arith, append-nil, nat_le}, lemmas.Bool.{le-leb, lt-leb, or_parts, Decides.nat_tests}}
+use Rattle.std.proofs.Common.{◌≡◌, ℕ, suc, ◌<◌, ◌⊎◌, Bool, true, false, IsTrue, IsFalse, [], ◌∷◌, ◌++◌, Ok, Err, Some, None, refl, sym, ◌∙◌, inl, inr, arith}
+use Rattle.std.proofs.{Common.{append-nil, nat_le}, lemmas.Bool.{le-leb, lt-leb, or_parts, Decides.nat_tests}}
 use Rattle.ixdtf_grammar.specs.{declared.records.TimeRecord.TimeRecord, language.Times.{Clock, TimeShape, ClockOf, SecondText, greatest_second, has_seconds}}
-use Rattle.ixdtf_grammar.specs.language.Times.TimeShape.{hours, basic_minutes, colon_minutes, seconds, fractions}
-use Rattle.ixdtf_grammar.specs.language.{Letters.{Text, Class, ◌or◌, digit, colon, decimal_mark, Letter.{Plain, Bad}}, Shapes.{Shape, nothing, some, digits, one}}
-use Rattle.ixdtf_grammar.specs.{language.{Digits.{decimal, UpTo}, Fractions.{FractionParts, fraction_of}}, table.Faults.Fault}
-use Rattle.ixdtf_grammar.specs.table.LineNames.{ClockLine, LineName, LineName.of_clock, ClockLine.{hour_start, hour_digit, hour_range, minute_digits}}
-use Rattle.ixdtf_grammar.specs.table.LineNames.ClockLine.{minute_range, second_digits, second_range, fraction_start}
+use Rattle.ixdtf_grammar.specs.language.{Times.TimeShape.{hours, basic_minutes, colon_minutes, seconds, fractions}, Letters.{Text, Class, ◌or◌, digit, colon}}
+use Rattle.ixdtf_grammar.specs.language.{Letters.{decimal_mark, Letter.{Plain, Bad}}, Shapes.{Shape, nothing, some, digits, one}, Digits.{decimal, UpTo}}
+use Rattle.ixdtf_grammar.specs.{language.Fractions.{FractionParts, fraction_of}, table.{Faults.Fault, LineNames.{ClockLine, LineName, LineName.of_clock}}}
+use Rattle.ixdtf_grammar.specs.table.LineNames.ClockLine.{hour_start, hour_digit, hour_range, minute_digits, minute_range, second_digits, second_range}
+use Rattle.ixdtf_grammar.specs.table.LineNames.ClockLine.{fraction_start, after_hour, after_basic_minute, after_colon_minute, after_second, after_fraction}
 use Rattle.ixdtf_grammar.specs.table.Lines.{Follow, line_of, follow_of, always, seconds_after, after_minute, Past, ColonOrDigit, Line.line, Ending.error}
 use Rattle.ixdtf_grammar.specs.table.Rows.{Row, Place, Stops, Place.{end, other, bad, anywhere}}
 use Rattle.ixdtf_reading.specs.reading.{Looks.{Read, ◌>>=◌, row_of, look_at, in_range, number_by}, Times.{OpenTime, time_of, line_after, bad_after}}
 use Rattle.ixdtf_reading.specs.reading.Times.{mixed_after, hour_past, minute_past, second_past, minutes_shape, second_start, number_at, fraction_at}
 use Rattle.ixdtf_reading.specs.reading.Times.{after_second_at, second_at, after_minute_at, minute_at, after_hour_at, hour_from}
-use Rattle.ixdtf_reading.proofs.parts.Looks.{ReadsOver, ◌before◌, ReadsTo, ◌upto◌, Halts, RowsRead, LooksFor, goes, stops, digits_go}
-use Rattle.ixdtf_reading.proofs.parts.Looks.{digits_stop, one_as_digits, NotNext, run_takes, run_bad}
-use Rattle.ixdtf_grammar.specs.table.LineNames.ClockLine.{after_hour, after_basic_minute, after_colon_minute, after_second, after_fraction}
+use Rattle.ixdtf_reading.proofs.parts.Looks.{ReadsOver, ◌before◌, ReadsTo, ◌upto◌, Halts, RowsRead, LooksFor, goes, stops, digits_go, digits_stop}
+use Rattle.ixdtf_reading.proofs.parts.Looks.{one_as_digits, NotNext, run_takes, run_bad}
 
 range_fits : {E : Type 0} (greatest n : ℕ) (e : Text → E) (ds rest : Text) → UpTo greatest ds n → in_range greatest e (ds, rest) ≡ Ok (n, rest)
 unfolding in_range

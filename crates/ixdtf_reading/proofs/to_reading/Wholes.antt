@@ -1,23 +1,20 @@
 -- What is derived is returned, and each row that fits: what holds of a text decides what reading returns.
 use Rattle.std.proofs.Common.{◌≡◌, ℕ, suc, ◌<◌, ◌⊎◌, List, [], ◌∷◌, ◌++◌, length, Ok, Err, Option, Some, None, refl, sym, ap, ◌∙◌, inl, inr, arith}
 use Rattle.std.proofs.Common.{append_assoc, append-nil, true}
-use Rattle.ixdtf_grammar.specs.language.{Times.Clock, Letters.{Text, Letter.Plain}, Shapes.some}
-use Rattle.ixdtf_grammar.specs.language.{Brackets.{ZoneNote, Opens, Pair, ArePairs, IsTail, ReadsAsPair}, Cores.{Core, IsCore}, Readers.{Reader, CoreKind}}
-use Rattle.ixdtf_grammar.specs.language.Readers.Reader.{bracketed, parse_offset, parse_identifier, parse_iana_identifier, parse_duration}
-use Rattle.ixdtf_grammar.specs.language.Languages.{Parsed, parsed_with, IsBracketed, Found, Derives}
-use Rattle.ixdtf_grammar.specs.{language.Languages.Derives.{as_parsed, as_shifted, as_identified, as_named, as_lasting}, table.Faults.Fault}
-use Rattle.ixdtf_grammar.specs.table.LineNames.{LineName, LineName.{of_core, of_clock, of_offset, of_zone, of_bracket, of_pair}}
-use Rattle.ixdtf_grammar.specs.table.LineNames.{OffsetLine.{offset_start, after_zulu}, ZoneLine.{in_zone_name, after_zone_slash}}
-use Rattle.ixdtf_grammar.specs.table.LineNames.BracketLine.{first_bracket_start, first_critical_start, first_bracket_scan, after_bracket}
-use Rattle.ixdtf_grammar.specs.table.{LineNames.PairLine.{key_start, critical_key_start}, Lines.line_of, Before.{BeforeBracketed, Bracketed, BeforeKey}}
-use Rattle.ixdtf_grammar.specs.table.Rows.{Row, Place, Stops, Fits, front_of}
-use Rattle.ixdtf_reading.specs.reading.{Looks.{Read, ◌>>=◌, row_of}, Pairs.pairs_at, Brackets.{Bracket, zoned, paired, zone_in, pairs_in}}
-use Rattle.ixdtf_reading.specs.reading.{Cores.core_at, Wholes.{bracketed_at, annotated_at, bracketed_text_at, read_at}, Chains.AfterBrackets}
-use Rattle.ixdtf_reading.proofs.to_reading.Cores.{core_takes, core_line_rows, core_time_rows, core_offset_rows, core_zulu_row}
-use Rattle.ixdtf_reading.proofs.to_reading.{FirstBracket.{bracket_takes, bracket_rows}, MorePairs.{over_pairs, pairs_end, pairs_row}}
-use Rattle.ixdtf_reading.proofs.{to_reading.Durations.{duration_takes, duration_rows}, to_grammar.FirstBracket.{InBracket, IsBracket}}
-use Rattle.ixdtf_reading.proofs.parts.ZonesAlone.{offset_takes, offset_rows as offset_reader_rows, identifier_takes, identifier_rows, iana_identifier_takes}
-use Rattle.ixdtf_reading.proofs.parts.ZonesAlone.{iana_identifier_rows}
+use Rattle.ixdtf_grammar.specs.language.{Times.Clock, Letters.{Text, Letter.Plain}, Shapes.some, Brackets.{ZoneNote, Opens, Pair, ArePairs, IsTail}}
+use Rattle.ixdtf_grammar.specs.language.{Brackets.ReadsAsPair, Cores.{Core, IsCore}, Readers.{Reader, CoreKind, Reader.{bracketed, parse_offset}}}
+use Rattle.ixdtf_grammar.specs.language.{Readers.Reader.{parse_identifier, parse_iana_identifier, parse_duration}, Languages.{Parsed, parsed_with, IsBracketed}}
+use Rattle.ixdtf_grammar.specs.{language.Languages.{Found, Derives, Derives.{as_parsed, as_shifted, as_identified, as_named, as_lasting}}, table.Faults.Fault}
+use Rattle.ixdtf_grammar.specs.table.LineNames.{LineName, LineName.{of_core, of_clock, of_offset, of_zone, of_bracket, of_pair}, OffsetLine.offset_start}
+use Rattle.ixdtf_grammar.specs.table.LineNames.{OffsetLine.after_zulu, ZoneLine.{in_zone_name, after_zone_slash}, BracketLine.first_bracket_start}
+use Rattle.ixdtf_grammar.specs.table.LineNames.{BracketLine.{first_critical_start, first_bracket_scan, after_bracket}, PairLine.{key_start, critical_key_start}}
+use Rattle.ixdtf_grammar.specs.table.{Lines.line_of, Before.{BeforeBracketed, Bracketed, BeforeKey}, Rows.{Row, Place, Stops, Fits, front_of}}
+use Rattle.ixdtf_reading.specs.reading.{Looks.{Read, ◌>>=◌, row_of}, Pairs.pairs_at, Brackets.{Bracket, zoned, paired, zone_in, pairs_in}, Cores.core_at}
+use Rattle.ixdtf_reading.specs.reading.{Wholes.{bracketed_at, annotated_at, bracketed_text_at, read_at}, Chains.AfterBrackets}
+use Rattle.ixdtf_reading.proofs.to_reading.{Cores.{core_takes, core_line_rows, core_time_rows, core_offset_rows, core_zulu_row}, FirstBracket.bracket_takes}
+use Rattle.ixdtf_reading.proofs.to_reading.{FirstBracket.bracket_rows, MorePairs.{over_pairs, pairs_end, pairs_row}, Durations.{duration_takes, duration_rows}}
+use Rattle.ixdtf_reading.proofs.{to_grammar.FirstBracket.{InBracket, IsBracket}, parts.ZonesAlone.{offset_takes, offset_rows as offset_reader_rows}}
+use Rattle.ixdtf_reading.proofs.parts.ZonesAlone.{identifier_takes, identifier_rows, iana_identifier_takes, iana_identifier_rows}
 
 -- one bracket or more, as reading takes them: a first one, and pairs
 pub record Brackets (text : Text) (zone : Option ZoneNote) (pairs : List Pair) : Type 0 where
@@ -78,7 +75,7 @@ module _ {E : Type 0} (fault : List Pair → Row → E) (kind : CoreKind) where
       → Brackets brackets zone pairs → (m : ℕ) × (length rest < m)
       × (whole_at (cores ++ (brackets ++ rest)) ≡ (pairs_at fault m pairs rest >>= with_core core zone))
   unfolding annotated_at bracketed_at
-  over_brackets cores brackets rest core zone pairs d h =
+  over_brackets cores brackets rest core first_zone pairs d h =
       let read = bracket_takes (fault []) h.first (h.rest ++ rest) h.bracket h.is_bracket in
       let over = over_pairs fault h.more h.rest rest (pairs_in h.bracket) (suc (length (h.rest ++ rest))) h.are_pairs (omega arith) in
       let whole : brackets ++ rest ≡ Plain 91 ∷ (read.0 ++ (h.rest ++ rest)) = ap (λ t. t ++ rest) h.is ∙ append_assoc h.first h.rest rest

@@ -1,10 +1,10 @@
 -- A zone name is read as far as it goes, and each row of a name's lines is returned.
-use Rattle.std.proofs.Common.{◌≡◌, ℕ, true, false, IsTrue, IsFalse, ◌⊎◌, List, [], ◌∷◌, ◌++◌, map, Ok, Err, refl, inl, inr, append_assoc}
-use Rattle.std.proofs.{Common.{Bool, if◌then◌else◌}, lemmas.Bool.{or_parts, and_right, eqb-true}}
-use Rattle.ixdtf_grammar.specs.language.{Letters.{Text, zone_lead, zone_char, slash, closing, none, Letter.{Plain, Bad}}, Shapes.nothing, ZoneNames.{NameItem, ZoneName}}
-use Rattle.ixdtf_grammar.specs.table.{Faults.{Fault, Fault.NonAsciiCodePoint}, LineNames.{LineName.of_zone, ZoneLine.{in_zone_name, after_zone_slash}}}
-use Rattle.ixdtf_grammar.specs.table.{Lines.{Line, line_of, zone_letters, zone_end, zone_other, Line.line}, Rows.{Row, Place, Stops}}
-use Rattle.ixdtf_grammar.specs.table.Rows.Place.{end, other, bad, anywhere}
+use Rattle.std.proofs.Common.{◌≡◌, ℕ, true, false, IsTrue, IsFalse, ◌⊎◌, List, [], ◌∷◌, ◌++◌, map, Ok, Err, refl, inl, inr, append_assoc, Bool, if◌then◌else◌}
+use Rattle.std.proofs.lemmas.Bool.{or_parts, and_right, eqb-true}
+use Rattle.ixdtf_grammar.specs.language.{Letters.{Text, zone_lead, zone_char, slash, closing, none, Letter.{Plain, Bad}}, Shapes.nothing, ZoneNames.NameItem}
+use Rattle.ixdtf_grammar.specs.{language.ZoneNames.ZoneName, table.{Faults.{Fault, Fault.NonAsciiCodePoint}, LineNames.LineName.of_zone}}
+use Rattle.ixdtf_grammar.specs.table.{LineNames.ZoneLine.{in_zone_name, after_zone_slash}, Lines.{Line, line_of, zone_letters, zone_end, zone_other, Line.line}}
+use Rattle.ixdtf_grammar.specs.table.Rows.{Row, Place, Stops, Place.{end, other, bad, anywhere}}
 use Rattle.ixdtf_reading.specs.reading.{Looks.row_of, Zones.name_run}
 use Rattle.ixdtf_reading.proofs.parts.{Looks.{RowsRead, NotNext, row_here}, Steps.{IsOver, over_one, over_both, over_many, over_ok, over_err}}
 
