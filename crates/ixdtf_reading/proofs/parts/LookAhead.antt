@@ -1,6 +1,6 @@
 -- Looking ahead in a bracket: what holds of a text decides what `sight_at` returns, and back.
 use Rattle.std.proofs.Common.{◌≡◌, ℕ, Bool, true, false, IsTrue, IsFalse, List, [], ◌∷◌, ◌++◌, Result, Ok, Err, refl, ap, ◌∙◌, inl, inr, arith, append_assoc}
-use Rattle.std.proofs.{Common.if◌then◌else◌, lemmas.Bool.Decides.nat_tests}
+use Rattle.std.proofs.{Common.if◌then◌else◌, lemmas.Bool.{eqb-true, Decides.nat_tests}}
 use Rattle.ixdtf_grammar.specs.language.Letters.{Text, Class, equals, closing, slash, zone_char, key_lead, key_char, Letter.{Plain, Bad}}
 use Rattle.ixdtf_grammar.specs.language.{Shapes.{Shape, one, ◌then◌, Joined, many}, ZoneNames.{NameItem, ZoneName}}
 use Rattle.ixdtf_grammar.specs.{language.Brackets.{skipped, FirstIs, ReadsAsName, Key, ReadsAsPair}, table.Faults.{Fault, Fault.NonAsciiCodePoint}}
@@ -10,17 +10,8 @@ use Rattle.ixdtf_reading.{specs.reading.{Looks.row_of, Brackets.sight_at}, proof
 
 -- ---- code units that are passed
 
-skipped_no_equals : (c : ℕ) → IsTrue (skipped c) → IsFalse (equals c)
-skipped_no_equals c h = grind (arith, nat_tests)
-
-skipped_no_closing : (c : ℕ) → IsTrue (skipped c) → IsFalse (closing c)
-skipped_no_closing c h = grind (arith, nat_tests)
-
 neither_skipped : (c : ℕ) → IsFalse (equals c) → IsFalse (closing c) → IsTrue (skipped c)
 neither_skipped c no_equals no_closing = rw (no_equals, no_closing) refl
-
-closing_no_equals : (c : ℕ) → IsTrue (closing c) → IsFalse (equals c)
-closing_no_equals c h = grind (arith, nat_tests)
 
 pub zone_char_skipped : (c : ℕ) → IsTrue (zone_char c) → IsTrue (skipped c)
 zone_char_skipped c h = grind (arith, nat_tests)
@@ -39,7 +30,9 @@ key_lead_skipped c h = grind (arith, nat_tests)
 module _ {E : Type 0} (fault : Row → E) where
   pub over_letter : (c : ℕ) (rest : Text) → IsTrue (skipped c) → sight_at fault (Plain c ∷ rest) ≡ sight_at fault rest
   unfolding sight_at
-  over_letter c rest h = rw (skipped_no_equals c h, skipped_no_closing c h) refl
+  over_letter c rest h =
+      let no_equals : IsFalse (equals c) = grind (arith, nat_tests, h) in
+      let no_closing : IsFalse (closing c) = grind (arith, nat_tests, h) in rw (no_equals, no_closing) refl
 
   over_joined : (parts : List Text) (text rest : Text) → Joined (one skipped) parts text → sight_at fault (text ++ rest) ≡ sight_at fault rest
   over_joined [] text rest h = rw h refl
@@ -69,7 +62,7 @@ module _ {E : Type 0} (fault : Row → E) where
 
   pub sight_name : (text : Text) → (one key_lead then FirstIs closing) text → sight_at fault text ≡ Ok false
   unfolding sight_at
-  sight_name = sight_first closing false (λ c rest h. rw (closing_no_equals c h, h) refl)
+  sight_name = sight_first closing false (λ c rest h. rw (eqb-true c 93 h) refl)
 
 -- ---- what was seen
 

@@ -72,13 +72,14 @@ module _ {E A : Type 0} (fault : Row → E) (clock : Clock) (whole_at : Text →
 
       -- every row of a time's lines but that of the first digit
       pub later_rows : (l : ClockLine) → IsLater l → RowsBehind fault brackets whole_at prior (of_clock clock l)
-      later_rows hour_start is_later = absurd is_later
-      later_rows after_hour is_later = open_rows hours
-      later_rows after_basic_minute is_later = open_rows basic_minutes
-      later_rows after_colon_minute is_later = open_rows colon_minutes
-      later_rows after_second is_later = open_rows seconds
-      later_rows after_fraction is_later = open_rows fractions
-      later_rows l is_later = start_rows _ (inner_rows fault clock lead.start lead.starts brackets l tt)
+      later_rows hour_start is_later place e front rest f at = absurd is_later
+      later_rows after_hour is_later place e front rest f at = open_rows hours place e front rest f at
+      later_rows after_basic_minute is_later place e front rest f at = open_rows basic_minutes place e front rest f at
+      later_rows after_colon_minute is_later place e front rest f at = open_rows colon_minutes place e front rest f at
+      later_rows after_second is_later place e front rest f at = open_rows seconds place e front rest f at
+      later_rows after_fraction is_later place e front rest f at = open_rows fractions place e front rest f at
+      later_rows l is_later place e front rest f at =
+          in_time (front ++ rest) _ (inner_rows fault clock lead.start lead.starts brackets l tt place e front rest f at)
 
 -- ---- a reading that goes on after a time which starts with its hour
 
