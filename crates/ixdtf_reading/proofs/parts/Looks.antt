@@ -1,10 +1,10 @@
 -- One look at a line: a code unit that goes on is read further, a row that fits is returned; and back.
 use Rattle.std.proofs.Common.{◌≡◌, ℕ, zero, suc, ◌<◌, ◌⊎◌, Bool, true, false, IsTrue, IsFalse, [], ◌∷◌, ◌++◌, Ok, Err, Option, Some, None, refl, sym, ap, ◌∙◌}
-use Rattle.std.proofs.Common.{inl, inr, arith, append_assoc, Result, if◌then◌else◌}
+use Rattle.std.proofs.Common.{inl, inr, arith, append_assoc, Result, if◌then◌else◌, List}
 use Rattle.ixdtf_grammar.specs.language.{Letters.{Text, Class, digit, Letter.{Plain, Bad}}, Shapes.{Shape, one, digits}, Readers.{Reader, has_brackets}}
-use Rattle.ixdtf_grammar.specs.table.{Faults.{Fault, Fault.NonAsciiCodePoint}, LineNames.LineName, Lines.{Line, line_of, Line.{line, scanned, whole}}}
-use Rattle.ixdtf_grammar.specs.table.{Lines.{Ending, Ending.{ok, error}}, Before.Before, Rows.{Row, Place, Stops, front_of, FitsHere, Fits}}
-use Rattle.ixdtf_grammar.specs.table.Rows.Place.{end, other, bad, anywhere}
+use Rattle.ixdtf_grammar.specs.{language.Brackets.Pair, table.{Faults.{Fault, Fault.NonAsciiCodePoint}, LineNames.LineName, Lines.{Line, line_of, Line.line}}}
+use Rattle.ixdtf_grammar.specs.table.{Lines.{Line.{scanned, whole}, Ending, Ending.{ok, error}}, Before.Before, Rows.{Row, Place, Stops, front_of, FitsHere}}
+use Rattle.ixdtf_grammar.specs.table.Rows.{Fits, Place.{end, other, bad, anywhere}}
 use Rattle.ixdtf_reading.specs.reading.Looks.{Read, Look, ◌>>=◌, row_of, look_of, look_at, next_by, letter_at, digits_by, digits_at, peek_by, on_next}
 use Rattle.ixdtf_reading.specs.reading.Looks.{digit_run}
 
@@ -77,6 +77,15 @@ halts_then next h = record { reads_to = rw h.reads_to refl }
 abbrev pub RowsRead : {E A : Type 0} → (Row → E) → Bool → (Text → Read E A) → LineName → Type 0
 RowsRead fault brackets read name = (place : Place) (e : Fault) (front rest : Text) → front_of (line_of brackets name) front
     → Stops (line_of brackets name) place e rest → read (front ++ rest) ≡ Err (fault (row_of name place e))
+
+-- the same where what stands before the line's front, and from its front on, is so
+abbrev pub RowsWhere : {E A : Type 0} → (Row → E) → Bool → (Text → Read E A) → LineName → (Text → Text → Type 0) → Type 0
+RowsWhere fault brackets read name stands = (place : Place) (e : Fault) (prior front rest : Text) → stands prior (front ++ rest)
+    → front_of (line_of brackets name) front → Stops (line_of brackets name) place e rest → read (prior ++ (front ++ rest)) ≡ Err (fault (row_of name place e))
+
+-- each row of the reader's lines is returned
+abbrev pub ReadsAllRows : {E A : Type 0} → (Row → E) → Reader → (Text → Read E A) → Type 0
+ReadsAllRows fault reader read = (name : LineName) (pairs : List Pair) → RowsWhere fault (has_brackets reader) read name (Before reader name pairs)
 
 -- the row is of a line of a part, and fits here
 abbrev pub FitsIn : {L : Type 0} → (L → LineName) → Bool → Row → Text → Type 0

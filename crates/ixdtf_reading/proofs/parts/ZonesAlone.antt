@@ -3,20 +3,20 @@ use Rattle.std.proofs.Common.{◌≡◌, ℕ, IsTrue, IsFalse, ◌⊎◌, List, 
 use Rattle.std.proofs.{Common.{append-nil, false}, lemmas.Bool.{or_from, or_left, or_right, true≢false, Decides.nat_tests}}
 use Rattle.ixdtf_grammar.specs.language.{Times.{Clock as clocks, Clock, TimeShape, writes_seconds}, Letters.{Text, none, sign, slash, zone_lead, zone_char}}
 use Rattle.ixdtf_grammar.specs.language.{Letters.Letter.Plain, Offsets.{IsSigned, IsOffset, IsMinuteOffset, offset_of, minutes_of}, ZoneNames.{Zone, ZoneName}}
-use Rattle.ixdtf_grammar.specs.language.{ZoneNames.{IsZone, IsZoneName, Zone.Offset}, Brackets.Pair, Readers.{Reader, has_brackets, Reader.parse_offset}}
-use Rattle.ixdtf_grammar.specs.{language.{Readers.Reader.{parse_identifier, parse_iana_identifier}, Shapes.nothing}, declared.records.TimeRecord.TimeRecord}
-use Rattle.ixdtf_grammar.specs.{declared.records.{MinutePrecisionOffset.MinutePrecisionOffset, UtcOffsetRecord.UtcOffsetRecord}, table.Faults.Fault}
-use Rattle.ixdtf_grammar.specs.table.{Faults.Fault.InvalidEnd, LineNames.{LineName, LineName.{of_clock, of_offset, of_zone}, OffsetLine.offset_start}}
-use Rattle.ixdtf_grammar.specs.table.{LineNames.ZoneLine.{identifier_start, zone_name_start, in_zone_name, after_zone_slash}, Lines.{table, always, zone_other}}
-use Rattle.ixdtf_grammar.specs.table.{Before.Before, Rows.{Row, Place, Stops, Fits, front_of, Place.other}}
+use Rattle.ixdtf_grammar.specs.language.{ZoneNames.{IsZone, IsZoneName, Zone.Offset}, Readers.{Reader, has_brackets, Reader.{parse_offset, parse_identifier}}}
+use Rattle.ixdtf_grammar.specs.{language.{Readers.Reader.parse_iana_identifier, Shapes.nothing}, declared.records.TimeRecord.TimeRecord}
+use Rattle.ixdtf_grammar.specs.{declared.records.{MinutePrecisionOffset.MinutePrecisionOffset, UtcOffsetRecord.UtcOffsetRecord}, table.Faults.Fault.InvalidEnd}
+use Rattle.ixdtf_grammar.specs.table.LineNames.{LineName, LineName.{of_clock, of_offset, of_zone}, OffsetLine.offset_start, ZoneLine.identifier_start}
+use Rattle.ixdtf_grammar.specs.table.{LineNames.ZoneLine.{zone_name_start, in_zone_name, after_zone_slash}, Lines.{table, always, zone_other}, Before.Before}
+use Rattle.ixdtf_grammar.specs.table.Rows.{Row, Stops, Fits, front_of, Place.other}
 use Rattle.ixdtf_grammar.proofs.parts.Texts.{signed_text}
 use Rattle.ixdtf_reading.specs.reading.{Looks.{Read, ◌>>=◌, row_of, letter_at, peek_by}, Times.{OpenTime, line_after, clock_at}, Zones.follow_look}
 use Rattle.ixdtf_reading.specs.reading.Zones.{name_alone_at, iana_identifier_at, signed_alone_at, offset_alone_at, offset_at, minute_offset_alone_at, as_zone}
 use Rattle.ixdtf_reading.specs.reading.Zones.{identifier_at}
 use Rattle.ixdtf_reading.proofs.parts.Looks.{lift, RowsRead, OnRead, then_read, read_weaker, read_if, FitsIn, goes, stops, read_letter, Peeked, peek_end}
-use Rattle.ixdtf_reading.proofs.{parts.Looks.{peek_stops, peek_read, NotNext}, to_reading.ZoneNames.{InNameOrBehind, name_takes, name_row, slash_row}}
-use Rattle.ixdtf_reading.proofs.{to_reading.{Times.{closed_at_end, stops_behind}, ClockRows.{Refuses, over_clock, clock_rows}}, to_grammar.ZoneNames.NameFront}
-use Rattle.ixdtf_reading.proofs.to_grammar.{ZoneNames.{name_read, name_stops_here, name_lines}, Times.{TimeFront, clock_read, clock_peek_read}}
+use Rattle.ixdtf_reading.proofs.{parts.Looks.{peek_stops, peek_read, NotNext, ReadsAllRows}, to_reading.ZoneNames.{InNameOrBehind, name_takes, name_row}}
+use Rattle.ixdtf_reading.proofs.to_reading.{ZoneNames.slash_row, Times.{closed_at_end, stops_behind}, ClockRows.{Refuses, over_clock, clock_rows}}
+use Rattle.ixdtf_reading.proofs.to_grammar.{ZoneNames.{NameFront, name_read, name_stops_here, name_lines}, Times.{TimeFront, clock_read, clock_peek_read}}
 
 -- what a name begins with is no sign
 pub lead_no_sign : (c : ℕ) → IsTrue (zone_lead c) → IsFalse (sign c)
@@ -42,12 +42,6 @@ lift_start : (reader : Reader) (name : LineName) (row : Row) (text : Text) → r
 lift_start reader name row text is stands shape at = ([], text, refl, rw is stands, ([], text, refl, rw is shape, rw is at))
 
 module _ {E : Type 0} (fault : Row → E) where
-  -- each row of the reader's lines is returned
-  abbrev ReadsAllRows : {A : Type 0} → Reader → (Text → Read E A) → Type 0
-  ReadsAllRows reader read = (name : LineName) (pairs : List Pair) (place : Place) (e : Fault) (prior front rest : Text)
-      → Before reader name pairs prior (front ++ rest) → front_of (table reader name) front → Stops (table reader name) place e rest
-      → read (prior ++ (front ++ rest)) ≡ Err (fault (row_of name place e))
-
   -- ---- a sign and a time
 
   module _ {O : Type 0} (clock : Clock) (record_of : ℕ → TimeShape → TimeRecord → O) where
@@ -99,7 +93,7 @@ module _ {E : Type 0} (fault : Row → E) where
   pub offset_takes : (text : Text) (offset : UtcOffsetRecord) → IsOffset text offset → offset_at fault text ≡ Ok (offset, [])
   offset_takes = signed_takes clocks.Offset offset_record _ offset_lead
 
-  pub offset_rows : ReadsAllRows parse_offset (offset_at fault)
+  pub offset_rows : ReadsAllRows fault parse_offset (offset_at fault)
   unfolding offset_at
   offset_rows (of_offset offset_start) pairs place e prior front rest b f at = rw (b.0, f, stops fault (of_offset offset_start) place e rest tt at) refl
   offset_rows (of_clock clocks.Offset l) pairs place e prior front rest b f at =
@@ -163,7 +157,7 @@ module _ {E : Type 0} (fault : Row → E) where
   iana_identifier_takes text name h =
       ap (iana_identifier_at fault) (sym (append-nil text)) ∙ iana_lead text [] h.0 ∙ ap (name_alone_at fault) (append-nil text) ∙ alone_takes text name h
 
-  pub iana_identifier_rows : ReadsAllRows parse_iana_identifier (iana_identifier_at fault)
+  pub iana_identifier_rows : ReadsAllRows fault parse_iana_identifier (iana_identifier_at fault)
   unfolding iana_identifier_at
   iana_identifier_rows (of_zone zone_name_start) pairs place e prior front rest b f at =
       rw (b.0, f, stops fault (of_zone zone_name_start) place e rest tt at) refl
@@ -210,7 +204,7 @@ module _ {E : Type 0} (fault : Row → E) where
   identifier_takes text zone (inr (offset, h, is)) =
       signed_takes clocks.MinuteOffset zone_record (identifier_at fault) zone_sign_lead text zone (zone_of_offset text zone offset h is)
 
-  pub identifier_rows : ReadsAllRows parse_identifier (identifier_at fault)
+  pub identifier_rows : ReadsAllRows fault parse_identifier (identifier_at fault)
   unfolding identifier_at
   identifier_rows (of_zone identifier_start) pairs place e prior front rest b f at = rw (b.0, f, stops fault (of_zone identifier_start) place e rest tt at) refl
   identifier_rows (of_zone in_zone_name) pairs place e prior front rest b f at =

@@ -13,13 +13,13 @@ use Rattle.ixdtf_grammar.specs.table.LineNames.{LineName.{of_core, of_clock, of_
 use Rattle.ixdtf_grammar.specs.table.LineNames.{YearMonthLine.after_year_month, MonthDayLine.{month_day_range, after_month_day}, TimeLine.time_start}
 use Rattle.ixdtf_grammar.specs.table.LineNames.{TimeLine.{time_reads_as_month_day, time_reads_as_year_month}, ClockLine.hour_start, OffsetLine.after_zulu}
 use Rattle.ixdtf_grammar.specs.table.{Lines.{line_of, always, Line.line, Ending.ok}, Before.{DateAndSeparator, ReadsAsTime, InTimeAlone, BeforeCore}}
-use Rattle.ixdtf_grammar.specs.table.{Before.{BeforeTime, BeforeOffset}, Rows.{Row, Place, Stops, front_of, Place.{other, anywhere}}}
+use Rattle.ixdtf_grammar.specs.table.{Before.{BeforeTime, BeforeOffset}, Rows.{Row, Place, Stops, Place.{other, anywhere}}}
 use Rattle.ixdtf_grammar.proofs.parts.CoreLetters.{CoreEnds, core_ends}
 use Rattle.ixdtf_reading.specs.reading.{Looks.{Read, ◌>>=◌, row_of, look_at, next_by}, Months.{year_month_at, month_day_at}, Times.{OpenTime, line_after}}
 use Rattle.ixdtf_reading.specs.reading.{Times.{hour_from, clock_at}, Cores.{ClosedCore, core_look, core_end_at, with_offset, offset_core_at, after_time_at}}
 use Rattle.ixdtf_reading.specs.reading.Cores.{time_core_at, after_date_at, date_time_core_at, date_alone_at, lone_time_at, marked_time_at, marked_core_at}
 use Rattle.ixdtf_reading.specs.reading.Cores.{unfronted, time_alone_core_at, core_at}
-use Rattle.ixdtf_reading.proofs.parts.{Looks.{ReadsOver, RowsRead, peek_end, peek_goes, peek_other, peek_stops, row_here}, Fronts.no_front_after}
+use Rattle.ixdtf_reading.proofs.parts.{Looks.{ReadsOver, RowsRead, peek_end, peek_goes, peek_other, peek_stops, row_here, RowsWhere}, Fronts.no_front_after}
 use Rattle.ixdtf_reading.proofs.{parts.Fronts.{month_day_stops, year_month_stops, unfronted_goes}, to_reading.Dates.{date_takes, date_row_read}}
 use Rattle.ixdtf_reading.proofs.to_reading.{Months.{year_month_takes, month_day_takes, year_month_date_row, year_month_row, month_day_row}, Times.closed_at_end}
 use Rattle.ixdtf_reading.proofs.to_reading.{Times.{Closed, IsLater, stops_behind}, ClockRows.{RowsBehind, Refuses, TimeLead, hour_start_row, clock_lead}}
@@ -274,9 +274,7 @@ module _ {E : Type 0} (fault : Row → E) where
       go (inr bracket) closes = rw (closes.1 bracket.0 bracket.1) (refuses ((h.3.0, true), bracket.0))
 
   -- the rows of a time's lines but those of its clock
-  time_line_rows : (profile : Profile) (l : TimeLine) (place : Place) (e : Fault) (prior front rest : Text) → InTimeAlone profile l prior (front ++ rest)
-      → front_of (line_of true (of_time l)) front → Stops (line_of true (of_time l)) place e rest
-      → time_alone_core_at fault profile (prior ++ (front ++ rest)) ≡ Err (fault (row_of (of_time l) place e))
+  time_line_rows : (profile : Profile) (l : TimeLine) → RowsWhere fault true (time_alone_core_at fault profile) (of_time l) (InTimeAlone profile l)
   time_line_rows profile time_start place e prior front rest b f at =
       in_marked profile (of_time time_start) prior (first_rows _ _ _ mark_lead prior (inl b) (of_time time_start) time_start_row) place e front rest f at
   time_line_rows profile (time_reads_as_month_day named) (anywhere left) e prior front rest b f at =
@@ -306,9 +304,7 @@ module _ {E : Type 0} (fault : Row → E) where
       ((λ is. rw (closes.0 is) (goes _)), λ more is. rw (closes.1 more is) (goes _))
 
   -- each row of a core's lines is returned
-  pub core_line_rows : (kind : CoreKind) (l : CoreLine) (place : Place) (e : Fault) (prior front rest : Text) → BeforeCore kind l prior (front ++ rest)
-      → front_of (line_of true (of_core l)) front → Stops (line_of true (of_core l)) place e rest
-      → core_at fault kind (prior ++ (front ++ rest)) ≡ Err (fault (row_of (of_core l) place e))
+  pub core_line_rows : (kind : CoreKind) (l : CoreLine) → RowsWhere fault true (core_at fault kind) (of_core l) (BeforeCore kind l)
   unfolding date_time_core_at
   core_line_rows date_time (dates after_date) place e prior front rest b f at = rw b (after_date_row place e front rest f at)
   core_line_rows date_time (dates l) place e prior front rest b f at = rw (b, date_row_read fault true l tt place e front rest f at) refl

@@ -1,22 +1,21 @@
 -- A duration is read, and each row of a duration's lines is returned.
-use Rattle.std.proofs.Common.{◌≡◌, false, ℕ, ◌≤◌, ◌<◌, IsTrue, IsFalse, List, [], ◌∷◌, ◌++◌, Result, Ok, Err, Some, refl, sym, ap, ◌∙◌, subst, inl, inr}
-use Rattle.std.proofs.{Common.{arith, append_assoc, append-nil, nat_le}, lemmas.Bool.{or_left, or_right, le-leb, lt-leb, Decides.nat_tests}}
-use Rattle.ixdtf_grammar.specs.declared.{profile.Profile.Profile, records.{Sign.Sign, DurationParseRecord.DurationParseRecord}}
-use Rattle.ixdtf_grammar.specs.language.Letters.{Text, digit, sign, decimal_mark, time_letter, Letter.{Plain, Bad}}
-use Rattle.ixdtf_grammar.specs.language.{Digits.decimal, Fractions.SomeDigits, Offsets.sign_of, Brackets.Pair, Durations.Half}
-use Rattle.ixdtf_grammar.specs.language.Durations.{Group, Number, IntegerGroup, FractionGroup, Groups, TimeGroups, TimePart, AtLeastOne, SignedDesignator}
-use Rattle.ixdtf_grammar.specs.language.Durations.{designator, in_order, greatest, greatest_value, duration_of, IsDuration, Half.{date, time}}
-use Rattle.ixdtf_grammar.specs.{language.Readers.Reader.parse_duration, table.{Faults.Fault, LineNames.{LineName, DurationLine, DurationLine.duration_start}}}
-use Rattle.ixdtf_grammar.specs.table.LineNames.DurationLine.{after_duration_sign, after_duration_designator, after_date_groups, after_time_designator}
-use Rattle.ixdtf_grammar.specs.table.LineNames.DurationLine.{group_digits, group_value_range, unit_order, date_unit_range, group_fraction_start}
-use Rattle.ixdtf_grammar.specs.table.LineNames.{DurationLine.{group_fraction_digits, after_time_groups, after_fraction_group}, LineName.of_duration}
-use Rattle.ixdtf_grammar.specs.table.DurationFronts.{Context, half_of, groups_of, IsContext, OutOfOrder, UnitPast, Context.{in_dates, in_times}}
-use Rattle.ixdtf_grammar.specs.table.{Lines.{duration_line, table}, Before.Before, Rows.{Row, Place, Stops, front_of, Place.anywhere}}
-use Rattle.ixdtf_reading.specs.reading.{Looks.row_of, Durations.{State, line_of_state, add, integer_group, fraction_group, value_past, unit_past}}
-use Rattle.ixdtf_reading.specs.reading.Durations.{out_of_order, in_its_order, add_group, step, run, duration_at}
-use Rattle.ixdtf_reading.specs.reading.Durations.State.{started, signed, between, in_number, at_mark, in_fraction, ended}
-use Rattle.ixdtf_reading.proofs.parts.{Looks.{RowsRead, ◌before◌, ◌upto◌, Goes}, DurationRuns.{AllDigits, all_digits, some_all, digits_snoc, below_front}}
-use Rattle.ixdtf_reading.proofs.parts.DurationRuns.{Asks, Over, Stays, stays, one_letter, letter_stops, run_stops}
+use Rattle.std.proofs.Common.{◌≡◌, false, ℕ, ◌≤◌, ◌<◌, IsTrue, IsFalse, List, [], ◌∷◌, ◌++◌, Result, Ok, Err, Some, refl, sym, ap, ◌∙◌, subst, inl, inr, arith}
+use Rattle.std.proofs.{Common.{append_assoc, append-nil, nat_le}, lemmas.Bool.{or_left, or_right, le-leb, lt-leb, Decides.nat_tests}}
+use Rattle.ixdtf_grammar.specs.{declared.{profile.Profile.Profile, records.{Sign.Sign, DurationParseRecord.DurationParseRecord}}, language.Letters.Text}
+use Rattle.ixdtf_grammar.specs.language.{Letters.{digit, sign, decimal_mark, time_letter, Letter.{Plain, Bad}}, Digits.decimal, Fractions.SomeDigits}
+use Rattle.ixdtf_grammar.specs.language.{Offsets.sign_of, Durations.{Half, Group, Number, IntegerGroup, FractionGroup, Groups, TimeGroups, TimePart}}
+use Rattle.ixdtf_grammar.specs.language.Durations.{AtLeastOne, SignedDesignator, designator, in_order, greatest, greatest_value, duration_of, IsDuration}
+use Rattle.ixdtf_grammar.specs.{language.{Durations.Half.{date, time}, Readers.Reader.parse_duration}, table.LineNames.DurationLine}
+use Rattle.ixdtf_grammar.specs.table.LineNames.DurationLine.{duration_start, after_duration_sign, after_duration_designator, after_date_groups}
+use Rattle.ixdtf_grammar.specs.table.LineNames.DurationLine.{after_time_designator, group_digits, group_value_range, unit_order, date_unit_range}
+use Rattle.ixdtf_grammar.specs.table.LineNames.DurationLine.{group_fraction_start, group_fraction_digits, after_time_groups, after_fraction_group}
+use Rattle.ixdtf_grammar.specs.table.{LineNames.LineName.of_duration, DurationFronts.{Context, half_of, groups_of, IsContext, OutOfOrder, UnitPast}}
+use Rattle.ixdtf_grammar.specs.table.{DurationFronts.Context.{in_dates, in_times}, Lines.duration_line, Rows.{Row, Stops, front_of, Place.anywhere}}
+use Rattle.ixdtf_reading.specs.reading.{Looks.row_of, Durations.{State, line_of_state, add, integer_group, fraction_group, value_past, unit_past, out_of_order}}
+use Rattle.ixdtf_reading.specs.reading.Durations.{in_its_order, add_group, step, run, duration_at, State.{started, signed, between, in_number, at_mark}}
+use Rattle.ixdtf_reading.specs.reading.Durations.State.{in_fraction, ended}
+use Rattle.ixdtf_reading.proofs.parts.{Looks.{RowsRead, ◌before◌, ◌upto◌, Goes, ReadsAllRows}, DurationRuns.{AllDigits, all_digits, some_all, digits_snoc}}
+use Rattle.ixdtf_reading.proofs.parts.DurationRuns.{below_front, Asks, Over, Stays, stays, one_letter, letter_stops, run_stops}
 
 -- ---- code units
 
@@ -273,10 +272,7 @@ module _ {E : Type 0} (fault : Row → E) (profile : Profile) where
   line_rows name place e front rest f at = state_row name tt place e front rest f at
 
   -- each row of the reader's lines is returned
-  pub duration_rows : (name : LineName) (pairs : List Pair) (place : Place) (e : Fault) (prior front rest : Text)
-      → Before (parse_duration profile) name pairs prior (front ++ rest) → front_of (table (parse_duration profile) name) front
-      → Stops (table (parse_duration profile) name) place e rest
-      → duration_at fault profile (prior ++ (front ++ rest)) ≡ Err (fault (row_of name place e))
+  pub duration_rows : ReadsAllRows fault (parse_duration profile) (duration_at fault profile)
   duration_rows (of_duration other l) pairs place e prior front rest b f at =
       let here : front_of (duration_line profile l) front = rw b.0.1 at f in
       let there : Stops (duration_line profile l) place e rest = rw b.0.1 at at in
