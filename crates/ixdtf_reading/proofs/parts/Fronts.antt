@@ -90,7 +90,8 @@ module _ (profile : Profile) (text : Text) where
 
   module _ {E A : Type 0} (fault : Row → E) (read : Read E A) where
     -- each row of a time's front is returned
-    pub month_day_stops : (left : Text) → Fronted (IsMonthDay profile) text left → unfronted fault profile text read ≡ Err (fault (month_day_front profile left))
+    pub month_day_stops : (left : Text) → Fronted (IsMonthDay profile) text left
+        → unfronted fault profile text read ≡ Err (fault (month_day_front profile left))
     month_day_stops left h = rw ((month_day_tells profile text).0.1 (h.0, left, h.1, h.2, tt), (month_day_tells profile text).1 left h) refl
 
     pub year_month_stops : (left : Text) → Fronted IsYearMonth text left → ¬ MonthDayBegins
@@ -111,8 +112,8 @@ module _ (profile : Profile) (text : Text) where
     -- and back
     pub unfronted_read : (found : A → Text → Type 0) (stopped : Row → Type 0)
         → ((left : Text) → Fronted (IsMonthDay profile) text left → stopped (month_day_front profile left))
-        → ((left : Text) → Fronted IsYearMonth text left → ¬ MonthDayBegins → stopped (year_month_front left)) → (HasNoDateFront profile text → OnRead fault read found stopped)
-        → OnRead fault (unfronted fault profile text read) found stopped
+        → ((left : Text) → Fronted IsYearMonth text left → ¬ MonthDayBegins → stopped (year_month_front left))
+        → (HasNoDateFront profile text → OnRead fault read found stopped) → OnRead fault (unfronted fault profile text read) found stopped
     unfronted_read found stopped at_month_day at_year_month goes = read_if fault _ _ _ found stopped
         (λ yes. let h = (month_day_tells profile text).0.0 yes in
         let front : Fronted (IsMonthDay profile) text h.1 = (h.0, h.2, h.3) in

@@ -126,10 +126,6 @@ name_reads text rest h = rw (h.2, h.3.1) (by_lead (key_lead h.3.0) refl)
 
 -- a whole key, and `=`
 pub key_reads : (text rest : Text) → Key text → ReadsAsPair (text ++ (Plain 61 ∷ rest))
-key_reads text rest h = (
-  h.0,
-  h.1 ++ (Plain 61 ∷ rest),
-  rw h.2 (simp append_assoc),
-  h.3,
-  (h.1, Plain 61 ∷ rest, refl, joined_skipped (λ part rest g m. rw g.1 (one_more g.0 rest (key_char_skipped g.0 g.2) m)) h.4.0 h.1 h.4.1, (Plain 61 ∷ [], rest, refl, (61, refl, refl), tt)),
-)
+key_reads text rest h =
+    let passed = joined_skipped (λ part more g m. rw g.1 (one_more g.0 more (key_char_skipped g.0 g.2) m)) h.4.0 h.1 h.4.1 in
+    (h.0, h.1 ++ (Plain 61 ∷ rest), rw h.2 (simp append_assoc), h.3, (h.1, Plain 61 ∷ rest, refl, passed, (Plain 61 ∷ [], rest, refl, (61, refl, refl), tt)))

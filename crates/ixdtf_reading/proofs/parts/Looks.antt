@@ -185,10 +185,6 @@ module _ {E : Type 0} (fault : Row → E) (name : LineName) (front : Shape) (goe
   abbrev here : Line
   here = line front goes_on (error e) at_other
 
-  letter_goes : (c : ℕ) (rest : Text) → IsTrue (goes_on c) → next_by (look_of fault name here) (Plain c ∷ rest) ≡ Ok (c, rest)
-  unfolding next_by look_at
-  letter_goes c rest h = rw h refl
-
   pub letter_stops : (place : Place) (d : Fault) (rest : Text) → Stops here place d rest
       → next_by (look_of fault name here) rest ≡ Err (fault (row_of name place d))
   unfolding next_by look_at
@@ -204,10 +200,11 @@ module _ {E : Type 0} (fault : Row → E) (name : LineName) (front : Shape) (goe
 
 module _ {E : Type 0} (fault : Row → E) (name : LineName) where
   pub goes : (c : ℕ) (rest : Text) → Looks (line_of true name) → Goes (line_of true name) c → letter_at fault name (Plain c ∷ rest) ≡ Ok (c, rest)
+  unfolding next_by look_at
   goes c rest looks h = go _ looks h
     where
       go : (l : Line) → Looks l → Goes l c → next_by (look_of fault name l) (Plain c ∷ rest) ≡ Ok (c, rest)
-      go (line front goes_on (error e) at_other) looks h = letter_goes fault name front goes_on e at_other c rest h
+      go (line front goes_on (error e) at_other) looks h = rw h refl
       go other_line looks h = absurd looks
 
   pub stops : (place : Place) (e : Fault) (rest : Text) → Looks (line_of true name) → Stops (line_of true name) place e rest

@@ -139,11 +139,12 @@ module _ {E A : Type 0} (fault : Row → E) (mark : Text → Read E Bool) (name 
   marked text = mark text >>= λ b. digits_at fault name 2 b.1 >>= go b.0
 
   module _ (b : Bool) (marks : Text) (over : (text : Text) → Starts b text → mark (marks ++ text) ≡ Ok (b, text)) where
-    pub two_over : (ds : Text) → digits 2 ds → ReadsOver marked (marks ++ ds) (λ rest. go b (ds, rest))
-    two_over ds h = record { over = λ rest. rw (append_assoc, over (ds ++ rest) (digits_start b 1 ds rest h), digits_go fault name asks 2 ds rest h) refl }
+    pub two_digits_over : (ds : Text) → digits 2 ds → ReadsOver marked (marks ++ ds) (λ rest. go b (ds, rest))
+    two_digits_over ds h =
+        record { over = λ rest. rw (append_assoc, over (ds ++ rest) (digits_start b 1 ds rest h), digits_go fault name asks 2 ds rest h) refl }
 
-    pub two_stop : (ds rest : Text) (place : Place) (e : Fault) → Begun b ds → Stops (line_of true name) place e rest
+    pub two_digits_stop : (ds rest : Text) (place : Place) (e : Fault) → Begun b ds → Stops (line_of true name) place e rest
         → Halts marked (marks ++ ds) rest (fault (row_of name place e))
-    two_stop ds rest place e h at = record {
+    two_digits_stop ds rest place e h at = record {
       reads_to = rw (append_assoc, over (ds ++ rest) (begun_starts b ds rest h), digits_stop_after fault name b ds rest place e asks h at) refl;
     }

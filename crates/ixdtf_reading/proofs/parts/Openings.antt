@@ -44,8 +44,8 @@ module _ {E A : Type 0} (fault : Row → E) (start critical_start : LineName) (f
       → Returned opened_at front rest (Err (fault (row_of start place e)))
   start_row place e front rest f at = ([], rw (f.1, eqb-true f.0 91 f.2) refl, rw (stops fault start place e rest looks at) refl)
 
-  pub critical_row : (place : Place) (e : Fault) (front rest : Text) → (one opening then one exclamation) front → Stops (line_of true critical_start) place e rest
-      → Returned opened_at front rest (Err (fault (row_of critical_start place e)))
+  pub critical_row : (place : Place) (e : Fault) (front rest : Text) → (one opening then one exclamation) front
+      → Stops (line_of true critical_start) place e rest → Returned opened_at front rest (Err (fault (row_of critical_start place e)))
   critical_row place e front rest f at = (
     f.1,
     rw (f.2, f.3.1, eqb-true f.3.0 91 f.3.2) refl,

@@ -109,7 +109,8 @@ module _ {E : Type 0} (fault : Row → E) where
         unfolding after_time_at look_at
         zulu_over c h rest =
             let no_sign : IsFalse (sign c) = grind (arith, nat_tests, h) in
-            ap whole_at (simp append_assoc) ∙ timed_over (Plain c ∷ rest) (closed_before Clock.Time shape c rest (or_left _ _ (or_right _ _ h))) ∙ rw (no_sign, h)
+            let closed = closed_before Clock.Time shape c rest (or_left _ _ (or_right _ _ h)) in
+            ap whole_at (simp append_assoc) ∙ timed_over (Plain c ∷ rest) closed ∙ rw (no_sign, h)
 
         without_offset_over : (rest : Text) → CoreEnds rest
             → whole_at (prior ++ (ts ++ rest)) ≡ core_end_at fault (line_after Clock.Time shape) (core_of date (Some t) None) rest
@@ -279,7 +280,8 @@ module _ {E : Type 0} (fault : Row → E) where
       in_marked profile (of_time time_start) prior (first_rows _ _ _ mark_lead prior (inl b) (of_time time_start) time_start_row) place e front rest f at
   time_line_rows profile (time_reads_as_month_day named) (anywhere left) e prior front rest b f at =
       let here = rw b.2 at f in
-      rw (b.0, at.0, at.1, b.2) (front_refuses profile (front ++ rest) _ b.1 (λ x. month_day_stops profile (front ++ rest) fault (Ok x) rest (front, refl, here)))
+      rw (b.0, at.0, at.1, b.2) (front_refuses profile (front ++ rest) _ b.1
+      (λ x. month_day_stops profile (front ++ rest) fault (Ok x) rest (front, refl, here)))
   time_line_rows profile (time_reads_as_month_day named) place e prior front rest b f at = absurd at
   time_line_rows profile time_reads_as_year_month (anywhere left) e prior front rest b f at =
       rw (b.0, at.0, at.1) (front_refuses profile (front ++ rest) _ b.1 (λ x. year_month_stops profile (front ++ rest) fault (Ok x) rest (front, refl, f) b.2))

@@ -10,7 +10,7 @@ use Rattle.ixdtf_grammar.specs.table.{Lines.{line_of, date_line, HyphenOrDigit, 
 use Rattle.ixdtf_reading.specs.reading.{Looks.{Read, ◌>>=◌, row_of, mark_at}, Dates.{date_of, year_at, month_in_range, month_by, month_at, line_after_month}}
 use Rattle.ixdtf_reading.specs.reading.Dates.{day_in_range, day_at, date_at}
 use Rattle.ixdtf_reading.proofs.parts.{Looks.{ReadsOver, ◌before◌, ◌upto◌, Halts, halts_then, RowsRead, LooksFor, looks_for, none_or_one}, Marks.hyphens_of}
-use Rattle.ixdtf_reading.proofs.parts.{Marks.{Starts, Begun, hyphen_is, hyphen_over, mark_over, mark_stops, two_over, two_stop}, Years.year_takes}
+use Rattle.ixdtf_reading.proofs.parts.{Marks.{Starts, Begun, hyphen_is, hyphen_over, mark_over, mark_stops, two_digits_over, two_digits_stop}, Years.year_takes}
 use Rattle.ixdtf_reading.proofs.parts.Years.{year_start_row, year_digits_row, extended_year_digits_row, minus_zero_year_row}
 
 -- the lines that a date's own reading returns
@@ -54,13 +54,15 @@ module _ {E : Type 0} (fault : Row → E) where
     over_digits : (b : Bool) (ds : Text) → digits 2 ds → ReadsOver (month_at fault name) (hyphens_of b ++ ds) (λ rest. month_of b (ds, rest))
     unfolding month_by
     over_digits b =
-        two_over fault (mark_at fault name hyphen) (of_date month_digits) (λ c. refl) month_of b (hyphens_of b) (λ text. hyphen_over fault name b text asks)
+        two_digits_over fault (mark_at fault name hyphen) (of_date month_digits) (λ c. refl) month_of
+        b (hyphens_of b) (λ text. hyphen_over fault name b text asks)
 
     month_stops : (b : Bool) (ds rest : Text) (place : Place) (e : Fault) → Begun b ds → Stops (date_line month_digits) place e rest
         → Halts (month_at fault name) (hyphens_of b ++ ds) rest (fault (row_of (of_date month_digits) place e))
     unfolding month_by
     month_stops b =
-        two_stop fault (mark_at fault name hyphen) (of_date month_digits) (λ c. refl) month_of b (hyphens_of b) (λ text. hyphen_over fault name b text asks)
+        two_digits_stop fault (mark_at fault name hyphen) (of_date month_digits) (λ c. refl) month_of
+        b (hyphens_of b) (λ text. hyphen_over fault name b text asks)
 
     pub month_takes : (b : Bool) (ms : Text) (m : ℕ) (rest : Text) → Month ms m → month_at fault name ((hyphens_of b ++ ms) ++ rest) ≡ Ok ((m, b), rest)
     unfolding month_in_range
@@ -133,13 +135,14 @@ module _ {E : Type 0} (fault : Row → E) where
       → ReadsOver (day_at fault y (m, b)) (hyphens_of b ++ ds) (day_in_range fault (date_of y m d))
   unfolding day_at
   over_day y m b ds d h =
-      rw (← h.1) at (two_over fault (mark_at fault (line_after_month b) hyphen) (of_date day_digits) (λ c. refl) (day_of y m) b (hyphens_of b) (over_separator b) ds h.0)
+      rw (← h.1) at (two_digits_over fault (mark_at fault (line_after_month b) hyphen) (of_date day_digits) (λ c. refl) (day_of y m)
+      b (hyphens_of b) (over_separator b) ds h.0)
 
   day_stops : (y : ℤ) (m : ℕ) (b : Bool) (ds rest : Text) (place : Place) (e : Fault) → Begun b ds → Stops (date_line day_digits) place e rest
       → Halts (day_at fault y (m, b)) (hyphens_of b ++ ds) rest (fault (row_of (of_date day_digits) place e))
   unfolding day_at
   day_stops y m b =
-      two_stop fault (mark_at fault (line_after_month b) hyphen) (of_date day_digits) (λ c. refl) (day_of y m) b (hyphens_of b) (over_separator b)
+      two_digits_stop fault (mark_at fault (line_after_month b) hyphen) (of_date day_digits) (λ c. refl) (day_of y m) b (hyphens_of b) (over_separator b)
 
   -- ---- dates
 

@@ -61,7 +61,8 @@ module _ {E : Type 0} (fault : Row → E) (profile : Profile) where
   over_start : (text : Text) (s : Sign) → SignedDesignator text s → Over fault profile started text (between (in_dates s []))
   unfolding step
   over_start text s (inl (o, is)) =
-      let no_sign : IsFalse (sign o.0) = grind (arith, o.2, nat_tests) in rw (o.1, is) (one_letter fault profile started o.0 (or_right _ _ o.2) (λ rest. rw no_sign))
+      let no_sign : IsFalse (sign o.0) = grind (arith, o.2, nat_tests) in
+      rw (o.1, is) (one_letter fault profile started o.0 (or_right _ _ o.2) (λ rest. rw no_sign))
   over_start text s (inr h) =
       let first : Over fault profile started (Plain h.0 ∷ []) (signed (sign_of h.0)) = one_letter fault profile started h.0 (or_left _ _ h.3) (λ rest. rw h.3) in
       let second : Over fault profile (signed (sign_of h.0)) (Plain h.4.0 ∷ []) (between (in_dates (sign_of h.0) [])) = one_letter fault profile
@@ -107,7 +108,8 @@ module _ {E : Type 0} (fault : Row → E) (profile : Profile) where
   over_integer_group context text g h order range =
       rw h.is (over_number context h.ds g.value h.number
       before one_letter fault profile (in_number context h.ds) h.c (or_left _ _ (or_right _ _ h.ends))
-      (λ rest. rw (designator_no_digit (half_of context) h.c h.ends, h.ends, same_group h, ← h.unit, order, ← h.number.1, le-leb g.value (greatest g.unit) range) refl))
+      (λ rest. rw (designator_no_digit (half_of context) h.c h.ends, h.ends, same_group h, ← h.unit, order, ← h.number.1)
+      (rw (le-leb g.value (greatest g.unit) range) refl)))
 
   over_dates : (s : Sign) (text : Text) (groups : List Group) → Groups profile date text groups
       → Over fault profile (between (in_dates s [])) text (between (in_dates s groups))

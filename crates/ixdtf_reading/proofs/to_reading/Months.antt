@@ -12,7 +12,7 @@ use Rattle.ixdtf_grammar.specs.table.{Lines.{month_day_line, MonthDayMonthDigits
 use Rattle.ixdtf_reading.specs.reading.{Looks.{Read, ◌>>=◌, row_of, mark_at}, Dates.date_of}
 use Rattle.ixdtf_reading.specs.reading.Months.{year_month_at, marks_at, lone_month_in_range, lone_day_in_range, lone_day_at, month_day_at}
 use Rattle.ixdtf_reading.proofs.parts.{Looks.{ReadsOver, ◌before◌, ◌upto◌, Halts, RowsRead}, Marks.{hyphens_of, Starts, Begun}}
-use Rattle.ixdtf_reading.proofs.parts.Marks.{hyphen_is, hyphen_over, mark_over, mark_stops, two_over, two_stop}
+use Rattle.ixdtf_reading.proofs.parts.Marks.{hyphen_is, hyphen_over, mark_over, mark_stops, two_digits_over, two_digits_stop}
 use Rattle.ixdtf_reading.proofs.to_reading.Dates.{hyphens_are, month_is, month_is_none, over_year, over_month, year_stops, year_and_month_row}
 
 -- ---- year-months
@@ -110,7 +110,7 @@ module _ {E : Type 0} (fault : Row → E) (profile : Profile) where
 
   over_digits : (b : Bool) (ds : Text) → digits 2 ds → ReadsOver (month_day_at fault profile) (marks_of b ++ ds) (λ rest. month_from b (ds, rest))
   unfolding month_day_at
-  over_digits b = two_over fault (marks_at fault) (of_month_day month_day_month_digits) (λ c. refl) month_from b (marks_of b) (over_marks b)
+  over_digits b = two_digits_over fault (marks_at fault) (of_month_day month_day_month_digits) (λ c. refl) month_from b (marks_of b) (over_marks b)
 
   over_lone_month : (b : Bool) (ms : Text) (m : ℕ) → Month ms m → ReadsOver (month_day_at fault profile) (marks_of b ++ ms) (lone_day_at fault profile m)
   unfolding lone_month_in_range
@@ -127,14 +127,14 @@ module _ {E : Type 0} (fault : Row → E) (profile : Profile) where
       → ReadsOver (lone_day_at fault profile m) (hyphens_of b ++ ds) (lone_day_in_range fault profile m d)
   unfolding lone_day_at
   over_lone_day m b ds d h =
-      rw (← h.1) at (two_over fault (mark_at fault (of_month_day after_month_day_month) hyphen) (of_month_day month_day_day_digits) (λ c. refl) (day_from m)
-      b (hyphens_of b) (over_hyphen b) ds h.0)
+      rw (← h.1) at (two_digits_over fault (mark_at fault (of_month_day after_month_day_month) hyphen) (of_month_day month_day_day_digits) (λ c. refl)
+      (day_from m) b (hyphens_of b) (over_hyphen b) ds h.0)
 
   day_stops : (m : ℕ) (b : Bool) (ds rest : Text) (place : Place) (e : Fault) → Begun b ds → Stops (month_day_line month_day_day_digits) place e rest
       → Halts (lone_day_at fault profile m) (hyphens_of b ++ ds) rest (fault (row_of (of_month_day month_day_day_digits) place e))
   unfolding lone_day_at
   day_stops m b =
-      two_stop fault (mark_at fault (of_month_day after_month_day_month) hyphen) (of_month_day month_day_day_digits) (λ c. refl) (day_from m)
+      two_digits_stop fault (mark_at fault (of_month_day after_month_day_month) hyphen) (of_month_day month_day_day_digits) (λ c. refl) (day_from m)
       b (hyphens_of b) (over_hyphen b)
 
   over_month_day : (text : Text) (date : DateRecord) → MonthDayText text date
@@ -162,7 +162,7 @@ module _ {E : Type 0} (fault : Row → E) (profile : Profile) where
       ) refl
   month_day_row month_day_month_digits h place e front rest f at =
       let t = begun_month front f in
-      rw t.2 ((two_stop fault (marks_at fault) (of_month_day month_day_month_digits) (λ c. refl) month_from t.0 (marks_of t.0) (over_marks t.0)
+      rw t.2 ((two_digits_stop fault (marks_at fault) (of_month_day month_day_month_digits) (λ c. refl) month_from t.0 (marks_of t.0) (over_marks t.0)
       t.1 rest place e t.3 at).reads_to)
   month_day_row month_day_month_range h (anywhere left) e front rest f at =
       let t = marks_are f.0 f.3 in
